@@ -13,15 +13,15 @@ use Rattle.area_image.specs.batch_journal.Images.{image_for, or_else, with_image
 use Rattle.area_image.specs.extent_tree.Map.{TierRuns, runs_in}
 use Rattle.area_image.specs.Store.{Store, slot_bytes, root_of, marks}
 use Rattle.area_image.specs.Reads.{Free}
-use Rattle.area_image.specs.Spelled.{IsSpelled}
+use Rattle.area_image.specs.Format.{IsSpelled}
 use Rattle.area_image.proofs.Rewriting.{free_unused}
 use Rattle.area_image.proofs.Shown.{slot_limits}
-use Rattle.area_commit.specs.Written.{IsWritten, IsListed, block_by}
-use Rattle.area_commit.specs.Many.{MayTake, KeepOrTakeFree, TakeFreeOnce, AreWrittenAnew}
+use Rattle.area_commit.specs.InodeRewrite.{IsWritten, IsListed, block_by}
+use Rattle.area_commit.specs.StoreRewrite.{MayTake, KeepOrTakeFree, TakeFreeOnce, AreWrittenAnew}
 use Rattle.area_commit.proofs.TakenPlaces.{kept_apart, kept_taken}
 use Rattle.area_commit.specs.declared.plan.Rewrite.{Rewrite}
 use Rattle.area_commit.specs.Plan.{is_rewritten, IsPlanned}
-use Rattle.area_commit.specs.Done.{IsCarriedOut}
+use Rattle.area_commit.specs.PlanOutcome.{IsCarriedOut}
 use Rattle.area_commit.proofs.Chosen.{changed_has, has_changed, within, no_use, node_range, node_room, taken_free, data_range}
 
 -- ---- marks

@@ -10,14 +10,14 @@ use Rattle.area_image.specs.layout.declared.slot.Slot.{Slot}
 use Rattle.area_image.specs.layout.declared.slot.Slot.TheVariants as slots
 use Rattle.area_image.specs.layout.Places.{Sizes}
 use Rattle.area_image.specs.tree_blocks.Inode.{LogicalBlocks, inode_of, blocks_for}
-use Rattle.area_image.specs.tree_blocks.After.{started}
-use Rattle.area_image.specs.tree_blocks.Directory.{EntryBlocks, numbered}
+use Rattle.area_image.specs.tree_blocks.After.{start_node}
+use Rattle.area_image.specs.tree_blocks.Directory.{EntryBlocks, numbered_blocks}
 use Rattle.area_image.specs.tree_blocks.FileBlock.{AreWritten}
-use Rattle.area_image.specs.tree_blocks.Rewritten.{IsFileRewritten, IsDirectoryRewritten}
+use Rattle.area_image.specs.tree_blocks.InodeRewrite.{IsFileRewritten, IsDirectoryRewritten}
 use Rattle.area_image.specs.extent_tree.Map.{TierRuns, lies_at}
-use Rattle.area_image.specs.Store.{Store, slot, place, at_or, logical, inode}
-use Rattle.area_commit.specs.Written.{logical_by}
-use Rattle.area_commit.specs.Changed.{place_from, LieAsChanged, IsFileWritten, IsDirectoryWritten}
+use Rattle.area_image.specs.Store.{Store, slot, place, at_or, logical_block, inode}
+use Rattle.area_commit.specs.InodeRewrite.{logical_by}
+use Rattle.area_commit.specs.InodeChange.{place_from, LieAsChanged, IsFileWritten, IsDirectoryWritten}
 use Rattle.area_commit.proofs.Places.{by_nowhere, by_same}
 
 -- an inode that is some node has the blocks of its slot
@@ -27,28 +27,28 @@ blocks_of_kind (slots.File names size touch fast block slow) b is = refl
 blocks_of_kind (slots.Directory names entries touch root) b is = refl
 
 module _ (g : Sizes) (old new : Store) (i : ℕ) (m : TierRuns) (k : ℕ) (same : (t : Tier) (p : ℕ) → lies_at m t k ≡ Some p → new t p ≡ old t p) where
-  other_block : (base : Base) → (started base (inode g old i)).kind ≡ Some kind.File → ((t : Tier) → lies_at m t k ≡ place_from base (place g old i t k)) → logical_by new m k ≡ (started base (inode g old i)).blocks k
-  other_block Kept is there = by_same g old new i m k there (λ t p at. same t p (there t ∙ at)) ∙ ap (λ (b : LogicalBlocks). b k) (sym (blocks_of_kind (slot g old i) (logical g old i) is))
+  other_block : (base : Base) → (start_node base (inode g old i)).kind ≡ Some kind.File → ((t : Tier) → lies_at m t k ≡ place_from base (place g old i t k)) → logical_by new m k ≡ (start_node base (inode g old i)).blocks k
+  other_block Kept is there = by_same g old new i m k there (λ t p at. same t p (there t ∙ at)) ∙ ap (λ (b : LogicalBlocks). b k) (sym (blocks_of_kind (slot g old i) (logical_block g old i) is))
   other_block (Made kind) is there = by_nowhere new m k there
   other_block Gone is there = by_nowhere new m k there
 
-blocks_written : (g : Sizes) (c : Change) (old new : Store) (i : ℕ) (m : TierRuns) → (started c.base (inode g old i)).kind ≡ Some kind.File → LieAsChanged g c old new i m → AreWritten c (started c.base (inode g old i)).blocks (logical_by new m)
+blocks_written : (g : Sizes) (c : Change) (old new : Store) (i : ℕ) (m : TierRuns) → (start_node c.base (inode g old i)).kind ≡ Some kind.File → LieAsChanged g c old new i m → AreWritten c (start_node c.base (inode g old i)).blocks (logical_by new m)
 blocks_written g c old new i m is lie = record {
   written = lie.written;
   gone = λ k p kept cut lt. ap (λ l. get_or l p 0) (by_nowhere new m k (λ t. lie.gone t k kept cut));
   others = λ k p kept before lt. ap (λ l. get_or l p 0) (other_block g old new i m k (λ t p at. lie.same t k p kept at) c.base is (λ t. lie.others t k kept before));
 }
 
-pub file_rewritten : (g : Sizes) (c : Change) (old new : Store) (i : ℕ) (x : Slot) (m : TierRuns) → IsFileWritten g c old new i x m → IsFileRewritten c (started c.base (inode g old i)) (inode_of x (logical_by new m))
-file_rewritten g c old new i x m written = subst (λ (y : Slot). IsFileRewritten c (started c.base (inode g old i)) (inode_of y (logical_by new m))) (sym written.slot_is) (record {
+pub file_rewritten : (g : Sizes) (c : Change) (old new : Store) (i : ℕ) (x : Slot) (m : TierRuns) → IsFileWritten g c old new i x m → IsFileRewritten c (start_node c.base (inode g old i)) (inode_of x (logical_by new m))
+file_rewritten g c old new i x m written = subst (λ (y : Slot). IsFileRewritten c (start_node c.base (inode g old i)) (inode_of y (logical_by new m))) (sym written.slot_is) (record {
   is_file = written.is_file;
   slot = record { kind = sym written.is_file; names = refl };
   size = refl;
   blocks = blocks_written g c old new i m written.is_file written.blocks;
 })
 
-pub directory_rewritten : (g : Sizes) (c : Change) (before after : EntryBlocks) (old new : Store) (i : ℕ) (x : Slot) (m : TierRuns) → IsDirectoryWritten g c before after old new i x m → IsDirectoryRewritten i c before after (started c.base (inode g old i)) (inode_of x (logical_by new m))
-directory_rewritten g c before after old new i x m written = subst (λ (y : Slot). IsDirectoryRewritten i c before after (started c.base (inode g old i)) (inode_of y (logical_by new m))) (sym written.slot_is) (record {
+pub directory_rewritten : (g : Sizes) (c : Change) (before after : EntryBlocks) (old new : Store) (i : ℕ) (x : Slot) (m : TierRuns) → IsDirectoryWritten g c before after old new i x m → IsDirectoryRewritten i c before after (start_node c.base (inode g old i)) (inode_of x (logical_by new m))
+directory_rewritten g c before after old new i x m written = subst (λ (y : Slot). IsDirectoryRewritten i c before after (start_node c.base (inode g old i)) (inode_of y (logical_by new m))) (sym written.slot_is) (record {
   is_directory = written.is_directory;
   slot = record { kind = sym written.is_directory; names = refl };
   read = written.read;
@@ -56,7 +56,7 @@ directory_rewritten g c before after old new i x m written = subst (λ (y : Slot
   written = record { count = refl; blocks = held };
 })
   where
-    held : (k : ℕ) → k < blocks_for after.count → logical_by new m k ≡ numbered after.blocks k
+    held : (k : ℕ) → k < blocks_for after.count → logical_by new m k ≡ numbered_blocks after.blocks k
     held k lt =
         let at = written.blocks k lt in
         ap (λ o. at_or (new Fast) o (at_or (new Block) (lies_at m Block k) (at_or (new Slow) (lies_at m Slow k) []))) at.1 ∙ at.2

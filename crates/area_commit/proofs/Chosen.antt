@@ -11,15 +11,15 @@ use Rattle.area_image.specs.block_alloc.Runs.{blocks_of, Rising}
 use Rattle.area_image.proofs.block_alloc_lemmas.Blocks.{normal-rising}
 use Rattle.area_image.specs.Store.{Store}
 use Rattle.area_image.specs.Reads.{IsRoom, Free}
-use Rattle.area_image.specs.Spelled.{Use, used}
+use Rattle.area_image.specs.Format.{Use, used_block}
 use Rattle.area_image.proofs.Rewriting.{free_unused}
 use Rattle.area_commit.specs.declared.slots.ChangedSlot.{ChangedSlot}
 use Rattle.area_commit.specs.Slots.{RiseIn}
 use Rattle.area_commit.specs.Value.{on_tier}
-use Rattle.area_commit.specs.declared.taking.Taken.{Taken}
-use Rattle.area_commit.specs.Taking.{taken_data, runs_of}
+use Rattle.area_commit.specs.declared.allocation.Allocation.{Allocation}
+use Rattle.area_commit.specs.Allocations.{taken_data, runs_of}
 use Rattle.area_commit.proofs.Members.{cons_cases, cons_here, cons_there, nothing}
-use Rattle.area_commit.specs.Changing.{BlockIsTaken}
+use Rattle.area_commit.specs.BlockExchange.{BlockIsTaken}
 use Rattle.area_commit.specs.Plan.{WereFree, is_changed}
 
 -- ---- inodes
@@ -50,7 +50,7 @@ inode_range i is = let p = and_parts (nat_le 1 i) (nat_le i 1024) is in (leb-tru
 
 -- ---- blocks
 
-pub no_use : (g : Sizes) (s : Store) (t : Tier) (k : ℕ) → Free g s t k → (u : Use) → used g s u ≡ Some (t, k) → ⊥
+pub no_use : (g : Sizes) (s : Store) (t : Tier) (k : ℕ) → Free g s t k → (u : Use) → used_block g s u ≡ Some (t, k) → ⊥
 no_use g s t k free = ((free_unused g s t k).0 free).1
 
 pub node_range : (g : Sizes) (k : ℕ) → is_node g k ≡ true → (292 ≤ k) × (k < node_end g)
@@ -66,7 +66,7 @@ rising_in low end (x ∷ xs) k is at = elim (cons_cases x xs k at) [
   | inr there ↦ (let r = rising_in (x + 1) end xs k is.2 there in (omega (arith, r.0, is.0), r.1))
 ]
 
-module _ (g : Sizes) (s : Store) (taken : Taken) (free : WereFree g s taken) where
+module _ (g : Sizes) (s : Store) (taken : Allocation) (free : WereFree g s taken) where
   pub taken_free : (t : Tier) (k : ℕ) → BlockIsTaken taken t k → Free g s t k
   taken_free t k (inl at) = subst (λ (u : Tier). Free g s u k) (sym at.0) (free.nodes k at.1).0
   taken_free t k (inr at) = free.per_tier t k at
@@ -82,7 +82,7 @@ on_tier_has t (k ∷ ks) p at = elim (cons_cases (t, k) (on_tier t ks) p at) [
 ]
 
 -- each data block that was taken is in the runs of its tier
-pub data_has : (taken : Taken) (p : Tier × ℕ) → Contains (taken_data taken) p → Contains (blocks_of (runs_of taken p.0)) p.1
+pub data_has : (taken : Allocation) (p : Tier × ℕ) → Contains (taken_data taken) p → Contains (blocks_of (runs_of taken p.0)) p.1
 data_has taken p at = elim (Contains-append_cases (on_tier Fast (blocks_of taken.fast.items)) (on_tier Block (blocks_of taken.block.items) ++ on_tier Slow (blocks_of taken.slow.items)) p at) [
   | inl fast ↦ from Fast fast
   | inr rest ↦ elim (Contains-append_cases (on_tier Block (blocks_of taken.block.items)) (on_tier Slow (blocks_of taken.slow.items)) p rest) [ inl block ↦ from Block block | inr slow ↦ from Slow slow ]

@@ -3,14 +3,14 @@ use Rattle.std.proofs.Common.{◌≡◌, ◌≢◌, ◌≤◌, inl, inr, ◌⊎�
 use Rattle.std.proofs.lemmas.Bool.{cases_lt}
 use Rattle.area_image.specs.tier_device.declared.media.Tier.{Tier}
 use Rattle.area_image.specs.tier_device.declared.media.Tier.TheVariants.{Fast, Block, Slow}
-use Rattle.area_image.specs.tier_device.Media.{LeftSince}
+use Rattle.area_image.specs.tier_device.AfterStop.{LeftSince}
 use Rattle.area_image.specs.layout.Places.{Sizes}
 use Rattle.area_image.specs.batch_journal.Course.{Since, TornFrom, OutsideRunFrom}
 use Rattle.area_image.proofs.batch_journal_lemmas.Views.{which}
 use Rattle.area_image.specs.Store.{Store, store_of, content_blocks}
 use Rattle.area_image.specs.Reads.{Loose, LooseIn, IsFreeRun}
 use Rattle.area_image.proofs.Torn.{torn_data, torn_fast, loose_left}
-use Rattle.area_commit.specs.Writing.{IsLooseLeft, IsJournalLeft, StaysLoose}
+use Rattle.area_commit.specs.DataWrite.{IsLooseLeft, IsJournalLeft, StaysLoose}
 
 module _ (g : Sizes) (s : Store) where
   -- no call at all

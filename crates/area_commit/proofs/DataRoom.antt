@@ -9,7 +9,7 @@ use Rattle.area_image.specs.file_graph.Units.{charge}
 use Rattle.area_image.specs.layout.Places.{Sizes, is_inode, slot_block, node_end, data_first, data_blocks, tier_blocks}
 use Rattle.area_image.specs.Store.{Store, slot, root_of, graph}
 use Rattle.area_image.specs.Reads.{InodeReads, IsRoom}
-use Rattle.area_image.specs.Spelled.{IsSpelled, KeepsUnits}
+use Rattle.area_image.specs.Format.{IsSpelled, KeepsUnits}
 use Rattle.area_commit.specs.Value.{PoolsView, data_pool, on_tier, free_data, AreFree}
 use Rattle.area_commit.proofs.Counting.{in_or_not, covers}
 use Rattle.area_commit.proofs.RoomHeld.{inode_low, root_within, held, is_held, held_few}

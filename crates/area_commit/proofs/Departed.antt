@@ -12,23 +12,23 @@ use Rattle.area_image.specs.block_alloc.Value.{FreeBlocks, InOrder}
 use Rattle.area_image.specs.batch_journal.Blocks.{Blocks}
 use Rattle.area_image.specs.Store.{Store}
 use Rattle.area_image.specs.Reads.{Free, IsRoom, LooseIn, first_room}
-use Rattle.area_image.specs.Spelled.{Use, used}
+use Rattle.area_image.specs.Format.{Use, used_block}
 use Rattle.area_image.proofs.Rewriting.{free_unused}
 use Rattle.area_commit.specs.Value.{PoolsView, data_pool, HasRanges, AreFree}
-use Rattle.area_commit.specs.declared.taking.Taken.{Taken}
-use Rattle.area_commit.specs.Taking.{WasTaken, WereTaken, runs_of}
-use Rattle.area_commit.specs.Writing.{AreFreeIn, RunsAreNormal}
+use Rattle.area_commit.specs.declared.allocation.Allocation.{Allocation}
+use Rattle.area_commit.specs.Allocations.{WasTaken, WereTaken, runs_of}
+use Rattle.area_commit.specs.DataWrite.{AreFreeIn, RunsAreNormal}
 use Rattle.area_commit.proofs.Fronts.{rising-right}
 use Rattle.area_commit.proofs.Members.{cons_cases, nothing}
 
 -- ---- what is taken
 
-pub taken_free : (g : Sizes) (s : Store) (old new : PoolsView) (taken : Taken) → AreFree g s old → WereTaken old new taken → (t : Tier) → AreFreeIn g s t (runs_of taken t)
+pub taken_free : (g : Sizes) (s : Store) (old new : PoolsView) (taken : Allocation) → AreFree g s old → WereTaken old new taken → (t : Tier) → AreFreeIn g s t (runs_of taken t)
 taken_free g s old new taken free were t k at =
     let before : Contains (data_pool old t).free k = subst (λ xs. Contains xs k) (were.per_tier t).front (Contains-append_left (blocks_of (runs_of taken t)) (data_pool new t).free k at) in
     ((free.per_tier t k).0 before).0
 
-pub taken_apart : (g : Sizes) (old new : PoolsView) (taken : Taken) → HasRanges g old → WereTaken old new taken → RunsAreNormal g taken
+pub taken_apart : (g : Sizes) (old new : PoolsView) (taken : Allocation) → HasRanges g old → WereTaken old new taken → RunsAreNormal g taken
 taken_apart g old new taken ranges were t = subst (λ low. AreNormalRuns low (tier_blocks g t) (runs_of taken t)) (ranges.first t) (subst (λ end. AreNormalRuns (data_pool old t).first end (runs_of taken t)) (ranges.end t) (were.per_tier t).apart)
 
 rising_low : (low end : ℕ) (xs : List ℕ) (k : ℕ) → Rising low end xs → Contains xs k → low ≤ k
@@ -78,7 +78,7 @@ room_or_not g t k = elim (cases_lt k (first_room t)) [
   ]
 ]
 
-pub fenced_loose : (g : Sizes) (old new : Store) (t : Tier) (left : Blocks) → LooseIn g old t left → ((k : ℕ) → new t k ≡ old t k) → ((u : Use) (k : ℕ) → Free g old t k → used g new u ≡ Some (t, k) → left k ≡ old t k) → LooseIn g new t left
+pub fenced_loose : (g : Sizes) (old new : Store) (t : Tier) (left : Blocks) → LooseIn g old t left → ((k : ℕ) → new t k ≡ old t k) → ((u : Use) (k : ℕ) → Free g old t k → used_block g new u ≡ Some (t, k) → left k ≡ old t k) → LooseIn g new t left
 fenced_loose g old new t left loose same kept k taken = elim (same_or_not (left k) (old t k)) [
   | inl is ↦ is ∙ sym (same k)
   | inr differ ↦ elim (room_or_not g t k) [

@@ -10,11 +10,11 @@ use Rattle.area_image.specs.file_graph.Units.{charge}
 use Rattle.area_image.specs.layout.Places.{Sizes}
 use Rattle.area_image.specs.tree_blocks.Inode.{Inode, node_of}
 use Rattle.area_image.specs.Store.{Store, slot, inode, graph}
-use Rattle.area_image.specs.Spelled.{IsSpelled}
+use Rattle.area_image.specs.Format.{IsSpelled}
 use Rattle.area_image.specs.Units.{slot_units}
 use Rattle.area_image.specs.Rewrites.{Rewrites}
 use Rattle.area_image.proofs.Rewriting.{new_spelled, other_inode}
-use Rattle.area_commit.specs.Changing.{AreInodesOnce}
+use Rattle.area_commit.specs.BlockExchange.{AreInodesOnce}
 use Rattle.area_commit.proofs.Counting.{sum_same}
 use Rattle.area_commit.proofs.RoomHeld.{inode_low, charge_is, cost_told}
 

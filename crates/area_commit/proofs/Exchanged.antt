@@ -11,15 +11,15 @@ use Rattle.area_image.specs.block_alloc.Runs.{blocks_of}
 use Rattle.area_image.specs.block_alloc.Value.{InOrder}
 use Rattle.area_image.specs.Store.{Store, slot, root_of, place}
 use Rattle.area_image.specs.Reads.{IsRoom, Free}
-use Rattle.area_image.specs.Spelled.{Use, used, AreUsedOnce, IsSpelled}
+use Rattle.area_image.specs.Format.{Use, used_block, AreUsedOnce, IsSpelled}
 use Rattle.area_image.proofs.Lists.{place_placed}
 use Rattle.area_image.proofs.Rewriting.{free_unused}
 use Rattle.area_commit.specs.Value.{PoolsView, data_pool, AreInOrder, AreFree}
-use Rattle.area_commit.specs.declared.taking.Taken.{Taken}
-use Rattle.area_commit.specs.Taking.{WereTaken, runs_of}
+use Rattle.area_commit.specs.declared.allocation.Allocation.{Allocation}
+use Rattle.area_commit.specs.Allocations.{WereTaken, runs_of}
 use Rattle.area_commit.proofs.Departed.{taken_left}
 use Rattle.area_commit.proofs.Members.{each_tier}
-use Rattle.area_commit.specs.Changing.{Exchanges, BlockIsGivenUp, BlockIsTaken, WereGiven, HaveExchanged}
+use Rattle.area_commit.specs.BlockExchange.{Exchanges, BlockIsGivenUp, BlockIsTaken, WereGiven, HaveExchanged}
 use Rattle.area_commit.proofs.Counting.{in_or_not}
 use Rattle.area_commit.proofs.RoomHeld.{root_within}
 
@@ -36,7 +36,7 @@ block_in (Some b) = b.1
 none_some : (b : Tier × ℕ) → None ≡ Some b → ⊥
 none_some b e = cc
 
-root_room : (g : Sizes) (s : Store) (i : ℕ) (u t : Tier) (k : ℕ) → used g s (record { inode = i; tier = u; logical = None }) ≡ Some (t, k) → IsRoom g t k
+root_room : (g : Sizes) (s : Store) (i : ℕ) (u t : Tier) (k : ℕ) → used_block g s (record { inode = i; tier = u; logical = None }) ≡ Some (t, k) → IsRoom g t k
 root_room g s i u t k is = elim (cases_Bool (root_of (slot g s i) u == 0)) [
   | inl none ↦ absurd (none_some (t, k) (sym (cond-true (root_of (slot g s i) u == 0) None (Some (Fast, root_of (slot g s i) u)) none) ∙ is))
   | inr some ↦
@@ -50,16 +50,16 @@ place_room : (g : Sizes) (s : Store) (i : ℕ) (u t : Tier) (j k : ℕ) (o : Opt
 place_room g s i u t j k None there is = absurd cc
 place_room g s i u t j k (Some p) there is = subst (λ (v : Tier). IsRoom g v k) (ap tier_in is) (subst (IsRoom g u) (ap block_in is) (place_placed g s i u j p there).room)
 
-part_room : (g : Sizes) (s : Store) (i : ℕ) (u : Tier) (o : Option ℕ) (t : Tier) (k : ℕ) → used g s (record { inode = i; tier = u; logical = o }) ≡ Some (t, k) → IsRoom g t k
+part_room : (g : Sizes) (s : Store) (i : ℕ) (u : Tier) (o : Option ℕ) (t : Tier) (k : ℕ) → used_block g s (record { inode = i; tier = u; logical = o }) ≡ Some (t, k) → IsRoom g t k
 part_room g s i u None t k is = root_room g s i u t k is
 part_room g s i u (Some j) t k is = place_room g s i u t j k (place g s i u j) refl is
 
-use_room : (g : Sizes) (s : Store) (u : Use) (t : Tier) (k : ℕ) → used g s u ≡ Some (t, k) → IsRoom g t k
+use_room : (g : Sizes) (s : Store) (u : Use) (t : Tier) (k : ℕ) → used_block g s u ≡ Some (t, k) → IsRoom g t k
 use_room g s u t k is = part_room g s u.inode u.tier u.logical t k is
 
 -- ---- free blocks before and after
 
-no_use : (g : Sizes) (s : Store) (t : Tier) (k : ℕ) → Free g s t k → (u : Use) → used g s u ≡ Some (t, k) → ⊥
+no_use : (g : Sizes) (s : Store) (t : Tier) (k : ℕ) → Free g s t k → (u : Use) → used_block g s u ≡ Some (t, k) → ⊥
 no_use g s t k free = ((free_unused g s t k).0 free).1
 
 pub given_used : (g : Sizes) (rewritten : ℕ → Bool) (old new : Store) (t : Tier) (k : ℕ) → BlockIsGivenUp g rewritten old new t k → Free g old t k → ⊥
@@ -129,7 +129,7 @@ sets_free g rewritten old new before after taken spelled is were_free free have 
 
 -- ---- what was taken of the pools, and what was given to them
 
-module _ (g : Sizes) (old : Store) (before left : PoolsView) (taken : Taken) (order : AreInOrder before) (free : AreFree g old before) (took : WereTaken before left taken) where
+module _ (g : Sizes) (old : Store) (before left : PoolsView) (taken : Allocation) (order : AreInOrder before) (free : AreFree g old before) (took : WereTaken before left taken) where
   of_nodes : (k : ℕ) → Contains (blocks_of taken.nodes.items) k → Free g old Fast k × (k < node_end g)
   of_nodes k at = (free.nodes k).0 (subst (λ (xs : List ℕ). Contains xs k) took.nodes.front (Contains-append_left (blocks_of taken.nodes.items) left.nodes.free k at))
 
@@ -176,7 +176,7 @@ module _ (g : Sizes) (old : Store) (before left : PoolsView) (taken : Taken) (or
   pub have_exchanged : (after : PoolsView) (given : Tier → ℕ → Type 0) → WereGiven g left after given → HaveExchanged g before after (BlockIsTaken taken) given
   have_exchanged after given gave = record { nodes = λ k. through (gave.nodes k) (nodes_left k); per_tier = λ t k. through (gave.per_tier t k) (data_left t k) }
 
-pub runs_free : (g : Sizes) (rewritten : ℕ → Bool) (old new : Store) (before left after : PoolsView) (taken : Taken) → IsSpelled g old → AreInOrder before → AreFree g old before → WereTaken before left taken → Exchanges g rewritten old new (BlockIsTaken taken) → WereGiven g left after (BlockIsGivenUp g rewritten old new) → AreFree g new after
+pub runs_free : (g : Sizes) (rewritten : ℕ → Bool) (old new : Store) (before left after : PoolsView) (taken : Allocation) → IsSpelled g old → AreInOrder before → AreFree g old before → WereTaken before left taken → Exchanges g rewritten old new (BlockIsTaken taken) → WereGiven g left after (BlockIsGivenUp g rewritten old new) → AreFree g new after
 runs_free g rewritten old new before left after taken spelled order free took is gave =
     sets_free g rewritten old new before after (BlockIsTaken taken) spelled is (taken_were_free g old before left taken order free took) free (have_exchanged g old before left taken order free took after (BlockIsGivenUp g rewritten old new) gave)
 

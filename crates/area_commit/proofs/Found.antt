@@ -3,7 +3,7 @@ use Rattle.std.proofs.Common.{◌≤◌, ◌<◌, ◌+◌, ℕ, length, inl, inr
 use Rattle.area_image.specs.file_graph.Units.{charge}
 use Rattle.area_image.specs.layout.Places.{Sizes}
 use Rattle.area_image.specs.Store.{Store, graph}
-use Rattle.area_image.specs.Spelled.{IsSpelled, KeepsUnits}
+use Rattle.area_image.specs.Format.{IsSpelled, KeepsUnits}
 use Rattle.area_commit.specs.Value.{PoolsView, free_data, AreFree}
 use Rattle.area_commit.proofs.DataRoom.{data_unused}
 use Rattle.area_commit.proofs.NodeRoom.{nodes_spare}

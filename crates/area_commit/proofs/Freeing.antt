@@ -8,7 +8,7 @@ use Rattle.area_image.specs.layout.Places.{Sizes}
 use Rattle.area_image.specs.extent_tree.Normal.{IsNormal}
 use Rattle.area_image.specs.extent_tree.Places.{place_of}
 use Rattle.area_image.specs.extent_tree.Map.{TierRuns, runs_in, lies_at}
-use Rattle.area_commit.specs.Written.{IsFit}
+use Rattle.area_commit.specs.InodeRewrite.{IsFit}
 
 module _ (m : TierRuns) (none : (t : Tier) → runs_in m t ≡ []) where
   nowhere : (t : Tier) (k : ℕ) → lies_at m t k ≡ None

@@ -8,7 +8,7 @@ use Rattle.area_image.specs.block_alloc.declared.runs.Run.{Run}
 use Rattle.area_image.specs.block_alloc.Runs.{run_blocks, blocks_of, AreNormalRuns, Rising, Apart, PutIn}
 use Rattle.area_image.specs.block_alloc.Value.{FreeBlocks, IsUsed, InOrder, SamePool}
 use Rattle.area_image.proofs.block_alloc_lemmas.Blocks.{rising-weaker, blocks-push}
-use Rattle.area_commit.specs.Taking.{WasTaken, CanGive, WasGiven, SameBlocks}
+use Rattle.area_commit.specs.Allocations.{WasTaken, CanGive, WasGiven, SameBlocks}
 
 -- ---- rising lists
 

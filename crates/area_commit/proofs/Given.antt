@@ -9,7 +9,7 @@ use Rattle.area_image.specs.block_alloc.Runs.{run_blocks, blocks_of}
 use Rattle.area_image.specs.block_alloc.Value.{FreeBlocks, IsUsed}
 use Rattle.area_image.proofs.block_alloc_lemmas.Blocks.{blocks-push}
 use Rattle.area_commit.specs.Value.{GivesRun}
-use Rattle.area_commit.specs.Given.{AreUsed, WereAdded}
+use Rattle.area_commit.specs.Release.{AreUsed, WereAdded}
 
 -- ---- lists of blocks
 

@@ -6,7 +6,7 @@ use Rattle.std.proofs.lemmas.List.Elements.{Contains-append_left, Contains-appen
 use Rattle.area_image.specs.block_alloc.declared.runs.Run.{Run}
 use Rattle.area_image.specs.block_alloc.Runs.{Apart, run_blocks, blocks_of}
 use Rattle.area_image.specs.block_alloc.Value.{FreeBlocks}
-use Rattle.area_commit.specs.Given.{AreUsed}
+use Rattle.area_commit.specs.Release.{AreUsed}
 use Rattle.area_commit.proofs.Members.{cons_cases, nothing}
 use Rattle.area_commit.proofs.Given.{all_from}
 use Rattle.area_commit.proofs.GivenUp.{beside}

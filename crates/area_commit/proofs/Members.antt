@@ -8,11 +8,11 @@ use Rattle.std.proofs.lemmas.List.Elements.{Contains-append_left, Contains-appen
 use Rattle.area_image.specs.tier_device.declared.media.Tier.{Tier}
 use Rattle.area_image.specs.tier_device.declared.media.Tier.TheVariants.{Fast, Block, Slow}
 use Rattle.area_image.specs.layout.Places.{Sizes, node_end, data_first, tier_blocks}
-use Rattle.area_image.specs.block_alloc.Runs.{unused, PutIn}
+use Rattle.area_image.specs.block_alloc.Runs.{unmarked_blocks, PutIn}
 use Rattle.area_image.specs.block_alloc.Value.{FreeBlocks}
 use Rattle.area_image.specs.Store.{Store}
 use Rattle.area_image.specs.Reads.{Free, IsRoom}
-use Rattle.area_image.specs.Used.{UsedMarks, is_marked}
+use Rattle.area_image.specs.BlockMarks.{UsedMarks, is_marked}
 use Rattle.area_image.proofs.Rewriting.{free_unused}
 use Rattle.area_commit.specs.Value.{PoolsView, data_pool, HasRanges, AreFree, HasUnmarked, MarksAll}
 
@@ -75,26 +75,26 @@ less first b marks k low u = record { low = low; high = omega (arith, u.high); i
 at_or_after : (first k : ℕ) → first ≤ k → (first ≡ k) ⊎ (first + 1 ≤ k)
 at_or_after first k low = elim (cases_eq first k) [ inl same ↦ inl same | inr other ↦ inr (omega (arith, low, other)) ]
 
-unused_are : (first : ℕ) (marks : List Bool) (k : ℕ) → Contains (unused first marks) k → Unmarked first marks k
+unused_are : (first : ℕ) (marks : List Bool) (k : ℕ) → Contains (unmarked_blocks first marks) k → Unmarked first marks k
 unused_are first [] k at = absurd (nothing k at)
 unused_are first (true ∷ marks) k at = more first true marks k (unused_are (first + 1) marks k at)
-unused_are first (false ∷ marks) k at = elim (cons_cases first (unused (first + 1) marks) k at) [
+unused_are first (false ∷ marks) k at = elim (cons_cases first (unmarked_blocks (first + 1) marks) k at) [
   | inl here ↦ subst (Unmarked first (false ∷ marks)) here (record { low = omega arith; high = omega arith; is = here_mark first false marks })
   | inr there ↦ more first false marks k (unused_are (first + 1) marks k there)
 ]
 
-unused_all : (first : ℕ) (marks : List Bool) (k : ℕ) → Unmarked first marks k → Contains (unused first marks) k
+unused_all : (first : ℕ) (marks : List Bool) (k : ℕ) → Unmarked first marks k → Contains (unmarked_blocks first marks) k
 unused_all first [] k u = absurd (omega (arith, u.low, u.high))
 unused_all first (true ∷ marks) k u = elim (at_or_after first k u.low) [
   | inl here ↦ absurd (true≢false (sym (here_mark first true marks) ∙ (ap (λ j. get_or (true ∷ marks) (j - first) false) here ∙ u.is)))
   | inr later ↦ unused_all (first + 1) marks k (less first true marks k later u)
 ]
 unused_all first (false ∷ marks) k u = elim (at_or_after first k u.low) [
-  | inl here ↦ cons_here first (unused (first + 1) marks) k here
-  | inr later ↦ cons_there first (unused (first + 1) marks) k (unused_all (first + 1) marks k (less first false marks k later u))
+  | inl here ↦ cons_here first (unmarked_blocks (first + 1) marks) k here
+  | inr later ↦ cons_there first (unmarked_blocks (first + 1) marks) k (unused_all (first + 1) marks k (less first false marks k later u))
 ]
 
-module _ (p : FreeBlocks) (m : UsedMarks) (t : Tier) (first : ℕ) (marks : List Bool) (first_is : p.first ≡ first) (end_is : p.end ≡ first + length marks) (free_is : p.free ≡ unused first marks) (shows : (k : ℕ) → k < length marks → get_or marks k false ≡ is_marked m t (first + k)) where
+module _ (p : FreeBlocks) (m : UsedMarks) (t : Tier) (first : ℕ) (marks : List Bool) (first_is : p.first ≡ first) (end_is : p.end ≡ first + length marks) (free_is : p.free ≡ unmarked_blocks first marks) (shows : (k : ℕ) → k < length marks → get_or marks k false ≡ is_marked m t (first + k)) where
   mark_of : (k : ℕ) → first ≤ k → k < first + length marks → get_or marks (k - first) false ≡ is_marked m t k
   mark_of k low high = let back : first + (k - first) ≡ k = omega (arith, low) in shows (k - first) (omega (arith, low, high)) ∙ ap (is_marked m t) back
 

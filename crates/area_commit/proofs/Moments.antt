@@ -3,7 +3,7 @@ use Rattle.std.proofs.Common.{◌≡◌, ◌≢◌, ◌≤◌, ◌<◌, ◌*◌,
 use Rattle.std.proofs.lemmas.Bool.{cases_lt}
 use Rattle.area_image.specs.tier_device.declared.media.Tier.{Tier}
 use Rattle.area_image.specs.tier_device.declared.media.Tier.TheVariants.{Fast, Block, Slow}
-use Rattle.area_image.specs.tier_device.Media.{AtRest}
+use Rattle.area_image.specs.tier_device.AfterStop.{AtRest}
 use Rattle.area_image.specs.layout.declared.marks.Marks.{Marks}
 use Rattle.area_image.specs.layout.declared.slot.Slot.{Slot}
 use Rattle.area_image.specs.layout.Places.{Sizes, tier_blocks}
@@ -15,11 +15,11 @@ use Rattle.area_image.specs.Reads.{Loose}
 use Rattle.area_commit.specs.declared.slots.ChangedSlot.{ChangedSlot}
 use Rattle.area_commit.specs.Slots.{RiseIn}
 use Rattle.area_commit.specs.Batches.{IsBatchOf, IsPutIn}
-use Rattle.area_commit.specs.Taking.{taken_data}
-use Rattle.area_commit.specs.Writing.{HoldData, IsLooseLeft, IsJournalLeft, StaysLoose}
+use Rattle.area_commit.specs.Allocations.{taken_data}
+use Rattle.area_commit.specs.DataWrite.{HoldData, IsLooseLeft, IsJournalLeft, StaysLoose}
 use Rattle.area_commit.specs.declared.plan.Rewrite.{Rewrite}
 use Rattle.area_commit.specs.Plan.{IsPlanned}
-use Rattle.area_commit.specs.Done.{IsCarriedOut, AllOrNothing}
+use Rattle.area_commit.specs.PlanOutcome.{IsCarriedOut, AllOrNothing}
 use Rattle.area_commit.proofs.Put.{block_fast, slow_fast, carried_out}
 
 -- ---- tiers at rest

@@ -8,10 +8,10 @@ use Rattle.area_image.specs.layout.declared.slot.Slot.TheVariants as slots
 use Rattle.area_image.specs.layout.Places.{Sizes}
 use Rattle.area_image.specs.tree_blocks.Inode.{LogicalBlocks, byte_of, inode_of, AreAlike}
 use Rattle.area_image.specs.extent_tree.Map.{TierRuns, LieBelow}
-use Rattle.area_image.specs.Store.{Store, slot, root_of, length_of, place, logical, inode}
+use Rattle.area_image.specs.Store.{Store, slot, root_of, length_of, place, logical_block, inode}
 use Rattle.area_image.specs.Reads.{IsPlaced}
-use Rattle.area_commit.specs.Written.{logical_by}
-use Rattle.area_commit.specs.Moved.{with_roots, StaysBlock, StaysInode}
+use Rattle.area_commit.specs.InodeRewrite.{logical_by}
+use Rattle.area_commit.specs.InodeMove.{with_roots, StaysBlock, StaysInode}
 use Rattle.area_commit.proofs.Places.{by_nowhere, read_nowhere, none_past}
 
 -- blocks read the same below the length, and there are none from there on
@@ -38,12 +38,12 @@ length_kept (slots.File names size touch fast block slow) roots = refl
 length_kept (slots.Directory names entries touch root) roots = refl
 
 pub moved_alike : (g : Sizes) (old new : Store) (i : ℕ) (x : Slot) (m : TierRuns) → ((t : Tier) (k at : ℕ) → place g old i t k ≡ Some at → IsPlaced g t (length_of (slot g old i)) k at) → LieBelow (length_of x) m → StaysInode g old new i x m → AreAlike (inode g old i) (inode_of x (logical_by new m))
-moved_alike g old new i x m placed below moved = subst (λ (z : Slot). StayBlocks z (logical g old i) (logical_by new m) → AreAlike (inode g old i) (inode_of z (logical_by new m))) (sym moved.slot_is) (alike_roots (slot g old i) (root_of x) (logical g old i) (logical_by new m)) stay
+moved_alike g old new i x m placed below moved = subst (λ (z : Slot). StayBlocks z (logical_block g old i) (logical_by new m) → AreAlike (inode g old i) (inode_of z (logical_by new m))) (sym moved.slot_is) (alike_roots (slot g old i) (root_of x) (logical_block g old i) (logical_by new m)) stay
   where
     long : length_of x ≡ length_of (slot g old i)
     long = ap length_of moved.slot_is ∙ length_kept (slot g old i) (root_of x)
 
-    stay : StayBlocks x (logical g old i) (logical_by new m)
+    stay : StayBlocks x (logical_block g old i) (logical_by new m)
     stay = record {
       below = moved.blocks;
       old_past = λ k past. read_nowhere g old i k (λ t. none_past (place g old i t k) (length_of (slot g old i)) k (λ p at. (placed t k p at).within) (omega (arith, past, long)));

@@ -14,7 +14,7 @@ use Rattle.area_image.specs.layout.declared.slot.Slot.TheVariants as slots
 use Rattle.area_image.specs.layout.Places.{Sizes, is_inode, slot_block, node_blocks, node_end}
 use Rattle.area_image.specs.Store.{Store, slot, root_of, length_of, space_of, place, graph}
 use Rattle.area_image.specs.Reads.{InodeReads}
-use Rattle.area_image.specs.Spelled.{IsSpelled, KeepsUnits}
+use Rattle.area_image.specs.Format.{IsSpelled, KeepsUnits}
 use Rattle.area_image.specs.Units.{slot_units}
 use Rattle.area_image.proofs.Complete.{root_inode}
 use Rattle.area_image.proofs.Lists.{place_placed}

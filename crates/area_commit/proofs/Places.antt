@@ -6,8 +6,8 @@ use Rattle.area_image.specs.tier_device.declared.media.Tier.TheVariants.{Fast, B
 use Rattle.area_image.specs.layout.Places.{Sizes}
 use Rattle.area_image.specs.batch_journal.Blocks.{Blocks}
 use Rattle.area_image.specs.extent_tree.Map.{TierRuns, lies_at, LieOnce}
-use Rattle.area_image.specs.Store.{Store, place, at_or, logical}
-use Rattle.area_commit.specs.Written.{logical_by}
+use Rattle.area_image.specs.Store.{Store, place, at_or, logical_block}
+use Rattle.area_commit.specs.InodeRewrite.{logical_by}
 
 -- a block in the first of three tiers where it lies
 abbrev found : Store → (Tier → Option ℕ) → List ℕ
@@ -19,8 +19,8 @@ found_none s o none = λ p. at_or (s Fast) (none Fast p) (at_or (s Block) (none 
 pub by_nowhere : (s : Store) (m : TierRuns) (k : ℕ) → ((t : Tier) → lies_at m t k ≡ None) → logical_by s m k ≡ []
 by_nowhere s m k none = found_none s (λ t. lies_at m t k) none
 
-pub read_nowhere : (g : Sizes) (s : Store) (i k : ℕ) → ((t : Tier) → place g s i t k ≡ None) → logical g s i k ≡ []
-unfolding logical
+pub read_nowhere : (g : Sizes) (s : Store) (i k : ℕ) → ((t : Tier) → place g s i t k ≡ None) → logical_block g s i k ≡ []
+unfolding logical_block
 read_nowhere g s i k none = found_none s (λ t. place g s i t k) none
 
 -- what is not below a number is nowhere, where all that is anywhere is below it
@@ -61,8 +61,8 @@ stays_in new old o q x y is same others = ap (λ r. at_or new r x) is ∙ at_pla
     at_place None same = others
     at_place (Some p) same = same p refl
 
-pub by_same : (g : Sizes) (old new : Store) (i : ℕ) (m : TierRuns) (k : ℕ) → ((t : Tier) → lies_at m t k ≡ place g old i t k) → ((t : Tier) (p : ℕ) → place g old i t k ≡ Some p → new t p ≡ old t p) → logical_by new m k ≡ logical g old i k
-unfolding logical
+pub by_same : (g : Sizes) (old new : Store) (i : ℕ) (m : TierRuns) (k : ℕ) → ((t : Tier) → lies_at m t k ≡ place g old i t k) → ((t : Tier) (p : ℕ) → place g old i t k ≡ Some p → new t p ≡ old t p) → logical_by new m k ≡ logical_block g old i k
+unfolding logical_block
 by_same g old new i m k there same =
     stays_in (new Fast) (old Fast) _ (place g old i Fast k) _ _ (there Fast) (same Fast)
     (stays_in (new Block) (old Block) _ (place g old i Block k) _ _ (there Block) (same Block) (stays_in (new Slow) (old Slow) _ (place g old i Slow k) [] [] (there Slow) (same Slow) refl))

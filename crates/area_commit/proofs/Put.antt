@@ -14,11 +14,11 @@ use Rattle.area_image.specs.extent_tree.Map.{TierRuns}
 use Rattle.area_image.specs.Store.{Store, slot_bytes}
 use Rattle.area_image.specs.Reads.{IsRoom, Free, Loose}
 use Rattle.area_commit.specs.Batches.{IsPutIn}
-use Rattle.area_commit.specs.Taking.{taken_data}
-use Rattle.area_commit.specs.Writing.{block_at, HoldData}
+use Rattle.area_commit.specs.Allocations.{taken_data}
+use Rattle.area_commit.specs.DataWrite.{block_at, HoldData}
 use Rattle.area_commit.specs.declared.plan.Rewrite.{Rewrite}
 use Rattle.area_commit.specs.Plan.{IsPlanned}
-use Rattle.area_commit.specs.Done.{IsCarriedOut}
+use Rattle.area_commit.specs.PlanOutcome.{IsCarriedOut}
 use Rattle.area_commit.proofs.Chosen.{inode_range, node_range, data_range, data_has}
 
 pub block_fast : Block ≢ Fast

@@ -17,9 +17,9 @@ use Rattle.area_image.specs.layout.Slot.{slot_of, slot_spelling}
 use Rattle.area_image.specs.extent_tree.Places.{end_of, place_of}
 use Rattle.area_image.specs.tree_blocks.Inode.{inode_of}
 use Rattle.area_image.specs.extent_tree.Map.{TierRuns, runs_in, lies_at, LieBelow}
-use Rattle.area_image.specs.Store.{Store, slot_read, slot, root_of, space_of, length_of, is_own, own_extents, extents_by, extents_read, place, at_or, logical, inode}
-use Rattle.area_image.specs.Spelled.{used}
-use Rattle.area_commit.specs.Written.{list_of, IsListed, IsWritten, logical_by, block_by}
+use Rattle.area_image.specs.Store.{Store, slot_read, slot, root_of, space_of, length_of, is_own, own_extents, extents_by, extents_read, place, at_or, logical_block, inode}
+use Rattle.area_image.specs.Format.{used_block}
+use Rattle.area_commit.specs.InodeRewrite.{list_of, IsListed, IsWritten, logical_by, block_by}
 
 -- Slot and runs are read again from what they are spelled as, and the runs end within the length.
 pub record AreSpelled (g : Sizes) (i : ℕ) (x : Slot) (m : TierRuns) : Type 0 where
@@ -58,16 +58,16 @@ module _ (g : Sizes) (s : Store) (i : ℕ) (x : Slot) (m : TierRuns) (spelled : 
   pub place_again : (t : Tier) (k : ℕ) → place g s i t k ≡ lies_at m t k
   place_again t k = ap (λ o. place_of (unwrap_or o []) k) (extents_again t)
 
-  block_again : (k : ℕ) → logical g s i k ≡ logical_by s m k
-  unfolding logical
+  block_again : (k : ℕ) → logical_block g s i k ≡ logical_by s m k
+  unfolding logical_block
   block_again k = λ p. at_or (s Fast) (place_again Fast k p) (at_or (s Block) (place_again Block k p) (at_or (s Slow) (place_again Slow k p) []))
 
-  pub blocks_again : logical g s i ≡ logical_by s m
+  pub blocks_again : logical_block g s i ≡ logical_by s m
   blocks_again = λ p k. block_again k p
 
   pub inode_again : inode g s i ≡ inode_of x (logical_by s m)
   inode_again = λ p. inode_of (slot_same p) (blocks_again p)
 
-  pub use_again : (t : Tier) (k : Option ℕ) → used g s (record { inode = i; tier = t; logical = k }) ≡ block_by x m t k
+  pub use_again : (t : Tier) (k : Option ℕ) → used_block g s (record { inode = i; tier = t; logical = k }) ≡ block_by x m t k
   use_again t None = ap (λ y. if root_of y t == 0 then None else Some (Fast, root_of y t)) slot_same
   use_again t (Some k) = ap (option_map (λ p. (t, p))) (place_again t k)

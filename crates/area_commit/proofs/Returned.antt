@@ -13,14 +13,14 @@ use Rattle.area_image.specs.block_alloc.Value.{FreeBlocks, InOrder}
 use Rattle.area_image.specs.extent_tree.Map.{TierRuns}
 use Rattle.area_image.specs.Store.{Store}
 use Rattle.area_image.specs.Reads.{IsRoom, Free}
-use Rattle.area_image.specs.Spelled.{IsSpelled}
+use Rattle.area_image.specs.Format.{IsSpelled}
 use Rattle.area_commit.specs.Value.{PoolsView, data_pool, AreInOrder, HasRanges, AreFree}
-use Rattle.area_commit.specs.declared.taking.Taken.{Taken}
-use Rattle.area_commit.specs.Taking.{WasTaken, WereTaken, WasGiven, WasUndone, SameBlocks, SameFree, runs_of}
+use Rattle.area_commit.specs.declared.allocation.Allocation.{Allocation}
+use Rattle.area_commit.specs.Allocations.{WasTaken, WereTaken, WasGiven, WasReleased, SameBlocks, SameFree, runs_of}
 use Rattle.area_commit.proofs.Departed.{taken_free, taken_apart, taken_left}
 use Rattle.area_commit.proofs.Members.{each_tier}
-use Rattle.area_commit.specs.Changing.{Exchanges, BlockIsGivenUp, BlockIsTaken, WereGiven}
-use Rattle.area_commit.specs.Given.{AreUsed, IsInUse, WereAdded}
+use Rattle.area_commit.specs.BlockExchange.{Exchanges, BlockIsGivenUp, BlockIsTaken, WereGiven}
+use Rattle.area_commit.specs.Release.{AreUsed, IsInUse, WereAdded}
 use Rattle.area_commit.proofs.GivenUp.{run_used}
 use Rattle.area_commit.specs.declared.plan.Rewrite.{Rewrite}
 use Rattle.area_commit.specs.Plan.{WereFree, LieApart, IsLost, lost_in, is_rewritten, IsPlanned}
@@ -28,7 +28,7 @@ use Rattle.area_commit.specs.Room.{AreReadyFor}
 use Rattle.area_commit.proofs.Chosen.{no_use}
 use Rattle.area_commit.proofs.Swapped.{used_room}
 
-pub were_free : (g : Sizes) (s : Store) (before left : PoolsView) (taken : Taken) → HasRanges g before → AreFree g s before → WereTaken before left taken → WereFree g s taken
+pub were_free : (g : Sizes) (s : Store) (before left : PoolsView) (taken : Allocation) → HasRanges g before → AreFree g s before → WereTaken before left taken → WereFree g s taken
 were_free g s before left taken ranges free took = record {
   nodes = λ k at. (free.nodes k).0 (subst (λ (xs : List ℕ). Contains xs k) took.nodes.front (Contains-append_left (blocks_of taken.nodes.items) left.nodes.free k at));
   per_tier = taken_free g s before left taken free took;
@@ -91,7 +91,7 @@ module _ (g : Sizes) (s : Store) (x : ℕ → Slot) (m : ℕ → TierRuns) (plan
 
 -- What is known of the pools after a change.
 abbrev pub PoolsAfter : Type 0
-PoolsAfter = (g : Sizes) (rewritten : ℕ → Bool) (old new : Store) (before left after : PoolsView) (taken : Taken) → IsSpelled g old → AreInOrder before → AreFree g old before → WereTaken before left taken → Exchanges g rewritten old new (BlockIsTaken taken)
+PoolsAfter = (g : Sizes) (rewritten : ℕ → Bool) (old new : Store) (before left after : PoolsView) (taken : Allocation) → IsSpelled g old → AreInOrder before → AreFree g old before → WereTaken before left taken → Exchanges g rewritten old new (BlockIsTaken taken)
     → WereGiven g left after (BlockIsGivenUp g rewritten old new) → AreFree g new after
 
 joined : {A B C D E F : Type 0} → A ↔ (B ⊎ C) → C ↔ (D × E) → D ↔ F → A ↔ (B ⊎ (F × E))
@@ -123,7 +123,7 @@ module _ (g : Sizes) (s : Store) (plan : Rewrite) (left after : PoolsView) (read
 same_again : (before left after : FreeBlocks) (runs : List Run) → WasTaken before left runs → WasGiven left after runs → SameBlocks before after
 same_again before left after runs took gave = record { free = gave.free ∙ took.front; pool = record { first = gave.pool.first ∙ took.pool.first; end = gave.pool.end ∙ took.pool.end } }
 
-module _ (before left after : PoolsView) (taken : Taken) (took : WereTaken before left taken) (undone : WasUndone left after taken) where
+module _ (before left after : PoolsView) (taken : Allocation) (took : WereTaken before left taken) (undone : WasReleased left after taken) where
   nodes_again : SameBlocks before.nodes after.nodes
   nodes_again = same_again before.nodes left.nodes after.nodes taken.nodes.items took.nodes undone.nodes
 

@@ -12,7 +12,7 @@ use Rattle.area_image.specs.layout.declared.slot.Slot.{Slot}
 use Rattle.area_image.specs.layout.declared.slot.Slot.TheVariants as slots
 use Rattle.area_image.specs.layout.Places.{Sizes, is_inode, node_end}
 use Rattle.area_image.specs.Store.{Store, slot, root_of, length_of, place, graph}
-use Rattle.area_image.specs.Spelled.{IsSpelled}
+use Rattle.area_image.specs.Format.{IsSpelled}
 use Rattle.area_image.specs.Units.{slot_units}
 use Rattle.area_image.proofs.Complete.{used_root, root_inode}
 use Rattle.area_image.proofs.Costs.{units_told}

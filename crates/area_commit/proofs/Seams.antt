@@ -12,8 +12,8 @@ use Rattle.area_image.specs.block_alloc.Value.{FreeBlocks, SamePool}
 use Rattle.area_image.proofs.block_alloc_lemmas.Blocks.{range-split, blocks-push}
 use Rattle.area_image.proofs.block_alloc_lemmas.Joins.{normal-two, last-replaced, last-within, normal-wider, length-run}
 use Rattle.area_commit.specs.Value.{PoolsView, data_pool}
-use Rattle.area_commit.specs.declared.taking.Taken.{Taken}
-use Rattle.area_commit.specs.Taking.{CanGive, CanUndo, SameBlocks, WasTaken, TakesMore, runs_of}
+use Rattle.area_commit.specs.declared.allocation.Allocation.{Allocation}
+use Rattle.area_commit.specs.Allocations.{CanGive, CanRelease, SameBlocks, WasTaken, TakesMore, runs_of}
 use Rattle.area_commit.proofs.Fronts.{behind, rising-right}
 
 -- ---- rising lists
@@ -196,14 +196,14 @@ module _ (old new : FreeBlocks) (runs all : List Run) (can : CanGive new all) (p
         pool = record { first = first; end = end };
       }
 
-module _ (p q : PoolsView) (old new : Taken) (others : (t : Tier) → data_pool q t ≡ data_pool p t) (runs_same : (t : Tier) → runs_of new t ≡ runs_of old t) where
+module _ (p q : PoolsView) (old new : Allocation) (others : (t : Tier) → data_pool q t ≡ data_pool p t) (runs_same : (t : Tier) → runs_of new t ≡ runs_of old t) where
   tier_still : (P : FreeBlocks → List Run → Type 0) (t : Tier) → P (data_pool p t) (runs_of old t) → P (data_pool q t) (runs_of new t)
   tier_still P t is = subst (λ v. P v (runs_of new t)) (sym (others t)) (subst (λ runs. P (data_pool p t) runs) (sym (runs_same t)) is)
 
-  pub can_undo : CanUndo p old → CanGive q.nodes new.nodes.items → CanUndo q new
+  pub can_undo : CanRelease p old → CanGive q.nodes new.nodes.items → CanRelease q new
   can_undo can nodes = record { nodes = nodes; per_tier = λ t. tier_still CanGive t (can.per_tier t) }
 
-  pub takes_more : CanUndo p old → CanGive q.nodes new.nodes.items → SamePool p.nodes q.nodes → blocks_of new.nodes.items ++ q.nodes.free ≡ blocks_of old.nodes.items ++ p.nodes.free → p.nodes.room ≤ q.nodes.room → TakesMore p old q new
+  pub takes_more : CanRelease p old → CanGive q.nodes new.nodes.items → SamePool p.nodes q.nodes → blocks_of new.nodes.items ++ q.nodes.free ≡ blocks_of old.nodes.items ++ p.nodes.free → p.nodes.room ≤ q.nodes.room → TakesMore p old q new
   takes_more can nodes pool front kept = record {
     took = λ before order were. record {
       nodes = was_taken p.nodes q.nodes old.nodes.items new.nodes.items nodes pool front kept before.nodes were.nodes;

@@ -9,7 +9,7 @@ use Rattle.area_image.proofs.file_graph_lemmas.Fields.{u32_long, u64_long}
 use Rattle.area_image.specs.layout.declared.slot.Slot.{Slot}
 use Rattle.area_image.specs.layout.declared.slot_fields.SlotFields.{SlotFields}
 use Rattle.area_image.specs.layout.Places.{slot_block, slot_byte}
-use Rattle.area_image.specs.layout.Bytes.{u32, u64, filled, zeros}
+use Rattle.area_image.specs.layout.Bytes.{u32, u64, padded_text, zeros}
 use Rattle.area_image.specs.layout.Slot.{slot_fields, slot_text, slot_spelling}
 use Rattle.area_image.specs.batch_journal.Images.{slice}
 use Rattle.area_image.proofs.batch_journal_lemmas.Bytes.{slice_apart, slice_written}
@@ -28,8 +28,8 @@ text_long f =
     let k = length-append (u32 f.kind) (u32 f.names ++ (u64 f.size ++ (u64 f.touch ++ (u32 f.fast ++ (u32 f.block ++ u32 f.slow))))) in
     omega (arith, w, b, t, s, n, k, u32_long f.kind, u32_long f.names, u64_long f.size, u64_long f.touch, u32_long f.fast, u32_long f.block, u32_long f.slow)
 
-filled_long : (text : List ℕ) → length text ≡ 36 → length (filled 128 text) ≡ 128
-unfolding filled zeros
+filled_long : (text : List ℕ) → length text ≡ 36 → length (padded_text 128 text) ≡ 128
+unfolding padded_text zeros
 filled_long text is = omega (arith, is, length-append text (replicate (128 - length text) 0), length-replicate {A = ℕ} (128 - length text) 0)
 
 pub slot_long : (x : Slot) → length (slot_spelling x) ≡ 128

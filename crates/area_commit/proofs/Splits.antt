@@ -6,8 +6,8 @@ use Rattle.area_image.specs.tier_device.declared.media.Tier.{Tier}
 use Rattle.area_image.specs.tier_device.declared.media.Tier.TheVariants.{Fast, Block, Slow}
 use Rattle.area_image.specs.block_alloc.Runs.{blocks_of}
 use Rattle.area_commit.specs.Value.{PoolsView, on_tier, free_data}
-use Rattle.area_commit.specs.Taking.{taken_data, WereTaken}
-use Rattle.area_commit.specs.declared.taking.Taken.{Taken}
+use Rattle.area_commit.specs.Allocations.{taken_data, WereTaken}
+use Rattle.area_commit.specs.declared.allocation.Allocation.{Allocation}
 
 -- ---- results
 
@@ -62,7 +62,7 @@ free-length p =
     let rest = on_tier Block p.block.free ++ on_tier Slow p.slow.free in
     omega (arith, length-append (on_tier Fast p.fast.free) rest, length-append (on_tier Block p.block.free) (on_tier Slow p.slow.free), on-length Fast p.fast.free, on-length Block p.block.free, on-length Slow p.slow.free)
 
-pub taken-length : (taken : Taken) → length (taken_data taken) ≡ length (blocks_of taken.fast.items) + length (blocks_of taken.block.items) + length (blocks_of taken.slow.items)
+pub taken-length : (taken : Allocation) → length (taken_data taken) ≡ length (blocks_of taken.fast.items) + length (blocks_of taken.block.items) + length (blocks_of taken.slow.items)
 taken-length taken =
     let f = blocks_of taken.fast.items in
     let b = blocks_of taken.block.items in
@@ -70,11 +70,11 @@ taken-length taken =
     omega (arith, length-append (on_tier Fast f) (on_tier Block b ++ on_tier Slow s), length-append (on_tier Block b) (on_tier Slow s), on-length Fast f, on-length Block b, on-length Slow s)
 
 -- A pool is emptied before anything is taken of a slower one.
-pub record FastestFirst (new : PoolsView) (taken : Taken) : Type 0 where
+pub record FastestFirst (new : PoolsView) (taken : Allocation) : Type 0 where
   pub fast : 0 < length (blocks_of taken.block.items) + length (blocks_of taken.slow.items) → length new.fast.free ≡ 0
   pub block : 0 < length (blocks_of taken.slow.items) → length new.block.free ≡ 0
 
-pub free_split : (old new : PoolsView) (taken : Taken) → WereTaken old new taken → FastestFirst new taken → free_data old ≡ taken_data taken ++ free_data new
+pub free_split : (old new : PoolsView) (taken : Allocation) → WereTaken old new taken → FastestFirst new taken → free_data old ≡ taken_data taken ++ free_data new
 free_split old new taken were first =
     let f = blocks_of taken.fast.items in
     let b = blocks_of taken.block.items in
@@ -89,7 +89,7 @@ free_split old new taken were first =
     (λ some. on-empty Fast new.fast.free (first.fast (omega (arith, some, on-length Block b, on-length Slow s))))
     (λ some. on-empty Block new.block.free (first.block (omega (arith, some, on-length Slow s))))
 
-module _ (old new : PoolsView) (taken : Taken) (n : ℕ) (were : WereTaken old new taken) (first : FastestFirst new taken) (count : length (taken_data taken) ≡ n) where
+module _ (old new : PoolsView) (taken : Allocation) (n : ℕ) (were : WereTaken old new taken) (first : FastestFirst new taken) (count : length (taken_data taken) ≡ n) where
   pub data_taken : taken_data taken ≡ take n (free_data old)
   data_taken = sym (ap (take n) (free_split old new taken were first) ∙ take_at (taken_data taken) (free_data new) n count)
 

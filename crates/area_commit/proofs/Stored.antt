@@ -15,8 +15,8 @@ use Rattle.area_image.specs.batch_journal.Images.{slice}
 use Rattle.area_image.specs.batch_journal.Blocks.{block_of, home, is_home}
 use Rattle.area_image.specs.Store.{Store, store_of}
 use Rattle.area_commit.specs.Value.{on_tier}
-use Rattle.area_commit.specs.Taking.{tier_places}
-use Rattle.area_commit.specs.Writing.{block_at, HoldParts, HoldData}
+use Rattle.area_commit.specs.Allocations.{tier_places}
+use Rattle.area_commit.specs.DataWrite.{block_at, HoldParts, HoldData}
 use Rattle.area_commit.proofs.Held.{same_blocks}
 
 -- ---- a part of joined blocks

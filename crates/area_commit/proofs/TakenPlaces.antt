@@ -13,12 +13,12 @@ use Rattle.area_image.specs.tree_blocks.Inode.{Inode, IsConsistent, inode_of, Ar
 use Rattle.area_image.specs.file_graph.declared.effect.Kind.{Kind}
 use Rattle.area_image.specs.file_graph.declared.effect.Kind.TheVariants as kind
 use Rattle.area_image.specs.extent_tree.Map.{TierRuns}
-use Rattle.area_image.specs.Store.{Store, slot_bytes, slot_read, slot, root_of, length_of, place, logical, inode}
+use Rattle.area_image.specs.Store.{Store, slot_bytes, slot_read, slot, root_of, length_of, place, logical_block, inode}
 use Rattle.area_image.specs.Reads.{IsRoom, IsPlaced, Free}
-use Rattle.area_image.specs.Spelled.{Use, used, SpellsInode, AreUsedOnce}
+use Rattle.area_image.specs.Format.{Use, used_block, SpellsInode, AreUsedOnce}
 use Rattle.area_image.specs.Rewrites.{Rewrites}
-use Rattle.area_commit.specs.Written.{block_by}
-use Rattle.area_commit.specs.Many.{MayTake, HasBlockFor, TakeOnce, KeepOrTakeFree, TakeFreeOnce, AreWrittenAnew}
+use Rattle.area_commit.specs.InodeRewrite.{block_by}
+use Rattle.area_commit.specs.StoreRewrite.{MayTake, HasBlockFor, TakeOnce, KeepOrTakeFree, TakeFreeOnce, AreWrittenAnew}
 
 -- ---- blocks in use lie in a pool or among a tier's data
 
@@ -56,17 +56,17 @@ place_room g t (Some p) b room at = subst (InRoom g) (the_block (t, p) b at) (ro
     the_block a b e = cc
 
 module _ (g : Sizes) (s : Store) (pools : LieInPools g s) where
-  room_by : (i : ℕ) (t : Tier) (k : Option ℕ) (b : Tier × ℕ) → used g s (record { inode = i; tier = t; logical = k }) ≡ Some b → InRoom g b
+  room_by : (i : ℕ) (t : Tier) (k : Option ℕ) (b : Tier × ℕ) → used_block g s (record { inode = i; tier = t; logical = k }) ≡ Some b → InRoom g b
   room_by i t None b at = root_room g (root_of (slot g s i) t) b (pools.roots i t) at
   room_by i t (Some k) b at = place_room g t (place g s i t k) b (λ p is. (pools.places i t k p is).room) at
 
-  pub use_room : (u : Use) (b : Tier × ℕ) → used g s u ≡ Some b → InRoom g b
+  pub use_room : (u : Use) (b : Tier × ℕ) → used_block g s u ≡ Some b → InRoom g b
   use_room u b at = room_by u.inode u.tier u.logical b at
 
 -- ---- blocks that are kept or were free
 
 abbrev pub FreeIsUnused : Sizes → Store → Type 0
-FreeIsUnused g s = (t : Tier) (k : ℕ) → Free g s t k ↔ (IsRoom g t k × ((u : Use) → used g s u ≡ Some (t, k) → ⊥))
+FreeIsUnused g s = (t : Tier) (k : ℕ) → Free g s t k ↔ (IsRoom g t k × ((u : Use) → used_block g s u ≡ Some (t, k) → ⊥))
 
 module _ (g : Sizes) (rewritten : ℕ → Bool) (s : Store) (x : ℕ → Slot) (m : ℕ → TierRuns) where
   pub kept_apart : FreeIsUnused g s → AreUsedOnce g s → KeepOrTakeFree g rewritten s x m → TakeFreeOnce g rewritten s x m → TakeOnce rewritten x m
@@ -85,12 +85,12 @@ module _ (g : Sizes) (rewritten : ℕ → Bool) (s : Store) (x : ℕ → Slot) (
 
 module _ (g : Sizes) (rewritten : ℕ → Bool) (s : Store) (unused : FreeIsUnused g s) (once : AreUsedOnce g s) where
   -- a block that may be taken is none of another inode
-  not_others : (v : Use) (b : Tier × ℕ) → rewritten v.inode ≡ false → used g s v ≡ Some b → MayTake g rewritten s b → ⊥
+  not_others : (v : Use) (b : Tier × ℕ) → rewritten v.inode ≡ false → used_block g s v ≡ Some b → MayTake g rewritten s b → ⊥
   not_others v b other at (inl free) = ((unused b.0 b.1).0 free).1 v at
   not_others v b other at (inr (u, its, here)) = true≢false (sym its ∙ (ap (λ (w : Use). rewritten w.inode) (once u v b here at) ∙ other))
 
 module _ (g : Sizes) (rewritten : ℕ → Bool) (x : ℕ → Slot) (m : ℕ → TierRuns) (old new : Store) (pools : LieInPools g old) (unused : FreeIsUnused g old) (once : AreUsedOnce g old) (anew : AreWrittenAnew g rewritten x m old new) where
-  pub are_rewritten : ((i : ℕ) → rewritten i ≡ true → SpellsInode g new i) → ((i : ℕ) → rewritten i ≡ true → (t : Tier) (k : Option ℕ) → used g new (record { inode = i; tier = t; logical = k }) ≡ block_by (x i) (m i) t k) → Rewrites g rewritten old new
+  pub are_rewritten : ((i : ℕ) → rewritten i ≡ true → SpellsInode g new i) → ((i : ℕ) → rewritten i ≡ true → (t : Tier) (k : Option ℕ) → used_block g new (record { inode = i; tier = t; logical = k }) ≡ block_by (x i) (m i) t k) → Rewrites g rewritten old new
   are_rewritten spelled uses = record {
     superblock = anew.superblock;
     marks = anew.marks;
@@ -101,20 +101,20 @@ module _ (g : Sizes) (rewritten : ℕ → Bool) (x : ℕ → Slot) (m : ℕ → 
     takes = λ u v b one other here there. not_others g rewritten old unused once v b other there (anew.takes u b (taken u b one here));
   }
     where
-      taken : (u : Use) (b : Tier × ℕ) → rewritten u.inode ≡ true → used g new u ≡ Some b → HasBlockFor rewritten x m u b
+      taken : (u : Use) (b : Tier × ℕ) → rewritten u.inode ≡ true → used_block g new u ≡ Some b → HasBlockFor rewritten x m u b
       taken u b its at = (its, sym (uses u.inode its u.tier u.logical) ∙ at)
 
 -- ---- what is free then
 
-module _ (g : Sizes) (rewritten : ℕ → Bool) (old new : Store) (t : Tier) (k : ℕ) (stay : (u : Use) → rewritten u.inode ≡ false → used g new u ≡ used g old u) where
-  pub given_up : LieInPools g old → FreeIsUnused g old → FreeIsUnused g new → AreUsedOnce g old → MayTake g rewritten old (t, k) → ((u : Use) → rewritten u.inode ≡ true → used g new u ≡ Some (t, k) → ⊥) → Free g new t k
+module _ (g : Sizes) (rewritten : ℕ → Bool) (old new : Store) (t : Tier) (k : ℕ) (stay : (u : Use) → rewritten u.inode ≡ false → used_block g new u ≡ used_block g old u) where
+  pub given_up : LieInPools g old → FreeIsUnused g old → FreeIsUnused g new → AreUsedOnce g old → MayTake g rewritten old (t, k) → ((u : Use) → rewritten u.inode ≡ true → used_block g new u ≡ Some (t, k) → ⊥) → Free g new t k
   given_up pools unused unused' once may none = (unused' t k).1 (room may, no_use)
     where
       room : MayTake g rewritten old (t, k) → IsRoom g t k
       room (inl free) = free.room
       room (inr (u, its, at)) = use_room g old pools u (t, k) at
 
-      no_use : (u : Use) → used g new u ≡ Some (t, k) → ⊥
+      no_use : (u : Use) → used_block g new u ≡ Some (t, k) → ⊥
       no_use u at = elim (cases_Bool (rewritten u.inode)) [
         | inl its ↦ none u its at
         | inr other ↦ not_others g rewritten old unused once u (t, k) other (sym (stay u other) ∙ at) may
@@ -123,7 +123,7 @@ module _ (g : Sizes) (rewritten : ℕ → Bool) (old new : Store) (t : Tier) (k 
   pub no_other : FreeIsUnused g old → FreeIsUnused g new → Free g new t k → (MayTake g rewritten old (t, k) → ⊥) → ⊥
   no_other unused unused' free not = not (inl ((unused t k).1 (((unused' t k).0 free).0, no_use)))
     where
-      no_use : (u : Use) → used g old u ≡ Some (t, k) → ⊥
+      no_use : (u : Use) → used_block g old u ≡ Some (t, k) → ⊥
       no_use u at = elim (cases_Bool (rewritten u.inode)) [
         | inl its ↦ not (inr (u, its, at))
         | inr other ↦ ((unused' t k).0 free).1 u (stay u other ∙ at)
@@ -140,7 +140,7 @@ no_slot g s i other = ap (λ o. unwrap_or o slots.Free) (cond-false (is_inode i)
 pub all_consistent : (g : Sizes) (s : Store) → ((i : ℕ) → is_inode i ≡ true → SpellsInode g s i) → (i : ℕ) → IsConsistent i (inode g s i)
 all_consistent g s inodes i = elim (cases_Bool (is_inode i)) [
   | inl number ↦ (inodes i number).consistent
-  | inr other ↦ subst (λ (y : Slot). IsConsistent i (inode_of y (logical g s i))) (sym (no_slot g s i other)) tt
+  | inr other ↦ subst (λ (y : Slot). IsConsistent i (inode_of y (logical_block g s i))) (sym (no_slot g s i other)) tt
 ]
 
 read_self : (k : Option Kind) (size : ℕ) (b : LogicalBlocks) → ReadAlike k size b b

@@ -3,9 +3,9 @@ use Rattle.std.proofs.Common.{◌≡◌, ◌≢◌, ◌≤◌, ◌<◌, ◌+◌,
 use Rattle.std.proofs.lemmas.Bool.{cases_lt}
 use Rattle.area_image.specs.tier_device.declared.media.Tier.{Tier}
 use Rattle.area_image.specs.tier_device.declared.media.Tier.TheVariants.{Fast, Block, Slow}
-use Rattle.area_image.specs.tier_device.Media.{AtRest}
+use Rattle.area_image.specs.tier_device.AfterStop.{AtRest}
 use Rattle.area_image.specs.block_alloc.declared.runs.Run.{Run}
-use Rattle.area_commit.specs.Writing.{IsKept, WritesIn, FencesInTurn, GoesInTurn, fences_of}
+use Rattle.area_commit.specs.DataWrite.{IsKept, WritesIn, FencesInTurn, GoesInTurn, fences_of}
 
 -- a tier in which runs are written is fenced once
 pub fence_some : (runs : List Run) → 0 < length runs → fences_of runs ≡ 1

@@ -1,19 +1,19 @@
 pub mod Plan
-pub mod Done
+pub mod PlanOutcome
 pub mod Room
-pub mod Settled
+pub mod StableState
 pub mod Value
-pub mod Taking
-pub mod Writing
+pub mod Allocations
+pub mod DataWrite
 pub mod Slots
 pub mod Batches
 pub mod Lists
-pub mod Written
-pub mod Moved
-pub mod Changed
-pub mod Many
-pub mod Changing
-pub mod Given
+pub mod InodeRewrite
+pub mod InodeMove
+pub mod InodeChange
+pub mod StoreRewrite
+pub mod BlockExchange
+pub mod Release
 -- Passed on to the crates above, which so need not list those below.
 pub use Rattle.area_image.specs as area_image
 pub use Rattle.area_image.specs.batch_journal

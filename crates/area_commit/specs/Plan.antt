@@ -13,45 +13,45 @@ use Rattle.area_image.specs.batch_journal.Images.{image_for, with_images}
 use Rattle.area_image.specs.extent_tree.Map.{TierRuns, runs_in}
 use Rattle.area_image.specs.Store.{Store, root_of}
 use Rattle.area_image.specs.Reads.{Free}
-use Rattle.area_image.specs.Spelled.{Use, used}
-use Rattle.area_commit.specs.Written.{IsFit, IsListed, block_by}
-use Rattle.area_commit.specs.Many.{HasBlockFor}
+use Rattle.area_image.specs.Format.{Use, used_block}
+use Rattle.area_commit.specs.InodeRewrite.{IsFit, IsListed, block_by}
+use Rattle.area_commit.specs.StoreRewrite.{HasBlockFor}
 use Rattle.area_commit.specs.declared.slots.ChangedSlot.{ChangedSlot}
 use Rattle.area_commit.specs.Slots.{RiseIn}
 use Rattle.area_commit.specs.Batches.{AreNodes}
-use Rattle.area_commit.specs.declared.taking.Taken.{Taken}
-use Rattle.area_commit.specs.Taking.{taken_data, runs_of}
-use Rattle.area_commit.specs.Writing.{AreFreeIn, RunsAreNormal}
-use Rattle.area_commit.specs.Changing.{BlockIsTaken}
-use Rattle.area_commit.specs.declared.plan.Lost.{Lost}
+use Rattle.area_commit.specs.declared.allocation.Allocation.{Allocation}
+use Rattle.area_commit.specs.Allocations.{taken_data, runs_of}
+use Rattle.area_commit.specs.DataWrite.{AreFreeIn, RunsAreNormal}
+use Rattle.area_commit.specs.BlockExchange.{BlockIsTaken}
+use Rattle.area_commit.specs.declared.plan.FreedBlocks.{FreedBlocks}
 use Rattle.area_commit.specs.declared.plan.Rewrite.{Rewrite}
 
 -- ---- one inode
 
 -- Slot and runs of inode i keep the limits; each block that lists its runs has an image that does, or stays as it is; and each block that it has a use for then, it had for
 -- the same use, or it was taken.
-pub record IsPlannedInode (g : Sizes) (s : Store) (taken : Taken) (nodes : List (ℕ × List ℕ)) (i : ℕ) (x : Slot) (m : TierRuns) : Type 0 where
+pub record IsPlannedInode (g : Sizes) (s : Store) (taken : Allocation) (nodes : List (ℕ × List ℕ)) (i : ℕ) (x : Slot) (m : TierRuns) : Type 0 where
   pub fit : IsFit g x m
   pub listed : (t : Tier) → IsListed (with_images nodes (s tiers.Fast)) i (root_of x t) (runs_in m t)
-  pub uses : (t : Tier) (k : Option ℕ) (b : Tier × ℕ) → block_by x m t k ≡ Some b → (used g s (record { inode = i; tier = t; logical = k }) ≡ Some b) ⊎ BlockIsTaken taken b.0 b.1
+  pub uses : (t : Tier) (k : Option ℕ) (b : Tier × ℕ) → block_by x m t k ≡ Some b → (used_block g s (record { inode = i; tier = t; logical = k }) ≡ Some b) ⊎ BlockIsTaken taken b.0 b.1
 
 -- Inode i had some use for a block, for which it has another one then, or none.
 pub record Loses (g : Sizes) (s : Store) (i : ℕ) (x : Slot) (m : TierRuns) (t : Tier) (k : ℕ) : Type 0 where
   pub tier : Tier
   pub logical : Option ℕ
-  pub was : used g s (record { inode = i; tier = tier; logical = logical }) ≡ Some (t, k)
+  pub was : used_block g s (record { inode = i; tier = tier; logical = logical }) ≡ Some (t, k)
   pub none : block_by x m tier logical ≡ Some (t, k) → ⊥
 
 -- ---- the blocks of all
 
 -- The blocks that were taken were free: in the node pool, and in runs that rise among each tier's data blocks.
-pub record WereFree (g : Sizes) (s : Store) (taken : Taken) : Type 0 where
+pub record WereFree (g : Sizes) (s : Store) (taken : Allocation) : Type 0 where
   pub nodes : (k : ℕ) → Contains (blocks_of taken.nodes.items) k → Free g s tiers.Fast k × (k < node_end g)
   pub per_tier : (t : Tier) → AreFreeIn g s t (runs_of taken t)
   pub apart : RunsAreNormal g taken
 
 -- the runs of a tier's data blocks that are given up
-abbrev pub lost_in : Lost → Tier → List Run
+abbrev pub lost_in : FreedBlocks → Tier → List Run
 lost_in lost tiers.Fast = lost.fast.items
 lost_in lost tiers.Block = lost.block.items
 lost_in lost tiers.Slow = lost.slow.items
@@ -66,7 +66,7 @@ abbrev pub IsLost : Sizes → (ℕ → Bool) → Store → (ℕ → Slot) → (�
 IsLost g rewritten s x m t k = (i : ℕ) × (rewritten i ≡ true) × Loses g s i (x i) (m i) t k
 
 -- The runs that are given up are of exactly the blocks that are lost, in the node pool and among each tier's data blocks.
-pub record HoldLost (g : Sizes) (rewritten : ℕ → Bool) (s : Store) (x : ℕ → Slot) (m : ℕ → TierRuns) (lost : Lost) : Type 0 where
+pub record HoldLost (g : Sizes) (rewritten : ℕ → Bool) (s : Store) (x : ℕ → Slot) (m : ℕ → TierRuns) (lost : FreedBlocks) : Type 0 where
   pub nodes : (k : ℕ) → Contains (blocks_of lost.nodes.items) k ↔ (IsLost g rewritten s x m tiers.Fast k × (k < node_end g))
   pub per_tier : (t : Tier) (k : ℕ) → Contains (blocks_of (lost_in lost t)) k ↔ (IsLost g rewritten s x m t k × (data_first g t ≤ k))
   pub nodes_apart : LieApart lost.nodes.items

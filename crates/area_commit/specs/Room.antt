@@ -4,7 +4,7 @@ use Rattle.area_image.specs.tier_device.declared.media.Tier.{Tier}
 use Rattle.area_image.specs.layout.Places.{Sizes}
 use Rattle.area_image.specs.Store.{Store}
 use Rattle.area_commit.specs.Value.{PoolsView, data_pool, AreInOrder, HasRanges, AreFree}
-use Rattle.area_commit.specs.Taking.{WereTaken, CanUndo}
+use Rattle.area_commit.specs.Allocations.{WereTaken, CanRelease}
 use Rattle.area_commit.specs.declared.plan.Rewrite.{Rewrite}
 use Rattle.area_commit.specs.Plan.{lost_in}
 
@@ -15,6 +15,6 @@ pub record AreReadyFor (g : Sizes) (s : Store) (left : PoolsView) (plan : Rewrit
   pub ranges : HasRanges g before
   pub free : AreFree g s before
   pub took : WereTaken before left plan.taken
-  pub undo : CanUndo left plan.taken
+  pub undo : CanRelease left plan.taken
   pub nodes_room : length plan.lost.nodes.items ≤ left.nodes.room
   pub room : (t : Tier) → length (lost_in plan.lost t) ≤ (data_pool left t).room

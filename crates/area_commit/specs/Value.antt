@@ -10,8 +10,8 @@ use Rattle.area_image.specs.block_alloc.Runs.{run_blocks}
 use Rattle.area_image.specs.block_alloc.Value.{FreeBlocks, InOrder, SamePool}
 use Rattle.area_image.specs.Store.{Store}
 use Rattle.area_image.specs.Reads.{Free}
-use Rattle.area_image.specs.Spelled.{Use, used}
-use Rattle.area_image.specs.Used.{UsedMarks, is_marked, IsMarked}
+use Rattle.area_image.specs.Format.{Use, used_block}
+use Rattle.area_image.specs.BlockMarks.{UsedMarks, is_marked, IsMarked}
 
 -- the node pool, and the data blocks of each tier
 pub record PoolsView : Type 0 where
@@ -70,4 +70,4 @@ HasUnmarked m t p = (k : ℕ) → Contains p.free k ↔ ((p.first ≤ k) × (k <
 
 -- Marked are exactly the blocks that have a use.
 abbrev pub MarksAll : Sizes → Store → UsedMarks → Type 0
-MarksAll g s m = (t : Tier) (k : ℕ) → IsMarked m t k ↔ ((u : Use) × (used g s u ≡ Some (t, k)))
+MarksAll g s m = (t : Tier) (k : ℕ) → IsMarked m t k ↔ ((u : Use) × (used_block g s u ≡ Some (t, k)))

@@ -7,7 +7,7 @@ ghost use Rattle.area_image.specs.layout.Places.{Sizes};
 ghost use Rattle.area_image.specs.batch_journal.Images.{next_of};
 ghost use Rattle.area_image.specs.batch_journal.Blocks.{AreJournaled};
 ghost use Rattle.area_image.specs.batch_journal.Volume.{KeepsGeometry};
-ghost use Rattle.area_image.specs.Store.{store_of};
+ghost use Rattle.area_image.specs.Store.{disk};
 ghost use Rattle.area_image.specs.Damage.{OnDamage};
 ghost use Rattle.area_image.specs.Looks.{Looks};
 ghost use Rattle.area_commit.specs.Slots.{RiseIn, has_slot};
@@ -33,13 +33,13 @@ pub fn batch_of<M: Media>(
     requires slots { RiseIn 1 MAX_INODE slots.now }
     requires nodes { AreNodes journal.old.geometry nodes.now }
     requires few { length nodes.now ≤ 990 }
-    ensures batch { IfOk result (IsBatchOf (store_of (M.seen journal.old.media)) slots.now marks nodes.now) }
+    ensures batch { IfOk result (IsBatchOf (disk M.Media journal.old) slots.now marks nodes.now) }
     ensures places { IfOk result (AreJournaled journal.old.geometry) }
     ensures superblock { IfOk result (KeepsGeometry journal.old.geometry) }
     ensures few { IfOk result (λ batch. length batch ≤ length slots.now + 1 + length nodes.now) }
     ensures few_blocks { IfOk result (λ batch. length batch ≤ 33 + length nodes.now) }
     ensures only { IfErr result (λ e. OnDamage e (λ _ _. ⊥)) }
-    ensures looks { Looks M.moment M.seen M.left M.faults journal.old journal.new result }
+    ensures looks { Looks M.Media journal.old journal.new result }
 {
     if journal.has_failed() {
         return Err(AreaError::DeviceFault);
@@ -60,14 +60,14 @@ fn push_slot_blocks<M: Media>(
     requires going { journal.old.failed ≡ false }
     requires slots { RiseIn 1 MAX_INODE slots.now }
     requires none { batch.old ≡ [] }
-    ensures images { OnOk result (HasSlotImages slots.now (store_of (M.seen journal.old.media) Fast) MARKS_BLOCK batch.new) }
-    ensures whole { OnOk result ((k : ℕ) → has_slot k slots.now ≡ true → length (store_of (M.seen journal.old.media) Fast k) ≡ BLOCK) }
+    ensures images { OnOk result (HasSlotImages slots.now (disk M.Media journal.old Fast) MARKS_BLOCK batch.new) }
+    ensures whole { OnOk result ((k : ℕ) → has_slot k slots.now ≡ true → length (disk M.Media journal.old Fast k) ≡ BLOCK) }
     ensures next { OnOk result (next_of batch.new ≤ MARKS_BLOCK) }
     ensures few { OnOk result (length batch.new ≤ length slots.now) }
     ensures few_blocks { OnOk result (length batch.new ≤ 32) }
     ensures places { OnOk result ((g : Sizes) → AreJournaled g batch.new) }
     ensures only { IfErr result (λ e. OnDamage e (λ _ _. ⊥)) }
-    ensures looks { Looks M.moment M.seen M.left M.faults journal.old journal.new result }
+    ensures looks { Looks M.Media journal.old journal.new result }
 {
     let mut rest = slots;
     'numbers: for block in FIRST_SLOT_BLOCK..MARKS_BLOCK {
@@ -93,11 +93,11 @@ fn push_slot_block<M: Media>(
     requires inside { RiseIn (SLOTS_IN_BLOCK * (block - 1) + 1) (SLOTS_IN_BLOCK * block) slots.now }
     requires room { length batch.old < 1023 }
     requires rises { next_of batch.old ≤ block }
-    ensures pushed { OnOk result (batch.new ≡ batch.old ++ images_for block slots.now (store_of (M.seen journal.old.media) Fast block)) }
-    ensures whole { OnOk result (1 ≤ length slots.now → length (store_of (M.seen journal.old.media) Fast block) ≡ BLOCK) }
+    ensures pushed { OnOk result (batch.new ≡ batch.old ++ images_for block slots.now (disk M.Media journal.old Fast block)) }
+    ensures whole { OnOk result (1 ≤ length slots.now → length (disk M.Media journal.old Fast block) ≡ BLOCK) }
     ensures next { OnOk result (next_of batch.new ≤ block + 1) }
     ensures only { IfErr result (λ e. OnDamage e (λ _ _. ⊥)) }
-    ensures looks { Looks M.moment M.seen M.left M.faults journal.old journal.new result }
+    ensures looks { Looks M.Media journal.old journal.new result }
 {
     if slots.is_empty() {
         return Ok(());

@@ -8,10 +8,10 @@ ghost use Rattle.area_image.specs.file_graph.Graph.{Graph, cost, is_among};
 ghost use Rattle.area_image.specs.file_graph.Units.{charge};
 ghost use Rattle.area_image.specs.layout.Places.{Sizes};
 ghost use Rattle.area_image.specs.Store.{Store, slot, inode, graph};
-ghost use Rattle.area_image.specs.Spelled.{IsSpelled};
+ghost use Rattle.area_image.specs.Format.{IsSpelled};
 ghost use Rattle.area_image.specs.Units.{slot_units};
 ghost use Rattle.area_image.specs.Rewrites.{Rewrites};
-ghost use Rattle.area_commit.specs.Changing.{AreInodesOnce};
+ghost use Rattle.area_commit.specs.BlockExchange.{AreInodesOnce};
 
 /// Where some inodes change, the charge falls by what they cost before, and rises by what they cost now. Of a store the slots tell what inodes cost.
 pub fn charge_after_change()

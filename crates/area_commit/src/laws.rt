@@ -13,18 +13,18 @@ ghost use Rattle.area_image.specs.block_alloc.Value.{FreeBlocks};
 ghost use Rattle.area_image.specs.extent_tree.Map.{TierRuns};
 ghost use Rattle.area_image.specs.Store.{Store, store_of, graph, marks};
 ghost use Rattle.area_image.specs.Reads.{Loose};
-ghost use Rattle.area_image.specs.Spelled.{IsSpelled, IsOpenable};
-ghost use Rattle.area_commit.specs.Many.{AreWrittenAnew};
+ghost use Rattle.area_image.specs.Format.{IsSpelled, IsOpenable};
+ghost use Rattle.area_commit.specs.StoreRewrite.{AreWrittenAnew};
 ghost use Rattle.area_commit.specs.Batches.{IsPutIn};
 ghost use Rattle.area_commit.specs.Value.{PoolsView, data_pool, HasRanges, AreFree};
-ghost use Rattle.area_commit.specs.declared.taking.Taken.{Taken};
-ghost use Rattle.area_commit.specs.Taking.{taken_data, WereTaken, WasUndone, SameFree};
-ghost use Rattle.area_commit.specs.Writing.{HoldData};
-ghost use Rattle.area_commit.specs.Changing.{Exchanges, BlockIsGivenUp, BlockIsTaken};
-ghost use Rattle.area_commit.specs.Given.{AreUsed, WereAdded};
+ghost use Rattle.area_commit.specs.declared.allocation.Allocation.{Allocation};
+ghost use Rattle.area_commit.specs.Allocations.{taken_data, WereTaken, WasReleased, SameFree};
+ghost use Rattle.area_commit.specs.DataWrite.{HoldData};
+ghost use Rattle.area_commit.specs.BlockExchange.{Exchanges, BlockIsGivenUp, BlockIsTaken};
+ghost use Rattle.area_commit.specs.Release.{AreUsed, WereAdded};
 ghost use Rattle.area_commit.specs.declared.plan.Rewrite.{Rewrite};
 ghost use Rattle.area_commit.specs.Plan.{WereFree, LieApart, IsLost, lost_in, is_rewritten, IsPlanned};
-ghost use Rattle.area_commit.specs.Done.{IsCarriedOut, IsBeforeOrAfter};
+ghost use Rattle.area_commit.specs.PlanOutcome.{IsCarriedOut, IsBeforeOrAfter};
 ghost use Rattle.area_commit.specs.Room.{AreReadyFor};
 
 use crate::{pools_after_change, written_inode_is_read};
@@ -32,7 +32,7 @@ use area_image::{free_blocks_are_not_read, marks_are_read};
 
 /// What was taken of pools that have exactly the free blocks was free.
 pub fn taken_blocks_were_free()
-    ensures { (g : Sizes) (s : Store) (before left : PoolsView) (taken : Taken) → HasRanges g before → AreFree g s before → WereTaken before left taken → WereFree g s taken }
+    ensures { (g : Sizes) (s : Store) (before left : PoolsView) (taken : Allocation) → HasRanges g before → AreFree g s before → WereTaken before left taken → WereFree g s taken }
 {}
 
 /// A batch of a plan's slots, marks and images, put into a store that has its data, and differs from the one before in free blocks alone, carries out the plan.
@@ -72,7 +72,7 @@ pub fn runs_lie_apart()
 {}
 
 /// The runs that a plan gives up can be given to the pools: none of their blocks is free, or in two of them.
-pub fn lost_blocks_can_be_given()
+pub fn freed_blocks_return()
     ensures nodes { (g : Sizes) (s : Store) (x : ℕ → Slot) (m : ℕ → TierRuns) (plan : Rewrite) (left : PoolsView) → IsPlanned g s x m plan → AreReadyFor g s left plan → AreUsed left.nodes plan.lost.nodes.items }
     ensures per_tier { (g : Sizes) (s : Store) (x : ℕ → Slot) (m : ℕ → TierRuns) (plan : Rewrite) (left : PoolsView) (t : Tier) → IsPlanned g s x m plan → AreReadyFor g s left plan → AreUsed (data_pool left t) (lost_in plan.lost t) }
 {}
@@ -90,10 +90,10 @@ pub fn pools_have_the_free_blocks()
 }
 
 /// Where a plan is given up, the pools are as they were before the take.
-pub fn undone_pools_are_as_before()
-    ensures same { (before left after : PoolsView) (taken : Taken) → WereTaken before left taken → WasUndone left after taken → SameFree before after }
-    ensures free { (g : Sizes) (s : Store) (plan : Rewrite) (left after : PoolsView) → AreReadyFor g s left plan → WasUndone left after plan.taken → AreFree g s after }
-    ensures ranges { (g : Sizes) (s : Store) (plan : Rewrite) (left after : PoolsView) → AreReadyFor g s left plan → WasUndone left after plan.taken → HasRanges g after }
+pub fn released_pools_are_as_before()
+    ensures same { (before left after : PoolsView) (taken : Allocation) → WereTaken before left taken → WasReleased left after taken → SameFree before after }
+    ensures free { (g : Sizes) (s : Store) (plan : Rewrite) (left after : PoolsView) → AreReadyFor g s left plan → WasReleased left after plan.taken → AreFree g s after }
+    ensures ranges { (g : Sizes) (s : Store) (plan : Rewrite) (left after : PoolsView) → AreReadyFor g s left plan → WasReleased left after plan.taken → HasRanges g after }
 {}
 
 /// What a stop leaves opens, where each store opens in which the plan is carried out: with the graph and the marks from before, or as such a store.

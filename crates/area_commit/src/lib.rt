@@ -9,61 +9,62 @@
 //! (`batch_laws`), and how many blocks are free at least, and what becomes of them and of the charge (`room`, `changing`, `charges`).
 #![tactic(auto)]
 
+mod allocation;
 mod batch_laws;
 mod batches;
-mod changed;
-mod changing;
+mod change_laws;
 mod charges;
-mod data_writing;
-mod giving;
+mod data_write;
+mod inode_laws;
 mod laws;
 mod lists;
-mod many;
-mod moved;
+mod move_laws;
 mod nodes;
 mod plan;
+mod plan_write;
+mod pool_change;
 mod pool_laws;
 mod pools;
+mod release;
 mod returned_blocks;
+mod rewrite_laws;
 mod room;
 mod slots;
-mod taking;
-mod whole;
-mod writing;
-mod written;
+mod store_laws;
 
+pub use allocation::Allocation;
 pub use batch_laws::{batch_is_put, put_slots_are_read};
 pub use batches::batch_of;
-pub use changed::{
+pub use change_laws::{
     written_directory_is_rewritten, written_file_is_rewritten, written_free_slot_is_inode_after,
 };
-pub use changing::{given_blocks_are_used, pools_after_change};
 pub use charges::charge_after_change;
-pub use data_writing::write_data;
-pub use laws::{
-    batch_carries_out_the_plan, carried_out_blocks_are_exchanged,
-    carried_out_inodes_are_written_anew, carried_out_marks, lost_blocks_can_be_given, moments_open,
-    pools_have_the_free_blocks, runs_lie_apart, taken_blocks_were_free, undone_pools_are_as_before,
-};
-pub use lists::put_lists;
-pub use many::{
+pub use data_write::write_data;
+pub use inode_laws::{
     changed_inodes_are_the_graph_after, given_up_blocks_are_free, kept_and_free_blocks_lie_apart,
     moved_inodes_are_the_same_graph, written_inodes_are_rewritten,
 };
-pub use moved::moved_inode_is_alike;
+pub use laws::{
+    batch_carries_out_the_plan, carried_out_blocks_are_exchanged,
+    carried_out_inodes_are_written_anew, carried_out_marks, freed_blocks_return, moments_open,
+    pools_have_the_free_blocks, released_pools_are_as_before, runs_lie_apart,
+    taken_blocks_were_free,
+};
+pub use lists::put_lists;
+pub use move_laws::moved_inode_is_alike;
 pub use nodes::NodeImages;
-pub use plan::{Lost, Rewrite};
+pub use plan::{FreedBlocks, Rewrite};
+pub use plan_write::carry_out;
+pub use pool_change::{given_blocks_are_used, pools_after_change};
 pub use pool_laws::{fenced_blocks_stay_loose, taken_blocks_are_free};
 pub use pools::Pools;
 pub use returned_blocks::{give_data, give_nodes};
-pub use room::{data_never_runs_out, nodes_never_run_out, small_changes_find_blocks};
-pub use slots::ChangedSlot;
-pub use taking::Taken;
-pub use whole::{changed_store_spells_the_graph_after, moved_store_spells_the_same_graph};
-pub use writing::carry_out;
-pub use written::{
+pub use rewrite_laws::{
     logical_blocks_are_read_where_they_lie, written_inode_is_read, written_inode_is_spelled,
 };
+pub use room::{data_never_runs_out, nodes_never_run_out, small_changes_find_blocks};
+pub use slots::ChangedSlot;
+pub use store_laws::{changed_store_spells_the_graph_after, moved_store_spells_the_same_graph};
 
 // Passed on to the crates above, which so need not list those below.
 pub use area_image::{

@@ -1,9 +1,9 @@
-use crate::{ChangedSlot, NodeImages, Taken};
+use crate::{Allocation, ChangedSlot, NodeImages};
 use area_image::{Marks, Run};
 
 /// Blocks that are given up, as runs: of the node pool, and of the data blocks of each tier.
 #[derive(Debug, Drop)]
-pub struct Lost {
+pub struct FreedBlocks {
     pub nodes: Vec<Run>,
     pub fast: Vec<Run>,
     pub block: Vec<Run>,
@@ -20,9 +20,9 @@ pub struct Rewrite {
     /// Images of blocks of the node pool: extent blocks and blocks of directories.
     pub nodes: NodeImages,
     /// The blocks that were taken from the pools for it, all of which it uses.
-    pub taken: Taken,
+    pub taken: Allocation,
     /// 4,096 bytes for each data block that was taken, in their order: fastest tier first.
     pub bytes: Vec<u8>,
     /// The blocks that the inodes had, and use no more.
-    pub lost: Lost,
+    pub lost: FreedBlocks,
 }

@@ -10,21 +10,21 @@ ghost use Rattle.area_image.specs.block_alloc.Value.{FreeBlocks, InOrder};
 ghost use Rattle.area_image.specs.batch_journal.Blocks.{Blocks};
 ghost use Rattle.area_image.specs.Store.{Store};
 ghost use Rattle.area_image.specs.Reads.{Free, LooseIn};
-ghost use Rattle.area_image.specs.Spelled.{Use, used};
+ghost use Rattle.area_image.specs.Format.{Use, used_block};
 ghost use Rattle.area_commit.specs.Value.{PoolsView, HasRanges, AreFree};
-ghost use Rattle.area_commit.specs.declared.taking.Taken.{Taken};
-ghost use Rattle.area_commit.specs.Taking.{WasTaken, WereTaken, runs_of};
-ghost use Rattle.area_commit.specs.Writing.{AreFreeIn, RunsAreNormal};
+ghost use Rattle.area_commit.specs.declared.allocation.Allocation.{Allocation};
+ghost use Rattle.area_commit.specs.Allocations.{WasTaken, WereTaken, runs_of};
+ghost use Rattle.area_commit.specs.DataWrite.{AreFreeIn, RunsAreNormal};
 
 /// What was taken of pools that have exactly the free blocks is free, stands apart in its tiers, and is in the pools no more.
 pub fn taken_blocks_are_free()
-    ensures free { (g : Sizes) (s : Store) (old new : PoolsView) (taken : Taken) → AreFree g s old → WereTaken old new taken → (t : Tier) → AreFreeIn g s t (runs_of taken t) }
-    ensures apart { (g : Sizes) (old new : PoolsView) (taken : Taken) → HasRanges g old → WereTaken old new taken → RunsAreNormal g taken }
+    ensures free { (g : Sizes) (s : Store) (old new : PoolsView) (taken : Allocation) → AreFree g s old → WereTaken old new taken → (t : Tier) → AreFreeIn g s t (runs_of taken t) }
+    ensures apart { (g : Sizes) (old new : PoolsView) (taken : Allocation) → HasRanges g old → WereTaken old new taken → RunsAreNormal g taken }
     ensures left { (old new : FreeBlocks) (runs : List Run) → InOrder old → WasTaken old new runs → (k : ℕ) → Contains new.free k ↔ (Contains old.free k × (Contains (blocks_of runs) k → ⊥)) }
 {}
 
 /// Where a new store has the blocks of a tier as the old one, what may be left of the tier differs from the new store in free blocks alone, as it did from the old one: if
 /// each free block that has a use in the new store is left as it is seen, since it was fenced.
 pub fn fenced_blocks_stay_loose()
-    ensures { (g : Sizes) (old new : Store) (t : Tier) (left : Blocks) → LooseIn g old t left → ((k : ℕ) → new t k ≡ old t k) → ((u : Use) (k : ℕ) → Free g old t k → used g new u ≡ Some (t, k) → left k ≡ old t k) → LooseIn g new t left }
+    ensures { (g : Sizes) (old new : Store) (t : Tier) (left : Blocks) → LooseIn g old t left → ((k : ℕ) → new t k ≡ old t k) → ((u : Use) (k : ℕ) → Free g old t k → used_block g new u ≡ Some (t, k) → left k ≡ old t k) → LooseIn g new t left }
 {}

@@ -4,14 +4,14 @@ ghost use Rattle.area_image.specs.tier_device.declared.media.Tier.TheVariants.{F
 ghost use Rattle.area_image.specs.layout.declared.places.TheConstants.{FIRST_NODE_BLOCK};
 ghost use Rattle.area_image.specs.layout.Places.{node_end, data_first, tier_blocks};
 ghost use Rattle.area_image.specs.Store.{Store};
-ghost use Rattle.area_image.specs.Used.{UsedMarks, marks_in, is_marked};
+ghost use Rattle.area_image.specs.BlockMarks.{UsedMarks, marks_in, is_marked};
 ghost use Rattle.area_image.specs.block_alloc.Value.{InOrder, IsUsed};
 ghost use Rattle.area_image.specs.block_alloc.Runs.{blocks_of};
 ghost use Rattle.area_image.specs.block_alloc.declared.error.AllocatorError.TheVariants.{NoBlock, Memory};
 ghost use Rattle.area_commit.specs.Value.{data_pool, free_data, AreInOrder, HasRanges, AreFree, GivesRun, HasUnmarked, MarksAll};
-ghost use Rattle.area_commit.specs.Taking.{taken_data, runs_of, WereTaken, LeavesRoom, CanUndo, TakesMore, WasUndone, IsNone, SameFree, KeepsRoom};
+ghost use Rattle.area_commit.specs.Allocations.{taken_data, runs_of, WereTaken, LeavesRoom, CanRelease, TakesMore, WasReleased, IsNone, SameFree, KeepsRoom};
 
-use crate::taking::{Taken, give_run, give_runs, take_more, take_runs};
+use crate::allocation::{Allocation, give_run, give_runs, take_more, take_runs};
 use area_image::{AllocatorError, FIRST_NODE_BLOCK, FreeRuns, Geometry, Run, Tier, UsedBlocks};
 use std::alloc::{AllocError, Global};
 use std::marker::Model;
@@ -38,7 +38,7 @@ impl Model for Pools {
 }
 
 // The blocks of a tier's range that are not marked, one for each mark.
-fn unmarked(alloc: Global, first: u32, marks: &[bool]) -> Result<FreeRuns, AllocError>
+fn unmarked_runs(alloc: Global, first: u32, marks: &[bool]) -> Result<FreeRuns, AllocError>
     requires { first + length marks.now < 2 ^ 32 }
     ensures first { IfOk result (λ v. v.first ≡ first) }
     ensures end { IfOk result (λ v. v.end ≡ first + length marks.now) }
@@ -62,7 +62,7 @@ fn unmarked_data(
     ensures ordered { IfOk result InOrder }
 {
     let marks = used.data_marks(geometry, tier);
-    unmarked(alloc, geometry.data_first(tier), marks)
+    unmarked_runs(alloc, geometry.data_first(tier), marks)
 }
 
 // The blocks of the node pool that are not marked.
@@ -80,7 +80,7 @@ fn unmarked_nodes(
 {
     let _end = geometry.node_end();
     let marks = used.node_marks(geometry);
-    unmarked(alloc, FIRST_NODE_BLOCK, marks)
+    unmarked_runs(alloc, FIRST_NODE_BLOCK, marks)
 }
 
 impl Pools {
@@ -150,7 +150,7 @@ impl Pools {
     // Takes so many blocks of each pool, as far as there is memory.
     fn fill(
         &mut self,
-        taken: &mut Taken,
+        taken: &mut Allocation,
         nodes: u32,
         fast: u32,
         block: u32,
@@ -179,7 +179,7 @@ impl Pools {
         fast: u32,
         block: u32,
         slow: u32,
-    ) -> Result<Taken, AllocatorError>
+    ) -> Result<Allocation, AllocatorError>
         requires nodes { nodes ≤ length self.old.nodes.free }
         requires fast { fast ≤ length self.old.fast.free }
         requires block { block ≤ length self.old.block.free }
@@ -187,7 +187,7 @@ impl Pools {
         ensures fronts { IfOk result (WereTaken self.old self.new) }
         ensures spare { IfOk result (LeavesRoom self.old self.new) }
         ensures room { OnOk result (KeepsRoom self.old self.new) }
-        ensures undone { IfOk result (CanUndo self.new) }
+        ensures undone { IfOk result (CanRelease self.new) }
         ensures nodes { IfOk result (λ taken. length (blocks_of taken.nodes.items) ≡ nodes) }
         ensures fast { IfOk result (λ taken. length (blocks_of taken.fast.items) ≡ fast) }
         ensures block { IfOk result (λ taken. length (blocks_of taken.block.items) ≡ block) }
@@ -199,7 +199,7 @@ impl Pools {
             Ok(()) => (),
             Err(_) => return Err(AllocatorError::Memory),
         }
-        let mut taken = Taken {
+        let mut taken = Allocation {
             nodes: Vec::new(self.alloc),
             fast: Vec::new(self.alloc),
             block: Vec::new(self.alloc),
@@ -208,7 +208,7 @@ impl Pools {
         match self.fill(&mut taken, nodes, fast, block, slow) {
             Ok(()) => Ok(taken),
             Err(error) => {
-                self.undo(taken);
+                self.release(taken);
                 Err(error)
             }
         }
@@ -217,7 +217,7 @@ impl Pools {
     /// Takes the lowest free blocks of the node pool, and the first free data blocks: fastest tier first, in each tier the lowest. `NoBlock` exactly where fewer blocks
     /// of the node pool are free, or fewer data blocks of all tiers together; `Memory` where the answer found no room. After a refusal the pools have the same free
     /// blocks.
-    pub fn take(&mut self, nodes: u32, blocks: u32) -> Result<Taken, AllocatorError>
+    pub fn take(&mut self, nodes: u32, blocks: u32) -> Result<Allocation, AllocatorError>
         ensures nodes { IfOk result (λ taken. blocks_of taken.nodes.items ≡ take nodes self.old.nodes.free) }
         ensures data { IfOk result (λ taken. taken_data taken ≡ take blocks (free_data self.old)) }
         ensures left_nodes { OnOk result (self.new.nodes.free ≡ drop nodes self.old.nodes.free) }
@@ -226,7 +226,7 @@ impl Pools {
         ensures spare { IfOk result (LeavesRoom self.old self.new) }
         ensures room { OnOk result (KeepsRoom self.old self.new) }
         // What was taken can be given back without memory.
-        ensures undone { IfOk result (CanUndo self.new) }
+        ensures undone { IfOk result (CanRelease self.new) }
         ensures few { IsErrOf result NoBlock ↔ ((length self.old.nodes.free < nodes) ⊎ (length (free_data self.old) < blocks)) }
         ensures err { OnErr result (SameFree self.old self.new) }
     {
@@ -241,7 +241,12 @@ impl Pools {
 
     /// Takes the lowest free blocks of the node pool, and the lowest free data blocks of one tier. `NoBlock` exactly where fewer are free, of the node pool or in the tier;
     /// `Memory` where the answer found no room. After a refusal the pools have the same free blocks.
-    pub fn take_in(&mut self, nodes: u32, tier: Tier, blocks: u32) -> Result<Taken, AllocatorError>
+    pub fn take_in(
+        &mut self,
+        nodes: u32,
+        tier: Tier,
+        blocks: u32,
+    ) -> Result<Allocation, AllocatorError>
         ensures nodes { IfOk result (λ taken. blocks_of taken.nodes.items ≡ take nodes self.old.nodes.free) }
         ensures taken { IfOk result (λ taken. blocks_of (runs_of taken tier) ≡ take blocks (data_pool self.old tier).free) }
         ensures left_nodes { OnOk result (self.new.nodes.free ≡ drop nodes self.old.nodes.free) }
@@ -251,7 +256,7 @@ impl Pools {
         ensures spare { IfOk result (LeavesRoom self.old self.new) }
         ensures room { OnOk result (KeepsRoom self.old self.new) }
         // What was taken can be given back without memory.
-        ensures undone { IfOk result (CanUndo self.new) }
+        ensures undone { IfOk result (CanRelease self.new) }
         ensures few { IsErrOf result NoBlock ↔ ((length self.old.nodes.free < nodes) ⊎ (length (data_pool self.old tier).free < blocks)) }
         ensures err { OnErr result (SameFree self.old self.new) }
     {
@@ -268,8 +273,8 @@ impl Pools {
     /// Takes so many blocks of the node pool more than were taken before: the lowest that are free, which stand behind those. Where the first new run goes on where the last
     /// old one ends, they become one, so that the runs still rise and none touches the next. `NoBlock` exactly where fewer are free, `Memory` where the answer found no room:
     /// after a refusal the pools have the same free blocks, and the same blocks are taken.
-    pub fn take_nodes(&mut self, count: u32, taken: &mut Taken) -> Result<(), AllocatorError>
-        requires { CanUndo self.old taken.old }
+    pub fn take_nodes(&mut self, count: u32, taken: &mut Allocation) -> Result<(), AllocatorError>
+        requires { CanRelease self.old taken.old }
         ensures took { OnOk result (TakesMore self.old taken.old self.new taken.new) }
         ensures nodes { OnOk result (blocks_of taken.new.nodes.items ≡ blocks_of taken.old.nodes.items ++ take count self.old.nodes.free) }
         ensures data { (t : Tier) → runs_of taken.new t ≡ runs_of taken.old t }
@@ -277,15 +282,15 @@ impl Pools {
         ensures others { (t : Tier) → data_pool self.new t ≡ data_pool self.old t }
         ensures room { KeepsRoom self.old self.new }
         ensures few { IsErrOf result NoBlock ↔ (length self.old.nodes.free < count) }
-        ensures err { OnErr result (SameFree self.old self.new × (taken.new ≡ taken.old) × CanUndo self.new taken.old) }
+        ensures err { OnErr result (SameFree self.old self.new × (taken.new ≡ taken.old) × CanRelease self.new taken.old) }
     {
         take_more(self.alloc, &mut self.nodes, count, &mut taken.nodes)
     }
 
     /// Gives back what was taken, without memory.
-    pub fn undo(&mut self, taken: Taken)
-        requires { CanUndo self.old taken }
-        ensures { WasUndone self.old self.new taken }
+    pub fn release(&mut self, taken: Allocation)
+        requires { CanRelease self.old taken }
+        ensures { WasReleased self.old self.new taken }
     {
         give_runs(&mut self.nodes, &taken.nodes);
         give_runs(&mut self.fast, &taken.fast);

@@ -3,7 +3,7 @@ ghost use Rattle.std.specs.Prelude.{◌≡◌, ◌≢◌, ◌≤◌, ◌+◌, le
 ghost use Rattle.area_image.specs.tier_device.declared.media.Tier.{Tier};
 ghost use Rattle.area_image.specs.block_alloc.Runs.{blocks_of};
 ghost use Rattle.area_commit.specs.Value.{data_pool};
-ghost use Rattle.area_commit.specs.Given.{AreUsed, WereAdded};
+ghost use Rattle.area_commit.specs.Release.{AreUsed, WereAdded};
 
 use crate::Pools;
 use area_image::{Run, Tier};

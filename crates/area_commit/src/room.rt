@@ -6,7 +6,7 @@ ghost use Rattle.area_image.specs.layout.declared.places.TheConstants.{SPARE_BLO
 ghost use Rattle.area_image.specs.layout.Places.{Sizes, node_blocks};
 ghost use Rattle.area_image.specs.posix_calls.declared.limits.TheConstants.{MAX_INODE};
 ghost use Rattle.area_image.specs.Store.{Store, graph};
-ghost use Rattle.area_image.specs.Spelled.{IsSpelled, KeepsUnits};
+ghost use Rattle.area_image.specs.Format.{IsSpelled, KeepsUnits};
 ghost use Rattle.area_commit.specs.Value.{PoolsView, free_data, HasRanges, AreFree};
 
 /// Each data block is free, or there is a unit for it: no more of them are in use than the graph costs. So at least the spare blocks of the format are free where the graph

@@ -15,12 +15,12 @@ use Rattle.batch_journal.specs.layout.declared.slot.Slot.TheVariants as slots
 use Rattle.batch_journal.specs.layout.declared.places.TheConstants.{BLOCK, SUPER_BLOCK, MARKS_BLOCK}
 use Rattle.batch_journal.specs.layout.Places.{Sizes, is_inode, slot_block}
 use Rattle.batch_journal.specs.layout.Slot.{slot_of}
-use Rattle.batch_journal.specs.layout.Directory.{listed, fits_entries, entries_spelling}
+use Rattle.batch_journal.specs.layout.Directory.{block_entries, fits_entries, entries_spelling}
 use Rattle.extent_tree.specs.Places.{place_of}
 use Rattle.batch_journal.specs.Volume.{Spells}
 use Rattle.tree_blocks.specs.Inode.{IsConsistent, IsConsistentBy, IsDirectoryBlock, AreDistinct, byte_of, entry_at, entries_in, blocks_for, LogicalBlocks}
-use Rattle.area_image.specs.Store.{Store, slot, slot_bytes, slot_read, root_of, length_of, extents_read, place, logical, inode, graph, marks}
-use Rattle.area_image.specs.Spelled.{Use, used, AreUsedOnce, IsOpenable}
+use Rattle.area_image.specs.Store.{Store, slot, slot_bytes, slot_read, root_of, length_of, extents_read, place, logical_block, inode, graph, marks}
+use Rattle.area_image.specs.Format.{Use, used_block, AreUsedOnce, IsOpenable}
 use Rattle.area_image.specs.Damage.{IsDamaged, byte_in}
 use Rattle.area_image.proofs.Damages.{option_cases, is_some_at, at_fast, at_block, at_slow, at_none, length_is, blocks_is, none_read, no_entries}
 use Rattle.area_image.proofs.Shown.{extents_none}
@@ -55,15 +55,15 @@ use_cases u v = elim (cases_eq u.inode v.inode) [
 ]
 
 part_cases : (owner n k : ℕ) (b : List ℕ) → (IsDirectoryBlock owner n k b) ⊎ (IsDirectoryBlock owner n k b → ⊥)
-part_cases owner n k b = elim (cases_Bool (fits_entries (listed b))) [
+part_cases owner n k b = elim (cases_Bool (fits_entries (block_entries b))) [
   | inr not ↦ inr (λ part. true≢false (sym part.entries.fit ∙ not))
-  | inl fit ↦ elim (cases_Bool (bytes_eq b (entries_spelling (listed b)))) [
-    | inr not ↦ inr (λ part. true≢false (sym ((bytes_eq-Decides b (entries_spelling (listed b))).1 part.entries.spelled) ∙ not))
-    | inl spelled ↦ elim (cases_eq (listed b).owner owner) [
+  | inl fit ↦ elim (cases_Bool (bytes_eq b (entries_spelling (block_entries b)))) [
+    | inr not ↦ inr (λ part. true≢false (sym ((bytes_eq-Decides b (entries_spelling (block_entries b))).1 part.entries.spelled) ∙ not))
+    | inl spelled ↦ elim (cases_eq (block_entries b).owner owner) [
       | inr other ↦ inr (λ part. other part.owner_is)
-      | inl one ↦ elim (cases_eq (length (listed b).entries) (entries_in n k)) [
+      | inl one ↦ elim (cases_eq (length (block_entries b).entries) (entries_in n k)) [
         | inr other ↦ inr (λ part. other part.count_is)
-        | inl two ↦ inl (record { entries = record { fit = fit; spelled = (bytes_eq-Decides b (entries_spelling (listed b))).0 spelled }; owner_is = one; count_is = two })
+        | inl two ↦ inl (record { entries = record { fit = fit; spelled = (bytes_eq-Decides b (entries_spelling (block_entries b))).0 spelled }; owner_is = one; count_is = two })
       ]
     ]
   ]
@@ -83,11 +83,11 @@ root_some g s i t k some zero' =
 no_some_here : (o : Option (Tier × ℕ)) (b : Tier × ℕ) → o ≡ None → o ≡ Some b → ⊥
 no_some_here o b none some = let e : None ≡ Some b = sym none ∙ some in false≢true (ap is_some e)
 
-pub used_root : (g : Sizes) (s : Store) (i : ℕ) (t : Tier) (k : Option ℕ) (b : Tier × ℕ) → used g s (record { inode = i; tier = t; logical = k }) ≡ Some b → root_of (slot g s i) t ≢ 0
-used_root g s i t None b is zero' = no_some_here (used g s (record { inode = i; tier = t; logical = None })) b (cond-true (root_of (slot g s i) t == 0) _ _ (ap (λ r. r == 0) zero')) is
+pub used_root : (g : Sizes) (s : Store) (i : ℕ) (t : Tier) (k : Option ℕ) (b : Tier × ℕ) → used_block g s (record { inode = i; tier = t; logical = k }) ≡ Some b → root_of (slot g s i) t ≢ 0
+used_root g s i t None b is zero' = no_some_here (used_block g s (record { inode = i; tier = t; logical = None })) b (cond-true (root_of (slot g s i) t == 0) _ _ (ap (λ r. r == 0) zero')) is
 used_root g s i t (Some k) b is zero' = elim (option_cases (place g s i t k)) [
   | inl (p, there) ↦ root_some g s i t k (is_some_at _ p there) zero'
-  | inr none ↦ no_some_here (used g s (record { inode = i; tier = t; logical = Some k })) b (ap (option_map (λ p. (t, p))) none) is
+  | inr none ↦ no_some_here (used_block g s (record { inode = i; tier = t; logical = Some k })) b (ap (option_map (λ p. (t, p))) none) is
 ]
 
 pub root_inode : (g : Sizes) (s : Store) (i : ℕ) (t : Tier) → root_of (slot g s i) t ≢ 0 → is_inode i ≡ true
@@ -127,17 +127,17 @@ module _ (g : Sizes) (s : Store) (sound : (w : What) (b : ℕ) → IsDamaged g s
     }))))
   ]
 
-  tail_damage : (i : ℕ) → is_inode i ≡ true → (inode g s i).kind ≡ Some kind.File → (t : Tier) (p at : ℕ) → (inode g s i).size ≤ at → place g s i t (at / BLOCK) ≡ Some p → logical g s i (at / BLOCK) ≡ s t p → byte_of (logical g s i) at ≢ 0 → ⊥
+  tail_damage : (i : ℕ) → is_inode i ≡ true → (inode g s i).kind ≡ Some kind.File → (t : Tier) (p at : ℕ) → (inode g s i).size ≤ at → place g s i t (at / BLOCK) ≡ Some p → logical_block g s i (at / BLOCK) ≡ s t p → byte_of (logical_block g s i) at ≢ 0 → ⊥
   unfolding byte_of
   tail_damage i number file t p at behind there is wrong =
       sound what.FileData p (inr (inr (inr (inl (record { tier = t; structure = refl; number = i; is = number; kind = file; byte = at; behind = behind; at = there; wrong = λ e. wrong (ap (λ b. byte_in b at) is ∙ e) })))))
 
-  no_byte : (i at : ℕ) → logical g s i (at / BLOCK) ≡ [] → byte_of (logical g s i) at ≡ 0
+  no_byte : (i at : ℕ) → logical_block g s i (at / BLOCK) ≡ [] → byte_of (logical_block g s i) at ≡ 0
   unfolding byte_of
   no_byte i at none = ap (λ b. byte_in b at) none
 
-  tail_zero : (i : ℕ) → is_inode i ≡ true → (inode g s i).kind ≡ Some kind.File → (at : ℕ) → (inode g s i).size ≤ at → byte_of (logical g s i) at ≡ 0
-  tail_zero i number file at behind = elim (cases_eq (byte_of (logical g s i) at) 0) [
+  tail_zero : (i : ℕ) → is_inode i ≡ true → (inode g s i).kind ≡ Some kind.File → (at : ℕ) → (inode g s i).size ≤ at → byte_of (logical_block g s i) at ≡ 0
+  tail_zero i number file at behind = elim (cases_eq (byte_of (logical_block g s i) at) 0) [
     | inl zero' ↦ zero'
     | inr wrong ↦ elim (option_cases (place g s i Fast (at / BLOCK))) [
       | inl (p, there) ↦ absurd (tail_damage i number file Fast p at behind there (at_fast g s i (at / BLOCK) p there) wrong)
@@ -151,10 +151,10 @@ module _ (g : Sizes) (s : Store) (sound : (w : What) (b : ℕ) → IsDamaged g s
     ]
   ]
 
-  part : (i : ℕ) → is_inode i ≡ true → (inode g s i).kind ≡ Some kind.Directory → (k : ℕ) → k < blocks_for (inode g s i).size → IsDirectoryBlock i (inode g s i).size k (logical g s i k)
+  part : (i : ℕ) → is_inode i ≡ true → (inode g s i).kind ≡ Some kind.Directory → (k : ℕ) → k < blocks_for (inode g s i).size → IsDirectoryBlock i (inode g s i).size k (logical_block g s i k)
   part i number dir k lt =
-      let within : k < length_of (slot g s i) = subst (λ n. k < n) (sym (length_is (slot g s i) (logical g s i) dir)) lt in
-      elim (part_cases i (inode g s i).size k (logical g s i k)) [
+      let within : k < length_of (slot g s i) = subst (λ n. k < n) (sym (length_is (slot g s i) (logical_block g s i) dir)) lt in
+      elim (part_cases i (inode g s i).size k (logical_block g s i k)) [
         | inl is ↦ is
         | inr wrong ↦ elim (option_cases (place g s i Fast k)) [
           | inl (p, there) ↦ absurd (sound what.DirBlock p (inr (inr (inl (record { structure = refl; inode = i; is = number; kind = dir; number = k; within = within; at = there; wrong = inl wrong })))))
@@ -165,7 +165,7 @@ module _ (g : Sizes) (s : Store) (sound : (w : What) (b : ℕ) → IsDamaged g s
   part_of : (n e : ℕ) → e < n → e / 56 < blocks_for n
   part_of n e lt = omega (arith, lt)
 
-  no_twins : (i : ℕ) → is_inode i ≡ true → (inode g s i).kind ≡ Some kind.Directory → AreDistinct (entry_at (logical g s i)) (inode g s i).size
+  no_twins : (i : ℕ) → is_inode i ≡ true → (inode g s i).kind ≡ Some kind.Directory → AreDistinct (entry_at (logical_block g s i)) (inode g s i).size
   no_twins i number dir e f e_within f_within same = elim (cases_eq e f) [
     | inl is ↦ is
     | inr differ ↦
@@ -179,7 +179,7 @@ module _ (g : Sizes) (s : Store) (sound : (w : What) (b : ℕ) → IsDamaged g s
             is = number;
             kind = dir;
             number = e / 56;
-            within = subst (λ n. e / 56 < n) (sym (length_is (slot g s i) (logical g s i) dir)) lt;
+            within = subst (λ n. e / 56 < n) (sym (length_is (slot g s i) (logical_block g s i) dir)) lt;
             at = at;
             wrong = inr (record { entry = e; other = f; in_block = refl; one_within = e_within; other_within = f_within; differ = differ; here = here; there = there; same = same });
           })))))
@@ -191,8 +191,8 @@ module _ (g : Sizes) (s : Store) (sound : (w : What) (b : ℕ) → IsDamaged g s
   consistent i number = by_kind (inode g s i).kind refl where
     by_kind : (o : Option Kind) → (inode g s i).kind ≡ o → IsConsistentBy i o (inode g s i).size (inode g s i).blocks
     by_kind None is = tt
-    by_kind (Some kind.File) is = subst (λ (b : LogicalBlocks). IsConsistentBy i (Some kind.File) (inode g s i).size b) (sym (blocks_is (slot g s i) (logical g s i) kind.File is)) (tail_zero i number is)
-    by_kind (Some kind.Directory) is = subst (λ (b : LogicalBlocks). IsConsistentBy i (Some kind.Directory) (inode g s i).size b) (sym (blocks_is (slot g s i) (logical g s i) kind.Directory is)) (record { parts = part i number is; distinct = no_twins i number is })
+    by_kind (Some kind.File) is = subst (λ (b : LogicalBlocks). IsConsistentBy i (Some kind.File) (inode g s i).size b) (sym (blocks_is (slot g s i) (logical_block g s i) kind.File is)) (tail_zero i number is)
+    by_kind (Some kind.Directory) is = subst (λ (b : LogicalBlocks). IsConsistentBy i (Some kind.Directory) (inode g s i).size b) (sym (blocks_is (slot g s i) (logical_block g s i) kind.Directory is)) (record { parts = part i number is; distinct = no_twins i number is })
 
   used_once : AreUsedOnce g s
   used_once u v b here there = elim (use_cases u v) [

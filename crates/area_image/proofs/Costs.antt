@@ -5,7 +5,7 @@ use Rattle.batch_journal.specs.file_graph.Units.{charge}
 use Rattle.batch_journal.specs.layout.Slot.{fits_slot}
 use Rattle.area_image.proofs.Parts.{slot_as}
 use Rattle.area_image.proofs.Shown.{slot_limits}
-use Rattle.batch_journal.specs.posix_calls.Content.{file_units, directory_units}
+use Rattle.batch_journal.specs.posix_calls.Units.{file_units, directory_units}
 use Rattle.batch_journal.specs.file_graph.Graph.{Graph, cost}
 use Rattle.batch_journal.specs.layout.declared.slot.Slot.{Slot}
 use Rattle.batch_journal.specs.layout.declared.slot.Slot.TheVariants as slots
@@ -13,8 +13,8 @@ use Rattle.batch_journal.specs.layout.Places.{Sizes}
 use Rattle.tree_blocks.specs.Inode.{LogicalBlocks, IsConsistent, inode_of, node_of, entry_at}
 use Rattle.tree_blocks.proofs.Files.{length_file}
 use Rattle.tree_blocks.proofs.Directories.{len_named}
-use Rattle.area_image.specs.Store.{Store, slot, slot_read, length_of, logical, graph}
-use Rattle.area_image.specs.Spelled.{SpellsInode}
+use Rattle.area_image.specs.Store.{Store, slot, slot_read, length_of, logical_block, graph}
+use Rattle.area_image.specs.Format.{SpellsInode}
 use Rattle.area_image.specs.Units.{slot_units}
 
 by_slot : (i : ℕ) (x : Slot) (blocks : LogicalBlocks) → IsConsistent i (inode_of x blocks) → cost (node_of (inode_of x blocks)) ≡ slot_units x
@@ -23,7 +23,7 @@ by_slot i (slots.File names size touch fast block slow) blocks consistent = ap f
 by_slot i (slots.Directory names entries touch root) blocks consistent = ap directory_units (len_named (entry_at blocks) entries consistent.distinct)
 
 pub units_told : (g : Sizes) (s : Store) (i : ℕ) → SpellsInode g s i → cost (graph g s i) ≡ slot_units (slot g s i)
-units_told g s i spelled = by_slot i (slot g s i) (logical g s i) spelled.consistent
+units_told g s i spelled = by_slot i (slot g s i) (logical_block g s i) spelled.consistent
 
 pub parts_units : (g : Sizes) (s : Store) (i : ℕ) (x : Slot) → slot_read g s i ≡ Some x → SpellsInode g s i → cost (graph g s i) ≡ slot_units x
 parts_units g s i x read spelled = units_told g s i spelled ∙ ap slot_units (slot_as g s i x read)

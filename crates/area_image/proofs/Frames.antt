@@ -16,9 +16,9 @@ use Rattle.batch_journal.specs.Blocks.{Blocks}
 use Rattle.batch_journal.specs.layout.Marks.{marks_of}
 use Rattle.batch_journal.specs.Volume.{Spells}
 use Rattle.tree_blocks.specs.Inode.{IsConsistent, inode_of, node_of}
-use Rattle.area_image.specs.Store.{Store, slot_read, slot, root_of, space_of, length_of, own_extents, extents_by, extents_read, place, at_or, logical, inode, graph, marks}
+use Rattle.area_image.specs.Store.{Store, slot_read, slot, root_of, space_of, length_of, own_extents, extents_by, extents_read, place, at_or, logical_block, inode, graph, marks}
 use Rattle.area_image.specs.Reads.{InodeReads, Free, Loose, Untouched}
-use Rattle.area_image.specs.Spelled.{SpellsInode, Use, used, IsSpelled}
+use Rattle.area_image.specs.Format.{SpellsInode, Use, used_block, IsSpelled}
 
 extents_by-same : (g : Sizes) (new old : Blocks) (i : ℕ) (x : Slot) (t : Tier) → (root_of x t ≢ 0 → new (root_of x t) ≡ old (root_of x t)) → extents_by g new i x t ≡ extents_by g old i x t
 extents_by-same g new old i x t same = elim (cases_Bool (root_of x t == 0)) [
@@ -51,11 +51,11 @@ module _ (g : Sizes) (old new : Store) (i : ℕ) (same : Untouched g old new i) 
   read_in : (t : Tier) (k : ℕ) (x y : List ℕ) → x ≡ y → at_or (new t) (place g new i t k) x ≡ at_or (old t) (place g old i t k) y
   read_in t k x y others = ap (λ o. at_or (new t) o x) (place-kept t k) ∙ at_or-same (new t) (old t) (place g old i t k) x y (same.mapped t k) others
 
-  logical_at-kept : (k : ℕ) → logical g new i k ≡ logical g old i k
-  unfolding logical
+  logical_at-kept : (k : ℕ) → logical_block g new i k ≡ logical_block g old i k
+  unfolding logical_block
   logical_at-kept k = read_in Fast k _ _ (read_in Block k _ _ (read_in Slow k [] [] refl))
 
-  pub logical-kept : logical g new i ≡ logical g old i
+  pub logical-kept : logical_block g new i ≡ logical_block g old i
   logical-kept = λ p k. logical_at-kept k p
 
   pub inode-kept : inode g new i ≡ inode g old i
@@ -69,7 +69,7 @@ module _ (g : Sizes) (old new : Store) (i : ℕ) (same : Untouched g old new i) 
     consistent = subst (IsConsistent i) (sym inode-kept) is.consistent;
   }
 
-  pub block_for-kept : (t : Tier) (k : Option ℕ) → used g new (record { inode = i; tier = t; logical = k }) ≡ used g old (record { inode = i; tier = t; logical = k })
+  pub block_for-kept : (t : Tier) (k : Option ℕ) → used_block g new (record { inode = i; tier = t; logical = k }) ≡ used_block g old (record { inode = i; tier = t; logical = k })
   block_for-kept t None = ap (λ x. if root_of x t == 0 then None else Some (Fast, root_of x t)) slot-kept
   block_for-kept t (Some k) = ap (option_map (λ p. (t, p))) (place-kept t k)
 
@@ -107,7 +107,7 @@ module _ (g : Sizes) (seen left : Store) (loose : Loose g seen left) where
     inodes = λ i number. spells-kept g seen left i (loose_untouched g seen left loose i) (is.inodes i number);
     apart = λ u v b here there. is.apart u v b (sym (used-kept u) ∙ here) (sym (used-kept v) ∙ there);
   } where
-    used-kept : (u : Use) → used g left u ≡ used g seen u
+    used-kept : (u : Use) → used_block g left u ≡ used_block g seen u
     used-kept u = block_for-kept g seen left u.inode (loose_untouched g seen left loose u.inode) u.tier u.logical
 
   reads-kept : (i : ℕ) (t : Tier) (k : ℕ) → InodeReads g left i t k → InodeReads g seen i t k

@@ -12,8 +12,8 @@ use Rattle.batch_journal.specs.layout.declared.slot.Slot.TheVariants as slots
 use Rattle.batch_journal.specs.layout.Places.{Sizes, is_inode}
 use Rattle.batch_journal.specs.layout.Slot.{fits_slot, is_root_block}
 use Rattle.tree_blocks.specs.Inode.{LogicalBlocks, IsConsistent, IsConsistentBy, IsZeroFrom, AreDirectoryBlocks, inode_of}
-use Rattle.area_image.specs.Store.{Store, slot, slot_read, root_of, length_of, extents_read, place, logical, inode}
-use Rattle.area_image.specs.Spelled.{SpellsInode}
+use Rattle.area_image.specs.Store.{Store, slot, slot_read, root_of, length_of, extents_read, place, logical_block, inode}
+use Rattle.area_image.specs.Format.{SpellsInode}
 use Rattle.area_image.specs.Map.{IsOnceAt, IsTwiceAt}
 use Rattle.area_image.specs.Checks.{HasFound, IsOnce, IsFileOfSize, IsEntries, IsExtentDamageOf, IsTailDamageOf, IsDirectoryDamageOf, IsOwnDamage}
 use Rattle.area_image.specs.declared.tiers.InodeExtents.{InodeExtents}
@@ -36,8 +36,8 @@ module _ (g : Sizes) (s : Store) (i : ℕ) where
       let is = slot_as g s i (slots.File names size touch fast block slow) read in
       record {
         number = number;
-        kind_is = ap (λ (x : Slot). (inode_of x (logical g s i)).kind) is;
-        size_is = ap (λ (x : Slot). (inode_of x (logical g s i)).size) is;
+        kind_is = ap (λ (x : Slot). (inode_of x (logical_block g s i)).kind) is;
+        size_is = ap (λ (x : Slot). (inode_of x (logical_block g s i)).size) is;
         blocks = ap length_of is;
       }
 
@@ -46,23 +46,23 @@ module _ (g : Sizes) (s : Store) (i : ℕ) where
       let is = slot_as g s i (slots.Directory names entries touch root) read in
       record {
         number = number;
-        kind_is = ap (λ (x : Slot). (inode_of x (logical g s i)).kind) is;
-        size_is = ap (λ (x : Slot). (inode_of x (logical g s i)).size) is;
+        kind_is = ap (λ (x : Slot). (inode_of x (logical_block g s i)).kind) is;
+        size_is = ap (λ (x : Slot). (inode_of x (logical_block g s i)).size) is;
         blocks = ap length_of is;
       }
 
   pub free_consistent : slot_read g s i ≡ Some slots.Free → IsConsistent i (inode g s i)
-  free_consistent read = subst (λ (x : Slot). IsConsistent i (inode_of x (logical g s i))) (sym (slot_as g s i slots.Free read)) tt
+  free_consistent read = subst (λ (x : Slot). IsConsistent i (inode_of x (logical_block g s i))) (sym (slot_as g s i slots.Free read)) tt
 
-  pub file_consistent : (size : ℕ) → IsFileOfSize g s i size → IsZeroFrom size (logical g s i) → IsConsistent i (inode g s i)
+  pub file_consistent : (size : ℕ) → IsFileOfSize g s i size → IsZeroFrom size (logical_block g s i) → IsConsistent i (inode g s i)
   file_consistent size file zero' =
-      let blocks = subst (λ (b : LogicalBlocks). IsConsistentBy i (Some kind.File) size b) (sym (blocks_is (slot g s i) (logical g s i) kind.File file.kind_is)) zero' in
+      let blocks = subst (λ (b : LogicalBlocks). IsConsistentBy i (Some kind.File) size b) (sym (blocks_is (slot g s i) (logical_block g s i) kind.File file.kind_is)) zero' in
       let sized = subst (λ (n : ℕ). IsConsistentBy i (Some kind.File) n (inode g s i).blocks) (sym file.size_is) blocks in
       subst (λ (k : Option Kind). IsConsistentBy i k (inode g s i).size (inode g s i).blocks) (sym file.kind_is) sized
 
-  pub directory_consistent : (entries : ℕ) → IsEntries g s i entries → AreDirectoryBlocks i entries (logical g s i) → IsConsistent i (inode g s i)
+  pub directory_consistent : (entries : ℕ) → IsEntries g s i entries → AreDirectoryBlocks i entries (logical_block g s i) → IsConsistent i (inode g s i)
   directory_consistent entries dir whole =
-      let blocks = subst (λ (b : LogicalBlocks). IsConsistentBy i (Some kind.Directory) entries b) (sym (blocks_is (slot g s i) (logical g s i) kind.Directory dir.kind_is)) whole in
+      let blocks = subst (λ (b : LogicalBlocks). IsConsistentBy i (Some kind.Directory) entries b) (sym (blocks_is (slot g s i) (logical_block g s i) kind.Directory dir.kind_is)) whole in
       let sized = subst (λ (n : ℕ). IsConsistentBy i (Some kind.Directory) n (inode g s i).blocks) (sym dir.size_is) blocks in
       subst (λ (k : Option Kind). IsConsistentBy i k (inode g s i).size (inode g s i).blocks) (sym dir.kind_is) sized
 

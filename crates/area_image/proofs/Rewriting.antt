@@ -9,16 +9,16 @@ use Rattle.batch_journal.specs.layout.Places.{Sizes, is_inode, slot_block}
 use Rattle.batch_journal.specs.Volume.{Spells}
 use Rattle.area_image.specs.Store.{Store, slot, root_of, place, inode}
 use Rattle.area_image.specs.Reads.{InodeReads, IsRoom, Free, Untouched}
-use Rattle.area_image.specs.Spelled.{SpellsInode, Use, used, AreUsedOnce, IsSpelled}
+use Rattle.area_image.specs.Format.{SpellsInode, Use, used_block, AreUsedOnce, IsSpelled}
 use Rattle.area_image.specs.Rewrites.{Rewrites}
 use Rattle.area_image.proofs.Frames.{inode-kept, spells-kept, block_for-kept}
 
 -- ---- uses
 
-root_use : (g : Sizes) (s : Store) (i : ℕ) (t : Tier) → root_of (slot g s i) t ≢ 0 → used g s (record { inode = i; tier = t; logical = None }) ≡ Some (Fast, root_of (slot g s i) t)
+root_use : (g : Sizes) (s : Store) (i : ℕ) (t : Tier) → root_of (slot g s i) t ≢ 0 → used_block g s (record { inode = i; tier = t; logical = None }) ≡ Some (Fast, root_of (slot g s i) t)
 root_use g s i t some = cond-false (root_of (slot g s i) t == 0) None (Some (Fast, root_of (slot g s i) t)) (ne_eqb (root_of (slot g s i) t) 0 some)
 
-place_use : (g : Sizes) (s : Store) (i : ℕ) (t : Tier) (j k : ℕ) → place g s i t j ≡ Some k → used g s (record { inode = i; tier = t; logical = Some j }) ≡ Some (t, k)
+place_use : (g : Sizes) (s : Store) (i : ℕ) (t : Tier) (j k : ℕ) → place g s i t j ≡ Some k → used_block g s (record { inode = i; tier = t; logical = Some j }) ≡ Some (t, k)
 place_use g s i t j k is = ap (option_map (λ p. (t, p))) is
 
 -- ---- what stays
@@ -34,7 +34,7 @@ module _ (g : Sizes) (rewritten : ℕ → Bool) (old new : Store) (is : Rewrites
   pub other_inode : (i : ℕ) → rewritten i ≡ false → inode g new i ≡ inode g old i
   other_inode i other = inode-kept g old new i (untouched i other)
 
-  pub other_use : (u : Use) → rewritten u.inode ≡ false → used g new u ≡ used g old u
+  pub other_use : (u : Use) → rewritten u.inode ≡ false → used_block g new u ≡ used_block g old u
   other_use u other = block_for-kept g old new u.inode (untouched u.inode other) u.tier u.logical
 
 module _ (g : Sizes) (rewritten : ℕ → Bool) (old new : Store) (before : IsSpelled g old) (is : Rewrites g rewritten old new) where
@@ -44,7 +44,7 @@ module _ (g : Sizes) (rewritten : ℕ → Bool) (old new : Store) (before : IsSp
     | inr other ↦ spells-kept g old new i (untouched g rewritten old new is i other) (before.inodes i number)
   ]
 
-  stays : (u : Use) (b : Tier × ℕ) → rewritten u.inode ≡ false → used g new u ≡ Some b → used g old u ≡ Some b
+  stays : (u : Use) (b : Tier × ℕ) → rewritten u.inode ≡ false → used_block g new u ≡ Some b → used_block g old u ≡ Some b
   stays u b other at = sym (other_use g rewritten old new is u other) ∙ at
 
   new_apart : AreUsedOnce g new
@@ -91,7 +91,7 @@ use_of_place t u k None is = cc
 use_of_place t u k (Some p) is = (sym (ap tier_in is), ap (λ b. Some (block_in b)) is)
 
 module _ (g : Sizes) (s : Store) (t : Tier) (k : ℕ) where
-  use_reads : (i : ℕ) (u : Tier) (j : Option ℕ) → used g s (record { inode = i; tier = u; logical = j }) ≡ Some (t, k) → InodeReads g s i t k
+  use_reads : (i : ℕ) (u : Tier) (j : Option ℕ) → used_block g s (record { inode = i; tier = u; logical = j }) ≡ Some (t, k) → InodeReads g s i t k
   use_reads i u None is =
       let p = use_of_root t k (root_of (slot g s i) u) is in
       inr (inl (u, p.0, p.1.0, p.1.1))
@@ -99,12 +99,12 @@ module _ (g : Sizes) (s : Store) (t : Tier) (k : ℕ) where
       let p = use_of_place t u k (place g s i u j) is in
       inr (inr (j, subst (λ v. place g s i v j ≡ Some k) (sym p.0) p.1))
 
-  unread : IsRoom g t k → ((u : Use) → used g s u ≡ Some (t, k) → ⊥) → (i : ℕ) → InodeReads g s i t k → ⊥
+  unread : IsRoom g t k → ((u : Use) → used_block g s u ≡ Some (t, k) → ⊥) → (i : ℕ) → InodeReads g s i t k → ⊥
   unread room none i (inl (number, fast, at)) = no_slot g i k number (subst (λ v. IsRoom g v k) fast room) at
   unread room none i (inr (inl (u, fast, some, at))) = none (record { inode = i; tier = u; logical = None }) (root_use g s i u some ∙ cc)
   unread room none i (inr (inr (j, at))) = none (record { inode = i; tier = t; logical = Some j }) (place_use g s i t j k at)
 
-pub free_unused : (g : Sizes) (s : Store) (t : Tier) (k : ℕ) → Free g s t k ↔ (IsRoom g t k × ((u : Use) → used g s u ≡ Some (t, k) → ⊥))
+pub free_unused : (g : Sizes) (s : Store) (t : Tier) (k : ℕ) → Free g s t k ↔ (IsRoom g t k × ((u : Use) → used_block g s u ≡ Some (t, k) → ⊥))
 free_unused g s t k = (
   (λ free. (free.room, (λ u is. free.unread u.inode (use_reads g s t k u.inode u.tier u.logical is)))),
   (λ p. record { room = p.0; unread = unread g s t k p.0 p.1 }),

@@ -9,13 +9,13 @@ use Rattle.batch_journal.specs.layout.declared.slot.Slot.{Slot}
 use Rattle.batch_journal.specs.layout.Places.{Sizes, is_inode, node_end, tier_blocks}
 use Rattle.batch_journal.specs.layout.Slot.{fits_slot}
 use Rattle.area_image.specs.Store.{Store, slot, slot_read, root_of, length_of}
-use Rattle.area_image.specs.Spelled.{Use, used, AreUsedOnce, SpellsInode}
+use Rattle.area_image.specs.Format.{Use, used_block, AreUsedOnce, SpellsInode}
 use Rattle.area_image.specs.Damage.{IsDamaged, IsShared}
 use Rattle.area_image.specs.Map.{place_by}
 use Rattle.area_image.specs.Checks.{HasFound}
-use Rattle.area_image.specs.Used.{UsedMarks, marks_in, is_marked, IsMarked, Takes, Clashes}
+use Rattle.area_image.specs.BlockMarks.{UsedMarks, marks_in, is_marked, IsMarked, Takes, Clashes}
 use Rattle.area_image.specs.Parts.{InodeUse, part_block, part_for, IsOfTier, IsWithin, HasRoomFor}
-use Rattle.area_image.specs.Whole.{MarksUses}
+use Rattle.area_image.specs.MediumUse.{MarksUses}
 use Rattle.area_image.specs.declared.inode.InodeParts.{InodeParts}
 use Rattle.area_image.proofs.Parts.{slot_as}
 use Rattle.area_image.proofs.Tails.{place_is}
@@ -44,11 +44,11 @@ module _ (g : Sizes) (s : Store) (i : ℕ) (x : InodeParts) (read : slot_read g 
   abbrev part_use : InodeUse → Use
   part_use a = record { inode = i; tier = a.0; logical = a.1 }
 
-  used_for : (t : Tier) (o : Option ℕ) → used g s (record { inode = i; tier = t; logical = o }) ≡ part_for x t o
+  used_for : (t : Tier) (o : Option ℕ) → used_block g s (record { inode = i; tier = t; logical = o }) ≡ part_for x t o
   used_for t None = ap (λ (y : Slot). part_for (record { slot = y; extents = x.extents }) t None) slot_here
   used_for t (Some k) = ap (option_map (λ p. (t, p))) (place_is g s i x.extents found t k)
 
-  used_is : (a : InodeUse) → used g s (part_use a) ≡ part_block x a
+  used_is : (a : InodeUse) → used_block g s (part_use a) ≡ part_block x a
   used_is a = used_for (a.0) (a.1)
 
   -- ---- where they lie
@@ -92,10 +92,10 @@ module _ (g : Sizes) (s : Store) (i : ℕ) (x : InodeParts) (read : slot_read g 
   use_here : (u : Use) → u.inode ≡ i → u ≡ part_use (u.tier, u.logical)
   use_here u is = λ p. record { inode = is p; tier = u.tier; logical = u.logical }
 
-  used_here : (u : Use) → u.inode ≡ i → used g s u ≡ part_block x (u.tier, u.logical)
-  used_here u is = ap (used g s) (use_here u is) ∙ used_is (u.tier, u.logical)
+  used_here : (u : Use) → u.inode ≡ i → used_block g s u ≡ part_block x (u.tier, u.logical)
+  used_here u is = ap (used_block g s) (use_here u is) ∙ used_is (u.tier, u.logical)
 
-  is_within : (u : Use) (t : Tier) (k : ℕ) → fits_slot g x.slot ≡ true → u.inode ≡ i → used g s u ≡ Some (t, k) → IsWithin x (u.tier, u.logical)
+  is_within : (u : Use) (t : Tier) (k : ℕ) → fits_slot g x.slot ≡ true → u.inode ≡ i → used_block g s u ≡ Some (t, k) → IsWithin x (u.tier, u.logical)
   is_within u t k fits is at = (within_for u.tier t u.logical k fits (sym (used_here u is) ∙ at)).1
 
   below_cases : (u : Use) → u.inode < i + 1 → (u.inode < i) ⊎ (u.inode ≡ i)
@@ -140,8 +140,8 @@ module _ (g : Sizes) (s : Store) (i : ℕ) (x : InodeParts) (read : slot_read g 
   abbrev use_in : Tier → InodeUse → Use
   use_in t a = record { inode = i; tier = t; logical = a.1 }
 
-  used_in : (t : Tier) (a : InodeUse) → a.0 ≡ t → used g s (use_in t a) ≡ part_block x a
-  used_in t a e = ap (λ v. used g s (use_in v a)) (sym e) ∙ used_is a
+  used_in : (t : Tier) (a : InodeUse) → a.0 ≡ t → used_block g s (use_in t a) ≡ part_block x a
+  used_in t a e = ap (λ v. used_block g s (use_in v a)) (sym e) ∙ used_is a
 
   shared : (old : UsedMarks) (t : Tier) → MarksUses g s i old → (clash : Clashes old (part_block x) (IsOfTier t x)) → IsShared g s i t
   shared old t before clash =
@@ -175,13 +175,13 @@ marks_none g s m room none = record {
   marked = λ t k. (λ now. absurd (true≢false (sym now ∙ none t k)), λ some. absurd (no_use some.0 t k some.1 some.2));
   once = λ u v t k low other at there. absurd (no_use u t k low at);
 } where
-  no_use : (u : Use) (t : Tier) (k : ℕ) → u.inode < 1 → used g s u ≡ Some (t, k) → ⊥
+  no_use : (u : Use) (t : Tier) (k : ℕ) → u.inode < 1 → used_block g s u ≡ Some (t, k) → ⊥
   no_use u t k low at =
       let number = root_inode g s u.inode u.tier (used_root g s u.inode u.tier u.logical (pair t k) at) in
       let first : 1 ≤ u.inode = leb-true 1 u.inode (and_parts (nat_le 1 u.inode) (nat_le u.inode 1024) number).0 in
       omega (arith, low, first)
 
-use_below : (g : Sizes) (s : Store) (below : ℕ) → 1025 ≤ below → (u : Use) (b : Tier × ℕ) → used g s u ≡ Some b → u.inode < below
+use_below : (g : Sizes) (s : Store) (below : ℕ) → 1025 ≤ below → (u : Use) (b : Tier × ℕ) → used_block g s u ≡ Some b → u.inode < below
 use_below g s below end u b at =
     let number = root_inode g s u.inode u.tier (used_root g s u.inode u.tier u.logical b at) in
     let last : u.inode ≤ 1024 = leb-true u.inode 1024 (and_parts (nat_le 1 u.inode) (nat_le u.inode 1024) number).1 in
@@ -190,7 +190,7 @@ use_below g s below end u b at =
 pub all_once : (g : Sizes) (s : Store) (below : ℕ) → 1025 ≤ below → (m : UsedMarks) → MarksUses g s below m → AreUsedOnce g s
 all_once g s below end m marks u v b at there = marks.once u v (b.0) (b.1) (use_below g s below end u b at) (use_below g s below end v b there) at there
 
-pub all_marked : (g : Sizes) (s : Store) (below : ℕ) → 1025 ≤ below → (m : UsedMarks) → MarksUses g s below m → (t : Tier) (k : ℕ) → IsMarked m t k ↔ ((u : Use) × (used g s u ≡ Some (t, k)))
+pub all_marked : (g : Sizes) (s : Store) (below : ℕ) → 1025 ≤ below → (m : UsedMarks) → MarksUses g s below m → (t : Tier) (k : ℕ) → IsMarked m t k ↔ ((u : Use) × (used_block g s u ≡ Some (t, k)))
 all_marked g s below end m marks t k = (λ now. let u = (marks.marked t k).0 now in (u.0, u.2), λ some. (marks.marked t k).1 (some.0, use_below g s below end (some.0) (pair t k) (some.1), some.1))
 
 pub spelled_more : (g : Sizes) (s : Store) (n : ℕ) → ((i : ℕ) → 1 ≤ i → i < n → SpellsInode g s i) → SpellsInode g s n → (i : ℕ) → 1 ≤ i → i < n + 1 → SpellsInode g s i

@@ -11,7 +11,7 @@ use Rattle.batch_journal.specs.layout.Places.{Sizes}
 use Rattle.batch_journal.specs.layout.declared.error.What.TheVariants as what
 use Rattle.extent_tree.specs.Places.{place_of}
 use Rattle.tree_blocks.specs.Inode.{IsZeroFrom, byte_of}
-use Rattle.area_image.specs.Store.{Store, slot, length_of, place, logical}
+use Rattle.area_image.specs.Store.{Store, slot, length_of, place, logical_block}
 use Rattle.area_image.specs.Reads.{IsPlaced}
 use Rattle.area_image.specs.Damage.{byte_in}
 use Rattle.area_image.specs.Map.{place_by}
@@ -59,14 +59,14 @@ module _ (g : Sizes) (s : Store) (i : ℕ) where
     | inr none ↦ none
   ]
 
-  past_none : (k : ℕ) → length_of (slot g s i) ≤ k → logical g s i k ≡ []
+  past_none : (k : ℕ) → length_of (slot g s i) ≤ k → logical_block g s i k ≡ []
   past_none k past = at_none g s i k (place_past Fast k past) (place_past Block k past) (place_past Slow k past)
 
-  no_byte : (at : ℕ) → logical g s i (at / 4096) ≡ [] → byte_of (logical g s i) at ≡ 0
+  no_byte : (at : ℕ) → logical_block g s i (at / 4096) ≡ [] → byte_of (logical_block g s i) at ≡ 0
   unfolding byte_of
   no_byte at none = ap (λ b. byte_in b at) none
 
-  byte_here : (at : ℕ) (block : List ℕ) → logical g s i (at / 4096) ≡ block → byte_of (logical g s i) at ≡ get_or block (at % 4096) 0
+  byte_here : (at : ℕ) (block : List ℕ) → logical_block g s i (at / 4096) ≡ block → byte_of (logical_block g s i) at ≡ get_or block (at % 4096) 0
   unfolding byte_of
   byte_here at block is = ap (λ b. byte_in b at) is
 
@@ -79,22 +79,22 @@ module _ (g : Sizes) (s : Store) (i : ℕ) where
           inr (omega (arith, behind, inside, long), omega (arith, behind, inside, long), λ e. omega (arith, behind, inside, long, e))
     ]
 
-    pub zero_whole : size % 4096 ≡ 0 → IsZeroFrom size (logical g s i)
+    pub zero_whole : size % 4096 ≡ 0 → IsZeroFrom size (logical_block g s i)
     zero_whole whole at behind = elim (last_or_past at behind) [
       | inl past ↦ no_byte at (past_none (at / 4096) past)
       | inr last ↦ absurd (last.2 whole)
     ]
 
-    pub zero_none : ((t : Tier) → place g s i t (size / 4096) ≡ None) → IsZeroFrom size (logical g s i)
+    pub zero_none : ((t : Tier) → place g s i t (size / 4096) ≡ None) → IsZeroFrom size (logical_block g s i)
     zero_none none at behind = elim (last_or_past at behind) [
       | inl past ↦ no_byte at (past_none (at / 4096) past)
-      | inr last ↦ no_byte at (ap (logical g s i) last.0 ∙ at_none g s i (size / 4096) (none Fast) (none Block) (none Slow))
+      | inr last ↦ no_byte at (ap (logical_block g s i) last.0 ∙ at_none g s i (size / 4096) (none Fast) (none Block) (none Slow))
     ]
 
-    pub zero_last : (block : List ℕ) → logical g s i (size / 4096) ≡ block → are_zero (drop (size % 4096) block) ≡ true → IsZeroFrom size (logical g s i)
+    pub zero_last : (block : List ℕ) → logical_block g s i (size / 4096) ≡ block → are_zero (drop (size % 4096) block) ≡ true → IsZeroFrom size (logical_block g s i)
     zero_last block is zero' at behind = elim (last_or_past at behind) [
       | inl past ↦ no_byte at (past_none (at / 4096) past)
-      | inr last ↦ byte_here at block (ap (logical g s i) last.0 ∙ is) ∙ zero_behind block (size % 4096) (at % 4096) zero' last.1
+      | inr last ↦ byte_here at block (ap (logical_block g s i) last.0 ∙ is) ∙ zero_behind block (size % 4096) (at % 4096) zero' last.1
     ]
 
     -- a byte of the last block that is not zero

@@ -3,7 +3,7 @@ use Rattle.std.proofs.Common.{◌≡◌, ℕ, true, false, refl, sym, ap, subst,
 use Rattle.std.specs.Prelude.{◌↔◌}
 use Rattle.std.proofs.lemmas.Bool.{true≢false}
 use Rattle.batch_journal.specs.tier_device.declared.media.Tier.{Tier}
-use Rattle.area_image.specs.Used.{UsedMarks, is_marked, Adds, Takes, Clashes}
+use Rattle.area_image.specs.BlockMarks.{UsedMarks, is_marked, Adds, Takes, Clashes}
 
 abbrev pair : Tier → ℕ → Tier × ℕ
 pair t k = (t, k)

@@ -13,7 +13,7 @@ use Rattle.batch_journal.proofs.layout_lemmas.Pairs.{all_at}
 use Rattle.batch_journal.proofs.layout_lemmas.DirChanges.{fit_parts, listed_now}
 use Rattle.batch_journal.proofs.layout_lemmas.DirPlaces.{names_differ}
 use Rattle.batch_journal.specs.layout.Bytes.{all_pairs}
-use Rattle.batch_journal.specs.layout.Directory.{EntryList, AreEntries, listed, entry_list_of, entry_of, no_entry, differ, are_distinct}
+use Rattle.batch_journal.specs.layout.Directory.{EntryList, AreEntries, block_entries, entry_list_of, entry_of, no_entry, differ, are_distinct}
 use Rattle.batch_journal.specs.layout.declared.directory.DirEntry.{DirEntry}
 use Rattle.batch_journal.specs.layout.Answers.{or_damaged}
 use Rattle.batch_journal.specs.layout.declared.error.LayoutError.{LayoutError}
@@ -22,21 +22,21 @@ use Rattle.batch_journal.specs.layout.declared.error.What.TheVariants as what
 use Rattle.batch_journal.specs.layout.Places.{Sizes, slot_block}
 use Rattle.tree_blocks.specs.Inode.{LogicalBlocks, Entry, IsDirectoryBlock, AreDirectoryBlocks, AreDistinct, entry_at, entries_in, blocks_for}
 use Rattle.tree_blocks.proofs.Held.{entry_is}
-use Rattle.area_image.specs.Store.{Store, extents_read, place, logical, inode}
+use Rattle.area_image.specs.Store.{Store, extents_read, place, logical_block, inode}
 use Rattle.area_image.specs.Reads.{IsRoom}
 use Rattle.area_image.proofs.Damages.{at_fast, other_place}
 use Rattle.area_image.specs.Checks.{IsEntries, IsSlotDamageOf, IsEntryDamageOf, HasName, HasSameName, HasPart, AreFirstParts}
 use Rattle.area_image.specs.Names.{IsAmong, name_at, SharesName, AddsNames}
 
 -- what is entries is read as such
-pub entries_read : (block : List ℕ) → AreEntries block → entry_list_of block ≡ Some (listed block)
-entries_read block are = names_differ block (listed_now block are) (fit_parts (listed block) are.fit).distinct
+pub entries_read : (block : List ℕ) → AreEntries block → entry_list_of block ≡ Some (block_entries block)
+entries_read block are = names_differ block (listed_now block are) (fit_parts (block_entries block) are.fit).distinct
 
 err_ok : (r : Result EntryList LayoutError) (e : LayoutError) (v : EntryList) → r ≡ Err e → r ≡ Ok v → ⊥
 err_ok r e v err ok = cc
 
 pub not_read : (w : What) (at : ℕ) (block : List ℕ) (e : LayoutError) → AreEntries block → Err e ≡ or_damaged w at (entry_list_of block) → ⊥
-not_read w at block e are is = err_ok (or_damaged w at (entry_list_of block)) e (listed block) (sym is) (ap (or_damaged w at) (entries_read block are))
+not_read w at block e are is = err_ok (or_damaged w at (entry_list_of block)) e (block_entries block) (sym is) (ap (or_damaged w at) (entries_read block are))
 
 same_names : (a b : DirEntry) → differ a b ≡ true → a.name ≡ b.name → ⊥
 same_names a b apart same = true≢false (sym ((bytes_eq-Decides a.name b.name).1 same) ∙ flip (bytes_eq a.name b.name) apart) where
@@ -52,14 +52,14 @@ one_name (x ∷ es) d zero (suc j) li lj same = absurd (same_names x (get_or es 
 one_name (x ∷ es) d (suc i) zero li lj same = absurd (same_names x (get_or es i no_entry) (all_at (differ x) es i no_entry (and_parts (list_all (differ x) es) (all_pairs differ es) d).0 (omega arith)) (sym same))
 one_name (x ∷ es) d (suc i) (suc j) li lj same = ap suc (one_name es (and_parts (list_all (differ x) es) (all_pairs differ es) d).1 i j (omega arith) (omega arith) same)
 
-pub name_of : (b : LogicalBlocks) (e : ℕ) → (entry_at b e).0 ≡ (entry_of (listed (b (e / 56))) (e % 56)).name
-name_of b e = ap (λ (x : Entry). x.0) (entry_is b e (listed (b (e / 56))) refl)
+pub name_of : (b : LogicalBlocks) (e : ℕ) → (entry_at b e).0 ≡ (entry_of (block_entries (b (e / 56))) (e % 56)).name
+name_of b e = ap (λ (x : Entry). x.0) (entry_is b e (block_entries (b (e / 56))) refl)
 
 pub count_small : (n k e : ℕ) → e < n → e / 56 ≡ k → e % 56 < entries_in n k
 count_small n k e lt at = omega (arith, lt, at)
 
 module _ (i n : ℕ) (b : LogicalBlocks) where
-  entry_inside : (e : ℕ) → e < n → IsDirectoryBlock i n (e / 56) (b (e / 56)) → e % 56 < length (listed (b (e / 56))).entries
+  entry_inside : (e : ℕ) → e < n → IsDirectoryBlock i n (e / 56) (b (e / 56)) → e % 56 < length (block_entries (b (e / 56))).entries
   entry_inside e lt part = let small : e % 56 < entries_in n (e / 56) = count_small n (e / 56) e lt refl in subst (λ m. e % 56 < m) (sym part.count_is) small
 
   module _ (k : ℕ) (parts : (j : ℕ) → j < k + 1 → IsDirectoryBlock i n j (b j)) (new : HasSameName b k (b k) → ⊥) where
@@ -70,24 +70,24 @@ module _ (i n : ℕ) (b : LogicalBlocks) where
         let inside_f = entry_inside f lf (parts (f / 56) (omega (arith, before))) in
         new (record {
           entry = e % 56;
-          inside = subst (λ j. e % 56 < length (listed (b j)).entries) here inside_e;
+          inside = subst (λ j. e % 56 < length (block_entries (b j)).entries) here inside_e;
           other = record {
             block = f / 56;
             within = before;
             entry = f % 56;
             inside = inside_f;
-            same = sym (name_of b f) ∙ sym same ∙ name_of b e ∙ ap (λ j. (entry_of (listed (b j)) (e % 56)).name) here;
+            same = sym (name_of b f) ∙ sym same ∙ name_of b e ∙ ap (λ j. (entry_of (block_entries (b j)) (e % 56)).name) here;
           };
         })
 
     inside_one : (e f : ℕ) → e < n → f < n → e / 56 ≡ k → f / 56 ≡ k → (entry_at b e).0 ≡ (entry_at b f).0 → e ≡ f
     inside_one e f le lf here there same =
         let part = parts k (omega arith) in
-        let inside_e = subst (λ j. e % 56 < length (listed (b j)).entries) here (entry_inside e le (parts (e / 56) (omega (arith, here)))) in
-        let inside_f = subst (λ j. f % 56 < length (listed (b j)).entries) there (entry_inside f lf (parts (f / 56) (omega (arith, there)))) in
-        let names : (entry_of (listed (b k)) (e % 56)).name ≡ (entry_of (listed (b k)) (f % 56)).name =
-        sym (ap (λ j. (entry_of (listed (b j)) (e % 56)).name) here) ∙ sym (name_of b e) ∙ same ∙ name_of b f ∙ ap (λ j. (entry_of (listed (b j)) (f % 56)).name) there in
-        let rest : e % 56 ≡ f % 56 = one_name (listed (b k)).entries (fit_parts (listed (b k)) part.entries.fit).distinct (e % 56) (f % 56) inside_e inside_f names in
+        let inside_e = subst (λ j. e % 56 < length (block_entries (b j)).entries) here (entry_inside e le (parts (e / 56) (omega (arith, here)))) in
+        let inside_f = subst (λ j. f % 56 < length (block_entries (b j)).entries) there (entry_inside f lf (parts (f / 56) (omega (arith, there)))) in
+        let names : (entry_of (block_entries (b k)) (e % 56)).name ≡ (entry_of (block_entries (b k)) (f % 56)).name =
+        sym (ap (λ j. (entry_of (block_entries (b j)) (e % 56)).name) here) ∙ sym (name_of b e) ∙ same ∙ name_of b f ∙ ap (λ j. (entry_of (block_entries (b j)) (f % 56)).name) there in
+        let rest : e % 56 ≡ f % 56 = one_name (block_entries (b k)).entries (fit_parts (block_entries (b k)) part.entries.fit).distinct (e % 56) (f % 56) inside_e inside_f names in
         omega (arith, here, there, rest)
 
     pub distinct_on : AreDistinct (entry_at b) (min n (56 * k)) → AreDistinct (entry_at b) (min n (56 * (k + 1)))
@@ -117,7 +117,7 @@ directory_tier g s i Fast k p dir is = refl
 directory_tier g s i Block k p dir is = absurd (none_some (place g s i Block k) p (other_place g s i Block k (λ e. cc) dir) is)
 directory_tier g s i Slow k p dir is = absurd (none_some (place g s i Slow k) p (other_place g s i Slow k (λ e. cc) dir) is)
 
-pub block_at : (g : Sizes) (s : Store) (i : ℕ) (t : Tier) (k p : ℕ) → (inode g s i).kind ≡ Some kind.Directory → place g s i t k ≡ Some p → logical g s i k ≡ s t p
+pub block_at : (g : Sizes) (s : Store) (i : ℕ) (t : Tier) (k p : ℕ) → (inode g s i).kind ≡ Some kind.Directory → place g s i t k ≡ Some p → logical_block g s i k ≡ s t p
 block_at g s i t k p dir is =
     let fast = directory_tier g s i t k p dir is in
     at_fast g s i k p (subst (λ (u : Tier). place g s i u k ≡ Some p) fast is) ∙ ap (λ (u : Tier). s u p) (sym fast)
@@ -143,7 +143,7 @@ module _ (g : Sizes) (s : Store) (i n : ℕ) (dir : IsEntries g s i n) where
     of_it = refl;
   }
 
-  pub no_part : (k p : ℕ) → k < blocks_for n → place g s i Fast k ≡ Some p → (IsDirectoryBlock i n k (logical g s i k) → ⊥) → IsEntryDamageOf g s i what.DirBlock p
+  pub no_part : (k p : ℕ) → k < blocks_for n → place g s i Fast k ≡ Some p → (IsDirectoryBlock i n k (logical_block g s i k) → ⊥) → IsEntryDamageOf g s i what.DirBlock p
   no_part k p lt at wrong = record {
     damage = record {
       structure = refl;
@@ -153,12 +153,12 @@ module _ (g : Sizes) (s : Store) (i n : ℕ) (dir : IsEntries g s i n) where
       number = k;
       within = subst (λ m. k < m) (sym dir.blocks) lt;
       at = at;
-      wrong = inl (λ part. wrong (subst (λ m. IsDirectoryBlock i m k (logical g s i k)) dir.size_is part));
+      wrong = inl (λ part. wrong (subst (λ m. IsDirectoryBlock i m k (logical_block g s i k)) dir.size_is part));
     };
     of_it = refl;
   }
 
-  pub twin : (k p : ℕ) → k < blocks_for n → place g s i Fast k ≡ Some p → IsDirectoryBlock i n k (logical g s i k) → ((j : ℕ) → j < k → IsDirectoryBlock i n j (logical g s i j)) → HasSameName (logical g s i) k (logical g s i k) → IsEntryDamageOf g s i what.DirBlock p
+  pub twin : (k p : ℕ) → k < blocks_for n → place g s i Fast k ≡ Some p → IsDirectoryBlock i n k (logical_block g s i k) → ((j : ℕ) → j < k → IsDirectoryBlock i n j (logical_block g s i j)) → HasSameName (logical_block g s i) k (logical_block g s i k) → IsEntryDamageOf g s i what.DirBlock p
   twin k p lt at part parts same =
       let x = same in
       let o = same.other in
@@ -172,9 +172,9 @@ module _ (g : Sizes) (s : Store) (i n : ℕ) (dir : IsEntries g s i n) where
       let f_block : f / 56 ≡ o.block = omega (arith, inside_f) in
       let e_rest : e % 56 ≡ x.entry = omega (arith, inside_e) in
       let f_rest : f % 56 ≡ o.entry = omega (arith, inside_f) in
-      let b : LogicalBlocks = logical g s i in
-      let name_e : (entry_at b e).0 ≡ (entry_of (listed (b k)) x.entry).name = name_of b e ∙ (λ q. (entry_of (listed (b (e_block q))) (e_rest q)).name) in
-      let name_f : (entry_at b f).0 ≡ (entry_of (listed (b o.block)) o.entry).name = name_of b f ∙ (λ q. (entry_of (listed (b (f_block q))) (f_rest q)).name) in
+      let b : LogicalBlocks = logical_block g s i in
+      let name_e : (entry_at b e).0 ≡ (entry_of (block_entries (b k)) x.entry).name = name_of b e ∙ (λ q. (entry_of (block_entries (b (e_block q))) (e_rest q)).name) in
+      let name_f : (entry_at b f).0 ≡ (entry_of (block_entries (b o.block)) o.entry).name = name_of b f ∙ (λ q. (entry_of (block_entries (b (f_block q))) (f_rest q)).name) in
       let e_in : e < n = omega (arith, inside_e) in
       let f_in : f < n = omega (arith, inside_f) in
       let size : (inode g s i).size ≡ n = dir.size_is in
@@ -211,7 +211,7 @@ adds_none block old = record {
   all = λ name. (λ is. inl is, λ is. elim is [ inl there ↦ there | inr (e, lt, same) ↦ absurd (omega (arith, lt)) ]);
 }
 
-module _ (block : List ℕ) (are : AreEntries block) (k : ℕ) (inside : k < length (listed block).entries) (old mid : List (List ℕ)) (adds : AddsNames block k old mid) where
+module _ (block : List ℕ) (are : AreEntries block) (k : ℕ) (inside : k < length (block_entries block).entries) (old mid : List (List ℕ)) (adds : AddsNames block k old mid) where
   -- one more, which is new
   pub adds_more : (new : List (List ℕ)) → (IsAmong mid (name_at block k) → ⊥) → ((n : List ℕ) → IsAmong new n ↔ (IsAmong mid n ⊎ (n ≡ name_at block k))) → AddsNames block (k + 1) old new
   adds_more new fresh more = record {
@@ -239,7 +239,7 @@ module _ (block : List ℕ) (are : AreEntries block) (k : ℕ) (inside : k < len
   shares_name is = elim ((adds.all (name_at block k)).0 is) [
     | inl there ↦ record { entry = k; inside = inside; among = there }
     | inr (e, lt, same) ↦ (
-        let one : e ≡ k = one_name (listed block).entries (fit_parts (listed block) are.fit).distinct e k (omega (arith, lt, inside)) inside same in
+        let one : e ≡ k = one_name (block_entries block).entries (fit_parts (block_entries block) are.fit).distinct e k (omega (arith, lt, inside)) inside same in
         absurd (omega (arith, lt, one))
         )
   ]
@@ -254,35 +254,35 @@ module _ (g : Sizes) (s : Store) (i n : ℕ) where
     all = λ name. (λ none. absurd none, λ has. (let lt = has.within in absurd (omega (arith, lt))));
   }
 
-  pub part_held : (k : ℕ) → IsEntries g s i n → k < blocks_for n → IsDirectoryBlock i n k (logical g s i k) → HasPart g s i
+  pub part_held : (k : ℕ) → IsEntries g s i n → k < blocks_for n → IsDirectoryBlock i n k (logical_block g s i k) → HasPart g s i
   part_held k dir lt part = record {
     kind_is = dir.kind_is;
     number = k;
     within = subst (λ m. k < m) (sym dir.blocks) lt;
-    part = subst (λ m. IsDirectoryBlock i m k (logical g s i k)) (sym dir.size_is) part;
+    part = subst (λ m. IsDirectoryBlock i m k (logical_block g s i k)) (sym dir.size_is) part;
   }
 
   module _ (k : ℕ) (names : List (List ℕ)) (old : AreFirstParts g s i n k names) where
-    pub first_all : k ≡ blocks_for n → AreDirectoryBlocks i n (logical g s i)
+    pub first_all : k ≡ blocks_for n → AreDirectoryBlocks i n (logical_block g s i)
     first_all long = record {
       parts = λ j lt. old.parts j (omega (arith, long, lt));
       distinct = λ e f le lf same. old.distinct e f (omega (arith, long, le)) (omega (arith, long, lf)) same;
     }
 
-    pub same_name : SharesName (logical g s i k) names → HasSameName (logical g s i) k (logical g s i k)
-    same_name shares = record { entry = shares.entry; inside = shares.inside; other = (old.all (name_at (logical g s i k) shares.entry)).0 shares.among }
+    pub same_name : SharesName (logical_block g s i k) names → HasSameName (logical_block g s i) k (logical_block g s i k)
+    same_name shares = record { entry = shares.entry; inside = shares.inside; other = (old.all (name_at (logical_block g s i k) shares.entry)).0 shares.among }
 
-    module _ (part : IsDirectoryBlock i n k (logical g s i k)) (new : List (List ℕ)) (adds : AddsNames (logical g s i k) (length (listed (logical g s i k)).entries) names new) where
-      parts_more : (j : ℕ) → j < k + 1 → IsDirectoryBlock i n j (logical g s i j)
+    module _ (part : IsDirectoryBlock i n k (logical_block g s i k)) (new : List (List ℕ)) (adds : AddsNames (logical_block g s i k) (length (block_entries (logical_block g s i k)).entries) names new) where
+      parts_more : (j : ℕ) → j < k + 1 → IsDirectoryBlock i n j (logical_block g s i j)
       parts_more j lt = elim (cases_eq j k) [
-        | inl here ↦ subst (λ m. IsDirectoryBlock i n m (logical g s i m)) (sym here) part
+        | inl here ↦ subst (λ m. IsDirectoryBlock i n m (logical_block g s i m)) (sym here) part
         | inr off ↦ old.parts j (omega (arith, lt, off))
       ]
 
-      no_same : HasSameName (logical g s i) k (logical g s i k) → ⊥
-      no_same same = adds.fresh same.entry same.inside ((old.all (name_at (logical g s i k) same.entry)).1 same.other)
+      no_same : HasSameName (logical_block g s i) k (logical_block g s i k) → ⊥
+      no_same same = adds.fresh same.entry same.inside ((old.all (name_at (logical_block g s i k) same.entry)).1 same.other)
 
-      named_more : (name : List ℕ) → IsAmong new name → HasName (logical g s i) (k + 1) name
+      named_more : (name : List ℕ) → IsAmong new name → HasName (logical_block g s i) (k + 1) name
       named_more name is = elim ((adds.all name).0 is) [
         | inl there ↦ (
             let has = (old.all name).0 there in
@@ -292,13 +292,13 @@ module _ (g : Sizes) (s : Store) (i n : ℕ) where
         | inr (e, lt, same) ↦ record { block = k; within = omega arith; entry = e; inside = lt; same = same }
       ]
 
-      among_more : (name : List ℕ) → HasName (logical g s i) (k + 1) name → IsAmong new name
+      among_more : (name : List ℕ) → HasName (logical_block g s i) (k + 1) name → IsAmong new name
       among_more name has =
           let within = has.within in
           elim (cases_eq has.block k) [
-            | inl here ↦ (adds.all name).1 (inr (has.entry, subst (λ j. has.entry < length (listed (logical g s i j)).entries) here has.inside, ap (λ j. name_at (logical g s i j) has.entry) (sym here) ∙ has.same))
+            | inl here ↦ (adds.all name).1 (inr (has.entry, subst (λ j. has.entry < length (block_entries (logical_block g s i j)).entries) here has.inside, ap (λ j. name_at (logical_block g s i j) has.entry) (sym here) ∙ has.same))
             | inr off ↦ (adds.all name).1 (inl ((old.all name).1 (record { block = has.block; within = omega (arith, within, off); entry = has.entry; inside = has.inside; same = has.same })))
           ]
 
       pub first_more : AreFirstParts g s i n (k + 1) new
-      first_more = record { parts = parts_more; distinct = distinct_on i n (logical g s i) k parts_more no_same old.distinct; all = λ name. (named_more name, among_more name) }
+      first_more = record { parts = parts_more; distinct = distinct_on i n (logical_block g s i) k parts_more no_same old.distinct; all = λ name. (named_more name, among_more name) }

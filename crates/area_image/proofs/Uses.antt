@@ -8,7 +8,7 @@ use Rattle.area_image.specs.Store.{root_of, length_of}
 use Rattle.batch_journal.specs.layout.Extents.{ExtentList}
 use Rattle.extent_tree.specs.Places.{place_of}
 use Rattle.area_image.specs.Map.{place_by, in_tier, extents_in}
-use Rattle.area_image.specs.Used.{UsedMarks, is_marked, HasRoom, Adds, Takes, Clashes}
+use Rattle.area_image.specs.BlockMarks.{UsedMarks, is_marked, HasRoom, Adds, Takes, Clashes}
 use Rattle.area_image.specs.Parts.{InodeUse, part_block, part_for, IsRoot, IsPlace, IsOfTier, IsWithin, HasRoomFor}
 use Rattle.area_image.specs.declared.inode.InodeParts.{InodeParts}
 use Rattle.area_image.proofs.Takings.{take_one, take_none, take_more, take_same, clash_one, clash_after, clash_more}

@@ -6,9 +6,9 @@ use Rattle.batch_journal.specs.layout.declared.error.What.{What}
 use Rattle.batch_journal.specs.layout.declared.places.TheConstants.{BLOCK}
 use Rattle.batch_journal.specs.layout.declared.directory.TheConstants.{MAX_IN_BLOCK}
 use Rattle.batch_journal.specs.layout.Places.{Sizes, is_inode}
-use Rattle.batch_journal.specs.layout.Directory.{listed, entry_of}
+use Rattle.batch_journal.specs.layout.Directory.{block_entries, entry_of}
 use Rattle.tree_blocks.specs.Inode.{LogicalBlocks, IsDirectoryBlock, AreDistinct, entry_at}
-use Rattle.area_image.specs.Store.{Store, logical, slot, length_of, extents_read, place, inode}
+use Rattle.area_image.specs.Store.{Store, logical_block, slot, length_of, extents_read, place, inode}
 use Rattle.area_image.specs.Damage.{IsSlotDamage, IsExtentDamage, IsEntryDamage, IsTailDamage}
 use Rattle.area_image.specs.Map.{in_tier, extents_in}
 use Rattle.area_image.specs.Names.{IsAmong}
@@ -69,24 +69,24 @@ pub record HasName (blocks : LogicalBlocks) (count : ℕ) (name : List ℕ) : Ty
   pub block : ℕ
   pub within : block < count
   pub entry : ℕ
-  pub inside : entry < length (listed (blocks block)).entries
-  pub same : (entry_of (listed (blocks block)) entry).name ≡ name
+  pub inside : entry < length (block_entries (blocks block)).entries
+  pub same : (entry_of (block_entries (blocks block)) entry).name ≡ name
 
 -- Some entry of a block has the name of one of the first so many blocks.
 pub record HasSameName (blocks : LogicalBlocks) (count : ℕ) (block : List ℕ) : Type 0 where
   pub entry : ℕ
-  pub inside : entry < length (listed block).entries
-  pub other : HasName blocks count (entry_of (listed block) entry).name
+  pub inside : entry < length (block_entries block).entries
+  pub other : HasName blocks count (entry_of (block_entries block) entry).name
 
 -- The first so many blocks of a directory are its parts, no two of their entries have one name, and these are the names.
 pub record AreFirstParts (g : Sizes) (s : Store) (i entries count : ℕ) (names : List (List ℕ)) : Type 0 where
-  pub parts : (k : ℕ) → k < count → IsDirectoryBlock i entries k (logical g s i k)
-  pub distinct : AreDistinct (entry_at (logical g s i)) (min entries (MAX_IN_BLOCK * count))
-  pub all : (name : List ℕ) → IsAmong names name ↔ HasName (logical g s i) count name
+  pub parts : (k : ℕ) → k < count → IsDirectoryBlock i entries k (logical_block g s i k)
+  pub distinct : AreDistinct (entry_at (logical_block g s i)) (min entries (MAX_IN_BLOCK * count))
+  pub all : (name : List ℕ) → IsAmong names name ↔ HasName (logical_block g s i) count name
 
 -- Inode i is a directory, and some block is its part of the entries: their names are held in memory.
 pub record HasPart (g : Sizes) (s : Store) (i : ℕ) : Type 0 where
   pub kind_is : (inode g s i).kind ≡ Some kind.Directory
   pub number : ℕ
   pub within : number < length_of (slot g s i)
-  pub part : IsDirectoryBlock i (inode g s i).size number (logical g s i number)
+  pub part : IsDirectoryBlock i (inode g s i).size number (logical_block g s i number)

@@ -12,8 +12,8 @@ use Rattle.batch_journal.specs.layout.Places.{Sizes, is_inode, slot_block}
 use Rattle.tree_blocks.specs.Inode.{IsDirectoryBlock, entry_at}
 use Rattle.area_image.specs.declared.error.AreaError.{AreaError}
 use Rattle.area_image.specs.declared.error.AreaError.TheVariants as errors
-use Rattle.area_image.specs.Store.{Store, slot, slot_read, root_of, length_of, extents_read, place, logical, inode as inode_at, graph, marks}
-use Rattle.area_image.specs.Spelled.{Use, used}
+use Rattle.area_image.specs.Store.{Store, slot, slot_read, root_of, length_of, extents_read, place, logical_block, inode as inode_at, graph, marks}
+use Rattle.area_image.specs.Format.{Use, used_block}
 
 -- ---- slots
 
@@ -49,8 +49,8 @@ pub record IsShared (g : Sizes) (s : Store) (i : ℕ) (t : Tier) : Type 0 where
   pub other : Use
   pub block : Tier × ℕ
   pub differ : other ≢ record { inode = i; tier = t; logical = logical }
-  pub here : used g s (record { inode = i; tier = t; logical = logical }) ≡ Some block
-  pub there : used g s other ≡ Some block
+  pub here : used_block g s (record { inode = i; tier = t; logical = logical }) ≡ Some block
+  pub there : used_block g s other ≡ Some block
 
 -- An extent block spells none that are the inode's within its size, or some that another tier has too.
 pub record IsExtentDamage (g : Sizes) (s : Store) (part : What) (block : ℕ) : Type 0 where
@@ -80,9 +80,9 @@ pub record HasTwin (g : Sizes) (s : Store) (i : ℕ) (k : ℕ) : Type 0 where
   pub one_within : entry < (inode_at g s i).size
   pub other_within : other < (inode_at g s i).size
   pub differ : entry ≢ other
-  pub here : IsDirectoryBlock i (inode_at g s i).size k (logical g s i k)
-  pub there : IsDirectoryBlock i (inode_at g s i).size (other / MAX_IN_BLOCK) (logical g s i (other / MAX_IN_BLOCK))
-  pub same : (entry_at (logical g s i) entry).0 ≡ (entry_at (logical g s i) other).0
+  pub here : IsDirectoryBlock i (inode_at g s i).size k (logical_block g s i k)
+  pub there : IsDirectoryBlock i (inode_at g s i).size (other / MAX_IN_BLOCK) (logical_block g s i (other / MAX_IN_BLOCK))
+  pub same : (entry_at (logical_block g s i) entry).0 ≡ (entry_at (logical_block g s i) other).0
 
 -- A directory's block does not hold its part of the entries, or one that has another's name.
 pub record IsEntryDamage (g : Sizes) (s : Store) (part : What) (block : ℕ) : Type 0 where
@@ -93,7 +93,7 @@ pub record IsEntryDamage (g : Sizes) (s : Store) (part : What) (block : ℕ) : T
   pub number : ℕ
   pub within : number < length_of (slot g s inode)
   pub at : place g s inode tiers.Fast number ≡ Some block
-  pub wrong : (IsDirectoryBlock inode (inode_at g s inode).size number (logical g s inode number) → ⊥) ⊎ HasTwin g s inode number
+  pub wrong : (IsDirectoryBlock inode (inode_at g s inode).size number (logical_block g s inode number) → ⊥) ⊎ HasTwin g s inode number
 
 -- the byte of a file that a block of it has
 abbrev pub byte_in : List ℕ → ℕ → ℕ

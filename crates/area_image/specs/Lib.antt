@@ -1,14 +1,14 @@
 pub mod Store
 pub mod Reads
-pub mod Spelled
+pub mod Format
 pub mod Damage
 pub mod Map
 pub mod Looks
 pub mod Rewrites
 pub mod Checks
-pub mod Used
+pub mod BlockMarks
 pub mod Parts
-pub mod Whole
+pub mod MediumUse
 pub mod Units
 pub mod Names
 -- Passed on to the crates above, which so need not list those below.

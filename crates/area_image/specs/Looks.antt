@@ -1,5 +1,6 @@
 -- What a call that only reads leaves of a journal.
 use Rattle.std.specs.Prelude.{◌≡◌, ◌≢◌, ◌⊎◌, ◌≤◌, ◌+◌, ℕ, List, true, false, Result, Ok, Err, OnOk, IfErr}
+use Rattle.batch_journal.specs.tier_device.declared.media.Media.{Ghosts}
 use Rattle.batch_journal.specs.tier_device.declared.media.Tier.{Tier}
 use Rattle.batch_journal.specs.tier_device.Media.{Rose}
 use Rattle.batch_journal.specs.View.{JournalView}
@@ -8,17 +9,17 @@ use Rattle.area_image.specs.declared.error.AreaError.{AreaError}
 use Rattle.area_image.specs.declared.error.AreaError.TheVariants as errors
 
 -- a call that has answered
-abbrev pub looked : Result (Unit {0}) AreaError
-looked = Ok tt
+abbrev pub call_answer : Result (Unit {0}) AreaError
+call_answer = Ok tt
 
 -- Nothing has moved. A device fault is answered where a device fails, and from then on: a journal that has failed answers nothing else, and is not touched.
-pub record Looks {M T : Type 0} (moment : M → ℕ) (seen : M → Tier → List ℕ) (left : M → ℕ → Tier → List ℕ → Type 0) (faults : M → ℕ) (old new : JournalView M) (result : Result T AreaError) : Type 0 where
-  pub unmoved : Unmoved (moment old.media) (moment new.media) (seen old.media) (seen new.media) (left old.media) (left new.media)
+pub record Looks {M T : Type 0} (device : Ghosts M) (old new : JournalView M) (result : Result T AreaError) : Type 0 where
+  pub unmoved : Unmoved (device.moment old.media) (device.moment new.media) (device.seen old.media) (device.seen new.media) (device.left old.media) (device.left new.media)
   pub geometry : new.geometry ≡ old.geometry
-  pub more_faults : faults old.media ≤ faults new.media
-  pub one_fault : faults new.media ≤ faults old.media + 1
-  pub quiet : OnOk result (faults new.media ≡ faults old.media)
+  pub more_faults : device.faults old.media ≤ device.faults new.media
+  pub one_fault : device.faults new.media ≤ device.faults old.media + 1
+  pub quiet : OnOk result (device.faults new.media ≡ device.faults old.media)
   pub going : OnOk result ((old.failed ≡ false) × (new.failed ≡ false))
-  pub quiet_refused : IfErr result (λ e. e ≢ errors.DeviceFault → (faults new.media ≡ faults old.media) × (old.failed ≡ false) × (new.failed ≡ false))
+  pub quiet_refused : IfErr result (λ e. e ≢ errors.DeviceFault → (device.faults new.media ≡ device.faults old.media) × (old.failed ≡ false) × (new.failed ≡ false))
   pub stays_failed : old.failed ≡ true → (result ≡ Err errors.DeviceFault) × (new ≡ old)
-  pub fault : IfErr result (λ e. e ≡ errors.DeviceFault → (new.failed ≡ true) × ((old.failed ≡ true) ⊎ Rose (faults old.media) (faults new.media)))
+  pub fault : IfErr result (λ e. e ≡ errors.DeviceFault → (new.failed ≡ true) × ((old.failed ≡ true) ⊎ Rose (device.faults old.media) (device.faults new.media)))

@@ -5,7 +5,7 @@ use Rattle.batch_journal.specs.tier_device.declared.media.Tier.{Tier}
 use Rattle.batch_journal.specs.tier_device.declared.media.Tier.TheVariants as tiers
 use Rattle.area_image.specs.Store.{root_of, length_of}
 use Rattle.area_image.specs.Map.{place_by}
-use Rattle.area_image.specs.Used.{UsedMarks, HasRoom}
+use Rattle.area_image.specs.BlockMarks.{UsedMarks, HasRoom}
 use Rattle.area_image.specs.declared.inode.InodeParts.{InodeParts}
 
 -- what an inode has a block for in a tier: to list its extents there, or to hold a logical block

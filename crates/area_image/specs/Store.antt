@@ -1,6 +1,7 @@
 -- The blocks of three tiers, and what each inode is in them.
 use Rattle.std.specs.Prelude.{◌+◌, ◌-◌, ◌/◌, ◌==◌, ◌&&◌, nat_le, Bool, ℕ, List, [], Option, Some, None, unwrap_or, if◌then◌else◌}
 use Rattle.std.specs.List.{list_all}
+use Rattle.batch_journal.specs.tier_device.declared.media.Media.{Ghosts}
 use Rattle.batch_journal.specs.tier_device.declared.media.Tier.{Tier}
 use Rattle.batch_journal.specs.tier_device.declared.media.Tier.TheVariants as tiers
 use Rattle.batch_journal.specs.file_graph.Graph.{Graph}
@@ -21,6 +22,7 @@ use Rattle.extent_tree.specs.Places.{end_of, place_of}
 use Rattle.tree_blocks.specs.Inode.{Inode, inode_of, graph_of_inodes}
 use Rattle.batch_journal.specs.Images.{slice}
 use Rattle.batch_journal.specs.Blocks.{Blocks, block_of, home}
+use Rattle.batch_journal.specs.View.{JournalView}
 
 -- the blocks of each tier by their numbers
 abbrev pub Store : Type 0
@@ -35,6 +37,10 @@ content_blocks tiers.Slow c = block_of c
 -- what the bytes of three tiers stand for
 abbrev pub store_of : (Tier → List ℕ) → Store
 store_of content tier = content_blocks tier (content tier)
+
+-- what is read on the media of a journal
+abbrev pub disk : {M : Type 0} → Ghosts M → JournalView M → Store
+disk device journal = store_of (device.seen journal.media)
 
 -- ---- slots
 
@@ -112,14 +118,14 @@ at_or blocks None other = other
 at_or blocks (Some p) other = blocks p
 
 -- a logical block of an inode, in the tier that maps it; one that none maps has no bytes, which reads as zeros
-unfoldable pub logical : Sizes → Store → ℕ → Blocks
-logical g s i k =
+unfoldable pub logical_block : Sizes → Store → ℕ → Blocks
+logical_block g s i k =
     at_or (s tiers.Fast) (place g s i tiers.Fast k)
     (at_or (s tiers.Block) (place g s i tiers.Block k) (at_or (s tiers.Slow) (place g s i tiers.Slow k) []))
 
 -- an inode: its slot and its logical blocks
 abbrev pub inode : Sizes → Store → ℕ → Inode
-inode g s i = inode_of (slot g s i) (logical g s i)
+inode g s i = inode_of (slot g s i) (logical_block g s i)
 
 -- the graph that a store spells
 abbrev pub graph : Sizes → Store → Graph

@@ -1,6 +1,6 @@
 -- What the inodes of a medium cost.
 use Rattle.std.specs.Prelude.{ℕ}
-use Rattle.batch_journal.specs.posix_calls.Content.{file_units, directory_units}
+use Rattle.batch_journal.specs.posix_calls.Units.{file_units, directory_units}
 use Rattle.batch_journal.specs.layout.declared.slot.Slot.{Slot}
 use Rattle.batch_journal.specs.layout.declared.slot.Slot.TheVariants as slots
 

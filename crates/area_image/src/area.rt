@@ -2,24 +2,24 @@
 ghost use Rattle.std.specs.Prelude.{◌≡◌, ◌≤◌, ◌+◌, ◌⊎◌, ◌↔◌, ℕ, Some, true, false, length, OnOk, IfOk, IfErr};
 ghost use Rattle.batch_journal.specs.file_graph.Graph.{cost};
 ghost use Rattle.batch_journal.specs.file_graph.Units.{charge};
-ghost use Rattle.area_image.specs.Store.{store_of, graph};
+ghost use Rattle.area_image.specs.Store.{disk, graph};
 ghost use Rattle.batch_journal.specs.tier_device.declared.media.Tier.{Tier};
 ghost use Rattle.batch_journal.specs.layout.Places.{is_inode, tier_blocks};
-ghost use Rattle.area_image.specs.Spelled.{SpellsInode, Use, AreUsedOnce, used as used_by};
-ghost use Rattle.area_image.specs.Used.{marks_in, is_marked, IsMarked};
+ghost use Rattle.area_image.specs.Format.{SpellsInode, Use, AreUsedOnce, used_block as used_by};
+ghost use Rattle.area_image.specs.BlockMarks.{marks_in, is_marked, IsMarked};
 ghost use Rattle.area_image.specs.Damage.{OnDamage, IsDamaged};
 ghost use Rattle.area_image.specs.Looks.{Looks};
 ghost use Rattle.area_image.specs.Map.{WantsMemory};
 ghost use Rattle.area_image.specs.Checks.{HasPart};
-ghost use Rattle.area_image.specs.Whole.{MarksUses};
+ghost use Rattle.area_image.specs.MediumUse.{MarksUses};
 ghost use Rattle.area_image.specs.declared.error.AreaError.TheVariants.{Memory};
 
 use crate::error::AreaError;
+use crate::inode_checks::read_inode;
+use crate::inode_marks::mark_inode;
 use crate::slots::root_of;
-use crate::sound::read_inode;
-use crate::taking::mark_inode;
 use crate::units::units_of;
-use crate::used::UsedBlocks;
+use crate::used_blocks::UsedBlocks;
 use batch_journal::{Journal, MAX_INODE, Media, What};
 use std::alloc::Global;
 
@@ -33,14 +33,14 @@ fn add_inode<M: Media>(
 ) -> Result<u64, AreaError>
     requires low { 1 ≤ inode }
     requires high { inode ≤ MAX_INODE }
-    requires before { MarksUses journal.old.geometry (store_of (M.seen journal.old.media)) inode used.old }
-    ensures spelled { OnOk result (SpellsInode journal.old.geometry (store_of (M.seen journal.old.media)) inode) }
-    ensures marks { OnOk result (MarksUses journal.old.geometry (store_of (M.seen journal.old.media)) (inode + 1) used.new) }
-    ensures units { IfOk result (λ units. units ≡ cost (graph journal.old.geometry (store_of (M.seen journal.old.media)) inode)) }
+    requires before { MarksUses journal.old.geometry (disk M.Media journal.old) inode used.old }
+    ensures spelled { OnOk result (SpellsInode journal.old.geometry (disk M.Media journal.old) inode) }
+    ensures marks { OnOk result (MarksUses journal.old.geometry (disk M.Media journal.old) (inode + 1) used.new) }
+    ensures units { IfOk result (λ units. units ≡ cost (graph journal.old.geometry (disk M.Media journal.old) inode)) }
     ensures small { IfOk result (λ units. units ≤ 257) }
-    ensures damaged { IfErr result (λ e. OnDamage e (IsDamaged journal.old.geometry (store_of (M.seen journal.old.media)))) }
-    ensures memory { IfErr result (λ e. e ≡ Memory → WantsMemory journal.old.geometry (store_of (M.seen journal.old.media)) inode ⊎ HasPart journal.old.geometry (store_of (M.seen journal.old.media)) inode) }
-    ensures looks { Looks M.moment M.seen M.left M.faults journal.old journal.new result }
+    ensures damaged { IfErr result (λ e. OnDamage e (IsDamaged journal.old.geometry (disk M.Media journal.old))) }
+    ensures memory { IfErr result (λ e. e ≡ Memory → WantsMemory journal.old.geometry (disk M.Media journal.old) inode ⊎ HasPart journal.old.geometry (disk M.Media journal.old) inode) }
+    ensures looks { Looks M.Media journal.old journal.new result }
 {
     match read_inode(alloc, journal, inode) {
         Ok(parts) => match mark_inode(used, &parts) {
@@ -65,14 +65,14 @@ pub fn read_area<M: Media>(
 ) -> Result<u64, AreaError>
     requires room { (t : Tier) → length (marks_in used.old t) ≡ tier_blocks journal.old.geometry t }
     requires none { (t : Tier) (k : ℕ) → is_marked used.old t k ≡ false }
-    ensures inodes { OnOk result ((i : ℕ) → is_inode i ≡ true → SpellsInode journal.old.geometry (store_of (M.seen journal.old.media)) i) }
-    ensures apart { OnOk result (AreUsedOnce journal.old.geometry (store_of (M.seen journal.old.media))) }
+    ensures inodes { OnOk result ((i : ℕ) → is_inode i ≡ true → SpellsInode journal.old.geometry (disk M.Media journal.old) i) }
+    ensures apart { OnOk result (AreUsedOnce journal.old.geometry (disk M.Media journal.old)) }
     ensures room { OnOk result ((t : Tier) → length (marks_in used.new t) ≡ tier_blocks journal.old.geometry t) }
-    ensures marked { OnOk result ((t : Tier) (k : ℕ) → IsMarked used.new t k ↔ ((u : Use) × (used_by journal.old.geometry (store_of (M.seen journal.old.media)) u ≡ Some (t, k)))) }
-    ensures units { IfOk result (λ units. units ≡ charge (graph journal.old.geometry (store_of (M.seen journal.old.media)))) }
-    ensures damaged { IfErr result (λ e. OnDamage e (IsDamaged journal.old.geometry (store_of (M.seen journal.old.media)))) }
-    ensures memory { IfErr result (λ e. e ≡ Memory → (i : ℕ) × (WantsMemory journal.old.geometry (store_of (M.seen journal.old.media)) i ⊎ HasPart journal.old.geometry (store_of (M.seen journal.old.media)) i)) }
-    ensures looks { Looks M.moment M.seen M.left M.faults journal.old journal.new result }
+    ensures marked { OnOk result ((t : Tier) (k : ℕ) → IsMarked used.new t k ↔ ((u : Use) × (used_by journal.old.geometry (disk M.Media journal.old) u ≡ Some (t, k)))) }
+    ensures units { IfOk result (λ units. units ≡ charge (graph journal.old.geometry (disk M.Media journal.old))) }
+    ensures damaged { IfErr result (λ e. OnDamage e (IsDamaged journal.old.geometry (disk M.Media journal.old))) }
+    ensures memory { IfErr result (λ e. e ≡ Memory → (i : ℕ) × (WantsMemory journal.old.geometry (disk M.Media journal.old) i ⊎ HasPart journal.old.geometry (disk M.Media journal.old) i)) }
+    ensures looks { Looks M.Media journal.old journal.new result }
 {
     if journal.has_failed() {
         return Err(AreaError::DeviceFault);

@@ -2,7 +2,7 @@
 ghost use Rattle.std.specs.Prelude.{◌≡◌, ◌≤◌, false, OnOk, IfErr};
 ghost use Rattle.batch_journal.specs.posix_calls.declared.limits.TheConstants.{MAX_ENTRIES};
 ghost use Rattle.tree_blocks.specs.Inode.{AreDirectoryBlocks};
-ghost use Rattle.area_image.specs.Store.{store_of, logical};
+ghost use Rattle.area_image.specs.Store.{disk, logical_block};
 ghost use Rattle.area_image.specs.Damage.{OnDamage};
 ghost use Rattle.area_image.specs.Checks.{IsEntries, HasFound, HasPart, IsDirectoryDamageOf};
 ghost use Rattle.area_image.specs.Looks.{Looks};
@@ -28,14 +28,14 @@ pub fn check_directory<M: Media>(
 ) -> Result<(), AreaError>
     requires low { 1 ≤ inode }
     requires high { inode ≤ MAX_INODE }
-    requires directory { IsEntries journal.old.geometry (store_of (M.seen journal.old.media)) inode entries }
-    requires found { HasFound journal.old.geometry (store_of (M.seen journal.old.media)) inode found.now }
+    requires directory { IsEntries journal.old.geometry (disk M.Media journal.old) inode entries }
+    requires found { HasFound journal.old.geometry (disk M.Media journal.old) inode found.now }
     requires few { entries ≤ MAX_ENTRIES }
     requires going { journal.old.failed ≡ false }
-    ensures directory { OnOk result (AreDirectoryBlocks inode entries (logical journal.old.geometry (store_of (M.seen journal.old.media)) inode)) }
-    ensures damaged { IfErr result (λ e. OnDamage e (IsDirectoryDamageOf journal.old.geometry (store_of (M.seen journal.old.media)) inode)) }
-    ensures memory { IfErr result (λ e. e ≡ Memory → HasPart journal.old.geometry (store_of (M.seen journal.old.media)) inode) }
-    ensures looks { Looks M.moment M.seen M.left M.faults journal.old journal.new result }
+    ensures directory { OnOk result (AreDirectoryBlocks inode entries (logical_block journal.old.geometry (disk M.Media journal.old) inode)) }
+    ensures damaged { IfErr result (λ e. OnDamage e (IsDirectoryDamageOf journal.old.geometry (disk M.Media journal.old) inode)) }
+    ensures memory { IfErr result (λ e. e ≡ Memory → HasPart journal.old.geometry (disk M.Media journal.old) inode) }
+    ensures looks { Looks M.Media journal.old journal.new result }
 {
     let mut names = Names::new(alloc);
     'parts: for number in 0..entry_blocks(entries) {

@@ -1,20 +1,20 @@
 // The blocks of a directory.
 ghost use Rattle.std.specs.Prelude.{◌≡◌, ◌≢◌, ◌<◌, ◌≤◌, ℕ, length, ◌+◌, MatchBool, true, false, IfOk, OnOk, IfErr};
-ghost use Rattle.batch_journal.specs.layout.Directory.{AreEntries, listed};
+ghost use Rattle.batch_journal.specs.layout.Directory.{AreEntries, block_entries};
 ghost use Rattle.batch_journal.specs.layout.Places.{slot_block};
 ghost use Rattle.batch_journal.specs.layout.declared.error.What.TheVariants as what;
 ghost use Rattle.tree_blocks.specs.Inode.{IsDirectoryBlock, entries_in, blocks_for};
 ghost use Rattle.area_image.specs.Names.{AddsNames, SharesName};
-ghost use Rattle.area_image.specs.Store.{store_of};
+ghost use Rattle.area_image.specs.Store.{disk};
 ghost use Rattle.area_image.specs.Damage.{OnDamage};
 ghost use Rattle.area_image.specs.Checks.{IsEntries, HasFound, AreFirstParts, HasPart, IsDirectoryDamageOf};
 ghost use Rattle.area_image.specs.Looks.{Looks};
 ghost use Rattle.area_image.specs.declared.error.AreaError.TheVariants.{Damaged, Memory};
 
+use crate::block_reads::{blank_block, read_block};
 use crate::error::AreaError;
 use crate::names::Names;
 use crate::places::first_place;
-use crate::reading::{blank_block, read_block};
 use crate::tail::block_number;
 use crate::tiers::InodeExtents;
 use batch_journal::{BLOCK, DirEntries, Journal, MAX_IN_BLOCK, MAX_INODE, Media, What, slot_block};
@@ -47,9 +47,9 @@ fn is_part(block: &[u8; BLOCK], at: u32, inode: u32, entries: u64, number: u64) 
 // Adds the names of a block's entries, and tells whether all were new ones; else the names are of no use.
 fn add_names(alloc: Global, names: &mut Names, block: &[u8; BLOCK]) -> Result<bool, AllocError>
     requires { AreEntries block.now }
-    ensures { IfOk result (λ new. MatchBool new (AddsNames block.now (length (listed block.now).entries) names.old names.new) (SharesName block.now names.old)) }
+    ensures { IfOk result (λ new. MatchBool new (AddsNames block.now (length (block_entries block.now).entries) names.old names.new) (SharesName block.now names.old)) }
 {
-    let list = DirEntries::known(block);
+    let list = DirEntries::from_known(block);
     'entries: for index in 0..list.len() {
         let entry = list.entry(index);
         match names.add(alloc, entry.name) {
@@ -76,16 +76,16 @@ pub fn check_part<M: Media>(
 ) -> Result<(), AreaError>
     requires low { 1 ≤ inode }
     requires high { inode ≤ MAX_INODE }
-    requires directory { IsEntries journal.old.geometry (store_of (M.seen journal.old.media)) inode entries }
-    requires found { HasFound journal.old.geometry (store_of (M.seen journal.old.media)) inode found.now }
-    requires before { AreFirstParts journal.old.geometry (store_of (M.seen journal.old.media)) inode entries number names.old }
+    requires directory { IsEntries journal.old.geometry (disk M.Media journal.old) inode entries }
+    requires found { HasFound journal.old.geometry (disk M.Media journal.old) inode found.now }
+    requires before { AreFirstParts journal.old.geometry (disk M.Media journal.old) inode entries number names.old }
     requires more { number < blocks_for entries }
     requires few { number < 65536 }
     requires going { journal.old.failed ≡ false }
-    ensures parts { OnOk result (AreFirstParts journal.old.geometry (store_of (M.seen journal.old.media)) inode entries (number + 1) names.new) }
-    ensures damaged { IfErr result (λ e. OnDamage e (IsDirectoryDamageOf journal.old.geometry (store_of (M.seen journal.old.media)) inode)) }
-    ensures memory { IfErr result (λ e. e ≡ Memory → HasPart journal.old.geometry (store_of (M.seen journal.old.media)) inode) }
-    ensures looks { Looks M.moment M.seen M.left M.faults journal.old journal.new result }
+    ensures parts { OnOk result (AreFirstParts journal.old.geometry (disk M.Media journal.old) inode entries (number + 1) names.new) }
+    ensures damaged { IfErr result (λ e. OnDamage e (IsDirectoryDamageOf journal.old.geometry (disk M.Media journal.old) inode)) }
+    ensures memory { IfErr result (λ e. e ≡ Memory → HasPart journal.old.geometry (disk M.Media journal.old) inode) }
+    ensures looks { Looks M.Media journal.old journal.new result }
 {
     let geometry = journal.geometry();
     let Some((tier, place)) = first_place(found, number) else {

@@ -5,15 +5,15 @@ ghost use Rattle.batch_journal.specs.layout.declared.error.What.TheVariants as w
 ghost use Rattle.batch_journal.specs.layout.Places.{is_node};
 ghost use Rattle.batch_journal.specs.layout.Extents.{extents_of};
 ghost use Rattle.extent_tree.specs.Places.{end_of};
-ghost use Rattle.area_image.specs.Store.{store_of, is_own, own_extents, extents_by, root_of, space_of, length_of};
+ghost use Rattle.area_image.specs.Store.{disk, is_own, own_extents, extents_by, root_of, space_of, length_of};
 ghost use Rattle.area_image.specs.Looks.{Looks};
 ghost use Rattle.area_image.specs.Map.{HasExtents, HasList, IsOwnList};
 ghost use Rattle.area_image.specs.Damage.{OnDamage};
 ghost use Rattle.area_image.specs.declared.error.AreaError.TheVariants.{DeviceFault, Memory};
 ghost use Rattle.batch_journal.specs.tier_device.declared.media.Tier.TheVariants as tiers;
 
+use crate::block_reads::{blank_block, read_block};
 use crate::error::AreaError;
-use crate::reading::{blank_block, read_block};
 use crate::slots::{length_of, root_of, space_of};
 use batch_journal::{
     Extent, ExtentBlock, Geometry, Journal, LayoutError, Media, Slot, Space, Tier, What,
@@ -30,11 +30,11 @@ pub fn read_extents<M: Media>(
     tier: Tier,
 ) -> Result<Option<ExtentBlock>, AreaError>
     requires { root_of slot.now tier ≢ 0 → is_node journal.old.geometry (root_of slot.now tier) ≡ true }
-    ensures extents { IfOk result (HasExtents journal.old.geometry (store_of (M.seen journal.old.media) tiers.Fast) inode slot.now tier) }
+    ensures extents { IfOk result (HasExtents journal.old.geometry (disk M.Media journal.old tiers.Fast) inode slot.now tier) }
     ensures damaged { IfErr result (λ e. OnDamage e (λ w block. (w ≡ what.ExtentBlock) × (block ≡ root_of slot.now tier) × (root_of slot.now tier ≢ 0)
-        × (extents_by journal.old.geometry (store_of (M.seen journal.old.media) tiers.Fast) inode slot.now tier ≡ None))) }
-    ensures memory { IfErr result (λ e. e ≡ Memory → HasList journal.old.geometry (store_of (M.seen journal.old.media) tiers.Fast) slot.now tier) }
-    ensures looks { Looks M.moment M.seen M.left M.faults journal.old journal.new result }
+        × (extents_by journal.old.geometry (disk M.Media journal.old tiers.Fast) inode slot.now tier ≡ None))) }
+    ensures memory { IfErr result (λ e. e ≡ Memory → HasList journal.old.geometry (disk M.Media journal.old tiers.Fast) slot.now tier) }
+    ensures looks { Looks M.Media journal.old journal.new result }
 {
     if journal.has_failed() {
         return Err(AreaError::DeviceFault);

@@ -2,7 +2,7 @@
 ghost use Rattle.std.specs.Prelude.{◌≡◌, ◌≤◌, Some, true, IfOk, IfErr};
 ghost use Rattle.batch_journal.specs.tier_device.declared.media.Tier.TheVariants as tiers;
 ghost use Rattle.batch_journal.specs.layout.Slot.{fits_slot};
-ghost use Rattle.area_image.specs.Store.{store_of, slot_read};
+ghost use Rattle.area_image.specs.Store.{disk, slot_read};
 ghost use Rattle.area_image.specs.Damage.{OnDamage};
 ghost use Rattle.area_image.specs.Looks.{Looks};
 ghost use Rattle.area_image.specs.Map.{IsPartDamage, HasAllExtents, WantsMemory};
@@ -31,33 +31,33 @@ pub fn read_parts<M: Media>(
 ) -> Result<InodeParts, AreaError>
     requires low { 1 ≤ inode }
     requires high { inode ≤ MAX_INODE }
-    ensures slot { IfOk result (λ x. slot_read journal.old.geometry (store_of (M.seen journal.old.media)) inode ≡ Some x.slot) }
+    ensures slot { IfOk result (λ x. slot_read journal.old.geometry (disk M.Media journal.old) inode ≡ Some x.slot) }
     ensures fits { IfOk result (λ x. fits_slot journal.old.geometry x.slot ≡ true) }
-    ensures blocks { IfOk result (λ x. HasAllExtents journal.old.geometry (store_of (M.seen journal.old.media) tiers.Fast) inode x.slot x.extents) }
-    ensures extents { IfOk result (λ x. HasFound journal.old.geometry (store_of (M.seen journal.old.media)) inode x.extents) }
-    ensures own { IfErr result (λ e. OnDamage e (IsOwnDamage journal.old.geometry (store_of (M.seen journal.old.media)) inode)) }
-    ensures memory { IfErr result (λ e. e ≡ Memory → WantsMemory journal.old.geometry (store_of (M.seen journal.old.media)) inode) }
-    ensures looks { Looks M.moment M.seen M.left M.faults journal.old journal.new result }
+    ensures blocks { IfOk result (λ x. HasAllExtents journal.old.geometry (disk M.Media journal.old tiers.Fast) inode x.slot x.extents) }
+    ensures extents { IfOk result (λ x. HasFound journal.old.geometry (disk M.Media journal.old) inode x.extents) }
+    ensures own { IfErr result (λ e. OnDamage e (IsOwnDamage journal.old.geometry (disk M.Media journal.old) inode)) }
+    ensures memory { IfErr result (λ e. e ≡ Memory → WantsMemory journal.old.geometry (disk M.Media journal.old) inode) }
+    ensures looks { Looks M.Media journal.old journal.new result }
 {
-    match read_slot_and_extents(alloc, journal, inode) {
+    match read_inode_parts(alloc, journal, inode) {
         Ok(parts) => Ok(parts),
         Err(error) => Err(error),
     }
 }
 
-fn read_slot_and_extents<M: Media>(
+fn read_inode_parts<M: Media>(
     alloc: Global,
     journal: &mut Journal<M>,
     inode: u32,
 ) -> Result<InodeParts, AreaError>
     requires low { 1 ≤ inode }
     requires high { inode ≤ MAX_INODE }
-    ensures slot { IfOk result (λ x. slot_read journal.old.geometry (store_of (M.seen journal.old.media)) inode ≡ Some x.slot) }
+    ensures slot { IfOk result (λ x. slot_read journal.old.geometry (disk M.Media journal.old) inode ≡ Some x.slot) }
     ensures fits { IfOk result (λ x. fits_slot journal.old.geometry x.slot ≡ true) }
-    ensures blocks { IfOk result (λ x. HasAllExtents journal.old.geometry (store_of (M.seen journal.old.media) tiers.Fast) inode x.slot x.extents) }
-    ensures damaged { IfErr result (λ e. OnDamage e (IsPartDamage journal.old.geometry (store_of (M.seen journal.old.media)) inode)) }
-    ensures memory { IfErr result (λ e. e ≡ Memory → WantsMemory journal.old.geometry (store_of (M.seen journal.old.media)) inode) }
-    ensures looks { Looks M.moment M.seen M.left M.faults journal.old journal.new result }
+    ensures blocks { IfOk result (λ x. HasAllExtents journal.old.geometry (disk M.Media journal.old tiers.Fast) inode x.slot x.extents) }
+    ensures damaged { IfErr result (λ e. OnDamage e (IsPartDamage journal.old.geometry (disk M.Media journal.old) inode)) }
+    ensures memory { IfErr result (λ e. e ≡ Memory → WantsMemory journal.old.geometry (disk M.Media journal.old) inode) }
+    ensures looks { Looks M.Media journal.old journal.new result }
 {
     match read_slot(journal, inode) {
         Ok(slot) => match read_all_extents(alloc, journal, inode, &slot) {

@@ -10,9 +10,9 @@ ghost use Rattle.batch_journal.specs.layout.Slot.{fits_slot};
 ghost use Rattle.batch_journal.specs.Blocks.{Blocks};
 ghost use Rattle.batch_journal.specs.Course.{OutsideRun};
 ghost use Rattle.batch_journal.specs.Volume.{Spells};
-ghost use Rattle.area_image.specs.Store.{Store, store_of, content_blocks, slot, slot_read, root_of, length_of, extents_read, place, logical, inode, graph, marks};
+ghost use Rattle.area_image.specs.Store.{Store, store_of, content_blocks, slot, slot_read, root_of, length_of, extents_read, place, logical_block, inode, graph, marks};
 ghost use Rattle.area_image.specs.Reads.{Free, Loose, LooseIn, IsFreeRun, IsPlaced, Untouched};
-ghost use Rattle.area_image.specs.Spelled.{SpellsInode, Use, used, IsSpelled, IsOpenable};
+ghost use Rattle.area_image.specs.Format.{SpellsInode, Use, used_block, IsSpelled, IsOpenable};
 ghost use Rattle.area_image.specs.Damage.{IsDamaged};
 ghost use Rattle.batch_journal.specs.layout.declared.error.What.{What};
 
@@ -31,10 +31,10 @@ pub fn free_blocks_are_not_read()
 pub fn untouched_inodes_stay()
     ensures slots { (g : Sizes) (old new : Store) (i : ℕ) → Untouched g old new i → slot_read g new i ≡ slot_read g old i }
     ensures extents { (g : Sizes) (old new : Store) (i : ℕ) → Untouched g old new i → (t : Tier) → extents_read g new i t ≡ extents_read g old i t }
-    ensures blocks { (g : Sizes) (old new : Store) (i : ℕ) → Untouched g old new i → logical g new i ≡ logical g old i }
+    ensures blocks { (g : Sizes) (old new : Store) (i : ℕ) → Untouched g old new i → logical_block g new i ≡ logical_block g old i }
     ensures inodes { (g : Sizes) (old new : Store) (i : ℕ) → Untouched g old new i → inode g new i ≡ inode g old i }
     ensures spelled { (g : Sizes) (old new : Store) (i : ℕ) → Untouched g old new i → SpellsInode g old i → SpellsInode g new i }
-    ensures uses { (g : Sizes) (old new : Store) (u : Use) → Untouched g old new u.inode → used g new u ≡ used g old u }
+    ensures uses { (g : Sizes) (old new : Store) (u : Use) → Untouched g old new u.inode → used_block g new u ≡ used_block g old u }
 {}
 
 /// What may be left of a tier, torn in a run of free blocks, differs from what is read in free blocks alone, as it did before: of the block and the slow tier wherever it

@@ -3,21 +3,21 @@ ghost use Rattle.std.specs.Prelude.{◌≡◌, ◌≢◌, Some, None, IfOk, IfEr
 ghost use Rattle.batch_journal.specs.layout.declared.error.What.TheVariants as what;
 ghost use Rattle.batch_journal.specs.layout.declared.places.TheConstants.{MARKS_BLOCK};
 ghost use Rattle.batch_journal.specs.layout.Marks.{marks_of};
-ghost use Rattle.area_image.specs.Store.{store_of, marks};
+ghost use Rattle.area_image.specs.Store.{disk, marks};
 ghost use Rattle.area_image.specs.Damage.{OnDamage, IsMarksDamage};
 ghost use Rattle.area_image.specs.Looks.{Looks};
 ghost use Rattle.area_image.specs.declared.error.AreaError.TheVariants.{Damaged, Memory};
 
+use crate::block_reads::{blank_block, read_block};
 use crate::error::AreaError;
-use crate::reading::{blank_block, read_block};
 use batch_journal::{Journal, MARKS_BLOCK, Marks, Media, Tier, What};
 
 /// The marks of the clients, and the number of digests. `Damaged` names them, where their block spells none.
 pub fn read_marks<M: Media>(journal: &mut Journal<M>) -> Result<Marks, AreaError>
-    ensures marks { IfOk result (λ m. marks (store_of (M.seen journal.old.media)) ≡ Some m) }
-    ensures damaged { IfErr result (λ e. OnDamage e (IsMarksDamage (store_of (M.seen journal.old.media)))) }
+    ensures marks { IfOk result (λ m. marks (disk M.Media journal.old) ≡ Some m) }
+    ensures damaged { IfErr result (λ e. OnDamage e (IsMarksDamage (disk M.Media journal.old))) }
     ensures only { IfErr result (λ e. e ≢ Memory) }
-    ensures looks { Looks M.moment M.seen M.left M.faults journal.old journal.new result }
+    ensures looks { Looks M.Media journal.old journal.new result }
 {
     let mut bytes = blank_block();
     read_block(journal, Tier::Fast, MARKS_BLOCK, &mut bytes)?;

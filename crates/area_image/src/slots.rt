@@ -6,13 +6,13 @@ ghost use Rattle.batch_journal.specs.layout.declared.places.TheConstants.{SLOT_S
 ghost use Rattle.batch_journal.specs.layout.declared.directory.TheConstants.{MAX_IN_BLOCK};
 ghost use Rattle.batch_journal.specs.layout.Places.{slot_block};
 ghost use Rattle.batch_journal.specs.layout.Slot.{slot_of, fits_slot};
-ghost use Rattle.area_image.specs.Store.{store_of, slot_read, root_of, space_of, length_of};
+ghost use Rattle.area_image.specs.Store.{disk, slot_read, root_of, space_of, length_of};
 ghost use Rattle.area_image.specs.Damage.{OnDamage};
 ghost use Rattle.area_image.specs.Looks.{Looks};
 ghost use Rattle.area_image.specs.declared.error.AreaError.TheVariants.{Damaged, Memory};
 
+use crate::block_reads::read_slot_bytes;
 use crate::error::AreaError;
-use crate::reading::read_slot_bytes;
 use batch_journal::{
     BLOCK, Geometry, Journal, MAX_IN_BLOCK, MAX_INODE, Media, SLOT_SIZE, Slot, Space, Tier, What,
     slot_block, slot_is_spelled,
@@ -78,7 +78,7 @@ pub fn entry_blocks(entries: u64) -> u64
     entries / MAX_IN_BLOCK as u64 + if rest == 0 { 0 } else { 1 }
 }
 
-fn blank() -> [u8; SLOT_SIZE] {
+fn blank_slot() -> [u8; SLOT_SIZE] {
     [0; SLOT_SIZE]
 }
 
@@ -86,13 +86,13 @@ fn blank() -> [u8; SLOT_SIZE] {
 pub fn read_slot<M: Media>(journal: &mut Journal<M>, inode: u32) -> Result<Slot, AreaError>
     requires low { 1 ≤ inode }
     requires high { inode ≤ MAX_INODE }
-    ensures slot { IfOk result (λ x. slot_read journal.old.geometry (store_of (M.seen journal.old.media)) inode ≡ Some x) }
+    ensures slot { IfOk result (λ x. slot_read journal.old.geometry (disk M.Media journal.old) inode ≡ Some x) }
     ensures fits { IfOk result (λ x. fits_slot journal.old.geometry x ≡ true) }
-    ensures damaged { IfErr result (λ e. OnDamage e (λ w block. (w ≡ what.Slot) × (block ≡ slot_block inode) × (slot_read journal.old.geometry (store_of (M.seen journal.old.media)) inode ≡ None))) }
+    ensures damaged { IfErr result (λ e. OnDamage e (λ w block. (w ≡ what.Slot) × (block ≡ slot_block inode) × (slot_read journal.old.geometry (disk M.Media journal.old) inode ≡ None))) }
     ensures only { IfErr result (λ e. e ≢ Memory) }
-    ensures looks { Looks M.moment M.seen M.left M.faults journal.old journal.new result }
+    ensures looks { Looks M.Media journal.old journal.new result }
 {
-    let mut bytes = blank();
+    let mut bytes = blank_slot();
     read_slot_bytes(journal, inode, &mut bytes)?;
     slot_in(&journal.geometry(), inode, &bytes)
 }

@@ -5,16 +5,16 @@ ghost use Rattle.batch_journal.specs.layout.Places.{tier_blocks};
 ghost use Rattle.batch_journal.specs.layout.declared.error.What.TheVariants as what;
 ghost use Rattle.batch_journal.specs.layout.declared.places.TheConstants.{BLOCK};
 ghost use Rattle.tree_blocks.specs.Inode.{IsZeroFrom};
-ghost use Rattle.area_image.specs.Store.{store_of, logical};
+ghost use Rattle.area_image.specs.Store.{disk, logical_block};
 ghost use Rattle.area_image.specs.Reads.{IsRoom};
 ghost use Rattle.area_image.specs.Damage.{OnDamage};
 ghost use Rattle.area_image.specs.Checks.{IsFileOfSize, HasFound, IsOnce, IsTailDamageOf};
 ghost use Rattle.area_image.specs.Looks.{Looks};
 ghost use Rattle.area_image.specs.declared.error.AreaError.TheVariants.{Damaged, Memory};
 
+use crate::block_reads::{blank_block, read_block};
 use crate::error::AreaError;
 use crate::places::first_place;
-use crate::reading::{blank_block, read_block};
 use crate::tiers::InodeExtents;
 use batch_journal::{BLOCK, Geometry, Journal, Media, Tier, What, are_zero};
 
@@ -36,10 +36,10 @@ fn read_tail<M: Media>(
 ) -> Result<(), AreaError>
     requires from { from < BLOCK }
     requires room { IsRoom journal.old.geometry tier at }
-    ensures zero { OnOk result (are_zero (drop from (store_of (M.seen journal.old.media) tier at)) ≡ true) }
-    ensures damaged { IfErr result (λ e. OnDamage e (λ w block. (w ≡ what.FileData) × (block ≡ at) × (length (store_of (M.seen journal.old.media) tier at) ≡ BLOCK) × (are_zero (drop from (store_of (M.seen journal.old.media) tier at)) ≡ false))) }
+    ensures zero { OnOk result (are_zero (drop from (disk M.Media journal.old tier at)) ≡ true) }
+    ensures damaged { IfErr result (λ e. OnDamage e (λ w block. (w ≡ what.FileData) × (block ≡ at) × (length (disk M.Media journal.old tier at) ≡ BLOCK) × (are_zero (drop from (disk M.Media journal.old tier at)) ≡ false))) }
     ensures only { IfErr result (λ e. e ≢ Memory) }
-    ensures looks { Looks M.moment M.seen M.left M.faults journal.old journal.new result }
+    ensures looks { Looks M.Media journal.old journal.new result }
 {
     let mut bytes = blank_block();
     read_block(journal, tier, at, &mut bytes)?;
@@ -67,14 +67,14 @@ pub fn check_file<M: Media>(
     found: &InodeExtents,
     size: u64,
 ) -> Result<(), AreaError>
-    requires file { IsFileOfSize journal.old.geometry (store_of (M.seen journal.old.media)) inode size }
-    requires found { HasFound journal.old.geometry (store_of (M.seen journal.old.media)) inode found.now }
-    requires once { IsOnce journal.old.geometry (store_of (M.seen journal.old.media)) inode }
+    requires file { IsFileOfSize journal.old.geometry (disk M.Media journal.old) inode size }
+    requires found { HasFound journal.old.geometry (disk M.Media journal.old) inode found.now }
+    requires once { IsOnce journal.old.geometry (disk M.Media journal.old) inode }
     requires going { journal.old.failed ≡ false }
-    ensures zero { OnOk result (IsZeroFrom size (logical journal.old.geometry (store_of (M.seen journal.old.media)) inode)) }
-    ensures damaged { IfErr result (λ e. OnDamage e (IsTailDamageOf journal.old.geometry (store_of (M.seen journal.old.media)) inode)) }
+    ensures zero { OnOk result (IsZeroFrom size (logical_block journal.old.geometry (disk M.Media journal.old) inode)) }
+    ensures damaged { IfErr result (λ e. OnDamage e (IsTailDamageOf journal.old.geometry (disk M.Media journal.old) inode)) }
     ensures only { IfErr result (λ e. e ≢ Memory) }
-    ensures looks { Looks M.moment M.seen M.left M.faults journal.old journal.new result }
+    ensures looks { Looks M.Media journal.old journal.new result }
 {
     let geometry = journal.geometry();
     let rest = (size % BLOCK as u64) as usize;

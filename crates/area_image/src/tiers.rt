@@ -2,7 +2,7 @@
 ghost use Rattle.std.specs.Prelude.{◌≡◌, true, IfOk, IfErr};
 ghost use Rattle.batch_journal.specs.tier_device.declared.media.Tier.TheVariants as tiers;
 ghost use Rattle.batch_journal.specs.layout.Slot.{fits_slot};
-ghost use Rattle.area_image.specs.Store.{store_of};
+ghost use Rattle.area_image.specs.Store.{disk};
 ghost use Rattle.area_image.specs.Damage.{OnDamage};
 ghost use Rattle.area_image.specs.Looks.{Looks};
 ghost use Rattle.area_image.specs.Map.{HasExtents, HasAllExtents, HasNoExtents, HasSomeList};
@@ -30,10 +30,10 @@ pub fn read_all_extents<M: Media>(
     slot: &Slot,
 ) -> Result<InodeExtents, AreaError>
     requires { fits_slot journal.old.geometry slot.now ≡ true }
-    ensures extents { IfOk result (HasAllExtents journal.old.geometry (store_of (M.seen journal.old.media) tiers.Fast) inode slot.now) }
-    ensures damaged { IfErr result (λ e. OnDamage e (HasNoExtents journal.old.geometry (store_of (M.seen journal.old.media) tiers.Fast) inode slot.now)) }
-    ensures memory { IfErr result (λ e. e ≡ Memory → HasSomeList journal.old.geometry (store_of (M.seen journal.old.media) tiers.Fast) slot.now) }
-    ensures looks { Looks M.moment M.seen M.left M.faults journal.old journal.new result }
+    ensures extents { IfOk result (HasAllExtents journal.old.geometry (disk M.Media journal.old tiers.Fast) inode slot.now) }
+    ensures damaged { IfErr result (λ e. OnDamage e (HasNoExtents journal.old.geometry (disk M.Media journal.old tiers.Fast) inode slot.now)) }
+    ensures memory { IfErr result (λ e. e ≡ Memory → HasSomeList journal.old.geometry (disk M.Media journal.old tiers.Fast) slot.now) }
+    ensures looks { Looks M.Media journal.old journal.new result }
 {
     match read_tiers(alloc, journal, inode, slot) {
         Ok(found) => Ok(found),
@@ -48,12 +48,12 @@ fn read_tiers<M: Media>(
     slot: &Slot,
 ) -> Result<InodeExtents, AreaError>
     requires { fits_slot journal.old.geometry slot.now ≡ true }
-    ensures fast { IfOk result (λ x. HasExtents journal.old.geometry (store_of (M.seen journal.old.media) tiers.Fast) inode slot.now tiers.Fast x.fast) }
-    ensures block { IfOk result (λ x. HasExtents journal.old.geometry (store_of (M.seen journal.old.media) tiers.Fast) inode slot.now tiers.Block x.block) }
-    ensures slow { IfOk result (λ x. HasExtents journal.old.geometry (store_of (M.seen journal.old.media) tiers.Fast) inode slot.now tiers.Slow x.slow) }
-    ensures damaged { IfErr result (λ e. OnDamage e (HasNoExtents journal.old.geometry (store_of (M.seen journal.old.media) tiers.Fast) inode slot.now)) }
-    ensures memory { IfErr result (λ e. e ≡ Memory → HasSomeList journal.old.geometry (store_of (M.seen journal.old.media) tiers.Fast) slot.now) }
-    ensures looks { Looks M.moment M.seen M.left M.faults journal.old journal.new result }
+    ensures fast { IfOk result (λ x. HasExtents journal.old.geometry (disk M.Media journal.old tiers.Fast) inode slot.now tiers.Fast x.fast) }
+    ensures block { IfOk result (λ x. HasExtents journal.old.geometry (disk M.Media journal.old tiers.Fast) inode slot.now tiers.Block x.block) }
+    ensures slow { IfOk result (λ x. HasExtents journal.old.geometry (disk M.Media journal.old tiers.Fast) inode slot.now tiers.Slow x.slow) }
+    ensures damaged { IfErr result (λ e. OnDamage e (HasNoExtents journal.old.geometry (disk M.Media journal.old tiers.Fast) inode slot.now)) }
+    ensures memory { IfErr result (λ e. e ≡ Memory → HasSomeList journal.old.geometry (disk M.Media journal.old tiers.Fast) slot.now) }
+    ensures looks { Looks M.Media journal.old journal.new result }
 {
     match read_extents(alloc, journal, inode, slot, Tier::Fast) {
         Ok(fast) => read_others(alloc, journal, inode, slot, fast),
@@ -71,11 +71,11 @@ fn read_others<M: Media>(
 ) -> Result<InodeExtents, AreaError>
     requires { fits_slot journal.old.geometry slot.now ≡ true }
     ensures fast { IfOk result (λ x. x.fast ≡ fast) }
-    ensures block { IfOk result (λ x. HasExtents journal.old.geometry (store_of (M.seen journal.old.media) tiers.Fast) inode slot.now tiers.Block x.block) }
-    ensures slow { IfOk result (λ x. HasExtents journal.old.geometry (store_of (M.seen journal.old.media) tiers.Fast) inode slot.now tiers.Slow x.slow) }
-    ensures damaged { IfErr result (λ e. OnDamage e (HasNoExtents journal.old.geometry (store_of (M.seen journal.old.media) tiers.Fast) inode slot.now)) }
-    ensures memory { IfErr result (λ e. e ≡ Memory → HasSomeList journal.old.geometry (store_of (M.seen journal.old.media) tiers.Fast) slot.now) }
-    ensures looks { Looks M.moment M.seen M.left M.faults journal.old journal.new result }
+    ensures block { IfOk result (λ x. HasExtents journal.old.geometry (disk M.Media journal.old tiers.Fast) inode slot.now tiers.Block x.block) }
+    ensures slow { IfOk result (λ x. HasExtents journal.old.geometry (disk M.Media journal.old tiers.Fast) inode slot.now tiers.Slow x.slow) }
+    ensures damaged { IfErr result (λ e. OnDamage e (HasNoExtents journal.old.geometry (disk M.Media journal.old tiers.Fast) inode slot.now)) }
+    ensures memory { IfErr result (λ e. e ≡ Memory → HasSomeList journal.old.geometry (disk M.Media journal.old tiers.Fast) slot.now) }
+    ensures looks { Looks M.Media journal.old journal.new result }
 {
     match read_extents(alloc, journal, inode, slot, Tier::Block) {
         Ok(block) => read_last(alloc, journal, inode, slot, fast, block),
@@ -95,10 +95,10 @@ fn read_last<M: Media>(
     requires { fits_slot journal.old.geometry slot.now ≡ true }
     ensures fast { IfOk result (λ x. x.fast ≡ fast) }
     ensures block { IfOk result (λ x. x.block ≡ block) }
-    ensures slow { IfOk result (λ x. HasExtents journal.old.geometry (store_of (M.seen journal.old.media) tiers.Fast) inode slot.now tiers.Slow x.slow) }
-    ensures damaged { IfErr result (λ e. OnDamage e (HasNoExtents journal.old.geometry (store_of (M.seen journal.old.media) tiers.Fast) inode slot.now)) }
-    ensures memory { IfErr result (λ e. e ≡ Memory → HasSomeList journal.old.geometry (store_of (M.seen journal.old.media) tiers.Fast) slot.now) }
-    ensures looks { Looks M.moment M.seen M.left M.faults journal.old journal.new result }
+    ensures slow { IfOk result (λ x. HasExtents journal.old.geometry (disk M.Media journal.old tiers.Fast) inode slot.now tiers.Slow x.slow) }
+    ensures damaged { IfErr result (λ e. OnDamage e (HasNoExtents journal.old.geometry (disk M.Media journal.old tiers.Fast) inode slot.now)) }
+    ensures memory { IfErr result (λ e. e ≡ Memory → HasSomeList journal.old.geometry (disk M.Media journal.old tiers.Fast) slot.now) }
+    ensures looks { Looks M.Media journal.old journal.new result }
 {
     match read_extents(alloc, journal, inode, slot, Tier::Slow) {
         Ok(slow) => Ok(InodeExtents { fast, block, slow }),

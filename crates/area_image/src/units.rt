@@ -3,7 +3,7 @@ ghost use Rattle.std.specs.Prelude.{◌≡◌, ◌<◌, ◌^◌, ℕ};
 ghost use Rattle.batch_journal.specs.layout.Places.{Sizes};
 ghost use Rattle.batch_journal.specs.file_graph.Graph.{cost};
 ghost use Rattle.area_image.specs.Store.{Store, slot, graph};
-ghost use Rattle.area_image.specs.Spelled.{SpellsInode};
+ghost use Rattle.area_image.specs.Format.{SpellsInode};
 ghost use Rattle.area_image.specs.Units.{slot_units};
 
 use crate::slots::{entry_blocks, file_blocks};
@@ -22,6 +22,6 @@ pub fn units_of(slot: &Slot) -> u64
 }
 
 /// What a sound inode costs is told by its slot.
-pub fn slots_tell_the_units()
+pub fn slots_give_the_units()
     ensures { (g : Sizes) (s : Store) (i : ℕ) → SpellsInode g s i → cost (graph g s i) ≡ slot_units (slot g s i) }
 {}

@@ -10,7 +10,7 @@ use Rattle.std.specs.BTreeMap.{get}
 use Rattle.script.specs.file_graph.Graph.{Graph, after_effect, after_effects, fresh}
 use Rattle.migrator.specs.call_effects.NodeView.{NodeView, view_at, view_after}
 use Rattle.migrator.proofs.call_effects_lemmas.NodeViews.{viewed_after}
-use Rattle.migrator.specs.record_validation.Known.{Known, known_after}
+use Rattle.migrator.specs.record_validation.KnownNodes.{Known, known_after}
 use Rattle.script.specs.log_record.declared.format.Record.{Record}
 use Rattle.script.specs.log_record.Grammar.{IsRecord}
 use Rattle.test_media.proofs.digester_lemmas.PlanRuns.{after_more}

@@ -5,10 +5,10 @@ ghost use Rattle.migrator.specs.layout.Marks.{fits_marks};
 use migrator::{ApplyError, AreaError, CLIENTS, Mark, Marks, Shared};
 use script::Media;
 use std::alloc::Global;
-use test_media::{Step, planned};
+use test_media::{Step, plan_steps};
 
 // The marks of digest so many: of one client so many records of its generation 7 are done.
-fn marked(number: u32) -> Marks
+fn digest_marks(number: u32) -> Marks
     ensures { fits_marks result ≡ true }
 {
     let none = Mark {
@@ -34,10 +34,10 @@ pub fn answer_to<M: Media>(
     steps: &[Step<'_>],
     number: u32,
 ) -> Result<Option<Result<(), ApplyError>>, AreaError> {
-    let Some(change) = planned(alloc, area, steps)? else {
+    let Some(change) = plan_steps(alloc, area, steps)? else {
         return Ok(None);
     };
-    match area.apply(&change, marked(number)) {
+    match area.apply(&change, digest_marks(number)) {
         Err(ApplyError::Memory) => Err(AreaError::Memory),
         answer => Ok(Some(answer)),
     }

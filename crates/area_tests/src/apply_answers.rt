@@ -1,12 +1,12 @@
 // A world as text, a line for each of the first six inodes: what the opened area answers of it, and what the bytes of the medium have.
 ghost use Rattle.script.specs.tier_device.declared.media.Tier.{Tier};
-ghost use Rattle.script.specs.tier_device.Media.{AtRest};
+ghost use Rattle.script.specs.tier_device.AfterStop.{AtRest};
 ghost use Rattle.script.specs.tier_device.Memory.{IsAtRest};
 
 use migrator::{AreaError, BLOCK, DirEntries, NodeCounts, SLOT_SIZE, Shared};
 use script::{DIRECTORY_KIND, Media, MemMedia, Text, Tier, u32_of};
 use std::alloc::Global;
-use test_media::opened;
+use test_media::open_medium;
 
 /// A line for each inode from 1 to 6, one of the whole, and one of the entries.
 pub type Lines = [&'static str; 8];
@@ -138,13 +138,13 @@ fn put_entries(fast: &[u8], inode: usize, out: &mut Text) {
 fn put_media<M: Media + Drop>(alloc: Global, media: M, out: &mut Text) -> Result<M, AreaError>
     requires { (t : Tier) → AtRest (M.seen media) (M.left media (M.moment media)) t }
 {
-    let mut area = opened(alloc, media)?;
+    let mut area = open_medium(alloc, media)?;
     put_area(&mut area, out)?;
     Ok(area.into_medium())
 }
 
 /// All lines of a medium.
-pub fn told(alloc: Global, media: MemMedia) -> Result<Text, AreaError>
+pub fn area_lines(alloc: Global, media: MemMedia) -> Result<Text, AreaError>
     requires { IsAtRest media }
 {
     let mut out = Text::new(alloc);

@@ -66,17 +66,17 @@ pub const ROWS: u32 = 12;
 pub fn change_at(number: u32) -> Row {
     match number {
         0 => new_file(),
-        1 => written_over(),
-        2 => appended(),
+        1 => overwrite_row(),
+        2 => append_row(),
         3 => with_hole(),
-        4 => cut(),
-        5 => cut_and_grown(),
+        4 => cut_row(),
+        5 => regrow_row(),
         6 => two_files(),
         7 => new_directory(),
-        8 => dropped(),
-        9 => made_again(),
-        10 => left(),
-        _ => swapped(),
+        8 => drop_row(),
+        9 => remake_row(),
+        10 => leave_row(),
+        _ => swap_row(),
     }
 }
 
@@ -103,7 +103,7 @@ fn new_file() -> Row {
 }
 
 // A part of a block is written over.
-fn written_over() -> Row {
+fn overwrite_row() -> Row {
     Row {
         steps: &[Bytes(3, 4_100, b'z', 10)],
         after: [
@@ -120,7 +120,7 @@ fn written_over() -> Row {
 }
 
 // A file grows behind its last byte, and by a block.
-fn appended() -> Row {
+fn append_row() -> Row {
     Row {
         steps: &[Bytes(3, 8_197, b'e', 5_000)],
         after: [
@@ -154,7 +154,7 @@ fn with_hole() -> Row {
 }
 
 // A file is cut within a block.
-fn cut() -> Row {
+fn cut_row() -> Row {
     Row {
         steps: &[Size(3, 4_100)],
         after: [
@@ -188,7 +188,7 @@ fn two_files() -> Row {
 }
 
 // A file is cut, and grown again.
-fn cut_and_grown() -> Row {
+fn regrow_row() -> Row {
     Row {
         steps: &[Size(3, 4_100), Size(3, 6_000)],
         after: [
@@ -228,7 +228,7 @@ fn new_directory() -> Row {
 }
 
 // A file goes, and with it the only entry of a directory.
-fn dropped() -> Row {
+fn drop_row() -> Row {
     Row {
         steps: &[Leave(2, b"x"), Drop(5)],
         after: [
@@ -245,7 +245,7 @@ fn dropped() -> Row {
 }
 
 // A file goes, and its number is at once that of another, with another name.
-fn made_again() -> Row {
+fn remake_row() -> Row {
     Row {
         steps: &[
             Leave(2, b"x"),
@@ -269,7 +269,7 @@ fn made_again() -> Row {
 }
 
 // An entry goes: the last one fills its place.
-fn left() -> Row {
+fn leave_row() -> Row {
     Row {
         steps: &[Leave(1, b"c"), Names(4, 1)],
         after: [
@@ -286,7 +286,7 @@ fn left() -> Row {
 }
 
 // Two entries of two directories change places.
-fn swapped() -> Row {
+fn swap_row() -> Row {
     Row {
         steps: &[Enter(1, b"a", 5, File), Enter(2, b"x", 3, File)],
         after: [

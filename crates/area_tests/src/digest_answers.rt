@@ -1,9 +1,8 @@
 // What an area tells, and what it answers to a digest.
 ghost use Rattle.std.specs.Prelude.{◌≡◌, false, IsTrue};
-ghost use Rattle.migrator.specs.area_image.Store.{store_of};
-ghost use Rattle.test_media.specs.digester.SealedLog.{IsSealed, StandsAtMark};
+ghost use Rattle.migrator.specs.area_image.Store.{disk};
+ghost use Rattle.test_media.specs.digester.SealedLog.{StandsAtMark};
 
-use crate::digested_logs::may_be_digested;
 use migrator::{AreaError, Mark, NodeCounts, Shared};
 use script::{Media, Tier};
 use std::alloc::{AllocError, Global};
@@ -45,7 +44,7 @@ pub fn mark_in<M: Media>(area: &Shared<M>) -> Mark {
 }
 
 // How many nodes there are, the entries of the root, and the names of another inode with its entries or bytes.
-fn nodes_and_numbers<M: Media>(area: &mut Shared<M>, other: u32) -> Result<[u64; 4], AreaError> {
+fn node_numbers<M: Media>(area: &mut Shared<M>, other: u32) -> Result<[u64; 4], AreaError> {
     let nodes = nodes_in(area)?;
     let root = numbers_at(area, 1)?;
     let its = numbers_at(area, other)?;
@@ -53,7 +52,7 @@ fn nodes_and_numbers<M: Media>(area: &mut Shared<M>, other: u32) -> Result<[u64;
 }
 
 // The mark of the third client, the number of digests, and what the graph costs; then the free blocks of each tier and of the node pool.
-fn marks_and_free<M: Media>(area: &Shared<M>) -> [u64; 8] {
+fn area_counts<M: Media>(area: &Shared<M>) -> [u64; 8] {
     let mark = mark_in(area);
     [
         mark.generation,
@@ -80,14 +79,14 @@ fn is_line(alloc: Global, a: [u64; 8], b: [u64; 4], wanted: &str) -> Result<bool
 }
 
 /// Whether this is told of an area, with that other inode.
-pub fn is_told<M: Media>(
+pub fn is_area_as<M: Media>(
     alloc: Global,
     area: &mut Shared<M>,
     other: u32,
     wanted: &str,
 ) -> Result<bool, AreaError> {
-    let numbers = nodes_and_numbers(area, other)?;
-    Ok(is_line(alloc, marks_and_free(area), numbers, wanted)?)
+    let numbers = node_numbers(area, other)?;
+    Ok(is_line(alloc, area_counts(area), numbers, wanted)?)
 }
 
 /// Whether 16 bytes of a file from a byte on, or those up to its end, are these.
@@ -105,19 +104,19 @@ pub fn reads<M: Media>(
 
 // Whether a log stands at its client's mark.
 fn stands<M: Media>(area: &Shared<M>, log: &SealedLog) -> bool
-    requires { IsSealed log.now }
-    ensures { IsTrue result → area.now.failed ≡ false → StandsAtMark log.now (store_of (M.seen area.now.media)) }
+    ensures { IsTrue result → area.now.failed ≡ false → StandsAtMark log.now (disk M.Media area.now) }
 {
     log.stands_at(&area.marks())
 }
 
-/// What is answered to a digest of the next chunk; none where no record of the log is left, one has no spelling, or it does not stand at the mark.
-pub fn digested<M: Media>(
+/// What is answered to a digest of the next chunk; none where no record of the log is left, or it does not stand at the mark.
+pub fn digest_next<M: Media>(
     alloc: Global,
     area: &mut Shared<M>,
     log: &mut SealedLog,
 ) -> Option<Result<(), DigestError>> {
-    if !may_be_digested(log) || !stands(area, log) {
+    log.invariant();
+    if log.is_digested() || !stands(area, log) {
         return None;
     }
     match prepare(alloc, log) {
@@ -130,7 +129,7 @@ pub fn digested<M: Media>(
 /// Digests the next 40 chunks, as far as there are so many and they are good.
 pub fn digest_all<M: Media>(alloc: Global, area: &mut Shared<M>, log: &mut SealedLog) {
     for _ in 0..40u32 {
-        if digested(alloc, area, log) != Some(Ok(())) {
+        if digest_next(alloc, area, log) != Some(Ok(())) {
             break;
         }
     }

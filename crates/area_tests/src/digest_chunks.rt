@@ -1,16 +1,16 @@
 // Logs are digested by chunks.
 ghost use Rattle.script.specs.tier_device.declared.media.Tier.{Tier};
-ghost use Rattle.script.specs.tier_device.Media.{AtRest};
+ghost use Rattle.script.specs.tier_device.AfterStop.{AtRest};
 
-use crate::digest_answers::{digested, is_told, mark_in, reads};
+use crate::digest_answers::{digest_next, is_area_as, mark_in, reads};
 use crate::digest_rows::{ROWS, Row, row_of};
-use crate::digested_logs::sealed;
+use crate::digested_logs::sealed_log;
 use crate::row_logs::{first_log, second_log};
 use migrator::{AreaError, Shared};
 use script::{Fill, Media, Record};
 use std::alloc::Global;
 use std::test::Fail;
-use test_media::{SealedLog, bare_media, opened};
+use test_media::{SealedLog, bare_media, open_medium};
 
 // Whether the next chunk is digested, and this is told then.
 fn digests<M: Media>(
@@ -20,7 +20,7 @@ fn digests<M: Media>(
     other: u32,
     line: &str,
 ) -> Result<bool, AreaError> {
-    Ok(digested(alloc, area, log) == Some(Ok(())) && is_told(alloc, area, other, line)?)
+    Ok(digest_next(alloc, area, log) == Some(Ok(())) && is_area_as(alloc, area, other, line)?)
 }
 
 // Whether a log has so many chunks, and these lines are told behind them.
@@ -36,7 +36,7 @@ fn digests_by<M: Media>(
             return Ok(false);
         }
     }
-    Ok(digested(alloc, area, log).is_none())
+    Ok(digest_next(alloc, area, log).is_none())
 }
 
 // The same of records that are sealed at the mark.
@@ -48,7 +48,9 @@ fn are_digested<M: Media>(
     lines: &[&str],
 ) -> Result<bool, AreaError> {
     let mark = mark_in(area);
-    let mut log = sealed(alloc, records, mark)?;
+    let Some(mut log) = sealed_log(alloc, records, mark)? else {
+        return Ok(false);
+    };
     digests_by(alloc, area, &mut log, other, lines)
 }
 
@@ -59,7 +61,7 @@ fn digests_row<M: Media>(
     number: u32,
 ) -> Result<bool, AreaError> {
     let row = row_of(number);
-    if !is_told(alloc, area, row.other, row.before)? {
+    if !is_area_as(alloc, area, row.other, row.before)? {
         return Ok(false);
     }
     let first = first_log(alloc, number)?;
@@ -74,7 +76,7 @@ fn digests_row<M: Media>(
 fn digest_row<M: Media + Drop>(alloc: Global, media: M, number: u32) -> Result<Option<M>, AreaError>
     requires { (t : Tier) → AtRest (M.seen media) (M.left media (M.moment media)) t }
 {
-    let mut area = opened(alloc, media)?;
+    let mut area = open_medium(alloc, media)?;
     if digests_row(alloc, &mut area, number)? {
         return Ok(Some(area.into_medium()));
     }
@@ -82,7 +84,11 @@ fn digest_row<M: Media + Drop>(alloc: Global, media: M, number: u32) -> Result<O
 }
 
 // Whether the last line of a row is told, and its bytes are read.
-fn tells_row<M: Media>(alloc: Global, area: &mut Shared<M>, row: Row) -> Result<bool, AreaError> {
+fn has_row_line<M: Media>(
+    alloc: Global,
+    area: &mut Shared<M>,
+    row: Row,
+) -> Result<bool, AreaError> {
     let lines = if row.second.is_empty() {
         row.first
     } else {
@@ -93,14 +99,14 @@ fn tells_row<M: Media>(alloc: Global, area: &mut Shared<M>, row: Row) -> Result<
             return Ok(false);
         }
     }
-    is_told(alloc, area, row.other, lines.last().copied().unwrap_or(""))
+    is_area_as(alloc, area, row.other, lines.last().copied().unwrap_or(""))
 }
 
-fn tells_again<M: Media + Drop>(alloc: Global, media: M, number: u32) -> Result<bool, AreaError>
+fn keeps_digest<M: Media + Drop>(alloc: Global, media: M, number: u32) -> Result<bool, AreaError>
     requires { (t : Tier) → AtRest (M.seen media) (M.left media (M.moment media)) t }
 {
-    let mut area = opened(alloc, media)?;
-    tells_row(alloc, &mut area, row_of(number))
+    let mut area = open_medium(alloc, media)?;
+    has_row_line(alloc, &mut area, row_of(number))
 }
 
 // Whether a row holds, and the media tell the last of it once they are opened again.
@@ -109,7 +115,7 @@ fn row_holds(alloc: Global, number: u32) -> Result<bool, AreaError> {
     match digest_row(alloc, bare, number)? {
         Some(media) => {
             let rest = media.after_stop(Fill::Byte(0xa5))?;
-            tells_again(alloc, rest, number)
+            keeps_digest(alloc, rest, number)
         }
         None => Ok(false),
     }

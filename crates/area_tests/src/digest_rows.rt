@@ -90,7 +90,7 @@ fn cuts_count() -> Row {
 }
 
 // 300 records write within the two blocks of a file, and 50 more within the same.
-fn written_over() -> Row {
+fn overwrite_row() -> Row {
     Row {
         sizes: SIZES,
         other: 2,
@@ -138,7 +138,7 @@ fn cut_later() -> Row {
 }
 
 // A file goes, and a directory is made at its inode, in the chunk that makes the file; then that goes, and a file is made there.
-fn made_again() -> Row {
+fn remake_row() -> Row {
     Row {
         sizes: SIZES,
         other: 2,
@@ -194,10 +194,10 @@ pub fn row_of(number: u32) -> Row {
         1 => most_images(),
         2 => most_blocks(),
         3 => cuts_count(),
-        4 => written_over(),
+        4 => overwrite_row(),
         5 => cut_at_once(),
         6 => cut_later(),
-        7 => made_again(),
+        7 => remake_row(),
         8 => file_again(),
         _ => just_good(),
     }

@@ -1,14 +1,14 @@
 // Logs that are sealed.
 ghost use Rattle.std.specs.Prelude.{IsTrue};
-ghost use Rattle.test_media.specs.digester.SealedLog.{IsSealed};
+ghost use Rattle.std.specs.List.Sorted.{IsStrictlyIncreasing};
 
-use crate::made_logs::{BLOCK, made, mkdir, one};
-use migrator::{CLIENTS, Mark};
+use crate::made_logs::{BLOCK, make_record, mkdir, one};
+use migrator::Mark;
 use script::Kind::File;
 use script::Record;
 use std::alloc::{AllocError, Global};
 use test_media::Step::{Bytes, Enter};
-use test_media::{SealedLog, Step, are_rising, are_spelled};
+use test_media::{SealedLog, Step, are_spelled};
 
 /// So many calls of `mkdir`, which make the inodes from 2 on.
 pub fn directories(alloc: Global, count: u32) -> Result<Vec<Record>, AllocError> {
@@ -26,7 +26,7 @@ pub fn add_file(
     inode: u32,
     blocks: u32,
 ) -> Result<(), AllocError> {
-    records.push(made(alloc, inode, File)?)?;
+    records.push(make_record(alloc, inode, File)?)?;
     for block in 0..blocks {
         let at = block as u64 * BLOCK;
         records.push(one(alloc, 1, Bytes(inode, at, b'd', 1))?)?;
@@ -65,28 +65,35 @@ pub fn long_name_of(number: u32) -> [u8; 3] {
     ]
 }
 
-/// The log of the third client, which stands at this mark. It holds the inodes up to 99 for writing.
-pub fn sealed(alloc: Global, records: Vec<Record>, mark: Mark) -> Result<SealedLog, AllocError> {
+// Whether inodes are listed rising, each once.
+fn rise(inodes: &[u32]) -> bool
+    ensures { IsTrue result → IsStrictlyIncreasing inodes.now }
+{
+    for place in 0..inodes.len() {
+        if place + 1 < inodes.len() && inodes[place + 1] <= inodes[place] {
+            return false;
+        }
+    }
+    true
+}
+
+/// The log of the third client, which stands at this mark; none where a record has no spelling, or the mark is past them. It holds the inodes up to 99 for writing.
+pub fn sealed_log(
+    alloc: Global,
+    records: Vec<Record>,
+    mark: Mark,
+) -> Result<Option<SealedLog>, AllocError> {
     let mut held = Vec::new(alloc);
     for inode in 1u32..100 {
         held.push(inode)?;
     }
-    Ok(SealedLog {
-        client: 2,
-        generation: mark.generation,
-        done: mark.done,
-        held,
-        records,
-    })
-}
-
-/// Whether records of the log are left to be digested, and each has a spelling.
-pub fn may_be_digested(sealed: &SealedLog) -> bool
-    ensures { IsTrue result → IsSealed sealed.now }
-{
-    let total = sealed.records.len();
-    if sealed.client >= CLIENTS || sealed.done as usize >= total || total > u32::MAX as usize {
-        return false;
+    let total = records.len();
+    if total > u32::MAX as usize || mark.done as usize > total {
+        return Ok(None);
     }
-    are_rising(&sealed.held) && are_spelled(&sealed.records)
+    if !rise(&held) || !are_spelled(&records) {
+        return Ok(None);
+    }
+    let log = SealedLog::resume(3, mark.generation, held, records, mark.done);
+    Ok(Some(log))
 }

@@ -11,7 +11,7 @@ use test_media::{bare_media, same_bytes};
 const MAKING: &[Step<'static>] = &[Make(2, File), Make(3, File), Make(4, File)];
 
 // Behind these steps, all bytes of three files, which have 518 blocks: two have as many as a file may have.
-fn filling(
+fn fill_steps(
     alloc: Global,
     first: &[Step<'static>],
     byte: u8,
@@ -26,13 +26,13 @@ fn filling(
 }
 
 // The media of the files, and what comes of writing each block of them anew: all blocks have to be free that they want.
-fn rewritten(
+fn rewrite_blocks(
     alloc: Global,
     sizes: [u32; 4],
 ) -> Result<(Answered<MemMedia>, Answered<MemMedia>), AreaError> {
-    let steps = filling(alloc, MAKING, b'p')?;
+    let steps = fill_steps(alloc, MAKING, b'p')?;
     let made = change_of(alloc, bare_media(alloc, sizes)?, &steps, 1)?;
-    let steps = filling(alloc, &[], b'q')?;
+    let steps = fill_steps(alloc, &[], b'q')?;
     let again = change_of(alloc, made.media.after_stop(Fill::Byte(0xa5))?, &steps, 2)?;
     Ok((made, again))
 }
@@ -40,7 +40,7 @@ fn rewritten(
 // One fewer is free, and nothing changes.
 #[test]
 fn change_without_room_changes_nothing(rt: HostRuntime) -> Result<(), Fail> {
-    let (made, again) = rewritten(rt.alloc(), [522, 3, 515, 517])?;
+    let (made, again) = rewrite_blocks(rt.alloc(), [522, 3, 515, 517])?;
     assert!(rt; made.answer == Some(Ok(())));
     assert!(rt; again.answer == Some(Err(ApplyError::NoBlock)));
     assert!(rt; again.live.as_str() == made.live.as_str());
@@ -51,7 +51,7 @@ fn change_without_room_changes_nothing(rt: HostRuntime) -> Result<(), Fail> {
 // As many are free as it wants: those in front of the slow tier go first.
 #[test]
 fn change_takes_all_free_blocks(rt: HostRuntime) -> Result<(), Fail> {
-    let (made, again) = rewritten(rt.alloc(), [522, 3, 516, 517])?;
+    let (made, again) = rewrite_blocks(rt.alloc(), [522, 3, 516, 517])?;
     let before =
         "4 file 0 24576 70x12288 bbbbbb t1\n5 none\n6 none\ncharge 522 free 0 1 517 4112 digests 1 mark 7:1\n";
     let after =

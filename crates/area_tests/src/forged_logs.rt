@@ -1,10 +1,10 @@
 // Records that no client logs: the first bad one is told by its place in the region, and nothing changes. One that has no spelling stands in no log, and is not asked for.
 ghost use Rattle.script.specs.tier_device.declared.media.Tier.{Tier};
-ghost use Rattle.script.specs.tier_device.Media.{AtRest};
+ghost use Rattle.script.specs.tier_device.AfterStop.{AtRest};
 
-use crate::digest_answers::{digest_all, digested, is_told, mark_in};
+use crate::digest_answers::{digest_all, digest_next, is_area_as, mark_in};
 use crate::digest_rows::{BARE, SIZES};
-use crate::digested_logs::{directories, entries, long_name_of, sealed};
+use crate::digested_logs::{directories, entries, long_name_of, sealed_log};
 use crate::made_logs::{file, mkdir, one};
 use migrator::{AreaError, Shared};
 use script::Kind::{Directory, File};
@@ -12,7 +12,7 @@ use script::{Fill, Media, Record};
 use std::alloc::{AllocError, Global};
 use std::test::Fail;
 use test_media::Step::{Bytes, Enter, Leave, Make, Names, Size};
-use test_media::{DigestError, SealedLog, Step, bare_media, opened, record_of, same_bytes};
+use test_media::{DigestError, SealedLog, Step, bare_media, open_medium, record_of, same_bytes};
 
 // What stands before forged logs, as it is told with inode 2, and the numbers of these logs.
 #[derive(Clone, Copy)]
@@ -69,7 +69,7 @@ fn bad_place(number: u32) -> Option<usize> {
     }
 }
 
-fn forged(alloc: Global, number: u32) -> Result<Vec<Record>, AllocError> {
+fn forged_records(alloc: Global, number: u32) -> Result<Vec<Record>, AllocError> {
     match number {
         18 => too_many_entries(alloc),
         19 => behind_a_chunk(alloc),
@@ -90,7 +90,7 @@ fn on_another(number: u32) -> Step<'static> {
 }
 
 // A record whose units do not pay for what it raises: a block, by a byte and by a size, a node, a node and its first entry, a node where another one goes, and a block and a node.
-fn unpaid(alloc: Global, number: u32) -> Result<Record, AllocError> {
+fn unpaid_record(alloc: Global, number: u32) -> Result<Record, AllocError> {
     match number {
         7 => one(alloc, 0, Bytes(2, 8_192, b'x', 1)),
         8 => one(alloc, 0, Size(2, 8_193)),
@@ -102,7 +102,7 @@ fn unpaid(alloc: Global, number: u32) -> Result<Record, AllocError> {
 }
 
 // A record past a limit of the format: a count of names, a size, the end of a write, an inode.
-fn unspelled(alloc: Global, number: u32) -> Result<Record, AllocError> {
+fn unspelled_record(alloc: Global, number: u32) -> Result<Record, AllocError> {
     match number {
         14 => one(alloc, 0, Names(2, 1_001)),
         15 => one(alloc, 300, Size(2, 1_048_577)),
@@ -116,10 +116,10 @@ fn bad_record(alloc: Global, number: u32) -> Result<Record, AllocError> {
     match number {
         0 => mkdir(alloc, 100),
         1..=6 => one(alloc, 9, on_another(number)),
-        7..=12 => unpaid(alloc, number),
+        7..=12 => unpaid_record(alloc, number),
         // A unit more than there are; its own units pay for it.
         13 => one(alloc, 200, Size(2, 249_857)),
-        _ => unspelled(alloc, number),
+        _ => unspelled_record(alloc, number),
     }
 }
 
@@ -157,16 +157,17 @@ fn prepare_world<M: Media>(
     world: u32,
 ) -> Result<(), AreaError> {
     let mark = mark_in(area);
-    let mut log = sealed(alloc, log_before(alloc, world)?, mark)?;
-    digest_all(alloc, area, &mut log);
+    if let Some(mut log) = sealed_log(alloc, log_before(alloc, world)?, mark)? {
+        digest_all(alloc, area, &mut log);
+    }
     Ok(())
 }
 
 // The medium of a world.
-fn prepared<M: Media + Drop>(alloc: Global, media: M, world: u32) -> Result<M, AreaError>
+fn prepare_medium<M: Media + Drop>(alloc: Global, media: M, world: u32) -> Result<M, AreaError>
     requires { (t : Tier) → AtRest (M.seen media) (M.left media (M.moment media)) t }
 {
-    let mut area = opened(alloc, media)?;
+    let mut area = open_medium(alloc, media)?;
     prepare_world(alloc, &mut area, world)?;
     Ok(area.into_medium())
 }
@@ -178,7 +179,7 @@ fn is_refused<M: Media>(
     log: &mut SealedLog,
     bad: Option<usize>,
 ) -> bool {
-    match digested(alloc, area, log) {
+    match digest_next(alloc, area, log) {
         Some(Err(DigestError::BadLog { place })) => bad == Some(place),
         Some(_) => false,
         None => bad.is_none(),
@@ -188,9 +189,11 @@ fn is_refused<M: Media>(
 // Whether a forged log, from the mark on, is refused as it is to be, and stays.
 fn refuses<M: Media>(alloc: Global, area: &mut Shared<M>, number: u32) -> Result<bool, AreaError> {
     let mark = mark_in(area);
-    let mut log = sealed(alloc, forged(alloc, number)?, mark)?;
+    let Some(mut log) = sealed_log(alloc, forged_records(alloc, number)?, mark)? else {
+        return Ok(bad_place(number).is_none());
+    };
     let is = is_refused(alloc, area, &mut log, bad_place(number));
-    Ok(is && log.generation == mark.generation && log.done == mark.done)
+    Ok(is && log.generation() == mark.generation && log.digested_count() == mark.done)
 }
 
 // The number behind the last log of a world that is refused, with nothing else told then.
@@ -200,7 +203,7 @@ fn refuses_up_to<M: Media>(
     world: &World,
 ) -> Result<u32, AreaError> {
     for number in world.first..world.end {
-        if !refuses(alloc, area, number)? || !is_told(alloc, area, 2, world.line)? {
+        if !refuses(alloc, area, number)? || !is_area_as(alloc, area, 2, world.line)? {
             return Ok(number);
         }
     }
@@ -208,20 +211,24 @@ fn refuses_up_to<M: Media>(
 }
 
 // The medium after the logs of a world, with that number.
-fn refused<M: Media + Drop>(alloc: Global, media: M, world: &World) -> Result<(M, u32), AreaError>
+fn refuse_logs<M: Media + Drop>(
+    alloc: Global,
+    media: M,
+    world: &World,
+) -> Result<(M, u32), AreaError>
     requires { (t : Tier) → AtRest (M.seen media) (M.left media (M.moment media)) t }
 {
-    let mut area = opened(alloc, media)?;
+    let mut area = open_medium(alloc, media)?;
     let end = refuses_up_to(alloc, &mut area, world)?;
     Ok((area.into_medium(), end))
 }
 
 // The same where each byte of the media is as it was; else none.
-fn refused_in(alloc: Global, world: &World) -> Result<Option<u32>, AreaError> {
+fn refuse_logs_in(alloc: Global, world: &World) -> Result<Option<u32>, AreaError> {
     let bare = bare_media(alloc, world.sizes)?;
-    let fresh = prepared(alloc, bare, world.number)?;
+    let fresh = prepare_medium(alloc, bare, world.number)?;
     let media = fresh.after_stop(Fill::Old)?;
-    let (media, end) = refused(alloc, media, world)?;
+    let (media, end) = refuse_logs(alloc, media, world)?;
     if same_bytes(&media, &fresh) {
         Ok(Some(end))
     } else {
@@ -230,9 +237,9 @@ fn refused_in(alloc: Global, world: &World) -> Result<Option<u32>, AreaError> {
 }
 
 #[test]
-fn a_bad_record_is_told_and_nothing_changes(rt: HostRuntime) -> Result<(), Fail> {
+fn a_bad_record_is_reported_and_nothing_changes(rt: HostRuntime) -> Result<(), Fail> {
     for world in worlds() {
-        let end = refused_in(rt.alloc(), &world)?;
+        let end = refuse_logs_in(rt.alloc(), &world)?;
         assert_eq!(rt; end, Some(world.end));
     }
     Ok(())

@@ -1,17 +1,17 @@
 // Changes over sound media.
 ghost use Rattle.std.specs.Prelude.{IfOk};
 ghost use Rattle.script.specs.tier_device.declared.media.Tier.{Tier};
-ghost use Rattle.script.specs.tier_device.Media.{AtRest};
+ghost use Rattle.script.specs.tier_device.AfterStop.{AtRest};
 ghost use Rattle.script.specs.tier_device.Memory.{IsAtRest};
 
 use crate::applied_changes::answer_to;
-use crate::apply_answers::{Lines, has_lines, put_area, told};
+use crate::apply_answers::{Lines, area_lines, has_lines, put_area};
 use crate::change_rows::{MAKING, ROWS, Row, SIZES, WORLD, change_at};
 use migrator::{ApplyError, AreaError, Shared};
 use script::{Fill, Media, MemMedia, Text};
 use std::alloc::Global;
 use std::test::Fail;
-use test_media::{Step, bare_media, opened};
+use test_media::{Step, bare_media, open_medium};
 
 /// What is answered to a change, what the area tells behind it, and the medium beneath. No answer where the steps come to no change.
 #[derive(Drop)]
@@ -22,17 +22,17 @@ pub struct Answered<M> {
 }
 
 // What is answered to a change over an opened area, and what the area tells then.
-fn answer_and_lines<M: Media + Drop>(
+fn apply_steps<M: Media + Drop>(
     alloc: Global,
     area: &mut Shared<M>,
     steps: &[Step<'_>],
     number: u32,
 ) -> Result<(Option<Result<(), ApplyError>>, Text), AreaError> {
     let answer = answer_to(alloc, area, steps, number)?;
-    Ok((answer, live(alloc, area)?))
+    Ok((answer, opened_lines(alloc, area)?))
 }
 
-fn live<M: Media + Drop>(alloc: Global, area: &mut Shared<M>) -> Result<Text, AreaError> {
+fn opened_lines<M: Media + Drop>(alloc: Global, area: &mut Shared<M>) -> Result<Text, AreaError> {
     let mut live = Text::new(alloc);
     put_area(area, &mut live)?;
     Ok(live)
@@ -47,8 +47,8 @@ pub fn change_of<M: Media + Drop>(
 ) -> Result<Answered<M>, AreaError>
     requires { (t : Tier) → AtRest (M.seen media) (M.left media (M.moment media)) t }
 {
-    let mut area = opened(alloc, media)?;
-    let (answer, live) = answer_and_lines(alloc, &mut area, steps, number)?;
+    let mut area = open_medium(alloc, media)?;
+    let (answer, live) = apply_steps(alloc, &mut area, steps, number)?;
     Ok(Answered {
         answer,
         live,
@@ -57,11 +57,11 @@ pub fn change_of<M: Media + Drop>(
 }
 
 // Whether a change was made, and the area told these lines then, and tells them again once it is opened anew.
-fn is_told(alloc: Global, made: &Answered<MemMedia>, after: &Lines) -> Result<bool, AreaError> {
+fn shows_lines(alloc: Global, made: &Answered<MemMedia>, after: &Lines) -> Result<bool, AreaError> {
     if made.answer != Some(Ok(())) || !has_lines(made.live.as_str(), &after[..7]) {
         return Ok(false);
     }
-    let again = told(alloc, made.media.after_stop(Fill::Byte(0xa5))?)?;
+    let again = area_lines(alloc, made.media.after_stop(Fill::Byte(0xa5))?)?;
     Ok(has_lines(again.as_str(), after))
 }
 
@@ -76,7 +76,7 @@ fn is_made(
     requires { IsAtRest media }
 {
     let made = change_of(alloc, media, steps, number)?;
-    is_told(alloc, &made, after)
+    shows_lines(alloc, &made, after)
 }
 
 /// The medium of the world, at rest.

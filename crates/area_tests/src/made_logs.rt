@@ -28,7 +28,7 @@ pub fn one(alloc: Global, units: u32, step: Step<'_>) -> Result<Record, AllocErr
 }
 
 /// A node that is made under the root, without entries or bytes.
-pub fn made(alloc: Global, inode: u32, kind: Kind) -> Result<Record, AllocError> {
+pub fn make_record(alloc: Global, inode: u32, kind: Kind) -> Result<Record, AllocError> {
     let name = name_of(inode);
     let steps = [
         Make(inode, kind),
@@ -40,7 +40,7 @@ pub fn made(alloc: Global, inode: u32, kind: Kind) -> Result<Record, AllocError>
 
 /// What `mkdir` logs under the root.
 pub fn mkdir(alloc: Global, inode: u32) -> Result<Record, AllocError> {
-    made(alloc, inode, Directory)
+    make_record(alloc, inode, Directory)
 }
 
 /// A file of so many bytes that is made under the root, and pays so many units for them.
@@ -58,7 +58,7 @@ pub fn file(alloc: Global, inode: u32, count: usize, units: u32) -> Result<Recor
 }
 
 /// The one name of a node is taken out of the root, and the node goes.
-pub fn dropped(alloc: Global, inode: u32) -> Result<Record, AllocError> {
+pub fn drop_record(alloc: Global, inode: u32) -> Result<Record, AllocError> {
     let name = name_of(inode);
     record_of(alloc, 0, &[Leave(1, &name), Step::Drop(inode)])
 }

@@ -28,7 +28,7 @@ fn read<M: Media>(
 }
 
 /// What the files hold.
-pub fn held<M: Media>(alloc: Global, area: &mut Shared<M>) -> Result<Held, AreaError> {
+pub fn read_files<M: Media>(alloc: Global, area: &mut Shared<M>) -> Result<Held, AreaError> {
     let mut bytes = vec![in alloc; 0u8; 15 * BLOCK]?;
     let mut numbers = [0u64; 7];
     read(area, &mut bytes, &mut numbers)?;

@@ -1,13 +1,13 @@
 // The files go down one after the other, as they are picked, until no block is left on the tier or none is free below.
 ghost use Rattle.script.specs.tier_device.declared.media.Tier.{Tier};
-ghost use Rattle.script.specs.tier_device.Media.{AtRest};
+ghost use Rattle.script.specs.tier_device.AfterStop.{AtRest};
 
-use crate::migration_answers::{held, migrate_run, tiers};
+use crate::migration_answers::{migrate_run, read_files, tiers};
 use migrator::{AreaError, FileRun, RelocateError, Run, Shared, pick};
 use script::{Fill, Media, Tier};
 use std::alloc::Global;
 use std::test::Fail;
-use test_media::{World, opened, same_bytes};
+use test_media::{World, open_medium, same_bytes};
 
 const fn file(inode: u32, first: u32, count: u32) -> FileRun {
     FileRun {
@@ -17,14 +17,14 @@ const fn file(inode: u32, first: u32, count: u32) -> FileRun {
 }
 
 // Of the two files that were touched first the one with the lesser inode, its first run before its second.
-fn picked() -> [FileRun; 4] {
+fn expected_runs() -> [FileRun; 4] {
     [file(3, 1, 2), file(3, 4, 1), file(4, 0, 1), file(2, 0, 1)]
 }
 
 // Whether the files are picked in this order and go down, with nothing changed but where they lie.
 fn go_down<M: Media>(alloc: Global, area: &mut Shared<M>) -> Result<bool, AreaError> {
-    let before = held(alloc, area)?;
-    for next in picked() {
+    let before = read_files(alloc, area)?;
+    for next in expected_runs() {
         if pick(area, Tier::Block)? != Some(next)
             || migrate_run(area, next, Tier::Block) != Ok(())
         {
@@ -32,7 +32,7 @@ fn go_down<M: Media>(alloc: Global, area: &mut Shared<M>) -> Result<bool, AreaEr
         }
     }
     let none = pick(area, Tier::Block)?.is_none() && pick(area, Tier::Fast)?.is_none();
-    Ok(none && held(alloc, area)? == before)
+    Ok(none && read_files(alloc, area)? == before)
 }
 
 // Whether all blocks that there are lie on the block tier, those of the coldest file as one run, for which the slow tier has too few.
@@ -46,10 +46,10 @@ fn lie_below<M: Media>(area: &mut Shared<M>) -> Result<bool, AreaError> {
 }
 
 // The medium once the files are down; none where one of them is not moved as it is to be.
-fn down<M: Media + Drop>(alloc: Global, media: M) -> Result<Option<M>, AreaError>
+fn migrate_files<M: Media + Drop>(alloc: Global, media: M) -> Result<Option<M>, AreaError>
     requires { (t : Tier) → AtRest (M.seen media) (M.left media (M.moment media)) t }
 {
-    let mut area = opened(alloc, media)?;
+    let mut area = open_medium(alloc, media)?;
     if go_down(alloc, &mut area)? && lie_below(&mut area)? {
         return Ok(Some(area.into_medium()));
     }
@@ -59,14 +59,14 @@ fn down<M: Media + Drop>(alloc: Global, media: M) -> Result<Option<M>, AreaError
 fn are_down<M: Media + Drop>(alloc: Global, media: M) -> Result<bool, AreaError>
     requires { (t : Tier) → AtRest (M.seen media) (M.left media (M.moment media)) t }
 {
-    let mut area = opened(alloc, media)?;
+    let mut area = open_medium(alloc, media)?;
     lie_below(&mut area)
 }
 
 // What is in memory is what the media tell once they are opened again.
 fn go_down_for_good(alloc: Global) -> Result<bool, AreaError> {
     let media = World::with_cold_files(alloc)?.into_media(alloc)?;
-    match down(alloc, media)? {
+    match migrate_files(alloc, media)? {
         Some(media) => {
             let rest = media.after_stop(Fill::Byte(0xa5))?;
             are_down(alloc, rest)
@@ -97,10 +97,10 @@ fn refused_rows() -> [(FileRun, Tier, RelocateError); 7] {
 }
 
 // The medium after all of these; none where one is not refused so.
-fn refused<M: Media + Drop>(alloc: Global, media: M) -> Result<Option<M>, AreaError>
+fn refuse_migrations<M: Media + Drop>(alloc: Global, media: M) -> Result<Option<M>, AreaError>
     requires { (t : Tier) → AtRest (M.seen media) (M.left media (M.moment media)) t }
 {
-    let mut area = opened(alloc, media)?;
+    let mut area = open_medium(alloc, media)?;
     for (run, to, error) in refused_rows() {
         if migrate_run(&mut area, run, to) != Err(error) {
             return Ok(None);
@@ -113,7 +113,7 @@ fn refused<M: Media + Drop>(alloc: Global, media: M) -> Result<Option<M>, AreaEr
 fn refusals_change_nothing(alloc: Global) -> Result<bool, AreaError> {
     let fresh = World::with_cold_files(alloc)?.into_media(alloc)?;
     let media = fresh.after_stop(Fill::Old)?;
-    match refused(alloc, media)? {
+    match refuse_migrations(alloc, media)? {
         Some(media) => Ok(same_bytes(&media, &fresh)),
         None => Ok(false),
     }

@@ -30,7 +30,7 @@ fn byte(alloc: Global, inode: u32, at: u64) -> Result<Effect, AllocError> {
 }
 
 // A node that is made under a name of the root.
-fn made(alloc: Global, inode: u32, kind: Kind, units: u32) -> Result<Record, AllocError> {
+fn new_node(alloc: Global, inode: u32, kind: Kind, units: u32) -> Result<Record, AllocError> {
     let mut effects = Vec::new(alloc);
     effects.push(Effect::Make { inode, kind })?;
     effects.push(Effect::Enter {
@@ -51,7 +51,7 @@ fn directories(alloc: Global, count: u32, unpaid: u32) -> Result<Vec<Record>, Al
     let mut records = Vec::new(alloc);
     for number in 0..count {
         let units = if number == unpaid { 0 } else { 1 };
-        records.push(made(alloc, number % 1_000 + 3, Kind::Directory, units)?)?;
+        records.push(new_node(alloc, number % 1_000 + 3, Kind::Directory, units)?)?;
     }
     Ok(records)
 }
@@ -86,12 +86,12 @@ fn are_spelled(records: &[Record]) -> bool
 }
 
 // What is planned: how many records, of how many inodes, with which charge; or the place of a bad one, over inodes 1 to 99.
-fn planned(
+fn plan_records(
     alloc: Global,
     capacity: u64,
     records: &[Record],
 ) -> Result<(usize, usize, u64), AllocError> {
-    let Some(mut nodes) = Replayed::new(alloc, made(alloc, 2, Kind::File, 0)?)? else {
+    let Some(mut nodes) = Replayed::new(alloc, new_node(alloc, 2, Kind::File, 0)?)? else {
         return Err(AllocError);
     };
     let next = next_run(alloc, records)?;
@@ -115,17 +115,17 @@ fn planned(
 fn writes_are_one_change(rt: HostRuntime) -> Result<(), Fail> {
     let alloc = rt.alloc();
     // The root has a name, and the file none of its 4,096 bytes: 3 units.
-    assert_eq!(rt; planned(alloc, 9, &[])?, (0, 0, 3));
+    assert_eq!(rt; plan_records(alloc, 9, &[])?, (0, 0, 3));
     let mut records = Vec::new(alloc);
     records.push(write(alloc, 0, 1)?)?;
     records.push(write(alloc, 4_095, 0)?)?;
     records.push(write(alloc, 8_191, 1)?)?;
-    assert_eq!(rt; planned(alloc, 5, &records)?, (3, 1, 5));
+    assert_eq!(rt; plan_records(alloc, 5, &records)?, (3, 1, 5));
     Ok(())
 }
 
 #[test]
-fn the_first_bad_record_is_told(rt: HostRuntime) -> Result<(), Fail> {
+fn the_first_bad_record_is_reported(rt: HostRuntime) -> Result<(), Fail> {
     let alloc = rt.alloc();
     // Each is bad over the graph as those before it leave it: the second raises nothing by itself, the third has too few units.
     let mut records = Vec::new(alloc);
@@ -133,12 +133,12 @@ fn the_first_bad_record_is_told(rt: HostRuntime) -> Result<(), Fail> {
     records.push(write(alloc, 9, 0)?)?;
     records.push(write(alloc, 8_192, 1)?)?;
     records.push(write(alloc, 8_192, 0)?)?;
-    assert_eq!(rt; planned(alloc, 9, &records)?, (2, 0, 0));
+    assert_eq!(rt; plan_records(alloc, 9, &records)?, (2, 0, 0));
     assert_eq!(rt;
-        planned(alloc, 9, records.get(1..).unwrap_or(&[]))?,
+        plan_records(alloc, 9, records.get(1..).unwrap_or(&[]))?,
         (0, 0, 0)
     );
-    assert_eq!(rt; planned(alloc, 3, &records)?, (0, 0, 0));
+    assert_eq!(rt; plan_records(alloc, 3, &records)?, (0, 0, 0));
     Ok(())
 }
 
@@ -146,17 +146,17 @@ fn the_first_bad_record_is_told(rt: HostRuntime) -> Result<(), Fail> {
 fn what_is_behind_the_chunk_is_not_tested(rt: HostRuntime) -> Result<(), Fail> {
     let alloc = rt.alloc();
     let records = directories(alloc, 42, 41)?;
-    assert_eq!(rt; planned(alloc, 100, &records)?, (41, 42, 44));
+    assert_eq!(rt; plan_records(alloc, 100, &records)?, (41, 42, 44));
     assert_eq!(rt;
-        planned(alloc, 100, records.get(41..).unwrap_or(&[]))?,
+        plan_records(alloc, 100, records.get(41..).unwrap_or(&[]))?,
         (0, 0, 0)
     );
     let records = directories(alloc, 42, 40)?;
-    assert_eq!(rt; planned(alloc, 100, &records)?, (40, 0, 0));
+    assert_eq!(rt; plan_records(alloc, 100, &records)?, (40, 0, 0));
     // The last one that the units allow.
     let records = directories(alloc, 42, 99)?;
-    assert_eq!(rt; planned(alloc, 44, &records)?, (41, 42, 44));
-    assert_eq!(rt; planned(alloc, 43, &records)?, (40, 0, 0));
+    assert_eq!(rt; plan_records(alloc, 44, &records)?, (41, 42, 44));
+    assert_eq!(rt; plan_records(alloc, 43, &records)?, (40, 0, 0));
     Ok(())
 }
 
@@ -164,7 +164,7 @@ fn what_is_behind_the_chunk_is_not_tested(rt: HostRuntime) -> Result<(), Fail> {
 fn a_record_that_is_not_held_is_bad(rt: HostRuntime) -> Result<(), Fail> {
     let alloc = rt.alloc();
     let mut records = directories(alloc, 3, 99)?;
-    records.push(made(alloc, 100, Kind::File, 1)?)?;
-    assert_eq!(rt; planned(alloc, 100, &records)?, (3, 0, 0));
+    records.push(new_node(alloc, 100, Kind::File, 1)?)?;
+    assert_eq!(rt; plan_records(alloc, 100, &records)?, (3, 0, 0));
     Ok(())
 }

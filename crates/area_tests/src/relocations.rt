@@ -1,14 +1,14 @@
 // Runs of a file go to slower tiers.
 ghost use Rattle.std.specs.Prelude.{IfOk};
 ghost use Rattle.script.specs.tier_device.declared.media.Tier.{Tier};
-ghost use Rattle.script.specs.tier_device.Media.{AtRest};
+ghost use Rattle.script.specs.tier_device.AfterStop.{AtRest};
 ghost use Rattle.script.specs.tier_device.Memory.{IsAtRest};
 
 use migrator::{AreaError, BLOCK, NodeCounts, RelocateError, Shared};
 use script::{Fill, Media, MemMedia, Tier};
 use std::alloc::{AllocError, Global};
 use std::test::Fail;
-use test_media::{LONG_SIZE, SIZE, World, opened, same_bytes, tells_the_root};
+use test_media::{LONG_SIZE, SIZE, World, has_small_root, open_medium, same_bytes};
 
 const FAST: Option<Tier> = Some(Tier::Fast);
 
@@ -125,7 +125,7 @@ fn has_sizes<M: Media + Drop>(area: &mut Shared<M>, shape: Shape) -> Result<bool
 }
 
 fn spells_the_same<M: Media + Drop>(area: &mut Shared<M>, shape: Shape) -> Result<bool, AreaError> {
-    Ok(tells_the_root(area)? && has_sizes(area, shape)? && has_bytes(area, shape)?)
+    Ok(has_small_root(area)? && has_sizes(area, shape)? && has_bytes(area, shape)?)
 }
 
 fn tiers_of<M: Media>(area: &mut Shared<M>) -> Result<Tiers, AreaError> {
@@ -153,7 +153,7 @@ fn free_of<M: Media>(area: &Shared<M>) -> [u32; 4] {
 }
 
 // Where the file's blocks lie, and how many blocks are free; none where it spells another graph or other marks.
-fn told_of<M: Media + Drop>(
+fn file_state<M: Media + Drop>(
     area: &mut Shared<M>,
     shape: Shape,
 ) -> Result<Option<(Tiers, [u32; 4])>, AreaError> {
@@ -164,15 +164,15 @@ fn told_of<M: Media + Drop>(
     Ok(Some((tiers, free_of(area))))
 }
 
-fn told_of_media<M: Media + Drop>(
+fn media_state<M: Media + Drop>(
     alloc: Global,
     media: M,
     shape: Shape,
 ) -> Result<Option<(Tiers, [u32; 4])>, AreaError>
     requires { (t : Tier) → AtRest (M.seen media) (M.left media (M.moment media)) t }
 {
-    let mut area = opened(alloc, media)?;
-    told_of(&mut area, shape)
+    let mut area = open_medium(alloc, media)?;
+    file_state(&mut area, shape)
 }
 
 // ---- one move
@@ -219,7 +219,7 @@ fn rows_in_turn() -> [Row; 4] {
 fn is_moved<M: Media + Drop>(area: &mut Shared<M>, row: &Row) -> Result<bool, AreaError> {
     let (run, tiers) = *row;
     let answer = relocate(area, run)?;
-    match told_of(area, run.shape)? {
+    match file_state(area, run.shape)? {
         Some(told) => Ok(answer == Ok(()) && told.0 == tiers),
         None => Ok(false),
     }
@@ -232,23 +232,23 @@ fn moved_in_turn<M: Media + Drop>(
 ) -> Result<Option<(Option<(Tiers, [u32; 4])>, M)>, AreaError>
     requires { (t : Tier) → AtRest (M.seen media) (M.left media (M.moment media)) t }
 {
-    let mut area = opened(alloc, media)?;
+    let mut area = open_medium(alloc, media)?;
     for row in &rows_in_turn() {
         if !is_moved(&mut area, row)? {
             return Ok(None);
         }
     }
-    let told = told_of(&mut area, Shape::WithoutHole)?;
+    let told = file_state(&mut area, Shape::WithoutHole)?;
     Ok(Some((told, area.into_medium())))
 }
 
 // What is in memory after them is what the media tell once they are opened again.
-fn moves_are_told_again(alloc: Global) -> Result<bool, AreaError> {
+fn moves_are_kept(alloc: Global) -> Result<bool, AreaError> {
     let media = Shape::WithoutHole.media(alloc)?;
     match moved_in_turn(alloc, media)? {
         Some((told, media)) => {
             let rest = media.after_stop(Fill::Byte(0xa5))?;
-            let again = told_of_media(alloc, rest, Shape::WithoutHole)?;
+            let again = media_state(alloc, rest, Shape::WithoutHole)?;
             Ok(told.is_some() && again == told)
         }
         None => Ok(false),
@@ -257,7 +257,7 @@ fn moves_are_told_again(alloc: Global) -> Result<bool, AreaError> {
 
 #[test]
 fn runs_are_moved_one_after_another(rt: HostRuntime) -> Result<(), Fail> {
-    assert!(rt; moves_are_told_again(rt.alloc())?);
+    assert!(rt; moves_are_kept(rt.alloc())?);
     Ok(())
 }
 
@@ -293,14 +293,14 @@ fn refused_rows() -> [(RunMove, RelocateError); 16] {
 }
 
 // What is answered to a move over a medium, and the medium.
-fn answered<M: Media + Drop>(
+fn relocate_run<M: Media + Drop>(
     alloc: Global,
     media: M,
     run: RunMove,
 ) -> Result<(Result<(), RelocateError>, M), AreaError>
     requires { (t : Tier) → AtRest (M.seen media) (M.left media (M.moment media)) t }
 {
-    let mut area = opened(alloc, media)?;
+    let mut area = open_medium(alloc, media)?;
     let answer = relocate(&mut area, run)?;
     Ok((answer, area.into_medium()))
 }
@@ -309,7 +309,7 @@ fn answered<M: Media + Drop>(
 fn is_refused(alloc: Global, run: RunMove, error: RelocateError) -> Result<bool, AreaError> {
     let fresh = run.shape.media(alloc)?;
     let media = fresh.after_stop(Fill::Old)?;
-    let (answer, media) = answered(alloc, media, run)?;
+    let (answer, media) = relocate_run(alloc, media, run)?;
     Ok(answer == Err(error) && same_bytes(&media, &fresh))
 }
 

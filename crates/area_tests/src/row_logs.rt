@@ -1,6 +1,6 @@
 // The records of the logs of each row.
 use crate::digested_logs::{add_file, add_steps, directories};
-use crate::made_logs::{BLOCK, dropped, file, mkdir};
+use crate::made_logs::{BLOCK, drop_record, file, mkdir};
 use script::Kind::Directory;
 use script::Record;
 use std::alloc::{AllocError, Global};
@@ -50,7 +50,7 @@ fn one_file(alloc: Global) -> Result<Vec<Record>, AllocError> {
     Ok(records)
 }
 
-fn written_over(alloc: Global) -> Result<Vec<Record>, AllocError> {
+fn overwrite_records(alloc: Global) -> Result<Vec<Record>, AllocError> {
     let mut records = one_file(alloc)?;
     for round in 0u8..100 {
         let letter = b'c' + round % 20;
@@ -92,7 +92,7 @@ fn cut_later(alloc: Global) -> Result<Vec<Record>, AllocError> {
 
 fn directory_again(alloc: Global) -> Result<Vec<Record>, AllocError> {
     let mut records = one_file(alloc)?;
-    records.push(dropped(alloc, 2)?)?;
+    records.push(drop_record(alloc, 2)?)?;
     records.push(mkdir(alloc, 2)?)?;
     Ok(records)
 }
@@ -100,7 +100,7 @@ fn directory_again(alloc: Global) -> Result<Vec<Record>, AllocError> {
 // A file of so many bytes takes the place of what stands there.
 fn file_again(alloc: Global, count: usize) -> Result<Vec<Record>, AllocError> {
     let mut records = Vec::new(alloc);
-    records.push(dropped(alloc, 2)?)?;
+    records.push(drop_record(alloc, 2)?)?;
     records.push(file(alloc, 2, count, 1)?)?;
     Ok(records)
 }
@@ -129,7 +129,7 @@ pub fn first_log(alloc: Global, number: u32) -> Result<Vec<Record>, AllocError> 
         1 => most_images(alloc),
         2 => most_blocks(alloc),
         3 => cuts_count(alloc),
-        4 => written_over(alloc),
+        4 => overwrite_records(alloc),
         5 => cut_at_once(alloc),
         7 => directory_again(alloc),
         9 => just_good(alloc),

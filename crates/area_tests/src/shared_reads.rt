@@ -1,14 +1,14 @@
 // What is read of a small world.
 ghost use Rattle.script.specs.tier_device.declared.media.Tier.{Tier};
-ghost use Rattle.script.specs.tier_device.Media.{AtRest};
+ghost use Rattle.script.specs.tier_device.AfterStop.{AtRest};
 
 use migrator::{AreaError, NodeCounts, Shared, What};
 use script::{Media, Tier};
 use std::alloc::{AllocError, Global};
 use std::test::Fail;
-use test_media::{SIZE, World, opened, put, tells_the_root};
+use test_media::{SIZE, World, has_small_root, open_medium, put};
 
-fn tells_the_whole<M: Media>(area: &Shared<M>) -> bool {
+fn has_the_whole<M: Media>(area: &Shared<M>) -> bool {
     area.charge() == 7
         && area.marks().digests == 4
         && area.geometry().units() == 8
@@ -19,7 +19,7 @@ fn tells_the_whole<M: Media>(area: &Shared<M>) -> bool {
         && area.free(Tier::Slow) == 1
 }
 
-fn tells_the_file<M: Media + Drop>(area: &mut Shared<M>) -> Result<bool, AreaError> {
+fn has_the_file<M: Media + Drop>(area: &mut Shared<M>) -> Result<bool, AreaError> {
     let counts = NodeCounts::File {
         names: 1,
         size: SIZE,
@@ -30,12 +30,12 @@ fn tells_the_file<M: Media + Drop>(area: &mut Shared<M>) -> Result<bool, AreaErr
     }
 }
 
-fn tells_no_other<M: Media + Drop>(area: &mut Shared<M>) -> Result<bool, AreaError> {
+fn has_no_other<M: Media + Drop>(area: &mut Shared<M>) -> Result<bool, AreaError> {
     let none = area.node(0)?.is_none() && area.node(3)?.is_none() && area.node(1_025)?.is_none();
     Ok(none && area.touch(0)? == 0 && area.touch(1)? == 3 && area.touch(2)? == 4)
 }
 
-fn tells_the_tiers<M: Media>(area: &mut Shared<M>) -> Result<bool, AreaError> {
+fn has_the_tiers<M: Media>(area: &mut Shared<M>) -> Result<bool, AreaError> {
     let first = [area.tier_of(2, 0)?, area.tier_of(2, 1)?];
     let last = [area.tier_of(2, 2)?, area.tier_of(2, 3)?];
     let outside = [area.tier_of(2, 4)?, area.tier_of(3, 0)?];
@@ -60,13 +60,13 @@ fn reads_the_file<M: Media>(area: &mut Shared<M>) -> Result<bool, AreaError> {
 fn is_read<M: Media + Drop>(alloc: Global, media: M) -> Result<bool, AreaError>
     requires { (t : Tier) → AtRest (M.seen media) (M.left media (M.moment media)) t }
 {
-    let mut area = opened(alloc, media)?;
+    let mut area = open_medium(alloc, media)?;
     Ok(
-        tells_the_whole(&area)
-            && tells_the_root(&mut area)?
-            && tells_the_file(&mut area)?
-            && tells_no_other(&mut area)?
-            && tells_the_tiers(&mut area)?
+        has_the_whole(&area)
+            && has_small_root(&mut area)?
+            && has_the_file(&mut area)?
+            && has_no_other(&mut area)?
+            && has_the_tiers(&mut area)?
             && reads_the_file(&mut area)?,
     )
 }
@@ -91,7 +91,7 @@ fn refusal(alloc: Global) -> Result<Option<AreaError>, AllocError> {
     let mut world = World::new(alloc)?;
     put(&mut world.slow, 1, 5, b"e");
     let media = world.into_media(alloc)?;
-    match opened(alloc, media) {
+    match open_medium(alloc, media) {
         Ok(_) => Ok(None),
         Err(AreaError::Memory) => Err(AllocError),
         Err(error) => Ok(Some(error)),

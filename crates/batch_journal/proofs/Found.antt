@@ -4,7 +4,7 @@ use Rattle.std.proofs.lemmas.List.{length-take-le, length-drop, get_or-take, dro
 use Rattle.byteorder.specs.Endian.{little_number}
 use Rattle.batch_journal.specs.Images.{slice, image_count}
 use Rattle.batch_journal.specs.Blocks.{gate_of, rest_of_gate, area_of}
-use Rattle.batch_journal.specs.Reading.{IsBatchRead}
+use Rattle.batch_journal.specs.BatchReads.{IsBatchRead}
 use Rattle.batch_journal.proofs.Bytes.{take_shorter}
 use Rattle.batch_journal.proofs.Meaning.{count_front, Staged, staged_front}
 

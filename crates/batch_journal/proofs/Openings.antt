@@ -10,7 +10,7 @@ use Rattle.batch_journal.specs.Images.{image_count, target_at, image_at, images_
 use Rattle.layout.specs.Bytes.{are_zero}
 use Rattle.batch_journal.specs.Blocks.{area_of, rest_of_gate, block_of, is_gate_open, home, Fit}
 use Rattle.batch_journal.specs.Volume.{Spells, HasSizes, IsHead, IsJournal, IsVolume}
-use Rattle.batch_journal.specs.Reading.{IsBatchRead, first_block}
+use Rattle.batch_journal.specs.BatchReads.{IsBatchRead, first_block}
 use Rattle.batch_journal.proofs.Images.{rising_rises, rising_fit, none_below}
 use Rattle.batch_journal.proofs.Meaning.{head_alike, home_over, home_shut}
 

@@ -4,7 +4,8 @@ use Rattle.std.proofs.lemmas.Bool.{false≢true, cases_Bool}
 use Rattle.byteorder.specs.Endian.{little_number}
 use Rattle.layout.specs.tier_device.declared.media.Tier.{Tier}
 use Rattle.layout.specs.tier_device.declared.media.Tier.TheVariants.{Fast}
-use Rattle.layout.specs.tier_device.Media.{AtRest, Rose}
+use Rattle.layout.specs.tier_device.Media.{Rose}
+use Rattle.layout.specs.tier_device.AfterStop.{AtRest}
 use Rattle.layout.specs.Places.{Sizes, is_journaled}
 use Rattle.layout.specs.Bytes.{are_zero}
 use Rattle.layout.specs.declared.error.What.{What}
@@ -15,9 +16,9 @@ use Rattle.batch_journal.specs.Images.{slice, image_count, target_at, image_at, 
 use Rattle.batch_journal.specs.Blocks.{home, area_of, block_of, is_gate_open, IsShutGate, rest_of_gate, opening_calls, Fit, RisesJournaled}
 use Rattle.batch_journal.specs.Volume.{Spells, HasSizes, IsHead, IsVolume, SameJournal}
 use Rattle.batch_journal.specs.Course.{Since, Unmoved, SameLengths}
-use Rattle.batch_journal.specs.Reading.{IsBatchRead, TellsFaults, IsOfReading, first_block}
-use Rattle.batch_journal.specs.Damage.{OnJournalDamage, NamesDamage, IsGateDamage, IsHeadDamage, IsSuperDamage, TellsNone, AwaitsReplay, super_block}
-use Rattle.batch_journal.specs.Opening.{Opens, IsOpened, IsOpeningRefused}
+use Rattle.batch_journal.specs.BatchReads.{IsBatchRead, CountsFaults, IsOfReading, first_block}
+use Rattle.batch_journal.specs.Damage.{OnJournalDamage, NamesDamage, IsGateDamage, IsHeadDamage, IsSuperDamage, HasNoSuper, AwaitsReplay, super_block}
+use Rattle.batch_journal.specs.JournalOpen.{Opens, IsOpened, IsOpeningRefused}
 use Rattle.batch_journal.proofs.Courses.{still, unmoved_on, then_calls, weaker, left_before, tiers_same, on_damage}
 use Rattle.batch_journal.proofs.Meaning.{same_refl, same_on, home_over, home_shut, slice_slice}
 use Rattle.batch_journal.proofs.Bytes.{take_shorter}
@@ -28,20 +29,20 @@ use Rattle.batch_journal.proofs.Openings.{first_image, fits_here, head_read, shu
 
 -- ---- the count of failed calls
 
-pub tells_ok : {T : Type 0} (a b : ℕ) (x : T) → b ≡ a → TellsFaults a b (Ok x)
+pub tells_ok : {T : Type 0} (a b : ℕ) (x : T) → b ≡ a → CountsFaults a b (Ok x)
 tells_ok a b x same = record { grows = omega (arith, same); at_most_one = omega (arith, same); quiet = same; quiet_refused = tt; cause = tt }
 
-pub tells_fault : {T : Type 0} (a b : ℕ) → a ≤ b → b ≤ a + 1 → Rose a b → TellsFaults {T = T} a b (Err errors.DeviceFault)
+pub tells_fault : {T : Type 0} (a b : ℕ) → a ≤ b → b ≤ a + 1 → Rose a b → CountsFaults {T = T} a b (Err errors.DeviceFault)
 tells_fault a b grows one rose = record { grows = grows; at_most_one = one; quiet = tt; quiet_refused = λ other. absurd (other refl); cause = λ is. rose }
 
-pub tells_other : {T : Type 0} (a b : ℕ) (e : JournalError) → e ≢ errors.DeviceFault → b ≡ a → TellsFaults {T = T} a b (Err e)
+pub tells_other : {T : Type 0} (a b : ℕ) (e : JournalError) → e ≢ errors.DeviceFault → b ≡ a → CountsFaults {T = T} a b (Err e)
 tells_other a b e other same = record { grows = omega (arith, same); at_most_one = omega (arith, same); quiet = tt; quiet_refused = λ _. same; cause = λ is. absurd (other is) }
 
-pub tells_as : {T S : Type 0} (a b : ℕ) (e : JournalError) → TellsFaults {T = T} a b (Err e) → TellsFaults {T = S} a b (Err e)
+pub tells_as : {T S : Type 0} (a b : ℕ) (e : JournalError) → CountsFaults {T = T} a b (Err e) → CountsFaults {T = S} a b (Err e)
 tells_as a b e told = record { grows = told.grows; at_most_one = told.at_most_one; quiet = tt; quiet_refused = told.quiet_refused; cause = told.cause }
 
-pub tells_on : {T : Type 0} (a m b : ℕ) (r : Result T JournalError) → m ≡ a → TellsFaults m b r → TellsFaults a b r
-tells_on a m b r same told = subst (λ k. TellsFaults k b r) same told
+pub tells_on : {T : Type 0} (a m b : ℕ) (r : Result T JournalError) → m ≡ a → CountsFaults m b r → CountsFaults a b r
+tells_on a m b r same told = subst (λ k. CountsFaults k b r) same told
 
 -- ---- calls of an opening
 
@@ -55,7 +56,7 @@ module _ {s s' : Tier → List ℕ} {a b : ℕ} {L N : ℕ → Tier → List ℕ
   same : (x : List ℕ) → L a Fast x → SameJournal (s Fast) x
   same x l = same_refl (s Fast) x (rest x l)
 
-  pub opens_err : (e : JournalError) → TellsFaults {T = Sizes} f f' (Err e) → OnJournalDamage e (NamesDamage s) → (e ≡ errors.Memory → AwaitsReplay s) → e ≢ errors.BatchTooLarge → Opens s s' a b L N f f' (Err e)
+  pub opens_err : (e : JournalError) → CountsFaults {T = Sizes} f f' (Err e) → OnJournalDamage e (NamesDamage s) → (e ≡ errors.Memory → AwaitsReplay s) → e ≢ errors.BatchTooLarge → Opens s s' a b L N f f' (Err e)
   opens_err e told named memory only = record {
     course = still Fast un same;
     lengths = λ t. ap length (un.reads t);
@@ -65,7 +66,7 @@ module _ {s s' : Tier → List ℕ} {a b : ℕ} {L N : ℕ → Tier → List ℕ
     refused = record { named = named; memory = memory; untouched = λ other. un; only = only };
   }
 
-  pub opens_shut : (g : Sizes) → TellsFaults f f' (Ok g) → is_gate_open (s Fast) ≡ false → IsVolume g s → Opens s s' a b L N f f' (Ok g)
+  pub opens_shut : (g : Sizes) → CountsFaults f f' (Ok g) → is_gate_open (s Fast) ≡ false → IsVolume g s → Opens s s' a b L N f f' (Ok g)
   opens_shut g told closed volume = record {
     course = still Fast un same;
     lengths = λ t. ap length (un.reads t);
@@ -253,7 +254,7 @@ batch_there g s n bytes volume opened count is =
 -- reads, and then the replay
 module _ {s t : Tier → List ℕ} {a m b : ℕ} {L M N : ℕ → Tier → List ℕ → Type 0} (f f' n : ℕ) (un : Unmoved a m s t L M) (rest : AtRest s (L a) Fast) (opened : is_gate_open (s Fast) ≡ true) (count : n ≡ image_count (area_of (s Fast)))
     (course : Since Fast (SameJournal (t Fast)) m b M N) where
-  pub opens_failed : (u : Tier → List ℕ) → SameLengths t u → b ≤ m + n + 3 → TellsFaults {T = Sizes} f f' (Err errors.DeviceFault) → Opens s u a b L N f f' (Err errors.DeviceFault)
+  pub opens_failed : (u : Tier → List ℕ) → SameLengths t u → b ≤ m + n + 3 → CountsFaults {T = Sizes} f f' (Err errors.DeviceFault) → Opens s u a b L N f f' (Err errors.DeviceFault)
   opens_failed u lengths at_most told = record {
     course = then_calls Fast un (weaker course (λ x l. same_on (s Fast) (t Fast) x (same_refl (s Fast) (t Fast) (un.reads Fast)) l)) (λ x l. same_refl (s Fast) x (rest x l));
     lengths = λ x. lengths x ∙ ap length (un.reads x);
@@ -263,7 +264,7 @@ module _ {s t : Tier → List ℕ} {a m b : ℕ} {L M N : ℕ → Tier → List 
     refused = record { named = tt; memory = λ is. absurd cc; untouched = λ other. absurd (other refl); only = λ is. absurd cc };
   }
 
-  pub opens_replayed : (u : Tier → List ℕ) → SameLengths t u → (g : Sizes) → b ≡ m + n + 3 → TellsFaults f f' (Ok g) → IsVolume g s → AtRest u (N b) Fast → is_gate_open (u Fast) ≡ false → ((x : Tier) → x ≢ Fast → u x ≡ t x) → IsShutGate (u Fast) → Opens s u a b L N f f' (Ok g)
+  pub opens_replayed : (u : Tier → List ℕ) → SameLengths t u → (g : Sizes) → b ≡ m + n + 3 → CountsFaults f f' (Ok g) → IsVolume g s → AtRest u (N b) Fast → is_gate_open (u Fast) ≡ false → ((x : Tier) → x ≢ Fast → u x ≡ t x) → IsShutGate (u Fast) → Opens s u a b L N f f' (Ok g)
   opens_replayed u lengths g calls told volume rests closed others gate = record {
     course = then_calls Fast un (weaker course (λ x l. same_on (s Fast) (t Fast) x (same_refl (s Fast) (t Fast) (un.reads Fast)) l)) (λ x l. same_refl (s Fast) x (rest x l));
     lengths = λ x. lengths x ∙ ap length (un.reads x);
@@ -298,14 +299,14 @@ unmoved_same a s L = record { clock = refl; reads = λ t. refl; past = λ m t c 
 
 -- reads, and then the superblock of a closed gate
 pub opens_geometry : {s t : Tier → List ℕ} {a b : ℕ} {L N : ℕ → Tier → List ℕ → Type 0} (f f' : ℕ) (r : Result Sizes JournalError) → Unmoved a b s t L N → AtRest s (L a) Fast → is_gate_open (s Fast) ≡ false → are_zero (rest_of_gate (s Fast)) ≡ true
-    → TellsFaults f f' r → IfOk r (λ g. Spells g (block_of (s Fast) 0)) → IfOk r (λ g. HasSizes g s) → IfErr r (λ e. OnJournalDamage e (λ w block. (w ≡ what.Super) × (block ≡ 0) × TellsNone (block_of (s Fast) 0) s)) → IfErr r IsOfReading → Opens s t a b L N f f' r
+    → CountsFaults f f' r → IfOk r (λ g. Spells g (block_of (s Fast) 0)) → IfOk r (λ g. HasSizes g s) → IfErr r (λ e. OnJournalDamage e (λ w block. (w ≡ what.Super) × (block ≡ 0) × HasNoSuper (block_of (s Fast) 0) s)) → IfErr r IsOfReading → Opens s t a b L N f f' r
 opens_geometry {s = s} f f' (Ok g) un rest closed gate told spells sizes damaged only = opens_shut f f' un rest g told closed (shut_volume g s closed gate sizes spells)
 opens_geometry {s = s} f f' (Err e) un rest closed gate told spells sizes damaged only =
     let super : block_of (s Fast) 0 ≡ super_block (s Fast) = sym (ap (λ b. cond b (first_block (area_of (s Fast)) (s Fast)) (block_of (s Fast) 0)) closed) in
     let named = on_damage e (λ w block is. inr (inr (record {
       structure = is.0;
       place = is.1;
-      none = inr (gate, λ opened. absurd (false≢true (sym closed ∙ opened)), subst (λ (x : List ℕ). TellsNone x s) super is.2);
+      none = inr (gate, λ opened. absurd (false≢true (sym closed ∙ opened)), subst (λ (x : List ℕ). HasNoSuper x s) super is.2);
     }))) damaged in
     opens_err f f' un rest e told named (λ is. absurd (only.1 is)) only.0
 

@@ -2,10 +2,10 @@ pub mod Images
 pub mod Blocks
 pub mod Volume
 pub mod Course
-pub mod Reading
+pub mod BatchReads
 pub mod View
 pub mod Damage
-pub mod Opening
+pub mod JournalOpen
 -- Passed on to the crates above, which so need not list those below.
 pub use Rattle.layout.specs.file_graph
 pub use Rattle.layout.specs as layout

@@ -2,7 +2,8 @@
 ghost use Rattle.std.specs.Prelude.{◌≡◌, ◌≢◌, ◌≤◌, ◌<◌, ◌+◌, ◌*◌, List, ℕ, length, OnOk, OnErr};
 ghost use Rattle.layout.specs.tier_device.declared.media.Tier.{Tier};
 ghost use Rattle.layout.specs.tier_device.declared.media.Tier.TheVariants.{Fast};
-ghost use Rattle.layout.specs.tier_device.Media.{overwritten, AtRest, Rose};
+ghost use Rattle.layout.specs.tier_device.Media.{overwritten, Rose};
+ghost use Rattle.layout.specs.tier_device.AfterStop.{AtRest};
 ghost use Rattle.batch_journal.specs.Images.{target_at, image_at, slice};
 ghost use Rattle.batch_journal.specs.Course.{Since, TornFrom, SameLengths, Unmoved};
 

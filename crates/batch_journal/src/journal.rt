@@ -2,7 +2,8 @@ ghost use Rattle.std.specs.Prelude.{◌≡◌, ◌≢◌, ◌<◌, ◌≤◌, �
 ghost use Rattle.layout.specs.Places.{Sizes, tier_blocks, data_first};
 ghost use Rattle.layout.specs.tier_device.declared.media.Tier.{Tier};
 ghost use Rattle.layout.specs.tier_device.declared.media.Tier.TheVariants.{Fast};
-ghost use Rattle.layout.specs.tier_device.Media.{AtRest, LeftSince, Puts, Rose, overwritten};
+ghost use Rattle.layout.specs.tier_device.Media.{Puts, Rose, overwritten};
+ghost use Rattle.layout.specs.tier_device.AfterStop.{AtRest, LeftSince};
 ghost use Rattle.batch_journal.specs.Images.{slice};
 ghost use Rattle.batch_journal.specs.Blocks.{home, after_batch, block_of, is_home, is_gate_open, IsShutGate, AreJournaled, opening_calls, ShowsHome};
 ghost use Rattle.batch_journal.specs.Volume.{IsJournal, IsVolume, KeepsGeometry, SameJournal};
@@ -13,7 +14,7 @@ ghost use Rattle.batch_journal.specs.Damage.{OnJournalDamage, NamesDamage, Await
 use crate::Batch;
 use crate::calls::{fetch, put, settle};
 use crate::error::JournalError;
-use crate::opening::open_medium;
+use crate::journal_open::open_medium;
 use crate::replay::write_batch;
 use layout::{BLOCK, Geometry, MAX_IMAGES, Media, Tier};
 use std::alloc::Global;

@@ -10,11 +10,11 @@ mod calls;
 mod error;
 mod head;
 mod journal;
+mod journal_open;
 mod laws;
 mod numbers;
-mod opening;
-mod reading;
 mod replay;
+mod tier_reads;
 
 pub use batch::Batch;
 pub use error::JournalError;

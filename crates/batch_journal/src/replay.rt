@@ -2,7 +2,8 @@
 ghost use Rattle.std.specs.Prelude.{◌≡◌, ◌≢◌, ◌≤◌, ◌<◌, ◌+◌, ◌*◌, List, ℕ, length, OnOk, OnErr, true, false};
 ghost use Rattle.layout.specs.tier_device.declared.media.Tier.{Tier};
 ghost use Rattle.layout.specs.tier_device.declared.media.Tier.TheVariants.{Fast};
-ghost use Rattle.layout.specs.tier_device.Media.{AtRest, Rose};
+ghost use Rattle.layout.specs.tier_device.Media.{Rose};
+ghost use Rattle.layout.specs.tier_device.AfterStop.{AtRest};
 ghost use Rattle.batch_journal.specs.Images.{image_count, images_of, rest_of_head};
 ghost use Rattle.batch_journal.specs.Blocks.{area_of, is_gate_open, IsShutGate, home, after_batch, Fit};
 ghost use Rattle.batch_journal.specs.Volume.{SameJournal, IsAfter};

@@ -7,7 +7,7 @@ use Rattle.std.proofs.lemmas.List.FromFn.{length-range_with_len}
 use Rattle.std.proofs.Math.Seq.{take-append-add, drop-append-add}
 use Rattle.std.proofs.lemmas.Bool.{cases_lt}
 use Rattle.block_alloc.specs.declared.runs.Run.{Run}
-use Rattle.block_alloc.specs.Runs.{run_blocks, blocks_of, unused, AreNormalRuns, EndsBefore, Rising}
+use Rattle.block_alloc.specs.Runs.{run_blocks, blocks_of, unmarked_blocks, AreNormalRuns, EndsBefore, Rising}
 
 -- ---- ranges
 
@@ -155,24 +155,24 @@ nothing_dropped ks n left none = ap (λ k. drop (n + k) ks) (sym none)
 
 -- ---- marks of used blocks
 
-pub unused-cons : (first place : ℕ) (used : List Bool) → place < length used → get_or used place true ≡ false → unused (first + place) (drop place used) ≡ (first + place) ∷ unused (first + (place + 1)) (drop (place + 1) used)
+pub unused-cons : (first place : ℕ) (used : List Bool) → place < length used → get_or used place true ≡ false → unmarked_blocks (first + place) (drop place used) ≡ (first + place) ∷ unmarked_blocks (first + (place + 1)) (drop (place + 1) used)
 unused-cons first place used below is =
     let next : first + place + 1 ≡ first + (place + 1) = omega arith in
-    ap (unused (first + place)) (drop_more used place true below ∙ ap (λ b. b ∷ drop (place + 1) used) is) ∙ ap (λ n. (first + place) ∷ unused n (drop (place + 1) used)) next
+    ap (unmarked_blocks (first + place)) (drop_more used place true below ∙ ap (λ b. b ∷ drop (place + 1) used) is) ∙ ap (λ n. (first + place) ∷ unmarked_blocks n (drop (place + 1) used)) next
 
 -- the open run takes one block more
 pub run_grows : (first place count : ℕ) (front : List ℕ) (used : List Bool) → count ≤ place → place < length used → get_or used place true ≡ false
-    → front ++ range_with_len (first + place - count) count ++ unused (first + place) (drop place used) ≡ front ++ range_with_len (first + (place + 1) - (count + 1)) (count + 1) ++ unused (first + (place + 1)) (drop (place + 1) used)
+    → front ++ range_with_len (first + place - count) count ++ unmarked_blocks (first + place) (drop place used) ≡ front ++ range_with_len (first + (place + 1) - (count + 1)) (count + 1) ++ unmarked_blocks (first + (place + 1)) (drop (place + 1) used)
 run_grows first place count front used few below is =
     let start : first + place - count ≡ first + (place + 1) - (count + 1) = omega (arith, few) in
     let last : first + place - count + count ≡ first + place = omega (arith, few) in
     let longer : range_with_len (first + place - count) (count + 1) ≡ range_with_len (first + place - count) count ++ (first + place) ∷ [] =
     range-split (first + place - count) count 1 ∙ ap (λ b. range_with_len (first + place - count) count ++ b ∷ []) last in
     ap (λ xs. front ++ range_with_len (first + place - count) count ++ xs) (unused-cons first place used below is)
-    ∙ append_assoc front (range_with_len (first + place - count) count) ((first + place) ∷ unused (first + (place + 1)) (drop (place + 1) used))
-    ∙ ap (λ xs. front ++ xs) (sym (append_assoc (range_with_len (first + place - count) count) ((first + place) ∷ []) (unused (first + (place + 1)) (drop (place + 1) used))))
-    ∙ ap (λ xs. front ++ (xs ++ unused (first + (place + 1)) (drop (place + 1) used))) (sym longer ∙ ap (λ a. range_with_len a (count + 1)) start)
-    ∙ sym (append_assoc front (range_with_len (first + (place + 1) - (count + 1)) (count + 1)) (unused (first + (place + 1)) (drop (place + 1) used)))
+    ∙ append_assoc front (range_with_len (first + place - count) count) ((first + place) ∷ unmarked_blocks (first + (place + 1)) (drop (place + 1) used))
+    ∙ ap (λ xs. front ++ xs) (sym (append_assoc (range_with_len (first + place - count) count) ((first + place) ∷ []) (unmarked_blocks (first + (place + 1)) (drop (place + 1) used))))
+    ∙ ap (λ xs. front ++ (xs ++ unmarked_blocks (first + (place + 1)) (drop (place + 1) used))) (sym longer ∙ ap (λ a. range_with_len a (count + 1)) start)
+    ∙ sym (append_assoc front (range_with_len (first + (place + 1) - (count + 1)) (count + 1)) (unmarked_blocks (first + (place + 1)) (drop (place + 1) used)))
 
 -- a place that is left over stands within the list
 pub inside : (n place left : ℕ) → (n ≤ place → left ≡ 0) → (left ≡ 0 → ⊥) → place < n

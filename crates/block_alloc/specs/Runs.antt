@@ -17,10 +17,10 @@ Rising low end [] = Unit {0}
 Rising low end (k ∷ ks) = (low ≤ k) × (k < end) × Rising (k + 1) end ks
 
 -- the blocks from a number on that are not marked as used
-abbrev pub unused : ℕ → List Bool → List ℕ
-unused first [] = []
-unused first (true ∷ used) = unused (first + 1) used
-unused first (false ∷ used) = first ∷ unused (first + 1) used
+abbrev pub unmarked_blocks : ℕ → List Bool → List ℕ
+unmarked_blocks first [] = []
+unmarked_blocks first (true ∷ used) = unmarked_blocks (first + 1) used
+unmarked_blocks first (false ∷ used) = first ∷ unmarked_blocks (first + 1) used
 
 -- none of these blocks is of the run
 abbrev pub Apart : Run → List ℕ → Type 0

@@ -1,5 +1,5 @@
 ghost use Rattle.std.specs.Prelude.{◌≡◌, ◌+◌, ◌<◌, ◌≤◌, ◌^◌, length, take, drop, IfOk, IsErrOf, OnOk, OnErr, IsOk, ◌⊎◌, ◌↔◌, IsTrue};
-ghost use Rattle.block_alloc.specs.Runs.{run_blocks, blocks_of, unused, AreNormalRuns, PutIn};
+ghost use Rattle.block_alloc.specs.Runs.{run_blocks, blocks_of, unmarked_blocks, AreNormalRuns, PutIn};
 ghost use Rattle.block_alloc.specs.Value.{IsUsed, InOrder, SamePool};
 ghost use Rattle.block_alloc.specs.declared.error.AllocatorError.TheVariants.{NoBlock, Memory};
 
@@ -38,7 +38,7 @@ impl FreeRuns {
         requires { first + length used.now < 2 ^ 32 }
         ensures first { IfOk result (λ v. v.first ≡ first) }
         ensures end { IfOk result (λ v. v.end ≡ first + length used.now) }
-        ensures free { IfOk result (λ v. v.free ≡ unused first used.now) }
+        ensures free { IfOk result (λ v. v.free ≡ unmarked_blocks first used.now) }
         ensures ordered { IfOk result InOrder }
     {
         let runs = unused_runs(alloc, first, used)?;

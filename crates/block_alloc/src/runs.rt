@@ -1,7 +1,7 @@
 // Work on lists of runs.
 ghost use Rattle.std.specs.Prelude.{◌≡◌, ◌+◌, ◌-◌, ◌≤◌, ◌<◌, ◌^◌, ◌++◌, ◌∷◌, [], ◌↔◌, ◌⊎◌, length, take, drop, IsTrue, IfOk, OnOk, OnErr, IsOk, vec_len, vec_capacity, slice_set, slice_index_or, ℕ, false};
 ghost use Rattle.std.specs.List.{range_with_len, AllByRecursion};
-ghost use Rattle.block_alloc.specs.Runs.{run_blocks, blocks_of, unused, AreNormalRuns, EndsBefore, Apart, PutIn, Seamed, IsSeamed};
+ghost use Rattle.block_alloc.specs.Runs.{run_blocks, blocks_of, unmarked_blocks, AreNormalRuns, EndsBefore, Apart, PutIn, Seamed, IsSeamed};
 
 use std::alloc::{AllocError, Global};
 
@@ -116,7 +116,7 @@ fn close_run(runs: &mut Vec<Run>, end: u32, count: u32) -> Result<(), AllocError
 // The runs of the blocks that are not marked as used, the first mark that of a block's number.
 pub fn unused_runs(alloc: Global, first: u32, used: &[bool]) -> Result<Vec<Run>, AllocError>
     requires { first + length used.now < 2 ^ 32 }
-    ensures blocks { IfOk result (λ v. blocks_of v.items ≡ unused first used.now) }
+    ensures blocks { IfOk result (λ v. blocks_of v.items ≡ unmarked_blocks first used.now) }
     ensures normal { IfOk result (λ v. AreNormalRuns first (first + length used.now) v.items) }
 {
     let mut runs = Vec::new(alloc);

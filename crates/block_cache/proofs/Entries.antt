@@ -10,8 +10,8 @@ use Rattle.std.proofs.lemmas.List.{length-map, take_all, take-map, drop_more, ta
 use Rattle.lru.specs.LruCache.{LruCache, promoted, put_entries, last_entry}
 use Rattle.lru.proofs.Pairs.{last_of_push}
 use Rattle.block_cache.specs.declared.blocks.Place.{Place}
-use Rattle.block_cache.specs.Cached.{Block, bytes_at, bytes_if_first, without, in_front, used, put, without_file, is_same}
-use Rattle.block_cache.specs.Entries.{block_of, blocks_in, others_than, turned}
+use Rattle.block_cache.specs.CacheList.{Block, bytes_at, bytes_if_first, without, in_front, use_block, put_block, without_file, is_same}
+use Rattle.block_cache.specs.Entries.{block_of, blocks_in, others_than, turn_entry}
 
 -- whether two places are the same
 abbrev pub same_place : Place → Place → Bool
@@ -113,7 +113,7 @@ module _ (p : Place) where
   promoted_by es apart None is = refl
   promoted_by es apart (Some v) is = ap (λ (bs : List Block). block_of (p, v) ∷ bs) (sym (removed es apart))
 
-  pub promoted_is_used : (es : List Entry) → AreApart es → blocks_in (promoted (same_place p) es) ≡ used p.inode p.block (blocks_in es)
+  pub promoted_is_used : (es : List Entry) → AreApart es → blocks_in (promoted (same_place p) es) ≡ use_block p.inode p.block (blocks_in es)
   promoted_is_used es apart =
       ap (λ o. blocks_in (option_map_or (λ (e : Entry). e ∷ remove_entry (same_place p) es) o es)) (found_entry es)
       ∙ promoted_by es apart (lookup (same_place p) es) refl
@@ -142,7 +142,7 @@ module _ (p : Place) where
       ap (λ o. option_map_or (λ (f : Entry). f ∷ remove_entry (same_place p) (e ∷ es)) o (e ∷ es)) (cond-true (same_place p e.0) (Some e) (lookup_entry (same_place p) es) t)
       ∙ ap (λ (l : List Entry). e ∷ l) (cond-true (same_place p e.0) es (e ∷ remove_entry (same_place p) es) t)
 
-  pub first_is_used : (es : List Entry) → AreApart es → is_some (bytes_if_first p.inode p.block (blocks_in es)) ≡ true → blocks_in es ≡ used p.inode p.block (blocks_in es)
+  pub first_is_used : (es : List Entry) → AreApart es → is_some (bytes_if_first p.inode p.block (blocks_in es)) ≡ true → blocks_in es ≡ use_block p.inode p.block (blocks_in es)
   first_is_used [] apart some = absurd (cc some)
   first_is_used (e ∷ es) apart some = elim (cases_Bool (same_place p e.0)) [
     | inl t ↦ ap blocks_in (sym (promoted_first e es t)) ∙ promoted_is_used (e ∷ es) apart
@@ -154,7 +154,7 @@ module _ (p : Place) where
   with_put es v o = option_map_or (λ (e : Entry). (e.0, v) ∷ remove_entry (same_place p) es) o ((p, v) ∷ take 255 es)
 
   put_by : (es : List Entry) (v : List ℕ) → AreApart es → length es ≤ 256 → (o : Option (List ℕ)) → lookup (same_place p) es ≡ o →
-      blocks_in (with_put es v (option_map (λ (w : List ℕ). (p, w)) o)) ≡ put p.inode p.block v (blocks_in es)
+      blocks_in (with_put es v (option_map (λ (w : List ℕ). (p, w)) o)) ≡ put_block p.inode p.block v (blocks_in es)
   put_by es v apart few None is =
       ap (λ (bs : List Block). block_of (p, v) ∷ bs) (sym (take-map block_of 255 es) ∙ ap (take 255) (sym (none_removed es is)))
   put_by es v apart few (Some w) is =
@@ -162,7 +162,7 @@ module _ (p : Place) where
       let less : length (block_of (p, v) ∷ blocks_in rest) ≤ 256 = omega (arith, one_fewer es w is, length-map rest block_of) in
       sym (take_all 256 (block_of (p, v) ∷ blocks_in rest) less) ∙ ap (λ (bs : List Block). take 256 (block_of (p, v) ∷ bs)) (sym (removed es apart))
 
-  pub put_is_put : (c : LruCache Place (List ℕ)) (v : List ℕ) → c.cap ≡ 256 → AreApart c.entries → length c.entries ≤ c.cap → blocks_in (put_entries same_place c p v) ≡ put p.inode p.block v (blocks_in c.entries)
+  pub put_is_put : (c : LruCache Place (List ℕ)) (v : List ℕ) → c.cap ≡ 256 → AreApart c.entries → length c.entries ≤ c.cap → blocks_in (put_entries same_place c p v) ≡ put_block p.inode p.block v (blocks_in c.entries)
   put_is_put c v cap apart few =
       (λ k. blocks_in (option_map_or (λ (e : Entry). (e.0, v) ∷ remove_entry (same_place p) c.entries) (lookup_entry (same_place p) c.entries) ((p, v) ∷ take (cap k - 1) c.entries)))
       ∙ ap (λ o. blocks_in (with_put c.entries v o)) (found_entry c.entries) ∙ put_by c.entries v apart (omega (arith, few, cap)) (lookup (same_place p) c.entries) refl
@@ -211,12 +211,12 @@ module _ (inode : ℕ) (all es : List Entry) (e : Entry) (is : all ≡ es ++ e �
   is_last : (p, v) ≡ e
   is_last = let here : Some (p, v) ≡ Some e = last ∙ ap last_entry is ∙ (last_of_push es e).0 in cc here
 
-  pub turned_out : p.inode ≡ inode → take (length all - 1) all ≡ turned inode es e
+  pub turned_out : p.inode ≡ inode → take (length all - 1) all ≡ turn_entry inode es e
   turned_out of =
       ap (λ (l : List Entry). take (length l - 1) l) is ∙ (last_of_push es e).1
       ∙ sym (cond-true (e.0.inode == inode) es (e ∷ es) (eq-eqb e.0.inode inode (sym (ap (λ (f : Entry). f.0.inode) is_last) ∙ of)))
 
-  pub turned_front : (p.inode ≡ inode → ⊥) → AreApart all → promoted (same_place p) all ≡ turned inode es e
+  pub turned_front : (p.inode ≡ inode → ⊥) → AreApart all → promoted (same_place p) all ≡ turn_entry inode es e
   turned_front other apart =
       (λ k. promoted (same_place (is_last k).0) (is k)) ∙ last_promoted e es (subst AreApart is apart)
       ∙ sym (cond-false (e.0.inode == inode) es (e ∷ es) (ne_eqb e.0.inode inode (λ same. other (ap (λ (f : Entry). f.0.inode) is_last ∙ same))))
@@ -233,7 +233,7 @@ turn_from inode m es e lt =
     let kept = others_than inode (drop (m + 1) es) in
     ap (λ (l : List Entry). kept ++ l) (take_more es m e lt) ∙ sym (append_assoc kept (take m es) (get_or es m e ∷ []))
 
-pub turn_to : (inode m : ℕ) (es : List Entry) (e : Entry) → m < length es → turned inode (others_than inode (drop (m + 1) es) ++ take m es) (get_or es m e) ≡ after_turns inode m es
+pub turn_to : (inode m : ℕ) (es : List Entry) (e : Entry) → m < length es → turn_entry inode (others_than inode (drop (m + 1) es) ++ take m es) (get_or es m e) ≡ after_turns inode m es
 turn_to inode m es e lt =
     let x = get_or es m e in
     let kept = others_than inode (drop (m + 1) es) in

@@ -4,7 +4,7 @@ use Rattle.std.specs.Prelude.{◌==◌, not}
 use Rattle.std.specs.List.{filter}
 use Rattle.std.specs.Option.{option_map_or}
 use Rattle.std.proofs.lemmas.Bool.{cases_Bool, and_parts, and_from, eqb-true, eq-eqb, ne_eqb, cond-true, cond-false, not_from_true, not_from_false}
-use Rattle.block_cache.specs.Cached.{Block, is_at, bytes_at, bytes_if_first, without, in_front, used, used_run, put, without_file}
+use Rattle.block_cache.specs.CacheList.{Block, is_at, bytes_at, bytes_if_first, without, in_front, use_block, used_run, put_block, without_file}
 
 module _ (i n : ℕ) where
   -- where a filter keeps each block of this place, the same is found
@@ -45,7 +45,7 @@ at_itself i n v = and_from (i == i) (n == n) (eq-eqb i i refl) (eq-eqb n n refl)
 pub first_found : (i n : ℕ) (v : List ℕ) (bs : List Block) → bytes_at i n (in_front i n v bs) ≡ Some v
 first_found i n v bs = cond-true (is_at i n (record { inode = i; block = n; bytes = v })) (Some v) (bytes_at i n (without i n bs)) (at_itself i n v)
 
-pub put_found : (bs : List Block) (i n : ℕ) (v : List ℕ) → bytes_at i n (put i n v bs) ≡ Some v
+pub put_found : (bs : List Block) (i n : ℕ) (v : List ℕ) → bytes_at i n (put_block i n v bs) ≡ Some v
 put_found bs i n v = cond-true (is_at i n (record { inode = i; block = n; bytes = v })) (Some v) (bytes_at i n (take 255 (without i n bs))) (at_itself i n v)
 
 -- other places than the first
@@ -67,7 +67,7 @@ module _ (i n j m : ℕ) where
       cond-false ((i == j) && (n == m)) (Some v) (bytes_at i n (without j m bs)) off
       ∙ kept i n (λ b. not (is_at j m b)) bs (λ b at. not_from_false (is_at j m b) (apart off b at))
 
-  pub put_others : (bs : List Block) (v found : List ℕ) → bytes_at i n (put j m v bs) ≡ Some found → ((i ≡ j) × (n ≡ m) × (found ≡ v)) ⊎ (bytes_at i n bs ≡ Some found)
+  pub put_others : (bs : List Block) (v found : List ℕ) → bytes_at i n (put_block j m v bs) ≡ Some found → ((i ≡ j) × (n ≡ m) × (found ≡ v)) ⊎ (bytes_at i n bs ≡ Some found)
   put_others bs v found is =
       let all = among_first i n 256 (in_front j m v bs) found is in
       elim (cases_Bool ((i == j) && (n == m))) [
@@ -88,7 +88,7 @@ module _ (i n j m : ℕ) where
     | inr f ↦ past_first v bs f
   ]
 
-  pub used_stays : (bs : List Block) → bytes_at i n (used j m bs) ≡ bytes_at i n bs
+  pub used_stays : (bs : List Block) → bytes_at i n (use_block j m bs) ≡ bytes_at i n bs
   used_stays bs = used_by bs (bytes_at j m bs) refl
 
 -- a block that is used is the first, if it is there
@@ -103,7 +103,7 @@ used_first_by : (i n : ℕ) (bs : List Block) (o : Option (List ℕ)) → bytes_
 used_first_by i n bs None is = unfound_first i n bs is
 used_first_by i n bs (Some v) is = cond-true (is_at i n (record { inode = i; block = n; bytes = v })) (Some v) None (at_itself i n v)
 
-pub used_first : (i n : ℕ) (bs : List Block) → bytes_if_first i n (used i n bs) ≡ bytes_at i n bs
+pub used_first : (i n : ℕ) (bs : List Block) → bytes_if_first i n (use_block i n bs) ≡ bytes_at i n bs
 used_first i n bs = used_first_by i n bs (bytes_at i n bs) refl
 
 -- blocks that are used one after the other

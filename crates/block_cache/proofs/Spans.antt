@@ -11,7 +11,7 @@ use Rattle.lru.proofs.CallerLemmas.{Contains-promoted, Contains-put_entries}
 use Rattle.block_cache.specs.declared.blocks.Place.{Place}
 use Rattle.block_cache.specs.declared.span.Span.{Span}
 use Rattle.block_cache.specs.Entries.{others_than}
-use Rattle.block_cache.specs.Spans.{IsIn, AreIn, AreFromTo, others_at, widened}
+use Rattle.block_cache.specs.Spans.{IsIn, AreIn, AreFromTo, others_at, wider_span}
 use Rattle.block_cache.proofs.Entries.{same_place, same_is}
 
 abbrev Entry : Type 0
@@ -124,19 +124,19 @@ wider spans more wide [] in_all = tt
 wider spans more wide (e ∷ es) in_all = (wide e.0.inode e.0.block in_all.0, wider spans more wide es in_all.1)
 
 -- a widened span has the new block, and all that it had
-pub has_new : (o : Option (Option Span)) (block : ℕ) → IsIn (option_map (λ span. Some (widened span block)) o) block
+pub has_new : (o : Option (Option Span)) (block : ℕ) → IsIn (option_map (λ span. Some (wider_span span block)) o) block
 has_new None block = tt
 has_new (Some None) block = (omega arith, omega arith)
 has_new (Some (Some s)) block = (omega arith, omega arith)
 
-has_old : (o : Option (Option Span)) (block b : ℕ) → IsIn o b → IsIn (option_map (λ span. Some (widened span block)) o) b
+has_old : (o : Option (Option Span)) (block b : ℕ) → IsIn o b → IsIn (option_map (λ span. Some (wider_span span block)) o) b
 has_old None block b old = tt
 has_old (Some None) block b old = absurd old
 has_old (Some (Some s)) block b old = (omega (arith, old.0), omega (arith, old.1))
 
-pub widened_has : (spans more : List (Option Span)) (i block : ℕ) → slice_get more i ≡ option_map (λ span. Some (widened span block)) (slice_get spans i) → ((j : ℕ) → j ≢ i → slice_get more j ≡ slice_get spans j) → (j b : ℕ) → IsIn (slice_get spans j) b → IsIn (slice_get more j) b
+pub widened_has : (spans more : List (Option Span)) (i block : ℕ) → slice_get more i ≡ option_map (λ span. Some (wider_span span block)) (slice_get spans i) → ((j : ℕ) → j ≢ i → slice_get more j ≡ slice_get spans j) → (j b : ℕ) → IsIn (slice_get spans j) b → IsIn (slice_get more j) b
 widened_has spans more i block here others j b old = elim (cases_eq j i) [
-  | inl same ↦ subst (λ (o : Option (Option Span)). IsIn o b) (ap (λ k. option_map (λ span. Some (widened span block)) (slice_get spans k)) same ∙ sym here ∙ ap (slice_get more) (sym same)) (has_old (slice_get spans j) block b old)
+  | inl same ↦ subst (λ (o : Option (Option Span)). IsIn o b) (ap (λ k. option_map (λ span. Some (wider_span span block)) (slice_get spans k)) same ∙ sym here ∙ ap (slice_get more) (sym same)) (has_old (slice_get spans j) block b old)
   | inr other ↦ subst (λ (o : Option (Option Span)). IsIn o b) (sym (others j other)) old
 ]
 

@@ -2,7 +2,7 @@
 use Rattle.std.specs.Prelude.{ℕ, List, ◌∷◌, map, ◌==◌, not, if◌then◌else◌}
 use Rattle.std.specs.List.{filter}
 use Rattle.block_cache.specs.declared.blocks.Place.{Place}
-use Rattle.block_cache.specs.Cached.{Block}
+use Rattle.block_cache.specs.CacheList.{Block}
 
 -- the block that is kept under a place
 abbrev pub block_of : Place × List ℕ → Block
@@ -16,5 +16,5 @@ abbrev pub others_than : ℕ → List (Place × List ℕ) → List (Place × Lis
 others_than inode es = filter (λ e. not (e.0.inode == inode)) es
 
 -- the last one is gone if it is of the file, and else is the first now
-abbrev pub turned : ℕ → List (Place × List ℕ) → Place × List ℕ → List (Place × List ℕ)
-turned inode es e = if e.0.inode == inode then es else e ∷ es
+abbrev pub turn_entry : ℕ → List (Place × List ℕ) → Place × List ℕ → List (Place × List ℕ)
+turn_entry inode es e = if e.0.inode == inode then es else e ∷ es

@@ -1,3 +1,3 @@
-pub mod Cached
+pub mod CacheList
 pub mod Entries
 pub mod Spans

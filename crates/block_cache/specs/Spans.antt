@@ -11,9 +11,9 @@ IsIn (Some None) b = ⊥
 IsIn (Some (Some s)) b = (s.first ≤ b) × (b ≤ s.last)
 
 -- the least span of a file that has the blocks of its span and this one
-abbrev pub widened : Option Span → ℕ → Span
-widened None block = record { first = block; last = block }
-widened (Some s) block = record { first = min s.first block; last = max s.last block }
+abbrev pub wider_span : Option Span → ℕ → Span
+wider_span None block = record { first = block; last = block }
+wider_span (Some s) block = record { first = min s.first block; last = max s.last block }
 
 -- each block that is kept lies in the span of its file
 abbrev pub AreIn : List (Option Span) → List (Place × List ℕ) → Type 0

@@ -2,11 +2,11 @@ ghost use Rattle.std.specs.Prelude.{◌≡◌, ◌==◌, [], length, option_map,
 ghost use Rattle.std.specs.Borrow.{sem, follows_so};
 ghost use mathlib.Core.Option.{none};
 ghost use Rattle.block_cache.specs.declared.bytes.TheConstants.{BLOCK_SIZE};
-ghost use Rattle.block_cache.specs.Cached.{IsCache, bytes_at, bytes_if_first, put as put_first, used, without_file};
+ghost use Rattle.block_cache.specs.CacheList.{IsCache, bytes_at, bytes_if_first, put_block as put_first, use_block, without_file};
 
 use crate::bytes::{BLOCK_SIZE, BlockBytes};
-use crate::dropping::drop_kept;
 use crate::span::{Span, clear_span, no_spans, widen_span};
+use crate::span_drop::drop_kept;
 use lru::LruCache;
 use std::alloc::{AllocError, Global};
 use std::marker::Model;
@@ -35,7 +35,7 @@ pub struct Blocks {
 impl Model for Blocks {
     ghost use Rattle.std.specs.Prelude.{◌≡◌, List};
     ghost use Rattle.block_cache.specs.declared.blocks.TheConstants.{MOST_BLOCKS};
-    ghost use Rattle.block_cache.specs.Cached.{Block};
+    ghost use Rattle.block_cache.specs.CacheList.{Block};
     ghost use Rattle.block_cache.specs.Entries.{blocks_in};
     ghost use Rattle.block_cache.specs.Spans.{AreIn};
 
@@ -82,7 +82,7 @@ impl Blocks {
 
     /// The bytes of a block, if it is there. It is the first then. Where it is the first already it is not looked for.
     pub fn get(&mut self, inode: u32, block: u32) -> Option<&[u8]>
-        ensures* moved { sem 𝓛 (follows_so the_row the_row self.entry.ghost_name none (λ _ _. ⊤) (λ last. last ≡ used inode block self.old)) }
+        ensures* moved { sem 𝓛 (follows_so the_row the_row self.entry.ghost_name none (λ _ _. ⊤) (λ last. last ≡ use_block inode block self.old)) }
         ensures bytes { option_map (λ b. b.now) result ≡ bytes_at inode block self.old }
         ensures whole { IfSome result (λ b. length b.now ≡ BLOCK_SIZE) }
     {
@@ -92,7 +92,7 @@ impl Blocks {
 
     // Moves a block in front, if it is there.
     fn move_to_front(&mut self, inode: u32, block: u32)
-        ensures moved { self.new ≡ used inode block self.old }
+        ensures moved { self.new ≡ use_block inode block self.old }
         ensures found { bytes_if_first inode block self.new ≡ bytes_at inode block self.old }
     {
         // That no place is kept twice is known from here.

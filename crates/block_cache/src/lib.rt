@@ -6,10 +6,10 @@
 
 mod blocks;
 mod bytes;
-mod dropping;
+mod file_drop;
 mod laws;
 mod span;
-mod turning;
+mod span_drop;
 
 pub use blocks::{Blocks, MOST_BLOCKS};
 pub use bytes::BLOCK_SIZE;

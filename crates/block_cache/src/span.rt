@@ -1,6 +1,6 @@
 // In which span the kept blocks of a file lie.
 ghost use Rattle.std.specs.Prelude.{◌≡◌, ◌≢◌, ℕ, Some, None, IfOk, option_map, replicate, slice_get};
-ghost use Rattle.block_cache.specs.Spans.{widened};
+ghost use Rattle.block_cache.specs.Spans.{wider_span};
 ghost use Rattle.block_cache.specs.declared.span.TheConstants.{FILES};
 
 use std::alloc::{AllocError, Global};
@@ -32,18 +32,18 @@ pub fn span_of(spans: &[Option<Span>], inode: u32) -> Option<Option<Span>>
 
 /// A file may have this block too.
 pub fn widen_span(spans: &mut Vec<Option<Span>>, inode: u32, block: u32)
-    ensures here { slice_get spans.new.items inode ≡ option_map (λ span. Some (widened span block)) (slice_get spans.old.items inode) }
+    ensures here { slice_get spans.new.items inode ≡ option_map (λ span. Some (wider_span span block)) (slice_get spans.old.items inode) }
     ensures others { (i : ℕ) → i ≢ inode → slice_get spans.new.items i ≡ slice_get spans.old.items i }
 {
     let place = inode as usize;
     if place < spans.len() {
-        spans[place] = Some(widened(spans[place], block));
+        spans[place] = Some(wider_span(spans[place], block));
     }
 }
 
 // The least span that has this block too.
-fn widened(span: Option<Span>, block: u32) -> Span
-    ensures { result ≡ widened span block }
+fn wider_span(span: Option<Span>, block: u32) -> Span
+    ensures { result ≡ wider_span span block }
 {
     match span {
         Some(span) => Span {

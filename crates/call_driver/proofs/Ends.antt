@@ -4,18 +4,19 @@ use Rattle.std.specs.Prelude.{Result, Ok, Err}
 use Rattle.event_steps.specs.posix_calls.declared.call.Call.{Call}
 use Rattle.event_steps.specs.client_plan.declared.need.Need.{Need}
 use Rattle.event_steps.specs.lease_manager.declared.view.LeaseMode.{LeaseMode}
-use Rattle.event_steps.specs.libfs.declared.denying.Denied.{Denied}
+use Rattle.event_steps.specs.libfs.declared.denial.Denied.{Denied}
 use Rattle.event_steps.specs.declared.event.Event.{Event}
 use Rattle.event_steps.specs.declared.event.Event.TheVariants as kinds
 use Rattle.event_steps.specs.declared.outcome.Outcome.{Outcome}
 use Rattle.event_steps.specs.declared.outcome.Outcome.TheVariants as outcome
 use Rattle.call_driver.specs.Needs.{IsServed}
-use Rattle.call_driver.specs.Serving.{GoesOn, IsCarriedOn, IsEndedBy, IsLastStep, IsStepOf, IsTold, Turns}
-use Rattle.call_driver.specs.Whose.{after_start, after_step}
-use Rattle.call_driver.specs.declared.answering.Served.{Served}
-use Rattle.call_driver.specs.declared.answering.Served.TheVariants as served
-use Rattle.call_driver.specs.declared.needs.Turn.{Turn}
-use Rattle.call_driver.specs.declared.needs.Turn.TheVariants as turns
+use Rattle.call_driver.specs.Calls.{GoesOn, IsCarriedOn, IsEndedBy, IsLastStep, IsStepOf, IsReadyCall, Turns}
+use Rattle.call_driver.specs.EventOwner.{after_start, after_step}
+use Rattle.call_driver.specs.declared.call_result.CallResult.{CallResult}
+use Rattle.call_driver.specs.declared.call_result.CallResult.TheVariants as served
+use Rattle.call_driver.specs.declared.needs.NeedResult.{NeedResult}
+use Rattle.call_driver.specs.declared.needs.NeedResult.TheVariants as turns
+use Rattle.call_driver.specs.declared.events.Events.{Ghosts}
 
 -- ---- steps
 
@@ -27,10 +28,10 @@ went_on outcome.Stepped is = refl
 went_on (outcome.Refused why) is = absurd (cc)
 went_on outcome.Idle is = absurd (cc)
 
-same_served : (x y : Served) → Some x ≡ Some y → x ≡ y
+same_served : (x y : CallResult) → Some x ≡ Some y → x ≡ y
 same_served x y is = cc is
 
-last_step : (o : Outcome) (x : Served) → Some x ≡ after_step o → x ≢ served.Pending → IsLastStep o x
+last_step : (o : Outcome) (x : CallResult) → Some x ≡ after_step o → x ≢ served.Pending → IsLastStep o x
 last_step (outcome.Reply reply) x is other = same_served x (served.Reply reply) is
 last_step outcome.Pending x is other = absurd (cc)
 last_step (outcome.Need need) x is other = absurd (cc)
@@ -38,7 +39,7 @@ last_step outcome.Stepped x is other = absurd (other (same_served x served.Pendi
 last_step (outcome.Refused why) x is other = absurd (cc)
 last_step outcome.Idle x is other = absurd (cc)
 
-of_none : (x : Served) → None ≡ Some x → ⊥
+of_none : (x : CallResult) → None ≡ Some x → ⊥
 of_none x is = absurd (cc)
 
 none_step : (o : Outcome) → None ≡ after_step o → IsLastStep o served.Blocked
@@ -53,7 +54,7 @@ module _ {S : Type 0} (plays : S → Event → Outcome → S → Type 0) (client
   pub one_more_step : (n : ℕ) (s t u : S) → GoesOn plays client n s t → IsStepOf plays client (Some served.Pending) t u → GoesOn plays client (n + 1) s u
   one_more_step n s t u before (o, played, is) = subst (λ m. GoesOn plays client m s u) (sym (add-one n)) (t, before, subst (λ p. plays t (kinds.Step client) p u) (went_on o is) played)
 
-  pub ended_by_step : (n : ℕ) (x : Served) (s t u : S) → GoesOn plays client n s t → IsStepOf plays client (Some x) t u → x ≢ served.Pending → IsCarriedOn plays client x s u
+  pub ended_by_step : (n : ℕ) (x : CallResult) (s t u : S) → GoesOn plays client n s t → IsStepOf plays client (Some x) t u → x ≢ served.Pending → IsCarriedOn plays client x s u
   ended_by_step n x s t u before (o, played, is) other = record { count = n; last = t; steps = before; end = inr (o, played, last_step o x is other) }
 
   pub ended_by_none : (n : ℕ) (s t u : S) → GoesOn plays client n s t → IsStepOf plays client None t u → IsCarriedOn plays client served.Blocked s u
@@ -61,10 +62,10 @@ module _ {S : Type 0} (plays : S → Event → Outcome → S → Type 0) (client
 
 -- ---- turns
 
-abbrev lacking : Need → Result Served Need
+abbrev lacking : Need → Result CallResult Need
 lacking need = Err need
 
-abbrev told_now : Served → Result Served Need
+abbrev told_now : CallResult → Result CallResult Need
 told_now x = Ok x
 
 same_need : (x y : Need) → lacking x ≡ lacking y → x ≡ y
@@ -78,15 +79,15 @@ needed outcome.Stepped need is = absurd (cc)
 needed (outcome.Refused why) need is = absurd (cc)
 needed outcome.Idle need is = absurd (cc)
 
-module _ {S : Type 0} (plays : S → Event → Outcome → S → Type 0) (owes : S → ℕ → ℕ) (leases : S → ℕ → ℕ → LeaseMode) (waits broken : S → ℕ → Bool) (hands : Bool) (client : ℕ) (call : Call) (e : Event) (starts : e ≡ kinds.Start client call) where
-  lacked : (need : Need) (s t : S) → (o : Outcome) × plays s e o t × (lacking need ≡ after_start o) → plays s (kinds.Start client call) (outcome.Need need) t
-  lacked need s t (o, played, is) = subst (λ f. plays s f (outcome.Need need) t) starts (subst (λ p. plays s e p t) (needed o need is) played)
+module _ {S : Type 0} (system : Ghosts S) (hands : Bool) (client : ℕ) (call : Call) (e : Event) (starts : e ≡ kinds.Start client call) where
+  lacked : (need : Need) (s t : S) → (o : Outcome) × system.plays s e o t × (lacking need ≡ after_start o) → system.plays s (kinds.Start client call) (outcome.Need need) t
+  lacked need s t (o, played, is) = subst (λ f. system.plays s f (outcome.Need need) t) starts (subst (λ p. system.plays s e p t) (needed o need is) played)
 
-  pub one_more_turn : (n : ℕ) (need : Need) (s t u v : S) → Turns plays owes leases waits broken hands client call n s t → (o : Outcome) × plays t e o u × (lacking need ≡ after_start o) → IsServed plays owes leases waits broken hands client need turns.Again u v → Turns plays owes leases waits broken hands client call (n + 1) s v
-  one_more_turn n need s t u v before lacks has = subst (λ m. Turns plays owes leases waits broken hands client call m s v) (sym (add-one n)) (t, u, need, before, lacked need t u lacks, has)
+  pub one_more_turn : (n : ℕ) (need : Need) (s t u v : S) → Turns system hands client call n s t → (o : Outcome) × system.plays t e o u × (lacking need ≡ after_start o) → IsServed system hands client need turns.Again u v → Turns system hands client call (n + 1) s v
+  one_more_turn n need s t u v before lacks has = subst (λ m. Turns system hands client call m s v) (sym (add-one n)) (t, u, need, before, lacked need t u lacks, has)
 
-  pub told_at_once : (n : ℕ) (x : Served) (s t u : S) → Turns plays owes leases waits broken hands client call n s t → (o : Outcome) × plays t e o u × (told_now x ≡ after_start o) → IsTold plays owes leases waits broken hands client call (Ok x) s u
-  told_at_once n x s t u before (o, played, is) = record { count = n; last = t; turns = before; end = inr (inl (x, o, subst (λ f. plays t f o u) starts played, sym is, refl)) }
+  pub told_at_once : (n : ℕ) (x : CallResult) (s t u : S) → Turns system hands client call n s t → (o : Outcome) × system.plays t e o u × (told_now x ≡ after_start o) → IsReadyCall system hands client call (Ok x) s u
+  told_at_once n x s t u before (o, played, is) = record { count = n; last = t; turns = before; end = inr (inl (x, o, subst (λ f. system.plays t f o u) starts played, sym is, refl)) }
 
-  pub told_by_need : (n : ℕ) (need : Need) (turn : Turn) (r : Result Served Denied) (s t u v : S) → Turns plays owes leases waits broken hands client call n s t → (o : Outcome) × plays t e o u × (lacking need ≡ after_start o) → IsServed plays owes leases waits broken hands client need turn u v → IsEndedBy turn r → IsTold plays owes leases waits broken hands client call r s v
+  pub told_by_need : (n : ℕ) (need : Need) (turn : NeedResult) (r : Result CallResult Denied) (s t u v : S) → Turns system hands client call n s t → (o : Outcome) × system.plays t e o u × (lacking need ≡ after_start o) → IsServed system hands client need turn u v → IsEndedBy turn r → IsReadyCall system hands client call r s v
   told_by_need n need turn r s t u v before lacks has ends = record { count = n; last = t; turns = before; end = inr (inr (need, u, turn, lacked need t u lacks, has, ends)) }

@@ -3,7 +3,7 @@ use Rattle.std.proofs.Common.{◌≡◌, ℕ, Bool, true, false, inl, inr, ap, s
 use Rattle.event_steps.specs.declared.event.Event.{Event}
 use Rattle.event_steps.specs.declared.event.Event.TheVariants as kinds
 use Rattle.event_steps.specs.Turns.{whose}
-use Rattle.call_driver.specs.Whose.{IsOf, IsServing, IsDigesting, IsHandingOver}
+use Rattle.call_driver.specs.EventOwner.{IsOf, IsServing, IsDigesting, IsHandingOver}
 
 -- what a client digests is its own
 pub digesting_is_own : (client : ℕ) (e : Event) → IsDigesting client e → IsOf client e

@@ -6,11 +6,12 @@ use Rattle.event_steps.specs.declared.event.Event.TheVariants as event
 use Rattle.event_steps.specs.declared.outcome.Outcome.{Outcome}
 use Rattle.event_steps.specs.declared.outcome.Refusal.{Refusal}
 use Rattle.event_steps.specs.declared.outcome.Refusal.TheVariants as refusals
-use Rattle.call_driver.specs.Came.{CameTo, IsRefusedIn}
-use Rattle.call_driver.specs.Whose.{IsClearing, IsDigesting, IsReclaim}
+use Rattle.call_driver.specs.EventResults.{CameTo, IsRefusedIn}
+use Rattle.call_driver.specs.EventOwner.{IsClearing, IsDigesting, IsReclaim}
 use Rattle.call_driver.specs.declared.digests.TheConstants.{WIPE_STEPS}
-use Rattle.call_driver.specs.declared.playing.Did.{Did}
-use Rattle.call_driver.specs.declared.playing.Did.TheVariants as did
+use Rattle.call_driver.specs.declared.event_result.EventResult.{EventResult}
+use Rattle.call_driver.specs.declared.event_result.EventResult.TheVariants as did
+use Rattle.call_driver.specs.declared.events.Events.{Ghosts}
 
 -- An event was done so many times, one after the other.
 abbrev pub Times : {S : Type 0} → (S → Event → Outcome → S → Type 0) → Event → ℕ → S → S → Type 0
@@ -24,32 +25,32 @@ pub record IsDoneUpTo {S : Type 0} (plays : S → Event → Outcome → S → Ty
   pub end : ((count ≡ most) × (t ≡ last)) ⊎ CameTo plays e did.Nothing last t
 
 -- All records of the region that a client handed over are digested: each chunk has one of them at least.
-abbrev pub IsRegionDigested : {S : Type 0} → (S → Event → Outcome → S → Type 0) → (S → ℕ → ℕ) → ℕ → S → S → Type 0
-IsRegionDigested plays owes client s t = (count : ℕ) × IsDoneUpTo plays (event.Digest client) (owes s client) count s t
+abbrev pub IsRegionDigested : {S : Type 0} → Ghosts S → ℕ → S → S → Type 0
+IsRegionDigested system client s t = (count : ℕ) × IsDoneUpTo system.plays (event.Digest client) (system.undigested_count s client) count s t
 
 -- So they are, or one of the events was refused.
-abbrev pub IsRegionDone : {S : Type 0} → (S → Event → Outcome → S → Type 0) → (S → ℕ → ℕ) → ℕ → Result (Unit {0}) Refusal → S → S → Type 0
-IsRegionDone plays owes client (Ok x) s t = IsRegionDigested plays owes client s t
-IsRegionDone plays owes client (Err why) s t = IsRefusedIn plays (IsDigesting client) why s t
+abbrev pub IsRegionDone : {S : Type 0} → Ghosts S → ℕ → Result (Unit {0}) Refusal → S → S → Type 0
+IsRegionDone system client (Ok x) s t = IsRegionDigested system client s t
+IsRegionDone system client (Err why) s t = IsRefusedIn system.plays (IsDigesting client) why s t
 
 -- So are all that it logged: those of the region that it handed over, and then those of the region that it hands over now, if it does.
-pub record HasDigested {S : Type 0} (plays : S → Event → Outcome → S → Type 0) (owes : S → ℕ → ℕ) (client : ℕ) (s t : S) : Type 0 where
+pub record HasDigested {S : Type 0} (system : Ghosts S) (client : ℕ) (s t : S) : Type 0 where
   pub before : S
-  pub first : IsRegionDigested plays owes client s before
-  pub rest : ((u : S) × CameTo plays (event.Seal client) did.Done before u × IsRegionDigested plays owes client u t) ⊎ CameTo plays (event.Seal client) did.Nothing before t
+  pub first : IsRegionDigested system client s before
+  pub rest : ((u : S) × CameTo system.plays (event.Seal client) did.Done before u × IsRegionDigested system client u t) ⊎ CameTo system.plays (event.Seal client) did.Nothing before t
 
 -- They are, or one of the events was refused.
-abbrev pub IsDigested : {S : Type 0} → (S → Event → Outcome → S → Type 0) → (S → ℕ → ℕ) → ℕ → Result (Unit {0}) Refusal → S → S → Type 0
-IsDigested plays owes client (Ok x) s t = HasDigested plays owes client s t
-IsDigested plays owes client (Err why) s t = IsRefusedIn plays (IsDigesting client) why s t
+abbrev pub IsDigested : {S : Type 0} → Ghosts S → ℕ → Result (Unit {0}) Refusal → S → S → Type 0
+IsDigested system client (Ok x) s t = HasDigested system client s t
+IsDigested system client (Err why) s t = IsRefusedIn system.plays (IsDigesting client) why s t
 
 -- whether a file may be passed over that was to be dropped: nothing was refused but that it is in use
-abbrev pub IsPassed : Did → Type 0
+abbrev pub IsPassed : EventResult → Type 0
 IsPassed d = (why : Refusal) → d ≡ did.Refused why → why ≡ refusals.InUse
 
 -- It was dropped, or passed over.
 abbrev pub IsReclaimed : {S : Type 0} → (S → Event → Outcome → S → Type 0) → ℕ → S → S → Type 0
-IsReclaimed plays i s t = (d : Did) × CameTo plays (event.Reclaim i) d s t × IsPassed d
+IsReclaimed plays i s t = (d : EventResult) × CameTo plays (event.Reclaim i) d s t × IsPassed d
 
 -- So was each file up to a number, rising.
 abbrev pub Reclaims : {S : Type 0} → (S → Event → Outcome → S → Type 0) → ℕ → S → S → Type 0
@@ -61,16 +62,16 @@ AreReclaimed plays (Ok x) s t = Reclaims plays INODES s t
 AreReclaimed plays (Err why) s t = IsRefusedIn plays IsReclaim why s t
 
 -- All that a client logged is digested, so many records, and then each file was dropped that may go.
-pub record HasCleared {S : Type 0} (plays : S → Event → Outcome → S → Type 0) (owes : S → ℕ → ℕ) (client count : ℕ) (s t : S) : Type 0 where
+pub record HasCleared {S : Type 0} (system : Ghosts S) (client count : ℕ) (s t : S) : Type 0 where
   pub between : S
-  pub digested : HasDigested plays owes client s between
-  pub counted : count ≡ owes s client - owes between client
-  pub reclaimed : Reclaims plays INODES between t
+  pub digested : HasDigested system client s between
+  pub counted : count ≡ system.undigested_count s client - system.undigested_count between client
+  pub reclaimed : Reclaims system.plays INODES between t
 
 -- So it was, or one of the events was refused.
-abbrev pub IsCleared : {S : Type 0} → (S → Event → Outcome → S → Type 0) → (S → ℕ → ℕ) → ℕ → Result ℕ Refusal → S → S → Type 0
-IsCleared plays owes client (Ok count) s t = HasCleared plays owes client count s t
-IsCleared plays owes client (Err why) s t = IsRefusedIn plays (IsClearing client) why s t
+abbrev pub IsCleared : {S : Type 0} → Ghosts S → ℕ → Result ℕ Refusal → S → S → Type 0
+IsCleared system client (Ok count) s t = HasCleared system client count s t
+IsCleared system client (Err why) s t = IsRefusedIn system.plays (IsClearing client) why s t
 
 -- What there is to wipe of a client's regions is wiped; whether there was something.
 abbrev pub HasWiped : {S : Type 0} → (S → Event → Outcome → S → Type 0) → ℕ → Bool → S → S → Type 0

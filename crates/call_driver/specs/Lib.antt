@@ -1,8 +1,8 @@
-pub mod Came
+pub mod EventResults
 pub mod Digests
-pub mod HandingOver
+pub mod LeaseReturn
 pub mod Needs
 pub mod OfSystem
 pub mod Runs
-pub mod Serving
-pub mod Whose
+pub mod Calls
+pub mod EventOwner

@@ -1,29 +1,30 @@
 -- A system in memory, as one that plays events.
 use Rattle.std.specs.Prelude.{◌≡◌, ◌&&◌, ℕ, Bool, false, List, Option, Some, None, if◌then◌else◌, nat_le}
+use Rattle.event_steps.specs.tier_device.declared.media.Media.{Ghosts}
 use Rattle.event_steps.specs.tier_device.declared.media.Tier.{Tier}
 use Rattle.event_steps.specs.posix_calls.Operations.{is_client}
 use Rattle.event_steps.specs.lease_manager.Passes.{lease_of}
 use Rattle.event_steps.specs.lease_manager.declared.view.LeaseMode.{LeaseMode}
 use Rattle.event_steps.specs.lease_manager.declared.view.LeaseMode.TheVariants.{Free}
 use Rattle.event_steps.specs.libfs.View.{is_pending}
-use Rattle.event_steps.specs.Played.{Carries, Plays}
+use Rattle.event_steps.specs.Effects.{Carries, Plays}
 use Rattle.event_steps.specs.Turns.{CanPlay}
 use Rattle.event_steps.specs.View.{SeatView, SystemView, seat_of, undigested_on}
 use Rattle.event_steps.specs.declared.event.Event.{Event}
 use Rattle.event_steps.specs.declared.outcome.Outcome.{Outcome}
 
 -- an event has nothing to do, and changes nothing, or it makes of the system what it is to make
-abbrev pub plays_in : {M : Type 0} → (M → Tier → List ℕ) → (M → ℕ) → (M → ℕ → Tier → List ℕ → Type 0) → (M → ℕ) → SystemView M → Event → Outcome → SystemView M → Type 0
-plays_in seen moment left faults w e o new = Carries (CanPlay seen w e) (Plays seen moment left faults w e o new) (new ≡ w) o
+abbrev pub plays_in : {M : Type 0} → Ghosts M → SystemView M → Event → Outcome → SystemView M → Type 0
+plays_in device w e o new = Carries (CanPlay device w e) (Plays device w e o new) (new ≡ w) o
 
 -- what is told of a seat, and of none
-abbrev pub told_of : {M A : Type 0} → A → (SeatView M → A) → Option (SeatView M) → A
-told_of none f None = none
-told_of none f (Some s) = f s
+abbrev pub slot_value : {M A : Type 0} → A → (SeatView M → A) → Option (SeatView M) → A
+slot_value none f None = none
+slot_value none f (Some s) = f s
 
 -- what is told of a client's seat, and of a number that is no client's
 abbrev pub at_client : {M A : Type 0} → SystemView M → ℕ → A → (SeatView M → A) → A
-at_client w client none f = if is_client client then told_of none f (seat_of w client) else none
+at_client w client none f = if is_client client then slot_value none f (seat_of w client) else none
 
 -- how a client stands to an inode
 abbrev pub lease_in : {M : Type 0} → SystemView M → ℕ → ℕ → LeaseMode
@@ -38,5 +39,5 @@ abbrev pub failed_in : {M : Type 0} → SystemView M → ℕ → Bool
 failed_in w client = at_client w client false (λ s. s.client.log.failed)
 
 -- how many records of a client are not digested
-abbrev pub undigested_in : {M : Type 0} → (M → Tier → List ℕ) → SystemView M → ℕ → ℕ
-undigested_in seen w client = at_client w client 0 (undigested_on seen)
+abbrev pub undigested_in : {M : Type 0} → Ghosts M → SystemView M → ℕ → ℕ
+undigested_in device w client = at_client w client 0 (undigested_on device)

@@ -2,14 +2,14 @@
 ghost use Rattle.std.specs.Prelude.{◌≡◌, IfErr, OnOk};
 ghost use Rattle.event_steps.specs.declared.event.Event.TheVariants as event;
 ghost use Rattle.event_steps.specs.declared.outcome.Refusal.TheVariants as refusals;
-ghost use Rattle.call_driver.specs.declared.playing.Did.TheVariants as did;
-ghost use Rattle.call_driver.specs.Came.{CameTo};
+ghost use Rattle.call_driver.specs.declared.event_result.EventResult.TheVariants as did;
+ghost use Rattle.call_driver.specs.EventResults.{CameTo};
 ghost use Rattle.call_driver.specs.Digests.{AreReclaimed, IsCleared, IsDigested, IsReclaimed, IsRegionDone, IsWiped};
 ghost use Rattle.call_driver.specs.Runs.{Leads};
-ghost use Rattle.call_driver.specs.Whose.{IsDigesting, IsReclaim, IsClearing};
+ghost use Rattle.call_driver.specs.EventOwner.{IsDigesting, IsReclaim, IsClearing};
 
+use crate::event_result::{EventResult, carry_out};
 use crate::events::Events;
-use crate::playing::{Did, carry_out};
 use event_steps::{Event, INODES, Refusal};
 
 // A wipe makes four device calls, and a client has two regions.
@@ -17,7 +17,7 @@ const WIPE_STEPS: u32 = 8;
 
 /// Digests all that a client logged: the records of the region that it handed over, if it did, and then those of its current one. Where an event is refused the rest is left undone.
 pub fn digest_all<E: Events>(events: &mut E, client: u32) -> Result<(), Refusal>
-    ensures digested { IsDigested E.plays E.owes client result events.old events.new }
+    ensures digested { IsDigested E.Events client result events.old events.new }
     ensures events { Leads E.plays (IsDigesting client) events.old events.new }
 {
     match digest_region(events, client) {
@@ -25,30 +25,30 @@ pub fn digest_all<E: Events>(events: &mut E, client: u32) -> Result<(), Refusal>
         Err(refusal) => return Err(refusal),
     }
     match carry_out(events, Event::Seal { client }) {
-        Did::Done => digest_region(events, client),
-        Did::Nothing => Ok(()),
-        Did::Refused(refusal) => Err(refusal),
+        EventResult::Done => digest_region(events, client),
+        EventResult::Nothing => Ok(()),
+        EventResult::Refused(refusal) => Err(refusal),
     }
 }
 
 // Digests what a client handed over, chunk by chunk. Each chunk has a record at least.
 fn digest_region<E: Events>(events: &mut E, client: u32) -> Result<(), Refusal>
-    ensures digested { IsRegionDone E.plays E.owes client result events.old events.new }
+    ensures digested { IsRegionDone E.Events client result events.old events.new }
     ensures events { Leads E.plays (IsDigesting client) events.old events.new }
 {
     for chunk in 0..events.undigested(client) {
         match carry_out(events, Event::Digest { client }) {
-            Did::Done => {}
-            Did::Nothing => return Ok(()),
-            Did::Refused(refusal) => return Err(refusal),
+            EventResult::Done => {}
+            EventResult::Nothing => return Ok(()),
+            EventResult::Refused(refusal) => return Err(refusal),
         }
     }
     Ok(())
 }
 
 /// Digests all that a client logged, and then drops each file that has no name and no pin, rising. It answers how many records were digested.
-pub fn digest_and_reclaim<E: Events>(events: &mut E, client: u32) -> Result<usize, Refusal>
-    ensures cleared { IsCleared E.plays E.owes client result events.old events.new }
+pub fn clear_client<E: Events>(events: &mut E, client: u32) -> Result<usize, Refusal>
+    ensures cleared { IsCleared E.Events client result events.old events.new }
     ensures events { Leads E.plays (IsClearing client) events.old events.new }
 {
     let before = events.undigested(client);
@@ -83,14 +83,14 @@ fn reclaim<E: Events>(events: &mut E, inode: u32) -> Result<(), Refusal>
     ensures refused { IfErr result (λ why. CameTo E.plays (event.Reclaim inode) (did.Refused why) events.old events.new) }
 {
     match carry_out(events, Event::Reclaim { inode }) {
-        Did::Done => Ok(()),
-        Did::Nothing => Ok(()),
-        Did::Refused(refusal) => passed(refusal),
+        EventResult::Done => Ok(()),
+        EventResult::Nothing => Ok(()),
+        EventResult::Refused(refusal) => allow_in_use(refusal),
     }
 }
 
 // A file that is in use is passed over.
-fn passed(refusal: Refusal) -> Result<(), Refusal>
+fn allow_in_use(refusal: Refusal) -> Result<(), Refusal>
     ensures passed { OnOk result (refusal ≡ refusals.InUse) }
     ensures refused { IfErr result (λ why. why ≡ refusal) }
 {
@@ -108,9 +108,9 @@ pub fn wipe_all<E: Events>(events: &mut E, client: u32) -> Result<bool, Refusal>
     let mut wiped = false;
     for step in 0..WIPE_STEPS {
         match carry_out(events, Event::WipeStep { client }) {
-            Did::Done => wiped = true,
-            Did::Nothing => return Ok(wiped),
-            Did::Refused(refusal) => return Err(refusal),
+            EventResult::Done => wiped = true,
+            EventResult::Nothing => return Ok(wiped),
+            EventResult::Refused(refusal) => return Err(refusal),
         }
     }
     Ok(wiped)

@@ -11,16 +11,16 @@ pub trait Events {
     ghost plays: { Self → Event → Outcome → Self → Type 0 };
 
     /// Whether a call of a client waits for its answer.
-    ghost waits: { Self → ℕ → Bool };
+    ghost pending: { Self → ℕ → Bool };
 
     /// How a client stands to an inode.
     ghost leases: { Self → ℕ → ℕ → LeaseMode };
 
     /// Whether a device of a client's regions has failed.
-    ghost broken: { Self → ℕ → Bool };
+    ghost failed: { Self → ℕ → Bool };
 
     /// How many records of a client are not digested.
-    ghost owes: { Self → ℕ → ℕ };
+    ghost undigested_count: { Self → ℕ → ℕ };
 
     /// Carries out an event.
     fn play(&mut self, event: &Event) -> Outcome
@@ -32,13 +32,13 @@ pub trait Events {
 
     /// Whether a call of a client waits for its answer.
     fn is_pending(&self, client: u32) -> bool
-        ensures { result ≡ waits self.now client };
+        ensures { result ≡ pending self.now client };
 
     /// Whether a device of a client's regions has failed.
     fn has_failed(&self, client: u32) -> bool
-        ensures { result ≡ broken self.now client };
+        ensures { result ≡ failed self.now client };
 
     /// How many records of a client are not digested.
     fn undigested(&self, client: u32) -> usize
-        ensures { result ≡ owes self.now client };
+        ensures { result ≡ undigested_count self.now client };
 }

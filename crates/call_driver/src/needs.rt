@@ -1,23 +1,23 @@
 // What a call needs, one need at a time.
 ghost use Rattle.std.specs.Prelude.{◌≡◌, Some};
 ghost use Rattle.event_steps.specs.Turns.{whose};
-ghost use Rattle.call_driver.specs.Came.{CameTo};
-ghost use Rattle.call_driver.specs.declared.playing.Did.{Did};
-ghost use Rattle.call_driver.specs.declared.playing.Did.TheVariants as did;
+ghost use Rattle.call_driver.specs.EventResults.{CameTo};
+ghost use Rattle.call_driver.specs.declared.event_result.EventResult.{EventResult};
+ghost use Rattle.call_driver.specs.declared.event_result.EventResult.TheVariants as did;
 ghost use Rattle.event_steps.specs.declared.outcome.Refusal.{Refusal};
-ghost use Rattle.call_driver.specs.Needs.{AfterLease, IsLeased, IsServed, MakesRoom, after_asking, after_refusal, asking, leasing};
+ghost use Rattle.call_driver.specs.Needs.{AfterLease, IsLeased, IsServed, MakesRoom, after_asking, after_refusal, event_for, lease_event};
 ghost use Rattle.call_driver.specs.Runs.{Leads};
-ghost use Rattle.call_driver.specs.Whose.{IsOf, IsServing};
+ghost use Rattle.call_driver.specs.EventOwner.{IsOf, IsServing};
 
 use crate::digests::{digest_all, wipe_all};
+use crate::event_result::{EventResult, carry_out};
 use crate::events::Events;
-use crate::handing_over::{not_digested, others_hand_over};
-use crate::playing::{Did, carry_out};
+use crate::lease_return::{not_digested, others_hand_over};
 use event_steps::{Denied, Event, LeaseMode, Mode, Need, Refusal};
 
 /// What came of a need.
 #[derive(Clone, Copy)]
-pub enum Turn {
+pub enum NeedResult {
     /// It was served, or is asked again: the call may be started again.
     Again,
     /// Another client, or a device, is in the way.
@@ -29,44 +29,55 @@ pub enum Turn {
 }
 
 /// Serves a need. Where other clients hold a lease that is needed, they hand the inode over, or else are in the way.
-pub fn serve_need<E: Events>(events: &mut E, client: u32, need: Need, hands_over: bool) -> Turn
-    ensures served { IsServed E.plays E.owes E.leases E.waits E.broken hands_over client need result events.old events.new }
+pub fn serve_need<E: Events>(
+    events: &mut E,
+    client: u32,
+    need: Need,
+    hands_over: bool,
+) -> NeedResult
+    ensures served { IsServed E.Events hands_over client need result events.old events.new }
     ensures events { Leads E.plays (IsServing hands_over client) events.old events.new }
 {
     match need {
-        Need::Lease { inode, mode } => lease(events, client, inode, mode, hands_over),
+        Need::Lease { inode, mode } => take_lease(events, client, inode, mode, hands_over),
         Need::Room => make_room(events, client),
-        need => ask(events, client, need),
+        need => ask_kernel(events, client, need),
     }
 }
 
-fn lease<E: Events>(events: &mut E, client: u32, inode: u32, mode: Mode, hands_over: bool) -> Turn
-    ensures leased { IsLeased E.plays E.owes E.leases E.waits E.broken hands_over client inode mode result events.old events.new }
+fn take_lease<E: Events>(
+    events: &mut E,
+    client: u32,
+    inode: u32,
+    mode: Mode,
+    hands_over: bool,
+) -> NeedResult
+    ensures leased { IsLeased E.Events hands_over client inode mode result events.old events.new }
     ensures events { Leads E.plays (IsServing hands_over client) events.old events.new }
 {
-    let event = leasing(client, inode, mode, events.holds(client, inode));
+    let event = lease_event(client, inode, mode, events.holds(client, inode));
     match carry_out(events, event) {
-        Did::Done => Turn::Again,
-        Did::Nothing => Turn::Blocked,
-        Did::Refused(_) => others(events, client, inode, hands_over),
+        EventResult::Done => NeedResult::Again,
+        EventResult::Nothing => NeedResult::Blocked,
+        EventResult::Refused(_) => ask_holders(events, client, inode, hands_over),
     }
 }
 
 // Others hold it. Where they do not hand over, they are in the way.
-fn others<E: Events>(events: &mut E, client: u32, inode: u32, hands_over: bool) -> Turn
-    ensures others { (why : Refusal) → AfterLease E.plays E.owes E.leases E.waits E.broken hands_over client inode (did.Refused why) result events.old events.new }
+fn ask_holders<E: Events>(events: &mut E, client: u32, inode: u32, hands_over: bool) -> NeedResult
+    ensures others { (why : Refusal) → AfterLease E.Events hands_over client inode (did.Refused why) result events.old events.new }
     ensures events { Leads E.plays (IsServing hands_over client) events.old events.new }
 {
     if hands_over {
         others_hand_over(events, client, inode)
     } else {
-        Turn::Blocked
+        NeedResult::Blocked
     }
 }
 
 // A client that holds an inode for reading raises its lease.
-fn leasing(client: u32, inode: u32, mode: Mode, held: LeaseMode) -> Event
-    ensures is { result ≡ leasing client inode mode held }
+fn lease_event(client: u32, inode: u32, mode: Mode, held: LeaseMode) -> Event
+    ensures is { result ≡ lease_event client inode mode held }
     ensures whose { whose result ≡ Some client }
 {
     match held {
@@ -80,34 +91,34 @@ fn leasing(client: u32, inode: u32, mode: Mode, held: LeaseMode) -> Event
 }
 
 // Room for a record: all that the client logged is digested, and what there is to wipe of its regions is wiped. Where its device fails in that, the call is answered so when it is started again.
-fn make_room<E: Events>(events: &mut E, client: u32) -> Turn
-    ensures room { MakesRoom E.plays E.owes E.leases E.waits E.broken client result events.old events.new }
+fn make_room<E: Events>(events: &mut E, client: u32) -> NeedResult
+    ensures room { MakesRoom E.Events client result events.old events.new }
     ensures events { Leads E.plays (IsOf client) events.old events.new }
 {
     match digest_all(events, client) {
         Ok(()) => {
             let _ = wipe_all(events, client);
-            Turn::Again
+            NeedResult::Again
         }
         Err(refusal) => not_digested(refusal),
     }
 }
 
 // Asks the kernel.
-fn ask<E: Events>(events: &mut E, client: u32, need: Need) -> Turn
-    ensures asked { (d : Did) × CameTo E.plays (asking client need) d events.old events.new × (result ≡ after_asking d) }
+fn ask_kernel<E: Events>(events: &mut E, client: u32, need: Need) -> NeedResult
+    ensures asked { (d : EventResult) × CameTo E.plays (event_for client need) d events.old events.new × (result ≡ after_asking d) }
     ensures events { Leads E.plays (IsOf client) events.old events.new }
 {
-    match carry_out(events, asking(client, need)) {
-        Did::Done => Turn::Again,
-        Did::Nothing => Turn::Blocked,
-        Did::Refused(refusal) => refused(refusal),
+    match carry_out(events, event_for(client, need)) {
+        EventResult::Done => NeedResult::Again,
+        EventResult::Nothing => NeedResult::Blocked,
+        EventResult::Refused(refusal) => denial_of(refusal),
     }
 }
 
 // The event that serves a need. Leases and room take more.
-fn asking(client: u32, need: Need) -> Event
-    ensures is { result ≡ asking client need }
+fn event_for(client: u32, need: Need) -> Event
+    ensures is { result ≡ event_for client need }
     ensures whose { whose result ≡ Some client }
 {
     match need {
@@ -143,15 +154,15 @@ fn asking(client: u32, need: Need) -> Event
     }
 }
 
-fn refused(refusal: Refusal) -> Turn
+fn denial_of(refusal: Refusal) -> NeedResult
     ensures { result ≡ after_refusal refusal }
 {
     match refusal {
-        Refusal::DeviceFault => Turn::Denied(Denied::Device),
-        Refusal::KernelFailed => Turn::Denied(Denied::KernelFailed),
-        Refusal::NoUnits => Turn::Denied(Denied::NoUnits),
-        Refusal::NoInode => Turn::Denied(Denied::NoInode),
-        Refusal::Memory => Turn::Denied(Denied::Memory),
-        _ => Turn::Blocked,
+        Refusal::DeviceFault => NeedResult::Denied(Denied::Device),
+        Refusal::KernelFailed => NeedResult::Denied(Denied::KernelFailed),
+        Refusal::NoUnits => NeedResult::Denied(Denied::NoUnits),
+        Refusal::NoInode => NeedResult::Denied(Denied::NoInode),
+        Refusal::Memory => NeedResult::Denied(Denied::Memory),
+        _ => NeedResult::Blocked,
     }
 }

@@ -9,15 +9,15 @@ use event_steps::{Client, Event, INODES, LeaseMode, Outcome, System, TierDeviceM
 impl<M: Media + Drop> Events for System<M> {
     ghost use Rattle.call_driver.specs.OfSystem.{failed_in, lease_in, plays_in, undigested_in, waits_in};
 
-    ghost plays = { plays_in M.seen M.moment M.left M.faults };
+    ghost plays = { plays_in M.Media };
 
     ghost leases = { lease_in };
 
-    ghost waits = { waits_in };
+    ghost pending = { waits_in };
 
-    ghost broken = { failed_in };
+    ghost failed = { failed_in };
 
-    ghost owes = { undigested_in M.seen };
+    ghost undigested_count = { undigested_in M.Media };
 
     fn play(&mut self, event: &Event) -> Outcome {
         System::play(self, event)

@@ -3,9 +3,9 @@ use Rattle.std.proofs.Common.{◌≡◌, ℕ, zero, suc, ◌+◌, ◌-◌, ◌*�
 use Rattle.std.specs.Prelude.{◌/◌, min, replicate, option_map}
 use Rattle.std.proofs.Math.Seq.{drop-nil}
 use Rattle.std.proofs.lemmas.List.{take-take, drop-drop, drop-take}
-use Rattle.log_record.specs.posix_calls.Content.{resized, written, range}
-use Rattle.log_record.specs.posix_calls.Query.{blocks_touched}
-use Rattle.call_effects.specs.Blocks.{block_of, followed, blocks_joined, range_by, block_resized, block_written}
+use Rattle.log_record.specs.posix_calls.Content.{with_length, with_bytes, range}
+use Rattle.log_record.specs.posix_calls.Part.{blocks_touched}
+use Rattle.call_effects.specs.Blocks.{block_of, joined_bytes, blocks_joined, range_by, block_resized, block_written}
 
 -- ---- bytes cut and grown, and bytes put over others, element by element
 
@@ -27,7 +27,7 @@ one_less m n = omega arith
 all_left : (n : ℕ) → n - 0 ≡ n
 all_left n = omega arith
 
-is_grown : (n : ℕ) (xs : List ℕ) → resized n xs ≡ grown n xs
+is_grown : (n : ℕ) (xs : List ℕ) → with_length n xs ≡ grown n xs
 is_grown zero xs = ap (λ m. replicate m 0) (none_left (length xs))
 is_grown (suc n) [] = ap (λ m. replicate m 0) (all_left (suc n)) ∙ ap (λ ys. 0 ∷ ys) (sym (ap (λ ys. ys ++ replicate (n - 0) 0) (take_nil n) ∙ ap (λ m. replicate m 0) (all_left n)) ∙ is_grown n [])
 is_grown (suc n) (x ∷ xs) = ap (λ m. x ∷ (take n xs ++ replicate m 0)) (one_less n (length xs)) ∙ ap (λ ys. x ∷ ys) (is_grown n xs)
@@ -58,7 +58,7 @@ is_put_by zero new old = ap (λ n. new ++ drop n old) (none_more (length new)) �
 is_put_by (suc at) new [] = ap (λ ys. 0 ∷ (grown at [] ++ new ++ ys)) (drop-nil (suc at + length new) ∙ sym (drop-nil (at + length new))) ∙ ap (λ ys. 0 ∷ ys) (is_put_by at new [])
 is_put_by (suc at) new (x ∷ old) = ap (λ n. x ∷ (grown at old ++ new ++ drop n (x ∷ old))) (past at (length new)) ∙ ap (λ ys. x ∷ ys) (is_put_by at new old)
 
-is_put : (at : ℕ) (new old : List ℕ) → written at new old ≡ put_at at new old
+is_put : (at : ℕ) (new old : List ℕ) → with_bytes at new old ≡ put_at at new old
 is_put at new old = ap (λ ys. ys ++ new ++ drop (at + length new) old) (is_grown at old) ∙ is_put_by at new old
 
 -- ---- a part of them
@@ -110,7 +110,7 @@ take_put (suc m) (suc at) new [] = refl
 take_put (suc m) (suc at) new (x ∷ old) = ap (λ ys. x ∷ ys) (take_put m at new old)
 
 -- a part of a file, once that is cut or grown
-part_resized : (from many size : ℕ) (xs : List ℕ) → take many (drop from (resized size xs)) ≡ resized (min many (size - from)) (take many (drop from xs))
+part_resized : (from many size : ℕ) (xs : List ℕ) → take many (drop from (with_length size xs)) ≡ with_length (min many (size - from)) (take many (drop from xs))
 part_resized from many size xs =
     ap (λ ys. take many (drop from ys)) (is_grown size xs)
     ∙ ap (take many) (drop_grown from size xs)
@@ -118,7 +118,7 @@ part_resized from many size xs =
     ∙ sym (is_grown (min many (size - from)) (take many (drop from xs)))
 
 -- and once bytes are put into it
-part_written : (from many at : ℕ) (new xs : List ℕ) → take many (drop from (written at new xs)) ≡ take many (written (at - from) (drop (from - at) new) (take many (drop from xs)))
+part_written : (from many at : ℕ) (new xs : List ℕ) → take many (drop from (with_bytes at new xs)) ≡ take many (with_bytes (at - from) (drop (from - at) new) (take many (drop from xs)))
 part_written from many at new xs =
     ap (λ ys. take many (drop from ys)) (is_put at new xs)
     ∙ ap (take many) (drop_put from at new xs)
@@ -127,10 +127,10 @@ part_written from many at new xs =
 
 -- ---- effects on blocks
 
-pub resized_block : (b size : ℕ) (bytes : List ℕ) → block_of b (resized size bytes) ≡ block_resized size b (block_of b bytes)
+pub resized_block : (b size : ℕ) (bytes : List ℕ) → block_of b (with_length size bytes) ≡ block_resized size b (block_of b bytes)
 resized_block b size bytes = part_resized (4096 * b) 4096 size bytes
 
-pub written_block : (b at : ℕ) (new bytes : List ℕ) → block_of b (written at new bytes) ≡ block_written at new b (block_of b bytes)
+pub written_block : (b at : ℕ) (new bytes : List ℕ) → block_of b (with_bytes at new bytes) ≡ block_written at new b (block_of b bytes)
 written_block b at new bytes = part_written (4096 * b) 4096 at new bytes
 
 -- ---- blocks put one behind the other
@@ -152,7 +152,7 @@ pub record IsFollowed (first rest : Option (List ℕ)) (all : List ℕ) : Type 0
   pub rest_is : rest ≡ Some more
   pub all_is : bytes ++ more ≡ all
 
-pub both_known : (first rest : Option (List ℕ)) (all : List ℕ) → followed first rest ≡ Some all → IsFollowed first rest all
+pub both_known : (first rest : Option (List ℕ)) (all : List ℕ) → joined_bytes first rest ≡ Some all → IsFollowed first rest all
 both_known None rest all e = absurd (cc)
 both_known (Some bytes) None all e = absurd (cc)
 both_known (Some bytes) (Some more) all e = record { bytes = bytes; more = more; first_is = refl; rest_is = refl; all_is = cc }

@@ -18,12 +18,12 @@ use Rattle.log_record.specs.posix_calls.declared.operation.Replaced.{Replaced}
 use Rattle.log_record.specs.posix_calls.declared.operation.Replaced.TheVariants.{OldFile}
 use Rattle.log_record.specs.posix_calls.Query.{Seen, File, Dir, Gives, Refuses, Look, View, run}
 use Rattle.log_record.specs.posix_calls.Walk.{Place, is_root, leads_to, is_there, is_true, there, prefix, entries_seen, entries_at, kind_at}
-use Rattle.log_record.specs.posix_calls.Decide.{opened, open_there, lowest_free, number_or, replacing, replacing_dir, renamed, write_at, described, mkdir, unlink, rmdir, link, rename, truncate, pwrite, pread, close, open_path, list_path, stat, decide}
+use Rattle.log_record.specs.posix_calls.Decide.{open_inode, open_there, lowest_free, number_or, replaced_at, replacing_dir, rename_to, write_at, node_description, mkdir, unlink, rmdir, link, rename, truncate, pwrite, pread, close, open_path, list_path, stat, decide}
 use Rattle.log_record.proofs.posix_calls_lemmas.Open as opens
 use Rattle.log_record.specs.file_graph.Graph.{Graph}
 use Rattle.log_record.specs.file_graph.declared.effect.Kind.TheVariants as kind
 use Rattle.call_effects.specs.Effects.{kind_if}
-use Rattle.call_effects.specs.Wholes.{without_kinds, kind_of, tree_of, kept, graph_view}
+use Rattle.call_effects.specs.Wholes.{without_kinds, kind_of, tree_of, reachable_graph, graph_view}
 use Rattle.call_effects.specs.Fits.{IsEntry, IsUsedFile, IsEmptyDir, IsClear, IsNumber, OperationFits, FitsReplaced}
 use Rattle.call_effects.proofs.Asked.{bind_ok, not_refused, given, looked}
 use Rattle.call_effects.proofs.Inodes.{no_inodes}
@@ -106,7 +106,7 @@ unlink_fits g d own path operation sound e =
 
 -- ---- of an open file
 
-opened_is : (v : View) (test : Descriptor → Bool) (o : Option Descriptor) (i : ℕ) → run v (opened test o) ≡ Ok i → (x : Descriptor) × (o ≡ Some x) × (x.inode ≡ i)
+opened_is : (v : View) (test : Descriptor → Bool) (o : Option Descriptor) (i : ℕ) → run v (open_inode test o) ≡ Ok i → (x : Descriptor) × (o ≡ Some x) × (x.inode ≡ i)
 unfolding run
 opened_is v test None i e = absurd (cc)
 opened_is v test (Some x) i e = (x, refl, elim (test x) as (λ b. run v (cond b (Gives x.inode) (Refuses errno.BadDescriptor)) ≡ Ok i → x.inode ≡ i) [ true ↦ λ s. cc | false ↦ λ s. absurd (cc) ] e)
@@ -233,7 +233,7 @@ rmdir_fits g d own path operation sound e =
     fits_as g d own _ operation (given v full.2) (subst (λ k. IsEntry g place.0.location (i.0, k)) yes node.0, empty_seen g d i.0 seen.0 (node.1 ∙ ap Some yes) seen.1 (not_refused v errno.NotEmpty _ _ full.1))
 
 replaced_fits : (g : Graph) (d : Descriptors) (own : Own) (from to : Place) (i : ℕ) (old_dir : Bool) (o : Option ℕ) (replaced : Replaced) → IsFair g d → IsPlace g to → to.inode ≡ o → leads_to i o ≡ false
-    → run (graph_view g d) (replacing from to old_dir o) ≡ Ok replaced → FitsReplaced g d to.location i replaced
+    → run (graph_view g d) (replaced_at from to old_dir o) ≡ Ok replaced → FitsReplaced g d to.location i replaced
 replaced_fits g d own from to i old_dir None replaced sound at is other e =
     let full = bind_ok (graph_view g d) _ _ _ e in
     subst (FitsReplaced g d to.location i) (given (graph_view g d) full.2) (room_at g to at is)
@@ -256,7 +256,7 @@ replaced_fits g d own from to i old_dir (Some j) replaced sound at is other e =
           subst (FitsReplaced g d to.location i) (given v rest) (apart, file.0, file.1)
     ] refl no_file.2
 
-renamed_fits : (g : Graph) (d : Descriptors) (own : Own) (from to : Place) (i : ℕ) (operation : Operation) → IsFair g d → IsPlace g from → from.inode ≡ Some i → IsPlace g to → IsClear (tree_of (kept g d)) i to.location.parent → leads_to i to.inode ≡ false → run (graph_view g d) (renamed from to i) ≡ Ok operation → OperationFits g d own operation
+renamed_fits : (g : Graph) (d : Descriptors) (own : Own) (from to : Place) (i : ℕ) (operation : Operation) → IsFair g d → IsPlace g from → from.inode ≡ Some i → IsPlace g to → IsClear (tree_of (reachable_graph g d)) i to.location.parent → leads_to i to.inode ≡ false → run (graph_view g d) (rename_to from to i) ≡ Ok operation → OperationFits g d own operation
 renamed_fits g d own from to i operation sound at is at_to clear other e =
     let v = graph_view g d in
     let old_dir = bind_ok v _ _ _ e in
@@ -265,7 +265,7 @@ renamed_fits g d own from to i operation sound at is at_to clear other e =
     fits_as g d own _ operation (given v replaced.2) (node.0, clear, replaced_fits g d own from to i old_dir.0 to.inode replaced.0 sound at_to refl other replaced.1)
 
 -- the walk to a name that is not the root's
-clear_of_walk : (g : Graph) (d : Descriptors) (i : ℕ) (names : List (List ℕ)) (place : Place) → IsFair g d → is_root names ≡ false → run (graph_view g d) (prefix names) ≡ Ok place → list_any (λ x. x == i) place.walked ≡ false → IsClear (tree_of (kept g d)) i place.location.parent
+clear_of_walk : (g : Graph) (d : Descriptors) (i : ℕ) (names : List (List ℕ)) (place : Place) → IsFair g d → is_root names ≡ false → run (graph_view g d) (prefix names) ≡ Ok place → list_any (λ x. x == i) place.walked ≡ false → IsClear (tree_of (reachable_graph g d)) i place.location.parent
 clear_of_walk g d i [] place sound busy e clear = absurd (cc)
 clear_of_walk g d i (name ∷ names) place sound busy e clear = clear_walk g d i name names place sound.typed.root e clear
 
@@ -283,7 +283,7 @@ rename_fits g d own old new operation sound e =
     let roots = or_left (is_root old_names.0) (is_root new_names.0) (not_refused v errno.Busy _ _ busy.1) in
     let at = beyond g old_names.0 from.0 (place_of g d old_names.0 from.0 sound from.1) roots.0 in
     let at_to = beyond g new_names.0 to.0 (place_of g d new_names.0 to.0 sound to.1) roots.1 in
-    elim (leads_to i.0 to.0.inode) as (λ b. leads_to i.0 to.0.inode ≡ b → run v (cond b (Gives (Tell replies.Done)) (renamed from.0 to.0 i.0)) ≡ Ok operation → OperationFits g d own operation) [
+    elim (leads_to i.0 to.0.inode) as (λ b. leads_to i.0 to.0.inode ≡ b → run v (cond b (Gives (Tell replies.Done)) (rename_to from.0 to.0 i.0)) ≡ Ok operation → OperationFits g d own operation) [
       | true ↦ λ same done. fits_as g d own _ operation (given v done) tt
       | false ↦ λ other rest. renamed_fits g d own from.0 to.0 i.0 operation sound at (there_is v from.0.inode i.0 i.1) at_to (clear_of_walk g d i.0 new_names.0 to.0 sound roots.1 to.1 (not_refused v errno.Invalid _ _ under.1)) other rest
     ] refl under.2
@@ -364,13 +364,13 @@ list_fits g d own path operation e =
     let entries = bind_ok v _ _ _ refused.2 in
     fits_as g d own _ operation (given v entries.2) tt
 
-described_fits : (g : Graph) (d : Descriptors) (own : Own) (v : View) (s : Option Seen) (operation : Operation) → run v (described s) ≡ Ok operation → OperationFits g d own operation
+described_fits : (g : Graph) (d : Descriptors) (own : Own) (v : View) (s : Option Seen) (operation : Operation) → run v (node_description s) ≡ Ok operation → OperationFits g d own operation
 unfolding run
 described_fits g d own v None operation e = absurd (cc)
 described_fits g d own v (Some (File names size)) operation e = fits_as g d own _ operation (given v e) tt
 described_fits g d own v (Some (Dir entries)) operation e = fits_as g d own _ operation (given v e) tt
 
-node_described : (v : View) (i : ℕ) (operation : Operation) → run v (Look i described) ≡ Ok operation → run v (described (v.node i)) ≡ Ok operation
+node_described : (v : View) (i : ℕ) (operation : Operation) → run v (Look i node_description) ≡ Ok operation → run v (node_description (v.node i)) ≡ Ok operation
 unfolding run
 node_described v i operation e = e
 

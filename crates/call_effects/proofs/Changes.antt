@@ -7,15 +7,15 @@ use Rattle.std.specs.FinMap as fin
 use Rattle.log_record.specs.posix_calls.Content.{Entries}
 use Rattle.log_record.specs.posix_calls.Tree.{Tree, Descriptors, names_of, names_in, is_open, entries_of}
 use Rattle.log_record.specs.posix_calls.Tree as tree
-use Rattle.log_record.specs.file_graph.Graph.{Graph, Node, Body, FileBody, DirBody, after_effect, acted, subjects, is_among}
+use Rattle.log_record.specs.file_graph.Graph.{Graph, Node, Body, FileBody, DirBody, after_effect, subject_after, subjects, is_among}
 use Rattle.log_record.specs.file_graph.declared.effect.Kind.{Kind}
 use Rattle.log_record.specs.file_graph.declared.effect.Kind.TheVariants as kind
 use Rattle.log_record.specs.file_graph.declared.effect.Effect.{Effect}
 use Rattle.log_record.specs.file_graph.declared.effect.Effect.TheVariants as effect
-use Rattle.call_effects.specs.Effects.{stored}
-use Rattle.call_effects.specs.Wholes.{without_kinds, tree_of, tree_node, keep, kept, kind_of, one_if, IsTyped, IsSound, AreReached}
+use Rattle.call_effects.specs.Effects.{stored_count}
+use Rattle.call_effects.specs.Wholes.{without_kinds, tree_of, tree_node, keep, reachable_graph, kind_of, one_if, IsTyped, IsSound, AreReached}
 use Rattle.log_record.specs.posix_calls.declared.descriptor.Descriptor.{Descriptor}
-use Rattle.log_record.specs.posix_calls.Operations.{entered, left}
+use Rattle.log_record.specs.posix_calls.Operations.{with_entry, without_entry}
 use Rattle.log_record.proofs.posix_calls_lemmas.Sums.{names_of-set_node}
 use Rattle.log_record.proofs.posix_calls_lemmas.Counts.{counted, counted_is, counted_insert, counted_remove}
 use Rattle.call_effects.proofs.Puts.{put, put_other, put_through, put_through_at}
@@ -24,8 +24,8 @@ use Rattle.call_effects.proofs.Inodes.{get_inodes, inodes_insert, inodes_remove}
 -- what entries, descriptors and stored counts tell is so
 pub record IsFair (g : Graph) (held : Descriptors) : Type 0 where
   pub typed : IsTyped g held
-  pub counted : (i : ℕ) → stored (g i) ≡ names_of (tree_of g) i + one_if (i == 1)
-  pub one_name : (i : ℕ) → kind_of (g i) ≡ Some kind.Directory → stored (g i) ≡ 1
+  pub counted : (i : ℕ) → stored_count (g i) ≡ names_of (tree_of g) i + one_if (i == 1)
+  pub one_name : (i : ℕ) → kind_of (g i) ≡ Some kind.Directory → stored_count (g i) ≡ 1
 
 -- a sound graph, but for what is reached
 pub fair_of : (g : Graph) (held : Descriptors) → IsSound g held → IsFair g held
@@ -65,19 +65,19 @@ at_subject g f d j = elim (eqb_tells j d) [
 ]
 
 -- an effect on one inode is a put
-pub one_subject : (g : Graph) (e : Effect) (d : ℕ) → subjects e ≡ d ∷ [] → after_effect g e ≡ put g d (acted e (g d))
+pub one_subject : (g : Graph) (e : Effect) (d : ℕ) → subjects e ≡ d ∷ [] → after_effect g e ≡ put g d (subject_after e (g d))
 one_subject g e d one = λ t j. at_place j t where
-  at_place : (j : ℕ) → after_effect g e j ≡ put g d (acted e (g d)) j
-  at_place j = ap (λ is. cond (is_among j is) (acted e (g j)) (g j)) one ∙ ap (λ b. cond b (acted e (g j)) (g j)) (or_false j d) ∙ at_subject g (acted e) d j
+  at_place : (j : ℕ) → after_effect g e j ≡ put g d (subject_after e (g d)) j
+  at_place j = ap (λ is. cond (is_among j is) (subject_after e (g j)) (g j)) one ∙ ap (λ b. cond b (subject_after e (g j)) (g j)) (or_false j d) ∙ at_subject g (subject_after e) d j
 
 pub enter_is : (g : Graph) (p n c : ℕ) (k : Kind) (name : List ℕ) (es : Entries (ℕ × Kind)) → g p ≡ dir n es → after_effect g (effect.Enter p c k name) ≡ put g p (dir n (fin.insert es name (c, k)))
-enter_is g p n c k name es is = one_subject g (effect.Enter p c k name) p refl ∙ ap (λ o. put g p (acted (effect.Enter p c k name) o)) is
+enter_is g p n c k name es is = one_subject g (effect.Enter p c k name) p refl ∙ ap (λ o. put g p (subject_after (effect.Enter p c k name) o)) is
 
 pub leave_is : (g : Graph) (p n : ℕ) (name : List ℕ) (es : Entries (ℕ × Kind)) → g p ≡ dir n es → after_effect g (effect.Leave p name) ≡ put g p (dir n (fin.remove es name))
-leave_is g p n name es is = one_subject g (effect.Leave p name) p refl ∙ ap (λ o. put g p (acted (effect.Leave p name) o)) is
+leave_is g p n name es is = one_subject g (effect.Leave p name) p refl ∙ ap (λ o. put g p (subject_after (effect.Leave p name) o)) is
 
 pub names_is : (g : Graph) (i n m : ℕ) (body : Body) → g i ≡ Some (record { names = n; body = body }) → after_effect g (effect.Names i m) ≡ put g i (Some (record { names = m; body = body }))
-names_is g i n m body is = one_subject g (effect.Names i m) i refl ∙ ap (λ o. put g i (acted (effect.Names i m) o)) is
+names_is g i n m body is = one_subject g (effect.Names i m) i refl ∙ ap (λ o. put g i (subject_after (effect.Names i m) o)) is
 
 -- ---- names
 
@@ -181,20 +181,20 @@ put_alike f g i x same j =
 
 -- a graph that differs from a sound one in the number of names of one inode
 pub sound_of : (g new : Graph) (d e : Descriptors) (i : ℕ) → IsFair g d → IsTyped new e
-    → ((j : ℕ) → j ≢ i → stored (new j) ≡ stored (g j))
+    → ((j : ℕ) → j ≢ i → stored_count (new j) ≡ stored_count (g j))
     → ((j : ℕ) → j ≢ i → kind_of (new j) ≡ kind_of (g j))
     → ((j : ℕ) → j ≢ i → named new j ≡ named g j)
-    → stored (new i) ≡ named new i + one_if (i == 1)
-    → (kind_of (new i) ≡ Some kind.Directory → stored (new i) ≡ 1)
+    → stored_count (new i) ≡ named new i + one_if (i == 1)
+    → (kind_of (new i) ≡ Some kind.Directory → stored_count (new i) ≡ 1)
     → IsFair new e
 sound_of g new d e i sound typed stores kinds names count one = record {
   typed = typed;
   counted = λ j. elim (eqb_tells j i) [
-    | inl same ↦ subst (λ y. stored (new y) ≡ named new y + one_if (y == 1)) (sym same.1) count
+    | inl same ↦ subst (λ y. stored_count (new y) ≡ named new y + one_if (y == 1)) (sym same.1) count
     | inr off ↦ stores j off.1 ∙ sound.counted j ∙ ap (λ n. n + one_if (j == 1)) (sym (names j off.1))
   ];
   one_name = λ j is. elim (eqb_tells j i) [
-    | inl same ↦ ap (λ y. stored (new y)) same.1 ∙ one (ap (λ y. kind_of (new y)) (sym same.1) ∙ is)
+    | inl same ↦ ap (λ y. stored_count (new y)) same.1 ∙ one (ap (λ y. kind_of (new y)) (sym same.1) ∙ is)
     | inr off ↦ stores j off.1 ∙ sound.one_name j (sym (kinds j off.1) ∙ is)
   ];
 }
@@ -204,18 +204,18 @@ sound_of g new d e i sound typed stores kinds names count one = record {
 abbrev pub shown : Descriptors → ℕ → Option Node → Option tree.Node
 shown d i x = option_map tree_node (keep (is_open d i) x)
 
-pub tree_put : (g : Graph) (d : Descriptors) (i : ℕ) (x : Option Node) → tree_of (kept (put g i x) d) ≡ put (tree_of (kept g d)) i (shown d i x)
+pub tree_put : (g : Graph) (d : Descriptors) (i : ℕ) (x : Option Node) → tree_of (reachable_graph (put g i x) d) ≡ put (tree_of (reachable_graph g d)) i (shown d i x)
 tree_put g d i x = put_through_at (λ j y. option_map tree_node (keep (is_open d j) y)) g i x
 
-pub tree_dir : (g : Graph) (d : Descriptors) (p n : ℕ) (es : Entries (ℕ × Kind)) → g p ≡ dir n es → tree_of (kept g d) p ≡ Some (tree.Dir (without_kinds es))
+pub tree_dir : (g : Graph) (d : Descriptors) (p n : ℕ) (es : Entries (ℕ × Kind)) → g p ≡ dir n es → tree_of (reachable_graph g d) p ≡ Some (tree.Dir (without_kinds es))
 tree_dir g d p n es is = ap (λ o. option_map tree_node (keep (is_open d p) o)) is
 
-pub tree_enter : (g : Graph) (d : Descriptors) (p n c : ℕ) (k : Kind) (name : List ℕ) (es : Entries (ℕ × Kind)) → g p ≡ dir n es → tree_of (kept (put g p (dir n (fin.insert es name (c, k)))) d) ≡ entered (tree_of (kept g d)) (record { parent = p; name = name }) c
+pub tree_enter : (g : Graph) (d : Descriptors) (p n c : ℕ) (k : Kind) (name : List ℕ) (es : Entries (ℕ × Kind)) → g p ≡ dir n es → tree_of (reachable_graph (put g p (dir n (fin.insert es name (c, k)))) d) ≡ with_entry (tree_of (reachable_graph g d)) (record { parent = p; name = name }) c
 tree_enter g d p n c k name es is =
     tree_put g d p (dir n (fin.insert es name (c, k)))
-    ∙ ap (λ y. put (tree_of (kept g d)) p (Some (tree.Dir y))) (inodes_insert es name (c, k) ∙ sym (ap (λ o. fin.insert (entries_of o) name c) (tree_dir g d p n es is)))
+    ∙ ap (λ y. put (tree_of (reachable_graph g d)) p (Some (tree.Dir y))) (inodes_insert es name (c, k) ∙ sym (ap (λ o. fin.insert (entries_of o) name c) (tree_dir g d p n es is)))
 
-pub tree_leave : (g : Graph) (d : Descriptors) (p n : ℕ) (name : List ℕ) (es : Entries (ℕ × Kind)) → g p ≡ dir n es → tree_of (kept (put g p (dir n (fin.remove es name))) d) ≡ left (tree_of (kept g d)) (record { parent = p; name = name })
+pub tree_leave : (g : Graph) (d : Descriptors) (p n : ℕ) (name : List ℕ) (es : Entries (ℕ × Kind)) → g p ≡ dir n es → tree_of (reachable_graph (put g p (dir n (fin.remove es name))) d) ≡ without_entry (tree_of (reachable_graph g d)) (record { parent = p; name = name })
 tree_leave g d p n name es is =
     tree_put g d p (dir n (fin.remove es name))
-    ∙ ap (λ y. put (tree_of (kept g d)) p (Some (tree.Dir y))) (inodes_remove es name ∙ sym (ap (λ o. fin.remove (entries_of o) name) (tree_dir g d p n es is)))
+    ∙ ap (λ y. put (tree_of (reachable_graph g d)) p (Some (tree.Dir y))) (inodes_remove es name ∙ sym (ap (λ o. fin.remove (entries_of o) name) (tree_dir g d p n es is)))

@@ -3,17 +3,17 @@ use Rattle.std.proofs.Common.{◌≡◌, ◌≢◌, inl, inr, ℕ, ◌+◌, ◌-
 use Rattle.std.specs.Prelude.{option_map, ◌&&◌, not}
 use Rattle.std.proofs.lemmas.Bool.Decides.{eqb_tells}
 use Rattle.std.specs.FinMap as fin
-use Rattle.log_record.specs.posix_calls.Content.{Entries, resized, written}
+use Rattle.log_record.specs.posix_calls.Content.{Entries, with_length, with_bytes}
 use Rattle.log_record.specs.posix_calls.Tree.{Tree, Descriptors, names_of, names_in, is_open, entries_of, bytes_of}
 use Rattle.log_record.specs.posix_calls.Tree as tree
-use Rattle.log_record.specs.file_graph.Graph.{Graph, Node, FileBody, after_effect, after_effects, acted}
+use Rattle.log_record.specs.file_graph.Graph.{Graph, Node, FileBody, after_effect, after_effects, subject_after}
 use Rattle.log_record.specs.file_graph.declared.effect.Kind.{Kind}
 use Rattle.log_record.specs.file_graph.declared.effect.Kind.TheVariants as kind
 use Rattle.log_record.specs.file_graph.declared.effect.Effect.TheVariants as effect
-use Rattle.call_effects.specs.Effects.{stored, removing}
-use Rattle.call_effects.specs.Wholes.{without_kinds, tree_of, tree_node, kept, kind_of, one_if, IsTyped}
+use Rattle.call_effects.specs.Effects.{stored_count, remove_effects}
+use Rattle.call_effects.specs.Wholes.{without_kinds, tree_of, tree_node, reachable_graph, kind_of, one_if, IsTyped}
 use Rattle.log_record.specs.posix_calls.declared.operation.Location.{Location}
-use Rattle.log_record.specs.posix_calls.Operations.{entered, left, less_unused}
+use Rattle.log_record.specs.posix_calls.Operations.{with_entry, without_entry, less_unused}
 use Rattle.log_record.proofs.posix_calls_lemmas.Counts.{counted, counted_is, counted_empty, get_inserted, get_left, none_of_no_entries}
 use Rattle.log_record.proofs.posix_calls_lemmas.Changes.{off_one, on_one}
 use Rattle.call_effects.specs.Fits.{IsRoom, IsEntry}
@@ -54,14 +54,14 @@ IsUsed d i n = (n == 0 && not (is_open d i)) ≡ false
 pub shown_used : (d : Descriptors) (i n : ℕ) (bytes : List ℕ) → IsUsed d i n → shown d i (file n bytes) ≡ Some (tree.File bytes)
 shown_used d i n bytes used = ap (λ b. option_map tree_node (cond b None (file n bytes))) used
 
-pub tree_used : (g : Graph) (d : Descriptors) (i n : ℕ) (bytes : List ℕ) → g i ≡ file n bytes → IsUsed d i n → tree_of (kept g d) i ≡ Some (tree.File bytes)
+pub tree_used : (g : Graph) (d : Descriptors) (i n : ℕ) (bytes : List ℕ) → g i ≡ file n bytes → IsUsed d i n → tree_of (reachable_graph g d) i ≡ Some (tree.File bytes)
 tree_used g d i n bytes is used = ap (shown d i) is ∙ shown_used d i n bytes used
 
-pub write_is : (g : Graph) (i n at : ℕ) (old bytes : List ℕ) → g i ≡ file n old → after_effect g (effect.Bytes i at bytes) ≡ put g i (file n (written at bytes old))
-write_is g i n at old bytes is = one_subject g (effect.Bytes i at bytes) i refl ∙ ap (λ o. put g i (acted (effect.Bytes i at bytes) o)) is
+pub write_is : (g : Graph) (i n at : ℕ) (old bytes : List ℕ) → g i ≡ file n old → after_effect g (effect.Bytes i at bytes) ≡ put g i (file n (with_bytes at bytes old))
+write_is g i n at old bytes is = one_subject g (effect.Bytes i at bytes) i refl ∙ ap (λ o. put g i (subject_after (effect.Bytes i at bytes) o)) is
 
-pub size_is : (g : Graph) (i n len : ℕ) (old : List ℕ) → g i ≡ file n old → after_effect g (effect.Size i len) ≡ put g i (file n (resized len old))
-size_is g i n len old is = one_subject g (effect.Size i len) i refl ∙ ap (λ o. put g i (acted (effect.Size i len) o)) is
+pub size_is : (g : Graph) (i n len : ℕ) (old : List ℕ) → g i ≡ file n old → after_effect g (effect.Size i len) ≡ put g i (file n (with_length len old))
+size_is g i n len old is = one_subject g (effect.Size i len) i refl ∙ ap (λ o. put g i (subject_after (effect.Size i len) o)) is
 
 pub sound_bytes : (g : Graph) (d : Descriptors) (i n : ℕ) (old new : List ℕ) → IsFair g d → g i ≡ file n old → IsFair (put g i (file n new)) d
 sound_bytes g d i n old new sound is =
@@ -69,34 +69,34 @@ sound_bytes g d i n old new sound is =
     let x = file n new in
     let names = λ (j : ℕ). names_stay g i x j range.0 range.1 (ap (λ o. names_in j (option_map tree_node o)) (sym is)) in
     let there : put g i x i ≡ x = put_there g i x in
-    let count : stored (g i) ≡ named g i + one_if (i == 1) = sound.counted i in
+    let count : stored_count (g i) ≡ named g i + one_if (i == 1) = sound.counted i in
     sound_of g (put g i x) d d i sound (typed_file g d i n n old new sound.typed is)
-    (λ j off. ap stored (put_other g i j x off))
+    (λ j off. ap stored_count (put_other g i j x off))
     (λ j off. ap kind_of (put_other g i j x off))
     (λ j off. names j)
-    (ap stored there ∙ sym (ap stored is) ∙ count ∙ ap (λ m. m + one_if (i == 1)) (sym (names i)))
+    (ap stored_count there ∙ sym (ap stored_count is) ∙ count ∙ ap (λ m. m + one_if (i == 1)) (sym (names i)))
     (λ no. let clash : Some kind.File ≡ Some kind.Directory = sym (ap kind_of there) ∙ no in absurd (cc))
 
-pub tree_bytes : (g : Graph) (d : Descriptors) (i n : ℕ) (new : List ℕ) → IsUsed d i n → tree_of (kept (put g i (file n new)) d) ≡ put (tree_of (kept g d)) i (Some (tree.File new))
-tree_bytes g d i n new used = tree_put g d i (file n new) ∙ ap (λ y. put (tree_of (kept g d)) i y) (shown_used d i n new used)
+pub tree_bytes : (g : Graph) (d : Descriptors) (i n : ℕ) (new : List ℕ) → IsUsed d i n → tree_of (reachable_graph (put g i (file n new)) d) ≡ put (tree_of (reachable_graph g d)) i (Some (tree.File new))
+tree_bytes g d i n new used = tree_put g d i (file n new) ∙ ap (λ y. put (tree_of (reachable_graph g d)) i y) (shown_used d i n new used)
 
 pub sound_written : (g : Graph) (d : Descriptors) (i n at : ℕ) (old bytes : List ℕ) → IsFair g d → g i ≡ file n old → IsFair (after_effects g (effect.Bytes i at bytes ∷ [])) d
-sound_written g d i n at old bytes sound is = subst (λ h. IsFair h d) (sym (write_is g i n at old bytes is)) (sound_bytes g d i n old (written at bytes old) sound is)
+sound_written g d i n at old bytes sound is = subst (λ h. IsFair h d) (sym (write_is g i n at old bytes is)) (sound_bytes g d i n old (with_bytes at bytes old) sound is)
 
 pub tree_written : (g : Graph) (d : Descriptors) (i n at : ℕ) (old bytes : List ℕ) → g i ≡ file n old → IsUsed d i n
-    → tree_of (kept (after_effects g (effect.Bytes i at bytes ∷ [])) d) ≡ put (tree_of (kept g d)) i (Some (tree.File (written at bytes (bytes_of (tree_of (kept g d) i)))))
+    → tree_of (reachable_graph (after_effects g (effect.Bytes i at bytes ∷ [])) d) ≡ put (tree_of (reachable_graph g d)) i (Some (tree.File (with_bytes at bytes (bytes_of (tree_of (reachable_graph g d) i)))))
 tree_written g d i n at old bytes is used =
-    ap (λ h. tree_of (kept h d)) (write_is g i n at old bytes is) ∙ tree_bytes g d i n (written at bytes old) used
-    ∙ ap (λ o. put (tree_of (kept g d)) i (Some (tree.File (written at bytes (bytes_of o))))) (sym (tree_used g d i n old is used))
+    ap (λ h. tree_of (reachable_graph h d)) (write_is g i n at old bytes is) ∙ tree_bytes g d i n (with_bytes at bytes old) used
+    ∙ ap (λ o. put (tree_of (reachable_graph g d)) i (Some (tree.File (with_bytes at bytes (bytes_of o))))) (sym (tree_used g d i n old is used))
 
 pub sound_resized : (g : Graph) (d : Descriptors) (i n len : ℕ) (old : List ℕ) → IsFair g d → g i ≡ file n old → IsFair (after_effects g (effect.Size i len ∷ [])) d
-sound_resized g d i n len old sound is = subst (λ h. IsFair h d) (sym (size_is g i n len old is)) (sound_bytes g d i n old (resized len old) sound is)
+sound_resized g d i n len old sound is = subst (λ h. IsFair h d) (sym (size_is g i n len old is)) (sound_bytes g d i n old (with_length len old) sound is)
 
 pub tree_resized : (g : Graph) (d : Descriptors) (i n len : ℕ) (old : List ℕ) → g i ≡ file n old → IsUsed d i n
-    → tree_of (kept (after_effects g (effect.Size i len ∷ [])) d) ≡ put (tree_of (kept g d)) i (Some (tree.File (resized len (bytes_of (tree_of (kept g d) i)))))
+    → tree_of (reachable_graph (after_effects g (effect.Size i len ∷ [])) d) ≡ put (tree_of (reachable_graph g d)) i (Some (tree.File (with_length len (bytes_of (tree_of (reachable_graph g d) i)))))
 tree_resized g d i n len old is used =
-    ap (λ h. tree_of (kept h d)) (size_is g i n len old is) ∙ tree_bytes g d i n (resized len old) used
-    ∙ ap (λ o. put (tree_of (kept g d)) i (Some (tree.File (resized len (bytes_of o))))) (sym (tree_used g d i n old is used))
+    ap (λ h. tree_of (reachable_graph h d)) (size_is g i n len old is) ∙ tree_bytes g d i n (with_length len old) used
+    ∙ ap (λ o. put (tree_of (reachable_graph g d)) i (Some (tree.File (with_length len (bytes_of o))))) (sym (tree_used g d i n old is used))
 
 -- ---- a name of a file goes
 
@@ -139,31 +139,31 @@ module _ (g : Graph) (d : Descriptors) (i names : ℕ) (at : Location) (bytes : 
   pub sound_dropped : IsFair drop_2 d
   sound_dropped =
       let there : drop_2 i ≡ file (names - 1) bytes = put_there drop_1 i (file (names - 1) bytes) in
-      let before : names ≡ named g i + one_if (i == 1) = sym (ap stored is) ∙ sound.counted i in
+      let before : names ≡ named g i + one_if (i == 1) = sym (ap stored_count is) ∙ sound.counted i in
       let less : named drop_2 i + 1 ≡ named g i = ap (λ x. named drop_2 i + x) (sym (on_one i)) ∙ drop_names i in
-      let rest : stored (drop_2 i) ≡ names - 1 = ap stored there in
+      let rest : stored_count (drop_2 i) ≡ names - 1 = ap stored_count there in
       let root = not_root in
       sound_of g drop_2 d d i sound
       (typed_file drop_1 d i names (names - 1) bytes bytes (typed_leave g d at.parent entry.names at.name entry.entries sound.typed entry.is) in_1)
-      (drop_other stored (sym (ap stored entry.is)))
+      (drop_other stored_count (sym (ap stored_count entry.is)))
       (drop_other kind_of (sym (ap kind_of entry.is)))
       (λ j off. let m = drop_names j in let z = off_one i j off in omega (arith, m, z))
       (omega (arith, before, less, rest, root))
       (λ no. let clash : Some kind.File ≡ Some kind.Directory = sym (ap kind_of there) ∙ no in absurd (cc))
 
   -- the tree without the name has one name fewer
-  left_names : names_of (left (tree_of (kept g d)) at) i ≡ names - 1
+  left_names : names_of (without_entry (tree_of (reachable_graph g d)) at) i ≡ names - 1
   left_names =
-      let same : names_of (left (tree_of (kept g d)) at) i ≡ named drop_1 i = ap (λ h. names_of h i) (sym (tree_leave g d at.parent entry.names at.name entry.entries entry.is)) ∙ kept_named drop_1 d i in
-      let before : names ≡ named g i + one_if (i == 1) = sym (ap stored is) ∙ sound.counted i in
+      let same : names_of (without_entry (tree_of (reachable_graph g d)) at) i ≡ named drop_1 i = ap (λ h. names_of h i) (sym (tree_leave g d at.parent entry.names at.name entry.entries entry.is)) ∙ kept_named drop_1 d i in
+      let before : names ≡ named g i + one_if (i == 1) = sym (ap stored_count is) ∙ sound.counted i in
       let less : named drop_1 i + 1 ≡ named g i = ap (λ x. named drop_1 i + x) (sym (on_one i)) ∙ names_leave g at.parent entry.names at.name entry.entries (i, kind.File) i entry.is range.0 range.1 entry.there in
       let root = not_root in
       omega (arith, same, before, less, root)
 
-  pub tree_dropped : IsUsed d i names → tree_of (kept drop_2 d) ≡ less_unused d (left (tree_of (kept g d)) at) i
+  pub tree_dropped : IsUsed d i names → tree_of (reachable_graph drop_2 d) ≡ less_unused d (without_entry (tree_of (reachable_graph g d)) at) i
   tree_dropped used =
-      let t = tree_of (kept g d) in
-      let h = left t at in
+      let t = tree_of (reachable_graph g d) in
+      let h = without_entry t at in
       tree_put drop_1 d i (file (names - 1) bytes)
       ∙ ap (λ x. put x i (shown d i (file (names - 1) bytes))) (tree_leave g d at.parent entry.names at.name entry.entries entry.is)
       ∙ elim (names - 1 == 0 && not (is_open d i)) as (λ b. put h i (option_map tree_node (cond b None (file (names - 1) bytes))) ≡ cond b (put h i None) h) [
@@ -199,8 +199,8 @@ module _ (g : Graph) (d : Descriptors) (i : ℕ) (k : Kind) (from to : Location)
   kinds_2 : (j : ℕ) → kind_of (shift_2 j) ≡ kind_of (g j)
   kinds_2 j = alike_2 kind_of (sym (ap kind_of room.is)) j ∙ kinds_1 j
 
-  stores_2 : (j : ℕ) → stored (shift_2 j) ≡ stored (g j)
-  stores_2 j = alike_2 stored (sym (ap stored room.is)) j ∙ alike_1 stored (sym (ap stored entry.is)) j
+  stores_2 : (j : ℕ) → stored_count (shift_2 j) ≡ stored_count (g j)
+  stores_2 j = alike_2 stored_count (sym (ap stored_count room.is)) j ∙ alike_1 stored_count (sym (ap stored_count entry.is)) j
 
   names_2 : (j : ℕ) → named shift_2 j ≡ named g j
   names_2 j =
@@ -216,8 +216,8 @@ module _ (g : Graph) (d : Descriptors) (i : ℕ) (k : Kind) (from to : Location)
       (stores_2 i ∙ sound.counted i ∙ ap (λ n. n + one_if (i == 1)) (sym (names_2 i)))
       (λ is. stores_2 i ∙ sound.one_name i (sym (kinds_2 i) ∙ is))
 
-  pub tree_shifted : tree_of (kept shift_2 d) ≡ entered (left (tree_of (kept g d)) from) to i
-  tree_shifted = tree_enter shift_1 d to.parent room.names i k to.name room.entries room.is ∙ ap (λ h. entered h to i) (tree_leave g d from.parent entry.names from.name entry.entries entry.is)
+  pub tree_shifted : tree_of (reachable_graph shift_2 d) ≡ with_entry (without_entry (tree_of (reachable_graph g d)) from) to i
+  tree_shifted = tree_enter shift_1 d to.parent room.names i k to.name room.entries room.is ∙ ap (λ h. with_entry h to i) (tree_leave g d from.parent entry.names from.name entry.entries entry.is)
 
 -- ---- a directory goes
 
@@ -233,7 +233,7 @@ module _ (g : Graph) (d : Descriptors) (i : ℕ) (n : ℕ) (at : Location) (es :
       let one = same_dir entry.names n entry.entries es (sym entry.is ∙ ap g same ∙ is) in
       none_of_no_entries es at.name (i, kind.Directory) empty (ap (λ m. fin.get m at.name) (sym one) ∙ entry.there)
 
-  pub gone_is : after_effects g (removing at i) ≡ go_2
+  pub gone_is : after_effects g (remove_effects at i) ≡ go_2
   gone_is = ap (λ h. after_effect h (effect.Drop i)) (leave_is g at.parent entry.names at.name entry.entries entry.is) ∙ one_subject go_1 (effect.Drop i) i refl
 
   in_go : go_1 i ≡ dir n es
@@ -254,7 +254,7 @@ module _ (g : Graph) (d : Descriptors) (i : ℕ) (n : ℕ) (at : Location) (es :
   go_stay : (j : ℕ) → named go_2 j ≡ named go_1 j
   go_stay j = names_stay go_1 i None j go_range_i.0 go_range_i.1 (sym (none_in j))
 
-  one_name_left : (1 ≤ named g i) × (stored (g i) ≡ 1) × (stored (g i) ≡ named g i + one_if (i == 1))
+  one_name_left : (1 ≤ named g i) × (stored_count (g i) ≡ 1) × (stored_count (g i) ≡ named g i + one_if (i == 1))
   one_name_left = (has_name g at.parent entry.names at.name entry.entries (i, kind.Directory) entry.is go_range.0 go_range.1 entry.there, sound.one_name i (ap kind_of is), sound.counted i)
 
   no_root : one_if (i == 1) ≡ 0
@@ -272,18 +272,18 @@ module _ (g : Graph) (d : Descriptors) (i : ℕ) (n : ℕ) (at : Location) (es :
   pub sound_gone : IsFair go_2 d
   sound_gone =
       let there : go_2 i ≡ None = put_there go_1 i None in
-      let rest : stored (go_2 i) ≡ 0 = ap stored there in
+      let rest : stored_count (go_2 i) ≡ 0 = ap stored_count there in
       let names : named go_2 i ≡ 0 = go_stay i ∙ no_name in
       let root = no_root in
       sound_of g go_2 d d i sound
       (typed_drop go_1 d i (typed_leave g d at.parent entry.names at.name entry.entries sound.typed entry.is) (λ c m o held same. let now : Some kind.Directory ≡ Some kind.File = sym (ap kind_of is) ∙ ap (λ y. kind_of (g y)) (sym same) ∙ sound.typed.opened c m o held in cc) i_no_root no_name)
-      (go_other stored (sym (ap stored entry.is)))
+      (go_other stored_count (sym (ap stored_count entry.is)))
       (go_other kind_of (sym (ap kind_of entry.is)))
       (λ j off. let m = go_leaves j in let s = go_stay j in let z = off_one i j off in omega (arith, m, s, z))
       (omega (arith, rest, names, root))
       (λ no. let clash : None ≡ Some kind.Directory = sym (ap kind_of there) ∙ no in absurd (cc))
 
-  pub tree_gone : tree_of (kept go_2 d) ≡ put (left (tree_of (kept g d)) at) i None
+  pub tree_gone : tree_of (reachable_graph go_2 d) ≡ put (without_entry (tree_of (reachable_graph g d)) at) i None
   tree_gone = tree_put go_1 d i None ∙ ap (λ h. put h i None) (tree_leave g d at.parent entry.names at.name entry.entries entry.is)
 
 -- ---- one name more
@@ -320,22 +320,22 @@ module _ (g : Graph) (d : Descriptors) (i names : ℕ) (at : Location) (bytes : 
   pub sound_added : IsFair add_2 d
   sound_added =
       let there : add_2 i ≡ file (names + 1) bytes = put_there add_1 i (file (names + 1) bytes) in
-      let before : names ≡ named g i + one_if (i == 1) = sym (ap stored is) ∙ sound.counted i in
+      let before : names ≡ named g i + one_if (i == 1) = sym (ap stored_count is) ∙ sound.counted i in
       let more : named add_2 i ≡ named g i + 1 = add_names i ∙ ap (λ x. named g i + x) (on_one i) in
-      let now : stored (add_2 i) ≡ names + 1 = ap stored there in
+      let now : stored_count (add_2 i) ≡ names + 1 = ap stored_count there in
       sound_of g add_2 d d i sound
       (typed_file add_1 d i names (names + 1) bytes bytes (typed_enter g d at.parent room.names i kind.File at.name room.entries sound.typed room.is (ap kind_of is)) in_add)
-      (add_other stored (sym (ap stored room.is)))
+      (add_other stored_count (sym (ap stored_count room.is)))
       (add_other kind_of (sym (ap kind_of room.is)))
       (λ j off. let m = add_names j in let z = off_one i j off in omega (arith, m, z))
       (omega (arith, before, more, now))
       (λ no. let clash : Some kind.File ≡ Some kind.Directory = sym (ap kind_of there) ∙ no in absurd (cc))
 
-  pub tree_added : IsUsed d i names → tree_of (kept add_2 d) ≡ entered (tree_of (kept g d)) at i
+  pub tree_added : IsUsed d i names → tree_of (reachable_graph add_2 d) ≡ with_entry (tree_of (reachable_graph g d)) at i
   tree_added used =
-      let t = tree_of (kept g d) in
+      let t = tree_of (reachable_graph g d) in
       let y = Some (tree.Dir (fin.insert (entries_of (t at.parent)) at.name i)) in
       tree_put add_1 d i (file (names + 1) bytes)
       ∙ ap (λ h. put h i (shown d i (file (names + 1) bytes))) (tree_enter g d at.parent room.names i kind.File at.name room.entries room.is)
-      ∙ ap (λ o. put (entered t at i) i o) (ap (λ b. option_map tree_node (cond (b && not (is_open d i)) None (file (names + 1) bytes))) (not_zero names))
-      ∙ put_same (entered t at i) i (Some (tree.File bytes)) (put_other t at.parent i y (λ e. add_apart (sym e)) ∙ tree_used g d i names bytes is used)
+      ∙ ap (λ o. put (with_entry t at i) i o) (ap (λ b. option_map tree_node (cond (b && not (is_open d i)) None (file (names + 1) bytes))) (not_zero names))
+      ∙ put_same (with_entry t at i) i (Some (tree.File bytes)) (put_other t at.parent i y (λ e. add_apart (sym e)) ∙ tree_used g d i names bytes is used)

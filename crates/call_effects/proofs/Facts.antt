@@ -15,8 +15,8 @@ use Rattle.log_record.proofs.posix_calls_lemmas.Changes.{set_other}
 use Rattle.log_record.specs.file_graph.Graph.{Graph, Node, FileBody, DirBody}
 use Rattle.log_record.specs.file_graph.declared.effect.Kind.{Kind}
 use Rattle.log_record.specs.file_graph.declared.effect.Kind.TheVariants as kind
-use Rattle.call_effects.specs.Effects.{stored}
-use Rattle.call_effects.specs.Wholes.{without_kinds, tree_of, keep, kept, kind_of, body_kind, one_if, graph_view, node_is_dir, node_seen}
+use Rattle.call_effects.specs.Effects.{stored_count}
+use Rattle.call_effects.specs.Wholes.{without_kinds, tree_of, keep, reachable_graph, kind_of, body_kind, one_if, graph_view, node_is_dir, node_seen}
 use Rattle.call_effects.specs.Fits.{IsRoom, IsEntry, IsClear}
 use Rattle.call_effects.proofs.Asked.{bind_ok, given, looked}
 use Rattle.call_effects.proofs.Inodes.{get_inodes}
@@ -156,7 +156,7 @@ pub used_by_name : (g : Graph) (d : Descriptors) (at : Location) (i n : ℕ) (by
 used_by_name g d at i n bytes k sound entry is =
     let range = sound.typed.numbers at.parent kind.Directory (ap kind_of entry.is) in
     let one : 1 ≤ named g i = has_name g at.parent entry.names at.name entry.entries (i, k) entry.is range.0 range.1 entry.there in
-    let count : n ≡ named g i + one_if (i == 1) = sym (ap stored is) ∙ sound.counted i in
+    let count : n ≡ named g i + one_if (i == 1) = sym (ap stored_count is) ∙ sound.counted i in
     elim (eqb_tells n 0) [
       | inl same ↦ let z = same.1 in absurd (omega (arith, one, count, z))
       | inr off ↦ ap (λ b. b && not (is_open d i)) off.0
@@ -190,7 +190,7 @@ record IsPast (u : Tree) (i from : ℕ) (way : List ℕ) (place : Place) : Type 
   before : list_any (λ d. d == i) way ≡ false
 
 past : (g : Graph) (d : Descriptors) (i from : ℕ) (way : List ℕ) (name : List ℕ) (names : List (List ℕ)) (place : Place) → kind_of (g from) ≡ Some kind.Directory → run (graph_view g d) (walk from way (name ∷ names)) ≡ Ok place → list_any (λ d. d == i) place.walked ≡ false
-    → IsPast (set_node (tree_of (kept g d)) i None) i from way place
+    → IsPast (set_node (tree_of (reachable_graph g d)) i None) i from way place
 unfolding walk
 past g d i from way name [] place is e clear =
     let v = graph_view g d in
@@ -198,10 +198,10 @@ past g d i from way name [] place is e clear =
     let made = given v s.2 in
     let walked : list_any (λ d. d == i) (from ∷ way) ≡ false = ap (λ p. list_any (λ d. d == i) p.walked) made ∙ clear in
     let both = or_left (from == i) (list_any (λ d. d == i) way) walked in
-    subst (IsPast (set_node (tree_of (kept g d)) i None) i from way) made (record { inodes = []; chain = refl; apart = off_it from i both.0; before = both.1 })
+    subst (IsPast (set_node (tree_of (reachable_graph g d)) i None) i from way) made (record { inodes = []; chain = refl; apart = off_it from i both.0; before = both.1 })
 past g d i from way name (next ∷ names) place is e clear =
     let v = graph_view g d in
-    let t = tree_of (kept g d) in
+    let t = tree_of (reachable_graph g d) in
     let s = bind_ok v _ _ _ e in
     let c = bind_ok v _ _ _ s.2 in
     let there = has_dir g from is in
@@ -212,8 +212,8 @@ past g d i from way name (next ∷ names) place is e clear =
     let edge : fin.get (entries_of (set_node t i None from)) name ≡ Some (c.0) = ap (λ o. fin.get (entries_of o) name) (here ∙ tree_dir g d from there.names there.entries there.is) ∙ ap (λ m. fin.get m name) seen ∙ directory_is v (fin.get s.0 name) c.0 c.1 in
     record { inodes = c.0 ∷ rest.inodes; chain = ((name, edge), rest.chain); apart = rest.apart; before = both.1 }
 
-pub clear_walk : (g : Graph) (d : Descriptors) (i : ℕ) (name : List ℕ) (names : List (List ℕ)) (place : Place) → kind_of (g 1) ≡ Some kind.Directory → run (graph_view g d) (walk 1 [] (name ∷ names)) ≡ Ok place → list_any (λ d. d == i) place.walked ≡ false → IsClear (tree_of (kept g d)) i place.location.parent
+pub clear_walk : (g : Graph) (d : Descriptors) (i : ℕ) (name : List ℕ) (names : List (List ℕ)) (place : Place) → kind_of (g 1) ≡ Some kind.Directory → run (graph_view g d) (walk 1 [] (name ∷ names)) ≡ Ok place → list_any (λ d. d == i) place.walked ≡ false → IsClear (tree_of (reachable_graph g d)) i place.location.parent
 clear_walk g d i name names place root e clear =
     let p = past g d i 1 [] name names place root e clear in
-    let path = chain_path (set_node (tree_of (kept g d)) i None) p.inodes 1 place.location.parent p.chain in
+    let path = chain_path (set_node (tree_of (reachable_graph g d)) i None) p.inodes 1 place.location.parent p.chain in
     record { apart = p.apart; path = path.0; leads = path.1 }

@@ -6,7 +6,8 @@ use Rattle.std.specs.Ordering.{nat_cmp}
 use Rattle.std.specs.Cmp.Lexicographic.{slice_cmp}
 use Rattle.std.proofs.lemmas.Bool.Decides.{eqb_tells}
 use Rattle.log_record.specs.posix_calls.Content.{Entries}
-use Rattle.log_record.specs.posix_calls.Tree.{Descriptors, opening, names_in, names_of, is_open}
+use Rattle.log_record.specs.posix_calls.Tree.{Descriptors, names_in, names_of, is_open}
+use Rattle.log_record.specs.posix_calls.EmptyTree.{empty_state}
 use Rattle.log_record.specs.posix_calls.Tree as tree
 use Rattle.log_record.specs.posix_calls.Resolve.{resolve, resolve_from}
 use Rattle.log_record.specs.posix_calls.WellFormed.{IsDirectory, IsWithinLimits}
@@ -16,7 +17,7 @@ use Rattle.log_record.proofs.posix_calls_lemmas.Counts.{counted, counted_is, cou
 use Rattle.log_record.specs.file_graph.Graph.{Node, DirBody, fresh}
 use Rattle.log_record.specs.file_graph.declared.effect.Kind.{Kind}
 use Rattle.log_record.specs.file_graph.declared.effect.Kind.TheVariants as kind
-use Rattle.call_effects.specs.Effects.{stored}
+use Rattle.call_effects.specs.Effects.{stored_count}
 use Rattle.call_effects.specs.Wholes.{tree_of, tree_node, keep, state_of, kind_of, one_if, without_kinds, IsSound}
 use Rattle.call_effects.proofs.Inodes.{inodes_empty}
 use Rattle.call_effects.proofs.Changes.{named, dir}
@@ -29,7 +30,7 @@ no_named : (j : ℕ) → named fresh j ≡ 0
 unfolding names_of
 no_named j = all_zero 1024 (λ i. names_in j (option_map tree_node (cond (i == 1) (dir 1 fin.empty) None))) (λ i. no_names_in (i == 1) j)
 
-stored_fresh : (b : Bool) → stored (cond b (dir 1 fin.empty) None) ≡ one_if b
+stored_fresh : (b : Bool) → stored_count (cond b (dir 1 fin.empty) None) ≡ one_if b
 stored_fresh true = refl
 stored_fresh false = refl
 
@@ -70,7 +71,7 @@ fresh_sound = record {
   };
   counts = record {
     counted = λ i. stored_fresh (i == 1) ∙ sym (ap (λ x. x + one_if (i == 1)) (no_named i) ∙ zero_left (one_if (i == 1)));
-    one_name = λ i is. ap (λ b. stored (cond b (dir 1 fin.empty) None)) (kind_fresh (i == 1) kind.Directory is);
+    one_name = λ i is. ap (λ b. stored_count (cond b (dir 1 fin.empty) None)) (kind_fresh (i == 1) kind.Directory is);
   };
   reached = λ i is. ([], at_root i (is_one i (only_root (i == 1) is)));
 }
@@ -83,14 +84,14 @@ kept_fresh open_there false = refl
 abbrev nobody : Descriptors
 nobody c n = None
 
-pub fresh_state : state_of fresh nobody ≡ opening
+pub fresh_state : state_of fresh nobody ≡ empty_state
 fresh_state = λ t. record { tree = λ i. kept_fresh (is_open nobody i) (i == 1) t; descriptors = nobody }
 
 tree_fresh : (b : Bool) → option_map tree_node (cond b (dir 1 fin.empty) None) ≡ cond b (Some (tree.Dir fin.empty)) None
 tree_fresh true = ap (λ m. Some (tree.Dir m)) inodes_empty
 tree_fresh false = refl
 
-same_tree : tree_of fresh ≡ opening.tree
+same_tree : tree_of fresh ≡ empty_state.tree
 same_tree = λ t i. tree_fresh (i == 1) t
 
 pub fresh_within : IsWithinLimits (tree_of fresh)

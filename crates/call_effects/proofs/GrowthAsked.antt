@@ -7,7 +7,8 @@ use Rattle.std.specs.Ordering.{is_lt}
 use Rattle.std.specs.Cmp.Lexicographic.{nat_list_cmp_total}
 use Rattle.std.specs.FinMap as fin
 use Rattle.std.specs.FinMap.Entries.{below_all}
-use Rattle.log_record.specs.posix_calls.Content.{Entries, written, resized, file_units, directory_units}
+use Rattle.log_record.specs.posix_calls.Content.{Entries, with_bytes, with_length}
+use Rattle.log_record.specs.posix_calls.Units.{file_units, directory_units}
 use Rattle.log_record.specs.posix_calls.Tree.{Descriptors, Own}
 use Rattle.log_record.specs.posix_calls.Query.{Gives, ◌>>=◌, View, run}
 use Rattle.log_record.specs.posix_calls.Walk.{entries_seen, size_seen, size_at}
@@ -24,7 +25,7 @@ use Rattle.log_record.specs.file_graph.Units.{growth}
 use Rattle.log_record.specs.file_graph.declared.effect.Kind.{Kind}
 use Rattle.log_record.specs.file_graph.declared.effect.Kind.TheVariants as kind
 use Rattle.log_record.specs.file_graph.declared.effect.Effect.TheVariants as effect
-use Rattle.call_effects.specs.Effects.{stored, making, removing, kind_if, effects_of}
+use Rattle.call_effects.specs.Effects.{stored_count, make_effects, remove_effects, kind_if, effects_of}
 use Rattle.call_effects.specs.Records.{growth_asked, entry_rise, file_rise, move_rise}
 use Rattle.call_effects.specs.Wholes.{IsSound, without_kinds, graph_view, kind_of}
 use Rattle.call_effects.specs.Fits.{IsNew, IsRoom, IsEntry, IsUsedFile, IsEmptyDir, OperationFits}
@@ -85,7 +86,7 @@ gives v n = refl
 
 -- ---- a file's bytes
 
-pub written_length : (at : ℕ) (new old : List ℕ) → length (written at new old) ≡ max (length old) (at + length new)
+pub written_length : (at : ℕ) (new old : List ℕ) → length (with_bytes at new old) ≡ max (length old) (at + length new)
 written_length at new old = grind (arith, common_steps)
 
 same_le : (a b : ℕ) → a ≡ b → a ≤ b
@@ -117,7 +118,7 @@ module _ (g : Graph) (d : Descriptors) (sound : IsSound g d) where
   new_apart : (i : ℕ) (at : Location) → IsNew g i → IsRoom g at → i ≢ at.parent
   new_apart i at new room same = let both : ◌≡◌ {A = Option Node} (dir room.names room.entries) None = sym room.is ∙ ap g (sym same) ∙ new.none in cc
 
-  pub made_rises : (i : ℕ) (k : Kind) (at : Location) → IsNew g i → (room : IsRoom g at) → growth g (making i k at) ≡ cost (fresh 1 k) + room_rise at room
+  pub made_rises : (i : ℕ) (k : Kind) (at : Location) → IsNew g i → (room : IsRoom g at) → growth g (make_effects i k at) ≡ cost (fresh 1 k) + room_rise at room
   made_rises i k at new room =
       let x = dir room.names (fin.insert room.entries at.name (i, k)) in
       let g1 = put g i (fresh 0 k) in
@@ -131,7 +132,7 @@ module _ (g : Graph) (d : Descriptors) (sound : IsSound g d) where
       let there : cost (h at.parent) ≡ directory_units (fin.len room.entries + 1) = ap cost (put_other g2 i at.parent (fresh 1 k) (λ e. apart (sym e)) ∙ put_there g1 at.parent x) ∙ filled_cost (i, k) at room in
       let before : cost (g at.parent) ≡ directory_units (fin.len room.entries) = ap cost room.is in
       let two = two_rise g h i at.parent (let l = new.low in omega (arith, l)) new.high low.0 low.1 apart others in
-      let whole : growth g (making i k at) ≡ rises g h = growth_is g (making i k at) ∙ ap (rises g) (made g d i k at (fair_of g d sound) new room) in
+      let whole : growth g (make_effects i k at) ≡ rises g h = growth_is g (make_effects i k at) ∙ ap (rises g) (made g d i k at (fair_of g d sound) new room) in
       whole ∙ two ∙ of_parts (cost (h i)) (cost (g i)) (cost (h at.parent)) (cost (g at.parent)) (cost (fresh 1 k)) (directory_units (fin.len room.entries + 1)) (directory_units (fin.len room.entries)) here was there before
 
   pub empty_cost : cost (fresh 1 kind.Directory) ≡ directory_units 0
@@ -161,10 +162,10 @@ module _ (g : Graph) (d : Descriptors) (sound : IsSound g d) where
       growth_is g (effect.Leave at.parent at.name ∷ effect.Names i n ∷ [])
       ∙ none_rises g (after_effect g1 (effect.Names i n)) (λ j. let a = named_costs g1 i n j in let b = left_costs g at.parent at.name j in omega (arith, a, b))
 
-  removed_rises : (i : ℕ) (at : Location) → growth g (removing at i) ≡ 0
+  removed_rises : (i : ℕ) (at : Location) → growth g (remove_effects at i) ≡ 0
   removed_rises i at =
       let g1 = after_effect g (effect.Leave at.parent at.name) in
-      growth_is g (removing at i)
+      growth_is g (remove_effects at i)
       ∙ none_rises g (after_effect g1 (effect.Drop i)) (λ j. let a = dropped_costs g1 i j in let b = left_costs g at.parent at.name j in omega (arith, a, b))
 
   -- ---- a name moves
@@ -248,11 +249,11 @@ module _ (g : Graph) (d : Descriptors) (sound : IsSound g d) where
   -- a file's one effect
   pub written_rises : (i at : ℕ) (bytes : List ℕ) (f : IsUsedFile g d i) → growth g (effect.Bytes i at bytes ∷ []) ≡ file_rise (length f.bytes) (max (length f.bytes) (at + length bytes))
   written_rises i at bytes f =
-      growth_is g (effect.Bytes i at bytes ∷ []) ∙ ap (rises g) (write_is g i f.names at f.bytes bytes f.is) ∙ bytes_rise i f.names f.bytes (written at bytes f.bytes) f.is ∙ ap (file_rise (length f.bytes)) (written_length at bytes f.bytes)
+      growth_is g (effect.Bytes i at bytes ∷ []) ∙ ap (rises g) (write_is g i f.names at f.bytes bytes f.is) ∙ bytes_rise i f.names f.bytes (with_bytes at bytes f.bytes) f.is ∙ ap (file_rise (length f.bytes)) (written_length at bytes f.bytes)
 
   resized_rises : (i len : ℕ) (f : IsUsedFile g d i) → growth g (effect.Size i len ∷ []) ≡ file_rise (length f.bytes) len
   resized_rises i len f =
-      growth_is g (effect.Size i len ∷ []) ∙ ap (rises g) (size_is g i f.names len f.bytes f.is) ∙ bytes_rise i f.names f.bytes (resized len f.bytes) f.is ∙ ap (file_rise (length f.bytes)) (resized_length len f.bytes)
+      growth_is g (effect.Size i len ∷ []) ∙ ap (rises g) (size_is g i f.names len f.bytes f.is) ∙ bytes_rise i f.names f.bytes (with_length len f.bytes) f.is ∙ ap (file_rise (length f.bytes)) (resized_length len f.bytes)
 
   emptied_rises : (i : ℕ) (f : IsUsedFile g d i) → growth g (effect.Size i 0 ∷ []) ≡ 0
   emptied_rises i f = resized_rises i 0 f ∙ (let least = units_of_none (length f.bytes) in omega (arith, least))
@@ -270,8 +271,8 @@ module _ (g : Graph) (d : Descriptors) (sound : IsSound g d) where
       size_asked g d i (λ old. file_rise old (max old (at + length bytes))) f ∙ ap (λ n. Ok n) (sym (written_rises i at bytes f))
   growth_as_asked own new (Resize i len) free f = size_asked g d i (λ old. file_rise old len) f ∙ ap (λ n. Ok n) (sym (resized_rises i len f))
   growth_as_asked own new (RemoveDir at i) free fits = gives (graph_view g d) 0 ∙ ap (λ n. Ok n) (sym (removed_rises i at))
-  growth_as_asked own new (AddName at i) free (room, f) = entry_asked g d at.parent room.names room.entries room.is ∙ ap (λ n. Ok n) (sym (added_rises i (stored (g i) + 1) at room))
-  growth_as_asked own new (DropName at i) free fits = gives (graph_view g d) 0 ∙ ap (λ n. Ok n) (sym (dropped_rises i (stored (g i) - 1) at))
+  growth_as_asked own new (AddName at i) free (room, f) = entry_asked g d at.parent room.names room.entries room.is ∙ ap (λ n. Ok n) (sym (added_rises i (stored_count (g i) + 1) at room))
+  growth_as_asked own new (DropName at i) free fits = gives (graph_view g d) 0 ∙ ap (λ n. Ok n) (sym (dropped_rises i (stored_count (g i) - 1) at))
   growth_as_asked own new (Move from to i b Nothing) free (entry, clear, room) = moved_asked from to i (kind_if b) entry room
-  growth_as_asked own new (Move from to i b (OldFile j)) free (entry, clear, old) = gives (graph_view g d) 0 ∙ ap (λ n. Ok n) (sym (over_file_rises from to i j (stored (g j) - 1) (kind_if b) old.1))
+  growth_as_asked own new (Move from to i b (OldFile j)) free (entry, clear, old) = gives (graph_view g d) 0 ∙ ap (λ n. Ok n) (sym (over_file_rises from to i j (stored_count (g j) - 1) (kind_if b) old.1))
   growth_as_asked own new (Move from to i b (OldDir j)) free (entry, clear, old) = gives (graph_view g d) 0 ∙ ap (λ n. Ok n) (sym (over_dir_rises from to i j (kind_if b) old.1 old.2))

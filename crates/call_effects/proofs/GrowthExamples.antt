@@ -2,7 +2,7 @@
 use Rattle.std.proofs.Common.{◌≡◌, ◌≢◌, ℕ, ◌+◌, ◌-◌, List, [], ◌∷◌, length, None, refl, ap, ◌∙◌, arith}
 use Rattle.std.specs.Prelude.{nat_le, option_map, Ok, max, Bool}
 use Rattle.std.specs.FinMap as fin
-use Rattle.log_record.specs.posix_calls.Content.{directory_units}
+use Rattle.log_record.specs.posix_calls.Units.{directory_units}
 use Rattle.log_record.specs.posix_calls.Tree.{Descriptors}
 use Rattle.log_record.specs.posix_calls.declared.operation.Location.{Location}
 use Rattle.log_record.specs.posix_calls.declared.operation.Operation.TheVariants.{NewDir, Write, AddName, Move}
@@ -12,7 +12,7 @@ use Rattle.log_record.specs.file_graph.Graph.{Graph, fresh}
 use Rattle.log_record.specs.file_graph.Units.{growth}
 use Rattle.log_record.specs.file_graph.declared.effect.Kind.{Kind}
 use Rattle.log_record.specs.file_graph.declared.effect.Kind.TheVariants as kind
-use Rattle.call_effects.specs.Effects.{stored, kind_if, effects_of}
+use Rattle.call_effects.specs.Effects.{stored_count, kind_if, effects_of}
 use Rattle.call_effects.specs.Records.{file_rise}
 use Rattle.log_record.specs.posix_calls.Query.{Gives, ◌>>=◌, run}
 use Rattle.log_record.specs.posix_calls.declared.errno.Errno.TheVariants as errno
@@ -61,7 +61,7 @@ module _ (g : Graph) (d : Descriptors) (sound : IsSound g d) where
 
   -- so a second name there costs nothing
   second_name : (i : ℕ) (at : Location) (room : IsRoom g at) → fin.len room.entries ≡ 1 → growth g (effects_of g 0 (AddName at i)) ≡ 0
-  second_name i at room one = added_rises g d sound i (stored (g i) + 1) at room ∙ ap (λ n. directory_units (n + 1) - directory_units n) one
+  second_name i at room one = added_rises g d sound i (stored_count (g i) + 1) at room ∙ ap (λ n. directory_units (n + 1) - directory_units n) one
 
   -- one byte at 4,095 of an empty file ends its first block, and two begin the second
   one_byte : (i b : ℕ) (f : IsUsedFile g d i) → f.bytes ≡ [] → growth g (effects_of g 0 (Write i 4095 (b ∷ []))) ≡ 1

@@ -2,7 +2,7 @@
 use Rattle.std.proofs.Common.{◌≡◌, ◌≢◌, inl, inr, ℕ, ◌-◌, ◌<◌, ◌≤◌, [], refl, Some, None, Option, cond, ap, sym, ◌∙◌, subst, true, false, Bool, arith, ◌==◌}
 use Rattle.std.specs.Prelude.{option_map, ◌&&◌, not}
 use Rattle.std.proofs.lemmas.Bool.Decides.{eqb_tells}
-use Rattle.log_record.specs.posix_calls.Content.{resized}
+use Rattle.log_record.specs.posix_calls.Content.{with_length}
 use Rattle.log_record.specs.posix_calls.Tree.{Descriptors, Own, is_open, any_up_to, refers_to, set_own, with_own, names_of}
 use Rattle.log_record.specs.posix_calls.declared.descriptor.Descriptor.{Descriptor}
 use Rattle.log_record.specs.posix_calls.Tree as tree
@@ -13,8 +13,8 @@ use Rattle.log_record.proofs.posix_calls_lemmas.Open.{own_cases, own_there, open
 use Rattle.log_record.proofs.posix_calls_lemmas.Steps.{with_same}
 use Rattle.log_record.specs.file_graph.Graph.{Graph, Node, after_effects}
 use Rattle.log_record.specs.file_graph.declared.effect.Kind.TheVariants as kind
-use Rattle.call_effects.specs.Effects.{effects_of, stored}
-use Rattle.call_effects.specs.Wholes.{tree_of, tree_node, keep, kept, kind_of}
+use Rattle.call_effects.specs.Effects.{effects_of, stored_count}
+use Rattle.call_effects.specs.Wholes.{tree_of, tree_node, keep, reachable_graph, kind_of}
 use Rattle.call_effects.specs.Fits.{IsNew, IsUsedFile, IsNumber, IsHeld, OperationFits}
 use Rattle.call_effects.proofs.Puts.{put, put_there, put_same, put_through}
 use Rattle.call_effects.proofs.Changes.{IsFair, file}
@@ -40,14 +40,14 @@ module _ (g : Graph) (d : Descriptors) (client number i : ℕ) (what : Option De
   abbrev here : Option Node
   here = keep (is_open now i) (g i)
 
-  kept_at : (j : ℕ) → kept g now j ≡ put (kept g d) i here j
+  kept_at : (j : ℕ) → reachable_graph g now j ≡ put (reachable_graph g d) i here j
   kept_at j = elim (eqb_tells j i) [
-    | inl same ↦ ap (λ k. keep (is_open now k) (g k)) same.1 ∙ sym (ap (λ b. cond b here (kept g d j)) same.0)
-    | inr off ↦ ap (λ b. keep b (g j)) (open_same j off.1) ∙ sym (ap (λ b. cond b here (kept g d j)) off.0)
+    | inl same ↦ ap (λ k. keep (is_open now k) (g k)) same.1 ∙ sym (ap (λ b. cond b here (reachable_graph g d j)) same.0)
+    | inr off ↦ ap (λ b. keep b (g j)) (open_same j off.1) ∙ sym (ap (λ b. cond b here (reachable_graph g d j)) off.0)
   ]
 
   -- the graph that is kept changes at this inode alone
-  pub kept_changed : kept g now ≡ put (kept g d) i here
+  pub kept_changed : reachable_graph g now ≡ put (reachable_graph g d) i here
   kept_changed = λ t j. kept_at j t
 
   pub fair_now : ((o : Descriptor) → what ≡ Some o → (kind_of (g o.inode) ≡ Some kind.File) × (1 ≤ client) × (client ≤ 8) × (number < 32)) → IsFair g d → IsFair g now
@@ -88,7 +88,7 @@ and_false true o = refl
 and_false false o = refl
 
 pub record IsAsOpen (g : Graph) (d e : Descriptors) : Type 0 where
-  pub tree : tree_of (kept g e) ≡ tree_of (kept g d)
+  pub tree : tree_of (reachable_graph g e) ≡ tree_of (reachable_graph g d)
   pub fair : IsFair g e
 
 held_open : (g : Graph) (d : Descriptors) (client number i : ℕ) (r w : Bool) → IsFair g d → IsNumber (d client) number → 1 ≤ client → client ≤ 8 → IsUsedFile g d i → IsAsOpen g d (more_held d client number i r w)
@@ -97,10 +97,10 @@ held_open g d client number i r w fair num low high f =
     let near = near_new d client number i r w num.none in
     let e = more_held d client number i r w in
     let open_now : is_open e i ≡ true = open_there e client number (descriptor i r w) low high num.low (own_there d client number what) in
-    let before : kept g d i ≡ file f.names f.bytes = ap (keep (is_open d i)) f.is ∙ ap (λ b. cond b None (file f.names f.bytes)) f.used in
+    let before : reachable_graph g d i ≡ file f.names f.bytes = ap (keep (is_open d i)) f.is ∙ ap (λ b. cond b None (file f.names f.bytes)) f.used in
     let after : keep (is_open e i) (g i) ≡ file f.names f.bytes = ap (λ b. keep b (g i)) open_now ∙ ap (keep true) f.is ∙ and_false (f.names == 0) (file f.names f.bytes) in
     record {
-      tree = ap tree_of (kept_changed g d client number i what near ∙ put_same (kept g d) i (keep (is_open e i) (g i)) (before ∙ sym after));
+      tree = ap tree_of (kept_changed g d client number i what near ∙ put_same (reachable_graph g d) i (keep (is_open e i) (g i)) (before ∙ sym after));
       fair = fair_now g d client number i what near (λ o is.
           let inodes : Some i ≡ Some o.inode = ap (option_map (λ (x : Descriptor). x.inode)) is in
           let same : i ≡ o.inode = cc in
@@ -115,13 +115,13 @@ less_held d client number = with_own d client (set_own (d client) number None)
 near_old : (d : Descriptors) (client number i : ℕ) → IsHeld (d client) number i → (j : ℕ) → j ≢ i → refers_to j None ≡ refers_to j (d client number)
 near_old d client number i h j other = sym (ap (refers_to j) h.is ∙ elim (eqb_tells h.what.inode j) [ inl same ↦ absurd (other (sym same.1 ∙ h.inode)) | inr off ↦ off.0 ])
 
-tree_closed : (g : Graph) (d : Descriptors) (client number i : ℕ) → IsFair g d → IsHeld (d client) number i → (f : IsUsedFile g d i) → tree_of (kept g (less_held d client number)) ≡ less_unused (less_held d client number) (tree_of (kept g d)) i
+tree_closed : (g : Graph) (d : Descriptors) (client number i : ℕ) → IsFair g d → IsHeld (d client) number i → (f : IsUsedFile g d i) → tree_of (reachable_graph g (less_held d client number)) ≡ less_unused (less_held d client number) (tree_of (reachable_graph g d)) i
 tree_closed g d client number i fair h f =
-    let t = tree_of (kept g d) in
+    let t = tree_of (reachable_graph g d) in
     let e = less_held d client number in
-    let count : names_of t i ≡ f.names = sym (file_count g d i fair (ap kind_of f.is)) ∙ ap stored f.is in
+    let count : names_of t i ≡ f.names = sym (file_count g d i fair (ap kind_of f.is)) ∙ ap stored_count f.is in
     ap tree_of (kept_changed g d client number i None (near_old d client number i h))
-    ∙ put_through (option_map tree_node) (kept g d) i (keep (is_open e i) (g i))
+    ∙ put_through (option_map tree_node) (reachable_graph g d) i (keep (is_open e i) (g i))
     ∙ ap (λ o. put t i (option_map tree_node (keep (is_open e i) o))) f.is
     ∙ elim (f.names == 0 && not (is_open e i)) as (λ b. put t i (option_map tree_node (cond b None (file f.names f.bytes))) ≡ cond b (put t i None) t) [
       | true ↦ refl
@@ -136,7 +136,7 @@ graph_after g new operation = after_effects g (effects_of g new operation)
 
 -- an operation that leads to these descriptors
 pub record IsDone (g : Graph) (d e : Descriptors) (new : ℕ) (operation : Operation) : Type 0 where
-  pub tree : tree_of (kept (graph_after g new operation) e) ≡ tree_after e new (tree_of (kept g d)) operation
+  pub tree : tree_of (reachable_graph (graph_after g new operation) e) ≡ tree_after e new (tree_of (reachable_graph g d)) operation
   pub fair : IsFair (graph_after g new operation) e
 
 done_same : (g : Graph) (d : Descriptors) (client new : ℕ) (operation : Operation) → Stays operation → IsFair g d → (makes operation ≡ true → IsNew g new) → OperationFits g d (d client) operation → IsDone g d (with_own d client (d client)) new operation
@@ -159,8 +159,8 @@ done g d client new (NewFile at number reads writes) low high fair free (room, n
 done g d client new (OpenFile i true number reads writes) low high fair free (f, num) =
     let operation = OpenFile i true number reads writes in
     let b = after_operation g d (d client) new operation tt fair free (f, num) in
-    let is : graph_after g new operation i ≡ file f.names (resized 0 f.bytes) = ap (λ h. h i) (size_is g i f.names 0 f.bytes f.is) ∙ put_there g i (file f.names (resized 0 f.bytes)) in
-    let held = held_open (graph_after g new operation) d client number i reads writes b.fair num low high (record { names = f.names; bytes = resized 0 f.bytes; is = is; used = f.used }) in
+    let is : graph_after g new operation i ≡ file f.names (with_length 0 f.bytes) = ap (λ h. h i) (size_is g i f.names 0 f.bytes f.is) ∙ put_there g i (file f.names (with_length 0 f.bytes)) in
+    let held = held_open (graph_after g new operation) d client number i reads writes b.fair num low high (record { names = f.names; bytes = with_length 0 f.bytes; is = is; used = f.used }) in
     record { tree = held.tree ∙ b.tree; fair = held.fair }
 done g d client new (OpenFile i false number reads writes) low high fair free (f, num) =
     let held = held_open g d client number i reads writes fair num low high f in

@@ -1,8 +1,8 @@
 -- Which blocks have to be known for a range of a file's bytes.
 use Rattle.std.proofs.Common.{◌≡◌, ℕ, zero, suc, ◌+◌, ◌≤◌, ◌<◌, List, ◌++◌, refl, Some, None, Option, ap, ◌∙◌, arith}
 use Rattle.std.specs.Prelude.{◌/◌, option_map}
-use Rattle.log_record.specs.posix_calls.Query.{blocks_touched}
-use Rattle.call_effects.specs.Blocks.{followed, blocks_joined, range_by}
+use Rattle.log_record.specs.posix_calls.Part.{blocks_touched}
+use Rattle.call_effects.specs.Blocks.{joined_bytes, blocks_joined, range_by}
 use Rattle.call_effects.proofs.Blocks.{mapped, both_known}
 
 -- where so many blocks are not all known, this one isn't
@@ -18,7 +18,7 @@ unmapped f (Some x) e = absurd (cc)
 
 pub a_block : (blocks : ℕ → Option (List ℕ)) (first count : ℕ) → blocks_joined blocks first count ≡ None → IsUnknownBlock blocks first count
 a_block blocks first zero e = absurd (cc)
-a_block blocks first (suc count) e = elim (blocks first) as (λ o. blocks first ≡ o → followed o (blocks_joined blocks (first + 1) count) ≡ None → IsUnknownBlock blocks first (suc count)) [
+a_block blocks first (suc count) e = elim (blocks first) as (λ o. blocks first ≡ o → joined_bytes o (blocks_joined blocks (first + 1) count) ≡ None → IsUnknownBlock blocks first (suc count)) [
   | None ↦ λ is lacking. record { block = first; low = omega arith; high = omega arith; unknown = is }
   | Some bytes ↦ λ is lacking.
       let rest = a_block blocks (first + 1) count (unmapped (λ more. bytes ++ more) (blocks_joined blocks (first + 1) count) lacking) in
@@ -38,8 +38,8 @@ joined_more : (blocks more : ℕ → Option (List ℕ)) → HasBlocks more block
 joined_more blocks more has first zero all e = e
 joined_more blocks more has first (suc count) all e =
     let f = both_known (blocks first) (blocks_joined blocks (first + 1) count) all e in
-    ap (λ o. followed o (blocks_joined more (first + 1) count)) (has first f.bytes f.first_is)
-    ∙ ap (followed (Some f.bytes)) (joined_more blocks more has (first + 1) count f.more f.rest_is)
+    ap (λ o. joined_bytes o (blocks_joined more (first + 1) count)) (has first f.bytes f.first_is)
+    ∙ ap (joined_bytes (Some f.bytes)) (joined_more blocks more has (first + 1) count f.more f.rest_is)
     ∙ ap (λ x. Some x) f.all_is
 
 pub range_more : (blocks more : ℕ → Option (List ℕ)) → HasBlocks more blocks → (at count : ℕ) (bytes : List ℕ) → range_by blocks at count ≡ Some bytes → range_by more at count ≡ Some bytes

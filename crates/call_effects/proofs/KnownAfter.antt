@@ -11,18 +11,18 @@ use Rattle.log_record.specs.posix_calls.declared.operation.Operation.{Operation}
 use Rattle.log_record.specs.posix_calls.declared.operation.Operation.TheVariants.{Tell, NewDir, NewFile, OpenFile, CloseFile, Write, Resize, RemoveDir, AddName, DropName, Move}
 use Rattle.log_record.specs.posix_calls.declared.operation.Replaced.TheVariants.{Nothing, OldFile, OldDir}
 use Rattle.log_record.specs.posix_calls.declared.call.Call.{Call}
-use Rattle.log_record.specs.file_graph.Graph.{Graph, Node, is_among, acted, after_effect, after_effects, touches, subjects, file_bytes}
+use Rattle.log_record.specs.file_graph.Graph.{Graph, Node, is_among, subject_after, after_effect, after_effects, touches, subjects, file_bytes}
 use Rattle.log_record.specs.file_graph.declared.effect.Kind.{Kind}
 use Rattle.log_record.specs.file_graph.declared.effect.Kind.TheVariants as kind
 use Rattle.log_record.specs.file_graph.declared.effect.Effect.{Effect}
 use Rattle.log_record.specs.file_graph.declared.effect.Effect.TheVariants as effect
 use Rattle.log_record.proofs.file_graph_lemmas.Touches.{untouched}
-use Rattle.call_effects.specs.Effects.{effects_by, effects_of, making, stored_at, recounted}
+use Rattle.call_effects.specs.Effects.{effects_by, effects_of, make_effects, stored_at, recounted_file}
 use Rattle.call_effects.specs.Wholes.{IsSound}
 use Rattle.call_effects.specs.Blocks.{block_of}
 use Rattle.call_effects.specs.NodeView.{NodeView, view_at, view_of_node, view_acted, view_after, empty_view, in_entries}
 use Rattle.call_effects.specs.Fits.{OperationFits, IsNew, IsRoom, IsEntry, IsUsedFile}
-use Rattle.call_effects.specs.Known.{Knowledge, Agrees, IsGone, IsPutBack, IsPlanned, knows_after, knows_made, with_copy}
+use Rattle.call_effects.specs.Knowledge.{Knowledge, Agrees, IsGone, IsPutBack, IsPlanned, knows_after, knows_made, with_copy}
 use Rattle.call_effects.proofs.KnownTold.{both_hold}
 use Rattle.call_effects.proofs.KnownSteps.{planned_answer}
 use Rattle.call_effects.proofs.Served.{copy_agrees}
@@ -48,7 +48,7 @@ cond_same true o = refl
 cond_same false o = refl
 
 none_after : (e : Effect) (i : ℕ) → MakesNot i e → after_effect (λ j. None) e i ≡ None
-none_after (effect.Make x k) i apart = ap (λ b. cond b (acted (effect.Make x k) None) None) (or_false (x == i) apart)
+none_after (effect.Make x k) i apart = ap (λ b. cond b (subject_after (effect.Make x k) None) None) (or_false (x == i) apart)
 none_after (effect.Enter x j k name) i apart = cond_same (is_among i (x ∷ [])) None
 none_after (effect.Leave x name) i apart = cond_same (is_among i (x ∷ [])) None
 none_after (effect.Names x n) i apart = cond_same (is_among i (x ∷ [])) None
@@ -81,7 +81,7 @@ new_stays : (g : Graph) (new i : ℕ) (operation : Operation) (es : List Effect)
 new_stays g new i operation es is apart free = record {
   low = free.low;
   high = free.high;
-  none = effects_at g es i None free.none ∙ stays_none es i (subst (NoneMakes i) is (operation_makes (stored_at g (recounted operation)) new i operation apart));
+  none = effects_at g es i None free.none ∙ stays_none es i (subst (NoneMakes i) is (operation_makes (stored_at g (recounted_file operation)) new i operation apart));
 }
 
 -- ---- what effects touch stands in the whole, but for a new node
@@ -133,8 +133,8 @@ module _ (g : Graph) (d : Descriptors) (own : Own) (new : ℕ) where
 -- a new node is the same whatever stood there
 made_alike : (new : ℕ) (k : Kind) (es : List Effect) (o p : Option Node) → after_effects (λ j. o) (effect.Make new k ∷ es) new ≡ after_effects (λ j. p) (effect.Make new k ∷ es) new
 made_alike new k es o p =
-    let made = acted (effect.Make new k) None in
-    let here = λ (x : Option Node). let h : after_effect (λ j. x) (effect.Make new k) new ≡ acted (effect.Make new k) None = ap (λ b. cond (b || false) (acted (effect.Make new k) None) x) (eq-eqb new new refl) in h in
+    let made = subject_after (effect.Make new k) None in
+    let here = λ (x : Option Node). let h : after_effect (λ j. x) (effect.Make new k) new ≡ subject_after (effect.Make new k) None = ap (λ b. cond (b || false) (subject_after (effect.Make new k) None) x) (eq-eqb new new refl) in h in
     effects_at (after_effect (λ j. o) (effect.Make new k)) es new made (here o) ∙ sym (effects_at (after_effect (λ j. p) (effect.Make new k)) es new made (here p))
 
 new_alike : (names new : ℕ) (operation : Operation) (o p : Option Node) → makes operation ≡ true → after_effects (λ j. o) (effects_by names new operation) new ≡ after_effects (λ j. p) (effects_by names new operation) new
@@ -162,7 +162,7 @@ some_after d new kd name (Some v) e = counted (is_among new (subjects (effect.En
   counted true = named (is_among new (subjects (effect.Names new 1))) (in_entries (λ es. fin.insert es name (new, kd)) v)
   counted false = named (is_among new (subjects (effect.Names new 1))) v
 
-made_first : (new : ℕ) (kd : Kind) (at : Location) → is_some (view_after (making new kd at) new None) ≡ true
+made_first : (new : ℕ) (kd : Kind) (at : Location) → is_some (view_after (make_effects new kd at) new None) ≡ true
 made_first new kd at = ap (λ b. is_some (view_after (effect.Enter at.parent new kd at.name ∷ effect.Names new 1 ∷ []) new (cond b (Some (empty_view kd)) None))) (among_itself new) ∙ some_after at.parent new kd at.name (Some (empty_view kd)) refl
   where
     among_itself : (i : ℕ) → is_among i (i ∷ []) ≡ true
@@ -203,7 +203,7 @@ module _ (k : Knowledge) (g : Graph) (d : Descriptors) (c : Call) (new : ℕ) (o
       among_each (IsMade g d (d k.client) new operation) (touches es) i (subst (λ es. Each (touches es) (IsMade g d (d k.client) new operation)) effects_are_those (touched_stands g d (d k.client) new operation fits)) touched none
 
   new_same : (o p : Option Node) → makes operation ≡ true → after_effects (λ j. o) es new ≡ after_effects (λ j. p) es new
-  new_same o p m = subst (λ es. after_effects (λ j. o) es new ≡ after_effects (λ j. p) es new) effects_are_those (new_alike (stored_at g (recounted operation)) new operation o p m)
+  new_same o p m = subst (λ es. after_effects (λ j. o) es new ≡ after_effects (λ j. p) es new) effects_are_those (new_alike (stored_at g (recounted_file operation)) new operation o p m)
 
   -- the files that were put back are put back still
   put_back_after : IsPutBack (after_effects g es) (after_effects agrees.back es)
@@ -277,6 +277,6 @@ module _ (k : Knowledge) (g : Graph) (d : Descriptors) (c : Call) (new : ℕ) (o
   made_agrees m =
       let none = (agrees.granted new (plan.number m)).none in
       let seen : view_at (after_effects g es) new ≡ view_after es new None = viewed_after g es new None (ap (option_map view_of_node) none) in
-      let stands : is_some (view_after es new None) ≡ true = subst (λ (fs : List Effect). is_some (view_after fs new None) ≡ true) effects_are_those (made_view (stored_at g (recounted operation)) new operation m) in
+      let stands : is_some (view_after es new None) ≡ true = subst (λ (fs : List Effect). is_some (view_after fs new None) ≡ true) effects_are_those (made_view (stored_at g (recounted_file operation)) new operation m) in
       subst (λ copy. Agrees (with_copy after new copy) (after_effects g es) (with_own d k.client (own_after new k.own operation))) seen
       (copy_agrees after (after_effects g es) (with_own d k.client (own_after new k.own operation)) agrees_after new (λ gone. absurd (let clash : false ≡ true = sym (ap is_some (sym seen ∙ ap (option_map view_of_node) gone)) ∙ stands in cc)))

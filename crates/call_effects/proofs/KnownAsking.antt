@@ -4,7 +4,7 @@ use Rattle.std.specs.Prelude.{min, nat_lt}
 use Rattle.std.proofs.lemmas.Bool.{ltb-false}
 use Rattle.std.specs.FinMap as fin
 use Rattle.log_record.specs.posix_calls.Content.{Entries}
-use Rattle.log_record.specs.posix_calls.Path.{reading}
+use Rattle.log_record.specs.posix_calls.Path.{path_names}
 use Rattle.log_record.specs.posix_calls.Tree.{Own}
 use Rattle.log_record.specs.posix_calls.declared.descriptor.Descriptor.{Descriptor}
 use Rattle.log_record.specs.posix_calls.declared.errno.Errno.{Errno}
@@ -17,9 +17,10 @@ use Rattle.log_record.specs.posix_calls.declared.operation.Operation.{Operation}
 use Rattle.log_record.specs.posix_calls.declared.operation.Operation.TheVariants.{Tell, CloseFile}
 use Rattle.log_record.specs.posix_calls.declared.operation.Replaced.TheVariants.{OldFile}
 use Rattle.log_record.specs.posix_calls.declared.operation.Missing.TheVariants as missing
-use Rattle.log_record.specs.posix_calls.Query.{Seen, File, Dir, Query, Gives, Refuses, IsDir, Look, Range, ◌>>=◌, Part, Found, Known, Unknown, blocks_missing, run_part}
-use Rattle.log_record.specs.posix_calls.Walk.{Place, root_place, refuse, said, entries_at, size_at, kind_at, directory, directory_if, walk, prefix, leads_to, there}
-use Rattle.log_record.specs.posix_calls.Decide.{opened, number_or, empties, open_there, bytes_from, write_at, replacing, replacing_dir, renamed, described, open_path, close, pread, pwrite, truncate, mkdir, rmdir, link, unlink, rename, list_path, stat, decide}
+use Rattle.log_record.specs.posix_calls.Query.{Seen, File, Dir, Query, Gives, Refuses, IsDir, Look, Range, ◌>>=◌}
+use Rattle.log_record.specs.posix_calls.Part.{Part, Found, Known, Unknown, blocks_missing, run_part}
+use Rattle.log_record.specs.posix_calls.Walk.{Place, root_place, refuse, read_or_error, entries_at, size_at, kind_at, directory, directory_if, walk, prefix, leads_to, there}
+use Rattle.log_record.specs.posix_calls.Decide.{open_inode, number_or, empties, open_there, bytes_from, write_at, replaced_at, replacing_dir, rename_to, node_description, open_path, close, pread, pwrite, truncate, mkdir, rmdir, link, unlink, rename, list_path, stat, decide}
 
 -- each inode that is asked of, for its kind, to be looked at, or for a range of bytes, passes, as the part answers what comes before
 unfoldable pub QueryAll : {A : Type 0} → Part → (ℕ → Type 0) → (ℕ → Type 0) → (ℕ → ℕ → ℕ → Type 0) → Query A → Type 0
@@ -110,7 +111,7 @@ module _ (p : Part) (OnDir OnNode : ℕ → Type 0) (OnRange : ℕ → ℕ → �
   query_refuse e true = tt
   query_refuse e false = tt
 
-  query_said : {A : Type 0} (r : Result A Errno) → QueryIn (said r)
+  query_said : {A : Type 0} (r : Result A Errno) → QueryIn (read_or_error r)
   unfolding QueryAll
   query_said (Ok x) = tt
   query_said (Err e) = tt
@@ -125,7 +126,7 @@ module _ (p : Part) (OnDir OnNode : ℕ → Type 0) (OnRange : ℕ → ℕ → �
   query_number None = tt
   query_number (Some n) = tt
 
-  query_opened : (test : Descriptor → Bool) (o : Option Descriptor) (f : ℕ → Query Operation) → ((x : Descriptor) → o ≡ Some x → QueryIn (f x.inode)) → QueryIn (opened test o >>= f)
+  query_opened : (test : Descriptor → Bool) (o : Option Descriptor) (f : ℕ → Query Operation) → ((x : Descriptor) → o ≡ Some x → QueryIn (f x.inode)) → QueryIn (open_inode test o >>= f)
   unfolding QueryAll ◌>>=◌
   query_opened test None f rest = tt
   query_opened test (Some x) f rest = elim (test x) as (λ b. QueryIn (cond b (Gives x.inode) (Refuses errno.BadDescriptor) >>= f)) [ true ↦ rest x refl | false ↦ tt ]
@@ -155,7 +156,7 @@ module _ (p : Part) (OnDir OnNode : ℕ → Type 0) (OnRange : ℕ → ℕ → �
     if_asks (Some true) = tt
     if_asks (Some false) = tt
 
-  query_described : (s : Option Seen) → QueryIn (described s)
+  query_described : (s : Option Seen) → QueryIn (node_description s)
   unfolding QueryAll
   query_described None = tt
   query_described (Some (File names size)) = tt
@@ -169,8 +170,8 @@ module _ (p : Part) (OnDir OnNode : ℕ → Type 0) (OnRange : ℕ → ℕ → �
   query_where e true f rest = tt
   query_where e false f rest = rest refl
 
-  query_path : (path : List ℕ) (f : List (List ℕ) → Query Operation) → ((names : List (List ℕ)) → QueryIn (f names)) → QueryIn (said (reading path) >>= f)
-  query_path path f rest = query_then _ _ (query_said (reading path)) (λ names e. rest names)
+  query_path : (path : List ℕ) (f : List (List ℕ) → Query Operation) → ((names : List (List ℕ)) → QueryIn (f names)) → QueryIn (read_or_error (path_names path) >>= f)
+  query_path path f rest = query_then _ _ (query_said (path_names path)) (λ names e. rest names)
 
   there_known : (o : Option ℕ) (i : ℕ) → run_part p (there o) ≡ Known (Ok i) → o ≡ Some i
   unfolding run_part
@@ -319,7 +320,7 @@ module _ (p : Part) (OnDir OnNode : ℕ → Type 0) (OnRange : ℕ → ℕ → �
         query_past _ _ _ (
         query_open_there place number f place.inode (λ j is. (place_met names place j q is).1))))))))
 
-    query_replacing : (from to : Place) (old_dir : Bool) (o : Option ℕ) → ((i : ℕ) → o ≡ Some i → OnDir i × OnNode i) → QueryIn (replacing from to old_dir o)
+    query_replacing : (from to : Place) (old_dir : Bool) (o : Option ℕ) → ((i : ℕ) → o ≡ Some i → OnDir i × OnNode i) → QueryIn (replaced_at from to old_dir o)
     query_replacing from to old_dir None met = query_then _ _ (query_refuse _ _) (λ u r. query_gives _)
     query_replacing from to old_dir (Some j) met =
         query_then _ _ (query_kind (Some j) (λ i is. (met i is).0)) (λ new_dir s.
@@ -342,7 +343,7 @@ module _ (p : Part) (OnDir OnNode : ℕ → Type 0) (OnRange : ℕ → ℕ → �
         query_then _ _ (query_prefix new_names) (λ to r.
         query_past _ _ _ (by_node (leads_to i to.inode) old_names new_names from to i q r)))))))
       where
-        by_node : (b : Bool) (old_names new_names : List (List ℕ)) (from to : Place) (i : ℕ) → run_part p (prefix old_names) ≡ Known (Ok from) → run_part p (prefix new_names) ≡ Known (Ok to) → QueryIn (cond b (Gives (Tell reply.Done)) (renamed from to i))
+        by_node : (b : Bool) (old_names new_names : List (List ℕ)) (from to : Place) (i : ℕ) → run_part p (prefix old_names) ≡ Known (Ok from) → run_part p (prefix new_names) ≡ Known (Ok to) → QueryIn (cond b (Gives (Tell reply.Done)) (rename_to from to i))
         by_node true old_names new_names from to i q r = query_gives _
         by_node false old_names new_names from to i q r =
             query_then _ _ (query_kind from.inode (λ j is. (place_met old_names from j q is).0)) (λ old_dir s.

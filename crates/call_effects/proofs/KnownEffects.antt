@@ -7,10 +7,11 @@ use Rattle.log_record.specs.posix_calls.declared.operation.Operation.{Operation}
 use Rattle.log_record.specs.posix_calls.declared.operation.Operation.TheVariants.{Tell, NewDir, NewFile, OpenFile, CloseFile, Write, Resize, RemoveDir, AddName, DropName, Move}
 use Rattle.log_record.specs.posix_calls.declared.operation.Replaced.{Replaced}
 use Rattle.log_record.specs.posix_calls.declared.operation.Replaced.TheVariants.{Nothing, OldFile, OldDir}
-use Rattle.log_record.specs.posix_calls.Query.{Gives, ◌>>=◌, Part, run, whole_part}
+use Rattle.log_record.specs.posix_calls.Query.{Gives, ◌>>=◌, run}
+use Rattle.log_record.specs.posix_calls.Part.{Part, whole_part}
 use Rattle.log_record.specs.posix_calls.Walk.{names_seen, size_at}
 use Rattle.log_record.specs.file_graph.Graph.{Graph}
-use Rattle.call_effects.specs.Effects.{stored, stored_at, recounted, replaced_file, effects_by, effects_of}
+use Rattle.call_effects.specs.Effects.{stored_count, stored_at, recounted_file, replaced_file, effects_by, effects_of}
 use Rattle.call_effects.specs.Records.{names_if, effects_asked, file_rise, entry_rise, move_rise, growth_asked}
 use Rattle.call_effects.specs.Wholes.{kind_of, graph_view}
 use Rattle.call_effects.specs.Fits.{IsRoom, IsUsedFile, OperationFits, FitsReplaced}
@@ -25,7 +26,7 @@ replaced_used g d to i j Nothing fits is = absurd (cc)
 replaced_used g d to i j (OldFile x) fits is = let same : x ≡ j = cc in subst (IsUsedFile g d) same fits.2
 replaced_used g d to i j (OldDir x) fits is = absurd (cc)
 
-recounted_used : (g : Graph) (d : Descriptors) (own : Own) (operation : Operation) (j : ℕ) → OperationFits g d own operation → recounted operation ≡ Some j → IsUsedFile g d j
+recounted_used : (g : Graph) (d : Descriptors) (own : Own) (operation : Operation) (j : ℕ) → OperationFits g d own operation → recounted_file operation ≡ Some j → IsUsedFile g d j
 recounted_used g d own (AddName at i) j fits is = let same : i ≡ j = cc in subst (IsUsedFile g d) same fits.1
 recounted_used g d own (DropName at i) j fits is = let same : i ≡ j = cc in subst (IsUsedFile g d) same fits.1
 recounted_used g d own (Move from to i is_dir replaced) j fits is = replaced_used g d to i j replaced fits.2 is
@@ -44,10 +45,10 @@ unfolding run ◌>>=◌
 effects_by_names g d new operation None used = refl
 effects_by_names g d new operation (Some i) used =
     let f = used i refl in
-    ap (λ n. Ok (effects_by n new operation)) (ap names_seen (view_file g d i f.names f.bytes f.is f.used) ∙ sym (ap stored f.is))
+    ap (λ n. Ok (effects_by n new operation)) (ap names_seen (view_file g d i f.names f.bytes f.is f.used) ∙ sym (ap stored_count f.is))
 
 pub effects_are : (g : Graph) (d : Descriptors) (own : Own) (new : ℕ) (operation : Operation) → OperationFits g d own operation → run (graph_view g d) (effects_asked new operation) ≡ Ok (effects_of g new operation)
-effects_are g d own new operation fits = effects_by_names g d new operation (recounted operation) (λ i is. recounted_used g d own operation i fits is)
+effects_are g d own new operation fits = effects_by_names g d new operation (recounted_file operation) (λ i is. recounted_used g d own operation i fits is)
 
 -- ---- what is asked for meets no file that is gone
 
@@ -69,7 +70,7 @@ module _ (g : Graph) (d : Descriptors) (own : Own) (fair : IsFair g d) where
   query_count (Some i) used = query_look p Kept Kept KeptRange i _ (used_stays g d fair i (used i refl)) (λ s. gives _)
 
   pub query_effects : (new : ℕ) (operation : Operation) → OperationFits g d own operation → QueryKept g d fair (effects_asked new operation)
-  query_effects new operation fits = query_then p Kept Kept KeptRange _ _ (query_count (recounted operation) (λ i is. recounted_used g d own operation i fits is)) (λ n e. gives _)
+  query_effects new operation fits = query_then p Kept Kept KeptRange _ _ (query_count (recounted_file operation) (λ i is. recounted_used g d own operation i fits is)) (λ n e. gives _)
 
   query_rise : (at : Location) → IsRoom g at → QueryKept g d fair (entry_rise at.parent)
   query_rise at room = query_then p Kept Kept KeptRange _ _ (query_entries p Kept Kept KeptRange at.parent (dir_stays g d fair at.parent (ap kind_of room.is))) (λ entries e. gives _)

@@ -8,15 +8,16 @@ use Rattle.log_record.specs.posix_calls.declared.descriptor.Descriptor.{Descript
 use Rattle.log_record.specs.posix_calls.declared.call.Call.{Call}
 use Rattle.log_record.specs.posix_calls.declared.operation.Missing.{Missing}
 use Rattle.log_record.specs.posix_calls.declared.operation.Missing.TheVariants as missing
-use Rattle.log_record.specs.posix_calls.Query.{Query, Gives, Refuses, IsDir, Look, Range, View, Part, Found, Known, Unknown, blocks_missing, IsPart, run, run_part, whole_part}
+use Rattle.log_record.specs.posix_calls.Query.{Query, Gives, Refuses, IsDir, Look, Range, View, run}
+use Rattle.log_record.specs.posix_calls.Part.{Part, Found, Known, Unknown, blocks_missing, IsPart, run_part, whole_part}
 use Rattle.log_record.specs.posix_calls.Walk.{entries_seen, entries_at}
 use Rattle.log_record.specs.posix_calls.Decide.{decide}
 use Rattle.log_record.proofs.posix_calls_lemmas.Counts.{order}
 use Rattle.log_record.specs.file_graph.Graph.{Graph, Node, FileBody, DirBody}
 use Rattle.log_record.specs.file_graph.declared.effect.Kind.{Kind}
 use Rattle.log_record.specs.file_graph.declared.effect.Kind.TheVariants as kind
-use Rattle.call_effects.specs.Wholes.{keep, kept, kind_of, graph_view, node_is_dir, node_seen, node_bytes, without_kinds}
-use Rattle.call_effects.specs.Known.{IsPutBack, stored_view}
+use Rattle.call_effects.specs.Wholes.{keep, reachable_graph, kind_of, graph_view, node_is_dir, node_seen, node_bytes, without_kinds}
+use Rattle.call_effects.specs.Knowledge.{IsPutBack, stored_view}
 use Rattle.call_effects.specs.Fits.{IsUsedFile}
 use Rattle.call_effects.proofs.KnownAsking.{QueryAll, query_call, read_known}
 use Rattle.call_effects.proofs.Inodes.{get_inodes}
@@ -103,7 +104,7 @@ module _ (g : Graph) (d : Descriptors) (fair : IsFair g d) where
   pub record Stays (i : ℕ) : Type 0 where
     pub node : Node
     pub stored : g i ≡ Some node
-    pub kept : kept g d i ≡ Some node
+    pub kept : reachable_graph g d i ≡ Some node
 
   abbrev v : View
   v = graph_view g d

@@ -15,7 +15,7 @@ use Rattle.log_record.specs.file_graph.declared.effect.Kind.{Kind}
 use Rattle.log_record.specs.file_graph.declared.effect.Kind.TheVariants as kind
 use Rattle.call_effects.specs.Effects.{kind_if}
 use Rattle.call_effects.specs.Wholes.{kind_of, node_is_dir}
-use Rattle.call_effects.specs.Known.{Knowledge, Agrees, IsCopiedEntry, copied, same_kind, tells, is_told, is_dir_by, part_of}
+use Rattle.call_effects.specs.Knowledge.{Knowledge, Agrees, IsCopiedEntry, copy_of, same_kind, lists_as, is_listed, is_dir_by, part_of}
 use Rattle.call_effects.specs.NodeView.{DirView}
 use Rattle.log_record.specs.posix_calls.declared.operation.Location.{Location}
 use Rattle.call_effects.proofs.Changes.{IsFair}
@@ -40,23 +40,23 @@ itself kind.File = refl
 itself kind.Directory = refl
 
 module _ (k : Knowledge) (g : Graph) (d : Descriptors) (fair : IsFair g d) (agrees : Agrees k g d) where
-  pub entry_told : (at n i : ℕ) (es : Entries (ℕ × Kind)) (name : List ℕ) (what : Kind) → k.copies at ≡ Some (Some (DirView n es)) → fin.get es name ≡ Some (i, what) → is_told k i what ≡ true
+  pub entry_told : (at n i : ℕ) (es : Entries (ℕ × Kind)) (name : List ℕ) (what : Kind) → k.copies at ≡ Some (Some (DirView n es)) → fin.get es name ≡ Some (i, what) → is_listed k i what ≡ true
   entry_told at n i es name what copy is =
       let range = fair.typed.numbers at kind.Directory (ap kind_of (dir_copied k g d fair agrees at n es copy)) in
       let test : (i == i && same_kind what what) ≡ true = ap (λ b. b && same_kind what what) (eq-eqb i i refl) ∙ itself what in
-      any_there 1024 at (λ x. tells i what (copied k x)) range.0 range.1
-      (ap (λ x. tells i what (unwrap_or x None)) copy ∙ found_any (λ (e : ℕ × Kind). e.0 == i && same_kind e.1 what) name (i, what) (fin.entries es) (sym (fin.get-entries es name) ∙ is) test)
+      any_there 1024 at (λ x. lists_as i what (copy_of k x)) range.0 range.1
+      (ap (λ x. lists_as i what (unwrap_or x None)) copy ∙ found_any (λ (e : ℕ × Kind). e.0 == i && same_kind e.1 what) name (i, what) (fin.entries es) (sym (fin.get-entries es name) ∙ is) test)
 
-  by_kind : (i : ℕ) (what : Kind) → is_told k i what ≡ true → Answers (is_dir_by (k.copies i) (is_told k i kind.Directory) (is_told k i kind.File))
-  by_kind i kind.Directory e = subst (λ b. Answers (is_dir_by (k.copies i) b (is_told k i kind.File))) (sym e) (by_dir (k.copies i) (is_told k i kind.File))
-  by_kind i kind.File e = subst (λ b. Answers (is_dir_by (k.copies i) (is_told k i kind.Directory) b)) (sym e) (by_file (k.copies i) (is_told k i kind.Directory))
+  by_kind : (i : ℕ) (what : Kind) → is_listed k i what ≡ true → Answers (is_dir_by (k.copies i) (is_listed k i kind.Directory) (is_listed k i kind.File))
+  by_kind i kind.Directory e = subst (λ b. Answers (is_dir_by (k.copies i) b (is_listed k i kind.File))) (sym e) (by_dir (k.copies i) (is_listed k i kind.File))
+  by_kind i kind.File e = subst (λ b. Answers (is_dir_by (k.copies i) (is_listed k i kind.Directory) b)) (sym e) (by_file (k.copies i) (is_listed k i kind.Directory))
 
-  pub told_answered : (i : ℕ) (what : Kind) → is_told k i what ≡ true → Answers ((part_of k).is_dir i)
+  pub told_answered : (i : ℕ) (what : Kind) → is_listed k i what ≡ true → Answers ((part_of k).is_dir i)
   told_answered i what e = elim (eqb_tells i 1) [
-    | inl same ↦ (Some true, ap (λ b. cond b (Some (Some true)) (is_dir_by (k.copies i) (is_told k i kind.Directory) (is_told k i kind.File))) same.0)
+    | inl same ↦ (Some true, ap (λ b. cond b (Some (Some true)) (is_dir_by (k.copies i) (is_listed k i kind.Directory) (is_listed k i kind.File))) same.0)
     | inr off ↦
         let a = by_kind i what e in
-        (a.0, ap (λ b. cond b (Some (Some true)) (is_dir_by (k.copies i) (is_told k i kind.Directory) (is_told k i kind.File))) off.0 ∙ a.1)
+        (a.0, ap (λ b. cond b (Some (Some true)) (is_dir_by (k.copies i) (is_listed k i kind.Directory) (is_listed k i kind.File))) off.0 ∙ a.1)
   ]
 
   kind_test : (i : ℕ) (b : Bool) → kind_of (g i) ≡ Some (kind_if b) → option_map node_is_dir (agrees.back i) ≡ Some b

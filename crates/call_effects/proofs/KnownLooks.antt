@@ -7,14 +7,15 @@ use Rattle.log_record.specs.posix_calls.Tree.{Own, Descriptors}
 use Rattle.log_record.specs.posix_calls.declared.call.Call.{Call}
 use Rattle.log_record.specs.posix_calls.declared.operation.Missing.TheVariants as missing
 use Rattle.log_record.specs.posix_calls.declared.operation.Operation.{Operation}
-use Rattle.log_record.specs.posix_calls.Query.{Seen, File, Dir, Query, Gives, Refuses, IsDir, Look, Range, Part, Found, Known, Unknown, blocks_missing, run, run_part}
+use Rattle.log_record.specs.posix_calls.Query.{Seen, File, Dir, Query, Gives, Refuses, IsDir, Look, Range, run}
+use Rattle.log_record.specs.posix_calls.Part.{Part, Found, Known, Unknown, blocks_missing, run_part}
 use Rattle.log_record.specs.posix_calls.Walk.{entries_seen, entries_at}
 use Rattle.log_record.specs.posix_calls.Decide.{decide}
 use Rattle.log_record.proofs.posix_calls_lemmas.Counts.{order}
 use Rattle.log_record.specs.file_graph.Graph.{Graph}
 use Rattle.call_effects.specs.NodeView.{NodeView, FileView, DirView, view_seen}
 use Rattle.call_effects.specs.Wholes.{without_kinds}
-use Rattle.call_effects.specs.Known.{Knowledge, Agrees, IsLookedAtNext, part_of}
+use Rattle.call_effects.specs.Knowledge.{Knowledge, Agrees, IsLookedAtNext, part_of}
 use Rattle.call_effects.proofs.Inodes.{get_inodes}
 use Rattle.call_effects.proofs.Changes.{IsFair}
 use Rattle.call_effects.proofs.Facts.{some_first}

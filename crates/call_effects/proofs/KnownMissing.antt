@@ -6,7 +6,8 @@ use Rattle.std.proofs.lemmas.Bool.Decides.{eqb_tells}
 use Rattle.log_record.specs.posix_calls.Tree.{Descriptors}
 use Rattle.log_record.specs.posix_calls.declared.errno.Errno.{Errno}
 use Rattle.log_record.specs.posix_calls.declared.operation.Missing.TheVariants as missing
-use Rattle.log_record.specs.posix_calls.Query.{Seen, Query, Gives, Refuses, IsDir, Look, Range, Part, Found, Known, Unknown, IsBeyond, blocks_missing, run_part}
+use Rattle.log_record.specs.posix_calls.Query.{Seen, Query, Gives, Refuses, IsDir, Look, Range}
+use Rattle.log_record.specs.posix_calls.Part.{Part, Found, Known, Unknown, IsBeyond, blocks_missing, run_part}
 use Rattle.log_record.proofs.posix_calls_lemmas.Parts.{missing_is_left}
 use Rattle.log_record.proofs.posix_calls_lemmas.Sums.{any_is, any_there}
 use Rattle.log_record.specs.file_graph.Graph.{Graph}
@@ -15,7 +16,7 @@ use Rattle.log_record.specs.file_graph.declared.effect.Kind.TheVariants as kind
 use Rattle.call_effects.specs.Blocks.{blocks_joined}
 use Rattle.call_effects.specs.NodeView.{NodeView, view_seen}
 use Rattle.call_effects.specs.Wholes.{node_is_dir}
-use Rattle.call_effects.specs.Known.{Knowledge, Agrees, HasCopies, with_copy, with_blocks, in_run, copied, tells, is_told, is_dir_by, part_of}
+use Rattle.call_effects.specs.Knowledge.{Knowledge, Agrees, HasCopies, with_copy, with_blocks, in_run, copy_of, lists_as, is_listed, is_dir_by, part_of}
 use Rattle.call_effects.proofs.Changes.{IsFair}
 use Rattle.call_effects.proofs.JoinedBlocks.{a_block, not_joined, range_more}
 use Rattle.call_effects.proofs.KnownTold.{told_is, dir_stands, file_stands, part_is}
@@ -32,8 +33,8 @@ no_copy_by (Some c) dir file e = absurd (cc)
 
 no_kind : (k : Knowledge) (i : ℕ) → (part_of k).is_dir i ≡ None → k.copies i ≡ None
 no_kind k i e = elim (eqb_tells i 1) [
-  | inl same ↦ absurd (let clash : Some (Some true) ≡ None = sym (ap (λ b. cond b (Some (Some true)) (is_dir_by (k.copies i) (is_told k i kind.Directory) (is_told k i kind.File))) same.0) ∙ e in cc)
-  | inr off ↦ no_copy_by (k.copies i) (is_told k i kind.Directory) (is_told k i kind.File) (sym (ap (λ b. cond b (Some (Some true)) (is_dir_by (k.copies i) (is_told k i kind.Directory) (is_told k i kind.File))) off.0) ∙ e)
+  | inl same ↦ absurd (let clash : Some (Some true) ≡ None = sym (ap (λ b. cond b (Some (Some true)) (is_dir_by (k.copies i) (is_listed k i kind.Directory) (is_listed k i kind.File))) same.0) ∙ e in cc)
+  | inr off ↦ no_copy_by (k.copies i) (is_listed k i kind.Directory) (is_listed k i kind.File) (sym (ap (λ b. cond b (Some (Some true)) (is_dir_by (k.copies i) (is_listed k i kind.Directory) (is_listed k i kind.File))) off.0) ∙ e)
 ]
 
 -- a node that is missing was not copied
@@ -119,18 +120,18 @@ module _ (k more : Knowledge) (all : HasCopies more k) where
   copies_more i None o is e = absurd (cc)
   copies_more i (Some copy) o is e = ap (option_map (λ c. option_map view_seen c)) (all.nodes i copy is) ∙ e
 
-  tells_more : (at i : ℕ) (what : Kind) (copy : Option (Option NodeView)) → k.copies at ≡ copy → tells i what (unwrap_or copy None) ≡ true → tells i what (copied more at) ≡ true
+  tells_more : (at i : ℕ) (what : Kind) (copy : Option (Option NodeView)) → k.copies at ≡ copy → lists_as i what (unwrap_or copy None) ≡ true → lists_as i what (copy_of more at) ≡ true
   tells_more at i what None is e = absurd (cc)
-  tells_more at i what (Some copy) is e = ap (λ x. tells i what (unwrap_or x None)) (all.nodes at copy is) ∙ e
+  tells_more at i what (Some copy) is e = ap (λ x. lists_as i what (unwrap_or x None)) (all.nodes at copy is) ∙ e
 
-  told_more : (i : ℕ) (what : Kind) → is_told k i what ≡ true → is_told more i what ≡ true
+  told_more : (i : ℕ) (what : Kind) → is_listed k i what ≡ true → is_listed more i what ≡ true
   told_more i what e =
-      let at = any_is 1024 (λ x. tells i what (copied k x)) e in
-      any_there 1024 at.k (λ x. tells i what (copied more x)) at.low at.high (tells_more at.k i what (k.copies at.k) refl at.passes)
+      let at = any_is 1024 (λ x. lists_as i what (copy_of k x)) e in
+      any_there 1024 at.k (λ x. lists_as i what (copy_of more x)) at.low at.high (tells_more at.k i what (k.copies at.k) refl at.passes)
 
   module _ (g : Graph) (d : Descriptors) (fair : IsFair g d) (less : Agrees k g d) (agrees : Agrees more g d) where
     abbrev answer_by : Knowledge → ℕ → Option (Option Bool)
-    answer_by m i = is_dir_by (m.copies i) (is_told m i kind.Directory) (is_told m i kind.File)
+    answer_by m i = is_dir_by (m.copies i) (is_listed m i kind.Directory) (is_listed m i kind.File)
 
     -- whoever is not the root is answered by copies and what they tell
     beside_root : (m : Knowledge) (i : ℕ) → (i == 1) ≡ false → (part_of m).is_dir i ≡ answer_by m i
@@ -141,20 +142,20 @@ module _ (k more : Knowledge) (all : HasCopies more k) where
         let so : o ≡ there.0 = sym is ∙ (part_is more g d fair agrees).is_dir i there.0 (beside_root more i off ∙ there.1) in
         there.1 ∙ ap (λ x. Some x) (sym so)
 
-    answers_more : (i : ℕ) (o : Option Bool) (copy : Option (Option NodeView)) (dir file : Bool) → (i == 1) ≡ false → k.copies i ≡ copy → is_told k i kind.Directory ≡ dir → is_told k i kind.File ≡ file → is_dir_by copy dir file ≡ Some o → answer_by more i ≡ Some o
-    answers_more i o (Some copy) dir file off is b c e = ap (λ x. is_dir_by x (is_told more i kind.Directory) (is_told more i kind.File)) (all.nodes i copy is) ∙ e
+    answers_more : (i : ℕ) (o : Option Bool) (copy : Option (Option NodeView)) (dir file : Bool) → (i == 1) ≡ false → k.copies i ≡ copy → is_listed k i kind.Directory ≡ dir → is_listed k i kind.File ≡ file → is_dir_by copy dir file ≡ Some o → answer_by more i ≡ Some o
+    answers_more i o (Some copy) dir file off is b c e = ap (λ x. is_dir_by x (is_listed more i kind.Directory) (is_listed more i kind.File)) (all.nodes i copy is) ∙ e
     answers_more i o None true file off is b c e =
         let dir : Some true ≡ o = cc in
-        same_answer i o off (subst (λ x. Answers (is_dir_by (more.copies i) x (is_told more i kind.File))) (sym (told_more i kind.Directory b)) (by_dir (more.copies i) (is_told more i kind.File))) (dir_stands more g d fair agrees i (told_is k g d fair less i kind.Directory b) ∙ dir)
+        same_answer i o off (subst (λ x. Answers (is_dir_by (more.copies i) x (is_listed more i kind.File))) (sym (told_more i kind.Directory b)) (by_dir (more.copies i) (is_listed more i kind.File))) (dir_stands more g d fair agrees i (told_is k g d fair less i kind.Directory b) ∙ dir)
     answers_more i o None false true off is b c e =
         let file : Some false ≡ o = cc in
-        same_answer i o off (subst (λ x. Answers (is_dir_by (more.copies i) (is_told more i kind.Directory) x)) (sym (told_more i kind.File c)) (by_file (more.copies i) (is_told more i kind.Directory))) (file_stands more g d fair agrees i (told_is k g d fair less i kind.File c) ∙ file)
+        same_answer i o off (subst (λ x. Answers (is_dir_by (more.copies i) (is_listed more i kind.Directory) x)) (sym (told_more i kind.File c)) (by_file (more.copies i) (is_listed more i kind.Directory))) (file_stands more g d fair agrees i (told_is k g d fair less i kind.File c) ∙ file)
     answers_more i o None false false off is b c e = absurd (cc)
 
     kind_more : (i : ℕ) (o : Option Bool) → (part_of k).is_dir i ≡ Some o → (part_of more).is_dir i ≡ Some o
     kind_more i o e = elim (eqb_tells i 1) [
       | inl same ↦ ap (λ b. cond b (Some (Some true)) (answer_by more i)) same.0 ∙ sym (ap (λ b. cond b (Some (Some true)) (answer_by k i)) same.0) ∙ e
-      | inr off ↦ beside_root more i off.0 ∙ answers_more i o (k.copies i) (is_told k i kind.Directory) (is_told k i kind.File) off.0 refl refl refl (sym (beside_root k i off.0) ∙ e)
+      | inr off ↦ beside_root more i off.0 ∙ answers_more i o (k.copies i) (is_listed k i kind.Directory) (is_listed k i kind.File) off.0 refl refl refl (sym (beside_root k i off.0) ∙ e)
     ]
 
     pub stays_known : {A : Type 0} (q : Query A) (r : Result A Errno) → run_part (part_of k) q ≡ Known r → run_part (part_of more) q ≡ Known r

@@ -1,6 +1,7 @@
 -- An operation's effects and its growth miss nothing but nodes: they ask for no bytes.
 use Rattle.std.proofs.Common.{◌≡◌, ℕ, Some, None, Option, cond, true, false, ◌==◌, refl, ap, ◌∙◌}
-use Rattle.log_record.specs.posix_calls.Query.{Seen, Query, Gives, Refuses, IsDir, Look, Range, ◌>>=◌, Part, Found, Unknown, run_part}
+use Rattle.log_record.specs.posix_calls.Query.{Seen, Query, Gives, Refuses, IsDir, Look, Range, ◌>>=◌}
+use Rattle.log_record.specs.posix_calls.Part.{Part, Found, Unknown, run_part}
 use Rattle.log_record.specs.posix_calls.declared.operation.Location.{Location}
 use Rattle.log_record.specs.posix_calls.declared.operation.Missing.{Missing}
 use Rattle.log_record.specs.posix_calls.declared.operation.Missing.TheVariants as missing
@@ -8,9 +9,9 @@ use Rattle.log_record.specs.posix_calls.declared.operation.Operation.{Operation}
 use Rattle.log_record.specs.posix_calls.declared.operation.Operation.TheVariants.{Tell, NewDir, NewFile, OpenFile, CloseFile, Write, Resize, RemoveDir, AddName, DropName, Move}
 use Rattle.log_record.specs.posix_calls.declared.operation.Replaced.{Replaced}
 use Rattle.log_record.specs.posix_calls.declared.operation.Replaced.TheVariants.{Nothing, OldFile, OldDir}
-use Rattle.call_effects.specs.Effects.{recounted}
+use Rattle.call_effects.specs.Effects.{recounted_file}
 use Rattle.call_effects.specs.Records.{names_if, effects_asked, entry_rise, move_rise, growth_asked}
-use Rattle.call_effects.specs.Known.{Knowledge, IsNodeMissing, part_of}
+use Rattle.call_effects.specs.Knowledge.{Knowledge, IsNodeMissing, part_of}
 use Rattle.call_effects.proofs.KnownAsking.{QueryAll, query_then, query_gives, query_look}
 use Rattle.call_effects.proofs.KnownMissing.{missing_no_copy}
 
@@ -52,7 +53,7 @@ module _ (p : Part) where
   names_alone (Some i) = query_look p Any Any NoRange i _ tt (λ s. gives _)
 
   effects_alone : (new : ℕ) (operation : Operation) → NodesAlone (effects_asked new operation)
-  effects_alone new operation = query_then p Any Any NoRange _ _ (names_alone (recounted operation)) (λ n e. gives _)
+  effects_alone new operation = query_then p Any Any NoRange _ _ (names_alone (recounted_file operation)) (λ n e. gives _)
 
   rise_alone : (dir : ℕ) → NodesAlone (entry_rise dir)
   rise_alone dir = reads dir _ _

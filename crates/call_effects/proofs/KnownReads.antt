@@ -5,12 +5,13 @@ use Rattle.log_record.specs.posix_calls.declared.call.Call.{Call}
 use Rattle.log_record.specs.posix_calls.declared.descriptor.Descriptor.{Descriptor}
 use Rattle.log_record.specs.posix_calls.declared.operation.Missing.TheVariants as missing
 use Rattle.log_record.specs.posix_calls.declared.operation.Operation.{Operation}
-use Rattle.log_record.specs.posix_calls.Query.{Seen, File, Dir, Query, Gives, Refuses, IsDir, Look, Range, Part, Found, Known, Unknown, blocks_missing, blocks_touched, run, run_part}
+use Rattle.log_record.specs.posix_calls.Query.{Seen, File, Dir, Query, Gives, Refuses, IsDir, Look, Range, run}
+use Rattle.log_record.specs.posix_calls.Part.{Part, Found, Known, Unknown, blocks_missing, blocks_touched, run_part}
 use Rattle.log_record.specs.posix_calls.Walk.{size_seen, size_at}
 use Rattle.log_record.specs.posix_calls.Decide.{decide}
 use Rattle.call_effects.specs.NodeView.{NodeView, FileView, DirView, view_seen}
 use Rattle.call_effects.specs.Wholes.{without_kinds}
-use Rattle.call_effects.specs.Known.{Knowledge, IsReadNext, AreBlocksMissing, part_of}
+use Rattle.call_effects.specs.Knowledge.{Knowledge, IsReadNext, AreBlocksMissing, part_of}
 use Rattle.call_effects.proofs.JoinedBlocks.{a_block}
 use Rattle.call_effects.proofs.KnownAsking.{QueryAll, query_call, read_known}
 use Rattle.call_effects.proofs.KnownMissing.{missing_not_joined}

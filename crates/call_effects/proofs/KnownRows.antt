@@ -13,7 +13,8 @@ use Rattle.log_record.specs.posix_calls.declared.operation.Operation.TheVariants
 use Rattle.log_record.specs.posix_calls.declared.call.Reply.TheVariants as reply
 use Rattle.log_record.specs.posix_calls.declared.operation.Missing.{Missing}
 use Rattle.log_record.specs.posix_calls.declared.operation.Missing.TheVariants as missing
-use Rattle.log_record.specs.posix_calls.Query.{Seen, Query, IsDir, Look, Range, Part, Found, Known, Unknown, blocks_missing, run_part}
+use Rattle.log_record.specs.posix_calls.Query.{Seen, Query, IsDir, Look, Range}
+use Rattle.log_record.specs.posix_calls.Part.{Part, Found, Known, Unknown, blocks_missing, run_part}
 use Rattle.log_record.specs.posix_calls.Walk.{walk}
 use Rattle.log_record.specs.posix_calls.Decide.{mkdir, unlink, stat, pread}
 use Rattle.log_record.proofs.posix_calls_lemmas.Chain.{part_bind, part_gives, part_refuses}
@@ -27,7 +28,7 @@ use Rattle.call_effects.specs.Records.{effects_asked}
 use Rattle.call_effects.specs.Fits.{IsNew}
 use Rattle.call_effects.specs.Blocks.{block_at}
 use Rattle.call_effects.specs.NodeView.{NodeView, FileView, DirView, view_at, view_of_node}
-use Rattle.call_effects.specs.Known.{Knowledge, Agrees, IsPlanned, part_of, with_copy, with_blocks, knows_after}
+use Rattle.call_effects.specs.Knowledge.{Knowledge, Agrees, IsPlanned, part_of, with_copy, with_blocks, knows_after}
 use Rattle.call_effects.proofs.Changes.{file}
 use Rattle.call_effects.proofs.Fresh.{fresh_sound}
 use Rattle.call_effects.proofs.KnownAfter.{agrees_after}

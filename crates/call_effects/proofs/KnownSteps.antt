@@ -2,7 +2,8 @@
 use Rattle.std.specs.Prelude.{IsSome, is_some}
 use Rattle.std.proofs.Common.{◌≡◌, ℕ, List, Ok, Err, Result, cond, ap, sym, ◌∙◌, subst}
 use Rattle.log_record.specs.posix_calls.Tree.{Own, Descriptors, with_own}
-use Rattle.log_record.specs.posix_calls.Query.{Known, Unknown, run, run_part}
+use Rattle.log_record.specs.posix_calls.Query.{run}
+use Rattle.log_record.specs.posix_calls.Part.{Known, Unknown, run_part}
 use Rattle.log_record.specs.posix_calls.declared.operation.Missing.{Missing}
 use Rattle.log_record.specs.posix_calls.declared.operation.Missing.TheVariants as missing
 use Rattle.log_record.specs.posix_calls.Decide.{decide}
@@ -18,9 +19,9 @@ use Rattle.log_record.specs.file_graph.declared.effect.Effect.{Effect}
 use Rattle.call_effects.specs.Calls.{answer_over}
 use Rattle.call_effects.specs.Effects.{effects_of}
 use Rattle.call_effects.specs.Records.{effects_asked, growth_asked}
-use Rattle.call_effects.specs.Wholes.{IsSound, state_of, graph_view, kept}
+use Rattle.call_effects.specs.Wholes.{IsSound, state_of, graph_view, reachable_graph}
 use Rattle.call_effects.specs.Fits.{OperationFits}
-use Rattle.call_effects.specs.Known.{Knowledge, Agrees, IsPlanned, part_of, stored_view}
+use Rattle.call_effects.specs.Knowledge.{Knowledge, Agrees, IsPlanned, part_of, stored_view}
 use Rattle.call_effects.proofs.Changes.{IsFair, fair_of}
 use Rattle.call_effects.proofs.Steps.{answer_fits, call_done, call_sound, call_refused}
 use Rattle.call_effects.proofs.KnownGone.{Stays, MissingOf, QueryKept, call_asks_kept, no_call_meets, stored_alike, missing_kept}
@@ -78,7 +79,7 @@ module _ (k : Knowledge) (g : Graph) (d : Descriptors) (sound : IsSound g d) (ag
 
 -- ---- what is missing
 
-some_kept : (g : Graph) (d : Descriptors) (fair : IsFair g d) (i : ℕ) → Stays g d fair i → IsSome (kept g d i)
+some_kept : (g : Graph) (d : Descriptors) (fair : IsFair g d) (i : ℕ) → Stays g d fair i → IsSome (reachable_graph g d i)
 some_kept g d fair i stays = ap is_some stays.kept
 
 -- what a call asks of next is of something that is kept
@@ -88,18 +89,18 @@ call_missing_of k g d c what sound agrees e =
     let own_is : d k.client ≡ k.own = λ t n. agrees.own n t in
     missing_kept g d fair agrees.back agrees.put_back (part_of k) (decide k.own c) what (part_is k g d fair agrees) (subst (λ (own : Own). QueryKept g d fair (decide own c)) own_is (call_asks_kept g d fair k.client c)) e
 
-pub missing_there : (k : Knowledge) (g : Graph) (d : Descriptors) (c : Call) (i : ℕ) → IsSound g d → Agrees k g d → run_part (part_of k) (decide k.own c) ≡ Unknown (missing.Node i) → IsSome (kept g d i)
+pub missing_there : (k : Knowledge) (g : Graph) (d : Descriptors) (c : Call) (i : ℕ) → IsSound g d → Agrees k g d → run_part (part_of k) (decide k.own c) ≡ Unknown (missing.Node i) → IsSome (reachable_graph g d i)
 missing_there k g d c i sound agrees e = some_kept g d (fair_of g d sound) i (call_missing_of k g d c (missing.Node i) sound agrees e)
 
-pub blocks_missing_there : (k : Knowledge) (g : Graph) (d : Descriptors) (c : Call) (i first count : ℕ) → IsSound g d → Agrees k g d → run_part (part_of k) (decide k.own c) ≡ Unknown (missing.Blocks i first count) → IsSome (kept g d i)
+pub blocks_missing_there : (k : Knowledge) (g : Graph) (d : Descriptors) (c : Call) (i first count : ℕ) → IsSound g d → Agrees k g d → run_part (part_of k) (decide k.own c) ≡ Unknown (missing.Blocks i first count) → IsSome (reachable_graph g d i)
 blocks_missing_there k g d c i first count sound agrees e = some_kept g d (fair_of g d sound) i (call_missing_of k g d c (missing.Blocks i first count) sound agrees e)
 
-pub effects_missing_there : (k : Knowledge) (g : Graph) (d : Descriptors) (new : ℕ) (operation : Operation) (i : ℕ) → IsSound g d → Agrees k g d → OperationFits g d (d k.client) operation → run_part (part_of k) (effects_asked new operation) ≡ Unknown (missing.Node i) → IsSome (kept g d i)
+pub effects_missing_there : (k : Knowledge) (g : Graph) (d : Descriptors) (new : ℕ) (operation : Operation) (i : ℕ) → IsSound g d → Agrees k g d → OperationFits g d (d k.client) operation → run_part (part_of k) (effects_asked new operation) ≡ Unknown (missing.Node i) → IsSome (reachable_graph g d i)
 effects_missing_there k g d new operation i sound agrees fits e =
     let fair = fair_of g d sound in
     some_kept g d fair i (missing_kept g d fair agrees.back agrees.put_back (part_of k) (effects_asked new operation) (missing.Node i) (part_is k g d fair agrees) (query_effects g d (d k.client) fair new operation fits) e)
 
-pub growth_missing_there : (k : Knowledge) (g : Graph) (d : Descriptors) (operation : Operation) (i : ℕ) → IsSound g d → Agrees k g d → OperationFits g d (d k.client) operation → run_part (part_of k) (growth_asked operation) ≡ Unknown (missing.Node i) → IsSome (kept g d i)
+pub growth_missing_there : (k : Knowledge) (g : Graph) (d : Descriptors) (operation : Operation) (i : ℕ) → IsSound g d → Agrees k g d → OperationFits g d (d k.client) operation → run_part (part_of k) (growth_asked operation) ≡ Unknown (missing.Node i) → IsSome (reachable_graph g d i)
 growth_missing_there k g d operation i sound agrees fits e =
     let fair = fair_of g d sound in
     some_kept g d fair i (missing_kept g d fair agrees.back agrees.put_back (part_of k) (growth_asked operation) (missing.Node i) (part_is k g d fair agrees) (query_growth g d (d k.client) fair operation fits) e)

@@ -12,7 +12,8 @@ use Rattle.std.specs.FinMap.Entries.{below_all}
 use Rattle.std.proofs.lemmas.Bool.Decides.{eqb_tells}
 use Rattle.log_record.specs.posix_calls.Content.{Entries, range}
 use Rattle.log_record.specs.posix_calls.Tree.{Descriptors}
-use Rattle.log_record.specs.posix_calls.Query.{Seen, IsPart}
+use Rattle.log_record.specs.posix_calls.Query.{Seen}
+use Rattle.log_record.specs.posix_calls.Part.{IsPart}
 use Rattle.log_record.proofs.posix_calls_lemmas.Counts.{order}
 use Rattle.log_record.proofs.posix_calls_lemmas.Directory.{names_same}
 use Rattle.log_record.proofs.posix_calls_lemmas.Sums.{any_is}
@@ -22,7 +23,7 @@ use Rattle.log_record.specs.file_graph.declared.effect.Kind.TheVariants as kind
 use Rattle.call_effects.specs.Blocks.{range_by}
 use Rattle.call_effects.specs.NodeView.{NodeView, FileView, DirView, view_seen, view_is_dir}
 use Rattle.call_effects.specs.Wholes.{kind_of, node_is_dir, node_seen, node_bytes}
-use Rattle.call_effects.specs.Known.{Knowledge, Agrees, copied, same_kind, tells, is_told, is_dir_by, part_of, stored_view}
+use Rattle.call_effects.specs.Knowledge.{Knowledge, Agrees, copy_of, same_kind, lists_as, is_listed, is_dir_by, part_of, stored_view}
 use Rattle.call_effects.proofs.Changes.{IsFair, dir}
 use Rattle.call_effects.proofs.Facts.{has_dir, has_file}
 use Rattle.call_effects.proofs.Blocks.{range_is}
@@ -104,15 +105,15 @@ module _ (k : Knowledge) (g : Graph) (d : Descriptors) (fair : IsFair g d) (agre
       ∙ fair.typed.kinds at n es r.name r.what is (fin.get-entries es r.name ∙ r.found)
       ∙ ap (λ x. Some x) (same_kind_is r.what.1 what test.1)
 
-  copy_tells : (at i : ℕ) (what : Kind) (copy : Option (Option NodeView)) → k.copies at ≡ copy → tells i what (unwrap_or copy None) ≡ true → kind_of (g i) ≡ Some what
+  copy_tells : (at i : ℕ) (what : Kind) (copy : Option (Option NodeView)) → k.copies at ≡ copy → lists_as i what (unwrap_or copy None) ≡ true → kind_of (g i) ≡ Some what
   copy_tells at i what None is e = absurd (cc)
   copy_tells at i what (Some None) is e = absurd (cc)
   copy_tells at i what (Some (Some (FileView names size))) is e = absurd (cc)
   copy_tells at i what (Some (Some (DirView names es))) is e = entry_tells at names i es what (dir_copied at names es is) e
 
-  pub told_is : (i : ℕ) (what : Kind) → is_told k i what ≡ true → kind_of (g i) ≡ Some what
+  pub told_is : (i : ℕ) (what : Kind) → is_listed k i what ≡ true → kind_of (g i) ≡ Some what
   told_is i what e =
-      let at = any_is 1024 (λ x. tells i what (copied k x)) e in
+      let at = any_is 1024 (λ x. lists_as i what (copy_of k x)) e in
       copy_tells at.k i what (k.copies at.k) refl at.passes
 
   -- ---- the part
@@ -123,7 +124,7 @@ module _ (k : Knowledge) (g : Graph) (d : Descriptors) (fair : IsFair g d) (agre
   pub file_stands : (i : ℕ) → kind_of (g i) ≡ Some kind.File → option_map node_is_dir (back i) ≡ Some false
   file_stands i is = let f = has_file g i is in ap (option_map node_is_dir) (stands_back g back agrees.put_back i (record { names = f.names; body = FileBody f.bytes }) f.is)
 
-  is_dir_of : (i : ℕ) (o : Option Bool) (copy : Option (Option NodeView)) (as_dir as_file : Bool) → k.copies i ≡ copy → is_told k i kind.Directory ≡ as_dir → is_told k i kind.File ≡ as_file → is_dir_by copy as_dir as_file ≡ Some o → option_map node_is_dir (back i) ≡ o
+  is_dir_of : (i : ℕ) (o : Option Bool) (copy : Option (Option NodeView)) (as_dir as_file : Bool) → k.copies i ≡ copy → is_listed k i kind.Directory ≡ as_dir → is_listed k i kind.File ≡ as_file → is_dir_by copy as_dir as_file ≡ Some o → option_map node_is_dir (back i) ≡ o
   is_dir_of i o (Some copy) as_dir as_file is b c e = kind_viewed (back i) ∙ ap (option_map view_is_dir) (agrees.copies i copy is) ∙ (let same : option_map view_is_dir copy ≡ o = cc in same)
   is_dir_of i o None true as_file is b c e = dir_stands i (told_is i kind.Directory b) ∙ (let same : Some true ≡ o = cc in same)
   is_dir_of i o None false true is b c e = file_stands i (told_is i kind.File c) ∙ (let same : Some false ≡ o = cc in same)
@@ -132,9 +133,9 @@ module _ (k : Knowledge) (g : Graph) (d : Descriptors) (fair : IsFair g d) (agre
   dir_of : (i : ℕ) (o : Option Bool) → (part_of k).is_dir i ≡ Some o → option_map node_is_dir (back i) ≡ o
   dir_of i o e = elim (eqb_tells i 1) [
     | inl same ↦
-        let is : Some (Some true) ≡ Some o = sym (ap (λ b. cond b (Some (Some true)) (is_dir_by (k.copies i) (is_told k i kind.Directory) (is_told k i kind.File))) same.0) ∙ e in
+        let is : Some (Some true) ≡ Some o = sym (ap (λ b. cond b (Some (Some true)) (is_dir_by (k.copies i) (is_listed k i kind.Directory) (is_listed k i kind.File))) same.0) ∙ e in
         ap (λ j. option_map node_is_dir (back j)) same.1 ∙ dir_stands 1 fair.typed.root ∙ (let one : Some true ≡ o = cc in one)
-    | inr off ↦ is_dir_of i o (k.copies i) (is_told k i kind.Directory) (is_told k i kind.File) refl refl refl (sym (ap (λ b. cond b (Some (Some true)) (is_dir_by (k.copies i) (is_told k i kind.Directory) (is_told k i kind.File))) off.0) ∙ e)
+    | inr off ↦ is_dir_of i o (k.copies i) (is_listed k i kind.Directory) (is_listed k i kind.File) refl refl refl (sym (ap (λ b. cond b (Some (Some true)) (is_dir_by (k.copies i) (is_listed k i kind.Directory) (is_listed k i kind.File))) off.0) ∙ e)
   ]
 
   node_of : (i : ℕ) (o : Option Seen) (copy : Option (Option NodeView)) → k.copies i ≡ copy → option_map (λ c. option_map view_seen c) copy ≡ Some o → option_map node_seen (back i) ≡ o

@@ -2,7 +2,7 @@
 use Rattle.std.proofs.Common.{◌≡◌, ℕ, ◌≤◌, List, Ok, ap, sym, ◌∙◌, subst, arith}
 use Rattle.std.specs.Prelude.{min}
 use Rattle.log_record.specs.posix_calls.Tree.{Descriptors}
-use Rattle.log_record.specs.posix_calls.Query.{Known, run_part}
+use Rattle.log_record.specs.posix_calls.Part.{Known, run_part}
 use Rattle.log_record.specs.posix_calls.declared.operation.Operation.{Operation}
 use Rattle.log_record.specs.posix_calls.declared.call.Call.{Call}
 use Rattle.log_record.specs.file_graph.Graph.{Graph}
@@ -11,7 +11,7 @@ use Rattle.log_record.specs.file_graph.declared.effect.Effect.{Effect}
 use Rattle.call_effects.specs.Effects.{effects_of}
 use Rattle.call_effects.specs.Records.{growth_asked, units_asked}
 use Rattle.call_effects.specs.Wholes.{IsSound}
-use Rattle.call_effects.specs.Known.{Knowledge, Agrees, IsPlanned, part_of}
+use Rattle.call_effects.specs.Knowledge.{Knowledge, Agrees, IsPlanned, part_of}
 use Rattle.call_effects.proofs.GrowthAsked.{growth_as_asked}
 use Rattle.call_effects.proofs.KnownSteps.{growth_known, planned_answer}
 use Rattle.call_effects.proofs.KnownAsking.{bind_known, result_is}

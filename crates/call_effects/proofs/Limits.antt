@@ -18,11 +18,11 @@ use Rattle.log_record.specs.file_graph.declared.effect.Effect.{Effect}
 use Rattle.log_record.specs.file_graph.declared.effect.Effect.TheVariants as effect
 use Rattle.log_record.specs.Grammar as grammar
 use Rattle.call_effects.specs.Calls.{answer_over}
-use Rattle.call_effects.specs.Changed.{changes}
-use Rattle.call_effects.specs.Effects.{stored, effects_of}
+use Rattle.call_effects.specs.ChangeTest.{changes}
+use Rattle.call_effects.specs.Effects.{stored_count, effects_of}
 use Rattle.call_effects.specs.Fits.{IsNew, IsUnusedFile}
 use Rattle.call_effects.specs.NodeView.{NodeView, FileView, DirView, view_of_body, view_of_node, view_at, view_acted, view_after}
-use Rattle.call_effects.specs.Wholes.{IsSound, state_of, tree_of, tree_body, tree_node, keep, kept, node_bytes, body_kind, one_if}
+use Rattle.call_effects.specs.Wholes.{IsSound, state_of, tree_of, tree_body, tree_node, keep, reachable_graph, node_bytes, body_kind, one_if}
 use Rattle.call_effects.proofs.Changes.{named}
 use Rattle.call_effects.proofs.NodeViews.{viewed_after}
 use Rattle.call_effects.proofs.Spelled.{record_spelled, unchanged}
@@ -103,7 +103,7 @@ within_by g nodes names = record { sizes = λ i. (nodes i).size; entries = λ i.
 
 -- what a call sees of it is within the limits too
 pub seen_within : (g : Graph) (d : Descriptors) → IsWithinLimits (tree_of g) → IsWithinLimits (state_of g d).tree
-seen_within g d within = within_by (kept g d) (λ i. kept_within (tree.is_open d i) (g i) (nodes_of (tree_of g) within i)) (λ i. subst (λ n. n ≤ 1000) (sym (kept_named g d i)) (within.names i))
+seen_within g d within = within_by (reachable_graph g d) (λ i. kept_within (tree.is_open d i) (g i) (nodes_of (tree_of g) within i)) (λ i. subst (λ n. n ≤ 1000) (sym (kept_named g d i)) (within.names i))
 
 fit_of : (g : Graph) (d : Descriptors) (client new : ℕ) (c : Call) (operation : Operation) → IsSound g d → IsWithinLimits (state_of g d).tree → answer_over g d client c ≡ Ok operation → (makes operation ≡ true → IsNew g new) → (b : Bool) → changes operation ≡ b → AllByRecursion grammar.Fits (effects_of g new operation)
 fit_of g d client new c operation sound within e free true some = (record_spelled g d client new 0 c operation sound within e free some (omega arith)).fit
@@ -117,7 +117,7 @@ call_within g d client new c operation sound within e free =
     let after = step_within (state_of g d) client c (reply_of operation) (state_of more held) (well_formed g d sound) seen (call_done g d client new c operation sound e free) in
     let fit = fit_of g d client new c operation sound seen e free (changes operation) refl in
     within_by more
-    (λ i. whole_within (tree.is_open held i) (more i) (nodes_of (tree_of (kept more held)) after i) (sizes_after g (effects_of g new operation) i fit (bytes_small g i within)))
+    (λ i. whole_within (tree.is_open held i) (more i) (nodes_of (tree_of (reachable_graph more held)) after i) (sizes_after g (effects_of g new operation) i fit (bytes_small g i within)))
     (λ i. subst (λ n. n ≤ 1000) (kept_named more held i) (after.names i))
   where
     small_of : (o : Option Node) → length (tree.bytes_of (option_map tree_node o)) ≤ 1048576 → length (node_bytes o) ≤ 1048576
@@ -139,7 +139,7 @@ dropped_within g d i unused within =
 
 -- ---- what a sound graph of them has
 
-pub few_stored : (g : Graph) (d : Descriptors) (i : ℕ) → IsSound g d → IsWithinLimits (tree_of g) → stored (g i) ≤ 1000
+pub few_stored : (g : Graph) (d : Descriptors) (i : ℕ) → IsSound g d → IsWithinLimits (tree_of g) → stored_count (g i) ≤ 1000
 few_stored g d i sound within = elim (eqb_tells i 1) [
   | inl same ↦
       let none : named g 1 ≡ 0 = sym (kept_named g d 1) ∙ (well_formed g d sound).root_names in

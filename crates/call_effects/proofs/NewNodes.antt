@@ -11,10 +11,10 @@ use Rattle.log_record.specs.file_graph.Graph.{Graph, Node, after_effect, after_e
 use Rattle.log_record.specs.file_graph.declared.effect.Kind.{Kind}
 use Rattle.log_record.specs.file_graph.declared.effect.Kind.TheVariants as kind
 use Rattle.log_record.specs.file_graph.declared.effect.Effect.TheVariants as effect
-use Rattle.call_effects.specs.Effects.{stored, making}
-use Rattle.call_effects.specs.Wholes.{without_kinds, tree_of, tree_node, kept, kind_of, one_if, IsTyped}
+use Rattle.call_effects.specs.Effects.{stored_count, make_effects}
+use Rattle.call_effects.specs.Wholes.{without_kinds, tree_of, tree_node, reachable_graph, kind_of, one_if, IsTyped}
 use Rattle.log_record.specs.posix_calls.declared.operation.Location.{Location}
-use Rattle.log_record.specs.posix_calls.Operations.{entered}
+use Rattle.log_record.specs.posix_calls.Operations.{with_entry}
 use Rattle.log_record.proofs.posix_calls_lemmas.Counts.{counted, counted_is, counted_empty, get_inserted}
 use Rattle.log_record.proofs.posix_calls_lemmas.Changes.{off_one, on_one}
 use Rattle.call_effects.specs.Fits.{IsNew, IsRoom}
@@ -69,7 +69,7 @@ module _ (g : Graph) (d : Descriptors) (i : ℕ) (k : Kind) (at : Location) (sou
   in_2 : g2 i ≡ fresh 0 k
   in_2 = put_other g1 at.parent i full (λ e. apart (sym e)) ∙ put_there g i (fresh 0 k)
 
-  pub made : after_effects g (making i k at) ≡ g3
+  pub made : after_effects g (make_effects i k at) ≡ g3
   made = ap (λ h. after_effect (after_effect h (effect.Enter at.parent i k at.name)) (effect.Names i 1)) (one_subject g (effect.Make i k) i refl) ∙ ap (λ h. after_effect h (effect.Names i 1)) (enter_is g1 at.parent room.names i k at.name room.entries in_1) ∙ names_is g2 i 0 1 (empty_body k) in_2
 
   range : (1 ≤ at.parent) × (at.parent ≤ 1024)
@@ -107,41 +107,41 @@ module _ (g : Graph) (d : Descriptors) (i : ℕ) (k : Kind) (at : Location) (sou
   sound_3 : IsFair g3 d
   sound_3 =
       let there : g3 i ≡ fresh 1 k = put_there g2 i (fresh 1 k) in
-      let none : stored None ≡ named g i + one_if (i == 1) = sym (ap stored new.none) ∙ sound.counted i in
+      let none : stored_count None ≡ named g i + one_if (i == 1) = sym (ap stored_count new.none) ∙ sound.counted i in
       let more : named g3 i ≡ named g i + 1 = names_3 i ∙ ap (λ x. named g i + x) (on_one i) in
-      let one : stored (g3 i) ≡ 1 = ap stored there in
+      let one : stored_count (g3 i) ≡ 1 = ap stored_count there in
       sound_of g g3 d d i sound typed_3
-      (other_3 stored (sym (ap stored in_1)))
+      (other_3 stored_count (sym (ap stored_count in_1)))
       (other_3 kind_of (sym (ap kind_of in_1)))
       (λ j off. let m = names_3 j in let z = off_one i j off in omega (arith, m, z))
       (omega (arith, none, more, one))
       (λ is. one)
 
   abbrev t : Tree
-  t = tree_of (kept g d)
+  t = tree_of (reachable_graph g d)
 
-  tree_3 : tree_of (kept g3 d) ≡ put (entered t at i) i (tree_fresh k)
+  tree_3 : tree_of (reachable_graph g3 d) ≡ put (with_entry t at i) i (tree_fresh k)
   tree_3 =
       let y = λ (o : Option tree.Node). Some (tree.Dir (fin.insert (entries_of o) at.name i)) in
       let s0 = shown d i (fresh 0 k) in
       tree_put g2 d i (fresh 1 k)
-      ∙ ap (λ x. put (tree_of (kept g2 d)) i x) (shown_fresh d i k)
+      ∙ ap (λ x. put (tree_of (reachable_graph g2 d)) i x) (shown_fresh d i k)
       ∙ ap (λ h. put h i (tree_fresh k)) (
       tree_enter g1 d at.parent room.names i k at.name room.entries in_1
-      ∙ ap (λ h. entered h at i) (tree_put g d i (fresh 0 k))
+      ∙ ap (λ h. with_entry h at i) (tree_put g d i (fresh 0 k))
       ∙ ap (λ o. put (put t i s0) at.parent (y o)) (put_other t i at.parent s0 apart)
       ∙ put_exchange t i at.parent s0 (y (t at.parent)) (λ e. apart (sym e)))
       ∙ put_twice (put t at.parent (y (t at.parent))) i s0 (tree_fresh k)
 
   -- the node stands there before it is named
-  named_last : entered (put t i (tree_fresh k)) at i ≡ put (entered t at i) i (tree_fresh k)
+  named_last : with_entry (put t i (tree_fresh k)) at i ≡ put (with_entry t at i) i (tree_fresh k)
   named_last =
       let y = λ (o : Option tree.Node). Some (tree.Dir (fin.insert (entries_of o) at.name i)) in
       let f = tree_fresh k in
       ap (λ o. put (put t i f) at.parent (y o)) (put_other t i at.parent f apart) ∙ put_exchange t i at.parent f (y (t at.parent)) (λ e. apart (sym e))
 
-  pub sound_made : IsFair (after_effects g (making i k at)) d
+  pub sound_made : IsFair (after_effects g (make_effects i k at)) d
   sound_made = subst (λ h. IsFair h d) (sym made) sound_3
 
-  pub tree_made : tree_of (kept (after_effects g (making i k at)) d) ≡ entered (put t i (tree_fresh k)) at i
-  tree_made = ap (λ h. tree_of (kept h d)) made ∙ tree_3 ∙ sym named_last
+  pub tree_made : tree_of (reachable_graph (after_effects g (make_effects i k at)) d) ≡ with_entry (put t i (tree_fresh k)) at i
+  tree_made = ap (λ h. tree_of (reachable_graph h d)) made ∙ tree_3 ∙ sym named_last

@@ -3,9 +3,9 @@ use Rattle.std.proofs.Common.{◌≡◌, ℕ, ◌*◌, List, [], ◌∷◌, ◌+
 use Rattle.std.specs.Prelude.{option_map}
 use Rattle.std.specs.FinMap as fin
 use Rattle.std.proofs.Math.Seq.{drop-nil}
-use Rattle.log_record.specs.posix_calls.Content.{Entries, resized, written}
+use Rattle.log_record.specs.posix_calls.Content.{Entries, with_length, with_bytes}
 use Rattle.log_record.proofs.posix_calls_lemmas.Within.{resized_length}
-use Rattle.log_record.specs.file_graph.Graph.{Graph, Node, FileBody, DirBody, subjects, is_among, acted, after_effect, after_effects, file_bytes, with_body, in_file, in_directory}
+use Rattle.log_record.specs.file_graph.Graph.{Graph, Node, FileBody, DirBody, subjects, is_among, subject_after, after_effect, after_effects, file_bytes, with_body, in_file, in_directory}
 use Rattle.log_record.specs.file_graph.declared.effect.Kind.{Kind}
 use Rattle.log_record.specs.file_graph.declared.effect.Kind.TheVariants as kind
 use Rattle.log_record.specs.file_graph.declared.effect.Effect.{Effect}
@@ -47,7 +47,7 @@ block_told b (Some n) block e = elim (n.body) as (λ y. option_map (block_of b) 
 -- ---- effects at one inode
 
 -- what effects make of a view is the view of what they make of the node
-pub view_acts : (e : Effect) (o : Option Node) → option_map view_of_node (acted e o) ≡ view_acted e (option_map view_of_node o)
+pub view_acts : (e : Effect) (o : Option Node) → option_map view_of_node (subject_after e o) ≡ view_acted e (option_map view_of_node o)
 view_acts (effect.Make i kind.File) o = refl
 view_acts (effect.Make i kind.Directory) o = refl
 view_acts (effect.Drop i) o = refl
@@ -56,14 +56,14 @@ view_acts (effect.Leave d name) None = refl
 view_acts (effect.Names i m) None = refl
 view_acts (effect.Size i size) None = refl
 view_acts (effect.Bytes i at new) None = refl
-view_acts (effect.Enter d i k name) (Some n) = elim (n.body) as (λ y. option_map view_of_node (acted (effect.Enter d i k name) (Some (record { names = n.names; body = y }))) ≡ view_acted (effect.Enter d i k name) (Some (view_of_body n.names y))) [ FileBody bytes ↦ refl | DirBody es ↦ refl ]
-view_acts (effect.Leave d name) (Some n) = elim (n.body) as (λ y. option_map view_of_node (acted (effect.Leave d name) (Some (record { names = n.names; body = y }))) ≡ view_acted (effect.Leave d name) (Some (view_of_body n.names y))) [ FileBody bytes ↦ refl | DirBody es ↦ refl ]
-view_acts (effect.Names i m) (Some n) = elim (n.body) as (λ y. option_map view_of_node (acted (effect.Names i m) (Some (record { names = n.names; body = y }))) ≡ view_acted (effect.Names i m) (Some (view_of_body n.names y))) [ FileBody bytes ↦ refl | DirBody es ↦ refl ]
-view_acts (effect.Size i size) (Some n) = elim (n.body) as (λ y. option_map view_of_node (acted (effect.Size i size) (Some (record { names = n.names; body = y }))) ≡ view_acted (effect.Size i size) (Some (view_of_body n.names y))) [
+view_acts (effect.Enter d i k name) (Some n) = elim (n.body) as (λ y. option_map view_of_node (subject_after (effect.Enter d i k name) (Some (record { names = n.names; body = y }))) ≡ view_acted (effect.Enter d i k name) (Some (view_of_body n.names y))) [ FileBody bytes ↦ refl | DirBody es ↦ refl ]
+view_acts (effect.Leave d name) (Some n) = elim (n.body) as (λ y. option_map view_of_node (subject_after (effect.Leave d name) (Some (record { names = n.names; body = y }))) ≡ view_acted (effect.Leave d name) (Some (view_of_body n.names y))) [ FileBody bytes ↦ refl | DirBody es ↦ refl ]
+view_acts (effect.Names i m) (Some n) = elim (n.body) as (λ y. option_map view_of_node (subject_after (effect.Names i m) (Some (record { names = n.names; body = y }))) ≡ view_acted (effect.Names i m) (Some (view_of_body n.names y))) [ FileBody bytes ↦ refl | DirBody es ↦ refl ]
+view_acts (effect.Size i size) (Some n) = elim (n.body) as (λ y. option_map view_of_node (subject_after (effect.Size i size) (Some (record { names = n.names; body = y }))) ≡ view_acted (effect.Size i size) (Some (view_of_body n.names y))) [
   | FileBody bytes ↦ ap (λ m. Some (FileView n.names m)) (resized_length size bytes)
   | DirBody es ↦ refl
 ]
-view_acts (effect.Bytes i at new) (Some n) = elim (n.body) as (λ y. option_map view_of_node (acted (effect.Bytes i at new) (Some (record { names = n.names; body = y }))) ≡ view_acted (effect.Bytes i at new) (Some (view_of_body n.names y))) [
+view_acts (effect.Bytes i at new) (Some n) = elim (n.body) as (λ y. option_map view_of_node (subject_after (effect.Bytes i at new) (Some (record { names = n.names; body = y }))) ≡ view_acted (effect.Bytes i at new) (Some (view_of_body n.names y))) [
   | FileBody bytes ↦ ap (λ m. Some (FileView n.names m)) (written_length at new bytes)
   | DirBody es ↦ refl
 ]
@@ -88,7 +88,7 @@ in_file_acts f h b acts (Some n) block e = elim (n.body) as (λ y. block_in b (S
 ] e
 
 -- so of a block that is known
-pub block_acts : (e : Effect) (b : ℕ) (o : Option Node) (old : Option (List ℕ)) (new : List ℕ) → ((block : List ℕ) → old ≡ Some block → block_in b o ≡ Some block) → block_acted e b old ≡ Some new → block_in b (acted e o) ≡ Some new
+pub block_acts : (e : Effect) (b : ℕ) (o : Option Node) (old : Option (List ℕ)) (new : List ℕ) → ((block : List ℕ) → old ≡ Some block → block_in b o ≡ Some block) → block_acted e b old ≡ Some new → block_in b (subject_after e o) ≡ Some new
 block_acts (effect.Make i kind.File) b o old new known is = ap (λ xs. Some (take 4096 xs)) (drop-nil (4096 * b)) ∙ is
 block_acts (effect.Make i kind.Directory) b o old new known is = absurd (cc)
 block_acts (effect.Enter d i k name) b o old new known is = ap (option_map (block_of b)) (entries_keep (λ es. fin.insert es name (i, k)) o) ∙ known new is
@@ -96,10 +96,10 @@ block_acts (effect.Leave d name) b o old new known is = ap (option_map (block_of
 block_acts (effect.Names i m) b o old new known is = ap (option_map (block_of b)) (names_keep m o) ∙ known new is
 block_acts (effect.Size i size) b o old new known is =
     let was = mapped (block_resized size b) old new is in
-    in_file_acts (resized size) (block_resized size b) b (resized_block b size) o was.0 (known was.0 was.1) ∙ ap (λ x. Some x) was.2
+    in_file_acts (with_length size) (block_resized size b) b (resized_block b size) o was.0 (known was.0 was.1) ∙ ap (λ x. Some x) was.2
 block_acts (effect.Bytes i at bytes) b o old new known is =
     let was = mapped (block_written at bytes b) old new is in
-    in_file_acts (written at bytes) (block_written at bytes b) b (written_block b at bytes) o was.0 (known was.0 was.1) ∙ ap (λ x. Some x) was.2
+    in_file_acts (with_bytes at bytes) (block_written at bytes b) b (written_block b at bytes) o was.0 (known was.0 was.1) ∙ ap (λ x. Some x) was.2
 block_acts (effect.Drop i) b o old new known is = absurd (cc)
 
 -- ---- effects one after the other, at one inode by itself
@@ -107,12 +107,12 @@ block_acts (effect.Drop i) b o old new known is = absurd (cc)
 pub effects_at : (g : Graph) (es : List Effect) (i : ℕ) (o : Option Node) → g i ≡ o → after_effects g es i ≡ after_effects (λ j. o) es i
 effects_at g [] i o is = is
 effects_at g (e ∷ es) i o is =
-    let here : after_effect g e i ≡ after_effect (λ j. o) e i = ap (λ x. cond (is_among i (subjects e)) (acted e x) x) is in
+    let here : after_effect g e i ≡ after_effect (λ j. o) e i = ap (λ x. cond (is_among i (subjects e)) (subject_after e x) x) is in
     effects_at (after_effect g e) es i (after_effect g e i) refl
     ∙ ap (λ x. after_effects (λ j. x) es i) here
     ∙ sym (effects_at (after_effect (λ j. o) e) es i (after_effect (λ j. o) e i) refl)
 
-view_acts_if : (b : Bool) (e : Effect) (o : Option Node) → option_map view_of_node (cond b (acted e o) o) ≡ cond b (view_acted e (option_map view_of_node o)) (option_map view_of_node o)
+view_acts_if : (b : Bool) (e : Effect) (o : Option Node) → option_map view_of_node (cond b (subject_after e o) o) ≡ cond b (view_acted e (option_map view_of_node o)) (option_map view_of_node o)
 view_acts_if true e o = view_acts e o
 view_acts_if false e o = refl
 
@@ -121,7 +121,7 @@ pub viewed_after : (g : Graph) (es : List Effect) (i : ℕ) (view : Option NodeV
 viewed_after g [] i view is = is
 viewed_after g (e ∷ es) i view is = viewed_after (after_effect g e) es i _ (view_acts_if (is_among i (subjects e)) e (g i) ∙ ap (λ v. cond (is_among i (subjects e)) (view_acted e v) v) is)
 
-block_acts_if : (c : Bool) (e : Effect) (b : ℕ) (o : Option Node) (old : Option (List ℕ)) (new : List ℕ) → ((block : List ℕ) → old ≡ Some block → block_in b o ≡ Some block) → cond c (block_acted e b old) old ≡ Some new → block_in b (cond c (acted e o) o) ≡ Some new
+block_acts_if : (c : Bool) (e : Effect) (b : ℕ) (o : Option Node) (old : Option (List ℕ)) (new : List ℕ) → ((block : List ℕ) → old ≡ Some block → block_in b o ≡ Some block) → cond c (block_acted e b old) old ≡ Some new → block_in b (cond c (subject_after e o) o) ≡ Some new
 block_acts_if true e b o old new known is = block_acts e b o old new known is
 block_acts_if false e b o old new known is = known new is
 

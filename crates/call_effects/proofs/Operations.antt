@@ -3,7 +3,7 @@ use Rattle.std.proofs.Common.{◌≡◌, ◌≢◌, inl, inr, ℕ, ◌+◌, ◌-
 use Rattle.std.specs.Prelude.{option_map, replicate}
 use Rattle.std.proofs.lemmas.Bool.Decides.{eqb_tells}
 use Rattle.std.specs.FinMap as fin
-use Rattle.log_record.specs.posix_calls.Content.{resized}
+use Rattle.log_record.specs.posix_calls.Content.{with_length}
 use Rattle.log_record.specs.posix_calls.Tree.{Tree, Descriptors, Own, is_open, bytes_of}
 use Rattle.log_record.specs.posix_calls.Tree as tree
 use Rattle.log_record.specs.posix_calls.declared.operation.Location.{Location}
@@ -11,15 +11,15 @@ use Rattle.log_record.specs.posix_calls.declared.operation.Operation.{Operation}
 use Rattle.log_record.specs.posix_calls.declared.operation.Operation.TheVariants.{Tell, NewDir, NewFile, OpenFile, CloseFile, Write, Resize, RemoveDir, AddName, DropName, Move}
 use Rattle.log_record.specs.posix_calls.declared.operation.Replaced.{Replaced}
 use Rattle.log_record.specs.posix_calls.declared.operation.Replaced.TheVariants.{Nothing, OldFile, OldDir}
-use Rattle.log_record.specs.posix_calls.Operations.{tree_after, makes, entered, left, less_replaced}
+use Rattle.log_record.specs.posix_calls.Operations.{tree_after, makes, with_entry, without_entry, less_replaced}
 use Rattle.log_record.proofs.posix_calls_lemmas.Counts.{get_other, gone, none_left, none_of_no_entries}
 use Rattle.log_record.specs.file_graph.Graph.{Graph, Node, after_effect, after_effects}
 use Rattle.log_record.specs.file_graph.declared.effect.Kind.{Kind}
 use Rattle.log_record.specs.file_graph.declared.effect.Kind.TheVariants as kind
 use Rattle.log_record.specs.file_graph.declared.effect.Effect.{Effect}
 use Rattle.log_record.specs.file_graph.declared.effect.Effect.TheVariants as effect
-use Rattle.call_effects.specs.Effects.{effects_of, clearing, replaced_file, dropping, kind_if, stored, stored_at}
-use Rattle.call_effects.specs.Wholes.{kept, tree_of}
+use Rattle.call_effects.specs.Effects.{effects_of, clear_effects, replaced_file, drop_effects, kind_if, stored_count, stored_at}
+use Rattle.call_effects.specs.Wholes.{reachable_graph, tree_of}
 use Rattle.call_effects.specs.Fits.{IsNew, IsRoom, IsEntry, IsUsedFile, IsEmptyDir, OperationFits}
 use Rattle.call_effects.proofs.Puts.{put, put_there, put_other}
 use Rattle.call_effects.proofs.Changes.{IsFair, file, dir, same_dir}
@@ -28,7 +28,7 @@ use Rattle.call_effects.proofs.Edges.{file_no_dir, sound_written, tree_written, 
 
 -- an operation other than one that closes a file, over descriptors that stay
 pub record IsAfterOperation (g : Graph) (d : Descriptors) (new : ℕ) (operation : Operation) : Type 0 where
-  pub tree : tree_of (kept (after_effects g (effects_of g new operation)) d) ≡ tree_after d new (tree_of (kept g d)) operation
+  pub tree : tree_of (reachable_graph (after_effects g (effects_of g new operation)) d) ≡ tree_after d new (tree_of (reachable_graph g d)) operation
   pub fair : IsFair (after_effects g (effects_of g new operation)) d
 
 -- ---- rename's parts
@@ -81,26 +81,26 @@ moved_none g d new from to i b fair entry room =
     let k = kind_if b in
     let after = room_left g from to (i, k) entry room in
     record {
-      tree = ap (λ h. tree_of (kept h d)) (shifted g d i k from to fair entry after) ∙ tree_shifted g d i k from to fair entry after;
+      tree = ap (λ h. tree_of (reachable_graph h d)) (shifted g d i k from to fair entry after) ∙ tree_shifted g d i k from to fair entry after;
       fair = subst (λ h. IsFair h d) (sym (shifted g d i k from to fair entry after)) (sound_shifted g d i k from to fair entry after);
     }
 
 -- the second half, on the graph that the first half left
-moved_on : (g h : Graph) (d : Descriptors) (new : ℕ) (from to : Location) (i : ℕ) (b : Bool) (replaced : Replaced) → after_effects g (clearing (stored_at g (replaced_file replaced)) to replaced) ≡ h → IsFair h d → tree_of (kept h d) ≡ less_replaced d (tree_of (kept g d)) to replaced
+moved_on : (g h : Graph) (d : Descriptors) (new : ℕ) (from to : Location) (i : ℕ) (b : Bool) (replaced : Replaced) → after_effects g (clear_effects (stored_at g (replaced_file replaced)) to replaced) ≡ h → IsFair h d → tree_of (reachable_graph h d) ≡ less_replaced d (tree_of (reachable_graph g d)) to replaced
     → IsEntry h from (i, kind_if b) → IsRoom h to → IsAfterOperation g d new (Move from to i b replaced)
 moved_on g h d new from to i b replaced is fair same entry room =
     let half = moved_none h d new from to i b fair entry room in
     let rest = effect.Leave from.parent from.name ∷ effect.Enter to.parent i (kind_if b) to.name ∷ [] in
-    let first = clearing (stored_at g (replaced_file replaced)) to replaced in
+    let first = clear_effects (stored_at g (replaced_file replaced)) to replaced in
     let whole : after_effects g (first ++ rest) ≡ after_effects h rest = after_append g first rest ∙ ap (λ x. after_effects x rest) is in
     record {
-      tree = ap (λ x. tree_of (kept x d)) whole ∙ half.tree ∙ ap (λ t. entered (left t from) to i) same;
+      tree = ap (λ x. tree_of (reachable_graph x d)) whole ∙ half.tree ∙ ap (λ t. with_entry (without_entry t from) to i) same;
       fair = subst (λ x. IsFair x d) (sym whole) half.fair;
     }
 
 -- a name of a file is dropped, where its count stands in the graph
-dropped_is : (g : Graph) (d : Descriptors) (at : Location) (i : ℕ) (fair : IsFair g d) (entry : IsEntry g at (i, kind.File)) (f : IsUsedFile g d i) → after_effects g (dropping at i (stored (g i))) ≡ drop_2 g d i f.names at f.bytes fair entry f.is
-dropped_is g d at i fair entry f = ap (λ o. after_effects g (effect.Leave at.parent at.name ∷ effect.Names i (stored o - 1) ∷ [])) f.is ∙ dropped g d i f.names at f.bytes fair entry f.is
+dropped_is : (g : Graph) (d : Descriptors) (at : Location) (i : ℕ) (fair : IsFair g d) (entry : IsEntry g at (i, kind.File)) (f : IsUsedFile g d i) → after_effects g (drop_effects at i (stored_count (g i))) ≡ drop_2 g d i f.names at f.bytes fair entry f.is
+dropped_is g d at i fair entry f = ap (λ o. after_effects g (effect.Leave at.parent at.name ∷ effect.Names i (stored_count o - 1) ∷ [])) f.is ∙ dropped g d i f.names at f.bytes fair entry f.is
 
 moved_file : (g : Graph) (d : Descriptors) (new : ℕ) (from to : Location) (i : ℕ) (b : Bool) (j : ℕ) → IsFair g d → IsEntry g from (i, kind_if b) → i ≢ j → IsEntry g to (j, kind.File) → IsUsedFile g d j → IsAfterOperation g d new (Move from to i b (OldFile j))
 moved_file g d new from to i b j fair entry other old f =
@@ -118,7 +118,7 @@ moved_dir g d new from to i b j fair entry other old f =
     (entry_beside h1 from (i, kind_if b) j None (not_empty g from (i, kind_if b) j entry f) (entry_left g from to i j (kind_if b) kind.Directory other entry old))
     (room_gone g to (j, kind.Directory) old j None (not_empty g to (j, kind.Directory) j old f))
 
-nothing_left : (bytes : List ℕ) → resized 0 bytes ≡ []
+nothing_left : (bytes : List ℕ) → with_length 0 bytes ≡ []
 nothing_left bytes = ap (λ n. replicate n 0) (let e : 0 - length bytes ≡ 0 = omega arith in e)
 
 -- ---- every operation
@@ -134,26 +134,26 @@ after_operation g d own new (CloseFile i number) st fair free fits = absurd st
 after_operation g d own new (NewDir at) st fair free room = record { tree = tree_made g d new kind.Directory at fair (free refl) room; fair = sound_made g d new kind.Directory at fair (free refl) room }
 after_operation g d own new (NewFile at number reads writes) st fair free (room, num) = record { tree = tree_made g d new kind.File at fair (free refl) room; fair = sound_made g d new kind.File at fair (free refl) room }
 after_operation g d own new (OpenFile i true number reads writes) st fair free (f, num) = record {
-  tree = tree_resized g d i f.names 0 f.bytes f.is f.used ∙ ap (λ y. put (tree_of (kept g d)) i (Some (tree.File y))) (nothing_left (bytes_of (tree_of (kept g d) i)));
+  tree = tree_resized g d i f.names 0 f.bytes f.is f.used ∙ ap (λ y. put (tree_of (reachable_graph g d)) i (Some (tree.File y))) (nothing_left (bytes_of (tree_of (reachable_graph g d) i)));
   fair = sound_resized g d i f.names 0 f.bytes fair f.is;
 }
 after_operation g d own new (OpenFile i false number reads writes) st fair free fits = record { tree = refl; fair = fair }
 after_operation g d own new (Write i at bytes) st fair free f = record { tree = tree_written g d i f.names at f.bytes bytes f.is f.used; fair = sound_written g d i f.names at f.bytes bytes fair f.is }
 after_operation g d own new (Resize i len) st fair free f = record { tree = tree_resized g d i f.names len f.bytes f.is f.used; fair = sound_resized g d i f.names len f.bytes fair f.is }
 after_operation g d own new (RemoveDir at i) st fair free (entry, f) = record {
-  tree = ap (λ h. tree_of (kept h d)) (gone_is g d i f.names at f.entries fair entry f.is f.none) ∙ tree_gone g d i f.names at f.entries fair entry f.is f.none;
+  tree = ap (λ h. tree_of (reachable_graph h d)) (gone_is g d i f.names at f.entries fair entry f.is f.none) ∙ tree_gone g d i f.names at f.entries fair entry f.is f.none;
   fair = subst (λ h. IsFair h d) (sym (gone_is g d i f.names at f.entries fair entry f.is f.none)) (sound_gone g d i f.names at f.entries fair entry f.is f.none);
 }
 after_operation g d own new (AddName at i) st fair free (room, f) =
-    let whole = ap (λ o. after_effects g (effect.Enter at.parent i kind.File at.name ∷ effect.Names i (stored o + 1) ∷ [])) f.is ∙ added g d i f.names at f.bytes fair room f.is in
+    let whole = ap (λ o. after_effects g (effect.Enter at.parent i kind.File at.name ∷ effect.Names i (stored_count o + 1) ∷ [])) f.is ∙ added g d i f.names at f.bytes fair room f.is in
     record {
-      tree = ap (λ h. tree_of (kept h d)) whole ∙ tree_added g d i f.names at f.bytes fair room f.is f.used;
+      tree = ap (λ h. tree_of (reachable_graph h d)) whole ∙ tree_added g d i f.names at f.bytes fair room f.is f.used;
       fair = subst (λ h. IsFair h d) (sym whole) (sound_added g d i f.names at f.bytes fair room f.is);
     }
 after_operation g d own new (DropName at i) st fair free (entry, f) =
     let whole = dropped_is g d at i fair entry f in
     record {
-      tree = ap (λ h. tree_of (kept h d)) whole ∙ tree_dropped g d i f.names at f.bytes fair entry f.is f.used;
+      tree = ap (λ h. tree_of (reachable_graph h d)) whole ∙ tree_dropped g d i f.names at f.bytes fair entry f.is f.used;
       fair = subst (λ h. IsFair h d) (sym whole) (sound_dropped g d i f.names at f.bytes fair entry f.is);
     }
 after_operation g d own new (Move from to i b Nothing) st fair free (entry, clear, room) = moved_none g d new from to i b fair entry room

@@ -5,7 +5,7 @@ use Rattle.log_record.specs.file_graph.Graph.{Graph, Node}
 use Rattle.log_record.specs.file_graph.declared.effect.Kind.{Kind}
 use Rattle.log_record.specs.file_graph.declared.effect.Kind.TheVariants as kind
 use Rattle.call_effects.specs.Wholes.{kind_of}
-use Rattle.call_effects.specs.Known.{IsPutBack}
+use Rattle.call_effects.specs.Knowledge.{IsPutBack}
 use Rattle.call_effects.proofs.Changes.{dir}
 
 -- what stands in the whole stands there

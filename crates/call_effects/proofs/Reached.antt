@@ -2,7 +2,7 @@
 use Rattle.std.proofs.Common.{◌≡◌, ◌≢◌, ℕ, ◌≤◌, List, [], refl, Some, None, Option, cond, ap, sym, ◌∙◌, subst, true, false, Bool, ◌==◌, if◌then◌else◌}
 use Rattle.std.specs.Prelude.{option_map, ◌&&◌, not}
 use Rattle.std.specs.FinMap as fin
-use Rattle.log_record.specs.posix_calls.Content.{written, resized}
+use Rattle.log_record.specs.posix_calls.Content.{with_bytes, with_length}
 use Rattle.log_record.specs.posix_calls.Tree.{Tree, Descriptors, set_node, entries_of, bytes_of, names_of, is_open}
 use Rattle.log_record.specs.posix_calls.Tree as tree
 use Rattle.log_record.specs.posix_calls.Query.{dir_test}
@@ -11,14 +11,14 @@ use Rattle.log_record.specs.posix_calls.declared.operation.Location.{Location}
 use Rattle.log_record.specs.posix_calls.declared.operation.Operation.{Operation}
 use Rattle.log_record.specs.posix_calls.declared.operation.Operation.TheVariants.{Tell, NewDir, NewFile, OpenFile, CloseFile, Write, Resize, RemoveDir, AddName, DropName, Move}
 use Rattle.log_record.specs.posix_calls.declared.operation.Replaced.TheVariants.{Nothing, OldFile, OldDir}
-use Rattle.log_record.specs.posix_calls.Operations.{entered, left, less_unused, tree_after, makes, held_after, state_after}
+use Rattle.log_record.specs.posix_calls.Operations.{with_entry, without_entry, less_unused, tree_after, makes, held_after, state_after}
 use Rattle.log_record.proofs.posix_calls_lemmas.Changes.{entry, IsBare, bare_file, bare_same, set_other, left_kind, left_here, left_none, left_keeps}
 use Rattle.log_record.proofs.posix_calls_lemmas.Reached as way
 use Rattle.log_record.specs.file_graph.Graph.{Graph, Node, FileBody, DirBody}
 use Rattle.log_record.specs.file_graph.declared.effect.Kind.{Kind}
 use Rattle.log_record.specs.file_graph.declared.effect.Kind.TheVariants as kind
 use Rattle.call_effects.specs.Effects.{kind_if}
-use Rattle.call_effects.specs.Wholes.{IsSound, tree_of, tree_node, tree_body, keep, kept, state_of, without_kinds}
+use Rattle.call_effects.specs.Wholes.{IsSound, tree_of, tree_node, tree_body, keep, reachable_graph, state_of, without_kinds}
 use Rattle.call_effects.specs.Fits.{IsNew, IsRoom, IsEntry, IsUsedFile, IsEmptyDir, OperationFits}
 use Rattle.call_effects.proofs.Inodes.{get_inodes, inodes_empty}
 use Rattle.call_effects.proofs.Changes.{fair_of, sound_fair, tree_dir}
@@ -55,21 +55,21 @@ is_dir_is None e = absurd (cc)
 is_dir_is (Some (tree.File bytes)) e = absurd (cc)
 is_dir_is (Some (tree.Dir es)) e = refl
 
-pub reached_kept : (g : Graph) (d : Descriptors) → way.AreReached (tree_of g) → way.AreReached (tree_of (kept g d))
-reached_kept g d reached = reached_alike (tree_of g) (tree_of (kept g d))
+pub reached_kept : (g : Graph) (d : Descriptors) → way.AreReached (tree_of g) → way.AreReached (tree_of (reachable_graph g d))
+reached_kept g d reached = reached_alike (tree_of g) (tree_of (reachable_graph g d))
     (λ a. sym (kept_alike entries_of (λ bytes. refl) (is_open d a) (g a)))
-    (λ j is. is_dir_is (tree_of g j) (sym (kept_alike is_dir (λ bytes. refl) (is_open d j) (g j)) ∙ dir_is (tree_of (kept g d) j) is)) reached
+    (λ j is. is_dir_is (tree_of g j) (sym (kept_alike is_dir (λ bytes. refl) (is_open d j) (g j)) ∙ dir_is (tree_of (reachable_graph g d) j) is)) reached
 
-pub reached_whole : (g : Graph) (d : Descriptors) → way.AreReached (tree_of (kept g d)) → way.AreReached (tree_of g)
-reached_whole g d reached = reached_alike (tree_of (kept g d)) (tree_of g)
+pub reached_whole : (g : Graph) (d : Descriptors) → way.AreReached (tree_of (reachable_graph g d)) → way.AreReached (tree_of g)
+reached_whole g d reached = reached_alike (tree_of (reachable_graph g d)) (tree_of g)
     (λ a. kept_alike entries_of (λ bytes. refl) (is_open d a) (g a))
-    (λ j is. is_dir_is (tree_of (kept g d) j) (kept_alike is_dir (λ bytes. refl) (is_open d j) (g j) ∙ dir_is (tree_of g j) is)) reached
+    (λ j is. is_dir_is (tree_of (reachable_graph g d) j) (kept_alike is_dir (λ bytes. refl) (is_open d j) (g j) ∙ dir_is (tree_of g j) is)) reached
 
 -- ---- what fits, in the tree
 
 module _ (g : Graph) (d : Descriptors) where
   abbrev t : Tree
-  t = tree_of (kept g d)
+  t = tree_of (reachable_graph g d)
 
   pub is_file : (i : ℕ) → IsUsedFile g d i → IsFile (t i)
   is_file i f = ap (option_map dir_test) (tree_used g d i f.names f.bytes f.is f.used)
@@ -106,13 +106,13 @@ record IsReady (t : Tree) (from to : Location) (i : ℕ) : Type 0 where
   none : entry t to ≡ None
   clear : Clear t i to.parent
 
-moved : (t : Tree) (from to : Location) (i : ℕ) → IsReady t from to i → way.AreReached (entered (left t from) to i)
+moved : (t : Tree) (from to : Location) (i : ℕ) → IsReady t from to i → way.AreReached (with_entry (without_entry t from) to i)
 moved t from to i ready = reached_shifted t from to i ready.from_dir ready.there ready.to_dir (left_none t from to ready.none) ready.clear ready.reached
 
 -- without a directory that is replaced
-ready_removed : (t : Tree) (from to : Location) (i j : ℕ) → i ≢ j → IsDirectory (t from.parent) → entry t from ≡ Some i → IsDirectory (t to.parent) → entry t to ≡ Some j → IsBare (t j) → Clear t i to.parent → way.AreReached t → IsReady (set_node (left t to) j None) from to i
+ready_removed : (t : Tree) (from to : Location) (i j : ℕ) → i ≢ j → IsDirectory (t from.parent) → entry t from ≡ Some i → IsDirectory (t to.parent) → entry t to ≡ Some j → IsBare (t j) → Clear t i to.parent → way.AreReached t → IsReady (set_node (without_entry t to) j None) from to i
 ready_removed t from to i j other from_dir there to_dir old bare clear reached =
-    let u = left t to in
+    let u = without_entry t to in
     let v = set_node u j None in
     let bare_u = bare_left t to j old bare in
     let to_off = parent_off t to j j old bare in
@@ -127,7 +127,7 @@ ready_removed t from to i j other from_dir there to_dir old bare clear reached =
     }
 
 -- without the name of a file that is replaced
-ready_left : (t : Tree) (from to : Location) (i j : ℕ) → i ≢ j → IsDirectory (t from.parent) → entry t from ≡ Some i → IsDirectory (t to.parent) → entry t to ≡ Some j → IsFile (t j) → Clear t i to.parent → way.AreReached t → IsReady (left t to) from to i
+ready_left : (t : Tree) (from to : Location) (i j : ℕ) → i ≢ j → IsDirectory (t from.parent) → entry t from ≡ Some i → IsDirectory (t to.parent) → entry t to ≡ Some j → IsFile (t j) → Clear t i to.parent → way.AreReached t → IsReady (without_entry t to) from to i
 ready_left t from to i j other from_dir there to_dir old file clear reached =
     let bare = bare_file (t j) file in
     record {
@@ -136,32 +136,32 @@ ready_left t from to i j other from_dir there to_dir old file clear reached =
       there = left_keeps t to j old from i other there;
       to_dir = left_kind t to to_dir to.parent ∙ to_dir;
       none = left_here t to;
-      clear = clear_beside t (left t to) i j to.parent bare (parent_off t to j j old bare) (λ a c off e. (e.0, left_keeps t to j old (record { parent = a; name = e.0 }) c off e.1)) clear;
+      clear = clear_beside t (without_entry t to) i j to.parent bare (parent_off t to j j old bare) (λ a c off e. (e.0, left_keeps t to j old (record { parent = a; name = e.0 }) c off e.1)) clear;
     }
 
-ready_unused : (held : Descriptors) (t : Tree) (from to : Location) (i j : ℕ) → i ≢ j → IsDirectory (t from.parent) → entry t from ≡ Some i → IsDirectory (t to.parent) → entry t to ≡ Some j → IsFile (t j) → Clear t i to.parent → way.AreReached t → IsReady (less_unused held (left t to) j) from to i
+ready_unused : (held : Descriptors) (t : Tree) (from to : Location) (i j : ℕ) → i ≢ j → IsDirectory (t from.parent) → entry t from ≡ Some i → IsDirectory (t to.parent) → entry t to ≡ Some j → IsFile (t j) → Clear t i to.parent → way.AreReached t → IsReady (less_unused held (without_entry t to) j) from to i
 ready_unused held t from to i j other from_dir there to_dir old file clear reached =
-    elim (names_of (left t to) j == 0 && not (is_open held j)) as (λ b. IsReady (if b then set_node (left t to) j None else left t to) from to i) [
+    elim (names_of (without_entry t to) j == 0 && not (is_open held j)) as (λ b. IsReady (if b then set_node (without_entry t to) j None else without_entry t to) from to i) [
       | true ↦ ready_removed t from to i j other from_dir there to_dir old (bare_file (t j) file) clear reached
       | false ↦ ready_left t from to i j other from_dir there to_dir old file clear reached
     ]
 
 -- ---- every operation
 
-reached_after : (g : Graph) (d e : Descriptors) (client new : ℕ) (operation : Operation) → (makes operation ≡ true → IsNew g new) → OperationFits g d (d client) operation → way.AreReached (tree_of (kept g d)) → way.AreReached (tree_after e new (tree_of (kept g d)) operation)
+reached_after : (g : Graph) (d e : Descriptors) (client new : ℕ) (operation : Operation) → (makes operation ≡ true → IsNew g new) → OperationFits g d (d client) operation → way.AreReached (tree_of (reachable_graph g d)) → way.AreReached (tree_after e new (tree_of (reachable_graph g d)) operation)
 reached_after g d e client new (Tell answer) free fits reached = reached
 reached_after g d e client new (NewDir at) free room reached = reached_made (t g d) at new (none_new g d new (free refl)) (room_parent g d at room) (room_none g d at room) reached
 reached_after g d e client new (NewFile at number r w) free (room, num) reached = reached_new_file (t g d) at new (none_new g d new (free refl)) (room_parent g d at room) (room_none g d at room) reached
 reached_after g d e client new (OpenFile i true number r w) free (f, num) reached = reached_file (t g d) i [] (bare_used g d i f) reached
 reached_after g d e client new (OpenFile i false number r w) free fits reached = reached
 reached_after g d e client new (CloseFile i number) free (f, h) reached = reached_unused e (t g d) i (bare_used g d i f) reached
-reached_after g d e client new (Write i at bytes) free f reached = reached_file (t g d) i (written at bytes (bytes_of (t g d i))) (bare_used g d i f) reached
-reached_after g d e client new (Resize i len) free f reached = reached_file (t g d) i (resized len (bytes_of (t g d i))) (bare_used g d i f) reached
+reached_after g d e client new (Write i at bytes) free f reached = reached_file (t g d) i (with_bytes at bytes (bytes_of (t g d i))) (bare_used g d i f) reached
+reached_after g d e client new (Resize i len) free f reached = reached_file (t g d) i (with_length len (bytes_of (t g d i))) (bare_used g d i f) reached
 reached_after g d e client new (RemoveDir at i) free (entry, f) reached = reached_removed (t g d) at i (entry_parent g d at (i, kind.Directory) entry) (entry_there g d at (i, kind.Directory) entry) (bare_empty g d i f) reached
 reached_after g d e client new (AddName at i) free (room, f) reached = reached_entered (t g d) at i (room_parent g d at room) (room_none g d at room) reached
 reached_after g d e client new (DropName at i) free (entry, f) reached =
     let there = entry_there g d at (i, kind.File) entry in
-    reached_unused e (left (t g d) at) i (bare_left (t g d) at i there (bare_used g d i f)) (reached_left (t g d) at i (entry_parent g d at (i, kind.File) entry) there (is_file g d i f) reached)
+    reached_unused e (without_entry (t g d) at) i (bare_left (t g d) at i there (bare_used g d i f)) (reached_left (t g d) at i (entry_parent g d at (i, kind.File) entry) there (is_file g d i f) reached)
 reached_after g d e client new (Move from to i b Nothing) free (entry, clear, room) reached =
     moved (t g d) from to i (record {
       reached = reached;
@@ -172,10 +172,10 @@ reached_after g d e client new (Move from to i b Nothing) free (entry, clear, ro
       clear = clear_of (t g d) i to.parent clear;
     })
 reached_after g d e client new (Move from to i b (OldFile j)) free (entry, clear, old) reached =
-    moved (less_unused e (left (t g d) to) j) from to i
+    moved (less_unused e (without_entry (t g d) to) j) from to i
     (ready_unused e (t g d) from to i j old.0 (entry_parent g d from (i, kind_if b) entry) (entry_there g d from (i, kind_if b) entry) (entry_parent g d to (j, kind.File) old.1) (entry_there g d to (j, kind.File) old.1) (is_file g d j old.2) (clear_of (t g d) i to.parent clear) reached)
 reached_after g d e client new (Move from to i b (OldDir j)) free (entry, clear, old) reached =
-    moved (set_node (left (t g d) to) j None) from to i
+    moved (set_node (without_entry (t g d) to) j None) from to i
     (ready_removed (t g d) from to i j old.0 (entry_parent g d from (i, kind_if b) entry) (entry_there g d from (i, kind_if b) entry) (entry_parent g d to (j, kind.Directory) old.1) (entry_there g d to (j, kind.Directory) old.1) (bare_empty g d j old.2) (clear_of (t g d) i to.parent clear) reached)
 
 pub sound_after : (g : Graph) (d : Descriptors) (client new : ℕ) (operation : Operation) → 1 ≤ client → client ≤ 8 → IsSound g d → (makes operation ≡ true → IsNew g new) → OperationFits g d (d client) operation → IsSound (graph_after g new operation) (held_after client new d operation)

@@ -4,11 +4,12 @@ use Rattle.std.specs.Prelude.{is_some}
 use Rattle.std.proofs.lemmas.Bool.Decides.{eqb_tells}
 use Rattle.std.specs.Cmp.Lexicographic.{nat_list_cmp_total}
 use Rattle.std.specs.FinMap as fin
-use Rattle.log_record.specs.posix_calls.Content.{Entries, file_units, directory_units}
+use Rattle.log_record.specs.posix_calls.Content.{Entries}
+use Rattle.log_record.specs.posix_calls.Units.{file_units, directory_units}
 use Rattle.log_record.specs.posix_calls.Tree.{sum_up_to}
 use Rattle.log_record.proofs.posix_calls_lemmas.Counts.{order}
 use Rattle.log_record.proofs.posix_calls_lemmas.Sums.{one_changes, all_zero}
-use Rattle.log_record.specs.file_graph.Graph.{Graph, Node, FileBody, DirBody, after_effect, after_effects, touches, subjects, is_among, acted, in_directory, body_cost, cost}
+use Rattle.log_record.specs.file_graph.Graph.{Graph, Node, FileBody, DirBody, after_effect, after_effects, touches, subjects, is_among, subject_after, in_directory, body_cost, cost}
 use Rattle.log_record.specs.file_graph.Units.{rise, growth}
 use Rattle.log_record.proofs.file_graph_lemmas.Touches.{untouched}
 use Rattle.log_record.specs.file_graph.declared.effect.Kind.{Kind}
@@ -79,7 +80,7 @@ two_rise g h d e low high low_e high_e apart less = sum_two 1024 (rise g h) d e 
 
 pub alike_after : (g h : Graph) (es : List Effect) (i : ℕ) → g i ≡ h i → after_effects g es i ≡ after_effects h es i
 alike_after g h [] i same = same
-alike_after g h (e ∷ es) i same = alike_after (after_effect g e) (after_effect h e) es i (ap (λ o. cond (is_among i (subjects e)) (acted e o) o) same)
+alike_after g h (e ∷ es) i same = alike_after (after_effect g e) (after_effect h e) es i (ap (λ o. cond (is_among i (subjects e)) (subject_after e o) o) same)
 
 alike_if : (b : Bool) (x y : ℕ) → (b ≡ true → x ≡ y) → cond b x 0 ≡ cond b y 0
 alike_if true x y same = same refl
@@ -139,39 +140,39 @@ len_removed {X = X} m name v is =
 -- ---- one effect at one inode
 
 -- what holds of a node, and of what an effect makes of it, holds after the effect
-each : (P : Option Node → Type 0) (g : Graph) (e : Effect) (j : ℕ) → P (g j) → P (acted e (g j)) → P (after_effect g e j)
-each P g e j stays acts = elim (is_among j (subjects e)) as (λ b. P (cond b (acted e (g j)) (g j))) [ true ↦ acts | false ↦ stays ]
+each : (P : Option Node → Type 0) (g : Graph) (e : Effect) (j : ℕ) → P (g j) → P (subject_after e (g j)) → P (after_effect g e j)
+each P g e j stays acts = elim (is_among j (subjects e)) as (λ b. P (cond b (subject_after e (g j)) (g j))) [ true ↦ acts | false ↦ stays ]
 
 same_le : (n : ℕ) → n ≤ n
 same_le n = omega arith
 
-leave_cost : (d : ℕ) (name : List ℕ) (o : Option Node) → cost (acted (effect.Leave d name) o) ≤ cost o
+leave_cost : (d : ℕ) (name : List ℕ) (o : Option Node) → cost (subject_after (effect.Leave d name) o) ≤ cost o
 leave_cost d name None = same_le 0
 leave_cost d name (Some n) = elim (n.body) as (λ b. body_cost (in_directory (λ es. fin.remove es name) b) ≤ body_cost b) [
   | FileBody bytes ↦ same_le (file_units (length bytes))
   | DirBody es ↦ units_of_more (fin.len (fin.remove es name)) (fin.len es) (len_remove es name)
 ]
 
-leave_count : (d : ℕ) (name : List ℕ) (o : Option Node) → entry_count (acted (effect.Leave d name) o) ≤ entry_count o
+leave_count : (d : ℕ) (name : List ℕ) (o : Option Node) → entry_count (subject_after (effect.Leave d name) o) ≤ entry_count o
 leave_count d name None = same_le 0
 leave_count d name (Some n) = elim (n.body) as (λ b. entry_count (Some (record { names = n.names; body = in_directory (λ es. fin.remove es name) b })) ≤ entry_count (Some (record { names = n.names; body = b }))) [
   | FileBody bytes ↦ same_le 0
   | DirBody es ↦ len_remove es name
 ]
 
-leave_kind : (d : ℕ) (name : List ℕ) (o : Option Node) → kind_of (acted (effect.Leave d name) o) ≡ kind_of o
+leave_kind : (d : ℕ) (name : List ℕ) (o : Option Node) → kind_of (subject_after (effect.Leave d name) o) ≡ kind_of o
 leave_kind d name None = refl
 leave_kind d name (Some n) = elim (n.body) as (λ b. Some (body_kind (in_directory (λ es. fin.remove es name) b)) ≡ Some (body_kind b)) [ FileBody bytes ↦ refl | DirBody es ↦ refl ]
 
-names_cost : (i n : ℕ) (o : Option Node) → cost (acted (effect.Names i n) o) ≡ cost o
+names_cost : (i n : ℕ) (o : Option Node) → cost (subject_after (effect.Names i n) o) ≡ cost o
 names_cost i n None = refl
 names_cost i n (Some x) = refl
 
-names_count : (i n : ℕ) (o : Option Node) → entry_count (acted (effect.Names i n) o) ≡ entry_count o
+names_count : (i n : ℕ) (o : Option Node) → entry_count (subject_after (effect.Names i n) o) ≡ entry_count o
 names_count i n None = refl
 names_count i n (Some x) = refl
 
-names_kind : (i n : ℕ) (o : Option Node) → kind_of (acted (effect.Names i n) o) ≡ kind_of o
+names_kind : (i n : ℕ) (o : Option Node) → kind_of (subject_after (effect.Names i n) o) ≡ kind_of o
 names_kind i n None = refl
 names_kind i n (Some x) = refl
 
@@ -209,18 +210,18 @@ IsDir o = kind_of o ≡ Some kind.Directory
 dir_cost : (o : Option Node) → IsDir o → cost o ≡ directory_units (entry_count o)
 dir_cost o is = let d = dir_of_kind o is in ap cost d.2 ∙ sym (ap (λ x. directory_units (entry_count x)) d.2)
 
-entered_cost : (d i : ℕ) (k : Kind) (name : List ℕ) (o : Option Node) (most : ℕ) → IsDir o → entry_count o + 1 ≤ most → cost (acted (effect.Enter d i k name) o) ≤ directory_units most
+entered_cost : (d i : ℕ) (k : Kind) (name : List ℕ) (o : Option Node) (most : ℕ) → IsDir o → entry_count o + 1 ≤ most → cost (subject_after (effect.Enter d i k name) o) ≤ directory_units most
 entered_cost d i k name o most is room =
     let at = dir_of_kind o is in
     let es = at.1 in
     let count : entry_count o ≡ fin.len es = ap entry_count at.2 in
     let more = len_insert es name (i, k) in
-    subst (λ x. cost (acted (effect.Enter d i k name) x) ≤ directory_units most) (sym at.2) (units_of_more (fin.len (fin.insert es name (i, k))) most (omega (arith, count, more, room)))
+    subst (λ x. cost (subject_after (effect.Enter d i k name) x) ≤ directory_units most) (sym at.2) (units_of_more (fin.len (fin.insert es name (i, k))) most (omega (arith, count, more, room)))
 
 pub entered_again : (g h : Graph) (d i : ℕ) (k : Kind) (name : List ℕ) → ((j : ℕ) → cost (h j) ≤ cost (g j)) → IsDir (g d) → IsDir (h d) → entry_count (h d) + 1 ≤ entry_count (g d) → rises g (after_effect h (effect.Enter d i k name)) ≡ 0
 entered_again g h d i k name less was is room = none_rises g (after_effect h (effect.Enter d i k name)) (λ j. elim (eqb_tells j d) [
   | inl same ↦ subst (λ x. cost (after_effect h (effect.Enter d i k name) x) ≤ cost (g x)) (sym same.1) at_d
-  | inr off ↦ subst (λ o. cost o ≤ cost (g j)) (sym (ap (λ f. f j) (one_subject h (effect.Enter d i k name) d refl) ∙ put_other h d j (acted (effect.Enter d i k name) (h d)) off.1)) (less j)
+  | inr off ↦ subst (λ o. cost o ≤ cost (g j)) (sym (ap (λ f. f j) (one_subject h (effect.Enter d i k name) d refl) ∙ put_other h d j (subject_after (effect.Enter d i k name) (h d)) off.1)) (less j)
 ]) where
   at_d : cost (after_effect h (effect.Enter d i k name) d) ≤ cost (g d)
   at_d =

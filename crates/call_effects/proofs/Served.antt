@@ -9,7 +9,7 @@ use Rattle.log_record.specs.posix_calls.Tree.{Descriptors}
 use Rattle.log_record.specs.file_graph.Graph.{Graph, FileBody, file_bytes}
 use Rattle.call_effects.specs.Blocks.{block_of, block_at}
 use Rattle.call_effects.specs.NodeView.{view_of_node, view_at}
-use Rattle.call_effects.specs.Known.{Knowledge, Agrees, IsForgetful, in_run, with_copy, with_blocks, with_granted}
+use Rattle.call_effects.specs.Knowledge.{Knowledge, Agrees, IsForgetful, in_run, with_copy, with_blocks, with_granted}
 use Rattle.call_effects.proofs.Changes.{file}
 use Rattle.call_effects.proofs.KnownTold.{both_hold}
 use Rattle.call_effects.proofs.PutBack.{stands_back}

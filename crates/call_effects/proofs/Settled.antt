@@ -16,9 +16,9 @@ use Rattle.log_record.proofs.posix_calls_lemmas.Within.{IsNodeWithin, none_withi
 use Rattle.log_record.specs.file_graph.Graph.{Graph, Node, FileBody, DirBody}
 use Rattle.log_record.specs.file_graph.declared.effect.Kind.{Kind}
 use Rattle.log_record.specs.file_graph.declared.effect.Kind.TheVariants as kind
-use Rattle.call_effects.specs.Effects.{stored}
-use Rattle.call_effects.specs.Settled.{nobody, settled_graph, without_client, IsFewer, used_tree, left_with}
-use Rattle.call_effects.specs.Wholes.{IsSound, state_of, tree_of, tree_node, keep, kept, kind_of, body_kind, one_if}
+use Rattle.call_effects.specs.Effects.{stored_count}
+use Rattle.call_effects.specs.ClosedGraph.{nobody, settled_graph, without_client, IsFewer, used_tree, left_with}
+use Rattle.call_effects.specs.Wholes.{IsSound, state_of, tree_of, tree_node, keep, reachable_graph, kind_of, body_kind, one_if}
 use Rattle.call_effects.proofs.Changes.{fair_of, file, dir, named, has_name}
 use Rattle.call_effects.proofs.Facts.{dir_of_kind, file_of_kind}
 use Rattle.call_effects.proofs.Reached.{reached_kept}
@@ -40,13 +40,13 @@ not_open i = ap (any_up_to 8) (λ t c. none_up_to 32 t) ∙ none_up_to 8
 -- ---- what is kept of a node
 
 -- a file that goes has no name
-stored_if : (c : Bool) (n : Node) → (c ≡ true → n.names ≡ 0) → stored (cond c None (Some n)) ≡ n.names
+stored_if : (c : Bool) (n : Node) → (c ≡ true → n.names ≡ 0) → stored_count (cond c None (Some n)) ≡ n.names
 stored_if true n none = sym (none refl)
 stored_if false n none = refl
 
-stored_kept : (b : Bool) (o : Option Node) → stored (keep b o) ≡ stored o
+stored_kept : (b : Bool) (o : Option Node) → stored_count (keep b o) ≡ stored_count o
 stored_kept b None = refl
-stored_kept b (Some n) = elim (n.body) as (λ y. stored (elim y [ FileBody bytes ↦ if n.names == 0 && not b then None else Some n | DirBody es ↦ Some n ]) ≡ n.names) [
+stored_kept b (Some n) = elim (n.body) as (λ y. stored_count (elim y [ FileBody bytes ↦ if n.names == 0 && not b then None else Some n | DirBody es ↦ Some n ]) ≡ n.names) [
   | FileBody bytes ↦ stored_if (n.names == 0 && not b) n (zero_if n.names (not b))
   | DirBody es ↦ refl
 ]
@@ -80,10 +80,10 @@ dir_stays b o e = let d = dir_of_kind o e in ap (keep b) d.2 ∙ sym d.2
 has_none : (m : ℕ) → 1 ≤ m → (m == 0) ≡ false
 has_none m some = elim (eqb_tells m 0) [ inl same ↦ absurd (let none = same.1 in omega (arith, some, none)) | inr off ↦ off.0 ]
 
-file_stays : (b : Bool) (o : Option Node) → kind_of o ≡ Some kind.File → 1 ≤ stored o → keep b o ≡ o
+file_stays : (b : Bool) (o : Option Node) → kind_of o ≡ Some kind.File → 1 ≤ stored_count o → keep b o ≡ o
 file_stays b o e some =
     let f = file_of_kind o e in
-    let named_file : 1 ≤ f.0 = subst (λ n. 1 ≤ stored n) f.2 some in
+    let named_file : 1 ≤ f.0 = subst (λ n. 1 ≤ stored_count n) f.2 some in
     ap (keep b) f.2 ∙ ap (λ c. cond (c && not b) None (file f.0 f.1)) (has_none f.0 named_file) ∙ sym f.2
 
 -- and one that is open
@@ -130,7 +130,7 @@ none_either true = refl
 none_either false = refl
 
 -- what is kept with fewer descriptors is what passes a test for having a name or being open, kept with more
-left_node : (b c test : Bool) (o : Option Node) → (c ≡ true → b ≡ true) → (kind_of o ≡ Some kind.File → test ≡ nat_lt 0 (stored o)) → (kind_of o ≡ Some kind.Directory → test ≡ true) → option_map tree_node (keep c o) ≡ cond (test || c) (option_map tree_node (keep b o)) None
+left_node : (b c test : Bool) (o : Option Node) → (c ≡ true → b ≡ true) → (kind_of o ≡ Some kind.File → test ≡ nat_lt 0 (stored_count o)) → (kind_of o ≡ Some kind.Directory → test ≡ true) → option_map tree_node (keep c o) ≡ cond (test || c) (option_map tree_node (keep b o)) None
 left_node b c test None still as_file as_dir = none_either (test || c)
 left_node b c test (Some n) still as_file as_dir = elim (n.body) as (λ y. (Some (body_kind y) ≡ Some kind.File → test ≡ nat_lt 0 n.names) → (Some (body_kind y) ≡ Some kind.Directory → test ≡ true) → option_map tree_node (elim y [ FileBody bytes ↦ if n.names == 0 && not c then None else Some n | DirBody es ↦ Some n ]) ≡ cond (test || c) (option_map tree_node (elim y [ FileBody bytes ↦ if n.names == 0 && not b then None else Some n | DirBody es ↦ Some n ])) None) [
   | FileBody bytes ↦ λ f d. used_node n.names b c test n still (f refl)
@@ -141,32 +141,32 @@ within_if : (b : Bool) (o : Option tree.Node) → IsNodeWithin o → IsNodeWithi
 within_if true o within = within
 within_if false o within = none_within
 
-pub kept_state_of : (g : Graph) (fewer : Descriptors) → state_of (kept g fewer) fewer ≡ state_of g fewer
+pub kept_state_of : (g : Graph) (fewer : Descriptors) → state_of (reachable_graph g fewer) fewer ≡ state_of g fewer
 kept_state_of g fewer = λ t. record { tree = λ i. option_map tree_node (keep_twice (is_open fewer i) (g i) t); descriptors = fewer }
 
 module _ (g : Graph) (d : Descriptors) (sound : IsSound g d) where
   abbrev has : ℕ → Bool
-  has i = i == 1 || nat_lt 0 (names_of (tree_of (kept g d)) i)
+  has i = i == 1 || nat_lt 0 (names_of (tree_of (reachable_graph g d)) i)
 
-  has_file : (i : ℕ) → kind_of (g i) ≡ Some kind.File → has i ≡ nat_lt 0 (stored (g i))
+  has_file : (i : ℕ) → kind_of (g i) ≡ Some kind.File → has i ≡ nat_lt 0 (stored_count (g i))
   has_file i is =
       elim (eqb_tells i 1) [
         | inl same ↦ absurd (let clash : Some kind.File ≡ Some kind.Directory = sym is ∙ ap (λ j. kind_of (g j)) same.1 ∙ sound.typed.root in cc)
-        | inr off ↦ ap (λ b. b || nat_lt 0 (names_of (tree_of (kept g d)) i)) off.0
+        | inr off ↦ ap (λ b. b || nat_lt 0 (names_of (tree_of (reachable_graph g d)) i)) off.0
       ]
       ∙ ap (nat_lt 0) (sym (file_count g d i (fair_of g d sound) is))
 
   has_dir : (i : ℕ) → kind_of (g i) ≡ Some kind.Directory → has i ≡ true
   has_dir i is =
       elim (eqb_tells i 1) [
-        | inl same ↦ ap (λ b. b || nat_lt 0 (names_of (tree_of (kept g d)) i)) same.0
+        | inl same ↦ ap (λ b. b || nat_lt 0 (names_of (tree_of (reachable_graph g d)) i)) same.0
         | inr off ↦
             let one = sound.counts.one_name i is in
             let count = sound.counts.counted i in
             let other : one_if (i == 1) ≡ 0 = ap one_if off.0 in
             let same = kept_named g d i in
-            let is_one : names_of (tree_of (kept g d)) i ≡ 1 = omega (arith, one, count, other, same) in
-            ap (λ b. b || nat_lt 0 (names_of (tree_of (kept g d)) i)) off.0 ∙ ap (nat_lt 0) is_one
+            let is_one : names_of (tree_of (reachable_graph g d)) i ≡ 1 = omega (arith, one, count, other, same) in
+            ap (λ b. b || nat_lt 0 (names_of (tree_of (reachable_graph g d)) i)) off.0 ∙ ap (nat_lt 0) is_one
       ]
 
   module _ (e : Descriptors) (fewer : IsFewer d e) where
@@ -176,13 +176,13 @@ module _ (g : Graph) (d : Descriptors) (sound : IsSound g d) where
         let at = open_at e i is in
         is_open_by d i (record { client = at.client; number = at.number; low = at.low; high = at.high; few = at.few; what = at.what; is = fewer at.client at.number at.what at.is; inode = at.inode })
 
-    tree_at : (i : ℕ) → tree_of (kept g e) i ≡ used_tree e (tree_of (kept g d)) i
+    tree_at : (i : ℕ) → tree_of (reachable_graph g e) i ≡ used_tree e (tree_of (reachable_graph g d)) i
     tree_at i = left_node (is_open d i) (is_open e i) (has i) (g i) (still_open i) (has_file i) (has_dir i)
 
     pub fewer_state : state_of g e ≡ left_with e (state_of g d)
     fewer_state = λ t. record { tree = λ i. tree_at i t; descriptors = e }
 
-    pub left_state : state_of (kept g e) e ≡ left_with e (state_of g d)
+    pub left_state : state_of (reachable_graph g e) e ≡ left_with e (state_of g d)
     left_state = kept_state_of g e ∙ fewer_state
 
     pub fewer_sound : IsSound g e
@@ -199,29 +199,29 @@ module _ (g : Graph) (d : Descriptors) (sound : IsSound g d) where
     }
 
     -- what an entry names has a name, so it is kept
-    named_kept : (i : ℕ) (k : Kind) → kind_of (g i) ≡ Some k → 1 ≤ named g i → kind_of (kept g e i) ≡ Some k
+    named_kept : (i : ℕ) (k : Kind) → kind_of (g i) ≡ Some k → 1 ≤ named g i → kind_of (reachable_graph g e i) ≡ Some k
     named_kept i kind.Directory is some = ap kind_of (dir_stays (is_open e i) (g i) is) ∙ is
     named_kept i kind.File is some =
         let count = sound.counts.counted i in
         ap kind_of (file_stays (is_open e i) (g i) is (omega (arith, some, count))) ∙ is
 
-    left_kinds : (p n : ℕ) (es : Entries (ℕ × Kind)) (name : List ℕ) (x : ℕ × Kind) → kept g e p ≡ dir n es → fin.get es name ≡ Some x → kind_of (kept g e x.0) ≡ Some x.1
+    left_kinds : (p n : ℕ) (es : Entries (ℕ × Kind)) (name : List ℕ) (x : ℕ × Kind) → reachable_graph g e p ≡ dir n es → fin.get es name ≡ Some x → kind_of (reachable_graph g e x.0) ≡ Some x.1
     left_kinds p n es name x is there =
         let was = kept_was (is_open e p) (g p) (record { names = n; body = DirBody es }) is in
         let range = sound.typed.numbers p kind.Directory (ap kind_of was) in
         named_kept x.0 x.1 (sound.typed.kinds p n es name x was there) (has_name g p n name es x was range.0 range.1 there)
 
     -- what is open is kept
-    left_open : (c n : ℕ) (o : Descriptor) → e c n ≡ Some o → kind_of (kept g e o.inode) ≡ Some kind.File
+    left_open : (c n : ℕ) (o : Descriptor) → e c n ≡ Some o → kind_of (reachable_graph g e o.inode) ≡ Some kind.File
     left_open c n o is =
         let range = sound.typed.in_range c n o (fewer c n o is) in
         let file_there = sound.typed.opened c n o (fewer c n o is) in
         ap kind_of (ap (λ b. keep b (g o.inode)) (open_there e c n o range.0 range.1 range.2 is) ∙ open_stays (g o.inode) file_there) ∙ file_there
 
-    left_stored : (i : ℕ) → stored (kept g e i) ≡ stored (g i)
+    left_stored : (i : ℕ) → stored_count (reachable_graph g e i) ≡ stored_count (g i)
     left_stored i = stored_kept (is_open e i) (g i)
 
-    pub left_sound : IsSound (kept g e) e
+    pub left_sound : IsSound (reachable_graph g e) e
     left_sound = record {
       typed = record {
         kinds = left_kinds;
@@ -234,13 +234,13 @@ module _ (g : Graph) (d : Descriptors) (sound : IsSound g d) where
         counted = λ i. left_stored i ∙ sound.counts.counted i ∙ ap (λ n. n + one_if (i == 1)) (sym (kept_named g e i));
         one_name = λ i is. left_stored i ∙ sound.counts.one_name i (kind_was (is_open e i) (g i) kind.Directory is);
       };
-      reached = paths (tree_of (kept g e)) (reached_kept g e (chains (tree_of g) sound.reached));
+      reached = paths (tree_of (reachable_graph g e)) (reached_kept g e (chains (tree_of g) sound.reached));
     }
 
-    pub left_well_formed : IsWellFormed (state_of (kept g e) e)
-    left_well_formed = well_formed (kept g e) e left_sound
+    pub left_well_formed : IsWellFormed (state_of (reachable_graph g e) e)
+    left_well_formed = well_formed (reachable_graph g e) e left_sound
 
-    pub left_within : IsWithinLimits (state_of g d).tree → IsWithinLimits (state_of (kept g e) e).tree
+    pub left_within : IsWithinLimits (state_of g d).tree → IsWithinLimits (state_of (reachable_graph g e) e).tree
     left_within within = subst (λ (s : State). IsWithinLimits s.tree) (sym (kept_state_of g e)) (record {
       sizes = λ i. (nodes i).size;
       entries = λ i. (nodes i).entries;
@@ -248,16 +248,16 @@ module _ (g : Graph) (d : Descriptors) (sound : IsSound g d) where
       valid = λ i. (nodes i).valid;
     })
       where
-        nodes : (i : ℕ) → IsNodeWithin (tree_of (kept g e) i)
-        nodes i = subst IsNodeWithin (sym (tree_at i)) (within_if ((i == 1 || nat_lt 0 (names_of (tree_of (kept g d)) i)) || is_open e i) (tree_of (kept g d) i) (nodes_of (tree_of (kept g d)) within i))
+        nodes : (i : ℕ) → IsNodeWithin (tree_of (reachable_graph g e) i)
+        nodes i = subst IsNodeWithin (sym (tree_at i)) (within_if ((i == 1 || nat_lt 0 (names_of (tree_of (reachable_graph g d)) i)) || is_open e i) (tree_of (reachable_graph g d) i) (nodes_of (tree_of (reachable_graph g d)) within i))
 
   -- ---- nobody has a file open
 
   none_open : IsFewer d nobody
   none_open c n o is = absurd (cc)
 
-  used_by_nobody : (i : ℕ) → used_tree nobody (tree_of (kept g d)) i ≡ settled_tree (tree_of (kept g d)) i
-  used_by_nobody i = ap (λ b. cond (has i || b) (tree_of (kept g d) i) None) (not_open i) ∙ ap (λ b. cond b (tree_of (kept g d) i) None) (or_none (has i))
+  used_by_nobody : (i : ℕ) → used_tree nobody (tree_of (reachable_graph g d)) i ≡ settled_tree (tree_of (reachable_graph g d)) i
+  used_by_nobody i = ap (λ b. cond (has i || b) (tree_of (reachable_graph g d) i) None) (not_open i) ∙ ap (λ b. cond b (tree_of (reachable_graph g d) i) None) (or_none (has i))
     where
       or_none : (b : Bool) → (b || false) ≡ b
       or_none true = refl

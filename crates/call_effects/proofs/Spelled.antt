@@ -26,9 +26,9 @@ use Rattle.log_record.specs.file_graph.declared.effect.Kind.TheVariants as kind
 use Rattle.log_record.specs.file_graph.declared.effect.Effect.{Effect}
 use Rattle.log_record.specs.Grammar as grammar
 use Rattle.call_effects.specs.Calls.{answer_over}
-use Rattle.call_effects.specs.Changed.{changes}
-use Rattle.call_effects.specs.Effects.{stored, effects_of}
-use Rattle.call_effects.specs.Wholes.{IsSound, state_of, tree_of, kept, kind_of, graph_view}
+use Rattle.call_effects.specs.ChangeTest.{changes}
+use Rattle.call_effects.specs.Effects.{stored_count, effects_of}
+use Rattle.call_effects.specs.Wholes.{IsSound, state_of, tree_of, reachable_graph, kind_of, graph_view}
 use Rattle.call_effects.specs.Fits.{IsNew, IsRoom, IsEntry, IsUsedFile, OperationFits}
 use Rattle.call_effects.proofs.Changes.{fair_of, tree_dir}
 use Rattle.call_effects.proofs.GrowthAsked.{growth_as_asked}
@@ -67,7 +67,7 @@ in_file t (Move from to i is_dir replaced) able = tt
 
 module _ (g : Graph) (d : Descriptors) (sound : IsSound g d) where
   abbrev t : Tree
-  t = tree_of (kept g d)
+  t = tree_of (reachable_graph g d)
 
   inode : (i : ℕ) (k : Kind) → kind_of (g i) ≡ Some k → grammar.IsInode i
   inode i k is = sound.typed.numbers i k is
@@ -88,7 +88,7 @@ module _ (g : Graph) (d : Descriptors) (sound : IsSound g d) where
   file_inode : (i : ℕ) → IsUsedFile g d i → grammar.IsInode i
   file_inode i f = inode i kind.File (ap kind_of f.is)
 
-  file_names : (i : ℕ) → IsUsedFile g d i → stored (g i) ≡ names_of t i
+  file_names : (i : ℕ) → IsUsedFile g d i → stored_count (g i) ≡ names_of t i
   file_names i f = file_count g d i (fair_of g d sound) (ap kind_of f.is)
 
   module _ (within : IsWithinLimits t) where
@@ -97,7 +97,7 @@ module _ (g : Graph) (d : Descriptors) (sound : IsSound g d) where
         within.valid at.parent at.name e.0
         (ap (λ o. fin.get (entries_of o) at.name) (tree_dir g d at.parent entry.names entry.entries entry.is) ∙ get_inodes entry.entries at.name ∙ ap (option_map (λ (x : ℕ × Kind). x.0)) entry.there)
 
-    fewer_names : (i : ℕ) → IsUsedFile g d i → stored (g i) - 1 ≤ 1000
+    fewer_names : (i : ℕ) → IsUsedFile g d i → stored_count (g i) - 1 ≤ 1000
     fewer_names i f = let same = file_names i f in let had = within.names i in omega (arith, same, had)
 
     leaves : (at : Location) (e : ℕ × Kind) → IsEntry g at e → grammar.IsInode at.parent × (is_name at.name ≡ true)

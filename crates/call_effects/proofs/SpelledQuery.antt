@@ -3,12 +3,12 @@ use Rattle.std.proofs.Common.{◌≡◌, ℕ, ◌+◌, ◌-◌, ◌≤◌, List,
 use Rattle.std.specs.Prelude.{max, min, nat_lt}
 use Rattle.std.proofs.lemmas.Bool.Decides.{nat_tests}
 use Rattle.std.specs.FinMap as fin
-use Rattle.log_record.specs.posix_calls.Content.{file_units, directory_units}
-use Rattle.log_record.specs.posix_calls.Path.{reading}
+use Rattle.log_record.specs.posix_calls.Units.{file_units, directory_units}
+use Rattle.log_record.specs.posix_calls.Path.{path_names}
 use Rattle.log_record.specs.posix_calls.Tree.{Own}
 use Rattle.log_record.specs.posix_calls.Query.{Seen, File, Dir, Query, Gives, Refuses, IsDir, Look, Range, ◌>>=◌, View, run}
-use Rattle.log_record.specs.posix_calls.Walk.{Place, leads_to, refuse, said, entries_at, size_at, names_at, kind_at, prefix, there, entries_seen, size_seen}
-use Rattle.log_record.specs.posix_calls.Decide.{opened, lowest_free, number_or, empties, open_there, open_path, close, bytes_from, pread, write_at, pwrite, truncate, mkdir, rmdir, link, unlink, replacing, renamed, rename, list_path, described, stat, decide}
+use Rattle.log_record.specs.posix_calls.Walk.{Place, leads_to, refuse, read_or_error, entries_at, size_at, names_at, kind_at, prefix, there, entries_seen, size_seen}
+use Rattle.log_record.specs.posix_calls.Decide.{open_inode, lowest_free, number_or, empties, open_there, open_path, close, bytes_from, pread, write_at, pwrite, truncate, mkdir, rmdir, link, unlink, replaced_at, rename_to, rename, list_path, node_description, stat, decide}
 use Rattle.log_record.specs.posix_calls.declared.errno.Errno.TheVariants as errno
 use Rattle.log_record.specs.posix_calls.declared.limits.TheConstants.{MAX_TRANSFER}
 use Rattle.log_record.specs.posix_calls.declared.call.Flags.{Flags}
@@ -70,16 +70,16 @@ open_there_fine place number f None = after_any HasBytes _ _ (λ a. after_any Ha
 open_fine : (own : Own) (path : List ℕ) (f : Flags) → Fine (open_path own path f)
 unfolding open_path
 open_fine own path f =
-    after_any HasBytes (said (reading path)) _ (λ names. after_any HasBytes _ _ (λ a. after_any HasBytes (number_or (lowest_free own 0 32)) _ (λ number. after_any HasBytes (prefix names) _ (λ place.
+    after_any HasBytes (read_or_error (path_names path)) _ (λ names. after_any HasBytes _ _ (λ a. after_any HasBytes (number_or (lowest_free own 0 32)) _ (λ number. after_any HasBytes (prefix names) _ (λ place.
     after_any HasBytes _ _ (λ b. after_any HasBytes (kind_at place.inode) _ (λ is_dir. after_any HasBytes _ _ (λ c. open_there_fine place number f place.inode)))))))
 
 close_fine : (own : Own) (number : ℕ) → Fine (close own number)
 unfolding close
-close_fine own number = after_any HasBytes (opened (λ d. true) (own number)) _ (λ i. tt)
+close_fine own number = after_any HasBytes (open_inode (λ d. true) (own number)) _ (λ i. tt)
 
 pread_fine : (own : Own) (number at count : ℕ) → Fine (pread own number at count)
 unfolding pread
-pread_fine own number at count = after_any HasBytes (opened (λ d. d.reads) (own number)) _ (λ i. after_any HasBytes _ _ (λ a. after_any HasBytes (size_at i) _ (λ size. after_any HasBytes (bytes_from i at (min count (size - at))) _ (λ bytes. tt))))
+pread_fine own number at count = after_any HasBytes (open_inode (λ d. d.reads) (own number)) _ (λ i. after_any HasBytes _ _ (λ a. after_any HasBytes (size_at i) _ (λ size. after_any HasBytes (bytes_from i at (min count (size - at))) _ (λ bytes. tt))))
 
 write_fine : (i at : ℕ) (bytes : List ℕ) → length bytes ≤ MAX_TRANSFER → Fine (write_at i at bytes)
 write_fine i at [] few = tt
@@ -97,7 +97,7 @@ not_below n m e = grind (arith, nat_tests)
 pwrite_fine : (own : Own) (number at : ℕ) (bytes : List ℕ) → Fine (pwrite own number at bytes)
 unfolding pwrite
 pwrite_fine own number at bytes =
-    after_any HasBytes (opened (λ d. d.writes) (own number)) _ (λ i. where_not (nat_lt MAX_TRANSFER (length bytes)) (write_at i at bytes) (λ few. write_fine i at bytes (not_below MAX_TRANSFER (length bytes) few)))
+    after_any HasBytes (open_inode (λ d. d.writes) (own number)) _ (λ i. where_not (nat_lt MAX_TRANSFER (length bytes)) (write_at i at bytes) (λ few. write_fine i at bytes (not_below MAX_TRANSFER (length bytes) few)))
 
 told_or_resized : (test : Bool) (r : Reply) (i len : ℕ) → HasBytes (cond test (Tell r) (Resize i len))
 told_or_resized true r i len = tt
@@ -106,56 +106,56 @@ told_or_resized false r i len = tt
 truncate_fine : (path : List ℕ) (len : ℕ) → Fine (truncate path len)
 unfolding truncate
 truncate_fine path len =
-    after_any HasBytes (said (reading path)) _ (λ names. after_any HasBytes (prefix names) _ (λ place. after_any HasBytes (there place.inode) _ (λ i. after_any HasBytes (kind_at place.inode) _ (λ is_dir.
+    after_any HasBytes (read_or_error (path_names path)) _ (λ names. after_any HasBytes (prefix names) _ (λ place. after_any HasBytes (there place.inode) _ (λ i. after_any HasBytes (kind_at place.inode) _ (λ is_dir.
     after_any HasBytes _ _ (λ a. after_any HasBytes _ _ (λ b. after_any HasBytes (size_at i) _ (λ size. told_or_resized (size == len) _ i len)))))))
 
 mkdir_fine : (path : List ℕ) → Fine (mkdir path)
 unfolding mkdir
-mkdir_fine path = after_any HasBytes (said (reading path)) _ (λ names. after_any HasBytes (prefix names) _ (λ place. after_any HasBytes _ _ (λ a. after_any HasBytes _ _ (λ b. tt))))
+mkdir_fine path = after_any HasBytes (read_or_error (path_names path)) _ (λ names. after_any HasBytes (prefix names) _ (λ place. after_any HasBytes _ _ (λ a. after_any HasBytes _ _ (λ b. tt))))
 
 rmdir_fine : (path : List ℕ) → Fine (rmdir path)
 unfolding rmdir
 rmdir_fine path =
-    after_any HasBytes (said (reading path)) _ (λ names. after_any HasBytes _ _ (λ a. after_any HasBytes (prefix names) _ (λ place. after_any HasBytes (there place.inode) _ (λ i. after_any HasBytes (kind_at place.inode) _ (λ is_dir.
+    after_any HasBytes (read_or_error (path_names path)) _ (λ names. after_any HasBytes _ _ (λ a. after_any HasBytes (prefix names) _ (λ place. after_any HasBytes (there place.inode) _ (λ i. after_any HasBytes (kind_at place.inode) _ (λ is_dir.
     after_any HasBytes _ _ (λ b. after_any HasBytes (entries_at i) _ (λ entries. after_any HasBytes _ _ (λ c. tt))))))))
 
 link_fine : (old new : List ℕ) → Fine (link old new)
 unfolding link
 link_fine old new =
-    after_any HasBytes (said (reading old)) _ (λ old_names. after_any HasBytes (said (reading new)) _ (λ new_names. after_any HasBytes (prefix old_names) _ (λ from. after_any HasBytes (there from.inode) _ (λ i.
+    after_any HasBytes (read_or_error (path_names old)) _ (λ old_names. after_any HasBytes (read_or_error (path_names new)) _ (λ new_names. after_any HasBytes (prefix old_names) _ (λ from. after_any HasBytes (there from.inode) _ (λ i.
     after_any HasBytes (kind_at from.inode) _ (λ is_dir. after_any HasBytes _ _ (λ a. after_any HasBytes (prefix new_names) _ (λ to. after_any HasBytes _ _ (λ b. after_any HasBytes (names_at i) _ (λ names.
     after_any HasBytes _ _ (λ c. after_any HasBytes _ _ (λ d. tt)))))))))))
 
 unlink_fine : (path : List ℕ) → Fine (unlink path)
 unfolding unlink
 unlink_fine path =
-    after_any HasBytes (said (reading path)) _ (λ names. after_any HasBytes _ _ (λ a. after_any HasBytes (prefix names) _ (λ place. after_any HasBytes (there place.inode) _ (λ i. after_any HasBytes (kind_at place.inode) _ (λ is_dir.
+    after_any HasBytes (read_or_error (path_names path)) _ (λ names. after_any HasBytes _ _ (λ a. after_any HasBytes (prefix names) _ (λ place. after_any HasBytes (there place.inode) _ (λ i. after_any HasBytes (kind_at place.inode) _ (λ is_dir.
     after_any HasBytes _ _ (λ b. tt))))))
 
-renamed_fine : (test : Bool) (r : Reply) (from to : Place) (i : ℕ) → Fine (cond test (Gives (Tell r)) (renamed from to i))
+renamed_fine : (test : Bool) (r : Reply) (from to : Place) (i : ℕ) → Fine (cond test (Gives (Tell r)) (rename_to from to i))
 renamed_fine true r from to i = tt
-renamed_fine false r from to i = after_any HasBytes (kind_at from.inode) _ (λ old_dir. after_any HasBytes (replacing from to old_dir to.inode) _ (λ replaced. tt))
+renamed_fine false r from to i = after_any HasBytes (kind_at from.inode) _ (λ old_dir. after_any HasBytes (replaced_at from to old_dir to.inode) _ (λ replaced. tt))
 
 rename_fine : (old new : List ℕ) → Fine (rename old new)
 unfolding rename
 rename_fine old new =
-    after_any HasBytes (said (reading old)) _ (λ old_names. after_any HasBytes (said (reading new)) _ (λ new_names. after_any HasBytes _ _ (λ a. after_any HasBytes (prefix old_names) _ (λ from. after_any HasBytes (there from.inode) _ (λ i.
+    after_any HasBytes (read_or_error (path_names old)) _ (λ old_names. after_any HasBytes (read_or_error (path_names new)) _ (λ new_names. after_any HasBytes _ _ (λ a. after_any HasBytes (prefix old_names) _ (λ from. after_any HasBytes (there from.inode) _ (λ i.
     after_any HasBytes (prefix new_names) _ (λ to. after_any HasBytes _ _ (λ b. renamed_fine (leads_to i to.inode) _ from to i)))))))
 
 list_fine : (path : List ℕ) → Fine (list_path path)
 unfolding list_path
 list_fine path =
-    after_any HasBytes (said (reading path)) _ (λ names. after_any HasBytes (prefix names) _ (λ place. after_any HasBytes (there place.inode) _ (λ i. after_any HasBytes (kind_at place.inode) _ (λ is_dir.
+    after_any HasBytes (read_or_error (path_names path)) _ (λ names. after_any HasBytes (prefix names) _ (λ place. after_any HasBytes (there place.inode) _ (λ i. after_any HasBytes (kind_at place.inode) _ (λ is_dir.
     after_any HasBytes _ _ (λ a. after_any HasBytes (entries_at i) _ (λ entries. tt))))))
 
-described_fine : (o : Option Seen) → Fine (described o)
+described_fine : (o : Option Seen) → Fine (node_description o)
 described_fine None = tt
 described_fine (Some (File names bytes)) = tt
 described_fine (Some (Dir entries)) = tt
 
 stat_fine : (path : List ℕ) → Fine (stat path)
 unfolding stat
-stat_fine path = after_any HasBytes (said (reading path)) _ (λ names. after_any HasBytes (prefix names) _ (λ place. after_any HasBytes (there place.inode) _ (λ i. described_fine)))
+stat_fine path = after_any HasBytes (read_or_error (path_names path)) _ (λ names. after_any HasBytes (prefix names) _ (λ place. after_any HasBytes (there place.inode) _ (λ i. described_fine)))
 
 pub decide_fine : (own : Own) (c : Call) → Fine (decide own c)
 decide_fine own (call.Open path flags) = open_fine own path flags

@@ -9,7 +9,7 @@ use Rattle.log_record.specs.posix_calls.declared.operation.Operation.TheVariants
 use Rattle.log_record.specs.posix_calls.declared.operation.Replaced.TheVariants.{Nothing, OldFile, OldDir}
 use Rattle.log_record.specs.file_graph.Graph.{is_among, touches}
 use Rattle.call_effects.specs.Effects.{effects_by}
-use Rattle.call_effects.specs.Subjects.{put_in, rising, subjects_of}
+use Rattle.call_effects.specs.Subjects.{put_in, sorted_inodes, subjects_of}
 
 which : (b : Bool) → (b ≡ true) ⊎ (b ≡ false)
 which true = inl refl
@@ -37,9 +37,9 @@ among_put k i (j ∷ js) = elim (which (nat_lt j i)) [
   ])
 ]
 
-pub among_rising : (k : ℕ) (is : List ℕ) → is_among k (rising is) ≡ is_among k is
+pub among_rising : (k : ℕ) (is : List ℕ) → is_among k (sorted_inodes is) ≡ is_among k is
 among_rising k [] = refl
-among_rising k (i ∷ is) = among_put k i (rising is) ∙ ap (λ b. (i == k) || b) (among_rising k is)
+among_rising k (i ∷ is) = among_put k i (sorted_inodes is) ∙ ap (λ b. (i == k) || b) (among_rising k is)
 
 -- ---- rising
 
@@ -59,9 +59,9 @@ from_put low i (j ∷ js) le r = elim (which (nat_lt j i)) [
   ])
 ]
 
-from_rising : (is : List ℕ) → From 0 (rising is)
+from_rising : (is : List ℕ) → From 0 (sorted_inodes is)
 from_rising [] = tt
-from_rising (i ∷ is) = from_put 0 i (rising is) (omega arith) (from_rising is)
+from_rising (i ∷ is) = from_put 0 i (sorted_inodes is) (omega arith) (from_rising is)
 
 -- what rises by more than nothing rises from each to the next
 rises : (low : ℕ) (is : List ℕ) → From low is → IsStrictlyIncreasing is
@@ -73,8 +73,8 @@ rises low (i ∷ j ∷ js) r (suc k) within =
     let next : suc k + 1 ≡ suc (k + 1) = omega arith in
     subst (λ n. slice_index (j ∷ js) k < slice_index (i ∷ j ∷ js) n) (sym next) later
 
-rising_rises : (is : List ℕ) → IsStrictlyIncreasing (rising is)
-rising_rises is = rises 0 (rising is) (from_rising is)
+rising_rises : (is : List ℕ) → IsStrictlyIncreasing (sorted_inodes is)
+rising_rises is = rises 0 (sorted_inodes is) (from_rising is)
 
 one_rises : (i : ℕ) → IsStrictlyIncreasing (i ∷ [])
 one_rises i = rises 0 (i ∷ []) (omega arith, tt)
@@ -104,13 +104,13 @@ subjects_rise new (Move from to i is_dir (OldDir j)) = rising_rises (to.parent �
 turned : (k i j : ℕ) → is_among k (i ∷ j ∷ []) ≡ is_among k (j ∷ i ∷ [])
 turned k i j = exchanged (i == k) (j == k) false
 
-made : (k new parent : ℕ) → is_among k (rising (new ∷ parent ∷ [])) ≡ is_among k (new ∷ parent ∷ new ∷ [])
+made : (k new parent : ℕ) → is_among k (sorted_inodes (new ∷ parent ∷ [])) ≡ is_among k (new ∷ parent ∷ new ∷ [])
 made k new parent = among_rising k (new ∷ parent ∷ []) ∙ sym (ap (λ b. (new == k) || b) (turned k parent new) ∙ twice (new == k) (is_among k (parent ∷ [])))
 
-both : (k i parent : ℕ) → is_among k (rising (i ∷ parent ∷ [])) ≡ is_among k (parent ∷ i ∷ [])
+both : (k i parent : ℕ) → is_among k (sorted_inodes (i ∷ parent ∷ [])) ≡ is_among k (parent ∷ i ∷ [])
 both k i parent = among_rising k (i ∷ parent ∷ []) ∙ turned k i parent
 
-from_to : (k from to : ℕ) → is_among k (rising (to ∷ from ∷ [])) ≡ is_among k (from ∷ to ∷ [])
+from_to : (k from to : ℕ) → is_among k (sorted_inodes (to ∷ from ∷ [])) ≡ is_among k (from ∷ to ∷ [])
 from_to k from to = both k to from
 
 or_all : (a b c : Bool) → (a || (b || (c || false))) ≡ (a || (c || (b || (a || false))))
@@ -120,7 +120,7 @@ or_all false true false = refl
 or_all false false true = refl
 or_all false false false = refl
 
-replaced : (k from to j : ℕ) → is_among k (rising (to ∷ from ∷ j ∷ [])) ≡ is_among k (to ∷ j ∷ from ∷ to ∷ [])
+replaced : (k from to j : ℕ) → is_among k (sorted_inodes (to ∷ from ∷ j ∷ [])) ≡ is_among k (to ∷ j ∷ from ∷ to ∷ [])
 replaced k from to j = among_rising k (to ∷ from ∷ j ∷ []) ∙ or_all (to == k) (from == k) (j == k)
 
 pub subjects_touched : (names new k : ℕ) (operation : Operation) → is_among k (subjects_of new operation) ≡ is_among k (touches (effects_by names new operation))
@@ -148,11 +148,11 @@ put_length i (j ∷ js) = elim (which (nat_lt j i)) [
   | inr not_less ↦ rw not_less (elim (j == i) as (λ b. length (cond b (j ∷ js) (i ∷ j ∷ js)) ≤ length (j ∷ js) + 1) [ true ↦ omega arith | false ↦ omega arith ])
 ]
 
-rising_length : (is : List ℕ) → length (rising is) ≤ length is
+rising_length : (is : List ℕ) → length (sorted_inodes is) ≤ length is
 rising_length [] = omega arith
-rising_length (i ∷ is) = let l = rising_length is in let m = put_length i (rising is) in omega (arith, l, m)
+rising_length (i ∷ is) = let l = rising_length is in let m = put_length i (sorted_inodes is) in omega (arith, l, m)
 
-few_of : (is : List ℕ) → length is ≤ 3 → length (rising is) ≤ 3
+few_of : (is : List ℕ) → length is ≤ 3 → length (sorted_inodes is) ≤ 3
 few_of is few = let l = rising_length is in omega (arith, l, few)
 
 pub subjects_few : (new : ℕ) (operation : Operation) → length (subjects_of new operation) ≤ 3

@@ -7,11 +7,12 @@ use Rattle.log_record.specs.posix_calls.declared.operation.Location.{Location}
 use Rattle.log_record.specs.posix_calls.declared.operation.Operation.{Operation}
 use Rattle.log_record.specs.posix_calls.declared.operation.Operation.TheVariants.{Tell, NewDir, NewFile, OpenFile, CloseFile, Write, Resize, RemoveDir, AddName, DropName, Move}
 use Rattle.log_record.specs.posix_calls.declared.operation.Replaced.TheVariants.{Nothing, OldFile, OldDir}
-use Rattle.log_record.specs.posix_calls.Query.{Seen, Query, Gives, Look, ◌>>=◌, Part, Found, Known, Unknown, run_part}
+use Rattle.log_record.specs.posix_calls.Query.{Seen, Query, Gives, Look, ◌>>=◌}
+use Rattle.log_record.specs.posix_calls.Part.{Part, Found, Known, Unknown, run_part}
 use Rattle.log_record.specs.file_graph.Graph.{is_among}
-use Rattle.call_effects.specs.Effects.{recounted}
+use Rattle.call_effects.specs.Effects.{recounted_file}
 use Rattle.call_effects.specs.Records.{names_if, effects_asked, growth_asked, entry_rise, move_rise}
-use Rattle.call_effects.specs.Subjects.{rising, subjects_of, IsSubjectMissing}
+use Rattle.call_effects.specs.Subjects.{sorted_inodes, subjects_of, IsSubjectMissing}
 use Rattle.call_effects.proofs.SubjectLists.{among_rising}
 
 -- ---- a look, and nothing else
@@ -49,13 +50,13 @@ later : (b c : Bool) → c ≡ true → (b || c) ≡ true
 later true c e = refl
 later false c e = e
 
-first_of : (i : ℕ) (is : List ℕ) → is_among i (rising (i ∷ is)) ≡ true
+first_of : (i : ℕ) (is : List ℕ) → is_among i (sorted_inodes (i ∷ is)) ≡ true
 first_of i is = among_rising i (i ∷ is) ∙ here i is
 
-second_of : (j i : ℕ) (is : List ℕ) → is_among i (rising (j ∷ i ∷ is)) ≡ true
+second_of : (j i : ℕ) (is : List ℕ) → is_among i (sorted_inodes (j ∷ i ∷ is)) ≡ true
 second_of j i is = among_rising i (j ∷ i ∷ is) ∙ later (j == i) (is_among i (i ∷ is)) (here i is)
 
-third_of : (j k i : ℕ) → is_among i (rising (j ∷ k ∷ i ∷ [])) ≡ true
+third_of : (j k i : ℕ) → is_among i (sorted_inodes (j ∷ k ∷ i ∷ [])) ≡ true
 third_of j k i = among_rising i (j ∷ k ∷ i ∷ []) ∙ later (j == i) (is_among i (k ∷ i ∷ [])) (later (k == i) (is_among i (i ∷ [])) (here i []))
 
 missing_at : {p : Part} {what : Missing} (new : ℕ) (operation : Operation) (i : ℕ) → (what ≡ missing.Node i) × (p.node i ≡ None) → is_among i (subjects_of new operation) ≡ true → IsSubjectMissing p new operation what

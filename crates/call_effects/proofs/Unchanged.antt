@@ -1,14 +1,14 @@
 -- An operation that changes nothing asks nothing, and has no effects.
 use Rattle.std.proofs.Common.{◌≡◌, ℕ, [], true, false, Ok}
-use Rattle.log_record.specs.posix_calls.Answers.{Tells}
-use Rattle.log_record.specs.posix_calls.Query.{Part}
+use Rattle.log_record.specs.posix_calls.Answers.{IsAnswer}
+use Rattle.log_record.specs.posix_calls.Part.{Part}
 use Rattle.log_record.specs.posix_calls.declared.operation.Operation.{Operation}
 use Rattle.log_record.specs.posix_calls.declared.operation.Operation.TheVariants.{Tell, NewDir, NewFile, OpenFile, CloseFile, Write, Resize, RemoveDir, AddName, DropName, Move}
 use Rattle.log_record.proofs.posix_calls_lemmas.Chain.{bind_gives, gives}
-use Rattle.call_effects.specs.Changed.{changes}
+use Rattle.call_effects.specs.ChangeTest.{changes}
 use Rattle.call_effects.specs.Records.{effects_asked}
 
-pub nothing_asked : (p : Part) (new : ℕ) (operation : Operation) → changes operation ≡ false → Tells p (effects_asked new operation) (Ok [])
+pub nothing_asked : (p : Part) (new : ℕ) (operation : Operation) → changes operation ≡ false → IsAnswer p (effects_asked new operation) (Ok [])
 nothing_asked p new (Tell answer) e = bind_gives _ gives gives
 nothing_asked p new (NewDir at) e = absurd cc
 nothing_asked p new (NewFile at number reads writes) e = absurd cc

@@ -9,10 +9,10 @@ use Rattle.log_record.proofs.posix_calls_lemmas.Reached as way
 use Rattle.log_record.specs.posix_calls.declared.descriptor.Descriptor.{Descriptor}
 use Rattle.log_record.specs.file_graph.Graph.{Graph, FileBody, set_node}
 use Rattle.log_record.specs.file_graph.declared.effect.Kind.TheVariants as kind
-use Rattle.call_effects.specs.Effects.{stored}
-use Rattle.call_effects.specs.Wholes.{IsSound, IsTyped, state_of, tree_of, tree_node, keep, kept, kind_of, one_if}
+use Rattle.call_effects.specs.Effects.{stored_count}
+use Rattle.call_effects.specs.Wholes.{IsSound, IsTyped, state_of, tree_of, tree_node, keep, reachable_graph, kind_of, one_if}
 use Rattle.call_effects.specs.Fits.{IsUnusedFile}
-use Rattle.call_effects.specs.Known.{Knowledge, Agrees}
+use Rattle.call_effects.specs.Knowledge.{Knowledge, Agrees}
 use Rattle.call_effects.proofs.Changes.{IsFair, fair_of, sound_fair, file, named, names_stay, typed_drop, sound_of}
 use Rattle.call_effects.proofs.PutBack.{stands_back}
 use Rattle.call_effects.proofs.Puts.{put_other}
@@ -30,11 +30,11 @@ module _ (g : Graph) (d : Descriptors) (i : ℕ) (unused : IsUnusedFile g d i) w
   there j off = ap (λ b. cond b None (g j)) off
 
   -- it was left out anyway
-  same_kept : (j : ℕ) → kept less d j ≡ kept g d j
+  same_kept : (j : ℕ) → reachable_graph less d j ≡ reachable_graph g d j
   same_kept j = elim (eqb_tells j i) [
     | inl same ↦
         ap (keep (is_open d j)) (here j same.1)
-        ∙ sym (ap (λ x. kept g d x) same.1 ∙ ap (keep (is_open d i)) unused.is ∙ ap (λ b. cond (0 == 0 && not b) None (file 0 unused.bytes)) unused.closed)
+        ∙ sym (ap (λ x. reachable_graph g d x) same.1 ∙ ap (keep (is_open d i)) unused.is ∙ ap (λ b. cond (0 == 0 && not b) None (file 0 unused.bytes)) unused.closed)
     | inr off ↦ ap (keep (is_open d j)) (there j off.0)
   ]
 
@@ -76,7 +76,7 @@ module _ (g : Graph) (d : Descriptors) (i : ℕ) (unused : IsUnusedFile g d i) w
     no_root same = let clash : Some kind.File ≡ Some kind.Directory = sym is_file ∙ ap (λ j. kind_of (g j)) same ∙ sound.typed.root in cc
 
     no_name : named g i + one_if (i == 1) ≡ 0
-    no_name = sym (sound.counts.counted i) ∙ ap stored unused.is
+    no_name = sym (sound.counts.counted i) ∙ ap stored_count unused.is
 
     closed : (c n : ℕ) (o : Descriptor) → d c n ≡ Some o → o.inode ≢ i
     closed c n o is same =
@@ -95,9 +95,9 @@ module _ (g : Graph) (d : Descriptors) (i : ℕ) (unused : IsUnusedFile g d i) w
         let gone : less i ≡ None = here i refl in
         let names = same_names i in
         let none = no_name in
-        let rest : stored (less i) ≡ 0 = ap stored gone in
+        let rest : stored_count (less i) ≡ 0 = ap stored_count gone in
         sound_of g less d d i fair typed_less
-        (λ j off. ap stored (put_other g i j None off))
+        (λ j off. ap stored_count (put_other g i j None off))
         (λ j off. ap kind_of (put_other g i j None off))
         (λ j off. same_names j)
         (omega (arith, rest, names, none))
@@ -106,5 +106,5 @@ module _ (g : Graph) (d : Descriptors) (i : ℕ) (unused : IsUnusedFile g d i) w
     pub sound_still : IsSound less d
     sound_still =
         let before = reached_kept g d (chains (tree_of g) sound.reached) in
-        let kept_alike : tree_of (kept less d) ≡ tree_of (kept g d) = λ t j. option_map tree_node (same_kept j t) in
+        let kept_alike : tree_of (reachable_graph less d) ≡ tree_of (reachable_graph g d) = λ t j. option_map tree_node (same_kept j t) in
         sound_fair less d fair_less (paths (tree_of less) (reached_whole less d (subst way.AreReached (sym kept_alike) before)))

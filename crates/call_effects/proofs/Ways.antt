@@ -7,7 +7,7 @@ use Rattle.log_record.specs.posix_calls.Tree.{Tree, File, Dir, Descriptors, set_
 use Rattle.log_record.specs.posix_calls.Query.{dir_test}
 use Rattle.log_record.specs.posix_calls.WellFormed.{IsDirectory, IsFile}
 use Rattle.log_record.specs.posix_calls.declared.operation.Location.{Location}
-use Rattle.log_record.specs.posix_calls.Operations.{entered, left, less_unused}
+use Rattle.log_record.specs.posix_calls.Operations.{with_entry, without_entry, less_unused}
 use Rattle.log_record.proofs.posix_calls_lemmas.Changes.{entry, IsBare, bare_entry, bare_file, bare_same, bare_entries, set_there, set_other, entered_kind, entered_here, entered_keeps, left_kind, left_keeps}
 use Rattle.log_record.proofs.posix_calls_lemmas.Reached.{Edge, Chain, Avoids, path_chain, chain_path, chain_moves, chain_stays, reached_moved, reached_beside, reached_new}
 use Rattle.log_record.proofs.posix_calls_lemmas.Reached as way
@@ -48,15 +48,15 @@ reached_unused held t i bare reached = elim (names_of t i == 0 && not (is_open h
 
 -- ---- a name comes, and one goes
 
-pub reached_entered : (t : Tree) (at : Location) (i : ℕ) → IsDirectory (t at.parent) → entry t at ≡ None → way.AreReached t → way.AreReached (entered t at i)
+pub reached_entered : (t : Tree) (at : Location) (i : ℕ) → IsDirectory (t at.parent) → entry t at ≡ None → way.AreReached t → way.AreReached (with_entry t at i)
 reached_entered t at i parent none reached = λ j is.
     let r = reached j (sym (entered_kind t at i parent j) ∙ is) in
-    (r.0, chain_stays t (entered t at i) (λ a c e. (e.0, entered_keeps t at i none (record { parent = a; name = e.0 }) c e.1)) 1 r.0 j r.1)
+    (r.0, chain_stays t (with_entry t at i) (λ a c e. (e.0, entered_keeps t at i none (record { parent = a; name = e.0 }) c e.1)) 1 r.0 j r.1)
 
 -- the name of a file goes
-pub reached_left : (t : Tree) (at : Location) (i : ℕ) → IsDirectory (t at.parent) → entry t at ≡ Some i → IsFile (t i) → way.AreReached t → way.AreReached (left t at)
+pub reached_left : (t : Tree) (at : Location) (i : ℕ) → IsDirectory (t at.parent) → entry t at ≡ Some i → IsFile (t i) → way.AreReached t → way.AreReached (without_entry t at)
 reached_left t at i parent there file reached =
-    reached_beside t (left t at) i reached (bare_file (t i) file)
+    reached_beside t (without_entry t at) i reached (bare_file (t i) file)
     (λ a c off e. (e.0, left_keeps t at i there (record { parent = a; name = e.0 }) c off e.1))
     (λ j is. let was : IsDirectory (t j) = sym (left_kind t at parent j) ∙ is in (was, λ same. not_both (t i) file (subst (λ k. IsDirectory (t k)) same was)))
 
@@ -65,21 +65,21 @@ pub parent_off : (t : Tree) (at : Location) (i j : ℕ) → entry t at ≡ Some 
 parent_off t at i j there bare same = bare_entry (t j) at.name i bare (ap (λ k. fin.get (entries_of (t k)) at.name) (sym same) ∙ there)
 
 -- a directory without entries goes with its name
-pub bare_left : (t : Tree) (at : Location) (i : ℕ) → entry t at ≡ Some i → IsBare (t i) → IsBare (left t at i)
+pub bare_left : (t : Tree) (at : Location) (i : ℕ) → entry t at ≡ Some i → IsBare (t i) → IsBare (without_entry t at i)
 bare_left t at i there bare = ap entries_of (set_other t at.parent i (Some (Dir (fin.remove (entries_of (t at.parent)) at.name))) (λ e. parent_off t at i i there bare (sym e))) ∙ bare
 
-pub removed_edge : (t : Tree) (at : Location) (i : ℕ) → entry t at ≡ Some i → IsBare (t i) → (a c : ℕ) → c ≢ i → Edge t a c → Edge (set_node (left t at) i None) a c
+pub removed_edge : (t : Tree) (at : Location) (i : ℕ) → entry t at ≡ Some i → IsBare (t i) → (a c : ℕ) → c ≢ i → Edge t a c → Edge (set_node (without_entry t at) i None) a c
 removed_edge t at i there bare a c off e =
     let x : Location = record { parent = a; name = e.0 } in
-    (e.0, bare_same (left t at) i None (bare_left t at i there bare) refl x ∙ left_keeps t at i there x c off e.1)
+    (e.0, bare_same (without_entry t at) i None (bare_left t at i there bare) refl x ∙ left_keeps t at i there x c off e.1)
 
-pub reached_removed : (t : Tree) (at : Location) (i : ℕ) → IsDirectory (t at.parent) → entry t at ≡ Some i → IsBare (t i) → way.AreReached t → way.AreReached (set_node (left t at) i None)
+pub reached_removed : (t : Tree) (at : Location) (i : ℕ) → IsDirectory (t at.parent) → entry t at ≡ Some i → IsBare (t i) → way.AreReached t → way.AreReached (set_node (without_entry t at) i None)
 reached_removed t at i parent there bare reached =
-    reached_beside t (set_node (left t at) i None) i reached bare (removed_edge t at i there bare)
-    (λ j is. let d = dirs_set (left t at) i None no_dir_none j is in (sym (left_kind t at parent j) ∙ d.0, d.1))
+    reached_beside t (set_node (without_entry t at) i None) i reached bare (removed_edge t at i there bare)
+    (λ j is. let d = dirs_set (without_entry t at) i None no_dir_none j is in (sym (left_kind t at parent j) ∙ d.0, d.1))
 
 -- a new directory
-pub reached_made : (t : Tree) (at : Location) (new : ℕ) → t new ≡ None → IsDirectory (t at.parent) → entry t at ≡ None → way.AreReached t → way.AreReached (entered (set_node t new (Some (Dir fin.empty))) at new)
+pub reached_made : (t : Tree) (at : Location) (new : ℕ) → t new ≡ None → IsDirectory (t at.parent) → entry t at ≡ None → way.AreReached t → way.AreReached (with_entry (set_node t new (Some (Dir fin.empty))) at new)
 reached_made t at new none parent free reached =
     let x = Some (Dir fin.empty) in
     let t1 = set_node t new x in
@@ -87,12 +87,12 @@ reached_made t at new none parent free reached =
     let off : at.parent ≢ new = λ same. no_dir_none (ap (option_map dir_test) (sym none ∙ ap t (sym same)) ∙ parent) in
     let parent_1 : IsDirectory (t1 at.parent) = ap (option_map dir_test) (set_other t new at.parent x off) ∙ parent in
     let free_1 : entry t1 at ≡ None = bare_same t new x bare refl at ∙ free in
-    reached_new t (entered t1 at new) new at.parent reached parent
+    reached_new t (with_entry t1 at new) new at.parent reached parent
     (λ a c e. let s : Location = record { parent = a; name = e.0 } in (e.0, entered_keeps t1 at new free_1 s c (bare_same t new x bare refl s ∙ e.1)))
     (λ j is other. ap (option_map dir_test) (sym (set_other t new j x other)) ∙ sym (entered_kind t1 at new parent_1 j) ∙ is)
     (at.name, entered_here t1 at new)
 
-pub reached_new_file : (t : Tree) (at : Location) (new : ℕ) → t new ≡ None → IsDirectory (t at.parent) → entry t at ≡ None → way.AreReached t → way.AreReached (entered (set_node t new (Some (File []))) at new)
+pub reached_new_file : (t : Tree) (at : Location) (new : ℕ) → t new ≡ None → IsDirectory (t at.parent) → entry t at ≡ None → way.AreReached t → way.AreReached (with_entry (set_node t new (Some (File []))) at new)
 reached_new_file t at new none parent free reached =
     let x = Some (File []) in
     let bare : IsBare (t new) = ap entries_of none in
@@ -128,11 +128,11 @@ clear_of t i q clear =
 pub clear_beside : (t u : Tree) (i j q : ℕ) → IsBare (t j) → q ≢ j → ((a c : ℕ) → c ≢ j → Edge t a c → Edge u a c) → Clear t i q → Clear u i q
 clear_beside t u i j q bare other stays clear = (clear.0, clear.1, chain_moves t u j stays 1 clear.0 q (avoids_bare t j q bare other 1 clear.0 clear.2) clear.2)
 
-pub reached_shifted : (t : Tree) (from to : Location) (i : ℕ) → IsDirectory (t from.parent) → entry t from ≡ Some i → IsDirectory (t to.parent) → entry (left t from) to ≡ None → Clear t i to.parent → way.AreReached t → way.AreReached (entered (left t from) to i)
+pub reached_shifted : (t : Tree) (from to : Location) (i : ℕ) → IsDirectory (t from.parent) → entry t from ≡ Some i → IsDirectory (t to.parent) → entry (without_entry t from) to ≡ None → Clear t i to.parent → way.AreReached t → way.AreReached (with_entry (without_entry t from) to i)
 reached_shifted t from to i parent there room none clear reached =
-    let u = left t from in
+    let u = without_entry t from in
     let room_u : IsDirectory (u to.parent) = left_kind t from parent to.parent ∙ room in
-    reached_moved t (entered u to i) i to.parent reached
+    reached_moved t (with_entry u to i) i to.parent reached
     (λ a c off e. let s : Location = record { parent = a; name = e.0 } in (e.0, entered_keeps u to i none s c (left_keeps t from i there s c off e.1)))
     (λ j is. sym (left_kind t from parent j) ∙ sym (entered_kind u to i room_u j) ∙ is)
     (to.name, entered_here u to i) clear.0 clear.1 clear.2

@@ -8,8 +8,8 @@ use Rattle.log_record.specs.posix_calls.WellFormed.{IsDirectory, IsFile, IsWellF
 use Rattle.log_record.specs.file_graph.Graph.{Graph, Node, FileBody, DirBody}
 use Rattle.log_record.specs.file_graph.declared.effect.Kind.{Kind}
 use Rattle.log_record.specs.file_graph.declared.effect.Kind.TheVariants as kind
-use Rattle.call_effects.specs.Effects.{stored}
-use Rattle.call_effects.specs.Wholes.{IsSound, state_of, tree_of, tree_node, tree_body, keep, kept, kind_of, body_kind, one_if}
+use Rattle.call_effects.specs.Effects.{stored_count}
+use Rattle.call_effects.specs.Wholes.{IsSound, state_of, tree_of, tree_node, tree_body, keep, reachable_graph, kind_of, body_kind, one_if}
 use Rattle.call_effects.proofs.Changes.{fair_of, named, tree_dir}
 use Rattle.call_effects.proofs.Views.{kept_named, kind_alike, file_count}
 use Rattle.call_effects.proofs.Facts.{has_dir, kept_is_dir}
@@ -34,7 +34,7 @@ pub zero_if : (m : ℕ) (b : Bool) → (m == 0 && b) ≡ true → m ≡ 0
 zero_if m b e = elim (eqb_tells m 0) [ inl same ↦ same.1 | inr off ↦ absurd (let clash : false ≡ true = sym (ap (λ c. c && b) off.0) ∙ e in cc) ]
 
 -- what is not kept has no name
-none_stored : (b : Bool) (o : Option Node) → option_map tree_node (keep b o) ≡ None → stored o ≡ 0
+none_stored : (b : Bool) (o : Option Node) → option_map tree_node (keep b o) ≡ None → stored_count o ≡ 0
 none_stored b None e = refl
 none_stored b (Some n) e = elim (n.body) as (λ y. option_map tree_node (elim y [ FileBody bytes ↦ if n.names == 0 && not b then None else Some n | DirBody es ↦ Some n ]) ≡ None → n.names ≡ 0) [
   | FileBody bytes ↦ λ is. zero_if n.names (not b) (test_true (n.names == 0 && not b) n is)
@@ -46,7 +46,7 @@ test_false true n e = absurd (cc)
 test_false false n e = refl
 
 -- a file that is kept has a name, or is open
-file_kept : (b : Bool) (o : Option Node) → IsFile (option_map tree_node (keep b o)) → (kind_of o ≡ Some kind.File) × ((stored o == 0 && not b) ≡ false)
+file_kept : (b : Bool) (o : Option Node) → IsFile (option_map tree_node (keep b o)) → (kind_of o ≡ Some kind.File) × ((stored_count o == 0 && not b) ≡ false)
 file_kept b None e = absurd (cc)
 file_kept b (Some n) e = elim (n.body) as (λ y. n.body ≡ y → IsFile (option_map tree_node (elim y [ FileBody bytes ↦ if n.names == 0 && not b then None else Some n | DirBody es ↦ Some n ])) → (Some (body_kind y) ≡ Some kind.File) × ((n.names == 0 && not b) ≡ false)) [
   | FileBody bytes ↦ λ is file. (refl, test_false (n.names == 0 && not b) n file)
@@ -64,32 +64,32 @@ used_how m false e = elim (eqb_tells m 0) [
 ]
 
 module _ (g : Graph) (d : Descriptors) (sound : IsSound g d) where
-  root_named : names_of (tree_of (kept g d)) 1 ≡ 0
+  root_named : names_of (tree_of (reachable_graph g d)) 1 ≡ 0
   root_named =
       let same = kept_named g d 1 in
-      let count : stored (g 1) ≡ named g 1 + 1 = sound.counts.counted 1 in
+      let count : stored_count (g 1) ≡ named g 1 + 1 = sound.counts.counted 1 in
       let one = sound.counts.one_name 1 sound.typed.root in
       omega (arith, same, count, one)
 
-  unnamed : (i : ℕ) → tree_of (kept g d) i ≡ None → names_of (tree_of (kept g d)) i ≡ 0
+  unnamed : (i : ℕ) → tree_of (reachable_graph g d) i ≡ None → names_of (tree_of (reachable_graph g d)) i ≡ 0
   unnamed i none =
       let same = kept_named g d i in
       let count = sound.counts.counted i in
       let zero_stored = none_stored (is_open d i) (g i) none in
       omega (arith, same, count, zero_stored)
 
-  named_once : (i : ℕ) → IsDirectory (tree_of (kept g d) i) → i ≢ 1 → names_of (tree_of (kept g d)) i ≡ 1
+  named_once : (i : ℕ) → IsDirectory (tree_of (reachable_graph g d) i) → i ≢ 1 → names_of (tree_of (reachable_graph g d)) i ≡ 1
   named_once i is other =
       let same = kept_named g d i in
       let count = sound.counts.counted i in
-      let one = sound.counts.one_name i (kept_is_dir (is_open d i) (g i) (sym (kind_alike (kept g d i)) ∙ is)) in
+      let one = sound.counts.one_name i (kept_is_dir (is_open d i) (g i) (sym (kind_alike (reachable_graph g d i)) ∙ is)) in
       let off = not_one i other in
       omega (arith, same, count, one, off)
 
-  used_file : (i : ℕ) → IsFile (tree_of (kept g d) i) → (0 < names_of (tree_of (kept g d)) i) ⊎ (is_open d i ≡ true)
+  used_file : (i : ℕ) → IsFile (tree_of (reachable_graph g d) i) → (0 < names_of (tree_of (reachable_graph g d)) i) ⊎ (is_open d i ≡ true)
   used_file i is =
       let f = file_kept (is_open d i) (g i) is in
-      elim (used_how (stored (g i)) (is_open d i) f.1) [
+      elim (used_how (stored_count (g i)) (is_open d i) f.1) [
         | inl some ↦ inl (subst (λ n. 0 < n) (file_count g d i (fair_of g d sound) f.0) some)
         | inr at ↦ inr at
       ]
@@ -103,6 +103,6 @@ module _ (g : Graph) (d : Descriptors) (sound : IsSound g d) where
     entries = unnamed;
     opened = λ c n o at. is_file g d o.inode (open_file g d c n o o.inode (fair_of g d sound) at refl);
     one_name = named_once;
-    reached = paths (tree_of (kept g d)) (reached_kept g d (chains (tree_of g) sound.reached));
+    reached = paths (tree_of (reachable_graph g d)) (reached_kept g d (chains (tree_of g) sound.reached));
     used = used_file;
   }

@@ -3,8 +3,8 @@
 -- A block has the bytes that the file has there, so the last one may be short, and one past the end has none: then blocks put one
 -- behind the other are the file's bytes, also where its size is not at hand, and an effect acts on a block as it does on a file.
 use Rattle.std.specs.Prelude.{ℕ, zero, suc, ◌+◌, ◌-◌, ◌*◌, ◌/◌, min, List, [], ◌∷◌, ◌++◌, take, drop, Option, Some, None, option_map, if◌then◌else◌}
-use Rattle.log_record.specs.posix_calls.Content.{resized, written, range}
-use Rattle.log_record.specs.posix_calls.Query.{blocks_touched}
+use Rattle.log_record.specs.posix_calls.Content.{with_length, with_bytes, range}
+use Rattle.log_record.specs.posix_calls.Part.{blocks_touched}
 use Rattle.log_record.specs.posix_calls.declared.limits.TheConstants.{UNIT_BYTES}
 use Rattle.log_record.specs.file_graph.Graph.{Graph, subjects, is_among, file_bytes}
 use Rattle.log_record.specs.file_graph.declared.effect.Kind.TheVariants as kind
@@ -22,14 +22,14 @@ block_at g i b = option_map (block_of b) (file_bytes (g i))
 -- ---- ranges by blocks
 
 -- bytes, and those that follow
-abbrev pub followed : Option (List ℕ) → Option (List ℕ) → Option (List ℕ)
-followed None rest = None
-followed (Some bytes) rest = option_map (λ more. bytes ++ more) rest
+abbrev pub joined_bytes : Option (List ℕ) → Option (List ℕ) → Option (List ℕ)
+joined_bytes None rest = None
+joined_bytes (Some bytes) rest = option_map (λ more. bytes ++ more) rest
 
 -- so many blocks from a first one on, put one behind the other, where all of them are known
 abbrev pub blocks_joined : (ℕ → Option (List ℕ)) → ℕ → ℕ → Option (List ℕ)
 blocks_joined blocks first zero = Some []
-blocks_joined blocks first (suc count) = followed (blocks first) (blocks_joined blocks (first + 1) count)
+blocks_joined blocks first (suc count) = joined_bytes (blocks first) (blocks_joined blocks (first + 1) count)
 
 -- a range of a file's bytes, where all the blocks that it touches are known
 abbrev pub range_by : (ℕ → Option (List ℕ)) → ℕ → ℕ → Option (List ℕ)
@@ -39,11 +39,11 @@ range_by blocks at count = option_map (range (at - UNIT_BYTES * (at / UNIT_BYTES
 
 -- a block of a file that is cut or grown to a size
 abbrev pub block_resized : ℕ → ℕ → List ℕ → List ℕ
-block_resized size b block = resized (min UNIT_BYTES (size - UNIT_BYTES * b)) block
+block_resized size b block = with_length (min UNIT_BYTES (size - UNIT_BYTES * b)) block
 
 -- a block of a file in which bytes are put at an offset
 abbrev pub block_written : ℕ → List ℕ → ℕ → List ℕ → List ℕ
-block_written at new b block = take UNIT_BYTES (written (at - UNIT_BYTES * b) (drop (UNIT_BYTES * b - at) new) block)
+block_written at new b block = take UNIT_BYTES (with_bytes (at - UNIT_BYTES * b) (drop (UNIT_BYTES * b - at) new) block)
 
 -- what an effect makes of a known block of a subject; of a new file every block is known, and of what is dropped none
 abbrev pub block_acted : Effect → ℕ → Option (List ℕ) → Option (List ℕ)

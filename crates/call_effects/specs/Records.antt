@@ -1,8 +1,9 @@
 -- The record of an operation, as questions: the effects that it has, and by how many units they may raise the graph.
 use Rattle.std.specs.Prelude.{ℕ, ◌+◌, ◌-◌, ◌==◌, max, min, List, length, Bool, true, Option, Some, None, is_some, option_map, if◌then◌else◌}
 use Rattle.std.specs.FinMap as fin
-use Rattle.log_record.specs.posix_calls.Content.{file_units, directory_units}
-use Rattle.log_record.specs.posix_calls.Query.{Query, Gives, ◌>>=◌, Part}
+use Rattle.log_record.specs.posix_calls.Units.{file_units, directory_units}
+use Rattle.log_record.specs.posix_calls.Query.{Query, Gives, ◌>>=◌}
+use Rattle.log_record.specs.posix_calls.Part.{Part}
 use Rattle.log_record.specs.posix_calls.Walk.{entries_at, size_at, names_at, names_seen}
 use Rattle.log_record.specs.posix_calls.declared.operation.Location.{Location}
 use Rattle.log_record.specs.posix_calls.declared.operation.Operation.{Operation}
@@ -10,7 +11,7 @@ use Rattle.log_record.specs.posix_calls.declared.operation.Operation.TheVariants
 use Rattle.log_record.specs.posix_calls.declared.operation.Replaced.{Replaced}
 use Rattle.log_record.specs.posix_calls.declared.operation.Replaced.TheVariants.{Nothing, OldFile, OldDir}
 use Rattle.log_record.specs.file_graph.declared.effect.Effect.{Effect}
-use Rattle.call_effects.specs.Effects.{recounted, effects_by}
+use Rattle.call_effects.specs.Effects.{recounted_file, effects_by}
 
 -- how many names a file has, if there is one to ask for
 abbrev pub names_if : Option ℕ → Query ℕ
@@ -19,7 +20,7 @@ names_if (Some i) = names_at i
 
 -- the effects of an operation, where a new node has the number new; of the tree they depend on a file's number of names alone
 abbrev pub effects_asked : ℕ → Operation → Query (List Effect)
-effects_asked new operation = names_if (recounted operation) >>= (λ names. Gives (effects_by names new operation))
+effects_asked new operation = names_if (recounted_file operation) >>= (λ names. Gives (effects_by names new operation))
 
 -- whether the file whose names an operation counts is known, if there is one
 abbrev pub knows_names : Part → Option ℕ → Bool

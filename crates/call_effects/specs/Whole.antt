@@ -1,7 +1,8 @@
 -- What a plain graph answers as a file tree that is known whole.
 use Rattle.std.specs.Prelude.{ℕ, Bool, nat_lt, Option, Some, None, option_map, if◌then◌else◌}
 use Rattle.log_record.specs.posix_calls.Content.{range}
-use Rattle.log_record.specs.posix_calls.Query.{Seen, Part}
+use Rattle.log_record.specs.posix_calls.Query.{Seen}
+use Rattle.log_record.specs.posix_calls.Part.{Part}
 use Rattle.log_record.specs.posix_calls.Answers.{count_in}
 use Rattle.log_record.specs.file_graph.Graph.{Graph}
 use Rattle.call_effects.specs.Wholes.{node_is_dir, node_seen, node_bytes}

@@ -12,7 +12,7 @@ use Rattle.log_record.specs.posix_calls.declared.limits.TheConstants.{ROOT, MAX_
 use Rattle.log_record.specs.file_graph.Graph.{Graph, Node, Body, FileBody, DirBody}
 use Rattle.log_record.specs.file_graph.declared.effect.Kind.{Kind}
 use Rattle.log_record.specs.file_graph.declared.effect.Kind.TheVariants as kind
-use Rattle.call_effects.specs.Effects.{stored}
+use Rattle.call_effects.specs.Effects.{stored_count}
 
 -- ---- a graph as a file tree
 
@@ -41,12 +41,12 @@ keep is_open None = None
 keep is_open (Some n) = elim (n.body) [ FileBody bytes ↦ if n.names == 0 && not is_open then None else Some n | DirBody es ↦ Some n ]
 
 -- the graph without the files that have no name and that nobody has open
-abbrev pub kept : Graph → Descriptors → Graph
-kept g held i = keep (is_open held i) (g i)
+abbrev pub reachable_graph : Graph → Descriptors → Graph
+reachable_graph g held i = keep (is_open held i) (g i)
 
 -- the state that a graph and descriptors stand for
 abbrev pub state_of : Graph → Descriptors → State
-state_of g held = record { tree = tree_of (kept g held); descriptors = held }
+state_of g held = record { tree = tree_of (reachable_graph g held); descriptors = held }
 
 -- ---- what a call sees
 
@@ -65,7 +65,7 @@ node_bytes (Some n) = elim (n.body) [ FileBody bytes ↦ bytes | DirBody es ↦ 
 
 -- the answers of a graph with descriptors, by stored counts
 abbrev pub graph_view : Graph → Descriptors → View
-graph_view g held = record { is_dir = λ i. option_map node_is_dir (kept g held i); node = λ i. option_map node_seen (kept g held i); bytes = λ i at count. range at count (node_bytes (kept g held i)) }
+graph_view g held = record { is_dir = λ i. option_map node_is_dir (reachable_graph g held i); node = λ i. option_map node_seen (reachable_graph g held i); bytes = λ i at count. range at count (node_bytes (reachable_graph g held i)) }
 
 -- ---- soundness
 
@@ -97,9 +97,9 @@ pub record IsTyped (g : Graph) (held : Descriptors) : Type 0 where
 -- the stored counts of names are right
 pub record IsCounted (g : Graph) : Type 0 where
   -- they are the numbers of entries; the root has one more, and what is no node has none
-  pub counted : (i : ℕ) → stored (g i) ≡ names_of (tree_of g) i + one_if (i == ROOT)
+  pub counted : (i : ℕ) → stored_count (g i) ≡ names_of (tree_of g) i + one_if (i == ROOT)
   -- a directory has one name
-  pub one_name : (i : ℕ) → kind_of (g i) ≡ Some kind.Directory → stored (g i) ≡ 1
+  pub one_name : (i : ℕ) → kind_of (g i) ≡ Some kind.Directory → stored_count (g i) ≡ 1
 
 -- a path leads to every directory
 abbrev pub AreReached : Tree → Type 0

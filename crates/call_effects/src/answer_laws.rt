@@ -1,7 +1,7 @@
 //! What holds of every graph.
-ghost use Rattle.log_record.specs.posix_calls.Query.{IsPart};
+ghost use Rattle.log_record.specs.posix_calls.Part.{IsPart};
 ghost use Rattle.log_record.specs.file_graph.Graph.{Graph};
-ghost use Rattle.call_effects.specs.Known.{stored_view};
+ghost use Rattle.call_effects.specs.Knowledge.{stored_view};
 ghost use Rattle.call_effects.specs.Whole.{whole_of};
 
 /// What a graph answers is so of the graph as it stands stored.

@@ -1,7 +1,7 @@
 ghost use Rattle.log_record.specs.file_graph.Graph.{graph_of};
 ghost use Rattle.call_effects.specs.Whole.{whole_of};
 
-use crate::stored::{
+use crate::node_reads::{
     child, describe, entry_count, file_names, file_size, is_counted, is_dir, names, read,
 };
 use log_record::{Bytes, Description, NamedInode, Names, PlainGraph, TreeAnswers};

@@ -1,12 +1,12 @@
 ghost use Rattle.std.specs.Prelude.{◌≡◌, ◌+◌, ◌^◌, ◌<◌, IfOk, IfErr, max};
-ghost use Rattle.log_record.specs.posix_calls.Answers.{Tells};
-ghost use Rattle.log_record.specs.posix_calls.Content.{file_units, directory_units};
+ghost use Rattle.log_record.specs.posix_calls.Answers.{IsAnswer};
+ghost use Rattle.log_record.specs.posix_calls.Units.{file_units, directory_units};
 ghost use Rattle.call_effects.specs.Records.{file_rise, entry_rise, move_rise, growth_asked, units_asked};
 ghost use Rattle.call_effects.specs.Rises.{IsOfNode, new_rise, size_rise};
 
 use log_record::{
     DecideError, Location, Missing, Operation, Replaced, TreeAnswers, UNIT_BYTES, UNIT_ENTRIES,
-    known,
+    known_or_missing,
 };
 
 /// By how many units an operation raises the graph at most: the rises of the inodes that its effects touch, each by itself. No fall
@@ -16,7 +16,7 @@ use log_record::{
 /// names it. No other error comes. An operation that a call came to grows by a few hundred units at most; for one that would grow
 /// by more than 32 bits count, the answer is the greatest that they do.
 pub fn growth_of<T: TreeAnswers>(tree: &T, operation: &Operation) -> Result<u32, DecideError>
-    ensures tells { Tells (T.part tree.now) (units_asked operation.now) result }
+    ensures answer { IsAnswer (T.part tree.now) (units_asked operation.now) result }
     ensures errors { IfErr result IsOfNode }
 {
     let units = growth_in_full(tree, operation)?;
@@ -24,7 +24,7 @@ pub fn growth_of<T: TreeAnswers>(tree: &T, operation: &Operation) -> Result<u32,
 }
 
 fn growth_in_full<T: TreeAnswers>(tree: &T, operation: &Operation) -> Result<u64, DecideError>
-    ensures tells { Tells (T.part tree.now) (growth_asked operation.now) result }
+    ensures answer { IsAnswer (T.part tree.now) (growth_asked operation.now) result }
     ensures errors { IfErr result IsOfNode }
 {
     match operation {
@@ -66,18 +66,18 @@ fn file_units(len: u128) -> u64
 
 // The rise of a directory that gets one more entry.
 fn entry_rise<T: TreeAnswers>(tree: &T, dir: u32) -> Result<u64, DecideError>
-    ensures tells { Tells (T.part tree.now) (entry_rise dir) result }
+    ensures answer { IsAnswer (T.part tree.now) (entry_rise dir) result }
     ensures errors { IfErr result IsOfNode }
     ensures small { IfOk result (λ rise. rise < 2 ^ 33) }
 {
-    let entries = known(tree.entry_count(dir), Missing::Node { inode: dir })? as u64;
+    let entries = known_or_missing(tree.entry_count(dir), Missing::Node { inode: dir })? as u64;
     Ok(directory_units(entries + 1).saturating_sub(directory_units(entries)))
 }
 
 // The units of a new node, and the rise of its directory.
 fn new_rise<T: TreeAnswers>(tree: &T, dir: u32, units: u64) -> Result<u64, DecideError>
     requires { units < 2 ^ 54 }
-    ensures tells { Tells (T.part tree.now) (new_rise units dir) result }
+    ensures answer { IsAnswer (T.part tree.now) (new_rise units dir) result }
     ensures errors { IfErr result IsOfNode }
 {
     let rise = entry_rise(tree, dir)?;
@@ -91,7 +91,7 @@ fn move_rise<T: TreeAnswers>(
     to: &Location,
     replaced: Replaced,
 ) -> Result<u64, DecideError>
-    ensures tells { Tells (T.part tree.now) (move_rise from.now to.now replaced) result }
+    ensures answer { IsAnswer (T.part tree.now) (move_rise from.now to.now replaced) result }
     ensures errors { IfErr result IsOfNode }
 {
     match replaced {
@@ -118,19 +118,19 @@ fn write_rise<T: TreeAnswers>(
     at: u64,
     count: usize,
 ) -> Result<u64, DecideError>
-    ensures tells { Tells (T.part tree.now) (size_rise (λ old. max old (at + count)) inode) result }
+    ensures answer { IsAnswer (T.part tree.now) (size_rise (λ old. max old (at + count)) inode) result }
     ensures errors { IfErr result IsOfNode }
 {
-    let old = known(tree.file_size(inode), Missing::Node { inode })? as u128;
+    let old = known_or_missing(tree.file_size(inode), Missing::Node { inode })? as u128;
     let end = at as u128 + count as u128;
     Ok(file_rise(old, old.max(end)))
 }
 
 // The rise of a file that is cut or grown to a length.
 fn resize_rise<T: TreeAnswers>(tree: &T, inode: u32, len: u64) -> Result<u64, DecideError>
-    ensures tells { Tells (T.part tree.now) (size_rise (λ old. len) inode) result }
+    ensures answer { IsAnswer (T.part tree.now) (size_rise (λ old. len) inode) result }
     ensures errors { IfErr result IsOfNode }
 {
-    let old = known(tree.file_size(inode), Missing::Node { inode })?;
+    let old = known_or_missing(tree.file_size(inode), Missing::Node { inode })?;
     Ok(file_rise(old as u128, len as u128))
 }

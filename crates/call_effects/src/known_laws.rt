@@ -1,9 +1,10 @@
 //! What holds of a client that knows a part of the whole.
 
 ghost use Rattle.std.specs.Prelude.{◌≡◌, ◌≢◌, ◌≤◌, ◌+◌, ◌/◌, ℕ, Bool, List, [], ◌++◌, Option, Some, None, IsSome, Result, Ok, Err, true, false, ◌&&◌, if◌then◌else◌};
-ghost use Rattle.log_record.specs.posix_calls.Path.{reading};
+ghost use Rattle.log_record.specs.posix_calls.Path.{path_names};
 ghost use Rattle.log_record.specs.posix_calls.Tree.{Descriptors, with_own};
-ghost use Rattle.log_record.specs.posix_calls.Query.{Known, Unknown, IsPart, IsLeft, run, run_part};
+ghost use Rattle.log_record.specs.posix_calls.Query.{run};
+ghost use Rattle.log_record.specs.posix_calls.Part.{Known, Unknown, IsPart, IsLeft, run_part};
 ghost use Rattle.log_record.specs.posix_calls.Decide.{decide, is_senseless, lowest_free};
 ghost use Rattle.log_record.specs.posix_calls.Operations.{makes, reply_of, own_after, Step};
 ghost use Rattle.log_record.specs.posix_calls.declared.operation.Location.{Location};
@@ -25,9 +26,9 @@ ghost use Rattle.call_effects.specs.Effects.{effects_of, kind_if};
 ghost use Rattle.call_effects.specs.NodeView.{NodeView, view_at, view_after};
 ghost use Rattle.call_effects.specs.Blocks.{block_of, block_at, block_after};
 ghost use Rattle.call_effects.specs.Records.{effects_asked, growth_asked, units_asked};
-ghost use Rattle.call_effects.specs.Wholes.{IsSound, state_of, graph_view, kept};
+ghost use Rattle.call_effects.specs.Wholes.{IsSound, state_of, graph_view, reachable_graph};
 ghost use Rattle.call_effects.specs.Fits.{OperationFits, IsNew, IsUnusedFile};
-ghost use Rattle.call_effects.specs.Known.{Knowledge, Agrees, IsPutBack, HasCopies, IsForgetful, IsLookedAtNext, IsReadNext, IsNodeMissing, AreBlocksMissing, IsPlanned, IsCopiedEntry, knows_after, knows_made, part_of, stored_view, with_blocks, with_copy, with_granted};
+ghost use Rattle.call_effects.specs.Knowledge.{Knowledge, Agrees, IsPutBack, HasCopies, IsForgetful, IsLookedAtNext, IsReadNext, IsNodeMissing, AreBlocksMissing, IsPlanned, IsCopiedEntry, knows_after, knows_made, part_of, stored_view, with_blocks, with_copy, with_granted};
 
 /// No call meets a file that is gone, which is one that has no name and that nobody has open: it comes to the same over the
 /// graph as it stands stored, with such files still in it, and also where such files are put back that were dropped.
@@ -80,7 +81,7 @@ pub fn known_call_keeps_agreement()
 
 /// A copy of a directory tells of each inode that its entries name whether that is a directory: no copy of the inode is needed
 /// for this.
-pub fn copied_entries_tell_kinds()
+pub fn copied_entries_have_kinds()
     ensures { (k : Knowledge) (g : Graph) (held : Descriptors) (at : Location) (i : ℕ) (is_dir : Bool) → IsSound g held → Agrees k g held → IsCopiedEntry k at (i, kind_if is_dir) → (part_of k).is_dir i ≡ Some (Some is_dir) }
 {}
 
@@ -92,14 +93,14 @@ pub fn missing_is_asked_next()
     ensures first { (k : Knowledge) (call : Call) (what : Missing) → run_part (part_of k) (decide k.own call) ≡ Unknown what → IsLeft (part_of k) what (decide k.own call) }
     ensures looked { (k : Knowledge) (g : Graph) (held : Descriptors) (call : Call) (i : ℕ) → IsSound g held → Agrees k g held → run_part (part_of k) (decide k.own call) ≡ Unknown (Node i) → IsLookedAtNext (part_of k) i (decide k.own call) }
     ensures read { (k : Knowledge) (call : Call) (i first count : ℕ) → run_part (part_of k) (decide k.own call) ≡ Unknown (Blocks i first count) → IsReadNext (part_of k) i first count (decide k.own call) }
-    ensures there { (k : Knowledge) (g : Graph) (held : Descriptors) (call : Call) (i : ℕ) → IsSound g held → Agrees k g held → run_part (part_of k) (decide k.own call) ≡ Unknown (Node i) → IsSome (kept g held i) }
-    ensures blocks_there { (k : Knowledge) (g : Graph) (held : Descriptors) (call : Call) (i first count : ℕ) → IsSound g held → Agrees k g held → run_part (part_of k) (decide k.own call) ≡ Unknown (Blocks i first count) → IsSome (kept g held i) }
+    ensures there { (k : Knowledge) (g : Graph) (held : Descriptors) (call : Call) (i : ℕ) → IsSound g held → Agrees k g held → run_part (part_of k) (decide k.own call) ≡ Unknown (Node i) → IsSome (reachable_graph g held i) }
+    ensures blocks_there { (k : Knowledge) (g : Graph) (held : Descriptors) (call : Call) (i first count : ℕ) → IsSound g held → Agrees k g held → run_part (part_of k) (decide k.own call) ≡ Unknown (Blocks i first count) → IsSome (reachable_graph g held i) }
     ensures no_copy { (k : Knowledge) (call : Call) (i : ℕ) → run_part (part_of k) (decide k.own call) ≡ Unknown (Node i) → k.copies i ≡ None }
     ensures blocks { (k : Knowledge) (call : Call) (i first count : ℕ) → run_part (part_of k) (decide k.own call) ≡ Unknown (Blocks i first count) → AreBlocksMissing k i first count }
     ensures few_blocks { (k : Knowledge) (call : Call) (i first count : ℕ) → run_part (part_of k) (decide k.own call) ≡ Unknown (Blocks i first count) → count ≤ MAX_TRANSFER / UNIT_BYTES + 1 }
-    ensures effects_there { (k : Knowledge) (g : Graph) (held : Descriptors) (new : ℕ) (operation : Operation) (i : ℕ) → IsSound g held → Agrees k g held → OperationFits g held (held k.client) operation → run_part (part_of k) (effects_asked new operation) ≡ Unknown (Node i) → IsSome (kept g held i) }
+    ensures effects_there { (k : Knowledge) (g : Graph) (held : Descriptors) (new : ℕ) (operation : Operation) (i : ℕ) → IsSound g held → Agrees k g held → OperationFits g held (held k.client) operation → run_part (part_of k) (effects_asked new operation) ≡ Unknown (Node i) → IsSome (reachable_graph g held i) }
     ensures effects { (k : Knowledge) (new : ℕ) (operation : Operation) (what : Missing) → run_part (part_of k) (effects_asked new operation) ≡ Unknown what → IsNodeMissing k what }
-    ensures growth_there { (k : Knowledge) (g : Graph) (held : Descriptors) (operation : Operation) (i : ℕ) → IsSound g held → Agrees k g held → OperationFits g held (held k.client) operation → run_part (part_of k) (growth_asked operation) ≡ Unknown (Node i) → IsSome (kept g held i) }
+    ensures growth_there { (k : Knowledge) (g : Graph) (held : Descriptors) (operation : Operation) (i : ℕ) → IsSound g held → Agrees k g held → OperationFits g held (held k.client) operation → run_part (part_of k) (growth_asked operation) ≡ Unknown (Node i) → IsSome (reachable_graph g held i) }
     ensures growth { (k : Knowledge) (operation : Operation) (what : Missing) → run_part (part_of k) (growth_asked operation) ≡ Unknown what → IsNodeMissing k what }
 {}
 
@@ -138,12 +139,12 @@ pub fn effects_replay_over_what_was_fetched()
 /// A call on the root that every tree refuses is refused by what any client knows, with no copy at all: the root is known to be
 /// a directory.
 pub fn root_is_refused_without_a_copy()
-    ensures open { (k : Knowledge) (path : List ℕ) (flags : Flags) (number : ℕ) → reading path ≡ Ok [] → is_senseless flags ≡ false → lowest_free k.own 0 MAX_DESCRIPTORS ≡ Some number → run_part (part_of k) (decide k.own (Open path flags)) ≡ Known (Err (if flags.create && flags.exclusive then Exists else IsDirectory)) }
-    ensures truncate { (k : Knowledge) (path : List ℕ) (len : ℕ) → reading path ≡ Ok [] → run_part (part_of k) (decide k.own (Truncate path len)) ≡ Known (Err IsDirectory) }
-    ensures mkdir { (k : Knowledge) (path : List ℕ) → reading path ≡ Ok [] → run_part (part_of k) (decide k.own (Mkdir path)) ≡ Known (Err Exists) }
-    ensures rmdir { (k : Knowledge) (path : List ℕ) → reading path ≡ Ok [] → run_part (part_of k) (decide k.own (Rmdir path)) ≡ Known (Err Busy) }
-    ensures link { (k : Knowledge) (path new : List ℕ) (names : List (List ℕ)) → reading path ≡ Ok [] → reading new ≡ Ok names → run_part (part_of k) (decide k.own (Link path new)) ≡ Known (Err NotPermitted) }
-    ensures unlink { (k : Knowledge) (path : List ℕ) → reading path ≡ Ok [] → run_part (part_of k) (decide k.own (Unlink path)) ≡ Known (Err Busy) }
-    ensures rename { (k : Knowledge) (path new : List ℕ) (names : List (List ℕ)) → reading path ≡ Ok [] → reading new ≡ Ok names → run_part (part_of k) (decide k.own (Rename path new)) ≡ Known (Err Busy) }
-    ensures renamed { (k : Knowledge) (old path : List ℕ) (names : List (List ℕ)) → reading old ≡ Ok names → reading path ≡ Ok [] → run_part (part_of k) (decide k.own (Rename old path)) ≡ Known (Err Busy) }
+    ensures open { (k : Knowledge) (path : List ℕ) (flags : Flags) (number : ℕ) → path_names path ≡ Ok [] → is_senseless flags ≡ false → lowest_free k.own 0 MAX_DESCRIPTORS ≡ Some number → run_part (part_of k) (decide k.own (Open path flags)) ≡ Known (Err (if flags.create && flags.exclusive then Exists else IsDirectory)) }
+    ensures truncate { (k : Knowledge) (path : List ℕ) (len : ℕ) → path_names path ≡ Ok [] → run_part (part_of k) (decide k.own (Truncate path len)) ≡ Known (Err IsDirectory) }
+    ensures mkdir { (k : Knowledge) (path : List ℕ) → path_names path ≡ Ok [] → run_part (part_of k) (decide k.own (Mkdir path)) ≡ Known (Err Exists) }
+    ensures rmdir { (k : Knowledge) (path : List ℕ) → path_names path ≡ Ok [] → run_part (part_of k) (decide k.own (Rmdir path)) ≡ Known (Err Busy) }
+    ensures link { (k : Knowledge) (path new : List ℕ) (names : List (List ℕ)) → path_names path ≡ Ok [] → path_names new ≡ Ok names → run_part (part_of k) (decide k.own (Link path new)) ≡ Known (Err NotPermitted) }
+    ensures unlink { (k : Knowledge) (path : List ℕ) → path_names path ≡ Ok [] → run_part (part_of k) (decide k.own (Unlink path)) ≡ Known (Err Busy) }
+    ensures rename { (k : Knowledge) (path new : List ℕ) (names : List (List ℕ)) → path_names path ≡ Ok [] → path_names new ≡ Ok names → run_part (part_of k) (decide k.own (Rename path new)) ≡ Known (Err Busy) }
+    ensures renamed { (k : Knowledge) (old path : List ℕ) (names : List (List ℕ)) → path_names old ≡ Ok names → path_names path ≡ Ok [] → run_part (part_of k) (decide k.own (Rename old path)) ≡ Known (Err Busy) }
 {}

@@ -1,7 +1,8 @@
 //! What holds of every sound graph.
 
 ghost use Rattle.std.specs.Prelude.{◌≡◌, ℕ, ◌≤◌, None, IsSome, Ok, Err, true};
-ghost use Rattle.log_record.specs.posix_calls.Tree.{Descriptors, opening};
+ghost use Rattle.log_record.specs.posix_calls.Tree.{Descriptors};
+ghost use Rattle.log_record.specs.posix_calls.EmptyTree.{empty_state};
 ghost use Rattle.log_record.specs.posix_calls.Query.{view_of};
 ghost use Rattle.log_record.specs.posix_calls.Operations.{makes, reply_of, held_after, state_after, Step};
 ghost use Rattle.log_record.specs.posix_calls.WellFormed.{IsWellFormed, IsWithinLimits};
@@ -12,14 +13,14 @@ ghost use Rattle.log_record.specs.posix_calls.declared.errno.Errno.{Errno};
 ghost use Rattle.log_record.specs.posix_calls.declared.limits.TheConstants.{MAX_CLIENTS, MAX_INODE, MAX_NAMES, ROOT};
 ghost use Rattle.log_record.specs.file_graph.Graph.{Graph, fresh, after_effects, set_node};
 ghost use Rattle.call_effects.specs.Calls.{answer_over};
-ghost use Rattle.call_effects.specs.Effects.{stored, effects_of};
+ghost use Rattle.call_effects.specs.Effects.{stored_count, effects_of};
 ghost use Rattle.call_effects.specs.Wholes.{IsSound, state_of, tree_of, graph_view};
 ghost use Rattle.call_effects.specs.Fits.{IsNew, IsUnusedFile, OperationFits};
 
 /// The graph of a root alone, of which nothing is open, is sound, and stands for the empty tree.
 pub fn fresh_graph_stands_for_the_opening()
     ensures sound { IsSound fresh (λ c n. None) }
-    ensures state { state_of fresh (λ c n. None) ≡ opening }
+    ensures state { state_of fresh (λ c n. None) ≡ empty_state }
 {}
 
 /// It is within the limits, so `calls_keep_a_graph_within_its_limits` has a beginning.
@@ -66,6 +67,6 @@ pub fn calls_keep_a_graph_within_its_limits()
     ensures call { (g : Graph) (held : Descriptors) (client new : ℕ) (call : Call) (operation : Operation) → IsSound g held → IsWithinLimits (tree_of g) → answer_over g held client call ≡ Ok operation → (makes operation ≡ true → IsNew g new) → IsWithinLimits (tree_of (after_effects g (effects_of g new operation))) }
     ensures dropped { (g : Graph) (held : Descriptors) (i : ℕ) → IsUnusedFile g held i → IsWithinLimits (tree_of g) → IsWithinLimits (tree_of (set_node g i None)) }
     ensures seen { (g : Graph) (held : Descriptors) → IsWithinLimits (tree_of g) → IsWithinLimits (state_of g held).tree }
-    ensures stored { (g : Graph) (held : Descriptors) (i : ℕ) → IsSound g held → IsWithinLimits (tree_of g) → stored (g i) ≤ MAX_NAMES }
+    ensures stored { (g : Graph) (held : Descriptors) (i : ℕ) → IsSound g held → IsWithinLimits (tree_of g) → stored_count (g i) ≤ MAX_NAMES }
     ensures nodes { (g : Graph) (held : Descriptors) (i : ℕ) → IsSound g held → IsSome (g i) → (ROOT ≤ i) × (i ≤ MAX_INODE) }
 {}

@@ -1,7 +1,7 @@
 //! What a call of a client changes, as a record for its log, and that this is one step of the file tree.
 //!
 //! `specs/Wholes.antt` says which state of the file tree a graph of inodes and descriptors stand for, and when the two are sound;
-//! `specs/Effects.antt` which effects an operation has, and `specs/Known.antt` what a client knows of the whole. `decide` of
+//! `specs/Effects.antt` which effects an operation has, and `specs/Knowledge.antt` what a client knows of the whole. `decide` of
 //! `posix_calls` gives a call's operation, `growth_of` the units that it may need, and `record_of` makes its record: all three ask
 //! whoever knows the tree or a part of it; `subjects` tells which inodes the record will touch. That this is right is told by the
 //! laws: over a whole (`laws`), of effects and units (`record_laws`), for a client that knows a part (`known_laws`), and once nobody
@@ -10,21 +10,25 @@
 
 mod answer_laws;
 mod answers;
-mod changed;
+mod change_test;
+mod closed_graph_laws;
+mod effect_subjects;
 mod growth;
 mod known_laws;
 mod laws;
+mod node_reads;
 mod record;
 mod record_laws;
-mod settling;
-mod stored;
-mod touched;
 
 pub use answer_laws::answers_are_of_the_graph;
 pub use answers::GraphAnswers;
+pub use closed_graph_laws::{graph_without_a_client_is_sound, settled_graph_is_sound};
+pub use effect_subjects::{
+    MAX_SUBJECTS, missing_nodes_are_subjects, subjects, subjects_are_what_the_effects_touch,
+};
 pub use growth::growth_of;
 pub use known_laws::{
-    copied_entries_tell_kinds, dropping_a_gone_file_keeps_all,
+    copied_entries_have_kinds, dropping_a_gone_file_keeps_all,
     effects_replay_over_what_was_fetched, known_answer_is_of_the_whole, known_call_is_a_step,
     known_call_keeps_agreement, missing_is_asked_next, no_call_meets_a_file_that_is_gone,
     part_is_of_the_whole, root_is_refused_without_a_copy, served_copy_agrees,
@@ -39,10 +43,6 @@ pub use record::record_of;
 pub use record_laws::{
     answered_operations_have_spellings, asked_effects_are_the_operations,
     asked_growth_is_the_effects_growth, growth_is_local,
-};
-pub use settling::{graph_without_a_client_is_sound, settled_graph_is_sound};
-pub use touched::{
-    MAX_SUBJECTS, missing_nodes_are_subjects, subjects, subjects_are_what_the_effects_touch,
 };
 
 // Passed on to the crates above, which so need not list those below.

@@ -1,18 +1,18 @@
 ghost use Rattle.std.specs.Prelude.{◌≡◌, ◌+◌, ◌-◌, ◌^◌, ◌<◌, ◌≤◌, [], ◌∷◌, ◌++◌, length, true, false, Some, None, Ok, IfOk, IfErr, IfSome, OnOk, is_some, vec_len, if◌then◌else◌};
 ghost use Rattle.std.specs.Vec.{vec_capacity};
-ghost use Rattle.log_record.specs.posix_calls.Answers.{Tells};
+ghost use Rattle.log_record.specs.posix_calls.Answers.{IsAnswer};
 ghost use Rattle.log_record.specs.posix_calls.declared.operation.Operation.TheVariants.{AddName};
 ghost use Rattle.log_record.specs.posix_calls.declared.operation.DecideError.TheVariants.{Memory};
 ghost use Rattle.log_record.specs.file_graph.declared.effect.Effect.TheVariants.{Size, Leave, Enter};
-ghost use Rattle.call_effects.specs.Changed.{changes};
-ghost use Rattle.call_effects.specs.Effects.{recounted, kind_if, making, dropping, removing, clearing, effects_by};
+ghost use Rattle.call_effects.specs.ChangeTest.{changes};
+ghost use Rattle.call_effects.specs.Effects.{recounted_file, kind_if, make_effects, drop_effects, remove_effects, clear_effects, effects_by};
 ghost use Rattle.call_effects.specs.Records.{names_if, knows_names, names_known, effects_asked};
-ghost use Rattle.call_effects.specs.Recorded.{effects_told, leaving_first, putting_out, made_first};
+ghost use Rattle.call_effects.specs.RecordEffects.{effects_or_error, leaving_first, putting_out, made_first};
 
-use crate::changed::has_effects;
+use crate::change_test::has_effects;
 use log_record::{
     DecideError, Effect, FileGraphEffects as Effects, Kind, Location, Missing, Operation, Record,
-    Replaced, TreeAnswers, known,
+    Replaced, TreeAnswers, known_or_missing,
 };
 use std::alloc::{AllocError, Global};
 
@@ -33,9 +33,9 @@ pub fn record_of<T: TreeAnswers>(
     new: u32,
     units: u32,
 ) -> Result<Option<Record>, (DecideError, Operation)>
-    ensures tells { Tells (T.part tree.now) (effects_asked new operation) (effects_told result) }
+    ensures answer { IsAnswer (T.part tree.now) (effects_asked new operation) (effects_or_error result) }
     ensures units { IfOk result (λ made. IfSome made (λ made. made.units ≡ units)) }
-    ensures memory { IfErr result (λ back. back.0 ≡ Memory → knows_names (T.part tree.now) (recounted operation) ≡ true) }
+    ensures memory { IfErr result (λ back. back.0 ≡ Memory → knows_names (T.part tree.now) (recounted_file operation) ≡ true) }
     ensures some { IfOk result (λ made. is_some made ≡ changes operation) }
     ensures none { changes operation ≡ false → result ≡ Ok None }
     ensures back { IfErr result (λ back. back.1 ≡ operation) }
@@ -43,7 +43,7 @@ pub fn record_of<T: TreeAnswers>(
     if !has_effects(&operation) {
         return Ok(None);
     }
-    let names = match names_if(tree, recounted(&operation)) {
+    let names = match names_if(tree, recounted_file(&operation)) {
         Ok(names) => names,
         Err(why) => return Err((why, operation)),
     };
@@ -56,8 +56,8 @@ pub fn record_of<T: TreeAnswers>(
 }
 
 // The file that gets another number of names.
-fn recounted(operation: &Operation) -> Option<u32>
-    ensures { result ≡ recounted operation.now }
+fn recounted_file(operation: &Operation) -> Option<u32>
+    ensures { result ≡ recounted_file operation.now }
 {
     match operation {
         Operation::AddName { inode, .. } => Some(*inode),
@@ -72,7 +72,7 @@ fn recounted(operation: &Operation) -> Option<u32>
 
 // How many names a file has; one more can be counted.
 fn names_if<T: TreeAnswers>(tree: &T, inode: Option<u32>) -> Result<u32, DecideError>
-    ensures tells { Tells (T.part tree.now) (names_if inode) result }
+    ensures answer { IsAnswer (T.part tree.now) (names_if inode) result }
     ensures fits { IfOk result (λ names. names + 1 < 2 ^ 32) }
     ensures known { IfOk result (λ _. knows_names (T.part tree.now) inode ≡ true) }
     ensures memory { IfErr result (λ why. why ≡ Memory → knows_names (T.part tree.now) inode ≡ true) }
@@ -81,7 +81,7 @@ fn names_if<T: TreeAnswers>(tree: &T, inode: Option<u32>) -> Result<u32, DecideE
     let Some(inode) = inode else {
         return Ok(0);
     };
-    let names = known(tree.file_names(inode), Missing::Node { inode })?;
+    let names = known_or_missing(tree.file_names(inode), Missing::Node { inode })?;
     if names == u32::MAX {
         return Err(DecideError::Memory);
     }
@@ -141,26 +141,28 @@ fn effects_by(effects: Vec<Effect>, names: u32, new: u32, operation: Operation) 
 {
     match operation {
         Operation::Tell { .. } => Effects::from_vec(effects),
-        Operation::NewDir { at } => making(effects, new, Kind::Directory, at),
-        Operation::NewFile { at, .. } => making(effects, new, Kind::File, at),
-        Operation::OpenFile { inode, empties, .. } => emptying(effects, inode, empties),
+        Operation::NewDir { at } => make_effects(effects, new, Kind::Directory, at),
+        Operation::NewFile { at, .. } => make_effects(effects, new, Kind::File, at),
+        Operation::OpenFile { inode, empties, .. } => truncate_effects(effects, inode, empties),
         Operation::CloseFile { .. } => Effects::from_vec(effects),
-        Operation::Write { inode, at, bytes } => alone(effects, Effect::Bytes { inode, at, bytes }),
-        Operation::Resize { inode, len } => alone(effects, Effect::Size { inode, size: len }),
-        Operation::RemoveDir { at, inode } => removing(effects, at, inode),
-        Operation::AddName { at, inode } => adding(effects, at, inode, names),
-        Operation::DropName { at, inode } => dropping(effects, at, inode, names),
+        Operation::Write { inode, at, bytes } => {
+            one_effect(effects, Effect::Bytes { inode, at, bytes })
+        }
+        Operation::Resize { inode, len } => one_effect(effects, Effect::Size { inode, size: len }),
+        Operation::RemoveDir { at, inode } => remove_effects(effects, at, inode),
+        Operation::AddName { at, inode } => add_effects(effects, at, inode, names),
+        Operation::DropName { at, inode } => drop_effects(effects, at, inode, names),
         Operation::Move {
             from,
             to,
             inode,
             is_dir,
             replaced,
-        } => moving(effects, names, from, to, inode, kind_if(is_dir), replaced),
+        } => move_effects(effects, names, from, to, inode, kind_if(is_dir), replaced),
     }
 }
 
-fn alone(mut effects: Vec<Effect>, effect: Effect) -> Effects
+fn one_effect(mut effects: Vec<Effect>, effect: Effect) -> Effects
     requires none { effects.items ≡ [] }
     requires room { MOST_EFFECTS ≤ vec_capacity effects }
     ensures { result ≡ effect ∷ [] }
@@ -169,24 +171,24 @@ fn alone(mut effects: Vec<Effect>, effect: Effect) -> Effects
     Effects::from_vec(effects)
 }
 
-fn emptying(effects: Vec<Effect>, inode: u32, empties: bool) -> Effects
+fn truncate_effects(effects: Vec<Effect>, inode: u32, empties: bool) -> Effects
     requires none { effects.items ≡ [] }
     requires room { MOST_EFFECTS ≤ vec_capacity effects }
     ensures { result ≡ (if empties then Size inode 0 ∷ [] else []) }
 {
     if empties {
-        return alone(effects, Effect::Size { inode, size: 0 });
+        return one_effect(effects, Effect::Size { inode, size: 0 });
     }
     Effects::from_vec(effects)
 }
 
-fn making(mut effects: Vec<Effect>, new: u32, kind: Kind, at: Location) -> Effects
+fn make_effects(mut effects: Vec<Effect>, new: u32, kind: Kind, at: Location) -> Effects
     requires none { effects.items ≡ [] }
     requires room { MOST_EFFECTS ≤ vec_capacity effects }
-    ensures { result ≡ making new kind at }
+    ensures { result ≡ make_effects new kind at }
 {
     put(&mut effects, Effect::Make { inode: new, kind });
-    put(&mut effects, entering(at, new, kind));
+    put(&mut effects, enter_effect(at, new, kind));
     put(
         &mut effects,
         Effect::Names {
@@ -197,13 +199,13 @@ fn making(mut effects: Vec<Effect>, new: u32, kind: Kind, at: Location) -> Effec
     Effects::from_vec(effects)
 }
 
-fn adding(mut effects: Vec<Effect>, at: Location, inode: u32, names: u32) -> Effects
+fn add_effects(mut effects: Vec<Effect>, at: Location, inode: u32, names: u32) -> Effects
     requires none { effects.items ≡ [] }
     requires room { MOST_EFFECTS ≤ vec_capacity effects }
     requires fits { names + 1 < 2 ^ 32 }
     ensures { result ≡ effects_by names 0 (AddName at inode) }
 {
-    put(&mut effects, entering(at, inode, Kind::File));
+    put(&mut effects, enter_effect(at, inode, Kind::File));
     put(
         &mut effects,
         Effect::Names {
@@ -214,12 +216,12 @@ fn adding(mut effects: Vec<Effect>, at: Location, inode: u32, names: u32) -> Eff
     Effects::from_vec(effects)
 }
 
-fn dropping(mut effects: Vec<Effect>, at: Location, inode: u32, names: u32) -> Effects
+fn drop_effects(mut effects: Vec<Effect>, at: Location, inode: u32, names: u32) -> Effects
     requires none { effects.items ≡ [] }
     requires room { MOST_EFFECTS ≤ vec_capacity effects }
-    ensures { result ≡ dropping at inode names }
+    ensures { result ≡ drop_effects at inode names }
 {
-    put(&mut effects, leaving(at));
+    put(&mut effects, leave_effect(at));
     put(
         &mut effects,
         Effect::Names {
@@ -230,17 +232,17 @@ fn dropping(mut effects: Vec<Effect>, at: Location, inode: u32, names: u32) -> E
     Effects::from_vec(effects)
 }
 
-fn removing(mut effects: Vec<Effect>, at: Location, inode: u32) -> Effects
+fn remove_effects(mut effects: Vec<Effect>, at: Location, inode: u32) -> Effects
     requires none { effects.items ≡ [] }
     requires room { MOST_EFFECTS ≤ vec_capacity effects }
-    ensures { result ≡ removing at inode }
+    ensures { result ≡ remove_effects at inode }
 {
-    put(&mut effects, leaving(at));
+    put(&mut effects, leave_effect(at));
     put(&mut effects, Effect::Drop { inode });
     Effects::from_vec(effects)
 }
 
-fn moving(
+fn move_effects(
     mut effects: Vec<Effect>,
     names: u32,
     from: Location,
@@ -251,11 +253,11 @@ fn moving(
 ) -> Effects
     requires first { effects.items ≡ leaving_first to replaced }
     requires room { MOST_EFFECTS ≤ vec_capacity effects }
-    ensures { result ≡ clearing names to replaced ++ (Leave from.parent from.name ∷ Enter to.parent inode kind to.name ∷ []) }
+    ensures { result ≡ clear_effects names to replaced ++ (Leave from.parent from.name ∷ Enter to.parent inode kind to.name ∷ []) }
 {
     put_out(&mut effects, names.saturating_sub(1), replaced);
-    put(&mut effects, leaving(from));
-    put(&mut effects, entering(to, inode, kind));
+    put(&mut effects, leave_effect(from));
+    put(&mut effects, enter_effect(to, inode, kind));
     Effects::from_vec(effects)
 }
 
@@ -280,7 +282,7 @@ fn kind_if(is_dir: bool) -> Kind
 }
 
 // A name of an inode is entered.
-fn entering(at: Location, inode: u32, kind: Kind) -> Effect
+fn enter_effect(at: Location, inode: u32, kind: Kind) -> Effect
     ensures { result ≡ Enter at.parent inode kind at.name }
 {
     Effect::Enter {
@@ -292,7 +294,7 @@ fn entering(at: Location, inode: u32, kind: Kind) -> Effect
 }
 
 // A name leaves its directory.
-fn leaving(at: Location) -> Effect
+fn leave_effect(at: Location) -> Effect
     ensures { result ≡ Leave at.parent at.name }
 {
     Effect::Leave {

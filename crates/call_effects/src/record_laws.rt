@@ -12,7 +12,7 @@ ghost use Rattle.log_record.specs.file_graph.Graph.{Graph, touches, is_among};
 ghost use Rattle.log_record.specs.file_graph.Units.{growth};
 ghost use Rattle.log_record.specs.Grammar.{IsRecord};
 ghost use Rattle.call_effects.specs.Calls.{answer_over};
-ghost use Rattle.call_effects.specs.Changed.{changes};
+ghost use Rattle.call_effects.specs.ChangeTest.{changes};
 ghost use Rattle.call_effects.specs.Effects.{effects_of};
 ghost use Rattle.call_effects.specs.Records.{effects_asked, growth_asked};
 ghost use Rattle.call_effects.specs.Wholes.{IsSound, state_of, graph_view};

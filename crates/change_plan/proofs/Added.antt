@@ -15,11 +15,11 @@ use Rattle.inode_plan.specs.block_alloc.Runs.{blocks_of}
 use Rattle.inode_plan.specs.batch_journal.Images.{image_for, or_else, with_images}
 use Rattle.inode_plan.specs.extent_tree.Map.{TierRuns, runs_in}
 use Rattle.inode_plan.specs.area_image.Store.{Store, root_of}
-use Rattle.inode_plan.specs.area_image.Spelled.{Use, used, IsSpelled}
-use Rattle.inode_plan.specs.area_commit.Written.{IsFit, IsListed, block_by}
-use Rattle.inode_plan.specs.area_commit.Many.{HasBlockFor}
+use Rattle.inode_plan.specs.area_image.Format.{Use, used_block, IsSpelled}
+use Rattle.inode_plan.specs.area_commit.InodeRewrite.{IsFit, IsListed, block_by}
+use Rattle.inode_plan.specs.area_commit.StoreRewrite.{HasBlockFor}
 use Rattle.inode_plan.specs.area_commit.declared.slots.ChangedSlot.{ChangedSlot}
-use Rattle.inode_plan.specs.area_commit.declared.plan.Lost.{Lost}
+use Rattle.inode_plan.specs.area_commit.declared.plan.FreedBlocks.{FreedBlocks}
 use Rattle.inode_plan.specs.area_commit.Plan.{Loses, LieApart, IsLost, HoldLost, lost_in, is_changed}
 use Rattle.inode_plan.proofs.area_commit_lemmas.Chosen.{has_changed, inode_range, no_use}
 use Rattle.inode_plan.proofs.area_commit_lemmas.Joined.{apart_join}
@@ -32,7 +32,7 @@ use Rattle.change_plan.proofs.Laid.{more_laid}
 abbrev a_use : ℕ → Tier → Option ℕ → Use
 a_use i t k = record { inode = i; tier = t; logical = k }
 
-module _ (g : Sizes) (s : Store) (cs : Changes) (touch i : ℕ) (x : ℕ → Slot) (m : ℕ → TierRuns) (slots : List ChangedSlot) (share its : Share) (bytes its_bytes : List ℕ) (old new : List (ℕ × List ℕ)) (lost its_lost all_lost : Lost) (its_slot : Slot) (its_runs : TierRuns)
+module _ (g : Sizes) (s : Store) (cs : Changes) (touch i : ℕ) (x : ℕ → Slot) (m : ℕ → TierRuns) (slots : List ChangedSlot) (share its : Share) (bytes its_bytes : List ℕ) (old new : List (ℕ × List ℕ)) (lost its_lost all_lost : FreedBlocks) (its_slot : Slot) (its_runs : TierRuns)
     (spelled : IsSpelled g s) (parts : AreParts g s cs touch x m slots share bytes old lost) (number : is_inode i ≡ true) (below : (c : ChangedSlot) → Contains slots c → c.inode < i) (free : HasFree g s share) (its_free : HasFree g s its) (none : ShareNone share its)
     (part : IsPart g s (change_at cs i) touch i its_slot its_runs its its_bytes old new its_lost) (lose : LoseBoth lost its_lost all_lost) where
   abbrev last : ChangedSlot
@@ -132,8 +132,8 @@ module _ (g : Sizes) (s : Store) (cs : Changes) (touch i : ℕ) (x : ℕ → Slo
     | inr own ↦ (let r = part.all b own in (a_use i r.0 r.1, last_of_all r.0 r.1 b r.2))
   ]
 
-  uses : (j : ℕ) → is_changed all_slots j ≡ true → (t : Tier) (k : Option ℕ) (b : Tier × ℕ) → block_by (xs j) (ms j) t k ≡ Some b → (used g s (a_use j t k) ≡ Some b) ⊎ IsIn (both share its) b
-  uses = each (λ j y n. (t : Tier) (k : Option ℕ) (b : Tier × ℕ) → block_by y n t k ≡ Some b → (used g s (a_use j t k) ≡ Some b) ⊎ IsIn (both share its) b)
+  uses : (j : ℕ) → is_changed all_slots j ≡ true → (t : Tier) (k : Option ℕ) (b : Tier × ℕ) → block_by (xs j) (ms j) t k ≡ Some b → (used_block g s (a_use j t k) ≡ Some b) ⊎ IsIn (both share its) b
+  uses = each (λ j y n. (t : Tier) (k : Option ℕ) (b : Tier × ℕ) → block_by y n t k ≡ Some b → (used_block g s (a_use j t k) ≡ Some b) ⊎ IsIn (both share its) b)
       (λ j is t k b at. elim (parts.uses j is t k b at) [ inl was ↦ inl was | inr took ↦ inr (in_left share its b took) ])
       (λ t k b at. elim (part.uses t k b at) [ inl was ↦ inl was | inr took ↦ inr (in_right share its b took) ])
 

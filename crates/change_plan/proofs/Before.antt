@@ -13,7 +13,7 @@ use Rattle.inode_plan.specs.block_alloc.Runs.{blocks_of}
 use Rattle.inode_plan.specs.extent_tree.Map.{TierRuns}
 use Rattle.inode_plan.specs.area_image.Store.{Store}
 use Rattle.inode_plan.proofs.area_commit_lemmas.Members.{nothing}
-use Rattle.inode_plan.specs.area_commit.declared.plan.Lost.{Lost}
+use Rattle.inode_plan.specs.area_commit.declared.plan.FreedBlocks.{FreedBlocks}
 use Rattle.inode_plan.specs.area_commit.Plan.{LieApart, IsLost, HoldLost, lost_in, is_changed}
 use Rattle.change_plan.specs.Part.{Share, IsIn}
 use Rattle.change_plan.specs.Parts.{AreParts}
@@ -27,7 +27,7 @@ no_block : (b : Tier × ℕ) → IsIn nothing_taken b → ⊥
 no_block b (inl node) = nothing b.1 node.1
 no_block b (inr place) = nothing b place
 
-module _ (g : Sizes) (s : Store) (x : ℕ → Slot) (m : ℕ → TierRuns) (lost : Lost) (nodes : lost.nodes.items ≡ []) (fast : lost.fast.items ≡ []) (block : lost.block.items ≡ []) (slow : lost.slow.items ≡ []) where
+module _ (g : Sizes) (s : Store) (x : ℕ → Slot) (m : ℕ → TierRuns) (lost : FreedBlocks) (nodes : lost.nodes.items ≡ []) (fast : lost.fast.items ≡ []) (block : lost.block.items ≡ []) (slow : lost.slow.items ≡ []) where
   no_runs_in : (t : Tier) → lost_in lost t ≡ []
   no_runs_in Fast = fast
   no_runs_in Block = block
@@ -44,7 +44,7 @@ module _ (g : Sizes) (s : Store) (x : ℕ → Slot) (m : ℕ → TierRuns) (lost
     apart = λ t. subst LieApart (sym (no_runs_in t)) tt;
   }
 
-pub before_the_first : (g : Sizes) (s : Store) (cs : Changes) (touch : ℕ) (x : ℕ → Slot) (m : ℕ → TierRuns) (lost : Lost) → lost.nodes.items ≡ [] → lost.fast.items ≡ [] → lost.block.items ≡ [] → lost.slow.items ≡ [] → AreParts g s cs touch x m [] nothing_taken [] [] lost
+pub before_the_first : (g : Sizes) (s : Store) (cs : Changes) (touch : ℕ) (x : ℕ → Slot) (m : ℕ → TierRuns) (lost : FreedBlocks) → lost.nodes.items ≡ [] → lost.fast.items ≡ [] → lost.block.items ≡ [] → lost.slow.items ≡ [] → AreParts g s cs touch x m [] nothing_taken [] [] lost
 before_the_first g s cs touch x m lost nodes fast block slow = record {
   rise = tt;
   slots_are = λ c at. absurd (nothing c at);

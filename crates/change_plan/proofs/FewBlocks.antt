@@ -7,7 +7,7 @@ use Rattle.std.proofs.lemmas.Map.Made.{Contains-tail}
 use Rattle.inode_plan.specs.graph_change.Change.{Change}
 use Rattle.inode_plan.specs.layout.Places.{Sizes}
 use Rattle.inode_plan.specs.block_alloc.Runs.{Rising}
-use Rattle.inode_plan.specs.tree_blocks.Written.{TellsWritten}
+use Rattle.inode_plan.specs.tree_blocks.BlockMarks.{ListsWritten}
 use Rattle.inode_plan.specs.area_image.Store.{Store}
 use Rattle.inode_plan.proofs.area_commit_lemmas.Members.{cons_cases, nothing}
 use Rattle.inode_plan.proofs.Rising.{sorted_rise}
@@ -15,7 +15,7 @@ use Rattle.inode_plan.specs.Blocks.{spares_wanted}
 use Rattle.inode_plan.specs.Spare.{spares_for}
 use Rattle.inode_plan.specs.declared.blocks.DirectoryBlocks.{DirectoryBlocks}
 use Rattle.inode_plan.specs.declared.directory_change.ChangedDirectory.{ChangedDirectory}
-use Rattle.change_plan.specs.Changed.{IsChangedFrom}
+use Rattle.change_plan.specs.DirectoryChange.{IsChangedFrom}
 use Rattle.change_plan.specs.Next.{nodes_for}
 
 -- ---- rising numbers
@@ -41,7 +41,7 @@ as_many low end a (suc n) (x ∷ xs) r each = elim (cases_lt x a) [
 
 -- ---- blocks that come
 
-come : (old new : List (List ℕ)) (written : List ℕ) → TellsWritten old new written → length new - length old ≤ length written
+come : (old new : List (List ℕ)) (written : List ℕ) → ListsWritten old new written → length new - length old ≤ length written
 come old new written tells = let rise = sorted_rise written tells.rising in as_many 0 rise.0 (length old) (length new - length old) written rise.1 (λ k from below. tells.added k from (omega (arith, from, below)))
 
 one_or_none : (b : Bool) → (if b then 1 else 0) ≤ 1

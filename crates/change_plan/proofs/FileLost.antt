@@ -14,21 +14,21 @@ use Rattle.inode_plan.specs.layout.Places.{Sizes, node_end, data_first}
 use Rattle.inode_plan.specs.block_alloc.Runs.{blocks_of}
 use Rattle.inode_plan.specs.extent_tree.Map.{TierRuns, lies_at}
 use Rattle.inode_plan.specs.area_image.Store.{Store, slot, root_of, place}
-use Rattle.inode_plan.specs.area_image.Spelled.{used}
+use Rattle.inode_plan.specs.area_image.Format.{used_block}
 use Rattle.inode_plan.proofs.area_image_lemmas.Lists.{slot_here_fits}
 use Rattle.inode_plan.proofs.area_image_lemmas.Shown.{slot_limits}
-use Rattle.inode_plan.specs.area_commit.Written.{block_by}
-use Rattle.inode_plan.specs.area_commit.Changed.{place_from}
+use Rattle.inode_plan.specs.area_commit.InodeRewrite.{block_by}
+use Rattle.inode_plan.specs.area_commit.InodeChange.{place_from}
 use Rattle.inode_plan.specs.Lists.{roots_left}
 use Rattle.inode_plan.proofs.area_commit_lemmas.GivenUp.{Once}
-use Rattle.inode_plan.specs.area_commit.declared.plan.Lost.{Lost}
+use Rattle.inode_plan.specs.area_commit.declared.plan.FreedBlocks.{FreedBlocks}
 use Rattle.inode_plan.specs.area_commit.Plan.{Loses, IsLost, HoldLost, lost_in}
 use Rattle.inode_plan.proofs.area_commit_lemmas.Chosen.{no_use}
 use Rattle.inode_plan.specs.Roots.{HasRootsOf}
 use Rattle.inode_plan.proofs.After.{left_is_lost, lost_is_left}
 use Rattle.inode_plan.proofs.Vacant.{left_at, left_once, roots_lost}
 use Rattle.change_plan.specs.Part.{Share, IsIn, is_one}
-use Rattle.change_plan.specs.Adding.{GivesAll, no_runs}
+use Rattle.change_plan.specs.PlanAddition.{GivesAll, no_runs}
 use Rattle.change_plan.specs.File.{slot_from, IsPlannedFile, GivesLeft}
 use Rattle.change_plan.proofs.Blocked.{root_block, block_root, place_block, block_place, lie_apart, node_within}
 use Rattle.change_plan.proofs.FileUses.{fresh, old_data, root_from, lies_from, were_free}
@@ -40,7 +40,7 @@ has_none t tiers.Fast (Some b) k at = let r = place_block tiers.Fast None (t, k)
 has_none t tiers.Block (Some b) k at = let r = place_block tiers.Block None (t, k) at in none-some r.0 r.1
 has_none t tiers.Slow (Some b) k at = let r = place_block tiers.Slow None (t, k) at in none-some r.0 r.1
 
-module _ (g : Sizes) (s : Store) (c : Change) (touch i : ℕ) (x : Slot) (m : TierRuns) (share : Share) (bytes : List ℕ) (old new : List (ℕ × List ℕ)) (lost : Lost) (p : IsPlannedFile g s c touch i x m share bytes old new lost) where
+module _ (g : Sizes) (s : Store) (c : Change) (touch i : ℕ) (x : Slot) (m : TierRuns) (share : Share) (bytes : List ℕ) (old new : List (ℕ × List ℕ)) (lost : FreedBlocks) (p : IsPlannedFile g s c touch i x m share bytes old new lost) where
   lost_one : (t : Tier) (k : ℕ) → Loses g s i x m t k → IsLost g (is_one i) s (λ _. x) (λ _. m) t k
   lost_one t k loses = (i, eq-eqb i i refl, loses)
 
@@ -71,7 +71,7 @@ module _ (g : Sizes) (s : Store) (c : Change) (touch i : ℕ) (x : Slot) (m : Ti
           subst (λ n. n < node_end g) r.3 (old_node r.0 r.1),
         )
 
-    lost_root : (u : Tier) (t : Tier) (k : ℕ) → used g s (record { inode = i; tier = u; logical = None }) ≡ Some (t, k) → (block_by x m u None ≡ Some (t, k) → ⊥) → (t ≡ tiers.Fast) × (k < node_end g) × Contains (roots_left (slot g s i) x) k
+    lost_root : (u : Tier) (t : Tier) (k : ℕ) → used_block g s (record { inode = i; tier = u; logical = None }) ≡ Some (t, k) → (block_by x m u None ≡ Some (t, k) → ⊥) → (t ≡ tiers.Fast) × (k < node_end g) × Contains (roots_left (slot g s i) x) k
     lost_root u t k was none =
         let r = root_block (root_of (slot g s i) u) (t, k) was in
         let fast : tiers.Fast ≡ t = ap (λ (e : Tier × ℕ). e.0) r.1 in
@@ -79,7 +79,7 @@ module _ (g : Sizes) (s : Store) (c : Change) (touch i : ℕ) (x : Slot) (m : Ti
         let other : root_of x u ≢ k = λ same. none (block_root (root_of x u) (λ zero. r.0 (is ∙ sym same ∙ zero)) ∙ ap (λ n. Some (tiers.Fast, n)) (same ∙ sym is) ∙ ap Some r.1) in
         (sym fast, subst (λ n. n < node_end g) is (old_node u r.0), (roots_lost p.lists share.nodes (slot g s i) x k roots_of).1 (u, r.0, is, other))
 
-    lost_place : (u : Tier) (b : ℕ) (t : Tier) (k : ℕ) → used g s (record { inode = i; tier = u; logical = Some b }) ≡ Some (t, k) → (block_by x m u (Some b) ≡ Some (t, k) → ⊥) → (data_first g t ≤ k) × Contains (blocks_of (lost_in lost t)) k
+    lost_place : (u : Tier) (b : ℕ) (t : Tier) (k : ℕ) → used_block g s (record { inode = i; tier = u; logical = Some b }) ≡ Some (t, k) → (block_by x m u (Some b) ≡ Some (t, k) → ⊥) → (data_first g t ≤ k) × Contains (blocks_of (lost_in lost t)) k
     lost_place u b t k was none =
         let r = place_block u (place g s i u b) (t, k) was in
         let tier : u ≡ t = ap (λ (e : Tier × ℕ). e.0) r.2 in
@@ -102,11 +102,11 @@ module _ (g : Sizes) (s : Store) (c : Change) (touch i : ℕ) (x : Slot) (m : Ti
           (old_data g s c touch i x m share bytes old new lost p t r.0 k r.2).0,
         )
 
-    lost_node : (k : ℕ) (u : Tier) (o : Option ℕ) → used g s (record { inode = i; tier = u; logical = o }) ≡ Some (tiers.Fast, k) → (block_by x m u o ≡ Some (tiers.Fast, k) → ⊥) → k < node_end g → Contains (roots_left (slot g s i) x) k
+    lost_node : (k : ℕ) (u : Tier) (o : Option ℕ) → used_block g s (record { inode = i; tier = u; logical = o }) ≡ Some (tiers.Fast, k) → (block_by x m u o ≡ Some (tiers.Fast, k) → ⊥) → k < node_end g → Contains (roots_left (slot g s i) x) k
     lost_node k u None was none low = (lost_root u tiers.Fast k was none).2
     lost_node k u (Some b) was none low = absurd (let high = (lost_place u b tiers.Fast k was none).0 in omega (arith, high, low))
 
-    lost_data : (t : Tier) (k : ℕ) (u : Tier) (o : Option ℕ) → used g s (record { inode = i; tier = u; logical = o }) ≡ Some (t, k) → (block_by x m u o ≡ Some (t, k) → ⊥) → data_first g t ≤ k → Contains (blocks_of (lost_in lost t)) k
+    lost_data : (t : Tier) (k : ℕ) (u : Tier) (o : Option ℕ) → used_block g s (record { inode = i; tier = u; logical = o }) ≡ Some (t, k) → (block_by x m u o ≡ Some (t, k) → ⊥) → data_first g t ≤ k → Contains (blocks_of (lost_in lost t)) k
     lost_data t k u None was none high = absurd (let r = lost_root u t k was none in let low = r.1 in let there = subst (λ (a : Tier). data_first g a ≤ k) r.0 high in omega (arith, there, low))
     lost_data t k u (Some b) was none high = (lost_place u b t k was none).1
 

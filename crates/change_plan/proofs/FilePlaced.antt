@@ -9,7 +9,7 @@ use Rattle.inode_plan.specs.block_alloc.Value.{FreeBlocks}
 use Rattle.inode_plan.proofs.area_commit_lemmas.Members.{nothing}
 use Rattle.inode_plan.specs.extent_tree.Map.{TierRuns, lies_at, LieBelow}
 use Rattle.inode_plan.specs.area_image.Store.{Store}
-use Rattle.inode_plan.specs.area_commit.Given.{IsInUse}
+use Rattle.inode_plan.specs.area_commit.Release.{IsInUse}
 use Rattle.change_plan.specs.File.{IsOldMap}
 use Rattle.change_plan.proofs.Blocked.{data_within}
 

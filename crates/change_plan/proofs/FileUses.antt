@@ -15,31 +15,31 @@ use Rattle.inode_plan.specs.layout.Extents.{ExtentList, extents_spelling}
 use Rattle.inode_plan.specs.layout.Places.{Sizes, is_node, data_first, tier_blocks}
 use Rattle.inode_plan.specs.layout.Slot.{fits_slot}
 use Rattle.inode_plan.specs.batch_journal.Images.{image_for, or_else, with_images}
-use Rattle.inode_plan.specs.extent_tree.Spelled.{LiesWithin}
+use Rattle.inode_plan.specs.extent_tree.BlockFormat.{LiesWithin}
 use Rattle.inode_plan.specs.extent_tree.Map.{TierRuns, runs_in, lies_at}
-use Rattle.inode_plan.specs.tree_blocks.After.{started}
+use Rattle.inode_plan.specs.tree_blocks.After.{start_node}
 use Rattle.inode_plan.specs.area_image.Store.{Store, slot, root_of, place, inode}
 use Rattle.inode_plan.specs.area_image.Reads.{Free}
-use Rattle.inode_plan.specs.area_image.Spelled.{used}
+use Rattle.inode_plan.specs.area_image.Format.{used_block}
 use Rattle.inode_plan.specs.area_image.Map.{in_tier}
 use Rattle.inode_plan.proofs.area_image_lemmas.Lists.{slot_here_fits}
 use Rattle.inode_plan.proofs.area_image_lemmas.Shown.{slot_limits}
-use Rattle.inode_plan.specs.area_commit.Written.{IsFit, IsListed, block_by}
-use Rattle.inode_plan.specs.area_commit.Changed.{IsFileWritten}
+use Rattle.inode_plan.specs.area_commit.InodeRewrite.{IsFit, IsListed, block_by}
+use Rattle.inode_plan.specs.area_commit.InodeChange.{IsFileWritten}
 use Rattle.inode_plan.specs.area_commit.Batches.{AreNodes}
 use Rattle.inode_plan.specs.area_commit.Lists.{HaveOwnRoots}
 use Rattle.inode_plan.specs.Lists.{root_for}
-use Rattle.inode_plan.specs.area_commit.declared.plan.Lost.{Lost}
-use Rattle.inode_plan.specs.area_commit.Writing.{HoldData}
+use Rattle.inode_plan.specs.area_commit.declared.plan.FreedBlocks.{FreedBlocks}
+use Rattle.inode_plan.specs.area_commit.DataWrite.{HoldData}
 use Rattle.inode_plan.specs.PlacedFile.{nth_number, nth_place}
-use Rattle.inode_plan.specs.Mapped.{AreFresh, AreData, TakesPlace}
+use Rattle.inode_plan.specs.MapChange.{AreFresh, AreData, TakesPlace}
 use Rattle.inode_plan.specs.PlannedFile.{pair_of, pairs_of, HasData}
-use Rattle.inode_plan.specs.Roots.{lacking, wanted_before, SparesFit, ListsStand}
+use Rattle.inode_plan.specs.Roots.{missing_roots, wanted_before, SparesFit, ListsStand}
 use Rattle.inode_plan.proofs.After.{keeps_or_takes, after_within}
 use Rattle.inode_plan.proofs.Stores.{from_kept, file_is_fit, as_changed}
 use Rattle.inode_plan.proofs.Listed.{inside as spare_inside, all_listed, root_uses, all_used}
 use Rattle.inode_plan.proofs.Vacant.{roots_differ}
-use Rattle.change_plan.specs.Laid.{IsLaid, nth_data}
+use Rattle.change_plan.specs.FileLayout.{IsLaid, nth_data}
 use Rattle.change_plan.specs.Part.{Share, IsIn, IsPut}
 use Rattle.change_plan.specs.File.{slot_from, IsPlannedFile}
 use Rattle.change_plan.proofs.Blocked.{contains_at, place_at, root_block, block_root, place_block, block_place, same_block, node_is, node_within, data_within}
@@ -57,7 +57,7 @@ from_fits g Kept y fits = fits
 from_fits g (Made kind) y fits = refl
 from_fits g Gone y fits = refl
 
-module _ (g : Sizes) (s : Store) (c : Change) (touch i : ℕ) (x : Slot) (m : TierRuns) (share : Share) (bytes : List ℕ) (old new : List (ℕ × List ℕ)) (lost : Lost) (p : IsPlannedFile g s c touch i x m share bytes old new lost) where
+module _ (g : Sizes) (s : Store) (c : Change) (touch i : ℕ) (x : Slot) (m : TierRuns) (share : Share) (bytes : List ℕ) (old new : List (ℕ × List ℕ)) (lost : FreedBlocks) (p : IsPlannedFile g s c touch i x m share bytes old new lost) where
   -- ---- what was taken
 
   spare_fits : SparesFit g (slot_from c.base (slot g s i)) share.nodes
@@ -90,7 +90,7 @@ module _ (g : Sizes) (s : Store) (c : Change) (touch i : ℕ) (x : Slot) (m : Ti
   are_data n lt = p.places_are.are_data n (inside n lt)
 
   pub is_fit : IsFit g x m
-  is_fit = file_is_fit g c (names_after c.names (started c.base (inode g s i)).names) (started c.base (inode g s i)).size x p.numbers p.places p.before m
+  is_fit = file_is_fit g c (names_after c.names (start_node c.base (inode g s i)).names) (start_node c.base (inode g s i)).size x p.numbers p.places p.before m
       fits p.slot_is p.changes.tidy p.changes.bounded.length p.numbers_are p.map p.normal fresh are_data p.was.once p.was.below p.was.apart p.was.within
 
   new_within : (t : Tier) → LiesWithin g (space.Data t) (runs_in m t)
@@ -111,7 +111,7 @@ module _ (g : Sizes) (s : Store) (c : Change) (touch i : ℕ) (x : Slot) (m : Ti
   root_by : (t : Tier) (v : ExtentList) → in_tier p.lists t ≡ Some v → root_of x t ≢ 0
   root_by t v is = elim (cases_Bool (root_of (slot_from c.base (slot g s i)) t == 0)) [
     | inl lacks ↦
-        let some : lacking (root_of (slot_from c.base (slot g s i)) t) (in_tier p.lists t) ≡ 1 = ap (lacking (root_of (slot_from c.base (slot g s i)) t)) is ∙ cond-true (root_of (slot_from c.base (slot g s i)) t == 0) 1 0 lacks in
+        let some : missing_roots (root_of (slot_from c.base (slot g s i)) t) (in_tier p.lists t) ≡ 1 = ap (missing_roots (root_of (slot_from c.base (slot g s i)) t)) is ∙ cond-true (root_of (slot_from c.base (slot g s i)) t == 0) 1 0 lacks in
         let low = (p.nodes_are.free (wanted_before (slot_from c.base (slot g s i)) p.lists t) (spare_inside (slot_from c.base (slot g s i)) p.lists t (length share.nodes) p.wanted some)).room.first in
         let same = root_is ∙ cond-true (root_of (slot_from c.base (slot g s i)) t == 0) (get_or share.nodes (wanted_before (slot_from c.base (slot g s i)) p.lists t) 0) (root_of (slot_from c.base (slot g s i)) t) lacks in
         λ none. omega (arith, low, same, none)
@@ -166,13 +166,13 @@ module _ (g : Sizes) (s : Store) (c : Change) (touch i : ℕ) (x : Slot) (m : Ti
   ]
 
   use_root : (t : Tier) (b : Tier × ℕ) → root_of x t ≢ 0 → (tiers.Fast, root_of x t) ≡ b → (root_of x t ≡ root_of (slot_from c.base (slot g s i)) t) ⊎ Contains share.nodes (root_of x t)
-      → (used g s (record { inode = i; tier = t; logical = None }) ≡ Some b) ⊎ IsIn share b
+      → (used_block g s (record { inode = i; tier = t; logical = None }) ≡ Some b) ⊎ IsIn share b
   use_root t b some is (inl kept) =
       let its = from_root c.base (slot g s i) t (λ zero. some (kept ∙ zero)) in
       inl (block_root (root_of (slot g s i) t) (λ zero. some (kept ∙ sym its ∙ zero)) ∙ ap (λ n. Some (tiers.Fast, n)) (its ∙ sym kept) ∙ ap Some is)
   use_root t b some is (inr there) = inr (subst (λ (e : Tier × ℕ). IsIn share e) is (inl (refl, there)))
 
-  pub uses : (t : Tier) (k : Option ℕ) (b : Tier × ℕ) → block_by x m t k ≡ Some b → (used g s (record { inode = i; tier = t; logical = k }) ≡ Some b) ⊎ IsIn share b
+  pub uses : (t : Tier) (k : Option ℕ) (b : Tier × ℕ) → block_by x m t k ≡ Some b → (used_block g s (record { inode = i; tier = t; logical = k }) ≡ Some b) ⊎ IsIn share b
   uses t None b at = let r = root_block (root_of x t) b at in use_root t b r.0 r.1 (root_from t r.0)
   uses t (Some k) b at =
       let r = place_block t (lies_at m t k) b at in
@@ -284,5 +284,5 @@ module _ (g : Sizes) (s : Store) (c : Change) (touch i : ℕ) (x : Slot) (m : Ti
   written after put = record {
     is_file = p.changes.kind_is;
     slot_is = p.slot_is;
-    blocks = as_changed g c s after i p.before m p.numbers p.places bytes (started c.base (inode g s i)).blocks p.was.starts p.was.once p.numbers_are p.map (let many = p.many in omega (arith, many)) p.bytes_are (has_data after put) (λ k. refl);
+    blocks = as_changed g c s after i p.before m p.numbers p.places bytes (start_node c.base (inode g s i)).blocks p.was.starts p.was.once p.numbers_are p.map (let many = p.many in omega (arith, many)) p.bytes_are (has_data after put) (λ k. refl);
   }

@@ -13,34 +13,34 @@ use Rattle.inode_plan.specs.block_alloc.declared.runs.Run.{Run}
 use Rattle.inode_plan.specs.block_alloc.Runs.{blocks_of}
 use Rattle.inode_plan.specs.extent_tree.Map.{HasBlock}
 use Rattle.inode_plan.specs.extent_tree.declared.map.Place.{Place}
-use Rattle.inode_plan.specs.tree_blocks.After.{started}
+use Rattle.inode_plan.specs.tree_blocks.After.{start_node}
 use Rattle.inode_plan.specs.tree_blocks.Inode.{LogicalBlocks, Inode, inode_of}
-use Rattle.inode_plan.specs.area_image.Store.{Store, slot, logical, inode}
-use Rattle.inode_plan.specs.area_commit.Changed.{IsFileSlot}
+use Rattle.inode_plan.specs.area_image.Store.{Store, slot, logical_block, inode}
+use Rattle.inode_plan.specs.area_commit.InodeChange.{IsFileSlot}
 use Rattle.inode_plan.specs.Lists.{roots_left}
-use Rattle.inode_plan.specs.area_commit.declared.plan.Lost.{Lost}
+use Rattle.inode_plan.specs.area_commit.declared.plan.FreedBlocks.{FreedBlocks}
 use Rattle.inode_plan.specs.area_commit.Plan.{LieApart}
-use Rattle.inode_plan.specs.Written.{AreNumbers}
+use Rattle.inode_plan.specs.BlockWrites.{AreNumbers}
 use Rattle.inode_plan.specs.Bytes.{HoldsBlocks, blocks_from}
-use Rattle.inode_plan.specs.Mapped.{AreLeft}
+use Rattle.inode_plan.specs.MapChange.{AreLeft}
 use Rattle.inode_plan.specs.PlannedFile.{pairs_of}
 use Rattle.inode_plan.specs.Roots.{roots_wanted, HasRootsOf, SparesFit}
 use Rattle.change_plan.specs.File.{slot_from, AreFreePlaces, AreFreeNodes, GivesLeft, GivesUp, IsPlannedFile}
-use Rattle.change_plan.specs.Started.{IsPlacedFile, IsRootedFile, LosesOf, LosesFile}
-use Rattle.change_plan.specs.declared.placing.PlacedFile.{PlacedFile}
+use Rattle.change_plan.specs.FileStart.{IsPlacedFile, IsRootedFile, LosesOf, LosesFile}
+use Rattle.change_plan.specs.declared.file_place.PlacedFile.{PlacedFile}
 
 -- the slot from which a change starts tells what it starts from
-same_start : (base : Base) (y : Slot) (blocks : LogicalBlocks) → started base (inode_of (slot_from base y) blocks) ≡ started base (inode_of y blocks)
+same_start : (base : Base) (y : Slot) (blocks : LogicalBlocks) → start_node base (inode_of (slot_from base y) blocks) ≡ start_node base (inode_of y blocks)
 same_start Kept y blocks = refl
 same_start (Made kind) y blocks = refl
 same_start Gone y blocks = refl
 
-module _ (g : Sizes) (s : Store) (c : Change) (touch i : ℕ) (numbers : List ℕ) (places : List Place) (f : PlacedFile) (spare bytes : List ℕ) (old new : List (ℕ × List ℕ)) (x : Slot) (left : List Run) (lost : Lost) (placed : IsPlacedFile g s c i numbers places f) (rooted : IsRootedFile c touch f spare old new x left) where
-  start_is : started c.base (inode_of f.slot (logical g s i)) ≡ started c.base (inode g s i)
-  start_is = ap (λ (y : Slot). started c.base (inode_of y (logical g s i))) placed.slot_is ∙ same_start c.base (slot g s i) (logical g s i)
+module _ (g : Sizes) (s : Store) (c : Change) (touch i : ℕ) (numbers : List ℕ) (places : List Place) (f : PlacedFile) (spare bytes : List ℕ) (old new : List (ℕ × List ℕ)) (x : Slot) (left : List Run) (lost : FreedBlocks) (placed : IsPlacedFile g s c i numbers places f) (rooted : IsRootedFile c touch f spare old new x left) where
+  start_is : start_node c.base (inode_of f.slot (logical_block g s i)) ≡ start_node c.base (inode g s i)
+  start_is = ap (λ (y : Slot). start_node c.base (inode_of y (logical_block g s i))) placed.slot_is ∙ same_start c.base (slot g s i) (logical_block g s i)
 
-  slot_is : IsFileSlot (names_after c.names (started c.base (inode g s i)).names) (length_after c.length (started c.base (inode g s i)).size) x
-  slot_is = subst (λ (n : Inode). IsFileSlot (names_after c.names n.names) (length_after c.length n.size) x) start_is (rooted.slot_is (logical g s i))
+  slot_is : IsFileSlot (names_after c.names (start_node c.base (inode g s i)).names) (length_after c.length (start_node c.base (inode g s i)).size) x
+  slot_is = subst (λ (n : Inode). IsFileSlot (names_after c.names n.names) (length_after c.length n.size) x) start_is (rooted.slot_is (logical_block g s i))
 
   gives_left : c.base ≡ Kept → LosesOf f left lost → GivesLeft c placed.before (slot g s i) x lost
   gives_left kept loses = record {
@@ -54,7 +54,7 @@ module _ (g : Sizes) (s : Store) (c : Change) (touch i : ℕ) (numbers : List �
   gives loses = elim loses [ inl r ↦ inl (r.0, gives_left r.0 r.1) | inr r ↦ inr r ]
 
   pub planned : IsTidyChange c → IsBounded c → AreNumbers c numbers → length places ≡ length numbers → AreFreePlaces g s places → AreFreeNodes g s spare → length spare ≡ roots_wanted f.slot f.plan.lists
-      → HoldsBlocks c (blocks_from f.found (logical g s i)) numbers (length numbers) bytes → LosesFile g s c.base i f left lost → IsPlannedFile g s c touch i x f.plan.map (record { nodes = spare; «data» = pairs_of places }) bytes old new lost
+      → HoldsBlocks c (blocks_from f.found (logical_block g s i)) numbers (length numbers) bytes → LosesFile g s c.base i f left lost → IsPlannedFile g s c touch i x f.plan.map (record { nodes = spare; «data» = pairs_of places }) bytes old new lost
   planned tidy bounded are many free spares wanted holds loses = record {
     changes = record { kind_is = placed.kind_is; tidy = tidy; bounded = bounded };
     before = placed.before;

@@ -16,20 +16,20 @@ use Rattle.inode_plan.specs.extent_tree.Map.{TierRuns}
 use Rattle.inode_plan.specs.extent_tree.declared.map.Place.{Place}
 use Rattle.inode_plan.specs.area_image.Store.{Store}
 use Rattle.inode_plan.specs.area_image.Reads.{Free}
-use Rattle.inode_plan.specs.area_image.Spelled.{IsSpelled}
+use Rattle.inode_plan.specs.area_image.Format.{IsSpelled}
 use Rattle.inode_plan.specs.area_commit.declared.slots.ChangedSlot.{ChangedSlot}
 use Rattle.inode_plan.specs.area_commit.Value.{on_tier}
-use Rattle.inode_plan.specs.area_commit.declared.taking.Taken.{Taken}
-use Rattle.inode_plan.specs.area_commit.Taking.{taken_data, runs_of}
+use Rattle.inode_plan.specs.area_commit.declared.allocation.Allocation.{Allocation}
+use Rattle.inode_plan.specs.area_commit.Allocations.{taken_data, runs_of}
 use Rattle.inode_plan.proofs.area_commit_lemmas.Members.{cons_cases, cons_here, cons_there, nothing}
 use Rattle.inode_plan.specs.PlannedFile.{pair_of, pairs_of}
 use Rattle.inode_plan.specs.area_commit.Plan.{WereFree}
 use Rattle.inode_plan.proofs.area_commit_lemmas.Chosen.{taken_free, data_has, data_range}
 use Rattle.change_plan.specs.Part.{Share}
 use Rattle.change_plan.specs.Parts.{AreParts, HasFree, ShareNone, both, with_at, share_of}
-use Rattle.change_plan.specs.Adding.{AddsPart, no_runs}
+use Rattle.change_plan.specs.PlanAddition.{AddsPart, no_runs}
 use Rattle.change_plan.specs.First.{PlansNothing, first_share, PlansFirst}
-use Rattle.change_plan.specs.declared.partial.PartialPlan.{PartialPlan}
+use Rattle.change_plan.specs.declared.partial_plan.PartialPlan.{PartialPlan}
 use Rattle.change_plan.proofs.Added.{one_more}
 use Rattle.change_plan.proofs.Before.{before_the_first}
 
@@ -100,7 +100,7 @@ fast_slow e = cc
 block_slow : Block ≡ Slow → ⊥
 block_slow e = cc
 
-module _ (g : Sizes) (s : Store) (taken : Taken) (free : WereFree g s taken) where
+module _ (g : Sizes) (s : Store) (taken : Allocation) (free : WereFree g s taken) where
   abbrev on : Tier → List (Tier × ℕ)
   on t = on_tier t (blocks_of (runs_of taken t))
 
@@ -135,7 +135,7 @@ module _ (g : Sizes) (s : Store) (taken : Taken) (free : WereFree g s taken) whe
 abbrev share_with : List ℕ → List (Tier × ℕ) → Share
 share_with ks ps = record { nodes = ks; «data» = ps }
 
-module _ (g : Sizes) (s : Store) (cs : Changes) (touch i used count : ℕ) (places : List Place) (old_taken new_taken : Taken) (old new : PartialPlan)
+module _ (g : Sizes) (s : Store) (cs : Changes) (touch i used count : ℕ) (places : List Place) (old_taken new_taken : Allocation) (old new : PartialPlan)
     (spelled : IsSpelled g s) (number : is_inode i ≡ true) (below : (c : ChangedSlot) → Contains old.slots.items c → c.inode < i) (free : WereFree g s new_taken) (low end : ℕ) (rising : Rising low end (blocks_of new_taken.nodes.items)) (all : pairs_of places ≡ taken_data new_taken)
     (first : PlansFirst g s cs touch places used old_taken old) (adds : AddsPart g s (change_at cs i) touch i (drop used places) count old_taken new_taken old new) where
   abbrev pairs : List (Tier × ℕ)
@@ -212,7 +212,7 @@ no_slot i = slots.Free
 abbrev no_places : ℕ → TierRuns
 no_places i = no_runs
 
-pub none_first : (g : Sizes) (s : Store) (cs : Changes) (touch : ℕ) (places : List Place) (taken : Taken) (plan : PartialPlan) → taken.nodes.items ≡ [] → PlansNothing plan → PlansFirst g s cs touch places 0 taken plan
+pub none_first : (g : Sizes) (s : Store) (cs : Changes) (touch : ℕ) (places : List Place) (taken : Allocation) (plan : PartialPlan) → taken.nodes.items ≡ [] → PlansNothing plan → PlansFirst g s cs touch places 0 taken plan
 none_first g s cs touch places taken plan nodes is = record {
   x = no_slot;
   m = no_places;
@@ -223,7 +223,7 @@ none_first g s cs touch places taken plan nodes is = record {
       (before_the_first g s cs touch no_slot no_places plan.lost is.lost_nodes is.lost_fast is.lost_block is.lost_slow))));
 }
 
-module _ (g : Sizes) (s : Store) (cs : Changes) (touch : ℕ) (places : List Place) (taken : Taken) (plan : PartialPlan) where
+module _ (g : Sizes) (s : Store) (cs : Changes) (touch : ℕ) (places : List Place) (taken : Allocation) (plan : PartialPlan) where
   -- once all places are used, the share is all that was taken
   pub first_are_all : (used : ℕ) → length places ≤ used → pairs_of places ≡ taken_data taken → (first : PlansFirst g s cs touch places used taken plan) → AreParts g s cs touch first.x first.m plan.slots.items (share_of taken) plan.bytes.items plan.nodes plan.lost
   first_are_all used many all first = subst (λ (ps : List (Tier × ℕ)). AreParts g s cs touch first.x first.m plan.slots.items (record { nodes = blocks_of taken.nodes.items; «data» = ps }) plan.bytes.items plan.nodes plan.lost) (take_all used (pairs_of places) (subst (λ (n : ℕ). n ≤ used) (sym (length-map places pair_of)) many) ∙ all) first.parts

@@ -7,7 +7,7 @@ use Rattle.inode_plan.specs.tier_device.declared.media.Tier.TheVariants.{Fast, B
 use Rattle.inode_plan.specs.layout.declared.slot.Slot.{Slot}
 use Rattle.inode_plan.specs.extent_tree.Map.{TierRuns, lies_at, LieBelow}
 use Rattle.inode_plan.specs.area_image.Store.{length_of}
-use Rattle.inode_plan.specs.area_commit.Written.{block_by}
+use Rattle.inode_plan.specs.area_commit.InodeRewrite.{block_by}
 
 abbrev block_in : Option (Tier × ℕ) → ℕ
 block_in None = 0

@@ -15,23 +15,23 @@ use Rattle.inode_plan.specs.layout.Slot.{fits_slot}
 use Rattle.inode_plan.specs.block_alloc.declared.runs.Run.{Run}
 use Rattle.inode_plan.specs.block_alloc.Runs.{run_blocks, blocks_of}
 use Rattle.inode_plan.specs.block_alloc.Value.{FreeBlocks}
-use Rattle.inode_plan.specs.extent_tree.Spelled.{LiesWithin, IsOneToOne}
+use Rattle.inode_plan.specs.extent_tree.BlockFormat.{LiesWithin, IsOneToOne}
 use Rattle.inode_plan.specs.extent_tree.Map.{TierRuns, runs_in, lies_at, HasBlock}
 use Rattle.inode_plan.specs.area_image.Store.{Store, slot_read, root_of, place, space_of}
-use Rattle.inode_plan.specs.area_image.Spelled.{Use, used, AreUsedOnce}
+use Rattle.inode_plan.specs.area_image.Format.{Use, used_block, AreUsedOnce}
 use Rattle.inode_plan.proofs.area_image_lemmas.Apart.{place_once}
 use Rattle.inode_plan.proofs.area_image_lemmas.Parts.{slot_as}
 use Rattle.inode_plan.proofs.area_image_lemmas.Shown.{slot_limits}
 use Rattle.inode_plan.specs.Lists.{root_left, roots_left, LieAsIn}
 use Rattle.inode_plan.proofs.area_commit_lemmas.Given.{all_from, cons_cases, cons_here, nothing}
 use Rattle.inode_plan.proofs.area_commit_lemmas.GivenUp.{Once, once_rest, once_apart, beside}
-use Rattle.inode_plan.specs.area_commit.declared.plan.Lost.{Lost}
+use Rattle.inode_plan.specs.area_commit.declared.plan.FreedBlocks.{FreedBlocks}
 use Rattle.inode_plan.specs.area_commit.Plan.{IsLost, LieApart, lost_in}
 use Rattle.inode_plan.proofs.area_commit_lemmas.Joined.{used_apart, apart_join}
-use Rattle.inode_plan.specs.Mapped.{AreAll}
+use Rattle.inode_plan.specs.MapChange.{AreAll}
 use Rattle.change_plan.specs.Part.{is_one}
-use Rattle.change_plan.specs.Adding.{GivesAll, no_runs}
-use Rattle.change_plan.specs.Gone.{AreAllRuns, IsSorted, AreAllBlocks}
+use Rattle.change_plan.specs.PlanAddition.{GivesAll, no_runs}
+use Rattle.change_plan.specs.FreedRuns.{AreAllRuns, IsSorted, AreAllBlocks}
 use Rattle.change_plan.proofs.NoNode.{no_block}
 
 the_same : (a b : Tier × ℕ) → Some a ≡ Some b → a ≡ b
@@ -145,11 +145,11 @@ place_high g (slots.File names size touch a b c) t p is = let high = (data_place
 place_high g (slots.Directory names entries touch root) t p is = let high = node_place g p is in omega (arith, high)
 
 -- what lies on the fast tier is of the node pool, or data
-data FastCase (g : Sizes) (x : Slot) (roots fast : List Run) (lost : Lost) : Type 0 where
+data FastCase (g : Sizes) (x : Slot) (roots fast : List Run) (lost : FreedBlocks) : Type 0 where
   in_nodes : lost.nodes.items ≡ roots ++ fast → lost.fast.items ≡ [] → ((p : ℕ) → is_run g (space_of x tiers.Fast) p 1 ≡ true → p < node_end g) → FastCase g x roots fast lost
   in_data : lost.nodes.items ≡ roots → lost.fast.items ≡ fast → ((p : ℕ) → is_run g (space_of x tiers.Fast) p 1 ≡ true → node_end g ≤ p) → FastCase g x roots fast lost
 
-fast_case : (g : Sizes) (x : Slot) (roots fast : List Run) (lost : Lost) → IsSorted x roots fast lost → FastCase g x roots fast lost
+fast_case : (g : Sizes) (x : Slot) (roots fast : List Run) (lost : FreedBlocks) → IsSorted x roots fast lost → FastCase g x roots fast lost
 fast_case g slots.Free roots fast lost is = in_data is.0 is.1 (λ p run. (data_place g tiers.Fast p run).0)
 fast_case g (slots.File names size touch a b c) roots fast lost is = in_data is.0 is.1 (λ p run. (data_place g tiers.Fast p run).0)
 fast_case g (slots.Directory names entries touch root) roots fast lost is = in_nodes is.0 is.1 (λ p run. node_place g p run)
@@ -163,16 +163,16 @@ module _ (g : Sizes) (s : Store) (i : ℕ) (x : Slot) (m : TierRuns) (slot_is : 
   abbrev Lost' : Tier → ℕ → Type 0
   Lost' t k = IsLost g (is_one i) s (λ _. slots.Free) (λ _. no_runs) t k
 
-  lose : (t u : Tier) (l : Option ℕ) (k : ℕ) → used g s (use_at u l) ≡ Some (t, k) → Lost' t k
+  lose : (t u : Tier) (l : Option ℕ) (k : ℕ) → used_block g s (use_at u l) ≡ Some (t, k) → Lost' t k
   lose t u l k was = (i, eq-eqb i i refl, record { tier = u; logical = l; was = was; none = no_block u l (t, k) })
 
   abbrev root_use : ℕ → Option (Tier × ℕ)
   root_use root = if root == 0 then None else Some (tiers.Fast, root)
 
-  at_root : (t : Tier) → root_of x t ≢ 0 → used g s (use_at t None) ≡ Some (tiers.Fast, root_of x t)
+  at_root : (t : Tier) → root_of x t ≢ 0 → used_block g s (use_at t None) ≡ Some (tiers.Fast, root_of x t)
   at_root t some = ap (λ (y : Slot). root_use (root_of y t)) (slot_as g s i x slot_is) ∙ ap (λ (b : Bool). if b then None else Some (tiers.Fast, root_of x t)) (ne_eqb (root_of x t) 0 some)
 
-  root_at : (t : Tier) (b : Tier × ℕ) → used g s (use_at t None) ≡ Some b → (root_of x t ≢ 0) × ((tiers.Fast, root_of x t) ≡ b)
+  root_at : (t : Tier) (b : Tier × ℕ) → used_block g s (use_at t None) ≡ Some b → (root_of x t ≢ 0) × ((tiers.Fast, root_of x t) ≡ b)
   root_at t b is =
       let here : root_use (root_of x t) ≡ Some b = ap (λ (y : Slot). root_use (root_of y t)) (sym (slot_as g s i x slot_is)) ∙ is in
       elim (cases_eq (root_of x t) 0) [
@@ -180,10 +180,10 @@ module _ (g : Sizes) (s : Store) (i : ℕ) (x : Slot) (m : TierRuns) (slot_is : 
         | inr some ↦ (some, the_same (tiers.Fast, root_of x t) b (sym (ap (λ (c : Bool). if c then None else Some (tiers.Fast, root_of x t)) (ne_eqb (root_of x t) 0 some)) ∙ here))
       ]
 
-  at_place : (t : Tier) (k p : ℕ) → lies_at m t k ≡ Some p → used g s (use_at t (Some k)) ≡ Some (t, p)
+  at_place : (t : Tier) (k p : ℕ) → lies_at m t k ≡ Some p → used_block g s (use_at t (Some k)) ≡ Some (t, p)
   at_place t k p at = ap (option_map (λ q. (t, q))) (sym (places t k) ∙ at)
 
-  place_at : (t : Tier) (k : ℕ) (b : Tier × ℕ) → used g s (use_at t (Some k)) ≡ Some b → (p : ℕ) × (lies_at m t k ≡ Some p) × ((t, p) ≡ b)
+  place_at : (t : Tier) (k : ℕ) (b : Tier × ℕ) → used_block g s (use_at t (Some k)) ≡ Some b → (p : ℕ) × (lies_at m t k ≡ Some p) × ((t, p) ≡ b)
   place_at t k b is = by (place g s i t k) refl is
     where
       by : (o : Option ℕ) → place g s i t k ≡ o → option_map (λ q. (t, q)) o ≡ Some b → (p : ℕ) × (lies_at m t k ≡ Some p) × ((t, p) ≡ b)
@@ -201,7 +201,7 @@ module _ (g : Sizes) (s : Store) (i : ℕ) (x : Slot) (m : TierRuns) (slot_is : 
     root : t ≡ tiers.Fast → k < node_end g → Contains (roots_left x slots.Free) k → Was t k
     placed : (b : ℕ) → lies_at m t b ≡ Some k → Was t k
 
-  was_by : (t u : Tier) (l : Option ℕ) (k : ℕ) → used g s (use_at u l) ≡ Some (t, k) → Was t k
+  was_by : (t u : Tier) (l : Option ℕ) (k : ℕ) → used_block g s (use_at u l) ≡ Some (t, k) → Was t k
   was_by t u None k was =
       let r = root_at u (t, k) was in
       let is : root_of x u ≡ k = ap (λ (c : Tier × ℕ). c.1) r.1 in
@@ -213,7 +213,7 @@ module _ (g : Sizes) (s : Store) (i : ℕ) (x : Slot) (m : TierRuns) (slot_is : 
       placed b (subst (λ (v : Tier). lies_at m v b ≡ Some k) tier (r.1 ∙ ap Some is))
 
   was : (t : Tier) (k : ℕ) → Lost' t k → Was t k
-  was t k (j, its, l) = was_by t l.tier l.logical k (subst (λ n. used g s (record { inode = n; tier = l.tier; logical = l.logical }) ≡ Some (t, k)) (eqb-true j i its) l.was)
+  was t k (j, its, l) = was_by t l.tier l.logical k (subst (λ n. used_block g s (record { inode = n; tier = l.tier; logical = l.logical }) ≡ Some (t, k)) (eqb-true j i its) l.was)
 
   from_root : (k : ℕ) → Contains (roots_left x slots.Free) k → Lost' tiers.Fast k × (k < node_end g)
   from_root k at =
@@ -250,7 +250,7 @@ module _ (g : Sizes) (s : Store) (i : ℕ) (x : Slot) (m : TierRuns) (slot_is : 
 
   -- ---- all of them
 
-  module _ (lost : Lost) (are : AreAllBlocks x m lost) where
+  module _ (lost : FreedBlocks) (are : AreAllBlocks x m lost) where
     in_roots : (k : ℕ) → Contains (blocks_of are.roots) k → Contains (roots_left x slots.Free) k
     in_roots k at = subst (λ xs. Contains xs k) are.roots_are at
 

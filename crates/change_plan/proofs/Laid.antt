@@ -14,9 +14,9 @@ use Rattle.inode_plan.specs.area_commit.declared.slots.ChangedSlot.{ChangedSlot}
 use Rattle.inode_plan.specs.area_commit.Plan.{is_changed}
 use Rattle.inode_plan.proofs.area_commit_lemmas.Members.{nothing}
 use Rattle.inode_plan.specs.PlacedFile.{nth_number}
-use Rattle.inode_plan.specs.Written.{Rise}
+use Rattle.inode_plan.specs.BlockWrites.{Rise}
 use Rattle.inode_plan.proofs.Moves.{later_is_greater}
-use Rattle.change_plan.specs.Laid.{LeavesFile, WritesBlock, ComesBefore, nth_block, nth_data, AreInTurn, Writes, IsLaid, AreLaid}
+use Rattle.change_plan.specs.FileLayout.{LeavesFile, WritesBlock, ComesBefore, nth_block, nth_data, AreInTurn, Writes, IsLaid, AreLaid}
 use Rattle.change_plan.specs.Parts.{with_at}
 use Rattle.change_plan.proofs.Climbs.{mapped_in, mapped_from}
 use Rattle.change_plan.proofs.Pieces.{at_one, at_other, changed_old, changed_last, changed_either}

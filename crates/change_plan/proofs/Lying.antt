@@ -14,11 +14,11 @@ use Rattle.inode_plan.specs.layout.declared.slot.Slot.{Slot}
 use Rattle.inode_plan.specs.layout.Places.{Sizes}
 use Rattle.inode_plan.specs.extent_tree.Map.{TierRuns, lies_at}
 use Rattle.inode_plan.specs.area_image.Store.{Store, place}
-use Rattle.inode_plan.specs.area_commit.Taking.{taken_data}
+use Rattle.inode_plan.specs.area_commit.Allocations.{taken_data}
 use Rattle.inode_plan.specs.area_commit.declared.plan.Rewrite.{Rewrite}
 use Rattle.inode_plan.specs.area_commit.Plan.{is_rewritten, IsPlanned}
-use Rattle.inode_plan.specs.area_commit.Done.{IsCarriedOut}
-use Rattle.change_plan.specs.Laid.{LeavesFile, WritesBlock, nth_block, nth_data, AreInTurn, AreFirstFree, GetPlaces, LieInPlaces, KeepsPlaces}
+use Rattle.inode_plan.specs.area_commit.PlanOutcome.{IsCarriedOut}
+use Rattle.change_plan.specs.FileLayout.{LeavesFile, WritesBlock, nth_block, nth_data, AreInTurn, AreFirstFree, GetPlaces, LieInPlaces, KeepsPlaces}
 use Rattle.change_plan.specs.Parts.{AreParts, share_of}
 use Rattle.change_plan.proofs.PlannedPart.{no_file}
 use Rattle.change_plan.proofs.Summed.{written_for}

@@ -8,14 +8,14 @@ use Rattle.inode_plan.specs.block_alloc.Runs.{blocks_of}
 use Rattle.inode_plan.proofs.block_alloc_lemmas.Blocks.{length-rising}
 use Rattle.inode_plan.specs.area_image.Store.{Store}
 use Rattle.inode_plan.specs.area_commit.Value.{PoolsView}
-use Rattle.inode_plan.specs.area_commit.declared.taking.Taken.{Taken}
+use Rattle.inode_plan.specs.area_commit.declared.allocation.Allocation.{Allocation}
 use Rattle.inode_plan.specs.Spare.{spares_for}
 use Rattle.inode_plan.specs.declared.directory_change.ChangedDirectory.{ChangedDirectory}
-use Rattle.change_plan.specs.Changed.{IsChangedFrom}
+use Rattle.change_plan.specs.DirectoryChange.{IsChangedFrom}
 use Rattle.change_plan.specs.Next.{IsNext, nodes_for}
 use Rattle.change_plan.proofs.FewBlocks.{few_spares}
 
-module _ (g : Sizes) (s : Store) (i : ℕ) (slot : Slot) (c : Change) (left : PoolsView) (taken : Taken) (images : List (ℕ × List ℕ)) (next : IsNext g s i slot c left taken images) where
+module _ (g : Sizes) (s : Store) (i : ℕ) (slot : Slot) (c : Change) (left : PoolsView) (taken : Allocation) (images : List (ℕ × List ℕ)) (next : IsNext g s i slot c left taken images) where
   pub nodes_end : next.pools.before.nodes.end < 2 ^ 32
   nodes_end =
       let end = next.pools.ranges.nodes_end in

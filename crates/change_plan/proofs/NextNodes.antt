@@ -10,15 +10,15 @@ use Rattle.inode_plan.specs.block_alloc.Runs.{blocks_of}
 use Rattle.inode_plan.specs.area_image.Store.{Store}
 use Rattle.inode_plan.specs.area_image.Reads.{Free}
 use Rattle.inode_plan.specs.area_commit.Value.{PoolsView}
-use Rattle.inode_plan.specs.area_commit.declared.taking.Taken.{Taken}
+use Rattle.inode_plan.specs.area_commit.declared.allocation.Allocation.{Allocation}
 use Rattle.inode_plan.proofs.Moves.{later_is_greater}
-use Rattle.change_plan.specs.Adding.{HasTaken}
+use Rattle.change_plan.specs.PlanAddition.{HasTaken}
 use Rattle.change_plan.specs.File.{AreFreeNodes}
 
 short : (count n : ℕ) (xs : List ℕ) → n < length (take count xs) → (n < count) × (n < length xs)
 short count n xs lt = (let few = length-take count xs in (omega (arith, lt, few), omega (arith, lt, few)))
 
-module _ (g : Sizes) (s : Store) (left : PoolsView) (taken : Taken) (has : HasTaken g s left taken) where
+module _ (g : Sizes) (s : Store) (left : PoolsView) (taken : Allocation) (has : HasTaken g s left taken) where
   before_is : blocks_of taken.nodes.items ++ left.nodes.free ≡ has.before.nodes.free
   before_is = has.took.nodes.front
 

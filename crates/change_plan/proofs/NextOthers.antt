@@ -9,20 +9,20 @@ use Rattle.inode_plan.specs.layout.Places.{Sizes, node_end}
 use Rattle.inode_plan.specs.batch_journal.Images.{image_for}
 use Rattle.inode_plan.specs.extent_tree.declared.map.Place.{Place}
 use Rattle.inode_plan.specs.area_image.Store.{Store}
-use Rattle.inode_plan.specs.area_image.Spelled.{Use}
+use Rattle.inode_plan.specs.area_image.Format.{Use}
 use Rattle.inode_plan.specs.area_commit.declared.slots.ChangedSlot.{ChangedSlot}
-use Rattle.inode_plan.specs.area_commit.declared.taking.Taken.{Taken}
-use Rattle.inode_plan.specs.area_commit.Taking.{taken_data}
+use Rattle.inode_plan.specs.area_commit.declared.allocation.Allocation.{Allocation}
+use Rattle.inode_plan.specs.area_commit.Allocations.{taken_data}
 use Rattle.inode_plan.specs.PlannedFile.{pairs_of}
 use Rattle.inode_plan.specs.area_commit.Plan.{WereFree}
 use Rattle.inode_plan.proofs.area_commit_lemmas.Chosen.{data_has, data_range, node_range}
 use Rattle.change_plan.specs.Directory.{AreOfOthers}
 use Rattle.change_plan.specs.First.{PlansFirst}
-use Rattle.change_plan.specs.declared.partial.PartialPlan.{PartialPlan}
+use Rattle.change_plan.specs.declared.partial_plan.PartialPlan.{PartialPlan}
 use Rattle.change_plan.proofs.Firsts.{in_take}
 use Rattle.change_plan.proofs.Pieces.{below_changed}
 
-module _ (g : Sizes) (s : Store) (cs : Changes) (touch i used : ℕ) (places : List Place) (taken : Taken) (plan : PartialPlan) (free : WereFree g s taken) (all : pairs_of places ≡ taken_data taken) (first : PlansFirst g s cs touch places used taken plan)
+module _ (g : Sizes) (s : Store) (cs : Changes) (touch i used : ℕ) (places : List Place) (taken : Allocation) (plan : PartialPlan) (free : WereFree g s taken) (all : pairs_of places ≡ taken_data taken) (first : PlansFirst g s cs touch places used taken plan)
     (below : (c : ChangedSlot) → Contains plan.slots.items c → c.inode < i) where
   -- no image is for a data block
   no_data : (p : ℕ) → IsSome (image_for p plan.nodes) → Contains (take used (pairs_of places)) (tiers.Fast, p) → ⊥

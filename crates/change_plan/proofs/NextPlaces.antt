@@ -11,8 +11,8 @@ use Rattle.inode_plan.specs.graph_change.Change.{Change}
 use Rattle.inode_plan.specs.layout.Places.{Sizes, IsAllowed, data_first, tier_blocks, is_data}
 use Rattle.inode_plan.specs.extent_tree.declared.map.Place.{Place}
 use Rattle.inode_plan.specs.area_image.Store.{Store}
-use Rattle.inode_plan.specs.area_commit.declared.taking.Taken.{Taken}
-use Rattle.inode_plan.specs.area_commit.Taking.{taken_data}
+use Rattle.inode_plan.specs.area_commit.declared.allocation.Allocation.{Allocation}
+use Rattle.inode_plan.specs.area_commit.Allocations.{taken_data}
 use Rattle.inode_plan.specs.PlacedFile.{nth_place}
 use Rattle.inode_plan.specs.PlannedFile.{pair_of, pairs_of}
 use Rattle.inode_plan.specs.area_commit.Plan.{WereFree}
@@ -44,7 +44,7 @@ once_at (x ∷ xs) d (suc m) (suc n) once one two same = (let less = once_at xs 
 one_pair : (a b : Place) → a.tier ≡ b.tier → a.block ≡ b.block → pair_of a ≡ pair_of b
 one_pair a b tier block = ap (λ (t : Tier). (t, a.block)) tier ∙ ap (λ (k : ℕ). (b.tier, k)) block
 
-module _ (g : Sizes) (s : Store) (taken : Taken) (free : WereFree g s taken) (places : List Place) (all : pairs_of places ≡ taken_data taken) (used : ℕ) where
+module _ (g : Sizes) (s : Store) (taken : Allocation) (free : WereFree g s taken) (places : List Place) (all : pairs_of places ≡ taken_data taken) (used : ℕ) where
   abbrev rest : List Place
   rest = drop used places
 

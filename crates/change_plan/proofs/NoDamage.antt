@@ -8,7 +8,7 @@ use Rattle.inode_plan.specs.layout.Places.{Sizes, slot_block}
 use Rattle.inode_plan.specs.layout.declared.slot.Slot.{Slot}
 use Rattle.inode_plan.specs.area_image.Damage.{OnDamage}
 use Rattle.inode_plan.specs.area_image.Map.{HasNoExtents}
-use Rattle.inode_plan.specs.area_image.Spelled.{SpellsInode}
+use Rattle.inode_plan.specs.area_image.Format.{SpellsInode}
 use Rattle.inode_plan.specs.area_image.Store.{Store, slot_read, extents_read, extents_by}
 use Rattle.inode_plan.specs.area_image.declared.error.AreaError.{AreaError}
 use Rattle.inode_plan.specs.area_image.declared.error.AreaError.TheVariants as errors

@@ -10,14 +10,14 @@ use Rattle.inode_plan.specs.file_graph.declared.effect.Kind.TheVariants as kind
 use Rattle.inode_plan.specs.graph_change.Change.{Change}
 use Rattle.inode_plan.specs.layout.declared.slot.Slot.TheVariants as slots
 use Rattle.inode_plan.specs.layout.Places.{Sizes}
-use Rattle.inode_plan.specs.tree_blocks.After.{started}
+use Rattle.inode_plan.specs.tree_blocks.After.{start_node}
 use Rattle.inode_plan.specs.extent_tree.Normal.{IsNormal}
 use Rattle.inode_plan.specs.extent_tree.Map.{runs_in, lies_at}
 use Rattle.inode_plan.specs.area_image.Store.{Store, inode}
-use Rattle.inode_plan.specs.area_commit.Written.{IsFit, block_by}
-use Rattle.inode_plan.specs.area_commit.declared.plan.Lost.{Lost}
+use Rattle.inode_plan.specs.area_commit.InodeRewrite.{IsFit, block_by}
+use Rattle.inode_plan.specs.area_commit.declared.plan.FreedBlocks.{FreedBlocks}
 use Rattle.change_plan.specs.Part.{IsPart, IsIn}
-use Rattle.change_plan.specs.Adding.{GivesAll, no_runs}
+use Rattle.change_plan.specs.PlanAddition.{GivesAll, no_runs}
 use Rattle.change_plan.specs.Directory.{of_nodes}
 use Rattle.change_plan.proofs.Laid.{lays_none}
 
@@ -67,7 +67,7 @@ none_fit g = record {
     normal tiers.Block = record { rising = tt; apart = tt; places = tt }
     normal tiers.Slow = record { rising = tt; apart = tt; places = tt }
 
-pub gone_part : (g : Sizes) (s : Store) (c : Change) (touch i : ℕ) (images : List (ℕ × List ℕ)) (lost : Lost) → (started c.base (inode g s i)).kind ≡ None → GivesAll g s i lost
+pub gone_part : (g : Sizes) (s : Store) (c : Change) (touch i : ℕ) (images : List (ℕ × List ℕ)) (lost : FreedBlocks) → (start_node c.base (inode g s i)).kind ≡ None → GivesAll g s i lost
     → IsPart g s c touch i slots.Free no_runs (of_nodes []) [] images images lost
 gone_part g s c touch i images lost none all = record {
   fit = none_fit g;

@@ -15,9 +15,9 @@ use Rattle.inode_plan.specs.batch_journal.Images.{slice}
 use Rattle.inode_plan.specs.area_image.Store.{Store}
 use Rattle.inode_plan.specs.area_commit.declared.slots.ChangedSlot.{ChangedSlot}
 use Rattle.inode_plan.specs.area_commit.Slots.{RiseIn}
-use Rattle.inode_plan.specs.area_commit.Writing.{block_at, HoldData}
+use Rattle.inode_plan.specs.area_commit.DataWrite.{block_at, HoldData}
 use Rattle.inode_plan.proofs.area_commit_lemmas.Members.{cons_cases, cons_here, nothing}
-use Rattle.inode_plan.specs.area_commit.declared.plan.Lost.{Lost}
+use Rattle.inode_plan.specs.area_commit.declared.plan.FreedBlocks.{FreedBlocks}
 use Rattle.inode_plan.specs.area_commit.Plan.{lost_in, is_changed}
 use Rattle.inode_plan.proofs.area_commit_lemmas.Chosen.{changed_has, has_changed}
 use Rattle.change_plan.specs.Part.{Share, IsIn}
@@ -119,7 +119,7 @@ blocks_right xs ys k at = subst (λ (ks : List ℕ). Contains ks k) (sym (flat_m
 pub blocks_either : (xs ys : List Run) (k : ℕ) → Contains (blocks_of (xs ++ ys)) k → Contains (blocks_of xs) k ⊎ Contains (blocks_of ys) k
 blocks_either xs ys k at = Contains-append_cases (blocks_of xs) (blocks_of ys) k (subst (λ (ks : List ℕ). Contains ks k) (flat_map-append run_blocks xs ys) at)
 
-pub lost_parts : (a b all : Lost) → LoseBoth a b all → (t : Tier) → lost_in all t ≡ lost_in a t ++ lost_in b t
+pub lost_parts : (a b all : FreedBlocks) → LoseBoth a b all → (t : Tier) → lost_in all t ≡ lost_in a t ++ lost_in b t
 lost_parts a b all lose Fast = lose.fast
 lost_parts a b all lose Block = lose.block
 lost_parts a b all lose Slow = lose.slow

@@ -18,21 +18,21 @@ use Rattle.inode_plan.specs.block_alloc.Value.{FreeBlocks}
 use Rattle.inode_plan.specs.batch_journal.Images.{image_for, with_images}
 use Rattle.inode_plan.specs.extent_tree.Map.{TierRuns, runs_in}
 use Rattle.inode_plan.specs.area_image.Store.{Store, root_of, touch_of}
-use Rattle.inode_plan.specs.area_image.Spelled.{Use, used}
-use Rattle.inode_plan.specs.area_commit.Written.{IsFit, IsListed, block_by}
-use Rattle.inode_plan.specs.area_commit.Changed.{IsDirectoryWritten}
+use Rattle.inode_plan.specs.area_image.Format.{Use, used_block}
+use Rattle.inode_plan.specs.area_commit.InodeRewrite.{IsFit, IsListed, block_by}
+use Rattle.inode_plan.specs.area_commit.InodeChange.{IsDirectoryWritten}
 use Rattle.inode_plan.specs.area_commit.Batches.{AreNodes}
-use Rattle.inode_plan.specs.area_commit.Given.{AreUsed, IsInUse}
-use Rattle.inode_plan.specs.area_commit.declared.plan.Lost.{Lost}
+use Rattle.inode_plan.specs.area_commit.Release.{AreUsed, IsInUse}
+use Rattle.inode_plan.specs.area_commit.declared.plan.FreedBlocks.{FreedBlocks}
 use Rattle.inode_plan.specs.area_commit.Plan.{Loses, IsLost, LieApart, HoldLost}
 use Rattle.inode_plan.proofs.area_commit_lemmas.Chosen.{no_use}
 use Rattle.inode_plan.specs.PlannedDirectory.{IsPlannedFrom, StandThere, on_fast}
-use Rattle.inode_plan.specs.Started.{use_from}
-use Rattle.inode_plan.specs.declared.started.StartedDirectory.{StartedDirectory}
+use Rattle.inode_plan.specs.DirectoryStart.{use_from}
+use Rattle.inode_plan.specs.declared.directory_start.StartedDirectory.{StartedDirectory}
 use Rattle.inode_plan.specs.declared.directory_change.ChangedDirectory.{ChangedDirectory}
 use Rattle.inode_plan.specs.declared.plan.DirectoryPlan.{DirectoryPlan}
 use Rattle.change_plan.specs.Part.{IsPart, IsIn, IsPut, is_one}
-use Rattle.change_plan.specs.Adding.{GivesAll, no_runs}
+use Rattle.change_plan.specs.PlanAddition.{GivesAll, no_runs}
 use Rattle.change_plan.specs.Directory.{of_nodes, WereFreeNodes, LosesNodes, LosesFor}
 use Rattle.change_plan.proofs.Laid.{lays_none}
 use Rattle.change_plan.proofs.NoNode.{no_number, no_pair, no_block}
@@ -61,19 +61,19 @@ pub record AreTold (g : Sizes) (s : Store) (c : Change) (i : ℕ) (start : Start
   pub fit : IsFit g plan.slot m
   pub listed : (t : Tier) → IsListed (with_images new (s Fast)) i (root_of plan.slot t) (runs_in m t)
   pub written : (after : Store) → StandThere new s after m → IsDirectoryWritten g c start.entries x.entries s after i plan.slot m
-  pub kept : (t : Tier) (k : Option ℕ) (b : Tier × ℕ) → block_by plan.slot m t k ≡ Some b → (use_from c.base (used g s (use_at i t k)) ≡ Some b) ⊎ ((b.0 ≡ Fast) × Contains spares b.1)
+  pub kept : (t : Tier) (k : Option ℕ) (b : Tier × ℕ) → block_by plan.slot m t k ≡ Some b → (use_from c.base (used_block g s (use_at i t k)) ≡ Some b) ⊎ ((b.0 ≡ Fast) × Contains spares b.1)
   pub once : (t u : Tier) (j k : Option ℕ) (b : Tier × ℕ) → block_by plan.slot m t j ≡ Some b → block_by plan.slot m u k ≡ Some b → (t ≡ u) × (j ≡ k)
   pub all : (p : ℕ) → Contains spares p → (k : Option ℕ) × (block_by plan.slot m Fast k ≡ Some (Fast, p))
   pub images : (p : ℕ) → ((k : Option ℕ) → block_by plan.slot m Fast k ≢ Some (Fast, p)) → image_for p new ≡ image_for p old
   pub imaged : (p : ℕ) → Contains spares p → IsSome (image_for p new)
   pub nodes : (t : Tier) (k : Option ℕ) (b : Tier × ℕ) → block_by plan.slot m t k ≡ Some b → (b.0 ≡ Fast) × (is_node g b.1 ≡ true)
-  pub exact : (p : ℕ) → Contains (blocks_of plan.lost.items) p ↔ (((k : Option ℕ) × (use_from c.base (used g s (use_at i Fast k)) ≡ Some (Fast, p))) × ((k : Option ℕ) → block_by plan.slot m Fast k ≢ Some (Fast, p)))
-  pub had : (t : Tier) (k : Option ℕ) (b : Tier × ℕ) → use_from c.base (used g s (use_at i t k)) ≡ Some b → (b.0 ≡ Fast) × (is_node g b.1 ≡ true)
-  pub each : (t : Tier) (k : Option ℕ) (b : Tier × ℕ) → use_from c.base (used g s (use_at i t k)) ≡ Some b → block_by plan.slot m t k ≢ Some b → Contains (blocks_of plan.lost.items) b.1
-  pub given : (pool : FreeBlocks) → ((k : Option ℕ) (b : ℕ) → use_from c.base (used g s (use_at i Fast k)) ≡ Some (Fast, b) → IsInUse pool b) → AreUsed pool plan.lost.items
+  pub exact : (p : ℕ) → Contains (blocks_of plan.lost.items) p ↔ (((k : Option ℕ) × (use_from c.base (used_block g s (use_at i Fast k)) ≡ Some (Fast, p))) × ((k : Option ℕ) → block_by plan.slot m Fast k ≢ Some (Fast, p)))
+  pub had : (t : Tier) (k : Option ℕ) (b : Tier × ℕ) → use_from c.base (used_block g s (use_at i t k)) ≡ Some b → (b.0 ≡ Fast) × (is_node g b.1 ≡ true)
+  pub each : (t : Tier) (k : Option ℕ) (b : Tier × ℕ) → use_from c.base (used_block g s (use_at i t k)) ≡ Some b → block_by plan.slot m t k ≢ Some b → Contains (blocks_of plan.lost.items) b.1
+  pub given : (pool : FreeBlocks) → ((k : Option ℕ) (b : ℕ) → use_from c.base (used_block g s (use_at i Fast k)) ≡ Some (Fast, b) → IsInUse pool b) → AreUsed pool plan.lost.items
   pub apart : (pool : FreeBlocks) (runs : List Run) → AreUsed pool runs → LieApart runs
 
-module _ (g : Sizes) (s : Store) (c : Change) (i touch : ℕ) (start : StartedDirectory) (x : ChangedDirectory) (spares : List ℕ) (old new : List (ℕ × List ℕ)) (plan : DirectoryPlan) (lost : Lost) (p : IsPlannedFrom g s c i start x touch spares old new plan) (are : AreNodes g old → AreNodes g new) (free : WereFreeNodes g s spares) (told : AreTold g s c i start x spares old new plan (on_fast plan.list.extents)) where
+module _ (g : Sizes) (s : Store) (c : Change) (i touch : ℕ) (start : StartedDirectory) (x : ChangedDirectory) (spares : List ℕ) (old new : List (ℕ × List ℕ)) (plan : DirectoryPlan) (lost : FreedBlocks) (p : IsPlannedFrom g s c i start x touch spares old new plan) (are : AreNodes g old → AreNodes g new) (free : WereFreeNodes g s spares) (told : AreTold g s c i start x spares old new plan (on_fast plan.list.extents)) where
   abbrev m : TierRuns
   m = on_fast plan.list.extents
 
@@ -98,7 +98,7 @@ module _ (g : Sizes) (s : Store) (c : Change) (i touch : ℕ) (start : StartedDi
       λ at.
           (let r = (told.exact k).0 (subst (λ (rs : List Run). Contains (blocks_of rs) k) lose.nodes at) in
           let was = r.0.1 in
-          ((i, one_here, record { tier = Fast; logical = r.0.0; was = from_used c.base (used g s (use_at i Fast r.0.0)) (Fast, k) was; none = r.1 r.0.0 }), not_last g k (told.had Fast r.0.0 (Fast, k) was).1)),
+          ((i, one_here, record { tier = Fast; logical = r.0.0; was = from_used c.base (used_block g s (use_at i Fast r.0.0)) (Fast, k) was; none = r.1 r.0.0 }), not_last g k (told.had Fast r.0.0 (Fast, k) was).1)),
       λ both.
           (let l = here both.0.0 Fast k both.0.1 both.0.2 in
           subst (λ (rs : List Run). Contains (blocks_of rs) k) (sym lose.nodes) (told.each l.tier l.logical (Fast, k) (still l.tier l.logical (Fast, k) l.was) l.none)),
@@ -116,21 +116,21 @@ module _ (g : Sizes) (s : Store) (c : Change) (i touch : ℕ) (start : StartedDi
     apart = λ t. subst LieApart (sym (lose.none t)) tt;
   }
     where
-      still : (t : Tier) (k : Option ℕ) (b : Tier × ℕ) → used g s (use_at i t k) ≡ Some b → use_from c.base (used g s (use_at i t k)) ≡ Some b
-      still t k b was = subst (λ (base : Base). use_from base (used g s (use_at i t k)) ≡ Some b) (sym kept) was
+      still : (t : Tier) (k : Option ℕ) (b : Tier × ℕ) → used_block g s (use_at i t k) ≡ Some b → use_from c.base (used_block g s (use_at i t k)) ≡ Some b
+      still t k b was = subst (λ (base : Base). use_from base (used_block g s (use_at i t k)) ≡ Some b) (sym kept) was
 
   -- ---- and where it is made
 
   -- what a block is for is none of what stood there, where nothing of that stays
-  made_other : ((o : Option (Tier × ℕ)) → use_from c.base o ≡ None) → (u : Tier) (l : Option ℕ) (t : Tier) (k : ℕ) → used g s (use_at i u l) ≡ Some (t, k) → block_by plan.slot m u l ≡ Some (t, k) → ⊥
+  made_other : ((o : Option (Tier × ℕ)) → use_from c.base o ≡ None) → (u : Tier) (l : Option ℕ) (t : Tier) (k : ℕ) → used_block g s (use_at i u l) ≡ Some (t, k) → block_by plan.slot m u l ≡ Some (t, k) → ⊥
   made_other none u l t k was is = elim (told.kept u l (t, k) is) [
-    | inl had ↦ none-some (t, k) (sym (none (used g s (use_at i u l))) ∙ had)
+    | inl had ↦ none-some (t, k) (sym (none (used_block g s (use_at i u l))) ∙ had)
     | inr spare ↦ no_use g s Fast k (free k spare.1) (use_at i u l) (was ∙ ap (λ (v : Tier). Some (v, k)) spare.0)
   ]
 
   to_made : ((o : Option (Tier × ℕ)) → use_from c.base o ≡ None) → (t : Tier) (k : ℕ) → IsLost g (is_one i) s (λ _. slots.Free) (λ _. no_runs) t k → IsLost g (is_one i) s (λ _. plan.slot) (λ _. m) t k
   to_made none t k (j, its, l) =
-      let was : used g s (use_at i l.tier l.logical) ≡ Some (t, k) = subst (λ n. used g s (use_at n l.tier l.logical) ≡ Some (t, k)) (eqb-true j i its) l.was in
+      let was : used_block g s (use_at i l.tier l.logical) ≡ Some (t, k) = subst (λ n. used_block g s (use_at n l.tier l.logical) ≡ Some (t, k)) (eqb-true j i its) l.was in
       (j, its, record { tier = l.tier; logical = l.logical; was = l.was; none = made_other none l.tier l.logical t k was })
 
   from_made : (t : Tier) (k : ℕ) → IsLost g (is_one i) s (λ _. plan.slot) (λ _. m) t k → IsLost g (is_one i) s (λ _. slots.Free) (λ _. no_runs) t k
@@ -164,7 +164,7 @@ module _ (g : Sizes) (s : Store) (c : Change) (i touch : ℕ) (start : StartedDi
   directory_part lose = record {
     fit = told.fit;
     listed = told.listed;
-    uses = λ t k b is. elim (told.kept t k b is) [ inl was ↦ inl (from_used c.base (used g s (use_at i t k)) b was) | inr spare ↦ inr (inl spare) ];
+    uses = λ t k b is. elim (told.kept t k b is) [ inl was ↦ inl (from_used c.base (used_block g s (use_at i t k)) b was) | inr spare ↦ inr (inl spare) ];
     once = λ t u j k b its is also. told.once t u j k b is also;
     all = spare_used;
     imaged = told.imaged;

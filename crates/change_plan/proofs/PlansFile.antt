@@ -14,10 +14,10 @@ use Rattle.inode_plan.specs.layout.Extents.{ExtentList}
 use Rattle.inode_plan.specs.layout.Places.{Sizes, is_data}
 use Rattle.inode_plan.specs.extent_tree.Map.{TierRuns, runs_in}
 use Rattle.inode_plan.specs.extent_tree.declared.map.Place.{Place}
-use Rattle.inode_plan.specs.tree_blocks.After.{started}
+use Rattle.inode_plan.specs.tree_blocks.After.{start_node}
 use Rattle.inode_plan.specs.tree_blocks.Inode.{LogicalBlocks, Inode, inode_of}
 use Rattle.inode_plan.specs.area_image.Reads.{Free}
-use Rattle.inode_plan.specs.area_image.Store.{Store, slot_read, logical, inode}
+use Rattle.inode_plan.specs.area_image.Store.{Store, slot_read, logical_block, inode}
 use Rattle.inode_plan.proofs.area_image_lemmas.Parts.{slot_as}
 use Rattle.inode_plan.specs.Lists.{IsListOf}
 use Rattle.inode_plan.specs.PlacedFile.{nth_place}
@@ -29,8 +29,8 @@ the_kind : (a b : Kind) → Some a ≡ Some b → a ≡ b
 the_kind a b e = cc
 
 -- where a file is made, it is a file that is made
-pub made_as_file : (base : Base) (k : Kind) (n : Inode) → base ≡ Made k → (started base n).kind ≡ Some kind.File → base ≡ Made kind.File
-made_as_file base k n is file = is ∙ ap (λ (x : Kind). Made x) (the_kind k kind.File (sym (ap (λ (b : Base). (started b n).kind) is) ∙ file))
+pub made_as_file : (base : Base) (k : Kind) (n : Inode) → base ≡ Made k → (start_node base n).kind ≡ Some kind.File → base ≡ Made kind.File
+made_as_file base k n is file = is ∙ ap (λ (x : Kind). Made x) (the_kind k kind.File (sym (ap (λ (b : Base). (start_node b n).kind) is) ∙ file))
 
 kind_same : (x : Slot) (a b : LogicalBlocks) → (inode_of x a).kind ≡ (inode_of x b).kind
 kind_same slots.Free a b = refl
@@ -39,7 +39,7 @@ kind_same (slots.Directory names entries touch root) a b = refl
 
 -- the slot of a file tells that it is one, whatever its blocks hold
 pub slot_tells_file : (g : Sizes) (s : Store) (i : ℕ) (x : Slot) (blocks : LogicalBlocks) → slot_read g s i ≡ Some x → (inode g s i).kind ≡ Some kind.File → (inode_of x blocks).kind ≡ Some kind.File
-slot_tells_file g s i x blocks is file = kind_same x blocks (logical g s i) ∙ (ap (λ (y : Slot). (inode_of y (logical g s i)).kind) (sym (slot_as g s i x is)) ∙ file)
+slot_tells_file g s i x blocks is file = kind_same x blocks (logical_block g s i) ∙ (ap (λ (y : Slot). (inode_of y (logical_block g s i)).kind) (sym (slot_as g s i x is)) ∙ file)
 
 -- ---- the first of the places
 

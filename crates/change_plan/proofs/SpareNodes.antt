@@ -12,18 +12,18 @@ use Rattle.inode_plan.specs.block_alloc.Runs.{Rising, blocks_of}
 use Rattle.inode_plan.specs.batch_journal.Images.{image_for}
 use Rattle.inode_plan.specs.area_image.Store.{Store}
 use Rattle.inode_plan.specs.area_image.Reads.{Free}
-use Rattle.inode_plan.specs.area_image.Spelled.{Use, used, IsSpelled}
+use Rattle.inode_plan.specs.area_image.Format.{Use, used_block, IsSpelled}
 use Rattle.inode_plan.specs.area_commit.Value.{PoolsView}
-use Rattle.inode_plan.specs.area_commit.declared.taking.Taken.{Taken}
+use Rattle.inode_plan.specs.area_commit.declared.allocation.Allocation.{Allocation}
 use Rattle.inode_plan.proofs.area_commit_lemmas.Chosen.{no_use}
 use Rattle.inode_plan.proofs.area_commit_lemmas.Returned.{were_free}
 use Rattle.inode_plan.specs.Blocks.{nth_block, HaveOwnPlaces, use_of, use_on_fast}
 use Rattle.inode_plan.specs.PlannedDirectory.{HaveNoImage}
 use Rattle.inode_plan.specs.Spare.{spares_for, CanBeWritten, AreSpares}
-use Rattle.inode_plan.specs.Started.{IsStarted, IsSoundStart, IsChanged}
-use Rattle.inode_plan.specs.declared.started.StartedDirectory.{StartedDirectory}
+use Rattle.inode_plan.specs.DirectoryStart.{IsStarted, IsSoundStart, IsChanged}
+use Rattle.inode_plan.specs.declared.directory_start.StartedDirectory.{StartedDirectory}
 use Rattle.inode_plan.specs.declared.directory_change.ChangedDirectory.{ChangedDirectory}
-use Rattle.change_plan.specs.Adding.{HasTaken}
+use Rattle.change_plan.specs.PlanAddition.{HasTaken}
 use Rattle.change_plan.specs.Directory.{AreOfOthers, IsReadyToWrite}
 use Rattle.change_plan.proofs.PlannedPart.{from_used, use_at}
 
@@ -56,7 +56,7 @@ no_image_from p images none = by (image_for p images) none
     by None not = refl
     by (Some image) not = absurd (not refl)
 
-module _ (g : Sizes) (s : Store) (c : Change) (i : ℕ) (start : StartedDirectory) (x : ChangedDirectory) (left : PoolsView) (taken : Taken) (images : List (ℕ × List ℕ)) (allowed : IsAllowed g) (spelled : IsSpelled g s) (has : HasTaken g s left taken) (others : AreOfOthers g s i taken images) (starts : IsStarted g s c.base i start) (sound : IsSoundStart g start) (changed : IsChanged c start x) (can : CanBeWritten g x) (enough : spares_for x ≤ length left.nodes.free) where
+module _ (g : Sizes) (s : Store) (c : Change) (i : ℕ) (start : StartedDirectory) (x : ChangedDirectory) (left : PoolsView) (taken : Allocation) (images : List (ℕ × List ℕ)) (allowed : IsAllowed g) (spelled : IsSpelled g s) (has : HasTaken g s left taken) (others : AreOfOthers g s i taken images) (starts : IsStarted g s c.base i start) (sound : IsSoundStart g start) (changed : IsChanged c start x) (can : CanBeWritten g x) (enough : spares_for x ≤ length left.nodes.free) where
   abbrev free : List ℕ
   free = left.nodes.free
 
@@ -127,13 +127,13 @@ module _ (g : Sizes) (s : Store) (c : Change) (i : ℕ) (start : StartedDirector
   abbrev its : Option ℕ → Use
   its k = use_at i Fast k
 
-  has_use : (k : Option ℕ) (p : ℕ) → use_on_fast x.blocks.root old k ≡ Some p → used g s (its k) ≡ Some (Fast, p)
-  has_use k p is = from_used c.base (used g s (its k)) (Fast, p) (sym (starts.uses Fast k) ∙ ap (λ b. use_of b Fast k) (sym changed.blocks_are) ∙ ap (option_map (λ q. (Fast, q))) is)
+  has_use : (k : Option ℕ) (p : ℕ) → use_on_fast x.blocks.root old k ≡ Some p → used_block g s (its k) ≡ Some (Fast, p)
+  has_use k p is = from_used c.base (used_block g s (its k)) (Fast, p) (sym (starts.uses Fast k) ∙ ap (λ b. use_of b Fast k) (sym changed.blocks_are) ∙ ap (option_map (λ q. (Fast, q))) is)
 
-  has_place : (k : ℕ) → k < length old → used g s (its (Some k)) ≡ Some (Fast, nth_block old k)
+  has_place : (k : ℕ) → k < length old → used_block g s (its (Some k)) ≡ Some (Fast, nth_block old k)
   has_place k lt = has_use (Some k) (nth_block old k) (ap (λ (b : Bool). if b then Some (nth_block old k) else None) (lt-ltb k (length old) lt))
 
-  has_root : x.blocks.root ≢ 0 → used g s (its None) ≡ Some (Fast, x.blocks.root)
+  has_root : x.blocks.root ≢ 0 → used_block g s (its None) ≡ Some (Fast, x.blocks.root)
   has_root some = has_use None x.blocks.root (ap (λ (b : Bool). if b then None else Some x.blocks.root) (ne_eqb x.blocks.root 0 some))
 
   not_root : (j : ℕ) → j < length spares → nth_block spares j ≢ x.blocks.root
@@ -153,7 +153,7 @@ module _ (g : Sizes) (s : Store) (c : Change) (i : ℕ) (start : StartedDirector
 
   -- ---- images
 
-  none_of_its : (k : Option ℕ) (p : ℕ) → used g s (its k) ≡ Some (Fast, p) → IsSome (image_for p images) → ⊥
+  none_of_its : (k : Option ℕ) (p : ℕ) → used_block g s (its k) ≡ Some (Fast, p) → IsSome (image_for p images) → ⊥
   none_of_its k p here some = elim (others p some) [
     | inl other ↦ other.1 (ap (λ (v : Use). v.inode) (spelled.apart other.0 (its k) (Fast, p) other.2 here))
     | inr at ↦ no_use g s Fast p (was_free p at) (its k) here

@@ -6,9 +6,9 @@ use Rattle.inode_plan.specs.tier_device.declared.media.Tier.{Tier}
 use Rattle.inode_plan.specs.tier_device.declared.media.Tier.TheVariants.{Fast, Block, Slow}
 use Rattle.inode_plan.specs.block_alloc.declared.runs.Run.{Run}
 use Rattle.inode_plan.specs.block_alloc.Runs.{AreNormalRuns}
-use Rattle.inode_plan.specs.area_commit.declared.taking.Taken.{Taken}
-use Rattle.inode_plan.specs.area_commit.Taking.{runs_of, tier_places, taken_data}
-use Rattle.inode_plan.specs.Placed.{EndsFit}
+use Rattle.inode_plan.specs.area_commit.declared.allocation.Allocation.{Allocation}
+use Rattle.inode_plan.specs.area_commit.Allocations.{runs_of, tier_places, taken_data}
+use Rattle.inode_plan.specs.RunPlaces.{EndsFit}
 
 range_more : (a n : ℕ) → range_with_len a (n + 1) ≡ range_with_len a n ++ (a + n) ∷ []
 range_more a zero = let e : a ≡ a + 0 = omega arith in ap (λ (x : ℕ). x ∷ []) e
@@ -31,7 +31,7 @@ pub normal_ends : (low end : ℕ) (runs : List Run) → AreNormalRuns low end ru
 normal_ends low end [] is lt = tt
 normal_ends low end (r ∷ rs) is lt = (let high = is.2 in omega (arith, high, lt), normal_ends (r.first + r.count + 1) end rs is.3 lt)
 
-pub same_data : (old new : Taken) → ((t : Tier) → runs_of new t ≡ runs_of old t) → taken_data new ≡ taken_data old
+pub same_data : (old new : Allocation) → ((t : Tier) → runs_of new t ≡ runs_of old t) → taken_data new ≡ taken_data old
 same_data old new same =
     ap (λ (rs : List Run). tier_places rs new.block.items new.slow.items) (same Fast)
     ∙ (ap (λ (rs : List Run). tier_places old.fast.items rs new.slow.items) (same Block) ∙ ap (λ (rs : List Run). tier_places old.fast.items old.block.items rs) (same Slow))

@@ -13,15 +13,15 @@ use Rattle.inode_plan.specs.layout.declared.slot.Slot.{Slot}
 use Rattle.inode_plan.specs.layout.declared.slot.Slot.TheVariants as slots
 use Rattle.inode_plan.specs.layout.Places.{Sizes}
 use Rattle.inode_plan.specs.extent_tree.Places.{place_of}
-use Rattle.inode_plan.specs.extent_tree.Spelled.{LiesWithin}
+use Rattle.inode_plan.specs.extent_tree.BlockFormat.{LiesWithin}
 use Rattle.inode_plan.specs.extent_tree.Map.{TierRuns, runs_in, lies_at}
 use Rattle.inode_plan.specs.tree_blocks.Inode.{LogicalBlocks, inode_of}
 use Rattle.inode_plan.specs.area_image.declared.error.AreaError.{AreaError}
 use Rattle.inode_plan.specs.area_image.declared.error.AreaError.TheVariants as errors
 use Rattle.inode_plan.specs.area_image.Damage.{OnDamage}
 use Rattle.inode_plan.specs.area_image.Map.{HasNoExtents}
-use Rattle.inode_plan.specs.area_image.Store.{Store, slot, slot_read, length_of, space_of, extents_read, extents_by, place, logical, inode}
-use Rattle.inode_plan.specs.area_image.Spelled.{SpellsInode}
+use Rattle.inode_plan.specs.area_image.Store.{Store, slot, slot_read, length_of, space_of, extents_read, extents_by, place, logical_block, inode}
+use Rattle.inode_plan.specs.area_image.Format.{SpellsInode}
 use Rattle.inode_plan.proofs.area_image_lemmas.Apart.{place_once}
 use Rattle.inode_plan.proofs.area_image_lemmas.Parts.{slot_as}
 use Rattle.inode_plan.proofs.area_image_lemmas.Tails.{place_past}
@@ -55,14 +55,14 @@ module _ (g : Sizes) (s : Store) (i : ℕ) (x : Slot) (is : slot_read g s i ≡ 
   file_here = subst (λ (y : Slot). (inode_of y (λ k. [])).kind ≡ Some kind.File) (sym here) file
 
   pub kept_kind : (inode g s i).kind ≡ Some kind.File
-  kept_kind = file_kind (slot g s i) (logical g s i) file_here
+  kept_kind = file_kind (slot g s i) (logical_block g s i) file_here
 
-  pub kept_blocks : (inode g s i).blocks ≡ logical g s i
-  kept_blocks = file_blocks (slot g s i) (logical g s i) file_here
+  pub kept_blocks : (inode g s i).blocks ≡ logical_block g s i
+  kept_blocks = file_blocks (slot g s i) (logical_block g s i) file_here
 
   past : (t : Tier) (k : ℕ) → IsSome (place g s i t k) → k < ((inode g s i).size + 4095) / 4096
   past t k at = elim (cases_lt k (length_of (slot g s i))) [
-    | inl lt ↦ subst (λ n. k < n) (file_long (slot g s i) (logical g s i) file_here) lt
+    | inl lt ↦ subst (λ n. k < n) (file_long (slot g s i) (logical_block g s i) file_here) lt
     | inr far ↦ absurd (false≢true (subst IsSome (place_past g s i t k far) at))
   ]
 

@@ -15,16 +15,16 @@ use Rattle.inode_plan.specs.batch_journal.Images.{image_for, or_else, with_image
 use Rattle.inode_plan.specs.extent_tree.Map.{TierRuns}
 use Rattle.inode_plan.specs.area_image.Store.{Store, place}
 use Rattle.inode_plan.specs.area_image.Reads.{first_room, Free}
-use Rattle.inode_plan.specs.area_image.Spelled.{Use}
-use Rattle.inode_plan.specs.area_commit.Many.{HasBlockFor}
+use Rattle.inode_plan.specs.area_image.Format.{Use}
+use Rattle.inode_plan.specs.area_commit.StoreRewrite.{HasBlockFor}
 use Rattle.inode_plan.specs.area_commit.Value.{on_tier}
-use Rattle.inode_plan.specs.area_commit.declared.taking.Taken.{Taken}
-use Rattle.inode_plan.specs.area_commit.Taking.{taken_data, runs_of}
+use Rattle.inode_plan.specs.area_commit.declared.allocation.Allocation.{Allocation}
+use Rattle.inode_plan.specs.area_commit.Allocations.{taken_data, runs_of}
 use Rattle.inode_plan.proofs.area_commit_lemmas.Members.{cons_cases, cons_here, cons_there, nothing}
-use Rattle.inode_plan.specs.area_commit.Changing.{BlockIsTaken}
+use Rattle.inode_plan.specs.area_commit.BlockExchange.{BlockIsTaken}
 use Rattle.inode_plan.specs.area_commit.declared.plan.Rewrite.{Rewrite}
 use Rattle.inode_plan.specs.area_commit.Plan.{WereFree, IsPlannedInode, IsPlanned, is_rewritten}
-use Rattle.inode_plan.specs.area_commit.Done.{IsCarriedOut}
+use Rattle.inode_plan.specs.area_commit.PlanOutcome.{IsCarriedOut}
 use Rattle.inode_plan.proofs.area_commit_lemmas.Chosen.{no_use, node_range, node_room, data_has, data_range}
 use Rattle.change_plan.specs.Part.{IsIn, IsWrittenFor}
 use Rattle.change_plan.specs.Parts.{ArePut, AreParts, share_of}
@@ -38,7 +38,7 @@ on_tier_in t (j ∷ js) k at = elim (cons_cases j js k at) [
   | inr there ↦ cons_there (t, j) (on_tier t js) (t, k) (on_tier_in t js k there)
 ]
 
-module _ (taken : Taken) where
+module _ (taken : Allocation) where
   abbrev on : Tier → List (Tier × ℕ)
   on t = on_tier t (blocks_of (runs_of taken t))
 

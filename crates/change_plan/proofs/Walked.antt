@@ -10,7 +10,7 @@ use Rattle.std.proofs.lemmas.List.Sums.{sum_by-cons}
 use Rattle.inode_plan.specs.file_graph.declared.effect.Kind.{Kind}
 use Rattle.inode_plan.specs.file_graph.declared.effect.Kind.TheVariants as kind
 use Rattle.inode_plan.specs.graph_change.Bounds.{IsBounded, AreBounded}
-use Rattle.inode_plan.specs.graph_change.Change.{Change, Changes, change_at, changed, net_of}
+use Rattle.inode_plan.specs.graph_change.Change.{Change, Changes, change_at, changed_graph, net_of}
 use Rattle.inode_plan.specs.graph_change.Net.{node_after}
 use Rattle.inode_plan.specs.graph_change.Tidy.{IsTidyChange, AreTidyChanges}
 use Rattle.inode_plan.specs.graph_change.View.{change_of}
@@ -21,22 +21,22 @@ use Rattle.inode_plan.specs.layout.Marks.{fits_marks}
 use Rattle.inode_plan.specs.layout.Places.{Sizes, IsAllowed, is_inode}
 use Rattle.inode_plan.specs.layout.Slot.{fits_slot}
 use Rattle.inode_plan.specs.extent_tree.declared.map.Place.{Place}
-use Rattle.inode_plan.specs.tree_blocks.After.{started}
+use Rattle.inode_plan.specs.tree_blocks.After.{start_node}
 use Rattle.inode_plan.specs.area_image.Store.{Store, graph, inode, slot_read}
-use Rattle.inode_plan.specs.area_image.Spelled.{IsSpelled}
+use Rattle.inode_plan.specs.area_image.Format.{IsSpelled}
 use Rattle.inode_plan.specs.area_commit.declared.slots.ChangedSlot.{ChangedSlot}
 use Rattle.inode_plan.specs.area_commit.Value.{PoolsView}
-use Rattle.inode_plan.specs.area_commit.declared.taking.Taken.{Taken}
-use Rattle.inode_plan.specs.area_commit.Taking.{taken_data}
+use Rattle.inode_plan.specs.area_commit.declared.allocation.Allocation.{Allocation}
+use Rattle.inode_plan.specs.area_commit.Allocations.{taken_data}
 use Rattle.inode_plan.proofs.area_commit_lemmas.Members.{cons_here, cons_there}
 use Rattle.inode_plan.specs.PlannedFile.{pairs_of}
 use Rattle.inode_plan.specs.area_commit.Plan.{WereFree, is_changed}
 use Rattle.inode_plan.proofs.area_commit_lemmas.Returned.{were_free}
-use Rattle.change_plan.specs.Adding.{HasTaken, TakesMoreNodes, AddsPart}
+use Rattle.change_plan.specs.PlanAddition.{HasTaken, TakesMoreNodes, AddsPart}
 use Rattle.change_plan.specs.First.{PlansNothing, PlansFirst, IsWhole}
 use Rattle.change_plan.specs.Next.{HasFewEntries, nodes_for, nodes_left, IsNext, HasPlaces, PlansInode}
-use Rattle.change_plan.specs.Wanted.{images_for, nodes_left_in, WantInTurn, WantsBlocks}
-use Rattle.change_plan.specs.declared.partial.PartialPlan.{PartialPlan}
+use Rattle.change_plan.specs.BlockDemand.{images_for, nodes_left_in, WantInTurn, WantsBlocks}
+use Rattle.change_plan.specs.declared.partial_plan.PartialPlan.{PartialPlan}
 use Rattle.inode_plan.proofs.block_alloc_lemmas.Blocks.{normal-rising}
 use Rattle.change_plan.proofs.Firsts.{none_first, first_and_one}
 use Rattle.change_plan.proofs.Climbs.{Climb, seen_as, keys_climb, climb_before, change_here, has_here, mapped_in}
@@ -60,7 +60,7 @@ abbrev pub inodes_of : List ChangedSlot → List ℕ
 inodes_of slots = map (λ c. c.inode) slots
 
 -- All inodes but the rest are planned, over the first places; for the rest there are enough places, blocks of the node pool, and images in a batch.
-pub record Walked (g : Sizes) (s : Store) (cs : Changes) (touch : ℕ) (places : List Place) (left : PoolsView) (taken : Taken) (plan : PartialPlan) (used : ℕ) (rest : List (ℕ × Change)) : Type 0 where
+pub record Walked (g : Sizes) (s : Store) (cs : Changes) (touch : ℕ) (places : List Place) (left : PoolsView) (taken : Allocation) (plan : PartialPlan) (used : ℕ) (rest : List (ℕ × Change)) : Type 0 where
   pub inside : (e : ℕ × Change) → Contains rest e → Contains (fin.entries cs) e
   pub keys : inodes_of plan.slots.items ++ map (λ e. e.0) rest ≡ fin.keys cs
   pub took : HasTaken g s left taken
@@ -74,7 +74,7 @@ pub record Walked (g : Sizes) (s : Store) (cs : Changes) (touch : ℕ) (places :
   pub nodes : images_in rest ≤ length left.nodes.free
 
 -- where what is left of a map in memory is the same
-pub turned : {g : Sizes} {s : Store} {cs : Changes} {touch : ℕ} {places : List Place} {left : PoolsView} {taken : Taken} {plan : PartialPlan} {used : ℕ} (es fs : List (ℕ × NodeChange)) → es ≡ fs → Walked g s cs touch places left taken plan used (seen_as change_of es) → Walked g s cs touch places left taken plan used (seen_as change_of fs)
+pub turned : {g : Sizes} {s : Store} {cs : Changes} {touch : ℕ} {places : List Place} {left : PoolsView} {taken : Allocation} {plan : PartialPlan} {used : ℕ} (es fs : List (ℕ × NodeChange)) → es ≡ fs → Walked g s cs touch places left taken plan used (seen_as change_of es) → Walked g s cs touch places left taken plan used (seen_as change_of fs)
 turned {g = g} {s = s} {cs = cs} {touch = touch} {places = places} {left = left} {taken = taken} {plan = plan} {used = used} es fs same walked = subst (λ (xs : List (ℕ × NodeChange)). Walked g s cs touch places left taken plan used (seen_as change_of xs)) same walked
 
 -- the places behind those that are used, as a part of the slice
@@ -91,7 +91,7 @@ among i [] = refl
 among i (c ∷ cs) = ap (λ (b : Bool). b || list_any (eq_by_cmp nat_cmp i) (inodes_of cs)) (same_number i c.inode) ∙ ap (λ (b : Bool). (c.inode == i) || b) (among i cs)
 
 module _ (g : Sizes) (s : Store) (cs : Changes) (touch : ℕ) (places : List Place) where
-  taken_free : (left : PoolsView) (taken : Taken) → HasTaken g s left taken → WereFree g s taken
+  taken_free : (left : PoolsView) (taken : Allocation) → HasTaken g s left taken → WereFree g s taken
   taken_free left taken has = were_free g s has.before left taken has.ranges has.free has.took
 
   below : (plan : PartialPlan) (e : ℕ × Change) (rest : List (ℕ × Change)) → inodes_of plan.slots.items ++ map (λ d. d.0) (e ∷ rest) ≡ fin.keys cs → (c : ChangedSlot) → Contains plan.slots.items c → c.inode < e.0
@@ -100,7 +100,7 @@ module _ (g : Sizes) (s : Store) (cs : Changes) (touch : ℕ) (places : List Pla
 
   -- ---- before the first, and behind the last
 
-  pub none_walked : (left : PoolsView) (taken : Taken) (plan : PartialPlan) → HasTaken g s left taken → taken.nodes.items ≡ [] → pairs_of places ≡ taken_data taken → WantsBlocks g s cs (length places) → images_for cs ≤ 255 → 255 ≤ length left.nodes.free → PlansNothing plan
+  pub none_walked : (left : PoolsView) (taken : Allocation) (plan : PartialPlan) → HasTaken g s left taken → taken.nodes.items ≡ [] → pairs_of places ≡ taken_data taken → WantsBlocks g s cs (length places) → images_for cs ≤ 255 → 255 ≤ length left.nodes.free → PlansNothing plan
       → Walked g s cs touch places left taken plan 0 (fin.entries cs)
   none_walked left taken plan took fresh are wanted images nodes nothing = record {
     inside = λ e at. at;
@@ -116,7 +116,7 @@ module _ (g : Sizes) (s : Store) (cs : Changes) (touch : ℕ) (places : List Pla
     nodes = omega (arith, images, nodes);
   }
 
-  pub all_walked : (left : PoolsView) (taken : Taken) (plan : PartialPlan) (used : ℕ) → images_for cs ≤ 255 → Walked g s cs touch places left taken plan used [] → (marks : Option Marks) → IfSome marks (λ v. fits_marks v ≡ true) → IsWhole g s cs touch plan taken marks
+  pub all_walked : (left : PoolsView) (taken : Allocation) (plan : PartialPlan) (used : ℕ) → images_for cs ≤ 255 → Walked g s cs touch places left taken plan used [] → (marks : Option Marks) → IfSome marks (λ v. fits_marks v ≡ true) → IsWhole g s cs touch plan taken marks
   all_walked left taken plan used most walked marks fits =
       let keys : inodes_of plan.slots.items ≡ fin.keys cs = sym (append-nil (inodes_of plan.slots.items)) ∙ walked.keys in
       record {
@@ -135,7 +135,7 @@ module _ (g : Sizes) (s : Store) (cs : Changes) (touch : ℕ) (places : List Pla
 
   -- ---- one more
 
-  module _ (allowed : IsAllowed g) (spelled : IsSpelled g s) (bounded : AreBounded cs) (tidy : AreTidyChanges cs) (left : PoolsView) (taken : Taken) (plan : PartialPlan) (used : ℕ) (e : ℕ × Change) (rest : List (ℕ × Change)) (walked : Walked g s cs touch places left taken plan used (e ∷ rest)) where
+  module _ (allowed : IsAllowed g) (spelled : IsSpelled g s) (bounded : AreBounded cs) (tidy : AreTidyChanges cs) (left : PoolsView) (taken : Allocation) (plan : PartialPlan) (used : ℕ) (e : ℕ × Change) (rest : List (ℕ × Change)) (walked : Walked g s cs touch places left taken plan used (e ∷ rest)) where
     at : Contains (fin.entries cs) e
     at = walked.inside e (cons_here e rest e refl)
 
@@ -148,8 +148,8 @@ module _ (g : Sizes) (s : Store) (cs : Changes) (touch : ℕ) (places : List Pla
     images_are : images_in (e ∷ rest) ≡ 1 + nodes_for e.1 + images_in rest
     images_are = sum_by-cons (λ (d : ℕ × Change). 1 + nodes_for d.1) e rest
 
-    left_are : nodes_left_in g s (e ∷ rest) ≡ nodes_left (started e.1.base (inode g s e.0)).kind e.1 + nodes_left_in g s rest
-    left_are = sum_by-cons (λ (d : ℕ × Change). nodes_left (started d.1.base (inode g s d.0)).kind d.1) e rest
+    left_are : nodes_left_in g s (e ∷ rest) ≡ nodes_left (start_node e.1.base (inode g s e.0)).kind e.1 + nodes_left_in g s rest
+    left_are = sum_by-cons (λ (d : ℕ × Change). nodes_left (start_node d.1.base (inode g s d.0)).kind d.1) e rest
 
     pub its_number : is_inode e.0 ≡ true
     its_number = bounded.inodes e.0 (has_here cs e at)
@@ -157,7 +157,7 @@ module _ (g : Sizes) (s : Store) (cs : Changes) (touch : ℕ) (places : List Pla
     pub its_places : HasPlaces g s e.1 e.0 (drop used places)
     its_places = has_places g s taken free places walked.places_are used allowed e.1 e.0 walked.wanted.0 walked.wanted.1 walked.wanted.2 (let sum = walked.wanted.4 in omega (arith, sum, walked.enough))
 
-    pub is_next : ((i : ℕ) → fin.contains_key cs i ≡ true → HasFewEntries (changed cs (graph g s) i)) → (x : Slot) → slot_read g s e.0 ≡ Some x → fits_slot g x ≡ true → IsNext g s e.0 x e.1 left taken plan.nodes
+    pub is_next : ((i : ℕ) → fin.contains_key cs i ≡ true → HasFewEntries (changed_graph cs (graph g s) i)) → (x : Slot) → slot_read g s e.0 ≡ Some x → fits_slot g x ≡ true → IsNext g s e.0 x e.1 left taken plan.nodes
     is_next few x slot_is fits = record {
       allowed = allowed;
       spelled = spelled;
@@ -175,7 +175,7 @@ module _ (g : Sizes) (s : Store) (cs : Changes) (touch : ℕ) (places : List Pla
     pub used_within : used ≤ length places
     used_within = omega (arith, walked.enough)
 
-    module _ (new_left : PoolsView) (new_taken : Taken) (new_plan : PartialPlan) (count : ℕ) (more : TakesMoreNodes left taken new_left new_taken) (planned : PlansInode g s e.1 touch e.0 (drop used places) count left taken new_left new_taken plan new_plan) where
+    module _ (new_left : PoolsView) (new_taken : Allocation) (new_plan : PartialPlan) (count : ℕ) (more : TakesMoreNodes left taken new_left new_taken) (planned : PlansInode g s e.1 touch e.0 (drop used places) count left taken new_left new_taken plan new_plan) where
       its_count : count ≡ walked.wanted.0
       its_count = wants_same g s e.1 e.0 count walked.wanted.0 planned.wants walked.wanted.2
 
@@ -212,7 +212,7 @@ module _ (g : Sizes) (s : Store) (cs : Changes) (touch : ℕ) (places : List Pla
         more = walked.wanted.1;
         wanted = walked.wanted.3;
         enough = (let sum = walked.wanted.4 in omega (arith, its_count, sum, walked.enough));
-        images = (let few = planned.images in let most = left_few (started e.1.base (inode g s e.0)).kind e.1 in omega (arith, few, most, one_slot, images_are, walked.images));
+        images = (let few = planned.images in let most = left_few (start_node e.1.base (inode g s e.0)).kind e.1 in omega (arith, few, most, one_slot, images_are, walked.images));
         images_left = (let few = planned.images in omega (arith, few, left_are, walked.images_left));
         nodes = (let free_now = planned.free in omega (arith, free_now, images_are, walked.nodes));
       }

@@ -10,10 +10,10 @@ use Rattle.inode_plan.specs.graph_change.Change.{Change, Changes}
 use Rattle.inode_plan.specs.graph_change.Tidy.{IsTidyChange, AreTidyChanges}
 use Rattle.inode_plan.specs.layout.Places.{Sizes, is_inode}
 use Rattle.inode_plan.specs.area_image.Store.{Store}
-use Rattle.inode_plan.specs.Written.{AreNumbers}
+use Rattle.inode_plan.specs.BlockWrites.{AreNumbers}
 use Rattle.inode_plan.proofs.area_commit_lemmas.Chosen.{inode_range}
 use Rattle.change_plan.specs.Next.{WantsData}
-use Rattle.change_plan.specs.Wanted.{WantInTurn, WantsBlocks}
+use Rattle.change_plan.specs.BlockDemand.{WantInTurn, WantsBlocks}
 use Rattle.change_plan.proofs.Climbs.{climb_rising, climb_few, climb_within, change_here, has_here, keys_climb, mapped_from}
 
 -- ---- of one inode

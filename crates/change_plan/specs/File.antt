@@ -17,26 +17,26 @@ use Rattle.inode_plan.specs.layout.Places.{Sizes, node_end}
 use Rattle.inode_plan.specs.layout.Slot.{fits_slot}
 use Rattle.inode_plan.specs.block_alloc.Runs.{blocks_of}
 use Rattle.inode_plan.specs.extent_tree.Normal.{IsNormal}
-use Rattle.inode_plan.specs.extent_tree.Spelled.{LiesWithin, IsOneToOne}
+use Rattle.inode_plan.specs.extent_tree.BlockFormat.{LiesWithin, IsOneToOne}
 use Rattle.inode_plan.specs.extent_tree.Map.{TierRuns, runs_in, LieOnce, LieBelow, HasBlock}
 use Rattle.inode_plan.specs.extent_tree.declared.map.Place.{Place}
-use Rattle.inode_plan.specs.tree_blocks.After.{started}
+use Rattle.inode_plan.specs.tree_blocks.After.{start_node}
 use Rattle.inode_plan.specs.area_image.Store.{Store, slot, touch_of, inode}
 use Rattle.inode_plan.specs.area_image.Reads.{Free}
 use Rattle.inode_plan.specs.area_image.declared.tiers.InodeExtents.{InodeExtents}
-use Rattle.inode_plan.specs.area_commit.Changed.{IsFileSlot}
+use Rattle.inode_plan.specs.area_commit.InodeChange.{IsFileSlot}
 use Rattle.inode_plan.specs.area_commit.Lists.{PutsLists}
 use Rattle.inode_plan.specs.Lists.{AreListsOf, roots_left}
-use Rattle.inode_plan.specs.area_commit.declared.plan.Lost.{Lost}
+use Rattle.inode_plan.specs.area_commit.declared.plan.FreedBlocks.{FreedBlocks}
 use Rattle.inode_plan.specs.area_commit.Plan.{LieApart, lost_in}
 use Rattle.inode_plan.specs.PlacedFile.{nth_place}
-use Rattle.inode_plan.specs.Written.{AreNumbers}
+use Rattle.inode_plan.specs.BlockWrites.{AreNumbers}
 use Rattle.inode_plan.specs.Bytes.{HoldsBlocks}
-use Rattle.inode_plan.specs.Mapped.{IsMapAfter, AreLeft, AreData}
+use Rattle.inode_plan.specs.MapChange.{IsMapAfter, AreLeft, AreData}
 use Rattle.inode_plan.specs.PlannedFile.{StartsFrom, pairs_of}
 use Rattle.inode_plan.specs.Roots.{roots_wanted, HasRootsOf, SparesFit}
 use Rattle.change_plan.specs.Part.{Share}
-use Rattle.change_plan.specs.Adding.{GivesAll}
+use Rattle.change_plan.specs.PlanAddition.{GivesAll}
 
 -- ---- what the change starts from
 
@@ -48,7 +48,7 @@ slot_from Gone x = slots.Free
 
 -- Inode i is a file after the base of the change, which keeps to the limits.
 pub record ChangesFile (g : Sizes) (s : Store) (c : Change) (i : ℕ) : Type 0 where
-  pub kind_is : (started c.base (inode g s i)).kind ≡ Some kind.File
+  pub kind_is : (start_node c.base (inode g s i)).kind ≡ Some kind.File
   pub tidy : IsTidyChange c
   pub bounded : IsBounded c
 
@@ -56,7 +56,7 @@ pub record ChangesFile (g : Sizes) (s : Store) (c : Change) (i : ℕ) : Type 0 w
 pub record IsOldMap (g : Sizes) (s : Store) (base : Base) (i : ℕ) (before : TierRuns) : Type 0 where
   pub starts : StartsFrom g s i base before
   pub once : LieOnce before
-  pub below : LieBelow (((started base (inode g s i)).size + (BLOCK - 1)) / BLOCK) before
+  pub below : LieBelow (((start_node base (inode g s i)).size + (BLOCK - 1)) / BLOCK) before
   pub within : (t : Tier) → LiesWithin g (space.Data t) (runs_in before t)
   pub apart : (t : Tier) → IsOneToOne (runs_in before t)
 
@@ -77,21 +77,21 @@ pub record AreFreeNodes (g : Sizes) (s : Store) (blocks : List ℕ) : Type 0 whe
 -- ---- what is made
 
 -- A file that stays gives up the places that its blocks leave, and the blocks that listed extents in tiers where it has none any more.
-pub record GivesLeft (c : Change) (before : TierRuns) (old x : Slot) (lost : Lost) : Type 0 where
+pub record GivesLeft (c : Change) (before : TierRuns) (old x : Slot) (lost : FreedBlocks) : Type 0 where
   pub nodes : blocks_of lost.nodes.items ≡ roots_left old x
   pub some : AllByRecursion HasBlock lost.nodes.items
   pub per_tier : (t : Tier) → AreLeft c before t (blocks_of (lost_in lost t))
   pub apart : (t : Tier) → LieApart (lost_in lost t)
 
 -- What is given up: of a file that stays what it leaves; where one is made, all that stood there, whatever it was.
-abbrev pub GivesUp : Sizes → Store → Change → ℕ → TierRuns → Slot → Lost → Type 0
+abbrev pub GivesUp : Sizes → Store → Change → ℕ → TierRuns → Slot → FreedBlocks → Type 0
 GivesUp g s c i before x lost = ((c.base ≡ Kept) × GivesLeft c before (slot g s i) x lost) ⊎ ((c.base ≡ Made kind.File) × GivesAll g s i lost)
 
 -- ---- the whole
 
 -- The blocks that the change writes go to their places, with its bytes; all others stay where they lay or are cut off. The slot tells the file after the change, and names in each
 -- tier that has extents then a block that has their image: the one that listed some before, or one that was taken for it.
-pub record IsPlannedFile (g : Sizes) (s : Store) (c : Change) (touch : ℕ) (i : ℕ) (x : Slot) (m : TierRuns) (share : Share) (bytes : List ℕ) (old new : List (ℕ × List ℕ)) (lost : Lost) : Type 0 where
+pub record IsPlannedFile (g : Sizes) (s : Store) (c : Change) (touch : ℕ) (i : ℕ) (x : Slot) (m : TierRuns) (share : Share) (bytes : List ℕ) (old new : List (ℕ × List ℕ)) (lost : FreedBlocks) : Type 0 where
   pub changes : ChangesFile g s c i
   pub before : TierRuns
   pub was : IsOldMap g s c.base i before
@@ -101,14 +101,14 @@ pub record IsPlannedFile (g : Sizes) (s : Store) (c : Change) (touch : ℕ) (i :
   pub many : length places ≡ length numbers
   pub places_are : AreFreePlaces g s places
   pub stored : share.«data» ≡ pairs_of places
-  pub bytes_are : HoldsBlocks c (started c.base (inode g s i)).blocks numbers (length numbers) bytes
+  pub bytes_are : HoldsBlocks c (start_node c.base (inode g s i)).blocks numbers (length numbers) bytes
   pub map : IsMapAfter c numbers places before m
   pub normal : (t : Tier) → IsNormal (runs_in m t)
   pub lists : InodeExtents
   pub lists_are : AreListsOf i m lists
   pub nodes_are : AreFreeNodes g s share.nodes
   pub wanted : length share.nodes ≡ roots_wanted (slot_from c.base (slot g s i)) lists
-  pub slot_is : IsFileSlot (names_after c.names (started c.base (inode g s i)).names) (length_after c.length (started c.base (inode g s i)).size) x
+  pub slot_is : IsFileSlot (names_after c.names (start_node c.base (inode g s i)).names) (length_after c.length (start_node c.base (inode g s i)).size) x
   pub touch_is : touch_of x ≡ touch
   pub roots : HasRootsOf lists share.nodes (slot_from c.base (slot g s i)) x
   pub limits : fits_slot g (slot_from c.base (slot g s i)) ≡ true → SparesFit g (slot_from c.base (slot g s i)) share.nodes → fits_slot g x ≡ true

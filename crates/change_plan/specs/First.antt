@@ -11,16 +11,16 @@ use Rattle.inode_plan.specs.extent_tree.Map.{TierRuns}
 use Rattle.inode_plan.specs.extent_tree.declared.map.Place.{Place}
 use Rattle.inode_plan.specs.area_image.Store.{Store}
 use Rattle.inode_plan.specs.area_commit.Value.{PoolsView}
-use Rattle.inode_plan.specs.area_commit.declared.taking.Taken.{Taken}
-use Rattle.inode_plan.specs.area_commit.Taking.{taken_data}
+use Rattle.inode_plan.specs.area_commit.declared.allocation.Allocation.{Allocation}
+use Rattle.inode_plan.specs.area_commit.Allocations.{taken_data}
 use Rattle.inode_plan.specs.PlannedFile.{pairs_of}
 use Rattle.inode_plan.specs.area_commit.declared.plan.Rewrite.{Rewrite}
 use Rattle.inode_plan.specs.area_commit.Plan.{is_changed}
 use Rattle.change_plan.specs.Part.{Share}
 use Rattle.change_plan.specs.Parts.{AreParts}
-use Rattle.change_plan.specs.Adding.{HasTaken}
-use Rattle.change_plan.specs.Wanted.{images_left}
-use Rattle.change_plan.specs.declared.partial.PartialPlan.{PartialPlan}
+use Rattle.change_plan.specs.PlanAddition.{HasTaken}
+use Rattle.change_plan.specs.BlockDemand.{images_left}
+use Rattle.change_plan.specs.declared.partial_plan.PartialPlan.{PartialPlan}
 
 -- Nothing is planned.
 pub record PlansNothing (plan : PartialPlan) : Type 0 where
@@ -33,25 +33,25 @@ pub record PlansNothing (plan : PartialPlan) : Type 0 where
   pub lost_slow : plan.lost.slow.items ≡ []
 
 -- all blocks of the node pool that were taken, and the first so many of the places of data blocks
-abbrev pub first_share : Taken → List Place → ℕ → Share
+abbrev pub first_share : Allocation → List Place → ℕ → Share
 first_share taken places used = record { nodes = blocks_of taken.nodes.items; «data» = take used (pairs_of places) }
 
 -- The inodes whose slots stand in the plan are planned, over that share.
-pub record PlansFirst (g : Sizes) (s : Store) (cs : Changes) (touch : ℕ) (places : List Place) (used : ℕ) (taken : Taken) (plan : PartialPlan) : Type 0 where
+pub record PlansFirst (g : Sizes) (s : Store) (cs : Changes) (touch : ℕ) (places : List Place) (used : ℕ) (taken : Allocation) (plan : PartialPlan) : Type 0 where
   pub x : ℕ → Slot
   pub m : ℕ → TierRuns
   pub parts : AreParts g s cs touch x m plan.slots.items (first_share taken places used) plan.bytes.items plan.nodes plan.lost
 
 -- The places are the last of the data blocks that were taken.
-abbrev pub AreLast : List Place → Taken → Type 0
+abbrev pub AreLast : List Place → Allocation → Type 0
 AreLast places taken = (used : ℕ) × (pairs_of places ≡ drop used (taken_data taken))
 
 -- What was planned over what was taken, with new marks where they change, as one plan.
-abbrev pub whole_of : PartialPlan → Taken → Option Marks → Rewrite
+abbrev pub whole_of : PartialPlan → Allocation → Option Marks → Rewrite
 whole_of plan taken marks = record { slots = plan.slots; marks = marks; nodes = plan.nodes; taken = taken; bytes = plan.bytes; lost = plan.lost }
 
 -- All inodes of a change are planned over all blocks that were taken of the free ones of a store, with no more images than what it leaves takes; and one batch is enough for them.
-pub record IsWhole (g : Sizes) (s : Store) (cs : Changes) (touch : ℕ) (plan : PartialPlan) (taken : Taken) (marks : Option Marks) : Type 0 where
+pub record IsWhole (g : Sizes) (s : Store) (cs : Changes) (touch : ℕ) (plan : PartialPlan) (taken : Allocation) (marks : Option Marks) : Type 0 where
   pub inodes : (i : ℕ) → fin.contains_key cs i ≡ is_changed plan.slots.items i
   pub left : PoolsView
   pub took : HasTaken g s left taken

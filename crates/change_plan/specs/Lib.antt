@@ -1,16 +1,16 @@
-pub mod Laid
+pub mod FileLayout
 pub mod Part
 pub mod Parts
-pub mod Adding
+pub mod PlanAddition
 pub mod First
 pub mod Directory
-pub mod Changed
-pub mod Gone
+pub mod DirectoryChange
+pub mod FreedRuns
 pub mod File
-pub mod Started
+pub mod FileStart
 pub mod FileSteps
 pub mod Next
-pub mod Wanted
+pub mod BlockDemand
 -- Passed on to the crates above, which so need not list those below.
 pub use Rattle.inode_plan.specs.area_commit
 pub use Rattle.inode_plan.specs.area_image

@@ -13,17 +13,17 @@ use Rattle.inode_plan.specs.layout.declared.slot.Slot.{Slot}
 use Rattle.inode_plan.specs.layout.Places.{Sizes, IsAllowed, is_inode}
 use Rattle.inode_plan.specs.layout.Slot.{fits_slot}
 use Rattle.inode_plan.specs.extent_tree.declared.map.Place.{Place}
-use Rattle.inode_plan.specs.tree_blocks.After.{started}
+use Rattle.inode_plan.specs.tree_blocks.After.{start_node}
 use Rattle.inode_plan.specs.area_image.Store.{Store, slot_read, inode, graph}
-use Rattle.inode_plan.specs.area_image.Spelled.{IsSpelled}
+use Rattle.inode_plan.specs.area_image.Format.{IsSpelled}
 use Rattle.inode_plan.specs.area_commit.Value.{PoolsView}
-use Rattle.inode_plan.specs.area_commit.declared.taking.Taken.{Taken}
+use Rattle.inode_plan.specs.area_commit.declared.allocation.Allocation.{Allocation}
 use Rattle.inode_plan.specs.PlacedFile.{PlacesFit}
-use Rattle.inode_plan.specs.Written.{AreNumbers}
-use Rattle.change_plan.specs.Adding.{HasTaken, AddsPart}
+use Rattle.inode_plan.specs.BlockWrites.{AreNumbers}
+use Rattle.change_plan.specs.PlanAddition.{HasTaken, AddsPart}
 use Rattle.change_plan.specs.Directory.{AreOfOthers}
 use Rattle.change_plan.specs.File.{AreFreePlaces}
-use Rattle.change_plan.specs.declared.partial.PartialPlan.{PartialPlan}
+use Rattle.change_plan.specs.declared.partial_plan.PartialPlan.{PartialPlan}
 
 -- how many blocks of the node pool, and how many images, the change of one inode takes at most: three that list the extents of a file; of a directory two for each entry that changes,
 -- and one that lists its blocks
@@ -44,11 +44,11 @@ HasFewEntries (Some n) = elim n.body [ FileBody bytes ↦ Unit {0} | DirBody ent
 
 -- So many data blocks are wanted for inode i: one for each block that its change writes, where that leaves a file; none, where it leaves a directory or nothing.
 abbrev pub WantsData : Sizes → Store → Change → ℕ → ℕ → Type 0
-WantsData g s c i count = (((started c.base (inode g s i)).kind ≡ Some kind.File) × (numbers : List ℕ) × AreNumbers c numbers × (length numbers ≡ count)) ⊎ (((started c.base (inode g s i)).kind ≡ Some kind.File → ⊥) × (count ≡ 0))
+WantsData g s c i count = (((start_node c.base (inode g s i)).kind ≡ Some kind.File) × (numbers : List ℕ) × AreNumbers c numbers × (length numbers ≡ count)) ⊎ (((start_node c.base (inode g s i)).kind ≡ Some kind.File → ⊥) × (count ≡ 0))
 
 -- Inode i, which has this slot, is the next one to be planned: its change keeps to the limits; no image so far is for a block of it, or for a free one that was not taken; and blocks of the
 -- node pool are free for it.
-pub record IsNext (g : Sizes) (s : Store) (i : ℕ) (x : Slot) (c : Change) (left : PoolsView) (taken : Taken) (images : List (ℕ × List ℕ)) : Type 0 where
+pub record IsNext (g : Sizes) (s : Store) (i : ℕ) (x : Slot) (c : Change) (left : PoolsView) (taken : Allocation) (images : List (ℕ × List ℕ)) : Type 0 where
   pub allowed : IsAllowed g
   pub spelled : IsSpelled g s
   pub number : is_inode i ≡ true
@@ -69,8 +69,8 @@ pub record HasPlaces (g : Sizes) (s : Store) (c : Change) (i : ℕ) (places : Li
 
 -- Inode i is planned, over the first so many of these places, which is as many as it wants, and over blocks that were taken of the node pool; no more of these than its change may take, and
 -- no more images than what it leaves.
-pub record PlansInode (g : Sizes) (s : Store) (c : Change) (touch i : ℕ) (places : List Place) (count : ℕ) (old_left : PoolsView) (old_taken : Taken) (new_left : PoolsView) (new_taken : Taken) (old new : PartialPlan) : Type 0 where
+pub record PlansInode (g : Sizes) (s : Store) (c : Change) (touch i : ℕ) (places : List Place) (count : ℕ) (old_left : PoolsView) (old_taken : Allocation) (new_left : PoolsView) (new_taken : Allocation) (old new : PartialPlan) : Type 0 where
   pub part : AddsPart g s c touch i places count old_taken new_taken old new
   pub wants : WantsData g s c i count
-  pub images : length new.nodes ≤ length old.nodes + nodes_left (started c.base (inode g s i)).kind c
+  pub images : length new.nodes ≤ length old.nodes + nodes_left (start_node c.base (inode g s i)).kind c
   pub free : length old_left.nodes.free ≤ length new_left.nodes.free + nodes_for c

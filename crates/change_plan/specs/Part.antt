@@ -9,17 +9,17 @@ use Rattle.inode_plan.specs.layout.declared.slot.Slot.TheVariants as slots
 use Rattle.inode_plan.specs.layout.Places.{Sizes, is_node, is_data}
 use Rattle.inode_plan.specs.batch_journal.Images.{image_for, with_images}
 use Rattle.inode_plan.specs.extent_tree.Map.{TierRuns, runs_in}
-use Rattle.inode_plan.specs.tree_blocks.After.{started}
+use Rattle.inode_plan.specs.tree_blocks.After.{start_node}
 use Rattle.inode_plan.specs.tree_blocks.Directory.{EntryBlocks}
 use Rattle.inode_plan.specs.area_image.Store.{Store, root_of, touch_of, place, inode}
-use Rattle.inode_plan.specs.area_image.Spelled.{used}
-use Rattle.inode_plan.specs.area_commit.Written.{IsFit, IsListed, block_by}
-use Rattle.inode_plan.specs.area_commit.Changed.{IsFileWritten, IsDirectoryWritten}
+use Rattle.inode_plan.specs.area_image.Format.{used_block}
+use Rattle.inode_plan.specs.area_commit.InodeRewrite.{IsFit, IsListed, block_by}
+use Rattle.inode_plan.specs.area_commit.InodeChange.{IsFileWritten, IsDirectoryWritten}
 use Rattle.inode_plan.specs.area_commit.Batches.{AreNodes}
-use Rattle.inode_plan.specs.area_commit.Writing.{HoldData}
-use Rattle.inode_plan.specs.area_commit.declared.plan.Lost.{Lost}
+use Rattle.inode_plan.specs.area_commit.DataWrite.{HoldData}
+use Rattle.inode_plan.specs.area_commit.declared.plan.FreedBlocks.{FreedBlocks}
 use Rattle.inode_plan.specs.area_commit.Plan.{HoldLost}
-use Rattle.change_plan.specs.Laid.{IsLaid}
+use Rattle.change_plan.specs.FileLayout.{IsLaid}
 
 -- ---- its share of what was taken
 
@@ -43,7 +43,7 @@ pub record IsPut (g : Sizes) (s : Store) (share : Share) (bytes : List ℕ) (ima
 
 -- The node of inode i goes, or there is none: its slot is free, and it has no blocks.
 pub record IsGoneFrom (g : Sizes) (c : Change) (s : Store) (i : ℕ) (x : Slot) (m : TierRuns) : Type 0 where
-  pub none : (started c.base (inode g s i)).kind ≡ None
+  pub none : (start_node c.base (inode g s i)).kind ≡ None
   pub slot_is : x ≡ slots.Free
   pub runs : (t : Tier) → runs_in m t ≡ []
 
@@ -64,10 +64,10 @@ is_one i j = j == i
 -- The plan of inode i: its slot and runs keep the limits; each block that it has a use for then, it had for the same use, or it is of its share; each block of the share has one
 -- use, and an image if it is of the node pool; images are put for its own blocks alone; what it gives up is what it loses; the blocks that its change writes are to lie
 -- in the data blocks of the share, one each; and where all that stands, it is written for its change.
-pub record IsPart (g : Sizes) (s : Store) (c : Change) (touch : ℕ) (i : ℕ) (x : Slot) (m : TierRuns) (share : Share) (bytes : List ℕ) (old new : List (ℕ × List ℕ)) (lost : Lost) : Type 0 where
+pub record IsPart (g : Sizes) (s : Store) (c : Change) (touch : ℕ) (i : ℕ) (x : Slot) (m : TierRuns) (share : Share) (bytes : List ℕ) (old new : List (ℕ × List ℕ)) (lost : FreedBlocks) : Type 0 where
   pub fit : IsFit g x m
   pub listed : (t : Tier) → IsListed (with_images new (s tiers.Fast)) i (root_of x t) (runs_in m t)
-  pub uses : (t : Tier) (k : Option ℕ) (b : Tier × ℕ) → block_by x m t k ≡ Some b → (used g s (record { inode = i; tier = t; logical = k }) ≡ Some b) ⊎ IsIn share b
+  pub uses : (t : Tier) (k : Option ℕ) (b : Tier × ℕ) → block_by x m t k ≡ Some b → (used_block g s (record { inode = i; tier = t; logical = k }) ≡ Some b) ⊎ IsIn share b
   pub once : (t u : Tier) (j k : Option ℕ) (b : Tier × ℕ) → IsIn share b → block_by x m t j ≡ Some b → block_by x m u k ≡ Some b → (t ≡ u) × (j ≡ k)
   pub all : (b : Tier × ℕ) → IsIn share b → (t : Tier) × (k : Option ℕ) × (block_by x m t k ≡ Some b)
   pub imaged : (p : ℕ) → Contains share.nodes p → IsSome (image_for p new)

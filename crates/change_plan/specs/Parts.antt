@@ -12,18 +12,18 @@ use Rattle.inode_plan.specs.batch_journal.Images.{image_for, with_images}
 use Rattle.inode_plan.specs.extent_tree.Map.{TierRuns, runs_in}
 use Rattle.inode_plan.specs.area_image.Store.{Store, root_of, place}
 use Rattle.inode_plan.specs.area_image.Reads.{Free}
-use Rattle.inode_plan.specs.area_image.Spelled.{Use, used}
-use Rattle.inode_plan.specs.area_commit.Written.{IsFit, IsListed, block_by}
-use Rattle.inode_plan.specs.area_commit.Many.{HasBlockFor}
+use Rattle.inode_plan.specs.area_image.Format.{Use, used_block}
+use Rattle.inode_plan.specs.area_commit.InodeRewrite.{IsFit, IsListed, block_by}
+use Rattle.inode_plan.specs.area_commit.StoreRewrite.{HasBlockFor}
 use Rattle.inode_plan.specs.area_commit.declared.slots.ChangedSlot.{ChangedSlot}
 use Rattle.inode_plan.specs.area_commit.Slots.{RiseIn}
 use Rattle.inode_plan.specs.area_commit.Batches.{AreNodes}
-use Rattle.inode_plan.specs.area_commit.declared.taking.Taken.{Taken}
-use Rattle.inode_plan.specs.area_commit.Taking.{taken_data}
-use Rattle.inode_plan.specs.area_commit.Writing.{HoldData}
-use Rattle.inode_plan.specs.area_commit.declared.plan.Lost.{Lost}
+use Rattle.inode_plan.specs.area_commit.declared.allocation.Allocation.{Allocation}
+use Rattle.inode_plan.specs.area_commit.Allocations.{taken_data}
+use Rattle.inode_plan.specs.area_commit.DataWrite.{HoldData}
+use Rattle.inode_plan.specs.area_commit.declared.plan.FreedBlocks.{FreedBlocks}
 use Rattle.inode_plan.specs.area_commit.Plan.{HoldLost, is_changed}
-use Rattle.change_plan.specs.Laid.{AreLaid}
+use Rattle.change_plan.specs.FileLayout.{AreLaid}
 use Rattle.change_plan.specs.Part.{Share, IsIn, IsWrittenFor, IsTouchedBy}
 
 -- In a store stands what is planned of some inodes.
@@ -33,12 +33,12 @@ pub record ArePut (g : Sizes) (s : Store) (rewritten : ℕ → Bool) (x : ℕ �
   pub stays : (i : ℕ) → rewritten i ≡ true → (t : Tier) (k p : ℕ) → place g s i t k ≡ Some p → is_data g t p 1 ≡ true → after t p ≡ s t p
 
 -- The plans of the inodes whose slots these are, as far as they are made: a share of the blocks that were taken, with its bytes, the images, and what is given up.
-pub record AreParts (g : Sizes) (s : Store) (cs : Changes) (touch : ℕ) (x : ℕ → Slot) (m : ℕ → TierRuns) (slots : List ChangedSlot) (share : Share) (bytes : List ℕ) (images : List (ℕ × List ℕ)) (lost : Lost) : Type 0 where
+pub record AreParts (g : Sizes) (s : Store) (cs : Changes) (touch : ℕ) (x : ℕ → Slot) (m : ℕ → TierRuns) (slots : List ChangedSlot) (share : Share) (bytes : List ℕ) (images : List (ℕ × List ℕ)) (lost : FreedBlocks) : Type 0 where
   pub rise : RiseIn 1 MAX_INODE slots
   pub slots_are : (c : ChangedSlot) → Contains slots c → c.slot ≡ x c.inode
   pub fit : (i : ℕ) → is_changed slots i ≡ true → IsFit g (x i) (m i)
   pub listed : (i : ℕ) → is_changed slots i ≡ true → (t : Tier) → IsListed (with_images images (s tiers.Fast)) i (root_of (x i) t) (runs_in (m i) t)
-  pub uses : (i : ℕ) → is_changed slots i ≡ true → (t : Tier) (k : Option ℕ) (b : Tier × ℕ) → block_by (x i) (m i) t k ≡ Some b → (used g s (record { inode = i; tier = t; logical = k }) ≡ Some b) ⊎ IsIn share b
+  pub uses : (i : ℕ) → is_changed slots i ≡ true → (t : Tier) (k : Option ℕ) (b : Tier × ℕ) → block_by (x i) (m i) t k ≡ Some b → (used_block g s (record { inode = i; tier = t; logical = k }) ≡ Some b) ⊎ IsIn share b
   pub once : (u v : Use) (b : Tier × ℕ) → IsIn share b → HasBlockFor (is_changed slots) x m u b → HasBlockFor (is_changed slots) x m v b → u ≡ v
   pub all : (b : Tier × ℕ) → IsIn share b → (u : Use) × HasBlockFor (is_changed slots) x m u b
   pub imaged : (p : ℕ) → Contains share.nodes p → IsSome (image_for p images)
@@ -61,7 +61,7 @@ abbrev pub both : Share → Share → Share
 both a b = record { nodes = a.nodes ++ b.nodes; «data» = a.«data» ++ b.«data» }
 
 -- What is given up by both is given up, one list behind the other.
-pub record LoseBoth (a b both : Lost) : Type 0 where
+pub record LoseBoth (a b both : FreedBlocks) : Type 0 where
   pub nodes : both.nodes.items ≡ a.nodes.items ++ b.nodes.items
   pub fast : both.fast.items ≡ a.fast.items ++ b.fast.items
   pub block : both.block.items ≡ a.block.items ++ b.block.items
@@ -78,5 +78,5 @@ ShareNone a b = (block : Tier × ℕ) → IsIn a block → IsIn b block → ⊥
 -- ---- all
 
 -- all blocks that were taken
-abbrev pub share_of : Taken → Share
+abbrev pub share_of : Allocation → Share
 share_of taken = record { nodes = blocks_of taken.nodes.items; «data» = taken_data taken }

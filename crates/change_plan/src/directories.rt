@@ -7,22 +7,22 @@ ghost use Rattle.inode_plan.specs.layout.Places.{is_inode};
 ghost use Rattle.inode_plan.specs.layout.Slot.{fits_slot};
 ghost use Rattle.inode_plan.specs.block_alloc.Runs.{blocks_of};
 ghost use Rattle.inode_plan.specs.extent_tree.declared.map.Place.{Place};
-ghost use Rattle.inode_plan.specs.tree_blocks.After.{started};
-ghost use Rattle.inode_plan.specs.area_image.Store.{store_of, slot_read, inode as inode_in};
-ghost use Rattle.inode_plan.specs.area_image.Spelled.{IsSpelled};
+ghost use Rattle.inode_plan.specs.tree_blocks.After.{start_node};
+ghost use Rattle.inode_plan.specs.area_image.Store.{disk, slot_read, inode as inode_in};
+ghost use Rattle.inode_plan.specs.area_image.Format.{IsSpelled};
 ghost use Rattle.inode_plan.specs.area_image.Looks.{Looks};
 ghost use Rattle.inode_plan.specs.area_image.declared.error.AreaError.TheVariants.{DeviceFault, Memory};
-ghost use Rattle.inode_plan.specs.area_commit.declared.taking.Taken.{Taken};
-ghost use Rattle.inode_plan.specs.Started.{IsStarted, IsSoundStart};
+ghost use Rattle.inode_plan.specs.area_commit.declared.allocation.Allocation.{Allocation};
+ghost use Rattle.inode_plan.specs.DirectoryStart.{IsStarted, IsSoundStart};
 ghost use Rattle.change_plan.specs.Parts.{LoseBoth};
-ghost use Rattle.change_plan.specs.Adding.{AddsPart};
+ghost use Rattle.change_plan.specs.PlanAddition.{AddsPart};
 ghost use Rattle.change_plan.specs.Directory.{LosesFor, AddsLosses, IsReadyToWrite};
 
-use crate::gone::{lost_of, push_lost, push_slot};
+use crate::inode_drop::{all_blocks_of, push_lost, push_slot};
 use crate::part_laws::planned_directory_is_a_part;
-use crate::partial::PartialPlan;
+use crate::partial_plan::PartialPlan;
 use inode_plan::{
-    AreaError, ChangedDirectory, DirectoryPlan, InodeParts, Journal, Lost, Media, NodeBase,
+    AreaError, ChangedDirectory, DirectoryPlan, FreedBlocks, InodeParts, Journal, Media, NodeBase,
     NodeChange, Run, Slot, StartedDirectory, made_directory, plan_directory, read_all_extents,
     read_directory,
 };
@@ -35,15 +35,15 @@ fn read_kept<M: Media>(
     inode: u32,
     slot: Slot,
 ) -> Result<StartedDirectory, AreaError>
-    requires spelled { IsSpelled journal.old.geometry (store_of (M.seen journal.old.media)) }
+    requires spelled { IsSpelled journal.old.geometry (disk M.Media journal.old) }
     requires number { is_inode inode ≡ true }
     requires fits { fits_slot journal.old.geometry slot ≡ true }
-    requires slot_is { slot_read journal.old.geometry (store_of (M.seen journal.old.media)) inode ≡ Some slot }
-    requires is_directory { (inode_in journal.old.geometry (store_of (M.seen journal.old.media)) inode).kind ≡ Some kind.Directory }
-    ensures started { IfOk result (IsStarted journal.old.geometry (store_of (M.seen journal.old.media)) Kept inode) }
+    requires slot_is { slot_read journal.old.geometry (disk M.Media journal.old) inode ≡ Some slot }
+    requires is_directory { (inode_in journal.old.geometry (disk M.Media journal.old) inode).kind ≡ Some kind.Directory }
+    ensures started { IfOk result (IsStarted journal.old.geometry (disk M.Media journal.old) Kept inode) }
     ensures sound { IfOk result (IsSoundStart journal.old.geometry) }
     ensures only { IfErr result (λ e. (e ≡ DeviceFault) ⊎ (e ≡ Memory)) }
-    ensures looks { Looks M.moment M.seen M.left M.faults journal.old journal.new result }
+    ensures looks { Looks M.Media journal.old journal.new result }
 {
     match read_all_extents(alloc, journal, inode, &slot) {
         Ok(extents) => {
@@ -65,16 +65,16 @@ pub fn start_directory<M: Media>(
     slot: Slot,
     base: NodeBase,
 ) -> Result<StartedDirectory, AreaError>
-    requires spelled { IsSpelled journal.old.geometry (store_of (M.seen journal.old.media)) }
+    requires spelled { IsSpelled journal.old.geometry (disk M.Media journal.old) }
     requires number { is_inode inode ≡ true }
     requires fits { fits_slot journal.old.geometry slot ≡ true }
-    requires slot_is { slot_read journal.old.geometry (store_of (M.seen journal.old.media)) inode ≡ Some slot }
-    requires is_directory { (started (base_of base) (inode_in journal.old.geometry (store_of (M.seen journal.old.media)) inode)).kind ≡ Some kind.Directory }
+    requires slot_is { slot_read journal.old.geometry (disk M.Media journal.old) inode ≡ Some slot }
+    requires is_directory { (start_node (base_of base) (inode_in journal.old.geometry (disk M.Media journal.old) inode)).kind ≡ Some kind.Directory }
     requires going { journal.old.failed ≡ false }
-    ensures started { IfOk result (IsStarted journal.old.geometry (store_of (M.seen journal.old.media)) (base_of base) inode) }
+    ensures started { IfOk result (IsStarted journal.old.geometry (disk M.Media journal.old) (base_of base) inode) }
     ensures sound { IfOk result (IsSoundStart journal.old.geometry) }
     ensures only { IfErr result (λ e. (e ≡ DeviceFault) ⊎ (e ≡ Memory)) }
-    ensures looks { Looks M.moment M.seen M.left M.faults journal.old journal.new result }
+    ensures looks { Looks M.Media journal.old journal.new result }
 {
     match base {
         NodeBase::Kept => match read_kept(alloc, journal, inode, slot) {
@@ -94,28 +94,28 @@ fn lost_for<M: Media>(
     slot: &Slot,
     base: NodeBase,
     planned: Vec<Run>,
-) -> Result<Lost, AreaError>
-    requires spelled { IsSpelled journal.old.geometry (store_of (M.seen journal.old.media)) }
+) -> Result<FreedBlocks, AreaError>
+    requires spelled { IsSpelled journal.old.geometry (disk M.Media journal.old) }
     requires number { is_inode inode ≡ true }
     requires fits { fits_slot journal.old.geometry slot.now ≡ true }
-    requires slot_is { slot_read journal.old.geometry (store_of (M.seen journal.old.media)) inode ≡ Some slot.now }
+    requires slot_is { slot_read journal.old.geometry (disk M.Media journal.old) inode ≡ Some slot.now }
     requires going { journal.old.failed ≡ false }
-    ensures lost { IfOk result (LosesFor (base_of base) journal.old.geometry (store_of (M.seen journal.old.media)) inode planned.items) }
+    ensures lost { IfOk result (LosesFor (base_of base) journal.old.geometry (disk M.Media journal.old) inode planned.items) }
     ensures only { IfErr result (λ e. (e ≡ DeviceFault) ⊎ (e ≡ Memory)) }
-    ensures looks { Looks M.moment M.seen M.left M.faults journal.old journal.new result }
+    ensures looks { Looks M.Media journal.old journal.new result }
 {
     match base {
-        NodeBase::Kept => Ok(Lost {
+        NodeBase::Kept => Ok(FreedBlocks {
             nodes: planned,
             fast: Vec::new(alloc),
             block: Vec::new(alloc),
             slow: Vec::new(alloc),
         }),
-        NodeBase::Made { .. } => match lost_of(alloc, journal, inode, slot) {
+        NodeBase::Made { .. } => match all_blocks_of(alloc, journal, inode, slot) {
             Ok(lost) => Ok(lost),
             Err(error) => Err(error),
         },
-        NodeBase::Gone => match lost_of(alloc, journal, inode, slot) {
+        NodeBase::Gone => match all_blocks_of(alloc, journal, inode, slot) {
             Ok(lost) => Ok(lost),
             Err(error) => Err(error),
         },
@@ -127,7 +127,7 @@ pub fn push_part(
     plan: &mut PartialPlan,
     inode: u32,
     slot: Slot,
-    its: &Lost,
+    its: &FreedBlocks,
 ) -> Result<(), AllocError>
     ensures slots { OnOk result (plan.new.slots.items ≡ plan.old.slots.items ++ (record { inode = inode; slot = slot } ∷ [])) }
     ensures lost { OnOk result (LoseBoth plan.old.lost its.now plan.new.lost) }
@@ -148,14 +148,14 @@ fn push_planned<M: Media>(
     planned: DirectoryPlan,
     plan: &mut PartialPlan,
 ) -> Result<(), AreaError>
-    requires spelled { IsSpelled journal.old.geometry (store_of (M.seen journal.old.media)) }
+    requires spelled { IsSpelled journal.old.geometry (disk M.Media journal.old) }
     requires number { is_inode inode ≡ true }
     requires fits { fits_slot journal.old.geometry slot.now ≡ true }
-    requires slot_is { slot_read journal.old.geometry (store_of (M.seen journal.old.media)) inode ≡ Some slot.now }
+    requires slot_is { slot_read journal.old.geometry (disk M.Media journal.old) inode ≡ Some slot.now }
     requires going { journal.old.failed ≡ false }
-    ensures adds { OnOk result (AddsLosses journal.old.geometry (store_of (M.seen journal.old.media)) (base_of base) inode planned plan.old plan.new) }
+    ensures adds { OnOk result (AddsLosses journal.old.geometry (disk M.Media journal.old) (base_of base) inode planned plan.old plan.new) }
     ensures only { IfErr result (λ e. (e ≡ DeviceFault) ⊎ (e ≡ Memory)) }
-    ensures looks { Looks M.moment M.seen M.left M.faults journal.old journal.new result }
+    ensures looks { Looks M.Media journal.old journal.new result }
 {
     let after = planned.slot;
     match lost_for(alloc, journal, inode, slot, base, planned.lost) {
@@ -180,16 +180,16 @@ pub fn plan_over_spares<M: Media>(
     spares: &[u32],
     plan: &mut PartialPlan,
 ) -> Result<(), AreaError>
-    requires spelled { IsSpelled journal.old.geometry (store_of (M.seen journal.old.media)) }
+    requires spelled { IsSpelled journal.old.geometry (disk M.Media journal.old) }
     requires number { is_inode inode ≡ true }
     requires fits { fits_slot journal.old.geometry slot.now ≡ true }
-    requires slot_is { slot_read journal.old.geometry (store_of (M.seen journal.old.media)) inode ≡ Some slot.now }
+    requires slot_is { slot_read journal.old.geometry (disk M.Media journal.old) inode ≡ Some slot.now }
     requires going { journal.old.failed ≡ false }
-    requires ready { (start : StartedDirectory) × IsReadyToWrite journal.old.geometry (store_of (M.seen journal.old.media)) (change_of change.now) inode start changed.now spares.now plan.old.nodes }
-    ensures part { OnOk result ((places : List Place) (before after : Taken) → blocks_of after.nodes.items ≡ blocks_of before.nodes.items ++ spares.now → AddsPart journal.old.geometry (store_of (M.seen journal.old.media)) (change_of change.now) touch inode places 0 before after plan.old plan.new) }
+    requires ready { (start : StartedDirectory) × IsReadyToWrite journal.old.geometry (disk M.Media journal.old) (change_of change.now) inode start changed.now spares.now plan.old.nodes }
+    ensures part { OnOk result ((places : List Place) (before after : Allocation) → blocks_of after.nodes.items ≡ blocks_of before.nodes.items ++ spares.now → AddsPart journal.old.geometry (disk M.Media journal.old) (change_of change.now) touch inode places 0 before after plan.old plan.new) }
     ensures few { OnOk result (length plan.new.nodes ≤ length plan.old.nodes + length changed.now.written + 1) }
     ensures only { IfErr result (λ e. (e ≡ DeviceFault) ⊎ (e ≡ Memory)) }
-    ensures looks { Looks M.moment M.seen M.left M.faults journal.old journal.new result }
+    ensures looks { Looks M.Media journal.old journal.new result }
 {
     planned_directory_is_a_part();
     match plan_directory(alloc, changed, touch, spares, &mut plan.nodes) {

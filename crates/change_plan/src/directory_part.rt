@@ -8,27 +8,27 @@ ghost use Rattle.inode_plan.specs.graph_change.View.{change_of};
 ghost use Rattle.inode_plan.specs.layout.Places.{is_inode};
 ghost use Rattle.inode_plan.specs.layout.Slot.{fits_slot};
 ghost use Rattle.inode_plan.specs.extent_tree.declared.map.Place.{Place};
-ghost use Rattle.inode_plan.specs.tree_blocks.After.{started};
-ghost use Rattle.inode_plan.specs.area_image.Store.{store_of, slot_read, graph, inode as inode_in};
-ghost use Rattle.inode_plan.specs.area_image.Spelled.{IsSpelled};
+ghost use Rattle.inode_plan.specs.tree_blocks.After.{start_node};
+ghost use Rattle.inode_plan.specs.area_image.Store.{disk, slot_read, graph, inode as inode_in};
+ghost use Rattle.inode_plan.specs.area_image.Format.{IsSpelled};
 ghost use Rattle.inode_plan.specs.area_image.Looks.{Looks};
 ghost use Rattle.inode_plan.specs.area_image.declared.error.AreaError.TheVariants.{DeviceFault, Memory};
-ghost use Rattle.change_plan.specs.Adding.{TakesMoreNodes};
-ghost use Rattle.change_plan.specs.Changed.{IsChangedFrom};
+ghost use Rattle.change_plan.specs.PlanAddition.{TakesMoreNodes};
+ghost use Rattle.change_plan.specs.DirectoryChange.{IsChangedFrom};
 ghost use Rattle.change_plan.specs.Next.{IsNext, HasFewEntries, PlansInode};
 
 use crate::directories::{plan_over_spares, start_directory};
 use crate::part_laws::free_blocks_are_spare;
-use crate::partial::PartialPlan;
+use crate::partial_plan::PartialPlan;
 use crate::spares::take_spares;
 use inode_plan::{
-    AreaError, ChangedDirectory, Journal, Media, NodeChange, Pools, Slot, Taken,
+    Allocation, AreaError, ChangedDirectory, Journal, Media, NodeChange, Pools, Slot,
     bounded_entries_lead_to_inodes, change_directory, spares_for,
 };
 use std::alloc::Global;
 
 // Reads what a directory was, or makes it, and changes it in memory.
-fn changed_from<M: Media>(
+fn directory_change<M: Media>(
     alloc: Global,
     journal: &mut Journal<M>,
     inode: u32,
@@ -36,16 +36,16 @@ fn changed_from<M: Media>(
     change: &NodeChange,
 ) -> Result<ChangedDirectory, AreaError>
     requires going { journal.old.failed ≡ false }
-    requires spelled { IsSpelled journal.old.geometry (store_of (M.seen journal.old.media)) }
+    requires spelled { IsSpelled journal.old.geometry (disk M.Media journal.old) }
     requires number { is_inode inode ≡ true }
     requires fits { fits_slot journal.old.geometry slot.now ≡ true }
-    requires slot_is { slot_read journal.old.geometry (store_of (M.seen journal.old.media)) inode ≡ Some slot.now }
+    requires slot_is { slot_read journal.old.geometry (disk M.Media journal.old) inode ≡ Some slot.now }
     requires bounded { IsBounded (change_of change.now) }
-    requires entries { HasFewEntries (node_after (net_of (change_of change.now)) (graph journal.old.geometry (store_of (M.seen journal.old.media)) inode)) }
-    requires is_directory { (started (change_of change.now).base (inode_in journal.old.geometry (store_of (M.seen journal.old.media)) inode)).kind ≡ Some kind.Directory }
-    ensures changed { IfOk result (IsChangedFrom journal.old.geometry (store_of (M.seen journal.old.media)) (change_of change.now) inode) }
+    requires entries { HasFewEntries (node_after (net_of (change_of change.now)) (graph journal.old.geometry (disk M.Media journal.old) inode)) }
+    requires is_directory { (start_node (change_of change.now).base (inode_in journal.old.geometry (disk M.Media journal.old) inode)).kind ≡ Some kind.Directory }
+    ensures changed { IfOk result (IsChangedFrom journal.old.geometry (disk M.Media journal.old) (change_of change.now) inode) }
     ensures only { IfErr result (λ e. (e ≡ DeviceFault) ⊎ (e ≡ Memory)) }
-    ensures looks { Looks M.moment M.seen M.left M.faults journal.old journal.new result }
+    ensures looks { Looks M.Media journal.old journal.new result }
 {
     bounded_entries_lead_to_inodes();
     match start_directory(alloc, journal, inode, *slot, change.base) {
@@ -62,7 +62,7 @@ fn plan_changed<M: Media>(
     alloc: Global,
     journal: &mut Journal<M>,
     pools: &mut Pools,
-    taken: &mut Taken,
+    taken: &mut Allocation,
     inode: u32,
     slot: &Slot,
     change: &NodeChange,
@@ -71,12 +71,12 @@ fn plan_changed<M: Media>(
     plan: &mut PartialPlan,
 ) -> Result<(), AreaError>
     requires going { journal.old.failed ≡ false }
-    requires next { IsNext journal.old.geometry (store_of (M.seen journal.old.media)) inode slot.now (change_of change.now) pools.old taken.old plan.old.nodes }
-    requires changed { IsChangedFrom journal.old.geometry (store_of (M.seen journal.old.media)) (change_of change.now) inode changed.now }
-    ensures planned { OnOk result ((places : List Place) → PlansInode journal.old.geometry (store_of (M.seen journal.old.media)) (change_of change.now) touch inode places 0 pools.old taken.old pools.new taken.new plan.old plan.new) }
+    requires next { IsNext journal.old.geometry (disk M.Media journal.old) inode slot.now (change_of change.now) pools.old taken.old plan.old.nodes }
+    requires changed { IsChangedFrom journal.old.geometry (disk M.Media journal.old) (change_of change.now) inode changed.now }
+    ensures planned { OnOk result ((places : List Place) → PlansInode journal.old.geometry (disk M.Media journal.old) (change_of change.now) touch inode places 0 pools.old taken.old pools.new taken.new plan.old plan.new) }
     ensures took { TakesMoreNodes pools.old taken.old pools.new taken.new }
     ensures only { IfErr result (λ e. (e ≡ DeviceFault) ⊎ (e ≡ Memory)) }
-    ensures looks { Looks M.moment M.seen M.left M.faults journal.old journal.new result }
+    ensures looks { Looks M.Media journal.old journal.new result }
 {
     free_blocks_are_spare();
     let count = spares_for(changed);
@@ -97,7 +97,7 @@ pub fn plan_directory_part<M: Media>(
     alloc: Global,
     journal: &mut Journal<M>,
     pools: &mut Pools,
-    taken: &mut Taken,
+    taken: &mut Allocation,
     inode: u32,
     slot: &Slot,
     change: &NodeChange,
@@ -105,14 +105,14 @@ pub fn plan_directory_part<M: Media>(
     plan: &mut PartialPlan,
 ) -> Result<(), AreaError>
     requires going { journal.old.failed ≡ false }
-    requires next { IsNext journal.old.geometry (store_of (M.seen journal.old.media)) inode slot.now (change_of change.now) pools.old taken.old plan.old.nodes }
-    requires directory { (started (change_of change.now).base (inode_in journal.old.geometry (store_of (M.seen journal.old.media)) inode)).kind ≡ Some kind.Directory }
-    ensures planned { OnOk result ((places : List Place) → PlansInode journal.old.geometry (store_of (M.seen journal.old.media)) (change_of change.now) touch inode places 0 pools.old taken.old pools.new taken.new plan.old plan.new) }
+    requires next { IsNext journal.old.geometry (disk M.Media journal.old) inode slot.now (change_of change.now) pools.old taken.old plan.old.nodes }
+    requires directory { (start_node (change_of change.now).base (inode_in journal.old.geometry (disk M.Media journal.old) inode)).kind ≡ Some kind.Directory }
+    ensures planned { OnOk result ((places : List Place) → PlansInode journal.old.geometry (disk M.Media journal.old) (change_of change.now) touch inode places 0 pools.old taken.old pools.new taken.new plan.old plan.new) }
     ensures took { TakesMoreNodes pools.old taken.old pools.new taken.new }
     ensures only { IfErr result (λ e. (e ≡ DeviceFault) ⊎ (e ≡ Memory)) }
-    ensures looks { Looks M.moment M.seen M.left M.faults journal.old journal.new result }
+    ensures looks { Looks M.Media journal.old journal.new result }
 {
-    match changed_from(alloc, journal, inode, slot, change) {
+    match directory_change(alloc, journal, inode, slot, change) {
         Ok(changed) => match plan_changed(
             alloc, journal, pools, taken, inode, slot, change, &changed, touch, plan,
         ) {

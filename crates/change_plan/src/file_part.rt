@@ -11,33 +11,33 @@ ghost use Rattle.inode_plan.specs.layout.declared.extents.TheConstants.{MAX_EXTE
 ghost use Rattle.inode_plan.specs.layout.Places.{Sizes, is_inode};
 ghost use Rattle.inode_plan.specs.layout.Slot.{fits_slot};
 ghost use Rattle.inode_plan.specs.block_alloc.Runs.{blocks_of};
-ghost use Rattle.inode_plan.specs.tree_blocks.After.{started};
-ghost use Rattle.inode_plan.specs.area_image.Store.{Store, store_of, slot_read, logical, inode as inode_in};
+ghost use Rattle.inode_plan.specs.tree_blocks.After.{start_node};
+ghost use Rattle.inode_plan.specs.area_image.Store.{Store, disk, slot_read, logical_block, inode as inode_in};
 ghost use Rattle.inode_plan.specs.area_image.Checks.{HasFound, IsOnce};
 ghost use Rattle.inode_plan.specs.area_image.Map.{in_tier};
-ghost use Rattle.inode_plan.specs.area_image.Spelled.{IsSpelled};
+ghost use Rattle.inode_plan.specs.area_image.Format.{IsSpelled};
 ghost use Rattle.inode_plan.specs.area_image.Looks.{Looks};
 ghost use Rattle.inode_plan.specs.area_image.declared.error.AreaError.TheVariants.{DeviceFault, Memory};
 ghost use Rattle.inode_plan.specs.area_commit.Value.{PoolsView, AreInOrder};
-ghost use Rattle.inode_plan.specs.area_commit.Taking.{WereTaken, CanUndo};
+ghost use Rattle.inode_plan.specs.area_commit.Allocations.{WereTaken, CanRelease};
 ghost use Rattle.inode_plan.specs.Bytes.{AddsBlocks, blocks_from};
 ghost use Rattle.inode_plan.specs.Roots.{roots_wanted};
-ghost use Rattle.change_plan.specs.Adding.{AddsPart, TakesMoreNodes};
+ghost use Rattle.change_plan.specs.PlanAddition.{AddsPart, TakesMoreNodes};
 ghost use Rattle.change_plan.specs.FileSteps.{IsWrittenFile, AddsFile};
 ghost use Rattle.change_plan.specs.Next.{IsNext, HasPlaces, PlansInode};
-ghost use Rattle.change_plan.specs.Started.{IsStartedFile, IsRootedFile, LosesOf, LosesFile};
+ghost use Rattle.change_plan.specs.FileStart.{IsStartedFile, IsRootedFile, LosesOf, LosesFile};
 
 use crate::directories::push_part;
+use crate::file_place::{PlacedFile, RootedFile, place_file, root_file};
+use crate::file_start::{StartedFile, made_file, read_file};
 use crate::files::{next_nodes_were_free, placed_file_is_planned, planned_file_is_a_part};
-use crate::gone::lost_of;
-use crate::partial::PartialPlan;
-use crate::placing::{PlacedFile, RootedFile, place_file, root_file};
+use crate::inode_drop::all_blocks_of;
+use crate::partial_plan::PartialPlan;
 use crate::spares::take_spares;
-use crate::starting::{StartedFile, made_file, read_file};
 use inode_plan::{
-    AreaError, InodeExtents, Journal, Lost, Media, NodeBase, NodeChange, NodeImages, Place, Pools,
-    Run, Slot, Taken, changed_map_is_fit, few_blocks_are_few_runs, read_changed, roots_wanted,
-    written_numbers,
+    Allocation, AreaError, FreedBlocks, InodeExtents, Journal, Media, NodeBase, NodeChange,
+    NodeImages, Place, Pools, Run, Slot, changed_map_is_fit, few_blocks_are_few_runs, read_changed,
+    roots_wanted, written_numbers,
 };
 use std::alloc::{AllocError, Global};
 
@@ -55,13 +55,13 @@ fn read_kept<M: Media>(
     inode: u32,
     slot: &Slot,
 ) -> Result<StartedFile, AreaError>
-    requires spelled { IsSpelled journal.old.geometry (store_of (M.seen journal.old.media)) }
+    requires spelled { IsSpelled journal.old.geometry (disk M.Media journal.old) }
     requires number { is_inode inode ≡ true }
-    requires slot_is { slot_read journal.old.geometry (store_of (M.seen journal.old.media)) inode ≡ Some slot.now }
-    requires is_file { (inode_in journal.old.geometry (store_of (M.seen journal.old.media)) inode).kind ≡ Some kind.File }
-    ensures started { IfOk result (IsStartedFile journal.old.geometry (store_of (M.seen journal.old.media)) Kept inode) }
+    requires slot_is { slot_read journal.old.geometry (disk M.Media journal.old) inode ≡ Some slot.now }
+    requires is_file { (inode_in journal.old.geometry (disk M.Media journal.old) inode).kind ≡ Some kind.File }
+    ensures started { IfOk result (IsStartedFile journal.old.geometry (disk M.Media journal.old) Kept inode) }
     ensures only { IfErr result (λ e. (e ≡ DeviceFault) ⊎ (e ≡ Memory)) }
-    ensures looks { Looks M.moment M.seen M.left M.faults journal.old journal.new result }
+    ensures looks { Looks M.Media journal.old journal.new result }
 {
     match read_file(alloc, journal, inode, slot) {
         Ok(file) => Ok(file),
@@ -77,14 +77,14 @@ fn start_file<M: Media>(
     slot: &Slot,
     base: NodeBase,
 ) -> Result<StartedFile, AreaError>
-    requires spelled { IsSpelled journal.old.geometry (store_of (M.seen journal.old.media)) }
+    requires spelled { IsSpelled journal.old.geometry (disk M.Media journal.old) }
     requires number { is_inode inode ≡ true }
-    requires slot_is { slot_read journal.old.geometry (store_of (M.seen journal.old.media)) inode ≡ Some slot.now }
-    requires is_file { (started (base_of base) (inode_in journal.old.geometry (store_of (M.seen journal.old.media)) inode)).kind ≡ Some kind.File }
+    requires slot_is { slot_read journal.old.geometry (disk M.Media journal.old) inode ≡ Some slot.now }
+    requires is_file { (start_node (base_of base) (inode_in journal.old.geometry (disk M.Media journal.old) inode)).kind ≡ Some kind.File }
     requires going { journal.old.failed ≡ false }
-    ensures started { IfOk result (IsStartedFile journal.old.geometry (store_of (M.seen journal.old.media)) (base_of base) inode) }
+    ensures started { IfOk result (IsStartedFile journal.old.geometry (disk M.Media journal.old) (base_of base) inode) }
     ensures only { IfErr result (λ e. (e ≡ DeviceFault) ⊎ (e ≡ Memory)) }
-    ensures looks { Looks M.moment M.seen M.left M.faults journal.old journal.new result }
+    ensures looks { Looks M.Media journal.old journal.new result }
 {
     match base {
         NodeBase::Kept => match read_kept(alloc, journal, inode, slot) {
@@ -124,12 +124,12 @@ fn add_bytes<M: Media>(
     numbers: &[u64],
     out: &mut Vec<u8>,
 ) -> Result<(), AreaError>
-    requires found { IfSome found.now (HasFound journal.old.geometry (store_of (M.seen journal.old.media)) inode) }
-    requires once { IsOnce journal.old.geometry (store_of (M.seen journal.old.media)) inode }
+    requires found { IfSome found.now (HasFound journal.old.geometry (disk M.Media journal.old) inode) }
+    requires once { IsOnce journal.old.geometry (disk M.Media journal.old) inode }
     requires going { journal.old.failed ≡ false }
-    ensures added { OnOk result (AddsBlocks (change_of change.now) (blocks_from found.now (logical journal.old.geometry (store_of (M.seen journal.old.media)) inode)) numbers.now (length numbers.now) out.old.items out.new.items) }
+    ensures added { OnOk result (AddsBlocks (change_of change.now) (blocks_from found.now (logical_block journal.old.geometry (disk M.Media journal.old) inode)) numbers.now (length numbers.now) out.old.items out.new.items) }
     ensures only { IfErr result (λ e. (e ≡ DeviceFault) ⊎ (e ≡ Memory)) }
-    ensures looks { Looks M.moment M.seen M.left M.faults journal.old journal.new result }
+    ensures looks { Looks M.Media journal.old journal.new result }
 {
     match found {
         Some(extents) => match read_changed(journal, inode, Some(extents), change, numbers, out) {
@@ -147,7 +147,7 @@ fn add_bytes<M: Media>(
 fn root_placed(
     alloc: Global,
     pools: &mut Pools,
-    taken: &mut Taken,
+    taken: &mut Allocation,
     file: &PlacedFile,
     change: &NodeChange,
     touch: u64,
@@ -155,7 +155,7 @@ fn root_placed(
 ) -> Result<RootedFile, AllocError>
     requires bounded { IsBounded (change_of change.now) }
     requires before { (before : PoolsView) × AreInOrder before × WereTaken before pools.old taken.old × (before.nodes.end < 2 ^ 32) }
-    requires undo { CanUndo pools.old taken.old }
+    requires undo { CanRelease pools.old taken.old }
     requires enough { 3 ≤ length pools.old.nodes.free }
     requires short { (t : Tier) → IfSome (in_tier file.now.plan.lists t) (λ v. length v.extents ≤ MAX_EXTENTS) }
     ensures rooted { IfOk result (λ r. IsRootedFile (change_of change.now) touch file.now (take (roots_wanted file.now.slot file.now.plan.lists) pools.old.nodes.free) images.old images.new r.slot r.left.items) }
@@ -172,11 +172,11 @@ fn root_placed(
 }
 
 // What a file leaves that stays: its data blocks that were left, and the blocks that list none of its extents any more.
-fn lost_by(file: PlacedFile, left: Vec<Run>) -> Lost
+fn freed_blocks(file: PlacedFile, left: Vec<Run>) -> FreedBlocks
     ensures { LosesOf file left.items result }
 {
     let plan = file.plan;
-    Lost {
+    FreedBlocks {
         nodes: left,
         fast: plan.fast,
         block: plan.block,
@@ -193,20 +193,20 @@ fn lost_for<M: Media>(
     base: NodeBase,
     file: PlacedFile,
     left: Vec<Run>,
-) -> Result<Lost, AreaError>
-    requires spelled { IsSpelled journal.old.geometry (store_of (M.seen journal.old.media)) }
+) -> Result<FreedBlocks, AreaError>
+    requires spelled { IsSpelled journal.old.geometry (disk M.Media journal.old) }
     requires number { is_inode inode ≡ true }
     requires fits { fits_slot journal.old.geometry slot.now ≡ true }
-    requires slot_is { slot_read journal.old.geometry (store_of (M.seen journal.old.media)) inode ≡ Some slot.now }
-    requires is_file { (started (base_of base) (inode_in journal.old.geometry (store_of (M.seen journal.old.media)) inode)).kind ≡ Some kind.File }
+    requires slot_is { slot_read journal.old.geometry (disk M.Media journal.old) inode ≡ Some slot.now }
+    requires is_file { (start_node (base_of base) (inode_in journal.old.geometry (disk M.Media journal.old) inode)).kind ≡ Some kind.File }
     requires going { journal.old.failed ≡ false }
-    ensures lost { IfOk result (LosesFile journal.old.geometry (store_of (M.seen journal.old.media)) (base_of base) inode file left.items) }
+    ensures lost { IfOk result (LosesFile journal.old.geometry (disk M.Media journal.old) (base_of base) inode file left.items) }
     ensures only { IfErr result (λ e. (e ≡ DeviceFault) ⊎ (e ≡ Memory)) }
-    ensures looks { Looks M.moment M.seen M.left M.faults journal.old journal.new result }
+    ensures looks { Looks M.Media journal.old journal.new result }
 {
     match base {
-        NodeBase::Kept => Ok(lost_by(file, left)),
-        NodeBase::Made { .. } => match lost_of(alloc, journal, inode, slot) {
+        NodeBase::Kept => Ok(freed_blocks(file, left)),
+        NodeBase::Made { .. } => match all_blocks_of(alloc, journal, inode, slot) {
             Ok(lost) => Ok(lost),
             Err(error) => Err(error),
         },
@@ -225,15 +225,15 @@ fn push_file<M: Media>(
     rooted: RootedFile,
     plan: &mut PartialPlan,
 ) -> Result<(), AreaError>
-    requires spelled { IsSpelled journal.old.geometry (store_of (M.seen journal.old.media)) }
+    requires spelled { IsSpelled journal.old.geometry (disk M.Media journal.old) }
     requires number { is_inode inode ≡ true }
     requires fits { fits_slot journal.old.geometry slot.now ≡ true }
-    requires slot_is { slot_read journal.old.geometry (store_of (M.seen journal.old.media)) inode ≡ Some slot.now }
-    requires is_file { (started (base_of base) (inode_in journal.old.geometry (store_of (M.seen journal.old.media)) inode)).kind ≡ Some kind.File }
+    requires slot_is { slot_read journal.old.geometry (disk M.Media journal.old) inode ≡ Some slot.now }
+    requires is_file { (start_node (base_of base) (inode_in journal.old.geometry (disk M.Media journal.old) inode)).kind ≡ Some kind.File }
     requires going { journal.old.failed ≡ false }
-    ensures adds { OnOk result (AddsFile journal.old.geometry (store_of (M.seen journal.old.media)) (base_of base) inode file rooted plan.old plan.new) }
+    ensures adds { OnOk result (AddsFile journal.old.geometry (disk M.Media journal.old) (base_of base) inode file rooted plan.old plan.new) }
     ensures only { IfErr result (λ e. (e ≡ DeviceFault) ⊎ (e ≡ Memory)) }
-    ensures looks { Looks M.moment M.seen M.left M.faults journal.old journal.new result }
+    ensures looks { Looks M.Media journal.old journal.new result }
 {
     let after = rooted.slot;
     match lost_for(alloc, journal, inode, slot, base, file, rooted.left) {
@@ -250,7 +250,7 @@ fn plan_written<M: Media>(
     alloc: Global,
     journal: &mut Journal<M>,
     pools: &mut Pools,
-    taken: &mut Taken,
+    taken: &mut Allocation,
     inode: u32,
     slot: &Slot,
     change: &NodeChange,
@@ -259,14 +259,14 @@ fn plan_written<M: Media>(
     plan: &mut PartialPlan,
 ) -> Result<(), AreaError>
     requires going { journal.old.failed ≡ false }
-    requires next { IsNext journal.old.geometry (store_of (M.seen journal.old.media)) inode slot.now (change_of change.now) pools.old taken.old plan.old.nodes }
-    requires ready { (places : List Place) × IsWrittenFile journal.old.geometry (store_of (M.seen journal.old.media)) (change_of change.now) inode places written }
-    ensures part { (places : List Place) → IsWrittenFile journal.old.geometry (store_of (M.seen journal.old.media)) (change_of change.now) inode places written → OnOk result (AddsPart journal.old.geometry (store_of (M.seen journal.old.media)) (change_of change.now) touch inode places (length written.numbers.items) taken.old taken.new plan.old plan.new) }
+    requires next { IsNext journal.old.geometry (disk M.Media journal.old) inode slot.now (change_of change.now) pools.old taken.old plan.old.nodes }
+    requires ready { (places : List Place) × IsWrittenFile journal.old.geometry (disk M.Media journal.old) (change_of change.now) inode places written }
+    ensures part { (places : List Place) → IsWrittenFile journal.old.geometry (disk M.Media journal.old) (change_of change.now) inode places written → OnOk result (AddsPart journal.old.geometry (disk M.Media journal.old) (change_of change.now) touch inode places (length written.numbers.items) taken.old taken.new plan.old plan.new) }
     ensures images { OnOk result (length plan.new.nodes ≤ length plan.old.nodes + 3) }
     ensures free { OnOk result (length pools.old.nodes.free ≤ length pools.new.nodes.free + 3) }
     ensures took { TakesMoreNodes pools.old taken.old pools.new taken.new }
     ensures only { IfErr result (λ e. (e ≡ DeviceFault) ⊎ (e ≡ Memory)) }
-    ensures looks { Looks M.moment M.seen M.left M.faults journal.old journal.new result }
+    ensures looks { Looks M.Media journal.old journal.new result }
 {
     next_nodes_were_free();
     placed_file_is_planned();
@@ -300,7 +300,7 @@ fn plan_started<M: Media>(
     alloc: Global,
     journal: &mut Journal<M>,
     pools: &mut Pools,
-    taken: &mut Taken,
+    taken: &mut Allocation,
     inode: u32,
     slot: &Slot,
     change: &NodeChange,
@@ -310,13 +310,13 @@ fn plan_started<M: Media>(
     plan: &mut PartialPlan,
 ) -> Result<usize, AreaError>
     requires going { journal.old.failed ≡ false }
-    requires next { IsNext journal.old.geometry (store_of (M.seen journal.old.media)) inode slot.now (change_of change.now) pools.old taken.old plan.old.nodes }
-    requires places { HasPlaces journal.old.geometry (store_of (M.seen journal.old.media)) (change_of change.now) inode places.now }
-    requires started { IsStartedFile journal.old.geometry (store_of (M.seen journal.old.media)) (change_of change.now).base inode file }
-    ensures planned { IfOk result (λ count. PlansInode journal.old.geometry (store_of (M.seen journal.old.media)) (change_of change.now) touch inode places.now count pools.old taken.old pools.new taken.new plan.old plan.new) }
+    requires next { IsNext journal.old.geometry (disk M.Media journal.old) inode slot.now (change_of change.now) pools.old taken.old plan.old.nodes }
+    requires places { HasPlaces journal.old.geometry (disk M.Media journal.old) (change_of change.now) inode places.now }
+    requires started { IsStartedFile journal.old.geometry (disk M.Media journal.old) (change_of change.now).base inode file }
+    ensures planned { IfOk result (λ count. PlansInode journal.old.geometry (disk M.Media journal.old) (change_of change.now) touch inode places.now count pools.old taken.old pools.new taken.new plan.old plan.new) }
     ensures took { TakesMoreNodes pools.old taken.old pools.new taken.new }
     ensures only { IfErr result (λ e. (e ≡ DeviceFault) ⊎ (e ≡ Memory)) }
-    ensures looks { Looks M.moment M.seen M.left M.faults journal.old journal.new result }
+    ensures looks { Looks M.Media journal.old journal.new result }
 {
     match place_written(alloc, inode, file, change, places) {
         Ok(written) => {
@@ -339,7 +339,7 @@ pub fn plan_file_part<M: Media>(
     alloc: Global,
     journal: &mut Journal<M>,
     pools: &mut Pools,
-    taken: &mut Taken,
+    taken: &mut Allocation,
     inode: u32,
     slot: &Slot,
     change: &NodeChange,
@@ -348,13 +348,13 @@ pub fn plan_file_part<M: Media>(
     plan: &mut PartialPlan,
 ) -> Result<usize, AreaError>
     requires going { journal.old.failed ≡ false }
-    requires next { IsNext journal.old.geometry (store_of (M.seen journal.old.media)) inode slot.now (change_of change.now) pools.old taken.old plan.old.nodes }
-    requires places { HasPlaces journal.old.geometry (store_of (M.seen journal.old.media)) (change_of change.now) inode places.now }
-    requires file { (started (change_of change.now).base (inode_in journal.old.geometry (store_of (M.seen journal.old.media)) inode)).kind ≡ Some kind.File }
-    ensures planned { IfOk result (λ count. PlansInode journal.old.geometry (store_of (M.seen journal.old.media)) (change_of change.now) touch inode places.now count pools.old taken.old pools.new taken.new plan.old plan.new) }
+    requires next { IsNext journal.old.geometry (disk M.Media journal.old) inode slot.now (change_of change.now) pools.old taken.old plan.old.nodes }
+    requires places { HasPlaces journal.old.geometry (disk M.Media journal.old) (change_of change.now) inode places.now }
+    requires file { (start_node (change_of change.now).base (inode_in journal.old.geometry (disk M.Media journal.old) inode)).kind ≡ Some kind.File }
+    ensures planned { IfOk result (λ count. PlansInode journal.old.geometry (disk M.Media journal.old) (change_of change.now) touch inode places.now count pools.old taken.old pools.new taken.new plan.old plan.new) }
     ensures took { TakesMoreNodes pools.old taken.old pools.new taken.new }
     ensures only { IfErr result (λ e. (e ≡ DeviceFault) ⊎ (e ≡ Memory)) }
-    ensures looks { Looks M.moment M.seen M.left M.faults journal.old journal.new result }
+    ensures looks { Looks M.Media journal.old journal.new result }
 {
     match start_file(alloc, journal, inode, slot, change.base) {
         Ok(file) => {

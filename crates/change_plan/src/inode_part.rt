@@ -4,20 +4,20 @@ ghost use Rattle.inode_plan.specs.graph_change.View.{change_of};
 ghost use Rattle.inode_plan.specs.layout.declared.slot.Slot.{Slot};
 ghost use Rattle.inode_plan.specs.layout.Places.{is_inode};
 ghost use Rattle.inode_plan.specs.layout.Slot.{fits_slot};
-ghost use Rattle.inode_plan.specs.area_image.Store.{store_of, slot_read};
-ghost use Rattle.inode_plan.specs.area_image.Spelled.{IsSpelled};
+ghost use Rattle.inode_plan.specs.area_image.Store.{disk, slot_read};
+ghost use Rattle.inode_plan.specs.area_image.Format.{IsSpelled};
 ghost use Rattle.inode_plan.specs.area_image.Looks.{Looks};
 ghost use Rattle.inode_plan.specs.area_image.declared.error.AreaError.TheVariants.{DeviceFault, Memory};
-ghost use Rattle.change_plan.specs.Adding.{HasTaken, TakesMoreNodes};
+ghost use Rattle.change_plan.specs.PlanAddition.{HasTaken, TakesMoreNodes};
 ghost use Rattle.change_plan.specs.Next.{IsNext, HasPlaces, PlansInode};
 
 use crate::directory_part::plan_directory_part;
 use crate::file_part::plan_file_part;
-use crate::gone::plan_gone_part;
+use crate::inode_drop::plan_gone_part;
 use crate::kinds::kind_from;
-use crate::partial::PartialPlan;
+use crate::partial_plan::PartialPlan;
 use inode_plan::{
-    AreaError, Journal, Kind, Media, NodeChange, Place, Pools, Slot, Taken, read_slot,
+    Allocation, AreaError, Journal, Kind, Media, NodeChange, Place, Pools, Slot, read_slot,
 };
 use std::alloc::Global;
 
@@ -27,7 +27,7 @@ pub fn plan_inode<M: Media>(
     alloc: Global,
     journal: &mut Journal<M>,
     pools: &mut Pools,
-    taken: &mut Taken,
+    taken: &mut Allocation,
     inode: u32,
     slot: &Slot,
     change: &NodeChange,
@@ -36,12 +36,12 @@ pub fn plan_inode<M: Media>(
     plan: &mut PartialPlan,
 ) -> Result<usize, AreaError>
     requires going { journal.old.failed ≡ false }
-    requires next { IsNext journal.old.geometry (store_of (M.seen journal.old.media)) inode slot.now (change_of change.now) pools.old taken.old plan.old.nodes }
-    requires places { HasPlaces journal.old.geometry (store_of (M.seen journal.old.media)) (change_of change.now) inode places.now }
-    ensures planned { IfOk result (λ count. PlansInode journal.old.geometry (store_of (M.seen journal.old.media)) (change_of change.now) touch inode places.now count pools.old taken.old pools.new taken.new plan.old plan.new) }
+    requires next { IsNext journal.old.geometry (disk M.Media journal.old) inode slot.now (change_of change.now) pools.old taken.old plan.old.nodes }
+    requires places { HasPlaces journal.old.geometry (disk M.Media journal.old) (change_of change.now) inode places.now }
+    ensures planned { IfOk result (λ count. PlansInode journal.old.geometry (disk M.Media journal.old) (change_of change.now) touch inode places.now count pools.old taken.old pools.new taken.new plan.old plan.new) }
     ensures took { TakesMoreNodes pools.old taken.old pools.new taken.new }
     ensures only { IfErr result (λ e. (e ≡ DeviceFault) ⊎ (e ≡ Memory)) }
-    ensures looks { Looks M.moment M.seen M.left M.faults journal.old journal.new result }
+    ensures looks { Looks M.Media journal.old journal.new result }
 {
     match kind_from(change.base, slot) {
         Some(Kind::File) => match plan_file_part(
@@ -70,7 +70,7 @@ pub fn plan_next<M: Media>(
     alloc: Global,
     journal: &mut Journal<M>,
     pools: &mut Pools,
-    taken: &mut Taken,
+    taken: &mut Allocation,
     inode: u32,
     change: &NodeChange,
     touch: u64,
@@ -78,15 +78,15 @@ pub fn plan_next<M: Media>(
     plan: &mut PartialPlan,
 ) -> Result<usize, AreaError>
     requires going { journal.old.failed ≡ false }
-    requires spelled { IsSpelled journal.old.geometry (store_of (M.seen journal.old.media)) }
+    requires spelled { IsSpelled journal.old.geometry (disk M.Media journal.old) }
     requires number { is_inode inode ≡ true }
-    requires pools { HasTaken journal.old.geometry (store_of (M.seen journal.old.media)) pools.old taken.old }
-    requires next { (x : Slot) → slot_read journal.old.geometry (store_of (M.seen journal.old.media)) inode ≡ Some x → fits_slot journal.old.geometry x ≡ true → IsNext journal.old.geometry (store_of (M.seen journal.old.media)) inode x (change_of change.now) pools.old taken.old plan.old.nodes }
-    requires places { HasPlaces journal.old.geometry (store_of (M.seen journal.old.media)) (change_of change.now) inode places.now }
-    ensures planned { IfOk result (λ count. PlansInode journal.old.geometry (store_of (M.seen journal.old.media)) (change_of change.now) touch inode places.now count pools.old taken.old pools.new taken.new plan.old plan.new) }
+    requires pools { HasTaken journal.old.geometry (disk M.Media journal.old) pools.old taken.old }
+    requires next { (x : Slot) → slot_read journal.old.geometry (disk M.Media journal.old) inode ≡ Some x → fits_slot journal.old.geometry x ≡ true → IsNext journal.old.geometry (disk M.Media journal.old) inode x (change_of change.now) pools.old taken.old plan.old.nodes }
+    requires places { HasPlaces journal.old.geometry (disk M.Media journal.old) (change_of change.now) inode places.now }
+    ensures planned { IfOk result (λ count. PlansInode journal.old.geometry (disk M.Media journal.old) (change_of change.now) touch inode places.now count pools.old taken.old pools.new taken.new plan.old plan.new) }
     ensures took { TakesMoreNodes pools.old taken.old pools.new taken.new }
     ensures only { IfErr result (λ e. (e ≡ DeviceFault) ⊎ (e ≡ Memory)) }
-    ensures looks { Looks M.moment M.seen M.left M.faults journal.old journal.new result }
+    ensures looks { Looks M.Media journal.old journal.new result }
 {
     match read_slot(journal, inode) {
         Ok(slot) => match plan_inode(

@@ -2,7 +2,7 @@
 ghost use Rattle.std.specs.Prelude.{◌≡◌, ℕ, Some};
 ghost use Rattle.inode_plan.specs.graph_change.View.{base_of};
 ghost use Rattle.inode_plan.specs.layout.Places.{Sizes};
-ghost use Rattle.inode_plan.specs.tree_blocks.After.{started};
+ghost use Rattle.inode_plan.specs.tree_blocks.After.{start_node};
 ghost use Rattle.inode_plan.specs.tree_blocks.Inode.{LogicalBlocks, inode_of};
 ghost use Rattle.inode_plan.specs.area_image.Store.{Store, slot_read, inode};
 
@@ -21,7 +21,7 @@ fn kind_in(slot: &Slot) -> Option<Kind>
 
 /// The kind of what the rest of a change starts from: of the node that is made, or of the one that was there, if it stays.
 pub fn kind_from(base: NodeBase, slot: &Slot) -> Option<Kind>
-    ensures { (g : Sizes) (s : Store) (i : ℕ) → slot_read g s i ≡ Some slot.now → (started (base_of base) (inode g s i)).kind ≡ result }
+    ensures { (g : Sizes) (s : Store) (i : ℕ) → slot_read g s i ≡ Some slot.now → (start_node (base_of base) (inode g s i)).kind ≡ result }
 {
     match base {
         NodeBase::Kept => kind_in(slot),

@@ -5,7 +5,7 @@ ghost use Rattle.std.specs.List.{Contains};
 ghost use Rattle.std.specs.FinMap as fin;
 ghost use Rattle.inode_plan.specs.posix_calls.declared.limits.TheConstants.{MAX_INODE};
 ghost use Rattle.inode_plan.specs.tier_device.declared.media.Tier.{Tier};
-ghost use Rattle.inode_plan.specs.graph_change.Change.{Change, Changes, change_at, changed};
+ghost use Rattle.inode_plan.specs.graph_change.Change.{Change, Changes, change_at, changed_graph};
 ghost use Rattle.inode_plan.specs.graph_change.Tidy.{AreTidyChanges};
 ghost use Rattle.inode_plan.specs.layout.declared.slot.Slot.{Slot};
 ghost use Rattle.inode_plan.specs.layout.Marks.{fits_marks};
@@ -13,14 +13,14 @@ ghost use Rattle.inode_plan.specs.layout.Places.{Sizes, IsAllowed, is_inode};
 ghost use Rattle.inode_plan.specs.extent_tree.Map.{TierRuns};
 ghost use Rattle.inode_plan.specs.area_image.Store.{Store, graph, slot, place};
 ghost use Rattle.inode_plan.specs.area_image.Rewrites.{Rewrites};
-ghost use Rattle.inode_plan.specs.area_image.Spelled.{IsSpelled};
+ghost use Rattle.inode_plan.specs.area_image.Format.{IsSpelled};
 ghost use Rattle.inode_plan.specs.area_commit.declared.slots.ChangedSlot.{ChangedSlot};
-ghost use Rattle.inode_plan.specs.area_commit.declared.plan.Lost.{Lost};
+ghost use Rattle.inode_plan.specs.area_commit.declared.plan.FreedBlocks.{FreedBlocks};
 ghost use Rattle.inode_plan.specs.area_commit.declared.plan.Rewrite.{Rewrite};
 ghost use Rattle.inode_plan.specs.area_commit.Plan.{WereFree, IsPlanned, is_rewritten};
-ghost use Rattle.inode_plan.specs.area_commit.Taking.{taken_data};
-ghost use Rattle.inode_plan.specs.area_commit.Done.{IsCarriedOut};
-ghost use Rattle.change_plan.specs.Laid.{LeavesFile, AreFirstFree, GetPlaces, LieInPlaces, KeepsPlaces};
+ghost use Rattle.inode_plan.specs.area_commit.Allocations.{taken_data};
+ghost use Rattle.inode_plan.specs.area_commit.PlanOutcome.{IsCarriedOut};
+ghost use Rattle.change_plan.specs.FileLayout.{LeavesFile, AreFirstFree, GetPlaces, LieInPlaces, KeepsPlaces};
 ghost use Rattle.change_plan.specs.Part.{Share, IsPart, IsTouchedBy};
 ghost use Rattle.change_plan.specs.Parts.{AreParts, LoseBoth, HasFree, ShareNone, both, share_of, with_at};
 
@@ -32,12 +32,12 @@ use inode_plan::{
 
 /// Before the first inode nothing is planned.
 pub fn no_parts()
-    ensures { (g : Sizes) (s : Store) (cs : Changes) (touch : ℕ) (x : ℕ → Slot) (m : ℕ → TierRuns) (lost : Lost) → lost.nodes.items ≡ [] → lost.fast.items ≡ [] → lost.block.items ≡ [] → lost.slow.items ≡ [] → AreParts g s cs touch x m [] (record { nodes = []; «data» = [] }) [] [] lost }
+    ensures { (g : Sizes) (s : Store) (cs : Changes) (touch : ℕ) (x : ℕ → Slot) (m : ℕ → TierRuns) (lost : FreedBlocks) → lost.nodes.items ≡ [] → lost.fast.items ≡ [] → lost.block.items ≡ [] → lost.slow.items ≡ [] → AreParts g s cs touch x m [] (record { nodes = []; «data» = [] }) [] [] lost }
 {}
 
 /// The plan of one inode more, which is behind all that are planned, over a share of its own.
 pub fn one_more_part()
-    ensures { (g : Sizes) (s : Store) (cs : Changes) (touch i : ℕ) (x : ℕ → Slot) (m : ℕ → TierRuns) (slots : List ChangedSlot) (share its : Share) (bytes its_bytes : List ℕ) (old new : List (ℕ × List ℕ)) (lost its_lost all_lost : Lost) (its_slot : Slot) (its_runs : TierRuns)
+    ensures { (g : Sizes) (s : Store) (cs : Changes) (touch i : ℕ) (x : ℕ → Slot) (m : ℕ → TierRuns) (slots : List ChangedSlot) (share its : Share) (bytes its_bytes : List ℕ) (old new : List (ℕ × List ℕ)) (lost its_lost all_lost : FreedBlocks) (its_slot : Slot) (its_runs : TierRuns)
         → IsSpelled g s → AreParts g s cs touch x m slots share bytes old lost → is_inode i ≡ true → ((c : ChangedSlot) → Contains slots c → c.inode < i) → HasFree g s share → HasFree g s its → ShareNone share its
         → IsPart g s (change_at cs i) touch i its_slot its_runs its its_bytes old new its_lost → LoseBoth lost its_lost all_lost
         → AreParts g s cs touch (with_at i its_slot x) (with_at i its_runs m) (slots ++ (record { inode = i; slot = its_slot } ∷ [])) (both share its) (bytes ++ its_bytes) new all_lost }
@@ -54,7 +54,7 @@ pub fn carried_out_change_is_the_graph_after()
     ensures spelled { (g : Sizes) (s : Store) (cs : Changes) (touch : ℕ) (x : ℕ → Slot) (m : ℕ → TierRuns) (plan : Rewrite) (new : Store)
         → IsAllowed g → IsSpelled g s → AreTidyChanges cs → AreParts g s cs touch x m plan.slots.items (share_of plan.taken) plan.bytes.items plan.nodes plan.lost → IsPlanned g s x m plan → IsCarriedOut g s plan new → IsSpelled g new }
     ensures graph { (g : Sizes) (s : Store) (cs : Changes) (touch : ℕ) (x : ℕ → Slot) (m : ℕ → TierRuns) (plan : Rewrite) (new : Store)
-        → IsAllowed g → IsSpelled g s → AreTidyChanges cs → ((i : ℕ) → fin.contains_key cs i ≡ is_rewritten plan i) → AreParts g s cs touch x m plan.slots.items (share_of plan.taken) plan.bytes.items plan.nodes plan.lost → IsPlanned g s x m plan → IsCarriedOut g s plan new → graph g new ≡ changed cs (graph g s) }
+        → IsAllowed g → IsSpelled g s → AreTidyChanges cs → ((i : ℕ) → fin.contains_key cs i ≡ is_rewritten plan i) → AreParts g s cs touch x m plan.slots.items (share_of plan.taken) plan.bytes.items plan.nodes plan.lost → IsPlanned g s x m plan → IsCarriedOut g s plan new → graph g new ≡ changed_graph cs (graph g s) }
     ensures touched { (g : Sizes) (s : Store) (cs : Changes) (touch i : ℕ) (x : ℕ → Slot) (m : ℕ → TierRuns) (plan : Rewrite) (new : Store)
         → IsAllowed g → IsSpelled g s → AreTidyChanges cs → AreParts g s cs touch x m plan.slots.items (share_of plan.taken) plan.bytes.items plan.nodes plan.lost → IsPlanned g s x m plan → IsCarriedOut g s plan new → is_rewritten plan i ≡ true → IsTouchedBy touch (slot g new i) }
     ensures rewrites { (g : Sizes) (s : Store) (cs : Changes) (touch : ℕ) (x : ℕ → Slot) (m : ℕ → TierRuns) (plan : Rewrite) (new : Store)

@@ -4,33 +4,32 @@
 //! carries out; and then the store spells the graph after the change.
 #![tactic(auto)]
 
-mod counting;
+mod block_count;
+mod change_walk;
 mod directories;
 mod directory_part;
 mod file_part;
+mod file_place;
+mod file_start;
 mod files;
-mod first;
-mod gone;
+mod inode_drop;
 mod inode_part;
 mod kinds;
 mod laws;
 mod part_laws;
-mod partial;
-mod placing;
+mod partial_plan;
+mod prefix_laws;
 mod spares;
-mod starting;
-mod walking;
 
-pub use counting::{count_blocks, wanted_blocks_are_written};
+pub use block_count::{count_blocks, wanted_blocks_are_written};
+pub use change_walk::plan_changes;
 pub use directories::{plan_over_spares, start_directory};
 pub use directory_part::plan_directory_part;
 pub use file_part::plan_file_part;
+pub use file_place::{PlacedFile, RootedFile, place_file, root_file};
+pub use file_start::{StartedFile, made_file, read_file};
 pub use files::{next_nodes_were_free, placed_file_is_planned, planned_file_is_a_part};
-pub use first::{
-    added_part_stands_with_the_first, whole_change_can_be_carried_out,
-    whole_change_lies_in_its_places, whole_plan,
-};
-pub use gone::{give_all, plan_gone_part};
+pub use inode_drop::{give_all, plan_gone_part};
 pub use inode_part::{plan_inode, plan_next};
 pub use kinds::kind_from;
 pub use laws::{
@@ -38,18 +37,19 @@ pub use laws::{
     one_more_part, parts_are_planned,
 };
 pub use part_laws::{free_blocks_are_spare, gone_inode_is_a_part, planned_directory_is_a_part};
-pub use partial::PartialPlan;
-pub use placing::{PlacedFile, RootedFile, place_file, root_file};
+pub use partial_plan::PartialPlan;
+pub use prefix_laws::{
+    added_part_stands_with_the_first, whole_change_can_be_carried_out,
+    whole_change_lies_in_its_places, whole_plan,
+};
 pub use spares::{last_blocks, take_spares};
-pub use starting::{StartedFile, made_file, read_file};
-pub use walking::plan_changes;
 
 // Passed on to the crates above, which so need not list those below.
 pub use inode_plan::{
-    AllocatorError, AreaError, BLOCK, CLIENTS, DirBlock, DirEntries, DirEntry, EntryRef, Extent,
-    ExtentBlock, Geometry, GraphChange, InodeExtents, InodeParts, Journal, JournalError, Lost,
-    MARKS_BLOCK, Mark, Marks, Media, NodeImages, Place, Pools, Run, SLOT_SIZE, Slot, Super, Taken,
-    Tier, What, blank_block, block_number, carried_out_marks, carry_out, charge_after_change,
-    first_place, length_of, nodes_never_run_out, open_area, read_parts, read_slot,
-    small_changes_find_blocks, taken_places, units_of,
+    Allocation, AllocatorError, AreaError, BLOCK, CLIENTS, DirBlock, DirEntries, DirEntry,
+    EntryRef, Extent, ExtentBlock, FreedBlocks, Geometry, GraphChange, InodeExtents, InodeParts,
+    Journal, JournalError, MARKS_BLOCK, Mark, Marks, Media, NodeImages, Place, Pools, Run,
+    SLOT_SIZE, Slot, Super, Tier, What, blank_block, block_number, carried_out_marks, carry_out,
+    charge_after_change, first_place, length_of, nodes_never_run_out, open_area, read_parts,
+    read_slot, small_changes_find_blocks, taken_places, units_of,
 };

@@ -2,11 +2,11 @@
 ghost use Rattle.std.specs.Prelude.{◌≡◌, ◌≤◌, ◌<◌, ◌+◌, ◌-◌, ◌^◌, ◌++◌, take, drop, length, OnOk, IfOk};
 ghost use Rattle.inode_plan.specs.block_alloc.Runs.{run_blocks, blocks_of};
 ghost use Rattle.inode_plan.specs.area_commit.Value.{PoolsView, AreInOrder};
-ghost use Rattle.inode_plan.specs.area_commit.Taking.{WereTaken, CanUndo};
-ghost use Rattle.inode_plan.specs.Placed.{EndsFit};
-ghost use Rattle.change_plan.specs.Adding.{TakesMoreNodes};
+ghost use Rattle.inode_plan.specs.area_commit.Allocations.{WereTaken, CanRelease};
+ghost use Rattle.inode_plan.specs.RunPlaces.{EndsFit};
+ghost use Rattle.change_plan.specs.PlanAddition.{TakesMoreNodes};
 
-use inode_plan::{Pools, Run, Taken};
+use inode_plan::{Allocation, Pools, Run};
 use std::alloc::{AllocError, Global};
 
 // Adds the blocks of a run.
@@ -48,11 +48,11 @@ pub fn last_blocks(alloc: Global, runs: &[Run], count: usize) -> Result<Vec<u32>
 pub fn take_spares(
     alloc: Global,
     pools: &mut Pools,
-    taken: &mut Taken,
+    taken: &mut Allocation,
     count: usize,
 ) -> Result<Vec<u32>, AllocError>
     requires before { (before : PoolsView) × AreInOrder before × WereTaken before pools.old taken.old × (before.nodes.end < 2 ^ 32) }
-    requires undo { CanUndo pools.old taken.old }
+    requires undo { CanRelease pools.old taken.old }
     requires enough { count ≤ length pools.old.nodes.free }
     requires few { count < 2 ^ 32 }
     ensures spares { IfOk result (λ v. v.items ≡ take count pools.old.nodes.free) }

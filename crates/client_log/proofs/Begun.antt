@@ -2,16 +2,17 @@
 use Rattle.std.proofs.Common.{◌≡◌, ◌≢◌, ◌<◌, ◌+◌, inl, inr, ℕ, Bool, true, false, List, take, sym, ◌∙◌, ap, subst}
 use Rattle.std.specs.Prelude.{Ok, Err, Option, Some, is_some, length}
 use Rattle.std.proofs.lemmas.Bool.{cases_Bool, true≢false}
+use Rattle.update_log.specs.tier_device.declared.media.Media.{Ghosts}
 use Rattle.update_log.specs.tier_device.declared.media.Tier.{Tier}
 use Rattle.update_log.specs.tier_device.declared.media.Tier.TheVariants.{Fast}
 use Rattle.update_log.specs.log_record.declared.format.Record.{Record}
-use Rattle.update_log.specs.log_record.Grammar.{spelling}
-use Rattle.update_log.specs.Frames.{before_gate, end_behind, header, spelled, with_record}
+use Rattle.update_log.specs.log_record.Grammar.{record_bytes}
+use Rattle.update_log.specs.Frames.{before_gate, end_behind, header, spelled_records, with_record}
 use Rattle.update_log.specs.Stage.{IsAppending}
 use Rattle.update_log.specs.declared.format.TheConstants.{REGION_SIZE}
 use Rattle.update_log.specs.View.{RegionView, header_of, records_of}
 use Rattle.update_log.specs.Wipe.{IsWiping}
-use Rattle.update_log.specs.Wiping.{generation}
+use Rattle.update_log.specs.WipeStops.{generation}
 use Rattle.update_log.specs.declared.stage.Stage.TheVariants as stages
 use Rattle.client_log.specs.Regions.{IsWritten, is_pending}
 use Rattle.client_log.specs.View.{LogView}
@@ -21,40 +22,40 @@ use Rattle.client_log.proofs.Within.{one_more_within, within_same}
 pub not_refused : {A E : Type 0} (x : A) (e : E) → Ok x ≡ Err e → ⊥
 not_refused x e is = cc
 
-module _ {M : Type 0} (seen : M → Tier → List ℕ) (moment : M → ℕ) (left : M → ℕ → Tier → List ℕ → Type 0) where
+module _ {M : Type 0} (device : Ghosts M) where
   -- a record is begun only in a region that is wiped to its generation
-  pub begun_ready : (v : LogView M) → IsSoundLog seen moment left v → is_some v.current.begun ≡ true → v.ready ≡ true
+  pub begun_ready : (v : LogView M) → IsSoundLog device v → is_some v.current.begun ≡ true → v.ready ≡ true
   begun_ready v s some = elim (cases_Bool v.ready) [
     | inl e ↦ e
     | inr e ↦ absurd (true≢false (sym some ∙ ap is_some (s.stale e).nothing))
   ]
 
   -- a device failed in its append
-  pub step_failed : (g : ℕ) (old new : RegionView M) → IsWritten seen false g old → new.stage ≡ stages.Failed → header_of seen new ≡ header_of seen old
-      → is_some old.begun ≡ true → (new.stage ≢ stages.Resting → (records_of seen new ≡ records_of seen old) × (new.begun ≡ old.begun)) → IsWritten seen true g new
+  pub step_failed : (g : ℕ) (old new : RegionView M) → IsWritten device false g old → new.stage ≡ stages.Failed → header_of device new ≡ header_of device old
+      → is_some old.begun ≡ true → (new.stage ≢ stages.Resting → (records_of device new ≡ records_of device old) × (new.begun ≡ old.begun)) → IsWritten device true g new
   step_failed g old new w to head some same = record {
     names = ap generation head ∙ w.names;
     settled = λ wiping. subst IsWiping to wiping;
     going = λ e. absurd (true≢false e);
     pending = ap is_some (same (λ e. rests_not (sym to ∙ e))).1 ∙ some ∙ sym (ap is_pending to);
-    within = let s = same (λ e. rests_not (sym to ∙ e)) in within_same seen old new s.0 s.1 w.within;
+    within = let s = same (λ e. rests_not (sym to ∙ e)) in within_same device old new s.0 s.1 w.within;
   }
     where
       rests_not : stages.Failed ≡ stages.Resting → ⊥
       rests_not e = cc
 
   -- a record is begun that fits
-  pub begun_written : (failed : Bool) (g : ℕ) (old new : RegionView M) (r : Record) → IsWritten seen failed g old → new.media ≡ old.media → new.end ≡ old.end → new.stage ≡ stages.Begun → new.begun ≡ Some r
-      → (REGION_SIZE < end_behind (records_of seen old) + 5 + length (spelling r) + 1 → ⊥) → IsWritten seen failed g new
+  pub begun_written : (failed : Bool) (g : ℕ) (old new : RegionView M) (r : Record) → IsWritten device failed g old → new.media ≡ old.media → new.end ≡ old.end → new.stage ≡ stages.Begun → new.begun ≡ Some r
+      → (REGION_SIZE < end_behind (records_of device old) + 5 + length (record_bytes r) + 1 → ⊥) → IsWritten device failed g new
   begun_written failed g old new r w media end to is fits =
-      let head : header_of seen new ≡ header_of seen old = (λ i. header (take (end i) (seen (media i) Fast))) in
-      let same : records_of seen new ≡ records_of seen old = (λ i. spelled (before_gate (take (end i) (seen (media i) Fast)))) in
+      let head : header_of device new ≡ header_of device old = (λ i. header (take (end i) (device.seen (media i) Fast))) in
+      let same : records_of device new ≡ records_of device old = (λ i. spelled_records (before_gate (take (end i) (device.seen (media i) Fast)))) in
       record {
         names = ap generation head ∙ w.names;
         settled = λ wiping. subst IsWiping to wiping;
         going = λ e. inr (subst IsAppending (sym to) tt);
         pending = ap is_some is ∙ sym (ap is_pending to);
         within =
-            subst (λ (b : Option Record). end_behind (with_record (records_of seen new) b) < REGION_SIZE) (sym is)
-            (subst (λ (l : List Record). end_behind (with_record l (Some r)) < REGION_SIZE) (sym same) (one_more_within (records_of seen old) r fits));
+            subst (λ (b : Option Record). end_behind (with_record (records_of device new) b) < REGION_SIZE) (sym is)
+            (subst (λ (l : List Record). end_behind (with_record l (Some r)) < REGION_SIZE) (sym same) (one_more_within (records_of device old) r fits));
       }

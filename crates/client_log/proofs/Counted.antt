@@ -4,10 +4,10 @@ use Rattle.std.specs.Prelude.{◌==◌, ◌∷◌, Option, Some, None}
 use Rattle.std.proofs.lemmas.Bool.{eq-eqb, cond-true}
 use Rattle.std.proofs.lemmas.List.{append-nil}
 use Rattle.update_log.specs.log_record.declared.format.Record.{Record}
-use Rattle.update_log.specs.Counting.{next_generation, records_in, records_under}
+use Rattle.update_log.specs.RecordCounts.{next_generation, records_in, records_under}
 use Rattle.update_log.specs.Frames.{records}
 use Rattle.update_log.specs.View.{WithOrWithout}
-use Rattle.update_log.specs.Wiping.{generation}
+use Rattle.update_log.specs.WipeStops.{generation}
 use Rattle.update_log.proofs.Counts.{other_counts_none, header_tells}
 use Rattle.client_log.specs.Counts.{AreWithOrWithout, CountOf}
 use Rattle.client_log.proofs.Generations.{apart}

@@ -1,6 +1,6 @@
 -- Generations, counted modulo 2^64.
 use Rattle.std.proofs.Common.{◌≡◌, ◌≢◌, ℕ, ◌^◌, ◌<◌, arith}
-use Rattle.update_log.specs.Counting.{next_generation}
+use Rattle.update_log.specs.RecordCounts.{next_generation}
 
 pub next_is_small : (g : ℕ) → next_generation g < 2 ^ 64
 next_is_small g = omega arith

@@ -2,11 +2,12 @@
 use Rattle.std.proofs.Common.{◌≡◌, ◌⊎◌, inl, inr, ℕ, ◌%◌, ◌^◌, ◌<◌, ◌≤◌, Bool, true, false, List, [], refl, sym, ◌∙◌, ap, subst, arith}
 use Rattle.std.specs.Prelude.{Option, Some, None, Result, is_err, is_some, IfSome, if◌then◌else◌}
 use Rattle.std.proofs.lemmas.Bool.{cases_Bool, true≢false, false≢true}
+use Rattle.update_log.specs.tier_device.declared.media.Media.{Ghosts}
 use Rattle.update_log.specs.tier_device.declared.media.Tier.{Tier}
 use Rattle.update_log.specs.tier_device.declared.media.Tier.TheVariants.{Fast}
-use Rattle.update_log.specs.tier_device.Media.{LeftSince}
+use Rattle.update_log.specs.tier_device.AfterStop.{LeftSince}
 use Rattle.update_log.specs.log_record.declared.format.Record.{Record}
-use Rattle.update_log.specs.Counting.{next_generation, records_under}
+use Rattle.update_log.specs.RecordCounts.{next_generation, records_under}
 use Rattle.update_log.specs.Frames.{end_behind, with_record}
 use Rattle.update_log.specs.declared.format.TheConstants.{REGION_SIZE}
 use Rattle.update_log.specs.Stage.{IsAppending}
@@ -15,8 +16,8 @@ use Rattle.update_log.specs.Wipe.{IsWiping}
 use Rattle.client_log.specs.Calls.{IsOnlyRead}
 use Rattle.client_log.specs.Steps.{WipesCurrent, WipesOther, is_last}
 use Rattle.client_log.specs.Counts.{AreLeft, AreWithOrWithout, CountOf}
-use Rattle.client_log.specs.Regions.{IsSound, IsStale, IsWiped, IsWritten, is_pending}
-use Rattle.client_log.specs.View.{LogView, written}
+use Rattle.client_log.specs.Regions.{CountsNothing, IsSound, IsStale, IsWiped, IsWritten, is_pending}
+use Rattle.client_log.specs.View.{LogView, current_records}
 use Rattle.update_log.specs.declared.stage.Stage.{Stage}
 use Rattle.update_log.specs.declared.stage.Stage.TheVariants as stages
 use Rattle.update_log.specs.declared.stage.WipeProgress.{WipeProgress}
@@ -26,8 +27,8 @@ use Rattle.client_log.proofs.Generations.{next_is_small}
 use Rattle.client_log.proofs.OnlyRead.{written_read, stale_read}
 
 -- the invariant of a log, of its view
-abbrev pub IsSoundLog : {M : Type 0} → (M → Tier → List ℕ) → (M → ℕ) → (M → ℕ → Tier → List ℕ → Type 0) → LogView M → Type 0
-IsSoundLog seen moment left v = IsSound seen moment left v.generation v.current v.ready v.other v.clean v.failed
+abbrev pub IsSoundLog : {M : Type 0} → Ghosts M → LogView M → Type 0
+IsSoundLog device v = IsSound device v.generation v.current v.ready v.other v.clean v.failed
 
 pub some_of : {A : Type 0} (o : Option A) → is_some o ≡ true → (x : A) × (o ≡ Some x)
 some_of None e = absurd (false≢true e)
@@ -59,34 +60,34 @@ chosen : (ready : Bool) (rs : List Record) (begun : Option Record) (all : List R
 chosen true rs begun all wiped stale = wiped refl
 chosen false rs begun all wiped stale = stale refl
 
-module _ {M : Type 0} (seen : M → Tier → List ℕ) (moment : M → ℕ) (left : M → ℕ → Tier → List ℕ → Type 0) where
+module _ {M : Type 0} (device : Ghosts M) where
   -- a region that is wiped may be written
-  pub wiped_written : (failed : Bool) (g : ℕ) (v : RegionView M) → IsWiped seen g v → IsWritten seen failed g v
+  pub wiped_written : (failed : Bool) (g : ℕ) (v : RegionView M) → IsWiped device g v → IsWritten device failed g v
   wiped_written failed g v w = record {
     names = w.names;
     settled = λ wiping. subst IsWiping w.rests wiping;
     going = λ e. inl w.rests;
     pending = ap is_some w.nothing ∙ sym (ap is_pending w.rests);
     within =
-        subst (λ (b : Option Record). end_behind (with_record (records_of seen v) b) < REGION_SIZE) (sym w.nothing)
+        subst (λ (b : Option Record). end_behind (with_record (records_of device v) b) < REGION_SIZE) (sym w.nothing)
         (subst (λ (l : List Record). end_behind l < REGION_SIZE) (sym w.empty) (omega arith));
   }
 
-  written_failed : (failed : Bool) (g : ℕ) (v : RegionView M) → IsWritten seen failed g v → IsWritten seen true g v
+  written_failed : (failed : Bool) (g : ℕ) (v : RegionView M) → IsWritten device failed g v → IsWritten device true g v
   written_failed failed g v w = record { names = w.names; settled = w.settled; going = λ e. absurd (true≢false e); pending = w.pending; within = w.within }
 
-  stale_failed : (failed : Bool) (g : ℕ) (v : RegionView M) → IsStale seen moment left failed g v → IsStale seen moment left true g v
+  stale_failed : (failed : Bool) (g : ℕ) (v : RegionView M) → IsStale device failed g v → IsStale device true g v
   stale_failed failed g v s = record { nothing = s.nothing; going = λ e. absurd (true≢false e); names = s.names; none = s.none }
 
   -- what is left within no call is left now
-  pub still_left : (v : RegionView M) (c : List ℕ) → LeftSince (left v.media) (moment v.media) (moment v.media) Fast c → left v.media (moment v.media) Fast c
-  still_left v c s = subst (λ (k : ℕ). left v.media k Fast c) (same s.0 (moment v.media) s.1 s.2) s.3
+  pub still_left : (v : RegionView M) (c : List ℕ) → LeftSince (device.left v.media) (device.moment v.media) (device.moment v.media) Fast c → device.left v.media (device.moment v.media) Fast c
+  still_left v c s = subst (λ (k : ℕ). device.left v.media k Fast c) (same s.0 (device.moment v.media) s.1 s.2) s.3
     where
       same : (m n : ℕ) → n ≤ m → m ≤ n → m ≡ n
       same m n low high = omega (arith, low, high)
 
   -- a log of which a device fails
-  pub sound_failed : (g : ℕ) (current : RegionView M) (ready : Bool) (other : Option (RegionView M)) (clean failed : Bool) → IsSound seen moment left g current ready other clean failed → IsSound seen moment left g current ready other clean true
+  pub sound_failed : (g : ℕ) (current : RegionView M) (ready : Bool) (other : Option (RegionView M)) (clean failed : Bool) → IsSound device g current ready other clean failed → IsSound device g current ready other clean true
   sound_failed g current ready other clean failed s = record {
     small = s.small;
     written = λ e. written_failed failed g current (s.written e);
@@ -98,105 +99,109 @@ module _ {M : Type 0} (seen : M → Tier → List ℕ) (moment : M → ℕ) (lef
   }
 
   -- another region in place of the one that is written
-  pub sound_current : (g : ℕ) (current new : RegionView M) (ready now : Bool) (other : Option (RegionView M)) (clean failed : Bool) → IsSound seen moment left g current ready other clean failed
-      → (now ≡ true → IsWritten seen failed g new) → (now ≡ false → IsStale seen moment left failed g new) → IsSound seen moment left g new now other clean failed
+  pub sound_current : (g : ℕ) (current new : RegionView M) (ready now : Bool) (other : Option (RegionView M)) (clean failed : Bool) → IsSound device g current ready other clean failed
+      → (now ≡ true → IsWritten device failed g new) → (now ≡ false → IsStale device failed g new) → IsSound device g new now other clean failed
   sound_current g current new ready now other clean failed s fresh stale = record { small = s.small; written = fresh; stale = stale; wiped = s.wiped; back = s.back; none = s.none; away = s.away }
 
   -- ---- which regions are wiped
 
   -- the current one, where no record is in it or begun
-  pub now_wiped : (v : LogView M) → IsSoundLog seen moment left v → v.failed ≡ false → v.ready ≡ true → v.current.begun ≡ None → written seen v ≡ [] → IsWiped seen v.generation v.current
+  pub now_wiped : (v : LogView M) → IsSoundLog device v → v.failed ≡ false → v.ready ≡ true → v.current.begun ≡ None → current_records device v ≡ [] → IsWiped device v.generation v.current
   now_wiped v s sound ready idle none =
       let w = s.written ready in
       record {
         rests = rests_idle v.current.stage (sym w.pending ∙ ap is_some idle) (w.going sound);
         nothing = idle;
-        empty = subst (λ (b : Bool). (if b then records_of seen v.current else []) ≡ []) ready none;
+        empty = subst (λ (b : Bool). (if b then records_of device v.current else []) ≡ []) ready none;
         names = w.names;
       }
 
   -- and the other one
-  pub beside_wiped : (v : LogView M) → IsSoundLog seen moment left v → v.clean ≡ true → IfSome v.other (IsWiped seen (next_generation v.generation))
-  beside_wiped v s clean = if_some v.other (IsWiped seen (next_generation v.generation)) (λ r is. s.wiped r is clean)
+  pub beside_wiped : (v : LogView M) → IsSoundLog device v → v.clean ≡ true → IfSome v.other (IsWiped device (next_generation v.generation))
+  beside_wiped v s clean = if_some v.other (IsWiped device (next_generation v.generation)) (λ r is. s.wiped r is clean)
 
   -- ---- what counts
 
+  -- nothing in the other region, under the next generation
+  pub beside_counts : (v : LogView M) → IsSoundLog device v → IfSome v.other (CountsNothing device (next_generation v.generation))
+  beside_counts v s = if_some v.other (CountsNothing device (next_generation v.generation)) s.none
+
   -- within a call, by what counts of each region
   pub call_counts : (old new : LogView M) → old.generation < 2 ^ 64
-      → ((c : List ℕ) → LeftSince (left new.current.media) (moment new.current.media) (moment old.current.media) Fast c → AreWithOrWithout (written seen old) old.current.begun (records_under old.generation c))
-      → ((o : RegionView M) → old.other ≡ Some o → (n : RegionView M) × (new.other ≡ Some n) × ((c : List ℕ) → LeftSince (left n.media) (moment n.media) (moment o.media) Fast c → records_under (next_generation old.generation) c ≡ []))
-      → (regions : ℕ → List ℕ) → AreLeft moment left old new regions → CountOf old.generation (is_some old.other) (written seen old) old.current.begun regions
+      → ((c : List ℕ) → LeftSince (device.left new.current.media) (device.moment new.current.media) (device.moment old.current.media) Fast c → AreWithOrWithout (current_records device old) old.current.begun (records_under old.generation c))
+      → ((o : RegionView M) → old.other ≡ Some o → (n : RegionView M) × (new.other ≡ Some n) × ((c : List ℕ) → LeftSince (device.left n.media) (device.moment n.media) (device.moment o.media) Fast c → records_under (next_generation old.generation) c ≡ []))
+      → (regions : ℕ → List ℕ) → AreLeft device old new regions → CountOf old.generation (is_some old.other) (current_records device old) old.current.begun regions
   call_counts old new small own beside regions are =
-      count_of old.generation (is_some old.other) (written seen old) old.current.begun regions small
+      count_of old.generation (is_some old.other) (current_records device old) old.current.begun regions small
       (own (regions (old.generation % 2)) are.current)
       (λ here. let o = some_of old.other here in let n = beside o.0 o.1 in n.2 (regions (next_generation old.generation % 2)) (are.other o.0 n.0 o.1 n.1))
 
   -- the other region, where it stays
-  pub beside_stays : (v : LogView M) → IsSoundLog seen moment left v → (other : Option (RegionView M)) → other ≡ v.other → (o : RegionView M) → v.other ≡ Some o
-      → (n : RegionView M) × (other ≡ Some n) × ((c : List ℕ) → LeftSince (left n.media) (moment n.media) (moment o.media) Fast c → records_under (next_generation v.generation) c ≡ [])
+  pub beside_stays : (v : LogView M) → IsSoundLog device v → (other : Option (RegionView M)) → other ≡ v.other → (o : RegionView M) → v.other ≡ Some o
+      → (n : RegionView M) × (other ≡ Some n) × ((c : List ℕ) → LeftSince (device.left n.media) (device.moment n.media) (device.moment o.media) Fast c → records_under (next_generation v.generation) c ≡ [])
   beside_stays v s other same o is = (o, same ∙ is, λ c l. s.none o is c (still_left o c l))
 
   -- between two calls
-  own_now : (v : LogView M) → IsSoundLog seen moment left v
-      → ((IsWiping v.current.stage → ⊥) → (c : List ℕ) → left v.current.media (moment v.current.media) Fast c → WithOrWithout (header_of seen v.current) (records_of seen v.current) v.current.begun c)
-      → (c : List ℕ) → left v.current.media (moment v.current.media) Fast c → AreWithOrWithout (written seen v) v.current.begun (records_under v.generation c)
+  own_now : (v : LogView M) → IsSoundLog device v
+      → ((IsWiping v.current.stage → ⊥) → (c : List ℕ) → device.left v.current.media (device.moment v.current.media) Fast c → WithOrWithout (header_of device v.current) (records_of device v.current) v.current.begun c)
+      → (c : List ℕ) → device.left v.current.media (device.moment v.current.media) Fast c → AreWithOrWithout (current_records device v) v.current.begun (records_under v.generation c)
   own_now v s either c l =
-      chosen v.ready (records_of seen v.current) v.current.begun (records_under v.generation c)
-      (λ e. with_counts v.generation (header_of seen v.current) (records_of seen v.current) v.current.begun c (s.written e).names (either (s.written e).settled c l))
+      chosen v.ready (records_of device v.current) v.current.begun (records_under v.generation c)
+      (λ e. with_counts v.generation (header_of device v.current) (records_of device v.current) v.current.begun c (s.written e).names (either (s.written e).settled c l))
       (λ e. inl ((s.stale e).none c l))
 
-  pub now_counts : (v : LogView M) → IsSoundLog seen moment left v
-      → ((IsWiping v.current.stage → ⊥) → (c : List ℕ) → left v.current.media (moment v.current.media) Fast c → WithOrWithout (header_of seen v.current) (records_of seen v.current) v.current.begun c)
-      → (regions : ℕ → List ℕ) → AreLeft moment left v v regions → CountOf v.generation (is_some v.other) (written seen v) v.current.begun regions
+  pub now_counts : (v : LogView M) → IsSoundLog device v
+      → ((IsWiping v.current.stage → ⊥) → (c : List ℕ) → device.left v.current.media (device.moment v.current.media) Fast c → WithOrWithout (header_of device v.current) (records_of device v.current) v.current.begun c)
+      → (regions : ℕ → List ℕ) → AreLeft device v v regions → CountOf v.generation (is_some v.other) (current_records device v) v.current.begun regions
   now_counts v s either = call_counts v v s.small (λ c l. own_now v s either c (still_left v.current c l)) (beside_stays v s v.other refl)
 
   -- within a call of the region that is written: what it leaves counts with the begun record or without
-  pub append_counts : (old new : LogView M) → IsSoundLog seen moment left old → old.ready ≡ true → new.other ≡ old.other
-      → ((c : List ℕ) → LeftSince (left new.current.media) (moment new.current.media) (moment old.current.media) Fast c → WithOrWithout (header_of seen old.current) (records_of seen old.current) old.current.begun c)
-      → (regions : ℕ → List ℕ) → AreLeft moment left old new regions → CountOf old.generation (is_some old.other) (written seen old) old.current.begun regions
+  pub append_counts : (old new : LogView M) → IsSoundLog device old → old.ready ≡ true → new.other ≡ old.other
+      → ((c : List ℕ) → LeftSince (device.left new.current.media) (device.moment new.current.media) (device.moment old.current.media) Fast c → WithOrWithout (header_of device old.current) (records_of device old.current) old.current.begun c)
+      → (regions : ℕ → List ℕ) → AreLeft device old new regions → CountOf old.generation (is_some old.other) (current_records device old) old.current.begun regions
   append_counts old new s ready same any =
       call_counts old new s.small
-      (λ c l. chosen old.ready (records_of seen old.current) old.current.begun (records_under old.generation c)
-      (λ e. with_counts old.generation (header_of seen old.current) (records_of seen old.current) old.current.begun c (s.written e).names (any c l))
+      (λ c l. chosen old.ready (records_of device old.current) old.current.begun (records_under old.generation c)
+      (λ e. with_counts old.generation (header_of device old.current) (records_of device old.current) old.current.begun c (s.written e).names (any c l))
       (λ e. absurd (true≢false (sym ready ∙ e))))
       (beside_stays old s new.other same)
 
   -- within a wipe of the region that is written
-  pub current_counts : (faults : M → ℕ) (old new : LogView M) (result : Result (Option WipeProgress) LogError) → IsSoundLog seen moment left old → old.ready ≡ false → WipesCurrent seen moment left faults old new result
-      → (regions : ℕ → List ℕ) → AreLeft moment left old new regions → CountOf old.generation (is_some old.other) (written seen old) old.current.begun regions
-  current_counts faults old new result s ready w =
+  pub current_counts : (old new : LogView M) (result : Result (Option WipeProgress) LogError) → IsSoundLog device old → old.ready ≡ false → WipesCurrent device old new result
+      → (regions : ℕ → List ℕ) → AreLeft device old new regions → CountOf old.generation (is_some old.other) (current_records device old) old.current.begun regions
+  current_counts old new result s ready w =
       call_counts old new s.small
-      (λ c l. chosen old.ready (records_of seen old.current) old.current.begun (records_under old.generation c) (λ e. absurd (true≢false (sym e ∙ ready))) (λ e. inl (w.call.any_moment c l)))
+      (λ c l. chosen old.ready (records_of device old.current) old.current.begun (records_under old.generation c) (λ e. absurd (true≢false (sym e ∙ ready))) (λ e. inl (w.call.any_moment c l)))
       (beside_stays old s new.other (ap (λ (v : LogView M). v.other) w.rest))
 
   -- and of the other one
-  pub other_counts : (faults : M → ℕ) (old new : LogView M) (r : RegionView M) (result : Result (Option WipeProgress) LogError) → IsSoundLog seen moment left old → old.other ≡ Some r → WipesOther seen moment left faults r old new result
-      → ((IsWiping old.current.stage → ⊥) → (c : List ℕ) → left old.current.media (moment old.current.media) Fast c → WithOrWithout (header_of seen old.current) (records_of seen old.current) old.current.begun c)
-      → (regions : ℕ → List ℕ) → AreLeft moment left old new regions → CountOf old.generation (is_some old.other) (written seen old) old.current.begun regions
-  other_counts faults old new r result s there w either =
-      subst (λ (n : LogView M). (regions : ℕ → List ℕ) → AreLeft moment left old n regions → CountOf old.generation (is_some old.other) (written seen old) old.current.begun regions) (sym w.rest)
+  pub other_counts : (old new : LogView M) (r : RegionView M) (result : Result (Option WipeProgress) LogError) → IsSoundLog device old → old.other ≡ Some r → WipesOther device r old new result
+      → ((IsWiping old.current.stage → ⊥) → (c : List ℕ) → device.left old.current.media (device.moment old.current.media) Fast c → WithOrWithout (header_of device old.current) (records_of device old.current) old.current.begun c)
+      → (regions : ℕ → List ℕ) → AreLeft device old new regions → CountOf old.generation (is_some old.other) (current_records device old) old.current.begun regions
+  other_counts old new r result s there w either =
+      subst (λ (n : LogView M). (regions : ℕ → List ℕ) → AreLeft device old n regions → CountOf old.generation (is_some old.other) (current_records device old) old.current.begun regions) (sym w.rest)
       (call_counts old (record old { other = Some w.beside; clean = is_last w.answer; failed = is_err w.answer }) s.small
       (λ c l. own_now old s either c (still_left old.current c l))
-      (λ o is. (w.beside, refl, λ c l. w.call.any_moment c (subst (λ (x : RegionView M). LeftSince (left w.beside.media) (moment w.beside.media) (moment x.media) Fast c) (the_one o r (sym is ∙ there)) l))))
+      (λ o is. (w.beside, refl, λ c l. w.call.any_moment c (subst (λ (x : RegionView M). LeftSince (device.left w.beside.media) (device.moment w.beside.media) (device.moment x.media) Fast c) (the_one o r (sym is ∙ there)) l))))
     where
       the_one : (a b : RegionView M) → Some a ≡ Some b → a ≡ b
       the_one a b e = cc
 
   -- a log whose region was read, and failed
-  pub sound_read : (faults : M → ℕ) (g : ℕ) (old new : RegionView M) (ready : Bool) (other : Option (RegionView M)) (clean failed : Bool) → IsSound seen moment left g old ready other clean failed
-      → IsOnlyRead seen moment left faults old new → IsSound seen moment left g new ready other clean true
-  sound_read faults g old new ready other clean failed s read =
+  pub sound_read : (g : ℕ) (old new : RegionView M) (ready : Bool) (other : Option (RegionView M)) (clean failed : Bool) → IsSound device g old ready other clean failed
+      → IsOnlyRead device old new → IsSound device g new ready other clean true
+  sound_read g old new ready other clean failed s read =
       let t = sound_failed g old ready other clean failed s in
       sound_current g old new ready ready other clean true t
-      (λ e. written_read seen moment left faults old new read true g (t.written e))
-      (λ e. stale_read seen moment left faults old new read true g (t.stale e))
+      (λ e. written_read device old new read true g (t.written e))
+      (λ e. stale_read device old new read true g (t.stale e))
 
   -- a log that goes on in its other region
-  pub sound_sealed : (g g' : ℕ) (current r new : RegionView M) (ready : Bool) (other left_out : Option (RegionView M)) (clean failed : Bool) → IsSound seen moment left g current ready other clean failed
-      → other ≡ Some r → g' ≡ next_generation g → new ≡ r → left_out ≡ None → IsSound seen moment left g' new clean left_out false failed
+  pub sound_sealed : (g g' : ℕ) (current r new : RegionView M) (ready : Bool) (other left_out : Option (RegionView M)) (clean failed : Bool) → IsSound device g current ready other clean failed
+      → other ≡ Some r → g' ≡ next_generation g → new ≡ r → left_out ≡ None → IsSound device g' new clean left_out false failed
   sound_sealed g g' current r new ready other left_out clean failed s there next is gone =
-      subst (λ (k : ℕ). IsSound seen moment left k new clean left_out false failed) (sym next)
-      (subst (λ (x : RegionView M). IsSound seen moment left (next_generation g) x clean left_out false failed) (sym is)
+      subst (λ (k : ℕ). IsSound device k new clean left_out false failed) (sym next)
+      (subst (λ (x : RegionView M). IsSound device (next_generation g) x clean left_out false failed) (sym is)
       (record {
         small = next_is_small g;
         written = λ e. wiped_written failed (next_generation g) r (s.wiped r there e);
@@ -211,7 +216,7 @@ module _ {M : Type 0} (seen : M → Tier → List ℕ) (moment : M → ℕ) (lef
       not_there x e = cc
 
   -- nothing is begun in a region that is back, or wiped
-  pub beside_rests : (g : ℕ) (current r : RegionView M) (ready : Bool) (other : Option (RegionView M)) (clean failed : Bool) → IsSound seen moment left g current ready other clean failed → other ≡ Some r → r.begun ≡ None
+  pub beside_rests : (g : ℕ) (current r : RegionView M) (ready : Bool) (other : Option (RegionView M)) (clean failed : Bool) → IsSound device g current ready other clean failed → other ≡ Some r → r.begun ≡ None
   beside_rests g current r ready other clean failed s there = elim (cases_Bool clean) [
     | inl e ↦ (s.wiped r there e).nothing
     | inr e ↦ (s.back r there e).nothing

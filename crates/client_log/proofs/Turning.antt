@@ -3,10 +3,10 @@ use Rattle.std.proofs.Common.{◌≡◌, ℕ, ◌-◌, true, List, [], ◌∷◌
 use Rattle.std.specs.Prelude.{Option, Some, None}
 use Rattle.update_log.specs.posix_calls.Operations.{is_client}
 use Rattle.update_log.specs.log_record.declared.format.Record.{Record}
-use Rattle.world_invariant.specs.call_effects.Known.{knows_after}
+use Rattle.world_invariant.specs.call_effects.Knowledge.{knows_after}
 use Rattle.world_invariant.specs.World.{Begun, Client, Region, World, at}
 use Rattle.world_invariant.specs.World as world
-use Rattle.world_invariant.specs.ClientSteps.{call_begun, replied, with_client}
+use Rattle.world_invariant.specs.ClientSteps.{call_begun, after_reply, with_client}
 use Rattle.world_invariant.specs.RegionSteps as steps
 use Rattle.world_invariant.proofs.Moved.{each_client}
 use Rattle.client_log.specs.Turns.{Place, Turn}
@@ -40,9 +40,9 @@ module _ (w : World) (c : ℕ) (t : Turn) (h : HasTurn t (w.clients c)) where
     back = λ e. can.back (is_away t.other (sym h.other ∙ e));
   }
 
-  pub seals : log.CanSeal t → HasTurn (log.sealed t) ((steps.region_sealed w c).clients c)
+  pub seals : log.CanSeal t → HasTurn (log.sealed_turn t) ((steps.region_sealed w c).clients c)
   seals can =
-      there w c (record (w.clients c) { sealed = (w.clients c).current; current = []; other = world.Away; ready = steps.is_wiped (w.clients c).other }) (log.sealed t)
+      there w c (record (w.clients c) { sealed = (w.clients c).current; current = []; other = world.Away; ready = steps.is_wiped (w.clients c).other }) (log.sealed_turn t)
       (record { current = refl; other = refl; is_ready = ap steps.is_wiped h.other ∙ wiped_at t.other; begun = h.begun ∙ can.idle })
 
   pub takes_back : HasTurn (log.taken_back t) ((steps.taken_back w c).clients c)
@@ -65,7 +65,7 @@ module _ (w : World) (c : ℕ) (t : Turn) (h : HasTurn t (w.clients c)) where
       there w c (record (w.clients c) { begun = Some b; spare = (w.clients c).spare - b.change.units }) (log.record_begun t b.change)
       (record { current = h.current; other = h.other; is_ready = h.is_ready; begun = refl })
 
-  pub appends : (b : Begun) → HasTurn (log.record_appended t b.change) ((replied w c b).clients c)
+  pub appends : (b : Begun) → HasTurn (log.record_appended t b.change) ((after_reply w c b).clients c)
   appends b =
       there w c (record (w.clients c) { begun = None; current = (w.clients c).current ++ (b.change ∷ []); knows = knows_after (w.clients c).knows b.new b.operation b.change.effects }) (log.record_appended t b.change)
       (record { current = ap (λ (rs : List Record). rs ++ b.change ∷ []) h.current; other = h.other; is_ready = h.is_ready; begun = refl })

@@ -6,10 +6,10 @@ use Rattle.update_log.specs.log_record.declared.format.Record.{Record}
 use Rattle.update_log.specs.declared.format.TheConstants.{CLOSED}
 use Rattle.update_log.specs.declared.stage.Stage.{Stage}
 use Rattle.update_log.specs.declared.stage.Stage.TheVariants as stages
-use Rattle.update_log.specs.Counting.{records_under}
+use Rattle.update_log.specs.RecordCounts.{records_under}
 use Rattle.update_log.specs.Frames.{records}
 use Rattle.update_log.specs.Wipe.{CanWipe, LeftInCall, first_stage, header_wiped, wipe_next}
-use Rattle.update_log.specs.Wiping.{LeftInWipe, generation, named}
+use Rattle.update_log.specs.WipeStops.{LeftInWipe, generation, header_of}
 use Rattle.update_log.proofs.Counts.{wiped_counts_none}
 use Rattle.client_log.specs.Regions.{NamesBy}
 
@@ -50,7 +50,7 @@ call_counts_none stages.Failed gate g head behind content can other l = absurd c
 call_counts_none stages.WipeFailed gate g head behind content can other l = absurd can
 
 -- a header that names a generation
-pub names_back : (g : ℕ) (head : List ℕ) → g < 2 ^ 64 → generation (named g head) ≡ g
+pub names_back : (g : ℕ) (head : List ℕ) → g < 2 ^ 64 → generation (header_of g head) ≡ g
 names_back g head small = little_number-reads_back 8 g (drop 8 head) (omega (arith, small))
 
 -- What a header names after a call that leads to a stage: once the wipe has ended, the generation.

@@ -1,9 +1,10 @@
 -- The steps of two regions in turn, over what a client's log has, as plain data.
 use Rattle.std.specs.Prelude.{◌≡◌, ◌≢◌, ℕ, Bool, true, false, List, [], ◌∷◌, ◌++◌, Option, Some, None}
+use Rattle.update_log.specs.tier_device.declared.media.Media.{Ghosts}
 use Rattle.update_log.specs.tier_device.declared.media.Tier.{Tier}
 use Rattle.update_log.specs.log_record.declared.format.Record.{Record}
 use Rattle.update_log.specs.View.{RegionView}
-use Rattle.client_log.specs.View.{LogView, written}
+use Rattle.client_log.specs.View.{LogView, current_records}
 
 -- where the other region is: wiped, away, or back and not wiped yet
 pub data Place : Type 0 where
@@ -26,8 +27,8 @@ place_of (Some _) true = Wiped
 place_of (Some _) false = Back
 
 -- a client's log, read so
-abbrev pub turn_of : {M : Type 0} → (M → Tier → List ℕ) → LogView M → Turn
-turn_of seen v = record { current = written seen v; other = place_of v.other v.clean; ready = v.ready; begun = v.current.begun }
+abbrev pub turn_of : {M : Type 0} → Ghosts M → LogView M → Turn
+turn_of device v = record { current = current_records device v; other = place_of v.other v.clean; ready = v.ready; begun = v.current.begun }
 
 -- a region that is wiped may be written
 abbrev pub is_wiped : Place → Bool
@@ -40,8 +41,8 @@ pub record CanSeal (t : Turn) : Type 0 where
   pub some : t.current ≢ []
   pub back : t.other ≢ Away
 
-abbrev pub sealed : Turn → Turn
-sealed t = record { current = []; other = Away; ready = is_wiped t.other; begun = None }
+abbrev pub sealed_turn : Turn → Turn
+sealed_turn t = record { current = []; other = Away; ready = is_wiped t.other; begun = None }
 
 -- the one that is away comes back
 abbrev pub taken_back : Turn → Turn

@@ -1,9 +1,9 @@
 ghost use Rattle.std.specs.Prelude.{◌≡◌, ◌≢◌, ◌⊎◌, ◌≤◌, ◌<◌, ◌+◌, ◌↔◌, ℕ, List, [], length, Some, None, Ok, Err, true, false, is_some, IfErr, IfOk, IfSome, IsErr, IsErrOf, IsOk, IsSome, IsTrue, OnErr, OnOk, IfNone, OnSome};
 ghost use Rattle.update_log.specs.tier_device.declared.media.Tier.TheVariants.{Fast};
 ghost use Rattle.update_log.specs.tier_device.Media.{Rose};
-ghost use Rattle.update_log.specs.log_record.Grammar.{IsRecord, spelling};
+ghost use Rattle.update_log.specs.log_record.Grammar.{IsRecord, record_bytes};
 ghost use Rattle.update_log.specs.Calls.{ShowsCall};
-ghost use Rattle.update_log.specs.Counting.{next_generation};
+ghost use Rattle.update_log.specs.RecordCounts.{next_generation};
 ghost use Rattle.update_log.specs.Frames.{end_behind};
 ghost use Rattle.update_log.specs.Stage.{calls_left, next, progress};
 ghost use Rattle.update_log.specs.View.{RegionView, records_of};
@@ -14,14 +14,14 @@ ghost use Rattle.update_log.specs.declared.stage.WipeProgress.TheVariants as wip
 ghost use Rattle.client_log.specs.declared.error.LogError.TheVariants.{DeviceFault, NotWiped, RegionFull, Memory};
 ghost use Rattle.client_log.specs.Calls.{IsOnlyRead, IsMoved, IsMovedOnce};
 ghost use Rattle.client_log.specs.Counts.{AreLeft, CountOf};
-ghost use Rattle.client_log.specs.Regions.{AreWiped, CountsNothing, IsWiped, in_turn};
+ghost use Rattle.client_log.specs.Regions.{AreWiped, CountsNothing, IsSealedRegion, IsWiped, in_turn};
 ghost use Rattle.client_log.specs.Steps.{IsOpened, HasRoom, most_of, CanBeSealed, sealed_view, WipesCurrent, WipesOther};
-ghost use Rattle.client_log.specs.Turns.{turn_of, record_begun, record_appended, CanSeal, sealed, Away, Back, taken_back, current_wiped, other_wiped};
-ghost use Rattle.client_log.specs.View.{written};
+ghost use Rattle.client_log.specs.Turns.{turn_of, record_begun, record_appended, CanSeal, sealed_turn, Away, Back, taken_back, current_wiped, other_wiped};
+ghost use Rattle.client_log.specs.View.{current_records};
 
 use crate::error::LogError;
-use crate::handed_over::HandedOver;
 use crate::regions::{in_turn, is_empty, is_pending, is_wiped, next_generation, wipe_call};
+use crate::sealed_regions::left_of_sealed;
 use std::alloc::Global;
 use std::marker::Model;
 use std::mem;
@@ -50,7 +50,7 @@ impl<M: Media> Model for ClientLog<M> {
 
     ghost view = { λ l. record { generation = l.generation; current = l.current; ready = l.ready; other = l.other; clean = l.clean; failed = l.failed } };
 
-    ghost invariant = { λ l. IsSound M.seen M.moment M.left l.generation l.current l.ready l.other l.clean l.failed };
+    ghost invariant = { λ l. IsSound M.Media l.generation l.current l.ready l.other l.clean l.failed };
 }
 
 impl<M: Media> ClientLog<M> {
@@ -64,14 +64,14 @@ impl<M: Media> ClientLog<M> {
         regions: (Region<M>, Region<M>),
         generation: u64,
     ) -> Result<Self, (LogError, (Region<M>, Region<M>))>
-        ensures opened { IfOk result (IsOpened M.seen M.moment M.left M.faults generation regions) }
-        ensures wiped { OnOk result (AreWiped M.seen generation regions) }
-        ensures not_wiped { IfErr result (λ e. e.0 ≡ NotWiped → AreWiped M.seen generation regions → ⊥) }
+        ensures opened { IfOk result (IsOpened M.Media generation regions) }
+        ensures wiped { OnOk result (AreWiped M.Media generation regions) }
+        ensures not_wiped { IfErr result (λ e. e.0 ≡ NotWiped → AreWiped M.Media generation regions → ⊥) }
         ensures only { IfErr result (λ e. (e.0 ≡ NotWiped) ⊎ (e.0 ≡ DeviceFault)) }
         ensures fault { IfErr result (λ e. e.0 ≡ DeviceFault → Rose (M.faults regions.0.media) (M.faults e.1.0.media) ⊎ Rose (M.faults regions.1.media) (M.faults e.1.1.media)) }
         ensures quiet { IfErr result (λ e. e.0 ≡ NotWiped → (M.faults e.1.0.media ≡ M.faults regions.0.media) × (M.faults e.1.1.media ≡ M.faults regions.1.media)) }
-        ensures even_back { IfErr result (λ e. IsOnlyRead M.seen M.moment M.left M.faults regions.0 e.1.0) }
-        ensures odd_back { IfErr result (λ e. IsOnlyRead M.seen M.moment M.left M.faults regions.1 e.1.1) }
+        ensures even_back { IfErr result (λ e. IsOnlyRead M.Media regions.0 e.1.0) }
+        ensures odd_back { IfErr result (λ e. IsOnlyRead M.Media regions.1 e.1.1) }
     {
         let (mut current, mut other) = in_turn(regions, generation);
         match are_wiped(&mut current, &mut other, generation) {
@@ -90,21 +90,21 @@ impl<M: Media> ClientLog<M> {
     }
 
     /// Whether the current region is wiped to its generation and has room for a record. It tells nothing of whether a device has failed.
-    pub fn room(&self, entry: &Record) -> bool
-        requires { IsRecord entry.now }
-        ensures { IsTrue result ↔ HasRoom M.seen self.now entry.now }
+    pub fn room(&self, logged: &Record) -> bool
+        requires { IsRecord logged.now }
+        ensures { IsTrue result ↔ HasRoom M.Media self.now logged.now }
     {
         self.current.left_now();
         match self.current.room() {
-            Some(most) => self.ready && entry.spelled_len() <= most,
+            Some(most) => self.ready && logged.spelled_len() <= most,
             None => false,
         }
     }
 
     /// How many bytes the spelling of the next record may have at most; `None` where the current region is not wiped to its generation, or no record fits behind those
     /// that it has. It tells nothing of whether a device has failed.
-    pub fn most(&self) -> Option<usize>
-        ensures { result ≡ most_of M.seen self.now }
+    pub fn record_limit(&self) -> Option<usize>
+        ensures { result ≡ most_of M.Media self.now }
     {
         self.current.left_now();
         if !self.ready {
@@ -117,18 +117,18 @@ impl<M: Media> ClientLog<M> {
     ///
     /// Refused, with nothing changed, are a log of which a device has failed (`DeviceFault`), then one whose current region is not wiped to its generation
     /// (`NotWiped`), then a record that leaves no place for the gate behind it (`RegionFull`).
-    pub fn begin(&mut self, entry: &Record) -> Result<(), LogError>
+    pub fn begin(&mut self, logged: &Record) -> Result<(), LogError>
         requires idle { self.old.current.begun ≡ None }
-        requires fits { IsRecord entry.now }
+        requires fits { IsRecord logged.now }
         ensures may { OnOk result ((self.old.failed ≡ false) × (self.old.ready ≡ true)) }
-        ensures begun { OnOk result (turn_of M.seen self.new ≡ record_begun (turn_of M.seen self.old) entry.now) }
+        ensures begun { OnOk result (turn_of M.Media self.new ≡ record_begun (turn_of M.Media self.old) logged.now) }
         ensures stage { OnOk result (self.new.current.stage ≡ stages.Begun) }
         ensures media { self.new.current.media ≡ self.old.current.media }
         ensures end { self.new.current.end ≡ self.old.current.end }
         ensures rest { self.new ≡ record self.old { current = self.new.current } }
         ensures failed { IsErrOf result DeviceFault ↔ (self.old.failed ≡ true) }
         ensures not_wiped { IsErrOf result NotWiped ↔ ((self.old.failed ≡ false) × (self.old.ready ≡ false)) }
-        ensures full { IsErrOf result RegionFull ↔ ((self.old.failed ≡ false) × (self.old.ready ≡ true) × (REGION_SIZE < end_behind (records_of M.seen self.old.current) + 5 + length (spelling entry.now) + 1)) }
+        ensures full { IsErrOf result RegionFull ↔ ((self.old.failed ≡ false) × (self.old.ready ≡ true) × (REGION_SIZE < end_behind (records_of M.Media self.old.current) + 5 + length (record_bytes logged.now) + 1)) }
         ensures only { IfErr result (λ e. e ≢ Memory) }
         ensures refused { OnErr result (self.new ≡ self.old) }
     {
@@ -138,7 +138,7 @@ impl<M: Media> ClientLog<M> {
         if !self.ready {
             return Err(LogError::NotWiped);
         }
-        match self.current.begin(entry) {
+        match self.current.begin(logged) {
             Ok(()) => Ok(()),
             Err(_) => Err(LogError::RegionFull),
         }
@@ -153,19 +153,19 @@ impl<M: Media> ClientLog<M> {
         requires { IsSome self.old.current.begun }
 
         // At each moment of the call what counted before it counts, with the begun record or without.
-        ensures any_moment { (regions : ℕ → List ℕ) → AreLeft M.moment M.left self.old self.new regions → CountOf self.old.generation (is_some self.old.other) (written M.seen self.old) self.old.current.begun regions }
+        ensures any_moment { (regions : ℕ → List ℕ) → AreLeft M.Media self.old self.new regions → CountOf self.old.generation (is_some self.old.other) (current_records M.Media self.old) self.old.current.begun regions }
 
         ensures shown { OnOk result (ShowsCall self.old.current.stage self.old.current.end self.old.current.begun (M.seen self.old.current.media) (M.seen self.new.current.media)) }
         ensures progress { IfOk result (λ p. p ≡ progress self.old.current.stage) }
         ensures stage { OnOk result (self.new.current.stage ≡ next self.old.current.stage) }
 
         // The last call appends the begun record; until then nothing of the log changes but its region.
-        ensures appended { IfOk result (λ p. p ≡ appends.Appended → IfSome self.old.current.begun (λ r. turn_of M.seen self.new ≡ record_appended (turn_of M.seen self.old) r)) }
-        ensures going { IfOk result (λ p. p ≡ appends.Going → turn_of M.seen self.new ≡ turn_of M.seen self.old) }
-        ensures unanswered { OnErr result (turn_of M.seen self.new ≡ turn_of M.seen self.old) }
+        ensures appended { IfOk result (λ p. p ≡ appends.Appended → IfSome self.old.current.begun (λ r. turn_of M.Media self.new ≡ record_appended (turn_of M.Media self.old) r)) }
+        ensures going { IfOk result (λ p. p ≡ appends.Going → turn_of M.Media self.new ≡ turn_of M.Media self.old) }
+        ensures unanswered { OnErr result (turn_of M.Media self.new ≡ turn_of M.Media self.old) }
 
         ensures stage_failed { self.old.failed ≡ false → OnErr result (self.new.current.stage ≡ stages.Failed) }
-        ensures moved { self.old.failed ≡ false → IsMovedOnce M.moment M.left M.faults self.old.current self.new.current result }
+        ensures moved { self.old.failed ≡ false → IsMovedOnce M.Media self.old.current self.new.current result }
         ensures rest { self.new ≡ record self.old { current = self.new.current; failed = self.new.failed } }
         ensures sound { OnOk result ((self.old.failed ≡ false) × (self.new.failed ≡ false)) }
         ensures failed { OnErr result (self.new.failed ≡ true) }
@@ -194,13 +194,13 @@ impl<M: Media> ClientLog<M> {
         requires { IsSome self.old.current.begun }
 
         // At each moment of the calls what counted before them counts, with the begun record or without.
-        ensures any_moment { (regions : ℕ → List ℕ) → AreLeft M.moment M.left self.old self.new regions → CountOf self.old.generation (is_some self.old.other) (written M.seen self.old) self.old.current.begun regions }
+        ensures any_moment { (regions : ℕ → List ℕ) → AreLeft M.Media self.old self.new regions → CountOf self.old.generation (is_some self.old.other) (current_records M.Media self.old) self.old.current.begun regions }
 
-        ensures appended { OnOk result (IfSome self.old.current.begun (λ r. turn_of M.seen self.new ≡ record_appended (turn_of M.seen self.old) r)) }
-        ensures unanswered { OnErr result (turn_of M.seen self.new ≡ turn_of M.seen self.old) }
+        ensures appended { OnOk result (IfSome self.old.current.begun (λ r. turn_of M.Media self.new ≡ record_appended (turn_of M.Media self.old) r)) }
+        ensures unanswered { OnErr result (turn_of M.Media self.new ≡ turn_of M.Media self.old) }
         ensures stage { OnOk result (self.new.current.stage ≡ stages.Resting) }
         ensures stage_failed { self.old.failed ≡ false → OnErr result (self.new.current.stage ≡ stages.Failed) }
-        ensures moved { self.old.failed ≡ false → IsMoved M.moment M.left M.faults (calls_left self.old.current.stage) self.old.current self.new.current result }
+        ensures moved { self.old.failed ≡ false → IsMoved M.Media (calls_left self.old.current.stage) self.old.current self.new.current result }
         ensures rest { self.new ≡ record self.old { current = self.new.current; failed = self.new.failed } }
         ensures sound { OnOk result ((self.old.failed ≡ false) × (self.new.failed ≡ false)) }
         ensures failed { OnErr result (self.new.failed ≡ true) }
@@ -222,20 +222,20 @@ impl<M: Media> ClientLog<M> {
         }
     }
 
-    /// Hands over the current region, and goes on in the other one with the next generation. That one may still have to be wiped. It makes no device call
-    /// and takes no memory.
+    /// Seals the current region, hands it over with all its records, and goes on in the other one with the next generation. That one may still have to be wiped. It makes no
+    /// device call and takes no memory.
     ///
     /// `None`, with nothing changed, exactly where there is no record, a record is begun, the other region is away, or a device has failed.
-    pub fn seal(&mut self) -> Option<HandedOver<M>>
-        ensures exact { IsSome result ↔ CanBeSealed M.seen self.old }
+    pub fn seal(&mut self) -> Option<Region<M>>
+        ensures exact { IsSome result ↔ CanBeSealed M.Media self.old }
         ensures unchanged { IfNone result (self.new ≡ self.old) }
-        ensures region { IfSome result (λ h. h.region ≡ self.old.current) }
-        ensures generation { IfSome result (λ h. h.generation ≡ self.old.generation) }
+        ensures region { IfSome result (λ r. r ≡ self.old.current) }
+        ensures sealed { IfSome result (IsSealedRegion M.Media self.old.generation) }
         ensures goes_on { OnSome result (IfSome self.old.other (λ r. self.new ≡ sealed_view self.old r)) }
 
         // It is the machine's step.
-        ensures may { OnSome result (CanSeal (turn_of M.seen self.old)) }
-        ensures turn { OnSome result (turn_of M.seen self.new ≡ sealed (turn_of M.seen self.old)) }
+        ensures may { OnSome result (CanSeal (turn_of M.Media self.old)) }
+        ensures turn { OnSome result (turn_of M.Media self.new ≡ sealed_turn (turn_of M.Media self.old)) }
     {
         if !self.can_be_sealed() {
             return None;
@@ -243,11 +243,10 @@ impl<M: Media> ClientLog<M> {
         match self.other.take() {
             Some(other) => {
                 let region = mem::replace(&mut self.current, other);
-                let generation = self.generation;
-                self.generation = next_generation(generation);
+                self.generation = next_generation(self.generation);
                 self.ready = self.clean;
                 self.clean = false;
-                Some(HandedOver::new(region, generation))
+                Some(region)
             }
             None => None,
         }
@@ -255,7 +254,7 @@ impl<M: Media> ClientLog<M> {
 
     // Whether the current region may be handed over.
     fn can_be_sealed(&self) -> bool
-        ensures exact { IsTrue result ↔ CanBeSealed M.seen self.now }
+        ensures exact { IsTrue result ↔ CanBeSealed M.Media self.now }
     {
         !self.failed
             && self.ready
@@ -264,25 +263,26 @@ impl<M: Media> ClientLog<M> {
             && !is_empty(&self.current)
     }
 
-    /// Takes a region back that was handed over, to be wiped, also into a log of which a device has failed. Whoever calls sees to it that this log handed it over and
+    /// Takes a region back that was sealed under this generation, to be wiped, also into a log of which a device has failed. Whoever calls sees to it that this log sealed it and
     /// that all its records are digested: `wipe_step` asks for nothing more. It makes no device call and takes no memory.
     ///
     /// Refused, with nothing changed and the region given back, exactly where no region is away or its generation is not the one before the current one.
-    pub fn take_back(&mut self, back: HandedOver<M>) -> Result<(), HandedOver<M>>
-        ensures taken { OnOk result (self.new ≡ record self.old { other = Some back.region; clean = false }) }
-        ensures exact { IsOk result ↔ ((self.old.other ≡ None) × (next_generation back.generation ≡ self.old.generation)) }
+    pub fn take_back(&mut self, region: Region<M>, generation: u64) -> Result<(), Region<M>>
+        requires sealed { IsSealedRegion M.Media generation region }
+        ensures taken { OnOk result (self.new ≡ record self.old { other = Some region; clean = false }) }
+        ensures exact { IsOk result ↔ ((self.old.other ≡ None) × (next_generation generation ≡ self.old.generation)) }
         ensures unchanged { OnErr result (self.new ≡ self.old) }
-        ensures given_back { IfErr result (λ h. h ≡ back) }
+        ensures given_back { IfErr result (λ r. r ≡ region) }
 
         // It is the machine's step, where all those records are digested.
-        ensures may { OnOk result ((turn_of M.seen self.old).other ≡ Away) }
-        ensures turn { OnOk result (turn_of M.seen self.new ≡ taken_back (turn_of M.seen self.old)) }
+        ensures may { OnOk result ((turn_of M.Media self.old).other ≡ Away) }
+        ensures turn { OnOk result (turn_of M.Media self.new ≡ taken_back (turn_of M.Media self.old)) }
     {
-        if self.other.is_some() || next_generation(back.generation()) != self.generation {
-            return Err(back);
+        if self.other.is_some() || next_generation(generation) != self.generation {
+            return Err(region);
         }
-        back.left_now();
-        match self.other.replace(back.into_region()) {
+        left_of_sealed(&region, generation);
+        match self.other.replace(region) {
             None => {}
             Some(_) => unreachable!(),
         }
@@ -295,19 +295,19 @@ impl<M: Media> ClientLog<M> {
     /// Where the device fails, the log has failed. A log that has failed before makes no call and answers `DeviceFault` with nothing changed.
     pub fn wipe_step(&mut self) -> Result<Option<WipeProgress>, LogError>
         // At each moment of the call just those records count that counted before it.
-        ensures any_moment { (regions : ℕ → List ℕ) → AreLeft M.moment M.left self.old self.new regions → CountOf self.old.generation (is_some self.old.other) (written M.seen self.old) self.old.current.begun regions }
+        ensures any_moment { (regions : ℕ → List ℕ) → AreLeft M.Media self.old self.new regions → CountOf self.old.generation (is_some self.old.other) (current_records M.Media self.old) self.old.current.begun regions }
 
-        ensures current { self.old.failed ≡ false → self.old.ready ≡ false → WipesCurrent M.seen M.moment M.left M.faults self.old self.new result }
-        ensures other { self.old.failed ≡ false → self.old.ready ≡ true → self.old.clean ≡ false → (r : RegionView M) → self.old.other ≡ Some r → WipesOther M.seen M.moment M.left M.faults r self.old self.new result }
+        ensures current { self.old.failed ≡ false → self.old.ready ≡ false → WipesCurrent M.Media self.old self.new result }
+        ensures other { self.old.failed ≡ false → self.old.ready ≡ true → self.old.clean ≡ false → (r : RegionView M) → self.old.other ≡ Some r → WipesOther M.Media r self.old self.new result }
         ensures idle { (result ≡ Ok None) ↔ ((self.old.failed ≡ false) × (self.old.ready ≡ true) × ((self.old.clean ≡ true) ⊎ (self.old.other ≡ None))) }
         ensures nothing { self.old.failed ≡ false → self.old.ready ≡ true → ((self.old.clean ≡ true) ⊎ (self.old.other ≡ None)) → (result ≡ Ok None) × (self.new ≡ self.old) }
 
         // The last call is the machine's step, and before it nothing changes there. It is the other region's only where that is back.
-        ensures may_other { IfOk result (λ p. p ≢ None → self.old.ready ≡ true → (turn_of M.seen self.old).other ≡ Back) }
-        ensures current_wiped { IfOk result (λ p. p ≡ Some wipes.Wiped → self.old.ready ≡ false → turn_of M.seen self.new ≡ current_wiped (turn_of M.seen self.old)) }
-        ensures other_wiped { IfOk result (λ p. p ≡ Some wipes.Wiped → self.old.ready ≡ true → turn_of M.seen self.new ≡ other_wiped (turn_of M.seen self.old)) }
-        ensures going { IfOk result (λ p. p ≢ Some wipes.Wiped → turn_of M.seen self.new ≡ turn_of M.seen self.old) }
-        ensures unwiped { OnErr result (turn_of M.seen self.new ≡ turn_of M.seen self.old) }
+        ensures may_other { IfOk result (λ p. p ≢ None → self.old.ready ≡ true → (turn_of M.Media self.old).other ≡ Back) }
+        ensures current_wiped { IfOk result (λ p. p ≡ Some wipes.Wiped → self.old.ready ≡ false → turn_of M.Media self.new ≡ current_wiped (turn_of M.Media self.old)) }
+        ensures other_wiped { IfOk result (λ p. p ≡ Some wipes.Wiped → self.old.ready ≡ true → turn_of M.Media self.new ≡ other_wiped (turn_of M.Media self.old)) }
+        ensures going { IfOk result (λ p. p ≢ Some wipes.Wiped → turn_of M.Media self.new ≡ turn_of M.Media self.old) }
+        ensures unwiped { OnErr result (turn_of M.Media self.new ≡ turn_of M.Media self.old) }
 
         ensures sound { OnOk result ((self.old.failed ≡ false) × (self.new.failed ≡ false)) }
         ensures failed { OnErr result (self.new.failed ≡ true) }
@@ -327,7 +327,7 @@ impl<M: Media> ClientLog<M> {
     fn wipe_current(&mut self) -> Result<Option<WipeProgress>, LogError>
         requires failed { self.old.failed ≡ false }
         requires ready { self.old.ready ≡ false }
-        ensures current { WipesCurrent M.seen M.moment M.left M.faults self.old self.new result }
+        ensures current { WipesCurrent M.Media self.old self.new result }
     {
         match wipe_call(&mut self.current, self.generation) {
             Ok(progress) => {
@@ -343,7 +343,7 @@ impl<M: Media> ClientLog<M> {
 
     fn wipe_other(&mut self) -> Result<Option<WipeProgress>, LogError>
         requires failed { self.old.failed ≡ false }
-        ensures other { self.old.clean ≡ false → (r : RegionView M) → self.old.other ≡ Some r → WipesOther M.seen M.moment M.left M.faults r self.old self.new result }
+        ensures other { self.old.clean ≡ false → (r : RegionView M) → self.old.other ≡ Some r → WipesOther M.Media r self.old self.new result }
         ensures nothing { (self.old.clean ≡ true) ⊎ (self.old.other ≡ None) → (result ≡ Ok None) × (self.new ≡ self.old) }
     {
         if self.clean {
@@ -371,9 +371,9 @@ impl<M: Media> ClientLog<M> {
     /// `DeviceFault` where the device fails, and then the log has failed, or where it had failed before, with nothing read; `Memory` for want of memory, with the
     /// log as it was but for a read. No record and no header is changed by any of it.
     pub fn records(&mut self) -> Result<Vec<Record>, LogError>
-        ensures found { IfOk result (λ found. found.items ≡ written M.seen self.old) }
+        ensures found { IfOk result (λ found. found.items ≡ current_records M.Media self.old) }
         ensures same { self.new ≡ record self.old { current = self.new.current; failed = self.new.failed } }
-        ensures read { IsOnlyRead M.seen M.moment M.left M.faults self.old.current self.new.current }
+        ensures read { IsOnlyRead M.Media self.old.current self.new.current }
         ensures sound { OnOk result ((self.old.failed ≡ false) × (self.new.failed ≡ false)) }
         ensures failed { IsErrOf result DeviceFault → self.new.failed ≡ true }
         ensures memory { IsErrOf result Memory → (self.old.failed ≡ false) × (self.new.failed ≡ false) }
@@ -402,13 +402,16 @@ impl<M: Media> ClientLog<M> {
     /// regions are wiped as `open` asks.
     pub fn left_now(&self)
         // The next record's gate stands behind the records of the current region.
-        ensures end { self.now.current.end ≡ end_behind (records_of M.seen self.now.current) }
+        ensures end { self.now.current.end ≡ end_behind (records_of M.Media self.now.current) }
 
         // A log of which no device has failed, with no record and none begun, has its current region wiped to the generation; a wiped other one is wiped to the next.
-        ensures current_wiped { self.now.failed ≡ false → self.now.ready ≡ true → self.now.current.begun ≡ None → written M.seen self.now ≡ [] → IsWiped M.seen self.now.generation self.now.current }
-        ensures other_wiped { self.now.clean ≡ true → IfSome self.now.other (IsWiped M.seen (next_generation self.now.generation)) }
+        ensures current_wiped { self.now.failed ≡ false → self.now.ready ≡ true → self.now.current.begun ≡ None → current_records M.Media self.now ≡ [] → IsWiped M.Media self.now.generation self.now.current }
+        ensures other_wiped { self.now.clean ≡ true → IfSome self.now.other (IsWiped M.Media (next_generation self.now.generation)) }
 
-        ensures counts { (regions : ℕ → List ℕ) → AreLeft M.moment M.left self.now self.now regions → CountOf self.now.generation (is_some self.now.other) (written M.seen self.now) self.now.current.begun regions }
+        // Whatever a stop leaves of the other one, nothing in it counts under the next generation.
+        ensures beside { IfSome self.now.other (CountsNothing M.Media (next_generation self.now.generation)) }
+
+        ensures counts { (regions : ℕ → List ℕ) → AreLeft M.Media self.now self.now regions → CountOf self.now.generation (is_some self.now.other) (current_records M.Media self.now) self.now.current.begun regions }
     {
         self.current.left_now();
     }
@@ -460,10 +463,10 @@ fn are_wiped<M: Media>(
     other: &mut Region<M>,
     generation: u64,
 ) -> Result<bool, LogError>
-    ensures exact { IfOk result (λ is. IsTrue is ↔ (IsWiped M.seen generation current.old × IsWiped M.seen (next_generation generation) other.old)) }
-    ensures none { IfOk result (λ is. IsTrue is → (g : ℕ) → CountsNothing M.moment M.left g other.new) }
-    ensures read { IsOnlyRead M.seen M.moment M.left M.faults current.old current.new }
-    ensures other_read { IsOnlyRead M.seen M.moment M.left M.faults other.old other.new }
+    ensures exact { IfOk result (λ is. IsTrue is ↔ (IsWiped M.Media generation current.old × IsWiped M.Media (next_generation generation) other.old)) }
+    ensures none { IfOk result (λ is. IsTrue is → (g : ℕ) → CountsNothing M.Media g other.new) }
+    ensures read { IsOnlyRead M.Media current.old current.new }
+    ensures other_read { IsOnlyRead M.Media other.old other.new }
     ensures only { IfErr result (λ e. e ≡ DeviceFault) }
     ensures fault { OnErr result (Rose (M.faults current.old.media) (M.faults current.new.media) ⊎ Rose (M.faults other.old.media) (M.faults other.new.media)) }
     ensures quiet { OnOk result ((M.faults current.new.media ≡ M.faults current.old.media) × (M.faults other.new.media ≡ M.faults other.old.media)) }

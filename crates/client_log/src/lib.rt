@@ -10,13 +10,14 @@
 
 mod client_log;
 mod error;
-mod handed_over;
 mod regions;
+mod sealed_regions;
 mod turn_laws;
 
 pub use client_log::ClientLog;
 pub use error::LogError;
-pub use handed_over::HandedOver;
+pub use regions::next_generation;
+pub use sealed_regions::{left_of_sealed, read_sealed};
 pub use turn_laws::{
     appended_record_is_a_step, begun_record_is_in_the_turn, sealed_log_is_a_step,
     taken_back_region_is_a_step, wiped_region_is_a_step,

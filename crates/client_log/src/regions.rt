@@ -2,7 +2,7 @@
 ghost use Rattle.std.specs.Prelude.{◌≡◌, ◌≢◌, ◌≤◌, ◌<◌, ◌+◌, ◌^◌, ◌%◌, ℕ, [], IfOk, IfErr, IsTrue, OnOk, OnErr, ◌↔◌, true, false};
 ghost use Rattle.update_log.specs.tier_device.declared.media.Tier.TheVariants.{Fast};
 ghost use Rattle.update_log.specs.tier_device.Media.{Rose};
-ghost use Rattle.update_log.specs.Counting.{next_generation};
+ghost use Rattle.update_log.specs.RecordCounts.{next_generation};
 ghost use Rattle.update_log.specs.View.{records_of};
 ghost use Rattle.update_log.specs.declared.stage.Stage.TheVariants as stages;
 ghost use Rattle.client_log.specs.declared.error.LogError.TheVariants.{DeviceFault};
@@ -43,7 +43,7 @@ pub fn is_pending(stage: Stage) -> bool
 
 /// Whether a region has no record.
 pub fn is_empty<M: Media>(region: &Region<M>) -> bool
-    ensures { IsTrue result ↔ (records_of M.seen region.now ≡ []) }
+    ensures { IsTrue result ↔ (records_of M.Media region.now ≡ []) }
 {
     region.left_now();
     match region.room() {
@@ -54,9 +54,9 @@ pub fn is_empty<M: Media>(region: &Region<M>) -> bool
 
 /// Whether a region is wiped to a generation, with nothing in it. It reads the header at most.
 pub fn is_wiped<M: Media>(region: &mut Region<M>, generation: u64) -> Result<bool, LogError>
-    ensures exact { IfOk result (λ is. IsTrue is ↔ IsWiped M.seen generation region.old) }
-    ensures none { IfOk result (λ is. IsTrue is → (g : ℕ) → CountsNothing M.moment M.left g region.new) }
-    ensures read { IsOnlyRead M.seen M.moment M.left M.faults region.old region.new }
+    ensures exact { IfOk result (λ is. IsTrue is ↔ IsWiped M.Media generation region.old) }
+    ensures none { IfOk result (λ is. IsTrue is → (g : ℕ) → CountsNothing M.Media g region.new) }
+    ensures read { IsOnlyRead M.Media region.old region.new }
     ensures only { IfErr result (λ e. e ≡ DeviceFault) }
     ensures fault { OnErr result (Rose (M.faults region.old.media) (M.faults region.new.media)) }
     ensures quiet { OnOk result (M.faults region.new.media ≡ M.faults region.old.media) }
@@ -79,10 +79,10 @@ pub fn wipe_call<M: Media>(
     region: &mut Region<M>,
     generation: u64,
 ) -> Result<WipeProgress, LogError>
-    requires { IsStale M.seen M.moment M.left false generation region.old }
-    ensures call { IsWipeCall M.seen M.moment M.left M.faults generation region.old region.new result }
-    ensures stale { region.new.stage ≢ stages.Resting → IsStale M.seen M.moment M.left true generation region.new }
-    ensures going { OnOk result (region.new.stage ≢ stages.Resting → IsStale M.seen M.moment M.left false generation region.new) }
+    requires { IsStale M.Media false generation region.old }
+    ensures call { IsWipeCall M.Media generation region.old region.new result }
+    ensures stale { region.new.stage ≢ stages.Resting → IsStale M.Media true generation region.new }
+    ensures going { OnOk result (region.new.stage ≢ stages.Resting → IsStale M.Media false generation region.new) }
     ensures failed { OnErr result (region.new.stage ≢ stages.Resting) }
     ensures only { IfErr result (λ e. e ≡ DeviceFault) }
 {

@@ -2,7 +2,7 @@
 ghost use Rattle.std.specs.Prelude.{◌≡◌, ◌+◌, ℕ, true, false, length};
 ghost use Rattle.update_log.specs.posix_calls.Operations.{is_client};
 ghost use Rattle.world_invariant.specs.World.{Begun, World};
-ghost use Rattle.world_invariant.specs.ClientSteps.{call_begun, replied};
+ghost use Rattle.world_invariant.specs.ClientSteps.{call_begun, after_reply};
 ghost use Rattle.world_invariant.specs.RegionSteps as world;
 ghost use Rattle.client_log.specs.Turns as log;
 ghost use Rattle.client_log.specs.HasTurn.{HasTurn};
@@ -10,7 +10,7 @@ ghost use Rattle.client_log.specs.HasTurn.{HasTurn};
 /// Where a log may hand its region over, its client may in the world, and both go on alike.
 pub fn sealed_log_is_a_step()
     ensures may { (w : World) (c : ℕ) (t : log.Turn) → is_client c ≡ true → HasTurn t (w.clients c) → log.CanSeal t → world.CanSeal w c }
-    ensures goes_on { (w : World) (c : ℕ) (t : log.Turn) → HasTurn t (w.clients c) → log.CanSeal t → HasTurn (log.sealed t) ((world.region_sealed w c).clients c) }
+    ensures goes_on { (w : World) (c : ℕ) (t : log.Turn) → HasTurn t (w.clients c) → log.CanSeal t → HasTurn (log.sealed_turn t) ((world.region_sealed w c).clients c) }
 {}
 
 /// Where a region is away whose records are all digested, it may come back in the world, and both go on alike.
@@ -35,5 +35,5 @@ pub fn begun_record_is_in_the_turn()
 
 /// Once it is appended, its client may answer the call.
 pub fn appended_record_is_a_step()
-    ensures { (w : World) (c : ℕ) (t : log.Turn) (b : Begun) → HasTurn t (w.clients c) → HasTurn (log.record_appended t b.change) ((replied w c b).clients c) }
+    ensures { (w : World) (c : ℕ) (t : log.Turn) (b : Begun) → HasTurn t (w.clients c) → HasTurn (log.record_appended t b.change) ((after_reply w c b).clients c) }
 {}

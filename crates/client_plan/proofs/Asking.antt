@@ -5,12 +5,13 @@ use Rattle.call_effects.specs.posix_calls.declared.operation.Missing.TheVariants
 use Rattle.call_effects.specs.posix_calls.declared.operation.Operation.{Operation}
 use Rattle.call_effects.specs.posix_calls.declared.operation.Operation.TheVariants.{Tell, NewDir, NewFile, OpenFile, CloseFile, Write, Resize, RemoveDir, AddName, DropName, Move}
 use Rattle.call_effects.specs.posix_calls.declared.operation.Replaced.TheVariants.{Nothing, OldFile, OldDir}
-use Rattle.call_effects.specs.posix_calls.Query.{Seen, Query, Gives, Refuses, IsDir, Look, Range, ◌>>=◌, Part, Found, Known, Unknown, IsBeyond, blocks_missing, run_part}
+use Rattle.call_effects.specs.posix_calls.Query.{Seen, Query, Gives, Refuses, IsDir, Look, Range, ◌>>=◌}
+use Rattle.call_effects.specs.posix_calls.Part.{Part, Found, Known, Unknown, IsBeyond, blocks_missing, run_part}
 use Rattle.call_effects.proofs.posix_calls_lemmas.Parts.{missing_is_left}
 use Rattle.call_effects.specs.posix_calls.Walk.{entries_seen, entries_at, size_seen, size_at, names_seen}
-use Rattle.call_effects.specs.Effects.{recounted}
+use Rattle.call_effects.specs.Effects.{recounted_file}
 use Rattle.call_effects.specs.Records.{names_if, effects_asked, growth_asked, units_asked, entry_rise}
-use Rattle.client_plan.specs.Served.{AreUnread}
+use Rattle.client_plan.specs.NeedEffects.{AreUnread}
 
 -- ---- what is unknown
 
@@ -78,7 +79,7 @@ module _ (p : Part) where
   names_never (Some i) r e = look_gives p i names_seen r e
 
   pub effects_never_refused : (new : ℕ) (operation : Operation) (r : Errno) → run_part p (effects_asked new operation) ≡ Known (Err r) → ⊥
-  effects_never_refused new operation r e = bind_gives_all p (names_if (recounted operation)) _ r (names_never (recounted operation)) e
+  effects_never_refused new operation r e = bind_gives_all p (names_if (recounted_file operation)) _ r (names_never (recounted_file operation)) e
 
   rise_never : (dir : ℕ) (r : Errno) → run_part p (entry_rise dir) ≡ Known (Err r) → ⊥
   rise_never dir r e = bind_gives_all p (entries_at dir) _ r (look_gives p dir entries_seen) e

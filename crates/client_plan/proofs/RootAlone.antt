@@ -8,12 +8,14 @@ use Rattle.call_effects.specs.posix_calls.declared.descriptor.Descriptor.{Descri
 use Rattle.call_effects.specs.posix_calls.declared.call.Call.{Call}
 use Rattle.call_effects.specs.posix_calls.declared.call.Call.TheVariants as call
 use Rattle.call_effects.specs.posix_calls.declared.limits.TheConstants.{MAX_TRANSFER}
-use Rattle.call_effects.specs.posix_calls.Path.{reading, comes_to_name}
+use Rattle.call_effects.specs.posix_calls.Path.{path_names}
+use Rattle.call_effects.specs.posix_calls.FirstName.{comes_to_name}
 use Rattle.call_effects.specs.posix_calls.Tree.{Own}
 use Rattle.call_effects.specs.posix_calls.Walk.{is_root}
-use Rattle.call_effects.specs.posix_calls.Query.{Query, Gives, Refuses, IsDir, Look, Range, Part, Found, Known, Unknown, run_part}
+use Rattle.call_effects.specs.posix_calls.Query.{Query, Gives, Refuses, IsDir, Look, Range}
+use Rattle.call_effects.specs.posix_calls.Part.{Part, Found, Known, Unknown, run_part}
 use Rattle.call_effects.specs.posix_calls.Memory.{takes_memory, reads_bytes, lists_root}
-use Rattle.client_plan.specs.Lacking.{root_alone}
+use Rattle.client_plan.specs.NeedOrder.{root_alone}
 
 root_answer : (i : ℕ) (o : Option Bool) → root_alone.is_dir i ≡ Some o → (i ≡ 1) × (o ≡ Some true)
 root_answer i o e = elim (eqb_tells i 1) [
@@ -70,5 +72,5 @@ words_take_memory p own (call.Rmdir path) e = e
 words_take_memory p own (call.Link old new) e = e
 words_take_memory p own (call.Unlink path) e = e
 words_take_memory p own (call.Rename old new) e = e
-words_take_memory p own (call.List path) e = first_true (comes_to_name path) (lists_root root_alone (reading path)) (lists_root p (reading path)) (no_list (reading path)) e
+words_take_memory p own (call.List path) e = first_true (comes_to_name path) (lists_root root_alone (path_names path)) (lists_root p (path_names path)) (no_list (path_names path)) e
 words_take_memory p own (call.Stat path) e = e

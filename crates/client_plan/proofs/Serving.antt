@@ -3,12 +3,13 @@ use Rattle.std.proofs.Common.{◌≡◌, ◌≢◌, inl, inr, ℕ, ◌+◌, ◌<
 use Rattle.std.specs.Prelude.{option_map}
 use Rattle.std.proofs.lemmas.Bool.{or_from, or_left, true≢false}
 use Rattle.std.proofs.lemmas.Bool.Decides.{eqb_tells}
-use Rattle.call_effects.specs.posix_calls.Query.{Gives, Range, Part, Found, Known, Unknown, blocks_missing, run_part}
+use Rattle.call_effects.specs.posix_calls.Query.{Gives, Range}
+use Rattle.call_effects.specs.posix_calls.Part.{Part, Found, Known, Unknown, blocks_missing, run_part}
 use Rattle.call_effects.specs.posix_calls.declared.call.Call.{Call}
 use Rattle.call_effects.specs.posix_calls.declared.operation.Operation.{Operation}
 use Rattle.call_effects.specs.file_graph.Graph.{is_among}
 use Rattle.call_effects.specs.file_graph.declared.effect.Kind.TheVariants as kind
-use Rattle.call_effects.specs.Known.{Knowledge, part_of, with_copy, with_blocks, is_dir_by, is_told}
+use Rattle.call_effects.specs.Knowledge.{Knowledge, part_of, with_copy, with_blocks, is_dir_by, is_listed}
 use Rattle.call_effects.specs.NodeView.{NodeView, view_seen}
 use Rattle.call_effects.proofs.KnownMissing.{blocks_are_enough}
 use Rattle.call_effects.specs.Records.{units_asked}
@@ -18,8 +19,8 @@ use Rattle.client_plan.specs.declared.need.Mode.{Mode}
 use Rattle.client_plan.specs.declared.need.Mode.TheVariants.{Read, Write}
 use Rattle.client_plan.specs.declared.outcome.Outcome.TheVariants as outcomes
 use Rattle.client_plan.specs.Holdings.{Holdings, may_read}
-use Rattle.client_plan.specs.Planned.{outcome}
-use Rattle.client_plan.specs.Served.{IsLacking, AreUnread, IsShort, less, without_pin, with_pin, with_lease, with_number, with_units}
+use Rattle.client_plan.specs.CallPlan.{outcome}
+use Rattle.client_plan.specs.NeedEffects.{IsLacking, AreUnread, IsShort, without_inode, without_pin, with_pin, with_lease, with_number, with_units}
 use Rattle.client_plan.proofs.Lacks.{here, course_lacks}
 use Rattle.client_plan.proofs.Outcomes.{need_is}
 
@@ -28,11 +29,11 @@ lacking p h call need e = course_lacks p h call need (need_is p h call need e)
 
 -- ---- pins
 
-not_among : (i : ℕ) (js : List ℕ) → is_among i (less i js) ≡ false
+not_among : (i : ℕ) (js : List ℕ) → is_among i (without_inode i js) ≡ false
 not_among i [] = refl
 not_among i (j ∷ js) = elim (eqb_tells j i) [
-  | inl same ↦ subst (λ (l : List ℕ). is_among i l ≡ false) (sym (ap (λ b. cond b (less i js) (j ∷ less i js)) same.0)) (not_among i js)
-  | inr off ↦ subst (λ (l : List ℕ). is_among i l ≡ false) (sym (ap (λ b. cond b (less i js) (j ∷ less i js)) off.0)) (or_from (j == i) (is_among i (less i js)) off.0 (not_among i js))
+  | inl same ↦ subst (λ (l : List ℕ). is_among i l ≡ false) (sym (ap (λ b. cond b (without_inode i js) (j ∷ without_inode i js)) same.0)) (not_among i js)
+  | inr off ↦ subst (λ (l : List ℕ). is_among i l ≡ false) (sym (ap (λ b. cond b (without_inode i js) (j ∷ without_inode i js)) off.0)) (or_from (j == i) (is_among i (without_inode i js)) off.0 (not_among i js))
 ]
 
 pub unpinned_once : (p : Part) (h : Holdings) (call : Call) (i : ℕ) → outcome p (without_pin h i) call ≢ outcomes.Need (Unpin i)
@@ -61,8 +62,8 @@ viewed_once k h call i copy e =
     elim (lacking (part_of more) h call (View i) e) [
       | inl none ↦ absurd (let clash : Some (option_map view_seen copy) ≡ None = sym (ap (option_map (λ c. option_map view_seen c)) there) ∙ none in cc)
       | inr none ↦ elim (eqb_tells i 1) [
-        | inl root ↦ absurd (let clash : Some (Some true) ≡ None = sym (ap (λ b. cond b (Some (Some true)) (is_dir_by (more.copies i) (is_told more i kind.Directory) (is_told more i kind.File))) root.0) ∙ none in cc)
-        | inr off ↦ absurd (let clash : is_dir_by (Some copy) (is_told more i kind.Directory) (is_told more i kind.File) ≡ None = sym (ap (λ c. is_dir_by c (is_told more i kind.Directory) (is_told more i kind.File)) there) ∙ sym (ap (λ b. cond b (Some (Some true)) (is_dir_by (more.copies i) (is_told more i kind.Directory) (is_told more i kind.File))) off.0) ∙ none in cc)
+        | inl root ↦ absurd (let clash : Some (Some true) ≡ None = sym (ap (λ b. cond b (Some (Some true)) (is_dir_by (more.copies i) (is_listed more i kind.Directory) (is_listed more i kind.File))) root.0) ∙ none in cc)
+        | inr off ↦ absurd (let clash : is_dir_by (Some copy) (is_listed more i kind.Directory) (is_listed more i kind.File) ≡ None = sym (ap (λ c. is_dir_by c (is_listed more i kind.Directory) (is_listed more i kind.File)) there) ∙ sym (ap (λ b. cond b (Some (Some true)) (is_dir_by (more.copies i) (is_listed more i kind.Directory) (is_listed more i kind.File))) off.0) ∙ none in cc)
       ]
     ]
 

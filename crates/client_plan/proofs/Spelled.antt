@@ -7,7 +7,7 @@ use Rattle.call_effects.specs.file_graph.declared.effect.Effect.{Effect}
 use Rattle.call_effects.specs.log_record.Grammar.{Fits, fits, IsRecord}
 use Rattle.call_effects.specs.log_record.declared.format.Record.{Record}
 use Rattle.call_effects.proofs.log_record_lemmas.Effects.{Fits-from_fits, fits-from_Fits}
-use Rattle.client_plan.specs.Lacking.{are_fit, is_record}
+use Rattle.client_plan.specs.NeedOrder.{are_fit, is_record}
 
 fit_from : (es : List Effect) → are_fit es ≡ true → AllByRecursion Fits es
 fit_from [] h = tt

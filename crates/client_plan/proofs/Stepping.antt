@@ -8,18 +8,20 @@ use Rattle.call_effects.specs.posix_calls.declared.descriptor.Descriptor.{Descri
 use Rattle.call_effects.specs.posix_calls.declared.operation.Operation.{Operation}
 use Rattle.call_effects.specs.posix_calls.declared.operation.Operation.TheVariants.{Tell, NewDir, NewFile, OpenFile, CloseFile, Write, Resize, RemoveDir, AddName, DropName, Move}
 use Rattle.call_effects.specs.posix_calls.Tree.{Own, Descriptors, with_own}
-use Rattle.call_effects.specs.posix_calls.Query.{Gives, Known, run_part}
+use Rattle.call_effects.specs.posix_calls.Query.{Gives}
+use Rattle.call_effects.specs.posix_calls.Part.{Known, run_part}
 use Rattle.call_effects.specs.posix_calls.Decide.{decide}
-use Rattle.call_effects.specs.posix_calls.Operations.{makes, opens, reply_of, own_after, Step}
+use Rattle.call_effects.specs.posix_calls.Operations.{makes, reply_of, own_after, Step}
+use Rattle.call_effects.specs.posix_calls.Kinds.{opens}
 use Rattle.call_effects.proofs.posix_calls_lemmas.Steps.{with_same}
 use Rattle.call_effects.specs.file_graph.Graph.{Graph, is_among, touches, after_effects}
 use Rattle.call_effects.specs.file_graph.Units.{growth}
 use Rattle.call_effects.specs.file_graph.declared.effect.Effect.{Effect}
-use Rattle.call_effects.specs.log_record.Grammar.{spelling}
+use Rattle.call_effects.specs.log_record.Grammar.{record_bytes}
 use Rattle.call_effects.specs.log_record.declared.format.Record.{Record}
-use Rattle.call_effects.specs.Changed.{changes}
-use Rattle.call_effects.specs.Effects.{recounted, effects_by}
-use Rattle.call_effects.specs.Known.{Knowledge, Agrees, IsPlanned, part_of}
+use Rattle.call_effects.specs.ChangeTest.{changes}
+use Rattle.call_effects.specs.Effects.{recounted_file, effects_by}
+use Rattle.call_effects.specs.Knowledge.{Knowledge, Agrees, IsPlanned, part_of}
 use Rattle.call_effects.specs.NodeView.{NodeView, view_seen}
 use Rattle.call_effects.specs.Records.{names_if}
 use Rattle.call_effects.specs.Wholes.{IsSound, state_of}
@@ -32,8 +34,8 @@ use Rattle.client_plan.specs.declared.outcome.DescriptorChange.{DescriptorChange
 use Rattle.client_plan.specs.declared.outcome.Outcome.{Outcome}
 use Rattle.client_plan.specs.declared.outcome.Outcome.TheVariants as outcomes
 use Rattle.client_plan.specs.Holdings.{Holdings}
-use Rattle.client_plan.specs.Lacking.{is_record}
-use Rattle.client_plan.specs.Planned.{answered, outcome, made_by, change_of, own_changed}
+use Rattle.client_plan.specs.NeedOrder.{is_record}
+use Rattle.client_plan.specs.CallPlan.{answer_outcome, outcome, made_by, change_of, own_changed}
 use Rattle.client_plan.specs.Steps.{IsAnswered, IsOf, IsReady, IsRefused}
 use Rattle.client_plan.proofs.Ends.{LogGoes, OperationGoes, course_goes, course_refuses}
 use Rattle.client_plan.proofs.Outcomes.{Answer, Error, Told, ends, reply_is, log_is}
@@ -72,7 +74,7 @@ module _ (k : Knowledge) (h : Holdings) (of : IsOf k h) (call : Call) where
     module _ (log : LogGoes (part_of k) h at.new operation at.units o) where
       effects_are : (names : ℕ) × (effects_by names at.new operation ≡ log.change.effects)
       effects_are =
-          let found = bind_known (part_of k) (names_if (recounted operation)) (λ names. Gives (effects_by names at.new operation)) log.change.effects log.effects in
+          let found = bind_known (part_of k) (names_if (recounted_file operation)) (λ names. Gives (effects_by names at.new operation)) log.change.effects log.effects in
           (found.0, result_is (part_of k) (effects_by found.0 at.new operation) log.change.effects found.2)
 
       leased : (i : ℕ) → is_among i (touches log.change.effects) ≡ true → h.writes i ≡ true
@@ -85,7 +87,7 @@ module _ (k : Knowledge) (h : Holdings) (of : IsOf k h) (call : Call) where
 
       ready : IsReady k h call log.change (reply_of operation) (made_by at.new operation) (change_of at.new operation)
       ready =
-          let fits = and_parts (is_record log.change) (nat_le (length (spelling log.change)) log.most) log.fits in
+          let fits = and_parts (is_record log.change) (nat_le (length (record_bytes log.change)) log.most) log.fits in
           record {
             operation = operation;
             new = at.new;
@@ -98,7 +100,7 @@ module _ (k : Knowledge) (h : Holdings) (of : IsOf k h) (call : Call) where
             spelled = record_from log.change fits.0;
             most = log.most;
             room = log.room;
-            short = leb-true (length (spelling log.change)) log.most fits.1;
+            short = leb-true (length (record_bytes log.change)) log.most fits.1;
             told = refl;
             makes = refl;
             opens = refl;
@@ -118,12 +120,12 @@ module _ (k : Knowledge) (h : Holdings) (of : IsOf k h) (call : Call) where
       let at = course_goes (part_of k) h call o (log_is (part_of k) h call entry reply made change e) in
       elim (ends (part_of k) h at.0 o at.2) [
         | inl log ↦ ready_as entry log.change reply (reply_of at.0) made (made_by at.2.new at.0) change (change_of at.2.new at.0) log.is (ready at.0 at.1 o at.2 log)
-        | inr told ↦ absurd (let clash : outcomes.Log entry reply made change ≡ answered at.2.new at.0 = told.1 in cc)
+        | inr told ↦ absurd (let clash : outcomes.Log entry reply made change ≡ answer_outcome at.2.new at.0 = told.1 in cc)
       ]
 
   -- ---- a call that is answered
 
-  told_ready : (reply : Reply) (change : Option DescriptorChange) (operation : Operation) (new : ℕ) → IsPlanned k call new operation [] → ((what : ℕ × Descriptor) → opens new operation ≡ Some what → is_among what.1.inode h.pins ≡ true) → outcomes.Reply reply change ≡ answered new operation → IsAnswered k h call reply change
+  told_ready : (reply : Reply) (change : Option DescriptorChange) (operation : Operation) (new : ℕ) → IsPlanned k call new operation [] → ((what : ℕ × Descriptor) → opens new operation ≡ Some what → is_among what.1.inode h.pins ≡ true) → outcomes.Reply reply change ≡ answer_outcome new operation → IsAnswered k h call reply change
   told_ready reply change operation new plan pinned is = record {
     operation = operation;
     new = new;

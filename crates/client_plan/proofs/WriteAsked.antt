@@ -6,15 +6,16 @@ use Rattle.call_effects.specs.posix_calls.declared.errno.Errno.TheVariants as er
 use Rattle.call_effects.specs.posix_calls.declared.limits.TheConstants.{MAX_FILE, MAX_TRANSFER}
 use Rattle.call_effects.specs.posix_calls.declared.operation.Missing.TheVariants as missing
 use Rattle.call_effects.specs.posix_calls.declared.operation.Operation.TheVariants.{Write}
-use Rattle.call_effects.specs.posix_calls.Decide.{opened, pwrite, write_at}
-use Rattle.call_effects.specs.posix_calls.Query.{Seen, Gives, Refuses, Part, Known, Unknown, ◌>>=◌, run_part}
+use Rattle.call_effects.specs.posix_calls.Decide.{open_inode, pwrite, write_at}
+use Rattle.call_effects.specs.posix_calls.Query.{Seen, Gives, Refuses, ◌>>=◌}
+use Rattle.call_effects.specs.posix_calls.Part.{Part, Known, Unknown, run_part}
 use Rattle.call_effects.specs.posix_calls.Tree.{Own}
 use Rattle.call_effects.specs.posix_calls.Walk.{refuse, size_seen}
 use Rattle.call_effects.specs.file_graph.declared.effect.Effect.TheVariants.{Bytes}
 use Rattle.call_effects.specs.Records.{effects_asked, units_asked, file_rise}
 
-opened_gives : (o : Option Descriptor) (d : Descriptor) → o ≡ Some d → d.writes ≡ true → opened (λ d. d.writes) o ≡ Gives d.inode
-opened_gives o d is writes = ap (opened (λ d. d.writes)) is ∙ ap (λ b. cond b (Gives d.inode) (Refuses errno.BadDescriptor)) writes
+opened_gives : (o : Option Descriptor) (d : Descriptor) → o ≡ Some d → d.writes ≡ true → open_inode (λ d. d.writes) o ≡ Gives d.inode
+opened_gives o d is writes = ap (open_inode (λ d. d.writes)) is ∙ ap (λ b. cond b (Gives d.inode) (Refuses errno.BadDescriptor)) writes
 
 write_gives : (i at : ℕ) (bytes : List ℕ) → 1 ≤ length bytes → nat_lt MAX_FILE (at + length bytes) ≡ false → write_at i at bytes ≡ Gives (Write i at bytes)
 unfolding ◌>>=◌

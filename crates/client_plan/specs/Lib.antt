@@ -1,10 +1,10 @@
-pub mod Course
+pub mod PlanSteps
 pub mod Holdings
-pub mod Lacking
+pub mod NeedOrder
 pub mod Memory
 pub mod PlainWrite
-pub mod Planned
-pub mod Served
+pub mod CallPlan
+pub mod NeedEffects
 pub mod Steps
 -- Passed on to the crates above, which so need not list those below.
 pub use Rattle.call_effects.specs.file_graph

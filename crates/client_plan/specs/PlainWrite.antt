@@ -2,7 +2,8 @@
 use Rattle.std.specs.Prelude.{◌≡◌, ℕ, ◌+◌, ◌<◌, ◌≤◌, ◌^◌, max, nat_le, List, [], ◌∷◌, length, Bool, true, false, Option, Some, None}
 use Rattle.call_effects.specs.posix_calls.declared.descriptor.Descriptor.{Descriptor}
 use Rattle.call_effects.specs.posix_calls.declared.call.Reply.TheVariants.{Wrote}
-use Rattle.call_effects.specs.posix_calls.Query.{Part, Seen}
+use Rattle.call_effects.specs.posix_calls.Query.{Seen}
+use Rattle.call_effects.specs.posix_calls.Part.{Part}
 use Rattle.call_effects.specs.posix_calls.Walk.{size_seen}
 use Rattle.call_effects.specs.file_graph.Numbers.{is_inode}
 use Rattle.call_effects.specs.file_graph.declared.effect.Effect.TheVariants.{Bytes}

@@ -1,8 +1,9 @@
 -- How what a client has stands to what it knows, and a call that is answered or logged.
 use Rattle.std.specs.Prelude.{◌≡◌, ◌⊎◌, ℕ, ◌≤◌, [], length, true, Option, Some, None, IsSome, Ok, Err}
-use Rattle.call_effects.specs.posix_calls.Query.{Known, run_part}
+use Rattle.call_effects.specs.posix_calls.Part.{Known, run_part}
 use Rattle.call_effects.specs.posix_calls.Decide.{decide}
-use Rattle.call_effects.specs.posix_calls.Operations.{opens, reply_of}
+use Rattle.call_effects.specs.posix_calls.Operations.{reply_of}
+use Rattle.call_effects.specs.posix_calls.Kinds.{opens}
 use Rattle.call_effects.specs.posix_calls.declared.call.Call.{Call}
 use Rattle.call_effects.specs.posix_calls.declared.call.Reply.{Reply}
 use Rattle.call_effects.specs.posix_calls.declared.call.Reply.TheVariants.{Failed}
@@ -10,13 +11,13 @@ use Rattle.call_effects.specs.posix_calls.declared.descriptor.Descriptor.{Descri
 use Rattle.call_effects.specs.posix_calls.declared.errno.Errno.{Errno}
 use Rattle.call_effects.specs.posix_calls.declared.operation.Operation.{Operation}
 use Rattle.call_effects.specs.file_graph.Graph.{is_among, touches}
-use Rattle.call_effects.specs.log_record.Grammar.{IsRecord, spelling}
+use Rattle.call_effects.specs.log_record.Grammar.{IsRecord, record_bytes}
 use Rattle.call_effects.specs.log_record.declared.format.Record.{Record}
-use Rattle.call_effects.specs.Known.{Knowledge, IsPlanned, part_of}
+use Rattle.call_effects.specs.Knowledge.{Knowledge, IsPlanned, part_of}
 use Rattle.call_effects.specs.Records.{units_asked}
 use Rattle.client_plan.specs.declared.outcome.DescriptorChange.{DescriptorChange}
 use Rattle.client_plan.specs.Holdings.{Holdings}
-use Rattle.client_plan.specs.Planned.{change_of, made_by}
+use Rattle.client_plan.specs.CallPlan.{change_of, made_by}
 
 -- what a client has is of the client that knows this
 pub record IsOf (k : Knowledge) (h : Holdings) : Type 0 where
@@ -53,7 +54,7 @@ pub record IsReady (k : Knowledge) (h : Holdings) (call : Call) (change : Record
   pub spelled : IsRecord change
   pub most : ℕ
   pub room : h.room ≡ Some most
-  pub short : length (spelling change) ≤ most
+  pub short : length (record_bytes change) ≤ most
   -- what is answered then, and what becomes of the client
   pub told : reply ≡ reply_of operation
   pub makes : made ≡ made_by new operation

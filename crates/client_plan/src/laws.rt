@@ -2,7 +2,7 @@
 
 ghost use Rattle.std.specs.Prelude.{◌≡◌, ◌≢◌, ◌⊎◌, ◌<◌, ◌≤◌, ℕ, List, Option, Some, length};
 ghost use Rattle.call_effects.specs.posix_calls.Tree.{Descriptors, with_own};
-ghost use Rattle.call_effects.specs.posix_calls.Query.{Part};
+ghost use Rattle.call_effects.specs.posix_calls.Part.{Part};
 ghost use Rattle.call_effects.specs.posix_calls.Operations.{Step};
 ghost use Rattle.call_effects.specs.posix_calls.declared.call.Call.{Call};
 ghost use Rattle.call_effects.specs.posix_calls.declared.call.Call.TheVariants as calls;
@@ -10,7 +10,7 @@ ghost use Rattle.call_effects.specs.posix_calls.declared.call.Reply.{Reply};
 ghost use Rattle.call_effects.specs.file_graph.Graph.{Graph, after_effects};
 ghost use Rattle.call_effects.specs.file_graph.Units.{growth};
 ghost use Rattle.call_effects.specs.log_record.declared.format.Record.{Record};
-ghost use Rattle.call_effects.specs.Known.{Knowledge, Agrees, part_of, with_copy, with_blocks};
+ghost use Rattle.call_effects.specs.Knowledge.{Knowledge, Agrees, part_of, with_copy, with_blocks};
 ghost use Rattle.call_effects.specs.NodeView.{NodeView};
 ghost use Rattle.call_effects.specs.Wholes.{IsSound, state_of};
 ghost use Rattle.client_plan.specs.declared.need.Need.{Need};
@@ -21,8 +21,8 @@ ghost use Rattle.client_plan.specs.declared.outcome.Outcome.TheVariants as outco
 ghost use Rattle.client_plan.specs.declared.plain_writes.PlainWrite.{PlainWrite};
 ghost use Rattle.client_plan.specs.Holdings.{Holdings};
 ghost use Rattle.client_plan.specs.PlainWrite.{IsPlainWrite, write_logged};
-ghost use Rattle.client_plan.specs.Planned.{outcome, own_changed};
-ghost use Rattle.client_plan.specs.Served.{IsLacking, without_pin, with_pin, with_lease, with_number, with_units};
+ghost use Rattle.client_plan.specs.CallPlan.{outcome, own_changed};
+ghost use Rattle.client_plan.specs.NeedEffects.{IsLacking, without_pin, with_pin, with_lease, with_number, with_units};
 ghost use Rattle.client_plan.specs.Steps.{IsAnswered, IsOf, IsReady, IsRefused};
 
 /// What a call is told to need the client lacks. So once it is served, the same call needs it no longer: not a pin that was given back, a lease

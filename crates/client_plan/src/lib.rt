@@ -1,19 +1,20 @@
 //! What a client's call comes to, by what the client knows and has: a reply, the first thing that it lacks, or a record for its log.
 //!
 //! `plan_call` decides it, and changes nothing. What a call needs, and in which order it is asked for, is told line by line in
-//! `specs/Lacking.antt`, and put together in `specs/Planned.antt`. What the client knows of the tree is a `TreeAnswers` of `posix_calls`,
+//! `specs/NeedOrder.antt`, and put together in `specs/CallPlan.antt`. What the client knows of the tree is a `TreeAnswers` of `posix_calls`,
 //! and what it has beside that a `Supplies`. `plain_write` finds a write that lacks nothing at once, as most do. That this is right is told by the laws.
 #![tactic(auto)]
 
+mod call_plan;
 mod laws;
 mod need;
 mod outcome;
 mod plain_writes;
-mod planning;
 mod stop;
 mod supplies;
 mod words;
 
+pub use call_plan::plan_call;
 pub use laws::{
     answered_call_is_a_step, logged_call_is_a_step, plain_write_is_logged,
     served_need_is_lacking_no_longer,
@@ -21,7 +22,6 @@ pub use laws::{
 pub use need::{Mode, Need};
 pub use outcome::{DescriptorChange, Outcome};
 pub use plain_writes::{PlainWrite, plain_write, record_of_write};
-pub use planning::plan_call;
 pub use supplies::Supplies;
 
 // Passed on to the crates above, which so need not list those below.

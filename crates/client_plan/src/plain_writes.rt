@@ -1,13 +1,13 @@
 // A write for which nothing is lacking, as for most: it is planned at once, without its operation.
 ghost use Rattle.std.specs.Prelude.{◌≡◌, ◌<◌, ◌≤◌, max, ℕ, [], IfNone, IfOk, IfSome};
 ghost use Rattle.call_effects.specs.posix_calls.declared.limits.TheConstants.{MAX_FILE};
-ghost use Rattle.call_effects.specs.posix_calls.Content.{file_units};
+ghost use Rattle.call_effects.specs.posix_calls.Units.{file_units};
 ghost use Rattle.call_effects.specs.log_record.Grammar.{is_write};
 ghost use Rattle.call_effects.specs.Records.{file_rise};
 ghost use Rattle.client_plan.specs.PlainWrite.{IsPlainWrite, IsWritable, has_place, written_by};
 ghost use Rattle.client_plan.specs.declared.plain_writes.PlainWrite.{PlainWrite};
 
-use crate::planning::first_unused;
+use crate::call_plan::first_unused;
 use crate::supplies::Supplies;
 use call_effects::{
     Effect, FileGraphEffects as Effects, MAX_FILE, MAX_TRANSFER, Record, SharedBytes, TreeAnswers,
@@ -46,7 +46,7 @@ pub fn plain_write<T: TreeAnswers, S: Supplies>(
     let Some(size) = tree.file_size(inode) else {
         return None;
     };
-    let units = rise(size, at + count as u64);
+    let units = growth(size, at + count as u64);
     if has.spare() < units {
         return None;
     }
@@ -86,7 +86,7 @@ fn has_place(most: Option<usize>, count: usize) -> bool
 }
 
 // The rise of a file of a size that is written up to an end.
-fn rise(size: u64, end: u64) -> u32
+fn growth(size: u64, end: u64) -> u32
     requires { end ≤ MAX_FILE }
     ensures { result ≡ file_rise size (max size end) }
 {

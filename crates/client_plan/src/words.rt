@@ -1,5 +1,5 @@
 ghost use Rattle.std.specs.Prelude.{◌≡◌};
-ghost use Rattle.client_plan.specs.Lacking.{root_alone};
+ghost use Rattle.client_plan.specs.NeedOrder.{root_alone};
 
 use call_effects::{Bytes, Description, NamedInode, Names, ROOT, TreeAnswers};
 use std::alloc::{AllocError, Global};

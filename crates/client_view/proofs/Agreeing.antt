@@ -9,7 +9,7 @@ use Rattle.client_plan.specs.file_graph.Graph.{Graph, Node, FileBody, DirBody, f
 use Rattle.client_plan.specs.file_graph.Numbers.{in_run}
 use Rattle.client_plan.specs.log_record.declared.format.Record.{Record}
 use Rattle.world_invariant.specs.call_effects.Blocks.{block_of}
-use Rattle.world_invariant.specs.call_effects.Known.{Knowledge, Agrees, IsForgetful, with_blocks, with_copy}
+use Rattle.world_invariant.specs.call_effects.Knowledge.{Knowledge, Agrees, IsForgetful, with_blocks, with_copy}
 use Rattle.world_invariant.specs.call_effects.NodeView.{NodeView, FileView, view_at, view_of_node}
 use Rattle.world_invariant.proofs.call_effects_lemmas.Served.{blocks_agree, copy_agrees, less_agrees}
 use Rattle.world_invariant.specs.Logs.{after_records}

@@ -13,17 +13,17 @@ use Rattle.client_plan.specs.file_graph.declared.effect.Effect.{Effect}
 use Rattle.client_plan.specs.log_record.declared.format.Record.{Record}
 use Rattle.world_invariant.specs.call_effects.Blocks.{block_after}
 use Rattle.world_invariant.specs.call_effects.NodeView.{NodeView, view_after}
-use Rattle.world_invariant.specs.call_effects.Known.{Knowledge, Agrees, IsForgetful, IsPlanned, knows_after, knows_made, part_of}
+use Rattle.world_invariant.specs.call_effects.Knowledge.{Knowledge, Agrees, IsForgetful, IsPlanned, knows_after, knows_made, part_of}
 use Rattle.world_invariant.specs.call_effects.Wholes.{IsSound}
 use Rattle.world_invariant.proofs.call_effects_lemmas.KnownAfter.{agrees_after, made_agrees}
 use Rattle.world_invariant.proofs.call_effects_lemmas.Served.{less_agrees}
 use Rattle.client_plan.specs.declared.outcome.DescriptorChange.{DescriptorChange}
 use Rattle.client_plan.specs.declared.outcome.Outcome.TheVariants as outcomes
 use Rattle.client_plan.specs.Holdings.{Holdings}
-use Rattle.client_plan.specs.Planned.{change_of, outcome, own_changed}
+use Rattle.client_plan.specs.CallPlan.{change_of, outcome, own_changed}
 use Rattle.client_plan.specs.Steps.{IsOf}
 use Rattle.client_plan.proofs.Stepping.{logged_ready}
-use Rattle.client_view.specs.Logged.{knows_logged}
+use Rattle.client_view.specs.AfterRecord.{knows_logged}
 use Rattle.client_view.proofs.Untouched.{untouched_block}
 
 -- the change of the descriptors is that of the operation

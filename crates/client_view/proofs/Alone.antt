@@ -5,12 +5,12 @@ use Rattle.std.proofs.lemmas.Bool.{cases_eq, eq-eqb, ne_eqb, cond-true, cond-fal
 use Rattle.std.proofs.lemmas.List.Concat.{flat_map-cons}
 use Rattle.client_plan.specs.file_graph.Graph.{is_among, subjects, touches}
 use Rattle.client_plan.specs.file_graph.declared.effect.Effect.{Effect}
-use Rattle.block_cache.specs.Cached.{without_file}
+use Rattle.block_cache.specs.CacheList.{without_file}
 use Rattle.world_invariant.specs.call_effects.NodeView.{NodeView, view_acted}
-use Rattle.record_validation.specs.Known.{known_after}
+use Rattle.record_validation.specs.KnownNodes.{known_after}
 use Rattle.record_validation.proofs.Steps.{on_one}
-use Rattle.client_view.specs.Held.{Held, copy_at, knows}
-use Rattle.client_view.specs.Logged.{with_effects}
+use Rattle.client_view.specs.KnowledgeTables.{Held, copy_at, knows}
+use Rattle.client_view.specs.AfterRecord.{with_effects}
 use Rattle.client_view.proofs.Known.{set_is_known}
 use Rattle.client_view.proofs.Untouched.{untouched_copy}
 

@@ -4,7 +4,7 @@ use Rattle.client_plan.specs.log_record.declared.format.Record.{Record}
 use Rattle.world_invariant.specs.call_effects.Blocks.{block_after}
 use Rattle.world_invariant.specs.call_effects.NodeView.{NodeView, view_after}
 use Rattle.client_view.specs.After.{block_laid, node_laid}
-use Rattle.client_view.specs.Kept.{Kept, beyond}
+use Rattle.client_view.specs.RecordLists.{Kept, beyond}
 
 node_joined : (rs more : List Record) (i : ℕ) (there : Option NodeView) → node_laid (rs ++ more) i there ≡ node_laid more i (node_laid rs i there)
 node_joined [] more i there = refl

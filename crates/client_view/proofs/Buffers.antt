@@ -3,7 +3,7 @@ use Rattle.std.proofs.Common.{◌≡◌, ◌<◌, ◌≤◌, ℕ, ◌+◌, ◌-�
 use Rattle.std.proofs.Math.Decide.{dec_le}
 use Rattle.std.proofs.Math.Seq.{take-append-add}
 use Rattle.std.proofs.lemmas.List.{take-take, take_all, take_at, take-append-le, take-replicate, drop_all, drop-take, length-take-le, length-replicate, length-append, length-drop}
-use Rattle.client_plan.specs.posix_calls.Content.{resized, written}
+use Rattle.client_plan.specs.posix_calls.Content.{with_length, with_bytes}
 use Rattle.client_plan.proofs.posix_calls_lemmas.Within.{resized_length}
 
 -- ---- zeros behind the front
@@ -24,7 +24,7 @@ unfilled buffer len end less =
 
 -- ---- cut or grown
 
-cut_or_grown : (m : ℕ) (xs : List ℕ) → take m (xs ++ replicate (m - length xs) 0) ≡ resized m xs
+cut_or_grown : (m : ℕ) (xs : List ℕ) → take m (xs ++ replicate (m - length xs) 0) ≡ with_length m xs
 cut_or_grown m xs = elim (dec_le m (length xs)) [
   | yes less ↦ take-append-le m xs (replicate (m - length xs) 0) less ∙ sym (none_more m (length xs) less (take m xs))
   | no more ↦
@@ -33,7 +33,7 @@ cut_or_grown m xs = elim (dec_le m (length xs)) [
       take_all m (xs ++ replicate (m - length xs) 0) long ∙ ap (λ ys. ys ++ replicate (m - length xs) 0) (sym (take_all m xs short))
 ]
 
-pub resizes : (old new : List ℕ) (len end : ℕ) → len ≤ length old → take (max len end) new ≡ take len old ++ replicate (end - len) 0 → take end new ≡ resized end (take len old)
+pub resizes : (old new : List ℕ) (len end : ℕ) → len ≤ length old → take (max len end) new ≡ take len old ++ replicate (end - len) 0 → take end new ≡ with_length end (take len old)
 resizes old new len end within grown =
     let long : length (take len old) ≡ len = length-take-le len old within in
     let most : end ≤ max len end = omega arith in
@@ -66,7 +66,7 @@ module _ (old new bytes : List ℕ) (len offset : ℕ) (within : len ≤ length 
         ∙ ap (drop end) (grown ∙ none_more offset len low (take len old))
   ]
 
-  pub puts : take (max len end) (take offset new ++ bytes ++ drop end new) ≡ written offset bytes (take len old)
+  pub puts : take (max len end) (take offset new ++ bytes ++ drop end new) ≡ with_bytes offset bytes (take len old)
   puts =
       let split : max len end ≡ length (take offset new ++ bytes) + (max len end - end) = omega (arith, front) in
       ap (λ n. take n (take offset new ++ bytes ++ drop end new)) split
@@ -76,7 +76,7 @@ module _ (old new bytes : List ℕ) (len offset : ℕ) (within : len ≤ length 
 
 -- ---- what of a write lies in the first m bytes
 
-grown_front : (m off : ℕ) (xs : List ℕ) → length xs ≤ m → m ≤ off → take m (resized off xs) ≡ resized m xs
+grown_front : (m off : ℕ) (xs : List ℕ) → length xs ≤ m → m ≤ off → take m (with_length off xs) ≡ with_length m xs
 grown_front m off xs short more =
     let all : length xs ≤ off = omega (arith, short, more) in
     let rest : length xs + (m - length xs) ≡ m = omega (arith, short) in
@@ -87,55 +87,55 @@ grown_front m off xs short more =
     ∙ ap (λ ys. xs ++ ys) (take-replicate (m - length xs) (off - length xs) 0 fewer)
     ∙ ap (λ ys. ys ++ replicate (m - length xs) 0) (sym (take_all m xs short))
 
-behind_all : (m off : ℕ) (new old : List ℕ) → length old ≤ m → m ≤ off → take m (written off new old) ≡ resized m old
+behind_all : (m off : ℕ) (new old : List ℕ) → length old ≤ m → m ≤ off → take m (with_bytes off new old) ≡ with_length m old
 behind_all m off new old short more =
-    let long : m ≤ length (resized off old) = omega (arith, more, resized_length off old) in
-    ap (take m) (append_assoc (resized off old) new (drop (off + length new) old))
-    ∙ take-append-le m (resized off old) (new ++ drop (off + length new) old) long
+    let long : m ≤ length (with_length off old) = omega (arith, more, resized_length off old) in
+    ap (take m) (append_assoc (with_length off old) new (drop (off + length new) old))
+    ∙ take-append-le m (with_length off old) (new ++ drop (off + length new) old) long
     ∙ grown_front m off old short more
 
-within_all : (m off : ℕ) (new old : List ℕ) → length old ≤ m → off + length new ≤ m → take m (written off new old) ≡ written off new old
+within_all : (m off : ℕ) (new old : List ℕ) → length old ≤ m → off + length new ≤ m → take m (with_bytes off new old) ≡ with_bytes off new old
 within_all m off new old short less =
-    take_all m (written off new old) (omega (arith, short, less, length-append (resized off old ++ new) (drop (off + length new) old), length-append (resized off old) new, resized_length off old, length-drop (off + length new) old))
+    take_all m (with_bytes off new old) (omega (arith, short, less, length-append (with_length off old ++ new) (drop (off + length new) old), length-append (with_length off old) new, resized_length off old, length-drop (off + length new) old))
 
-cut_off : (m off : ℕ) (new old : List ℕ) → length old ≤ m → off ≤ m → m ≤ off + length new → take m (written off new old) ≡ written off (take (m - off) new) old
+cut_off : (m off : ℕ) (new old : List ℕ) → length old ≤ m → off ≤ m → m ≤ off + length new → take m (with_bytes off new old) ≡ with_bytes off (take (m - off) new) old
 cut_off m off new old short low high =
-    let long : m ≤ length (resized off old ++ new) = omega (arith, high, length-append (resized off old) new, resized_length off old) in
-    let rest : m ≡ length (resized off old) + (m - off) = omega (arith, low, resized_length off old) in
+    let long : m ≤ length (with_length off old ++ new) = omega (arith, high, length-append (with_length off old) new, resized_length off old) in
+    let rest : m ≡ length (with_length off old) + (m - off) = omega (arith, low, resized_length off old) in
     let many : length (take (m - off) new) ≡ m - off = length-take-le (m - off) new (omega (arith, low, high)) in
     let none : length old ≤ off + length (take (m - off) new) = omega (arith, short, low, many) in
-    take-append-le m (resized off old ++ new) (drop (off + length new) old) long
-    ∙ ap (λ n. take n (resized off old ++ new)) rest
-    ∙ take-append-add (resized off old) new (m - off)
-    ∙ sym (append-nil (resized off old ++ take (m - off) new))
-    ∙ ap (λ ys. resized off old ++ take (m - off) new ++ ys) (sym (drop_all (off + length (take (m - off) new)) old none))
+    take-append-le m (with_length off old ++ new) (drop (off + length new) old) long
+    ∙ ap (λ n. take n (with_length off old ++ new)) rest
+    ∙ take-append-add (with_length off old) new (m - off)
+    ∙ sym (append-nil (with_length off old ++ take (m - off) new))
+    ∙ ap (λ ys. with_length off old ++ take (m - off) new ++ ys) (sym (drop_all (off + length (take (m - off) new)) old none))
 
 module _ (m off skip : ℕ) (bytes old : List ℕ) (short : length old ≤ m) where
   abbrev new : List ℕ
   new = drop skip bytes
 
-  pub writes : (o : ℕ) → o ≡ min m off → take m (written off new old) ≡ written o (take (m - o) new) old
+  pub writes : (o : ℕ) → o ≡ min m off → take m (with_bytes off new old) ≡ with_bytes o (take (m - o) new) old
   writes o is = elim (dec_le off m) [
     | yes low ↦
         let same : off ≡ o = omega (arith, low, is) in
-        by_end low ∙ ap (λ n. written n (take (m - n) new) old) same
+        by_end low ∙ ap (λ n. with_bytes n (take (m - n) new) old) same
     | no high ↦
         let same : m ≡ o = omega (arith, high, is) in
         let none : m - m ≡ 0 = omega arith in
         let past : length old ≤ m + 0 = omega (arith, short) in
-        let here : take m (written off new old) ≡ written m (take (m - m) new) old =
+        let here : take m (with_bytes off new old) ≡ with_bytes m (take (m - m) new) old =
         behind_all m off new old short (omega (arith, high))
-        ∙ sym (append-nil (resized m old))
-        ∙ sym (append-nil (resized m old ++ []))
-        ∙ ap (λ ys. resized m old ++ [] ++ ys) (sym (drop_all (m + 0) old past))
-        ∙ ap (λ n. written m (take n new) old) (sym none) in
-        here ∙ ap (λ n. written n (take (m - n) new) old) same
+        ∙ sym (append-nil (with_length m old))
+        ∙ sym (append-nil (with_length m old ++ []))
+        ∙ ap (λ ys. with_length m old ++ [] ++ ys) (sym (drop_all (m + 0) old past))
+        ∙ ap (λ n. with_bytes m (take n new) old) (sym none) in
+        here ∙ ap (λ n. with_bytes n (take (m - n) new) old) same
   ]
     where
-      by_end : off ≤ m → take m (written off new old) ≡ written off (take (m - off) new) old
+      by_end : off ≤ m → take m (with_bytes off new old) ≡ with_bytes off (take (m - off) new) old
       by_end low = elim (dec_le m (off + length new)) [
         | yes long ↦ cut_off m off new old short low long
         | no less ↦
             let all : length new ≤ m - off = omega (arith, less, low) in
-            within_all m off new old short (omega (arith, less)) ∙ ap (λ xs. written off xs old) (sym (take_all (m - off) new all))
+            within_all m off new old short (omega (arith, less)) ∙ ap (λ xs. with_bytes off xs old) (sym (take_all (m - off) new all))
       ]

@@ -14,7 +14,7 @@ use Rattle.client_plan.specs.file_graph.Plain.{PlainEntry, pairs}
 use Rattle.client_plan.specs.file_graph.declared.effect.Kind.{Kind}
 use Rattle.world_invariant.specs.call_effects.NodeView.{NodeView, FileView, DirView}
 use Rattle.record_validation.specs.Counts.{counts_of}
-use Rattle.record_validation.specs.Seen.{entries_of}
+use Rattle.record_validation.specs.NodeAnswers.{entries_of}
 use Rattle.record_validation.specs.declared.node_counts.NodeCounts.TheVariants as counts
 
 abbrev Row : Type 0

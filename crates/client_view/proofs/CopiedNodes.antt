@@ -6,12 +6,12 @@ use Rattle.std.proofs.lemmas.Bool.{cases_eq, eq-eqb, ne_eqb, cond-true, cond-fal
 use Rattle.client_plan.specs.file_graph.Graph.{is_among, subjects, touches}
 use Rattle.client_plan.specs.file_graph.declared.effect.Effect.{Effect}
 use Rattle.world_invariant.specs.call_effects.NodeView.{NodeView, view_after}
-use Rattle.world_invariant.specs.call_effects.Known.{Knowledge, with_copy}
+use Rattle.world_invariant.specs.call_effects.Knowledge.{Knowledge, with_copy}
 use Rattle.record_validation.proofs.Steps.{on_one}
-use Rattle.client_view.specs.Forgotten.{without_blocks}
-use Rattle.client_view.specs.Held.{Held, copy_at, size_known, block_by, block_known, knows}
-use Rattle.client_view.specs.Logged.{put_over, with_effects}
-use Rattle.client_view.specs.Prepared.{nodes_after}
+use Rattle.client_view.specs.KnowledgeChanges.{without_blocks}
+use Rattle.client_view.specs.KnowledgeTables.{Held, copy_at, size_known, block_by, block_known, knows}
+use Rattle.client_view.specs.AfterRecord.{put_over, with_effects}
+use Rattle.client_view.specs.Preparation.{nodes_after}
 use Rattle.client_view.proofs.Untouched.{among_more, untouched_copy}
 
 abbrev Copy : Type 0

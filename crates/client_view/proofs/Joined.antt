@@ -2,11 +2,11 @@
 use Rattle.std.proofs.Common.{◌≡◌, ℕ, zero, suc, ◌+◌, ◌-◌, ◌*◌, ◌/◌, ◌%◌, ◌<◌, List, [], ◌∷◌, ◌++◌, length, take, drop, Option, Some, None, refl, ap, sym, ◌∙◌, true, arith, append_assoc, append-nil}
 use Rattle.std.specs.Prelude.{is_some, option_map}
 use Rattle.client_plan.specs.posix_calls.Content.{range}
-use Rattle.client_plan.specs.posix_calls.Query.{blocks_touched}
-use Rattle.world_invariant.specs.call_effects.Blocks.{followed, blocks_joined, range_by}
+use Rattle.client_plan.specs.posix_calls.Part.{blocks_touched}
+use Rattle.world_invariant.specs.call_effects.Blocks.{joined_bytes, blocks_joined, range_by}
 
 -- the first block, and what follows it
-split : (block : List ℕ) (o : Option (List ℕ)) (joined : List ℕ) → followed (Some block) o ≡ Some joined → (more : List ℕ) × (o ≡ Some more) × (joined ≡ block ++ more)
+split : (block : List ℕ) (o : Option (List ℕ)) (joined : List ℕ) → joined_bytes (Some block) o ≡ Some joined → (more : List ℕ) × (o ≡ Some more) × (joined ≡ block ++ more)
 split block None joined e = absurd (cc)
 split block (Some more) joined e = (more, refl, cc)
 
@@ -44,9 +44,9 @@ range_none : (skip len : ℕ) → range skip len [] ≡ []
 range_none skip len = ap (take len) (drop_none skip) ∙ take_none len
 
 module _ (blocks : ℕ → Option (List ℕ)) where
-  joined_step : (first count : ℕ) → 0 < count → blocks_joined blocks first count ≡ followed (blocks first) (blocks_joined blocks (first + 1) (count - 1))
+  joined_step : (first count : ℕ) → 0 < count → blocks_joined blocks first count ≡ joined_bytes (blocks first) (blocks_joined blocks (first + 1) (count - 1))
   joined_step first zero some = absurd (omega arith)
-  joined_step first (suc count) some = let less : count ≡ suc count - 1 = omega arith in ap (λ n. followed (blocks first) (blocks_joined blocks (first + 1) n)) less
+  joined_step first (suc count) some = let less : count ≡ suc count - 1 = omega arith in ap (λ n. joined_bytes (blocks first) (blocks_joined blocks (first + 1) n)) less
 
   -- no block has bytes
   pub joins_none : (first skip len : ℕ) (old : List ℕ) (joined : List ℕ) → blocks_joined blocks first 0 ≡ Some joined → old ≡ old ++ range skip len joined
@@ -56,7 +56,7 @@ module _ (blocks : ℕ → Option (List ℕ)) where
   pub joins : (first count skip len : ℕ) (block old mid new : List ℕ) (behind : ℕ × ℕ) → 0 < count → Some block ≡ blocks first → mid ≡ old ++ range skip len block → behind.0 ≡ skip - length block → behind.1 ≡ len - length (range skip len block)
       → ((joined : List ℕ) → blocks_joined blocks (first + 1) (count - 1) ≡ Some joined → new ≡ mid ++ range behind.0 behind.1 joined) → (joined : List ℕ) → blocks_joined blocks first count ≡ Some joined → new ≡ old ++ range skip len joined
   joins first count skip len block old mid new behind some is at skipped left rest joined all =
-      let parts = split block (blocks_joined blocks (first + 1) (count - 1)) joined (ap (λ o. followed o (blocks_joined blocks (first + 1) (count - 1))) is ∙ sym (joined_step first count some) ∙ all) in
+      let parts = split block (blocks_joined blocks (first + 1) (count - 1)) joined (ap (λ o. joined_bytes o (blocks_joined blocks (first + 1) (count - 1))) is ∙ sym (joined_step first count some) ∙ all) in
       rest parts.0 parts.1 ∙ (λ k. at k ++ range (skipped k) (left k) parts.0) ∙ append_assoc old (range skip len block) (range (skip - length block) (len - length (range skip len block)) parts.0)
       ∙ ap (λ xs. old ++ xs) (sym (range_past skip len block parts.0) ∙ ap (range skip len) (sym parts.2))
 

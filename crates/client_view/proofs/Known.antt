@@ -3,15 +3,15 @@ use Rattle.std.proofs.Common.{◌≡◌, ◌≢◌, ℕ, ◌<◌, List, Option, 
 use Rattle.std.specs.Prelude.{◌==◌, ◌-◌, ◌*◌, nat_lt, take, option_map, if◌then◌else◌}
 use Rattle.std.proofs.lemmas.List.{get_or-set_same, get_or-set_other}
 use Rattle.std.proofs.lemmas.Bool.{cases_eq, eq-eqb, ne_eqb, cond-true, cond-false}
-use Rattle.block_cache.specs.Cached.{Block, without_file}
+use Rattle.block_cache.specs.CacheList.{Block, without_file}
 use Rattle.block_cache.proofs.Found.{file_gone, others_stay}
 use Rattle.world_invariant.specs.call_effects.NodeView.{NodeView}
-use Rattle.world_invariant.specs.call_effects.Known.{with_copy}
+use Rattle.world_invariant.specs.call_effects.Knowledge.{with_copy}
 use Rattle.client_plan.specs.posix_calls.Own.{own_of}
 use Rattle.client_plan.specs.posix_calls.Tree.{set_own}
 use Rattle.client_plan.specs.posix_calls.declared.descriptor.Descriptor.{Descriptor}
-use Rattle.client_view.specs.Held.{Held, copy_at, size_known, kept_at, block_by, block_known, knows}
-use Rattle.client_view.specs.Forgotten.{with_descriptor, without_blocks, without_inode}
+use Rattle.client_view.specs.KnowledgeTables.{Held, copy_at, size_known, kept_at, block_by, block_known, knows}
+use Rattle.client_view.specs.KnowledgeChanges.{with_descriptor, without_blocks, without_inode}
 
 -- a table with one slot changed
 pub slot_changed : (cs : List (Option (Option NodeView))) (i : ℕ) (c : Option (Option NodeView)) (j : ℕ) → i < length cs → copy_at (set cs i c) j ≡ (if j == i then c else copy_at cs j)

@@ -3,8 +3,8 @@ use Rattle.std.proofs.Common.{◌≡◌, ℕ, ◌*◌, Bool, true, false, cond, 
 use Rattle.std.specs.Prelude.{option_map, unwrap_or}
 use Rattle.std.specs.FinMap as fin
 use Rattle.std.proofs.Math.Seq.{drop-nil}
-use Rattle.client_plan.specs.posix_calls.Content.{Entries, resized, written}
-use Rattle.client_plan.specs.file_graph.Graph.{Graph, Node, FileBody, DirBody, acted, after_effect, after_effects, file_bytes, in_directory, in_file, is_among, subjects, with_body}
+use Rattle.client_plan.specs.posix_calls.Content.{Entries, with_length, with_bytes}
+use Rattle.client_plan.specs.file_graph.Graph.{Graph, Node, FileBody, DirBody, subject_after, after_effect, after_effects, file_bytes, in_directory, in_file, is_among, subjects, with_body}
 use Rattle.client_plan.specs.file_graph.declared.effect.Effect.{Effect}
 use Rattle.client_plan.specs.file_graph.declared.effect.Effect.TheVariants as effect
 use Rattle.client_plan.specs.file_graph.declared.effect.Kind.{Kind}
@@ -50,7 +50,7 @@ changed f h b acts o block told bytes is =
     let was = before f o bytes is in
     ap (option_map h) (told was.0 was.1) ∙ ap (λ x. Some x) (sym (acts was.0)) ∙ ap (λ xs. Some (block_of b xs)) was.2
 
-told_acted : (e : Effect) (b : ℕ) (o : Option Node) (block : Option (List ℕ)) → IsTold b o block → IsTold b (acted e o) (block_acted e b block)
+told_acted : (e : Effect) (b : ℕ) (o : Option Node) (block : Option (List ℕ)) → IsTold b o block → IsTold b (subject_after e o) (block_acted e b block)
 told_acted (effect.Make i kind.File) b o block told bytes is =
     let none : [] ≡ bytes = cc in
     sym (ap (λ xs. Some (take 4096 xs)) (drop-nil (4096 * b))) ∙ ap (λ xs. Some (block_of b xs)) none
@@ -58,11 +58,11 @@ told_acted (effect.Make i kind.Directory) b o block told bytes is = absurd (cc)
 told_acted (effect.Enter d i k name) b o block told bytes is = told bytes (sym (entries_keep (λ es. fin.insert es name (i, k)) o) ∙ is)
 told_acted (effect.Leave d name) b o block told bytes is = told bytes (sym (entries_keep (λ es. fin.remove es name) o) ∙ is)
 told_acted (effect.Names i m) b o block told bytes is = told bytes (sym (names_keep m o) ∙ is)
-told_acted (effect.Size i size) b o block told bytes is = changed (resized size) (block_resized size b) b (resized_block b size) o block told bytes is
-told_acted (effect.Bytes i at new) b o block told bytes is = changed (written at new) (block_written at new b) b (written_block b at new) o block told bytes is
+told_acted (effect.Size i size) b o block told bytes is = changed (with_length size) (block_resized size b) b (resized_block b size) o block told bytes is
+told_acted (effect.Bytes i at new) b o block told bytes is = changed (with_bytes at new) (block_written at new b) b (written_block b at new) o block told bytes is
 told_acted (effect.Drop i) b o block told bytes is = absurd (cc)
 
-told_if : (t : Bool) (e : Effect) (b : ℕ) (o : Option Node) (block : Option (List ℕ)) → IsTold b o block → IsTold b (cond t (acted e o) o) (cond t (block_acted e b block) block)
+told_if : (t : Bool) (e : Effect) (b : ℕ) (o : Option Node) (block : Option (List ℕ)) → IsTold b o block → IsTold b (cond t (subject_after e o) o) (cond t (block_acted e b block) block)
 told_if true e b o block told = told_acted e b o block told
 told_if false e b o block told = told
 

@@ -4,8 +4,8 @@ use Rattle.std.specs.Prelude.{◌==◌, ◌||◌, ◌&&◌, not}
 use Rattle.std.proofs.lemmas.Bool.{cases_eq, eq-eqb, ne_eqb, cond-true, cond-false}
 use Rattle.std.specs.List.{filter}
 use Rattle.client_plan.specs.file_graph.Graph.{is_among}
-use Rattle.client_view.specs.Held.{Held, knows}
-use Rattle.client_view.specs.Forgotten.{without_granted}
+use Rattle.client_view.specs.KnowledgeTables.{Held, knows}
+use Rattle.client_view.specs.KnowledgeChanges.{without_granted}
 
 and_false : (a b : Bool) → b ≡ false → (a && b) ≡ false
 and_false true b e = e

@@ -1,7 +1,8 @@
 -- A call that is logged comes to a change that can be prepared.
 use Rattle.std.proofs.Common.{◌≡◌, ℕ, true, List, [], ◌∷◌, Option, Some, Ok, ap, sym, ◌∙◌, subst}
 use Rattle.std.specs.List.{AllByRecursion}
-use Rattle.client_plan.specs.posix_calls.Query.{Part, ◌>>=◌, Known, run_part}
+use Rattle.client_plan.specs.posix_calls.Query.{◌>>=◌}
+use Rattle.client_plan.specs.posix_calls.Part.{Part, Known, run_part}
 use Rattle.client_plan.specs.posix_calls.declared.call.Call.{Call}
 use Rattle.client_plan.specs.posix_calls.declared.call.Reply.{Reply}
 use Rattle.client_plan.specs.posix_calls.declared.operation.Operation.{Operation}
@@ -12,12 +13,12 @@ use Rattle.client_plan.specs.file_graph.declared.effect.Effect.TheVariants as ef
 use Rattle.client_plan.specs.file_graph.declared.effect.Kind.TheVariants as kind
 use Rattle.client_plan.specs.log_record.Grammar.{Fits, IsRecord}
 use Rattle.client_plan.specs.log_record.declared.format.Record.{Record}
-use Rattle.world_invariant.specs.call_effects.Known.{Knowledge, part_of}
+use Rattle.world_invariant.specs.call_effects.Knowledge.{Knowledge, part_of}
 use Rattle.world_invariant.specs.call_effects.Records.{effects_asked}
 use Rattle.client_plan.specs.declared.outcome.DescriptorChange.{DescriptorChange}
 use Rattle.client_plan.specs.declared.outcome.Outcome.TheVariants as outcomes
 use Rattle.client_plan.specs.Holdings.{Holdings}
-use Rattle.client_plan.specs.Planned.{made_by, outcome}
+use Rattle.client_plan.specs.CallPlan.{made_by, outcome}
 use Rattle.client_plan.specs.Steps.{IsOf, IsReady}
 use Rattle.client_plan.proofs.Stepping.{logged_ready}
 use Rattle.client_view.proofs.Inodes.{inode_is}

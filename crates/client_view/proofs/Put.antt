@@ -5,17 +5,17 @@ use Rattle.std.proofs.Math.Decide.{dec_le}
 use Rattle.std.proofs.lemmas.Bool.{cases_Bool, eqb-true, eq-eqb, and_parts, and_from, cond-true, cond-false, lt-ltb}
 use Rattle.std.proofs.lemmas.Bool.Decides.{nat_tests}
 use Rattle.std.proofs.lemmas.List.{take-append-le, take_all}
-use Rattle.client_plan.specs.posix_calls.Content.{resized}
+use Rattle.client_plan.specs.posix_calls.Content.{with_length}
 use Rattle.client_plan.specs.file_graph.Numbers.{in_run}
-use Rattle.block_cache.specs.Cached.{Block, bytes_at, put, used_run}
+use Rattle.block_cache.specs.CacheList.{Block, bytes_at, put_block, used_run}
 use Rattle.block_cache.proofs.Found.{put_found, put_others, used_run_stays}
 use Rattle.world_invariant.specs.call_effects.NodeView.{NodeView, FileView}
-use Rattle.world_invariant.specs.call_effects.Known.{IsForgetful, with_blocks}
-use Rattle.client_view.specs.Held.{Held, copy_at, size_known, kept_at, file_block, block_by, block_known, knows}
-use Rattle.client_view.specs.Put.{IsBlockLong}
+use Rattle.world_invariant.specs.call_effects.Knowledge.{IsForgetful, with_blocks}
+use Rattle.client_view.specs.KnowledgeTables.{Held, copy_at, size_known, kept_at, file_block, block_by, block_known, knows}
+use Rattle.client_view.specs.BlockPut.{IsBlockLong}
 
 -- what was padded is cut again
-pub cut_padded : (unit left : ℕ) (bytes : List ℕ) → length bytes ≡ min unit left → take left (resized unit bytes) ≡ bytes
+pub cut_padded : (unit left : ℕ) (bytes : List ℕ) → length bytes ≡ min unit left → take left (with_length unit bytes) ≡ bytes
 cut_padded unit left bytes long =
     let short : take unit bytes ≡ bytes = take_all unit bytes (omega (arith, long)) in
     ap (λ (xs : List ℕ). take left (xs ++ replicate (unit - length bytes) 0)) short ∙ elim (dec_le left (length bytes)) [
@@ -26,16 +26,16 @@ cut_padded unit left bytes long =
     ]
 
 -- the block is there
-kept_there : (bs : List Block) (i b : ℕ) (padded : List ℕ) → b < 4294967296 → kept_at (put i b padded bs) i b ≡ Some padded
-kept_there bs i b padded low = cond-true (nat_lt b 4294967296) (bytes_at i b (put i b padded bs)) None (lt-ltb b 4294967296 low) ∙ put_found bs i b padded
+kept_there : (bs : List Block) (i b : ℕ) (padded : List ℕ) → b < 4294967296 → kept_at (put_block i b padded bs) i b ≡ Some padded
+kept_there bs i b padded low = cond-true (nat_lt b 4294967296) (bytes_at i b (put_block i b padded bs)) None (lt-ltb b 4294967296 low) ∙ put_found bs i b padded
 
 pub by_size : (c : Option (Option NodeView)) (names size : ℕ) (bs : List Block) (i b : ℕ) → c ≡ Some (Some (FileView names size)) → block_by (size_known c) bs i b ≡ file_block size bs i b
 by_size c names size bs i b is = ap (λ (d : Option (Option NodeView)). block_by (size_known d) bs i b) is
 
-pub block_there : (h : Held) (i b : ℕ) (bytes : List ℕ) → b < 4294967296 → IsBlockLong (knows h) i b bytes → block_known (record h { blocks = put i b (resized 4096 bytes) h.blocks }) i b ≡ Some bytes
+pub block_there : (h : Held) (i b : ℕ) (bytes : List ℕ) → b < 4294967296 → IsBlockLong (knows h) i b bytes → block_known (record h { blocks = put_block i b (with_length 4096 bytes) h.blocks }) i b ≡ Some bytes
 block_there h i b bytes low long =
-    by_size (copy_at h.copies i) long.names long.size (put i b (resized 4096 bytes) h.blocks) i b long.copy
-    ∙ ap (option_map (take (long.size - 4096 * b))) (kept_there h.blocks i b (resized 4096 bytes) low)
+    by_size (copy_at h.copies i) long.names long.size (put_block i b (with_length 4096 bytes) h.blocks) i b long.copy
+    ∙ ap (option_map (take (long.size - 4096 * b))) (kept_there h.blocks i b (with_length 4096 bytes) low)
     ∙ ap Some (cut_padded 4096 (long.size - 4096 * b) bytes long.long)
 
 -- what is kept at another place was there before
@@ -58,15 +58,15 @@ only_one : (b n : ℕ) → in_run b 1 n ≡ true → n ≡ b
 only_one b n is = let parts = and_parts (nat_le b n) (nat_lt n (b + 1)) is in grind (arith, nat_tests, parts.0, parts.1)
 
 module _ (h : Held) (i b : ℕ) (bytes : List ℕ) (low : b < 4294967296) (long : IsBlockLong (knows h) i b bytes) where
-  others_before : (j n : ℕ) (v : List ℕ) → ((j == i) && in_run b 1 n) ≡ false → bytes_at j n (put i b (resized 4096 bytes) h.blocks) ≡ Some v → bytes_at j n h.blocks ≡ Some v
-  others_before j n v off is = elim (put_others j n i b h.blocks (resized 4096 bytes) v is) [
+  others_before : (j n : ℕ) (v : List ℕ) → ((j == i) && in_run b 1 n) ≡ false → bytes_at j n (put_block i b (with_length 4096 bytes) h.blocks) ≡ Some v → bytes_at j n h.blocks ≡ Some v
+  others_before j n v off is = elim (put_others j n i b h.blocks (with_length 4096 bytes) v is) [
     | inl same ↦ absurd (
         let yes' : ((j == i) && in_run b 1 n) ≡ true = and_from (j == i) (in_run b 1 n) (eq-eqb j i same.0) (subst (λ (m : ℕ). in_run b 1 m ≡ true) (sym same.1) (in_itself b)) in
         let no' : true ≡ false = sym yes' ∙ off in cc no')
     | inr before ↦ before
   ]
 
-  pub no_more_blocks : (j n : ℕ) (v : List ℕ) → block_known (record h { blocks = put i b (resized 4096 bytes) h.blocks }) j n ≡ Some v → (if (j == i) && in_run b 1 n then Some bytes else block_known h j n) ≡ Some v
+  pub no_more_blocks : (j n : ℕ) (v : List ℕ) → block_known (record h { blocks = put_block i b (with_length 4096 bytes) h.blocks }) j n ≡ Some v → (if (j == i) && in_run b 1 n then Some bytes else block_known h j n) ≡ Some v
   no_more_blocks j n v is = elim (cases_Bool ((j == i) && in_run b 1 n)) [
     | inl here ↦
         let parts = and_parts (j == i) (in_run b 1 n) here in
@@ -74,14 +74,14 @@ module _ (h : Held) (i b : ℕ) (bytes : List ℕ) (low : b < 4294967296) (long 
         let block = only_one b n parts.1 in
         cond-true ((j == i) && in_run b 1 n) (Some bytes) (block_known h j n) here
         ∙ sym (block_there h i b bytes low long)
-        ∙ sym (λ t. block_known (record h { blocks = put i b (resized 4096 bytes) h.blocks }) (at t) (block t))
+        ∙ sym (λ t. block_known (record h { blocks = put_block i b (with_length 4096 bytes) h.blocks }) (at t) (block t))
         ∙ is
     | inr off ↦
         cond-false ((j == i) && in_run b 1 n) (Some bytes) (block_known h j n) off
-        ∙ by_step (size_known (copy_at h.copies j)) (put i b (resized 4096 bytes) h.blocks) h.blocks j n v (λ w. others_before j n w off) is
+        ∙ by_step (size_known (copy_at h.copies j)) (put_block i b (with_length 4096 bytes) h.blocks) h.blocks j n v (λ w. others_before j n w off) is
   ]
 
-  pub put_is_less : IsForgetful (with_blocks (knows h) i b 1 (λ _. bytes)) (knows (record h { blocks = put i b (resized 4096 bytes) h.blocks }))
+  pub put_is_less : IsForgetful (with_blocks (knows h) i b 1 (λ _. bytes)) (knows (record h { blocks = put_block i b (with_length 4096 bytes) h.blocks }))
   put_is_less = record {
     client = refl;
     own = λ number. refl;
@@ -92,13 +92,13 @@ module _ (h : Held) (i b : ℕ) (bytes : List ℕ) (low : b < 4294967296) (long 
 -- ---- as the code has it
 
 -- a whole block gets no zeros behind it
-pub whole_is_padded : (unit : ℕ) (bytes : List ℕ) → length bytes ≡ unit → resized unit bytes ≡ bytes
+pub whole_is_padded : (unit : ℕ) (bytes : List ℕ) → length bytes ≡ unit → with_length unit bytes ≡ bytes
 whole_is_padded unit bytes whole =
     let none : unit - length bytes ≡ 0 = omega (arith, whole) in
     ap (λ n. take unit bytes ++ replicate n 0) none ∙ append-nil (take unit bytes) ∙ take_all unit bytes (omega (arith, whole))
 
-module _ (h : Held) (i b : ℕ) (bytes : List ℕ) (bs : List Block) (after : bs ≡ put i b (resized 4096 bytes) h.blocks) where
-  pub kept_after : record h { blocks = bs } ≡ record h { blocks = put i b (resized 4096 bytes) h.blocks }
+module _ (h : Held) (i b : ℕ) (bytes : List ℕ) (bs : List Block) (after : bs ≡ put_block i b (with_length 4096 bytes) h.blocks) where
+  pub kept_after : record h { blocks = bs } ≡ record h { blocks = put_block i b (with_length 4096 bytes) h.blocks }
   kept_after = ap (λ (xs : List Block). record h { blocks = xs }) after
 
   pub there_after : b < 4294967296 → IsBlockLong (knows h) i b bytes → block_known (record h { blocks = bs }) i b ≡ Some bytes

@@ -9,9 +9,9 @@ use Rattle.client_plan.specs.file_graph.Graph.{is_among, subjects, touches}
 use Rattle.client_plan.specs.file_graph.declared.effect.Effect.{Effect}
 use Rattle.client_plan.specs.file_graph.declared.effect.Effect.TheVariants as effect
 use Rattle.world_invariant.specs.call_effects.NodeView.{NodeView, view_acted}
-use Rattle.record_validation.specs.Known.{known_acted}
+use Rattle.record_validation.specs.KnownNodes.{known_acted}
 use Rattle.record_validation.specs.Memory.{enters_known, is_directory, want_room}
-use Rattle.client_view.specs.Prepared.{any_known, touched}
+use Rattle.client_view.specs.Preparation.{any_known, touched_nodes}
 
 abbrev Copy : Type 0
 Copy = Option (Option NodeView)
@@ -79,7 +79,7 @@ untold : (b : Bool) (c : Copy) → (b ≡ true → c ≡ None) → cond b c None
 untold true c none = none refl
 untold false c none = refl
 
-pub room_is_for_known : (es : List Effect) (copies known : ℕ → Copy) → ((i : ℕ) → known i ≡ touched es copies i) → want_room es known ≡ true → any_known es copies ≡ true
+pub room_is_for_known : (es : List Effect) (copies known : ℕ → Copy) → ((i : ℕ) → known i ≡ touched_nodes es copies i) → want_room es known ≡ true → any_known es copies ≡ true
 room_is_for_known es copies known are wants = elim (cases_Bool (any_known es copies)) [
   | inl is ↦ is
   | inr off ↦ absurd (true≢false (sym wants ∙ no_room es known (λ i. are i ∙ untold (is_among i (touches es)) (copies i) (λ at. nothing (copies i) (none_of (λ j. is_some (copies j)) (touches es) i off at)))))

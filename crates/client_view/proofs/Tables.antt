@@ -1,7 +1,7 @@
 -- A table of slots of which nothing is known.
 use Rattle.std.proofs.Common.{◌≡◌, ℕ, zero, suc, List, [], ◌∷◌, ◌++◌, length, Option, None, refl}
 use Rattle.world_invariant.specs.call_effects.NodeView.{NodeView}
-use Rattle.client_view.specs.Held.{copy_at}
+use Rattle.client_view.specs.KnowledgeTables.{copy_at}
 
 -- one more, of which nothing is known either
 pub unknown_more : (cs : List (Option (Option NodeView))) (i : ℕ) → copy_at (cs ++ None ∷ []) i ≡ copy_at cs i

@@ -10,7 +10,7 @@ use Rattle.client_plan.specs.file_graph.Graph.{is_among, subjects, touches}
 use Rattle.client_plan.specs.file_graph.declared.effect.Effect.{Effect}
 use Rattle.world_invariant.specs.call_effects.NodeView.{NodeView}
 use Rattle.record_validation.proofs.Steps.{on_one, next_taken}
-use Rattle.client_view.specs.Prepared.{touched}
+use Rattle.client_view.specs.Preparation.{touched_nodes}
 
 abbrev Copy : Type 0
 Copy = Option (Option NodeView)
@@ -46,7 +46,7 @@ among_pushed i j es e alone =
     ∙ ap (λ xs. is_among i (touches es) || is_among i xs) (flat_map-cons subjects e [] ∙ ap (λ xs. xs ++ []) alone)
     ∙ ap (λ b. is_among i (touches es) || b) (on_one i j)
 
-module _ (copies : ℕ → Copy) (es : List Effect) (e : Effect) (j : ℕ) (alone : subjects e ≡ j ∷ []) (old new : ℕ → Copy) (put : (i : ℕ) → new i ≡ cond (i == j && is_some (copies i)) (copies i) (old i)) (now : (i : ℕ) → old i ≡ touched es copies i) where
+module _ (copies : ℕ → Copy) (es : List Effect) (e : Effect) (j : ℕ) (alone : subjects e ≡ j ∷ []) (old new : ℕ → Copy) (put : (i : ℕ) → new i ≡ cond (i == j && is_some (copies i)) (copies i) (old i)) (now : (i : ℕ) → old i ≡ touched_nodes es copies i) where
   at_subject : (b : Bool) (c : Copy) → cond (is_some c) c (cond b c None) ≡ cond (b || true) c None
   at_subject true None = refl
   at_subject true (Some v) = refl
@@ -57,7 +57,7 @@ module _ (copies : ℕ → Copy) (es : List Effect) (e : Effect) (j : ℕ) (alon
   off_subject true c = refl
   off_subject false c = refl
 
-  pub touched_more : (i : ℕ) → new i ≡ touched (es ++ e ∷ []) copies i
+  pub touched_more : (i : ℕ) → new i ≡ touched_nodes (es ++ e ∷ []) copies i
   touched_more i = elim (cases_eq i j) [
     | inl same ↦
         put i
@@ -76,10 +76,10 @@ module _ (copies : ℕ → Copy) (es : List Effect) (e : Effect) (j : ℕ) (alon
   ]
 
 -- as a loop goes on
-pub touched_next : (copies : ℕ → Copy) (es : List Effect) (k : ℕ) (e : Effect) (j : ℕ) (old new : ℕ → Copy) → k < length es → e ≡ get_or es k e → subjects e ≡ j ∷ [] → ((i : ℕ) → new i ≡ cond (i == j && is_some (copies i)) (copies i) (old i)) → ((i : ℕ) → old i ≡ touched (take k es) copies i) → (i : ℕ) → new i ≡ touched (take (k + 1) es) copies i
+pub touched_next : (copies : ℕ → Copy) (es : List Effect) (k : ℕ) (e : Effect) (j : ℕ) (old new : ℕ → Copy) → k < length es → e ≡ get_or es k e → subjects e ≡ j ∷ [] → ((i : ℕ) → new i ≡ cond (i == j && is_some (copies i)) (copies i) (old i)) → ((i : ℕ) → old i ≡ touched_nodes (take k es) copies i) → (i : ℕ) → new i ≡ touched_nodes (take (k + 1) es) copies i
 touched_next copies es k e j old new inside is alone put now i =
     touched_more copies (take k es) e j alone old new put now i
-    ∙ ap (λ (xs : List Effect). touched xs copies i) (sym (next_taken es k e inside ∙ ap (λ (x : Effect). take k es ++ x ∷ []) (sym is)))
+    ∙ ap (λ (xs : List Effect). touched_nodes xs copies i) (sym (next_taken es k e inside ∙ ap (λ (x : Effect). take k es ++ x ∷ []) (sym is)))
 
-pub all_touched : (copies : ℕ → Copy) (es : List Effect) (k : ℕ) (nodes : ℕ → Copy) → length es ≤ k → ((i : ℕ) → nodes i ≡ touched (take k es) copies i) → (i : ℕ) → nodes i ≡ touched es copies i
-all_touched copies es k nodes done now i = now i ∙ ap (λ (xs : List Effect). touched xs copies i) (take_all k es done)
+pub all_touched : (copies : ℕ → Copy) (es : List Effect) (k : ℕ) (nodes : ℕ → Copy) → length es ≤ k → ((i : ℕ) → nodes i ≡ touched_nodes (take k es) copies i) → (i : ℕ) → nodes i ≡ touched_nodes es copies i
+all_touched copies es k nodes done now i = now i ∙ ap (λ (xs : List Effect). touched_nodes xs copies i) (take_all k es done)

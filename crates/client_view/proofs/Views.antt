@@ -9,9 +9,9 @@ use Rattle.client_plan.specs.posix_calls.Answers.{entry_in, count_in, listed_in}
 use Rattle.client_plan.proofs.posix_calls_lemmas.Directory.{entries-empty}
 use Rattle.client_plan.specs.file_graph.Plain.{PlainEntry, pairs}
 use Rattle.client_plan.specs.file_graph.declared.effect.Kind.{Kind}
-use Rattle.world_invariant.specs.call_effects.Known.{same_kind, tells}
+use Rattle.world_invariant.specs.call_effects.Knowledge.{same_kind, lists_as}
 use Rattle.world_invariant.specs.call_effects.NodeView.{NodeView, FileView, DirView, view_seen}
-use Rattle.record_validation.specs.Seen.{entries_of}
+use Rattle.record_validation.specs.NodeAnswers.{entries_of}
 
 -- ---- nothing
 
@@ -27,7 +27,7 @@ pub told_by_entries : (i : ℕ) (what : Kind) (es : List PlainEntry) → list_an
 told_by_entries i what [] = refl
 told_by_entries i what (e ∷ es) = ap (λ b. (e.value.0 == i && same_kind e.value.1 what) || b) (told_by_entries i what es)
 
-pub tells_is : (i : ℕ) (what : Kind) (v : NodeView) → list_any (λ e. e.1.0 == i && same_kind e.1.1 what) (fin.entries (entries_of v)) ≡ tells i what (Some v)
+pub tells_is : (i : ℕ) (what : Kind) (v : NodeView) → list_any (λ e. e.1.0 == i && same_kind e.1.1 what) (fin.entries (entries_of v)) ≡ lists_as i what (Some v)
 tells_is i what (FileView names size) = ap (list_any (λ e. e.1.0 == i && same_kind e.1.1 what)) (entries-empty (ℕ × Kind))
 tells_is i what (DirView names entries) = refl
 

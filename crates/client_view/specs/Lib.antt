@@ -1,10 +1,10 @@
-pub mod Forgotten
-pub mod Held
-pub mod Logged
-pub mod Prepared
-pub mod Put
+pub mod KnowledgeChanges
+pub mod KnowledgeTables
+pub mod AfterRecord
+pub mod Preparation
+pub mod BlockPut
 pub mod After
-pub mod Kept
+pub mod RecordLists
 -- Passed on to the crates above, which so need not list those below.
 pub use Rattle.block_cache.specs as block_cache
 pub use Rattle.client_plan.specs as client_plan

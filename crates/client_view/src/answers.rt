@@ -1,13 +1,13 @@
 ghost use Rattle.std.specs.Prelude.{◌≡◌, Bool, Some, None, option_map};
 ghost use Rattle.client_plan.specs.posix_calls.Answers.{entry_in};
-ghost use Rattle.world_invariant.specs.call_effects.Known.{part_of, is_dir_by};
-ghost use Rattle.record_validation.specs.Seen.{seen};
+ghost use Rattle.world_invariant.specs.call_effects.Knowledge.{part_of, is_dir_by};
+ghost use Rattle.record_validation.specs.NodeAnswers.{seen_node};
 ghost use Rattle.client_plan.specs.file_graph.declared.effect.Kind.TheVariants as kind;
-ghost use Rattle.client_view.specs.Held.{knows, known_dir_in, told_in};
+ghost use Rattle.client_view.specs.KnowledgeTables.{knows, known_dir_in, is_listed_in};
 
 use crate::copies::ClientCopies;
-use crate::reading::read;
-use crate::slots::{Slot, is_told, size_at, slot_at};
+use crate::file_reads::read;
+use crate::slots::{Slot, is_listed, size_at, slot_at};
 use client_plan::{Bytes, Description, Kind, NamedInode, Names, ROOT, TreeAnswers};
 use record_validation::NodeSummary;
 use std::alloc::{AllocError, Global};
@@ -89,17 +89,17 @@ fn known_dir(slots: &[Slot], inode: u32) -> Option<Option<bool>>
     match slot_at(slots, inode) {
         Some(Some(copy)) => Some(Some(copy.is_dir())),
         Some(None) => Some(None),
-        None => told_dir(slots, inode),
+        None => child_kind(slots, inode),
     }
 }
 
-fn told_dir(slots: &[Slot], inode: u32) -> Option<Option<bool>>
-    ensures { result ≡ is_dir_by None (told_in slots.now inode kind.Directory) (told_in slots.now inode kind.File) }
+fn child_kind(slots: &[Slot], inode: u32) -> Option<Option<bool>>
+    ensures { result ≡ is_dir_by None (is_listed_in slots.now inode kind.Directory) (is_listed_in slots.now inode kind.File) }
 {
-    if is_told(slots, inode, Kind::Directory) {
+    if is_listed(slots, inode, Kind::Directory) {
         return Some(Some(true));
     }
-    if is_told(slots, inode, Kind::File) {
+    if is_listed(slots, inode, Kind::File) {
         return Some(Some(false));
     }
     None
@@ -107,7 +107,7 @@ fn told_dir(slots: &[Slot], inode: u32) -> Option<Option<bool>>
 
 // What a directory has under a name, with whether that is a directory.
 fn child_in(slots: &[Slot], copy: &NodeSummary, name: &[u8]) -> Option<NamedInode>
-    ensures inode { option_map (λ e. e.inode) result ≡ entry_in name.now (seen copy.now) }
+    ensures inode { option_map (λ e. e.inode) result ≡ entry_in name.now (seen_node copy.now) }
     ensures kind { (e : NamedInode) (is_dir : Bool) → result ≡ Some e → e.is_dir ≡ Some is_dir → known_dir_in slots.now e.inode ≡ Some (Some is_dir) }
 {
     match copy.child(name) {

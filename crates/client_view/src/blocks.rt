@@ -1,6 +1,6 @@
 ghost use Rattle.std.specs.Prelude.{◌≡◌, ◌+◌, ◌-◌, ◌*◌, ◌≤◌, ◌++◌, ℕ, List, Option, min, max, length, take, drop, replicate, option_map, if◌then◌else◌};
 ghost use Rattle.std.specs.Option.{ForSome};
-ghost use Rattle.client_plan.specs.posix_calls.Content.{resized, written};
+ghost use Rattle.client_plan.specs.posix_calls.Content.{with_length, with_bytes};
 ghost use Rattle.client_plan.specs.posix_calls.declared.limits.TheConstants.{UNIT_BYTES};
 ghost use Rattle.client_plan.specs.file_graph.Graph.{is_among, subjects};
 ghost use Rattle.client_plan.specs.file_graph.declared.effect.Effect.TheVariants as variants;
@@ -170,7 +170,7 @@ fn at_most_a_block(count: u64) -> usize
 fn put_part(buffer: &mut [u8], len: usize, offset: u64, skipped: u64, bytes: &[u8]) -> usize
     requires whole { length buffer.old ≡ UNIT_BYTES }
     requires within { len ≤ UNIT_BYTES }
-    ensures written { take result buffer.new ≡ take UNIT_BYTES (written offset (drop skipped bytes.now) (take len buffer.old)) }
+    ensures written { take result buffer.new ≡ take UNIT_BYTES (with_bytes offset (drop skipped bytes.now) (take len buffer.old)) }
     ensures within { result ≤ UNIT_BYTES }
 {
     let at = at_most_a_block(offset);
@@ -195,7 +195,7 @@ fn cut(bytes: &[u8], len: usize) -> &[u8]
 fn put(buffer: &mut [u8], len: usize, offset: usize, bytes: &[u8]) -> usize
     requires room { offset + length bytes.now ≤ length buffer.old }
     requires within { len ≤ length buffer.old }
-    ensures written { take result buffer.new ≡ written offset bytes.now (take len buffer.old) }
+    ensures written { take result buffer.new ≡ with_bytes offset bytes.now (take len buffer.old) }
     ensures within { result ≤ length buffer.old }
 {
     grow(buffer, len, offset);
@@ -206,7 +206,7 @@ fn put(buffer: &mut [u8], len: usize, offset: usize, bytes: &[u8]) -> usize
 fn cut_or_grow(buffer: &mut [u8], len: usize, end: usize)
     requires end { end ≤ length buffer.old }
     requires within { len ≤ length buffer.old }
-    ensures { take end buffer.new ≡ resized end (take len buffer.old) }
+    ensures { take end buffer.new ≡ with_length end (take len buffer.old) }
 {
     grow(buffer, len, end);
 }

@@ -1,17 +1,17 @@
 ghost use Rattle.std.specs.Prelude.{◌≡◌, ◌==◌, ◌<◌, ◌+◌, ◌^◌, ℕ, length, Some, None, IsSome, not, true, false, IfOk, OnOk, OnErr};
 ghost use Rattle.std.specs.List.{filter};
-ghost use Rattle.block_cache.specs.Cached.{put as put_first, used_run, without_file};
+ghost use Rattle.block_cache.specs.CacheList.{put_block as put_first, used_run, without_file};
 ghost use Rattle.block_cache.specs.declared.bytes.TheConstants.{BLOCK_SIZE};
 ghost use Rattle.client_plan.specs.file_graph.Graph.{is_among};
 ghost use Rattle.client_plan.specs.file_graph.Numbers.{is_inode};
-ghost use Rattle.world_invariant.specs.call_effects.Known.{IsForgetful, with_blocks, with_copy};
-ghost use Rattle.client_plan.specs.posix_calls.Content.{resized};
+ghost use Rattle.world_invariant.specs.call_effects.Knowledge.{IsForgetful, with_blocks, with_copy};
+ghost use Rattle.client_plan.specs.posix_calls.Content.{with_length};
 ghost use Rattle.client_plan.specs.posix_calls.declared.limits.TheConstants.{MAX_DESCRIPTORS};
 ghost use Rattle.client_plan.specs.posix_calls.Own.{own_of};
 ghost use Rattle.client_plan.specs.posix_calls.Tree.{set_own};
-ghost use Rattle.client_view.specs.Held.{copy_at, knows, size_known};
-ghost use Rattle.client_view.specs.Put.{IsBlockLong};
-ghost use Rattle.client_view.specs.Forgotten.{with_descriptor, without_blocks, without_inode, without_granted};
+ghost use Rattle.client_view.specs.KnowledgeTables.{copy_at, knows, size_known};
+ghost use Rattle.client_view.specs.BlockPut.{IsBlockLong};
+ghost use Rattle.client_view.specs.KnowledgeChanges.{with_descriptor, without_blocks, without_inode, without_granted};
 
 use crate::slots::{Slot, forget_slot, size_at, unknown_slots};
 use block_cache::{BLOCK_SIZE, Blocks};
@@ -34,7 +34,7 @@ pub struct ClientCopies {
 
 impl Model for ClientCopies {
     ghost use Rattle.std.specs.Prelude.{◌≡◌, length};
-    ghost use Rattle.client_view.specs.Held.{Held, held_code};
+    ghost use Rattle.client_view.specs.KnowledgeTables.{Held, held_code};
 
     ghost Value = { Held };
 
@@ -84,7 +84,7 @@ impl ClientCopies {
     pub fn put_block(&mut self, inode: u32, block: u32, bytes: &[u8]) -> Result<(), AllocError>
         requires { IsBlockLong (knows self.old) inode block bytes.now }
         ensures there { OnOk result ((knows self.new).blocks inode block ≡ Some bytes.now) }
-        ensures kept { OnOk result (self.new ≡ record self.old { blocks = put_first inode block (resized BLOCK_SIZE bytes.now) self.old.blocks }) }
+        ensures kept { OnOk result (self.new ≡ record self.old { blocks = put_first inode block (with_length BLOCK_SIZE bytes.now) self.old.blocks }) }
         ensures no_more { OnOk result (IsForgetful (with_blocks (knows self.old) inode block 1 (λ _. bytes.now)) (knows self.new)) }
         ensures client { OnOk result ((knows self.new).client ≡ (knows self.old).client) }
         ensures own { OnOk result ((knows self.new).own ≡ (knows self.old).own) }
@@ -211,19 +211,19 @@ fn put_padded(
     block: u32,
     bytes: &[u8],
 ) -> Result<(), AllocError>
-    ensures put { OnOk result (blocks.new ≡ put_first inode block (resized BLOCK_SIZE bytes.now) blocks.old) }
+    ensures put { OnOk result (blocks.new ≡ put_first inode block (with_length BLOCK_SIZE bytes.now) blocks.old) }
     ensures refused { OnErr result (blocks.new ≡ blocks.old) }
 {
     if bytes.len() == BLOCK_SIZE {
         return blocks.put(inode, block, bytes);
     }
-    let padded = padded(alloc, bytes)?;
+    let padded = padded_block(alloc, bytes)?;
     blocks.put(inode, block, padded.as_slice())
 }
 
 // The bytes of a block, and zeros up to its whole length.
-fn padded(alloc: Global, bytes: &[u8]) -> Result<Bytes, AllocError>
-    ensures padded { IfOk result (λ padded. padded ≡ resized BLOCK_SIZE bytes.now) }
+fn padded_block(alloc: Global, bytes: &[u8]) -> Result<Bytes, AllocError>
+    ensures padded { IfOk result (λ padded. padded ≡ with_length BLOCK_SIZE bytes.now) }
     ensures whole { IfOk result (λ padded. length padded ≡ BLOCK_SIZE) }
 {
     let mut padded = bytes.to_vec(alloc)?;

@@ -4,7 +4,7 @@ ghost use Rattle.client_plan.specs.file_graph.Plain.{is_drop};
 ghost use Rattle.client_plan.specs.log_record.Grammar.{Fits};
 ghost use Rattle.world_invariant.specs.call_effects.NodeView.{view_acted};
 ghost use Rattle.record_validation.specs.Memory.{is_enter};
-ghost use Rattle.client_view.specs.Prepared.{acts_in_place};
+ghost use Rattle.client_view.specs.Preparation.{acts_in_place};
 
 use crate::slots::Slot;
 use client_plan::Effect;

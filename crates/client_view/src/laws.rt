@@ -1,7 +1,7 @@
 //! What holds of every client's knowledge.
 ghost use Rattle.std.specs.Prelude.{◌≡◌, ℕ, List, true, false, Option, Some};
 ghost use Rattle.std.specs.Option.{ForSome};
-ghost use Rattle.block_cache.specs.Cached.{used_run};
+ghost use Rattle.block_cache.specs.CacheList.{used_run};
 ghost use Rattle.client_plan.specs.posix_calls.Tree.{Descriptors, with_own};
 ghost use Rattle.client_plan.specs.posix_calls.Operations.{makes};
 ghost use Rattle.client_plan.specs.posix_calls.declared.call.Call.{Call};
@@ -12,19 +12,19 @@ ghost use Rattle.client_plan.specs.file_graph.declared.effect.Effect.{Effect};
 ghost use Rattle.client_plan.specs.file_graph.Numbers.{is_inode};
 ghost use Rattle.client_plan.specs.log_record.Grammar.{IsRecord};
 ghost use Rattle.client_plan.specs.log_record.declared.format.Record.{Record};
-ghost use Rattle.world_invariant.specs.call_effects.Known.{Knowledge, Agrees, IsForgetful, knows_after, knows_made, part_of};
+ghost use Rattle.world_invariant.specs.call_effects.Knowledge.{Knowledge, Agrees, IsForgetful, knows_after, knows_made, part_of};
 ghost use Rattle.world_invariant.specs.call_effects.NodeView.{NodeView};
 ghost use Rattle.world_invariant.specs.call_effects.Wholes.{IsSound};
 ghost use Rattle.client_plan.specs.declared.outcome.DescriptorChange.{DescriptorChange};
 ghost use Rattle.client_plan.specs.declared.outcome.Outcome.TheVariants as outcomes;
 ghost use Rattle.client_plan.specs.Holdings.{Holdings};
-ghost use Rattle.client_plan.specs.Planned.{change_of, made_by, outcome, own_changed};
+ghost use Rattle.client_plan.specs.CallPlan.{change_of, made_by, outcome, own_changed};
 ghost use Rattle.client_plan.specs.Steps.{IsOf};
-ghost use Rattle.client_view.specs.Logged.{knows_logged};
-ghost use Rattle.client_view.specs.Prepared.{IsPreparedFor};
+ghost use Rattle.client_view.specs.AfterRecord.{knows_logged};
+ghost use Rattle.client_view.specs.Preparation.{IsPreparedFor};
 ghost use Rattle.client_view.specs.declared.own_change.OwnChange.{OwnChange};
-ghost use Rattle.client_view.specs.Held.{Held, knows};
-ghost use Rattle.client_view.specs.Forgotten.{without_blocks, without_granted, without_inode};
+ghost use Rattle.client_view.specs.KnowledgeTables.{Held, knows};
+ghost use Rattle.client_view.specs.KnowledgeChanges.{without_blocks, without_granted, without_inode};
 
 /// A client that forgot an inode or its blocks, or used a number, knows no more than it knew: what agreed with a whole still does.
 pub fn forgetting_leaves_no_more()
@@ -46,12 +46,12 @@ pub fn logged_call_can_be_prepared()
 
 /// What was prepared for a call's record is right as long as the client keeps the copies that it had then, whatever else it gets or loses.
 pub fn prepared_change_stays()
-    ensures { (k more : Knowledge) (h : Holdings) (call : Call) (reply : Reply) (c : OwnChange) → IsOf k h → outcome (part_of k) h call ≡ outcomes.Log c.entry reply c.made c.descriptor → ((i : ℕ) (copy : Option NodeView) → k.copies i ≡ Some copy → more.copies i ≡ Some copy) → IsPreparedFor k c → IsPreparedFor more c }
+    ensures { (k more : Knowledge) (h : Holdings) (call : Call) (reply : Reply) (c : OwnChange) → IsOf k h → outcome (part_of k) h call ≡ outcomes.Log c.logged reply c.made c.descriptor → ((i : ℕ) (copy : Option NodeView) → k.copies i ≡ Some copy → more.copies i ≡ Some copy) → IsPreparedFor k c → IsPreparedFor more c }
 {}
 
 /// What a client knows once its change is committed is what it knows after the operation's effects, with a copy of the node that is made, less
 /// some blocks.
-pub fn committed_change_tells_no_more_than_the_effects()
+pub fn committed_change_adds_no_more_than_the_effects()
     ensures none { (k : Knowledge) (new : ℕ) (operation : Operation) (es : List Effect) → makes operation ≡ false → IsForgetful (knows_after k new operation es) (knows_logged k es (made_by new operation) (change_of new operation)) }
     ensures made { (k : Knowledge) (new : ℕ) (operation : Operation) (es : List Effect) → makes operation ≡ true → IsForgetful (knows_made k new operation es) (knows_logged k es (made_by new operation) (change_of new operation)) }
 {}

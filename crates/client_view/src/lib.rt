@@ -1,7 +1,7 @@
 //! What one client sees of the file tree, kept in memory: its copies of what the kernel told it, and its own records laid over what it fetches.
 //!
 //! `ClientCopies` has a client's descriptors, its copies of nodes without the bytes of files (`NodeSummary` of `record_validation`, as the kernel tells
-//! them), its blocks of files, and the numbers for new nodes that it was granted. What it knows by them is `knows` of `specs/Held.antt`: a `Knowledge` of `call_effects`, whose laws say when
+//! them), its blocks of files, and the numbers for new nodes that it was granted. What it knows by them is `knows` of `specs/KnowledgeTables.antt`: a `Knowledge` of `call_effects`, whose laws say when
 //! it agrees with the whole. It answers what calls ask by that alone (`TreeAnswers` of `posix_calls`): a copy is found by its inode at once,
 //! and no memory is wanted where nothing is known.
 //!
@@ -10,7 +10,7 @@
 //!
 //! A record of the client's own is prepared before it is begun (`prepare`): what the client has of the inodes that the record touches is made beside, as
 //! the record leaves it, with all memory that this takes, and nothing changes. Once the record is in the log the change is committed (`commit`), which
-//! takes no memory: then the client knows what the record left (`specs/Logged.antt`), and no block of what it touched. For a record of one effect that
+//! takes no memory: then the client knows what the record left (`specs/AfterRecord.antt`), and no block of what it touched. For a record of one effect that
 //! enters no name, as a write has, nothing has to be made beside, since no memory is wanted: the commit changes the copy in its place.
 //!
 //! The kernel tells a client what stands in the shared graph, and the mark up to which the client's records are digested there. What the client logged behind the mark is not
@@ -24,24 +24,23 @@
 
 mod answers;
 mod blocks;
-mod committing;
 mod copies;
+mod file_reads;
 mod in_place;
-mod kept;
 mod laws;
+mod new_copies;
 mod node_copies;
 mod nodes;
 mod own_change;
 mod own_record_laws;
-mod preparing;
-mod reading;
+mod own_records;
+mod record_commit;
 mod slots;
 
 pub use blocks::block_after;
 pub use copies::ClientCopies;
-pub use kept::OwnRecords;
 pub use laws::{
-    committed_change_tells_no_more_than_the_effects, forgetting_leaves_no_more,
+    committed_change_adds_no_more_than_the_effects, forgetting_leaves_no_more,
     logged_call_can_be_prepared, logged_call_keeps_agreement, prepared_change_stays,
     used_blocks_are_known_as_before,
 };
@@ -50,6 +49,7 @@ pub use own_change::OwnChange;
 pub use own_record_laws::{
     laid_block_agrees, laid_node_agrees, records_are_laid_as_the_graph_has_them,
 };
+pub use own_records::OwnRecords;
 
 // Passed on to the crates above, which so need not list those below.
 pub use client_plan::{

@@ -5,7 +5,7 @@ use client_plan::{DescriptorChange, Record};
 #[derive(Drop)]
 pub struct OwnChange {
     /// The record, which goes into the client's log first.
-    pub entry: Record,
+    pub logged: Record,
     /// The number of the node that it makes, if it makes one.
     pub made: Option<u32>,
     /// The descriptor that it changes, if it changes one.

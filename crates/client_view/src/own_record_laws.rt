@@ -6,7 +6,7 @@ ghost use Rattle.client_plan.specs.posix_calls.declared.limits.TheConstants.{UNI
 ghost use Rattle.client_plan.specs.file_graph.Graph.{Graph, file_bytes};
 ghost use Rattle.client_plan.specs.log_record.declared.format.Record.{Record};
 ghost use Rattle.world_invariant.specs.call_effects.Blocks.{block_of};
-ghost use Rattle.world_invariant.specs.call_effects.Known.{Knowledge, Agrees, IsForgetful, with_blocks, with_copy};
+ghost use Rattle.world_invariant.specs.call_effects.Knowledge.{Knowledge, Agrees, IsForgetful, with_blocks, with_copy};
 ghost use Rattle.world_invariant.specs.call_effects.NodeView.{FileView, view_at};
 ghost use Rattle.world_invariant.specs.Logs.{after_records};
 ghost use Rattle.client_view.specs.After.{block_laid, bytes_at, node_laid};

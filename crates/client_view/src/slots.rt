@@ -1,8 +1,8 @@
 // The copies of a client, by their inodes.
 ghost use Rattle.std.specs.Prelude.{◌≡◌, ◌==◌, ◌&&◌, ℕ, Some, None, IfOk, length, if◌then◌else◌, option_map, unwrap_or};
 ghost use Rattle.std.specs.List.{list_any};
-ghost use Rattle.world_invariant.specs.call_effects.Known.{same_kind, tells};
-ghost use Rattle.client_view.specs.Held.{copy_at, size_known, told_in};
+ghost use Rattle.world_invariant.specs.call_effects.Knowledge.{same_kind, lists_as};
+ghost use Rattle.client_view.specs.KnowledgeTables.{copy_at, size_known, is_listed_in};
 
 use client_plan::{Kind, MAX_INODE, PlainEntry};
 use record_validation::NodeSummary;
@@ -55,11 +55,11 @@ pub fn size_at(slots: &[Slot], inode: u32) -> Option<u64>
 }
 
 /// Whether an entry of a copy names an inode as of a kind.
-pub fn is_told(slots: &[Slot], inode: u32, kind: Kind) -> bool
-    ensures { result ≡ told_in slots.now inode kind }
+pub fn is_listed(slots: &[Slot], inode: u32, kind: Kind) -> bool
+    ensures { result ≡ is_listed_in slots.now inode kind }
 {
     for before in 0..MAX_INODE {
-        if tells(slots, before + 1, inode, kind) {
+        if directory_lists(slots, before + 1, inode, kind) {
             return true;
         }
     }
@@ -67,17 +67,17 @@ pub fn is_told(slots: &[Slot], inode: u32, kind: Kind) -> bool
 }
 
 // Whether an entry of a directory that there is a copy of names an inode as of a kind.
-fn tells(slots: &[Slot], dir: u32, inode: u32, kind: Kind) -> bool
-    ensures { result ≡ tells inode kind (unwrap_or (copy_at slots.now dir) None) }
+fn directory_lists(slots: &[Slot], dir: u32, inode: u32, kind: Kind) -> bool
+    ensures { result ≡ lists_as inode kind (unwrap_or (copy_at slots.now dir) None) }
 {
     match slot_at(slots, dir) {
-        Some(Some(copy)) => copy_tells(copy, inode, kind),
+        Some(Some(copy)) => copy_lists(copy, inode, kind),
         _ => false,
     }
 }
 
-fn copy_tells(copy: &NodeSummary, inode: u32, kind: Kind) -> bool
-    ensures { result ≡ tells inode kind (Some copy.now) }
+fn copy_lists(copy: &NodeSummary, inode: u32, kind: Kind) -> bool
+    ensures { result ≡ lists_as inode kind (Some copy.now) }
 {
     any_names(copy.entries(), inode, kind)
 }

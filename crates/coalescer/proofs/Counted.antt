@@ -20,7 +20,7 @@ use Rattle.coalescer.specs.declared.estimate.Estimate.{Estimate}
 use Rattle.coalescer.specs.declared.weight.Weight.{Weight}
 use Rattle.coalescer.specs.declared.weight.TheConstants.{CHUNK_IMAGES}
 use Rattle.coalescer.specs.Weight.{is_entry, file_blocks, blocks_at, same_block}
-use Rattle.coalescer.specs.Counted.{Weighs, IsEstimate, block_cmp}
+use Rattle.coalescer.specs.EffectCounts.{Weighs, IsEstimate, block_cmp}
 
 in_front : (a b : Bool) → cond a true b ≡ (b || (a || false))
 in_front true true = refl

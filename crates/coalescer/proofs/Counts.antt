@@ -20,7 +20,7 @@ use Rattle.coalescer.specs.declared.estimate.Estimate.{Estimate}
 use Rattle.coalescer.specs.declared.weight.Weight.{Weight}
 use Rattle.coalescer.specs.declared.weight.TheConstants.{CHUNK_IMAGES, CHUNK_BLOCKS}
 use Rattle.coalescer.specs.Weight.{is_entry, file_blocks, same_block, images, blocks, fits_chunk}
-use Rattle.coalescer.specs.Counted.{Weighs, IsEstimate, block_cmp}
+use Rattle.coalescer.specs.EffectCounts.{Weighs, IsEstimate, block_cmp}
 
 member_congr : {K : Type 0} {eq : K → K → Bool} → IsEquivalence eq → (xs : List K) (q x : K) → eq q x ≡ true → is_member eq xs q ≡ is_member eq xs x
 member_congr laws [] q x h = refl

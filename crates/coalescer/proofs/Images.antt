@@ -14,7 +14,7 @@ use Rattle.std.proofs.lemmas.List.Sums.{sum_by-cons}
 use Rattle.log_record.specs.file_graph.declared.effect.Effect.{Effect}
 use Rattle.log_record.specs.file_graph.declared.effect.Effect.TheVariants as effect
 use Rattle.graph_change.specs.Net.{Base, Kept, Made, Gone, Child}
-use Rattle.graph_change.specs.Change.{Change, Changes, subject, new_change, change_after, change_at, with_effect, with_effects, coalesced}
+use Rattle.graph_change.specs.Change.{Change, Changes, subject, new_change, change_after, change_at, with_effect, with_effects, coalesced_changes}
 use Rattle.coalescer.specs.Weight.{is_entry, images}
 use Rattle.coalescer.specs.Within.{images_of}
 use Rattle.coalescer.proofs.Counts.{and_true}
@@ -118,9 +118,9 @@ summed (e ∷ es) =
     let sum = sum_by-cons (λ x. 4 + 2 * fin.len x.1.entries) e es in
     omega (arith, rest, sum)
 
-pub images_within : (es : List Effect) → images_of (coalesced es) + 1 ≤ images es
+pub images_within : (es : List Effect) → images_of (coalesced_changes es) + 1 ≤ images es
 images_within es =
-    let cs = coalesced es in
+    let cs = coalesced_changes es in
     let sum = summed (fin.entries cs) in
     let many = sym (fin.len-entries cs) ∙ inodes_within es in
     let entries = with_many es fin.empty in

@@ -23,7 +23,7 @@ use Rattle.graph_change.specs.posix_calls.declared.limits.TheConstants.{UNIT_BYT
 use Rattle.log_record.specs.file_graph.declared.effect.Effect.{Effect}
 use Rattle.log_record.specs.file_graph.declared.effect.Effect.TheVariants as effect
 use Rattle.graph_change.specs.Net.{Base, Kept, Made, Gone, Child, EntryChanges}
-use Rattle.graph_change.specs.Change.{Change, Changes, subject, span, new_change, change_after, change_at, with_effect, with_effects, coalesced, writes_block, touches_block, changes_inode, changes_block}
+use Rattle.graph_change.specs.Change.{Change, Changes, subject, span, new_change, change_after, change_at, with_effect, with_effects, coalesced_changes, writes_block, touches_block, changes_inode, changes_block}
 use Rattle.graph_change.proofs.Law.{change_put, empty_at}
 use Rattle.graph_change.proofs.Touched.{coalesces}
 use Rattle.coalescer.specs.Weight.{is_entry, file_blocks, blocks_at, same_block, blocks}
@@ -103,9 +103,9 @@ named_blocks (e ∷ es) i b =
     ∙ ap (λ t. is_member same_block (file_blocks e) (i, b) || t) (named_blocks es i b)
     ∙ sym (list_any-append (same_block (i, b)) (file_blocks e) (flat_map file_blocks es))
 
-pub blocks_within : (es : List Effect) (bs : List (ℕ × ℕ)) → AreBlocksIn (coalesced es) bs → length bs ≤ blocks es
+pub blocks_within : (es : List Effect) (bs : List (ℕ × ℕ)) → AreBlocksIn (coalesced_changes es) bs → length bs ≤ blocks es
 blocks_within es bs are =
-    bounded same_block block_laws same_blocks (λ b. writes_block (change_at (coalesced es) b.0) b.1 ≡ true) bs (flat_map file_blocks es) are.0 are.1
+    bounded same_block block_laws same_blocks (λ b. writes_block (change_at (coalesced_changes es) b.0) b.1 ≡ true) bs (flat_map file_blocks es) are.0 are.1
     (λ q written. sym (named_blocks es q.0 q.1) ∙ (coalesces es).blocks q.0 q.1 written)
 
 -- ---- entries
@@ -197,9 +197,9 @@ one_named (effect.Drop i) = refl
 all_named : (es : List Effect) → length (flat_map entry_named es) ≡ count_by is_entry es
 all_named es = length-flat_map entry_named es ∙ ap (λ (f : Effect → ℕ). sum_by f es) (λ t e. one_named e t)
 
-pub entries_within : (es : List Effect) (ns : List (ℕ × List ℕ)) → AreEntriesIn (coalesced es) ns → length ns ≤ count_by is_entry es
+pub entries_within : (es : List Effect) (ns : List (ℕ × List ℕ)) → AreEntriesIn (coalesced_changes es) ns → length ns ≤ count_by is_entry es
 entries_within es ns are =
-    let few = bounded same_entry entry_laws same_entries (λ n. fin.contains_key (change_at (coalesced es) n.0).entries n.1 ≡ true) ns (flat_map entry_named es) are.0 are.1
+    let few = bounded same_entry entry_laws same_entries (λ n. fin.contains_key (change_at (coalesced_changes es) n.0).entries n.1 ≡ true) ns (flat_map entry_named es) are.0 are.1
     (λ q in_it. sym (ap (λ t. t || is_member same_entry (flat_map entry_named es) q) (ap (λ c. fin.contains_key c.entries q.1) (empty_at q.0) ∙ no_entry Kept q.1)) ∙ named_entries es fin.empty q.0 q.1 in_it) in
     let some = distinct_count-le same_entry (flat_map entry_named es) in
     let is = all_named es in
@@ -232,9 +232,9 @@ pub holds : (b : Bool) → T b → b ≡ true
 holds true h = refl
 holds false h = absurd h
 
-pub inodes_within : (es : List Effect) → fin.len (coalesced es) ≡ distinct_count nat_eq (map subject es)
+pub inodes_within : (es : List Effect) → fin.len (coalesced_changes es) ≡ distinct_count nat_eq (map subject es)
 inodes_within es =
-    let cs = coalesced es in
+    let cs = coalesced_changes es in
     fin.len-entries cs
     ∙ sym (length-map (fin.entries cs) (λ e. e.0))
     ∙ length-from_keys nat_eq_equiv (fin.keys cs) (map subject es) (keys_apart (fin.entries cs) (holds (is_sorted nat_cmp (fin.entries cs)) (fin.entries_sorted cs)))

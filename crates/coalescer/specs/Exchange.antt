@@ -28,8 +28,8 @@ exchanged_if p q (Some x) None g = g
 exchanged_if p q None y g = g
 
 -- a graph in which two names have exchanged what they lead to; as it was, unless both lead to something
-abbrev pub exchanged : EntryPlace → EntryPlace → Graph → Graph
-exchanged p q g = exchanged_if p q (child_of_place g p) (child_of_place g q) g
+abbrev pub exchanged_graph : EntryPlace → EntryPlace → Graph → Graph
+exchanged_graph p q g = exchanged_if p q (child_of_place g p) (child_of_place g q) g
 
 -- ---- a change in two parts
 
@@ -42,5 +42,5 @@ abbrev pub front : Change → Change
 front c = record { base = c.base; names = None; length = Grown 0; patches = fin.empty; entries = c.entries }
 
 -- the rest of it: how many names the node has, and a file's length and bytes
-abbrev pub rest : Change → Change
-rest c = record { base = Kept; names = c.names; length = c.length; patches = c.patches; entries = fin.empty }
+abbrev pub rest_of_change : Change → Change
+rest_of_change c = record { base = Kept; names = c.names; length = c.length; patches = c.patches; entries = fin.empty }

@@ -1,4 +1,4 @@
-pub mod Counted
+pub mod EffectCounts
 pub mod Exchange
 pub mod Records
 pub mod Weight

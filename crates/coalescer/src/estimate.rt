@@ -4,7 +4,7 @@ ghost use Rattle.std.specs.Prelude.{◌≡◌, ◌<◌, ◌++◌, ◌∷◌, Lis
 ghost use Rattle.std.specs.List.{range_with_len};
 ghost use Rattle.log_record.specs.file_graph.declared.effect.Effect.{Effect};
 ghost use Rattle.graph_change.specs.Change.{span};
-ghost use Rattle.coalescer.specs.Counted.{IsEstimate};
+ghost use Rattle.coalescer.specs.EffectCounts.{IsEstimate};
 ghost use Rattle.coalescer.specs.Records.{effects_in};
 ghost use Rattle.coalescer.specs.Weight.{fits_chunk, file_blocks};
 

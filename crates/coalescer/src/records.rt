@@ -1,5 +1,5 @@
 ghost use Rattle.std.specs.Prelude.{◌≡◌, ◌<◌, IfErr, IfOk, OnErr, OnOk, length};
-ghost use Rattle.graph_change.specs.Change.{Coalesces, coalesced, with_effects};
+ghost use Rattle.graph_change.specs.Change.{Coalesces, coalesced_changes, with_effects};
 ghost use Rattle.graph_change.specs.View.{changes_of};
 ghost use Rattle.coalescer.specs.Records.{effects_in};
 
@@ -13,7 +13,7 @@ use std::alloc::{AllocError, Global};
 /// a record that has a spelling holds no such write.
 pub fn coalesce(alloc: Global, records: &[Record]) -> Result<GraphChange, AllocError>
     ensures meaning { IfOk result (λ change. Coalesces (effects_in records.now) (changes_of change)) }
-    ensures exact { IfOk result (λ change. changes_of change ≡ coalesced (effects_in records.now)) }
+    ensures exact { IfOk result (λ change. changes_of change ≡ coalesced_changes (effects_in records.now)) }
     ensures memory { IfErr result (λ _. 0 < length (effects_in records.now)) }
 {
     let mut change = GraphChange::new(alloc);

@@ -6,7 +6,7 @@ ghost use Rattle.graph_change.specs.posix_calls.declared.limits.TheConstants.{UN
 ghost use Rattle.log_record.specs.file_graph.declared.effect.Effect.{Effect};
 ghost use Rattle.graph_change.specs.Change.{subject, span};
 ghost use Rattle.coalescer.specs.Weight.{fits_chunk, is_entry, file_blocks, last_block, blocks_at, same_block};
-ghost use Rattle.coalescer.specs.Counted.{Weighs, block_cmp};
+ghost use Rattle.coalescer.specs.EffectCounts.{Weighs, block_cmp};
 
 use graph_change::UNIT_BYTES;
 use log_record::{Effect, Record};

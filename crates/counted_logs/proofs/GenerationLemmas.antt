@@ -2,8 +2,8 @@
 use Rattle.std.proofs.Common.{◌≡◌, ◌≢◌, ◌⊎◌, inl, inr, ℕ, zero, suc, ◌%◌, ◌<◌, Bool, true, false, not, ◌&&◌, eqb, List, [], ◌∷◌, ◌++◌, length, drop, get_or, Some, refl, sym, subst, ◌∙◌, arith}
 use Rattle.std.specs.Prelude.{find}
 use Rattle.std.proofs.lemmas.Bool.{eqb-true, eqb-false, ne_eqb, and_parts, and_from, and_cases, cases_Bool, cond-true, cond-false, not-true, not-false, not_from_false, true≢false}
-use Rattle.update_log.specs.Wiping.{generation}
-use Rattle.update_log.specs.Counting.{next_generation, records_in, counted}
+use Rattle.update_log.specs.WipeStops.{generation}
+use Rattle.update_log.specs.RecordCounts.{next_generation, records_in, counted_records}
 use Rattle.update_log.proofs.Counts.{header_tells}
 use Rattle.counted_logs.specs.Regions.{AreStale, HeadersName}
 use Rattle.counted_logs.specs.Generations.{later, is_free, IsNear}
@@ -80,7 +80,7 @@ unnamed_free names g two =
     (λ a b off. free_pair g a b (off 0 (omega arith)) (off 1 (omega arith)))
 
 -- nothing counts under it
-pub free_counts_none : (regions : ℕ → List ℕ) (names : List ℕ) (g : ℕ) → length names ≡ 2 → is_free names g ≡ true → HeadersName regions names → counted g 0 regions ≡ []
+pub free_counts_none : (regions : ℕ → List ℕ) (names : List ℕ) (g : ℕ) → length names ≡ 2 → is_free names g ≡ true → HeadersName regions names → counted_records g 0 regions ≡ []
 free_counts_none regions names g two free named =
     let off = free_unnamed names g two free in
     let own : records_in regions g ≡ [] = other_counts_none regions names g named (off (g % 2) (turn_small g)).0 in

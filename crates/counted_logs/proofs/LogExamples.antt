@@ -4,7 +4,7 @@ use Rattle.update_log.specs.file_graph.declared.effect.Effect.TheVariants as eff
 use Rattle.update_log.specs.file_graph.declared.effect.Kind.TheVariants as kind
 use Rattle.update_log.specs.log_record.declared.format.Record.{Record}
 use Rattle.update_log.specs.log_record.Grammar.{record_of, record_at, header_at, effects_at, effect_at, fields_at, dropped_at}
-use Rattle.update_log.specs.Counting.{counted}
+use Rattle.update_log.specs.RecordCounts.{counted_records}
 use Rattle.counted_logs.specs.Generations.{is_free, later}
 use Rattle.counted_logs.specs.Owners.{is_foreign, owner_among, touched_inodes}
 
@@ -34,31 +34,31 @@ abbrev both : List ℕ → List ℕ → ℕ → List ℕ
 both even odd zero = even
 both even odd (suc r) = odd
 
-both_count : counted 4 1 (both (region (low 4) (2 ∷ 3 ∷ [])) (region (low 5) (9 ∷ []))) ≡ map drop_record (3 ∷ 9 ∷ [])
+both_count : counted_records 4 1 (both (region (low 4) (2 ∷ 3 ∷ [])) (region (low 5) (9 ∷ []))) ≡ map drop_record (3 ∷ 9 ∷ [])
 unfolding record_of record_at header_at effects_at effect_at fields_at dropped_at
 both_count = refl
 
-before_counts_none : counted 4 0 (both (region (low 4) (2 ∷ [])) (region (low 3) (9 ∷ []))) ≡ map drop_record (2 ∷ [])
+before_counts_none : counted_records 4 0 (both (region (low 4) (2 ∷ [])) (region (low 3) (9 ∷ []))) ≡ map drop_record (2 ∷ [])
 unfolding record_of record_at header_at effects_at effect_at fields_at dropped_at
 before_counts_none = refl
 
-later_count_none : counted 4 0 (both (region (low 6) (2 ∷ [])) (region (low 7) (9 ∷ []))) ≡ []
+later_count_none : counted_records 4 0 (both (region (low 6) (2 ∷ [])) (region (low 7) (9 ∷ []))) ≡ []
 unfolding record_of record_at header_at effects_at effect_at fields_at dropped_at
 later_count_none = refl
 
-next_counts_alone : counted 4 0 (both (region (low 2) (2 ∷ [])) (region (low 5) (9 ∷ []))) ≡ map drop_record (9 ∷ [])
+next_counts_alone : counted_records 4 0 (both (region (low 2) (2 ∷ [])) (region (low 5) (9 ∷ []))) ≡ map drop_record (9 ∷ [])
 unfolding record_of record_at header_at effects_at effect_at fields_at dropped_at
 next_counts_alone = refl
 
-one_name_counts_once : counted 4 0 (both (region (low 4) (2 ∷ [])) (region (low 4) (9 ∷ []))) ≡ map drop_record (2 ∷ [])
+one_name_counts_once : counted_records 4 0 (both (region (low 4) (2 ∷ [])) (region (low 4) (9 ∷ []))) ≡ map drop_record (2 ∷ [])
 unfolding record_of record_at header_at effects_at effect_at fields_at dropped_at
 one_name_counts_once = refl
 
-more_done_than_there : counted 4 9 (both (region (low 4) (2 ∷ [])) (region (low 5) (9 ∷ []))) ≡ map drop_record (9 ∷ [])
+more_done_than_there : counted_records 4 9 (both (region (low 4) (2 ∷ [])) (region (low 5) (9 ∷ []))) ≡ map drop_record (9 ∷ [])
 unfolding record_of record_at header_at effects_at effect_at fields_at dropped_at
 more_done_than_there = refl
 
-generations_begin_again : counted (2 ^ 64 - 1) 0 (both (region (low 0) (2 ∷ [])) (region last (9 ∷ []))) ≡ map drop_record (9 ∷ 2 ∷ [])
+generations_begin_again : counted_records (2 ^ 64 - 1) 0 (both (region (low 0) (2 ∷ [])) (region last (9 ∷ []))) ≡ map drop_record (9 ∷ 2 ∷ [])
 unfolding record_of record_at header_at effects_at effect_at fields_at dropped_at
 generations_begin_again = refl
 

@@ -5,8 +5,8 @@ use Rattle.std.proofs.lemmas.Bool.{eq-eqb, ne_eqb, cond-true, cond-false}
 use Rattle.std.proofs.lemmas.List.{drop_min, drop_all}
 use Rattle.update_log.specs.log_record.declared.format.Record.{Record}
 use Rattle.update_log.specs.Frames.{records}
-use Rattle.update_log.specs.Wiping.{generation}
-use Rattle.update_log.specs.Counting.{records_in}
+use Rattle.update_log.specs.WipeStops.{generation}
+use Rattle.update_log.specs.RecordCounts.{records_in}
 use Rattle.update_log.proofs.Counts.{header_tells}
 use Rattle.counted_logs.specs.Regions.{HeadersName}
 

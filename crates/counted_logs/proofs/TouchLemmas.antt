@@ -10,9 +10,9 @@ use Rattle.update_log.specs.log_record.declared.format.Record.{Record}
 use Rattle.update_log.specs.log_record.Grammar.{◌>>=◌, IsInode, Fits, fits, fields_at, effect_at, effects_at, header_at, record_at, record_of}
 use Rattle.world_invariant.proofs.call_effects_lemmas.log_record_lemmas.Fields.{bind_some, test_some, some_is}
 use Rattle.world_invariant.proofs.call_effects_lemmas.log_record_lemmas.Effects.{Fits-from_fits}
-use Rattle.update_log.specs.Frames.{payloads, records, spelled}
-use Rattle.update_log.specs.Wiping.{generation}
-use Rattle.update_log.specs.Counting.{records_under, records_in, next_generation, counted}
+use Rattle.update_log.specs.Frames.{payloads, records, spelled_records}
+use Rattle.update_log.specs.WipeStops.{generation}
+use Rattle.update_log.specs.RecordCounts.{records_under, records_in, next_generation, counted_records}
 use Rattle.world_invariant.specs.Logs.{is_touched, is_written}
 use Rattle.world_invariant.proofs.Records.{written_append, front_written, rest_written}
 use Rattle.counted_logs.specs.Owners.{TouchInodes}
@@ -106,9 +106,9 @@ next_touches : (o : Option Record) (rs : List Record) → ((r : Record) → o �
 next_touches None rs first rest = rest
 next_touches (Some r) rs first rest = one_touches r rs (first r refl) rest
 
-spelled_touch : (ps : List (List ℕ)) → TouchInodes (spelled ps)
+spelled_touch : (ps : List (List ℕ)) → TouchInodes (spelled_records ps)
 spelled_touch [] = none_touch
-spelled_touch (p ∷ ps) = next_touches (record_of p) (spelled ps) (record_inodes p) (spelled_touch ps)
+spelled_touch (p ∷ ps) = next_touches (record_of p) (spelled_records ps) (record_inodes p) (spelled_touch ps)
 
 pub region_touches : (content : List ℕ) → TouchInodes (records content)
 region_touches content = spelled_touch (payloads content)
@@ -116,7 +116,7 @@ region_touches content = spelled_touch (payloads content)
 turn_touches : (g : ℕ) (content : List ℕ) → TouchInodes (records_under g content)
 turn_touches g content = cond_both (eqb (generation content) g) (records content) [] TouchInodes (λ t. region_touches content) (λ f. none_touch)
 
-pub counted_touch : (g done : ℕ) (regions : ℕ → List ℕ) → TouchInodes (counted g done regions)
+pub counted_touch : (g done : ℕ) (regions : ℕ → List ℕ) → TouchInodes (counted_records g done regions)
 counted_touch g done regions =
     both_touch (drop done (records_in regions g)) (records_in regions (next_generation g))
     (drop_touches done (records_in regions g) (turn_touches g (regions (g % 2))))

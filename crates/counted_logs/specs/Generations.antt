@@ -1,7 +1,7 @@
 -- Generations after one another, and those that no header names.
 use Rattle.std.specs.Prelude.{◌≡◌, ℕ, ◌+◌, ◌%◌, ◌^◌, ◌<◌, ◌==◌, Bool, not, ◌&&◌, List}
 use Rattle.std.specs.List.{list_all}
-use Rattle.update_log.specs.Counting.{next_generation}
+use Rattle.update_log.specs.RecordCounts.{next_generation}
 
 -- the generation so many after this one: they are counted modulo 2^64
 abbrev pub later : ℕ → ℕ → ℕ

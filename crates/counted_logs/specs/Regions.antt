@@ -2,8 +2,8 @@
 use Rattle.std.specs.Prelude.{◌≡◌, ◌≢◌, ℕ, ◌<◌, List, [], ◌++◌, length, drop, slice_index, Option, Some, None}
 use Rattle.update_log.specs.log_record.declared.format.Record.{Record}
 use Rattle.update_log.specs.Frames.{header, records}
-use Rattle.update_log.specs.Wiping.{generation}
-use Rattle.update_log.specs.Counting.{next_generation}
+use Rattle.update_log.specs.WipeStops.{generation}
+use Rattle.update_log.specs.RecordCounts.{next_generation}
 use Rattle.counted_logs.specs.declared.regions.LogRest.{LogRest}
 use Rattle.counted_logs.specs.declared.regions.CountedLogs.{CountedLogs}
 

@@ -2,7 +2,7 @@
 ghost use Rattle.std.specs.Prelude.{◌≡◌, ◌<◌, ◌+◌, ◌++◌, ◌↔◌, ℕ, List, Option, None};
 ghost use Rattle.update_log.specs.posix_calls.declared.limits.TheConstants.{MAX_CLIENTS};
 ghost use Rattle.update_log.specs.log_record.declared.format.Record.{Record};
-ghost use Rattle.update_log.specs.Counting.{counted};
+ghost use Rattle.update_log.specs.RecordCounts.{counted_records};
 ghost use Rattle.update_log.specs.Frames.{records};
 ghost use Rattle.world_invariant.specs.Logs.{LogsAreApart};
 ghost use Rattle.counted_logs.specs.Owners.{AreAdded, AreOwners, IsClear, TouchInodes, owner_among};
@@ -29,6 +29,6 @@ pub fn owners_decide_whether_logs_are_apart()
 /// regions, and each part of such a list.
 pub fn counted_records_touch_inodes()
     ensures region { (content : List ℕ) → TouchInodes (records content) }
-    ensures counted { (g done : ℕ) (regions : ℕ → List ℕ) → TouchInodes (counted g done regions) }
+    ensures counted { (g done : ℕ) (regions : ℕ → List ℕ) → TouchInodes (counted_records g done regions) }
     ensures parts { (first second : List Record) → TouchInodes (first ++ second) → TouchInodes first × TouchInodes second }
 {}

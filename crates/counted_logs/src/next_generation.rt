@@ -1,6 +1,6 @@
 // Under which generation a client goes on after a recovery.
 ghost use Rattle.std.specs.Prelude.{◌≡◌, ◌≢◌, ◌%◌, ◌<◌, ℕ, List, [], ◌∷◌, Some, find, slice_index};
-ghost use Rattle.update_log.specs.Counting.{counted, next_generation};
+ghost use Rattle.update_log.specs.RecordCounts.{counted_records, next_generation};
 ghost use Rattle.counted_logs.specs.Regions.{AreStale, HeadersName};
 ghost use Rattle.counted_logs.specs.Generations.{IsNear, is_free, later};
 
@@ -13,7 +13,7 @@ pub fn next_free_generation(generation: u64, names: [u64; 2]) -> u64
     ensures first_free { find (is_free names) (later 2 generation ∷ later 4 generation ∷ later 6 generation ∷ []) ≡ Some result }
 
     ensures no_name { (r : ℕ) → r < 2 → (slice_index names r ≢ result) × (slice_index names r ≢ next_generation result) }
-    ensures counts_nothing { (regions : ℕ → List ℕ) → HeadersName regions names → counted result 0 regions ≡ [] }
+    ensures counts_nothing { (regions : ℕ → List ℕ) → HeadersName regions names → counted_records result 0 regions ≡ [] }
     ensures stale { (regions : ℕ → List ℕ) → HeadersName regions names → AreStale regions result }
     ensures same_parity { result % 2 ≡ generation % 2 }
 

@@ -81,7 +81,7 @@ fn owner_of(clients: &[Option<u32>], inode: u32) -> Option<u32>
 }
 
 // An inode, if another client's records touch it.
-fn shared_at(clients: &[Option<u32>], client: u32, inode: u32) -> Option<SharedInode>
+fn shared_inode(clients: &[Option<u32>], client: u32, inode: u32) -> Option<SharedInode>
     ensures { IsFirstShared (owner clients.now) client (inode ∷ []) result }
 {
     let holder = owner_of(clients, inode)?;
@@ -99,7 +99,7 @@ fn first_shared_by(clients: &[Option<u32>], client: u32, effects: &[Effect]) -> 
     ensures { IsFirstShared (owner clients.now) client (touches effects.now) result }
 {
     for effect in effects {
-        if let Some(shared) = shared_at(clients, client, effect.subject()) {
+        if let Some(shared) = shared_inode(clients, client, effect.subject()) {
             return Some(shared);
         }
     }

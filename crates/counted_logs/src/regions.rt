@@ -1,6 +1,6 @@
 // Which records of a client's two regions count.
 ghost use Rattle.std.specs.Prelude.{◌≡◌, ◌≢◌, ◌%◌, ℕ, List, drop, length, min, slice_index, IfSome, IfNone};
-ghost use Rattle.update_log.specs.Counting.{counted, next_generation, records_in};
+ghost use Rattle.update_log.specs.RecordCounts.{counted_records, next_generation, records_in};
 ghost use Rattle.counted_logs.specs.Regions.{AreRead, records_behind, records_of, records_that_count};
 
 /// The records of a region from one of them on.
@@ -32,7 +32,7 @@ pub fn logs_that_count(
     names: [u64; 2],
     lengths: [usize; 2],
 ) -> CountedLogs
-    ensures records { (regions : ℕ → List ℕ) → AreRead regions names lengths → counted generation done regions ≡ records_that_count regions result }
+    ensures records { (regions : ℕ → List ℕ) → AreRead regions names lengths → counted_records generation done regions ≡ records_that_count regions result }
 
     // The mark's generation stands in the region of its parity, or in none.
     ensures first { IfSome result.first (λ rest. (rest.region ≡ generation % 2) × (slice_index names rest.region ≡ generation)) }

@@ -18,11 +18,11 @@
 #![tactic(auto)]
 
 mod laws;
-mod playing;
+mod play;
 mod recoverable;
 mod steps;
 
 pub use laws::{each_stop_is_recovered, one_list_plays_as_two, two_lists_play_as_one};
-pub use playing::play_all;
+pub use play::play_all;
 pub use recoverable::Recoverable;
 pub use steps::Steps;

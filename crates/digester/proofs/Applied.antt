@@ -13,7 +13,7 @@ use Rattle.update_log.specs.file_graph.Numbers.{is_inode}
 use Rattle.update_log.specs.file_graph.Units.{charge}
 use Rattle.update_log.proofs.file_graph_lemmas.Touches.{untouched}
 use Rattle.coalescer.specs.graph_change.Bounds.{is_bounded, AreBounded}
-use Rattle.coalescer.specs.graph_change.Change.{changed, changes_inode, coalesced, subject}
+use Rattle.coalescer.specs.graph_change.Change.{changed_graph, changes_inode, coalesced_changes, subject}
 use Rattle.coalescer.proofs.graph_change_lemmas.Bounding.{bounded_coalesced}
 use Rattle.coalescer.proofs.graph_change_lemmas.Law.{coalesced_law}
 use Rattle.coalescer.proofs.graph_change_lemmas.Touched.{coalesces}
@@ -42,10 +42,10 @@ few_blocks : (es : List Effect) → fits_chunk es ≡ true → blocks es ≤ CHU
 unfolding fits_chunk
 few_blocks es fit = leb-true (blocks es) CHUNK_BLOCKS (and_parts (nat_le (images es) CHUNK_IMAGES) (nat_le (blocks es) CHUNK_BLOCKS) fit).1
 
-pub fit_images : (es : List Effect) → fits_chunk es ≡ true → images_of (coalesced es) ≤ 255
+pub fit_images : (es : List Effect) → fits_chunk es ≡ true → images_of (coalesced_changes es) ≤ 255
 fit_images es fit = let most = few_images es fit in let its = images_within es in omega (arith, most, its)
 
-pub fit_blocks : (es : List Effect) (bs : List (ℕ × ℕ)) → fits_chunk es ≡ true → AreBlocksIn (coalesced es) bs → length bs ≤ SPARE_BLOCKS
+pub fit_blocks : (es : List Effect) (bs : List (ℕ × ℕ)) → fits_chunk es ≡ true → AreBlocksIn (coalesced_changes es) bs → length bs ≤ SPARE_BLOCKS
 fit_blocks es bs fit are = let most = few_blocks es fit in let its = blocks_within es bs are in omega (arith, most, its)
 
 -- ---- numbers within the limits
@@ -70,7 +70,7 @@ all_bounded : (held : List ℕ) (capacity : ℕ) (g : Graph) (rs : List Record) 
 all_bounded held capacity g [] all = tt
 all_bounded held capacity g (r ∷ rs) all = bounded_then r.effects (effects_in rs) all.0.spelled.fit (all_bounded held capacity (after_effects g r.effects) rs all.1)
 
-pub good_bounded : (held : List ℕ) (capacity : ℕ) (g : Graph) (rs : List Record) → AreGood held capacity g rs → AreBounded (coalesced (effects_in rs))
+pub good_bounded : (held : List ℕ) (capacity : ℕ) (g : Graph) (rs : List Record) → AreGood held capacity g rs → AreBounded (coalesced_changes (effects_in rs))
 good_bounded held capacity g rs all = bounded_coalesced (effects_in rs) (all_bounded held capacity g rs all)
 
 -- ---- the inodes of a change are those that its effects touch
@@ -98,10 +98,10 @@ inode_among (e ∷ es) i =
     ∙ ap (λ b. is_among i (subjects e) || b) (inode_among es i)
     ∙ sym (among_joined i (subjects e) (touches es))
 
-pub changes_touched : (es : List Effect) (i : ℕ) → fin.contains_key (coalesced es) i ≡ is_among i (touches es)
+pub changes_touched : (es : List Effect) (i : ℕ) → fin.contains_key (coalesced_changes es) i ≡ is_among i (touches es)
 changes_touched es i = (coalesces es).inodes i ∙ inode_among es i
 
-pub others_stay : (g : Graph) (es : List Effect) (i : ℕ) → fin.contains_key (coalesced es) i ≡ false → changed (coalesced es) g i ≡ g i
+pub others_stay : (g : Graph) (es : List Effect) (i : ℕ) → fin.contains_key (coalesced_changes es) i ≡ false → changed_graph (coalesced_changes es) g i ≡ g i
 others_stay g es i out = ap (λ (h : Graph). h i) (coalesced_law es g) ∙ untouched g es i (sym (changes_touched es i) ∙ out)
 
 -- ---- limits
@@ -123,7 +123,7 @@ kept held capacity g (r ∷ rs) i all first =
     next false its (inr among) = inr (second (is_among i (touches r.effects)) (is_among i (touches (effects_in rs))) (is_among i (touches (effects_in (r ∷ rs))))
         (ap (is_among i) (touches_joined r.effects (effects_in rs)) ∙ among_joined i (touches r.effects) (touches (effects_in rs))) its among)
 
-pub good_limits : (held : List ℕ) (capacity : ℕ) (g : Graph) (rs : List Record) (i : ℕ) → AreGood held capacity g rs → fin.contains_key (coalesced (effects_in rs)) i ≡ true → KeepsLimits (view_at (changed (coalesced (effects_in rs)) g) i)
+pub good_limits : (held : List ℕ) (capacity : ℕ) (g : Graph) (rs : List Record) (i : ℕ) → AreGood held capacity g rs → fin.contains_key (coalesced_changes (effects_in rs)) i ≡ true → KeepsLimits (view_at (changed_graph (coalesced_changes (effects_in rs)) g) i)
 good_limits held capacity g rs i all its =
     subst (λ (k : Graph). KeepsLimits (view_at k i)) (sym (coalesced_law (effects_in rs) g)) (kept held capacity g rs i all (inr (sym (changes_touched (effects_in rs) i) ∙ its)))
 
@@ -139,5 +139,5 @@ some_charge held capacity g [] some all = absurd (omega (arith, some))
 some_charge held capacity g (r ∷ rs) some all =
     subst (λ (k : Graph). charge k ≤ capacity) (sym (after_more g r.effects (effects_in rs))) (charge_kept held capacity (after_effects g r.effects) rs all.1 all.0.charge)
 
-pub good_charge : (held : List ℕ) (capacity : ℕ) (g : Graph) (rs : List Record) → 0 < length rs → AreGood held capacity g rs → charge (changed (coalesced (effects_in rs)) g) ≤ capacity
+pub good_charge : (held : List ℕ) (capacity : ℕ) (g : Graph) (rs : List Record) → 0 < length rs → AreGood held capacity g rs → charge (changed_graph (coalesced_changes (effects_in rs)) g) ≤ capacity
 good_charge held capacity g rs some all = subst (λ (k : Graph). charge k ≤ capacity) (sym (coalesced_law (effects_in rs) g)) (some_charge held capacity g rs some all)

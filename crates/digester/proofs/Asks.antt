@@ -12,11 +12,11 @@ use Rattle.update_log.specs.file_graph.Graph.{is_among, subjects, touches}
 use Rattle.update_log.specs.log_record.declared.format.Record.{Record}
 use Rattle.shared_area.specs.call_effects.NodeView.{NodeView, view_after}
 use Rattle.coalescer.specs.Records.{effects_in}
-use Rattle.shared_area.specs.record_validation.Known.{Known, is_unknown}
+use Rattle.shared_area.specs.record_validation.KnownNodes.{Known, is_unknown}
 use Rattle.shared_area.specs.record_validation.Row.{known_by, with_known}
 use Rattle.shared_area.specs.record_validation.declared.verdict.Verdict.{Verdict}
 use Rattle.shared_area.specs.record_validation.declared.verdict.Verdict.TheVariants as verdict
-use Rattle.digester.specs.Asked.{AreAmong, AskedKnown, AskedOnce}
+use Rattle.digester.specs.Questions.{AreAmong, AskedKnown, AskedOnce}
 use Rattle.digester.proofs.Covered.{touched_first, touched_later}
 use Rattle.digester.proofs.Known.{among_first, among_joined, or_of, touches_joined}
 

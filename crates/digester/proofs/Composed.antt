@@ -1,12 +1,18 @@
 -- A test of the records of a chunk, and then the change that they come to: what is left at each moment, and what is refused.
-use Rattle.std.proofs.Common.{◌≡◌, ◌≢◌, ◌==◌, ◌<◌, ◌≤◌, ◌+◌, ◌-◌, ◌^◌, inl, inr, ℕ, List, true, length, take, drop, refl, sym, ◌∙◌, ap, subst, arith}
+use Rattle.std.proofs.Common.{◌≡◌, ◌≢◌, ◌==◌, ◌<◌, ◌≤◌, ◌+◌, ◌-◌, ◌^◌, inl, inr, ℕ, List, true, length, get_or, take, drop, refl, sym, ◌∙◌, ap, subst, arith}
 use Rattle.std.specs.Prelude.{◌&&◌, nat_lt, Option, Some, Result, Ok, Err}
 use Rattle.std.specs.List.{AllByRecursion, list_all}
+use Rattle.std.specs.List.Sorted.{IsNonDecreasing, IsStrictlyIncreasing}
+use Rattle.std.proofs.lemmas.List.Kept.{AllPairs-from_increasing}
 use Rattle.std.proofs.lemmas.Bool.{true≢false, and_parts, eqb-true}
+use Rattle.std.proofs.lemmas.Bool.Decides.{eqb_tells, nat_tests}
 use Rattle.std.proofs.lemmas.List.{length-drop, length-set, length-take-le, get_or-set_same}
+use Rattle.update_log.specs.tier_device.declared.media.Media.{Ghosts}
 use Rattle.update_log.specs.tier_device.declared.media.Tier.{Tier}
-use Rattle.update_log.specs.tier_device.Media.{Left, Rose}
-use Rattle.coalescer.specs.graph_change.Change.{Changes, changed}
+use Rattle.update_log.specs.tier_device.Media.{Rose}
+use Rattle.update_log.specs.tier_device.AfterStop.{Left}
+use Rattle.update_log.specs.posix_calls.Operations.{is_client}
+use Rattle.coalescer.specs.graph_change.Change.{Changes, changed_graph}
 use Rattle.coalescer.proofs.graph_change_lemmas.Law.{coalesced_law}
 use Rattle.coalescer.specs.graph_change.View.{changes_of}
 use Rattle.shared_area.specs.layout.declared.marks.Mark.{Mark}
@@ -17,13 +23,13 @@ use Rattle.shared_area.specs.layout.Places.{Sizes}
 use Rattle.shared_area.specs.batch_journal.Course.{Unmoved}
 use Rattle.shared_area.specs.batch_journal.View.{JournalView}
 use Rattle.shared_area.proofs.batch_journal_lemmas.Courses.{unmoved_on}
-use Rattle.shared_area.specs.area_image.Store.{Store, store_of, graph, marks}
+use Rattle.shared_area.specs.area_image.Store.{Store, disk, store_of, graph, marks}
 use Rattle.shared_area.specs.area_image.Reads.{Loose}
 use Rattle.shared_area.specs.area_image.Looks.{Looks}
 use Rattle.shared_area.proofs.area_image_lemmas.Looked.{carried_back}
 use Rattle.shared_area.specs.area_image.declared.error.AreaError.{AreaError}
 use Rattle.shared_area.specs.area_image.declared.error.AreaError.TheVariants as area
-use Rattle.shared_area.specs.ChangeApplying.{IsAppliedStore, MakesFewCalls}
+use Rattle.shared_area.specs.ChangeApply.{IsAppliedStore, MakesFewCalls}
 use Rattle.shared_area.proofs.Calls.{few_behind}
 use Rattle.shared_area.specs.declared.error.ApplyError.{ApplyError}
 use Rattle.shared_area.specs.declared.error.ApplyError.TheVariants as apply
@@ -31,60 +37,66 @@ use Rattle.update_log.specs.log_record.Grammar.{IsRecord}
 use Rattle.update_log.specs.log_record.declared.format.Record.{Record}
 use Rattle.coalescer.specs.Records.{effects_in}
 use Rattle.shared_area.specs.Ready.{OpensAs}
-use Rattle.shared_area.specs.Applying.{StaysOrChanges, AppliesOrStays}
+use Rattle.shared_area.specs.GraphUpdate.{StaysOrChanges, AppliesOrStays}
 use Rattle.digester.specs.Plan.{AreGood, Finds, IsFirstBad, IsNextRun}
 use Rattle.digester.specs.declared.record_test.Found.{Found}
 use Rattle.digester.proofs.PlanRuns.{place as bad_place}
 use Rattle.digester.specs.Chunk.{IsChunkOf, is_next}
-use Rattle.digester.specs.Digesting.{IsGoodRun, IsDigested, IsToldBad, StaysOrDigests, DigestsOrStays}
-use Rattle.digester.specs.Errors.{IsApplyTold, IsTestTold}
-use Rattle.digester.specs.Marking.{mark_after, marks_after}
-use Rattle.digester.specs.SealedLog.{IsSealed, StandsAt, StandsAtMark, done_to, undone, mark_then}
+use Rattle.digester.specs.DigestStep.{IsGoodRun, IsDigested, NamesFirstBad, StaysOrDigests, DigestsOrStays}
+use Rattle.digester.specs.Errors.{IsApplyError, IsTestError}
+use Rattle.digester.specs.MarkMoves.{mark_after, marks_after}
+use Rattle.digester.specs.SealedLog.{SealedView, HasUndigested, IsSealed, StandsAt, StandsAtMark, done_to, undone, mark_then}
 use Rattle.digester.specs.declared.chunk.Chunk.{Chunk}
-use Rattle.digester.specs.declared.sealed_log.SealedLog.{SealedLog}
 use Rattle.digester.specs.declared.error.DigestError.{DigestError}
 use Rattle.digester.specs.declared.error.DigestError.TheVariants as errors
 use Rattle.digester.proofs.Runs.{all_dropped, all_taken, good_run}
 
+-- inodes that rise, each once, do not fall
+pub not_falling : (xs : List ℕ) → IsStrictlyIncreasing xs → IsNonDecreasing xs
+not_falling xs up i j d le within = elim (eqb_tells i j) [
+  | inl same ↦ (let is = ap (λ k. get_or xs k d) same.1 in omega (arith, is))
+  | inr apart ↦ (let other = apart.1 in let below = AllPairs-from_increasing xs up i j d (omega (arith, le, other)) within in omega (arith, below))
+]
+
 -- ---- the records of a chunk
 
-module _ (x : SealedLog) (c : Chunk) (sealed : IsSealed x) (is : IsChunkOf x c) (next : is_next x c ≡ true) where
+module _ (x : SealedView) (c : Chunk) (sealed : IsSealed x) (some : HasUndigested x) (is : IsChunkOf x c) (next : is_next x c ≡ true) where
   pub begins : c.first ≡ x.done
   begins = eqb-true c.first x.done (and_parts (c.client == x.client && c.generation == x.generation) (c.first == x.done) next).1
 
   pub its_run : IsNextRun (undone x) c.count (changes_of c.change)
-  its_run = subst (λ (k : ℕ). IsNextRun (drop k x.records.items) c.count (changes_of c.change)) begins is.run
+  its_run = subst (λ (k : ℕ). IsNextRun (drop k x.records) c.count (changes_of c.change)) begins is.run
 
   -- no more than there are
-  pub its_end : x.done + c.count ≤ length x.records.items
-  its_end = (let long = length-drop x.done x.records.items in let within = its_run.run.within in let some = sealed.some in omega (arith, long, some, within))
+  pub its_end : x.done + c.count ≤ length x.records
+  its_end = (let long = length-drop x.done x.records in let within = its_run.run.within in omega (arith, long, some, within))
 
   -- as they are lent
-  pub lent : (rs : List Record) (end : ℕ) → rs ≡ x.records.items → end ≡ x.done + c.count → take (end - x.done) (drop x.done rs) ≡ take c.count (undone x)
-  lent rs end all to =
-      let many : end - x.done ≡ c.count = omega (arith, to) in
-      ap (λ (r : List Record). take (end - x.done) (drop x.done r)) all ∙ ap (λ (k : ℕ). take k (undone x)) many
+  pub lent : (rs : List Record) (first end : ℕ) → rs ≡ x.records → first ≡ x.done → end ≡ x.done + c.count → take (end - first) (drop first rs) ≡ take c.count (undone x)
+  lent rs first end all from to =
+      let many : end - first ≡ c.count = omega (arith, to, from) in
+      ap (λ (r : List Record). take (end - first) (drop first r)) all ∙ ap (λ (k : ℕ). take (end - first) (drop k x.records)) from ∙ ap (λ (k : ℕ). take k (undone x)) many
 
   -- what is told of them
-  pub lent_tells : (g : Sizes) (s : Store) (held : List ℕ) (rs : List Record) (end : ℕ) (f h : Found) → held ≡ x.held.items → rs ≡ x.records.items → end ≡ x.done + c.count → f ≡ h
-      → Finds held g.units (graph g s) (take (end - x.done) (drop x.done rs)) f → Finds x.held.items g.units (graph g s) (take c.count (undone x)) h
-  lent_tells g s held rs end f h its all to is tells =
-      subst (λ (r : List Record). Finds x.held.items g.units (graph g s) r h) (lent rs end all to)
-      (subst (λ (l : List ℕ). Finds l g.units (graph g s) (take (end - x.done) (drop x.done rs)) h) its
-      (subst (Finds held g.units (graph g s) (take (end - x.done) (drop x.done rs))) is tells))
+  pub lent_tells : (g : Sizes) (s : Store) (held : List ℕ) (rs : List Record) (first end : ℕ) (f h : Found) → held ≡ x.held → rs ≡ x.records → first ≡ x.done → end ≡ x.done + c.count → f ≡ h
+      → Finds held g.units (graph g s) (take (end - first) (drop first rs)) f → Finds x.held g.units (graph g s) (take c.count (undone x)) h
+  lent_tells g s held rs first end f h its all from to is tells =
+      subst (λ (r : List Record). Finds x.held g.units (graph g s) r h) (lent rs first end all from to)
+      (subst (λ (l : List ℕ). Finds l g.units (graph g s) (take (end - first) (drop first rs)) h) its
+      (subst (Finds held g.units (graph g s) (take (end - first) (drop first rs))) is tells))
 
   pub its_spelled : AllByRecursion IsRecord (take c.count (undone x))
-  its_spelled = all_taken IsRecord c.count (undone x) (all_dropped IsRecord x.done x.records.items sealed.spelled)
+  its_spelled = all_taken IsRecord c.count (undone x) (all_dropped IsRecord x.done x.records sealed.spelled)
 
   module _ (g : Sizes) (s : Store) where
     -- where they are good, they are such a run
-    pub its_good_run : AreGood x.held.items g.units (graph g s) (take c.count (undone x)) → IsGoodRun x.held.items g.units (graph g s) (take c.count (undone x)) (changes_of c.change)
+    pub its_good_run : AreGood x.held g.units (graph g s) (take c.count (undone x)) → IsGoodRun x.held g.units (graph g s) (take c.count (undone x)) (changes_of c.change)
     its_good_run good =
-        good_run x.held.items g.units (graph g s) (undone x) c.count (changes_of c.change) (let long = length-drop x.done x.records.items in let some = sealed.some in omega (arith, long, some))
-        (all_dropped IsRecord x.done x.records.items sealed.spelled) its_run good
+        good_run x.held g.units (graph g s) (undone x) c.count (changes_of c.change) (let long = length-drop x.done x.records in omega (arith, long, some))
+        (all_dropped IsRecord x.done x.records sealed.spelled) its_run good
 
     -- the change of a good run is made, with the mark behind it
-    pub digested : AreGood x.held.items g.units (graph g s) (take c.count (undone x)) → (v : Marks) (new : Store) → marks s ≡ Some v → StandsAt x v
+    pub digested : AreGood x.held g.units (graph g s) (take c.count (undone x)) → (v : Marks) (new : Store) → marks s ≡ Some v → StandsAt x v
         → IsAppliedStore g s (changes_of c.change) (marks_after v x.client (mark_then x c.count)) new → IsDigested g s x c.count new
     digested good v new was stood applied =
         let rs = take c.count (undone x) in
@@ -92,7 +104,7 @@ module _ (x : SealedLog) (c : Chunk) (sealed : IsSealed x) (is : IsChunkOf x c) 
         record {
           run = its_run.run;
           good = good;
-          graph_after = applied.graph_after ∙ ap (λ (d : Changes). changed d (graph g s)) run.change ∙ coalesced_law (effects_in rs) (graph g s);
+          graph_after = applied.graph_after ∙ ap (λ (d : Changes). changed_graph d (graph g s)) run.change ∙ coalesced_law (effects_in rs) (graph g s);
           before = v;
           old_marks = was;
           stood = stood;
@@ -100,28 +112,28 @@ module _ (x : SealedLog) (c : Chunk) (sealed : IsSealed x) (is : IsChunkOf x c) 
         }
 
     -- a bad one is told by its place in the region
-    pub told_bad : (place : ℕ) → IsFirstBad x.held.items g.units (graph g s) (take c.count (undone x)) place → IsToldBad g s x c.count (errors.BadLog (x.done + place))
-    told_bad place bad = (place, bad, refl)
+    pub told_bad : (first place : ℕ) → first ≡ x.done → IsFirstBad x.held g.units (graph g s) (take c.count (undone x)) place → NamesFirstBad g s x c.count (errors.BadLog (first + place))
+    told_bad first place from bad = (place, bad, ap (λ (k : ℕ). k + place) from)
 
     -- and it is one of the records
-    pub bad_within : (place : ℕ) → IsFirstBad x.held.items g.units (graph g s) (take c.count (undone x)) place → x.done + place < length x.records.items
+    pub bad_within : (place : ℕ) → IsFirstBad x.held g.units (graph g s) (take c.count (undone x)) place → x.done + place < length x.records
     bad_within place bad =
         let few = length-take-le c.count (undone x) its_run.run.within in
-        let inside = bad_place x.held.items g.units (graph g s) (take c.count (undone x)) place bad in
+        let inside = bad_place x.held g.units (graph g s) (take c.count (undone x)) place bad in
         let end = its_end in
         omega (arith, few, inside, end)
 
-module _ (x : SealedLog) (g : Sizes) (s : Store) (n : ℕ) where
+module _ (x : SealedView) (g : Sizes) (s : Store) (n : ℕ) where
   -- no other refusal is
-  pub test_not_bad : (e : AreaError) (r : DigestError) → IsTestTold e r → IsToldBad g s x n r
-  test_not_bad area.DeviceFault r told = subst (IsToldBad g s x n) (sym told) tt
+  pub test_not_bad : (e : AreaError) (r : DigestError) → IsTestError e r → NamesFirstBad g s x n r
+  test_not_bad area.DeviceFault r told = subst (NamesFirstBad g s x n) (sym told) tt
   test_not_bad (area.Damaged what block) r told = absurd told
-  test_not_bad area.Memory r told = subst (IsToldBad g s x n) (sym told) tt
+  test_not_bad area.Memory r told = subst (NamesFirstBad g s x n) (sym told) tt
 
-  pub apply_not_bad : (e : ApplyError) (r : DigestError) → IsApplyTold e r → IsToldBad g s x n r
-  apply_not_bad apply.DeviceFault r told = subst (IsToldBad g s x n) (sym told) tt
+  pub apply_not_bad : (e : ApplyError) (r : DigestError) → IsApplyError e r → NamesFirstBad g s x n r
+  apply_not_bad apply.DeviceFault r told = subst (NamesFirstBad g s x n) (sym told) tt
   apply_not_bad apply.NoBlock r told = absurd told
-  apply_not_bad apply.Memory r told = subst (IsToldBad g s x n) (sym told) tt
+  apply_not_bad apply.Memory r told = subst (NamesFirstBad g s x n) (sym told) tt
 
 -- ---- the mark
 
@@ -131,23 +143,31 @@ fits_long v fits =
     let first = and_parts (length v.clients == CLIENTS && all) (nat_lt v.digests (2 ^ 64)) fits in
     eqb-true (length v.clients) CLIENTS (and_parts (length v.clients == CLIENTS) all first.0).0
 
+is_low : (c : ℕ) → is_client c ≡ true → 1 ≤ c
+is_low c e = grind (arith, nat_tests)
+
+is_high : (c : ℕ) → is_client c ≡ true → c ≤ 8
+is_high c e = grind (arith, nat_tests)
+
 -- the log stands at the mark that was moved for it
-pub stands_behind : (x : SealedLog) (done : ℕ) (v : Marks) (m : Mark) (new : Store) → x.client < CLIENTS → m ≡ mark_after x.generation done (length x.records.items) → fits_marks (marks_after v x.client m) ≡ true → marks new ≡ Some (marks_after v x.client m) → StandsAtMark (done_to done x) new
+pub stands_behind : (x : SealedView) (done : ℕ) (v : Marks) (m : Mark) (new : Store) → is_client x.client ≡ true → m ≡ mark_after x.generation done (length x.records) → fits_marks (marks_after v x.client m) ≡ true → marks new ≡ Some (marks_after v x.client m) → StandsAtMark (done_to done x) new
 stands_behind x done v m new client moved fits new_marks =
     let long = fits_long (marks_after v x.client m) fits in
-    let same = length-set v.clients x.client m in
-    (marks_after v x.client m, new_marks, get_or-set_same v.clients x.client m (record { generation = 0; done = 0 }) (omega (arith, long, same, client)) ∙ moved)
+    let same = length-set v.clients (x.client - 1) m in
+    let low = is_low x.client client in
+    let high = is_high x.client client in
+    (marks_after v x.client m, new_marks, get_or-set_same v.clients (x.client - 1) m (record { generation = 0; done = 0 }) (omega (arith, long, same, low, high)) ∙ moved)
 
 some_is : (o : Option Marks) (v w : Marks) → o ≡ Some v → o ≡ Some w → v ≡ w
 some_is o v w one two = cc
 
 -- so at that of the store before
-pub stood_at : (x : SealedLog) (s : Store) (v : Marks) → marks s ≡ Some v → StandsAtMark x s → StandsAt x v
+pub stood_at : (x : SealedView) (s : Store) (v : Marks) → marks s ≡ Some v → StandsAtMark x s → StandsAt x v
 stood_at x s v was at = subst (StandsAt x) (some_is (marks s) at.0 v at.1 was) at.2
 
 -- ---- what a stop leaves
 
-module _ (x : SealedLog) (g : Sizes) (s : Store) (n : ℕ) (before : ℕ) (old : ℕ → Tier → List ℕ → Type 0) where
+module _ (x : SealedView) (g : Sizes) (s : Store) (n : ℕ) (before : ℕ) (old : ℕ → Tier → List ℕ → Type 0) where
   -- what is left where nothing has moved
   pub stays_open : (now : ℕ) (seen seen' : Tier → List ℕ) (new : ℕ → Tier → List ℕ → Type 0) → Unmoved before now seen seen' old new
       → ((content : Tier → List ℕ) → Left old before content → OpensAs g s content) → ((content : Tier → List ℕ) → Left old before content → Loose g s (store_of content)) → StaysOrDigests g s x n before now old new
@@ -178,22 +198,22 @@ module _ (x : SealedLog) (g : Sizes) (s : Store) (n : ℕ) (before : ℕ) (old :
 
 -- ---- what is answered
 
-test_fault : (e : AreaError) (r : DigestError) → IsTestTold e r → r ≡ errors.DeviceFault → e ≡ area.DeviceFault
+test_fault : (e : AreaError) (r : DigestError) → IsTestError e r → r ≡ errors.DeviceFault → e ≡ area.DeviceFault
 test_fault area.DeviceFault r told is = refl
 test_fault (area.Damaged what block) r told is = absurd told
 test_fault area.Memory r told is = cc
 
-test_other : (e : AreaError) (r : DigestError) → IsTestTold e r → r ≢ errors.DeviceFault → e ≢ area.DeviceFault
+test_other : (e : AreaError) (r : DigestError) → IsTestError e r → r ≢ errors.DeviceFault → e ≢ area.DeviceFault
 test_other area.DeviceFault r told other is = other told
 test_other (area.Damaged what block) r told other is = told
 test_other area.Memory r told other is = cc
 
-apply_fault : (e : ApplyError) (r : DigestError) → IsApplyTold e r → r ≡ errors.DeviceFault → e ≡ apply.DeviceFault
+apply_fault : (e : ApplyError) (r : DigestError) → IsApplyError e r → r ≡ errors.DeviceFault → e ≡ apply.DeviceFault
 apply_fault apply.DeviceFault r told is = refl
 apply_fault apply.NoBlock r told is = absurd told
 apply_fault apply.Memory r told is = cc
 
-apply_other : (e : ApplyError) (r : DigestError) → IsApplyTold e r → r ≢ errors.DeviceFault → e ≢ apply.DeviceFault
+apply_other : (e : ApplyError) (r : DigestError) → IsApplyError e r → r ≢ errors.DeviceFault → e ≢ apply.DeviceFault
 apply_other apply.DeviceFault r told other is = other told
 apply_other apply.NoBlock r told other is = told
 apply_other apply.Memory r told other is = cc
@@ -204,48 +224,58 @@ err_is r e f one two = cc
 area_err_is : {T : Type 0} (r : Result T AreaError) (e f : AreaError) → r ≡ Err e → r ≡ Err f → e ≡ f
 area_err_is r e f one two = cc
 
-test_is_fault : (e : AreaError) (r : DigestError) → IsTestTold e r → e ≡ area.DeviceFault → r ≡ errors.DeviceFault
+test_is_fault : (e : AreaError) (r : DigestError) → IsTestError e r → e ≡ area.DeviceFault → r ≡ errors.DeviceFault
 test_is_fault area.DeviceFault r told is = told
 test_is_fault (area.Damaged what block) r told is = absurd told
 test_is_fault area.Memory r told is = cc
 
-module _ {M : Type 0} (moment : M → ℕ) (seen : M → Tier → List ℕ) (left : M → ℕ → Tier → List ℕ → Type 0) (faults : M → ℕ) where
+module _ {M : Type 0} (device : Ghosts M) where
   -- the change behind a test, with the mark behind it
-  module _ {P : Type 0} (x : SealedLog) (c : Chunk) (sealed : IsSealed x) (is : IsChunkOf x c) (next : is_next x c ≡ true) (old mid : JournalView M) (p : P) (m : Mark) (looks : Looks moment seen left faults old mid (Ok p))
-      (at : StandsAtMark x (store_of (seen old.media))) (good : AreGood x.held.items old.geometry.units (graph old.geometry (store_of (seen old.media))) (take c.count (undone x))) (moved : m ≡ mark_then x c.count) where
-    its_digest : (v : Marks) (new : Store) → marks (store_of (seen old.media)) ≡ Some v → IsAppliedStore old.geometry (store_of (seen old.media)) (changes_of c.change) (marks_after v x.client m) new → IsDigested old.geometry (store_of (seen old.media)) x c.count new
+  module _ {P : Type 0} (x : SealedView) (c : Chunk) (sealed : IsSealed x) (some : HasUndigested x) (is : IsChunkOf x c) (next : is_next x c ≡ true) (old mid : JournalView M) (p : P) (m : Mark) (looks : Looks device old mid (Ok p))
+      (at : StandsAtMark x (disk device old)) (good : AreGood x.held old.geometry.units (graph old.geometry (disk device old)) (take c.count (undone x))) (moved : m ≡ mark_then x c.count) where
+    its_digest : (v : Marks) (new : Store) → marks (disk device old) ≡ Some v → IsAppliedStore old.geometry (disk device old) (changes_of c.change) (marks_after v x.client m) new → IsDigested old.geometry (disk device old) x c.count new
     its_digest v new was applied =
-        let s : Store = store_of (seen old.media) in
-        digested x c sealed is next old.geometry s good v new was (stood_at x s v was at) (subst (λ (k : Mark). IsAppliedStore old.geometry s (changes_of c.change) (marks_after v x.client k) new) moved applied)
+        let s : Store = disk device old in
+        digested x c sealed some is next old.geometry s good v new was (stood_at x s v was at) (subst (λ (k : Mark). IsAppliedStore old.geometry s (changes_of c.change) (marks_after v x.client k) new) moved applied)
 
-    pub digested_at : (new : Store) → (v : Marks) × (marks (store_of (seen mid.media)) ≡ Some v) × IsAppliedStore mid.geometry (store_of (seen mid.media)) (changes_of c.change) (marks_after v x.client m) new
-        → IsDigested old.geometry (store_of (seen old.media)) x c.count new
-    digested_at new made =
-        its_digest made.0 new (carried_back moment seen left faults (λ h s. marks s ≡ Some made.0) old mid (Ok p) looks made.1)
-        (carried_back moment seen left faults (λ h s. IsAppliedStore h s (changes_of c.change) (marks_after made.0 x.client m) new) old mid (Ok p) looks made.2)
+    -- what the change with the mark of this client has made
+    abbrev Made : Store → ℕ → Type 0
+    Made new client = (v : Marks) × (marks (disk device mid) ≡ Some v) × IsAppliedStore mid.geometry (disk device mid) (changes_of c.change) (marks_after v client m) new
+
+    pub digested_at : (client : ℕ) (new : Store) → client ≡ x.client → Made new client → IsDigested old.geometry (disk device old) x c.count new
+    digested_at client new own by =
+        let made = subst (Made new) own by in
+        its_digest made.0 new (carried_back device (λ h s. marks s ≡ Some made.0) old mid (Ok p) looks made.1)
+        (carried_back device (λ h s. IsAppliedStore h s (changes_of c.change) (marks_after made.0 x.client m) new) old mid (Ok p) looks made.2)
 
     -- the log stands at the mark again
-    pub stands_at : (done : ℕ) (new : Store) → done ≡ x.done + c.count → (v : Marks) × (marks (store_of (seen mid.media)) ≡ Some v) × (fits_marks (marks_after v x.client m) ≡ true)
-        → (v : Marks) × (marks (store_of (seen mid.media)) ≡ Some v) × IsAppliedStore mid.geometry (store_of (seen mid.media)) (changes_of c.change) (marks_after v x.client m) new → StandsAtMark (done_to done x) new
-    stands_at done new to fit made =
-        let same : fit.0 ≡ made.0 = some_is (marks (store_of (seen mid.media))) fit.0 made.0 fit.1 made.1 in
-        stands_behind x done made.0 m new sealed.client (moved ∙ ap (λ k. mark_after x.generation k (length x.records.items)) (sym to))
+    abbrev Fits : ℕ → Type 0
+    Fits client = (v : Marks) × (marks (disk device mid) ≡ Some v) × (fits_marks (marks_after v client m) ≡ true)
+
+    pub stands_at : (client done : ℕ) (new : Store) → client ≡ x.client → done ≡ x.done + c.count → Fits client → Made new client → StandsAtMark (done_to done x) new
+    stands_at client done new own to fits by =
+        let made = subst (Made new) own by in
+        let fit = subst Fits own fits in
+        let same : fit.0 ≡ made.0 = some_is (marks (disk device mid)) fit.0 made.0 fit.1 made.1 in
+        stands_behind x done made.0 m new sealed.client (moved ∙ ap (λ k. mark_after x.generation k (length x.records)) (sym to))
         (subst (λ (v : Marks). fits_marks (marks_after v x.client m) ≡ true) same fit.2) made.2.new_marks
 
-    pub digests_at : (now : ℕ) (new : ℕ → Tier → List ℕ → Type 0)
-        → (v : Marks) × (marks (store_of (seen mid.media)) ≡ Some v) × StaysOrChanges mid.geometry (store_of (seen mid.media)) (changes_of c.change) (marks_after v x.client m) (moment mid.media) now (left mid.media) new
-        → StaysOrDigests old.geometry (store_of (seen old.media)) x c.count (moment old.media) now (left old.media) new
-    digests_at now new changes =
+    abbrev ChangesBy : ℕ → (ℕ → Tier → List ℕ → Type 0) → ℕ → Type 0
+    ChangesBy now new client = (v : Marks) × (marks (disk device mid) ≡ Some v) × StaysOrChanges mid.geometry (disk device mid) (changes_of c.change) (marks_after v client m) (device.moment mid.media) now (device.left mid.media) new
+
+    pub digests_at : (client now : ℕ) (new : ℕ → Tier → List ℕ → Type 0) → client ≡ x.client → ChangesBy now new client → StaysOrDigests old.geometry (disk device old) x c.count (device.moment old.media) now (device.left old.media) new
+    digests_at client now new own by =
+        let changes = subst (ChangesBy now new) own by in
         let g = old.geometry in
-        let s : Store = store_of (seen old.media) in
+        let s : Store = disk device old in
         let v = changes.0 in
-        let was = carried_back moment seen left faults (λ h t. marks t ≡ Some v) old mid (Ok p) looks changes.1 in
-        digests_open x g s c.count (moment old.media) (left old.media) (moment mid.media) now (seen old.media) (seen mid.media) (left mid.media) new (changes_of c.change) v m looks.unmoved
+        let was = carried_back device (λ h t. marks t ≡ Some v) old mid (Ok p) looks changes.1 in
+        digests_open x g s c.count (device.moment old.media) (device.left old.media) (device.moment mid.media) now (device.seen old.media) (device.seen mid.media) (device.left mid.media) new (changes_of c.change) v m looks.unmoved
         (λ store applied. its_digest v store was applied)
-        (carried_back moment seen left faults (λ h t. StaysOrChanges h t (changes_of c.change) (marks_after v x.client m) (moment mid.media) now (left mid.media) new) old mid (Ok p) looks changes.2)
+        (carried_back device (λ h t. StaysOrChanges h t (changes_of c.change) (marks_after v x.client m) (device.moment mid.media) now (device.left mid.media) new) old mid (Ok p) looks changes.2)
 
   -- the test was refused
-  pub test_refused : {P T : Type 0} (old new : JournalView M) (e : AreaError) (r : DigestError) → Looks {T = P} moment seen left faults old new (Err e) → IsTestTold e r → DigestsOrStays {T = T} moment seen left faults old new (Err r)
+  pub test_refused : {P T : Type 0} (old new : JournalView M) (e : AreaError) (r : DigestError) → Looks {T = P} device old new (Err e) → IsTestError e r → DigestsOrStays {T = T} device old new (Err r)
   test_refused {P = P} {T = T} old new e r looks told = record {
     unmoved = λ other. looks.unmoved;
     geometry = looks.geometry;
@@ -259,7 +289,7 @@ module _ {M : Type 0} (moment : M → ℕ) (seen : M → Tier → List ℕ) (lef
   }
 
   -- a record is bad
-  pub test_bad : {P T : Type 0} (old new : JournalView M) (plan : P) (r : DigestError) → Looks moment seen left faults old new (Ok plan) → r ≢ errors.DeviceFault → DigestsOrStays {T = T} moment seen left faults old new (Err r)
+  pub test_bad : {P T : Type 0} (old new : JournalView M) (plan : P) (r : DigestError) → Looks device old new (Ok plan) → r ≢ errors.DeviceFault → DigestsOrStays {T = T} device old new (Err r)
   test_bad {T = T} old new plan r looks other = record {
     unmoved = λ _. looks.unmoved;
     geometry = looks.geometry;
@@ -273,7 +303,7 @@ module _ {M : Type 0} (moment : M → ℕ) (seen : M → Tier → List ℕ) (lef
   }
 
   -- the change was made
-  pub test_done : {P T : Type 0} (old mid new : JournalView M) (plan : P) (x : T) → Looks moment seen left faults old mid (Ok plan) → AppliesOrStays moment seen left faults mid new (Ok tt) → DigestsOrStays moment seen left faults old new (Ok x)
+  pub test_done : {P T : Type 0} (old mid new : JournalView M) (plan : P) (x : T) → Looks device old mid (Ok plan) → AppliesOrStays device mid new (Ok tt) → DigestsOrStays device old new (Ok x)
   test_done old mid new plan x looks applies = record {
     unmoved = tt;
     geometry = applies.geometry ∙ looks.geometry;
@@ -287,8 +317,8 @@ module _ {M : Type 0} (moment : M → ℕ) (seen : M → Tier → List ℕ) (lef
   }
 
   -- it was refused
-  pub change_refused : {P T : Type 0} (old mid new : JournalView M) (plan : P) (e : ApplyError) (r : DigestError) → Looks moment seen left faults old mid (Ok plan) → AppliesOrStays moment seen left faults mid new (Err e) → IsApplyTold e r
-      → DigestsOrStays {T = T} moment seen left faults old new (Err r)
+  pub change_refused : {P T : Type 0} (old mid new : JournalView M) (plan : P) (e : ApplyError) (r : DigestError) → Looks device old mid (Ok plan) → AppliesOrStays device mid new (Err e) → IsApplyError e r
+      → DigestsOrStays {T = T} device old new (Err r)
   change_refused {T = T} old mid new plan e r looks applies told = record {
     unmoved = λ other. unmoved_on looks.unmoved (applies.unmoved (apply_other e r told other));
     geometry = applies.geometry ∙ looks.geometry;
@@ -299,11 +329,11 @@ module _ {M : Type 0} (moment : M → ℕ) (seen : M → Tier → List ℕ) (lef
     quiet_refused = λ other. (let q = applies.quiet_refused (apply_other e r told other) in (q.0 ∙ looks.quiet, looks.going.0, q.2));
     stays_failed = λ was. absurd (true≢false (sym was ∙ looks.going.0));
     fault = λ is. (let f = applies.fault (ap Err (apply_fault e r told (err_is {T = T} (Err r) r errors.DeviceFault refl is))) in
-        (f.0, elim (f.1) [ inl was ↦ absurd (true≢false (sym was ∙ looks.going.1)) | inr rose ↦ inr (subst (λ (k : ℕ). Rose k (faults new.media)) looks.quiet rose) ]));
+        (f.0, elim (f.1) [ inl was ↦ absurd (true≢false (sym was ∙ looks.going.1)) | inr rose ↦ inr (subst (λ (k : ℕ). Rose k (device.faults new.media)) looks.quiet rose) ]));
   }
 
   -- the change makes few calls, behind what was only read
-  pub few_looked : {P : Type 0} (old mid new : JournalView M) (p : P) (cs : Changes) → Looks moment seen left faults old mid (Ok p) → MakesFewCalls mid.geometry (store_of (seen mid.media)) cs (moment mid.media) (moment new.media) (left mid.media) (left new.media)
-      → MakesFewCalls old.geometry (store_of (seen old.media)) cs (moment old.media) (moment new.media) (left old.media) (left new.media)
-  few_looked old mid new p cs looks few = carried_back moment seen left faults (λ h t. MakesFewCalls h t cs (moment old.media) (moment new.media) (left old.media) (left new.media)) old mid (Ok p) looks
-      (few_behind mid.geometry (store_of (seen mid.media)) cs (moment old.media) (moment mid.media) (moment new.media) (left old.media) (left mid.media) (left new.media) looks.unmoved.clock looks.unmoved.past few)
+  pub few_looked : {P : Type 0} (old mid new : JournalView M) (p : P) (cs : Changes) → Looks device old mid (Ok p) → MakesFewCalls mid.geometry (disk device mid) cs (device.moment mid.media) (device.moment new.media) (device.left mid.media) (device.left new.media)
+      → MakesFewCalls old.geometry (disk device old) cs (device.moment old.media) (device.moment new.media) (device.left old.media) (device.left new.media)
+  few_looked old mid new p cs looks few = carried_back device (λ h t. MakesFewCalls h t cs (device.moment old.media) (device.moment new.media) (device.left old.media) (device.left new.media)) old mid (Ok p) looks
+      (few_behind mid.geometry (disk device mid) cs (device.moment old.media) (device.moment mid.media) (device.moment new.media) (device.left old.media) (device.left mid.media) (device.left new.media) looks.unmoved.clock looks.unmoved.past few)

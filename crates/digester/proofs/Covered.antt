@@ -11,7 +11,7 @@ use Rattle.shared_area.proofs.call_effects_lemmas.NodeViews.{viewed_after}
 use Rattle.coalescer.specs.Records.{effects_in}
 use Rattle.shared_area.specs.record_validation.Good.{KeepsLimits}
 use Rattle.shared_area.proofs.record_validation_lemmas.Rises.{growth_told}
-use Rattle.digester.specs.Covered.{IsCovered, AreCovered, AreSameAt, units_of}
+use Rattle.digester.specs.RecordCover.{IsCovered, AreCovered, AreSameAt, units_of}
 use Rattle.digester.specs.Plan.{AreGood, Finds}
 use Rattle.digester.specs.declared.record_test.Found.TheVariants as found
 use Rattle.digester.proofs.Known.{among_joined, touches_joined}

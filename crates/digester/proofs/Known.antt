@@ -7,7 +7,7 @@ use Rattle.std.specs.List.{find}
 use Rattle.std.proofs.lemmas.Bool.Decides.{eqb_tells}
 use Rattle.update_log.specs.file_graph.declared.effect.Effect.{Effect}
 use Rattle.update_log.specs.file_graph.Graph.{touches, subjects, is_among}
-use Rattle.shared_area.specs.record_validation.Known.{Known, is_unknown}
+use Rattle.shared_area.specs.record_validation.KnownNodes.{Known, is_unknown}
 
 -- each inode of some is known
 abbrev pub AreKnown : Known → List ℕ → Type 0

@@ -8,7 +8,7 @@ use Rattle.update_log.specs.file_graph.declared.effect.Kind.TheVariants as kind
 use Rattle.update_log.specs.file_graph.Graph.{Graph, Node, Body, FileBody, DirBody}
 use Rattle.update_log.specs.file_graph.Units.{charge}
 use Rattle.coalescer.specs.graph_change.Bounds.{AreBounded}
-use Rattle.coalescer.specs.graph_change.Change.{Change, Changes, change_at, changed, writes_block}
+use Rattle.coalescer.specs.graph_change.Change.{Change, Changes, change_at, changed_graph, writes_block}
 use Rattle.coalescer.specs.graph_change.Tidy.{AreTidyChanges}
 use Rattle.coalescer.proofs.graph_change_lemmas.Tidying.{tidy_coalesced}
 use Rattle.update_log.specs.log_record.Grammar.{IsRecord}
@@ -16,17 +16,17 @@ use Rattle.update_log.specs.log_record.declared.format.Record.{Record}
 use Rattle.shared_area.specs.call_effects.NodeView.{view_at, view_of_body, view_of_node}
 use Rattle.shared_area.specs.layout.declared.places.TheConstants.{SPARE_BLOCKS}
 use Rattle.shared_area.specs.layout.Places.{Sizes}
-use Rattle.shared_area.specs.tree_blocks.After.{started}
+use Rattle.shared_area.specs.tree_blocks.After.{start_node}
 use Rattle.shared_area.specs.area_image.Store.{Store, inode}
 use Rattle.shared_area.specs.change_plan.Next.{HasFewEntries, nodes_for}
-use Rattle.shared_area.specs.change_plan.Wanted.{images_for, AreWritten}
+use Rattle.shared_area.specs.change_plan.BlockDemand.{images_for, AreWritten}
 use Rattle.coalescer.proofs.Single.{run}
 use Rattle.coalescer.specs.Records.{effects_in}
 use Rattle.coalescer.specs.Within.{AreBlocksIn, images_of}
 use Rattle.shared_area.specs.record_validation.Good.{KeepsLimits}
 use Rattle.digester.specs.Plan.{AreGood, IsNextRun}
 use Rattle.digester.proofs.Applied.{good_bounded, good_limits, good_charge, fit_images, fit_blocks}
-use Rattle.digester.specs.Digesting.{IsGoodRun}
+use Rattle.digester.specs.DigestStep.{IsGoodRun}
 
 -- the next run of records, where they are good, is such a run
 pub good_run : (held : List ℕ) (capacity : ℕ) (g : Graph) (rs : List Record) (n : ℕ) (cs : Changes) → 0 < length rs → AllByRecursion IsRecord rs → IsNextRun rs n cs → AreGood held capacity g (take n rs) → IsGoodRun held capacity g (take n rs) cs
@@ -61,7 +61,7 @@ few_entries : (o : Option Node) → KeepsLimits (option_map view_of_node o) → 
 few_entries None keeps = tt
 few_entries (Some n) keeps = few_in n.names n.body keeps
 
-are_written : (g : Sizes) (s : Store) (cs : Changes) (bs : List (ℕ × ℕ)) → AllByRecursion (λ b. ((started (change_at cs b.0).base (inode g s b.0)).kind ≡ Some kind.File) × (writes_block (change_at cs b.0) b.1 ≡ true)) bs
+are_written : (g : Sizes) (s : Store) (cs : Changes) (bs : List (ℕ × ℕ)) → AllByRecursion (λ b. ((start_node (change_at cs b.0).base (inode g s b.0)).kind ≡ Some kind.File) × (writes_block (change_at cs b.0) b.1 ≡ true)) bs
     → AllByRecursion (λ b. writes_block (change_at cs b.0) b.1 ≡ true) bs
 are_written g s cs [] all = tt
 are_written g s cs (b ∷ bs) all = (all.0.1, are_written g s cs bs all.1)
@@ -79,13 +79,13 @@ module _ (held : List ℕ) (capacity : ℕ) (g : Graph) (rs : List Record) (cs :
       let few = subst (λ (c : Changes). images_of c ≤ 255) (sym is.change) (fit_images (effects_in rs) is.fits) in
       omega (arith, same, few)
 
-  pub entries : (i : ℕ) → fin.contains_key cs i ≡ true → HasFewEntries (changed cs g i)
+  pub entries : (i : ℕ) → fin.contains_key cs i ≡ true → HasFewEntries (changed_graph cs g i)
   entries i its =
-      few_entries (changed cs g i) (subst (λ (c : Changes). KeepsLimits (view_at (changed c g) i)) (sym is.change)
+      few_entries (changed_graph cs g i) (subst (λ (c : Changes). KeepsLimits (view_at (changed_graph c g) i)) (sym is.change)
       (good_limits held capacity g rs i is.good (subst (λ (c : Changes). fin.contains_key c i ≡ true) is.change its)))
 
-  pub units : charge (changed cs g) ≤ capacity
-  units = subst (λ (c : Changes). charge (changed c g) ≤ capacity) (sym is.change) (good_charge held capacity g rs is.some is.good)
+  pub units : charge (changed_graph cs g) ≤ capacity
+  units = subst (λ (c : Changes). charge (changed_graph c g) ≤ capacity) (sym is.change) (good_charge held capacity g rs is.some is.good)
 
   pub few_written : (x : Sizes) (s : Store) (bs : List (ℕ × ℕ)) → AreWritten x s cs bs → length bs ≤ SPARE_BLOCKS
   few_written x s bs are = fit_blocks (effects_in rs) bs is.fits (subst (λ (c : Changes). AreBlocksIn c bs) is.change (are.once, are_written x s cs bs are.each))

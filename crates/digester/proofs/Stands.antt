@@ -5,9 +5,8 @@ use Rattle.std.proofs.lemmas.Bool.{and_from, and_parts, eq-eqb, eqb-true}
 use Rattle.std.proofs.lemmas.List.{get_or_default}
 use Rattle.shared_area.specs.layout.declared.marks.Mark.{Mark}
 use Rattle.shared_area.specs.layout.declared.marks.Marks.{Marks}
-use Rattle.digester.specs.Marking.{is_mark, mark_after, mark_of}
-use Rattle.digester.specs.SealedLog.{StandsAt}
-use Rattle.digester.specs.declared.sealed_log.SealedLog.{SealedLog}
+use Rattle.digester.specs.MarkMoves.{is_mark, mark_after, mark_of}
+use Rattle.digester.specs.SealedLog.{SealedView, StandsAt}
 
 -- the mark that is read at a place
 pub mark_there : (ms : List Mark) (client : ℕ) (m : Mark) → client < length ms → m ≡ get_or ms client m → m ≡ get_or ms client (record { generation = 0; done = 0 })
@@ -23,7 +22,7 @@ same_mark m o is =
 own_mark : (m : Mark) → is_mark m m ≡ true
 own_mark m = and_from (m.generation == m.generation) (m.done == m.done) (eq-eqb m.generation m.generation refl) (eq-eqb m.done m.done refl)
 
-pub stands_exactly : (x : SealedLog) (v : Marks) (m o : Mark) (r : Bool) → r ≡ is_mark m o → m ≡ mark_of v x.client → o ≡ mark_after x.generation x.done (length x.records.items) → (r ≡ true) ↔ StandsAt x v
+pub stands_exactly : (x : SealedView) (v : Marks) (m o : Mark) (r : Bool) → r ≡ is_mark m o → m ≡ mark_of v x.client → o ≡ mark_after x.generation x.done (length x.records) → (r ≡ true) ↔ StandsAt x v
 stands_exactly x v m o r told its wanted = (
   λ yes. sym its ∙ same_mark m o (sym told ∙ yes) ∙ wanted,
   λ stands. told ∙ subst (λ (k : Mark). is_mark m k ≡ true) (its ∙ stands ∙ sym wanted) (own_mark m),

@@ -2,16 +2,16 @@
 use Rattle.std.specs.Prelude.{◌≡◌, ◌<◌, ◌==◌, ◌&&◌, Bool, length, drop}
 use Rattle.coalescer.specs.graph_change.View.{changes_of}
 use Rattle.digester.specs.Plan.{IsNextRun}
+use Rattle.digester.specs.SealedLog.{SealedView}
 use Rattle.digester.specs.declared.chunk.Chunk.{Chunk}
-use Rattle.digester.specs.declared.sealed_log.SealedLog.{SealedLog}
 
 -- A chunk of a log, whatever was digested of the log since it was prepared: from its first record on it is the longest run that one batch takes, one record at least, and tells what they come to.
-pub record IsChunkOf (x : SealedLog) (c : Chunk) : Type 0 where
+pub record IsChunkOf (x : SealedView) (c : Chunk) : Type 0 where
   pub client : c.client ≡ x.client
   pub generation : c.generation ≡ x.generation
-  pub some : c.first < length x.records.items
-  pub run : IsNextRun (drop c.first x.records.items) c.count (changes_of c.change)
+  pub some : c.first < length x.records
+  pub run : IsNextRun (drop c.first x.records) c.count (changes_of c.change)
 
 -- whether a chunk begins where the log stands: with its first record that is not digested
-abbrev pub is_next : SealedLog → Chunk → Bool
+abbrev pub is_next : SealedView → Chunk → Bool
 is_next x c = c.client == x.client && c.generation == x.generation && c.first == x.done

@@ -1,10 +1,10 @@
 pub mod Chunk
-pub mod Digesting
+pub mod DigestStep
 pub mod Errors
-pub mod Marking
+pub mod MarkMoves
 pub mod SealedLog
-pub mod Asked
-pub mod Covered
+pub mod Questions
+pub mod RecordCover
 pub mod Plan
 -- Passed on to the crates above, which so need not list those below.
 pub use Rattle.shared_area.specs.area_image

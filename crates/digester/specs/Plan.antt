@@ -2,7 +2,7 @@
 use Rattle.std.specs.Prelude.{◌≡◌, ℕ, zero, suc, true, List, [], ◌∷◌, take}
 use Rattle.update_log.specs.file_graph.Graph.{Graph, after_effects}
 use Rattle.update_log.specs.file_graph.Units.{charge}
-use Rattle.coalescer.specs.graph_change.Change.{Changes, coalesced}
+use Rattle.coalescer.specs.graph_change.Change.{Changes, coalesced_changes}
 use Rattle.update_log.specs.log_record.declared.format.Record.{Record}
 use Rattle.coalescer.specs.Records.{effects_in}
 use Rattle.coalescer.specs.Weight.{IsLongestRun}
@@ -13,7 +13,7 @@ use Rattle.digester.specs.declared.record_test.Found.TheVariants as found
 -- the first n of these records are the longest run that one batch takes, and that is the change that they come to
 pub record IsNextRun (rs : List Record) (n : ℕ) (cs : Changes) : Type 0 where
   pub run : IsLongestRun rs n
-  pub change : cs ≡ coalesced (effects_in (take n rs))
+  pub change : cs ≡ coalesced_changes (effects_in (take n rs))
 
 -- each of the records is good over the graph as those before it leave it
 abbrev pub AreGood : List ℕ → ℕ → Graph → List Record → Type 0

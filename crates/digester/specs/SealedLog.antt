@@ -1,44 +1,55 @@
--- A region of a client's log that was handed over to be digested.
-use Rattle.std.specs.Prelude.{◌≡◌, ℕ, ◌+◌, ◌^◌, ◌<◌, List, Some, length, drop}
+-- The records of a region that a client sealed, in memory.
+use Rattle.std.specs.Prelude.{◌≡◌, ℕ, ◌+◌, ◌^◌, ◌<◌, ◌≤◌, true, List, Some, length, drop}
 use Rattle.std.specs.List.{AllByRecursion}
-use Rattle.std.specs.List.Sorted.{IsNonDecreasing}
+use Rattle.std.specs.List.Sorted.{IsStrictlyIncreasing}
+use Rattle.update_log.specs.posix_calls.Operations.{is_client}
 use Rattle.update_log.specs.log_record.Grammar.{IsRecord}
 use Rattle.update_log.specs.log_record.declared.format.Record.{Record}
 use Rattle.shared_area.specs.layout.declared.marks.Mark.{Mark}
 use Rattle.shared_area.specs.layout.declared.marks.Marks.{Marks}
-use Rattle.shared_area.specs.layout.declared.marks.TheConstants.{CLIENTS}
 use Rattle.shared_area.specs.area_image.Store.{Store, marks}
-use Rattle.digester.specs.declared.sealed_log.SealedLog.{SealedLog}
-use Rattle.digester.specs.Marking.{mark_after, mark_of}
+use Rattle.digester.specs.MarkMoves.{mark_after, mark_of}
+
+-- a sealed log: whose it is, its generation, how many of its records are digested, the inodes that its client held for writing, and all its records in their order
+pub record SealedView : Type 0 where
+  pub client : ℕ
+  pub generation : ℕ
+  pub done : ℕ
+  pub held : List ℕ
+  pub records : List Record
+
+-- What holds of every one: it is a client's, the inodes rise, each once, its records have spellings, and no more of them are digested than there are.
+pub record IsSealed (x : SealedView) : Type 0 where
+  pub client : is_client x.client ≡ true
+  pub rising : IsStrictlyIncreasing x.held
+  pub spelled : AllByRecursion IsRecord x.records
+  pub few : length x.records < 2 ^ 32
+  pub within : x.done ≤ length x.records
+
+-- some of its records are not digested
+abbrev pub HasUndigested : SealedView → Type 0
+HasUndigested x = x.done < length x.records
 
 -- the records that are not digested yet
-abbrev pub undone : SealedLog → List Record
-undone x = drop x.done x.records.items
+abbrev pub undone : SealedView → List Record
+undone x = drop x.done x.records
 
 -- the mark once so many more of them are digested
-abbrev pub mark_then : SealedLog → ℕ → Mark
-mark_then x n = mark_after x.generation (x.done + n) (length x.records.items)
-
--- It is a client's, its records have spellings, and some of them are not digested.
-pub record IsSealed (x : SealedLog) : Type 0 where
-  pub client : x.client < CLIENTS
-  pub rising : IsNonDecreasing x.held.items
-  pub spelled : AllByRecursion IsRecord x.records.items
-  pub some : x.done < length x.records.items
-  pub few : length x.records.items < 2 ^ 32
+abbrev pub mark_then : SealedView → ℕ → Mark
+mark_then x n = mark_after x.generation (x.done + n) (length x.records)
 
 -- The log stands at its client's mark, which names its generation and so many records as are digested of it; once they all are, it names the next generation, and none.
-abbrev pub StandsAt : SealedLog → Marks → Type 0
-StandsAt x v = mark_of v x.client ≡ mark_after x.generation x.done (length x.records.items)
+abbrev pub StandsAt : SealedView → Marks → Type 0
+StandsAt x v = mark_of v x.client ≡ mark_after x.generation x.done (length x.records)
 
 -- So it stands at that of a store.
-abbrev pub StandsAtMark : SealedLog → Store → Type 0
+abbrev pub StandsAtMark : SealedView → Store → Type 0
 StandsAtMark x s = (v : Marks) × (marks s ≡ Some v) × StandsAt x v
 
 -- the same with so many of its records digested
-abbrev pub done_to : ℕ → SealedLog → SealedLog
+abbrev pub done_to : ℕ → SealedView → SealedView
 done_to done x = record x { done = done }
 
 -- The same with so many more of its records digested.
-abbrev pub IsDoneBy : SealedLog → ℕ → SealedLog → Type 0
+abbrev pub IsDoneBy : SealedView → ℕ → SealedView → Type 0
 IsDoneBy old n new = new ≡ done_to (old.done + n) old

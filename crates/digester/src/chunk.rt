@@ -2,7 +2,7 @@
 
 ghost use Rattle.std.specs.Prelude.{◌≡◌, true, IfErr, IfOk};
 ghost use Rattle.digester.specs.Chunk.{IsChunkOf, is_next};
-ghost use Rattle.digester.specs.SealedLog.{IsSealed};
+ghost use Rattle.digester.specs.SealedLog.{HasUndigested};
 ghost use Rattle.digester.specs.declared.error.DigestError.TheVariants.{Memory};
 
 use crate::error::DigestError;
@@ -14,8 +14,8 @@ use std::alloc::Global;
 /// Records of a sealed log that are digested at once, and what they come to.
 #[derive(Drop)]
 pub struct Chunk {
-    /// Whose log it is.
-    pub client: usize,
+    /// Whose log it is, from 1 to 8.
+    pub client: u32,
     /// The generation of the log.
     pub generation: u64,
     /// How many records of the log stand before these.
@@ -31,7 +31,9 @@ impl Chunk {
     pub fn is_next(&self, log: &SealedLog) -> bool
         ensures exact { result ≡ is_next log.now self.now }
     {
-        self.client == log.client && self.generation == log.generation && self.first == log.done
+        self.client == log.client()
+            && self.generation == log.generation()
+            && self.first == log.digested_count()
     }
 }
 
@@ -39,16 +41,16 @@ impl Chunk {
 /// what it comes to. It needs neither the shared area nor a lock: whoever digests the chunk asks then whether it is still the next one, and
 /// tests its records. An error is want of memory.
 pub fn prepare(alloc: Global, log: &SealedLog) -> Result<Chunk, DigestError>
-    requires sealed { IsSealed log.now }
+    requires some { HasUndigested log.now }
     ensures exact { IfOk result (IsChunkOf log.now) }
     ensures next { IfOk result (λ chunk. is_next log.now chunk ≡ true) }
     ensures only { IfErr result (λ e. e ≡ Memory) }
 {
-    match next_run(alloc, &log.records[log.done as usize..]) {
+    match next_run(alloc, &log.records()[log.digested_count() as usize..]) {
         Ok(run) => Ok(Chunk {
-            client: log.client,
-            generation: log.generation,
-            first: log.done,
+            client: log.client(),
+            generation: log.generation(),
+            first: log.digested_count(),
             count: run.count,
             change: run.change,
         }),

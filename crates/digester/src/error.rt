@@ -1,7 +1,7 @@
 ghost use Rattle.std.specs.Prelude.{◌≢◌};
 ghost use Rattle.shared_area.specs.declared.error.ApplyError.TheVariants.{NoBlock};
 ghost use Rattle.shared_area.specs.Parts.{IsNoDamage};
-ghost use Rattle.digester.specs.Errors.{IsApplyTold, IsTestTold};
+ghost use Rattle.digester.specs.Errors.{IsApplyError, IsTestError};
 
 use shared_area::{ApplyError, AreaError};
 use thiserror::Error;
@@ -19,9 +19,9 @@ pub enum DigestError {
 }
 
 /// Why no records were digested, where the shared area could not be asked; no damage is found on media that are opened.
-pub fn test_told(error: AreaError) -> DigestError
+pub fn test_error(error: AreaError) -> DigestError
     requires { IsNoDamage error }
-    ensures { IsTestTold error result }
+    ensures { IsTestError error result }
 {
     match error {
         AreaError::DeviceFault => DigestError::DeviceFault,
@@ -31,9 +31,9 @@ pub fn test_told(error: AreaError) -> DigestError
 }
 
 /// Why no records were digested, where the change was not made; the blocks that a run of records writes are always there.
-pub fn apply_told(error: ApplyError) -> DigestError
+pub fn apply_error(error: ApplyError) -> DigestError
     requires { error ≢ NoBlock }
-    ensures { IsApplyTold error result }
+    ensures { IsApplyError error result }
 {
     match error {
         ApplyError::DeviceFault => DigestError::DeviceFault,

@@ -1,6 +1,6 @@
 //! What holds of every chunk and every digest.
 
-ghost use Rattle.std.specs.Prelude.{◌≡◌, ◌≢◌, ℕ, ◌<◌, true, false, length, take};
+ghost use Rattle.std.specs.Prelude.{◌≡◌, ◌≢◌, ℕ, ◌<◌, ◌≤◌, true, false, length, take};
 ghost use Rattle.update_log.specs.file_graph.Graph.{is_among, touches};
 ghost use Rattle.shared_area.specs.layout.Places.{Sizes};
 ghost use Rattle.shared_area.specs.layout.declared.marks.Mark.{Mark};
@@ -9,24 +9,23 @@ ghost use Rattle.shared_area.specs.change_plan.Part.{IsTouchedBy};
 ghost use Rattle.shared_area.specs.area_image.Store.{Store, slot};
 ghost use Rattle.coalescer.specs.Records.{effects_in};
 ghost use Rattle.digester.specs.Chunk.{IsChunkOf};
-ghost use Rattle.digester.specs.Digesting.{IsDigested};
-ghost use Rattle.digester.specs.Marking.{marks_after};
-ghost use Rattle.digester.specs.SealedLog.{StandsAt, done_to, undone, mark_then};
+ghost use Rattle.digester.specs.DigestStep.{IsDigested};
+ghost use Rattle.digester.specs.MarkMoves.{marks_after};
+ghost use Rattle.digester.specs.SealedLog.{SealedView, StandsAt, done_to, undone, mark_then};
 ghost use Rattle.digester.specs.declared.chunk.Chunk.{Chunk};
-ghost use Rattle.digester.specs.declared.sealed_log.SealedLog.{SealedLog};
 
 /// What records touch that are digested tells the number of their digest, and every other slot is as it was.
 pub fn digest_touches_what_its_records_touch()
-    ensures touched { (g : Sizes) (s : Store) (x : SealedLog) (n : ℕ) (new : Store) (d : IsDigested g s x n new) (i : ℕ) → is_among i (touches (effects_in (take n (undone x)))) ≡ true → IsTouchedBy (marks_after d.before x.client (mark_then x n)).digests (slot g new i) }
-    ensures others { (g : Sizes) (s : Store) (x : SealedLog) (n : ℕ) (new : Store) → IsDigested g s x n new → (i : ℕ) → is_among i (touches (effects_in (take n (undone x)))) ≡ false → slot g new i ≡ slot g s i }
+    ensures touched { (g : Sizes) (s : Store) (x : SealedView) (n : ℕ) (new : Store) (d : IsDigested g s x n new) (i : ℕ) → is_among i (touches (effects_in (take n (undone x)))) ≡ true → IsTouchedBy (marks_after d.before x.client (mark_then x n)).digests (slot g new i) }
+    ensures others { (g : Sizes) (s : Store) (x : SealedView) (n : ℕ) (new : Store) → IsDigested g s x n new → (i : ℕ) → is_among i (touches (effects_in (take n (undone x)))) ≡ false → slot g new i ≡ slot g s i }
 {}
 
 /// A log stands where it stood while the mark of another client moves.
 pub fn others_digest_leaves_a_log_standing()
-    ensures { (x : SealedLog) (v : Marks) (client : ℕ) (m : Mark) → client ≢ x.client → StandsAt x v → StandsAt x (marks_after v client m) }
+    ensures { (x : SealedView) (v : Marks) (client : ℕ) (m : Mark) → 1 ≤ x.client → 1 ≤ client → client ≢ x.client → StandsAt x v → StandsAt x (marks_after v client m) }
 {}
 
 /// A chunk that was prepared stays a chunk of its log while records of the log are digested; whether it is still the next one is another question.
 pub fn chunk_stays_a_chunk()
-    ensures { (x : SealedLog) (c : Chunk) (done : ℕ) → IsChunkOf x c → IsChunkOf (done_to done x) c }
+    ensures { (x : SealedView) (c : Chunk) (done : ℕ) → IsChunkOf x c → IsChunkOf (done_to done x) c }
 {}

@@ -8,37 +8,37 @@
 //! graph as those before it leave it (`record_validation`): all are good, or the first that is bad is named. It changes nothing.
 #![tactic(auto)]
 
-mod asking;
 mod chunk;
-mod digesting;
+mod chunk_digest;
+mod digest_marks;
 mod error;
 mod laws;
-mod marking;
+mod node_fetch;
 mod plan_error;
 mod plan_laws;
-mod planning;
 mod record_test;
+mod run_plan;
+mod run_test;
 mod sealed_log;
-mod testing;
 
 pub use chunk::{Chunk, prepare};
-pub use digesting::digest_chunk;
+pub use chunk_digest::digest_chunk;
+pub use digest_marks::{
+    mark_after, mark_of, marks_after, marks_can_be_written, moved_mark_leaves_the_rest,
+};
 pub use error::DigestError;
 pub use laws::{
     chunk_stays_a_chunk, digest_touches_what_its_records_touch, others_digest_leaves_a_log_standing,
-};
-pub use marking::{
-    mark_after, mark_of, marks_after, marks_can_be_written, moved_mark_leaves_the_rest,
 };
 pub use plan_error::PlanError;
 pub use plan_laws::{
     a_chunk_can_be_applied, a_chunk_is_a_batch, a_first_bad_record_is_the_only_one,
     covered_records_are_never_bad,
 };
-pub use planning::{NextRun, next_run};
 pub use record_test::{Found, test_records};
+pub use run_plan::{NextRun, next_run};
+pub use run_test::capacity_of;
 pub use sealed_log::SealedLog;
-pub use testing::capacity_of;
 
 // Passed on to the crates above, which so need not list those below.
 pub use coalescer::{GraphChange, changes_are_the_effects, changes_keep_to_the_limits, coalesce};
@@ -48,5 +48,5 @@ pub use shared_area::{
 };
 pub use update_log::{
     Effect, Effects, FaultMedia, Fill, Kind, MAX_CLIENTS, MAX_INODE, Media, MemMedia, Name, ROOT,
-    Record, SharedBytes, StopMedia, Tier, UNIT_BYTES,
+    Record, SharedBytes, StopMedia, Tier, UNIT_BYTES, client_index,
 };

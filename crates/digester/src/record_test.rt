@@ -9,10 +9,10 @@ ghost use Rattle.update_log.specs.log_record.Grammar.{IsRecord};
 ghost use Rattle.coalescer.specs.Records.{effects_in};
 ghost use Rattle.shared_area.specs.record_validation.Good.{IsGood};
 ghost use Rattle.shared_area.specs.record_validation.Row.{HasCome};
-ghost use Rattle.digester.specs.Asked.{AreAmong, AskedKnown, AskedOnce, refusal_of};
+ghost use Rattle.digester.specs.Questions.{AreAmong, AskedKnown, AskedOnce, refusal_of};
 ghost use Rattle.digester.specs.Plan.{Finds};
 
-use crate::asking::learn_touched;
+use crate::node_fetch::learn_touched;
 use crate::plan_error::PlanError;
 use shared_area::{Nodes, RecordCheck, Verdict};
 use std::alloc::Global;
@@ -42,7 +42,7 @@ pub fn test_records<N: Nodes>(
     requires rising { IsNonDecreasing held.now }
     requires used { charge (N.graph nodes.old) ≡ used }
     ensures stays { N.graph nodes.new ≡ N.graph nodes.old }
-    ensures tells { IfOk result (Finds held.now capacity (N.graph nodes.old) records.now) }
+    ensures answer { IfOk result (Finds held.now capacity (N.graph nodes.old) records.now) }
     ensures answered { OnOk result (AskedOnce N.asked (touches (effects_in records.now)) nodes.old nodes.new None) }
     ensures refused { IfErr result (λ e. AskedOnce N.asked (touches (effects_in records.now)) nodes.old nodes.new (refusal_of e)) }
     ensures some { IfErr result (λ e. 0 < length records.now) }

@@ -2,21 +2,22 @@
 use Rattle.std.proofs.Common.{◌≡◌, ◌≢◌, ◌⊎◌, inl, inr, ℕ, Bool, true, false, List, Option, refl, ap, sym, ◌∙◌}
 use Rattle.std.specs.Prelude.{Result, Ok, Err, OnOk, OnErr, IfErr, IsErrOf}
 use Rattle.std.proofs.lemmas.Bool.{true≢false}
+use Rattle.libfs.specs.tier_device.declared.media.Media.{Ghosts}
 use Rattle.libfs.specs.tier_device.declared.media.Tier.{Tier}
 use Rattle.libfs.specs.kernel_fs.KernelView.{KernelView}
 use Rattle.libfs.specs.View.{ClientView}
-use Rattle.libfs.specs.declared.denying.Denied.{Denied}
-use Rattle.libfs.specs.declared.denying.Denied.TheVariants as denied
-use Rattle.event_steps.specs.Asking.{HasAsked, IsBooked, IsStopped}
-use Rattle.event_steps.specs.Played.{Carries}
-use Rattle.event_steps.specs.Told.{noted, told_asked}
-use Rattle.event_steps.specs.View.{AwayView}
+use Rattle.libfs.specs.declared.denial.Denied.{Denied}
+use Rattle.libfs.specs.declared.denial.Denied.TheVariants as denied
+use Rattle.event_steps.specs.KernelRequests.{HasAsked, IsBooked, IsStopped}
+use Rattle.event_steps.specs.Effects.{Carries}
+use Rattle.event_steps.specs.Outcomes.{noted_refusals, request_outcome}
+use Rattle.libfs.specs.SealedRegion.{SealedRegionView}
 use Rattle.event_steps.specs.declared.outcome.Outcome.{Outcome}
 use Rattle.event_steps.specs.declared.outcome.Outcome.TheVariants as outcomes
 use Rattle.event_steps.specs.declared.refusals.Refusals.{Refusals}
 use Rattle.event_steps.proofs.Carried.{done}
 
-asked_is_done : (answer : Result (Unit {0}) Denied) → told_asked answer ≢ outcomes.Idle
+asked_is_done : (answer : Result (Unit {0}) Denied) → request_outcome answer ≢ outcomes.Idle
 asked_is_done (Ok x) is = absurd (cc)
 asked_is_done (Err e) is = absurd (cc)
 
@@ -25,14 +26,14 @@ pub on_err : {P : Type 0} (answer : Result (Unit {0}) Denied) (e : Denied) → O
 on_err (Ok x) e p is = absurd (cc)
 on_err (Err why) e p is = p
 
-pub carried : {Turn Made Same : Type 0} (answer : Result (Unit {0}) Denied) (o : Outcome) → o ≡ told_asked answer → Turn → Made → Carries Turn Made Same o
+pub carried : {Turn Made Same : Type 0} (answer : Result (Unit {0}) Denied) (o : Outcome) → o ≡ request_outcome answer → Turn → Made → Carries Turn Made Same o
 carried answer o told turn made = done o (λ idle. asked_is_done answer (sym told ∙ idle)) turn made
 
-module _ {M : Type 0} (seen : M → Tier → List ℕ) (k k' : KernelView M) (v v' : ClientView M) (away : Option (AwayView M)) (r r' : Refusals) (answer : Result (Unit {0}) Denied) (o : Outcome) where
-  pub asks : o ≡ told_asked answer → r' ≡ noted answer r → HasAsked (record { client = v; away = away; refused = r }) answer o (record { client = v'; away = away; refused = r' })
+module _ {M : Type 0} (device : Ghosts M) (k k' : KernelView M) (v v' : ClientView M) (away : Option (SealedRegionView M)) (r r' : Refusals) (answer : Result (Unit {0}) Denied) (o : Outcome) where
+  pub asks : o ≡ request_outcome answer → r' ≡ noted_refusals answer r → HasAsked (record { client = v; away = away; refused = r }) answer o (record { client = v'; away = away; refused = r' })
   asks told note = record { told = told; rest = ap (λ (q : Refusals). record { client = v'; away = away; refused = q }) note }
 
-  pub booked : o ≡ told_asked answer → r' ≡ noted answer r → OnOk answer (k.area.failed ≡ false) → (IsErrOf answer denied.KernelFailed → k.area.failed ≡ true) → (k.area.failed ≡ true → IfErr answer IsStopped) → OnErr answer ((v' ≡ v) × (k' ≡ k)) → k'.area ≡ k.area → k'.opening ≡ k.opening
+  pub booked : o ≡ request_outcome answer → r' ≡ noted_refusals answer r → OnOk answer (k.area.failed ≡ false) → (IsErrOf answer denied.KernelFailed → k.area.failed ≡ true) → (k.area.failed ≡ true → IfErr answer IsStopped) → OnErr answer ((v' ≡ v) × (k' ≡ k)) → k'.area ≡ k.area → k'.opening ≡ k.opening
       → IsBooked k (record { client = v; away = away; refused = r }) answer o (record { client = v'; away = away; refused = r' }) k'
   booked told note going failed stopped refused area opening = record { asks = asks told note; going = going; failed = failed; stopped = stopped; refused = refused; area = area; opening = opening }
 

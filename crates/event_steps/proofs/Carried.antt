@@ -1,6 +1,6 @@
 -- How a seat's answer is told.
 use Rattle.std.proofs.Common.{◌≢◌, refl}
-use Rattle.event_steps.specs.Played.{Carries}
+use Rattle.event_steps.specs.Effects.{Carries}
 use Rattle.event_steps.specs.declared.outcome.Outcome.{Outcome}
 use Rattle.event_steps.specs.declared.outcome.Outcome.TheVariants as outcomes
 

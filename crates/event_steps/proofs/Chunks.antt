@@ -1,39 +1,36 @@
 -- One chunk of a region that is away.
-use Rattle.std.proofs.Common.{◌≡◌, ◌≢◌, ◌↔◌, inl, inr, ℕ, ◌<◌, ◌≤◌, Bool, true, false, List, length, take, drop, [], ◌∷◌, Option, Some, None, refl, ap, sym, ◌∙◌, subst, arith, length-drop}
-use Rattle.std.specs.Option.{ForSome}
-use Rattle.std.specs.Prelude.{Result, Ok, Err, IsErrOf, ◌==◌, ◌&&◌, is_some}
+use Rattle.std.proofs.Common.{◌≡◌, ◌≢◌, ◌↔◌, inl, inr, ℕ, ◌<◌, ◌≤◌, Bool, true, false, List, length, take, drop, Option, Some, None, refl, ap, sym, ◌∙◌, subst, arith, length-drop}
+use Rattle.std.specs.Prelude.{Result, Ok, Err, IsErrOf, ◌==◌, ◌&&◌}
 use Rattle.std.proofs.lemmas.Bool.{and_parts, eq-eqb, eqb-true, false≢true}
+use Rattle.libfs.specs.tier_device.declared.media.Media.{Ghosts}
 use Rattle.libfs.specs.tier_device.declared.media.Tier.{Tier}
 use Rattle.libfs.specs.tier_device.declared.media.Tier.TheVariants.{Fast}
 use Rattle.libfs.specs.log_record.declared.format.Record.{Record}
-use Rattle.libfs.specs.update_log.Counting.{next_generation}
+use Rattle.libfs.specs.update_log.RecordCounts.{next_generation}
 use Rattle.libfs.specs.update_log.View.{RegionView, records_of}
-use Rattle.libfs.specs.update_log.Frames.{before_gate, spelled}
+use Rattle.libfs.specs.update_log.Frames.{before_gate, spelled_records}
 use Rattle.libfs.specs.client_log.Calls.{IsOnlyRead}
-use Rattle.libfs.specs.client_log.View.{HandedView}
 use Rattle.libfs.specs.coalescer.Weight.{IsLongestRun}
 use Rattle.libfs.specs.digester.Chunk.{IsChunkOf, is_next}
-use Rattle.libfs.specs.digester.SealedLog.{StandsAtMark, undone}
+use Rattle.libfs.specs.digester.SealedLog.{SealedView, HasUndigested, StandsAtMark, undone}
 use Rattle.libfs.specs.digester.declared.chunk.Chunk.{Chunk}
 use Rattle.libfs.specs.digester.declared.error.DigestError.{DigestError}
 use Rattle.libfs.specs.digester.declared.error.DigestError.TheVariants as digests
-use Rattle.libfs.specs.digester.declared.sealed_log.SealedLog.{SealedLog}
 use Rattle.libfs.specs.kernel_fs.Book.{waiting_of}
-use Rattle.libfs.specs.kernel_fs.Accepting.{client_of as client_in}
 use Rattle.libfs.specs.kernel_fs.KernelView.{KernelView}
 use Rattle.libfs.specs.kernel_fs.declared.error.AcceptError.{AcceptError}
 use Rattle.libfs.specs.kernel_fs.declared.error.AcceptError.TheVariants as accepts
-use Rattle.libfs.specs.area_image.Store.{store_of}
-use Rattle.libfs.specs.kernel_fs.declared.digesting.Digestion.{Digestion}
-use Rattle.libfs.specs.kernel_fs.declared.digesting.Digestion.TheVariants as digestion
+use Rattle.libfs.specs.area_image.Store.{disk}
+use Rattle.libfs.specs.kernel_fs.declared.chunk_digest.Digestion.{Digestion}
+use Rattle.libfs.specs.kernel_fs.declared.chunk_digest.Digestion.TheVariants as digestion
 use Rattle.libfs.specs.kernel_fs.declared.error.KernelError.{KernelError}
 use Rattle.libfs.specs.kernel_fs.declared.error.KernelError.TheVariants as kernel
 use Rattle.libfs.specs.lease_manager.Passes.{client_of}
-use Rattle.libfs.specs.HandingOver.{HasTakenBack}
+use Rattle.libfs.specs.RegionSeal.{HasTakenBack, MayTakeBack}
+use Rattle.libfs.specs.SealedRegion.{SealedRegionView, log_of}
 use Rattle.libfs.specs.View.{ClientView}
-use Rattle.event_steps.specs.Regions.{ChunkCame, DigestsNext, HasLog, IsDigestedOn, IsNotAcceptedFor, IsPutBy, refusal_to_accept, told_digest}
-use Rattle.event_steps.specs.Sound.{IsAwayFrom, IsLogOf}
-use Rattle.event_steps.specs.View.{AwayView}
+use Rattle.event_steps.specs.Regions.{ChunkCame, DigestsNext, IsAccepted, IsAwayRead, IsDigestedOn, IsNotAcceptedFor, IsPutBy, refusal_to_accept, digest_outcome}
+use Rattle.event_steps.specs.Sound.{IsAwayFrom}
 use Rattle.event_steps.specs.declared.outcome.Outcome.{Outcome}
 use Rattle.event_steps.specs.declared.outcome.Outcome.TheVariants as outcomes
 use Rattle.event_steps.specs.declared.outcome.Refusal.{Refusal}
@@ -41,9 +38,9 @@ use Rattle.event_steps.specs.declared.outcome.Refusal.TheVariants as refusals
 use Rattle.event_steps.specs.declared.refusals.Refusals.{Refusals}
 
 -- a region that was only read has the records that it had
-pub read_records : {M : Type 0} (seen : M → Tier → List ℕ) (moment : M → ℕ) (left : M → ℕ → Tier → List ℕ → Type 0) (faults : M → ℕ) (old new : RegionView M) → IsOnlyRead seen moment left faults old new → records_of seen new ≡ records_of seen old
-read_records seen moment left faults old new is =
-    ap (λ n. spelled (before_gate (take n (seen new.media Fast)))) is.same_end ∙ ap (λ bytes. spelled (before_gate (take old.end bytes))) (is.same_seen Fast)
+pub read_records : {M : Type 0} (device : Ghosts M) (old new : RegionView M) → IsOnlyRead device old new → records_of device new ≡ records_of device old
+read_records device old new is =
+    ap (λ n. spelled_records (before_gate (take n (device.seen new.media Fast)))) is.same_end ∙ ap (λ bytes. spelled_records (before_gate (take old.end bytes))) (is.same_seen Fast)
 
 abbrev of_ok : Result Digestion (KernelError DigestError) → Digestion
 of_ok (Ok d) = d
@@ -65,39 +62,30 @@ pub ok_is_none : (d : Digestion) (e : KernelError DigestError) → answered d �
 ok_is_none d e is = absurd (cc)
 
 -- the run of a chunk that is the next one is the longest run of what is not digested
-pub next_run : (x : SealedLog) (c : Chunk) → IsChunkOf x c → is_next x c ≡ true → IsLongestRun (undone x) c.count
+pub next_run : (x : SealedView) (c : Chunk) → IsChunkOf x c → is_next x c ≡ true → IsLongestRun (undone x) c.count
 next_run x c is next =
     let first : c.first ≡ x.done = eqb-true c.first x.done (and_parts (c.client == x.client && c.generation == x.generation) (c.first == x.done) next).1 in
-    subst (λ n. IsLongestRun (drop n x.records.items) c.count) first is.run.run
+    subst (λ n. IsLongestRun (drop n x.records) c.count) first is.run.run
 
--- What a chunk leaves of a log: its records, of which some may be digested.
-pub record LeavesLog (x y : SealedLog) : Type 0 where
-  pub records : y.records.items ≡ x.records.items
-  pub within : y.done ≤ length y.records.items
+-- no more records of a log are digested than there are, also after a chunk
+same_within : (x y : SealedView) → y ≡ x → HasUndigested x → y.done ≤ length y.records
+same_within x y is some = subst (λ (z : SealedView). z.done ≤ length z.records) (sym is) (omega (arith, some))
 
-same_log : (x y : SealedLog) → y ≡ x → x.done < length x.records.items → LeavesLog x y
-same_log x y is some = record {
-  records = ap (λ (z : SealedLog). z.records.items) is;
-  within = subst (λ (z : SealedLog). z.done ≤ length z.records.items) (sym is) (omega (arith, some));
-}
+module _ {M : Type 0} (device : Ghosts M) (k : KernelView M) (x : SealedView) where
+  digested_within : (n : ℕ) (answer : Result Digestion (KernelError DigestError)) (y : SealedView) (after : KernelView M) → DigestsNext device k x n answer y after → HasUndigested x → y.done ≤ length y.records
+  digested_within n (Ok digestion.Digested) y after d some =
+      subst (λ (z : SealedView). z.done ≤ length z.records) (sym (d.done refl))
+      (omega (arith, subst (λ m. n ≤ m) (length-drop x.done x.records) d.run.within, some))
+  digested_within n (Ok digestion.NotNext) y after d some = same_within x y (d.stays (λ is. absurd (cc))).0 some
+  digested_within n (Ok digestion.NotAccepted) y after d some = same_within x y (d.stays (λ is. absurd (cc))).0 some
+  digested_within n (Err e) y after d some = same_within x y (d.stays (λ is. absurd (cc))).0 some
 
-module _ {M : Type 0} (seen : M → Tier → List ℕ) (moment : M → ℕ) (left : M → ℕ → Tier → List ℕ → Type 0) (faults : M → ℕ) (k : KernelView M) (x : SealedLog) where
-  digested_log : (n : ℕ) (answer : Result Digestion (KernelError DigestError)) (y : SealedLog) (after : KernelView M) → DigestsNext seen moment left faults k x n answer y after → x.done < length x.records.items → LeavesLog x y
-  digested_log n (Ok digestion.Digested) y after d some = record {
-    records = ap (λ (z : SealedLog). z.records.items) (d.done refl);
-    within = subst (λ (z : SealedLog). z.done ≤ length z.records.items) (sym (d.done refl))
-        (omega (arith, subst (λ m. n ≤ m) (length-drop x.done x.records.items) d.run.within, some));
-  }
-  digested_log n (Ok digestion.NotNext) y after d some = same_log x y (d.stays (λ is. absurd (cc))).0 some
-  digested_log n (Ok digestion.NotAccepted) y after d some = same_log x y (d.stays (λ is. absurd (cc))).0 some
-  digested_log n (Err e) y after d some = same_log x y (d.stays (λ is. absurd (cc))).0 some
-
-  pub chunk_log : (o : Outcome) (y : SealedLog) (after : KernelView M) → ChunkCame seen moment left faults k x o y after → x.done < length x.records.items → LeavesLog x y
-  chunk_log o y after (inl none) some = same_log x y none.1 some
-  chunk_log o y after (inr came) some = digested_log came.0 came.1 y after came.3 some
+  chunk_within : (o : Outcome) (y : SealedView) (after : KernelView M) → ChunkCame device k x o y after → HasUndigested x → y.done ≤ length y.records
+  chunk_within o y after (inl none) some = same_within x y none.1 some
+  chunk_within o y after (inr came) some = digested_within came.0 came.1 y after came.3 some
 
 -- a digest that was asked for is no idleness
-digest_is_done : (answer : Result Digestion (KernelError DigestError)) → told_digest answer ≢ outcomes.Idle
+digest_is_done : (answer : Result Digestion (KernelError DigestError)) → digest_outcome answer ≢ outcomes.Idle
 digest_is_done (Ok digestion.Digested) is = absurd (cc)
 digest_is_done (Ok digestion.NotNext) is = absurd (cc)
 digest_is_done (Ok digestion.NotAccepted) is = absurd (cc)
@@ -109,161 +97,155 @@ digest_is_done (Err (kernel.Refused digests.Memory)) is = absurd (cc)
 refused_is_done : (why : Refusal) → outcomes.Refused why ≢ outcomes.Idle
 refused_is_done why is = absurd (cc)
 
-module _ {M : Type 0} (seen : M → Tier → List ℕ) (moment : M → ℕ) (left : M → ℕ → Tier → List ℕ → Type 0) (faults : M → ℕ) where
-  pub chunk_is_done : (k : KernelView M) (x : SealedLog) (o : Outcome) (y : SealedLog) (after : KernelView M) → ChunkCame seen moment left faults k x o y after → o ≢ outcomes.Idle
+module _ {M : Type 0} (device : Ghosts M) where
+  pub chunk_is_done : (k : KernelView M) (x : SealedView) (o : Outcome) (y : SealedView) (after : KernelView M) → ChunkCame device k x o y after → o ≢ outcomes.Idle
   chunk_is_done k x o y after (inl none) idle = refused_is_done refusals.Memory (sym none.0 ∙ idle)
   chunk_is_done k x o y after (inr came) idle = digest_is_done came.1 (sym came.2 ∙ idle)
 
-  module _ (k between after : KernelView M) (v : ClientView M) (r : Refusals) (a b : AwayView M) (x y : SealedLog) (o : Outcome) (has : HasLog seen moment left faults k a x b between) where
-    -- some records of the region are not digested yet
-    pub kept_away : ChunkCame seen moment left faults between x o y after → (y.done == length y.records.items) ≡ false
-        → IsDigestedOn seen moment left faults k (record { client = v; away = Some a; refused = r }) o (record { client = v; away = Some (record b { log = Some y }); refused = r }) after
-    kept_away (inl none) is = record {
-      away = a;
-      was_away = refl;
-      came = inr (inl (record {
-        told = none.0;
-        log = x;
-        away = b;
-        accepted = subst (λ (q : KernelView M). HasLog seen moment left faults k a x b q) (sym none.2) has;
-        rest = ap (λ (l : Option SealedLog). record { client = v; away = Some (record b { log = l }); refused = r }) (ap (λ (z : SealedLog). Some z) none.1 ∙ sym has.log);
-      }));
-    }
-    kept_away (inr came) is = record {
-      away = a;
-      was_away = refl;
-      came = inr (inr (record {
-        log = x;
-        away = b;
-        between = between;
-        accepted = has;
-        count = came.0;
-        answer = came.1;
-        told = came.2;
-        log_then = y;
-        digests = came.3;
-        put = subst (λ t. IsPutBy t seen (record { client = v; away = Some a; refused = r }) b y (record { client = v; away = Some (record b { log = Some y }); refused = r })) (sym is) refl;
-      }));
-    }
+-- only what a read changes has changed
+pub only_read : {M : Type 0} (a b : SealedRegionView M) → b ≡ record a { region = b.region; read = b.read } → b ≡ record a { region = b.region; read = b.read; accepted = b.accepted }
+only_read {M} a b is = is ∙ ap (λ (t : Bool). record a { region = b.region; read = b.read; accepted = t }) (sym (ap (λ (r : SealedRegionView M). r.accepted) is))
 
-    -- all of them are
-    pub given_back : (w : ClientView M) → ChunkCame seen moment left faults between x o y after → x.done < length x.records.items → (y.done == length y.records.items) ≡ true → HasTakenBack seen v b.over w
-        → IsDigestedOn seen moment left faults k (record { client = v; away = Some a; refused = r }) o (record { client = w; away = None; refused = r }) after
-    given_back w (inl none) some is back = absurd (omega (arith, some, subst (λ (z : SealedLog). z.done ≡ length z.records.items) none.1 (eqb-true y.done (length y.records.items) is)))
-    given_back w (inr came) some is back = record {
-      away = a;
-      was_away = refl;
-      came = inr (inr (record {
-        log = x;
-        away = b;
-        between = between;
-        accepted = has;
-        count = came.0;
-        answer = came.1;
-        told = came.2;
-        log_then = y;
-        digests = came.3;
-        put = subst (λ t. IsPutBy t seen (record { client = v; away = Some a; refused = r }) b y (record { client = w; away = None; refused = r })) (sym is) (back, refl);
-      }));
-    }
+-- A region of which only the records were read has them still, and all else of its log.
+module _ {M : Type 0} (device : Ghosts M) (a b : SealedRegionView M) (read : IsAwayRead device a b) where
+  pub same_records : records_of device b.region ≡ records_of device a.region
+  same_records = read_records device a.region b.region read.read
 
--- a list that is not empty
-pub has_some : (rs : List Record) → rs ≢ [] → 0 < length rs
-has_some [] some = absurd (some refl)
-has_some (r ∷ rs) some = omega arith
+  pub same_done : b.done ≡ a.done
+  same_done = ap (λ (r : SealedRegionView M). r.done) read.rest
 
-pub same_some : {A : Type 0} (x y : A) → Some x ≡ Some y → x ≡ y
-same_some x y is = ap (of x) is
-  where
-    of : {A : Type 0} → A → Option A → A
-    of d None = d
-    of d (Some z) = z
+  pub read_some : HasUndigested (log_of device a) → HasUndigested (log_of device b)
+  read_some some = let long = ap (λ (rs : List Record). length rs) same_records in let done = same_done in omega (arith, long, done, some)
 
-pub none_of : {A : Type 0} (o : Option A) → is_some o ≡ false → o ≡ None
-none_of None is = refl
-none_of (Some x) is = absurd (false≢true (sym is))
+-- A region that was accepted before, or is accepted now.
+module _ {M : Type 0} (device : Ghosts M) (k between : KernelView M) (a b : SealedRegionView M) (has : IsAccepted device k a b between) where
+  pub accepted_some : HasUndigested (log_of device a) → HasUndigested (log_of device b)
+  accepted_some some = elim has.came [
+    | inl same ↦ subst (λ (r : SealedRegionView M). HasUndigested (log_of device r)) (sym same.0) some
+    | inr now ↦ read_some device a b now.1 some
+  ]
 
--- a region that has a log was accepted before
-pub was_accepted : {M : Type 0} (seen : M → Tier → List ℕ) (moment : M → ℕ) (left : M → ℕ → Tier → List ℕ → Type 0) (faults : M → ℕ) (k : KernelView M) (a : AwayView M) → ForSome a.log (IsLogOf seen a) → is_some a.log ≡ true → (x : SealedLog) × HasLog seen moment left faults k a x a k
-was_accepted seen moment left faults k a of has = elim a.log as (λ o. a.log ≡ o → ForSome o (IsLogOf seen a) → is_some o ≡ true → (x : SealedLog) × HasLog seen moment left faults k a x a k) [
-  | None ↦ λ is _ none. absurd (false≢true none)
-  | Some x ↦ λ is its _. (x, record { log = is; records = (its x refl).records; accepted = inl (refl, refl) })
-] refl of has
-
--- What is left of a region that is away once its log is there: it is the client's still.
-pub record IsStillFrom {M : Type 0} (seen : M → Tier → List ℕ) (v : ClientView M) (b : AwayView M) : Type 0 where
+-- What is left of a region that is away: it is the client's still.
+pub record IsStillFrom {M : Type 0} (device : Ghosts M) (v : ClientView M) (b : SealedRegionView M) : Type 0 where
   pub client : b.client ≡ client_of v.pass
   pub gone : v.log.other ≡ None
-  pub before : next_generation b.over.generation ≡ v.log.generation
-  pub records : records_of seen b.over.region ≡ v.sealed
+  pub before : next_generation b.generation ≡ v.log.generation
+  pub records : records_of device b.region ≡ v.sealed
 
-module _ {M : Type 0} (seen : M → Tier → List ℕ) (moment : M → ℕ) (left : M → ℕ → Tier → List ℕ → Type 0) (faults : M → ℕ) (k between : KernelView M) (v : ClientView M) (a b : AwayView M) (x : SealedLog) (has : HasLog seen moment left faults k a x b between) (from : IsAwayFrom seen v a) where
-  pub still_from : IsStillFrom seen v b
-  still_from = elim has.accepted [
-    | inl same ↦ subst (λ (w : AwayView M). IsStillFrom seen v w) (sym same.0) (record { client = from.client; gone = from.gone; before = from.before; records = from.records })
+-- some records of a region that is away are not digested
+pub away_some : {M : Type 0} (device : Ghosts M) (v : ClientView M) (a : SealedRegionView M) → IsAwayFrom device v a → HasUndigested (log_of device a)
+away_some device v a from = let long = ap (λ (rs : List Record). length rs) from.records in let some = from.some in omega (arith, long, some)
+
+-- A chunk of a region that was just accepted, or was before.
+module _ {M : Type 0} (device : Ghosts M) (k between after : KernelView M) (v : ClientView M) (r : Refusals) (a b e : SealedRegionView M) (o : Outcome) (digested : Bool)
+    (from : IsAwayFrom device v a) (has : IsAccepted device k a b between) (rest : e ≡ record b { done = e.done })
+    (came : ChunkCame device between (log_of device b) o (log_of device e) after) (told : digested ≡ (e.done == length (records_of device e.region))) where
+  still_from : IsStillFrom device v b
+  still_from = elim has.came [
+    | inl same ↦ subst (λ (w : SealedRegionView M). IsStillFrom device v w) (sym same.0) (record { client = from.client; gone = from.gone; before = from.before; records = from.records })
     | inr now ↦ record {
-      client = now.1.client ∙ from.client;
+      client = ap (λ (w : SealedRegionView M). w.client) now.1.rest ∙ from.client;
       gone = from.gone;
-      before = ap next_generation now.1.generation ∙ from.before;
-      records = read_records seen moment left faults a.over.region b.over.region now.1.read ∙ from.records;
+      before = ap (λ (w : SealedRegionView M). next_generation w.generation) now.1.rest ∙ from.before;
+      records = same_records device a b now.1 ∙ from.records;
     }
   ]
 
-  -- the region with a log of which some records are not digested
-  pub next_from : (y : SealedLog) → LeavesLog x y → (y.done == length y.records.items) ≡ false → IsAwayFrom seen v (record b { log = Some y })
-  next_from y leaves is =
-      let long : length y.records.items ≡ length v.sealed = ap (λ (rs : List Record). length rs) (leaves.records ∙ has.records ∙ still_from.records) in
-      let other : y.done ≢ length y.records.items = λ same. false≢true (sym is ∙ eq-eqb y.done (length y.records.items) same) in
-      let less : y.done < length v.sealed = omega (arith, long, other, leaves.within) in
+  then_from : IsStillFrom device v e
+  then_from =
+      let still = still_from in
       record {
-        client = still_from.client;
-        gone = still_from.gone;
-        before = still_from.before;
-        records = still_from.records;
-        some = λ z is. subst (λ (w : SealedLog). w.done < length v.sealed) (same_some y z is) less;
+        client = ap (λ (w : SealedRegionView M). w.client) rest ∙ still.client;
+        gone = still.gone;
+        before = ap (λ (w : SealedRegionView M). next_generation w.generation) rest ∙ still.before;
+        records = ap (λ (w : SealedRegionView M). records_of device w.region) rest ∙ still.records;
       }
 
--- A chunk of a region that was just accepted, or was before.
-module _ {M : Type 0} (seen : M → Tier → List ℕ) (moment : M → ℕ) (left : M → ℕ → Tier → List ℕ → Type 0) (faults : M → ℕ) (k between after : KernelView M) (v : ClientView M) (r : Refusals) (a b e : AwayView M) (o : Outcome) (digested : Bool)
-    (from : IsAwayFrom seen v a) (accepted : (x : SealedLog) × HasLog seen moment left faults k a x b between) (some : (x : SealedLog) → b.log ≡ Some x → x.done < length x.records.items)
-    (came : (x : SealedLog) → b.log ≡ Some x → (y : SealedLog) × (e ≡ record { client = b.client; over = b.over; held = b.held; log = Some y }) × ChunkCame seen moment left faults between x o y after)
-    (told : (y : SealedLog) → e.log ≡ Some y → digested ≡ (y.done == length y.records.items)) where
+  its_some : HasUndigested (log_of device b)
+  its_some = accepted_some device k between a b has (away_some device v a from)
+
   pub chunk_done : o ≢ outcomes.Idle
-  chunk_done = chunk_is_done seen moment left faults between accepted.0 o (came accepted.0 accepted.1.log).0 after (came accepted.0 accepted.1.log).2
+  chunk_done = chunk_is_done device between (log_of device b) o (log_of device e) after came
 
-  pub chunk_stays : digested ≡ false → IsAwayFrom seen v e × IsDigestedOn seen moment left faults k (record { client = v; away = Some a; refused = r }) o (record { client = v; away = Some e; refused = r }) after
+  -- all records are digested: the client may take it back
+  pub may_take_back : digested ≡ true → MayTakeBack device v e
+  may_take_back is =
+      let still = then_from in
+      record { client = still.client; gone = still.gone; before = still.before; digested = eqb-true e.done (length (records_of device e.region)) (sym told ∙ is) }
+
+  -- some are not
+  pub next_from : digested ≡ false → IsAwayFrom device v e
+  next_from is =
+      let still = then_from in
+      let long : length (records_of device e.region) ≡ length v.sealed = ap (λ (rs : List Record). length rs) still.records in
+      let other : e.done ≢ length (records_of device e.region) = λ same. false≢true (sym is ∙ told ∙ eq-eqb e.done (length (records_of device e.region)) same) in
+      let within : e.done ≤ length (records_of device e.region) = chunk_within device between (log_of device b) o (log_of device e) after came its_some in
+      record {
+        client = still.client;
+        gone = still.gone;
+        before = still.before;
+        records = still.records;
+        some = omega (arith, long, other, within);
+        none = λ not. absurd (false≢true (sym not ∙ ap (λ (w : SealedRegionView M). w.accepted) rest ∙ has.accepted));
+      }
+
+  -- what became of the seat, where the kernel was asked
+  asked : (n : ℕ) (answer : Result Digestion (KernelError DigestError)) → o ≡ digest_outcome answer → DigestsNext device between (log_of device b) n answer (log_of device e) after → (w : ClientView M) (left : Option (SealedRegionView M))
+      → IsPutBy (e.done == length (records_of device e.region)) device (record { client = v; away = Some a; refused = r }) e (record { client = w; away = left; refused = r })
+      → IsDigestedOn device k (record { client = v; away = Some a; refused = r }) o (record { client = w; away = left; refused = r }) after
+  asked n answer is d w left put = record {
+    away = a;
+    was_away = refl;
+    came = inr (inr (record { away = b; between = between; accepted = has; count = n; answer = answer; told = is; away_then = e; same = rest; digests = d; put = put }));
+  }
+
+  -- where there was no memory, the region is as it was
+  unprepared : log_of device e ≡ log_of device b → e ≡ b
+  unprepared same = rest ∙ ap (λ (n : ℕ). record b { done = n }) (ap (λ (x : SealedView). x.done) same)
+
+  pub chunk_stays : digested ≡ false → IsDigestedOn device k (record { client = v; away = Some a; refused = r }) o (record { client = v; away = Some e; refused = r }) after
   chunk_stays is =
-      let x = accepted.0 in
-      let has = accepted.1 in
-      let out = came x has.log in
-      let y = out.0 in
-      let left_so = chunk_log seen moment left faults between x o y after out.2 (some x has.log) in
-      let not : (y.done == length y.records.items) ≡ false = sym (told y (ap (λ (w : AwayView M). w.log) out.1)) ∙ is in (
-        subst (λ (w : AwayView M). IsAwayFrom seen v w) (sym out.1) (next_from seen moment left faults k between v a b x has from y left_so not),
-        subst (λ (w : AwayView M). IsDigestedOn seen moment left faults k (record { client = v; away = Some a; refused = r }) o (record { client = v; away = Some w; refused = r }) after) (sym out.1)
-            (kept_away seen moment left faults k between after v r a b x y o has out.2 not),
-      )
+      let not : (e.done == length (records_of device e.region)) ≡ false = sym told ∙ is in
+      elim came [
+        | inl none ↦ record {
+          away = a;
+          was_away = refl;
+          came = inr (inl (record {
+            told = none.0;
+            away = b;
+            accepted = subst (λ (q : KernelView M). IsAccepted device k a b q) (sym none.2) has;
+            rest = ap (λ (w : SealedRegionView M). record { client = v; away = Some w; refused = r }) (unprepared none.1);
+          }));
+        }
+        | inr out ↦
+            asked out.0 out.1 out.2 out.3 v (Some e)
+            (subst (λ t. IsPutBy t device (record { client = v; away = Some a; refused = r }) e (record { client = v; away = Some e; refused = r })) (sym not) refl)
+      ]
 
-  pub chunk_goes : digested ≡ true → (w : ClientView M) → HasTakenBack seen v e.over w → IsDigestedOn seen moment left faults k (record { client = v; away = Some a; refused = r }) o (record { client = w; away = None; refused = r }) after
+  pub chunk_goes : digested ≡ true → (w : ClientView M) → HasTakenBack device v e w → IsDigestedOn device k (record { client = v; away = Some a; refused = r }) o (record { client = w; away = None; refused = r }) after
   chunk_goes is w back =
-      let x = accepted.0 in
-      let has = accepted.1 in
-      let out = came x has.log in
-      let y = out.0 in
-      let all : (y.done == length y.records.items) ≡ true = sym (told y (ap (λ (z : AwayView M). z.log) out.1)) ∙ is in
-      given_back seen moment left faults k between after v r a b x y o has w out.2 (some x has.log) all (subst (λ (h : HandedView M). HasTakenBack seen v h w) (ap (λ (z : AwayView M). z.over) out.1) back)
+      let all : (e.done == length (records_of device e.region)) ≡ true = sym told ∙ is in
+      elim came [
+        | inl none ↦ (
+            let some : HasUndigested (log_of device e) = subst HasUndigested (sym none.1) its_some in
+            let done = eqb-true e.done (length (records_of device e.region)) all in
+            absurd (omega (arith, some, done)))
+        | inr out ↦
+            asked out.0 out.1 out.2 out.3 w None
+            (subst (λ t. IsPutBy t device (record { client = v; away = Some a; refused = r }) e (record { client = w; away = None; refused = r })) (sym all) (back, refl))
+      ]
 
 -- what the kernel answers a region that it does not accept
 abbrev pub refused_with : KernelError AcceptError → Result (Unit {0}) (KernelError AcceptError)
 refused_with e = Err e
 
-pub not_accepted : {M : Type 0} (seen : M → Tier → List ℕ) (faults : M → ℕ) (k : KernelView M) (a b : AwayView M) (x : SealedLog) (error : KernelError AcceptError) → IsLogOf seen a x → x.done ≡ 0
+pub not_accepted : {M : Type 0} (device : Ghosts M) (k : KernelView M) (a b : SealedRegionView M) (error : KernelError AcceptError) → b.done ≡ 0
     → (IsErrOf (refused_with error) kernel.Failed ↔ (k.area.failed ≡ true))
-    → (IsErrOf (refused_with error) (kernel.Refused accepts.NotAtMark) ↔ ((k.area.failed ≡ false) × (StandsAtMark x (store_of (seen k.area.media)) → ⊥)))
-    → (IsErrOf (refused_with error) (kernel.Refused accepts.AlreadyAccepted) ↔ ((k.area.failed ≡ false) × StandsAtMark x (store_of (seen k.area.media)) × (waiting_of k.book (client_in x) ≢ 0)))
-    → IsNotAcceptedFor seen faults k a b (refusal_to_accept error)
-not_accepted seen faults k a b x kernel.Failed of none failed not_at already = inr (inl (refl, failed.0 refl))
-not_accepted seen faults k a b x (kernel.Refused accepts.NotAtMark) of none failed not_at already =
-    let p = not_at.0 refl in inr (inr (refl, record { log = x; is = of; none = none; going = p.0; stands = λ at. absurd (p.1 at) }))
-not_accepted seen faults k a b x (kernel.Refused accepts.AlreadyAccepted) of none failed not_at already =
-    let p = already.0 refl in inr (inr (refl, record { log = x; is = of; none = none; going = p.0; stands = λ _. p.2 }))
+    → (IsErrOf (refused_with error) (kernel.Refused accepts.NotAtMark) ↔ ((k.area.failed ≡ false) × (StandsAtMark (log_of device b) (disk device k.area) → ⊥)))
+    → (IsErrOf (refused_with error) (kernel.Refused accepts.AlreadyAccepted) ↔ ((k.area.failed ≡ false) × StandsAtMark (log_of device b) (disk device k.area) × (waiting_of k.book b.client ≢ 0)))
+    → IsNotAcceptedFor device k a b (refusal_to_accept error)
+not_accepted device k a b kernel.Failed none failed not_at already = inr (inl (refl, failed.0 refl))
+not_accepted device k a b (kernel.Refused accepts.NotAtMark) none failed not_at already =
+    let p = not_at.0 refl in inr (inr (refl, record { none = none; going = p.0; stands = λ at. absurd (p.1 at) }))
+not_accepted device k a b (kernel.Refused accepts.AlreadyAccepted) none failed not_at already =
+    let p = already.0 refl in inr (inr (refl, record { none = none; going = p.0; stands = λ _. p.2 }))

@@ -1,16 +1,21 @@
 -- A region that is handed over, and one that is wiped.
-use Rattle.std.proofs.Common.{◌≡◌, ◌≢◌, ◌⊎◌, inl, inr, true, false, cond, List, [], ℕ, Option, Some, None, refl, ap, sym, ◌∙◌}
+use Rattle.std.proofs.Common.{◌≡◌, ◌≢◌, ◌⊎◌, ◌<◌, inl, inr, true, false, List, [], ◌∷◌, length, Option, Some, None, refl, ap, sym, ◌∙◌, subst, arith}
 use Rattle.std.specs.Prelude.{Result, Ok, Err, is_some}
 use Rattle.std.proofs.lemmas.Bool.{false≢true}
+use Rattle.libfs.specs.tier_device.declared.media.Media.{Ghosts}
 use Rattle.libfs.specs.tier_device.declared.media.Tier.{Tier}
-use Rattle.libfs.specs.update_log.View.{records_of}
+use Rattle.libfs.specs.log_record.declared.format.Record.{Record}
+use Rattle.libfs.specs.update_log.RecordCounts.{next_generation}
 use Rattle.libfs.specs.update_log.declared.stage.WipeProgress.{WipeProgress}
-use Rattle.libfs.specs.client_log.View.{HandedView, LogView, written}
+use Rattle.libfs.specs.client_log.View.{LogView, current_records}
+use Rattle.libfs.specs.lease_manager.Passes.{client_of}
+use Rattle.libfs.specs.RegionSeal.{HasSealed}
+use Rattle.libfs.specs.SealedRegion.{SealedRegionView, IsUntouched}
+use Rattle.event_steps.specs.Sound.{IsAwayFrom}
 use Rattle.libfs.specs.client_log.declared.error.LogError.{LogError}
-use Rattle.libfs.specs.HandingOver.{HasSealed}
 use Rattle.libfs.specs.View.{ClientView}
-use Rattle.event_steps.specs.Played.{Carries}
-use Rattle.event_steps.specs.Regions.{told_wipe}
+use Rattle.event_steps.specs.Effects.{Carries}
+use Rattle.event_steps.specs.Regions.{wipe_outcome}
 use Rattle.event_steps.specs.Turns.{IsToBeWiped}
 use Rattle.event_steps.specs.declared.outcome.Outcome.{Outcome}
 use Rattle.event_steps.specs.declared.outcome.Outcome.TheVariants as outcomes
@@ -18,16 +23,24 @@ use Rattle.event_steps.specs.declared.outcome.Refusal.{Refusal}
 use Rattle.event_steps.specs.declared.outcome.Refusal.TheVariants as refusals
 use Rattle.event_steps.proofs.Carried.{done}
 
--- a region that has records is wiped to its generation
-ready_written : {M : Type 0} (seen : M → Tier → List ℕ) (v : LogView M) → written seen v ≢ [] → written seen v ≡ records_of seen v.current
-ready_written seen v some = elim v.ready as (λ b. (cond b (records_of seen v.current) [] ≢ []) → cond b (records_of seen v.current) [] ≡ records_of seen v.current) [
-  | true ↦ λ _. refl
-  | false ↦ λ none. absurd (none refl)
-] some
+-- a list that is not empty
+has_some : (rs : List Record) → rs ≢ [] → 0 < length rs
+has_some [] some = absurd (some refl)
+has_some (r ∷ rs) some = omega arith
 
--- the records of the region are those that the client keeps of it
-pub handed_records : {M : Type 0} (seen : M → Tier → List ℕ) (old new : ClientView M) (over : HandedView M) → HasSealed seen old over new → records_of seen over.region ≡ new.sealed
-handed_records seen old new over has = ap (records_of seen) has.region ∙ sym (ready_written seen old.log has.may.some) ∙ sym has.sealed_is
+-- the region that a client has just sealed is the one that it lacks
+pub sealed_from : {M : Type 0} (device : Ghosts M) (old new : ClientView M) (a : SealedRegionView M) → a.client ≡ client_of old.pass → IsUntouched a → HasSealed device old a new → IsAwayFrom device new a
+sealed_from device old new a number untouched has =
+    let none = untouched.none in
+    let some : 0 < length new.sealed = subst (λ (rs : List Record). 0 < length rs) (sym has.sealed_is) (has_some (current_records device old.log) has.may.some) in
+    record {
+      client = number ∙ sym (ap (λ (v : ClientView _). client_of v.pass) has.rest);
+      gone = ap (λ (l : LogView _). l.other) has.log;
+      before = ap next_generation has.generation ∙ sym (ap (λ (l : LogView _). l.generation) has.log);
+      records = has.records ∙ sym has.sealed_is;
+      some = omega (arith, none, some);
+      none = λ _. none;
+    }
 
 going : (p : WipeProgress) (r : Result (Option WipeProgress) LogError) → r ≡ Ok (Some p) → r ≡ Ok None → ⊥
 going p r one other = absurd (cc)
@@ -42,7 +55,7 @@ pub refused_is_done : (why : Refusal) → outcomes.Refused why ≢ outcomes.Idle
 refused_is_done why is = absurd (cc)
 
 -- a device call of a wipe
-pub wiped : {Turn Made Same : Type 0} (answer : Result (Option WipeProgress) LogError) (o : Outcome) → o ≡ told_wipe answer → (answer ≡ Ok None → (Turn → ⊥) × Same) → (answer ≢ Ok None → Turn) → Made → Carries Turn Made Same o
+pub wiped : {Turn Made Same : Type 0} (answer : Result (Option WipeProgress) LogError) (o : Outcome) → o ≡ wipe_outcome answer → (answer ≡ Ok None → (Turn → ⊥) × Same) → (answer ≢ Ok None → Turn) → Made → Carries Turn Made Same o
 wiped (Ok None) o told none some made = record { idle = λ _. none refl; turn = λ other. absurd (other told); made = λ t. absurd ((none refl).0 t) }
 wiped (Ok (Some p)) o told none some made = done o (λ idle. stepped_is_done (sym told ∙ idle)) (some (going p (Ok (Some p)) refl)) made
 wiped (Err e) o told none some made = done o (λ idle. refused_is_done refusals.DeviceFault (sym told ∙ idle)) (some (failed e (Err e) refl)) made

@@ -7,7 +7,7 @@ use Rattle.libfs.specs.lease_manager.Words.{asked_bit, asked_word}
 use Rattle.libfs.specs.lease_manager.declared.view.Event.TheVariants.{Asked}
 use Rattle.libfs.specs.lease_manager.declared.view.LeaseMode.{LeaseMode}
 use Rattle.libfs.specs.lease_manager.declared.view.LeaseMode.TheVariants.{Writing}
-use Rattle.libfs.specs.Leasing.{HasGiven, ShowsBar, mode_of, refused}
+use Rattle.libfs.specs.LeaseCalls.{HasGiven, ShowsBar, mode_of, refused_pass}
 use Rattle.event_steps.specs.declared.outcome.Outcome.{Outcome}
 use Rattle.event_steps.specs.declared.outcome.Outcome.TheVariants as outcomes
 use Rattle.event_steps.specs.declared.outcome.Refusal.TheVariants as refusals
@@ -20,7 +20,7 @@ HasPass old pass new = new ≡ record old { client = record old.client { pass = 
 -- A lease was tried: it is held now, or the number found in the inode's word showed another client that is in the way.
 abbrev pub IsTried : {M : Type 0} → SeatView M → ℕ → Mode → LeaseMode → Outcome → SeatView M → Type 0
 IsTried old i mode lease o new = ((o ≡ outcomes.Stepped) × HasPass old (with_lease old.client.pass i lease) new)
-    ⊎ ((found : ℕ) × (o ≡ outcomes.Refused refusals.Busy) × ShowsBar mode old.client.pass.part.place found × HasPass old (refused old.client.pass i mode found) new)
+    ⊎ ((found : ℕ) × (o ≡ outcomes.Refused refusals.Busy) × ShowsBar mode old.client.pass.part.place found × HasPass old (refused_pass old.client.pass i mode found) new)
 
 abbrev pub IsLeased : {M : Type 0} → SeatView M → ℕ → Mode → Outcome → SeatView M → Type 0
 IsLeased old i mode o new = IsTried old i mode (mode_of mode) o new

@@ -1,14 +1,15 @@
 pub mod Refusals
 pub mod View
 pub mod Sound
-pub mod Told
+pub mod Stops
+pub mod Outcomes
 pub mod Turns
 pub mod Calls
 pub mod Leases
-pub mod Asking
+pub mod KernelRequests
 pub mod Regions
 pub mod Media
-pub mod Played
+pub mod Effects
 -- Passed on to the crates above, which so need not list those below.
 pub use Rattle.libfs.specs.area_image
 pub use Rattle.libfs.specs.call_effects

@@ -1,7 +1,7 @@
 -- What the kernel refused a client since its last reply.
 use Rattle.std.specs.Prelude.{Bool, true, false}
-use Rattle.libfs.specs.declared.denying.Denied.{Denied}
-use Rattle.libfs.specs.declared.denying.Denied.TheVariants as denied
+use Rattle.libfs.specs.declared.denial.Denied.{Denied}
+use Rattle.libfs.specs.declared.denial.Denied.TheVariants as denied
 use Rattle.event_steps.specs.declared.outcome.Refusal.{Refusal}
 use Rattle.event_steps.specs.declared.outcome.Refusal.TheVariants as refusals
 use Rattle.event_steps.specs.declared.refusals.Refusals.{Refusals}

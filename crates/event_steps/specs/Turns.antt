@@ -1,5 +1,6 @@
 -- When an event has something to do.
 use Rattle.std.specs.Prelude.{◌≡◌, ◌≢◌, ◌⊎◌, ℕ, Bool, List, true, false, Option, Some, None, is_some, IfSome}
+use Rattle.libfs.specs.tier_device.declared.media.Media.{Ghosts}
 use Rattle.libfs.specs.tier_device.declared.media.Tier.{Tier}
 use Rattle.libfs.specs.posix_calls.Tree.{has_open}
 use Rattle.libfs.specs.file_graph.Graph.{is_among}
@@ -7,8 +8,8 @@ use Rattle.libfs.specs.client_log.Steps.{CanBeSealed}
 use Rattle.libfs.specs.lease_manager.Passes.{lease_of}
 use Rattle.libfs.specs.lease_manager.Words.{HasWord, IsClient}
 use Rattle.libfs.specs.lease_manager.declared.view.LeaseMode.TheVariants.{Free, Reading}
-use Rattle.libfs.specs.Holding.{known_to}
-use Rattle.libfs.specs.Leasing.{CanBeGiven}
+use Rattle.libfs.specs.ClientHoldings.{known_to}
+use Rattle.libfs.specs.LeaseCalls.{CanBeGiven}
 use Rattle.libfs.specs.View.{ClientView, is_pending}
 use Rattle.event_steps.specs.declared.event.Event.{Event}
 use Rattle.event_steps.specs.declared.event.Event.TheVariants as event
@@ -72,31 +73,31 @@ abbrev pub IsToBeWiped : {M : Type 0} → ClientView M → Type 0
 IsToBeWiped v = (v.log.ready ≡ false) ⊎ ((v.log.clean ≡ false) × (is_some v.log.other ≡ true))
 
 -- A client has something to do in an event.
-abbrev pub HasTurn : {M : Type 0} → (M → Tier → List ℕ) → SeatView M → Event → Type 0
-HasTurn seen s (event.Start c call) = is_pending s.client ≡ false
-HasTurn seen s (event.Step c) = is_pending s.client ≡ true
-HasTurn seen s (event.Lease c i mode) = HasWord i × (lease_of s.client.pass i ≡ Free)
-HasTurn seen s (event.Raise c i) = HasWord i × (lease_of s.client.pass i ≡ Reading)
-HasTurn seen s (event.Give c i) = CanBeGiven s.client i
-HasTurn seen s (event.AskBack c i of) = HasWord i × IsClient of
-HasTurn seen s (event.Fetch c i) = IsHeld s.client i
-HasTurn seen s (event.Blocks c i first count) = IsHeld s.client i
-HasTurn seen s (event.Refill c units inodes) = Unit {0}
-HasTurn seen s (event.GiveBack c) = (is_pending s.client ≡ false) × (s.client.log.failed ≡ false)
-HasTurn seen s (event.Pin c i) = HasWord i
-HasTurn seen s (event.Unpin c i) = CanBeUnpinned s.client i
-HasTurn seen s (event.Seal c) = CanBeSealed seen s.client.log
-HasTurn seen s (event.Digest c) = (s.client.log.failed ≡ false) × (is_some s.away ≡ true)
-HasTurn seen s (event.WipeStep c) = (s.client.log.failed ≡ false) × IsToBeWiped s.client
-HasTurn seen s (event.Reclaim i) = ⊥
-HasTurn seen s (event.Migrate i first count to) = ⊥
-HasTurn seen s (event.Deny c call why) = (is_pending s.client ≡ false) × (has_refusal s.refused why ≡ true)
+abbrev pub HasTurn : {M : Type 0} → Ghosts M → SeatView M → Event → Type 0
+HasTurn device s (event.Start c call) = is_pending s.client ≡ false
+HasTurn device s (event.Step c) = is_pending s.client ≡ true
+HasTurn device s (event.Lease c i mode) = HasWord i × (lease_of s.client.pass i ≡ Free)
+HasTurn device s (event.Raise c i) = HasWord i × (lease_of s.client.pass i ≡ Reading)
+HasTurn device s (event.Give c i) = CanBeGiven s.client i
+HasTurn device s (event.AskBack c i of) = HasWord i × IsClient of
+HasTurn device s (event.Fetch c i) = IsHeld s.client i
+HasTurn device s (event.Blocks c i first count) = IsHeld s.client i
+HasTurn device s (event.Refill c units inodes) = Unit {0}
+HasTurn device s (event.GiveBack c) = (is_pending s.client ≡ false) × (s.client.log.failed ≡ false)
+HasTurn device s (event.Pin c i) = HasWord i
+HasTurn device s (event.Unpin c i) = CanBeUnpinned s.client i
+HasTurn device s (event.Seal c) = CanBeSealed device s.client.log
+HasTurn device s (event.Digest c) = (s.client.log.failed ≡ false) × (is_some s.away ≡ true)
+HasTurn device s (event.WipeStep c) = (s.client.log.failed ≡ false) × IsToBeWiped s.client
+HasTurn device s (event.Reclaim i) = ⊥
+HasTurn device s (event.Migrate i first count to) = ⊥
+HasTurn device s (event.Deny c call why) = (is_pending s.client ≡ false) × (has_refusal s.refused why ≡ true)
 
 -- One of the eight clients has.
-abbrev pub IsTurnOf : {M : Type 0} → (M → Tier → List ℕ) → SystemView M → Event → Option ℕ → Type 0
-IsTurnOf seen w e None = Unit {0}
-IsTurnOf seen w e (Some c) = IsClient c × IfSome (seat_of w c) (λ s. HasTurn seen s e)
+abbrev pub IsTurnOf : {M : Type 0} → Ghosts M → SystemView M → Event → Option ℕ → Type 0
+IsTurnOf device w e None = Unit {0}
+IsTurnOf device w e (Some c) = IsClient c × IfSome (seat_of w c) (λ s. HasTurn device s e)
 
 -- An event has something to do: what is of no client always has, and of a number outside 1 to 8 nothing.
-abbrev pub CanPlay : {M : Type 0} → (M → Tier → List ℕ) → SystemView M → Event → Type 0
-CanPlay seen w e = IsTurnOf seen w e (whose e)
+abbrev pub CanPlay : {M : Type 0} → Ghosts M → SystemView M → Event → Type 0
+CanPlay device w e = IsTurnOf device w e (whose e)

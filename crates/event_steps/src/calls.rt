@@ -2,19 +2,19 @@
 ghost use Rattle.std.specs.Prelude.{◌≡◌, true, false};
 ghost use Rattle.libfs.specs.View.{is_pending};
 ghost use Rattle.event_steps.specs.Calls.{IsDenied, IsStarted, IsStepped};
-ghost use Rattle.event_steps.specs.Played.{Carries};
-ghost use Rattle.event_steps.specs.Sound.{number_of};
+ghost use Rattle.event_steps.specs.Effects.{Carries};
+ghost use Rattle.event_steps.specs.Sound.{owner_of};
 ghost use Rattle.event_steps.specs.Refusals.{has_refusal};
 
+use crate::client_slot::ClientSlot;
 use crate::outcome::Outcome;
 use crate::refusals::Refusals;
-use crate::seat::Seat;
 use libfs::{Call, Denied, Media, Now};
 
-impl<M: Media> Seat<M> {
+impl<M: Media> ClientSlot<M> {
     pub fn start(&mut self, call: &Call) -> Outcome
-        ensures carries { Carries (is_pending self.old.client ≡ false) (IsStarted M.seen self.old call.now result self.new) (self.new ≡ self.old) result }
-        ensures number { number_of self.new ≡ number_of self.old }
+        ensures carries { Carries (is_pending self.old.client ≡ false) (IsStarted M.Media self.old call.now result self.new) (self.new ≡ self.old) result }
+        ensures owner { owner_of self.new.client ≡ owner_of self.old.client }
     {
         if self.client.is_pending() {
             return Outcome::Idle;
@@ -30,8 +30,8 @@ impl<M: Media> Seat<M> {
     }
 
     pub fn step(&mut self) -> Outcome
-        ensures carries { Carries (is_pending self.old.client ≡ true) (IsStepped M.seen M.moment M.left M.faults self.old result self.new) (self.new ≡ self.old) result }
-        ensures number { number_of self.new ≡ number_of self.old }
+        ensures carries { Carries (is_pending self.old.client ≡ true) (IsStepped M.Media self.old result self.new) (self.new ≡ self.old) result }
+        ensures owner { owner_of self.new.client ≡ owner_of self.old.client }
     {
         if !self.client.is_pending() {
             return Outcome::Idle;
@@ -47,7 +47,7 @@ impl<M: Media> Seat<M> {
 
     pub fn deny(&mut self, call: &Call, why: Denied) -> Outcome
         ensures carries { Carries ((is_pending self.old.client ≡ false) × (has_refusal self.old.refused why ≡ true)) (IsDenied self.old why result self.new) (self.new ≡ self.old) result }
-        ensures number { number_of self.new ≡ number_of self.old }
+        ensures owner { owner_of self.new.client ≡ owner_of self.old.client }
     {
         if self.client.is_pending() || !self.refused.has(why) {
             return Outcome::Idle;

@@ -4,26 +4,24 @@
 //! event moves nothing. Each event has one outcome, and it is told exactly when an event has nothing to do (`Idle`).
 #![tactic(auto)]
 
-mod accepting;
-mod asking;
-mod away;
 mod calls;
-mod digesting;
+mod client_slot;
+mod digests;
+mod dispatch;
 mod event;
-mod leasing;
-mod moving;
+mod kernel_requests;
+mod leases;
+mod log_accept;
+mod migrations;
 mod numbers;
 mod outcome;
-mod playing;
 mod refusals;
-mod sealing;
-mod seat;
+mod region_seal;
 mod system;
 
-pub use away::Away;
+pub use client_slot::ClientSlot;
 pub use event::Event;
 pub use outcome::{Outcome, Refusal};
-pub use seat::Seat;
 pub use system::System;
 
 // Passed on to the crates above, which so need not list those below.

@@ -1,5 +1,5 @@
 ghost use Rattle.std.specs.Prelude.{◌≡◌};
-ghost use Rattle.event_steps.specs.Told.{refusal_number};
+ghost use Rattle.event_steps.specs.Outcomes.{refusal_number};
 
 use libfs::{Need, Reply};
 

@@ -1,19 +1,22 @@
-ghost use Rattle.std.specs.Prelude.{◌≡◌, ◌↔◌, length, IfErr, IfNone, IfOk, IfSome, IsTrue, OnErr, OnOk, Some, true};
+ghost use Rattle.std.specs.Prelude.{◌≡◌, ◌<◌, ◌↔◌, length, IfErr, IfNone, IfOk, IfSome, IsTrue, OnErr, OnOk, Some, slice_get, true};
+ghost use Rattle.atomic_table.specs.Seated.{TableId};
 ghost use Rattle.libfs.specs.call_effects.NodeView.{view_at};
-ghost use Rattle.libfs.specs.kernel_fs.Answering.{Answers, OnRefusal};
+ghost use Rattle.libfs.specs.kernel_fs.KernelAnswers.{Answers, OnRefusal};
 ghost use Rattle.libfs.specs.area_image.declared.error.AreaError.TheVariants.{Memory};
 ghost use Rattle.libfs.specs.area_image.Looks.{Looks};
 ghost use Rattle.libfs.specs.area_image.Map.{WantsMemory};
 ghost use Rattle.libfs.specs.shared_area.Parts.{IsNoDamage, IsTierOf};
-ghost use Rattle.libfs.specs.kernel_fs.Standing.{IsMarkIn};
-ghost use Rattle.libfs.specs.area_image.Store.{graph, store_of};
+ghost use Rattle.libfs.specs.kernel_fs.MachineState.{IsMarkIn};
+ghost use Rattle.libfs.specs.area_image.Store.{graph, disk};
+ghost use Rattle.libfs.specs.lease_manager.Parts.{AreCompatible};
 ghost use Rattle.libfs.specs.lease_manager.Words.{IsClient};
-ghost use Rattle.event_steps.specs.Sound.{AreFrom, AreSeats};
-ghost use Rattle.event_steps.specs.View.{HasSeat, seat_of, undigested_on};
+ghost use Rattle.event_steps.specs.Sound.{AreFrom, AreOfTable, AreSeats, number_of};
+ghost use Rattle.event_steps.specs.Stops.{SeatLeaves};
+ghost use Rattle.event_steps.specs.View.{HasSeat, SeatView, seat_of, undigested_on};
 
+use crate::client_slot::ClientSlot;
 use crate::numbers::{CLIENTS, is_client};
-use crate::seat::Seat;
-use libfs::{AreaError, Client, Fetched, Kernel, KernelError, Media, Tier};
+use libfs::{AreaError, Client, Fetched, Kernel, KernelError, Media, Tier, client_index};
 use std::alloc::Global;
 use std::marker::Model;
 
@@ -24,13 +27,13 @@ use std::marker::Model;
 pub struct System<M: Media> {
     pub(crate) alloc: Global,
     pub(crate) kernel: Kernel<M>,
-    pub(crate) seats: Vec<Seat<M>>,
+    pub(crate) seats: Vec<ClientSlot<M>>,
 }
 
 impl<M: Media> Model for System<M> {
     ghost use Rattle.std.specs.Coded.{codes};
-    ghost use Rattle.libfs.specs.client_view.Held.{held_code};
-    ghost use Rattle.libfs.specs.contracts.begun.Begun as begun_call;
+    ghost use Rattle.libfs.specs.client_view.KnowledgeTables.{held_code};
+    ghost use Rattle.libfs.specs.contracts.begun_record.Begun as begun_call;
     ghost use Rattle.event_steps.specs.Sound.{AreSeats};
     ghost use Rattle.event_steps.specs.View.{SystemView};
 
@@ -57,7 +60,7 @@ impl<M: Media> System<M> {
 
     /// How many records of a client are not digested, of the region that it writes and of the one that is away; none of a number outside 1 to 8.
     pub fn undigested(&self, number: u32) -> usize
-        ensures there { IsClient number → HasSeat self.now number (λ s. result ≡ undigested_on M.seen s) }
+        ensures there { IsClient number → HasSeat self.now number (λ s. result ≡ undigested_on M.Media s) }
         ensures none { (IsClient number → ⊥) → result ≡ 0 }
     {
         match self.seat(number) {
@@ -75,11 +78,11 @@ impl<M: Media> System<M> {
 
     /// What stands at an inode of the shared graph, as client 1 would fetch it. `Failed` exactly where a device of the kernel has failed; else refused as `Kernel::fetch` is, and never for damage.
     pub fn look(&mut self, inode: u32) -> Result<Fetched, KernelError<AreaError>>
-        ensures node { IfOk result (λ x. x.node ≡ view_at (graph self.old.kernel.area.geometry (store_of (M.seen self.old.kernel.area.media))) inode) }
-        ensures mark { IfOk result (λ x. IsMarkIn (store_of (M.seen self.old.kernel.area.media)) 1 x.mark) }
+        ensures node { IfOk result (λ x. x.node ≡ view_at (graph self.old.kernel.area.geometry (disk M.Media self.old.kernel.area)) inode) }
+        ensures mark { IfOk result (λ x. IsMarkIn (disk M.Media self.old.kernel.area) 1 x.mark) }
         ensures only { IfErr result (λ e. OnRefusal e IsNoDamage) }
-        ensures memory { IfErr result (λ e. OnRefusal e (λ r. r ≡ Memory → WantsMemory self.old.kernel.area.geometry (store_of (M.seen self.old.kernel.area.media)) inode)) }
-        ensures looks { Answers self.old.kernel.area.failed self.old.kernel self.new.kernel result (Looks M.moment M.seen M.left M.faults self.old.kernel.area self.new.kernel.area) }
+        ensures memory { IfErr result (λ e. OnRefusal e (λ r. r ≡ Memory → WantsMemory self.old.kernel.area.geometry (disk M.Media self.old.kernel.area) inode)) }
+        ensures looks { Answers self.old.kernel.area.failed self.old.kernel self.new.kernel result (Looks M.Media self.old.kernel.area self.new.kernel.area) }
         ensures book { self.new.kernel.book ≡ self.old.kernel.book }
         ensures opening { self.new.kernel.opening ≡ self.old.kernel.opening }
         ensures seats { self.new.seats ≡ self.old.seats }
@@ -93,10 +96,10 @@ impl<M: Media> System<M> {
         inode: u32,
         block: u64,
     ) -> Result<Option<Tier>, KernelError<AreaError>>
-        ensures tier { IfOk result (IsTierOf self.old.kernel.area.geometry (store_of (M.seen self.old.kernel.area.media)) inode block) }
+        ensures tier { IfOk result (IsTierOf self.old.kernel.area.geometry (disk M.Media self.old.kernel.area) inode block) }
         ensures only { IfErr result (λ e. OnRefusal e IsNoDamage) }
-        ensures memory { IfErr result (λ e. OnRefusal e (λ r. r ≡ Memory → WantsMemory self.old.kernel.area.geometry (store_of (M.seen self.old.kernel.area.media)) inode)) }
-        ensures looks { Answers self.old.kernel.area.failed self.old.kernel self.new.kernel result (Looks M.moment M.seen M.left M.faults self.old.kernel.area self.new.kernel.area) }
+        ensures memory { IfErr result (λ e. OnRefusal e (λ r. r ≡ Memory → WantsMemory self.old.kernel.area.geometry (disk M.Media self.old.kernel.area) inode)) }
+        ensures looks { Answers self.old.kernel.area.failed self.old.kernel self.new.kernel result (Looks M.Media self.old.kernel.area self.new.kernel.area) }
         ensures book { self.new.kernel.book ≡ self.old.kernel.book }
         ensures opening { self.new.kernel.opening ≡ self.old.kernel.opening }
         ensures seats { self.new.seats ≡ self.old.seats }
@@ -104,25 +107,44 @@ impl<M: Media> System<M> {
         self.kernel.tier_of(inode, block)
     }
 
+    /// States what a stop leaves of a client's regions now.
+    pub fn left_now(&self, number: u32)
+        requires client { IsClient number }
+        ensures leaves { HasSeat self.now number (SeatLeaves M.Media) }
+        ensures whose { HasSeat self.now number (λ s. number_of s ≡ number) }
+    {
+        self.seats[client_index(number)].left_now();
+    }
+
+    /// Has two clients meet: of each inode one of them writes and the other holds nothing, or neither writes. It reads one word of the table of leases, and changes nothing.
+    pub fn meet(&mut self, low: u32, high: u32)
+        requires clients { IsClient low × IsClient high × (low < high) }
+        ensures same { self.new ≡ self.old }
+        ensures leases { HasSeat self.old low (λ s. HasSeat self.old high (λ t. AreCompatible s.client.pass.part t.client.pass.part)) }
+    {
+        meet_in(&mut self.seats, client_index(low), client_index(high));
+    }
+
     // The seat of a client.
-    fn seat(&self, number: u32) -> Option<&Seat<M>>
+    fn seat(&self, number: u32) -> Option<&ClientSlot<M>>
         ensures there { IfSome result (λ s. IsClient number × (seat_of self.now number ≡ Some s.now)) }
         ensures none { IfNone result (IsClient number → ⊥) }
     {
         if !is_client(number) {
             return None;
         }
-        Some(&self.seats[(number - 1) as usize])
+        Some(&self.seats[client_index(number)])
     }
 }
 
 impl<M: Media> System<M> {
-    /// The system of a kernel and of the seats of clients 1 to 8, in the order of their numbers. All is given back where they are others.
+    /// The system of a kernel and of the seats of clients 1 to 8, in the order of their numbers, whose passes are of one table of leases. All is given back where they are of others.
     pub fn new(
         alloc: Global,
         kernel: Kernel<M>,
-        seats: Vec<Seat<M>>,
-    ) -> Result<Self, (Kernel<M>, Vec<Seat<M>>)>
+        seats: Vec<ClientSlot<M>>,
+    ) -> Result<Self, (Kernel<M>, Vec<ClientSlot<M>>)>
+        requires table { (table : TableId) × AreOfTable table seats.items }
         ensures kernel { IfOk result (λ w. w.kernel ≡ kernel) }
         ensures seats { IfOk result (λ w. w.seats ≡ seats.items) }
         ensures right { OnOk result (AreSeats seats.items) }
@@ -142,7 +164,7 @@ impl<M: Media> System<M> {
 
 impl<M: Media> System<M> {
     /// The kernel, and the seats of clients 1 to 8, in the order of their numbers.
-    pub fn into_parts(self) -> (Kernel<M>, Vec<Seat<M>>)
+    pub fn into_parts(self) -> (Kernel<M>, Vec<ClientSlot<M>>)
         ensures kernel { result.0 ≡ self.kernel }
         ensures seats { result.1.items ≡ self.seats }
         ensures right { AreSeats self.seats }
@@ -152,7 +174,8 @@ impl<M: Media> System<M> {
 }
 
 // Whether these are the seats of clients 1 to 8.
-fn are_in_order<M: Media>(seats: &[Seat<M>]) -> bool
+fn are_in_order<M: Media>(seats: &[ClientSlot<M>]) -> bool
+    requires { (table : TableId) × AreOfTable table seats.now }
     ensures { IsTrue result ↔ AreSeats seats.now }
 {
     if seats.len() != CLIENTS {
@@ -162,7 +185,7 @@ fn are_in_order<M: Media>(seats: &[Seat<M>]) -> bool
 }
 
 // Whether they are of the clients from 1 on, in the order of their numbers.
-fn are_numbered<M: Media>(seats: &[Seat<M>]) -> bool
+fn are_numbered<M: Media>(seats: &[ClientSlot<M>]) -> bool
     requires { length seats.now ≡ 8 }
     ensures { IsTrue result ↔ AreFrom 1 seats.now }
 {
@@ -174,4 +197,20 @@ fn are_numbered<M: Media>(seats: &[Seat<M>]) -> bool
         number += 1;
     }
     true
+}
+
+// Has the clients of two seats meet.
+fn meet_in<M: Media>(seats: &mut [ClientSlot<M>], low: usize, high: usize)
+    requires order { low < high }
+    requires there { high < length seats.old }
+    requires table { (table : TableId) × AreOfTable table seats.old }
+    ensures same { seats.new ≡ seats.old }
+    ensures leases { (s t : SeatView M) → slice_get seats.old low ≡ Some s → slice_get seats.old high ≡ Some t → AreCompatible s.client.pass.part t.client.pass.part }
+{
+    let (before, from) = seats.split_at_mut(high);
+    let one = &mut before[low];
+    match from.first_mut() {
+        Some(other) => one.client.meet(&mut other.client),
+        None => unreachable!(),
+    }
 }

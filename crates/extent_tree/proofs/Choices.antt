@@ -9,14 +9,14 @@ use Rattle.std.proofs.Math.Seq.{take-append-add}
 use Rattle.layout.specs.declared.extents.Extent.{Extent}
 use Rattle.extent_tree.specs.Places.{place_of}
 use Rattle.extent_tree.specs.Normal.{IsNormal, Joins}
-use Rattle.extent_tree.specs.Changes.{after, changed, EndBefore, BeginBehind}
+use Rattle.extent_tree.specs.Changes.{after, changed_extents, EndBefore, BeginBehind}
 use Rattle.extent_tree.specs.Nodes.{flat, HaveFrom}
 use Rattle.extent_tree.proofs.Joined.{all-left, all-right, apart-left, apart-right}
 use Rattle.extent_tree.proofs.Summaries.{flat-append}
 use Rattle.extent_tree.proofs.Splices.{Spliced, spliced-normal, spliced-at}
 use Rattle.extent_tree.proofs.Levels.{least-count}
 use Rattle.extent_tree.proofs.Unique.{one-list}
-use Rattle.extent_tree.specs.Chosen.{Touched, Remade, MeetsEach, MeetsButOne}
+use Rattle.extent_tree.specs.LeafChoice.{Touched, Remade, MeetsEach, MeetsButOne}
 use Rattle.extent_tree.specs.Value.{OthersStay}
 use Rattle.extent_tree.proofs.Rewrites.{all-take, all-drop, flat-pieces, flat-three, piece-rises, piece-fits}
 
@@ -47,7 +47,7 @@ piece-normal from to ns le normal =
 -- ---- entries of more leaves
 
 -- a list that is changed as a whole
-whole-changed : (first count : ℕ) (place : Option ℕ) (es new : List Extent) → first + count < 2 ^ 32 → IsNormal es → Joins 4294967295 (changed first count place es) new → IsNormal new × ((b : ℕ) → place_of new b ≡ after first count place es b)
+whole-changed : (first count : ℕ) (place : Option ℕ) (es new : List Extent) → first + count < 2 ^ 32 → IsNormal es → Joins 4294967295 (changed_extents first count place es) new → IsNormal new × ((b : ℕ) → place_of new b ≡ after first count place es b)
 whole-changed first count place es new fits normal made =
     let s : Spliced first count place [] es [] new = record { fits = fits; normal = subst IsNormal (sym (append-nil es)) normal; before = tt; behind = tt; made = made } in (
       subst IsNormal (append-nil new) (spliced-normal first count place [] es [] new s),
@@ -55,7 +55,7 @@ whole-changed first count place es new fits normal made =
     )
 
 -- leaves that the run does not meet keep their entries beside those of the others
-entries-beside : (first count : ℕ) (place : Option ℕ) (front middle back some new : List Extent) → first + count < 2 ^ 32 → IsNormal (front ++ (middle ++ back)) → EndBefore first front → BeginBehind (first + count) back → Joins 4294967295 (changed first count place middle) some → Joins 4294967295 (changed first count place (front ++ (middle ++ back))) new → new ≡ front ++ (some ++ back)
+entries-beside : (first count : ℕ) (place : Option ℕ) (front middle back some new : List Extent) → first + count < 2 ^ 32 → IsNormal (front ++ (middle ++ back)) → EndBefore first front → BeginBehind (first + count) back → Joins 4294967295 (changed_extents first count place middle) some → Joins 4294967295 (changed_extents first count place (front ++ (middle ++ back))) new → new ≡ front ++ (some ++ back)
 entries-beside first count place front middle back some new fits normal before behind made more =
     let s : Spliced first count place front middle back some = record { fits = fits; normal = normal; before = before; behind = behind; made = made } in
     let all = whole-changed first count place (front ++ (middle ++ back)) new fits normal more in
@@ -94,7 +94,7 @@ wider-enough width first count place from to from' to' ns some new fits normal h
     let is : new ≡ flat front ++ (some ++ flat back) = entries-beside first count place (flat front) (flat middle) (flat back) some new fits
     (subst IsNormal parts (piece-normal from' to' ns (omega (arith, order, less, more)) normal))
     (front-before first from' from ns less (omega (arith, order, t.within)) t.before) (back-behind (first + count) to to' ns more t.behind) made
-    (subst (λ l. Joins 4294967295 (changed first count place l) new) parts wider) in
+    (subst (λ l. Joins 4294967295 (changed_extents first count place l) new) parts wider) in
     let long : length new ≡ length (flat front) + (length some + length (flat back)) = ap length is ∙ length-append (flat front) (some ++ flat back) ∙ ap (λ k. length (flat front) + k) (length-append some (flat back)) in
     elim (cases_lt from' from) [
       | inl lower ↦ omega (arith, long, one-leaf (width / 4) width from' from ns have (omega (arith, lower, one, more)) (omega (arith, order, t.within)))

@@ -12,7 +12,7 @@ use Rattle.layout.specs.declared.geometry.Space.TheVariants as space
 use Rattle.layout.specs.Places.{Sizes, is_run, blocks_in, data_first, tier_blocks, node_end}
 use Rattle.extent_tree.specs.Places.{in_run, place_of}
 use Rattle.extent_tree.specs.Changes.{after}
-use Rattle.extent_tree.specs.Spelled.{LiesWithin, IsOneToOne}
+use Rattle.extent_tree.specs.BlockFormat.{LiesWithin, IsOneToOne}
 use Rattle.extent_tree.specs.Map.{TierRuns, runs_in, lies_at, ArePut, AreCut}
 
 -- ---- a run

@@ -18,7 +18,7 @@ use Rattle.extent_tree.proofs.Splices.{Spliced, spliced-normal, spliced-at}
 use Rattle.extent_tree.proofs.Levels.{before-less, behind-less}
 use Rattle.extent_tree.proofs.Trees.{nodes-few}
 use Rattle.extent_tree.specs.Tree.{IsLevel, IsNeeded}
-use Rattle.extent_tree.specs.Chosen.{Touched, Remade, IsEnough}
+use Rattle.extent_tree.specs.LeafChoice.{Touched, Remade, IsEnough}
 
 -- ---- three pieces of a level
 

@@ -14,7 +14,7 @@ use Rattle.layout.specs.Places.{Sizes, IsAllowed, is_inode, is_run, blocks_in, d
 use Rattle.layout.specs.Extents.{ExtentList, is_extent, are_sorted, is_apart, places_apart, is_sound, fits_extents}
 use Rattle.extent_tree.specs.Places.{has, place_of}
 use Rattle.extent_tree.specs.Normal.{IsRising, PlacesFit}
-use Rattle.extent_tree.specs.Spelled.{LiesWithin, IsOneToOne}
+use Rattle.extent_tree.specs.BlockFormat.{LiesWithin, IsOneToOne}
 use Rattle.extent_tree.proofs.Maps.{has-parts, has-in, not-has, place-here, place-later}
 use Rattle.extent_tree.proofs.Rising.{none-before}
 

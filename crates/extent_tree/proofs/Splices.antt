@@ -9,7 +9,7 @@ use Rattle.layout.specs.declared.extents.Extent.{Extent}
 use Rattle.extent_tree.specs.Places.{in_run, place_in, place_of}
 use Rattle.extent_tree.specs.Normal.{IsRising, Point, start_of, stop_of, Meet, NoneGoesOn, IsNormal, Joins}
 use Rattle.extent_tree.specs.Parts.{part}
-use Rattle.extent_tree.specs.Changes.{after, piece, changed, EndBefore, BeginBehind}
+use Rattle.extent_tree.specs.Changes.{after, piece, changed_extents, EndBefore, BeginBehind}
 use Rattle.extent_tree.specs.Nodes.{last_end}
 use Rattle.extent_tree.proofs.Maps.{has-in, not-has, place-here, place-later, place_of-append, or-none}
 use Rattle.extent_tree.proofs.Rising.{rising-append, rising-left, rising-right, rising-tight, last-bound, none-before, none-behind}
@@ -39,7 +39,7 @@ piece-out first count (Some p) b out =
     let e : Extent = record { logical = first; length = count; place = p } in
     place-later b e [] (not-has b e out)
 
-changed-parts : (first count : ℕ) (place : Option ℕ) (es : List Extent) (b : ℕ) → place_of (changed first count place es) b ≡ option_or (place_of (part 0 first es) b) (option_or (place_of (piece first count place) b) (place_of (part (first + count) 4294967295 es) b))
+changed-parts : (first count : ℕ) (place : Option ℕ) (es : List Extent) (b : ℕ) → place_of (changed_extents first count place es) b ≡ option_or (place_of (part 0 first es) b) (option_or (place_of (piece first count place) b) (place_of (part (first + count) 4294967295 es) b))
 changed-parts first count place es b =
     place_of-append (part 0 first es) (piece first count place ++ part (first + count) 4294967295 es) b
     ∙ ap (λ o. option_or (place_of (part 0 first es) b) o) (place_of-append (piece first count place) (part (first + count) 4294967295 es) b)
@@ -51,19 +51,19 @@ place-before : (b low end : ℕ) (es : List Extent) → IsRising low end es → 
 place-before b low end es is lt = ap (option_map (place_in b)) (none-before b low end es is lt)
 
 -- the change as the three parts tell it: before the run, in it, and behind it
-changed-before : (first count : ℕ) (place : Option ℕ) (es : List Extent) (b : ℕ) → b < first → place_of (changed first count place es) b ≡ place_of es b
+changed-before : (first count : ℕ) (place : Option ℕ) (es : List Extent) (b : ℕ) → b < first → place_of (changed_extents first count place es) b ≡ place_of es b
 changed-before first count place es b lt =
     changed-parts first count place es b
     ∙ (λ i. option_or (part-in 0 first es b (omega arith) lt i) (option_or (piece-out first count place b (λ l h. omega (arith, l, lt)) i) (part-out (first + count) 4294967295 es b (λ l h. omega (arith, l, lt)) i)))
     ∙ or-none (place_of es b)
 
-changed-in : (first count : ℕ) (place : Option ℕ) (es : List Extent) (b : ℕ) → first ≤ b → b < first + count → place_of (changed first count place es) b ≡ option_map (λ p. p + (b - first)) place
+changed-in : (first count : ℕ) (place : Option ℕ) (es : List Extent) (b : ℕ) → first ≤ b → b < first + count → place_of (changed_extents first count place es) b ≡ option_map (λ p. p + (b - first)) place
 changed-in first count place es b low high =
     changed-parts first count place es b
     ∙ (λ i. option_or (part-out 0 first es b (λ l h. omega (arith, h, low)) i) (option_or (piece-in first count place b low high i) (part-out (first + count) 4294967295 es b (λ l h. omega (arith, l, high)) i)))
     ∙ or-none (option_map (λ p. p + (b - first)) place)
 
-changed-behind : (low first count : ℕ) (place : Option ℕ) (es : List Extent) (b : ℕ) → IsRising low 4294967295 es → first + count ≤ b → place_of (changed first count place es) b ≡ place_of es b
+changed-behind : (low first count : ℕ) (place : Option ℕ) (es : List Extent) (b : ℕ) → IsRising low 4294967295 es → first + count ≤ b → place_of (changed_extents first count place es) b ≡ place_of es b
 changed-behind low first count place es b is le =
     changed-parts first count place es b
     ∙ (λ i. option_or (part-out 0 first es b (λ l h. omega (arith, h, le)) i) (option_or (piece-out first count place b (λ l h. omega (arith, h, le)) i) (rest i)))
@@ -84,7 +84,7 @@ piece-stop : (first count : ℕ) (place : Option ℕ) (p : Point) → stop_of (p
 piece-stop first count None p is = absurd (none-some p is)
 piece-stop first count (Some q) p is = ap (λ x. x.block) (same_Some _ _ is)
 
-pub changed-start : (low first count : ℕ) (place : Option ℕ) (es : List Extent) (p : Point) → IsRising low 4294967295 es → start_of (changed first count place es) ≡ Some p → (start_of es ≡ Some p) ⊎ (first ≤ p.block)
+pub changed-start : (low first count : ℕ) (place : Option ℕ) (es : List Extent) (p : Point) → IsRising low 4294967295 es → start_of (changed_extents first count place es) ≡ Some p → (start_of es ≡ Some p) ⊎ (first ≤ p.block)
 changed-start low first count place es p rising is = elim (start-either (part 0 first es) (piece first count place ++ part (first + count) 4294967295 es) p is) [
   | inl a ↦ inl (part-front first low 4294967295 es p rising a)
   | inr bc ↦ elim (start-either (piece first count place) (part (first + count) 4294967295 es) p bc) [
@@ -93,7 +93,7 @@ changed-start low first count place es p rising is = elim (start-either (part 0 
   ]
 ]
 
-pub changed-stop : (low first count : ℕ) (place : Option ℕ) (es : List Extent) (p : Point) → IsRising low 4294967295 es → stop_of (changed first count place es) ≡ Some p → (stop_of es ≡ Some p) ⊎ (p.block ≤ first + count)
+pub changed-stop : (low first count : ℕ) (place : Option ℕ) (es : List Extent) (p : Point) → IsRising low 4294967295 es → stop_of (changed_extents first count place es) ≡ Some p → (stop_of es ≡ Some p) ⊎ (p.block ≤ first + count)
 changed-stop low first count place es p rising is = elim (stop-either (part 0 first es) (piece first count place ++ part (first + count) 4294967295 es) p is) [
   | inl bc ↦ elim (stop-either (piece first count place) (part (first + count) 4294967295 es) p bc) [
     | inl c ↦ inl (part-back (first + count) low 4294967295 es p rising c)
@@ -146,7 +146,7 @@ pub record Spliced (first count : ℕ) (place : Option ℕ) (front middle back n
   pub normal : IsNormal (front ++ (middle ++ back))
   pub before : EndBefore first front
   pub behind : BeginBehind (first + count) back
-  pub made : Joins 4294967295 (changed first count place middle) new
+  pub made : Joins 4294967295 (changed_extents first count place middle) new
 
 middle-rising : (first count : ℕ) (place : Option ℕ) (front middle back new : List Extent) → Spliced first count place front middle back new → IsRising (last_end 0 front) 4294967295 (middle ++ back)
 middle-rising first count place front middle back new s = rising-right 0 4294967295 front (middle ++ back) s.normal.rising

@@ -16,8 +16,8 @@ piece first count None = []
 piece first count (Some place) = record { logical = first; length = count; place = place } ∷ []
 
 -- what some extents have before a run, the run, and what they have behind it
-abbrev pub changed : ℕ → ℕ → Option ℕ → List Extent → List Extent
-changed first count place es = part 0 first es ++ (piece first count place ++ part (first + count) 4294967295 es)
+abbrev pub changed_extents : ℕ → ℕ → Option ℕ → List Extent → List Extent
+changed_extents first count place es = part 0 first es ++ (piece first count place ++ part (first + count) 4294967295 es)
 
 -- each of the extents ends before a block, with another between
 abbrev pub EndBefore : ℕ → List Extent → Type 0

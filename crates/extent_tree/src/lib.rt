@@ -3,31 +3,31 @@
 //! Contracts see an `Extents` as its runs, in the normal form of `extent_nodes`, and how many entries each level of its tree has.
 #![tactic(auto)]
 
-mod building;
-mod changing;
-mod choosing;
-mod finding;
-mod given_up;
-mod joining;
+mod extent_join;
+mod freed_places;
+mod leaf_choice;
+mod leaf_search;
 mod map;
+mod map_change;
 mod map_laws;
 mod node;
 mod node_laws;
-mod packing;
-mod searching;
+mod node_pack;
+mod node_search;
 mod tree;
+mod upper_levels;
 
-pub use changing::change;
-pub use joining::{push, push_part};
+pub use extent_join::{push, push_part};
 pub use map::{BlockMap, Place};
+pub use map_change::change;
 pub use map_laws::{
     few_blocks_are_few_runs, put_blocks_lie_apart, put_blocks_lie_once, put_blocks_lie_within,
     whole_map_fits_a_block,
 };
 pub use node::{Found, Node};
 pub use node_laws::{block_spells_a_map, map_is_spelled_by_a_block, normal_form_is_one};
-pub use packing::{pack, push_entries, push_summaries};
-pub use searching::{nodes_before, nodes_up_to};
+pub use node_pack::{pack, push_entries, push_summaries};
+pub use node_search::{nodes_before, nodes_up_to};
 pub use tree::{Counted, Extents};
 
 // Passed on to the crates above, which so need not list those below.

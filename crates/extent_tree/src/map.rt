@@ -9,7 +9,7 @@ ghost use Rattle.block_alloc.specs.Runs.{blocks_of};
 ghost use Rattle.extent_tree.specs.Map.{runs_in, lies_at, ArePut, AreCut, places_of, HasBlock};
 
 use crate::Extents;
-use crate::given_up::push_places;
+use crate::freed_places::push_places;
 use block_alloc::Run;
 use layout::{Extent, ExtentBlock, MAX_EXTENTS, Tier};
 use std::alloc::{AllocError, Global};

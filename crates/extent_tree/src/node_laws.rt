@@ -6,7 +6,7 @@ ghost use Rattle.layout.specs.Places.{Sizes, IsAllowed, is_inode};
 ghost use Rattle.layout.specs.declared.extents.TheConstants.{MAX_EXTENTS};
 ghost use Rattle.layout.specs.declared.geometry.Space.{Space};
 ghost use Rattle.extent_tree.specs.Normal.{IsNormal, IsRising, PlacesFit};
-ghost use Rattle.extent_tree.specs.Spelled.{LiesWithin, IsOneToOne};
+ghost use Rattle.extent_tree.specs.BlockFormat.{LiesWithin, IsOneToOne};
 ghost use Rattle.extent_tree.specs.Places.{SamePlaces};
 ghost use Rattle.layout.specs.declared.extents.Extent.{Extent};
 

@@ -6,9 +6,9 @@ ghost use Rattle.extent_tree.specs.Places.{place_of, SamePlaces};
 ghost use Rattle.extent_tree.specs.Tree.{IsExtentTree, counts};
 ghost use Rattle.extent_tree.specs.Value.{GrownByNeed, StaysOne, OthersStay};
 
-use crate::building::{Level, levels_above};
-use crate::choosing::{Span, choose};
-use crate::finding::find_in;
+use crate::leaf_choice::{Span, choose};
+use crate::leaf_search::find_in;
+use crate::upper_levels::{Level, levels_above};
 use crate::{Node, pack, push_entries, push_part};
 use block_alloc::Run;
 use layout::Extent;

@@ -11,7 +11,7 @@ use Rattle.std.specs.List.Sorted.{IsSortedBy}
 use Rattle.posix_calls.specs.Content.{Entries}
 use Rattle.posix_calls.proofs.Directory.{entries-empty, entries-insert, entries-remove}
 use Rattle.file_graph.specs.declared.name_map.NamedEntry.{NamedEntry}
-use Rattle.file_graph.specs.Named.{pairs, IsInOrder, without, one_later, position_by, position_in}
+use Rattle.file_graph.specs.NameOrder.{pairs, IsInOrder, without, one_later, position_by, position_in}
 
 -- how two names compare
 abbrev pub names_cmp : List ℕ → List ℕ → Ordering

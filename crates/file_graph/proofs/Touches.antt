@@ -2,7 +2,7 @@
 use Rattle.std.proofs.Common.{◌≡◌, ℕ, ◌+◌, ◌-◌, ◌≤◌, Bool, true, false, cond, List, [], ◌∷◌, ◌++◌, Option, refl, sym, ap, ◌∙◌, arith, ◌||◌}
 use Rattle.std.proofs.lemmas.List.Concat.{flat_map-cons}
 use Rattle.file_graph.specs.declared.effect.Effect.{Effect}
-use Rattle.file_graph.specs.Graph.{Graph, Node, after_effect, after_effects, touches, subjects, is_among, acted, AreApart, cost}
+use Rattle.file_graph.specs.Graph.{Graph, Node, after_effect, after_effects, touches, subjects, is_among, subject_after, AreApart, cost}
 use Rattle.posix_calls.proofs.Sums.{sum_below}
 use Rattle.file_graph.specs.Units.{charge, rise, growth}
 
@@ -15,7 +15,7 @@ crossed false true f g x apart = refl
 crossed false false f g x apart = refl
 
 pub effects_commute : (g : Graph) (e f : Effect) → AreApart (subjects e) (subjects f) → after_effect (after_effect g e) f ≡ after_effect (after_effect g f) e
-effects_commute g e f apart = λ t i. crossed (is_among i (subjects e)) (is_among i (subjects f)) (acted e) (acted f) (g i) (apart i) t
+effects_commute g e f apart = λ t i. crossed (is_among i (subjects e)) (is_among i (subjects f)) (subject_after e) (subject_after f) (g i) (apart i) t
 
 neither : (a b : Bool) → (a || b) ≡ false → (a ≡ false) × (b ≡ false)
 neither true b e = absurd cc
@@ -33,12 +33,12 @@ pub untouched : (g : Graph) (es : List Effect) (i : ℕ) → is_among i (touches
 untouched g [] i e = refl
 untouched g (f ∷ es) i e =
     let p = among_append i (subjects f) (touches es) (ap (is_among i) (sym (flat_map-cons subjects f es)) ∙ e) in
-    untouched (after_effect g f) es i p.1 ∙ ap (λ (b : Bool). cond b (acted f (g i)) (g i)) p.0
+    untouched (after_effect g f) es i p.1 ∙ ap (λ (b : Bool). cond b (subject_after f (g i)) (g i)) p.0
 
 -- what effects make of an inode depends on what stands there
 pub alone : (g h : Graph) (es : List Effect) (i : ℕ) → g i ≡ h i → after_effects g es i ≡ after_effects h es i
 alone g h [] i e = e
-alone g h (f ∷ es) i e = alone (after_effect g f) (after_effect h f) es i (ap (λ o. cond (is_among i (subjects f)) (acted f o) o) e)
+alone g h (f ∷ es) i e = alone (after_effect g f) (after_effect h f) es i (ap (λ o. cond (is_among i (subjects f)) (subject_after f o) o) e)
 
 -- ---- rows of effects that touch no common inode
 

@@ -3,15 +3,15 @@ use Rattle.std.proofs.Common.{◌≡◌, ℕ, ◌+◌, ◌-◌, ◌≤◌, List,
 use Rattle.std.proofs.lemmas.Bool.{cases_lt}
 use Rattle.std.proofs.lemmas.List.{append-nil, take_all, drop_all, length-append, take-append-le, take-append-drop, length-take, length-drop}
 use Rattle.std.proofs.Math.Seq.{drop-append_seam}
-use Rattle.posix_calls.specs.Content.{written}
+use Rattle.posix_calls.specs.Content.{with_bytes}
 
-pub write_within : (at : ℕ) (new old : List ℕ) → at + length new ≤ length old → take at old ++ new ++ drop (at + length new) old ≡ written at new old
+pub write_within : (at : ℕ) (new old : List ℕ) → at + length new ≤ length old → take at old ++ new ++ drop (at + length new) old ≡ with_bytes at new old
 write_within at new old fits =
     let none : at - length old ≡ 0 = omega arith in
     rw (none, append-nil (take at old)) refl
 
 -- bytes that are appended as far as they pass the end, and otherwise written over what is there
-pub write_over : (at w : ℕ) (new old : List ℕ) → at ≤ length old → w ≡ min (length new) (length old - at) → take at (old ++ drop w new) ++ take w new ++ drop (at + w) (old ++ drop w new) ≡ written at new old
+pub write_over : (at w : ℕ) (new old : List ℕ) → at ≤ length old → w ≡ min (length new) (length old - at) → take at (old ++ drop w new) ++ take w new ++ drop (at + w) (old ++ drop w new) ≡ with_bytes at new old
 write_over at w new old front is =
     elim (cases_lt (length old - at) (length new)) [
       | inl past ↦

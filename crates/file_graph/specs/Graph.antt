@@ -3,7 +3,8 @@ use Rattle.std.specs.Prelude.{◌≡◌, ℕ, ◌==◌, Bool, true, List, [], �
 use Rattle.std.specs.List.{list_any, flat_map}
 use Rattle.std.specs.FinMap as fin
 use Rattle.std.specs.Ordering.{nat_cmp}
-use Rattle.posix_calls.specs.Content.{Entries, resized, written, file_units, directory_units}
+use Rattle.posix_calls.specs.Content.{Entries, with_length, with_bytes}
+use Rattle.posix_calls.specs.Units.{file_units, directory_units}
 use Rattle.posix_calls.specs.declared.limits.TheConstants.{ROOT}
 use Rattle.file_graph.specs.declared.effect.Kind.{Kind}
 use Rattle.file_graph.specs.declared.effect.Kind.TheVariants as kind
@@ -66,18 +67,18 @@ abbrev pub is_among : ℕ → List ℕ → Bool
 is_among i is = list_any (λ j. j == i) is
 
 -- what an effect makes of a subject: on no node, or one of another kind, all but Make and Drop do nothing
-abbrev pub acted : Effect → Option Node → Option Node
-acted (effect.Make i k) old = Some (record { names = 0; body = empty_body k })
-acted (effect.Enter d i k name) old = option_map (with_body (in_directory (λ es. fin.insert es name (i, k)))) old
-acted (effect.Leave d name) old = option_map (with_body (in_directory (λ es. fin.remove es name))) old
-acted (effect.Names i n) old = option_map (λ x. record { names = n; body = x.body }) old
-acted (effect.Size i size) old = option_map (with_body (in_file (resized size))) old
-acted (effect.Bytes i at new) old = option_map (with_body (in_file (written at new))) old
-acted (effect.Drop i) old = None
+abbrev pub subject_after : Effect → Option Node → Option Node
+subject_after (effect.Make i k) old = Some (record { names = 0; body = empty_body k })
+subject_after (effect.Enter d i k name) old = option_map (with_body (in_directory (λ es. fin.insert es name (i, k)))) old
+subject_after (effect.Leave d name) old = option_map (with_body (in_directory (λ es. fin.remove es name))) old
+subject_after (effect.Names i n) old = option_map (λ x. record { names = n; body = x.body }) old
+subject_after (effect.Size i size) old = option_map (with_body (in_file (with_length size))) old
+subject_after (effect.Bytes i at new) old = option_map (with_body (in_file (with_bytes at new))) old
+subject_after (effect.Drop i) old = None
 
 -- the graph after an effect
 abbrev pub after_effect : Graph → Effect → Graph
-after_effect g e i = if is_among i (subjects e) then acted e (g i) else g i
+after_effect g e i = if is_among i (subjects e) then subject_after e (g i) else g i
 
 -- the graph after effects, one after the other
 abbrev pub after_effects : Graph → List Effect → Graph

@@ -7,6 +7,6 @@ pub mod Numbers
 pub mod Plain
 pub mod Subject
 pub mod Units
-pub mod Named
+pub mod NameOrder
 -- Passed on to the crates above, which so need not list those below.
 pub use Rattle.posix_calls.specs as posix_calls

@@ -6,7 +6,7 @@ use Rattle.file_graph.specs.declared.effect.Effect.TheVariants as effect
 use Rattle.file_graph.specs.Graph.{Node, cost}
 use Rattle.file_graph.specs.Numbers.{is_inode}
 use Rattle.file_graph.specs.declared.name_map.NamedEntry.{NamedEntry}
-pub use Rattle.file_graph.specs.Named.{pairs}
+pub use Rattle.file_graph.specs.NameOrder.{pairs}
 
 -- an entry of a directory
 abbrev pub PlainEntry : Type 0

@@ -1,5 +1,5 @@
 ghost use Rattle.std.specs.Prelude.{◌≡◌, ◌==◌, ◌≤◌, ◌<◌, ◌^◌, ◌+◌, ◌++◌, length, take, drop, [], OnOk, OnErr};
-ghost use Rattle.posix_calls.specs.Content.{resized, written};
+ghost use Rattle.posix_calls.specs.Content.{with_length, with_bytes};
 
 use std::alloc::{AllocError, Global};
 use std::marker::Model;
@@ -66,7 +66,7 @@ impl FileBytes {
 
     /// Cuts or grows the file to a length; what is grown reads as zero. Where there is no memory for it, the file stays as it was.
     pub fn resize(&mut self, len: u64) -> Result<(), AllocError>
-        ensures ok { OnOk result (self.new ≡ resized len self.old) }
+        ensures ok { OnOk result (self.new ≡ with_length len self.old) }
         ensures err { OnErr result (self.new ≡ self.old) }
     {
         self.bytes.resize(len as usize, 0)
@@ -74,7 +74,7 @@ impl FileBytes {
 
     /// Puts bytes at an offset; a gap behind the old end reads as zero. Where there is no memory for it, the file stays as it was.
     pub fn write(&mut self, at: u64, bytes: &[u8]) -> Result<(), AllocError>
-        ensures ok { OnOk result (self.new ≡ written at bytes.now self.old) }
+        ensures ok { OnOk result (self.new ≡ with_bytes at bytes.now self.old) }
         ensures err { OnErr result (self.new ≡ self.old) }
     {
         write_at(&mut self.bytes, at as usize, bytes)
@@ -91,7 +91,7 @@ fn range(bytes: &[u8], at: usize, count: usize) -> &[u8]
 // A file that would pass the end of all numbers finds no memory. Each byte is written once: over what is there as far as the old
 // end, and appended behind it.
 fn write_at(file: &mut Vec<u8>, at: usize, bytes: &[u8]) -> Result<(), AllocError>
-    ensures ok { OnOk result (file.new.items ≡ written at bytes.now file.old.items) }
+    ensures ok { OnOk result (file.new.items ≡ with_bytes at bytes.now file.old.items) }
     ensures err { OnErr result (file.new.items ≡ file.old.items) }
 {
     let Some(end) = at.checked_add(bytes.len()) else {
@@ -111,7 +111,7 @@ fn write_at(file: &mut Vec<u8>, at: usize, bytes: &[u8]) -> Result<(), AllocErro
 fn fill_gap(file: &mut Vec<u8>, at: usize, end: usize) -> Result<(), AllocError>
     requires behind { length file.old.items < at }
     requires room { at ≤ end }
-    ensures ok { OnOk result (file.new.items ≡ resized at file.old.items) }
+    ensures ok { OnOk result (file.new.items ≡ with_length at file.old.items) }
     ensures room { OnOk result (end ≤ file.new.cap) }
     ensures err { OnErr result (file.new.items ≡ file.old.items) }
 {

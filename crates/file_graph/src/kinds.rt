@@ -4,7 +4,7 @@ ghost use Rattle.file_graph.specs.declared.effect.Kind.TheVariants as kind;
 ghost use Rattle.file_graph.specs.Kinds.{kind_byte, kind_field};
 
 use crate::effect::Kind;
-use crate::reading::byte_of;
+use crate::field_reads::byte_of;
 
 /// The byte of the kind of a file.
 pub const FILE_KIND: u8 = 1;

@@ -6,6 +6,7 @@
 #![tactic(auto)]
 
 mod effect;
+mod field_reads;
 mod file_bytes;
 mod kinds;
 mod laws;
@@ -13,9 +14,9 @@ mod name_map;
 mod node;
 mod numbers;
 mod plain;
-mod reading;
 
 pub use effect::{Child, Effect, Effects, Kind};
+pub use field_reads::{byte_of, run_of, u32_of, u64_of};
 pub use file_bytes::FileBytes;
 pub use kinds::{DIRECTORY_KIND, FILE_KIND, kind_byte, kinds_have_their_bytes, read_kind};
 pub use laws::{
@@ -25,12 +26,11 @@ pub use name_map::{NameMap, NamedEntry};
 pub use node::PlainEntry;
 pub use numbers::is_inode;
 pub use plain::PlainGraph;
-pub use reading::{byte_of, run_of, u32_of, u64_of};
 
 // Passed on to the crates above, which so need not list those below.
 pub use posix_calls::{
     Bytes, Call, DecideError, Description, Descriptor, Errno, Flags, Location, MAX_CLIENTS,
     MAX_DESCRIPTORS, MAX_ENTRIES, MAX_FILE, MAX_INODE, MAX_NAME, MAX_NAMES, MAX_TRANSFER, Missing,
     Name, NamedInode, Names, Operation, OwnDescriptors, Path, ROOT, Replaced, Reply, SharedBytes,
-    TreeAnswers, UNIT_BYTES, UNIT_ENTRIES, decide, known,
+    TreeAnswers, UNIT_BYTES, UNIT_ENTRIES, client_index, decide, known_or_missing,
 };

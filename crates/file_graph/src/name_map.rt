@@ -4,7 +4,7 @@ ghost use Rattle.std.specs.Ordering.{nat_cmp};
 ghost use Rattle.std.specs.FinMap as fin;
 ghost use Rattle.std.specs.Cmp.Lexicographic.{slice_cmp};
 ghost use Rattle.std.specs.List.{insert};
-ghost use Rattle.file_graph.specs.Named.{position_in, pairs, without, IsInOrder};
+ghost use Rattle.file_graph.specs.NameOrder.{position_in, pairs, without, IsInOrder};
 
 use posix_calls::{Name, Names};
 use std::alloc::{AllocError, Global};
@@ -37,7 +37,7 @@ impl<V> Model for NameMap<V> {
 
     ghost coded = { fin.code (coded_list coded_ℕ) V.code };
 
-    ghost use Rattle.file_graph.specs.Named.{pairs, IsInOrder};
+    ghost use Rattle.file_graph.specs.NameOrder.{pairs, IsInOrder};
 
     ghost view = { λ m. fin.from_sorted (pairs m.entries.items) };
 

@@ -1,7 +1,7 @@
 ghost use Rattle.std.specs.Prelude.{◌≡◌, ◌<◌, ◌^◌, false, Some, OnOk, OnErr, option_map};
 ghost use Rattle.std.specs.FinMap as fin;
-ghost use Rattle.posix_calls.specs.Content.{resized, written};
-ghost use Rattle.file_graph.specs.Graph.{acted, empty_body, in_file, in_directory, file_bytes, directory_entries, cost};
+ghost use Rattle.posix_calls.specs.Content.{with_length, with_bytes};
+ghost use Rattle.file_graph.specs.Graph.{subject_after, empty_body, in_file, in_directory, file_bytes, directory_entries, cost};
 ghost use Rattle.file_graph.specs.Plain.{pairs, is_drop};
 ghost use Rattle.file_graph.specs.Bodies.{body_of};
 
@@ -56,7 +56,7 @@ impl PlainNode {
     /// Does what an effect other than a Drop does to a node. Where there is no memory for it, the node stays as it was.
     pub fn act(&mut self, alloc: Global, effect: &Effect) -> Result<(), AllocError>
         requires { is_drop effect.now ≡ false }
-        ensures ok { OnOk result (Some self.new ≡ acted effect.now (Some self.old)) }
+        ensures ok { OnOk result (Some self.new ≡ subject_after effect.now (Some self.old)) }
         ensures err { OnErr result (self.new ≡ self.old) }
     {
         match effect {
@@ -151,7 +151,7 @@ fn remove_entry(body: &mut PlainBody, name: &Name)
 }
 
 fn resize(body: &mut PlainBody, size: u64) -> Result<(), AllocError>
-    ensures ok { OnOk result (body_of body.new ≡ in_file (resized size) (body_of body.old)) }
+    ensures ok { OnOk result (body_of body.new ≡ in_file (with_length size) (body_of body.old)) }
     ensures err { OnErr result (body_of body.new ≡ body_of body.old) }
 {
     match body {
@@ -161,7 +161,7 @@ fn resize(body: &mut PlainBody, size: u64) -> Result<(), AllocError>
 }
 
 fn put_bytes(body: &mut PlainBody, at: u64, bytes: &[u8]) -> Result<(), AllocError>
-    ensures ok { OnOk result (body_of body.new ≡ in_file (written at bytes.now) (body_of body.old)) }
+    ensures ok { OnOk result (body_of body.new ≡ in_file (with_bytes at bytes.now) (body_of body.old)) }
     ensures err { OnErr result (body_of body.new ≡ body_of body.old) }
 {
     match body {

@@ -17,9 +17,9 @@ const INODE: u32 = 2;
 /// not there is made.
 pub fn append(rt: &HostRuntime, path: &str, count: u64) -> Result<()> {
     let media = if fs::exists(rt, path)? {
-        opened(rt, path)?
+        open_media(rt, path)?
     } else {
-        created(rt, path)?
+        create_media(rt, path)?
     };
     append_all(rt, &mut region(rt.alloc(), media)?, count)
 }
@@ -36,7 +36,7 @@ fn append_all(rt: &HostRuntime, region: &mut Region<FileMedia>, count: u64) -> R
 
 /// Prints the numbers of the records that the file holds.
 pub fn read(rt: &HostRuntime, path: &str) -> Result<()> {
-    let media = opened(rt, path)?;
+    let media = open_media(rt, path)?;
     let found = numbers(rt.alloc(), &mut region(rt.alloc(), media)?)?;
     print_all(rt, &found)
 }
@@ -56,7 +56,7 @@ fn sizes() -> Sizes {
     }
 }
 
-fn opened(rt: &HostRuntime, path: &str) -> Result<FileMedia>
+fn open_media(rt: &HostRuntime, path: &str) -> Result<FileMedia>
     ensures { IfOk result IsFileAtRest }
 {
     match FileMedia::open(rt, rt.alloc(), path, sizes()) {
@@ -65,7 +65,7 @@ fn opened(rt: &HostRuntime, path: &str) -> Result<FileMedia>
     }
 }
 
-fn created(rt: &HostRuntime, path: &str) -> Result<FileMedia>
+fn create_media(rt: &HostRuntime, path: &str) -> Result<FileMedia>
     ensures { IfOk result IsFileAtRest }
 {
     match FileMedia::create(rt, rt.alloc(), path, sizes()) {

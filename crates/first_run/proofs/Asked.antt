@@ -1,12 +1,13 @@
 -- What is asked of a graph that is known whole.
 use Rattle.std.proofs.Common.{◌≡◌, ℕ, Ok, ap, ◌∙◌, arith}
 use Rattle.std.specs.Prelude.{min}
-use Rattle.call_effects.specs.posix_calls.Query.{Query, Gives, View, Known, run, run_part}
+use Rattle.call_effects.specs.posix_calls.Query.{Query, Gives, View, run}
+use Rattle.call_effects.specs.posix_calls.Part.{Known, run_part}
 use Rattle.call_effects.specs.posix_calls.declared.operation.Operation.{Operation}
 use Rattle.call_effects.proofs.posix_calls_lemmas.Comes.{bind_ok, given}
 use Rattle.call_effects.proofs.posix_calls_lemmas.Parts.{known_is_run}
 use Rattle.call_effects.specs.file_graph.Graph.{Graph}
-use Rattle.call_effects.specs.Known.{stored_view}
+use Rattle.call_effects.specs.Knowledge.{stored_view}
 use Rattle.call_effects.specs.Records.{growth_asked, units_asked}
 use Rattle.call_effects.specs.Whole.{whole_of}
 use Rattle.call_effects.proofs.Whole.{whole_is_stored}

@@ -13,8 +13,8 @@ use Rattle.call_effects.specs.file_graph.Graph.{Graph, fresh, after_effects}
 use Rattle.call_effects.specs.file_graph.declared.effect.Kind.TheVariants as kind
 use Rattle.call_effects.specs.log_record.declared.format.Record.{Record}
 use Rattle.script.specs.update_log.Frames.{records, with_record}
-use Rattle.call_effects.specs.Effects.{making}
-use Rattle.call_effects.specs.Known.{stored_view}
+use Rattle.call_effects.specs.Effects.{make_effects}
+use Rattle.call_effects.specs.Knowledge.{stored_view}
 use Rattle.call_effects.specs.Records.{effects_asked, growth_asked}
 use Rattle.first_run.specs.declared.two_clients.TheConstants.{FILE, NEW}
 
@@ -22,7 +22,7 @@ use Rattle.first_run.specs.declared.two_clients.TheConstants.{FILE, NEW}
 
 -- a root with the empty file `/f`
 abbrev pub root_with_f : Graph
-root_with_f = after_effects fresh (making FILE kind.File (record { parent = ROOT; name = codes "f" }))
+root_with_f = after_effects fresh (make_effects FILE kind.File (record { parent = ROOT; name = codes "f" }))
 
 -- nothing is open
 abbrev pub nothing_open : Own

@@ -9,7 +9,7 @@ ghost use Rattle.first_run.specs.FirstPath.{nothing_open, file_open, first_call,
 use crate::options::{Stop, first_options};
 use crate::regions::{Stopping, apply, log, open_region, recover};
 use crate::two_clients::{
-    FILE, NEW, first_call, first_descriptors, first_graph, logged, second_call,
+    FILE, NEW, first_call, first_descriptors, first_graph, log_call, second_call,
 };
 use call_effects::{OwnDescriptors, PlainEntry, PlainGraph, ROOT, Record, Reply};
 use script::{Media, Region, RunError, StopMedia, tell, tell_fault, write_data, write_name};
@@ -100,7 +100,7 @@ fn ask_first<M: Media, O: Write>(
     graph: &mut PlainGraph,
     out: &mut O,
 ) -> Result<usize, RunError>
-    ensures { IfOk result (λ done. IsMark done (graph_of graph.old) (graph_of graph.new) (records_of M.seen region.old) (records_of M.seen region.new)) }
+    ensures { IfOk result (λ done. IsMark done (graph_of graph.old) (graph_of graph.new) (records_of M.Media region.old) (records_of M.Media region.new)) }
 {
     let (entry, reply) = first_asked(alloc, graph)?;
     if !keep(region, &entry, reply, 1, out)? {
@@ -126,27 +126,27 @@ fn first_asked(alloc: Global, graph: &PlainGraph) -> Result<(Record, Reply), Run
     ensures { IfOk result (λ l. IsLogged (graph_of graph.now) file_open first_call NEW l.0 l.1) }
 {
     let call = first_call(alloc)?;
-    logged(alloc, graph, &first_descriptors(), &call, NEW)
+    log_call(alloc, graph, &first_descriptors(), &call, NEW)
 }
 
 fn second_asked(alloc: Global, graph: &PlainGraph) -> Result<(Record, Reply), RunError>
     ensures { IfOk result (λ l. IsLogged (graph_of graph.now) nothing_open second_call NEW l.0 l.1) }
 {
     let call = second_call(alloc)?;
-    logged(alloc, graph, &OwnDescriptors::new(), &call, NEW)
+    log_call(alloc, graph, &OwnDescriptors::new(), &call, NEW)
 }
 
 // Logs a client's record, and prints the reply where it was answered; whether it was.
 fn keep<M: Media, O: Write>(
     region: &mut Region<M>,
-    entry: &Record,
+    logged: &Record,
     reply: Reply,
     client: u8,
     out: &mut O,
 ) -> Result<bool, RunError>
-    ensures { result ≡ Ok true → records_of M.seen region.new ≡ with_record (records_of M.seen region.old) (Some entry.now) }
+    ensures { result ≡ Ok true → records_of M.Media region.new ≡ with_record (records_of M.Media region.old) (Some logged.now) }
 {
-    let is_answered = log(region, entry)?;
+    let is_answered = log(region, logged)?;
     write_reply(out, client, is_answered, &reply)?;
     Ok(is_answered)
 }

@@ -1,9 +1,10 @@
 // A client's region: what is logged there, and what a stop leaves.
 ghost use Rattle.std.specs.Prelude.{◌≡◌, ◌-◌, IfOk, OnOk, IfSome, IfNone, Ok, true, false, Some, None, drop};
 ghost use Rattle.script.specs.tier_device.declared.media.Tier.TheVariants.{Fast};
-ghost use Rattle.script.specs.tier_device.Media.{AtRest, Rose};
+ghost use Rattle.script.specs.tier_device.Media.{Rose};
+ghost use Rattle.script.specs.tier_device.AfterStop.{AtRest};
 ghost use Rattle.script.specs.tier_device.Memory.{IsAtRest, memory_seen};
-ghost use Rattle.script.specs.tier_device.Stop.{medium_of, armed};
+ghost use Rattle.script.specs.tier_device.Stop.{medium_of, calls_left};
 ghost use Rattle.script.specs.tier_device.declared.fill.Fill.TheVariants.{Byte};
 ghost use Rattle.call_effects.specs.file_graph.Graph.{graph_of, after_effects};
 ghost use Rattle.script.specs.update_log.Frames.{with_record, records};
@@ -31,7 +32,7 @@ pub trait Stopping: Media + Drop {
 
 impl Stopping for StopMedia {
     fn new(media: MemMedia, stop: Option<Stop>) -> Self {
-        armed(media, stop)
+        arm_media(media, stop)
     }
 
     fn after_stop(self) -> Result<MemMedia, RunError> {
@@ -42,10 +43,10 @@ impl Stopping for StopMedia {
     }
 }
 
-fn armed(media: MemMedia, stop: Option<Stop>) -> StopMedia
+fn arm_media(media: MemMedia, stop: Option<Stop>) -> StopMedia
     ensures inner { medium_of result ≡ media }
-    ensures stops { IfSome stop (λ s. armed result ≡ Some (s.call - 1, Byte s.fill)) }
-    ensures runs { IfNone stop (armed result ≡ None) }
+    ensures stops { IfSome stop (λ s. calls_left result ≡ Some (s.call - 1, Byte s.fill)) }
+    ensures runs { IfNone stop (calls_left result ≡ None) }
 {
     let mut media = StopMedia::new(media);
     match stop {
@@ -60,7 +61,7 @@ fn armed(media: MemMedia, stop: Option<Stop>) -> StopMedia
 /// An empty region on a medium that stops where it is asked to.
 pub fn open_region<S: Stopping>(alloc: Global, stop: Option<Stop>) -> Result<Region<S>, RunError> {
     let media = fresh_media(alloc)?;
-    opened(alloc, S::new(media, stop))
+    reopen_region(alloc, S::new(media, stop))
 }
 
 // A medium of a region's size, all zeros.
@@ -72,9 +73,9 @@ fn fresh_media(alloc: Global) -> Result<MemMedia, RunError>
     Ok(MemMedia::of_bytes(alloc, zeros, Vec::new(alloc), Vec::new(alloc))?)
 }
 
-fn opened<M: Media + Drop>(alloc: Global, media: M) -> Result<Region<M>, RunError>
+fn reopen_region<M: Media + Drop>(alloc: Global, media: M) -> Result<Region<M>, RunError>
     requires { AtRest (M.seen media) (M.left media (M.moment media)) Fast }
-    ensures { IfOk result (λ region. records_of M.seen region ≡ records (M.seen media Fast)) }
+    ensures { IfOk result (λ region. records_of M.Media region ≡ records (M.seen media Fast)) }
 {
     match Region::reopen(alloc, media) {
         Ok(region) => Ok(region),
@@ -83,14 +84,14 @@ fn opened<M: Media + Drop>(alloc: Global, media: M) -> Result<Region<M>, RunErro
 }
 
 /// Logs a record: whether it was answered, or the medium stopped before.
-pub fn log<M: Media>(region: &mut Region<M>, entry: &Record) -> Result<bool, RunError>
-    ensures answered { result ≡ Ok true → records_of M.seen region.new ≡ with_record (records_of M.seen region.old) (Some entry.now) }
+pub fn log<M: Media>(region: &mut Region<M>, logged: &Record) -> Result<bool, RunError>
+    ensures answered { result ≡ Ok true → records_of M.Media region.new ≡ with_record (records_of M.Media region.old) (Some logged.now) }
     ensures unanswered { result ≡ Ok false → Rose (M.faults region.old.media) (M.faults region.new.media) }
 {
-    if region.stage() != Stage::Resting || !entry.has_spelling() {
+    if region.stage() != Stage::Resting || !logged.has_spelling() {
         return Err(RunError::Damaged);
     }
-    match region.append(entry) {
+    match region.append(logged) {
         Ok(()) => Ok(true),
         Err(RegionError::DeviceFault) => Ok(false),
         Err(error) => Err(RunError::from(error)),
@@ -126,7 +127,7 @@ fn records_on<M: Media + Drop>(alloc: Global, media: M) -> Result<Vec<Record>, R
     requires { AtRest (M.seen media) (M.left media (M.moment media)) Fast }
     ensures { IfOk result (λ found. found.items ≡ records (M.seen media Fast)) }
 {
-    let mut region = opened(alloc, media)?;
+    let mut region = reopen_region(alloc, media)?;
     Ok(region.records()?)
 }
 
@@ -142,10 +143,10 @@ fn replay(graph: &mut PlainGraph, records: &[Record], done: usize) -> Result<(),
 }
 
 /// Does the effects of a record.
-pub fn apply(graph: &mut PlainGraph, entry: &Record) -> Result<(), RunError>
-    ensures { OnOk result (graph_of graph.new ≡ after_effects (graph_of graph.old) entry.now.effects) }
+pub fn apply(graph: &mut PlainGraph, logged: &Record) -> Result<(), RunError>
+    ensures { OnOk result (graph_of graph.new ≡ after_effects (graph_of graph.old) logged.now.effects) }
 {
-    for effect in entry.effects.as_slice() {
+    for effect in logged.effects.as_slice() {
         graph.apply(effect)?;
     }
     Ok(())

@@ -2,13 +2,14 @@
 ghost use Rattle.std.specs.Prelude.{◌≡◌, ℕ, IfOk, IfSome, OnOk, Ok, codes};
 ghost use Rattle.call_effects.specs.posix_calls.Query.{run};
 ghost use Rattle.call_effects.specs.posix_calls.Decide.{decide};
-ghost use Rattle.call_effects.specs.posix_calls.Operations.{IsInRange, reply_of};
+ghost use Rattle.call_effects.specs.posix_calls.Operations.{reply_of};
+ghost use Rattle.call_effects.specs.posix_calls.Exact.{IsInRange};
 ghost use Rattle.call_effects.specs.posix_calls.Own.{own_of};
 ghost use Rattle.call_effects.specs.posix_calls.declared.limits.TheConstants.{ROOT};
 ghost use Rattle.call_effects.specs.file_graph.declared.effect.Kind.TheVariants as kinds;
 ghost use Rattle.call_effects.specs.file_graph.Graph.{graph_of, after_effect, after_effects};
-ghost use Rattle.call_effects.specs.Effects.{making};
-ghost use Rattle.call_effects.specs.Known.{stored_view};
+ghost use Rattle.call_effects.specs.Effects.{make_effects};
+ghost use Rattle.call_effects.specs.Knowledge.{stored_view};
 ghost use Rattle.call_effects.specs.Records.{effects_asked, growth_asked};
 ghost use Rattle.first_run.specs.FirstPath.{root_with_f, file_open, first_call, second_call, IsLogged};
 
@@ -36,7 +37,7 @@ pub fn first_graph(alloc: Global) -> Result<PlainGraph, RunError>
 }
 
 fn make_file(graph: &mut PlainGraph, name: Name) -> Result<(), RunError>
-    ensures { OnOk result (graph_of graph.new ≡ after_effects (graph_of graph.old) (making FILE kinds.File (record { parent = ROOT; name = name }))) }
+    ensures { OnOk result (graph_of graph.new ≡ after_effects (graph_of graph.old) (make_effects FILE kinds.File (record { parent = ROOT; name = name }))) }
 {
     let (inode, kind) = (FILE, Kind::File);
     apply(graph, Effect::Make { inode, kind })?;
@@ -106,7 +107,7 @@ pub fn second_call(alloc: Global) -> Result<Call, RunError>
 
 /// The record of a client's call over a graph, with the units by which it may raise it, and what the call is answered once the
 /// record is logged. A node that it makes gets the number `new`. A call that is refused, and one that only tells, have none.
-pub fn logged(
+pub fn log_call(
     alloc: Global,
     graph: &PlainGraph,
     own: &OwnDescriptors,
@@ -115,11 +116,11 @@ pub fn logged(
 ) -> Result<(Record, Reply), RunError>
     ensures { IfOk result (λ l. IsLogged (graph_of graph.now) (own_of own.now) call.now new l.0 l.1) }
 {
-    let operation = decided(alloc, graph, own, call)?;
-    told(alloc, graph, operation, new)
+    let operation = decide_call(alloc, graph, own, call)?;
+    call_record(alloc, graph, operation, new)
 }
 
-fn told(
+fn call_record(
     alloc: Global,
     graph: &PlainGraph,
     operation: Operation,
@@ -149,10 +150,10 @@ fn recorded_in_full(
     ensures units { IfOk result (λ entry. run (stored_view (graph_of graph.now)) (growth_asked operation) ≡ Ok entry.units) }
 {
     let units = units_of(graph, &operation)?;
-    recorded(alloc, graph, operation, new, units)
+    record_call(alloc, graph, operation, new, units)
 }
 
-fn decided(
+fn decide_call(
     alloc: Global,
     graph: &PlainGraph,
     own: &OwnDescriptors,
@@ -178,7 +179,7 @@ fn units_of(graph: &PlainGraph, operation: &Operation) -> Result<u32, RunError>
     }
 }
 
-fn recorded(
+fn record_call(
     alloc: Global,
     graph: &PlainGraph,
     operation: Operation,

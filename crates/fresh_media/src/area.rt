@@ -5,7 +5,7 @@ ghost use Rattle.layout.specs.Marks.{marks_spelling};
 ghost use Rattle.layout.specs.Slot.{slot_spelling};
 ghost use Rattle.layout.specs.Super.{super_spelling};
 
-use crate::filling::fill_up;
+use crate::zero_fill::fill_up;
 use layout::{BLOCK, CLIENTS, Geometry, MARKS_BLOCK, Mark, Marks, SLOT_SIZE, Slot, Super, Tier};
 use std::alloc::{AllocError, Global};
 

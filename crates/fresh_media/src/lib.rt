@@ -2,12 +2,14 @@
 #![tactic(auto)]
 
 mod area;
-mod filling;
+mod laws;
 mod region;
+mod zero_fill;
 
 pub use area::{empty_tier, first_fast_tier};
+pub use laws::fresh_region_is_empty;
 pub use region::empty_region;
 
 // Passed on to the crates above, which so need not list those below.
-pub use layout::Geometry;
+pub use layout::{Geometry, marks_are_read, slot_is_read, super_is_read};
 pub use update_log::{Region, RegionError};

@@ -2,7 +2,7 @@
 ghost use Rattle.std.specs.Prelude.{◌≡◌, IfOk};
 ghost use Rattle.fresh_media.specs.Fresh.{fresh_region};
 
-use crate::filling::fill_up;
+use crate::zero_fill::fill_up;
 use byteorder::{ByteOrder, LittleEndian};
 use std::alloc::{AllocError, Global};
 use update_log::REGION_SIZE;

@@ -6,10 +6,13 @@ use Rattle.std.specs.List.{All, remove}
 use Rattle.std.proofs.lemmas.List.{get_or-replicate}
 use Rattle.std.proofs.lemmas.List.Elements.{All-map, All-pop, All-replicate, All-tail}
 use Rattle.atomic_table.specs.Seated.{TableId}
+use Rattle.host_media.specs.tier_device.declared.media.Media.{Ghosts}
 use Rattle.event_steps.specs.lease_manager.Passes.{PassView, fresh, places}
 use Rattle.event_steps.specs.lease_manager.Words.{lease_place}
 use Rattle.event_steps.specs.lease_manager.declared.view.LeaseMode.TheVariants.{Free}
-use Rattle.fresh_system.specs.Fresh.{CountsNone}
+use Rattle.event_steps.specs.Sound.{AreOfTable}
+use Rattle.event_steps.specs.View.{SeatView}
+use Rattle.fresh_system.specs.Fresh.{CountsNone, IsFreshSeat}
 
 -- a fresh one counts nothing
 pub fresh_counts_none : (table : TableId) (k : ℕ) → CountsNone table (fresh table k)
@@ -38,3 +41,8 @@ first_is P xs x all some is = subst P (sym is) (all 0 x some)
 pub all_left : {X : Type 0} (P : X → Type 0) (xs : List X) → All P xs → All P (remove xs 0)
 all_left P [] all = all
 all_left P (x ∷ xs) all = All-tail P x xs all
+
+-- the seats of fresh clients are of their table
+pub are_of_table : {M : Type 0} (device : Ghosts M) (table : TableId) (seats : List (SeatView M)) → All (IsFreshSeat device table) seats → AreOfTable table seats
+are_of_table device table [] all = tt
+are_of_table device table (s ∷ ss) all = ((all 0 s (omega arith)).of, are_of_table device table ss (All-tail (IsFreshSeat device table) s ss all))

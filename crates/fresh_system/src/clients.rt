@@ -1,15 +1,16 @@
 // Clients that have logged nothing.
 ghost use Rattle.std.specs.Prelude.{◌≡◌, false, IfOk};
 ghost use Rattle.std.specs.List.{All};
+ghost use Rattle.atomic_table.specs.Seated.{TableId};
 ghost use Rattle.host_media.specs.tier_device.declared.media.Tier.TheVariants.{Fast};
-ghost use Rattle.host_media.specs.tier_device.Media.{AtRest};
-ghost use Rattle.event_steps.specs.libfs.Opening.{IsBlank};
+ghost use Rattle.host_media.specs.tier_device.AfterStop.{AtRest};
+ghost use Rattle.event_steps.specs.libfs.NewClient.{IsBlank};
 ghost use Rattle.fresh_system.specs.Fresh.{CountsNone, IsFreshSeat};
 
 use crate::error::OpenError;
 use crate::media_maker::MediaMaker;
 use event_steps::{
-    CLIENTS, Client, ClientLog, LeaseManagerLeases as Leases, LogError, Opened, Pass, Seat,
+    CLIENTS, Client, ClientLog, ClientSlot, LeaseManagerLeases as Leases, LogError, Opened, Pass,
 };
 use fresh_media::{Region, RegionError, empty_region};
 use host_media::Media;
@@ -20,8 +21,8 @@ use std::alloc::{AllocError, Global};
 pub fn fresh_seats<M: Media + Drop, B: MediaMaker<M>>(
     alloc: Global,
     maker: &mut B,
-) -> Result<Vec<Seat<M>>, OpenError>
-    ensures { IfOk result (λ seats. All (IsFreshSeat M.seen) seats.items) }
+) -> Result<Vec<ClientSlot<M>>, OpenError>
+    ensures { IfOk result (λ seats. (table : TableId) × All (IsFreshSeat M.Media table) seats.items) }
 {
     let Opened {
         leases,
@@ -38,10 +39,10 @@ fn seat_all<M: Media + Drop, B: MediaMaker<M>>(
     leases: &Leases,
     handles: Vec<Leases>,
     passes: Vec<Pass>,
-) -> Result<Vec<Seat<M>>, OpenError>
+) -> Result<Vec<ClientSlot<M>>, OpenError>
     requires handles { All (λ h. h ≡ leases.now) handles.items }
     requires passes { All (CountsNone leases.now) passes.items }
-    ensures { IfOk result (λ seats. All (IsFreshSeat M.seen) seats.items) }
+    ensures { IfOk result (λ seats. All (IsFreshSeat M.Media leases.now) seats.items) }
 {
     let (mut handles, mut passes) = (handles, passes);
     let mut seats = Vec::new(alloc);
@@ -63,12 +64,12 @@ fn next_seat<M: Media + Drop, B: MediaMaker<M>>(
     leases: &Leases,
     handles: &mut Vec<Leases>,
     passes: &mut Vec<Pass>,
-) -> Result<Seat<M>, OpenError>
+) -> Result<ClientSlot<M>, OpenError>
     requires handles { All (λ h. h ≡ leases.now) handles.old.items }
     requires passes { All (CountsNone leases.now) passes.old.items }
     ensures handles { All (λ h. h ≡ leases.now) handles.new.items }
     ensures passes { All (CountsNone leases.now) passes.new.items }
-    ensures fresh { IfOk result (IsFreshSeat M.seen) }
+    ensures fresh { IfOk result (IsFreshSeat M.Media leases.now) }
 {
     if passes.is_empty() {
         return Err(OpenError::Damaged);
@@ -84,9 +85,9 @@ fn fresh_seat<M: Media + Drop, B: MediaMaker<M>>(
     maker: &mut B,
     leases: Leases,
     pass: Pass,
-) -> Result<Seat<M>, OpenError>
+) -> Result<ClientSlot<M>, OpenError>
     requires { CountsNone leases pass }
-    ensures { IfOk result (IsFreshSeat M.seen) }
+    ensures { IfOk result (IsFreshSeat M.Media leases) }
 {
     let even = fresh_region(alloc, maker, 0)?;
     let odd = fresh_region(alloc, maker, 1)?;
@@ -94,7 +95,7 @@ fn fresh_seat<M: Media + Drop, B: MediaMaker<M>>(
     let Ok(client) = Client::open(alloc, leases, pass, log) else {
         return Err(OpenError::Memory);
     };
-    match Seat::new(client) {
+    match ClientSlot::new(client) {
         Ok(seat) => Ok(seat),
         Err(_) => Err(OpenError::Damaged),
     }
@@ -106,7 +107,7 @@ fn fresh_log<M: Media + Drop>(
     even: Region<M>,
     odd: Region<M>,
 ) -> Result<ClientLog<M>, OpenError>
-    ensures blank { IfOk result (IsBlank M.seen) }
+    ensures blank { IfOk result (IsBlank M.Media) }
     ensures going { IfOk result (λ log. log.failed ≡ false) }
 {
     match ClientLog::open(alloc, (even, odd), 0) {

@@ -1,7 +1,7 @@
 // A kernel over a fresh shared area.
 ghost use Rattle.std.specs.Prelude.{IfOk};
 ghost use Rattle.host_media.specs.tier_device.declared.media.Tier.{Tier};
-ghost use Rattle.host_media.specs.tier_device.Media.{AtRest};
+ghost use Rattle.host_media.specs.tier_device.AfterStop.{AtRest};
 ghost use Rattle.fresh_system.specs.Fresh.{IsFreshKernel};
 
 use crate::error::OpenError;
@@ -21,12 +21,12 @@ pub fn fresh_kernel<M: Media + Drop, B: MediaMaker<M>>(
 {
     let media = fresh_area(alloc, maker, geometry)?;
     match Shared::reopen(alloc, media) {
-        Ok(area) => over(alloc, area),
+        Ok(area) => open_kernel(alloc, area),
         Err((error, _)) => Err(OpenError::from(error)),
     }
 }
 
-fn over<M: Media + Drop>(alloc: Global, area: Shared<M>) -> Result<Kernel<M>, OpenError>
+fn open_kernel<M: Media + Drop>(alloc: Global, area: Shared<M>) -> Result<Kernel<M>, OpenError>
     ensures { IfOk result IsFreshKernel }
 {
     match Kernel::open(alloc, area) {

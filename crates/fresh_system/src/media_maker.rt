@@ -9,7 +9,7 @@ use std::alloc::AllocError;
 pub trait MediaMaker<M: Media> {
     /// A medium at rest that holds these bytes.
     fn make(&mut self, fast: Vec<u8>, block: Vec<u8>, slow: Vec<u8>) -> Result<M, AllocError>
-        ensures { IfOk result (Holds M.seen M.moment M.left fast.items block.items slow.items) };
+        ensures { IfOk result (Holds M.Media fast.items block.items slow.items) };
 }
 
 /// Makes media in memory.

@@ -1,6 +1,7 @@
 // The system of both.
 ghost use Rattle.std.specs.Prelude.{IfOk};
 ghost use Rattle.std.specs.List.{All};
+ghost use Rattle.atomic_table.specs.Seated.{TableId};
 ghost use Rattle.fresh_system.specs.Fresh.{IsFreshKernel, IsFreshSeat};
 
 use crate::clients::fresh_seats;
@@ -19,7 +20,7 @@ pub fn open_fresh<M: Media + Drop, B: MediaMaker<M>>(
     geometry: &Geometry,
 ) -> Result<System<M>, OpenError>
     ensures kernel { IfOk result (λ w. IsFreshKernel w.kernel) }
-    ensures seats { IfOk result (λ w. All (IsFreshSeat M.seen) w.seats) }
+    ensures seats { IfOk result (λ w. (table : TableId) × All (IsFreshSeat M.Media table) w.seats) }
 {
     let kernel = fresh_kernel(alloc, maker, geometry)?;
     let seats = fresh_seats(alloc, maker)?;

@@ -16,7 +16,7 @@ use Rattle.file_graph.specs.declared.effect.Effect.{Effect}
 use Rattle.file_graph.specs.declared.effect.Effect.TheVariants as effect
 use Rattle.graph_change.specs.Bytes.{Length, Grown, Cut, end, grown_to}
 use Rattle.graph_change.specs.Net.{Base, Kept, Made, Gone, Child}
-use Rattle.graph_change.specs.Change.{Change, Changes, subject, new_change, change_after, change_at, with_effect, with_effects, coalesced}
+use Rattle.graph_change.specs.Change.{Change, Changes, subject, new_change, change_after, change_at, with_effect, with_effects, coalesced_changes}
 use Rattle.graph_change.specs.Bounds.{is_bounded, LeadsToInode, IsBounded, AreBounded}
 use Rattle.graph_change.proofs.Law.{change_put, empty_at}
 use Rattle.graph_change.proofs.Tidying.{both_true, sized_end}
@@ -102,5 +102,5 @@ bounded_many : (es : List Effect) (cs : Changes) → AllByRecursion (λ e. is_bo
 bounded_many [] cs all b = b
 bounded_many (e ∷ es) cs all b = bounded_many es (with_effect e cs) all.1 (bounded_one e cs all.0 b)
 
-pub bounded_coalesced : (es : List Effect) → AllByRecursion (λ e. is_bounded e ≡ true) es → AreBounded (coalesced es)
+pub bounded_coalesced : (es : List Effect) → AllByRecursion (λ e. is_bounded e ≡ true) es → AreBounded (coalesced_changes es)
 bounded_coalesced es all = bounded_many es fin.empty all bounded_none

@@ -6,38 +6,38 @@ use Rattle.std.proofs.lemmas.Bool.Decides.{nat_tests}
 use Rattle.std.proofs.lemmas.List.{get_or-drop, get_or_append_left, get_or-append_right, get_or_past, ext_get_or}
 use Rattle.std.proofs.lemmas.List.FromFn.{length-map-range_with_len, get_or-map-range_with_len}
 use Rattle.std.proofs.lemmas.Grind.{common_steps}
-use Rattle.file_graph.specs.posix_calls.Content.{resized, written}
+use Rattle.file_graph.specs.posix_calls.Content.{with_length, with_bytes}
 use Rattle.graph_change.specs.Bytes.{BytesChange, Length, Grown, Cut, end, length_after, kept_byte, no_bytes, byte_after, bytes_after, grown_to, sized_to, in_run, with_write, with_size, IsOrdered, IsTidy}
 
-length_resized : (n : ℕ) (bs : List ℕ) → length (resized n bs) ≡ n
+length_resized : (n : ℕ) (bs : List ℕ) → length (with_length n bs) ≡ n
 length_resized n bs = grind (arith, common_steps)
 
-resized_in : (n : ℕ) (bs : List ℕ) (i : ℕ) → i < n → get_or (resized n bs) i 0 ≡ get_or bs i 0
+resized_in : (n : ℕ) (bs : List ℕ) (i : ℕ) → i < n → get_or (with_length n bs) i 0 ≡ get_or bs i 0
 resized_in n bs i h = grind (arith, common_steps, get_or_past)
 
-length_written : (old : List ℕ) (at : ℕ) (bytes : List ℕ) → length (written at bytes old) ≡ max (length old) (at + length bytes)
+length_written : (old : List ℕ) (at : ℕ) (bytes : List ℕ) → length (with_bytes at bytes old) ≡ max (length old) (at + length bytes)
 length_written old at bytes = grind (arith, common_steps)
 
-front : (old : List ℕ) (at : ℕ) (bytes : List ℕ) → length (resized at old ++ bytes) ≡ at + length bytes
+front : (old : List ℕ) (at : ℕ) (bytes : List ℕ) → length (with_length at old ++ bytes) ≡ at + length bytes
 front old at bytes = grind (arith, common_steps)
 
-over_before : (old : List ℕ) (at : ℕ) (bytes : List ℕ) (i : ℕ) → i < at → get_or (written at bytes old) i 0 ≡ get_or old i 0
+over_before : (old : List ℕ) (at : ℕ) (bytes : List ℕ) (i : ℕ) → i < at → get_or (with_bytes at bytes old) i 0 ≡ get_or old i 0
 over_before old at bytes i h =
     let e = length_resized at old in
     let f = front old at bytes in
-    get_or_append_left (resized at old ++ bytes) (drop (at + length bytes) old) 0 i (omega (arith, f))
-    ∙ get_or_append_left (resized at old) bytes 0 i (omega (arith, e))
+    get_or_append_left (with_length at old ++ bytes) (drop (at + length bytes) old) 0 i (omega (arith, f))
+    ∙ get_or_append_left (with_length at old) bytes 0 i (omega (arith, e))
     ∙ resized_in at old i h
 
-over_in : (old : List ℕ) (at : ℕ) (bytes : List ℕ) (i : ℕ) → at ≤ i → i < at + length bytes → get_or (written at bytes old) i 0 ≡ get_or bytes (i - at) 0
+over_in : (old : List ℕ) (at : ℕ) (bytes : List ℕ) (i : ℕ) → at ≤ i → i < at + length bytes → get_or (with_bytes at bytes old) i 0 ≡ get_or bytes (i - at) 0
 over_in old at bytes i low high =
     let f = front old at bytes in
-    get_or_append_left (resized at old ++ bytes) (drop (at + length bytes) old) 0 i (omega (arith, f))
-    ∙ get_or-append_right (resized at old) bytes at i 0 (length_resized at old) low
+    get_or_append_left (with_length at old ++ bytes) (drop (at + length bytes) old) 0 i (omega (arith, f))
+    ∙ get_or-append_right (with_length at old) bytes at i 0 (length_resized at old) low
 
-over_past : (old : List ℕ) (at : ℕ) (bytes : List ℕ) (i : ℕ) → at + length bytes ≤ i → get_or (written at bytes old) i 0 ≡ get_or old i 0
+over_past : (old : List ℕ) (at : ℕ) (bytes : List ℕ) (i : ℕ) → at + length bytes ≤ i → get_or (with_bytes at bytes old) i 0 ≡ get_or old i 0
 over_past old at bytes i low =
-    get_or-append_right (resized at old ++ bytes) (drop (at + length bytes) old) (at + length bytes) i 0 (front old at bytes) low
+    get_or-append_right (with_length at old ++ bytes) (drop (at + length bytes) old) (at + length bytes) i 0 (front old at bytes) low
     ∙ get_or-drop (at + length bytes) old (i - (at + length bytes)) 0
     ∙ ap (λ k. get_or old k 0) (omega arith)
 
@@ -113,7 +113,7 @@ size_byte n c old i h =
     ap (λ o. byte_of o (kept_byte (sized_to n c.length) old i)) (below i n (c.new i) None h)
     ∙ ap (byte_of (c.new i)) (size_left n c.length old i h)
 
-pub size_law : (n : ℕ) (c : BytesChange) (old : List ℕ) → IsTidy c → bytes_after (with_size n c) old ≡ resized n (bytes_after c old)
+pub size_law : (n : ℕ) (c : BytesChange) (old : List ℕ) → IsTidy c → bytes_after (with_size n c) old ≡ with_length n (bytes_after c old)
 size_law n c old tidy =
     let one = length_bytes (with_size n c) old ∙ size_length n c.length (length old) in
     ext_get_or 0 _ _ (one ∙ sym (length_resized n (bytes_after c old))) (λ i h.
@@ -160,7 +160,7 @@ tidy_write at bytes c tidy =
 write_byte : (at : ℕ) (bytes : List ℕ) (c : BytesChange) (old : List ℕ) (i : ℕ) → byte_after (with_write at bytes c) old i ≡ byte_of (if in_run at (length bytes) i then Some (get_or bytes (i - at) 0) else c.new i) (kept_byte c.length old i)
 write_byte at bytes c old i = ap (byte_of (if in_run at (length bytes) i then Some (get_or bytes (i - at) 0) else c.new i)) (write_left (at + length bytes) c.length old i)
 
-write_over : (at : ℕ) (bytes : List ℕ) (c : BytesChange) (old : List ℕ) (i : ℕ) → IsTidy c → byte_after (with_write at bytes c) old i ≡ get_or (written at bytes (bytes_after c old)) i 0
+write_over : (at : ℕ) (bytes : List ℕ) (c : BytesChange) (old : List ℕ) (i : ℕ) → IsTidy c → byte_after (with_write at bytes c) old i ≡ get_or (with_bytes at bytes (bytes_after c old)) i 0
 write_over at bytes c old i tidy =
     let chosen = λ (o : Option ℕ). byte_of o (kept_byte c.length old i) in
     let new : Option ℕ = Some (get_or bytes (i - at) 0) in
@@ -172,7 +172,7 @@ write_over at bytes c old i tidy =
       ]
     ]
 
-pub write_law : (at : ℕ) (bytes : List ℕ) (c : BytesChange) (old : List ℕ) → IsTidy c → bytes_after (with_write at bytes c) old ≡ written at bytes (bytes_after c old)
+pub write_law : (at : ℕ) (bytes : List ℕ) (c : BytesChange) (old : List ℕ) → IsTidy c → bytes_after (with_write at bytes c) old ≡ with_bytes at bytes (bytes_after c old)
 write_law at bytes c old tidy =
     ext_get_or 0 _ _
     (length_bytes (with_write at bytes c) old ∙ write_length (at + length bytes) c.length (length old)

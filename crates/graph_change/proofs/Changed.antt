@@ -12,7 +12,7 @@ use Rattle.std.proofs.Math.Seq.{get_or-append_seam}
 use Rattle.file_graph.specs.posix_calls.declared.limits.TheConstants.{UNIT_BYTES}
 use Rattle.graph_change.specs.Bytes.{in_run}
 use Rattle.graph_change.specs.Change.{Patch, Patches, patch_at, span, put_patch, over_patch, put_blocks}
-use Rattle.graph_change.specs.Changed.{block_at, ChangedFrom, SetFrom}
+use Rattle.graph_change.specs.BlockChanges.{block_at, ChangedFrom, SetFrom}
 use Rattle.graph_change.specs.Memory.{AddsBlanks}
 use Rattle.graph_change.specs.View.{patch_of}
 use Rattle.graph_change.proofs.Blocks.{get_put, any_range}

@@ -8,10 +8,10 @@ use Rattle.std.proofs.lemmas.Bool.Decides.{eqb_tells}
 use Rattle.file_graph.specs.posix_calls.declared.limits.TheConstants.{UNIT_BYTES}
 use Rattle.file_graph.specs.declared.effect.Effect.{Effect}
 use Rattle.file_graph.specs.declared.effect.Effect.TheVariants as effect
-use Rattle.file_graph.specs.Graph.{Graph, Node, subjects, is_among, acted, after_effect, after_effects}
+use Rattle.file_graph.specs.Graph.{Graph, Node, subjects, is_among, subject_after, after_effect, after_effects}
 use Rattle.graph_change.specs.Bytes.{Grown, IsTidy, grown_to, sized_to}
 use Rattle.graph_change.specs.Net.{Base, Net, Kept, Made, Gone, from_base, node_after, net_after}
-use Rattle.graph_change.specs.Change.{Change, Changes, blank, new_in, subject, new_change, net_of, change_after, change_at, changed, with_effect, with_effects, coalesced}
+use Rattle.graph_change.specs.Change.{Change, Changes, blank, new_in, subject, new_change, net_of, change_after, change_at, changed_graph, with_effect, with_effects, coalesced_changes}
 use Rattle.graph_change.proofs.Blocks.{value_put, write_written, cut_new}
 use Rattle.graph_change.proofs.Nodes.{one_more, tidy_after, stays}
 use Rattle.graph_change.proofs.Bytes.{tidy_nothing}
@@ -53,8 +53,8 @@ among_one j s = elim (eqb_tells j s) [
   ]
 ]
 
-acts_there : (g : Graph) (e : Effect) (j : ℕ) → after_effect g e j ≡ (if j == subject e then acted e (g j) else g j)
-acts_there g e j = ap (λ is. cond (is_among j is) (acted e (g j)) (g j)) (subject_alone e) ∙ ap (λ b. cond b (acted e (g j)) (g j)) (among_one j (subject e))
+acts_there : (g : Graph) (e : Effect) (j : ℕ) → after_effect g e j ≡ (if j == subject e then subject_after e (g j) else g j)
+acts_there g e j = ap (λ is. cond (is_among j is) (subject_after e (g j)) (g j)) (subject_alone e) ∙ ap (λ b. cond b (subject_after e (g j)) (g j)) (among_one j (subject e))
 
 -- ---- all inodes
 
@@ -65,7 +65,7 @@ AreTidy cs = (i : ℕ) → IsTidy (net_of (change_at cs i)).bytes
 pub change_put : (e : Effect) (cs : Changes) (j : ℕ) → change_at (with_effect e cs) j ≡ (if j == subject e then change_after e (change_at cs (subject e)) else change_at cs j)
 change_put e cs j = value_put (new_change Kept) (subject e) (change_after e (change_at cs (subject e))) cs j
 
-effect_at : (e : Effect) (cs : Changes) (g : Graph) (j : ℕ) → AreTidy cs → changed (with_effect e cs) g j ≡ after_effect (changed cs g) e j
+effect_at : (e : Effect) (cs : Changes) (g : Graph) (j : ℕ) → AreTidy cs → changed_graph (with_effect e cs) g j ≡ after_effect (changed_graph cs g) e j
 effect_at e cs g j tidy =
     let s = subject e in
     let c = change_after e (change_at cs s) in
@@ -74,11 +74,11 @@ effect_at e cs g j tidy =
           ap (λ x. node_after (net_of x) (g j)) (change_put e cs j ∙ ap (λ b. cond b c (change_at cs j)) here.0)
           ∙ ap (λ n. node_after n (g j)) (stands e (change_at cs s))
           ∙ one_more e (net_of (change_at cs s)) (g j) (tidy s)
-          ∙ ap (λ k. acted e (node_after (net_of (change_at cs k)) (g j))) (sym here.1)
-          ∙ sym (acts_there (changed cs g) e j ∙ ap (λ b. cond b (acted e (changed cs g j)) (changed cs g j)) here.0)
+          ∙ ap (λ k. subject_after e (node_after (net_of (change_at cs k)) (g j))) (sym here.1)
+          ∙ sym (acts_there (changed_graph cs g) e j ∙ ap (λ b. cond b (subject_after e (changed_graph cs g j)) (changed_graph cs g j)) here.0)
       | inr off ↦
           ap (λ x. node_after (net_of x) (g j)) (change_put e cs j ∙ ap (λ b. cond b c (change_at cs j)) off.0)
-          ∙ sym (acts_there (changed cs g) e j ∙ ap (λ b. cond b (acted e (changed cs g j)) (changed cs g j)) off.0)
+          ∙ sym (acts_there (changed_graph cs g) e j ∙ ap (λ b. cond b (subject_after e (changed_graph cs g j)) (changed_graph cs g j)) off.0)
     ]
 
 pub tidy_with : (e : Effect) (cs : Changes) → AreTidy cs → AreTidy (with_effect e cs)
@@ -92,10 +92,10 @@ tidy_with e cs tidy j =
     ]
 
 -- one more effect is done last
-pub one_more_effect : (e : Effect) (cs : Changes) (g : Graph) → AreTidy cs → changed (with_effect e cs) g ≡ after_effect (changed cs g) e
+pub one_more_effect : (e : Effect) (cs : Changes) (g : Graph) → AreTidy cs → changed_graph (with_effect e cs) g ≡ after_effect (changed_graph cs g) e
 one_more_effect e cs g tidy = λ t j. effect_at e cs g j tidy t
 
-pub more_effects : (es : List Effect) (cs : Changes) (g : Graph) → AreTidy cs → changed (with_effects cs es) g ≡ after_effects (changed cs g) es
+pub more_effects : (es : List Effect) (cs : Changes) (g : Graph) → AreTidy cs → changed_graph (with_effects cs es) g ≡ after_effects (changed_graph cs g) es
 more_effects [] cs g tidy = refl
 more_effects (e ∷ es) cs g tidy = more_effects es (with_effect e cs) g (tidy_with e cs tidy) ∙ ap (λ h. after_effects h es) (one_more_effect e cs g tidy)
 
@@ -111,5 +111,5 @@ untouched x i = ap (λ c. node_after (net_of c) x) (empty_at i) ∙ ap (λ n. no
 tidy_empty : AreTidy fin.empty
 tidy_empty i = subst (λ (x : Change). IsTidy (net_of x).bytes) (sym (empty_at i)) tidy_nothing_put
 
-pub coalesced_law : (es : List Effect) (g : Graph) → changed (coalesced es) g ≡ after_effects g es
+pub coalesced_law : (es : List Effect) (g : Graph) → changed_graph (coalesced_changes es) g ≡ after_effects g es
 coalesced_law es g = more_effects es fin.empty g tidy_empty ∙ ap (λ h. after_effects h es) (λ t i. untouched (g i) i t)

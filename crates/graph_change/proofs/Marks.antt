@@ -11,8 +11,8 @@ use Rattle.std.proofs.lemmas.List.Folds.{sum_by-replicate}
 use Rattle.std.proofs.lemmas.List.Sums.{count_by-le-length, sum_by-append, sum_by-take-drop}
 use Rattle.file_graph.specs.posix_calls.declared.limits.TheConstants.{UNIT_BYTES}
 use Rattle.graph_change.specs.Bytes.{in_run}
-use Rattle.graph_change.specs.Change.{patched, put_patch, cut_patch, IsWhole}
-use Rattle.graph_change.specs.Kept.{bytes_in, is_set, kept_marks, marks_in, IsKept}
+use Rattle.graph_change.specs.Change.{patched_bytes, put_patch, cut_patch, IsWhole}
+use Rattle.graph_change.specs.KeptBytes.{bytes_in, is_set, kept_marks, marks_in, IsKept}
 use Rattle.graph_change.specs.View.{patch_of}
 use Rattle.graph_change.proofs.Overs.{patched_long, patched_at}
 
@@ -237,7 +237,7 @@ whole_by_count slots n kept = (there, back)
 pub whole_byte : (bytes : List ℕ) (marks : List Bool) (n p : ℕ) → n ≡ UNIT_BYTES → p < UNIT_BYTES → patch_of (bytes, marks_in n marks) p ≡ Some (get_or bytes p 0)
 whole_byte bytes marks n p is lt = marked bytes (marks_in n marks) p (ap (λ ms. get_or ms p false) (marks_all n marks is) ∙ get_or-replicate UNIT_BYTES p true false lt)
 
-pub all_put_over : (bytes : List ℕ) (marks : List Bool) (n : ℕ) (old : List ℕ) → n ≡ UNIT_BYTES → length bytes ≡ UNIT_BYTES → length old ≡ UNIT_BYTES → bytes ≡ patched (patch_of (bytes, marks_in n marks)) old
+pub all_put_over : (bytes : List ℕ) (marks : List Bool) (n : ℕ) (old : List ℕ) → n ≡ UNIT_BYTES → length bytes ≡ UNIT_BYTES → length old ≡ UNIT_BYTES → bytes ≡ patched_bytes (patch_of (bytes, marks_in n marks)) old
 all_put_over bytes marks n old is long old_long =
     let patch = patch_of (bytes, marks_in n marks) in
     ext_get_or 0 _ _ (long ∙ sym old_long ∙ sym (patched_long patch old)) (λ p lt.
@@ -249,7 +249,7 @@ unset zero p = refl
 unset (suc n) zero = refl
 unset (suc n) (suc p) = unset n p
 
-pub none_put_over : (bytes : List ℕ) (marks : List Bool) (n : ℕ) (old : List ℕ) → n ≡ 0 → old ≡ patched (patch_of (bytes, marks_in n marks)) old
+pub none_put_over : (bytes : List ℕ) (marks : List Bool) (n : ℕ) (old : List ℕ) → n ≡ 0 → old ≡ patched_bytes (patch_of (bytes, marks_in n marks)) old
 none_put_over bytes marks n old is =
     let patch = patch_of (bytes, marks_in n marks) in
     ext_get_or 0 _ _ (sym (patched_long patch old)) (λ p lt.

@@ -1,13 +1,13 @@
 -- The net change with one more effect is the net change and then the effect, of every node, of any kind or none.
 use Rattle.std.proofs.Common.{◌≡◌, ℕ, List, refl, Some, None, Option, ap}
 use Rattle.std.specs.Prelude.{option_map}
-use Rattle.file_graph.specs.posix_calls.Content.{resized, written}
+use Rattle.file_graph.specs.posix_calls.Content.{with_length, with_bytes}
 use Rattle.file_graph.specs.declared.effect.Effect.{Effect}
 use Rattle.file_graph.specs.declared.effect.Effect.TheVariants as effect
 use Rattle.std.specs.FinMap as fin
-use Rattle.file_graph.specs.Graph.{Node, Body, FileBody, DirBody, empty_body, in_file, in_directory, acted}
+use Rattle.file_graph.specs.Graph.{Node, Body, FileBody, DirBody, empty_body, in_file, in_directory, subject_after}
 use Rattle.graph_change.specs.Bytes.{BytesChange, IsTidy, no_bytes, with_size, with_write}
-use Rattle.graph_change.specs.Net.{Child, Net, EntryChanges, Kept, with_entry, from_base, based, body_after, names_after, node_after, net_after}
+use Rattle.graph_change.specs.Net.{Child, Net, EntryChanges, Kept, with_entry, from_base, base_node, body_after, names_after, node_after, net_after}
 use Rattle.graph_change.proofs.Bytes.{size_law, write_law, tidy_size, tidy_write, tidy_nothing, nothing_after}
 use Rattle.graph_change.proofs.Entries.{entries_law, no_entries}
 
@@ -15,11 +15,11 @@ mapped : (f g h : Node → Node) (o : Option Node) → ((n : Node) → f n ≡ g
 mapped f g h None same = refl
 mapped f g h (Some n) same = ap Some (same n)
 
-size_body : (n : ℕ) (c : BytesChange) (cs : EntryChanges) (b : Body) → IsTidy c → body_after (with_size n c) cs b ≡ in_file (resized n) (body_after c cs b)
+size_body : (n : ℕ) (c : BytesChange) (cs : EntryChanges) (b : Body) → IsTidy c → body_after (with_size n c) cs b ≡ in_file (with_length n) (body_after c cs b)
 size_body n c cs (FileBody old) tidy = ap FileBody (size_law n c old tidy)
 size_body n c cs (DirBody old) tidy = refl
 
-write_body : (at : ℕ) (text : List ℕ) (c : BytesChange) (cs : EntryChanges) (b : Body) → IsTidy c → body_after (with_write at text c) cs b ≡ in_file (written at text) (body_after c cs b)
+write_body : (at : ℕ) (text : List ℕ) (c : BytesChange) (cs : EntryChanges) (b : Body) → IsTidy c → body_after (with_write at text c) cs b ≡ in_file (with_bytes at text) (body_after c cs b)
 write_body at text c cs (FileBody old) tidy = ap FileBody (write_law at text c old tidy)
 write_body at text c cs (DirBody old) tidy = refl
 
@@ -32,13 +32,13 @@ no_body (FileBody old) = ap FileBody (nothing_after old)
 no_body (DirBody old) = ap DirBody (no_entries old)
 
 -- the law at one inode
-pub one_more : (e : Effect) (c : Net) (x : Option Node) → IsTidy c.bytes → node_after (net_after e c) x ≡ acted e (node_after c x)
+pub one_more : (e : Effect) (c : Net) (x : Option Node) → IsTidy c.bytes → node_after (net_after e c) x ≡ subject_after e (node_after c x)
 one_more (effect.Make i k) c x tidy = ap (λ b. Some (record { names = 0; body = b })) (no_body (empty_body k))
-one_more (effect.Enter d i k name) c x tidy = mapped _ _ _ (based c.base x) (λ n. ap (λ b. record { names = names_after c.names n.names; body = b }) (entry_body name (Some (i, k)) c.bytes c.entries n.body))
-one_more (effect.Leave d name) c x tidy = mapped _ _ _ (based c.base x) (λ n. ap (λ b. record { names = names_after c.names n.names; body = b }) (entry_body name None c.bytes c.entries n.body))
-one_more (effect.Names i m) c x tidy = mapped _ _ _ (based c.base x) (λ n. refl)
-one_more (effect.Size i size) c x tidy = mapped _ _ _ (based c.base x) (λ n. ap (λ b. record { names = names_after c.names n.names; body = b }) (size_body size c.bytes c.entries n.body tidy))
-one_more (effect.Bytes i at text) c x tidy = mapped _ _ _ (based c.base x) (λ n. ap (λ b. record { names = names_after c.names n.names; body = b }) (write_body at text c.bytes c.entries n.body tidy))
+one_more (effect.Enter d i k name) c x tidy = mapped _ _ _ (base_node c.base x) (λ n. ap (λ b. record { names = names_after c.names n.names; body = b }) (entry_body name (Some (i, k)) c.bytes c.entries n.body))
+one_more (effect.Leave d name) c x tidy = mapped _ _ _ (base_node c.base x) (λ n. ap (λ b. record { names = names_after c.names n.names; body = b }) (entry_body name None c.bytes c.entries n.body))
+one_more (effect.Names i m) c x tidy = mapped _ _ _ (base_node c.base x) (λ n. refl)
+one_more (effect.Size i size) c x tidy = mapped _ _ _ (base_node c.base x) (λ n. ap (λ b. record { names = names_after c.names n.names; body = b }) (size_body size c.bytes c.entries n.body tidy))
+one_more (effect.Bytes i at text) c x tidy = mapped _ _ _ (base_node c.base x) (λ n. ap (λ b. record { names = names_after c.names n.names; body = b }) (write_body at text c.bytes c.entries n.body tidy))
 one_more (effect.Drop i) c x tidy = refl
 
 pub tidy_after : (e : Effect) (c : Net) → IsTidy c.bytes → IsTidy (net_after e c).bytes

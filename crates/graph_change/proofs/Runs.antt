@@ -7,7 +7,7 @@ use Rattle.std.proofs.lemmas.Grind.{common_steps}
 use Rattle.std.proofs.lemmas.List.{ext_get_or}
 use Rattle.file_graph.specs.posix_calls.declared.limits.TheConstants.{UNIT_BYTES}
 use Rattle.graph_change.specs.Bytes.{in_run}
-use Rattle.graph_change.specs.Change.{Patch, blank, cut_patch, put_patch, patched, IsWhole}
+use Rattle.graph_change.specs.Change.{Patch, blank, cut_patch, put_patch, patched_bytes, IsWhole}
 use Rattle.graph_change.specs.Runs.{run_at}
 use Rattle.graph_change.specs.View.{patch_of}
 use Rattle.graph_change.proofs.Overs.{patched_long, patched_at}
@@ -30,7 +30,7 @@ pub run_cut : (first place : ℕ) (run : List ℕ) (p : ℕ) → put_patch first
 run_cut first place run p = grind (arith, nat_tests, common_steps)
 
 -- a run that is put over the bytes of a block
-pub over_run : (place : ℕ) (part old : List ℕ) → place + length part ≤ length old → take place old ++ part ++ drop (place + length part) old ≡ patched (put_patch place part blank) old
+pub over_run : (place : ℕ) (part old : List ℕ) → place + length part ≤ length old → take place old ++ part ++ drop (place + length part) old ≡ patched_bytes (put_patch place part blank) old
 over_run place part old within =
     let patch : Patch = put_patch place part blank in
     let long : length (take place old ++ part ++ drop (place + length part) old) ≡ length old = grind (arith, common_steps) in
@@ -60,7 +60,7 @@ over_run place part old within =
     ]
 
 -- where nothing is put, each byte stays
-pub none_over : (patch : Patch) (old : List ℕ) → ((p : ℕ) → patch p ≡ None) → old ≡ patched patch old
+pub none_over : (patch : Patch) (old : List ℕ) → ((p : ℕ) → patch p ≡ None) → old ≡ patched_bytes patch old
 none_over patch old none =
     ext_get_or 0 _ _ (sym (patched_long patch old)) (λ p lt. sym (patched_at patch old p lt ∙ ap (λ o. unwrap_or o (get_or old p 0)) (none p)))
 

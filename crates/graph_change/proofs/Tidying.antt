@@ -10,7 +10,7 @@ use Rattle.file_graph.specs.declared.effect.Effect.{Effect}
 use Rattle.file_graph.specs.declared.effect.Effect.TheVariants as effect
 use Rattle.graph_change.specs.Bytes.{Length, Grown, Cut, IsOrdered, IsTidy, end, grown_to, sized_to}
 use Rattle.graph_change.specs.Net.{Base, Kept, Made, Gone, Net}
-use Rattle.graph_change.specs.Change.{Patch, Patches, Change, Changes, subject, span, put_blocks, cut_patches, new_change, net_of, change_after, change_at, with_effect, with_effects, coalesced, ends_within, cuts_within, writes_block}
+use Rattle.graph_change.specs.Change.{Patch, Patches, Change, Changes, subject, span, put_blocks, cut_patches, new_change, net_of, change_after, change_at, with_effect, with_effects, coalesced_changes, ends_within, cuts_within, writes_block}
 use Rattle.graph_change.specs.Tidy.{IsTidyChange, AreTidyChanges}
 use Rattle.graph_change.proofs.Blocks.{begun, get_begun}
 use Rattle.graph_change.proofs.Bytes.{tidy_nothing}
@@ -129,5 +129,5 @@ tidy_many : (es : List Effect) (cs : Changes) → AreTidyChanges cs → AreTidyC
 tidy_many [] cs tidy = tidy
 tidy_many (e ∷ es) cs tidy = tidy_many es (with_effect e cs) (tidy_one e cs tidy)
 
-pub tidy_coalesced : (es : List Effect) → AreTidyChanges (coalesced es)
+pub tidy_coalesced : (es : List Effect) → AreTidyChanges (coalesced_changes es)
 tidy_coalesced es = tidy_many es fin.empty tidy_none

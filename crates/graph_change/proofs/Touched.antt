@@ -11,7 +11,7 @@ use Rattle.file_graph.specs.declared.effect.Effect.{Effect}
 use Rattle.file_graph.specs.declared.effect.Effect.TheVariants as effect
 use Rattle.graph_change.specs.Bytes.{Length, Grown, Cut, grown_to, sized_to}
 use Rattle.graph_change.specs.Net.{Base, Kept, Made, Gone}
-use Rattle.graph_change.specs.Change.{Patch, Patches, Change, Changes, Coalesces, subject, span, over_patch, patch_at, put_block, put_blocks, cut_patch, cut_patches, new_change, change_after, change_at, with_effect, with_effects, coalesced, ends_within, cuts_within, writes_block, touches_block, changes_inode, changes_block}
+use Rattle.graph_change.specs.Change.{Patch, Patches, Change, Changes, Coalesces, subject, span, over_patch, patch_at, put_block, put_blocks, cut_patch, cut_patches, new_change, change_after, change_at, with_effect, with_effects, coalesced_changes, ends_within, cuts_within, writes_block, touches_block, changes_inode, changes_block}
 use Rattle.graph_change.proofs.Blocks.{get_put, get_begun, begun}
 use Rattle.graph_change.proofs.Law.{change_put, empty_at, coalesced_law}
 
@@ -166,7 +166,7 @@ with_blocks (e ∷ es) cs i b h =
       | inr rest ↦ or_right (writes_block (change_at cs i) b) (here || changes_block es i b) (or_right here (changes_block es i b) rest)
     ]
 
-pub coalesces : (es : List Effect) → Coalesces es (coalesced es)
+pub coalesces : (es : List Effect) → Coalesces es (coalesced_changes es)
 coalesces es = record {
   meaning = coalesced_law es;
   inodes = λ i. with_has es fin.empty i ∙ ap (λ o. is_some o || changes_inode es i) (fin.get-empty nat_cmp i);

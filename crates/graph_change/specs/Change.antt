@@ -95,8 +95,8 @@ change_after (effect.Bytes i at bytes) c = record c { length = grown_to (at + le
 change_after (effect.Drop i) c = new_change Gone
 
 -- the bytes of a block, with those that are put over them
-abbrev pub patched : Patch → List ℕ → List ℕ
-patched patch old = map (λ p. unwrap_or (patch p) (get_or old p 0)) (range_with_len 0 (length old))
+abbrev pub patched_bytes : Patch → List ℕ → List ℕ
+patched_bytes patch old = map (λ p. unwrap_or (patch p) (get_or old p 0)) (range_with_len 0 (length old))
 
 -- a byte is put at each place of the block
 abbrev pub IsWhole : Patch → Type 0
@@ -126,8 +126,8 @@ abbrev pub change_at : Changes → ℕ → Change
 change_at cs i = unwrap_or (fin.get cs i) (new_change Kept)
 
 -- the graph after it
-abbrev pub changed : Changes → Graph → Graph
-changed cs g i = node_after (net_of (change_at cs i)) (g i)
+abbrev pub changed_graph : Changes → Graph → Graph
+changed_graph cs g i = node_after (net_of (change_at cs i)) (g i)
 
 -- with one more effect
 abbrev pub with_effect : Effect → Changes → Changes
@@ -139,8 +139,8 @@ with_effects cs [] = cs
 with_effects cs (e ∷ es) = with_effects (with_effect e cs) es
 
 -- what effects come to
-abbrev pub coalesced : List Effect → Changes
-coalesced = with_effects fin.empty
+abbrev pub coalesced_changes : List Effect → Changes
+coalesced_changes = with_effects fin.empty
 
 -- ---- what effects touch
 
@@ -161,6 +161,6 @@ changes_block es i b = list_any (λ e. i == subject e && touches_block e b) es
 -- a change makes of every graph what effects make of it; the inodes in it are those that the effects are on, and no block changes that they leave
 -- alone; each stands in it once, since it is a map
 pub record Coalesces (es : List Effect) (cs : Changes) : Type 0 where
-  pub meaning : (g : Graph) → changed cs g ≡ after_effects g es
+  pub meaning : (g : Graph) → changed_graph cs g ≡ after_effects g es
   pub inodes : (i : ℕ) → fin.contains_key cs i ≡ changes_inode es i
   pub blocks : (i b : ℕ) → writes_block (change_at cs i) b ≡ true → changes_block es i b ≡ true

@@ -1,8 +1,8 @@
 pub mod Bounds
 pub mod Bytes
 pub mod Change
-pub mod Changed
-pub mod Kept
+pub mod BlockChanges
+pub mod KeptBytes
 pub mod Memory
 pub mod Net
 pub mod Runs

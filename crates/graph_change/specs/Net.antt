@@ -50,10 +50,10 @@ from_base base = record { base = base; names = None; bytes = no_bytes; entries =
 -- ---- what it makes of a node
 
 -- what the rest starts from
-abbrev pub based : Base → Option Node → Option Node
-based Kept old = old
-based (Made kind) old = Some (record { names = 0; body = empty_body kind })
-based Gone old = None
+abbrev pub base_node : Base → Option Node → Option Node
+base_node Kept old = old
+base_node (Made kind) old = Some (record { names = 0; body = empty_body kind })
+base_node Gone old = None
 
 -- the number of names after it
 abbrev pub names_after : Option ℕ → ℕ → ℕ
@@ -66,12 +66,12 @@ body_after bytes entries (FileBody old) = FileBody (bytes_after bytes old)
 body_after bytes entries (DirBody old) = DirBody (entries_after entries old)
 
 -- a node after the parts of it
-abbrev pub edited : Net → Node → Node
-edited c n = record { names = names_after c.names n.names; body = body_after c.bytes c.entries n.body }
+abbrev pub edited_node : Net → Node → Node
+edited_node c n = record { names = names_after c.names n.names; body = body_after c.bytes c.entries n.body }
 
 -- what stands at the inode after it
 abbrev pub node_after : Net → Option Node → Option Node
-node_after c old = option_map (edited c) (based c.base old)
+node_after c old = option_map (edited_node c) (base_node c.base old)
 
 -- ---- one more effect
 

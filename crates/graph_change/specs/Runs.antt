@@ -1,8 +1,8 @@
 -- How what is put into a block is kept: as a run of bytes that others share, or as bytes of its own.
 use Rattle.std.specs.Prelude.{ℕ, ◌+◌, ◌≤◌, List, [], ◌++◌, length, Bool, true, false, replicate}
 use Rattle.file_graph.specs.posix_calls.declared.limits.TheConstants.{UNIT_BYTES}
-use Rattle.graph_change.specs.declared.kept.Kept.{Kept}
-use Rattle.graph_change.specs.declared.kept.Kept.TheVariants.{Nothing, Run, Own}
+use Rattle.graph_change.specs.declared.kept_bytes.Kept.{Kept}
+use Rattle.graph_change.specs.declared.kept_bytes.Kept.TheVariants.{Nothing, Run, Own}
 
 -- bytes at a place of a block, with a mark for each place up to their end: those of the bytes alone are set
 abbrev pub run_at : ℕ → List ℕ → List ℕ × List Bool

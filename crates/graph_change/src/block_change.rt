@@ -1,9 +1,9 @@
 ghost use Rattle.std.specs.Prelude.{◌≡◌, ◌≤◌, ◌+◌, ℕ, None, IsSome, length, get_or, Some, IfSome, IfOk, OnOk, OnErr, IsTrue, ◌↔◌, ◌<◌};
-ghost use Rattle.graph_change.specs.Change.{blank, cut_patch, put_patch, patched, IsWhole};
+ghost use Rattle.graph_change.specs.Change.{blank, cut_patch, put_patch, patched_bytes, IsWhole};
 ghost use Rattle.graph_change.specs.View.{patch_of};
 ghost use Rattle.file_graph.specs.posix_calls.declared.limits.TheConstants.{UNIT_BYTES};
 
-use crate::kept::Kept;
+use crate::kept_bytes::Kept;
 use crate::shared_part::SharedPart;
 use std::alloc::{AllocError, Global};
 use std::marker::Model;
@@ -80,23 +80,23 @@ impl BlockChange {
     /// Puts the bytes over those of a block.
     pub fn put_over(&self, block: &mut [u8])
         requires { length block.old ≡ UNIT_BYTES }
-        ensures { block.new ≡ patched (patch_of self.now) block.old }
+        ensures { block.new ≡ patched_bytes (patch_of self.now) block.old }
     {
         self.kept.put_over(block);
     }
 
     /// The bytes that are put, where one is put at each place: those that the block had make no difference then.
-    pub fn whole(&self) -> Option<&[u8]>
+    pub fn whole_bytes(&self) -> Option<&[u8]>
         ensures some { IfSome result (λ bytes. (length bytes.now ≡ UNIT_BYTES) × ((p : ℕ) → p < UNIT_BYTES → patch_of self.now p ≡ Some (get_or bytes.now p 0))) }
         ensures none { result ≡ None → IsWhole (patch_of self.now) → ⊥ }
     {
-        self.kept.whole()
+        self.kept.whole_bytes()
     }
 
     /// Whether a byte is put at each place, so that the bytes that the block had make no difference.
     pub fn is_whole(&self) -> bool
         ensures { IsTrue result ↔ IsWhole (patch_of self.now) }
     {
-        self.whole().is_some()
+        self.whole_bytes().is_some()
     }
 }

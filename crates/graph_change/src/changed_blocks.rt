@@ -3,7 +3,7 @@
 ghost use Rattle.std.specs.Prelude.{◌≡◌, ℕ, ◌+◌, ◌-◌, ◌*◌, ◌/◌, ◌<◌, ◌≤◌, ◌^◌, [], length, get_or, true, Some, IfOk, nat_le, nat_lt, ◌&&◌, if◌then◌else◌};
 ghost use Rattle.std.specs.FinMap as fin;
 ghost use Rattle.graph_change.specs.Change.{over_patch, patch_at};
-ghost use Rattle.graph_change.specs.Changed.{ChangedFrom, SetFrom};
+ghost use Rattle.graph_change.specs.BlockChanges.{ChangedFrom, SetFrom};
 ghost use Rattle.graph_change.specs.View.{patch_of, patches_of};
 ghost use Rattle.file_graph.specs.posix_calls.declared.limits.TheConstants.{UNIT_BYTES};
 

@@ -3,7 +3,7 @@
 //! A `GraphChange` says of each inode that it touches what becomes of the node there, of its names, of a file's length and of the
 //! bytes in each of its blocks, and of a directory's entries, each one time, however often the effects changed it. Whoever
 //! coalesces effects makes one, and whoever keeps a graph on media applies one; what it makes of a graph is a definition
-//! (`changed` in `specs/Change.antt`), and `changes_are_the_effects` says that this is what the effects make of it.
+//! (`changed_graph` in `specs/Change.antt`), and `changes_are_the_effects` says that this is what the effects make of it.
 //!
 //! The bytes of a write are not copied: each block that they lie in has a share of them, which is given up where later bytes go over all of it. Only where bytes
 //! are put over some of those of a block has it bytes of its own.
@@ -15,7 +15,7 @@
 mod block_change;
 mod changed_blocks;
 mod graph_change;
-mod kept;
+mod kept_bytes;
 mod laws;
 mod made_blocks;
 mod node_change;

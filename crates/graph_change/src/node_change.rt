@@ -70,7 +70,7 @@ impl NodeChange {
                 Ok(())
             }
             Effect::Size { size, .. } => {
-                self.length = self.length.sized(*size);
+                self.length = self.length.after_resize(*size);
                 cut_blocks(&mut self.blocks, *size);
                 Ok(())
             }
@@ -109,7 +109,7 @@ fn write(
     if at < end {
         put_bytes(alloc, blocks, at, bytes)?;
     }
-    *len = len.grown(end);
+    *len = len.after_write(end);
     Ok(())
 }
 

@@ -1,8 +1,8 @@
 ghost use Rattle.std.specs.Prelude.{◌≡◌, ◌≤◌, ◌+◌, ◌-◌, ◌*◌, ℕ, ◌++◌, take, drop, replicate, true, None, length, map, get_or, Some, IfOk, IfSome, IsTrue, ◌↔◌, ◌<◌, vec_capacity};
 ghost use Rattle.std.specs.List.{count_by};
-ghost use Rattle.graph_change.specs.Change.{cut_patch, put_patch, patched, IsWhole};
+ghost use Rattle.graph_change.specs.Change.{cut_patch, put_patch, patched_bytes, IsWhole};
 ghost use Rattle.graph_change.specs.View.{patch_of};
-ghost use Rattle.graph_change.specs.Kept.{IsKept, bytes_in, is_set, kept_marks, marks_in};
+ghost use Rattle.graph_change.specs.KeptBytes.{IsKept, bytes_in, is_set, kept_marks, marks_in};
 ghost use Rattle.file_graph.specs.posix_calls.declared.limits.TheConstants.{UNIT_BYTES};
 
 use file_graph::UNIT_BYTES;
@@ -24,7 +24,7 @@ pub struct OwnBlock {
 
 impl Model for OwnBlock {
     ghost use Rattle.std.specs.Prelude.{ℕ, List, Bool};
-    ghost use Rattle.graph_change.specs.Kept.{bytes_in, kept_marks, marks_in, IsKept};
+    ghost use Rattle.graph_change.specs.KeptBytes.{bytes_in, kept_marks, marks_in, IsKept};
 
     ghost Value = { List ℕ × List Bool };
 
@@ -75,7 +75,7 @@ impl OwnBlock {
     /// Puts the bytes over those of a block.
     pub fn put_over(&self, block: &mut [u8])
         requires { length block.old ≡ UNIT_BYTES }
-        ensures { block.new ≡ patched (patch_of self.now) block.old }
+        ensures { block.new ≡ patched_bytes (patch_of self.now) block.old }
     {
         if self.count == UNIT_BYTES as usize {
             copy(block, &self.slots[..UNIT_BYTES as usize]);
@@ -86,7 +86,7 @@ impl OwnBlock {
     }
 
     /// The bytes that are put, where one is put at each place: those that the block had make no difference then.
-    pub fn whole(&self) -> Option<&[u8]>
+    pub fn whole_bytes(&self) -> Option<&[u8]>
         ensures some { IfSome result (λ bytes. (length bytes.now ≡ UNIT_BYTES) × ((p : ℕ) → p < UNIT_BYTES → patch_of self.now p ≡ Some (get_or bytes.now p 0))) }
         ensures none { result ≡ None → IsWhole (patch_of self.now) → ⊥ }
     {
@@ -133,7 +133,7 @@ fn put_part(slots: &mut Vec<u8>, count: usize, at: usize, part: &[u8]) -> usize
     ensures kept { IsKept slots.new result }
     ensures put { (p : ℕ) → patch_of (bytes_in slots.new.items, marks_in result (kept_marks slots.new.items)) p ≡ put_patch at part.now (patch_of (bytes_in slots.old.items, marks_in count (kept_marks slots.old.items))) p }
 {
-    spread(slots, count);
+    spread_marks(slots, count);
     count + put_marking(slots, at, part)
 }
 
@@ -144,12 +144,12 @@ fn cut_from(slots: &mut Vec<u8>, count: usize, place: usize) -> usize
     ensures kept { IsKept slots.new result }
     ensures cut { (p : ℕ) → patch_of (bytes_in slots.new.items, marks_in result (kept_marks slots.new.items)) p ≡ cut_patch place (patch_of (bytes_in slots.old.items, marks_in count (kept_marks slots.old.items))) p }
 {
-    spread(slots, count);
+    spread_marks(slots, count);
     count - cut_marking(slots, place)
 }
 
 // Writes a mark for each byte, and bytes where none are put yet.
-fn spread(slots: &mut Vec<u8>, count: usize)
+fn spread_marks(slots: &mut Vec<u8>, count: usize)
     requires { IsKept slots.old count }
     ensures marks { kept_marks slots.new.items ≡ marks_in count (kept_marks slots.old.items) }
     ensures long { length slots.new.items ≡ 2 * UNIT_BYTES }
@@ -206,7 +206,7 @@ fn cut_marking(slots: &mut [u8], place: usize) -> usize
 fn put_marked(block: &mut [u8], bytes: &[u8], marks: &[u8])
     requires bytes { length bytes.now ≡ length block.old }
     requires marks { length marks.now ≡ length block.old }
-    ensures { block.new ≡ patched (patch_of (bytes.now, map is_set marks.now)) block.old }
+    ensures { block.new ≡ patched_bytes (patch_of (bytes.now, map is_set marks.now)) block.old }
 {
     'places: for place in 0..block.len() {
         block[place] = if marks[place] != 0 {

@@ -36,7 +36,7 @@ impl NodeLength {
     }
 
     /// After a write that ends there.
-    pub fn grown(self, end: u64) -> Self
+    pub fn after_write(self, end: u64) -> Self
         ensures { new_length result ≡ grown_to end (new_length self) }
     {
         match self {
@@ -49,7 +49,7 @@ impl NodeLength {
     }
 
     /// After it is set.
-    pub fn sized(self, size: u64) -> Self
+    pub fn after_resize(self, size: u64) -> Self
         ensures { new_length result ≡ sized_to size (new_length self) }
     {
         match self {

@@ -1,6 +1,6 @@
 -- Questions in the order of the inodes.
 use Rattle.std.proofs.Common.{◌≡◌, ℕ, zero, suc, ◌-◌, ◌≤◌, List, [], ◌∷◌, ◌++◌, Option, None, ap, subst, arith}
-use Rattle.graph_check.specs.Asked.{down_from}
+use Rattle.graph_check.specs.Questions.{down_from}
 
 down_one : (i : ℕ) → 1 ≤ i → i ∷ down_from (i - 1) ≡ down_from i
 unfolding down_from

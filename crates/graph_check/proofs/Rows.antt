@@ -4,7 +4,7 @@ use Rattle.std.specs.Prelude.{◌&&◌, nat_le, option_map}
 use Rattle.record_validation.specs.file_graph.Graph.{Graph, Node, FileBody, DirBody}
 use Rattle.record_validation.specs.file_graph.declared.effect.Kind.{Kind}
 use Rattle.record_validation.specs.file_graph.declared.effect.Kind.TheVariants.{File, Directory}
-use Rattle.record_validation.specs.call_effects.Effects.{stored}
+use Rattle.record_validation.specs.call_effects.Effects.{stored_count}
 use Rattle.record_validation.specs.call_effects.Wholes.{kind_of, body_kind, one_if}
 use Rattle.record_validation.specs.call_effects.NodeView.{view_of_body, view_of_node, view_at}
 use Rattle.record_validation.specs.call_effects.log_record.Grammar.{IsInode}
@@ -37,14 +37,14 @@ kind_node : (o : Option Node) → head_kind (option_map head_of (option_map view
 kind_node None = refl
 kind_node (Some n) = elim (n.body) as (λ b. head_kind (Some (head_of (view_of_body n.names b))) ≡ Some (body_kind b)) [ FileBody bytes ↦ refl | DirBody es ↦ refl ]
 
-names_node : (o : Option Node) → stored_names (option_map head_of (option_map view_of_node o)) ≡ stored o
+names_node : (o : Option Node) → stored_names (option_map head_of (option_map view_of_node o)) ≡ stored_count o
 names_node None = refl
 names_node (Some n) = elim (n.body) as (λ b. stored_names (Some (head_of (view_of_body n.names b))) ≡ n.names) [ FileBody bytes ↦ refl | DirBody es ↦ refl ]
 
 pub kind_is : (g : Graph) (i : ℕ) → IsInode i → head_kind (head_at g 1024 i) ≡ kind_of (g i)
 kind_is g i is = ap head_kind (head_is g i is.0 is.1) ∙ kind_node (g i)
 
-pub stored_is : (g : Graph) (i : ℕ) → IsInode i → stored_names (head_at g 1024 i) ≡ stored (g i)
+pub stored_is : (g : Graph) (i : ℕ) → IsInode i → stored_names (head_at g 1024 i) ≡ stored_count (g i)
 stored_is g i is = ap stored_names (head_is g i is.0 is.1) ∙ names_node (g i)
 
 pub counted_is : (g : Graph) (i : ℕ) → IsInode i → total_names i (row_of g i) ≡ counted_names g i

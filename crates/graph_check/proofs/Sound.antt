@@ -11,8 +11,8 @@ use Rattle.record_validation.specs.posix_calls.Tree.{names_of, names_in, sum_up_
 use Rattle.record_validation.specs.file_graph.Graph.{Graph, Node, FileBody, DirBody}
 use Rattle.record_validation.specs.file_graph.declared.effect.Kind.{Kind}
 use Rattle.record_validation.specs.file_graph.declared.effect.Kind.TheVariants.{File, Directory}
-use Rattle.record_validation.specs.call_effects.Effects.{stored}
-use Rattle.record_validation.specs.call_effects.Settled.{nobody}
+use Rattle.record_validation.specs.call_effects.Effects.{stored_count}
+use Rattle.record_validation.specs.call_effects.ClosedGraph.{nobody}
 use Rattle.record_validation.specs.call_effects.Wholes.{tree_of, tree_node, kind_of, body_kind, one_if, without_kinds, IsTyped, IsCounted}
 use Rattle.record_validation.specs.call_effects.NodeView.{view_at}
 use Rattle.record_validation.specs.call_effects.log_record.Grammar.{IsInode}
@@ -76,7 +76,7 @@ typed g alone root fit = record {
   in_range = λ c n o is. absurd (cc);
 }
 
--- ---- stored counts
+-- ---- stored_count counts
 
 pub first_of_pair : (o : Option (ℕ × Kind)) (i : ℕ) → option_map (λ (e : ℕ × Kind). e.0) o ≡ Some i → (e : ℕ × Kind) × (o ≡ Some e) × (e.0 ≡ i)
 first_of_pair None i is = absurd (cc)
@@ -133,7 +133,7 @@ counts g types alone fit = record {
   counted = λ i. elim (is_inode i) [
     | inl is ↦ sym (stored_is g i is) ∙ (fit i is).counted ∙ counted_is g i is
     | inr off ↦
-        let none : stored (g i) ≡ 0 = ap stored (no_node g alone i off (g i) refl) in
+        let none : stored_count (g i) ≡ 0 = ap stored_count (no_node g alone i off (g i) refl) in
         let names = unnamed g types alone i off in
         let root = off_root i off in
         omega (arith, none, names, root)

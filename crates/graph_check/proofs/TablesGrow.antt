@@ -8,7 +8,7 @@ use Rattle.std.proofs.lemmas.Bool.Decides.{eqb_tells}
 use Rattle.std.specs.FinMap as fin
 use Rattle.record_validation.specs.posix_calls.Tree.{sum_up_to}
 use Rattle.record_validation.specs.file_graph.Graph.{Graph}
-use Rattle.record_validation.specs.file_graph.Named.{pairs}
+use Rattle.record_validation.specs.file_graph.NameOrder.{pairs}
 use Rattle.record_validation.specs.file_graph.declared.effect.Kind.{Kind}
 use Rattle.record_validation.specs.file_graph.declared.effect.Kind.TheVariants.{File, Directory}
 use Rattle.record_validation.specs.file_graph.declared.name_map.NamedEntry.{NamedEntry}
@@ -16,7 +16,7 @@ use Rattle.record_validation.specs.call_effects.NodeView.{NodeView, FileView, Di
 use Rattle.record_validation.specs.Counts.{counts_of, entry_count}
 use Rattle.std.specs.Ordering.{nat_cmp}
 use Rattle.std.specs.Cmp.Lexicographic.{slice_cmp}
-use Rattle.record_validation.specs.Seen.{entries_of}
+use Rattle.record_validation.specs.NodeAnswers.{entries_of}
 use Rattle.graph_check.specs.declared.tables.NodeHead.{NodeHead}
 use Rattle.graph_check.specs.declared.tables.NameCount.{NameCount}
 use Rattle.graph_check.specs.declared.tables.Tables.{Tables}

@@ -2,7 +2,7 @@
 use Rattle.std.proofs.Common.{◌≡◌, ℕ, List, Bool, true, false, sym, subst}
 use Rattle.record_validation.specs.file_graph.Graph.{Graph}
 use Rattle.record_validation.specs.call_effects.Wholes.{IsSound}
-use Rattle.record_validation.specs.call_effects.Settled.{nobody}
+use Rattle.record_validation.specs.call_effects.ClosedGraph.{nobody}
 use Rattle.record_validation.specs.call_effects.log_record.Grammar.{IsInode}
 use Rattle.graph_check.specs.declared.defect.Defect.TheVariants as defect
 use Rattle.graph_check.specs.declared.defect.Finding.{Finding}

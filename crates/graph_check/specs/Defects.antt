@@ -8,9 +8,9 @@ use Rattle.record_validation.specs.posix_calls.declared.limits.TheConstants.{ROO
 use Rattle.record_validation.specs.file_graph.Graph.{Graph, DirBody}
 use Rattle.record_validation.specs.file_graph.declared.effect.Kind.{Kind}
 use Rattle.record_validation.specs.file_graph.declared.effect.Kind.TheVariants.{Directory}
-use Rattle.record_validation.specs.call_effects.Effects.{stored}
+use Rattle.record_validation.specs.call_effects.Effects.{stored_count}
 use Rattle.record_validation.specs.call_effects.Wholes.{tree_of, kind_of, one_if, IsSound}
-use Rattle.record_validation.specs.call_effects.Settled.{nobody}
+use Rattle.record_validation.specs.call_effects.ClosedGraph.{nobody}
 use Rattle.record_validation.specs.call_effects.log_record.Grammar.{IsInode}
 use Rattle.graph_check.specs.declared.defect.Defect.{Defect}
 use Rattle.graph_check.specs.declared.defect.Defect.TheVariants as defect
@@ -39,8 +39,8 @@ HasDirectory g i = kind_of (g i) ≡ Some Directory
 abbrev pub HasDefect : Graph → ℕ → Defect → Type 0
 HasDefect g i defect.NoRoot = (i ≡ ROOT) × (HasDirectory g ROOT → ⊥)
 HasDefect g i defect.StrayEntry = HasStrayEntry g i
-HasDefect g i defect.WrongCount = stored (g i) ≢ counted_names g i
-HasDefect g i defect.NotOneName = HasDirectory g i × (stored (g i) ≢ 1)
+HasDefect g i defect.WrongCount = stored_count (g i) ≢ counted_names g i
+HasDefect g i defect.NotOneName = HasDirectory g i × (stored_count (g i) ≢ 1)
 HasDefect g i defect.Unreachable = HasDirectory g i × ((path : List (List ℕ)) → resolve (tree_of g) path ≡ Ok i → ⊥)
 
 -- nodes stand at inode numbers alone, which nobody can find out by asking

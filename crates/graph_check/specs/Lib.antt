@@ -1,4 +1,4 @@
-pub mod Asked
+pub mod Questions
 pub mod Defects
 pub mod Marks
 pub mod Nameless

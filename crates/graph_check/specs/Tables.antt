@@ -8,7 +8,7 @@ use Rattle.record_validation.specs.file_graph.declared.effect.Kind.{Kind}
 use Rattle.record_validation.specs.file_graph.declared.effect.Kind.TheVariants.{File, Directory}
 use Rattle.record_validation.specs.file_graph.declared.name_map.NamedEntry.{NamedEntry}
 use Rattle.record_validation.specs.call_effects.NodeView.{NodeView, FileView, DirView, view_at}
-use Rattle.record_validation.specs.Seen.{entries_of}
+use Rattle.record_validation.specs.NodeAnswers.{entries_of}
 use Rattle.graph_check.specs.declared.tables.NodeHead.{NodeHead}
 use Rattle.graph_check.specs.declared.tables.NameCount.{NameCount}
 use Rattle.graph_check.specs.declared.tables.Tables.{Tables}

@@ -4,8 +4,8 @@ ghost use Rattle.std.specs.Prelude.{◌≡◌, ◌+◌, ◌⊎◌, ℕ, false, N
 ghost use Rattle.record_validation.specs.posix_calls.declared.limits.TheConstants.{MAX_INODE};
 ghost use Rattle.record_validation.specs.file_graph.Graph.{Graph};
 ghost use Rattle.record_validation.specs.call_effects.Wholes.{IsSound};
-ghost use Rattle.record_validation.specs.call_effects.Settled.{nobody};
-ghost use Rattle.graph_check.specs.Asked.{AskedAll, AskedUntil};
+ghost use Rattle.record_validation.specs.call_effects.ClosedGraph.{nobody};
+ghost use Rattle.graph_check.specs.Questions.{AskedAll, AskedUntil};
 ghost use Rattle.graph_check.specs.Defects.{HasDefect, IfUnsound, IfMemory, IsFoundSound};
 ghost use Rattle.graph_check.specs.Marks.{is_marked};
 ghost use Rattle.graph_check.specs.Nameless.{AreNameless};

@@ -5,7 +5,7 @@ ghost use Rattle.record_validation.specs.posix_calls.declared.limits.TheConstant
 ghost use Rattle.record_validation.specs.file_graph.Graph.{Graph};
 ghost use Rattle.record_validation.specs.call_effects.NodeView.{NodeView, view_at};
 ghost use Rattle.record_validation.specs.Counts.{counts_of};
-ghost use Rattle.graph_check.specs.Asked.{AskedAll, AskedSome};
+ghost use Rattle.graph_check.specs.Questions.{AskedAll, AskedSome};
 ghost use Rattle.graph_check.specs.declared.tables.NameCount.{NameCount};
 ghost use Rattle.graph_check.specs.Tables.{HasPlaces, IsRead, head_of, named_in, more_named};
 

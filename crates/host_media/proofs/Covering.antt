@@ -7,13 +7,13 @@ use Rattle.tier_device.specs.Media.{Puts, overwritten}
 use Rattle.tier_device.specs.RecordLaws.{length-overwritten, length-replayed}
 use Rattle.tier_device.specs.Rows.{Rows, row}
 use Rattle.tier_device.proofs.Grow.{cases_Tier}
-use Rattle.host_media.specs.History.{History, and_then, synced}
-use Rattle.host_media.specs.Left.{LeftNow, LeftAt, shown_now}
-use Rattle.host_media.specs.LeftLaws.{at_now, of_now, shown_left}
+use Rattle.host_media.specs.History.{History, and_then, after_sync}
+use Rattle.host_media.specs.TierHistory.{LeftNow, LeftAt, shown_now}
+use Rattle.host_media.specs.HistoryLaws.{at_now, of_now, shown_left}
 use Rattle.host_media.specs.Cover.{Covers}
-use Rattle.host_media.specs.Pending.{pending_in, SetsPending}
+use Rattle.host_media.specs.PendingTiers.{pending_in, SetsPending}
 use Rattle.host_media.specs.Place.{begin_of, total}
-use Rattle.host_media.specs.declared.pending.Pending.{Pending}
+use Rattle.host_media.specs.declared.pending_tiers.Pending.{Pending}
 use Rattle.host_media.proofs.Grow.{write_tears, write_tears_all, fence_shows, fence_leaves, fence_settles}
 
 -- a place of tiers that show a history is that of its first bytes
@@ -65,22 +65,22 @@ module _ (f : History) where
   abbrev two : History
   two = and_then one (Fence Block)
 
-  three_left : (t : Tier) (c : List ℕ) → LeftNow (synced f) t c → c ≡ shown_now f t
-  three_left Fast c left = fenced_left f one Fast refl c (unfenced_left one two Block refl Fast c (unfenced_left two (synced f) Slow refl Fast c left))
-  three_left Block c left = fenced_left one two Block refl c (unfenced_left two (synced f) Slow refl Block c left) ∙ fence_shows f one Fast refl Block
-  three_left Slow c left = fenced_left two (synced f) Slow refl c left ∙ fence_shows one two Block refl Slow ∙ fence_shows f one Fast refl Slow
+  three_left : (t : Tier) (c : List ℕ) → LeftNow (after_sync f) t c → c ≡ shown_now f t
+  three_left Fast c left = fenced_left f one Fast refl c (unfenced_left one two Block refl Fast c (unfenced_left two (after_sync f) Slow refl Fast c left))
+  three_left Block c left = fenced_left one two Block refl c (unfenced_left two (after_sync f) Slow refl Block c left) ∙ fence_shows f one Fast refl Block
+  three_left Slow c left = fenced_left two (after_sync f) Slow refl c left ∙ fence_shows one two Block refl Slow ∙ fence_shows f one Fast refl Slow
 
-  three_shows : (t : Tier) → shown_now (synced f) t ≡ shown_now f t
-  three_shows t = fence_shows two (synced f) Slow refl t ∙ fence_shows one two Block refl t ∙ fence_shows f one Fast refl t
+  three_shows : (t : Tier) → shown_now (after_sync f) t ≡ shown_now f t
+  three_shows t = fence_shows two (after_sync f) Slow refl t ∙ fence_shows one two Block refl t ∙ fence_shows f one Fast refl t
 
 -- after a sync a stop leaves what a read gives, of each tier
-pub synced_left : (f g : History) → g ≡ synced f → (t : Tier) (c : List ℕ) → LeftNow g t c → c ≡ shown_now f t
+pub synced_left : (f g : History) → g ≡ after_sync f → (t : Tier) (c : List ℕ) → LeftNow g t c → c ≡ shown_now f t
 synced_left f g is t c left = three_left f t c (subst (λ (x : History). LeftNow x t c) is left)
 
-pub synced_shows : (f g : History) → g ≡ synced f → (t : Tier) → shown_now g t ≡ shown_now f t
+pub synced_shows : (f g : History) → g ≡ after_sync f → (t : Tier) → shown_now g t ≡ shown_now f t
 synced_shows f g is t = ap (λ (x : History). shown_now x t) is ∙ three_shows f t
 
-pub cover_sync : (f g h : History) → g ≡ synced f → ((t : Tier) → shown_now f t ≡ shown_now h t) → Covers g h
+pub cover_sync : (f g h : History) → g ≡ after_sync f → ((t : Tier) → shown_now f t ≡ shown_now h t) → Covers g h
 cover_sync f g h is same t c left = subst (λ (d : List ℕ). LeftNow h t d) (sym (synced_left f g is t c left ∙ same t)) (shown_left h t)
 
 -- a fence of a tier that is settled

@@ -6,7 +6,7 @@ use Rattle.tier_device.specs.Media.{overwritten, Puts, Keeps, Tears, TearsAll, S
 use Rattle.tier_device.specs.Rows.{row}
 use Rattle.tier_device.proofs.Grow as log
 use Rattle.host_media.specs.History.{History, and_then}
-use Rattle.host_media.specs.Left.{shown_now, LeftAt}
+use Rattle.host_media.specs.TierHistory.{shown_now, LeftAt}
 
 -- what might have been left at each past moment stays
 pub past_kept : (h k : History) (x : DeviceCall) → k ≡ and_then h x → Keeps (length h.calls) (length k.calls) (LeftAt h) (LeftAt k)

@@ -4,7 +4,7 @@ use Rattle.tier_device.specs.declared.media.MediaError.{MediaError}
 use Rattle.tier_device.specs.declared.media.MediaError.TheVariants.{OutOfRange, DeviceFault}
 use Rattle.tier_device.specs.declared.media.Tier.{Tier}
 use Rattle.host_media.specs.History.{History}
-use Rattle.host_media.specs.Left.{LeftNow}
+use Rattle.host_media.specs.TierHistory.{LeftNow}
 
 -- each content that a stop may leave by the one history, it may leave by the other
 abbrev pub Covers : History → History → Type 0

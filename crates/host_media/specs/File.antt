@@ -2,12 +2,12 @@
 use Rattle.std.specs.Prelude.{◌≡◌, ◌≤◌, ℕ, List, length, Bool, false}
 use Rattle.tier_device.specs.declared.media.Tier.{Tier}
 use Rattle.tier_device.specs.DeviceCall.{DeviceCall}
-use Rattle.tier_device.specs.Media.{AtRest}
+use Rattle.tier_device.specs.AfterStop.{AtRest}
 use Rattle.tier_device.specs.Rows.{row}
 use Rattle.host_media.specs.declared.file.FileMedia.{FileMedia}
-use Rattle.host_media.specs.Left.{LeftAt, LeftNow}
-use Rattle.host_media.specs.Pending.{pending_in}
-use Rattle.host_media.specs.LeftLaws.{history_seen_now, history_sized}
+use Rattle.host_media.specs.TierHistory.{LeftAt, LeftNow}
+use Rattle.host_media.specs.PendingTiers.{pending_in}
+use Rattle.host_media.specs.HistoryLaws.{history_seen_now, history_sized}
 
 -- what a read gives of a tier, until a call has failed
 abbrev pub file_seen : FileMedia → Tier → List ℕ

@@ -8,13 +8,13 @@ pub record History : Type 0 where
   pub first : Rows
   pub calls : List DeviceCall
 
-abbrev pub begun : Rows → History
-begun rows = record { first = rows; calls = [] }
+abbrev pub initial_history : Rows → History
+initial_history rows = record { first = rows; calls = [] }
 
 -- with one call more
 abbrev pub and_then : History → DeviceCall → History
 and_then h x = record h { calls = h.calls ++ x ∷ [] }
 
 -- with a fence of each tier
-abbrev pub synced : History → History
-synced h = and_then (and_then (and_then h (Fence Fast)) (Fence Block)) (Fence Slow)
+abbrev pub after_sync : History → History
+after_sync h = and_then (and_then (and_then h (Fence Fast)) (Fence Block)) (Fence Slow)

@@ -1,12 +1,12 @@
 pub mod History
-pub mod Noted
-pub mod Left
-pub mod LeftLaws
+pub mod NoteCall
+pub mod TierHistory
+pub mod HistoryLaws
 pub mod Ram
 pub mod Place
-pub mod Pending
+pub mod PendingTiers
 pub mod Cover
-pub mod Mirrored
+pub mod Mirror
 pub mod File
 -- Passed on to the crates above, which so need not list those below.
 pub use Rattle.tier_device.specs as tier_device

@@ -2,12 +2,12 @@
 use Rattle.std.specs.Prelude.{◌≡◌, ◌<◌, ◌≤◌, ◌^◌, ℕ, List, length}
 use Rattle.std.proofs.Common.{lit<}
 use Rattle.tier_device.specs.declared.media.Tier.{Tier}
-use Rattle.tier_device.specs.Media.{AtRest}
+use Rattle.tier_device.specs.AfterStop.{AtRest}
 use Rattle.tier_device.specs.Rows.{row}
 use Rattle.host_media.specs.declared.ram.RamMedia.{RamMedia}
 use Rattle.host_media.specs.History.{History}
-use Rattle.host_media.specs.Left.{LeftAt}
-use Rattle.host_media.specs.LeftLaws.{history_seen_now, history_sized}
+use Rattle.host_media.specs.TierHistory.{LeftAt}
+use Rattle.host_media.specs.HistoryLaws.{history_seen_now, history_sized}
 
 -- its past
 abbrev pub ram_history : RamMedia → History

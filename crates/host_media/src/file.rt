@@ -6,9 +6,9 @@ ghost use Rattle.tier_device.specs.Rows.{row};
 ghost use Rattle.tier_device.specs.Media.{overwritten, Puts, Keeps, Tears, TearsAll, Settles, HasCause, InRange};
 ghost use Rattle.host_media.specs.Cover.{Fails};
 ghost use Rattle.host_media.specs.Place.{total};
-ghost use Rattle.host_media.specs.Mirrored.{mirrored_failed};
+ghost use Rattle.host_media.specs.Mirror.{mirrored_failed};
 
-use crate::mirrored::Mirrored;
+use crate::mirror::Mirrored;
 use std::fs::File;
 use tier_device::{Media, MediaError, Tier, Tiers, lies_within};
 

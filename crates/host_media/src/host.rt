@@ -1,7 +1,7 @@
 // The calls that the system gets of an open file. Each is noted with its answer.
 ghost use Rattle.std.specs.Prelude.{◌≡◌, ◌+◌, ◌<◌, ◌^◌, length, OnOk, OnErr, is_ok, not, true, false};
 ghost use Rattle.tier_device.specs.DeviceCall.{Write};
-ghost use Rattle.host_media.specs.History.{and_then, synced, begun};
+ghost use Rattle.host_media.specs.History.{and_then, after_sync, initial_history};
 ghost use Rattle.host_media.specs.Place.{begin_of};
 
 use crate::past::{Note, Past};
@@ -22,7 +22,7 @@ pub(crate) struct Host {
 impl Host {
     /// An open file that was synced, of which a read gives these tiers.
     pub(crate) fn of(file: File, tiers: &Tiers) -> Self
-        ensures past { result.past.history ≡ begun tiers.now }
+        ensures past { result.past.history ≡ initial_history tiers.now }
         ensures works { result.failed ≡ false }
     {
         Host {
@@ -54,7 +54,7 @@ impl Host {
     /// Has the system keep all that it was given.
     pub(crate) fn sync(&mut self) -> io::Result<()>
         requires works { self.old.failed ≡ false }
-        ensures kept { OnOk result (self.new.past.history ≡ synced self.old.past.history) }
+        ensures kept { OnOk result (self.new.past.history ≡ after_sync self.old.past.history) }
         ensures lost { OnErr result (self.new.past.history ≡ self.old.past.history) }
         ensures failed { self.new.failed ≡ not (is_ok result) }
     {
@@ -69,7 +69,7 @@ impl Host {
 
 // A sync is a fence of all tiers.
 fn synced_past(past: &Past) -> Past
-    ensures { result.history ≡ synced past.now.history }
+    ensures { result.history ≡ after_sync past.now.history }
 {
     let past = past.then(&Note::Fence { tier: Tier::Fast });
     let past = past.then(&Note::Fence { tier: Tier::Block });

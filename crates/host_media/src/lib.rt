@@ -5,10 +5,10 @@
 mod error;
 mod file;
 mod host;
-mod mirrored;
+mod mirror;
 mod open;
 mod past;
-mod pending;
+mod pending_tiers;
 mod ram;
 
 pub use error::{FileError, FileProblem};

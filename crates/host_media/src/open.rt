@@ -62,7 +62,7 @@ impl FileMedia {
         ensures works { IfOk result (λ m. file_failed m ≡ false) }
         ensures synced { IfOk result IsSynced }
     {
-        match opened(files, alloc, path, sizes) {
+        match open_file(files, alloc, path, sizes) {
             Ok(media) => Ok(media),
             Err(problem) => Err(FileError { path, problem }),
         }
@@ -87,14 +87,14 @@ impl FileMedia {
         ensures works { IfOk result (λ m. file_failed m ≡ false) }
         ensures synced { IfOk result IsSynced }
     {
-        match created(files, alloc, path, sizes) {
+        match create_file(files, alloc, path, sizes) {
             Ok(media) => Ok(media),
             Err(problem) => Err(FileError { path, problem }),
         }
     }
 }
 
-fn opened<R: Files<File = File>>(
+fn open_file<R: Files<File = File>>(
     files: &R,
     alloc: Global,
     path: &str,
@@ -120,7 +120,7 @@ fn opened<R: Files<File = File>>(
     Ok(FileMedia::of(file, tiers))
 }
 
-fn created<R: Files<File = File>>(
+fn create_file<R: Files<File = File>>(
     files: &R,
     alloc: Global,
     path: &str,

@@ -1,8 +1,8 @@
 // A past that only clauses read.
 ghost use Rattle.std.specs.Prelude.{◌≡◌};
 ghost use Rattle.std.specs.Borrow.{ftrue};
-ghost use Rattle.host_media.specs.History.{History, begun};
-ghost use Rattle.host_media.specs.Noted.{noted};
+ghost use Rattle.host_media.specs.History.{History, initial_history};
+ghost use Rattle.host_media.specs.NoteCall.{after_note};
 
 use std::marker::Model;
 use tier_device::{Tier, Tiers};
@@ -38,14 +38,14 @@ unsafe impl Sync for Past {}
 impl Past {
     /// The past that begins with these tiers.
     pub(crate) fn of(_tiers: &Tiers) -> Past
-        ensures { result.history ≡ begun _tiers.now }
+        ensures { result.history ≡ initial_history _tiers.now }
     {
         Past {}
     }
 
     /// This past, and then one call more.
     pub(crate) fn then(&self, _note: &Note<'_>) -> Past
-        ensures { result.history ≡ noted self.now.history _note.now }
+        ensures { result.history ≡ after_note self.now.history _note.now }
     {
         Past {}
     }

@@ -7,7 +7,7 @@ ghost use Rattle.host_media.specs.History.{and_then};
 ghost use Rattle.tier_device.specs.declared.media.Tier.{Tier};
 ghost use Rattle.tier_device.specs.declared.media.Tier.TheVariants.{Fast, Block, Slow};
 ghost use Rattle.tier_device.specs.Rows.{row};
-ghost use Rattle.host_media.specs.Left.{shown_now};
+ghost use Rattle.host_media.specs.TierHistory.{shown_now};
 
 use crate::past::{Note, Past};
 use tier_device::{Media, MediaError, Tier, Tiers, lies_within};

@@ -13,7 +13,7 @@ use Rattle.area_commit.proofs.graph_change_lemmas.Maps.{value_at}
 use Rattle.area_commit.specs.tree_blocks.Inode.{LogicalBlocks}
 use Rattle.std.proofs.lemmas.List.FromFn.{length-map-range_with_len}
 use Rattle.area_commit.specs.graph_change.Bytes.{Length, Cut, byte_after, kept_byte}
-use Rattle.area_commit.specs.tree_blocks.FileBlock.{kept_in, put_in, in_block, block_after, is_cut_off, ReadSame, ReadsAfter}
+use Rattle.area_commit.specs.tree_blocks.FileBlock.{kept_length, put_in, in_block, block_after, is_cut_off, ReadSame, ReadsAfter}
 use Rattle.area_commit.proofs.tree_blocks_lemmas.FileBlocks.{made_of_same, made_whole, made_behind}
 use Rattle.inode_plan.specs.PlacedFile.{nth_number}
 use Rattle.inode_plan.specs.Bytes.{IsBlockAfter, HoldsBlocks}
@@ -64,7 +64,7 @@ made_anyway len patch put k old buffer block is same no_matter =
 -- the bytes of a block that are all put are what a change makes of it, whatever the old block is
 pub made_of_put : (len : Length) (patch put : Patch) (k : ℕ) (old block : List ℕ) → put ≡ patch → ((p : ℕ) → p < 4096 → put p ≡ Some (get_or block p 0)) → ReadsAfter len patch k old block
 made_of_put len patch put k old block same each p lt =
-    sym (ap (λ (o : Option ℕ). elim o [ None ↦ kept_byte (Cut (kept_in len k) 4096) old p | Some b ↦ b ]) (ap (λ (f : Patch). f p) (sym same) ∙ each p lt))
+    sym (ap (λ (o : Option ℕ). elim o [ None ↦ kept_byte (Cut (kept_length len k) 4096) old p | Some b ↦ b ]) (ap (λ (f : Patch). f p) (sym same) ∙ each p lt))
 
 -- a block that is as long as the buffer that it is made in
 pub made_long : (len : Length) (put : Patch) (k : ℕ) (buffer block : List ℕ) → block ≡ block_after len put k buffer → length block ≡ 4096

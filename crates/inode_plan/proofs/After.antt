@@ -13,13 +13,13 @@ use Rattle.area_commit.specs.graph_change.Change.{Change, writes_block}
 use Rattle.area_commit.specs.graph_change.Tidy.{IsTidyChange}
 use Rattle.area_commit.specs.tree_blocks.FileBlock.{is_cut_off}
 use Rattle.area_commit.proofs.tree_blocks_lemmas.FileBlocks.{written_inside, left_inside}
-use Rattle.area_commit.specs.extent_tree.Spelled.{LiesWithin, IsOneToOne}
+use Rattle.area_commit.specs.extent_tree.BlockFormat.{LiesWithin, IsOneToOne}
 use Rattle.area_commit.specs.extent_tree.Map.{TierRuns, runs_in, lies_at, LieOnce, LieBelow}
 use Rattle.area_commit.specs.extent_tree.declared.map.Place.{Place}
 use Rattle.area_commit.proofs.Given.{cons_cases, nothing}
 use Rattle.inode_plan.specs.PlacedFile.{nth_number, nth_place, NumbersArePlaced}
-use Rattle.inode_plan.specs.Written.{AreNumbers}
-use Rattle.inode_plan.specs.Mapped.{IsCutBy, IsMapAfter, AreFresh, AreData, leaves, AreLeft, KeepsPlace, TakesPlace}
+use Rattle.inode_plan.specs.BlockWrites.{AreNumbers}
+use Rattle.inode_plan.specs.MapChange.{IsCutBy, IsMapAfter, AreFresh, AreData, leaves, AreLeft, KeepsPlace, TakesPlace}
 use Rattle.inode_plan.proofs.Moves.{same_or_other}
 
 -- where a number stands among others

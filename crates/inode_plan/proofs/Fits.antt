@@ -14,12 +14,12 @@ use Rattle.area_commit.specs.layout.Places.{Sizes, is_node, is_run, node_end}
 use Rattle.area_commit.specs.layout.Slot.{fits_slot, is_root_block}
 use Rattle.area_commit.specs.extent_tree.Normal.{IsNormal}
 use Rattle.area_commit.specs.extent_tree.Places.{place_of}
-use Rattle.area_commit.specs.extent_tree.Spelled.{LiesWithin, IsOneToOne}
+use Rattle.area_commit.specs.extent_tree.BlockFormat.{LiesWithin, IsOneToOne}
 use Rattle.area_commit.proofs.extent_tree_lemmas.Unique.{one-list}
 use Rattle.area_commit.specs.extent_tree.Map.{runs_in, lies_at, LieBelow}
 use Rattle.area_commit.specs.area_image.Store.{length_of, space_of}
 use Rattle.area_commit.proofs.extent_tree_lemmas.Runs.{few_below}
-use Rattle.area_commit.specs.Written.{IsFit}
+use Rattle.area_commit.specs.InodeRewrite.{IsFit}
 use Rattle.inode_plan.specs.Blocks.{HaveOwnPlaces, AreNodeBlocks}
 use Rattle.inode_plan.specs.PlacedDirectory.{ListPlaces}
 use Rattle.inode_plan.specs.PlannedDirectory.{on_fast}

@@ -5,7 +5,7 @@ use Rattle.std.proofs.lemmas.Bool.{cases_lt}
 use Rattle.std.proofs.lemmas.List.{get_or_default}
 use Rattle.area_commit.specs.block_alloc.Runs.{blocks_of}
 use Rattle.area_commit.specs.block_alloc.Value.{FreeBlocks, IsUsed}
-use Rattle.area_commit.specs.Given.{AreUsed, IsInUse}
+use Rattle.area_commit.specs.Release.{AreUsed, IsInUse}
 use Rattle.area_commit.proofs.Given.{all_from, cons_here, cons_there}
 use Rattle.inode_plan.specs.Blocks.{nth_block, HaveOwnPlaces, one_block}
 

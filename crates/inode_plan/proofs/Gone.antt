@@ -10,7 +10,7 @@ use Rattle.area_commit.specs.layout.Places.{Sizes}
 use Rattle.area_commit.specs.block_alloc.declared.runs.Run.{Run}
 use Rattle.area_commit.specs.block_alloc.Runs.{blocks_of}
 use Rattle.area_commit.specs.block_alloc.Value.{FreeBlocks}
-use Rattle.area_commit.specs.Given.{AreUsed, IsInUse}
+use Rattle.area_commit.specs.Release.{AreUsed, IsInUse}
 use Rattle.inode_plan.specs.Blocks.{nth_block, HaveOwnPlaces, AreSound, use_on_fast, use_of, root_blocks, one_block}
 use Rattle.inode_plan.specs.declared.blocks.DirectoryBlocks.{DirectoryBlocks}
 use Rattle.inode_plan.proofs.Uses.{nth_contained, contains_nth, use_root, use_place, root_use, place_use, fast_use, use_fast}

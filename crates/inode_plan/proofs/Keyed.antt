@@ -9,7 +9,7 @@ use Rattle.area_commit.specs.graph_change.View.{change_of, new_length, patches_o
 use Rattle.area_commit.specs.graph_change.declared.node_change.NodeChange.{NodeChange}
 use Rattle.area_commit.proofs.graph_change_lemmas.Making.{has_is}
 use Rattle.area_commit.proofs.graph_change_lemmas.Touched.{or_cases}
-use Rattle.inode_plan.specs.Written.{AreNumbers, AreKeys, HasOneMore}
+use Rattle.inode_plan.specs.BlockWrites.{AreNumbers, AreKeys, HasOneMore}
 
 -- what holds anyhow holds where there is an error
 pub with_err : {T E : Type 0} (P : Type 0) (r : Result T E) → P → OnErr r P

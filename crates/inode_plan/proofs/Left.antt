@@ -11,14 +11,14 @@ use Rattle.area_commit.specs.block_alloc.declared.runs.Run.{Run}
 use Rattle.area_commit.specs.block_alloc.Runs.{Rising, blocks_of}
 use Rattle.area_commit.specs.block_alloc.Value.{FreeBlocks}
 use Rattle.area_commit.specs.extent_tree.Places.{place_of}
-use Rattle.area_commit.specs.extent_tree.Spelled.{IsOneToOne}
+use Rattle.area_commit.specs.extent_tree.BlockFormat.{IsOneToOne}
 use Rattle.area_commit.specs.graph_change.Change.{Change, writes_block}
 use Rattle.area_commit.specs.tree_blocks.FileBlock.{is_cut_off}
 use Rattle.area_commit.specs.extent_tree.Map.{TierRuns, runs_in, lies_at, place_list, places_of, LieBelow, HasBlock}
-use Rattle.area_commit.specs.Given.{AreUsed, IsInUse}
+use Rattle.area_commit.specs.Release.{AreUsed, IsInUse}
 use Rattle.area_commit.proofs.Given.{cons_cases, cons_here, cons_there, nothing, in_range}
-use Rattle.inode_plan.specs.Written.{AreNumbers}
-use Rattle.inode_plan.specs.Mapped.{leaves, AreLeft, AreAll, below_end, places_below}
+use Rattle.inode_plan.specs.BlockWrites.{AreNumbers}
+use Rattle.inode_plan.specs.MapChange.{leaves, AreLeft, AreAll, below_end, places_below}
 use Rattle.inode_plan.proofs.Once.{Once, runs_used}
 
 -- the places of some blocks

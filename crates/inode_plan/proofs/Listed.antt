@@ -15,16 +15,16 @@ use Rattle.area_commit.specs.extent_tree.Map.{TierRuns, runs_in}
 use Rattle.area_commit.specs.area_image.Store.{root_of}
 use Rattle.area_commit.specs.area_image.Map.{in_tier}
 use Rattle.area_commit.specs.area_image.declared.tiers.InodeExtents.{InodeExtents}
-use Rattle.area_commit.specs.Written.{IsListed, list_of}
+use Rattle.area_commit.specs.InodeRewrite.{IsListed, list_of}
 use Rattle.inode_plan.specs.Lists.{root_for, IsListOf, AreListsOf}
-use Rattle.inode_plan.specs.Roots.{lacking, wanted_before, roots_wanted, HasRootsOf, SparesFit, ListsStand}
+use Rattle.inode_plan.specs.Roots.{missing_roots, wanted_before, roots_wanted, HasRootsOf, SparesFit, ListsStand}
 
 node_some : (g : Sizes) (k : ℕ) → is_node g k ≡ true → k ≢ 0
 node_some g k is zero = (let low = leb-true 292 k (and_parts (nat_le 292 k) (nat_lt k (node_end g)) is).0 in omega (arith, low, zero))
 
 -- ---- one tier
 
-listed_one : (fast : Blocks) (i root old spare : ℕ) (runs : List Extent) (m : TierRuns) (t : Tier) (o : Option ExtentList) → runs ≡ runs_in m t → IsListOf i m t o → root ≡ root_for old o spare → (lacking old o ≡ 1 → spare ≢ 0) → IfSome o (λ v. fast root ≡ extents_spelling v) → IsListed fast i root runs
+listed_one : (fast : Blocks) (i root old spare : ℕ) (runs : List Extent) (m : TierRuns) (t : Tier) (o : Option ExtentList) → runs ≡ runs_in m t → IsListOf i m t o → root ≡ root_for old o spare → (missing_roots old o ≡ 1 → spare ≢ 0) → IfSome o (λ v. fast root ≡ extents_spelling v) → IsListed fast i root runs
 listed_one fast i root old spare runs m t None same none is node image = inl (is, same ∙ none)
 listed_one fast i root old spare runs m t (Some v) same list is node image = inr (
   λ zero. elim (cases_Bool (old == 0)) [
@@ -35,7 +35,7 @@ listed_one fast i root old spare runs m t (Some v) same list is node image = inr
 )
 
 -- a tier's spare block is one of them
-pub inside : (slot : Slot) (x : InodeExtents) (t : Tier) (count : ℕ) → count ≡ roots_wanted slot x → lacking (root_of slot t) (in_tier x t) ≡ 1 → wanted_before slot x t < count
+pub inside : (slot : Slot) (x : InodeExtents) (t : Tier) (count : ℕ) → count ≡ roots_wanted slot x → missing_roots (root_of slot t) (in_tier x t) ≡ 1 → wanted_before slot x t < count
 inside slot x tiers.Fast count many lacks = omega (arith, many, lacks)
 inside slot x tiers.Block count many lacks = omega (arith, many, lacks)
 inside slot x tiers.Slow count many lacks = omega (arith, many, lacks)
@@ -47,7 +47,7 @@ all_listed g fast i m x spare old new lists roots fit many images t =
 
 -- ---- which blocks they are
 
-root_cases : (root old spare : ℕ) (o : Option ExtentList) → root ≡ root_for old o spare → root ≢ 0 → (root ≡ old) ⊎ ((lacking old o ≡ 1) × (root ≡ spare))
+root_cases : (root old spare : ℕ) (o : Option ExtentList) → root ≡ root_for old o spare → root ≢ 0 → (root ≡ old) ⊎ ((missing_roots old o ≡ 1) × (root ≡ spare))
 root_cases root old spare None is some = absurd (some is)
 root_cases root old spare (Some v) is some = elim (cases_Bool (old == 0)) [
   | inl lacks ↦ inr (cond-true (old == 0) 1 0 lacks, is ∙ cond-true (old == 0) spare old lacks)
@@ -63,7 +63,7 @@ root_uses x spare old new t roots many some = elim (root_cases (root_of new t) (
 -- ---- each spare block is used
 
 -- a tier lacks a root, or not
-lacks_cases : (old : ℕ) (o : Option ExtentList) → (lacking old o ≡ 0) ⊎ ((lacking old o ≡ 1) × ((spare : ℕ) → root_for old o spare ≡ spare))
+lacks_cases : (old : ℕ) (o : Option ExtentList) → (missing_roots old o ≡ 0) ⊎ ((missing_roots old o ≡ 1) × ((spare : ℕ) → root_for old o spare ≡ spare))
 lacks_cases old None = inl refl
 lacks_cases old (Some v) = elim (cases_Bool (old == 0)) [
   | inl zero ↦ inr (cond-true (old == 0) 1 0 zero, λ spare. cond-true (old == 0) spare old zero)
@@ -78,18 +78,18 @@ record Gets (old : Slot) (x : InodeExtents) (n : ℕ) : Type 0 where
 
 gets : (old : Slot) (x : InodeExtents) (n : ℕ) → n < roots_wanted old x → Gets old x n
 gets old x n lt = by (lacks_cases (root_of old tiers.Fast) x.fast) (lacks_cases (root_of old tiers.Block) x.block) (lacks_cases (root_of old tiers.Slow) x.slow) where
-  by : ((lacking (root_of old tiers.Fast) x.fast ≡ 0) ⊎ ((lacking (root_of old tiers.Fast) x.fast ≡ 1) × ((spare : ℕ) → root_for (root_of old tiers.Fast) x.fast spare ≡ spare)))
-      → ((lacking (root_of old tiers.Block) x.block ≡ 0) ⊎ ((lacking (root_of old tiers.Block) x.block ≡ 1) × ((spare : ℕ) → root_for (root_of old tiers.Block) x.block spare ≡ spare)))
-      → ((lacking (root_of old tiers.Slow) x.slow ≡ 0) ⊎ ((lacking (root_of old tiers.Slow) x.slow ≡ 1) × ((spare : ℕ) → root_for (root_of old tiers.Slow) x.slow spare ≡ spare)))
+  by : ((missing_roots (root_of old tiers.Fast) x.fast ≡ 0) ⊎ ((missing_roots (root_of old tiers.Fast) x.fast ≡ 1) × ((spare : ℕ) → root_for (root_of old tiers.Fast) x.fast spare ≡ spare)))
+      → ((missing_roots (root_of old tiers.Block) x.block ≡ 0) ⊎ ((missing_roots (root_of old tiers.Block) x.block ≡ 1) × ((spare : ℕ) → root_for (root_of old tiers.Block) x.block spare ≡ spare)))
+      → ((missing_roots (root_of old tiers.Slow) x.slow ≡ 0) ⊎ ((missing_roots (root_of old tiers.Slow) x.slow ≡ 1) × ((spare : ℕ) → root_for (root_of old tiers.Slow) x.slow spare ≡ spare)))
       → Gets old x n
   by (inr f) b s = elim (cases_lt 0 n) [
     | inr none ↦ record { tier = tiers.Fast; number = omega (arith, none); is = f.1 }
     | inl some ↦ after_fast f.0 some b s
   ]
     where
-      after_fast : lacking (root_of old tiers.Fast) x.fast ≡ 1 → 0 < n
-          → ((lacking (root_of old tiers.Block) x.block ≡ 0) ⊎ ((lacking (root_of old tiers.Block) x.block ≡ 1) × ((spare : ℕ) → root_for (root_of old tiers.Block) x.block spare ≡ spare)))
-          → ((lacking (root_of old tiers.Slow) x.slow ≡ 0) ⊎ ((lacking (root_of old tiers.Slow) x.slow ≡ 1) × ((spare : ℕ) → root_for (root_of old tiers.Slow) x.slow spare ≡ spare)))
+      after_fast : missing_roots (root_of old tiers.Fast) x.fast ≡ 1 → 0 < n
+          → ((missing_roots (root_of old tiers.Block) x.block ≡ 0) ⊎ ((missing_roots (root_of old tiers.Block) x.block ≡ 1) × ((spare : ℕ) → root_for (root_of old tiers.Block) x.block spare ≡ spare)))
+          → ((missing_roots (root_of old tiers.Slow) x.slow ≡ 0) ⊎ ((missing_roots (root_of old tiers.Slow) x.slow ≡ 1) × ((spare : ℕ) → root_for (root_of old tiers.Slow) x.slow spare ≡ spare)))
           → Gets old x n
       after_fast one some (inr k) s = elim (cases_lt 1 n) [
         | inr few ↦ record { tier = tiers.Block; number = omega (arith, one, some, few); is = k.1 }

@@ -7,7 +7,7 @@ use Rattle.area_commit.specs.block_alloc.declared.runs.Run.{Run}
 use Rattle.area_commit.specs.block_alloc.Runs.{run_blocks, blocks_of}
 use Rattle.area_commit.specs.block_alloc.Value.{FreeBlocks, IsUsed}
 use Rattle.area_commit.specs.extent_tree.Map.{HasBlock}
-use Rattle.area_commit.specs.Given.{AreUsed, IsInUse}
+use Rattle.area_commit.specs.Release.{AreUsed, IsInUse}
 use Rattle.area_commit.proofs.Given.{all_from, cons_cases, nothing, in_range}
 
 -- no number stands twice

@@ -16,8 +16,8 @@ use Rattle.area_commit.specs.layout.Slot.{fits_slot, is_root_block}
 use Rattle.area_commit.specs.extent_tree.Places.{place_of}
 use Rattle.area_commit.proofs.extent_tree_lemmas.Spelled.{list-parts, lies-within}
 use Rattle.area_commit.specs.tree_blocks.Inode.{LogicalBlocks, inode_of, AreDirectoryBlocks, IsDirectoryBlock, blocks_for}
-use Rattle.area_commit.specs.area_image.Store.{Store, slot, root_of, space_of, length_of, place, logical, inode}
-use Rattle.area_commit.specs.area_image.Spelled.{Use, used}
+use Rattle.area_commit.specs.area_image.Store.{Store, slot, root_of, space_of, length_of, place, logical_block, inode}
+use Rattle.area_commit.specs.area_image.Format.{Use, used_block}
 use Rattle.area_commit.specs.area_image.Checks.{HasFound}
 use Rattle.area_commit.specs.area_image.Map.{extents_in, place_by, IsOwnList}
 use Rattle.area_commit.specs.area_image.declared.inode.InodeParts.{InodeParts}
@@ -27,7 +27,7 @@ use Rattle.area_commit.proofs.area_image_lemmas.Parts.{slot_as, extents_all}
 use Rattle.area_commit.proofs.area_image_lemmas.Tails.{place_is, place_past}
 use Rattle.inode_plan.specs.Blocks.{nth_block, HaveOwnPlaces, AreSound, use_in, use_of}
 use Rattle.inode_plan.specs.declared.blocks.DirectoryBlocks.{DirectoryBlocks}
-use Rattle.inode_plan.specs.Started.{AreDirectoryParts, LieInPool, ArePlacesOf}
+use Rattle.inode_plan.specs.DirectoryStart.{AreDirectoryParts, LieInPool, ArePlacesOf}
 
 -- ---- the block of a root
 
@@ -93,20 +93,20 @@ module _ (g : Sizes) (s : Store) (i : ℕ) (x : InodeParts) (are : AreDirectoryP
   pub slot_is : slot g s i ≡ x.slot
   slot_is = slot_as g s i x.slot are.slot_is
 
-  pub kind_of : (inode_of x.slot (logical g s i)).kind ≡ Some kind.Directory
-  kind_of = ap (λ (y : Slot). (inode_of y (logical g s i)).kind) (sym slot_is) ∙ are.kind_is
+  pub kind_of : (inode_of x.slot (logical_block g s i)).kind ≡ Some kind.Directory
+  kind_of = ap (λ (y : Slot). (inode_of y (logical_block g s i)).kind) (sym slot_is) ∙ are.kind_is
 
   pub its_slot : DirectorySlot x.slot
-  its_slot = directory_slot x.slot (logical g s i) kind_of
+  its_slot = directory_slot x.slot (logical_block g s i) kind_of
 
   pub found : HasFound g s i x.extents
   found = extents_all g s i x.slot x.extents are.slot_is are.extents
 
   pub long : length_of x.slot ≡ blocks_for (inode g s i).size
-  long = ap length_of (sym slot_is) ∙ length_is (slot g s i) (logical g s i) are.kind_is
+  long = ap length_of (sym slot_is) ∙ length_is (slot g s i) (logical_block g s i) are.kind_is
 
-  pub directory : AreDirectoryBlocks i (inode g s i).size (logical g s i)
-  directory = subst (AreDirectoryBlocks i (inode g s i).size) (blocks_is (slot g s i) (logical g s i) kind.Directory are.kind_is) (as_directory i (inode g s i) are.kind_is (are.spelled.inodes i are.number).consistent)
+  pub directory : AreDirectoryBlocks i (inode g s i).size (logical_block g s i)
+  directory = subst (AreDirectoryBlocks i (inode g s i).size) (blocks_is (slot g s i) (logical_block g s i) kind.Directory are.kind_is) (as_directory i (inode g s i) are.kind_is (are.spelled.inodes i are.number).consistent)
 
   -- each block is there
   lies : (k : ℕ) → k < length_of x.slot → (p : ℕ) × (place g s i Fast k ≡ Some p)
@@ -139,7 +139,7 @@ module _ (g : Sizes) (s : Store) (i : ℕ) (x : InodeParts) (are : AreDirectoryP
     others = λ t k other. sym (by_found t k) ∙ other_place g s i t k other are.kind_is;
   }
 
-  others : (t : Tier) → t ≢ Fast → (k : Option ℕ) → None ≡ used g s (record { inode = i; tier = t; logical = k })
+  others : (t : Tier) → t ≢ Fast → (k : Option ℕ) → None ≡ used_block g s (record { inode = i; tier = t; logical = k })
   others t other None =
       let none : root_of (slot g s i) t ≡ 0 = ap (λ (y : Slot). root_of y t) slot_is ∙ other_roots x.slot t its_slot other in
       sym (ap (λ (b : Bool). if b then None else Some (Fast, root_of (slot g s i) t)) (eq-eqb (root_of (slot g s i) t) 0 none))
@@ -154,7 +154,7 @@ module _ (g : Sizes) (s : Store) (i : ℕ) (x : InodeParts) (are : AreDirectoryP
     pub nodes : (k : ℕ) → k < length places → is_node g (nth_block places k) ≡ true
     nodes k lt = in_pool k (nth_block places k) (is.each k (subst (λ n. k < n) is.long lt))
 
-    used_at : (k : ℕ) → k < length places → used g s (record { inode = i; tier = Fast; logical = Some k }) ≡ Some (Fast, nth_block places k)
+    used_at : (k : ℕ) → k < length places → used_block g s (record { inode = i; tier = Fast; logical = Some k }) ≡ Some (Fast, nth_block places k)
     used_at k lt = ap (option_map (λ p. (Fast, p))) (at_place k lt)
 
     pub apart : (j k : ℕ) → j < length places → k < length places → nth_block places j ≡ nth_block places k → j ≡ k
@@ -170,7 +170,7 @@ module _ (g : Sizes) (s : Store) (i : ℕ) (x : InodeParts) (are : AreDirectoryP
     pub root_apart : root_of x.slot Fast ≢ 0 → (k : ℕ) → k < length places → nth_block places k ≢ root_of x.slot Fast
     root_apart some k lt same = of_use (are.spelled.apart (record { inode = i; tier = Fast; logical = None }) (record { inode = i; tier = Fast; logical = Some k }) (Fast, root_of x.slot Fast) used_root (used_at k lt ∙ ap (λ p. Some (Fast, p)) same))
       where
-        used_root : used g s (record { inode = i; tier = Fast; logical = None }) ≡ Some (Fast, root_of x.slot Fast)
+        used_root : used_block g s (record { inode = i; tier = Fast; logical = None }) ≡ Some (Fast, root_of x.slot Fast)
         used_root = ap (λ (y : Slot). if root_of y Fast == 0 then None else Some (Fast, root_of y Fast)) slot_is ∙ ap (λ (b : Bool). if b then None else Some (Fast, root_of x.slot Fast)) (ne_eqb (root_of x.slot Fast) 0 some)
 
         of_use : (let u : Use = record { inode = i; tier = Fast; logical = None } in let v : Use = record { inode = i; tier = Fast; logical = Some k } in u ≡ v) → ⊥
@@ -205,13 +205,13 @@ module _ (g : Sizes) (s : Store) (i : ℕ) (x : InodeParts) (are : AreDirectoryP
     ]
 
     -- what it has for each use
-    pub uses : (t : Tier) (k : Option ℕ) → use_in (root_of x.slot Fast) places t k ≡ used g s (record { inode = i; tier = t; logical = k })
+    pub uses : (t : Tier) (k : Option ℕ) → use_in (root_of x.slot Fast) places t k ≡ used_block g s (record { inode = i; tier = t; logical = k })
     uses Fast None = root_use x.slot ∙ ap (λ (y : Slot). if root_of y Fast == 0 then None else Some (Fast, root_of y Fast)) (sym slot_is)
     uses Fast (Some k) = ap (option_map (λ p. (Fast, p))) (place_use k)
     uses Block k = others Block (λ e. cc) k
     uses Slow k = others Slow (λ e. cc) k
 
-    pub uses_of : (blocks : DirectoryBlocks) → blocks.root ≡ root_of x.slot Fast → blocks.places.items ≡ places → (t : Tier) (k : Option ℕ) → use_of blocks t k ≡ used g s (record { inode = i; tier = t; logical = k })
+    pub uses_of : (blocks : DirectoryBlocks) → blocks.root ≡ root_of x.slot Fast → blocks.places.items ≡ places → (t : Tier) (k : Option ℕ) → use_of blocks t k ≡ used_block g s (record { inode = i; tier = t; logical = k })
     uses_of blocks root_is places_are t k = ap (λ r. use_in r blocks.places.items t k) root_is ∙ ap (λ ps. use_in (root_of x.slot Fast) ps t k) places_are ∙ uses t k
 
 -- the tier that has a block of a directory is the fast one

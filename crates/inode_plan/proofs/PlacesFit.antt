@@ -10,9 +10,9 @@ use Rattle.area_commit.specs.tier_device.declared.media.Tier.TheVariants.{Fast, 
 use Rattle.area_commit.specs.layout.declared.geometry.Space.{Space}
 use Rattle.area_commit.specs.layout.Places.{Sizes, blocks_in, is_run}
 use Rattle.area_commit.specs.block_alloc.Runs.{Rising}
-use Rattle.area_commit.specs.extent_tree.Spelled.{LiesWithin, IsOneToOne}
+use Rattle.area_commit.specs.extent_tree.BlockFormat.{LiesWithin, IsOneToOne}
 use Rattle.area_commit.specs.extent_tree.Map.{TierRuns, runs_in, lies_at, LieOnce, LieBelow}
-use Rattle.inode_plan.specs.Placed.{ArePlaced}
+use Rattle.inode_plan.specs.RunPlaces.{ArePlaced}
 use Rattle.inode_plan.proofs.Steps.{moved_in, moved_out, away_in, away_out}
 
 pub tier_is : (t u : Tier) → (t ≡ u) ⊎ (t ≢ u)

@@ -13,17 +13,17 @@ use Rattle.area_commit.specs.layout.Slot.{is_root_block, roots_apart, fits_slot}
 use Rattle.area_commit.specs.layout.declared.slot.Slot.{Slot}
 use Rattle.area_commit.specs.layout.declared.slot.Slot.TheVariants as slots
 use Rattle.area_commit.specs.tree_blocks.Inode.{LogicalBlocks, inode_of}
-use Rattle.area_commit.specs.tree_blocks.After.{started}
+use Rattle.area_commit.specs.tree_blocks.After.{start_node}
 use Rattle.area_commit.specs.area_image.Store.{root_of}
 use Rattle.area_commit.specs.area_image.declared.tiers.InodeExtents.{InodeExtents}
 use Rattle.inode_plan.specs.Lists.{root_for}
-use Rattle.inode_plan.specs.Roots.{lacking, wanted_before, roots_wanted, SparesFit}
+use Rattle.inode_plan.specs.Roots.{missing_roots, wanted_before, roots_wanted, SparesFit}
 
 -- the root of a tier is none, the one it had, or the spare one where it lacked one
 data Root (old : ℕ) (o : Option ExtentList) (spare n : ℕ) : Type 0 where
   none : n ≡ 0 → Root old o spare n
   kept : old ≢ 0 → n ≡ old → Root old o spare n
-  new : lacking old o ≡ 1 → n ≡ spare → Root old o spare n
+  new : missing_roots old o ≡ 1 → n ≡ spare → Root old o spare n
 
 root_is : (old : ℕ) (o : Option ExtentList) (spare : ℕ) → Root old o spare (root_for old o spare)
 root_is old None spare = none refl
@@ -38,7 +38,7 @@ or_right false b is = is
 
 -- ---- each root
 
-one_fits : (g : Sizes) (old : ℕ) (o : Option ExtentList) (spare n : ℕ) → Root old o spare n → is_root_block g old ≡ true → (lacking old o ≡ 1 → is_node g spare ≡ true) → is_root_block g n ≡ true
+one_fits : (g : Sizes) (old : ℕ) (o : Option ExtentList) (spare n : ℕ) → Root old o spare n → is_root_block g old ≡ true → (missing_roots old o ≡ 1 → is_node g spare ≡ true) → is_root_block g n ≡ true
 one_fits g old o spare n (none is) was node = subst (λ k. is_root_block g k ≡ true) (sym is) refl
 one_fits g old o spare n (kept some is) was node = subst (λ k. is_root_block g k ≡ true) (sym is) was
 one_fits g old o spare n (new lacks is) was node = subst (λ k. is_root_block g k ≡ true) (sym is) (or_right (spare == 0) (is_node g spare) (node lacks))
@@ -64,7 +64,7 @@ apart_parts a b apart some same =
 
 -- ---- two roots
 
-module _ (a b : ℕ) (o q : Option ExtentList) (s u : ℕ) (differ : a ≢ 0 → a ≢ b) (fresh_a : lacking b q ≡ 1 → a ≢ u) (fresh_b : lacking a o ≡ 1 → b ≢ s) (two : lacking a o ≡ 1 → lacking b q ≡ 1 → s ≢ u) where
+module _ (a b : ℕ) (o q : Option ExtentList) (s u : ℕ) (differ : a ≢ 0 → a ≢ b) (fresh_a : missing_roots b q ≡ 1 → a ≢ u) (fresh_b : missing_roots a o ≡ 1 → b ≢ s) (two : missing_roots a o ≡ 1 → missing_roots b q ≡ 1 → s ≢ u) where
   two_differ : (m n : ℕ) → Root a o s m → Root b q u n → m ≢ 0 → m ≢ n
   two_differ m n (none is) r some same = some is
   two_differ m n (kept a_some is) (none zero) some same = some (same ∙ zero)
@@ -108,7 +108,7 @@ old_roots g (slots.Directory names entries touch root) was =
     record { fast = r.1; block = refl; slow = refl; fast_block = from_none root; fast_slow = from_none root; block_slow = refl }
 
 -- what a change starts from keeps the limits
-started_few : (g : Sizes) (slot : Slot) (base : Base) (blocks : LogicalBlocks) → fits_slot g slot ≡ true → ((started base (inode_of slot blocks)).names ≤ 1000) × ((started base (inode_of slot blocks)).size ≤ 1048576)
+started_few : (g : Sizes) (slot : Slot) (base : Base) (blocks : LogicalBlocks) → fits_slot g slot ≡ true → ((start_node base (inode_of slot blocks)).names ≤ 1000) × ((start_node base (inode_of slot blocks)).size ≤ 1048576)
 started_few g slots.Free Kept blocks was = (omega arith, omega arith)
 started_few g (slots.File names size touch fast block slow) Kept blocks was =
     let t = and_parts (nat_lt touch (2 ^ 64)) _ was in
@@ -149,32 +149,32 @@ module _ (g : Sizes) (slot : Slot) (x : InodeExtents) (spare : List ℕ) (many :
   d = root_of slot tiers.Slow
 
   -- the place of a tier's spare block among the others
-  first : lacking a x.fast ≡ 1 → 0 < length spare
+  first : missing_roots a x.fast ≡ 1 → 0 < length spare
   first lacks = omega (arith, many, lacks)
 
-  second : lacking b x.block ≡ 1 → lacking a x.fast < length spare
+  second : missing_roots b x.block ≡ 1 → missing_roots a x.fast < length spare
   second lacks = omega (arith, many, lacks)
 
-  third : lacking d x.slow ≡ 1 → lacking a x.fast + lacking b x.block < length spare
+  third : missing_roots d x.slow ≡ 1 → missing_roots a x.fast + missing_roots b x.block < length spare
   third lacks = omega (arith, many, lacks)
 
-  pub roots_fit : AreRoots g a b d → AreRoots g (root_for a x.fast (get_or spare 0 0)) (root_for b x.block (get_or spare (lacking a x.fast) 0)) (root_for d x.slow (get_or spare (lacking a x.fast + lacking b x.block) 0))
+  pub roots_fit : AreRoots g a b d → AreRoots g (root_for a x.fast (get_or spare 0 0)) (root_for b x.block (get_or spare (missing_roots a x.fast) 0)) (root_for d x.slow (get_or spare (missing_roots a x.fast + missing_roots b x.block) 0))
   roots_fit old = record {
     fast = one_fits g a x.fast (get_or spare 0 0) _ (root_is a x.fast (get_or spare 0 0)) old.fast (λ lacks. fit.node 0 (first lacks));
-    block = one_fits g b x.block (get_or spare (lacking a x.fast) 0) _ (root_is b x.block (get_or spare (lacking a x.fast) 0)) old.block (λ lacks. fit.node (lacking a x.fast) (second lacks));
-    slow = one_fits g d x.slow (get_or spare (lacking a x.fast + lacking b x.block) 0) _ (root_is d x.slow (get_or spare (lacking a x.fast + lacking b x.block) 0)) old.slow (λ lacks. fit.node (lacking a x.fast + lacking b x.block) (third lacks));
-    fast_block = stay_apart a b x.fast x.block (get_or spare 0 0) (get_or spare (lacking a x.fast) 0) (apart_parts a b old.fast_block)
-        (λ lacks. fit.fresh tiers.Fast (lacking a x.fast) (second lacks))
+    block = one_fits g b x.block (get_or spare (missing_roots a x.fast) 0) _ (root_is b x.block (get_or spare (missing_roots a x.fast) 0)) old.block (λ lacks. fit.node (missing_roots a x.fast) (second lacks));
+    slow = one_fits g d x.slow (get_or spare (missing_roots a x.fast + missing_roots b x.block) 0) _ (root_is d x.slow (get_or spare (missing_roots a x.fast + missing_roots b x.block) 0)) old.slow (λ lacks. fit.node (missing_roots a x.fast + missing_roots b x.block) (third lacks));
+    fast_block = stay_apart a b x.fast x.block (get_or spare 0 0) (get_or spare (missing_roots a x.fast) 0) (apart_parts a b old.fast_block)
+        (λ lacks. fit.fresh tiers.Fast (missing_roots a x.fast) (second lacks))
         (λ lacks. fit.fresh tiers.Block 0 (first lacks))
-        (λ one two same. (let is = fit.apart 0 (lacking a x.fast) (first one) (second two) same in omega (arith, is, one)));
-    fast_slow = stay_apart a d x.fast x.slow (get_or spare 0 0) (get_or spare (lacking a x.fast + lacking b x.block) 0) (apart_parts a d old.fast_slow)
-        (λ lacks. fit.fresh tiers.Fast (lacking a x.fast + lacking b x.block) (third lacks))
+        (λ one two same. (let is = fit.apart 0 (missing_roots a x.fast) (first one) (second two) same in omega (arith, is, one)));
+    fast_slow = stay_apart a d x.fast x.slow (get_or spare 0 0) (get_or spare (missing_roots a x.fast + missing_roots b x.block) 0) (apart_parts a d old.fast_slow)
+        (λ lacks. fit.fresh tiers.Fast (missing_roots a x.fast + missing_roots b x.block) (third lacks))
         (λ lacks. fit.fresh tiers.Slow 0 (first lacks))
-        (λ one two same. (let is = fit.apart 0 (lacking a x.fast + lacking b x.block) (first one) (third two) same in omega (arith, is, one)));
-    block_slow = stay_apart b d x.block x.slow (get_or spare (lacking a x.fast) 0) (get_or spare (lacking a x.fast + lacking b x.block) 0) (apart_parts b d old.block_slow)
-        (λ lacks. fit.fresh tiers.Block (lacking a x.fast + lacking b x.block) (third lacks))
-        (λ lacks. fit.fresh tiers.Slow (lacking a x.fast) (second lacks))
-        (λ one two same. (let is = fit.apart (lacking a x.fast) (lacking a x.fast + lacking b x.block) (second one) (third two) same in omega (arith, is, one)));
+        (λ one two same. (let is = fit.apart 0 (missing_roots a x.fast + missing_roots b x.block) (first one) (third two) same in omega (arith, is, one)));
+    block_slow = stay_apart b d x.block x.slow (get_or spare (missing_roots a x.fast) 0) (get_or spare (missing_roots a x.fast + missing_roots b x.block) 0) (apart_parts b d old.block_slow)
+        (λ lacks. fit.fresh tiers.Block (missing_roots a x.fast + missing_roots b x.block) (third lacks))
+        (λ lacks. fit.fresh tiers.Slow (missing_roots a x.fast) (second lacks))
+        (λ one two same. (let is = fit.apart (missing_roots a x.fast) (missing_roots a x.fast + missing_roots b x.block) (second one) (third two) same in omega (arith, is, one)));
   }
 
 -- numbers within the limits and such roots are a slot
@@ -183,16 +183,16 @@ file_fits g names size touch fast block slow few_n few_s few_t r =
     and_from _ _ (lt-ltb touch (2 ^ 64) few_t) (and_from _ _ (and_from _ _ (and_from _ _ (and_from _ _ (and_from _ _ (and_from _ _ (and_from _ _ (le-leb names _ few_n) (le-leb size _ few_s)) r.fast) r.block) r.slow) r.fast_block) r.fast_slow) r.block_slow)
 
 pub slot_fits : (g : Sizes) (slot : Slot) (x : InodeExtents) (spare : List ℕ) (c : Change) (blocks : LogicalBlocks) (touch : ℕ) → fits_slot g slot ≡ true → IsBounded c → SparesFit g slot spare → length spare ≡ roots_wanted slot x → touch < 2 ^ 64
-    → fits_slot g (slots.File (names_after c.names (started c.base (inode_of slot blocks)).names) (length_after c.length (started c.base (inode_of slot blocks)).size) touch
+    → fits_slot g (slots.File (names_after c.names (start_node c.base (inode_of slot blocks)).names) (length_after c.length (start_node c.base (inode_of slot blocks)).size) touch
     (root_for (root_of slot tiers.Fast) x.fast (get_or spare (wanted_before slot x tiers.Fast) 0))
     (root_for (root_of slot tiers.Block) x.block (get_or spare (wanted_before slot x tiers.Block) 0))
     (root_for (root_of slot tiers.Slow) x.slow (get_or spare (wanted_before slot x tiers.Slow) 0)))
     ≡ true
 slot_fits g slot x spare c blocks touch was bounded fit many few =
     let start = started_few g slot c.base blocks was in
-    file_fits g (names_after c.names (started c.base (inode_of slot blocks)).names) (length_after c.length (started c.base (inode_of slot blocks)).size) touch _ _ _
-    (few_names c.names (started c.base (inode_of slot blocks)).names bounded.names start.0)
-    (few_bytes c.length (started c.base (inode_of slot blocks)).size bounded.length start.1)
+    file_fits g (names_after c.names (start_node c.base (inode_of slot blocks)).names) (length_after c.length (start_node c.base (inode_of slot blocks)).size) touch _ _ _
+    (few_names c.names (start_node c.base (inode_of slot blocks)).names bounded.names start.0)
+    (few_bytes c.length (start_node c.base (inode_of slot blocks)).size bounded.length start.1)
     few (roots_fit g slot x spare many fit (old_roots g slot was))
 
 -- the same numbers are the same slot

@@ -14,20 +14,20 @@ use Rattle.area_commit.specs.layout.Places.{Sizes, is_node}
 use Rattle.area_commit.specs.layout.Extents.{extents_spelling}
 use Rattle.area_commit.specs.batch_journal.Images.{image_for, or_else, with_images}
 use Rattle.area_commit.specs.extent_tree.Map.{runs_in}
-use Rattle.area_commit.specs.tree_blocks.After.{started, IsDirectoryAfter}
-use Rattle.area_commit.specs.tree_blocks.Directory.{numbered}
+use Rattle.area_commit.specs.tree_blocks.After.{start_node, IsDirectoryAfter}
+use Rattle.area_commit.specs.tree_blocks.Directory.{numbered_blocks}
 use Rattle.area_commit.specs.area_image.Store.{Store, root_of, inode}
-use Rattle.area_commit.specs.Written.{IsFit, IsListed, list_of, block_by}
-use Rattle.area_commit.specs.Changed.{IsDirectorySlot, IsDirectoryWritten}
+use Rattle.area_commit.specs.InodeRewrite.{IsFit, IsListed, list_of, block_by}
+use Rattle.area_commit.specs.InodeChange.{IsDirectorySlot, IsDirectoryWritten}
 use Rattle.inode_plan.specs.Blocks.{nth_block, use_in, use_of, use_on_fast, lost_blocks}
-use Rattle.area_commit.specs.area_image.Spelled.{used}
+use Rattle.area_commit.specs.area_image.Format.{used_block}
 use Rattle.area_commit.specs.block_alloc.Runs.{blocks_of}
 use Rattle.area_commit.specs.block_alloc.Value.{FreeBlocks}
-use Rattle.area_commit.specs.Given.{AreUsed, IsInUse}
-use Rattle.inode_plan.specs.Started.{use_from}
+use Rattle.area_commit.specs.Release.{AreUsed, IsInUse}
+use Rattle.inode_plan.specs.DirectoryStart.{use_from}
 use Rattle.inode_plan.specs.PlacedDirectory.{ListPlaces}
 use Rattle.inode_plan.specs.PlannedDirectory.{IsPlannedFrom, StandThere, on_fast, HaveImages}
-use Rattle.inode_plan.specs.declared.started.StartedDirectory.{StartedDirectory}
+use Rattle.inode_plan.specs.declared.directory_start.StartedDirectory.{StartedDirectory}
 use Rattle.inode_plan.specs.declared.directory_change.ChangedDirectory.{ChangedDirectory}
 use Rattle.inode_plan.specs.declared.plan.DirectoryPlan.{DirectoryPlan}
 use Rattle.inode_plan.proofs.Fits.{is_fit, no_places}
@@ -87,7 +87,7 @@ module _ (g : Sizes) (s : Store) (c : Change) (i touch : ℕ) (start : StartedDi
     | inr some ↦ absurd (lists.after_root_apart g x spares p.can p.spare some k lt (sym same))
   ])
 
-  at_written : (n : ℕ) → n < length x.written → with_images now (s Fast) (nth_block places (nth_block x.written n)) ≡ numbered x.entries.blocks (nth_block x.written n)
+  at_written : (n : ℕ) → n < length x.written → with_images now (s Fast) (nth_block places (nth_block x.written n)) ≡ numbered_blocks x.entries.blocks (nth_block x.written n)
   at_written n lt =
       let inside : nth_block x.written n < length places = subst (λ m. nth_block x.written n < m) (sym long) (All-get_or (λ k. k < length x.entries.blocks) x.written n 0 lt p.can.inside) in
       ap (λ o. or_else o (s Fast (nth_block places (nth_block x.written n)))) (past_list (nth_block x.written n) inside ∙ blocks.there n lt)
@@ -107,27 +107,27 @@ module _ (g : Sizes) (s : Store) (c : Change) (i touch : ℕ) (start : StartedDi
   old_is : x.blocks.places.items ≡ start.blocks.places.items
   old_is = ap (λ b. b.places.items) p.changed.blocks_are
 
-  kept_same : (k : ℕ) → k < length places → (Contains x.written k → ⊥) → s Fast (nth_block places k) ≡ numbered x.entries.blocks k
+  kept_same : (k : ℕ) → k < length places → (Contains x.written k → ⊥) → s Fast (nth_block places k) ≡ numbered_blocks x.entries.blocks k
   kept_same k lt not = elim (cases_lt k (length start.entries.blocks)) [
     | inl here ↦
         let l = p.sound.long in
         let inside_start : k < length start.blocks.places.items = subst (λ n. k < n) (sym l) here in
         let inside : k < length x.blocks.places.items = subst (λ xs. k < length xs) (sym old_is) inside_start in
         let at : nth_block places k ≡ nth_block start.blocks.places.items k = lists.after_at g x spares p.can p.spare k lt ∙ lists.old_at g x spares p.can p.spare k inside ∙ ap (λ xs. nth_block xs k) old_is in
-        let was : numbered start.entries.blocks k ≡ s Fast (nth_block start.blocks.places.items k) = p.starts.held.each k inside_start in
-        let same : numbered x.entries.blocks k ≡ numbered start.entries.blocks k = elim (p.changed.written_are.others k (subst (λ n. k < n) long lt)) [ inl has ↦ absurd (not has) | inr same ↦ same ] in
+        let was : numbered_blocks start.entries.blocks k ≡ s Fast (nth_block start.blocks.places.items k) = p.starts.held.each k inside_start in
+        let same : numbered_blocks x.entries.blocks k ≡ numbered_blocks start.entries.blocks k = elim (p.changed.written_are.others k (subst (λ n. k < n) long lt)) [ inl has ↦ absurd (not has) | inr same ↦ same ] in
         ap (s Fast) at ∙ sym was ∙ sym same
     | inr past ↦ absurd (not (p.changed.written_are.added k past (subst (λ n. k < n) long lt)))
   ]
 
-  stands : (k : ℕ) → k < length places → with_images now (s Fast) (nth_block places k) ≡ numbered x.entries.blocks k
+  stands : (k : ℕ) → k < length places → with_images now (s Fast) (nth_block places k) ≡ numbered_blocks x.entries.blocks k
   stands k lt = elim (contains_cases x.written k) [
-    | inl has ↦ (let n = nth_contained x.written k has in subst (λ j. with_images now (s Fast) (nth_block places j) ≡ numbered x.entries.blocks j) n.2 (at_written n.0 n.1))
+    | inl has ↦ (let n = nth_contained x.written k has in subst (λ j. with_images now (s Fast) (nth_block places j) ≡ numbered_blocks x.entries.blocks j) n.2 (at_written n.0 n.1))
     | inr not ↦ at_kept k lt not ∙ kept_same k lt not
   ]
 
-  slot_shape : IsDirectorySlot (names_after c.names (started c.base (inode g s i)).names) x.entries.count plan.slot
-  slot_shape = subst (λ (y : Slot). IsDirectorySlot (names_after c.names (started c.base (inode g s i)).names) x.entries.count y) (sym slot_is)
+  slot_shape : IsDirectorySlot (names_after c.names (start_node c.base (inode g s i)).names) x.entries.count plan.slot
+  slot_shape = subst (λ (y : Slot). IsDirectorySlot (names_after c.names (start_node c.base (inode g s i)).names) x.entries.count y) (sym slot_is)
       (ap (λ n. slots.Directory n x.entries.count touch root) (p.changed.names_are ∙ ap (names_after c.names) p.starts.names_is))
 
   pub written : (after : Store) → StandThere now s after (on_fast plan.list.extents) → IsDirectoryWritten g c start.entries x.entries s after i plan.slot (on_fast plan.list.extents)
@@ -135,7 +135,7 @@ module _ (g : Sizes) (s : Store) (c : Change) (i touch : ℕ) (start : StartedDi
     is_directory = p.starts.kind_is;
     slot_is = slot_shape;
     read = p.starts.entries_are;
-    changed = subst (λ j. IsDirectoryAfter j c.entries start.entries.count (numbered start.entries.blocks) x.entries.count (numbered x.entries.blocks)) p.starts.owner_is p.changed.entries_are;
+    changed = subst (λ j. IsDirectoryAfter j c.entries start.entries.count (numbered_blocks start.entries.blocks) x.entries.count (numbered_blocks x.entries.blocks)) p.starts.owner_is p.changed.entries_are;
     blocks = λ k lt.
         (let inside : k < length places = subst (λ n. k < n) (sym (long ∙ p.planned.held.long)) lt in
         (nth_block places k, lie.there k inside, there k (nth_block places k) (lie.there k inside) ∙ stands k inside));
@@ -173,14 +173,14 @@ module _ (g : Sizes) (s : Store) (c : Change) (i touch : ℕ) (start : StartedDi
   its_use t k = ap (λ (y : Slot). block_by y (on_fast plan.list.extents) t k) slot_is ∙ block_is_use x.names x.entries.count touch root places plan.list.extents lie t k
 
   -- what it had is what it starts from
-  had : (k : Option ℕ) → use_in x.blocks.root x.blocks.places.items Fast k ≡ use_from c.base (used g s (record { inode = i; tier = Fast; logical = k }))
+  had : (k : Option ℕ) → use_in x.blocks.root x.blocks.places.items Fast k ≡ use_from c.base (used_block g s (record { inode = i; tier = Fast; logical = k }))
   had k = ap (λ b. use_of b Fast k) p.changed.blocks_are ∙ p.starts.uses Fast k
 
-  pub kept : (t : Tier) (k : Option ℕ) (b : Tier × ℕ) → block_by plan.slot (on_fast plan.list.extents) t k ≡ Some b → (use_from c.base (used g s (record { inode = i; tier = t; logical = k })) ≡ Some b) ⊎ ((b.0 ≡ Fast) × Contains spares b.1)
+  pub kept : (t : Tier) (k : Option ℕ) (b : Tier × ℕ) → block_by plan.slot (on_fast plan.list.extents) t k ≡ Some b → (use_from c.base (used_block g s (record { inode = i; tier = t; logical = k })) ≡ Some b) ⊎ ((b.0 ≡ Fast) × Contains spares b.1)
   kept t k b is =
       let f = fast_use root places t k b (sym (its_use t k) ∙ is) in
       elim (kept_on_fast g x spares p.can p.spare k b.1 f.use_is) [
-        | inl was ↦ inl (subst (λ (u : Tier). use_from c.base (used g s (record { inode = i; tier = u; logical = k })) ≡ Some b) (sym f.tier_is) (sym (had k) ∙ use_fast x.blocks.root x.blocks.places.items k b.1 was ∙ ap Some (sym f.block_is)))
+        | inl was ↦ inl (subst (λ (u : Tier). use_from c.base (used_block g s (record { inode = i; tier = u; logical = k })) ≡ Some b) (sym f.tier_is) (sym (had k) ∙ use_fast x.blocks.root x.blocks.places.items k b.1 was ∙ ap Some (sym f.block_is)))
         | inr spare ↦ inr (ap (λ (d : Tier × ℕ). d.0) f.block_is, spare)
       ]
 
@@ -242,7 +242,7 @@ module _ (g : Sizes) (s : Store) (c : Change) (i touch : ℕ) (start : StartedDi
   unused : (q : ℕ) → ((k : Option ℕ) → use_on_fast root places k ≢ Some q) → (k : Option ℕ) → block_by plan.slot (on_fast plan.list.extents) Fast k ≢ Some (Fast, q)
   unused q not k is = let f = fast_use root places Fast k (Fast, q) (sym (its_use Fast k) ∙ is) in not k f.use_is
 
-  pub exact : (q : ℕ) → Contains (blocks_of plan.lost.items) q ↔ (((k : Option ℕ) × (use_from c.base (used g s (record { inode = i; tier = Fast; logical = k })) ≡ Some (Fast, q))) × ((k : Option ℕ) → block_by plan.slot (on_fast plan.list.extents) Fast k ≢ Some (Fast, q)))
+  pub exact : (q : ℕ) → Contains (blocks_of plan.lost.items) q ↔ (((k : Option ℕ) × (use_from c.base (used_block g s (record { inode = i; tier = Fast; logical = k })) ≡ Some (Fast, q))) × ((k : Option ℕ) → block_by plan.slot (on_fast plan.list.extents) Fast k ≢ Some (Fast, q)))
   exact q = (
     λ has. (let w = lost_was g x spares p.can p.spare q (subst (λ xs. Contains xs q) lost_are has) in
         ((w.0.0, sym (had w.0.0) ∙ use_fast x.blocks.root x.blocks.places.items w.0.0 q w.0.1), unused q w.1)),
@@ -252,20 +252,20 @@ module _ (g : Sizes) (s : Store) (c : Change) (i touch : ℕ) (start : StartedDi
   )
 
   -- what it had, on any tier
-  had_by : (t : Tier) (k : Option ℕ) (b : Tier × ℕ) → use_from c.base (used g s (record { inode = i; tier = t; logical = k })) ≡ Some b → FastUse x.blocks.root x.blocks.places.items t k b
+  had_by : (t : Tier) (k : Option ℕ) (b : Tier × ℕ) → use_from c.base (used_block g s (record { inode = i; tier = t; logical = k })) ≡ Some b → FastUse x.blocks.root x.blocks.places.items t k b
   had_by t k b was = fast_use x.blocks.root x.blocks.places.items t k b (ap (λ d. use_of d t k) p.changed.blocks_are ∙ p.starts.uses t k ∙ was)
 
-  pub had_nodes : (t : Tier) (k : Option ℕ) (b : Tier × ℕ) → use_from c.base (used g s (record { inode = i; tier = t; logical = k })) ≡ Some b → (b.0 ≡ Fast) × (is_node g b.1 ≡ true)
+  pub had_nodes : (t : Tier) (k : Option ℕ) (b : Tier × ℕ) → use_from c.base (used_block g s (record { inode = i; tier = t; logical = k })) ≡ Some b → (b.0 ≡ Fast) × (is_node g b.1 ≡ true)
   had_nodes t k b was =
       let f = had_by t k b was in
       (ap (λ (d : Tier × ℕ). d.0) f.block_is, use_node g x.blocks.root x.blocks.places.items p.can.blocks_are.root_node p.can.blocks_are.nodes k b.1 f.use_is)
 
-  pub each : (t : Tier) (k : Option ℕ) (b : Tier × ℕ) → use_from c.base (used g s (record { inode = i; tier = t; logical = k })) ≡ Some b → block_by plan.slot (on_fast plan.list.extents) t k ≢ Some b → Contains (blocks_of plan.lost.items) b.1
+  pub each : (t : Tier) (k : Option ℕ) (b : Tier × ℕ) → use_from c.base (used_block g s (record { inode = i; tier = t; logical = k })) ≡ Some b → block_by plan.slot (on_fast plan.list.extents) t k ≢ Some b → Contains (blocks_of plan.lost.items) b.1
   each t k b was none =
       let f = had_by t k b was in
       let none_then : use_on_fast root places k ≢ Some b.1 = λ is. none (its_use t k ∙ ap (λ (u : Tier). use_in root places u k) f.tier_is ∙ use_fast root places k b.1 is ∙ ap Some (sym f.block_is)) in
       subst (λ xs. Contains xs b.1) (sym lost_are) (each_lost g x spares p.can p.spare k b.1 f.use_is none_then)
 
-  pub given : (pool : FreeBlocks) → ((k : Option ℕ) (b : ℕ) → use_from c.base (used g s (record { inode = i; tier = Fast; logical = k })) ≡ Some (Fast, b) → IsInUse pool b) → AreUsed pool plan.lost.items
+  pub given : (pool : FreeBlocks) → ((k : Option ℕ) (b : ℕ) → use_from c.base (used_block g s (record { inode = i; tier = Fast; logical = k })) ≡ Some (Fast, b) → IsInUse pool b) → AreUsed pool plan.lost.items
   given pool each = subst (AreUsed pool) (sym p.planned.lost_are) (all_used pool (lost_blocks x.blocks.root x.blocks.places.items (length x.entries.blocks)) (lost_apart g x spares p.can p.spare)
       (λ q has. (let w = lost_was g x spares p.can p.spare q has in each w.0.0 q (sym (had w.0.0) ∙ use_fast x.blocks.root x.blocks.places.items w.0.0 q w.0.1))))

@@ -6,18 +6,18 @@ use Rattle.area_commit.specs.layout.declared.slot.Slot.{Slot}
 use Rattle.area_commit.specs.layout.declared.slot.Slot.TheVariants as slots
 use Rattle.area_commit.specs.layout.Places.{Sizes}
 use Rattle.area_commit.specs.posix_calls.declared.limits.TheConstants.{MAX_NAMES}
-use Rattle.area_commit.specs.tree_blocks.Rewritten.{AreHeldOf}
+use Rattle.area_commit.specs.tree_blocks.InodeRewrite.{AreHeldOf}
 use Rattle.area_commit.specs.tree_blocks.Inode.{LogicalBlocks, inode_of, AreDirectoryBlocks, blocks_for}
-use Rattle.area_commit.specs.tree_blocks.Directory.{IsHeld, numbered}
+use Rattle.area_commit.specs.tree_blocks.Directory.{IsHeld, numbered_blocks}
 use Rattle.area_commit.proofs.tree_blocks_lemmas.Alike.{consistent_by}
 use Rattle.area_commit.specs.file_graph.declared.effect.Kind.TheVariants as kind
-use Rattle.area_commit.specs.area_image.Store.{Store, slot, root_of, length_of, logical, inode}
+use Rattle.area_commit.specs.area_image.Store.{Store, slot, root_of, length_of, logical_block, inode}
 use Rattle.area_commit.specs.area_image.declared.inode.InodeParts.{InodeParts}
 use Rattle.area_commit.proofs.area_image_lemmas.Damages.{at_fast, blocks_is}
 use Rattle.inode_plan.specs.Blocks.{nth_block, AreSound, use_in}
-use Rattle.inode_plan.specs.Started.{AreDirectoryParts, ArePlacesOf, HoldPlaces, IsStarted, IsSoundStart}
+use Rattle.inode_plan.specs.DirectoryStart.{AreDirectoryParts, ArePlacesOf, HoldPlaces, IsStarted, IsSoundStart}
 use Rattle.inode_plan.specs.declared.blocks.DirectoryBlocks.{DirectoryBlocks}
-use Rattle.inode_plan.specs.declared.started.StartedDirectory.{StartedDirectory}
+use Rattle.inode_plan.specs.declared.directory_start.StartedDirectory.{StartedDirectory}
 use Rattle.inode_plan.proofs.Parts as parts
 
 sizes_same : (x : Slot) (b c : LogicalBlocks) → (inode_of x b).size ≡ (inode_of x c).size
@@ -35,22 +35,22 @@ module _ (g : Sizes) (s : Store) (i : ℕ) (x : InodeParts) (are : AreDirectoryP
   count = (inode_of x.slot (λ k. [])).size
 
   size_is : (inode g s i).size ≡ count
-  size_is = ap (λ (y : Slot). (inode_of y (logical g s i)).size) (parts.slot_is g s i x are) ∙ sizes_same x.slot (logical g s i) (λ k. [])
+  size_is = ap (λ (y : Slot). (inode_of y (logical_block g s i)).size) (parts.slot_is g s i x are) ∙ sizes_same x.slot (logical_block g s i) (λ k. [])
 
   names_are : (inode g s i).names ≡ (inode_of x.slot (λ k. [])).names
-  names_are = ap (λ (y : Slot). (inode_of y (logical g s i)).names) (parts.slot_is g s i x are) ∙ names_same x.slot (logical g s i) (λ k. [])
+  names_are = ap (λ (y : Slot). (inode_of y (logical_block g s i)).names) (parts.slot_is g s i x are) ∙ names_same x.slot (logical_block g s i) (λ k. [])
 
   long : length places ≡ blocks_for count
   long = is.long ∙ parts.long g s i x are ∙ ap blocks_for size_is
 
   -- what stands there are its logical blocks
-  block_is : (k : ℕ) → k < blocks_for count → numbered held k ≡ logical g s i k
+  block_is : (k : ℕ) → k < blocks_for count → numbered_blocks held k ≡ logical_block g s i k
   block_is k lt =
       let inside : k < length places = subst (λ n. k < n) (sym long) lt in
       holds.each k inside ∙ sym (at_fast g s i k (nth_block places k) (parts.at_place g s i x are places is k inside))
 
-  directory : AreDirectoryBlocks i count (numbered held)
-  directory = consistent_by i (Some kind.Directory) count (logical g s i) (numbered held) block_is (subst (λ n. AreDirectoryBlocks i n (logical g s i)) size_is (parts.directory g s i x are))
+  directory : AreDirectoryBlocks i count (numbered_blocks held)
+  directory = consistent_by i (Some kind.Directory) count (logical_block g s i) (numbered_blocks held) block_is (subst (λ n. AreDirectoryBlocks i n (logical_block g s i)) size_is (parts.directory g s i x are))
 
   pub is_held : IsHeld (record { owner = i; count = count; blocks = held })
   is_held = record {
@@ -63,7 +63,7 @@ module _ (g : Sizes) (s : Store) (i : ℕ) (x : InodeParts) (are : AreDirectoryP
   module _ (blocks : DirectoryBlocks) (root_is : blocks.root ≡ root_of x.slot Fast) (places_are : blocks.places.items ≡ places) where
     module _ (start : StartedDirectory) (names : start.names ≡ (inode_of x.slot (λ k. [])).names) (entries : start.entries ≡ record { owner = i; count = count; blocks = held }) (blocks_are : start.blocks ≡ blocks) (list : start.blocks.root ≢ 0 → start.list ≡ s Fast start.blocks.root) where
       entries_of : AreHeldOf start.entries (inode g s i)
-      entries_of = subst (λ d. AreHeldOf d (inode g s i)) (sym entries) (record { count = size_is; blocks = λ k lt. ap (λ (b : LogicalBlocks). b k) (blocks_is (slot g s i) (logical g s i) kind.Directory are.kind_is) ∙ sym (block_is k lt) })
+      entries_of = subst (λ d. AreHeldOf d (inode g s i)) (sym entries) (record { count = size_is; blocks = λ k lt. ap (λ (b : LogicalBlocks). b k) (blocks_is (slot g s i) (logical_block g s i) kind.Directory are.kind_is) ∙ sym (block_is k lt) })
 
       places_same : start.blocks.places.items ≡ places
       places_same = ap (λ b. b.places.items) blocks_are ∙ places_are

@@ -11,7 +11,7 @@ use Rattle.area_commit.specs.layout.declared.extents.Extent.{Extent}
 use Rattle.area_commit.specs.extent_tree.Places.{in_run, place_of}
 use Rattle.area_commit.specs.extent_tree.Changes.{after}
 use Rattle.area_commit.specs.extent_tree.Map.{TierRuns, runs_in, lies_at, ArePut}
-use Rattle.inode_plan.specs.Placed.{moved_to, moved_away, ArePlaced, EndsFit}
+use Rattle.inode_plan.specs.RunPlaces.{moved_to, moved_away, ArePlaced, EndsFit}
 
 -- ---- a run
 

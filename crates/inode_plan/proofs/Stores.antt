@@ -12,26 +12,26 @@ use Rattle.area_commit.specs.layout.declared.slot.Slot.TheVariants as slots
 use Rattle.area_commit.specs.layout.Slot.{fits_slot}
 use Rattle.area_commit.specs.layout.declared.geometry.Space.TheVariants as space
 use Rattle.area_commit.specs.batch_journal.Images.{slice}
-use Rattle.area_commit.specs.Writing.{block_at}
+use Rattle.area_commit.specs.DataWrite.{block_at}
 use Rattle.area_commit.specs.graph_change.Bytes.{length_after, end}
 use Rattle.area_commit.specs.graph_change.Change.{Change, patch_at, writes_block}
 use Rattle.area_commit.specs.graph_change.Net.{Base, Kept, Made, Gone}
 use Rattle.area_commit.specs.graph_change.Tidy.{IsTidyChange}
 use Rattle.area_commit.specs.tree_blocks.Inode.{LogicalBlocks, inode_of}
-use Rattle.area_commit.specs.tree_blocks.After.{started}
+use Rattle.area_commit.specs.tree_blocks.After.{start_node}
 use Rattle.area_commit.specs.tree_blocks.FileBlock.{ReadsAfter}
 use Rattle.area_commit.specs.extent_tree.Normal.{IsNormal}
-use Rattle.area_commit.specs.extent_tree.Spelled.{LiesWithin, IsOneToOne}
+use Rattle.area_commit.specs.extent_tree.BlockFormat.{LiesWithin, IsOneToOne}
 use Rattle.area_commit.specs.extent_tree.Map.{TierRuns, runs_in, lies_at, LieOnce, LieBelow}
 use Rattle.area_commit.specs.extent_tree.declared.map.Place.{Place}
-use Rattle.area_commit.specs.area_image.Store.{Store, slot, logical, inode}
-use Rattle.area_commit.specs.Written.{IsFit, logical_by}
-use Rattle.area_commit.specs.Changed.{place_from, LieAsChanged, IsFileSlot}
+use Rattle.area_commit.specs.area_image.Store.{Store, slot, logical_block, inode}
+use Rattle.area_commit.specs.InodeRewrite.{IsFit, logical_by}
+use Rattle.area_commit.specs.InodeChange.{place_from, LieAsChanged, IsFileSlot}
 use Rattle.area_commit.proofs.Places.{by_there}
 use Rattle.inode_plan.specs.PlacedFile.{nth_place}
-use Rattle.inode_plan.specs.Written.{AreNumbers}
+use Rattle.inode_plan.specs.BlockWrites.{AreNumbers}
 use Rattle.inode_plan.specs.Bytes.{IsBlockAfter, HoldsBlocks}
-use Rattle.inode_plan.specs.Mapped.{IsMapAfter, AreFresh, AreData}
+use Rattle.inode_plan.specs.MapChange.{IsMapAfter, AreFresh, AreData}
 use Rattle.inode_plan.specs.PlannedFile.{pair_of, StartsFrom, HasData}
 use Rattle.inode_plan.proofs.After.{stands, written_at, in_place, keeps_or_takes, after_once, after_below, after_apart, after_within}
 
@@ -63,7 +63,7 @@ module _ (g : Sizes) (c : Change) (old new : Store) (i : ℕ) (before after : Ti
     | inr taken ↦ absurd (false≢true (sym out ∙ subst (λ (j : ℕ). writes_block c j ≡ true) taken.number (written_at c numbers are taken.at taken.inside)))
   ]
 
-  pub as_changed : ((k : ℕ) → blocks k ≡ (started c.base (inode g old i)).blocks k) → LieAsChanged g c old new i after
+  pub as_changed : ((k : ℕ) → blocks k ≡ (start_node c.base (inode g old i)).blocks k) → LieAsChanged g c old new i after
   as_changed alike = record {
     written = λ k put. subst (λ (b : List ℕ). ReadsAfter c.length (patch_at c.patches k) k b (logical_by new after k)) (alike k) (written k put);
     gone = is.gone;
@@ -78,8 +78,8 @@ kept_blocks slots.Free blocks is = absurd cc
 kept_blocks (slots.File names size touch fast block slow) blocks is = refl
 kept_blocks (slots.Directory names entries touch root) blocks is = refl
 
-pub file_blocks : (g : Sizes) (s : Store) (i : ℕ) → (inode g s i).kind ≡ Some kind.File → logical g s i ≡ (inode g s i).blocks
-file_blocks g s i is = kept_blocks (slot g s i) (logical g s i) is
+pub file_blocks : (g : Sizes) (s : Store) (i : ℕ) → (inode g s i).kind ≡ Some kind.File → logical_block g s i ≡ (inode g s i).blocks
+file_blocks g s i is = kept_blocks (slot g s i) (logical_block g s i) is
 
 -- ---- the slot and the runs
 

@@ -13,7 +13,7 @@ use Rattle.area_commit.specs.layout.declared.extents.Extent.{Extent}
 use Rattle.area_commit.specs.layout.Places.{Sizes, is_node}
 use Rattle.area_commit.specs.layout.Slot.{is_root_block}
 use Rattle.area_commit.specs.extent_tree.Places.{place_of}
-use Rattle.area_commit.specs.Written.{block_by}
+use Rattle.area_commit.specs.InodeRewrite.{block_by}
 use Rattle.inode_plan.specs.Blocks.{nth_block, HaveOwnPlaces, AreNodeBlocks, use_on_fast, use_in, root_blocks, lost_blocks}
 use Rattle.inode_plan.specs.Spare.{CanBeWritten, AreSpares}
 use Rattle.inode_plan.specs.PlacedDirectory.{ListPlaces}

@@ -1,15 +1,15 @@
 pub mod Lists
-pub mod Placed
+pub mod RunPlaces
 pub mod PlacedFile
 pub mod PlannedFile
-pub mod Written
+pub mod BlockWrites
 pub mod Bytes
-pub mod Mapped
+pub mod MapChange
 pub mod Roots
 pub mod PlacedDirectory
 pub mod PlannedDirectory
 pub mod Blocks
-pub mod Started
+pub mod DirectoryStart
 pub mod Spare
 -- Passed on to the crates above, which so need not list those below.
 pub use Rattle.area_commit.specs as area_commit

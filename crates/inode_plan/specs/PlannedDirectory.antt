@@ -7,15 +7,15 @@ use Rattle.area_commit.specs.layout.Places.{Sizes, IsAllowed}
 use Rattle.area_commit.specs.layout.Extents.{ExtentList, extents_spelling}
 use Rattle.area_commit.specs.batch_journal.Images.{image_for, with_images}
 use Rattle.area_commit.specs.extent_tree.Map.{TierRuns, lies_at}
-use Rattle.area_commit.specs.tree_blocks.Directory.{numbered, IsHeld}
+use Rattle.area_commit.specs.tree_blocks.Directory.{numbered_blocks, IsHeld}
 use Rattle.area_commit.specs.area_image.Store.{Store}
-use Rattle.area_commit.specs.Written.{list_of}
+use Rattle.area_commit.specs.InodeRewrite.{list_of}
 use Rattle.inode_plan.specs.Blocks.{nth_block, places_after, root_after, lost_blocks, one_block}
 use Rattle.inode_plan.specs.PlacedDirectory.{ListPlaces}
 use Rattle.inode_plan.specs.Spare.{CanBeWritten, AreSpares}
 use Rattle.area_commit.specs.graph_change.Change.{Change}
-use Rattle.inode_plan.specs.Started.{IsStarted, IsSoundStart, IsChanged}
-use Rattle.inode_plan.specs.declared.started.StartedDirectory.{StartedDirectory}
+use Rattle.inode_plan.specs.DirectoryStart.{IsStarted, IsSoundStart, IsChanged}
+use Rattle.inode_plan.specs.declared.directory_start.StartedDirectory.{StartedDirectory}
 use Rattle.inode_plan.specs.declared.directory_change.ChangedDirectory.{ChangedDirectory}
 use Rattle.inode_plan.specs.declared.plan.DirectoryPlan.{DirectoryPlan}
 
@@ -23,7 +23,7 @@ use Rattle.inode_plan.specs.declared.plan.DirectoryPlan.{DirectoryPlan}
 
 -- Each block that is written has an image for the place where it lies, and no other block of the node pool has a new one.
 pub record HaveImages (blocks : List (List ℕ)) (places written : List ℕ) (old new : List (ℕ × List ℕ)) : Type 0 where
-  pub there : (n : ℕ) → n < length written → image_for (nth_block places (nth_block written n)) new ≡ Some (numbered blocks (nth_block written n))
+  pub there : (n : ℕ) → n < length written → image_for (nth_block places (nth_block written n)) new ≡ Some (numbered_blocks blocks (nth_block written n))
   pub others : (p : ℕ) → ((n : ℕ) → n < length written → nth_block places (nth_block written n) ≢ p) → image_for p new ≡ image_for p old
 
 -- The extent block is the old one, and stands there already: it has no new image.

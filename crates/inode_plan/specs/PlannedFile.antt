@@ -5,12 +5,12 @@ use Rattle.area_commit.specs.tier_device.declared.media.Tier.TheVariants as tier
 use Rattle.area_commit.specs.layout.Places.{Sizes}
 use Rattle.area_commit.specs.block_alloc.declared.runs.Run.{Run}
 use Rattle.area_commit.specs.graph_change.Net.{Base}
-use Rattle.area_commit.specs.Writing.{HoldData}
+use Rattle.area_commit.specs.DataWrite.{HoldData}
 use Rattle.area_commit.specs.extent_tree.Map.{TierRuns, lies_at}
 use Rattle.area_commit.specs.extent_tree.declared.map.Place.{Place}
 use Rattle.area_commit.specs.area_image.Store.{Store, place}
-use Rattle.area_commit.specs.Changed.{place_from}
-use Rattle.inode_plan.specs.declared.planning.FilePlan.{FilePlan}
+use Rattle.area_commit.specs.InodeChange.{place_from}
+use Rattle.inode_plan.specs.declared.file_plan.FilePlan.{FilePlan}
 
 -- the runs of a tier that a planned file leaves
 abbrev pub left_in : FilePlan → Tier → List Run

@@ -12,19 +12,19 @@ use Rattle.area_commit.specs.area_image.declared.tiers.InodeExtents.{InodeExtent
 use Rattle.inode_plan.specs.Lists.{root_for}
 
 -- how many spare blocks a tier wants: one where it has extents and no block that lists them
-abbrev pub lacking : ℕ → Option ExtentList → ℕ
-lacking root None = 0
-lacking root (Some v) = if root == 0 then 1 else 0
+abbrev pub missing_roots : ℕ → Option ExtentList → ℕ
+missing_roots root None = 0
+missing_roots root (Some v) = if root == 0 then 1 else 0
 
 -- how many the tiers before one want
 abbrev pub wanted_before : Slot → InodeExtents → Tier → ℕ
 wanted_before slot x tiers.Fast = 0
-wanted_before slot x tiers.Block = lacking (root_of slot tiers.Fast) x.fast
-wanted_before slot x tiers.Slow = lacking (root_of slot tiers.Fast) x.fast + lacking (root_of slot tiers.Block) x.block
+wanted_before slot x tiers.Block = missing_roots (root_of slot tiers.Fast) x.fast
+wanted_before slot x tiers.Slow = missing_roots (root_of slot tiers.Fast) x.fast + missing_roots (root_of slot tiers.Block) x.block
 
 -- how many all tiers want
 abbrev pub roots_wanted : Slot → InodeExtents → ℕ
-roots_wanted slot x = wanted_before slot x tiers.Slow + lacking (root_of slot tiers.Slow) x.slow
+roots_wanted slot x = wanted_before slot x tiers.Slow + missing_roots (root_of slot tiers.Slow) x.slow
 
 -- A tier with extents keeps the block that lists them, or gets the next spare one where it has none; a tier without has none.
 abbrev pub HasRootsOf : InodeExtents → List ℕ → Slot → Slot → Type 0

@@ -3,7 +3,7 @@ ghost use Rattle.std.specs.Prelude.{◌≡◌, ℕ, IfOk, OnOk};
 ghost use Rattle.area_commit.specs.layout.declared.slot.Slot.{Slot};
 ghost use Rattle.area_commit.specs.tier_device.declared.media.Tier.{Tier};
 ghost use Rattle.area_commit.specs.extent_tree.Normal.{IsNormal};
-ghost use Rattle.area_commit.specs.extent_tree.Spelled.{LiesWithin};
+ghost use Rattle.area_commit.specs.extent_tree.BlockFormat.{LiesWithin};
 ghost use Rattle.area_commit.specs.extent_tree.Map.{runs_in};
 ghost use Rattle.area_commit.specs.area_image.Store.{space_of};
 ghost use Rattle.area_commit.specs.area_image.Map.{extents_in};
@@ -15,7 +15,7 @@ use area_commit::{
 use std::alloc::{AllocError, Global};
 
 // The extents of a block, none where there is no block.
-fn listed(found: &Option<ExtentBlock>) -> &[Extent]
+fn block_extents(found: &Option<ExtentBlock>) -> &[Extent]
     ensures { result.now ≡ extents_in found.now }
 {
     match found {
@@ -36,9 +36,9 @@ pub fn map_of(
 {
     let _units = geometry.units();
     block_spells_a_map();
-    let fast = listed(&found.fast);
-    let block = listed(&found.block);
-    let slow = listed(&found.slow);
+    let fast = block_extents(&found.fast);
+    let block = block_extents(&found.block);
+    let slow = block_extents(&found.slow);
     let map = BlockMap::from_extents(alloc, fast, block, slow)?;
     Ok(map)
 }

@@ -4,9 +4,9 @@ ghost use Rattle.area_commit.specs.area_image.Store.{Store, root_of, length_of};
 ghost use Rattle.area_commit.specs.tier_device.declared.media.Tier.TheVariants as tiers;
 ghost use Rattle.area_commit.specs.tier_device.declared.media.Tier.{Tier};
 ghost use Rattle.area_commit.specs.area_image.Map.{place_by};
-ghost use Rattle.area_commit.specs.area_image.Spelled.{used};
+ghost use Rattle.area_commit.specs.area_image.Format.{used_block};
 ghost use Rattle.inode_plan.specs.Blocks.{AreSound, use_of};
-ghost use Rattle.inode_plan.specs.Started.{AreDirectoryParts, LieInPool, ArePlacesOf};
+ghost use Rattle.inode_plan.specs.DirectoryStart.{AreDirectoryParts, LieInPool, ArePlacesOf};
 
 use area_commit::{
     Geometry, InodeExtents, InodeParts, Tier, block_number, first_place, length_of, root_of,
@@ -62,7 +62,7 @@ pub fn directory_blocks(
     ensures memory { OnErr result (0 < length_of parts.now.slot) }
     ensures sound { (s : Store) (i : ℕ) → AreDirectoryParts geometry.now s i parts.now → IfOk result (AreSound geometry.now) }
     // It is all that the inode uses.
-    ensures uses { (s : Store) (i : ℕ) → AreDirectoryParts geometry.now s i parts.now → IfOk result (λ x. (t : Tier) (k : Option ℕ) → use_of x t k ≡ used geometry.now s (record { inode = i; tier = t; logical = k })) }
+    ensures uses { (s : Store) (i : ℕ) → AreDirectoryParts geometry.now s i parts.now → IfOk result (λ x. (t : Tier) (k : Option ℕ) → use_of x t k ≡ used_block geometry.now s (record { inode = i; tier = t; logical = k })) }
 {
     let places = places_of(alloc, geometry, &parts.extents, length_of(&parts.slot))?;
     let root = root_of(&parts.slot, Tier::Fast);

@@ -11,18 +11,18 @@ ghost use Rattle.area_commit.specs.block_alloc.Runs.{blocks_of};
 ghost use Rattle.area_commit.specs.block_alloc.Value.{FreeBlocks};
 ghost use Rattle.area_commit.specs.extent_tree.Map.{runs_in};
 ghost use Rattle.area_commit.specs.area_image.Store.{Store, root_of};
-ghost use Rattle.area_commit.specs.area_image.Spelled.{used};
-ghost use Rattle.area_commit.specs.Written.{IsFit, IsListed, block_by};
-ghost use Rattle.area_commit.specs.Changed.{IsDirectoryWritten};
-ghost use Rattle.area_commit.specs.Given.{AreUsed, IsInUse};
+ghost use Rattle.area_commit.specs.area_image.Format.{used_block};
+ghost use Rattle.area_commit.specs.InodeRewrite.{IsFit, IsListed, block_by};
+ghost use Rattle.area_commit.specs.InodeChange.{IsDirectoryWritten};
+ghost use Rattle.area_commit.specs.Release.{AreUsed, IsInUse};
 ghost use Rattle.area_commit.specs.block_alloc.declared.runs.Run.{Run};
 ghost use Rattle.area_commit.specs.graph_change.Bounds.{IsBounded};
 ghost use Rattle.inode_plan.specs.Blocks.{AreSound, use_of, root_blocks, one_block};
 ghost use Rattle.inode_plan.specs.Spare.{CanBeWritten};
-ghost use Rattle.inode_plan.specs.Started.{use_from, IsSoundStart, IsChanged};
+ghost use Rattle.inode_plan.specs.DirectoryStart.{use_from, IsSoundStart, IsChanged};
 ghost use Rattle.inode_plan.specs.declared.blocks.DirectoryBlocks.{DirectoryBlocks};
 ghost use Rattle.inode_plan.specs.PlannedDirectory.{IsPlannedFrom, StandThere, on_fast};
-ghost use Rattle.inode_plan.specs.declared.started.StartedDirectory.{StartedDirectory};
+ghost use Rattle.inode_plan.specs.declared.directory_start.StartedDirectory.{StartedDirectory};
 ghost use Rattle.inode_plan.specs.declared.directory_change.ChangedDirectory.{ChangedDirectory};
 ghost use Rattle.inode_plan.specs.declared.plan.DirectoryPlan.{DirectoryPlan};
 
@@ -48,7 +48,7 @@ pub fn planned_directory_is_written()
 /// Each block of a planned directory is one of the node pool that it had for the same use, or a spare one, and has one use; each spare block has one, and an image; and there are images
 /// for its own blocks alone.
 pub fn planned_blocks_are_kept_or_spare()
-    ensures kept { (g : Sizes) (s : Store) (c : Change) (i touch : ℕ) (start : StartedDirectory) (x : ChangedDirectory) (spares : List ℕ) (old new : List (ℕ × List ℕ)) (plan : DirectoryPlan) → IsPlannedFrom g s c i start x touch spares old new plan → (t : Tier) (k : Option ℕ) (b : Tier × ℕ) → block_by plan.slot (on_fast plan.list.extents) t k ≡ Some b → (use_from c.base (used g s (record { inode = i; tier = t; logical = k })) ≡ Some b) ⊎ ((b.0 ≡ Fast) × Contains spares b.1) }
+    ensures kept { (g : Sizes) (s : Store) (c : Change) (i touch : ℕ) (start : StartedDirectory) (x : ChangedDirectory) (spares : List ℕ) (old new : List (ℕ × List ℕ)) (plan : DirectoryPlan) → IsPlannedFrom g s c i start x touch spares old new plan → (t : Tier) (k : Option ℕ) (b : Tier × ℕ) → block_by plan.slot (on_fast plan.list.extents) t k ≡ Some b → (use_from c.base (used_block g s (record { inode = i; tier = t; logical = k })) ≡ Some b) ⊎ ((b.0 ≡ Fast) × Contains spares b.1) }
     ensures once { (g : Sizes) (s : Store) (c : Change) (i touch : ℕ) (start : StartedDirectory) (x : ChangedDirectory) (spares : List ℕ) (old new : List (ℕ × List ℕ)) (plan : DirectoryPlan) → IsPlannedFrom g s c i start x touch spares old new plan → (t u : Tier) (j k : Option ℕ) (b : Tier × ℕ) → block_by plan.slot (on_fast plan.list.extents) t j ≡ Some b → block_by plan.slot (on_fast plan.list.extents) u k ≡ Some b → (t ≡ u) × (j ≡ k) }
     ensures all { (g : Sizes) (s : Store) (c : Change) (i touch : ℕ) (start : StartedDirectory) (x : ChangedDirectory) (spares : List ℕ) (old new : List (ℕ × List ℕ)) (plan : DirectoryPlan) → IsPlannedFrom g s c i start x touch spares old new plan → (p : ℕ) → Contains spares p → (k : Option ℕ) × (block_by plan.slot (on_fast plan.list.extents) Fast k ≡ Some (Fast, p)) }
     ensures images { (g : Sizes) (s : Store) (c : Change) (i touch : ℕ) (start : StartedDirectory) (x : ChangedDirectory) (spares : List ℕ) (old new : List (ℕ × List ℕ)) (plan : DirectoryPlan) → IsPlannedFrom g s c i start x touch spares old new plan → (p : ℕ) → ((k : Option ℕ) → block_by plan.slot (on_fast plan.list.extents) Fast k ≢ Some (Fast, p)) → image_for p new ≡ image_for p old }
@@ -59,8 +59,8 @@ pub fn planned_blocks_are_kept_or_spare()
 /// A planned directory gives up exactly the blocks that it had a use for and has none; it had blocks of the node pool alone, and each that it has for the same use no more is given up.
 /// They can be given to the pool in which they are in use.
 pub fn planned_losses_are_exact()
-    ensures exact { (g : Sizes) (s : Store) (c : Change) (i touch : ℕ) (start : StartedDirectory) (x : ChangedDirectory) (spares : List ℕ) (old new : List (ℕ × List ℕ)) (plan : DirectoryPlan) → IsPlannedFrom g s c i start x touch spares old new plan → (p : ℕ) → Contains (blocks_of plan.lost.items) p ↔ (((k : Option ℕ) × (use_from c.base (used g s (record { inode = i; tier = Fast; logical = k })) ≡ Some (Fast, p))) × ((k : Option ℕ) → block_by plan.slot (on_fast plan.list.extents) Fast k ≢ Some (Fast, p))) }
-    ensures had { (g : Sizes) (s : Store) (c : Change) (i touch : ℕ) (start : StartedDirectory) (x : ChangedDirectory) (spares : List ℕ) (old new : List (ℕ × List ℕ)) (plan : DirectoryPlan) → IsPlannedFrom g s c i start x touch spares old new plan → (t : Tier) (k : Option ℕ) (b : Tier × ℕ) → use_from c.base (used g s (record { inode = i; tier = t; logical = k })) ≡ Some b → (b.0 ≡ Fast) × (is_node g b.1 ≡ true) }
-    ensures each { (g : Sizes) (s : Store) (c : Change) (i touch : ℕ) (start : StartedDirectory) (x : ChangedDirectory) (spares : List ℕ) (old new : List (ℕ × List ℕ)) (plan : DirectoryPlan) → IsPlannedFrom g s c i start x touch spares old new plan → (t : Tier) (k : Option ℕ) (b : Tier × ℕ) → use_from c.base (used g s (record { inode = i; tier = t; logical = k })) ≡ Some b → block_by plan.slot (on_fast plan.list.extents) t k ≢ Some b → Contains (blocks_of plan.lost.items) b.1 }
-    ensures given { (g : Sizes) (s : Store) (c : Change) (i touch : ℕ) (start : StartedDirectory) (x : ChangedDirectory) (spares : List ℕ) (old new : List (ℕ × List ℕ)) (plan : DirectoryPlan) (p : FreeBlocks) → IsPlannedFrom g s c i start x touch spares old new plan → ((k : Option ℕ) (b : ℕ) → use_from c.base (used g s (record { inode = i; tier = Fast; logical = k })) ≡ Some (Fast, b) → IsInUse p b) → AreUsed p plan.lost.items }
+    ensures exact { (g : Sizes) (s : Store) (c : Change) (i touch : ℕ) (start : StartedDirectory) (x : ChangedDirectory) (spares : List ℕ) (old new : List (ℕ × List ℕ)) (plan : DirectoryPlan) → IsPlannedFrom g s c i start x touch spares old new plan → (p : ℕ) → Contains (blocks_of plan.lost.items) p ↔ (((k : Option ℕ) × (use_from c.base (used_block g s (record { inode = i; tier = Fast; logical = k })) ≡ Some (Fast, p))) × ((k : Option ℕ) → block_by plan.slot (on_fast plan.list.extents) Fast k ≢ Some (Fast, p))) }
+    ensures had { (g : Sizes) (s : Store) (c : Change) (i touch : ℕ) (start : StartedDirectory) (x : ChangedDirectory) (spares : List ℕ) (old new : List (ℕ × List ℕ)) (plan : DirectoryPlan) → IsPlannedFrom g s c i start x touch spares old new plan → (t : Tier) (k : Option ℕ) (b : Tier × ℕ) → use_from c.base (used_block g s (record { inode = i; tier = t; logical = k })) ≡ Some b → (b.0 ≡ Fast) × (is_node g b.1 ≡ true) }
+    ensures each { (g : Sizes) (s : Store) (c : Change) (i touch : ℕ) (start : StartedDirectory) (x : ChangedDirectory) (spares : List ℕ) (old new : List (ℕ × List ℕ)) (plan : DirectoryPlan) → IsPlannedFrom g s c i start x touch spares old new plan → (t : Tier) (k : Option ℕ) (b : Tier × ℕ) → use_from c.base (used_block g s (record { inode = i; tier = t; logical = k })) ≡ Some b → block_by plan.slot (on_fast plan.list.extents) t k ≢ Some b → Contains (blocks_of plan.lost.items) b.1 }
+    ensures given { (g : Sizes) (s : Store) (c : Change) (i touch : ℕ) (start : StartedDirectory) (x : ChangedDirectory) (spares : List ℕ) (old new : List (ℕ × List ℕ)) (plan : DirectoryPlan) (p : FreeBlocks) → IsPlannedFrom g s c i start x touch spares old new plan → ((k : Option ℕ) (b : ℕ) → use_from c.base (used_block g s (record { inode = i; tier = Fast; logical = k })) ≡ Some (Fast, b) → IsInUse p b) → AreUsed p plan.lost.items }
 {}

@@ -1,7 +1,7 @@
 // The bytes that the written blocks of a file get.
 ghost use Rattle.std.specs.Prelude.{◌≡◌, ◌⊎◌, ◌++◌, ◌*◌, ◌+◌, ◌<◌, ◌≤◌, ◌^◌, ℕ, List, length, take, drop, replicate, true, false, OnOk, OnErr, IfErr, IfSome, option_map};
 ghost use Rattle.area_commit.specs.layout.declared.places.TheConstants.{BLOCK};
-ghost use Rattle.area_commit.specs.area_image.Store.{store_of, logical};
+ghost use Rattle.area_commit.specs.area_image.Store.{disk, logical_block};
 ghost use Rattle.area_commit.specs.area_image.Checks.{HasFound, IsOnce};
 ghost use Rattle.area_commit.specs.area_image.Looks.{Looks};
 ghost use Rattle.area_commit.specs.area_image.declared.error.AreaError.TheVariants.{DeviceFault, Memory};
@@ -11,7 +11,7 @@ ghost use Rattle.area_commit.specs.tree_blocks.Inode.{LogicalBlocks};
 ghost use Rattle.area_commit.specs.tree_blocks.FileBlock.{put_in, is_cut_off, ReadSame};
 ghost use Rattle.inode_plan.specs.Bytes.{IsBlockAfter, AddsBlocks, GoesOn, blocks_from};
 
-use crate::cutting::is_cut_off;
+use crate::file_cut::is_cut_off;
 use area_commit::{
     AreaError, BLOCK, BlockChange, InodeExtents, Journal, Media, NodeChange, NodeLength,
     block_number, change_block, first_place, read_block,
@@ -27,12 +27,12 @@ fn read_logical<M: Media>(
     out: &mut [u8],
 ) -> Result<(), AreaError>
     requires size { length out.old ≡ BLOCK }
-    requires found { HasFound journal.old.geometry (store_of (M.seen journal.old.media)) inode found.now }
-    requires once { IsOnce journal.old.geometry (store_of (M.seen journal.old.media)) inode }
+    requires found { HasFound journal.old.geometry (disk M.Media journal.old) inode found.now }
+    requires once { IsOnce journal.old.geometry (disk M.Media journal.old) inode }
     requires going { journal.old.failed ≡ false }
-    ensures bytes { OnOk result (ReadSame out.new (logical journal.old.geometry (store_of (M.seen journal.old.media)) inode number)) }
+    ensures bytes { OnOk result (ReadSame out.new (logical_block journal.old.geometry (disk M.Media journal.old) inode number)) }
     ensures only { IfErr result (λ e. e ≡ DeviceFault) }
-    ensures looks { Looks M.moment M.seen M.left M.faults journal.old journal.new result }
+    ensures looks { Looks M.Media journal.old journal.new result }
 {
     let geometry = journal.geometry();
     match first_place(found, number) {
@@ -65,12 +65,12 @@ fn read_started<M: Media>(
     out: &mut [u8],
 ) -> Result<(), AreaError>
     requires size { length out.old ≡ BLOCK }
-    requires found { IfSome found (λ x. HasFound journal.old.geometry (store_of (M.seen journal.old.media)) inode x.now) }
-    requires once { IsOnce journal.old.geometry (store_of (M.seen journal.old.media)) inode }
+    requires found { IfSome found (λ x. HasFound journal.old.geometry (disk M.Media journal.old) inode x.now) }
+    requires once { IsOnce journal.old.geometry (disk M.Media journal.old) inode }
     requires going { journal.old.failed ≡ false }
-    ensures bytes { OnOk result (ReadSame out.new (blocks_from found.entry (logical journal.old.geometry (store_of (M.seen journal.old.media)) inode) number)) }
+    ensures bytes { OnOk result (ReadSame out.new (blocks_from found.entry (logical_block journal.old.geometry (disk M.Media journal.old) inode) number)) }
     ensures only { IfErr result (λ e. e ≡ DeviceFault) }
-    ensures looks { Looks M.moment M.seen M.left M.faults journal.old journal.new result }
+    ensures looks { Looks M.Media journal.old journal.new result }
 {
     match found {
         Some(extents) => match read_logical(journal, inode, extents, number, out) {
@@ -107,12 +107,12 @@ fn change_into<M: Media>(
     block: &mut [u8],
 ) -> Result<(), AreaError>
     requires size { length block.old ≡ BLOCK }
-    requires found { IfSome found (λ x. HasFound journal.old.geometry (store_of (M.seen journal.old.media)) inode x.now) }
-    requires once { IsOnce journal.old.geometry (store_of (M.seen journal.old.media)) inode }
+    requires found { IfSome found (λ x. HasFound journal.old.geometry (disk M.Media journal.old) inode x.now) }
+    requires once { IsOnce journal.old.geometry (disk M.Media journal.old) inode }
     requires going { journal.old.failed ≡ false }
-    ensures made { OnOk result (IsBlockAfter (change_of change.now) (blocks_from found.entry (logical journal.old.geometry (store_of (M.seen journal.old.media)) inode)) number block.new) }
+    ensures made { OnOk result (IsBlockAfter (change_of change.now) (blocks_from found.entry (logical_block journal.old.geometry (disk M.Media journal.old) inode)) number block.new) }
     ensures only { IfErr result (λ e. e ≡ DeviceFault) }
-    ensures looks { Looks M.moment M.seen M.left M.faults journal.old journal.new result }
+    ensures looks { Looks M.Media journal.old journal.new result }
 {
     let put = change.blocks.get(&number);
     if !needs_old(number, change.length, put) {
@@ -148,14 +148,14 @@ fn change_last<M: Media>(
     at: usize,
 ) -> Result<(), AreaError>
     requires long { length out.old.items ≡ at + BLOCK }
-    requires found { IfSome found (λ x. HasFound journal.old.geometry (store_of (M.seen journal.old.media)) inode x.now) }
-    requires once { IsOnce journal.old.geometry (store_of (M.seen journal.old.media)) inode }
+    requires found { IfSome found (λ x. HasFound journal.old.geometry (disk M.Media journal.old) inode x.now) }
+    requires once { IsOnce journal.old.geometry (disk M.Media journal.old) inode }
     requires going { journal.old.failed ≡ false }
     ensures front { take at out.new.items ≡ take at out.old.items }
     ensures long { length out.new.items ≡ length out.old.items }
-    ensures made { OnOk result (IsBlockAfter (change_of change.now) (blocks_from found.entry (logical journal.old.geometry (store_of (M.seen journal.old.media)) inode)) number (drop at out.new.items)) }
+    ensures made { OnOk result (IsBlockAfter (change_of change.now) (blocks_from found.entry (logical_block journal.old.geometry (disk M.Media journal.old) inode)) number (drop at out.new.items)) }
     ensures only { IfErr result (λ e. e ≡ DeviceFault) }
-    ensures looks { Looks M.moment M.seen M.left M.faults journal.old journal.new result }
+    ensures looks { Looks M.Media journal.old journal.new result }
 {
     match change_into(journal, inode, found, change, number, &mut out[at..]) {
         Ok(()) => Ok(()),
@@ -172,13 +172,13 @@ fn push_block<M: Media>(
     number: u64,
     out: &mut Vec<u8>,
 ) -> Result<(), AreaError>
-    requires found { IfSome found (λ x. HasFound journal.old.geometry (store_of (M.seen journal.old.media)) inode x.now) }
-    requires once { IsOnce journal.old.geometry (store_of (M.seen journal.old.media)) inode }
+    requires found { IfSome found (λ x. HasFound journal.old.geometry (disk M.Media journal.old) inode x.now) }
+    requires once { IsOnce journal.old.geometry (disk M.Media journal.old) inode }
     requires going { journal.old.failed ≡ false }
-    ensures added { OnOk result ((block : List ℕ) × (out.new.items ≡ out.old.items ++ block) × (length block ≡ BLOCK) × IsBlockAfter (change_of change.now) (blocks_from found.entry (logical journal.old.geometry (store_of (M.seen journal.old.media)) inode)) number block) }
+    ensures added { OnOk result ((block : List ℕ) × (out.new.items ≡ out.old.items ++ block) × (length block ≡ BLOCK) × IsBlockAfter (change_of change.now) (blocks_from found.entry (logical_block journal.old.geometry (disk M.Media journal.old) inode)) number block) }
     ensures refused { OnErr result (GoesOn out.old.items out.new.items) }
     ensures only { IfErr result (λ e. (e ≡ DeviceFault) ⊎ (e ≡ Memory)) }
-    ensures looks { Looks M.moment M.seen M.left M.faults journal.old journal.new result }
+    ensures looks { Looks M.Media journal.old journal.new result }
 {
     let at = out.len();
     let size = BLOCK;
@@ -197,7 +197,7 @@ fn whole_block(change: &NodeChange, number: u64) -> Option<&[u8]>
     ensures made { IfSome result (λ bytes. (old : LogicalBlocks) → IsBlockAfter (change_of change.now) old number bytes.now) }
 {
     match change.blocks.get(&number) {
-        Some(put) => match put.whole() {
+        Some(put) => match put.whole_bytes() {
             Some(bytes) => Some(bytes),
             None => None,
         },
@@ -214,13 +214,13 @@ fn add_block<M: Media>(
     number: u64,
     out: &mut Vec<u8>,
 ) -> Result<(), AreaError>
-    requires found { IfSome found (λ x. HasFound journal.old.geometry (store_of (M.seen journal.old.media)) inode x.now) }
-    requires once { IsOnce journal.old.geometry (store_of (M.seen journal.old.media)) inode }
+    requires found { IfSome found (λ x. HasFound journal.old.geometry (disk M.Media journal.old) inode x.now) }
+    requires once { IsOnce journal.old.geometry (disk M.Media journal.old) inode }
     requires going { journal.old.failed ≡ false }
-    ensures added { OnOk result ((block : List ℕ) × (out.new.items ≡ out.old.items ++ block) × (length block ≡ BLOCK) × IsBlockAfter (change_of change.now) (blocks_from found.entry (logical journal.old.geometry (store_of (M.seen journal.old.media)) inode)) number block) }
+    ensures added { OnOk result ((block : List ℕ) × (out.new.items ≡ out.old.items ++ block) × (length block ≡ BLOCK) × IsBlockAfter (change_of change.now) (blocks_from found.entry (logical_block journal.old.geometry (disk M.Media journal.old) inode)) number block) }
     ensures refused { OnErr result (GoesOn out.old.items out.new.items) }
     ensures only { IfErr result (λ e. (e ≡ DeviceFault) ⊎ (e ≡ Memory)) }
-    ensures looks { Looks M.moment M.seen M.left M.faults journal.old journal.new result }
+    ensures looks { Looks M.Media journal.old journal.new result }
 {
     match whole_block(change, number) {
         Some(bytes) => match out.extend_from_slice(bytes) {
@@ -243,14 +243,14 @@ fn push_blocks<M: Media>(
     numbers: &[u64],
     out: &mut Vec<u8>,
 ) -> Result<(), AreaError>
-    requires found { IfSome found (λ x. HasFound journal.old.geometry (store_of (M.seen journal.old.media)) inode x.now) }
-    requires once { IsOnce journal.old.geometry (store_of (M.seen journal.old.media)) inode }
+    requires found { IfSome found (λ x. HasFound journal.old.geometry (disk M.Media journal.old) inode x.now) }
+    requires once { IsOnce journal.old.geometry (disk M.Media journal.old) inode }
     requires going { journal.old.failed ≡ false }
-    ensures added { OnOk result (AddsBlocks (change_of change.now) (blocks_from found.entry (logical journal.old.geometry (store_of (M.seen journal.old.media)) inode)) numbers.now (length numbers.now) out.old.items out.new.items) }
+    ensures added { OnOk result (AddsBlocks (change_of change.now) (blocks_from found.entry (logical_block journal.old.geometry (disk M.Media journal.old) inode)) numbers.now (length numbers.now) out.old.items out.new.items) }
     ensures refused { OnErr result (GoesOn out.old.items out.new.items) }
     ensures only { IfErr result (λ e. (e ≡ DeviceFault) ⊎ (e ≡ Memory)) }
     ensures memory { IfErr result (λ e. e ≡ Memory → 0 < length numbers.now) }
-    ensures looks { Looks M.moment M.seen M.left M.faults journal.old journal.new result }
+    ensures looks { Looks M.Media journal.old journal.new result }
 {
     'each: for index in 0..numbers.len() {
         match add_block(journal, inode, found, change, numbers[index], out) {
@@ -283,14 +283,14 @@ pub fn read_changed<M: Media>(
     numbers: &[u64],
     out: &mut Vec<u8>,
 ) -> Result<(), AreaError>
-    requires found { IfSome found (λ x. HasFound journal.old.geometry (store_of (M.seen journal.old.media)) inode x.now) }
-    requires once { IsOnce journal.old.geometry (store_of (M.seen journal.old.media)) inode }
+    requires found { IfSome found (λ x. HasFound journal.old.geometry (disk M.Media journal.old) inode x.now) }
+    requires once { IsOnce journal.old.geometry (disk M.Media journal.old) inode }
     requires going { journal.old.failed ≡ false }
-    ensures added { OnOk result (AddsBlocks (change_of change.now) (blocks_from found.entry (logical journal.old.geometry (store_of (M.seen journal.old.media)) inode)) numbers.now (length numbers.now) out.old.items out.new.items) }
+    ensures added { OnOk result (AddsBlocks (change_of change.now) (blocks_from found.entry (logical_block journal.old.geometry (disk M.Media journal.old) inode)) numbers.now (length numbers.now) out.old.items out.new.items) }
     ensures refused { OnErr result (GoesOn out.old.items out.new.items) }
     ensures only { IfErr result (λ e. (e ≡ DeviceFault) ⊎ (e ≡ Memory)) }
     ensures memory { IfErr result (λ e. e ≡ Memory → 0 < length numbers.now) }
-    ensures looks { Looks M.moment M.seen M.left M.faults journal.old journal.new result }
+    ensures looks { Looks M.Media journal.old journal.new result }
 {
     match make_room(out, numbers.len()) {
         Ok(()) => match push_blocks(journal, inode, found, change, numbers, out) {

@@ -12,23 +12,23 @@ ghost use Rattle.area_commit.specs.layout.Places.{Sizes};
 ghost use Rattle.area_commit.specs.layout.Slot.{fits_slot};
 ghost use Rattle.area_commit.specs.batch_journal.Blocks.{Blocks};
 ghost use Rattle.area_commit.specs.extent_tree.Normal.{IsNormal};
-ghost use Rattle.area_commit.specs.extent_tree.Spelled.{LiesWithin, IsOneToOne};
+ghost use Rattle.area_commit.specs.extent_tree.BlockFormat.{LiesWithin, IsOneToOne};
 ghost use Rattle.area_commit.specs.extent_tree.Map.{TierRuns, runs_in, lies_at, LieOnce, LieBelow};
 ghost use Rattle.area_commit.specs.extent_tree.declared.map.Place.{Place};
 ghost use Rattle.area_commit.specs.graph_change.Bytes.{length_after, end};
 ghost use Rattle.area_commit.specs.graph_change.Net.{Kept, names_after};
 ghost use Rattle.area_commit.specs.graph_change.Change.{Change};
 ghost use Rattle.area_commit.specs.graph_change.Tidy.{IsTidyChange};
-ghost use Rattle.area_commit.specs.tree_blocks.After.{started};
-ghost use Rattle.area_commit.specs.area_image.Store.{Store, root_of, logical, inode};
+ghost use Rattle.area_commit.specs.tree_blocks.After.{start_node};
+ghost use Rattle.area_commit.specs.area_image.Store.{Store, root_of, logical_block, inode};
 ghost use Rattle.area_commit.specs.area_image.declared.tiers.InodeExtents.{InodeExtents};
-ghost use Rattle.area_commit.specs.Written.{IsFit, IsListed};
-ghost use Rattle.area_commit.specs.Changed.{IsFileSlot, IsFileWritten};
+ghost use Rattle.area_commit.specs.InodeRewrite.{IsFit, IsListed};
+ghost use Rattle.area_commit.specs.InodeChange.{IsFileSlot, IsFileWritten};
 ghost use Rattle.inode_plan.specs.Lists.{AreListsOf, roots_left};
 ghost use Rattle.inode_plan.specs.PlacedFile.{nth_place, nth_number};
-ghost use Rattle.inode_plan.specs.Written.{AreNumbers};
+ghost use Rattle.inode_plan.specs.BlockWrites.{AreNumbers};
 ghost use Rattle.inode_plan.specs.Bytes.{HoldsBlocks};
-ghost use Rattle.inode_plan.specs.Mapped.{IsMapAfter, AreFresh, AreData, AreLeft, KeepsPlace, TakesPlace};
+ghost use Rattle.inode_plan.specs.MapChange.{IsMapAfter, AreFresh, AreData, AreLeft, KeepsPlace, TakesPlace};
 ghost use Rattle.inode_plan.specs.PlannedFile.{StartsFrom, HasData};
 ghost use Rattle.inode_plan.specs.Roots.{roots_wanted, HasRootsOf, SparesFit, ListsStand};
 
@@ -51,14 +51,14 @@ pub fn left_places_are_lost()
 /// what its blocks held before stands as it did.
 pub fn planned_file_is_written()
     ensures { (g : Sizes) (c : Change) (old new : Store) (i : ℕ) (x : Slot) (before after : TierRuns) (numbers : List ℕ) (places : List Place) (bytes : List ℕ)
-        → (started c.base (inode g old i)).kind ≡ Some kind.File → IsFileSlot (names_after c.names (started c.base (inode g old i)).names) (length_after c.length (started c.base (inode g old i)).size) x
+        → (start_node c.base (inode g old i)).kind ≡ Some kind.File → IsFileSlot (names_after c.names (start_node c.base (inode g old i)).names) (length_after c.length (start_node c.base (inode g old i)).size) x
         → StartsFrom g old i c.base before → LieOnce before → AreNumbers c numbers → IsMapAfter c numbers places before after → length numbers ≤ length places
-        → HoldsBlocks c (started c.base (inode g old i)).blocks numbers (length numbers) bytes → HasData g c.base old new i places bytes → IsFileWritten g c old new i x after }
+        → HoldsBlocks c (start_node c.base (inode g old i)).blocks numbers (length numbers) bytes → HasData g c.base old new i places bytes → IsFileWritten g c old new i x after }
 {}
 
 /// The blocks that a change of a file that is there starts from are those of the inode, which `read_changed` reads.
 pub fn kept_file_starts_from_its_blocks()
-    ensures { (g : Sizes) (s : Store) (i : ℕ) → (inode g s i).kind ≡ Some kind.File → (started Kept (inode g s i)).blocks ≡ logical g s i }
+    ensures { (g : Sizes) (s : Store) (i : ℕ) → (inode g s i).kind ≡ Some kind.File → (start_node Kept (inode g s i)).blocks ≡ logical_block g s i }
 {}
 
 /// Slot and runs of a planned file keep the limits of the format, where the runs are as the plan tells.

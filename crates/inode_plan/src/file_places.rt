@@ -7,10 +7,10 @@ ghost use Rattle.area_commit.specs.graph_change.Bytes.{end};
 ghost use Rattle.area_commit.specs.graph_change.Tidy.{IsTidyChange};
 ghost use Rattle.area_commit.specs.graph_change.View.{change_of};
 ghost use Rattle.inode_plan.specs.PlacedFile.{CanBePlaced, GoOn, LiesBehind, NumbersArePlaced, PlacesFit};
-ghost use Rattle.inode_plan.specs.Written.{AreNumbers};
-ghost use Rattle.inode_plan.specs.Mapped.{IsMapAfter};
+ghost use Rattle.inode_plan.specs.BlockWrites.{AreNumbers};
+ghost use Rattle.inode_plan.specs.MapChange.{IsMapAfter};
 
-use crate::cutting::cut_map;
+use crate::file_cut::cut_map;
 use area_commit::{BlockMap, NodeChange, Place, Run};
 use std::alloc::AllocError;
 

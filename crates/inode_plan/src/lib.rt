@@ -12,27 +12,27 @@
 
 mod block_maps;
 mod blocks;
-mod cutting;
 mod directory_change;
 mod directory_laws;
 mod directory_places;
+mod directory_reads;
+mod directory_release;
+mod directory_start;
 mod file_change;
+mod file_cut;
 mod file_laws;
 mod file_places;
+mod file_plan;
+mod freed_places;
 mod images;
-mod leaving;
 mod list_roots;
-mod lost;
 mod new_roots;
 mod numbers;
 mod place_laws;
+mod place_list;
 mod plan;
-mod planning;
-mod reading;
-mod rooting;
 mod run_places;
-mod started;
-mod taken;
+mod slot_change;
 
 pub use block_maps::{extents_of, map_of};
 pub use blocks::{DirectoryBlocks, directory_blocks};
@@ -41,35 +41,36 @@ pub use directory_laws::{
     changed_directory_can_be_written, gone_directory_gives_all, planned_blocks_are_kept_or_spare,
     planned_directory_is_written, planned_losses_are_exact,
 };
+pub use directory_release::give_up;
+pub use directory_start::{StartedDirectory, made_directory, read_directory};
 pub use file_change::read_changed;
 pub use file_laws::{
     changed_map_is_fit, kept_file_starts_from_its_blocks, left_places_are_lost,
     planned_file_is_fit, planned_file_is_written, planned_roots_list_the_runs,
 };
 pub use file_places::change_map;
-pub use leaving::{all_places, places_left};
+pub use file_plan::{FilePlan, plan_file};
+pub use freed_places::{all_places, places_left};
 pub use list_roots::{places_in, roots_left};
-pub use lost::give_up;
 pub use new_roots::{root_for, slot_for};
 pub use numbers::written_numbers;
 pub use place_laws::{placed_blocks_are_fit, places_can_be_given};
+pub use place_list::taken_places;
 pub use plan::{DirectoryPlan, plan_directory};
-pub use planning::{FilePlan, plan_file};
-pub use rooting::{roots_wanted, slot_after};
 pub use run_places::put_runs;
-pub use started::{StartedDirectory, made_directory, read_directory};
-pub use taken::taken_places;
+pub use slot_change::{roots_wanted, slot_after};
 
 // Passed on to the crates above, which so need not list those below.
 pub use area_commit::{
-    AllocatorError, AreaError, BLOCK, BlockMap, CLIENTS, ChangedSlot, DirBlock, DirEntries,
-    DirEntry, EntryRef, Extent, ExtentBlock, Geometry, GraphChange, InodeExtents, InodeParts,
-    Journal, JournalError, Kind, Lost, MARKS_BLOCK, Mark, Marks, Media, NodeBase, NodeChange,
-    NodeImages, Place, Pools, Rewrite, Run, SLOT_SIZE, Slot, Super, Taken, Tier, What, blank_block,
-    block_number, bounded_entries_lead_to_inodes, carried_out_inodes_are_written_anew,
-    carried_out_marks, carry_out, changed_store_spells_the_graph_after, charge_after_change,
-    few_blocks_are_few_runs, first_place, is_inode, length_of, moved_store_spells_the_same_graph,
-    nodes_never_run_out, open_area, put_lists, read_all_extents, read_block, read_parts, read_slot,
+    Allocation, AllocatorError, AreaError, BLOCK, BlockMap, CLIENTS, ChangedSlot, DirBlock,
+    DirEntries, DirEntry, EntryRef, Extent, ExtentBlock, FreedBlocks, Geometry, GraphChange,
+    InodeExtents, InodeParts, Journal, JournalError, Kind, MARKS_BLOCK, Mark, Marks, Media,
+    NodeBase, NodeChange, NodeImages, Place, Pools, Rewrite, Run, SLOT_SIZE, Slot, Super, Tier,
+    What, blank_block, block_number, bounded_entries_lead_to_inodes,
+    carried_out_inodes_are_written_anew, carried_out_marks, carry_out,
+    changed_store_spells_the_graph_after, charge_after_change, few_blocks_are_few_runs,
+    first_place, is_inode, length_of, moved_store_spells_the_same_graph, nodes_never_run_out,
+    open_area, put_lists, read_all_extents, read_block, read_parts, read_slot,
     rewritten_inodes_are_spelled, root_of, runs_lie_apart, small_changes_find_blocks,
     taken_blocks_were_free, units_of, written_directory_is_rewritten, written_file_is_rewritten,
     written_free_slot_is_inode_after, written_inode_is_read,

@@ -5,7 +5,7 @@ ghost use Rattle.std.specs.Ordering.{nat_cmp};
 ghost use Rattle.std.specs.BTreeMap.{get};
 ghost use Rattle.area_commit.specs.graph_change.Change.{cuts_within, writes_block};
 ghost use Rattle.area_commit.specs.graph_change.View.{change_of, new_length};
-ghost use Rattle.inode_plan.specs.Written.{AreNumbers, AreKeys, Rise, HasOneMore};
+ghost use Rattle.inode_plan.specs.BlockWrites.{AreNumbers, AreKeys, Rise, HasOneMore};
 
 use area_commit::{BLOCK, BlockChange, NodeChange, NodeLength};
 use std::alloc::{AllocError, Global};

@@ -6,14 +6,14 @@ ghost use Rattle.area_commit.specs.tier_device.declared.media.Tier.{Tier};
 ghost use Rattle.area_commit.specs.layout.declared.geometry.Space.{Space};
 ghost use Rattle.area_commit.specs.layout.Places.{Sizes, blocks_in, is_run};
 ghost use Rattle.area_commit.specs.block_alloc.Runs.{Rising, blocks_of};
-ghost use Rattle.area_commit.specs.extent_tree.Spelled.{LiesWithin, IsOneToOne};
+ghost use Rattle.area_commit.specs.extent_tree.BlockFormat.{LiesWithin, IsOneToOne};
 ghost use Rattle.area_commit.specs.extent_tree.Map.{TierRuns, runs_in, lies_at, LieOnce, LieBelow, places_of, HasBlock};
 ghost use Rattle.area_commit.specs.block_alloc.declared.runs.Run.{Run};
 ghost use Rattle.area_commit.specs.block_alloc.Value.{FreeBlocks};
 ghost use Rattle.area_commit.specs.layout.declared.extents.Extent.{Extent};
 ghost use Rattle.area_commit.specs.extent_tree.Places.{place_of};
-ghost use Rattle.area_commit.specs.Given.{AreUsed, IsInUse};
-ghost use Rattle.inode_plan.specs.Placed.{ArePlaced};
+ghost use Rattle.area_commit.specs.Release.{AreUsed, IsInUse};
+ghost use Rattle.inode_plan.specs.RunPlaces.{ArePlaced};
 
 /// Where no logical block lies in two tiers, or at or behind a number, or in the place of another, and each where the inode's content may, so it is once a run is put to places that
 /// rise, that no block of it had, and where its content may lie.

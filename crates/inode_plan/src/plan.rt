@@ -8,8 +8,8 @@ ghost use Rattle.inode_plan.specs.PlannedDirectory.{IsPlanned};
 
 use crate::directory_change::ChangedDirectory;
 use crate::directory_places::{places_after, root_after, runs_of};
+use crate::directory_release::give_up;
 use crate::images::{put_list, put_written};
-use crate::lost::give_up;
 use area_commit::{ExtentBlock, NodeImages, Run, Slot};
 use std::alloc::{AllocError, Global};
 
@@ -24,7 +24,7 @@ pub struct DirectoryPlan {
 }
 
 // What a changed directory gives up: its blocks behind the new ones, and the root where no block is left.
-fn lost_of(alloc: Global, changed: &ChangedDirectory) -> Result<Vec<Run>, AllocError>
+fn freed_runs(alloc: Global, changed: &ChangedDirectory) -> Result<Vec<Run>, AllocError>
     ensures { IfOk result (λ runs. runs.items ≡ map one_block (lost_blocks changed.now.blocks.root changed.now.blocks.places.items (length changed.now.entries.blocks))) }
 {
     let count = changed.entries.blocks().len();
@@ -55,7 +55,7 @@ pub fn plan_directory(
     let list = ExtentBlock::new(changed.entries.owner(), runs_of(alloc, &places)?);
     put_written(images, blocks, &places, changed.written.as_slice())?;
     put_list(images, old.root, &changed.list, root, &list)?;
-    let lost = lost_of(alloc, changed)?;
+    let lost = freed_runs(alloc, changed)?;
     let slot = Slot::Directory {
         names: changed.names,
         entries: changed.entries.len() as u64,

@@ -1,7 +1,7 @@
 // New places for a run.
 ghost use Rattle.std.specs.Prelude.{◌≡◌, ◌+◌, ◌<◌, ◌^◌, length, OnOk};
 ghost use Rattle.area_commit.specs.block_alloc.Runs.{blocks_of};
-ghost use Rattle.inode_plan.specs.Placed.{ArePlaced, EndsFit};
+ghost use Rattle.inode_plan.specs.RunPlaces.{ArePlaced, EndsFit};
 
 use area_commit::{BlockMap, Run, Tier};
 use std::alloc::AllocError;

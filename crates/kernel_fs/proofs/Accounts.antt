@@ -12,7 +12,7 @@ use Rattle.world_invariant.proofs.Owners.{is_low, is_high}
 use Rattle.kernel_fs.specs.declared.account.ClientAccount.{ClientAccount}
 use Rattle.kernel_fs.specs.Free.{is_absent}
 use Rattle.kernel_fs.specs.Account.{IsAccountOf}
-use Rattle.kernel_fs.specs.Book.{Accounts, account_of, nothing, units_of, out_of, IsBookOf}
+use Rattle.kernel_fs.specs.Book.{Accounts, account_of, empty_account, units_of, out_of, IsBookOf}
 
 -- a sum over the numbers from 1 on moves by what one term does
 sum_same : (n : ℕ) (f g : ℕ → ℕ) (d : ℕ) → n < d → ((j : ℕ) → 1 ≤ j → j ≢ d → g j ≡ f j) → sum_up_to n g ≡ sum_up_to n f
@@ -40,20 +40,21 @@ sum_changes (suc n) f g d low high same =
           omega (arith, gd, fd, rest)
     ]
 
-module _ (book : Accounts) (c : ℕ) (a : ClientAccount) (long : length book ≡ 8) (is_c : is_client c ≡ true) where
+-- the account at index k is that of client c
+module _ (book : Accounts) (c k : ℕ) (a : ClientAccount) (long : length book ≡ 8) (is_c : is_client c ≡ true) (at_k : k ≡ c - 1) where
   abbrev next : Accounts
-  next = set book (c - 1) a
+  next = set book k a
 
   pub own_account : account_of next c ≡ a
   own_account =
       let low : 1 ≤ c = is_low c is_c in
       let high : c ≤ 8 = is_high c is_c in
-      get_or-set_same book (c - 1) a nothing (omega (arith, long, low, high))
+      ap (λ j. get_or next j empty_account) (sym at_k) ∙ get_or-set_same book k a empty_account (omega (arith, long, low, high, at_k))
 
   pub other_account : (d : ℕ) → 1 ≤ d → d ≢ c → account_of next d ≡ account_of book d
   other_account d above other =
       let low : 1 ≤ c = is_low c is_c in
-      get_or-set_other book (c - 1) (d - 1) a nothing (λ e. other (omega (arith, e, above, low)))
+      get_or-set_other book k (d - 1) a empty_account (λ e. other (omega (arith, e, above, low, at_k)))
 
   pub out_moved : out_of next + units_of book c ≡ out_of book + a.units
   unfolding out_of
@@ -79,33 +80,33 @@ module _ (book : Accounts) (c : ℕ) (a : ClientAccount) (long : length book ≡
       ]
 
   pub long_still : length next ≡ 8
-  long_still = length-set book (c - 1) a ∙ long
+  long_still = length-set book k a ∙ long
 
-  at_own : (d : ClientAccount) → get_or book (c - 1) d ≡ account_of book c
+  at_own : (d : ClientAccount) → get_or book k d ≡ account_of book c
   at_own d =
       let low : 1 ≤ c = is_low c is_c in
       let high : c ≤ 8 = is_high c is_c in
-      get_or_default book (c - 1) d nothing (omega (arith, long, low, high))
+      ap (λ j. get_or book j d) at_k ∙ get_or_default book (c - 1) d empty_account (omega (arith, long, low, high))
 
-  pub same_out : (d : ClientAccount) → a.units ≡ (get_or book (c - 1) d).units → out_of next ≡ out_of book
+  pub same_out : (d : ClientAccount) → a.units ≡ (get_or book k d).units → out_of next ≡ out_of book
   same_out d same =
       let sums : out_of next + units_of book c ≡ out_of book + a.units = out_moved in
-      let own : (get_or book (c - 1) d).units ≡ units_of book c = ap (λ (x : ClientAccount). x.units) (at_own d) in
+      let own : (get_or book k d).units ≡ units_of book c = ap (λ (x : ClientAccount). x.units) (at_own d) in
       omega (arith, sums, own, same)
 
-  pub more_out : (d : ClientAccount) (u : ℕ) → a.units ≡ (get_or book (c - 1) d).units + u → out_of next ≡ out_of book + u
+  pub more_out : (d : ClientAccount) (u : ℕ) → a.units ≡ (get_or book k d).units + u → out_of next ≡ out_of book + u
   more_out d u more =
       let sums : out_of next + units_of book c ≡ out_of book + a.units = out_moved in
-      let own : (get_or book (c - 1) d).units ≡ units_of book c = ap (λ (x : ClientAccount). x.units) (at_own d) in
+      let own : (get_or book k d).units ≡ units_of book c = ap (λ (x : ClientAccount). x.units) (at_own d) in
       omega (arith, sums, own, more)
 
-  pub less_out : (d : ClientAccount) (u v : ℕ) → a.units + u ≡ (get_or book (c - 1) d).units → v ≡ u → out_of next + v ≡ out_of book
+  pub less_out : (d : ClientAccount) (u v : ℕ) → a.units + u ≡ (get_or book k d).units → v ≡ u → out_of next + v ≡ out_of book
   less_out d u v less same =
       let sums : out_of next + units_of book c ≡ out_of book + a.units = out_moved in
-      let own : (get_or book (c - 1) d).units ≡ units_of book c = ap (λ (x : ClientAccount). x.units) (at_own d) in
+      let own : (get_or book k d).units ≡ units_of book c = ap (λ (x : ClientAccount). x.units) (at_own d) in
       omega (arith, sums, own, less, same)
 
-  pub less_left : (d : ClientAccount) (o u : ℕ) → o ≡ out_of book → a.units + u ≡ (get_or book (c - 1) d).units → o - u ≡ out_of next
+  pub less_left : (d : ClientAccount) (o u : ℕ) → o ≡ out_of book → a.units + u ≡ (get_or book k d).units → o - u ≡ out_of next
   less_left d o u out less =
       let sums : out_of next + u ≡ out_of book = less_out d u u less refl in
       omega (arith, sums, out)
@@ -125,18 +126,18 @@ module _ (book : Accounts) (c : ℕ) (a : ClientAccount) (long : length book ≡
 
 -- ---- one account
 
-module _ (book : Accounts) (c : ℕ) (d : ClientAccount) (long : length book ≡ 8) (is_c : is_client c ≡ true) where
-  pub read_own : get_or book (c - 1) d ≡ account_of book c
+module _ (book : Accounts) (c k : ℕ) (d : ClientAccount) (long : length book ≡ 8) (is_c : is_client c ≡ true) (at_k : k ≡ c - 1) where
+  pub read_own : get_or book k d ≡ account_of book c
   read_own =
       let low : 1 ≤ c = is_low c is_c in
       let high : c ≤ 8 = is_high c is_c in
-      get_or_default book (c - 1) d nothing (omega (arith, long, low, high))
+      ap (λ j. get_or book j d) at_k ∙ get_or_default book (c - 1) d empty_account (omega (arith, long, low, high))
 
   -- what is out of it is out
-  pub within_out : (get_or book (c - 1) d).units ≤ out_of book
+  pub within_out : (get_or book k d).units ≤ out_of book
   within_out =
-      let sums : out_of (set book (c - 1) nothing) + units_of book c ≡ out_of book + 0 = out_moved book c nothing long is_c in
-      let own : (get_or book (c - 1) d).units ≡ units_of book c = ap (λ (x : ClientAccount). x.units) read_own in
+      let sums : out_of (set book k empty_account) + units_of book c ≡ out_of book + 0 = out_moved book c k empty_account long is_c at_k in
+      let own : (get_or book k d).units ≡ units_of book c = ap (λ (x : ClientAccount). x.units) read_own in
       omega (arith, sums, own)
 
 -- ---- all accounts
@@ -146,7 +147,7 @@ abbrev pub AreAll : (ClientAccount → Type 0) → List ClientAccount → Type 0
 AreAll P [] = Unit {0}
 AreAll P (x ∷ xs) = P x × AreAll P xs
 
-pub each_of : (P : ClientAccount → Type 0) (xs : List ClientAccount) → AreAll P xs → (k : ℕ) → k < length xs → P (get_or xs k nothing)
+pub each_of : (P : ClientAccount → Type 0) (xs : List ClientAccount) → AreAll P xs → (k : ℕ) → k < length xs → P (get_or xs k empty_account)
 each_of P [] all k low = absurd (omega (arith, low))
 each_of P (x ∷ xs) all zero low = all.0
 each_of P (x ∷ xs) all (suc k) low = each_of P xs all.1 k (omega (arith, low))
@@ -172,7 +173,7 @@ none_yet p = refl
 pub item_of : (book now : Accounts) (k : ℕ) (d : ClientAccount) → book ≡ now → length book ≡ 8 → k < 8 → account_of now (k + 1) ≡ get_or book k d
 item_of book now k d same long low =
     let back : k + 1 - 1 ≡ k = omega arith in
-    sym (ap (λ b. account_of b (k + 1)) same) ∙ ap (λ j. get_or book j nothing) back ∙ get_or_default book k nothing d (omega (arith, long, low))
+    sym (ap (λ b. account_of b (k + 1)) same) ∙ ap (λ j. get_or book j empty_account) back ∙ get_or_default book k empty_account d (omega (arith, long, low))
 
 pub or_swap : (a b : Bool) → (a || b) ≡ (b || a)
 or_swap true true = refl

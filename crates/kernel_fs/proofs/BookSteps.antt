@@ -1,5 +1,6 @@
 -- The book changes, and the media stay.
 use Rattle.std.proofs.Common.{◌≡◌, ℕ, ◌≤◌, List, true, refl, sym, ◌∙◌, subst}
+use Rattle.digester.specs.tier_device.declared.media.Media.{Ghosts}
 use Rattle.digester.specs.tier_device.declared.media.Tier.{Tier}
 use Rattle.digester.specs.posix_calls.Operations.{is_client}
 use Rattle.digester.specs.batch_journal.View.{JournalView}
@@ -10,7 +11,7 @@ use Rattle.world_invariant.proofs.Kernels.{each}
 use Rattle.kernel_fs.specs.Book.{Accounts, IsBookOf}
 use Rattle.kernel_fs.specs.Marks.{AreMarksOf, IsMarkOf}
 use Rattle.kernel_fs.specs.KernelView.{KernelView}
-use Rattle.kernel_fs.specs.Standing.{IsKernelOf, done_in, StandFor}
+use Rattle.kernel_fs.specs.MachineState.{IsKernelOf, done_in, StandFor}
 
 -- an account with the same mark changes no mark
 pub same_mark : (accounts : ℕ → Account) (c : ℕ) (a : Account) → a.mark ≡ (accounts c).mark → (d : ℕ) → (at accounts c a d).mark ≡ (accounts d).mark
@@ -23,9 +24,9 @@ marks_stay done m n marks accepted are c is_c = record {
   between = λ e. (are c is_c).between (sym (accepted c) ∙ e ∙ marks c);
 }
 
-module _ {M : Type 0} (seen : M → Tier → List ℕ) (area : JournalView M) (book next : Accounts) (m n : Machine) (is : StandFor seen area book m) where
+module _ {M : Type 0} (device : Ghosts M) (area : JournalView M) (book next : Accounts) (m n : Machine) (is : StandFor device area book m) where
   pub booked : n.kernel.shared ≡ m.kernel.shared → n.kernel.capacity ≡ m.kernel.capacity → ((c : ℕ) → (n.kernel.accounts c).mark ≡ (m.kernel.accounts c).mark) → ((c : ℕ) → n.accepted c ≡ m.accepted c) → IsBookOf next n
-      → StandFor seen area next n
+      → StandFor device area next n
   booked shared capacity marks accepted next_is = record {
     shared = shared ∙ is.shared;
     capacity = capacity ∙ is.capacity;
@@ -34,8 +35,8 @@ module _ {M : Type 0} (seen : M → Tier → List ℕ) (area : JournalView M) (b
   }
 
 -- where the machine gets another account with the same mark
-module _ {M : Type 0} {opening : JournalView M} (seen : M → Tier → List ℕ) (area : JournalView M) (book next : Accounts) (old : KernelView M) (same : record { area = area; book = book; opening = opening } ≡ old) (c : ℕ) where
-  pub stepped : (m : Machine) (a : Account) → a.mark ≡ (m.kernel.accounts c).mark → (IsBookOf book m → IsBookOf next (with_account m c a)) → IsKernelOf seen old m → StandFor seen area next (with_account m c a)
+module _ {M : Type 0} {opening : JournalView M} (device : Ghosts M) (area : JournalView M) (book next : Accounts) (old : KernelView M) (same : record { area = area; book = book; opening = opening } ≡ old) (c : ℕ) where
+  pub stepped : (m : Machine) (a : Account) → a.mark ≡ (m.kernel.accounts c).mark → (IsBookOf book m → IsBookOf next (with_account m c a)) → IsKernelOf device old m → StandFor device area next (with_account m c a)
   stepped m a mark step is =
-      let own : StandFor seen area book m = subst (λ (v : KernelView M). IsKernelOf seen v m) (sym same) is in
-      booked seen area book next m (with_account m c a) own refl refl (same_mark m.kernel.accounts c a mark) (λ d. refl) (step own.book)
+      let own : StandFor device area book m = subst (λ (v : KernelView M). IsKernelOf device v m) (sym same) is in
+      booked device area book next m (with_account m c a) own refl refl (same_mark m.kernel.accounts c a mark) (λ d. refl) (step own.book)

@@ -1,16 +1,16 @@
 -- A chunk is digested: what becomes of the graph, its charge and its nodes, and that no record is bad.
 use Rattle.std.proofs.Common.{◌≡◌, ◌≢◌, inl, inr, ℕ, zero, suc, ◌+◌, ◌≤◌, ◌==◌, List, [], ◌∷◌, take, Bool, true, false, cond, Option, Some, None, refl, ap, sym, ◌∙◌, subst, arith}
+use Rattle.digester.specs.tier_device.declared.media.Media.{Ghosts}
 use Rattle.digester.specs.tier_device.declared.media.Tier.{Tier}
 use Rattle.digester.specs.file_graph.Graph.{Graph}
 use Rattle.digester.specs.file_graph.Units.{charge}
 use Rattle.digester.specs.layout.Places.{Sizes}
 use Rattle.digester.specs.log_record.declared.format.Record.{Record}
 use Rattle.digester.specs.batch_journal.View.{JournalView}
-use Rattle.digester.specs.area_image.Store.{Store, store_of, graph}
+use Rattle.digester.specs.area_image.Store.{Store, disk, graph}
 use Rattle.digester.specs.Plan.{AreGood, IsFirstBad}
-use Rattle.digester.specs.Digesting.{IsDigested, IsToldBad}
-use Rattle.digester.specs.SealedLog.{IsSealed, undone}
-use Rattle.digester.specs.declared.sealed_log.SealedLog.{SealedLog}
+use Rattle.digester.specs.DigestStep.{IsDigested, NamesFirstBad}
+use Rattle.digester.specs.SealedLog.{SealedView, IsSealed, undone}
 use Rattle.digester.specs.declared.error.DigestError.{DigestError}
 use Rattle.digester.specs.declared.error.DigestError.TheVariants as errors
 use Rattle.world_invariant.specs.Logs.{after_records, units_in, ArePaid}
@@ -18,9 +18,9 @@ use Rattle.world_invariant.specs.Machine.{Machine, Sealed, IsRunning, StandsSeal
 use Rattle.world_invariant.proofs.Paid.{charge_records}
 use Rattle.kernel_fs.specs.Book.{Accounts, IsBookOf}
 use Rattle.kernel_fs.specs.Nodes.{AreNodes}
-use Rattle.kernel_fs.specs.Accepting.{client_of, IsRegionOf}
+use Rattle.kernel_fs.specs.RegionAccept.{IsRegionOf}
 use Rattle.kernel_fs.specs.KernelView.{KernelView}
-use Rattle.kernel_fs.specs.Standing.{IsKernelOf, StandFor}
+use Rattle.kernel_fs.specs.MachineState.{IsKernelOf, StandFor}
 use Rattle.kernel_fs.proofs.SealedRecords.{effects_are, never}
 
 good_paid : (held : List ℕ) (capacity : ℕ) (rs : List Record) (g : Graph) → AreGood held capacity g rs → ArePaid g rs
@@ -32,23 +32,23 @@ fewer_units zero rs = omega arith
 fewer_units (suc n) [] = omega arith
 fewer_units (suc n) (r ∷ rs) = (let rest : units_in (take n rs) ≤ units_in rs = fewer_units n rs in omega (arith, rest))
 
-module _ {M : Type 0} (seen : M → Tier → List ℕ) (old new : JournalView M) (x : SealedLog) (n : ℕ) (same : new.geometry ≡ old.geometry) (done : IsDigested old.geometry (store_of (seen old.media)) x n (store_of (seen new.media))) where
-  pub graph_moved : graph new.geometry (store_of (seen new.media)) ≡ after_records (graph old.geometry (store_of (seen old.media))) (take n (undone x))
-  graph_moved = ap (λ (g : Sizes). graph g (store_of (seen new.media))) same ∙ done.graph_after ∙ effects_are (take n (undone x)) (graph old.geometry (store_of (seen old.media)))
+module _ {M : Type 0} (device : Ghosts M) (old new : JournalView M) (x : SealedView) (n : ℕ) (same : new.geometry ≡ old.geometry) (done : IsDigested old.geometry (disk device old) x n (disk device new)) where
+  pub graph_moved : graph new.geometry (disk device new) ≡ after_records (graph old.geometry (disk device old)) (take n (undone x))
+  graph_moved = ap (λ (g : Sizes). graph g (disk device new)) same ∙ done.graph_after ∙ effects_are (take n (undone x)) (graph old.geometry (disk device old))
 
   -- the charge has risen by their units at most
-  pub charge_moved : charge (graph new.geometry (store_of (seen new.media))) ≤ charge (graph old.geometry (store_of (seen old.media))) + units_in (take n (undone x))
-  charge_moved = subst (λ (g : Graph). charge g ≤ charge (graph old.geometry (store_of (seen old.media))) + units_in (take n (undone x))) (sym graph_moved)
-      (charge_records (take n (undone x)) (graph old.geometry (store_of (seen old.media))) (good_paid x.held.items old.geometry.units (take n (undone x)) (graph old.geometry (store_of (seen old.media))) done.good))
+  pub charge_moved : charge (graph new.geometry (disk device new)) ≤ charge (graph old.geometry (disk device old)) + units_in (take n (undone x))
+  charge_moved = subst (λ (g : Graph). charge g ≤ charge (graph old.geometry (disk device old)) + units_in (take n (undone x))) (sym graph_moved)
+      (charge_records (take n (undone x)) (graph old.geometry (disk device old)) (good_paid x.held old.geometry.units (take n (undone x)) (graph old.geometry (disk device old)) done.good))
 
-  pub nodes_moved : (nodes after : ℕ → Bool) → ((g : Graph) → AreNodes g nodes → AreNodes (after_records g (take n (undone x))) after) → AreNodes (graph old.geometry (store_of (seen old.media))) nodes → AreNodes (graph new.geometry (store_of (seen new.media))) after
-  nodes_moved nodes after follow are = subst (λ (g : Graph). AreNodes g after) (sym graph_moved) (follow (graph old.geometry (store_of (seen old.media))) are)
+  pub nodes_moved : (nodes after : ℕ → Bool) → ((g : Graph) → AreNodes g nodes → AreNodes (after_records g (take n (undone x))) after) → AreNodes (graph old.geometry (disk device old)) nodes → AreNodes (graph new.geometry (disk device new)) after
+  nodes_moved nodes after follow are = subst (λ (g : Graph). AreNodes g after) (sym graph_moved) (follow (graph old.geometry (disk device old)) are)
 
 -- no record of a region that stands in a running machine is bad
-pub never_told : {M : Type 0} (seen : M → Tier → List ℕ) (area : JournalView M) (book : Accounts) (x : SealedLog) (m : Machine) (s : Sealed) (n place : ℕ) (e : DigestError) → IsSealed x → StandFor seen area book m → IsRunning m
-    → IsRegionOf x (m.kernel.accounts (client_of x)).mark s → StandsSealed m.kernel.shared (m.kernel.accounts (client_of x)) s → e ≡ errors.BadLog place → IsToldBad area.geometry (store_of (seen area.media)) x n e → ⊥
-never_told seen area book x m s n place e sealed is runs region stands told bad =
-    let first = subst (IsToldBad area.geometry (store_of (seen area.media)) x n) told bad in
+pub never_told : {M : Type 0} (device : Ghosts M) (area : JournalView M) (book : Accounts) (x : SealedView) (m : Machine) (s : Sealed) (n place : ℕ) (e : DigestError) → IsSealed x → StandFor device area book m → IsRunning m
+    → IsRegionOf x (m.kernel.accounts x.client).mark s → StandsSealed m.kernel.shared (m.kernel.accounts x.client) s → e ≡ errors.BadLog place → NamesFirstBad area.geometry (disk device area) x n e → ⊥
+never_told device area book x m s n place e sealed is runs region stands told bad =
+    let first = subst (NamesFirstBad area.geometry (disk device area) x n) told bad in
     never x m s region sealed n first.0 runs stands
-    (subst (λ (k : ℕ). IsFirstBad x.held.items k m.kernel.shared (take n (undone x)) first.0) (sym is.capacity)
-    (subst (λ (g : Graph). IsFirstBad x.held.items area.geometry.units g (take n (undone x)) first.0) (sym is.shared) first.1))
+    (subst (λ (k : ℕ). IsFirstBad x.held k m.kernel.shared (take n (undone x)) first.0) (sym is.capacity)
+    (subst (λ (g : Graph). IsFirstBad x.held area.geometry.units g (take n (undone x)) first.0) (sym is.shared) first.1))

@@ -2,22 +2,23 @@
 use Rattle.std.proofs.Common.{◌≡◌, ◌≢◌, ◌≤◌, ◌+◌, ℕ, List, Bool, true, false, refl, sym, ap, ◌∙◌, arith}
 use Rattle.std.specs.Prelude.{Result, Ok, Err}
 use Rattle.std.proofs.lemmas.Bool.{true≢false}
+use Rattle.digester.specs.tier_device.declared.media.Media.{Ghosts}
 use Rattle.digester.specs.tier_device.declared.media.Tier.{Tier}
 use Rattle.digester.specs.batch_journal.View.{JournalView}
-use Rattle.digester.specs.Digesting.{DigestsOrStays}
+use Rattle.digester.specs.DigestStep.{DigestsOrStays}
 use Rattle.digester.specs.declared.error.DigestError.{DigestError}
 use Rattle.digester.specs.declared.error.DigestError.TheVariants as errors
 
 err_is : {T : Type 0} (e f : DigestError) → ◌≡◌ {A = Result T DigestError} (Err e) (Err f) → e ≡ f
 err_is e f is = cc
 
-module _ {M : Type 0} (moment : M → ℕ) (seen : M → Tier → List ℕ) (left : M → ℕ → Tier → List ℕ → Type 0) (faults : M → ℕ) where
+module _ {M : Type 0} (device : Ghosts M) where
   -- another answer of a call that has answered
-  pub another : {T U : Type 0} (old new : JournalView M) (x : T) (y : U) → DigestsOrStays moment seen left faults old new (Ok x) → DigestsOrStays moment seen left faults old new (Ok y)
+  pub another : {T U : Type 0} (old new : JournalView M) (x : T) (y : U) → DigestsOrStays device old new (Ok x) → DigestsOrStays device old new (Ok y)
   another old new x y d = record { unmoved = tt; geometry = d.geometry; more_faults = d.more_faults; one_fault = d.one_fault; quiet = d.quiet; going = d.going; quiet_refused = tt; stays_failed = λ was. absurd (true≢false (sym was ∙ d.going.0)); fault = λ is. absurd (cc is) }
 
   -- the same refusal of another call
-  pub refused : {T U : Type 0} (old new : JournalView M) (e : DigestError) → DigestsOrStays {T = T} moment seen left faults old new (Err e) → DigestsOrStays {T = U} moment seen left faults old new (Err e)
+  pub refused : {T U : Type 0} (old new : JournalView M) (e : DigestError) → DigestsOrStays {T = T} device old new (Err e) → DigestsOrStays {T = U} device old new (Err e)
   refused {T = T} {U = U} old new e d = record {
     unmoved = d.unmoved;
     geometry = d.geometry;
@@ -31,5 +32,5 @@ module _ {M : Type 0} (moment : M → ℕ) (seen : M → Tier → List ℕ) (lef
   }
 
   -- no call at all
-  pub none : {U : Type 0} (area : JournalView M) (y : U) → area.failed ≡ false → DigestsOrStays moment seen left faults area area (Ok y)
+  pub none : {U : Type 0} (area : JournalView M) (y : U) → area.failed ≡ false → DigestsOrStays device area area (Ok y)
   none area y going = record { unmoved = tt; geometry = refl; more_faults = omega arith; one_fault = omega arith; quiet = refl; going = (going, going); quiet_refused = tt; stays_failed = λ was. absurd (true≢false (sym was ∙ going)); fault = λ is. absurd (cc is) }

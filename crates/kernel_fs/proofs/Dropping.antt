@@ -6,11 +6,11 @@ use Rattle.std.specs.FinMap as fin
 use Rattle.std.proofs.lemmas.Bool.{false≢true, true≢false, eq-eqb}
 use Rattle.std.proofs.lemmas.Bool.Decides.{eqb_tells, nat_tests}
 use Rattle.digester.specs.tier_device.declared.media.Tier.{Tier}
-use Rattle.digester.specs.tier_device.Media.{Left}
+use Rattle.digester.specs.tier_device.AfterStop.{Left}
 use Rattle.digester.specs.file_graph.declared.effect.Effect.TheVariants as effect
 use Rattle.digester.specs.file_graph.Graph.{Graph, Node, Body, FileBody, DirBody, set_node}
 use Rattle.digester.specs.file_graph.Units.{charge}
-use Rattle.digester.specs.graph_change.Change.{Change, Changes, Coalesces, changed, coalesced, change_at, writes_block}
+use Rattle.digester.specs.graph_change.Change.{Change, Changes, Coalesces, changed_graph, coalesced_changes, change_at, writes_block}
 use Rattle.digester.specs.layout.declared.marks.Marks.{Marks}
 use Rattle.digester.specs.layout.Places.{Sizes, is_inode}
 use Rattle.digester.specs.log_record.Grammar.{IsInode}
@@ -19,19 +19,19 @@ use Rattle.world_invariant.specs.call_effects.NodeView.{FileView, view_at, view_
 use Rattle.digester.specs.area_image.Store.{Store, store_of, graph, inode, marks}
 use Rattle.digester.specs.area_image.Reads.{Loose}
 use Rattle.digester.specs.shared_area.Ready.{OpensAs}
-use Rattle.digester.specs.shared_area.ChangeApplying.{IsAppliedStore}
-use Rattle.digester.specs.shared_area.Applying.{StaysOrChanges}
+use Rattle.digester.specs.shared_area.ChangeApply.{IsAppliedStore}
+use Rattle.digester.specs.shared_area.GraphUpdate.{StaysOrChanges}
 use Rattle.digester.specs.coalescer.Weight.{fits_chunk}
 use Rattle.digester.specs.coalescer.Within.{images_of}
 use Rattle.digester.proofs.Applied.{fit_images}
 use Rattle.digester.proofs.posix_calls_lemmas.Sums.{same_if, there_if}
 use Rattle.digester.specs.change_plan.Next.{HasFewEntries, nodes_for}
-use Rattle.digester.specs.change_plan.Wanted.{images_for, AreWritten}
+use Rattle.digester.specs.change_plan.BlockDemand.{images_for, AreWritten}
 use Rattle.digester.proofs.shared_area_lemmas.Entries.{no_view}
 use Rattle.world_invariant.specs.Logs.{IsNameless}
 use Rattle.world_invariant.proofs.Reclaims.{charge_less}
 use Rattle.world_invariant.proofs.Records.{either}
-use Rattle.kernel_fs.specs.Reclaiming.{IsNamelessView, IsReclaimed, StaysOrReclaims}
+use Rattle.kernel_fs.specs.Reclaim.{IsNamelessView, IsReclaimed, StaysOrReclaims}
 
 -- ---- a file without a name, by its view
 
@@ -64,7 +64,7 @@ its_inode g s i is = elim (either (is_inode i)) [
 -- ---- the change
 
 module _ (i : ℕ) (cs : Changes) (law : Coalesces (effect.Drop i ∷ []) cs) where
-  pub graph_dropped : (g : Graph) → changed cs g ≡ set_node g i None
+  pub graph_dropped : (g : Graph) → changed_graph cs g ≡ set_node g i None
   graph_dropped g = law.meaning g ∙ (λ t j. same j t)
     where
       same : (j : ℕ) → cond (i == j || false) None (g j) ≡ cond (j == i) None (g j)
@@ -85,11 +85,11 @@ module _ (i : ℕ) (cs : Changes) (law : Coalesces (effect.Drop i ∷ []) cs) wh
   pub not_own : (j : ℕ) → j ≢ i → fin.contains_key cs j ≡ false
   not_own j off = elim (eqb_tells j i) [ inl same ↦ absurd (off same.1) | inr other ↦ law.inodes j ∙ ap (λ b. b || false) other.0 ]
 
-  gone : (g : Graph) → changed cs g i ≡ None
+  gone : (g : Graph) → changed_graph cs g i ≡ None
   gone g = ap (λ (h : Graph). h i) (graph_dropped g) ∙ ap (λ b. cond b None (g i)) (eq-eqb i i refl)
 
-  pub few_entries : (g : Graph) (j : ℕ) → fin.contains_key cs j ≡ true → HasFewEntries (changed cs g j)
-  few_entries g j has = subst (λ k. HasFewEntries (changed cs g k)) (sym (its_own j has)) (subst HasFewEntries (sym (gone g)) tt)
+  pub few_entries : (g : Graph) (j : ℕ) → fin.contains_key cs j ≡ true → HasFewEntries (changed_graph cs g j)
+  few_entries g j has = subst (λ k. HasFewEntries (changed_graph cs g k)) (sym (its_own j has)) (subst HasFewEntries (sym (gone g)) tt)
 
   pub none_written : (x : Sizes) (s : Store) (bs : List (ℕ × ℕ)) → AreWritten x s cs bs → length bs ≤ 512
   none_written x s [] are = omega arith
@@ -157,15 +157,15 @@ small : (i : ℕ) → fits_chunk (effect.Drop i ∷ []) ≡ true
 unfolding fits_chunk
 small i = search rules
 
-pub few_images : (i : ℕ) (cs : Changes) → cs ≡ coalesced (effect.Drop i ∷ []) → images_for cs ≤ 255
+pub few_images : (i : ℕ) (cs : Changes) → cs ≡ coalesced_changes (effect.Drop i ∷ []) → images_for cs ≤ 255
 few_images i cs is =
     let same = same_images cs in
     let few = subst (λ (c : Changes). images_of c ≤ 255) (sym is) (fit_images (effect.Drop i ∷ []) (small i)) in
     omega (arith, same, few)
 
-pub charge_fits : (i : ℕ) (cs : Changes) (law : Coalesces (effect.Drop i ∷ []) cs) (g : Graph) (units : ℕ) → charge g ≤ units → charge (changed cs g) ≤ units
+pub charge_fits : (i : ℕ) (cs : Changes) (law : Coalesces (effect.Drop i ∷ []) cs) (g : Graph) (units : ℕ) → charge g ≤ units → charge (changed_graph cs g) ≤ units
 charge_fits i cs law g units fits =
-    let less : charge (changed cs g) ≤ charge g = charge_less i g (changed cs g) (ap (λ (h : Graph). h i) (graph_dropped i cs law g) ∙ there_if i None (g i)) (λ j off. ap (λ (h : Graph). h j) (graph_dropped i cs law g) ∙ same_if j i None (g j) off) in
+    let less : charge (changed_graph cs g) ≤ charge g = charge_less i g (changed_graph cs g) (ap (λ (h : Graph). h i) (graph_dropped i cs law g) ∙ there_if i None (g i)) (λ j off. ap (λ (h : Graph). h j) (graph_dropped i cs law g) ∙ same_if j i None (g j) off) in
     omega (arith, less, fits)
 
 -- where the file is dropped behind a look

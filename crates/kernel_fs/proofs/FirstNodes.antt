@@ -10,7 +10,7 @@ use Rattle.digester.specs.area_image.Store.{Store, graph}
 use Rattle.digester.proofs.shared_area_lemmas.Entries.{no_view}
 use Rattle.world_invariant.specs.LeaseSteps.{also}
 use Rattle.kernel_fs.specs.Nodes.{AreNodes, is_node}
-use Rattle.kernel_fs.specs.Opening.{AreNodesBelow}
+use Rattle.kernel_fs.specs.NodeScan.{AreNodesBelow}
 
 pub no_node : (o : Option Node) → None ≡ option_map view_of_node o → is_node o ≡ false
 no_node None view = refl

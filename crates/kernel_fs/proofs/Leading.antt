@@ -7,7 +7,7 @@ use Rattle.std.proofs.lemmas.Bool.Decides.{eqb_tells}
 use Rattle.digester.specs.file_graph.declared.effect.Effect.{Effect}
 use Rattle.digester.specs.file_graph.declared.effect.Effect.TheVariants as effect
 use Rattle.digester.specs.file_graph.declared.effect.Kind.{Kind}
-use Rattle.digester.specs.file_graph.Graph.{Graph, Node, acted, after_effect, subjects, is_among}
+use Rattle.digester.specs.file_graph.Graph.{Graph, Node, subject_after, after_effect, subjects, is_among}
 use Rattle.world_invariant.specs.LeaseSteps.{also, without}
 use Rattle.kernel_fs.specs.Nodes.{AreNodes, is_node}
 
@@ -18,8 +18,8 @@ apart i j other = elim (eqb_tells j i) [ inl same ↦ absurd (other (sym same.1)
 
 pub made : (g : Graph) (nodes after : ℕ → Bool) (i : ℕ) (k : Kind) → AreNodes g nodes → ((j : ℕ) → after j ≡ also nodes i j) → AreNodes (after_effect g (effect.Make i k)) after
 made g nodes after i k are more j = elim (eqb_tells i j) [
-  | inl same ↦ more j ∙ ap (λ b. b || nodes j) (eq-eqb j i (sym same.1)) ∙ sym (ap (λ b. is_node (cond (b || false) (acted (effect.Make i k) (g j)) (g j))) same.0)
-  | inr other ↦ more j ∙ ap (λ b. b || nodes j) (apart i j other.1) ∙ are j ∙ sym (ap (λ b. is_node (cond (b || false) (acted (effect.Make i k) (g j)) (g j))) other.0)
+  | inl same ↦ more j ∙ ap (λ b. b || nodes j) (eq-eqb j i (sym same.1)) ∙ sym (ap (λ b. is_node (cond (b || false) (subject_after (effect.Make i k) (g j)) (g j))) same.0)
+  | inr other ↦ more j ∙ ap (λ b. b || nodes j) (apart i j other.1) ∙ are j ∙ sym (ap (λ b. is_node (cond (b || false) (subject_after (effect.Make i k) (g j)) (g j))) other.0)
 ]
 
 pub dropped : (g : Graph) (nodes after : ℕ → Bool) (i : ℕ) → AreNodes g nodes → ((j : ℕ) → after j ≡ without nodes i j) → AreNodes (after_effect g (effect.Drop i)) after
@@ -34,7 +34,7 @@ kept true f None = refl
 kept true f (Some n) = refl
 kept false f o = refl
 
-pub stays : (g : Graph) (e : Effect) (nodes : ℕ → Bool) (f : Node → Node) → ((o : Option Node) → acted e o ≡ option_map f o) → AreNodes g nodes → AreNodes (after_effect g e) nodes
+pub stays : (g : Graph) (e : Effect) (nodes : ℕ → Bool) (f : Node → Node) → ((o : Option Node) → subject_after e o ≡ option_map f o) → AreNodes g nodes → AreNodes (after_effect g e) nodes
 stays g e nodes f is are j = are j ∙ kept (is_among j (subjects e)) f (g j) ∙ sym (ap (λ o. is_node (cond (is_among j (subjects e)) o (g j))) (is (g j)))
 
 -- ---- several, one after the other

@@ -12,9 +12,9 @@ use Rattle.world_invariant.specs.Limits.{AreWithin}
 use Rattle.world_invariant.specs.World.{Account, at}
 use Rattle.world_invariant.specs.Machine.{Machine, Sealed, IsRunning, accept, account_after, digest, undigested_sealed}
 use Rattle.kernel_fs.specs.Marks.{AreMarksAfter, AreMarksOf, IsMarkOf, IsWaiting}
-use Rattle.kernel_fs.specs.Steps.{opened}
+use Rattle.kernel_fs.specs.Steps.{opened_machine}
 
-pub opened_runs : (g : Graph) (capacity : ℕ) (marks : ℕ → ℕ) → AreWithin g → charge g ≤ capacity → IsRunning (opened g capacity marks)
+pub opened_runs : (g : Graph) (capacity : ℕ) (marks : ℕ → ℕ) → AreWithin g → charge g ≤ capacity → IsRunning (opened_machine g capacity marks)
 opened_runs g capacity marks within fits =
     let none : sum_up_to 8 (λ c. 0) ≡ 0 = all_zero 8 (λ c. 0) (λ j. refl) in
     record {

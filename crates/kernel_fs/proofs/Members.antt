@@ -4,7 +4,7 @@ use Rattle.std.proofs.lemmas.Bool.{false≢true}
 use Rattle.std.proofs.lemmas.Bool.Decides.{eqb_tells}
 use Rattle.digester.specs.posix_calls.Tree.{sum_up_to}
 use Rattle.digester.specs.file_graph.Graph.{is_among}
-use Rattle.kernel_fs.specs.Inodes.{is_inode, has, passing, members}
+use Rattle.kernel_fs.specs.Inodes.{is_inode, has, passing_numbers, members}
 use Rattle.kernel_fs.proofs.Rows.{inode_tells, inside, has_none}
 
 -- a number that is put in front, where a test passes
@@ -21,20 +21,20 @@ put_long true n k rest is = omega (arith, is)
 put_long false n k rest is = omega (arith, is)
 
 -- what is greater than all of them is not among them, and 0 is not
-pub beyond : (p : ℕ → Bool) (n i : ℕ) → (1 ≤ i → i ≤ n → ⊥) → is_among i (passing p n) ≡ false
-unfolding passing
+pub beyond : (p : ℕ → Bool) (n i : ℕ) → (1 ≤ i → i ≤ n → ⊥) → is_among i (passing_numbers p n) ≡ false
+unfolding passing_numbers
 beyond p zero i out = refl
 beyond p (suc n) i out = elim (eqb_tells (suc n) i) [
   | inl same ↦ absurd (out (omega (arith, same.1)) (omega (arith, same.1)))
-  | inr off ↦ put_other (p (suc n)) i (suc n) (passing p n) false off.0 (beyond p n i (λ low high. out low (omega (arith, high))))
+  | inr off ↦ put_other (p (suc n)) i (suc n) (passing_numbers p n) false off.0 (beyond p n i (λ low high. out low (omega (arith, high))))
 ]
 
-within : (p : ℕ → Bool) (n i : ℕ) → 1 ≤ i → i ≤ n → is_among i (passing p n) ≡ p i
-unfolding passing
+within : (p : ℕ → Bool) (n i : ℕ) → 1 ≤ i → i ≤ n → is_among i (passing_numbers p n) ≡ p i
+unfolding passing_numbers
 within p zero i low high = absurd (omega (arith, low, high))
 within p (suc n) i low high = elim (eqb_tells (suc n) i) [
-  | inl same ↦ put_own (p (suc n)) i (suc n) (passing p n) same.0 (beyond p n i (λ one few. omega (arith, few, same.1))) ∙ ap p same.1
-  | inr off ↦ put_other (p (suc n)) i (suc n) (passing p n) (p i) off.0 (within p n i low (omega (arith, high, off.1)))
+  | inl same ↦ put_own (p (suc n)) i (suc n) (passing_numbers p n) same.0 (beyond p n i (λ one few. omega (arith, few, same.1))) ∙ ap p same.1
+  | inr off ↦ put_other (p (suc n)) i (suc n) (passing_numbers p n) (p i) off.0 (within p n i low (omega (arith, high, off.1)))
 ]
 
 no_inode : (j : ℕ) → is_inode j ≡ false → 1 ≤ j → j ≤ 1024 → ⊥
@@ -46,7 +46,7 @@ member rows i = elim (inode_tells i) [
   | inr out ↦ beyond (has rows) 1024 i (λ low high. no_inode i out low high) ∙ sym (has_none rows i out)
 ]
 
-pub count_passing : (p : ℕ → Bool) (n : ℕ) → length (passing p n) ≡ sum_up_to n (λ i. cond (p i) 1 0)
-unfolding passing sum_up_to
+pub count_passing : (p : ℕ → Bool) (n : ℕ) → length (passing_numbers p n) ≡ sum_up_to n (λ i. cond (p i) 1 0)
+unfolding passing_numbers sum_up_to
 count_passing p zero = refl
-count_passing p (suc n) = put_long (p (suc n)) (suc n) (sum_up_to n (λ i. cond (p i) 1 0)) (passing p n) (count_passing p n)
+count_passing p (suc n) = put_long (p (suc n)) (suc n) (sum_up_to n (λ i. cond (p i) 1 0)) (passing_numbers p n) (count_passing p n)

@@ -2,6 +2,7 @@
 use Rattle.std.proofs.Common.{◌≡◌, ◌≢◌, ◌⊎◌, inl, inr, ℕ, ◌+◌, ◌≤◌, List, true, false, refl, ap, sym, ◌∙◌, subst, arith}
 use Rattle.std.specs.Prelude.{Result, Ok, Err}
 use Rattle.std.proofs.lemmas.Bool.{true≢false}
+use Rattle.digester.specs.tier_device.declared.media.Media.{Ghosts}
 use Rattle.digester.specs.tier_device.declared.media.Tier.{Tier}
 use Rattle.digester.specs.tier_device.Media.{Rose}
 use Rattle.digester.specs.batch_journal.View.{JournalView}
@@ -11,10 +12,10 @@ use Rattle.digester.specs.area_image.declared.error.AreaError.{AreaError}
 use Rattle.digester.specs.area_image.declared.error.AreaError.TheVariants as area
 use Rattle.digester.specs.shared_area.declared.error.ApplyError.{ApplyError}
 use Rattle.digester.specs.shared_area.declared.error.ApplyError.TheVariants as apply
-use Rattle.digester.specs.shared_area.Applying.{AppliesOrStays}
+use Rattle.digester.specs.shared_area.GraphUpdate.{AppliesOrStays}
 use Rattle.digester.specs.area_image.Looks.{Looks}
-use Rattle.digester.specs.Errors.{IsAreaTold, IsChangeTold}
-use Rattle.kernel_fs.specs.Reclaiming.{ReclaimsOrStays}
+use Rattle.digester.specs.Errors.{IsAreaError, IsChangeError}
+use Rattle.kernel_fs.specs.Reclaim.{ReclaimsOrStays}
 use Rattle.kernel_fs.specs.declared.error.ReclaimError.{ReclaimError}
 use Rattle.kernel_fs.specs.declared.error.ReclaimError.TheVariants as errors
 
@@ -27,12 +28,12 @@ in_use_no_fault is = cc
 err_is : {T : Type 0} (e f : ReclaimError) → ◌≡◌ {A = Result T ReclaimError} (Err e) (Err f) → e ≡ f
 err_is e f is = cc
 
-module _ {M : Type 0} (moment : M → ℕ) (seen : M → Tier → List ℕ) (left : M → ℕ → Tier → List ℕ → Type 0) (faults : M → ℕ) (old new : JournalView M) where
-  pub applied_stays : AppliesOrStays moment seen left faults old new (Ok tt) → ReclaimsOrStays moment seen left faults old new (Ok tt)
+module _ {M : Type 0} (device : Ghosts M) (old new : JournalView M) where
+  pub applied_stays : AppliesOrStays device old new (Ok tt) → ReclaimsOrStays device old new (Ok tt)
   applied_stays a = record { unmoved = tt; geometry = a.geometry; more_faults = a.more_faults; one_fault = a.one_fault; quiet = (a.quiet, a.going.1); quiet_refused = tt; fault = λ is. absurd (cc is) }
 
   -- no memory
-  pub memory_stays : (e : ApplyError) → e ≢ apply.DeviceFault → AppliesOrStays moment seen left faults old new (Err e) → ReclaimsOrStays moment seen left faults old new (Err errors.Memory)
+  pub memory_stays : (e : ApplyError) → e ≢ apply.DeviceFault → AppliesOrStays device old new (Err e) → ReclaimsOrStays device old new (Err errors.Memory)
   memory_stays e other a = record {
     unmoved = λ _. a.unmoved other;
     geometry = a.geometry;
@@ -43,7 +44,7 @@ module _ {M : Type 0} (moment : M → ℕ) (seen : M → Tier → List ℕ) (lef
     fault = λ is. absurd (not_fault (err_is {T = Unit {0}} errors.Memory errors.DeviceFault is));
   }
 
-  pub fault_stays : old.failed ≡ false → AppliesOrStays moment seen left faults old new (Err apply.DeviceFault) → ReclaimsOrStays moment seen left faults old new (Err errors.DeviceFault)
+  pub fault_stays : old.failed ≡ false → AppliesOrStays device old new (Err apply.DeviceFault) → ReclaimsOrStays device old new (Err errors.DeviceFault)
   fault_stays going a = record {
     unmoved = λ other. absurd (other refl);
     geometry = a.geometry;
@@ -54,14 +55,14 @@ module _ {M : Type 0} (moment : M → ℕ) (seen : M → Tier → List ℕ) (lef
     fault = λ _. (let f = a.fault refl in (f.0, elim (f.1) [ inl was ↦ absurd (true≢false (sym was ∙ going)) | inr rose ↦ rose ]));
   }
 
-  pub apply_stays : (e : ApplyError) (r : ReclaimError) → IsChangeTold errors.DeviceFault errors.Memory e r → old.failed ≡ false → AppliesOrStays moment seen left faults old new (Err e) → ReclaimsOrStays moment seen left faults old new (Err r)
-  apply_stays apply.DeviceFault r told going a = subst (λ (x : ReclaimError). ReclaimsOrStays moment seen left faults old new (Err x)) (sym told) (fault_stays going a)
+  pub apply_stays : (e : ApplyError) (r : ReclaimError) → IsChangeError errors.DeviceFault errors.Memory e r → old.failed ≡ false → AppliesOrStays device old new (Err e) → ReclaimsOrStays device old new (Err r)
+  apply_stays apply.DeviceFault r told going a = subst (λ (x : ReclaimError). ReclaimsOrStays device old new (Err x)) (sym told) (fault_stays going a)
   apply_stays apply.NoBlock r told going a = absurd told
-  apply_stays apply.Memory r told going a = subst (λ (x : ReclaimError). ReclaimsOrStays moment seen left faults old new (Err x)) (sym told) (memory_stays apply.Memory (λ is. cc) a)
+  apply_stays apply.Memory r told going a = subst (λ (x : ReclaimError). ReclaimsOrStays device old new (Err x)) (sym told) (memory_stays apply.Memory (λ is. cc) a)
 
   -- ---- where it was only looked at
 
-  pub looked_stays : {T : Type 0} (x : T) (r : ReclaimError) → r ≢ errors.DeviceFault → Looks moment seen left faults old new (Ok x) → ReclaimsOrStays moment seen left faults old new (Err r)
+  pub looked_stays : {T : Type 0} (x : T) (r : ReclaimError) → r ≢ errors.DeviceFault → Looks device old new (Ok x) → ReclaimsOrStays device old new (Err r)
   looked_stays x r other a = record {
     unmoved = λ _. a.unmoved;
     geometry = a.geometry;
@@ -72,8 +73,8 @@ module _ {M : Type 0} (moment : M → ℕ) (seen : M → Tier → List ℕ) (lef
     fault = λ is. absurd (other (err_is {T = Unit {0}} r errors.DeviceFault is));
   }
 
-  pub node_stays : {T : Type 0} (e : AreaError) (r : ReclaimError) → IsAreaTold errors.DeviceFault errors.Memory e r → old.failed ≡ false → Looks {T = T} moment seen left faults old new (Err e) → ReclaimsOrStays moment seen left faults old new (Err r)
-  node_stays area.DeviceFault r told going a = subst (λ (x : ReclaimError). ReclaimsOrStays moment seen left faults old new (Err x)) (sym told) (record {
+  pub node_stays : {T : Type 0} (e : AreaError) (r : ReclaimError) → IsAreaError errors.DeviceFault errors.Memory e r → old.failed ≡ false → Looks {T = T} device old new (Err e) → ReclaimsOrStays device old new (Err r)
+  node_stays area.DeviceFault r told going a = subst (λ (x : ReclaimError). ReclaimsOrStays device old new (Err x)) (sym told) (record {
     unmoved = λ _. a.unmoved;
     geometry = a.geometry;
     more_faults = a.more_faults;
@@ -83,7 +84,7 @@ module _ {M : Type 0} (moment : M → ℕ) (seen : M → Tier → List ℕ) (lef
     fault = λ _. (let f = a.fault refl in (f.0, elim (f.1) [ inl was ↦ absurd (true≢false (sym was ∙ going)) | inr rose ↦ rose ]));
   })
   node_stays (area.Damaged what block) r told going a = absurd told
-  node_stays area.Memory r told going a = subst (λ (x : ReclaimError). ReclaimsOrStays moment seen left faults old new (Err x)) (sym told) (record {
+  node_stays area.Memory r told going a = subst (λ (x : ReclaimError). ReclaimsOrStays device old new (Err x)) (sym told) (record {
     unmoved = λ _. a.unmoved;
     geometry = a.geometry;
     more_faults = a.more_faults;
@@ -94,8 +95,8 @@ module _ {M : Type 0} (moment : M → ℕ) (seen : M → Tier → List ℕ) (lef
   })
 
 -- a change behind a look
-module _ {M : Type 0} (moment : M → ℕ) (seen : M → Tier → List ℕ) (left : M → ℕ → Tier → List ℕ → Type 0) (faults : M → ℕ) (old mid new : JournalView M) where
-  pub stays_behind : {T : Type 0} (x : T) (r : Result (Unit {0}) ReclaimError) → Looks moment seen left faults old mid (Ok x) → ReclaimsOrStays moment seen left faults mid new r → ReclaimsOrStays moment seen left faults old new r
+module _ {M : Type 0} (device : Ghosts M) (old mid new : JournalView M) where
+  pub stays_behind : {T : Type 0} (x : T) (r : Result (Unit {0}) ReclaimError) → Looks device old mid (Ok x) → ReclaimsOrStays device mid new r → ReclaimsOrStays device old new r
   stays_behind x (Ok u) first a = record {
     unmoved = tt;
     geometry = a.geometry ∙ first.geometry;
@@ -112,12 +113,12 @@ module _ {M : Type 0} (moment : M → ℕ) (seen : M → Tier → List ℕ) (lef
     one_fault = omega (arith, first.quiet, a.one_fault);
     quiet = tt;
     quiet_refused = λ other. (let q = a.quiet_refused other in (q.0 ∙ first.quiet, q.1));
-    fault = λ is. (let f = a.fault is in (f.0, subst (λ (n : ℕ). Rose n (faults new.media)) first.quiet f.1));
+    fault = λ is. (let f = a.fault is in (f.0, subst (λ (n : ℕ). Rose n (device.faults new.media)) first.quiet f.1));
   }
 
-module _ {M : Type 0} (moment : M → ℕ) (seen : M → Tier → List ℕ) (left : M → ℕ → Tier → List ℕ → Type 0) (faults : M → ℕ) (old : JournalView M) where
+module _ {M : Type 0} (device : Ghosts M) (old : JournalView M) where
   -- no device call
-  pub nothing_stays : (r : ReclaimError) → r ≢ errors.DeviceFault → old.failed ≡ false → ReclaimsOrStays moment seen left faults old old (Err r)
+  pub nothing_stays : (r : ReclaimError) → r ≢ errors.DeviceFault → old.failed ≡ false → ReclaimsOrStays device old old (Err r)
   nothing_stays r other going = record {
     unmoved = λ _. record { clock = refl; reads = λ t. refl; past = λ m t x le l. l; kept = λ m t x le l. l };
     geometry = refl;
@@ -129,18 +130,18 @@ module _ {M : Type 0} (moment : M → ℕ) (seen : M → Tier → List ℕ) (lef
   }
 
 -- a fault and want of memory are told as such
-pub told_no_use : (e : AreaError) (r : ReclaimError) → IsAreaTold errors.DeviceFault errors.Memory e r → ◌≡◌ {A = Result (Unit {0}) ReclaimError} (Err r) (Err errors.InUse) → ⊥
+pub told_no_use : (e : AreaError) (r : ReclaimError) → IsAreaError errors.DeviceFault errors.Memory e r → ◌≡◌ {A = Result (Unit {0}) ReclaimError} (Err r) (Err errors.InUse) → ⊥
 told_no_use area.DeviceFault r told is = cc (told, is)
 told_no_use (area.Damaged what block) r told is = told
 told_no_use area.Memory r told is = cc (told, is)
 
 -- memory is told to be wanted where the area told so
-pub told_memory : (e : AreaError) (r : ReclaimError) → IsAreaTold errors.DeviceFault errors.Memory e r → ◌≡◌ {A = Result (Unit {0}) ReclaimError} (Err r) (Err errors.Memory) → e ≡ area.Memory
+pub told_memory : (e : AreaError) (r : ReclaimError) → IsAreaError errors.DeviceFault errors.Memory e r → ◌≡◌ {A = Result (Unit {0}) ReclaimError} (Err r) (Err errors.Memory) → e ≡ area.Memory
 told_memory area.DeviceFault r told is = absurd (cc (told, is))
 told_memory (area.Damaged what block) r told is = absurd told
 told_memory area.Memory r told is = refl
 
-pub change_no_use : (e : ApplyError) (r : ReclaimError) → IsChangeTold errors.DeviceFault errors.Memory e r → ◌≡◌ {A = Result (Unit {0}) ReclaimError} (Err r) (Err errors.InUse) → ⊥
+pub change_no_use : (e : ApplyError) (r : ReclaimError) → IsChangeError errors.DeviceFault errors.Memory e r → ◌≡◌ {A = Result (Unit {0}) ReclaimError} (Err r) (Err errors.InUse) → ⊥
 change_no_use apply.DeviceFault r told is = cc (told, is)
 change_no_use apply.NoBlock r told is = told
 change_no_use apply.Memory r told is = cc (told, is)

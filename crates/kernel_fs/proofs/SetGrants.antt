@@ -4,7 +4,7 @@ use Rattle.std.proofs.lemmas.Bool.Decides.{eqb_tells}
 use Rattle.digester.proofs.posix_calls_lemmas.Sums.{there_if}
 use Rattle.digester.specs.posix_calls.Operations.{is_client}
 use Rattle.digester.specs.file_graph.Graph.{is_among}
-use Rattle.world_invariant.specs.World.{Account, Client, World, at, moved, world_state}
+use Rattle.world_invariant.specs.World.{Account, Client, World, at, moved_world, world_state}
 use Rattle.world_invariant.specs.BookSteps.{HasRoom, IsUnbooked, units_granted, number_granted}
 use Rattle.world_invariant.specs.Halves.{units_booked, number_booked}
 use Rattle.world_invariant.specs.Invariant.{IsCoherent}
@@ -12,7 +12,7 @@ use Rattle.world_invariant.specs.LeaseSteps.{also}
 use Rattle.world_invariant.proofs.Books.{units_granted_hold, units_granted_tree, number_granted_holds, number_granted_tree}
 use Rattle.world_invariant.proofs.Halves.{units_booked_hold, units_booked_tree, number_booked_holds, number_booked_tree}
 use Rattle.world_invariant.proofs.Kernels.{each}
-use Rattle.kernel_fs.specs.Inodes.{has, passing}
+use Rattle.kernel_fs.specs.Inodes.{has, passing_numbers}
 use Rattle.kernel_fs.specs.Steps.{set_booked, set_granted}
 use Rattle.kernel_fs.proofs.Choosing.{swapped}
 use Rattle.kernel_fs.proofs.Members.{beyond, member}
@@ -59,7 +59,7 @@ module _ (w : World) (c units : ℕ) where
   -- ---- one number after the other
 
   -- a number that is not among those which were granted before it is still free
-  still_free : (p : Client) (is : List ℕ) (i : ℕ) → is_among i is ≡ false → IsUnbooked w.kernel i → IsUnbooked (moved w c w.kernel.shared (richer (λ k. account.numbers k || is_among k is)) p).kernel i
+  still_free : (p : Client) (is : List ℕ) (i : ℕ) → is_among i is ≡ false → IsUnbooked w.kernel i → IsUnbooked (moved_world w c w.kernel.shared (richer (λ k. account.numbers k || is_among k is)) p).kernel i
   still_free p is i out free = record {
     low = free.low;
     high = free.high;
@@ -73,10 +73,10 @@ module _ (w : World) (c units : ℕ) where
     one_test true n rest free out kept = next n rest (free refl) out kept
     one_test false n rest free out kept = kept
 
-    in_turn : (p : ℕ → Bool) (n : ℕ) → ((i : ℕ) → p i ≡ true → IsUnbooked w.kernel i) → Keeps (G (passing p n))
-    unfolding passing
+    in_turn : (p : ℕ → Bool) (n : ℕ) → ((i : ℕ) → p i ≡ true → IsUnbooked w.kernel i) → Keeps (G (passing_numbers p n))
+    unfolding passing_numbers
     in_turn p zero free = base
-    in_turn p (suc n) free = one_test (p (suc n)) (suc n) (passing p n) (free (suc n)) (beyond p n (suc n) (λ low high. omega (arith, high))) (in_turn p n free)
+    in_turn p (suc n) free = one_test (p (suc n)) (suc n) (passing_numbers p n) (free (suc n)) (beyond p n (suc n) (λ low high. omega (arith, high))) (in_turn p n free)
 
   module _ (h : IsCoherent w) (is_c : is_client c ≡ true) (room : HasRoom w.kernel units) where
     -- ---- both halves at once

@@ -13,12 +13,12 @@ abbrev pub Accounts : Type 0
 Accounts = List ClientAccount
 
 -- nothing is out
-abbrev pub nothing : ClientAccount
-nothing = record { units = 0; waiting = 0; numbers = []; pins = [] }
+abbrev pub empty_account : ClientAccount
+empty_account = record { units = 0; waiting = 0; numbers = []; pins = [] }
 
 -- the account of a client
 abbrev pub account_of : Accounts → ℕ → ClientAccount
-account_of book c = get_or book (c - 1) nothing
+account_of book c = get_or book (c - 1) empty_account
 
 -- the units that a client was given and that are not digested
 abbrev pub units_of : Accounts → ℕ → ℕ

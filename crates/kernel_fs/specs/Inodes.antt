@@ -15,10 +15,10 @@ unfoldable pub has : List ℕ → ℕ → Bool
 has rows i = is_inode i && (bit_at (get_or rows ((i - 1) / 64) 0) ((i - 1) % 64) == 1)
 
 -- those of the numbers from 1 to n that pass, the greatest first
-unfoldable pub passing : (ℕ → Bool) → ℕ → List ℕ
-passing p zero = []
-passing p (suc n) = if p (suc n) then suc n ∷ passing p n else passing p n
+unfoldable pub passing_numbers : (ℕ → Bool) → ℕ → List ℕ
+passing_numbers p zero = []
+passing_numbers p (suc n) = if p (suc n) then suc n ∷ passing_numbers p n else passing_numbers p n
 
 -- the inodes of a set, the greatest first
 abbrev pub members : List ℕ → List ℕ
-members rows = passing (has rows) MAX_INODE
+members rows = passing_numbers (has rows) MAX_INODE

@@ -1,10 +1,10 @@
 pub mod KernelView
-pub mod Answering
-pub mod Standing
+pub mod KernelAnswers
+pub mod MachineState
 pub mod History
-pub mod Accepting
-pub mod Opening
-pub mod Reclaiming
+pub mod RegionAccept
+pub mod NodeScan
+pub mod Reclaim
 pub mod Account
 pub mod Book
 pub mod Free

@@ -3,7 +3,7 @@ ghost use Rattle.world_invariant.specs.Logs.{is_made, is_made_in, units_in};
 ghost use Rattle.world_invariant.specs.World.{Account};
 ghost use Rattle.world_invariant.specs.LeaseSteps.{also, without};
 ghost use Rattle.world_invariant.specs.Machine.{account_after};
-ghost use Rattle.world_invariant.specs.Opening.{idle_account};
+ghost use Rattle.world_invariant.specs.FormatWorld.{idle_account};
 ghost use Rattle.kernel_fs.specs.Account.{IsAccountOf};
 ghost use Rattle.kernel_fs.specs.Inodes.{IsInode, has};
 

@@ -6,14 +6,14 @@ ghost use Rattle.world_invariant.specs.Machine.{Machine, Sealed, accept as accep
 ghost use Rattle.kernel_fs.specs.Book.{account_of, units_of, waiting_of, out_of, is_pinned, is_free, HasThese, IsBookOf};
 ghost use Rattle.kernel_fs.specs.Free.{AreLowest, count_of, is_absent};
 ghost use Rattle.kernel_fs.specs.Inodes.{IsInode, has};
-ghost use Rattle.kernel_fs.specs.Steps.{grant as granted, opened, take_back as taken_back};
+ghost use Rattle.kernel_fs.specs.Steps.{grant as granted, opened_machine, take_back as taken_back};
 ghost use Rattle.kernel_fs.specs.declared.book_error.RefillError.TheVariants.{NoUnits, NoInode};
 
 use crate::account::ClientAccount;
 use crate::book_error::RefillError;
 use crate::inode_set::InodeSet;
 use crate::lowest::lowest_absent;
-use digester::{MAX_CLIENTS, ROOT, Record};
+use digester::{MAX_CLIENTS, ROOT, Record, client_index};
 use std::marker::Model;
 
 // How many clients there are.
@@ -49,7 +49,7 @@ fn has_room(charge: u64, out: u64, units: u64, capacity: u64) -> bool
 impl Book {
     /// Nothing is out, nothing granted, nothing pinned, and no record waits, however many of each client were digested before.
     pub fn new() -> Self
-        ensures opens { (g : Graph) (capacity : ℕ) (marks : ℕ → ℕ) → IsBookOf result (opened g capacity marks) }
+        ensures opens { (g : Graph) (capacity : ℕ) (marks : ℕ → ℕ) → IsBookOf result (opened_machine g capacity marks) }
         ensures out { out_of result ≡ 0 }
     {
         let accounts = [
@@ -70,7 +70,7 @@ impl Book {
         requires client { is_client client ≡ true }
         ensures { result.now ≡ account_of self.now client }
     {
-        &self.accounts[(client - 1) as usize]
+        &self.accounts[client_index(client)]
     }
 
     /// The units that are out, of all clients.
@@ -97,7 +97,7 @@ impl Book {
         requires client { is_client client ≡ true }
         ensures { IsTrue result ↔ HasThese self.now client units (has numbers.now) }
     {
-        let account = &self.accounts[(client - 1) as usize];
+        let account = &self.accounts[client_index(client)];
         units <= account.units && account.numbers.contains_all(numbers)
     }
 
@@ -142,14 +142,14 @@ impl Book {
         ensures enough { IfSome result (λ chosen. count ≤ count_of (is_free self.now (has nodes.now))) }
         ensures none { result ≡ None → count_of (is_free self.now (has nodes.now)) < count }
     {
-        match lowest_absent(self.taken(nodes), count) {
+        match lowest_absent(self.used_numbers(nodes), count) {
             Some(chosen) => Some(chosen),
             None => None,
         }
     }
 
     // The numbers that are not free: the root, the nodes, and those in some account.
-    fn taken(&self, nodes: &InodeSet) -> InodeSet
+    fn used_numbers(&self, nodes: &InodeSet) -> InodeSet
         ensures { (i : ℕ) → is_absent (has result) i ≡ is_free self.now (has nodes.now) i }
     {
         let mut taken = InodeSet::new();
@@ -168,7 +168,7 @@ impl Book {
         ensures step { (m : Machine) → IsBookOf self.old m → IsBookOf self.new (granted m client units (has numbers.now)) }
         ensures out { out_of self.new ≡ out_of self.old + units }
     {
-        self.accounts[(client - 1) as usize].grant(units, numbers);
+        self.accounts[client_index(client)].grant(units, numbers);
         self.out += units;
     }
 
@@ -178,7 +178,7 @@ impl Book {
         ensures step { (m : Machine) → IsBookOf self.old m → IsBookOf self.new (taken_back m client units (has numbers.now)) }
         ensures out { out_of self.new + min units (units_of self.old client) ≡ out_of self.old }
     {
-        let given = self.accounts[(client - 1) as usize].take_back(units, numbers);
+        let given = self.accounts[client_index(client)].take_back(units, numbers);
         self.out -= given;
     }
 
@@ -189,7 +189,7 @@ impl Book {
         ensures step { (m : Machine) → IsBookOf self.old m → IsBookOf self.new (book_pin m client inode) }
         ensures out { out_of self.new ≡ out_of self.old }
     {
-        self.accounts[(client - 1) as usize].pin(inode);
+        self.accounts[client_index(client)].pin(inode);
     }
 
     /// Drops a client's pin of an inode; others' pins stay.
@@ -198,7 +198,7 @@ impl Book {
         ensures step { (m : Machine) → IsBookOf self.old m → IsBookOf self.new (unbook_pin m client inode) }
         ensures out { out_of self.new ≡ out_of self.old }
     {
-        self.accounts[(client - 1) as usize].unpin(inode);
+        self.accounts[client_index(client)].unpin(inode);
     }
 
     /// Accepts so many records of a client, all those of a region that it sealed. All records that were accepted before have to be digested.
@@ -209,7 +209,7 @@ impl Book {
         ensures step { (m : Machine) (s : Sealed) → IsBookOf self.old m → m.accepted client ≡ s.past → length s.records ≡ count → IsBookOf self.new (accepted m client s) }
         ensures out { out_of self.new ≡ out_of self.old }
     {
-        self.accounts[(client - 1) as usize].accept(count);
+        self.accounts[client_index(client)].accept(count);
     }
 
     /// The next records of a client are digested: their units leave its account, and the numbers of the nodes that they make. So many have to be waiting.
@@ -222,7 +222,7 @@ impl Book {
         // What they raise of the charge they have in units.
         ensures law { (before after capacity : ℕ) → units_in records.now ≤ units_of self.old client → after ≤ before + units_in records.now → before + out_of self.old ≤ capacity → after + out_of self.new ≤ capacity }
     {
-        let given = self.accounts[(client - 1) as usize].digest(records);
+        let given = self.accounts[client_index(client)].digest(records);
         self.out -= given;
     }
 
@@ -232,7 +232,7 @@ impl Book {
         ensures step { (m : Machine) → IsBookOf self.old m → IsBookOf self.new (buried m client) }
         ensures out { out_of self.new + units_of self.old client ≡ out_of self.old }
     {
-        let given = self.accounts[(client - 1) as usize].bury();
+        let given = self.accounts[client_index(client)].bury();
         self.out -= given;
     }
 }

@@ -9,7 +9,7 @@ ghost use Rattle.world_invariant.specs.World.{Account, World, world_state};
 ghost use Rattle.world_invariant.specs.BookSteps.{HasRoom, IsUnbooked};
 ghost use Rattle.world_invariant.specs.KernelSteps.{CanReclaim};
 ghost use Rattle.world_invariant.specs.Machine.{Machine, Sealed, IsRunning, accept, book_units, digest, unbook_units, undigested_sealed};
-ghost use Rattle.world_invariant.specs.Opening.{idle_world};
+ghost use Rattle.world_invariant.specs.FormatWorld.{idle_world};
 ghost use Rattle.world_invariant.specs.Invariant.{IsCoherent};
 ghost use Rattle.kernel_fs.specs.Book.{Accounts, out_of, is_free, is_pinned, IsBookOf};
 ghost use Rattle.kernel_fs.specs.Free.{count_of};
@@ -17,7 +17,7 @@ ghost use Rattle.kernel_fs.specs.Inodes.{has, members};
 ghost use Rattle.kernel_fs.specs.Marks.{AreMarksAfter, AreMarksOf, IsWaiting};
 ghost use Rattle.kernel_fs.specs.Nodes.{AreNodes};
 ghost use Rattle.kernel_fs.specs.Run.{Entry, MayTake, Stands, LeadsBy, IsRun};
-ghost use Rattle.kernel_fs.specs.Steps.{book_numbers, grant, opened, set_booked, set_granted, take_back, unbook_numbers};
+ghost use Rattle.kernel_fs.specs.Steps.{book_numbers, grant, opened_machine, set_booked, set_granted, take_back, unbook_numbers};
 
 /// What a book tells of its machine: units fit there where they fit beside those that are out; a number may be granted there where it is free; and a file that has no name may
 /// be reclaimed there where nobody has pinned it. While the machine runs, what is charged and what is out are within the capacity.
@@ -30,8 +30,8 @@ pub fn book_has_what_its_machine_has()
 
 /// A machine that is opened over a graph within the limits and the capacity is one that runs; where no record was ever digested it has the kernel of a world that nobody uses.
 pub fn opened_machine_runs()
-    ensures runs { (g : Graph) (capacity : ℕ) (marks : ℕ → ℕ) → AreWithin g → charge g ≤ capacity → IsRunning (opened g capacity marks) }
-    ensures idle { (g : Graph) (capacity : ℕ) → (opened g capacity (λ c. 0)).kernel ≡ (idle_world capacity g).kernel }
+    ensures runs { (g : Graph) (capacity : ℕ) (marks : ℕ → ℕ) → AreWithin g → charge g ≤ capacity → IsRunning (opened_machine g capacity marks) }
+    ensures idle { (g : Graph) (capacity : ℕ) → (opened_machine g capacity (λ c. 0)).kernel ≡ (idle_world capacity g).kernel }
 {}
 
 /// The members of a set are the inodes that it has, each once.
@@ -71,7 +71,7 @@ pub fn runs_keep_what_holds()
 /// The marks of the media go with the machine's: they are those of a machine that was opened over them, where each stands before a region; they stay where a region is accepted; and those after a digest are
 /// those of the machine after it. What the machine has of the sealed region whose records are waiting as not digested are its records behind those that the mark tells.
 pub fn marks_go_with_the_machine()
-    ensures opened { (g : Graph) (capacity : ℕ) (done marks : ℕ → ℕ) → ((c : ℕ) → is_client c ≡ true → done c ≡ 0) → AreMarksOf done (opened g capacity marks) }
+    ensures opened { (g : Graph) (capacity : ℕ) (done marks : ℕ → ℕ) → ((c : ℕ) → is_client c ≡ true → done c ≡ 0) → AreMarksOf done (opened_machine g capacity marks) }
     ensures accepted { (done : ℕ → ℕ) (m : Machine) (c : ℕ) (s : Sealed) → AreMarksOf done m → (m.kernel.accounts c).mark ≤ s.past → s.records ≢ [] → AreMarksOf done (accept m c s) }
     ensures digested { (before after : ℕ → ℕ) (m : Machine) (c waiting : ℕ) (rs : List Record) → AreMarksOf before m → is_client c ≡ true → m.accepted c ≡ (m.kernel.accounts c).mark + waiting → length rs ≤ waiting → AreMarksAfter before after c waiting rs → AreMarksOf after (digest m c rs) }
     ensures undigested { (a : Account) (s : Sealed) (done waiting : ℕ) → IsWaiting s done waiting a.mark → undigested_sealed a s ≡ drop done s.records }

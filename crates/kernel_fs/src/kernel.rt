@@ -4,26 +4,29 @@ ghost use Rattle.digester.specs.posix_calls.declared.limits.TheConstants.{UNIT_B
 ghost use Rattle.digester.specs.file_graph.Graph.{is_among};
 ghost use Rattle.digester.specs.file_graph.Units.{charge};
 ghost use Rattle.digester.specs.file_graph.declared.effect.Effect.TheVariants as effect;
-ghost use Rattle.digester.specs.graph_change.Change.{coalesced};
+ghost use Rattle.digester.specs.graph_change.Change.{coalesced_changes};
 ghost use Rattle.digester.specs.graph_change.View.{changes_of};
 ghost use Rattle.world_invariant.specs.call_effects.NodeView.{view_at};
-ghost use Rattle.digester.specs.area_image.Store.{store_of, graph};
-ghost use Rattle.digester.specs.area_image.Looks.{Looks, looked};
-ghost use Rattle.digester.specs.shared_area.ChangeApplying.{MakesFewCalls};
+ghost use Rattle.digester.specs.tier_device.declared.media.Tier.{Tier};
+ghost use Rattle.digester.specs.tier_device.AfterStop.{AtRest, Left};
+ghost use Rattle.digester.specs.area_image.Format.{IsOpenable};
+ghost use Rattle.digester.specs.area_image.Store.{disk, graph};
+ghost use Rattle.digester.specs.area_image.Looks.{Looks, call_answer};
+ghost use Rattle.digester.specs.shared_area.ChangeApply.{MakesFewCalls};
 ghost use Rattle.digester.specs.area_image.Map.{WantsMemory};
 ghost use Rattle.digester.specs.area_image.declared.error.AreaError.TheVariants.{Memory};
 ghost use Rattle.digester.specs.shared_area.Parts.{IsNoDamage, IsTierOf};
-ghost use Rattle.digester.specs.shared_area.Ready.{HasFree};
-ghost use Rattle.digester.specs.shared_area.Reading.{bytes_of_inode, IsReadFrom};
-ghost use Rattle.digester.specs.relocation.Moving.{CanMove, IsMoved};
-ghost use Rattle.digester.specs.relocation.Found.{HasFileRun};
+ghost use Rattle.digester.specs.shared_area.Ready.{HasFree, OpensAs};
+ghost use Rattle.digester.specs.shared_area.FileReads.{bytes_of_inode, IsReadFrom};
+ghost use Rattle.digester.specs.relocation.TierMove.{CanMove, IsMoved};
+ghost use Rattle.digester.specs.relocation.MovableFile.{HasFileRun};
 ghost use Rattle.digester.specs.relocation.declared.error.RelocateError.TheVariants as moves;
-ghost use Rattle.digester.specs.shared_area.Moving.{HasTooFew, HasEnough, StaysOpen, MovesOrStays};
+ghost use Rattle.digester.specs.shared_area.TierMoves.{HasTooFew, HasEnough, StaysOpen, MovesOrStays};
 ghost use Rattle.digester.specs.Chunk.{IsChunkOf, is_next};
-ghost use Rattle.digester.specs.Digesting.{IsDigested, IsToldBad, StaysOrDigests, DigestsOrStays};
-ghost use Rattle.digester.specs.SealedLog.{IsSealed, IsDoneBy, StandsAtMark, undone};
+ghost use Rattle.digester.specs.DigestStep.{IsDigested, NamesFirstBad, StaysOrDigests, DigestsOrStays};
+ghost use Rattle.digester.specs.SealedLog.{HasUndigested, IsDoneBy, StandsAtMark, undone};
 ghost use Rattle.digester.specs.declared.error.DigestError.TheVariants.{BadLog};
-ghost use Rattle.migrator.specs.Picking.{IsPicked, MayBeMoved};
+ghost use Rattle.migrator.specs.RunChoice.{IsPicked, MayBeMoved};
 ghost use Rattle.world_invariant.specs.KernelSteps.{CanReclaim};
 ghost use Rattle.world_invariant.specs.Logs.{IsNameless, units_in};
 ghost use Rattle.world_invariant.specs.Machine.{Machine, Sealed, IsRunning, StandsSealed, CanAccept, accept as accepted, digest as digested, book_pin, unbook_pin, bury as buried, reclaim as reclaimed};
@@ -31,25 +34,25 @@ ghost use Rattle.kernel_fs.specs.Book.{units_of, waiting_of, out_of, is_free, is
 ghost use Rattle.kernel_fs.specs.Free.{AreLowest, count_of};
 ghost use Rattle.kernel_fs.specs.Inodes.{IsInode, has};
 ghost use Rattle.kernel_fs.specs.Nodes.{nodes_in};
-ghost use Rattle.kernel_fs.specs.Steps.{grant as granted, opened, take_back as taken_back};
+ghost use Rattle.kernel_fs.specs.Steps.{grant as granted, opened_machine, take_back as taken_back};
 ghost use Rattle.kernel_fs.specs.declared.book_error.RefillError.TheVariants.{NoUnits, NoInode};
-ghost use Rattle.kernel_fs.specs.Accepting.{client_of, HasAsManyWaiting, BeginsAtMark, IsRegionOf};
-ghost use Rattle.kernel_fs.specs.Answering.{Answers, OnRefusal};
+ghost use Rattle.kernel_fs.specs.RegionAccept.{HasAsManyWaiting, BeginsAtMark, IsRegionOf};
+ghost use Rattle.kernel_fs.specs.KernelAnswers.{Answers, OnRefusal};
 ghost use Rattle.kernel_fs.specs.History.{EndsRun};
-ghost use Rattle.kernel_fs.specs.Reclaiming.{IsUnused, IsReclaimed, StaysOrReclaims, ReclaimsOrStays};
-ghost use Rattle.kernel_fs.specs.Standing.{IsKernelOf, IsMarkIn, StandBeforeRegions};
-ghost use Rattle.kernel_fs.specs.declared.digesting.Digestion.TheVariants.{Digested, NotNext, NotAccepted};
+ghost use Rattle.kernel_fs.specs.Reclaim.{IsUnused, IsReclaimed, StaysOrReclaims, ReclaimsOrStays};
+ghost use Rattle.kernel_fs.specs.MachineState.{IsKernelOf, IsMarkIn, StandBeforeRegions};
+ghost use Rattle.kernel_fs.specs.declared.chunk_digest.Digestion.TheVariants.{Digested, NotNext, NotAccepted};
 ghost use Rattle.kernel_fs.specs.declared.error.AcceptError.TheVariants.{NotAtMark, AlreadyAccepted};
 ghost use Rattle.kernel_fs.specs.declared.error.KernelError.TheVariants.{Failed, Refused};
 ghost use Rattle.kernel_fs.specs.declared.error.ReclaimError.TheVariants as reclaims;
 
-use crate::accepting::{client_of, has_as_many_waiting, undone_of};
-use crate::began::Began;
-use crate::digesting::{Digestion, begins_at_mark, digest_and_follow};
+use crate::chunk_digest::{Digestion, begins_at_mark, digest_at_mark};
 use crate::error::{AcceptError, KernelError, KernelFailed, ReclaimError};
-use crate::fetching::{Fetched, FetchedBytes, fetch_bytes, fetch_node};
-use crate::opening::nodes_of;
-use crate::reclaiming::drop_nameless;
+use crate::fetches::{Fetched, FetchedBytes, fetch_bytes, fetch_node};
+use crate::file_reclaim::drop_nameless;
+use crate::initial_value::OpenedFrom;
+use crate::log_reads::{has_as_many_waiting, undigested_count};
+use crate::node_scan::nodes_of;
 use crate::{Book, InodeSet, RefillError};
 use digester::{
     AreaError, Chunk, DigestError, Media, RelocateError, SealedLog, Shared, Tier, capacity_of,
@@ -71,11 +74,11 @@ pub struct Figures {
 
 /// The kernel: the shared media, and what each client was given of them. Whoever has it has one client's call after the other.
 ///
-/// Contracts see the shared area and the accounts. Clients are counted from 1; only a sealed log has its client from 0.
+/// Contracts see the shared area and the accounts. Clients are numbered from 1.
 #[derive(Debug, Drop)]
 pub struct Kernel<M: Media> {
     // the media at the opening
-    began: Began<Shared<M>>,
+    began: OpenedFrom<Shared<M>>,
     alloc: Global,
     area: Shared<M>,
     book: Book,
@@ -86,7 +89,7 @@ pub struct Kernel<M: Media> {
 impl<M: Media> Model for Kernel<M> {
     ghost use Rattle.std.specs.Prelude.{◌≡◌, false, ℕ, List};
     ghost use Rattle.digester.specs.tier_device.declared.media.Tier.{Tier};
-    ghost use Rattle.digester.specs.area_image.Store.{store_of, graph};
+    ghost use Rattle.digester.specs.area_image.Store.{disk, graph};
     ghost use Rattle.kernel_fs.specs.Inodes.{has};
     ghost use Rattle.kernel_fs.specs.Nodes.{AreNodes};
     ghost use Rattle.kernel_fs.specs.History.{EndsRun};
@@ -97,7 +100,7 @@ impl<M: Media> Model for Kernel<M> {
     ghost view = { λ k. record { area = k.area; book = k.book; opening = k.began.value } };
 
     // Until a device has failed: the set has the nodes of the graph, and the kernel stands at the end of a run of its machine.
-    ghost invariant = { λ k. k.area.failed ≡ false → AreNodes (graph k.area.geometry (store_of (M.seen k.area.media))) (has k.nodes) × EndsRun M.seen (record { area = k.area; book = k.book; opening = k.began.value }) };
+    ghost invariant = { λ k. k.area.failed ≡ false → AreNodes (graph k.area.geometry (disk M.Media k.area)) (has k.nodes) × EndsRun M.Media (record { area = k.area; book = k.book; opening = k.began.value }) };
 }
 
 impl<M: Media> Kernel<M> {
@@ -106,19 +109,19 @@ impl<M: Media> Kernel<M> {
     ///
     /// The area is given back with a refusal: `DeviceFault` where a device has failed or fails, `Memory` where there was none for an extent block or an entry of some inode.
     pub fn open(alloc: Global, area: Shared<M>) -> Result<Self, (AreaError, Shared<M>)>
-        ensures opens { IfOk result (λ k. (marks : ℕ → ℕ) → StandBeforeRegions (store_of (M.seen k.area.media)) → IsKernelOf M.seen k (opened (graph k.area.geometry (store_of (M.seen k.area.media))) k.area.geometry.units marks)) }
+        ensures opens { IfOk result (λ k. (marks : ℕ → ℕ) → StandBeforeRegions (disk M.Media k.area) → IsKernelOf M.Media k (opened_machine (graph k.area.geometry (disk M.Media k.area)) k.area.geometry.units marks)) }
         ensures out { IfOk result (λ k. out_of k.book ≡ 0) }
         ensures opening { IfOk result (λ k. k.opening ≡ k.area) }
-        ensures looks { IfOk result (λ k. Looks M.moment M.seen M.left M.faults area k.area looked) }
+        ensures looks { IfOk result (λ k. Looks M.Media area k.area call_answer) }
         ensures only { IfErr result (λ e. IsNoDamage e.0) }
-        ensures memory { IfErr result (λ e. e.0 ≡ Memory → (i : ℕ) × WantsMemory area.geometry (store_of (M.seen area.media)) i) }
-        ensures refused { IfErr result (λ e. Looks {T = Unit {0}} M.moment M.seen M.left M.faults area e.1 (Err e.0)) }
+        ensures memory { IfErr result (λ e. e.0 ≡ Memory → (i : ℕ) × WantsMemory area.geometry (disk M.Media area) i) }
+        ensures refused { IfErr result (λ e. Looks {T = Unit {0}} M.Media area e.1 (Err e.0)) }
     {
         let mut area = area;
         match nodes_of(&mut area) {
             Ok(nodes) => {
                 let _marks = area.marks();
-                let began = Began::of(&area);
+                let began = OpenedFrom::of(&area);
                 Ok(Kernel {
                     began,
                     alloc,
@@ -145,10 +148,20 @@ impl<M: Media> Kernel<M> {
         self.area.has_failed()
     }
 
+    /// What a stop leaves between two calls, until a device has failed: the shared media as they are read, from which they open with the same
+    /// graph and marks. It makes no device call.
+    pub fn left_now(&self)
+        ensures rests { self.now.area.failed ≡ false → (t : Tier) → AtRest (M.seen self.now.area.media) (M.left self.now.area.media (M.moment self.now.area.media)) t }
+        ensures opens { self.now.area.failed ≡ false → IsOpenable self.now.area.geometry (disk M.Media self.now.area) }
+        ensures same { self.now.area.failed ≡ false → (content : Tier → List ℕ) → Left (M.left self.now.area.media) (M.moment self.now.area.media) content → OpensAs self.now.area.geometry (disk M.Media self.now.area) content }
+    {
+        self.area.left_now();
+    }
+
     /// Where it stands: at the end of a run of its machine, from the one that was opened over the media as they were then, where each mark stood before a region. That is a fact of the value: no list of
     /// entries is kept, and nothing grows with them. It makes no device call.
     pub fn history(&self)
-        ensures { self.now.area.failed ≡ false → EndsRun M.seen self.now }
+        ensures { self.now.area.failed ≡ false → EndsRun M.Media self.now }
     {
         let _failed = self.area.has_failed();
     }
@@ -161,12 +174,12 @@ impl<M: Media> Kernel<M> {
     /// It makes four device calls at most, all of them reads, and one more for each block of a directory. `DeviceFault` where a device failed, `Memory` where there was none for an extent block or for an entry.
     pub fn fetch(&mut self, client: u32, inode: u32) -> Result<Fetched, KernelError<AreaError>>
         requires client { is_client client ≡ true }
-        ensures mark { IfOk result (λ x. IsMarkIn (store_of (M.seen self.old.area.media)) client x.mark) }
-        ensures node { IfOk result (λ x. x.node ≡ view_at (graph self.old.area.geometry (store_of (M.seen self.old.area.media))) inode) }
+        ensures mark { IfOk result (λ x. IsMarkIn (disk M.Media self.old.area) client x.mark) }
+        ensures node { IfOk result (λ x. x.node ≡ view_at (graph self.old.area.geometry (disk M.Media self.old.area)) inode) }
         ensures only { IfErr result (λ e. OnRefusal e IsNoDamage) }
-        ensures memory { IfErr result (λ e. OnRefusal e (λ r. r ≡ Memory → WantsMemory self.old.area.geometry (store_of (M.seen self.old.area.media)) inode)) }
+        ensures memory { IfErr result (λ e. OnRefusal e (λ r. r ≡ Memory → WantsMemory self.old.area.geometry (disk M.Media self.old.area) inode)) }
         ensures book { self.new.book ≡ self.old.book }
-        ensures answers { Answers self.old.area.failed self.old self.new result (Looks M.moment M.seen M.left M.faults self.old.area self.new.area) }
+        ensures answers { Answers self.old.area.failed self.old self.new result (Looks M.Media self.old.area self.new.area) }
         ensures opening { self.new.opening ≡ self.old.opening }
     {
         if self.area.has_failed() {
@@ -191,14 +204,14 @@ impl<M: Media> Kernel<M> {
         out: &mut [u8],
     ) -> Result<FetchedBytes, KernelError<AreaError>>
         requires client { is_client client ≡ true }
-        ensures mark { IfOk result (λ x. IsMarkIn (store_of (M.seen self.old.area.media)) client x.mark) }
-        ensures count { IfOk result (λ x. x.count ≡ min (length out.old) (length (bytes_of_inode (graph self.old.area.geometry (store_of (M.seen self.old.area.media))) inode) - UNIT_BYTES * first)) }
-        ensures bytes { IfOk result (λ x. IsReadFrom (bytes_of_inode (graph self.old.area.geometry (store_of (M.seen self.old.area.media))) inode) (UNIT_BYTES * first) x.count out.old out.new) }
-        ensures refused { OnErr result ((n : ℕ) × IsReadFrom (bytes_of_inode (graph self.old.area.geometry (store_of (M.seen self.old.area.media))) inode) (UNIT_BYTES * first) n out.old out.new) }
+        ensures mark { IfOk result (λ x. IsMarkIn (disk M.Media self.old.area) client x.mark) }
+        ensures count { IfOk result (λ x. x.count ≡ min (length out.old) (length (bytes_of_inode (graph self.old.area.geometry (disk M.Media self.old.area)) inode) - UNIT_BYTES * first)) }
+        ensures bytes { IfOk result (λ x. IsReadFrom (bytes_of_inode (graph self.old.area.geometry (disk M.Media self.old.area)) inode) (UNIT_BYTES * first) x.count out.old out.new) }
+        ensures refused { OnErr result ((n : ℕ) × IsReadFrom (bytes_of_inode (graph self.old.area.geometry (disk M.Media self.old.area)) inode) (UNIT_BYTES * first) n out.old out.new) }
         ensures only { IfErr result (λ e. OnRefusal e IsNoDamage) }
-        ensures memory { IfErr result (λ e. OnRefusal e (λ r. r ≡ Memory → WantsMemory self.old.area.geometry (store_of (M.seen self.old.area.media)) inode)) }
+        ensures memory { IfErr result (λ e. OnRefusal e (λ r. r ≡ Memory → WantsMemory self.old.area.geometry (disk M.Media self.old.area) inode)) }
         ensures book { self.new.book ≡ self.old.book }
-        ensures answers { Answers self.old.area.failed self.old self.new result (Looks M.moment M.seen M.left M.faults self.old.area self.new.area) }
+        ensures answers { Answers self.old.area.failed self.old self.new result (Looks M.Media self.old.area self.new.area) }
         ensures opening { self.new.opening ≡ self.old.opening }
     {
         if self.area.has_failed() {
@@ -218,11 +231,11 @@ impl<M: Media> Kernel<M> {
         inode: u32,
         block: u64,
     ) -> Result<Option<Tier>, KernelError<AreaError>>
-        ensures tier { IfOk result (IsTierOf self.old.area.geometry (store_of (M.seen self.old.area.media)) inode block) }
+        ensures tier { IfOk result (IsTierOf self.old.area.geometry (disk M.Media self.old.area) inode block) }
         ensures only { IfErr result (λ e. OnRefusal e IsNoDamage) }
-        ensures memory { IfErr result (λ e. OnRefusal e (λ r. r ≡ Memory → WantsMemory self.old.area.geometry (store_of (M.seen self.old.area.media)) inode)) }
+        ensures memory { IfErr result (λ e. OnRefusal e (λ r. r ≡ Memory → WantsMemory self.old.area.geometry (disk M.Media self.old.area) inode)) }
         ensures book { self.new.book ≡ self.old.book }
-        ensures answers { Answers self.old.area.failed self.old self.new result (Looks M.moment M.seen M.left M.faults self.old.area self.new.area) }
+        ensures answers { Answers self.old.area.failed self.old self.new result (Looks M.Media self.old.area self.new.area) }
         ensures opening { self.new.opening ≡ self.old.opening }
     {
         if self.area.has_failed() {
@@ -236,7 +249,7 @@ impl<M: Media> Kernel<M> {
 
     /// What the shared graph costs, what the clients were given, and how many units there are. It makes no device call.
     pub fn book(&self) -> Result<Figures, KernelFailed>
-        ensures charge { IfOk result (λ f. f.charge ≡ charge (graph self.now.area.geometry (store_of (M.seen self.now.area.media)))) }
+        ensures charge { IfOk result (λ f. f.charge ≡ charge (graph self.now.area.geometry (disk M.Media self.now.area))) }
         ensures out { IfOk result (λ f. f.out ≡ out_of self.now.book) }
         ensures capacity { IfOk result (λ f. f.capacity ≡ self.now.area.geometry.units) }
         ensures going { OnOk result (self.now.area.failed ≡ false) }
@@ -254,7 +267,7 @@ impl<M: Media> Kernel<M> {
 
     /// How many data blocks of a tier are free: a run that has more is refused `NoBlock` there (`migrate`). It makes no device call.
     pub fn free(&self, tier: Tier) -> Result<u32, KernelFailed>
-        ensures free { IfOk result (λ n. HasFree self.now.area.geometry (store_of (M.seen self.now.area.media)) tier n) }
+        ensures free { IfOk result (λ n. HasFree self.now.area.geometry (disk M.Media self.now.area) tier n) }
         ensures going { OnOk result (self.now.area.failed ≡ false) }
         ensures failed { OnErr result (self.now.area.failed ≡ true) }
     {
@@ -277,13 +290,13 @@ impl<M: Media> Kernel<M> {
         inodes: u32,
     ) -> Result<InodeSet, KernelError<RefillError>>
         requires client { is_client client ≡ true }
-        ensures granted { IfOk result (λ numbers. AreLowest (is_free self.old.book (nodes_in (graph self.old.area.geometry (store_of (M.seen self.old.area.media))))) (has numbers) inodes) }
-        ensures step { IfOk result (λ numbers. (m : Machine) → IsKernelOf M.seen self.old m → IsKernelOf M.seen self.new (granted m client units (has numbers))) }
+        ensures granted { IfOk result (λ numbers. AreLowest (is_free self.old.book (nodes_in (graph self.old.area.geometry (disk M.Media self.old.area)))) (has numbers) inodes) }
+        ensures step { IfOk result (λ numbers. (m : Machine) → IsKernelOf M.Media self.old m → IsKernelOf M.Media self.new (granted m client units (has numbers))) }
         ensures out { OnOk result (out_of self.new.book ≡ out_of self.old.book + units) }
-        ensures law { OnOk result (charge (graph self.old.area.geometry (store_of (M.seen self.old.area.media))) + out_of self.new.book ≤ self.old.area.geometry.units) }
-        ensures no_units { IsErrOf result (Refused NoUnits) ↔ ((self.old.area.failed ≡ false) × (self.old.area.geometry.units < charge (graph self.old.area.geometry (store_of (M.seen self.old.area.media))) + out_of self.old.book + units)) }
-        ensures no_inode { IsErrOf result (Refused NoInode) ↔ ((self.old.area.failed ≡ false) × (charge (graph self.old.area.geometry (store_of (M.seen self.old.area.media))) + out_of self.old.book + units ≤ self.old.area.geometry.units)
-            × (count_of (is_free self.old.book (nodes_in (graph self.old.area.geometry (store_of (M.seen self.old.area.media))))) < inodes)) }
+        ensures law { OnOk result (charge (graph self.old.area.geometry (disk M.Media self.old.area)) + out_of self.new.book ≤ self.old.area.geometry.units) }
+        ensures no_units { IsErrOf result (Refused NoUnits) ↔ ((self.old.area.failed ≡ false) × (self.old.area.geometry.units < charge (graph self.old.area.geometry (disk M.Media self.old.area)) + out_of self.old.book + units)) }
+        ensures no_inode { IsErrOf result (Refused NoInode) ↔ ((self.old.area.failed ≡ false) × (charge (graph self.old.area.geometry (disk M.Media self.old.area)) + out_of self.old.book + units ≤ self.old.area.geometry.units)
+            × (count_of (is_free self.old.book (nodes_in (graph self.old.area.geometry (disk M.Media self.old.area)))) < inodes)) }
         ensures failed { IsErrOf result Failed ↔ (self.old.area.failed ≡ true) }
         ensures refused { OnErr result (self.new ≡ self.old) }
         ensures area { self.new.area ≡ self.old.area }
@@ -312,7 +325,7 @@ impl<M: Media> Kernel<M> {
         numbers: &InodeSet,
     ) -> Result<(), KernelFailed>
         requires client { is_client client ≡ true }
-        ensures step { OnOk result ((m : Machine) → IsKernelOf M.seen self.old m → IsKernelOf M.seen self.new (taken_back m client units (has numbers.now))) }
+        ensures step { OnOk result ((m : Machine) → IsKernelOf M.Media self.old m → IsKernelOf M.Media self.new (taken_back m client units (has numbers.now))) }
         ensures out { OnOk result (out_of self.new.book + min units (units_of self.old.book client) ≡ out_of self.old.book) }
         ensures going { OnOk result (self.old.area.failed ≡ false) }
         ensures failed { OnErr result (self.old.area.failed ≡ true) }
@@ -331,7 +344,7 @@ impl<M: Media> Kernel<M> {
     pub fn pin(&mut self, client: u32, inode: u32) -> Result<(), KernelFailed>
         requires client { is_client client ≡ true }
         requires inode { IsInode inode }
-        ensures step { OnOk result ((m : Machine) → IsKernelOf M.seen self.old m → IsKernelOf M.seen self.new (book_pin m client inode)) }
+        ensures step { OnOk result ((m : Machine) → IsKernelOf M.Media self.old m → IsKernelOf M.Media self.new (book_pin m client inode)) }
         ensures out { out_of self.new.book ≡ out_of self.old.book }
         ensures going { OnOk result (self.old.area.failed ≡ false) }
         ensures failed { OnErr result (self.old.area.failed ≡ true) }
@@ -349,7 +362,7 @@ impl<M: Media> Kernel<M> {
     /// Drops a client's pin of an inode; others' pins stay. It makes no device call.
     pub fn unpin(&mut self, client: u32, inode: u32) -> Result<(), KernelFailed>
         requires client { is_client client ≡ true }
-        ensures step { OnOk result ((m : Machine) → IsKernelOf M.seen self.old m → IsKernelOf M.seen self.new (unbook_pin m client inode)) }
+        ensures step { OnOk result ((m : Machine) → IsKernelOf M.Media self.old m → IsKernelOf M.Media self.new (unbook_pin m client inode)) }
         ensures out { out_of self.new.book ≡ out_of self.old.book }
         ensures going { OnOk result (self.old.area.failed ≡ false) }
         ensures failed { OnErr result (self.old.area.failed ≡ true) }
@@ -367,7 +380,7 @@ impl<M: Media> Kernel<M> {
     /// Empties the account of a client that is gone: it has no units, no number and no pin any more. It makes no device call.
     pub fn bury(&mut self, client: u32) -> Result<(), KernelFailed>
         requires client { is_client client ≡ true }
-        ensures step { OnOk result ((m : Machine) → IsKernelOf M.seen self.old m → IsKernelOf M.seen self.new (buried m client)) }
+        ensures step { OnOk result ((m : Machine) → IsKernelOf M.Media self.old m → IsKernelOf M.Media self.new (buried m client)) }
         ensures out { OnOk result (out_of self.new.book + units_of self.old.book client ≡ out_of self.old.book) }
         ensures going { OnOk result (self.old.area.failed ≡ false) }
         ensures failed { OnErr result (self.old.area.failed ≡ true) }
@@ -389,14 +402,14 @@ impl<M: Media> Kernel<M> {
     /// `NotAtMark` exactly where it does not stand at its client's mark; `AlreadyAccepted` exactly where it does, but records of that client are waiting, which were accepted from that same region. After each refusal
     /// nothing has changed.
     pub fn accept(&mut self, log: &SealedLog) -> Result<(), KernelError<AcceptError>>
-        requires sealed { IsSealed log.now }
+        requires some { HasUndigested log.now }
         ensures accepted { OnOk result (HasAsManyWaiting self.new.book log.now) }
-        ensures can { OnOk result ((m : Machine) (s : Sealed) → IsKernelOf M.seen self.old m → m.accepted (client_of log.now) ≡ s.past → s.records ≡ log.now.records.items → CanAccept m (client_of log.now) s) }
-        ensures step { OnOk result ((m : Machine) (s : Sealed) → IsKernelOf M.seen self.old m → m.accepted (client_of log.now) ≡ s.past → s.records ≡ log.now.records.items → IsKernelOf M.seen self.new (accepted m (client_of log.now) s)) }
-        ensures region { OnOk result ((m : Machine) (s : Sealed) → IsKernelOf M.seen self.old m → m.accepted (client_of log.now) ≡ s.past → s.records ≡ log.now.records.items → ((i : ℕ) → s.writes i ≡ true → is_among i log.now.held.items ≡ true) → IsRegionOf log.now (m.kernel.accounts (client_of log.now)).mark s) }
+        ensures can { OnOk result ((m : Machine) (s : Sealed) → IsKernelOf M.Media self.old m → m.accepted log.now.client ≡ s.past → s.records ≡ log.now.records → CanAccept m log.now.client s) }
+        ensures step { OnOk result ((m : Machine) (s : Sealed) → IsKernelOf M.Media self.old m → m.accepted log.now.client ≡ s.past → s.records ≡ log.now.records → IsKernelOf M.Media self.new (accepted m log.now.client s)) }
+        ensures region { OnOk result ((m : Machine) (s : Sealed) → IsKernelOf M.Media self.old m → m.accepted log.now.client ≡ s.past → s.records ≡ log.now.records → ((i : ℕ) → s.writes i ≡ true → is_among i log.now.held ≡ true) → IsRegionOf log.now (m.kernel.accounts log.now.client).mark s) }
         ensures out { out_of self.new.book ≡ out_of self.old.book }
-        ensures not_at_mark { IsErrOf result (Refused NotAtMark) ↔ ((self.old.area.failed ≡ false) × (StandsAtMark log.now (store_of (M.seen self.old.area.media)) → ⊥)) }
-        ensures already_accepted { IsErrOf result (Refused AlreadyAccepted) ↔ ((self.old.area.failed ≡ false) × StandsAtMark log.now (store_of (M.seen self.old.area.media)) × (waiting_of self.old.book (client_of log.now) ≢ 0)) }
+        ensures not_at_mark { IsErrOf result (Refused NotAtMark) ↔ ((self.old.area.failed ≡ false) × (StandsAtMark log.now (disk M.Media self.old.area) → ⊥)) }
+        ensures already_accepted { IsErrOf result (Refused AlreadyAccepted) ↔ ((self.old.area.failed ≡ false) × StandsAtMark log.now (disk M.Media self.old.area) × (waiting_of self.old.book log.now.client ≢ 0)) }
         ensures failed { IsErrOf result Failed ↔ (self.old.area.failed ≡ true) }
         ensures refused { OnErr result (self.new ≡ self.old) }
         ensures area { self.new.area ≡ self.old.area }
@@ -408,11 +421,12 @@ impl<M: Media> Kernel<M> {
         if !log.stands_at(&self.area.marks()) {
             return Err(KernelError::Refused(AcceptError::NotAtMark));
         }
-        let client = client_of(log);
+        log.invariant();
+        let client = log.client();
         if self.book.account(client).waiting != 0 {
             return Err(KernelError::Refused(AcceptError::AlreadyAccepted));
         }
-        self.book.accept(client, undone_of(log));
+        self.book.accept(client, undigested_count(log));
         Ok(())
     }
 
@@ -430,48 +444,49 @@ impl<M: Media> Kernel<M> {
         log: &mut SealedLog,
         chunk: &Chunk,
     ) -> Result<Digestion, KernelError<DigestError>>
-        requires sealed { IsSealed log.old }
+        requires some { HasUndigested log.old }
         requires chunk { IsChunkOf log.old chunk.now }
 
-        ensures any_moment { self.old.area.failed ≡ false → BeginsAtMark log.old chunk.now (store_of (M.seen self.old.area.media)) → HasAsManyWaiting self.old.book log.old → StaysOrDigests self.old.area.geometry (store_of (M.seen self.old.area.media)) log.old chunk.now.count (M.moment self.old.area.media) (M.moment self.new.area.media) (M.left self.old.area.media) (M.left self.new.area.media) }
+        ensures any_moment { self.old.area.failed ≡ false → BeginsAtMark log.old chunk.now (disk M.Media self.old.area) → HasAsManyWaiting self.old.book log.old → StaysOrDigests self.old.area.geometry (disk M.Media self.old.area) log.old chunk.now.count (M.moment self.old.area.media) (M.moment self.new.area.media) (M.left self.old.area.media) (M.left self.new.area.media) }
 
         // What is answered, and what has changed then.
-        ensures next { IfOk result (λ a. (a ≡ Digested) ↔ (BeginsAtMark log.old chunk.now (store_of (M.seen self.old.area.media)) × HasAsManyWaiting self.old.book log.old)) }
-        ensures not_next { IfOk result (λ a. (a ≡ NotNext) ↔ (BeginsAtMark log.old chunk.now (store_of (M.seen self.old.area.media)) → ⊥)) }
+        ensures next { IfOk result (λ a. (a ≡ Digested) ↔ (BeginsAtMark log.old chunk.now (disk M.Media self.old.area) × HasAsManyWaiting self.old.book log.old)) }
+        ensures not_next { IfOk result (λ a. (a ≡ NotNext) ↔ (BeginsAtMark log.old chunk.now (disk M.Media self.old.area) → ⊥)) }
         ensures stale { IfOk result (λ a. is_next log.old chunk.now ≡ false → a ≡ NotNext) }
-        ensures another_mark { IfOk result (λ a. (StandsAtMark log.old (store_of (M.seen self.old.area.media)) → ⊥) → a ≡ NotNext) }
-        ensures not_accepted { IfOk result (λ a. (a ≡ NotAccepted) ↔ (BeginsAtMark log.old chunk.now (store_of (M.seen self.old.area.media)) × (HasAsManyWaiting self.old.book log.old → ⊥))) }
+        ensures another_mark { IfOk result (λ a. (StandsAtMark log.old (disk M.Media self.old.area) → ⊥) → a ≡ NotNext) }
+        ensures not_accepted { IfOk result (λ a. (a ≡ NotAccepted) ↔ (BeginsAtMark log.old chunk.now (disk M.Media self.old.area) × (HasAsManyWaiting self.old.book log.old → ⊥))) }
         ensures not_digested { IfOk result (λ a. a ≢ Digested → (self.new ≡ self.old) × (log.new ≡ log.old)) }
-        ensures digested { IfOk result (λ a. a ≡ Digested → IsDigested self.old.area.geometry (store_of (M.seen self.old.area.media)) log.old chunk.now.count (store_of (M.seen self.new.area.media))) }
+        ensures digested { IfOk result (λ a. a ≡ Digested → IsDigested self.old.area.geometry (disk M.Media self.old.area) log.old chunk.now.count (disk M.Media self.new.area)) }
         ensures done { IfOk result (λ a. a ≡ Digested → IsDoneBy log.old chunk.now.count log.new) }
-        ensures at_mark { IfOk result (λ a. a ≡ Digested → StandsAtMark log.new (store_of (M.seen self.new.area.media))) }
+        ensures at_mark { IfOk result (λ a. a ≡ Digested → StandsAtMark log.new (disk M.Media self.new.area)) }
         ensures accepted { IfOk result (λ a. a ≡ Digested → HasAsManyWaiting self.new.book log.new) }
-        ensures step { IfOk result (λ a. a ≡ Digested → (m : Machine) → IsKernelOf M.seen self.old m → IsKernelOf M.seen self.new (digested m (client_of log.old) (take chunk.now.count (undone log.old)))) }
+        ensures step { IfOk result (λ a. a ≡ Digested → (m : Machine) → IsKernelOf M.Media self.old m → IsKernelOf M.Media self.new (digested m log.old.client (take chunk.now.count (undone log.old)))) }
         // What the records raise of the charge they have in units.
-        ensures law { OnOk result (units_in (undone log.old) ≤ units_of self.old.book (client_of log.old) → charge (graph self.old.area.geometry (store_of (M.seen self.old.area.media))) + out_of self.old.book ≤ self.old.area.geometry.units
-            → charge (graph self.new.area.geometry (store_of (M.seen self.new.area.media))) + out_of self.new.book ≤ self.new.area.geometry.units) }
+        ensures law { OnOk result (units_in (undone log.old) ≤ units_of self.old.book log.old.client → charge (graph self.old.area.geometry (disk M.Media self.old.area)) + out_of self.old.book ≤ self.old.area.geometry.units
+            → charge (graph self.new.area.geometry (disk M.Media self.new.area)) + out_of self.new.book ≤ self.new.area.geometry.units) }
 
         // a chunk that does not begin at the mark, or is not accepted, is told as such, and as nothing else
-        ensures only_next { IfErr result (λ e. OnRefusal e (λ _. BeginsAtMark log.old chunk.now (store_of (M.seen self.old.area.media)) × HasAsManyWaiting self.old.book log.old)) }
-        ensures bad { IfErr result (λ e. OnRefusal e (IsToldBad self.old.area.geometry (store_of (M.seen self.old.area.media)) log.old chunk.now.count)) }
-        ensures never_bad { (m : Machine) (s : Sealed) (place : ℕ) → IsKernelOf M.seen self.old m → IsRunning m → IsRegionOf log.old (m.kernel.accounts (client_of log.old)).mark s → StandsSealed m.kernel.shared (m.kernel.accounts (client_of log.old)) s
+        ensures only_next { IfErr result (λ e. OnRefusal e (λ _. BeginsAtMark log.old chunk.now (disk M.Media self.old.area) × HasAsManyWaiting self.old.book log.old)) }
+        ensures bad { IfErr result (λ e. OnRefusal e (NamesFirstBad self.old.area.geometry (disk M.Media self.old.area) log.old chunk.now.count)) }
+        ensures never_bad { (m : Machine) (s : Sealed) (place : ℕ) → IsKernelOf M.Media self.old m → IsRunning m → IsRegionOf log.old (m.kernel.accounts log.old.client).mark s → StandsSealed m.kernel.shared (m.kernel.accounts log.old.client) s
             → IsErrOf result (Refused (BadLog place)) → ⊥ }
         ensures refused { OnErr result ((self.new.book ≡ self.old.book) × (log.new ≡ log.old)) }
-        ensures answers { Answers self.old.area.failed self.old self.new result (DigestsOrStays M.moment M.seen M.left M.faults self.old.area self.new.area) }
+        ensures answers { Answers self.old.area.failed self.old self.new result (DigestsOrStays M.Media self.old.area self.new.area) }
         // As many writes and fences as the change of the chunk makes, and none where it is not made; what is read is not counted.
-        ensures at_most { MakesFewCalls self.old.area.geometry (store_of (M.seen self.old.area.media)) (changes_of chunk.now.change) (M.moment self.old.area.media) (M.moment self.new.area.media) (M.left self.old.area.media) (M.left self.new.area.media) }
+        ensures at_most { MakesFewCalls self.old.area.geometry (disk M.Media self.old.area) (changes_of chunk.now.change) (M.moment self.old.area.media) (M.moment self.new.area.media) (M.left self.old.area.media) (M.left self.new.area.media) }
         ensures opening { self.new.opening ≡ self.old.opening }
     {
         if self.area.has_failed() {
             return Err(KernelError::Failed);
         }
+        log.invariant();
         if !begins_at_mark(&self.area, log, chunk) {
             return Ok(Digestion::NotNext);
         }
         if !has_as_many_waiting(&self.book, log) {
             return Ok(Digestion::NotAccepted);
         }
-        match digest_and_follow(
+        match digest_at_mark(
             self.alloc,
             &mut self.area,
             &mut self.book,
@@ -493,18 +508,18 @@ impl<M: Media> Kernel<M> {
     /// `InUse` exactly where there is no such file: one that has a name or a pin, a directory, or nothing at all. A pin is told before any device is asked. `Memory` where there was none: for an extent block or
     /// an entry of what stands there, or for the change. After these nothing has changed. `DeviceFault` where a device failed.
     pub fn reclaim(&mut self, inode: u32) -> Result<(), KernelError<ReclaimError>>
-        ensures any_moment { self.old.area.failed ≡ false → StaysOrReclaims self.old.area.geometry (store_of (M.seen self.old.area.media)) inode (M.moment self.old.area.media) (M.moment self.new.area.media) (M.left self.old.area.media) (M.left self.new.area.media) }
-        ensures unused { OnOk result (IsUnused (graph self.old.area.geometry (store_of (M.seen self.old.area.media))) self.old.book inode) }
-        ensures reclaimed { OnOk result (IsReclaimed self.old.area.geometry (store_of (M.seen self.old.area.media)) inode (store_of (M.seen self.new.area.media))) }
-        ensures can { OnOk result ((m : Machine) → IsKernelOf M.seen self.old m → CanReclaim m.kernel inode) }
-        ensures step { OnOk result ((m : Machine) → IsKernelOf M.seen self.old m → IsKernelOf M.seen self.new (reclaimed m inode)) }
-        ensures in_use { IsErrOf result (Refused reclaims.InUse) → IsUnused (graph self.old.area.geometry (store_of (M.seen self.old.area.media))) self.old.book inode → ⊥ }
+        ensures any_moment { self.old.area.failed ≡ false → StaysOrReclaims self.old.area.geometry (disk M.Media self.old.area) inode (M.moment self.old.area.media) (M.moment self.new.area.media) (M.left self.old.area.media) (M.left self.new.area.media) }
+        ensures unused { OnOk result (IsUnused (graph self.old.area.geometry (disk M.Media self.old.area)) self.old.book inode) }
+        ensures reclaimed { OnOk result (IsReclaimed self.old.area.geometry (disk M.Media self.old.area) inode (disk M.Media self.new.area)) }
+        ensures can { OnOk result ((m : Machine) → IsKernelOf M.Media self.old m → CanReclaim m.kernel inode) }
+        ensures step { OnOk result ((m : Machine) → IsKernelOf M.Media self.old m → IsKernelOf M.Media self.new (reclaimed m inode)) }
+        ensures in_use { IsErrOf result (Refused reclaims.InUse) → IsUnused (graph self.old.area.geometry (disk M.Media self.old.area)) self.old.book inode → ⊥ }
         ensures pinned { self.old.area.failed ≡ false → is_pinned self.old.book inode ≡ true → IsErrOf result (Refused reclaims.InUse) × (self.new ≡ self.old) }
-        ensures memory { IsErrOf result (Refused reclaims.Memory) → WantsMemory self.old.area.geometry (store_of (M.seen self.old.area.media)) inode ⊎ IsNameless (graph self.old.area.geometry (store_of (M.seen self.old.area.media)) inode) }
+        ensures memory { IsErrOf result (Refused reclaims.Memory) → WantsMemory self.old.area.geometry (disk M.Media self.old.area) inode ⊎ IsNameless (graph self.old.area.geometry (disk M.Media self.old.area) inode) }
         ensures book { self.new.book ≡ self.old.book }
-        ensures answers { Answers self.old.area.failed self.old self.new result (ReclaimsOrStays M.moment M.seen M.left M.faults self.old.area self.new.area) }
+        ensures answers { Answers self.old.area.failed self.old self.new result (ReclaimsOrStays M.Media self.old.area self.new.area) }
         // As many writes and fences as the change that drops a node makes, and none where it is not made; what is read is not counted.
-        ensures at_most { MakesFewCalls self.old.area.geometry (store_of (M.seen self.old.area.media)) (coalesced (effect.Drop inode ∷ [])) (M.moment self.old.area.media) (M.moment self.new.area.media) (M.left self.old.area.media) (M.left self.new.area.media) }
+        ensures at_most { MakesFewCalls self.old.area.geometry (disk M.Media self.old.area) (coalesced_changes (effect.Drop inode ∷ [])) (M.moment self.old.area.media) (M.moment self.new.area.media) (M.left self.old.area.media) (M.left self.new.area.media) }
         ensures opening { self.new.opening ≡ self.old.opening }
     {
         if self.area.has_failed() {
@@ -527,12 +542,12 @@ impl<M: Media> Kernel<M> {
     ///
     /// It reads the slot and the extents of each inode. `DeviceFault` where a device failed, `Memory` where there was none for an extent block.
     pub fn pick(&mut self, to: Tier) -> Result<Option<FileRun>, KernelError<AreaError>>
-        ensures picked { IfOk result (IsPicked self.old.area.geometry (store_of (M.seen self.old.area.media)) to) }
-        ensures may_be_moved { IfOk result (λ x. IfSome x (MayBeMoved self.old.area.geometry (store_of (M.seen self.old.area.media)) to)) }
+        ensures picked { IfOk result (IsPicked self.old.area.geometry (disk M.Media self.old.area) to) }
+        ensures may_be_moved { IfOk result (λ x. IfSome x (MayBeMoved self.old.area.geometry (disk M.Media self.old.area) to)) }
         ensures only { IfErr result (λ e. OnRefusal e IsNoDamage) }
-        ensures memory { IfErr result (λ e. OnRefusal e (λ r. r ≡ Memory → (i : ℕ) × WantsMemory self.old.area.geometry (store_of (M.seen self.old.area.media)) i)) }
+        ensures memory { IfErr result (λ e. OnRefusal e (λ r. r ≡ Memory → (i : ℕ) × WantsMemory self.old.area.geometry (disk M.Media self.old.area) i)) }
         ensures book { self.new.book ≡ self.old.book }
-        ensures answers { Answers self.old.area.failed self.old self.new result (Looks M.moment M.seen M.left M.faults self.old.area self.new.area) }
+        ensures answers { Answers self.old.area.failed self.old self.new result (Looks M.Media self.old.area self.new.area) }
         ensures opening { self.new.opening ≡ self.old.opening }
     {
         if self.area.has_failed() {
@@ -559,15 +574,15 @@ impl<M: Media> Kernel<M> {
         count: u32,
         to: Tier,
     ) -> Result<(), KernelError<RelocateError>>
-        ensures any_moment { self.old.area.failed ≡ false → StaysOpen self.old.area.geometry (store_of (M.seen self.old.area.media)) inode first count to (M.moment self.old.area.media) (M.moment self.new.area.media) (M.left self.old.area.media) (M.left self.new.area.media) }
-        ensures moved { OnOk result (IsMoved self.old.area.geometry (store_of (M.seen self.old.area.media)) (store_of (M.seen self.new.area.media)) inode first count to) }
-        ensures step { OnOk result ((m : Machine) → IsKernelOf M.seen self.old m → IsKernelOf M.seen self.new m) }
-        ensures not_mapped { IsErrOf result (Refused moves.NotMapped) → CanMove self.old.area.geometry (store_of (M.seen self.old.area.media)) inode first count to → ⊥ }
-        ensures no_block { IsErrOf result (Refused moves.NoBlock) → CanMove self.old.area.geometry (store_of (M.seen self.old.area.media)) inode first count to × HasTooFew self.old.area.geometry (store_of (M.seen self.old.area.media)) to count }
-        ensures can { OnOk result (CanMove self.old.area.geometry (store_of (M.seen self.old.area.media)) inode first count to × HasEnough self.old.area.geometry (store_of (M.seen self.old.area.media)) to count) }
-        ensures memory { IsErrOf result (Refused moves.Memory) → HasFileRun self.old.area.geometry (store_of (M.seen self.old.area.media)) inode first count }
+        ensures any_moment { self.old.area.failed ≡ false → StaysOpen self.old.area.geometry (disk M.Media self.old.area) inode first count to (M.moment self.old.area.media) (M.moment self.new.area.media) (M.left self.old.area.media) (M.left self.new.area.media) }
+        ensures moved { OnOk result (IsMoved self.old.area.geometry (disk M.Media self.old.area) (disk M.Media self.new.area) inode first count to) }
+        ensures step { OnOk result ((m : Machine) → IsKernelOf M.Media self.old m → IsKernelOf M.Media self.new m) }
+        ensures not_mapped { IsErrOf result (Refused moves.NotMapped) → CanMove self.old.area.geometry (disk M.Media self.old.area) inode first count to → ⊥ }
+        ensures no_block { IsErrOf result (Refused moves.NoBlock) → CanMove self.old.area.geometry (disk M.Media self.old.area) inode first count to × HasTooFew self.old.area.geometry (disk M.Media self.old.area) to count }
+        ensures can { OnOk result (CanMove self.old.area.geometry (disk M.Media self.old.area) inode first count to × HasEnough self.old.area.geometry (disk M.Media self.old.area) to count) }
+        ensures memory { IsErrOf result (Refused moves.Memory) → HasFileRun self.old.area.geometry (disk M.Media self.old.area) inode first count }
         ensures book { self.new.book ≡ self.old.book }
-        ensures answers { Answers self.old.area.failed self.old self.new result (MovesOrStays M.moment M.seen M.left M.faults self.old.area self.new.area) }
+        ensures answers { Answers self.old.area.failed self.old self.new result (MovesOrStays M.Media self.old.area self.new.area) }
         ensures at_most { M.moment self.new.area.media ≤ M.moment self.old.area.media + count + 13 }
         ensures opening { self.new.opening ≡ self.old.opening }
     {

@@ -7,18 +7,17 @@ ghost use Rattle.digester.specs.log_record.Grammar.{IsRecord};
 ghost use Rattle.digester.specs.log_record.declared.format.Record.{Record};
 ghost use Rattle.digester.specs.batch_journal.Course.{Unmoved};
 ghost use Rattle.digester.specs.coalescer.Records.{effects_in};
-ghost use Rattle.digester.specs.Covered.{AreCovered, units_of};
+ghost use Rattle.digester.specs.RecordCover.{AreCovered, units_of};
 ghost use Rattle.digester.specs.Plan.{IsFirstBad};
-ghost use Rattle.digester.specs.SealedLog.{IsSealed, done_to, undone};
-ghost use Rattle.digester.specs.declared.sealed_log.SealedLog.{SealedLog};
+ghost use Rattle.digester.specs.SealedLog.{SealedView, IsSealed, done_to, undone};
 ghost use Rattle.world_invariant.specs.Limits.{AreWithin};
 ghost use Rattle.world_invariant.specs.Logs.{after_records, units_in};
-ghost use Rattle.world_invariant.specs.Standing.{IsLogged};
+ghost use Rattle.world_invariant.specs.ClientParts.{IsLogged};
 ghost use Rattle.world_invariant.specs.Machine.{Machine, Sealed, IsRunning, StandsSealed, CanDigestNext, digest, undigested_sealed};
 ghost use Rattle.kernel_fs.specs.Book.{Accounts, IsBookOf};
-ghost use Rattle.kernel_fs.specs.Accepting.{client_of, HasAsManyWaiting, IsRegionOf};
+ghost use Rattle.kernel_fs.specs.RegionAccept.{HasAsManyWaiting, IsRegionOf};
 ghost use Rattle.kernel_fs.specs.KernelView.{KernelView};
-ghost use Rattle.kernel_fs.specs.Standing.{IsKernelOf};
+ghost use Rattle.kernel_fs.specs.MachineState.{IsKernelOf};
 
 use digester::Media;
 
@@ -36,21 +35,21 @@ pub fn units_of_records_are_one_number()
 /// stands in it is bad.
 pub fn sealed_records_are_covered()
     ensures covered { (held : List ℕ) (g : Graph) (writes : ℕ → Bool) (rs : List Record) → AreWithin g → AllByRecursion IsRecord rs → ((i : ℕ) → writes i ≡ true → is_among i held ≡ true) → IsLogged g writes rs → AreCovered held g rs }
-    ensures never { (x : SealedLog) (m : Machine) (s : Sealed) (n k : ℕ) → IsSealed x → IsRunning m → IsRegionOf x (m.kernel.accounts (client_of x)).mark s → StandsSealed m.kernel.shared (m.kernel.accounts (client_of x)) s
-        → IsFirstBad x.held.items m.kernel.capacity m.kernel.shared (take n (undone x)) k → ⊥ }
+    ensures never { (x : SealedView) (m : Machine) (s : Sealed) (n k : ℕ) → IsSealed x → IsRunning m → IsRegionOf x (m.kernel.accounts x.client).mark s → StandsSealed m.kernel.shared (m.kernel.accounts x.client) s
+        → IsFirstBad x.held m.kernel.capacity m.kernel.shared (take n (undone x)) k → ⊥ }
 {}
 
 /// What the machine has of an accepted region as not digested are the log's records that are not, and it may digest the next ones.
 pub fn accepted_records_may_be_digested()
-    ensures undone { (x : SealedLog) (m : Machine) (s : Sealed) → IsRegionOf x (m.kernel.accounts (client_of x)).mark s → undigested_sealed (m.kernel.accounts (client_of x)) s ≡ undone x }
-    ensures next { (x : SealedLog) (book : Accounts) (m : Machine) (s : Sealed) (n : ℕ) → IsSealed x → IsBookOf book m → HasAsManyWaiting book x → IsRegionOf x (m.kernel.accounts (client_of x)).mark s
-        → 0 < n → n ≤ length (undone x) → CanDigestNext m (client_of x) s (take n (undone x)) (drop n (undone x)) }
+    ensures undone { (x : SealedView) (m : Machine) (s : Sealed) → IsRegionOf x (m.kernel.accounts x.client).mark s → undigested_sealed (m.kernel.accounts x.client) s ≡ undone x }
+    ensures next { (x : SealedView) (book : Accounts) (m : Machine) (s : Sealed) (n : ℕ) → IsSealed x → IsBookOf book m → HasAsManyWaiting book x → IsRegionOf x (m.kernel.accounts x.client).mark s
+        → 0 < n → n ≤ length (undone x) → CanDigestNext m x.client s (take n (undone x)) (drop n (undone x)) }
 {}
 
 /// A digest of the next records keeps which region of the machine the log is of: the same one, with so many more records digested.
 pub fn digest_keeps_its_region()
-    ensures { (x : SealedLog) (m : Machine) (s : Sealed) (n : ℕ) → IsRegionOf x (m.kernel.accounts (client_of x)).mark s → n ≤ length (undone x)
-        → IsRegionOf (done_to (x.done + n) x) ((digest m (client_of x) (take n (undone x))).kernel.accounts (client_of x)).mark s }
+    ensures { (x : SealedView) (m : Machine) (s : Sealed) (n : ℕ) → IsRegionOf x (m.kernel.accounts x.client).mark s → n ≤ length (undone x)
+        → IsRegionOf (done_to (x.done + n) x) ((digest m x.client (take n (undone x))).kernel.accounts x.client).mark s }
 {}
 
 /// What leaves the book and moves nothing on the media keeps the machine that the kernel stands for: so do `fetch`, `blocks`, `tier_of` and `pick`, whatever they answer, and the refusals of the other calls but
@@ -58,5 +57,5 @@ pub fn digest_keeps_its_region()
 pub fn unmoved_kernel_stands_for_its_machine<M: Media>()
     ensures { (old new : KernelView M) (m : Machine) → new.book ≡ old.book → new.area.geometry ≡ old.area.geometry
         → Unmoved (M.moment old.area.media) (M.moment new.area.media) (M.seen old.area.media) (M.seen new.area.media) (M.left old.area.media) (M.left new.area.media)
-        → IsKernelOf M.seen old m → IsKernelOf M.seen new m }
+        → IsKernelOf M.Media old m → IsKernelOf M.Media new m }
 {}

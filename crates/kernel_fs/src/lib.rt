@@ -1,6 +1,6 @@
 //! The kernel: the shared media with what they spell, the accounts of its clients, and one call for each of its entries.
 //!
-//! A kernel stands for a machine (`specs/Standing.antt`, and `Machine` of `world_invariant`): its media spell the machine's graph and its marks, and its book has the machine's accounts. Each call that
+//! A kernel stands for a machine (`specs/MachineState.antt`, and `Machine` of `world_invariant`): its media spell the machine's graph and its marks, and its book has the machine's accounts. Each call that
 //! changes it is one step of that machine, from whichever it stands for (`step`), so whoever holds a kernel holds the end of a run of it. What the machine does not have is where blocks lie; grants, pins and
 //! accepted regions are in memory alone, and nothing of them outlives a stop.
 //!
@@ -10,7 +10,7 @@
 //!
 //! The kernel keeps in memory of each client the units and inode numbers that it was given, the inodes that it has pinned, and how many of the records that it handed over are not digested. `Book` has no
 //! medium: contracts see it as the accounts of the machine, and each of its calls is a step of that machine, or several at once (`specs/Steps.antt`). Whoever opens the kernel again begins with an empty book.
-//! Clients are counted from 1 in each of its calls, as everywhere but in the marks of the media and the sealed logs, which have client c at place c - 1.
+//! Clients are numbered from 1, as everywhere; marks and accounts have client c at the index c - 1 (`client_index`).
 //!
 //! # The mark
 //!
@@ -22,22 +22,22 @@
 //! `specs/Marks.antt` says so, and `marks_go_with_the_machine` that it stays.
 #![tactic(auto)]
 
-mod accepting;
 mod account;
-mod began;
 mod book;
 mod book_error;
 mod book_laws;
-mod digesting;
+mod chunk_digest;
 mod error;
-mod fetching;
-mod following;
+mod fetches;
+mod file_reclaim;
+mod initial_value;
 mod inode_set;
 mod kernel;
 mod laws;
+mod log_reads;
 mod lowest;
-mod opening;
-mod reclaiming;
+mod node_scan;
+mod node_update;
 
 pub use account::ClientAccount;
 pub use book::Book;
@@ -47,9 +47,10 @@ pub use book_laws::{
     grants_keep_the_book, marks_go_with_the_machine, members_are_those_of_the_set,
     opened_machine_runs, runs_keep_what_holds,
 };
-pub use digesting::Digestion;
+pub use chunk_digest::Digestion;
 pub use error::{AcceptError, KernelError, KernelFailed, ReclaimError};
-pub use fetching::{Fetched, FetchedBytes};
+pub use fetches::{Fetched, FetchedBytes};
+pub use file_reclaim::drop_nameless;
 pub use inode_set::InodeSet;
 pub use kernel::{Figures, Kernel};
 pub use laws::{
@@ -60,5 +61,5 @@ pub use laws::{
 
 // Passed on to the crates above, which so need not list those below.
 pub use digester::{
-    AreaError, Chunk, DigestError, Mark, RelocateError, SealedLog, Shared, prepare,
+    AreaError, Chunk, DigestError, Mark, RelocateError, SealedLog, Shared, client_index, prepare,
 };

@@ -1,6 +1,6 @@
 // Media that are opened: what they tell, or what is damaged.
 ghost use Rattle.host_media.specs.tier_device.declared.media.Tier.{Tier};
-ghost use Rattle.host_media.specs.tier_device.Media.{AtRest};
+ghost use Rattle.host_media.specs.tier_device.AfterStop.{AtRest};
 
 use crate::image_text::Image;
 use crate::input::Input;
@@ -37,7 +37,7 @@ fn put_image(rt: &HostRuntime, image: Image, input: &mut Input<'_>, out: &mut Te
 }
 
 fn put_changes(alloc: Global, image: &mut Image, input: &mut Input<'_>) {
-    for change in input.rest().split(';') {
+    for change in input.remaining_text().split(';') {
         if !change.is_empty() {
             let mut words = Input::new(alloc, change.trim());
             image.change(&mut words);

@@ -70,7 +70,7 @@ fn fill_of(word: &str) -> Result<Fill> {
 }
 
 /// What a medium answers that fails or stops so, and what it then holds: one that has stopped, what is left after the stop.
-pub fn told_failing(
+pub fn failure_report(
     alloc: Global,
     counter: Counter,
     sizes: Sizes,
@@ -81,22 +81,22 @@ pub fn told_failing(
     let media = memory(alloc, sizes)?;
     match (failing.fail, failing.stop) {
         (Some(fail), Some(stop)) => {
-            let media = stopping(alloc, counter, StopMedia::new(media), stop)?;
-            let media = failing_at(alloc, counter, media, fail)?;
+            let media = stop_media(alloc, counter, StopMedia::new(media), stop)?;
+            let media = media_failure(alloc, counter, media, fail)?;
             tell_rest(
                 alloc,
-                played(alloc, media, calls, &mut out)?.into_inner(),
+                play_calls(alloc, media, calls, &mut out)?.into_inner(),
                 &mut out,
             )?;
         }
         (Some(fail), None) => {
-            let media = failing_at(alloc, counter, media, fail)?;
-            let mut media = played(alloc, media, calls, &mut out)?.into_inner();
+            let media = media_failure(alloc, counter, media, fail)?;
+            let mut media = play_calls(alloc, media, calls, &mut out)?.into_inner();
             tell_tiers(alloc, &mut media, &mut out)?;
         }
         (None, Some(stop)) => {
-            let media = stopping(alloc, counter, StopMedia::new(media), stop)?;
-            tell_rest(alloc, played(alloc, media, calls, &mut out)?, &mut out)?;
+            let media = stop_media(alloc, counter, StopMedia::new(media), stop)?;
+            tell_rest(alloc, play_calls(alloc, media, calls, &mut out)?, &mut out)?;
         }
         (None, None) => bail!("no failure"),
     }
@@ -104,7 +104,12 @@ pub fn told_failing(
 }
 
 // The medium after these calls.
-fn played<M: Media + Drop>(alloc: Global, media: M, calls: &str, out: &mut String) -> Result<M> {
+fn play_calls<M: Media + Drop>(
+    alloc: Global,
+    media: M,
+    calls: &str,
+    out: &mut String,
+) -> Result<M> {
     let mut media = media;
     play(alloc, &mut media, calls, out)?;
     Ok(media)
@@ -118,19 +123,19 @@ fn tell_rest(alloc: Global, media: StopMedia, out: &mut String) -> Result<()> {
     }
 }
 
-fn stopping(alloc: Global, counter: Counter, media: StopMedia, stop: Stop) -> Result<StopMedia> {
+fn stop_media(alloc: Global, counter: Counter, media: StopMedia, stop: Stop) -> Result<StopMedia> {
     let mut media = media;
     if stop.call == 0 {
         bail!("no call: 0");
     }
     match counter {
         Counter::Own => media.stop_within(stop.call, stop.fill),
-        Counter::Trip => media.stop_with(armed(alloc, stop.call)?, stop.fill),
+        Counter::Trip => media.stop_with(arm_trip(alloc, stop.call)?, stop.fill),
     }
     Ok(media)
 }
 
-fn failing_at<M: Media + Drop>(
+fn media_failure<M: Media + Drop>(
     alloc: Global,
     counter: Counter,
     media: M,
@@ -142,13 +147,13 @@ fn failing_at<M: Media + Drop>(
     }
     match counter {
         Counter::Own => media.fail_at(call),
-        Counter::Trip => media.fail_with(armed(alloc, call)?),
+        Counter::Trip => media.fail_with(arm_trip(alloc, call)?),
     }
     Ok(media)
 }
 
 // A trip that runs out at this call.
-fn armed(alloc: Global, call: u64) -> Result<Trip, AllocError>
+fn arm_trip(alloc: Global, call: u64) -> Result<Trip, AllocError>
     requires { 1 ≤ call }
 {
     let trip = Trip::new(alloc)?;

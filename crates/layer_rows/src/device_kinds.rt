@@ -20,7 +20,7 @@ pub const PATH: &str = "medium";
 
 /// What a medium of this kind answers to these calls, and what it then holds: its tiers have so many bytes, all zero before the
 /// first call. A file tells what it holds once it was closed and opened again.
-pub fn told(rt: &HostRuntime, kind: Kind, sizes: Sizes, calls: &str) -> Result<String> {
+pub fn device_report(rt: &HostRuntime, kind: Kind, sizes: Sizes, calls: &str) -> Result<String> {
     match kind {
         Kind::Memory => by_memory(rt.alloc(), sizes, calls),
         Kind::Ram => by_ram(rt.alloc(), sizes, calls),
@@ -41,7 +41,7 @@ pub fn sizes_of(words: &str) -> Result<Sizes> {
 
 fn by_memory(alloc: Global, sizes: Sizes, calls: &str) -> Result<String> {
     let media = memory(alloc, sizes)?;
-    told_by(alloc, media, calls)
+    media_report(alloc, media, calls)
 }
 
 /// A medium in memory whose tiers have so many bytes, all zero.
@@ -52,11 +52,11 @@ pub fn memory(alloc: Global, sizes: Sizes) -> Result<MemMedia, AllocError> {
 
 fn by_ram(alloc: Global, sizes: Sizes, calls: &str) -> Result<String> {
     let (fast, block, slow) = zeros(alloc, sizes)?;
-    told_by(alloc, RamMedia::of_bytes(fast, block, slow), calls)
+    media_report(alloc, RamMedia::of_bytes(fast, block, slow), calls)
 }
 
 // What a medium answers, and what it then holds.
-fn told_by<M: Media + Drop>(alloc: Global, media: M, calls: &str) -> Result<String> {
+fn media_report<M: Media + Drop>(alloc: Global, media: M, calls: &str) -> Result<String> {
     let mut media = media;
     let mut out = String::new(alloc);
     play(alloc, &mut media, calls, &mut out)?;

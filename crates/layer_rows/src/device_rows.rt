@@ -1,7 +1,7 @@
 // A row of the table.
-use crate::device_failures::{COUNTERS, Failing, told_failing};
-use crate::device_kinds::{KINDS, sizes_of, told};
-use crate::device_opening::opened;
+use crate::device_failures::{COUNTERS, Failing, failure_report};
+use crate::device_kinds::{KINDS, device_report, sizes_of};
+use crate::device_open::opening_report;
 use anyhow::{Result, bail};
 use host_media::Sizes;
 
@@ -50,7 +50,7 @@ fn check_row(rt: &HostRuntime, text: &str) -> Result<bool> {
         return Ok(false);
     };
     match row.input.strip_prefix("open ") {
-        Some(words) => is_said(rt, row, &opened(rt, words)?),
+        Some(words) => is_said(rt, row, &opening_report(rt, words)?),
         None => is_said_by_all(rt, row),
     }
 }
@@ -71,7 +71,7 @@ fn is_said_by_all(rt: &HostRuntime, row: Row<'_>) -> Result<bool> {
 fn is_said_by_kinds(rt: &HostRuntime, row: Row<'_>, sizes: Sizes, calls: &str) -> Result<bool> {
     let mut holds = true;
     for kind in KINDS {
-        holds &= is_said(rt, row, &told(rt, kind, sizes, calls)?)?;
+        holds &= is_said(rt, row, &device_report(rt, kind, sizes, calls)?)?;
     }
     Ok(holds)
 }
@@ -85,7 +85,7 @@ fn is_said_failing(
 ) -> Result<bool> {
     let mut holds = true;
     for counter in COUNTERS {
-        let said = told_failing(rt.alloc(), counter, sizes, failing, calls)?;
+        let said = failure_report(rt.alloc(), counter, sizes, failing, calls)?;
         holds &= is_said(rt, row, &said)?;
     }
     Ok(holds)

@@ -1,5 +1,5 @@
 // Directories of many entries, block by block.
-use crate::filling::filled;
+use crate::byte_fill::equal_bytes;
 use crate::input::Input;
 use area_image::{BLOCK, DirBlock, DirEntry, LayoutError, MAX_IN_BLOCK};
 use first_run::{Name, Text};
@@ -51,13 +51,13 @@ impl Walk {
     fn try_block(&mut self, number: u32) -> Result<(), AllocError> {
         self.blocks = self.blocks.saturating_add(1);
         let made = DirBlock::new(self.owner, self.entries(number)?);
-        let bytes = spelled(self.alloc, &made)?;
+        let bytes = spell_entries(self.alloc, &made)?;
         let found = match DirBlock::decode(self.alloc, number, &bytes) {
             Ok(found) => found,
             Err(LayoutError::Memory) => return Err(AllocError),
             Err(_) => return Ok(()),
         };
-        if spelled(self.alloc, &found)? == bytes {
+        if spell_entries(self.alloc, &found)? == bytes {
             self.spelled = self.spelled.saturating_add(1);
         }
         if found.owner() == self.owner && are_same(made.entries(), found.entries()) {
@@ -102,8 +102,8 @@ fn entry_of(alloc: Global, number: u32) -> Result<DirEntry, AllocError> {
 }
 
 // The block that the entries are spelled as, over bytes that are not zero.
-fn spelled(alloc: Global, entries: &DirBlock) -> Result<Vec<u8>, AllocError> {
-    let mut bytes = filled(alloc, 0x78, BLOCK)?;
+fn spell_entries(alloc: Global, entries: &DirBlock) -> Result<Vec<u8>, AllocError> {
+    let mut bytes = equal_bytes(alloc, 0x78, BLOCK)?;
     if bytes.len() == BLOCK && entries.entries().len() <= MAX_IN_BLOCK {
         entries.encode(&mut bytes);
     }

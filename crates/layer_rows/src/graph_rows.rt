@@ -16,7 +16,7 @@ pub fn tell_graph(input: &mut Input<'_>, out: &mut Text) {
 }
 
 fn apply_records(input: &mut Input<'_>, graph: &mut PlainGraph, out: &mut Text) {
-    for word in input.rest().split(' ') {
+    for word in input.remaining_text().split(' ') {
         let mut payload = Input::new(input.alloc(), word);
         let is_applied = apply_record(&mut payload, graph, out);
         if payload.is_bad() || !is_applied {

@@ -1,10 +1,10 @@
 // The head of an open journal, and the one with which a batch of its images is written.
 ghost use Rattle.std.specs.Prelude.{◌≡◌, ◌≤◌, length, IfOk};
 ghost use Rattle.host_media.specs.tier_device.declared.media.Tier.{Tier};
-ghost use Rattle.host_media.specs.tier_device.Media.{AtRest};
+ghost use Rattle.host_media.specs.tier_device.AfterStop.{AtRest};
 ghost use Rattle.host_media.specs.tier_device.Memory.{IsAtRest};
 
-use crate::filling::filled;
+use crate::byte_fill::equal_bytes;
 use crate::input::Input;
 use crate::world_rows::image_of;
 use crate::zeroed_media::Image;
@@ -24,7 +24,7 @@ const OPEN: u8 = 0xa5;
 /// its blocks, has the same head once a batch of them was committed.
 pub fn tell_head(rt: &HostRuntime, input: &mut Input<'_>, out: &mut Text) {
     if let Some(image) = image_of(rt, input) {
-        match told_of(&image) {
+        match head_text(&image) {
             Ok(Spelled::Shut) => out.put("the journal is shut"),
             Ok(Spelled::NoBatch) => out.put("the head names no batch"),
             Ok(Spelled::Head { images, is_same }) => put_head(images, is_same, out),
@@ -50,19 +50,19 @@ enum Spelled {
     Head { images: usize, is_same: bool },
 }
 
-fn told_of(image: &Image) -> Result<Spelled, JournalError> {
+fn head_text(image: &Image) -> Result<Spelled, JournalError> {
     match image.tier(Tier::Fast) {
-        Ok(fast) => told_on(image, &fast),
+        Ok(fast) => head_text_on(image, &fast),
         Err(_) => Err(JournalError::Memory),
     }
 }
 
-fn told_on(image: &Image, fast: &[u8]) -> Result<Spelled, JournalError> {
+fn head_text_on(image: &Image, fast: &[u8]) -> Result<Spelled, JournalError> {
     if block_of(fast, GATE_BLOCK).first() != Some(&OPEN) {
         return Ok(Spelled::Shut);
     }
     match batch_of(image.alloc, fast) {
-        Ok(Some(batch)) => committed(image, fast, &batch),
+        Ok(Some(batch)) => commit_batch(image, fast, &batch),
         Ok(None) => Ok(Spelled::NoBatch),
         Err(_) => Err(JournalError::Memory),
     }
@@ -100,15 +100,15 @@ fn batch_of(alloc: Global, fast: &[u8]) -> Result<Option<Batch>, AllocError> {
     Ok(Some(batch))
 }
 
-fn committed(image: &Image, fast: &[u8], batch: &Batch) -> Result<Spelled, JournalError> {
-    match shut(image, fast) {
-        Ok(media) => committed_on(image.alloc, media, batch, block_of(fast, HEAD_BLOCK)),
+fn commit_batch(image: &Image, fast: &[u8], batch: &Batch) -> Result<Spelled, JournalError> {
+    match close_journal(image, fast) {
+        Ok(media) => commit_medium(image.alloc, media, batch, block_of(fast, HEAD_BLOCK)),
         Err(_) => Err(JournalError::Memory),
     }
 }
 
 // The medium with zeros in the blocks of the journal.
-fn shut(image: &Image, fast: &[u8]) -> Result<MemMedia, AllocError>
+fn close_journal(image: &Image, fast: &[u8]) -> Result<MemMedia, AllocError>
     ensures { IfOk result IsAtRest }
 {
     let mut fast = fast.to_vec(image.alloc)?;
@@ -125,7 +125,7 @@ fn shut(image: &Image, fast: &[u8]) -> Result<MemMedia, AllocError>
     }
 }
 
-fn committed_on<M: Media + Drop>(
+fn commit_medium<M: Media + Drop>(
     alloc: Global,
     media: M,
     batch: &Batch,
@@ -159,7 +159,7 @@ fn commit<M: Media>(journal: &mut Journal<M>, batch: &Batch) -> Result<bool, Jou
 // Whether these bytes stand in the head's block.
 fn has_head<M: Media + Drop>(alloc: Global, media: M, head: &[u8]) -> Result<bool, JournalError> {
     let mut media = media;
-    match filled(alloc, 0, BLOCK) {
+    match equal_bytes(alloc, 0, BLOCK) {
         Ok(mut found) => {
             let is_read = media
                 .read(Tier::Fast, BLOCK * HEAD_BLOCK as usize, &mut found)

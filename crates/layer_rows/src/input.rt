@@ -47,7 +47,7 @@ impl<'a> Input<'a> {
     }
 
     /// All that is left.
-    pub fn rest(&mut self) -> &'a str {
+    pub fn remaining_text(&mut self) -> &'a str {
         let rest = self.rest;
         self.rest = "";
         rest
@@ -101,7 +101,7 @@ impl<'a> Input<'a> {
     /// The bytes of runs `hhxN` joined by `+`, or of `-`, in all words that are left.
     pub fn data(&mut self) -> Vec<u8> {
         let mut bytes = Vec::new(self.alloc);
-        for word in self.rest().split(' ') {
+        for word in self.remaining_text().split(' ') {
             if !add_data(self.alloc, &mut bytes, word) {
                 self.fail();
             }
@@ -110,7 +110,7 @@ impl<'a> Input<'a> {
     }
 
     /// The same, with zeros behind it where it is shorter than this.
-    pub fn padded(&mut self, size: usize) -> Vec<u8> {
+    pub fn padded_bytes(&mut self, size: usize) -> Vec<u8> {
         let mut bytes = self.data();
         if bytes.len() < size && bytes.resize(size, 0).is_err() {
             self.fail();

@@ -1,9 +1,9 @@
 // Media that are opened: their journal is replayed or refused.
 ghost use Rattle.std.specs.Prelude.{◌≡◌, ◌<◌, ◌≤◌, length};
 ghost use Rattle.host_media.specs.tier_device.declared.media.Tier.{Tier};
-ghost use Rattle.host_media.specs.tier_device.Media.{AtRest};
+ghost use Rattle.host_media.specs.tier_device.AfterStop.{AtRest};
 
-use crate::filling::filled;
+use crate::byte_fill::equal_bytes;
 use crate::input::Input;
 use crate::structure_text::put_reading;
 use crate::zeroed_media::Image;
@@ -40,7 +40,7 @@ fn put_medium<M: Media + Drop>(alloc: Global, media: M, out: &mut Text)
 }
 
 fn put_home<M: Media>(alloc: Global, journal: &mut Journal<M>, out: &mut Text) {
-    match filled(alloc, 0, BLOCK) {
+    match equal_bytes(alloc, 0, BLOCK) {
         Ok(block) => put_blocks(journal, block, out),
         Err(_) => out.cut(),
     }

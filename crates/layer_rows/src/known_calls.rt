@@ -1,5 +1,5 @@
 // The lines of a row, by what their clients know.
-use crate::known_beside::Beside;
+use crate::known_comparison::Beside;
 use crate::known_draws::{DESCRIPTORS, Draws, PATHS};
 use first_run::{CallText, Line, MAX_INODE, ROOT, Reply, read_line};
 use plain_tree::{Kind, PlainGraph};
@@ -21,7 +21,7 @@ pub fn tell_line(beside: &mut Beside, line: &str, out: &mut String) {
 // What the last line was answered.
 fn tell_reply(beside: &Beside, out: &mut String) {
     if let Some(reply) = &beside.reply {
-        let known = beside.part.known();
+        let known = beside.part.known_inodes();
         let decided = known.get(..beside.decided).unwrap_or(&[]);
         let _ = write!(out, "{reply:?}; by {decided:?}; recorded by {known:?}");
         let _ = write!(out, "; grows {}", beside.growth);

@@ -54,11 +54,11 @@ impl Draws {
         let _ = line.push_str(self.next_of(&CLIENTS));
         for word in self.next_of(&CALLS).split(' ') {
             let _ = line.push(' ');
-            let _ = line.push_str(self.drawn(word));
+            let _ = line.push_str(self.draw_word(word));
         }
     }
 
-    fn drawn(&mut self, word: &'static str) -> &'static str {
+    fn draw_word(&mut self, word: &'static str) -> &'static str {
         match word {
             "P" | "Q" => self.next_of(&PATHS),
             "D" => self.next_of(&DESCRIPTORS),

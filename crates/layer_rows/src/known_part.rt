@@ -1,7 +1,7 @@
 // A graph of which a part is known.
 ghost use Rattle.std.specs.Prelude.{◌≡◌};
 ghost use Rattle.plain_tree.specs.file_graph.Graph.{graph_of, is_among};
-ghost use Rattle.layer_rows.specs.Known.{known_part};
+ghost use Rattle.layer_rows.specs.KnownPart.{known_part};
 
 use first_run::{Bytes, Description, GraphAnswers, NamedInode, Names, ROOT, TreeAnswers};
 use plain_tree::PlainGraph;
@@ -54,11 +54,11 @@ impl KnownPart {
     }
 
     /// The inodes that are known whole, in the order in which they became known.
-    pub fn known(&self) -> &[u32] {
+    pub fn known_inodes(&self) -> &[u32] {
         &self.nodes
     }
 
-    fn whole(&self) -> GraphAnswers<'_>
+    fn whole_graph(&self) -> GraphAnswers<'_>
         ensures { result.graph.now ≡ self.now.graph }
     {
         GraphAnswers { graph: &self.graph }
@@ -76,7 +76,7 @@ impl TreeAnswers for KnownPart {
 
     fn is_dir(&self, inode: u32) -> Option<Option<bool>> {
         if inode == ROOT || is_among(inode, &self.kinds) {
-            return self.whole().is_dir(inode);
+            return self.whole_graph().is_dir(inode);
         }
         None
     }
@@ -85,7 +85,7 @@ impl TreeAnswers for KnownPart {
         if !is_among(dir, &self.nodes) {
             return None;
         }
-        match self.whole().entry(dir, name) {
+        match self.whole_graph().entry(dir, name) {
             Some(Some(child)) => Some(Some(NamedInode {
                 inode: child.inode,
                 is_dir: self.is_dir(child.inode).flatten(),
@@ -96,28 +96,28 @@ impl TreeAnswers for KnownPart {
 
     fn entry_count(&self, dir: u32) -> Option<u32> {
         if is_among(dir, &self.nodes) {
-            return self.whole().entry_count(dir);
+            return self.whole_graph().entry_count(dir);
         }
         None
     }
 
     fn names(&self, alloc: Global, dir: u32) -> Result<Option<Names>, AllocError> {
         if is_among(dir, &self.nodes) {
-            return self.whole().names(alloc, dir);
+            return self.whole_graph().names(alloc, dir);
         }
         Ok(None)
     }
 
     fn file_size(&self, inode: u32) -> Option<u64> {
         if is_among(inode, &self.nodes) {
-            return self.whole().file_size(inode);
+            return self.whole_graph().file_size(inode);
         }
         None
     }
 
     fn file_names(&self, inode: u32) -> Option<u32> {
         if is_among(inode, &self.nodes) {
-            return self.whole().file_names(inode);
+            return self.whole_graph().file_names(inode);
         }
         None
     }
@@ -130,14 +130,14 @@ impl TreeAnswers for KnownPart {
         count: u64,
     ) -> Result<Option<Bytes>, AllocError> {
         if is_among(inode, &self.read) {
-            return self.whole().read(alloc, inode, at, count);
+            return self.whole_graph().read(alloc, inode, at, count);
         }
         Ok(None)
     }
 
     fn describe(&self, inode: u32) -> Option<Option<Description>> {
         if is_among(inode, &self.nodes) {
-            return self.whole().describe(inode);
+            return self.whole_graph().describe(inode);
         }
         None
     }

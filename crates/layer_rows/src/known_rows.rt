@@ -1,6 +1,6 @@
 // The rows of the table.
-use crate::known_beside::Beside;
 use crate::known_calls::tell_line;
+use crate::known_comparison::Beside;
 use std::alloc::Global;
 use std::io;
 

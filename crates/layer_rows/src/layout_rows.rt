@@ -43,15 +43,15 @@ pub fn tell_structure(kind: &str, input: &mut Input<'_>, out: &mut Text) {
 }
 
 fn tell_super(input: &mut Input<'_>, out: &mut Text) {
-    put_reading(&Super::decode(&input.padded(BLOCK)), out);
+    put_reading(&Super::decode(&input.padded_bytes(BLOCK)), out);
 }
 
 fn tell_marks(input: &mut Input<'_>, out: &mut Text) {
-    put_reading(&Marks::decode(&input.padded(BLOCK)), out);
+    put_reading(&Marks::decode(&input.padded_bytes(BLOCK)), out);
 }
 
 fn tell_entries(input: &mut Input<'_>, out: &mut Text) {
-    let bytes = input.padded(BLOCK);
+    let bytes = input.padded_bytes(BLOCK);
     let found = DirBlock::decode(input.alloc(), NUMBER, &bytes);
     put_reading(&found, out);
 }
@@ -71,7 +71,7 @@ fn put_slot(geometry: &Geometry, inode: u32, input: &mut Input<'_>, out: &mut Te
     out.field("", &slot_block(inode));
     out.field("+", &slot_byte(inode));
     out.put(": ");
-    let bytes = input.padded(SLOT_SIZE);
+    let bytes = input.padded_bytes(SLOT_SIZE);
     put_reading(&Slot::decode(geometry, inode, &bytes), out);
 }
 
@@ -83,7 +83,7 @@ fn tell_extents(input: &mut Input<'_>, out: &mut Text) {
 }
 
 fn put_extents(geometry: &Geometry, space: Space, input: &mut Input<'_>, out: &mut Text) {
-    let bytes = input.padded(BLOCK);
+    let bytes = input.padded_bytes(BLOCK);
     let found = ExtentBlock::decode(input.alloc(), geometry, space, NUMBER, &bytes);
     put_reading(&found, out);
 }

@@ -6,20 +6,20 @@
 #![tactic(auto)]
 
 mod area_rows;
+mod byte_fill;
 mod device_call;
 mod device_failures;
 mod device_kinds;
-mod device_opening;
+mod device_open;
 mod device_rows;
 mod directory_rows;
-mod filling;
 mod graph_rows;
 mod head_rows;
 mod image_text;
 mod input;
 mod journal_rows;
-mod known_beside;
 mod known_calls;
+mod known_comparison;
 mod known_draws;
 mod known_part;
 mod known_rows;

@@ -4,7 +4,7 @@ use first_run::{Path, PathText, Text};
 
 /// `path PATH`, where `%hh` is a byte.
 pub fn tell_path(input: &mut Input<'_>, out: &mut Text) {
-    let Some(text) = PathText::read(input.rest().as_bytes()) else {
+    let Some(text) = PathText::read(input.remaining_text().as_bytes()) else {
         return input.fail();
     };
     match text.to_bytes(input.alloc()) {

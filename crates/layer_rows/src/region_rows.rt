@@ -1,10 +1,10 @@
 // Regions: the records that stand in them.
 ghost use Rattle.std.specs.Prelude.{IfOk};
 ghost use Rattle.host_media.specs.tier_device.declared.media.Tier.{Tier};
-ghost use Rattle.host_media.specs.tier_device.Media.{AtRest};
+ghost use Rattle.host_media.specs.tier_device.AfterStop.{AtRest};
 ghost use Rattle.host_media.specs.tier_device.Memory.{IsAtRest};
 
-use crate::filling::filled;
+use crate::byte_fill::equal_bytes;
 use crate::input::Input;
 use crate::record_text::put_record;
 use first_run::{HEADER, REGION_SIZE, Record, Region, RegionError, Stage, Text};
@@ -15,8 +15,8 @@ use std::alloc::{AllocError, Global};
 /// data.
 pub fn tell_region(input: &mut Input<'_>, out: &mut Text) {
     let size = input.number() as usize;
-    let bytes = input.padded(size);
-    match found_in(input.alloc(), &bytes) {
+    let bytes = input.padded_bytes(size);
+    match find_records(input.alloc(), &bytes) {
         Ok(found) => put_found(&found, out),
         Err(error) => out.field("", &error),
     }
@@ -40,16 +40,20 @@ impl Found {
 }
 
 /// What stands in a region of these bytes.
-pub fn found_in(alloc: Global, bytes: &[u8]) -> Result<Found, RegionError> {
+pub fn find_records(alloc: Global, bytes: &[u8]) -> Result<Found, RegionError> {
     match medium(alloc, bytes) {
-        Ok(media) => found_on(alloc, media, bytes),
+        Ok(media) => find_records_on(alloc, media, bytes),
         Err(_) => Err(RegionError::Memory),
     }
 }
 
 // On a medium of these bytes. Over any medium a region is one value to the check of borrows, and not as many as the medium has
 // fields.
-fn found_on<M: Media + Drop>(alloc: Global, media: M, bytes: &[u8]) -> Result<Found, RegionError>
+fn find_records_on<M: Media + Drop>(
+    alloc: Global,
+    media: M,
+    bytes: &[u8],
+) -> Result<Found, RegionError>
     requires { (t : Tier) → AtRest (M.seen media) (M.left media (M.moment media)) t }
 {
     match Region::reopen(alloc, media) {
@@ -109,7 +113,7 @@ fn is_appended(alloc: Global, records: &[Record], front: &[u8]) -> Result<bool, 
 fn fresh_medium(alloc: Global) -> Result<MemMedia, AllocError>
     ensures { IfOk result IsAtRest }
 {
-    let zeros = filled(alloc, 0, REGION_SIZE)?;
+    let zeros = equal_bytes(alloc, 0, REGION_SIZE)?;
     medium(alloc, &zeros)
 }
 
@@ -136,7 +140,7 @@ fn begins_with<M: Media + Drop>(
     front: &[u8],
 ) -> Result<bool, RegionError> {
     let mut media = region.into_media();
-    match filled(alloc, 0, front.len()) {
+    match equal_bytes(alloc, 0, front.len()) {
         Ok(mut found) => {
             let is_read = media.read(Tier::Fast, HEADER, &mut found).is_ok();
             Ok(is_read && found.as_slice() == front)

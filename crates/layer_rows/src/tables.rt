@@ -67,7 +67,7 @@ impl Rows {
     }
 
     fn try_row<T: Teller>(&mut self, rt: &HostRuntime, teller: &T, row: Row<'_>) {
-        let said = told(rt, teller, row.input);
+        let said = row_text(rt, teller, row.input);
         if said.as_str() == row.answer {
             self.held = self.held.saturating_add(1);
             return;
@@ -101,8 +101,8 @@ struct Row<'a> {
 
 impl<'a> Row<'a> {
     fn read(text: &'a str) -> Row<'a> {
-        let (name, rest) = parted(text, ": ");
-        let (input, answer) = parted(rest, " => ");
+        let (name, rest) = split_text(text, ": ");
+        let (input, answer) = split_text(rest, " => ");
         Row {
             name,
             input,
@@ -112,12 +112,12 @@ impl<'a> Row<'a> {
 }
 
 // What stands before the first of these, and what behind it.
-fn parted<'a>(text: &'a str, by: &str) -> (&'a str, &'a str) {
+fn split_text<'a>(text: &'a str, by: &str) -> (&'a str, &'a str) {
     text.split_once(by).unwrap_or((text, ""))
 }
 
 // What is said of a row's input.
-fn told<T: Teller>(rt: &HostRuntime, teller: &T, input: &str) -> Text {
+fn row_text<T: Teller>(rt: &HostRuntime, teller: &T, input: &str) -> Text {
     let mut input = Input::new(rt.alloc(), input);
     let mut out = Text::new(rt.alloc());
     teller.tell(rt, &mut input, &mut out);

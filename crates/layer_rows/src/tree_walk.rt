@@ -114,7 +114,7 @@ impl<M: Media + Drop> Walk<M> {
     fn content(&mut self, parts: &InodeParts, size: u64) -> Vec<u8> {
         let mut bytes = Vec::new(self.alloc);
         for block in 0..length_of(&parts.slot) {
-            let more = self.logical(&parts.extents, block);
+            let more = self.logical_block(&parts.extents, block);
             let is_put = bytes.extend_from_slice(&more).is_ok();
             self.is_cut |= !is_put;
         }
@@ -125,7 +125,7 @@ impl<M: Media + Drop> Walk<M> {
     // The paths that the entries of a directory lead to.
     fn leave_entries(&mut self, parts: &InodeParts, path: &Text) {
         for block in 0..length_of(&parts.slot) {
-            let bytes = self.logical(&parts.extents, block);
+            let bytes = self.logical_block(&parts.extents, block);
             match DirEntries::read(0, &bytes) {
                 Ok(list) => self.leave_list(&list, path),
                 Err(_) => self.is_cut = true,
@@ -143,7 +143,7 @@ impl<M: Media + Drop> Walk<M> {
     }
 
     // A logical block; zeros where no tier maps it.
-    fn logical(&mut self, extents: &InodeExtents, block: u64) -> [u8; BLOCK] {
+    fn logical_block(&mut self, extents: &InodeExtents, block: u64) -> [u8; BLOCK] {
         let mut bytes = [0u8; BLOCK];
         self.read(Tier::Fast, &extents.fast, block, &mut bytes);
         self.read(Tier::Block, &extents.block, block, &mut bytes);

@@ -1,12 +1,12 @@
 // Whole media: every block that the superblock, the slots, the extents and the entries name, and every region.
 ghost use Rattle.std.specs.Prelude.{◌≤◌};
 ghost use Rattle.host_media.specs.tier_device.declared.media.Tier.{Tier};
-ghost use Rattle.host_media.specs.tier_device.Media.{AtRest};
+ghost use Rattle.host_media.specs.tier_device.AfterStop.{AtRest};
 
-use crate::filling::filled;
+use crate::byte_fill::equal_bytes;
 use crate::input::Input;
 use crate::journal_rows::read_home;
-use crate::region_rows::{found_in, put_sizes};
+use crate::region_rows::{find_records, put_sizes};
 use crate::structure_text::put_reading;
 use crate::zeroed_media::{Image, REGIONS};
 use area_image::{
@@ -29,7 +29,7 @@ pub fn tell_world(rt: &HostRuntime, input: &mut Input<'_>, out: &mut Text) {
 pub fn image_of(rt: &HostRuntime, input: &mut Input<'_>) -> Option<Image> {
     let geometry = input.geometry()?;
     let mut image = Image::new(input.alloc(), geometry);
-    match fs::read_to_string(rt, input.rest()) {
+    match fs::read_to_string(rt, input.remaining_text()) {
         Ok(lines) => put_lines(&mut image, &lines, input),
         Err(_) => input.fail(),
     }
@@ -56,7 +56,7 @@ fn put_image(image: &Image, out: &mut Text) {
 
 // A region that has records, or an open gate.
 fn put_region(alloc: Global, index: usize, bytes: &[u8], out: &mut Text) {
-    match found_in(alloc, bytes) {
+    match find_records(alloc, bytes) {
         Ok(found) if found.is_empty() => {}
         Ok(found) => {
             out.field("; region ", &(index / 2 + 1));
@@ -81,7 +81,7 @@ fn put_medium<M: Media + Drop>(alloc: Global, media: M, out: &mut Text)
 }
 
 fn put_tiers<M: Media + Drop>(alloc: Global, journal: Journal<M>, out: &mut Text) {
-    match filled(alloc, 0, BLOCK) {
+    match equal_bytes(alloc, 0, BLOCK) {
         Ok(block) => put_walk(alloc, journal, block, out),
         Err(_) => out.cut(),
     }

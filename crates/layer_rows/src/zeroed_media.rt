@@ -2,7 +2,7 @@
 ghost use Rattle.std.specs.Prelude.{IfOk};
 ghost use Rattle.host_media.specs.tier_device.Memory.{IsAtRest};
 
-use crate::filling::{filled, overwrite};
+use crate::byte_fill::{equal_bytes, overwrite};
 use crate::input::Input;
 use area_image::{BLOCK, Geometry};
 use first_run::REGION_SIZE;
@@ -27,13 +27,13 @@ impl Image {
         Image {
             alloc,
             geometry,
-            bytes: filled(alloc, 0, size).unwrap_or(Vec::new(alloc)),
+            bytes: equal_bytes(alloc, 0, size).unwrap_or(Vec::new(alloc)),
         }
     }
 
     /// Puts what the lines tell, each up to this character, over what is there. Empty lines and comments say nothing.
     pub fn put(&mut self, input: &mut Input<'_>, end: char) {
-        for line in input.rest().split(end) {
+        for line in input.remaining_text().split(end) {
             let line = line.trim();
             if !line.is_empty() && !line.starts_with('#') {
                 self.put_line(line, input);

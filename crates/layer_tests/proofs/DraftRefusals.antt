@@ -6,7 +6,8 @@ use Rattle.std.proofs.lemmas.Option.{none-some}
 use Rattle.std.specs.Cmp.Lexicographic.{nat_list_cmp_total, slice_cmp}
 use Rattle.std.specs.Ordering.{nat_cmp}
 use Rattle.courses.specs.tier_device.declared.media.Tier.TheVariants.{Fast}
-use Rattle.courses.specs.posix_calls.Tree.{State, Dir, empty_tree, entries_of, opening, set_node}
+use Rattle.courses.specs.posix_calls.Tree.{State, Dir, entries_of, set_node}
+use Rattle.courses.specs.posix_calls.EmptyTree.{empty_tree, empty_state}
 use Rattle.courses.specs.posix_calls.Run.{Run, Turn, settled}
 use Rattle.courses.specs.posix_calls.Operations.{Follows, Step, state_after}
 use Rattle.courses.specs.posix_calls.declared.call.Reply.TheVariants.{Done}
@@ -59,19 +60,19 @@ spoiled_is_not_taken (inr e) = absurd (grind (arith, e))
 -- ---- a reply that counts before its event's end
 
 -- the state after the call has a directory of that name in the root
-tree_has : (new : ℕ) → fin.get (entries_of ((settled (state_after 1 new opening (NewDir root_a))).tree 1)) (97 ∷ []) ≡ Some new
+tree_has : (new : ℕ) → fin.get (entries_of ((settled (state_after 1 new empty_state (NewDir root_a))).tree 1)) (97 ∷ []) ≡ Some new
 tree_has new = fin.get-insert nat_list_cmp_total (entries_of (set_node empty_tree new (Some (Dir fin.empty)) 1)) (97 ∷ []) new (97 ∷ [])
 
-nothing_has : fin.get (entries_of ((settled opening).tree 1)) (97 ∷ []) ≡ None
+nothing_has : fin.get (entries_of ((settled empty_state).tree 1)) (97 ∷ []) ≡ None
 nothing_has = fin.get-empty (slice_cmp nat_cmp) (97 ∷ [])
 
 -- where the call was done, a directory was made
-mkdir_makes : (after : State) → Step opening 1 one_call Done after → (new : ℕ) × (after ≡ state_after 1 new opening (NewDir root_a))
-mkdir_makes after (inl step) = (step.0, (subst (λ a. Follows opening 1 step.0 a Done after) answer_is step.1).2)
+mkdir_makes : (after : State) → Step empty_state 1 one_call Done after → (new : ℕ) × (after ≡ state_after 1 new empty_state (NewDir root_a))
+mkdir_makes after (inl step) = (step.0, (subst (λ a. Follows empty_state 1 step.0 a Done after) answer_is step.1).2)
 mkdir_makes after (inr given_up) = absurd (grind (arith, given_up.2))
 
 -- so the state is another
-done_is_seen : (last : State) → Run opening (one_turn ∷ []) last → settled opening ≡ settled last → ⊥
+done_is_seen : (last : State) → Run empty_state (one_turn ∷ []) last → settled empty_state ≡ settled last → ⊥
 done_is_seen last run e =
     let new = mkdir_makes run.0 run.1 in
     none-some new.0 (sym nothing_has ∙ ap (λ s. fin.get (entries_of (s.tree 1)) (97 ∷ [])) (e ∙ ap settled (run.2 ∙ new.1)) ∙ tree_has new.0)
@@ -84,7 +85,7 @@ none_more (turn ∷ more) some = absurd (grind (arith, some.0))
 early_reply : (c : WorldContent) → c GATE Fast ≡ 0 ∷ [] → Recovers ghosts draft.Fresh (ledger news_of nobody (take 2 three_events) (take 2 three_outcomes)) c → ⊥
 unfolding ledger
 early_reply c is_shut is =
-    done_is_seen is.outcome.last (subst (λ more. Run opening (one_turn ∷ more) is.outcome.last) (none_more is.outcome.more is.outcome.some_of) is.outcome.run)
+    done_is_seen is.outcome.last (subst (λ more. Run empty_state (one_turn ∷ more) is.outcome.last) (none_more is.outcome.more is.outcome.some_of) is.outcome.run)
     (sym (stored_shut draft.Fresh c is_shut) ∙ is.outcome.settled)
 
 -- so no course of the three has each stop recovered by the replies up to the end of its event

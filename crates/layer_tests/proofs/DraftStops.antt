@@ -6,7 +6,8 @@ use Rattle.std.specs.Cmp.Lexicographic.{slice_cmp}
 use Rattle.std.specs.Ordering.{nat_cmp}
 use Rattle.courses.specs.tier_device.declared.media.Tier.TheVariants.{Fast}
 use Rattle.courses.specs.posix_calls.Content.{Entries}
-use Rattle.courses.specs.posix_calls.Tree.{State, opening}
+use Rattle.courses.specs.posix_calls.Tree.{State}
+use Rattle.courses.specs.posix_calls.EmptyTree.{empty_state}
 use Rattle.courses.specs.posix_calls.Run.{settled}
 use Rattle.courses.specs.posix_calls.Query.{Gives, ◌>>=◌, run, view_of}
 use Rattle.courses.specs.posix_calls.Walk.{refuse, walk, is_there}
@@ -32,37 +33,37 @@ abbrev no_entries : Entries ℕ
 no_entries = fin.empty
 
 -- a client's `mkdir /a` in the empty tree
-pub answer_is : answer opening 1 one_call ≡ Ok (NewDir root_a)
+pub answer_is : answer empty_state 1 one_call ≡ Ok (NewDir root_a)
 unfolding mkdir walk run ◌>>=◌
 answer_is =
-    let v = view_of opening.tree in
+    let v = view_of empty_state.tree in
     ap (λ o. run v (refuse errno.Exists (is_there o) >>= (λ x. refuse errno.NoSpace (nat_le 3584 (fin.len no_entries)) >>= (λ y. Gives (NewDir root_a))))) (fin.get-empty (slice_cmp nat_cmp) (97 ∷ []))
     ∙ ap (λ n. run v (refuse errno.NoSpace (nat_le 3584 n) >>= (λ y. Gives (NewDir root_a)))) (fin.len-empty (slice_cmp nat_cmp) ℕ)
 
-pub mkdir_step : Step opening 1 one_call Done after_mkdir
-mkdir_step = inl (2, subst (λ a. Follows opening 1 2 a Done after_mkdir) (sym answer_is) ((λ is. record { low = omega arith; high = omega arith; none = refl }), refl, refl))
+pub mkdir_step : Step empty_state 1 one_call Done after_mkdir
+mkdir_step = inl (2, subst (λ a. Follows empty_state 1 2 a Done after_mkdir) (sym answer_is) ((λ is. record { low = omega arith; high = omega arith; none = refl }), refl, refl))
 
 -- ---- what is stored
 
-pub stored_shut : (it : GatedDraft) (c : WorldContent) → c GATE Fast ≡ 0 ∷ [] → stored_by it c ≡ settled opening
-stored_shut it c e = ap (λ b. cond (get_or b 0 0 == 1) (settled after_mkdir) (settled opening)) e
+pub stored_shut : (it : GatedDraft) (c : WorldContent) → c GATE Fast ≡ 0 ∷ [] → stored_by it c ≡ settled empty_state
+stored_shut it c e = ap (λ b. cond (get_or b 0 0 == 1) (settled after_mkdir) (settled empty_state)) e
 
 stored_open : (it : GatedDraft) (c : WorldContent) → c GATE Fast ≡ 1 ∷ [] → stored_by it c ≡ settled after_mkdir
-stored_open it c e = ap (λ b. cond (get_or b 0 0 == 1) (settled after_mkdir) (settled opening)) e
+stored_open it c e = ap (λ b. cond (get_or b 0 0 == 1) (settled after_mkdir) (settled empty_state)) e
 
 -- none of the calls was done
 without : (old t : State) (calls : Unfinished) → t ≡ settled old → IsOutcome old [] calls t
 without old t calls e = record { more = []; last = old; some_of = tt; run = refl; settled = e }
 
 -- the call was done, and not answered
-with_call : (t : State) → t ≡ settled after_mkdir → IsOutcome opening [] pending t
+with_call : (t : State) → t ≡ settled after_mkdir → IsOutcome empty_state [] pending t
 with_call t e = record { more = one_turn ∷ []; last = after_mkdir; some_of = (refl, tt); run = (after_mkdir, mkdir_step, refl); settled = e }
 
-shut : (it : GatedDraft) (c : WorldContent) → tree_of it ≡ opening → c GATE Fast ≡ 0 ∷ [] → Recovers ghosts it (no_news (calls_of it)) c
-shut it c tree e = record { can = inl e; outcome = subst (λ old. IsOutcome old [] (calls_of it) (stored_by it c)) (sym tree) (without opening (stored_by it c) (calls_of it) (stored_shut it c e)) }
+shut : (it : GatedDraft) (c : WorldContent) → tree_of it ≡ empty_state → c GATE Fast ≡ 0 ∷ [] → Recovers ghosts it (no_news (calls_of it)) c
+shut it c tree e = record { can = inl e; outcome = subst (λ old. IsOutcome old [] (calls_of it) (stored_by it c)) (sym tree) (without empty_state (stored_by it c) (calls_of it) (stored_shut it c e)) }
 
-open_early : (it : GatedDraft) (c : WorldContent) → tree_of it ≡ opening → calls_of it ≡ pending → c GATE Fast ≡ 1 ∷ [] → Recovers ghosts it (no_news (calls_of it)) c
-open_early it c tree calls e = record { can = inr e; outcome = subst (λ old. IsOutcome old [] (calls_of it) (stored_by it c)) (sym tree) (subst (λ calls'. IsOutcome opening [] calls' (stored_by it c)) (sym calls) (with_call (stored_by it c) (stored_open it c e))) }
+open_early : (it : GatedDraft) (c : WorldContent) → tree_of it ≡ empty_state → calls_of it ≡ pending → c GATE Fast ≡ 1 ∷ [] → Recovers ghosts it (no_news (calls_of it)) c
+open_early it c tree calls e = record { can = inr e; outcome = subst (λ old. IsOutcome old [] (calls_of it) (stored_by it c)) (sym tree) (subst (λ calls'. IsOutcome empty_state [] calls' (stored_by it c)) (sym calls) (with_call (stored_by it c) (stored_open it c e))) }
 
 open_late : (it : GatedDraft) (c : WorldContent) → tree_of it ≡ after_mkdir → c GATE Fast ≡ 1 ∷ [] → Recovers ghosts it (no_news (calls_of it)) c
 open_late it c tree e = record { can = inr e; outcome = subst (λ old. IsOutcome old [] (calls_of it) (stored_by it c)) (sym tree) (without after_mkdir (stored_by it c) (calls_of it) (stored_open it c e)) }
@@ -70,7 +71,7 @@ open_late it c tree e = record { can = inr e; outcome = subst (λ old. IsOutcome
 -- ---- what a stop leaves
 
 -- by a gate that was not past its first fence, and a tree without the directory
-early_gate : (it : GatedDraft) (c : WorldContent) (m : ℕ) → m ≤ 2 → tree_of it ≡ opening → calls_of it ≡ pending → gate_left m (c GATE Fast) → Recovers ghosts it (no_news (calls_of it)) c
+early_gate : (it : GatedDraft) (c : WorldContent) (m : ℕ) → m ≤ 2 → tree_of it ≡ empty_state → calls_of it ≡ pending → gate_left m (c GATE Fast) → Recovers ghosts it (no_news (calls_of it)) c
 early_gate it c zero le tree calls held = shut it c tree held
 early_gate it c (suc zero) le tree calls (inl held) = shut it c tree held
 early_gate it c (suc zero) le tree calls (inr held) = open_early it c tree calls held

@@ -3,7 +3,7 @@ use Rattle.std.proofs.Common.{◌≡◌, ◌≢◌, ℕ, zero, suc, ◌≤◌, �
 use Rattle.std.specs.Prelude.{◌↔◌, None}
 use Rattle.courses.specs.tier_device.declared.media.Tier.{Tier}
 use Rattle.courses.specs.tier_device.Media.{Keeps}
-use Rattle.courses.specs.posix_calls.Tree.{opening}
+use Rattle.courses.specs.posix_calls.EmptyTree.{empty_state}
 use Rattle.courses.specs.posix_calls.Run.{settled}
 use Rattle.courses.specs.Outcome.{IsOutcome}
 use Rattle.courses.specs.Courses.{PARTS, Content, MovesOnly}
@@ -39,5 +39,5 @@ module _ {M : Type 0} (moment : M → ℕ) (left : M → ℕ → Tier → List �
   region_past s a b keeps (suc (suc p)) m c part le = (λ h. h, λ h. h)
 
 -- with no call, the empty tree is left
-pub empty_tree_is_left : IsOutcome opening [] (λ c. None) (settled opening)
-empty_tree_is_left = record { more = []; last = opening; some_of = tt; run = refl; settled = refl }
+pub empty_tree_is_left : IsOutcome empty_state [] (λ c. None) (settled empty_state)
+empty_tree_is_left = record { more = []; last = empty_state; some_of = tt; run = refl; settled = refl }

@@ -6,7 +6,7 @@ use Rattle.std.specs.Cmp.Lexicographic.{nat_list_cmp_total}
 use Rattle.std.specs.FinMap as fin
 use Rattle.graph_check.specs.posix_calls.Content.{Entries}
 use Rattle.graph_check.specs.file_graph.Graph.{Node, FileBody, DirBody, file_bytes, directory_entries}
-use Rattle.graph_check.specs.file_graph.Named.{pairs}
+use Rattle.graph_check.specs.file_graph.NameOrder.{pairs}
 use Rattle.graph_check.specs.file_graph.declared.effect.Kind.{Kind}
 use Rattle.graph_check.specs.file_graph.declared.name_map.NamedEntry.{NamedEntry}
 use Rattle.graph_check.specs.call_effects.NodeView.{NodeView, FileView, DirView, view_of_node}

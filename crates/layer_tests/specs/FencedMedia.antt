@@ -1,7 +1,7 @@
 -- A shared medium and a region, of which an event fences one: a small instance over any media.
 use Rattle.std.specs.Prelude.{ℕ, zero, suc, List}
 use Rattle.courses.specs.tier_device.declared.media.Tier.{Tier}
-use Rattle.courses.specs.tier_device.Media.{Left}
+use Rattle.courses.specs.tier_device.AfterStop.{Left}
 use Rattle.courses.specs.Courses.{LeftOf, MovesOnly, Reading}
 use Rattle.layer_tests.specs.declared.fenced_media.FenceEvent.{FenceEvent}
 use Rattle.layer_tests.specs.declared.fenced_media.FenceEvent.TheVariants as event

@@ -1,7 +1,8 @@
 -- A draft and its gate: a small instance of what plays events.
 use Rattle.std.specs.Prelude.{◌≡◌, ◌⊎◌, ℕ, zero, suc, ◌==◌, List, [], ◌∷◌, get_or, Some, None, if◌then◌else◌}
 use Rattle.courses.specs.tier_device.declared.media.Tier.TheVariants.{Fast}
-use Rattle.courses.specs.posix_calls.Tree.{State, opening}
+use Rattle.courses.specs.posix_calls.Tree.{State}
+use Rattle.courses.specs.posix_calls.EmptyTree.{empty_state}
 use Rattle.courses.specs.posix_calls.Run.{Turn, settled}
 use Rattle.courses.specs.posix_calls.Operations.{state_after}
 use Rattle.courses.specs.posix_calls.declared.call.Call.{Call}
@@ -36,7 +37,7 @@ one_turn = record { client = 1; call = one_call; reply = Done }
 
 -- the state that it leads to
 abbrev pub after_mkdir : State
-after_mkdir = state_after 1 2 opening (NewDir root_a)
+after_mkdir = state_after 1 2 empty_state (NewDir root_a)
 
 -- no call is started
 abbrev pub nobody : Unfinished
@@ -48,9 +49,9 @@ pending c = if c == 1 then Some one_call else None
 
 -- the tree has the directory from the opened gate on
 abbrev pub tree_of : GatedDraft → State
-tree_of draft.Fresh = opening
-tree_of draft.Drafted = opening
-tree_of draft.Torn = opening
+tree_of draft.Fresh = empty_state
+tree_of draft.Drafted = empty_state
+tree_of draft.Torn = empty_state
 tree_of draft.Open = after_mkdir
 tree_of draft.Mended = after_mkdir
 
@@ -104,7 +105,7 @@ can_take it c = (c GATE Fast ≡ 0 ∷ []) ⊎ (c GATE Fast ≡ 1 ∷ [])
 
 -- by an open gate the directory is stored
 abbrev pub stored_by : GatedDraft → WorldContent → State
-stored_by it c = if get_or (c GATE Fast) 0 0 == 1 then settled after_mkdir else settled opening
+stored_by it c = if get_or (c GATE Fast) 0 0 == 1 then settled after_mkdir else settled empty_state
 
 -- a draft starts the call, and a commit answers it
 abbrev pub news_of : News DraftEvent DraftOutcome

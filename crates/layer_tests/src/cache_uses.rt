@@ -58,7 +58,7 @@ const FILES: [(u32, u8); 5] = [
 type Marked = (u32, u8);
 
 // Each file with these blocks.
-fn filled(alloc: Global, marked: &[Marked]) -> Result<Blocks, AllocError> {
+fn filled_cache(alloc: Global, marked: &[Marked]) -> Result<Blocks, AllocError> {
     let mut blocks = Blocks::new(alloc)?;
     for (inode, byte) in FILES {
         put_file(&mut blocks, inode, byte, marked)?;
@@ -101,7 +101,7 @@ fn is_kept(blocks: &Blocks, inode: u32, byte: u8, marked: &[Marked], is_dropped:
 // Whether each file goes with these blocks of it, and the others stay.
 fn each_goes_alone(alloc: Global, marked: &[Marked]) -> Result<bool, AllocError> {
     for (dropped, _) in FILES {
-        let mut blocks = filled(alloc, marked)?;
+        let mut blocks = filled_cache(alloc, marked)?;
         if !are_kept(&blocks, marked, None) {
             return Ok(false);
         }

@@ -1,6 +1,6 @@
 //! Small cases: which records count under a mark, the generation after it that is free, and inodes that the records of two clients touch.
 
-use crate::made_runs::{alone, enter};
+use crate::made_runs::{enter, one_effect_record};
 use counted_logs::{
     CountedLogs, Effect, LogRest, Owners, SharedInode, logs_that_count, next_free_generation,
 };
@@ -81,7 +81,7 @@ fn add(
     effect: Effect,
 ) -> Result<Option<SharedInode>, AllocError> {
     let mut records = Vec::new(alloc);
-    records.push(alone(alloc, effect)?)?;
+    records.push(one_effect_record(alloc, effect)?)?;
     Ok(owners.add_records(client, &records).err())
 }
 
@@ -94,12 +94,12 @@ fn add_drops(
 ) -> Result<Option<SharedInode>, AllocError> {
     let mut records = Vec::new(alloc);
     for inode in inodes {
-        records.push(alone(alloc, Effect::Drop { inode: *inode })?)?;
+        records.push(one_effect_record(alloc, Effect::Drop { inode: *inode })?)?;
     }
     Ok(owners.add_records(client, &records).err())
 }
 
-fn shared(inode: u32, client: u32) -> Option<SharedInode> {
+fn shared_inode(inode: u32, client: u32) -> Option<SharedInode> {
     Some(SharedInode { inode, client })
 }
 
@@ -111,7 +111,10 @@ fn inodes_of_two_clients_are_found(rt: HostRuntime) -> Result<(), Fail> {
     assert_eq!(rt; add_drops(alloc, &mut owners, 1, &[7, 9, 7])?, None);
     assert_eq!(rt; add_drops(alloc, &mut owners, 1, &[9, 1_024])?, None);
     // The first shared inode in the order of the records is the answer, and none is added.
-    assert_eq!(rt; add_drops(alloc, &mut owners, 8, &[4, 9, 7])?, shared(9, 1));
+    assert_eq!(rt;
+        add_drops(alloc, &mut owners, 8, &[4, 9, 7])?,
+        shared_inode(9, 1)
+    );
     assert_eq!(rt; add_drops(alloc, &mut owners, 2, &[4])?, None);
     Ok(())
 }
@@ -128,7 +131,7 @@ fn entered_inode_is_not_touched(rt: HostRuntime) -> Result<(), Fail> {
     assert_eq!(rt; add_drops(alloc, &mut owners, 2, &[5])?, None);
     assert_eq!(rt;
         add(alloc, &mut owners, 3, enter(alloc, 1, b"b", 6)?)?,
-        shared(1, 1)
+        shared_inode(1, 1)
     );
     Ok(())
 }

@@ -1,7 +1,7 @@
 ghost use Rattle.std.specs.Prelude.{◌≤◌, IfOk};
 ghost use Rattle.counted_logs.specs.tier_device.Memory.{IsAtRest};
 
-use crate::doubles::{SetupError, failing, rest_of, stopping};
+use crate::doubles::{SetupError, failing_media, rest_of, stopping_media};
 use counted_logs::{Fill, Media, MediaError, MemMedia, StopMedia, Tier};
 use std::alloc::{AllocError, Global};
 use std::test::Fail;
@@ -35,7 +35,7 @@ fn four_calls<M: Media>(media: &mut M) -> u64 {
 fn stops(alloc: Global, call: u64, fill: Fill, left: &[u8]) -> Result<bool, SetupError>
     requires { 1 ≤ call }
 {
-    let mut media = stopping(zeros(alloc)?, call, fill);
+    let mut media = stopping_media(zeros(alloc)?, call, fill);
     let done = four_calls(&mut media);
     let stopped = media.is_stopped();
     let rest = rest_of(media, Fill::Old)?;
@@ -100,7 +100,7 @@ fn fails_from_its_stop(media: &mut StopMedia) -> bool {
 fn fails(alloc: Global, call: u64, left: &[u8]) -> Result<bool, SetupError>
     requires { 1 ≤ call }
 {
-    let mut media = failing(zeros(alloc)?, call);
+    let mut media = failing_media(zeros(alloc)?, call);
     let done = four_calls(&mut media);
     let rest = media.into_inner().after_stop(Fill::Byte(0xa5))?;
     Ok(done == 3 && rest.bytes(Tier::Fast) == left)

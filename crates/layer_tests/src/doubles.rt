@@ -3,7 +3,7 @@ ghost use Rattle.std.specs.Prelude.{◌≤◌, IfOk};
 ghost use Rattle.counted_logs.specs.tier_device.Memory.{IsAtRest};
 ghost use Rattle.counted_logs.specs.tier_device.Stop.{medium_of};
 ghost use Rattle.counted_logs.specs.tier_device.Fault.{sound_of};
-ghost use Rattle.counted_logs.specs.tier_device.Media.{AtRest};
+ghost use Rattle.counted_logs.specs.tier_device.AfterStop.{AtRest};
 ghost use Rattle.counted_logs.specs.tier_device.declared.media.Tier.TheVariants.{Fast};
 
 use batch_journal::JournalError;
@@ -45,7 +45,7 @@ impl From<JournalError> for SetupError {
 }
 
 /// A medium that stops within its call of this number.
-pub fn stopping(media: MemMedia, call: u64, fill: Fill) -> StopMedia
+pub fn stopping_media(media: MemMedia, call: u64, fill: Fill) -> StopMedia
     requires call { 1 ≤ call }
     requires rests { IsAtRest media }
     ensures { IsAtRest (medium_of result) }
@@ -75,7 +75,7 @@ pub fn after_stop(media: &MemMedia) -> Result<MemMedia, AllocError>
 }
 
 /// A medium whose call of this number fails.
-pub fn failing(media: MemMedia, call: u64) -> FaultMedia<MemMedia>
+pub fn failing_media(media: MemMedia, call: u64) -> FaultMedia<MemMedia>
     requires call { 1 ≤ call }
     requires rests { IsAtRest media }
     ensures { IsAtRest (sound_of result) }

@@ -2,7 +2,7 @@
 
 ghost use Rattle.std.specs.Prelude.{◌≤◌};
 
-use crate::coalesced::{put_change, told};
+use crate::change_effects::{graph_text, put_change};
 use crate::made_runs::{enter, fill, leave, record_of};
 use coalescer::coalesce;
 use counted_logs::{Effect, Kind, PlainGraph, Record};
@@ -18,7 +18,7 @@ struct Draw {
 
 impl Draw {
     // A number below a bound, or 0 where that is 0.
-    fn below(&mut self, bound: u32) -> u32
+    fn number_below(&mut self, bound: u32) -> u32
         ensures { result ≤ bound }
     {
         self.state = self
@@ -34,17 +34,17 @@ impl Draw {
 
 // A size near the edge of a block, or not.
 fn size_of(draw: &mut Draw) -> u64 {
-    let block = u64::from(draw.below(4)) * 4_096;
-    match draw.below(4) {
+    let block = u64::from(draw.number_below(4)) * 4_096;
+    match draw.number_below(4) {
         0 => block,
-        1 => block + u64::from(draw.below(3)),
-        2 => block + 4_094 + u64::from(draw.below(3)),
-        _ => block + u64::from(draw.below(4_096)),
+        1 => block + u64::from(draw.number_below(3)),
+        2 => block + 4_094 + u64::from(draw.number_below(3)),
+        _ => block + u64::from(draw.number_below(4_096)),
     }
 }
 
 fn kind_of(draw: &mut Draw) -> Kind {
-    if draw.below(3) == 0 {
+    if draw.number_below(3) == 0 {
         Kind::Directory
     } else {
         Kind::File
@@ -52,7 +52,7 @@ fn kind_of(draw: &mut Draw) -> Kind {
 }
 
 fn name_of(draw: &mut Draw) -> &'static [u8] {
-    match draw.below(3) {
+    match draw.number_below(3) {
         0 => b"a",
         1 => b"ab",
         _ => b"b",
@@ -60,8 +60,8 @@ fn name_of(draw: &mut Draw) -> &'static [u8] {
 }
 
 fn effect_of(alloc: Global, draw: &mut Draw) -> Result<Effect, AllocError> {
-    let inode = 1 + draw.below(4);
-    match draw.below(12) {
+    let inode = 1 + draw.number_below(4);
+    match draw.number_below(12) {
         0 => Ok(Effect::Make {
             inode,
             kind: kind_of(draw),
@@ -69,9 +69,9 @@ fn effect_of(alloc: Global, draw: &mut Draw) -> Result<Effect, AllocError> {
         1 => Ok(Effect::Drop { inode }),
         2 => Ok(Effect::Names {
             inode,
-            names: draw.below(9),
+            names: draw.number_below(9),
         }),
-        3 => enter(alloc, inode, name_of(draw), 1 + draw.below(6)),
+        3 => enter(alloc, inode, name_of(draw), 1 + draw.number_below(6)),
         4 => leave(alloc, inode, name_of(draw)),
         number => file_effect(alloc, draw, inode, number),
     }
@@ -89,10 +89,10 @@ fn file_effect(
             size: size_of(draw),
         });
     }
-    let count = if draw.below(2) == 0 {
-        draw.below(5)
+    let count = if draw.number_below(2) == 0 {
+        draw.number_below(5)
     } else {
-        draw.below(9_000)
+        draw.number_below(9_000)
     };
     fill(
         alloc,
@@ -105,9 +105,9 @@ fn file_effect(
 
 fn list_of(alloc: Global, draw: &mut Draw) -> Result<Vec<Record>, AllocError> {
     let mut records = Vec::new(alloc);
-    for _ in 0..draw.below(8) {
+    for _ in 0..draw.number_below(8) {
         let mut effects = Vec::new(alloc);
-        for _ in 0..1 + draw.below(4) {
+        for _ in 0..1 + draw.number_below(4) {
             effects.push(effect_of(alloc, draw)?)?;
         }
         records.push(record_of(effects))?;
@@ -133,10 +133,10 @@ fn is_the_fold(alloc: Global, before: &[Record], records: &[Record]) -> io::Resu
     apply_all(&mut found, before)?;
     let change = coalesce(alloc, records)?;
     put_change(alloc, &mut found, &change)?;
-    Ok(told(alloc, &wanted)? == told(alloc, &found)?)
+    Ok(graph_text(alloc, &wanted)? == graph_text(alloc, &found)?)
 }
 
-fn draw_and_compare(alloc: Global, draw: &mut Draw) -> io::Result<bool> {
+fn compare_run(alloc: Global, draw: &mut Draw) -> io::Result<bool> {
     let before = list_of(alloc, draw)?;
     let records = list_of(alloc, draw)?;
     is_the_fold(alloc, &before, &records)
@@ -146,7 +146,7 @@ fn draw_and_compare(alloc: Global, draw: &mut Draw) -> io::Result<bool> {
 fn a_change_of_drawn_records_is_their_fold(rt: HostRuntime) -> Result<(), Fail> {
     let mut draw = Draw { state: 15 };
     for list in 0u32..150 {
-        let same = draw_and_compare(rt.alloc(), &mut draw)?;
+        let same = compare_run(rt.alloc(), &mut draw)?;
         assert!(rt; same, "list {list}");
     }
     Ok(())

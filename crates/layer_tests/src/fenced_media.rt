@@ -17,11 +17,11 @@ pub enum FenceEvent {
 impl<M: Media> Recoverable<FenceEvent, bool> for FencedMedia<M> {
     ghost use Rattle.std.specs.Prelude.{None};
     ghost use Rattle.courses.specs.posix_calls.Run.{settled};
-    ghost use Rattle.courses.specs.posix_calls.Tree.{opening};
+    ghost use Rattle.courses.specs.posix_calls.EmptyTree.{empty_state};
     ghost use Rattle.courses.specs.Courses.{no_news};
     ghost use Rattle.layer_tests.specs.FencedMedia.{clock_of, left_of, moves_of};
 
-    ghost tree = { λ w. opening };
+    ghost tree = { λ w. empty_state };
 
     ghost calls = { λ w c. None };
 
@@ -31,7 +31,7 @@ impl<M: Media> Recoverable<FenceEvent, bool> for FencedMedia<M> {
 
     ghost can = { λ w c. Unit {0} };
 
-    ghost stored = { λ w c. settled opening };
+    ghost stored = { λ w c. settled empty_state };
 
     ghost news = { λ calls e o. no_news calls };
 

@@ -4,7 +4,7 @@ ghost use Rattle.std.specs.Prelude.{◌≡◌, ℕ, IfOk};
 ghost use Rattle.std.specs.FinMap as fin;
 ghost use Rattle.graph_check.specs.posix_calls.Content.{Entries};
 ghost use Rattle.graph_check.specs.file_graph.Graph.{graph_of};
-ghost use Rattle.graph_check.specs.file_graph.Named.{pairs};
+ghost use Rattle.graph_check.specs.file_graph.NameOrder.{pairs};
 ghost use Rattle.graph_check.specs.file_graph.declared.effect.Kind.{Kind};
 ghost use Rattle.graph_check.specs.call_effects.NodeView.{view_at};
 

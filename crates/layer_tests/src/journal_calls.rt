@@ -2,11 +2,11 @@
 // what the gate holds where all that was written is done. A stop within a fence leaves what the writes before it left.
 ghost use Rattle.std.specs.Prelude.{◌≤◌, IfOk};
 ghost use Rattle.counted_logs.specs.tier_device.declared.media.Tier.TheVariants.{Fast};
-ghost use Rattle.counted_logs.specs.tier_device.Media.{AtRest};
+ghost use Rattle.counted_logs.specs.tier_device.AfterStop.{AtRest};
 ghost use Rattle.counted_logs.specs.tier_device.Memory.{IsAtRest};
 
-use crate::doubles::{Hurt, SetupError, stopping};
-use crate::journals::{commit_two, medium, reopened};
+use crate::doubles::{Hurt, SetupError, stopping_media};
+use crate::journals::{commit_two, medium, reopen_journal};
 use batch_journal::{Journal, JournalError};
 use counted_logs::{Fill, MemMedia, Tier};
 use std::alloc::Global;
@@ -59,7 +59,7 @@ const BOTH: Span = Span {
 
 // A batch of two images: head and images are written, and kept; the gate is opened, and that is kept; the images are written to
 // their blocks in their order, and kept; the gate is closed, and that is kept.
-fn expected(call: u64) -> (Span, u8) {
+fn expected_call(call: u64) -> (Span, u8) {
     match call {
         1..=2 => (HEAD_AND_IMAGES, 0x00),
         3..=4 => (GATE, 0xa5),
@@ -97,7 +97,7 @@ fn commit_until<D: Hurt>(alloc: Global, media: D, fill: Fill) -> Result<MemMedia
     requires { AtRest (D.seen media) (D.left media (D.moment media)) Fast }
     ensures { IfOk result IsAtRest }
 {
-    let mut journal = reopened(alloc, media)?;
+    let mut journal = reopen_journal(alloc, media)?;
     if let Err(JournalError::Memory) = commit_two(alloc, &mut journal) {
         return Err(SetupError::Memory);
     }
@@ -108,7 +108,7 @@ fn commit_within(alloc: Global, call: u64, fill: Fill) -> Result<MemMedia, Setup
     requires { 1 ≤ call }
     ensures { IfOk result IsAtRest }
 {
-    let media = stopping(medium(alloc)?, call, fill);
+    let media = stopping_media(medium(alloc)?, call, fill);
     commit_until(alloc, media, fill)
 }
 
@@ -128,7 +128,7 @@ fn reopen_within(alloc: Global, call: u64, fill: Fill) -> Result<MemMedia, Setup
     requires { 1 ≤ call }
 {
     let open = commit_within(alloc, 5, Fill::Old)?;
-    let media = stopping(open, call, fill);
+    let media = stopping_media(open, call, fill);
     reopen_until(alloc, media, fill)
 }
 
@@ -137,7 +137,7 @@ fn commit_is(alloc: Global, call: u64) -> Result<bool, SetupError>
 {
     let torn = commit_within(alloc, call, Fill::Byte(DOUBT))?;
     let whole = commit_within(alloc, call, Fill::New)?;
-    Ok((in_doubt(torn.bytes(Tier::Fast)), gate_of(&whole)) == expected(call))
+    Ok((in_doubt(torn.bytes(Tier::Fast)), gate_of(&whole)) == expected_call(call))
 }
 
 // The replay makes the calls of a batch from the writes of its images on.
@@ -146,7 +146,7 @@ fn reopen_is(alloc: Global, call: u64) -> Result<bool, SetupError>
 {
     let torn = reopen_within(alloc, call - 4, Fill::Byte(DOUBT))?;
     let whole = reopen_within(alloc, call - 4, Fill::New)?;
-    Ok((in_doubt(torn.bytes(Tier::Fast)), gate_of(&whole)) == expected(call))
+    Ok((in_doubt(torn.bytes(Tier::Fast)), gate_of(&whole)) == expected_call(call))
 }
 
 #[test]

@@ -1,12 +1,12 @@
 ghost use Rattle.std.specs.Prelude.{◌≡◌, ◌≤◌, ◌<◌, ℕ, length, None, IfOk};
 ghost use Rattle.counted_logs.specs.tier_device.declared.media.Tier.TheVariants.{Fast};
-ghost use Rattle.counted_logs.specs.tier_device.Media.{AtRest};
+ghost use Rattle.counted_logs.specs.tier_device.AfterStop.{AtRest};
 ghost use Rattle.counted_logs.specs.tier_device.Memory.{IsAtRest};
 ghost use Rattle.batch_journal.specs.Images.{image_for};
 ghost use Rattle.batch_journal.specs.Blocks.{AreJournaled};
 ghost use Rattle.batch_journal.specs.layout.Places.{Sizes};
 
-use crate::doubles::{Hurt, SetupError, after_stop, failing, stopping};
+use crate::doubles::{Hurt, SetupError, after_stop, failing_media, stopping_media};
 use batch_journal::{Batch, Geometry, Journal, JournalError, Super};
 use counted_logs::{Fill, Media, MemMedia, Tier};
 use std::alloc::{AllocError, Global};
@@ -26,13 +26,13 @@ fn fast_tier(alloc: Global) -> Result<Vec<u8>, SetupError> {
     let Some(geometry) = Geometry::new(2, 2, 512, 0) else {
         return Err(SetupError::Sizes);
     };
-    let mut fast = filled(alloc, 0)?;
+    let mut fast = filled_block(alloc, 0)?;
     Super { geometry }.encode(&mut fast);
     fast.resize(3_370 * 4_096, 0)?;
     Ok(fast)
 }
 
-pub fn reopened<M: Media + Drop>(alloc: Global, media: M) -> Result<Journal<M>, SetupError>
+pub fn reopen_journal<M: Media + Drop>(alloc: Global, media: M) -> Result<Journal<M>, SetupError>
     requires { AtRest (M.seen media) (M.left media (M.moment media)) Fast }
 {
     match Journal::reopen(alloc, media) {
@@ -41,7 +41,7 @@ pub fn reopened<M: Media + Drop>(alloc: Global, media: M) -> Result<Journal<M>, 
     }
 }
 
-fn filled(alloc: Global, byte: u8) -> Result<Vec<u8>, AllocError>
+fn filled_block(alloc: Global, byte: u8) -> Result<Vec<u8>, AllocError>
     ensures { IfOk result (λ v. length v.items ≡ 4096) }
 {
     let size = 4_096;
@@ -61,8 +61,8 @@ fn two(alloc: Global) -> Result<Batch, AllocError>
     ensures places { IfOk result (λ b. (g : Sizes) → AreJournaled g b) }
     ensures named { IfOk result (λ b. image_for 0 b ≡ None) }
 {
-    let first = filled(alloc, 0x61)?;
-    let second = filled(alloc, 0x62)?;
+    let first = filled_block(alloc, 0x61)?;
+    let second = filled_block(alloc, 0x62)?;
     let mut batch = Batch::new(alloc)?;
     batch.push(33, &first)?;
     batch.push(292, &second)?;
@@ -71,7 +71,7 @@ fn two(alloc: Global) -> Result<Batch, AllocError>
 
 // The first and the last byte of blocks 33 and 292.
 fn ends<M: Media>(alloc: Global, journal: &mut Journal<M>) -> Result<[u8; 4], JournalError> {
-    match filled(alloc, 7) {
+    match filled_block(alloc, 7) {
         Ok(mut block) => ends_through(journal, &mut block),
         Err(_) => Err(JournalError::Memory),
     }
@@ -102,16 +102,16 @@ fn two_images_are_read_again(rt: HostRuntime) -> Result<(), Fail> {
 
 fn is_read_again(alloc: Global) -> Result<bool, SetupError> {
     let media = medium(alloc)?;
-    let (before, media) = committed(alloc, media)?;
+    let (before, media) = commit_batch(alloc, media)?;
     let rest = after_stop(&media)?;
     Ok(before == BEFORE && ends_in(alloc, rest)? == AFTER)
 }
 
 // The medium after the commit, and the same bytes before it.
-fn committed<M: Media + Drop>(alloc: Global, media: M) -> Result<([u8; 4], M), SetupError>
+fn commit_batch<M: Media + Drop>(alloc: Global, media: M) -> Result<([u8; 4], M), SetupError>
     requires { AtRest (M.seen media) (M.left media (M.moment media)) Fast }
 {
-    let mut journal = reopened(alloc, media)?;
+    let mut journal = reopen_journal(alloc, media)?;
     let before = ends(alloc, &mut journal)?;
     commit_two(alloc, &mut journal)?;
     Ok((before, journal.into_media()))
@@ -121,13 +121,13 @@ fn committed<M: Media + Drop>(alloc: Global, media: M) -> Result<([u8; 4], M), S
 fn ends_in<M: Media + Drop>(alloc: Global, media: M) -> Result<[u8; 4], SetupError>
     requires { AtRest (M.seen media) (M.left media (M.moment media)) Fast }
 {
-    let mut journal = reopened(alloc, media)?;
+    let mut journal = reopen_journal(alloc, media)?;
     Ok(ends(alloc, &mut journal)?)
 }
 
 // What a stop behind a failed call leaves over a fill: the gate is opened by call 3 and kept by call 4; until then no fill but an open gate's
 // lets the batch be seen.
-fn expected(call: u64, fill: Fill) -> [u8; 4] {
+fn expected_ends(call: u64, fill: Fill) -> [u8; 4] {
     match (call, fill) {
         (0..=2, _) => BEFORE,
         (3..=4, Fill::Old | Fill::Byte(0x00)) => BEFORE,
@@ -148,19 +148,15 @@ fn ends_left<D: Hurt>(
 fn fails(alloc: Global, call: u64) -> Result<bool, SetupError>
     requires { 1 ≤ call }
 {
-    let media = failing(medium(alloc)?, call);
-    let (has_failed, left) = fail_and_stop(alloc, media, Fill::Byte(0xa5))?;
-    Ok(has_failed && left == expected(call, Fill::Byte(0xa5)))
+    let media = failing_media(medium(alloc)?, call);
+    let (has_failed, left) = stop_failed(alloc, media, Fill::Byte(0xa5))?;
+    Ok(has_failed && left == expected_ends(call, Fill::Byte(0xa5)))
 }
 
-fn fail_and_stop<D: Hurt>(
-    alloc: Global,
-    media: D,
-    fill: Fill,
-) -> Result<(bool, [u8; 4]), SetupError>
+fn stop_failed<D: Hurt>(alloc: Global, media: D, fill: Fill) -> Result<(bool, [u8; 4]), SetupError>
     requires { AtRest (D.seen media) (D.left media (D.moment media)) Fast }
 {
-    let mut journal = reopened(alloc, media)?;
+    let mut journal = reopen_journal(alloc, media)?;
     let has_failed = stays_failed(alloc, &mut journal);
     Ok((has_failed, ends_left(alloc, journal, fill)?))
 }
@@ -186,7 +182,7 @@ fn a_failed_call_fails_the_journal_until_it_is_reopened(rt: HostRuntime) -> Resu
 
 // Writes the last data block of two tiers, of which the fast one is fenced.
 fn write_data<M: Media>(alloc: Global, journal: &mut Journal<M>) -> Result<(), SetupError> {
-    let data = filled(alloc, 5)?;
+    let data = filled_block(alloc, 5)?;
     let geometry = journal.geometry();
     if geometry.data_first(Tier::Fast) > 3_369
         || geometry.tier_blocks(Tier::Fast) < 3_370
@@ -201,17 +197,17 @@ fn write_data<M: Media>(alloc: Global, journal: &mut Journal<M>) -> Result<(), S
 }
 
 // What a stop leaves of a medium to which they were written.
-fn write_and_stop<D: Hurt>(alloc: Global, media: D) -> Result<MemMedia, SetupError>
+fn stop_written<D: Hurt>(alloc: Global, media: D) -> Result<MemMedia, SetupError>
     requires { AtRest (D.seen media) (D.left media (D.moment media)) Fast }
 {
-    let mut journal = reopened(alloc, media)?;
+    let mut journal = reopen_journal(alloc, media)?;
     write_data(alloc, &mut journal)?;
     journal.into_media().left_by_stop(Fill::Old)
 }
 
 fn is_kept_by_its_fence(alloc: Global) -> Result<bool, SetupError> {
-    let media = stopping(medium(alloc)?, 4, Fill::Old);
-    let rest = write_and_stop(alloc, media)?;
+    let media = stopping_media(medium(alloc)?, 4, Fill::Old);
+    let rest = stop_written(alloc, media)?;
     let fast = rest.bytes(Tier::Fast).get(3_369 * 4_096).copied();
     let block = rest.bytes(Tier::Block).get(511 * 4_096).copied();
     Ok(fast == Some(5) && block == Some(0))

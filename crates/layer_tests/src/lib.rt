@@ -6,7 +6,7 @@
 #[cfg(test)]
 mod cache_uses;
 #[cfg(test)]
-mod coalesced;
+mod change_effects;
 #[cfg(test)]
 mod counted_rows;
 #[cfg(test)]

@@ -11,7 +11,7 @@ use std::alloc::{AllocError, Global};
 pub const CAPACITY: u64 = 1_000;
 
 /// A check over a graph of 10 units: the root has the name `aa`, the file 2 has a block, there is no node 3, and of others nothing is known.
-pub fn opening(alloc: Global) -> Result<RecordCheck, AllocError> {
+pub fn open_check(alloc: Global) -> Result<RecordCheck, AllocError> {
     let mut check = RecordCheck::new(alloc, 10);
     check.learn(1, Some(directory(alloc, 1)?))?;
     check.learn(2, Some(NodeSummary::file(1, 4_096)))?;
@@ -27,7 +27,7 @@ fn are_rising(inodes: &[u32]) -> bool
 }
 
 /// What a check tells of a record of these effects; none where no log can hold such a record, or where what is held is not listed rising.
-pub fn told(
+pub fn verdict_on(
     alloc: Global,
     check: &mut RecordCheck,
     capacity: u64,
@@ -45,15 +45,15 @@ pub fn told(
     Ok(Some(check.next(alloc, capacity, held, &next)?))
 }
 
-pub fn good(charge: u64) -> Option<Verdict> {
+pub fn good_verdict(charge: u64) -> Option<Verdict> {
     Some(Verdict::Good { charge })
 }
 
-pub fn bad() -> Option<Verdict> {
+pub fn bad_verdict() -> Option<Verdict> {
     Some(Verdict::Bad)
 }
 
-pub fn unknown(inode: u32) -> Option<Verdict> {
+pub fn unknown_verdict(inode: u32) -> Option<Verdict> {
     Some(Verdict::Unknown { inode })
 }
 

@@ -53,7 +53,7 @@ pub fn record_of(effects: Vec<Effect>) -> Record {
 }
 
 /// A record of one effect.
-pub fn alone(alloc: Global, effect: Effect) -> Result<Record, AllocError> {
+pub fn one_effect_record(alloc: Global, effect: Effect) -> Result<Record, AllocError> {
     let mut effects = Vec::new(alloc);
     effects.push(effect)?;
     Ok(record_of(effects))

@@ -90,9 +90,9 @@ const ROWS: [(&[Row], &str); 14] = [
 fn effect_of(alloc: Global, row: Row) -> io::Result<Effect> {
     let (word, inode, number, text) = row;
     match word {
-        "enter" => entering(inode, number, name_of(alloc, text)?),
-        "leave" => leaving(inode, name_of(alloc, text)?),
-        "bytes" => writing(alloc, inode, number, text),
+        "enter" => enter_effect(inode, number, name_of(alloc, text)?),
+        "leave" => leave_effect(inode, name_of(alloc, text)?),
+        "bytes" => write_effect(alloc, inode, number, text),
         word => Ok(plain_effect(word, inode, number)),
     }
 }
@@ -126,7 +126,7 @@ fn name_of(alloc: Global, text: &str) -> io::Result<Name> {
     }
 }
 
-fn entering(directory: u32, inode: u32, name: Name) -> io::Result<Effect> {
+fn enter_effect(directory: u32, inode: u32, name: Name) -> io::Result<Effect> {
     Ok(Effect::Enter {
         directory,
         inode,
@@ -135,11 +135,11 @@ fn entering(directory: u32, inode: u32, name: Name) -> io::Result<Effect> {
     })
 }
 
-fn leaving(directory: u32, name: Name) -> io::Result<Effect> {
+fn leave_effect(directory: u32, name: Name) -> io::Result<Effect> {
     Ok(Effect::Leave { directory, name })
 }
 
-fn writing(alloc: Global, inode: u32, at: u32, text: &str) -> io::Result<Effect> {
+fn write_effect(alloc: Global, inode: u32, at: u32, text: &str) -> io::Result<Effect> {
     Ok(Effect::Bytes {
         inode,
         at: u64::from(at),
@@ -148,7 +148,7 @@ fn writing(alloc: Global, inode: u32, at: u32, text: &str) -> io::Result<Effect>
 }
 
 // What a graph has at the inodes 1 to 5, and all its units.
-fn told(alloc: Global, graph: &PlainGraph) -> io::Result<Vec<u8>> {
+fn graph_text(alloc: Global, graph: &PlainGraph) -> io::Result<Vec<u8>> {
     let mut text = Vec::new(alloc);
     for inode in ROOT..6 {
         tell_node(&mut text, graph, inode)?;
@@ -187,7 +187,7 @@ fn after(alloc: Global, rows: &[Row]) -> io::Result<Vec<u8>> {
         let effect = effect_of(alloc, *row)?;
         graph.apply(&effect)?;
     }
-    told(alloc, &graph)
+    graph_text(alloc, &graph)
 }
 
 #[test]

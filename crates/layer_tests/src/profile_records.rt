@@ -129,7 +129,7 @@ fn bytes_behind_a_record_are_left(rt: HostRuntime) -> Result<(), Fail> {
 }
 
 #[test]
-fn errors_are_told(rt: HostRuntime) -> Result<(), Fail> {
+fn errors_are_reported(rt: HostRuntime) -> Result<(), Fail> {
     let alloc = rt.alloc();
     let text = format!(in alloc; "{}, {}", RecordError::NoRecord, RecordError::Memory)?;
     assert_eq!(rt; text.as_str(), "the bytes are no record, out of memory");

@@ -1,7 +1,8 @@
 //! Records that raise the charge by more than their units, or past what there is.
 
 use crate::made_records::{
-    CAPACITY, bad, byte, directory, enter, good, leave, one, opening, told, two,
+    CAPACITY, bad_verdict, byte, directory, enter, good_verdict, leave, one, open_check, two,
+    verdict_on,
 };
 use counted_logs::{Effect, Kind};
 use graph_check::{RecordCheck, Verdict};
@@ -21,7 +22,7 @@ fn size(inode: u32, size: u64) -> Effect {
 
 // A directory 4 has 56 names, as many as a unit.
 fn opening_with_full_unit(alloc: Global) -> Result<RecordCheck, AllocError> {
-    let mut check = opening(alloc)?;
+    let mut check = open_check(alloc)?;
     check.learn(4, Some(directory(alloc, 56)?))?;
     Ok(check)
 }
@@ -67,7 +68,7 @@ fn row(alloc: Global, number: u32) -> Result<(Vec<Effect>, u32, u64), AllocError
     }
 }
 
-fn found(
+fn find_verdict(
     alloc: Global,
     number: u32,
     units: u32,
@@ -75,7 +76,7 @@ fn found(
 ) -> Result<Option<Verdict>, AllocError> {
     let (effects, _, _) = row(alloc, number)?;
     let mut check = opening_with_full_unit(alloc)?;
-    told(alloc, &mut check, capacity, &[1, 2, 3, 4], units, effects)
+    verdict_on(alloc, &mut check, capacity, &[1, 2, 3, 4], units, effects)
 }
 
 #[test]
@@ -84,12 +85,12 @@ fn a_record_has_the_units_that_it_raises(rt: HostRuntime) -> Result<(), Fail> {
     for number in 0u32..14 {
         let (_, growth, charge) = row(alloc, number)?;
         assert!(rt;
-            found(alloc, number, growth, CAPACITY)? == good(charge),
+            find_verdict(alloc, number, growth, CAPACITY)? == good_verdict(charge),
             "row {number}"
         );
         if growth > 0 {
             assert!(rt;
-                found(alloc, number, growth - 1, CAPACITY)? == bad(),
+                find_verdict(alloc, number, growth - 1, CAPACITY)? == bad_verdict(),
                 "row {number}"
             );
         }
@@ -103,11 +104,11 @@ fn the_graph_after_a_record_costs_no_more_than_there_is(rt: HostRuntime) -> Resu
     for number in 0u32..14 {
         let (_, growth, charge) = row(alloc, number)?;
         assert!(rt;
-            found(alloc, number, growth, charge)? == good(charge),
+            find_verdict(alloc, number, growth, charge)? == good_verdict(charge),
             "row {number}"
         );
         assert!(rt;
-            found(alloc, number, growth, charge.saturating_sub(1))? == bad(),
+            find_verdict(alloc, number, growth, charge.saturating_sub(1))? == bad_verdict(),
             "row {number}"
         );
     }

@@ -1,7 +1,8 @@
 //! Records that leave a node past a limit: of names, of bytes, of entries.
 
 use crate::made_records::{
-    CAPACITY, bad, byte, directory, enter, good, leave, one, opening, told, two,
+    CAPACITY, bad_verdict, byte, directory, enter, good_verdict, leave, one, open_check, two,
+    verdict_on,
 };
 use counted_logs::Effect;
 use graph_check::NodeSummary;
@@ -76,11 +77,11 @@ fn what_a_record_touches_keeps_the_limits(rt: HostRuntime) -> Result<(), Fail> {
     let alloc = rt.alloc();
     for number in 0u32..11 {
         let (node, effects, is_good) = row(alloc, number)?;
-        let mut check = opening(alloc)?;
+        let mut check = open_check(alloc)?;
         check.charge = 500;
         check.learn(5, Some(node))?;
-        let found = told(alloc, &mut check, CAPACITY, &[5], 9, effects)?;
-        assert!(rt; (found == bad()) != is_good, "row {number}");
+        let found = verdict_on(alloc, &mut check, CAPACITY, &[5], 9, effects)?;
+        assert!(rt; (found == bad_verdict()) != is_good, "row {number}");
     }
     Ok(())
 }
@@ -106,8 +107,8 @@ fn a_record_may_bring_a_node_to_its_limits(rt: HostRuntime) -> Result<(), Fail> 
     ];
     for (effect, charge) in rows {
         let effects = one(alloc, effect)?;
-        let found = told(alloc, &mut opening(alloc)?, CAPACITY, &[2], 255, effects)?;
-        assert_eq!(rt; found, good(charge));
+        let found = verdict_on(alloc, &mut open_check(alloc)?, CAPACITY, &[2], 255, effects)?;
+        assert_eq!(rt; found, good_verdict(charge));
     }
     // A record that asks for more has no spelling, so no log holds it.
     for effect in [
@@ -124,7 +125,7 @@ fn a_record_may_bring_a_node_to_its_limits(rt: HostRuntime) -> Result<(), Fail> 
     ] {
         let effects = one(alloc, effect)?;
         assert_eq!(rt;
-            told(alloc, &mut opening(alloc)?, CAPACITY, &[2], 255, effects)?,
+            verdict_on(alloc, &mut open_check(alloc)?, CAPACITY, &[2], 255, effects)?,
             None
         );
     }

@@ -1,6 +1,6 @@
 //! How many records are taken at once.
 
-use crate::made_runs::{alone, enter, fill, make, record_of};
+use crate::made_runs::{enter, fill, make, one_effect_record, record_of};
 use coalescer::longest_run;
 use counted_logs::{Effect, Kind, Record};
 use std::alloc::{AllocError, Global};
@@ -24,11 +24,11 @@ fn made_directories(alloc: Global, count: u32) -> Result<Vec<Record>, AllocError
 }
 
 // So many writes of 16 blocks of one file, one behind the other.
-fn written(alloc: Global, count: u32) -> Result<Vec<Record>, AllocError> {
+fn write_records(alloc: Global, count: u32) -> Result<Vec<Record>, AllocError> {
     let mut records = Vec::new(alloc);
     for number in 0..count {
         let write = fill(alloc, 2, u64::from(number) * 65_536, 1, 65_536)?;
-        records.push(alone(alloc, write)?)?;
+        records.push(one_effect_record(alloc, write)?)?;
     }
     Ok(records)
 }
@@ -47,18 +47,18 @@ fn of_42_directories_41_are_taken_and_then_one(rt: HostRuntime) -> Result<(), Fa
 
 #[test]
 fn of_33_writes_of_16_blocks_32_are_taken(rt: HostRuntime) -> Result<(), Fail> {
-    let mut records = written(rt.alloc(), 32)?;
-    records.push(alone(rt.alloc(), fill(rt.alloc(), 2, 9, 7, 4_096)?)?)?;
-    records.push(alone(
+    let mut records = write_records(rt.alloc(), 32)?;
+    records.push(one_effect_record(rt.alloc(), fill(rt.alloc(), 2, 9, 7, 4_096)?)?)?;
+    records.push(one_effect_record(
         rt.alloc(),
         Effect::Size {
             inode: 2,
             size: 3_145_728,
         },
     )?)?;
-    records.push(alone(rt.alloc(), Effect::Size { inode: 2, size: 9 })?)?;
+    records.push(one_effect_record(rt.alloc(), Effect::Size { inode: 2, size: 9 })?)?;
     assert_eq!(rt; longest_run(rt.alloc(), &records)?, 35);
-    records.push(alone(
+    records.push(one_effect_record(
         rt.alloc(),
         Effect::Size {
             inode: 2,
@@ -87,15 +87,15 @@ fn a_record_that_is_too_heavy_is_taken_alone(rt: HostRuntime) -> Result<(), Fail
 fn entries(alloc: Global, records: &mut Vec<Record>, count: u32) -> Result<(), AllocError> {
     for number in 0..count {
         let name = [b'a' + (number % 26) as u8, b'a' + (number / 26 % 26) as u8];
-        records.push(alone(alloc, enter(alloc, 1, &name, 2)?)?)?;
+        records.push(one_effect_record(alloc, enter(alloc, 1, &name, 2)?)?)?;
     }
     Ok(())
 }
 
-fn counted(alloc: Global, records: &mut Vec<Record>, nodes: u32) -> Result<(), AllocError> {
+fn push_counts(alloc: Global, records: &mut Vec<Record>, nodes: u32) -> Result<(), AllocError> {
     for number in 0..nodes {
         let inode = number % 1_000 + 2;
-        records.push(alone(alloc, Effect::Names { inode, names: 1 })?)?;
+        records.push(one_effect_record(alloc, Effect::Names { inode, names: 1 })?)?;
     }
     Ok(())
 }
@@ -109,15 +109,15 @@ fn singles(
 ) -> Result<(), AllocError> {
     for number in 0..count {
         let at = (u64::from(first) + u64::from(number)) * 4_096;
-        records.push(alone(alloc, fill(alloc, 2, at, 1, 1)?)?)?;
+        records.push(one_effect_record(alloc, fill(alloc, 2, at, 1, 1)?)?)?;
     }
     Ok(())
 }
 
 // How many are taken of changes of so many nodes beside the root, and then of so many of its entries.
-fn taken(alloc: Global, nodes: u32, names: u32) -> Result<usize, AllocError> {
+fn run_length(alloc: Global, nodes: u32, names: u32) -> Result<usize, AllocError> {
     let mut records = Vec::new(alloc);
-    counted(alloc, &mut records, nodes)?;
+    push_counts(alloc, &mut records, nodes)?;
     entries(alloc, &mut records, names)?;
     longest_run(alloc, &records)
 }
@@ -128,8 +128,8 @@ fn a_run_takes_255_images_and_not_257(rt: HostRuntime) -> Result<(), Fail> {
     let rows: [(u32, u32); 4] = [(0, 126), (1, 124), (40, 46), (62, 2)];
     for (nodes, names) in rows {
         let all = (nodes + names) as usize;
-        assert_eq!(rt; taken(rt.alloc(), nodes, names)?, all - 1);
-        assert_eq!(rt; taken(rt.alloc(), nodes, names - 1)?, all - 1);
+        assert_eq!(rt; run_length(rt.alloc(), nodes, names)?, all - 1);
+        assert_eq!(rt; run_length(rt.alloc(), nodes, names - 1)?, all - 1);
     }
     Ok(())
 }
@@ -139,7 +139,7 @@ fn a_run_takes_512_blocks_and_not_513(rt: HostRuntime) -> Result<(), Fail> {
     // 31 writes of 16 blocks, then single ones up to 511, 512 and 513 blocks.
     let rows: [(u32, usize); 3] = [(15, 46), (16, 47), (17, 47)];
     for (more, wanted) in rows {
-        let mut records = written(rt.alloc(), 31)?;
+        let mut records = write_records(rt.alloc(), 31)?;
         singles(rt.alloc(), &mut records, 496, more)?;
         assert_eq!(rt; longest_run(rt.alloc(), &records)?, wanted);
     }
@@ -149,7 +149,7 @@ fn a_run_takes_512_blocks_and_not_513(rt: HostRuntime) -> Result<(), Fail> {
 #[test]
 fn a_write_that_ends_past_all_numbers_has_its_blocks(rt: HostRuntime) -> Result<(), Fail> {
     let mut records = Vec::new(rt.alloc());
-    records.push(alone(rt.alloc(), fill(rt.alloc(), 2, u64::MAX, 7, 9)?)?)?;
+    records.push(one_effect_record(rt.alloc(), fill(rt.alloc(), 2, u64::MAX, 7, 9)?)?)?;
     assert_eq!(rt; longest_run(rt.alloc(), &records)?, 1);
     Ok(())
 }

@@ -1,7 +1,7 @@
 ghost use Rattle.std.specs.Prelude.{◌≡◌, ◌≤◌, IfOk};
 ghost use Rattle.counted_logs.specs.log_record.Grammar.{IsRecord};
 ghost use Rattle.counted_logs.specs.tier_device.declared.media.Tier.TheVariants.{Fast};
-ghost use Rattle.counted_logs.specs.tier_device.Media.{AtRest};
+ghost use Rattle.counted_logs.specs.tier_device.AfterStop.{AtRest};
 ghost use Rattle.counted_logs.specs.tier_device.Memory.{IsAtRest};
 
 use crate::doubles::{Hurt, SetupError};
@@ -21,7 +21,7 @@ fn medium(alloc: Global) -> Result<MemMedia, AllocError>
     Ok(MemMedia::of_bytes(alloc, zeros, Vec::new(alloc), Vec::new(alloc))?)
 }
 
-fn reopened<M: Media + Drop>(alloc: Global, media: M) -> Result<Region<M>, SetupError>
+fn reopen_region<M: Media + Drop>(alloc: Global, media: M) -> Result<Region<M>, SetupError>
     requires { AtRest (M.seen media) (M.left media (M.moment media)) Fast }
 {
     match Region::reopen(alloc, media) {
@@ -73,7 +73,7 @@ fn append_to_both<M: Media>(
 fn count_in<M: Media + Drop>(alloc: Global, media: M) -> Result<usize, SetupError>
     requires { AtRest (M.seen media) (M.left media (M.moment media)) Fast }
 {
-    let mut region = reopened(alloc, media)?;
+    let mut region = reopen_region(alloc, media)?;
     Ok(region.records()?.len())
 }
 
@@ -84,10 +84,10 @@ fn count_left<D: Hurt>(alloc: Global, region: Region<D>, fill: Fill) -> Result<u
 }
 
 // An empty region whose medium is hurt where the trip ends.
-fn opened<D: Hurt>(alloc: Global, trip: &Trip, fill: Fill) -> Result<Region<D>, SetupError> {
+fn open_region<D: Hurt>(alloc: Global, trip: &Trip, fill: Fill) -> Result<Region<D>, SetupError> {
     let trip = trip.share()?;
     let media = medium(alloc)?;
-    reopened(alloc, D::where_trip_ends(media, trip, fill))
+    reopen_region(alloc, D::where_trip_ends(media, trip, fill))
 }
 
 // What comes of two appends: which are answered, and how many records each region holds after the stop.
@@ -102,7 +102,7 @@ fn append_twice<D: Hurt>(alloc: Global, call: u64, fill: Fill) -> Result<Outcome
     requires { 1 ≤ call }
 {
     let trip = Trip::new(alloc)?;
-    let mut first = opened::<D>(alloc, &trip, fill)?;
+    let mut first = open_region::<D>(alloc, &trip, fill)?;
     let (answered, second) = append_beside(alloc, &mut first, &trip, call, fill)?;
     let records = [count_left(alloc, first, fill)?, second];
     Ok(Outcome { answered, records })
@@ -118,7 +118,7 @@ fn append_beside<D: Hurt>(
 ) -> Result<([bool; 2], usize), SetupError>
     requires { 1 ≤ call }
 {
-    let mut second = opened::<D>(alloc, trip, fill)?;
+    let mut second = open_region::<D>(alloc, trip, fill)?;
     trip.arm(call);
     let answered = append_to_both(alloc, first, &mut second);
     Ok((answered, count_left(alloc, second, fill)?))
@@ -201,7 +201,7 @@ fn is_refused_behind_three<M: Media + Drop>(
 ) -> Result<bool, SetupError>
     requires { AtRest (M.seen media) (M.left media (M.moment media)) Fast }
 {
-    let mut region = reopened(alloc, media)?;
+    let mut region = reopen_region(alloc, media)?;
     for _ in 0..3 {
         append(alloc, &mut region, 65_536)?;
     }

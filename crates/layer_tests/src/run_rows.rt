@@ -1,14 +1,14 @@
 //! Rows of records, with what a file and a directory have after their change.
 
-use crate::coalesced::put_change;
-use crate::made_runs::{alone, enter, fill, leave, make};
+use crate::change_effects::put_change;
+use crate::made_runs::{enter, fill, leave, make, one_effect_record};
 use coalescer::coalesce;
 use counted_logs::{Effect, Kind, PlainGraph, Record};
 use std::alloc::{AllocError, Global};
 use std::test::Fail;
 
 // A root with the name `old`, and a file 2 of 8 times `x`.
-fn opening(alloc: Global) -> Result<PlainGraph, AllocError> {
+fn first_graph(alloc: Global) -> Result<PlainGraph, AllocError> {
     let mut graph = PlainGraph::with_root(alloc)?;
     graph.apply(&enter(alloc, 1, b"old", 2)?)?;
     graph.apply(&make(2, Kind::File))?;
@@ -57,13 +57,13 @@ fn row(alloc: Global, number: u32) -> Result<Vec<Effect>, AllocError> {
 fn records_of(alloc: Global, effects: Vec<Effect>) -> Result<Vec<Record>, AllocError> {
     let mut records = Vec::new(alloc);
     for effect in effects {
-        records.push(alone(alloc, effect)?)?;
+        records.push(one_effect_record(alloc, effect)?)?;
     }
     Ok(records)
 }
 
 fn after(alloc: Global, number: u32) -> Result<PlainGraph, AllocError> {
-    let mut graph = opening(alloc)?;
+    let mut graph = first_graph(alloc)?;
     let records = records_of(alloc, row(alloc, number)?)?;
     let change = coalesce(alloc, &records)?;
     put_change(alloc, &mut graph, &change)?;

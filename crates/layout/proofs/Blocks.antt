@@ -4,7 +4,7 @@ use Rattle.std.proofs.lemmas.Bool.{eqb-true}
 use Rattle.std.proofs.Math.Seq.{drop-append-add}
 use Rattle.std.proofs.lemmas.List.{take_at, length-append, length-take, drop-drop, length-replicate, drop-replicate, drop-append-le, replicate-append-replicate}
 use Rattle.std.specs.Prelude.{replicate}
-use Rattle.layout.specs.Bytes.{◌>>=◌, Field, u32, u64, zeros, filled, with_text, are_zero, within}
+use Rattle.layout.specs.Bytes.{◌>>=◌, Field, u32, u64, zeros, padded_text, with_text, are_zero, within}
 use Rattle.layout.proofs.Fields.{Takes, u32_long, u64_long, eqb-same, guard_some, test_some, bind_some}
 use Rattle.layout.proofs.Limits.{and_parts}
 
@@ -35,16 +35,16 @@ zeros_more m n = replicate-append-replicate m n 0
 
 -- ---- writing on
 
-pub filled_nothing : (n : ℕ) → zeros n ≡ filled n []
-unfolding filled
+pub filled_nothing : (n : ℕ) → zeros n ≡ padded_text n []
+unfolding padded_text
 filled_nothing n = ap zeros (omega arith)
 
 -- zero bytes are nothing, filled up
-pub blank_filled : (n : ℕ) (bytes : List ℕ) → length bytes ≡ n → are_zero bytes ≡ true → bytes ≡ filled n []
+pub blank_filled : (n : ℕ) (bytes : List ℕ) → length bytes ≡ n → are_zero bytes ≡ true → bytes ≡ padded_text n []
 blank_filled n bytes long blank = are_zero_zeros bytes blank ∙ ap zeros long ∙ filled_nothing n
 
-pub written_on : (n at : ℕ) (text w old : List ℕ) → old ≡ filled n text → at ≡ length text → length text + length w ≤ n → with_text at w old ≡ filled n (text ++ w)
-unfolding filled
+pub written_on : (n at : ℕ) (text w old : List ℕ) → old ≡ padded_text n text → at ≡ length text → length text + length w ≤ n → with_text at w old ≡ padded_text n (text ++ w)
+unfolding padded_text
 written_on n at text w old is there fits =
     let front : take at (text ++ zeros (n - length text)) ≡ text = take_at text (zeros (n - length text)) at (sym there) in
     let far : drop (at + length w) (text ++ zeros (n - length text)) ≡ zeros (n - length (text ++ w)) =
@@ -72,17 +72,17 @@ overwritten_thrice at second third u v w old there next fits =
     ∙ overwritten_then at third (u ++ v) w old (omega (arith, there, next, length-append u v)) fits
     ∙ ap (λ (t : List ℕ). with_text at t old) (append_assoc u v w)
 
-pub written_u32 : (n at x : ℕ) (text old : List ℕ) → old ≡ filled n text → length text ≡ at → at + 4 ≤ n → (with_text at (u32 x) old ≡ filled n (text ++ u32 x)) × (length (text ++ u32 x) ≡ at + 4)
+pub written_u32 : (n at x : ℕ) (text old : List ℕ) → old ≡ padded_text n text → length text ≡ at → at + 4 ≤ n → (with_text at (u32 x) old ≡ padded_text n (text ++ u32 x)) × (length (text ++ u32 x) ≡ at + 4)
 written_u32 n at x text old is long fits =
     (written_on n at text (u32 x) old is (sym long) (omega (arith, u32_long x)), omega (arith, length-append text (u32 x), u32_long x))
 
-pub written_u64 : (n at x : ℕ) (text old : List ℕ) → old ≡ filled n text → length text ≡ at → at + 8 ≤ n → (with_text at (u64 x) old ≡ filled n (text ++ u64 x)) × (length (text ++ u64 x) ≡ at + 8)
+pub written_u64 : (n at x : ℕ) (text old : List ℕ) → old ≡ padded_text n text → length text ≡ at → at + 8 ≤ n → (with_text at (u64 x) old ≡ padded_text n (text ++ u64 x)) × (length (text ++ u64 x) ≡ at + 8)
 written_u64 n at x text old is long fits =
     (written_on n at text (u64 x) old is (sym long) (omega (arith, u64_long x)), omega (arith, length-append text (u64 x), u64_long x))
 
 -- a text over zeros is the text filled up with zeros
-pub over_zeros : (n at : ℕ) (text old : List ℕ) → at + n ≤ length old → length text ≤ n → with_text at text (with_text at (zeros n) old) ≡ with_text at (filled n text) old
-unfolding filled
+pub over_zeros : (n at : ℕ) (text old : List ℕ) → at + n ≤ length old → length text ≤ n → with_text at text (with_text at (zeros n) old) ≡ with_text at (padded_text n text) old
+unfolding padded_text
 over_zeros n at text old fits short =
     let front : List ℕ = take at old in
     let rest : List ℕ = drop (at + n) old in
@@ -101,8 +101,8 @@ over_zeros n at text old fits short =
     rw (first, before, after) (shifted ∙ ap (λ (t : List ℕ). (front ++ (text ++ gap)) ++ t) same_end)
 
 -- filled up in two steps
-pub filled_twice : (m n : ℕ) (text : List ℕ) → length text ≤ m → m ≤ n → filled n text ≡ filled n (filled m text)
-unfolding filled
+pub filled_twice : (m n : ℕ) (text : List ℕ) → length text ≤ m → m ≤ n → padded_text n text ≡ padded_text n (padded_text m text)
+unfolding padded_text
 filled_twice m n text few le =
     let gap : List ℕ = zeros (m - length text) in
     let long : length (text ++ gap) ≡ m = omega (arith, few, length-append text gap, zeros_long (m - length text)) in
@@ -120,18 +120,18 @@ within_parts {A = A} n field bytes x e =
     (b.0.1, eqb-true _ _ g.0, b.1 ∙ ap (λ (y : A). Some (y, b.0.1)) t.1, t.0)
 
 -- what a field took is all that is not zero
-pub filled_from : (n : ℕ) (bytes text rest : List ℕ) → length bytes ≡ n → Takes bytes text rest → are_zero rest ≡ true → bytes ≡ filled n text
-unfolding filled
+pub filled_from : (n : ℕ) (bytes text rest : List ℕ) → length bytes ≡ n → Takes bytes text rest → are_zero rest ≡ true → bytes ≡ padded_text n text
+unfolding padded_text
 filled_from n bytes text rest long takes empty =
     let count : length rest ≡ n - length text = omega (arith, long, ap length takes.parts, length-append text rest) in
     takes.parts ∙ ap (λ (t : List ℕ). text ++ t) (are_zero_zeros rest empty ∙ ap zeros count)
 
-pub filled_long : (n : ℕ) (text : List ℕ) → length text ≤ n → length (filled n text) ≡ n
-unfolding filled
+pub filled_long : (n : ℕ) (text : List ℕ) → length text ≤ n → length (padded_text n text) ≡ n
+unfolding padded_text
 filled_long n text few = omega (arith, length-append text (zeros (n - length text)), zeros_long (n - length text))
 
-pub within_again : {A : Type 0} (n : ℕ) (field : Field A) (text : List ℕ) (x : A) → length text ≤ n → field (text ++ zeros (n - length text)) ≡ Some (x, zeros (n - length text)) → within n field (filled n text) ≡ Some x
-unfolding filled
+pub within_again : {A : Type 0} (n : ℕ) (field : Field A) (text : List ℕ) (x : A) → length text ≤ n → field (text ++ zeros (n - length text)) ≡ Some (x, zeros (n - length text)) → within n field (padded_text n text) ≡ Some x
+unfolding padded_text
 within_again n field text x few e =
     let long : eqb (length (text ++ zeros (n - length text))) n ≡ true = ap (λ (k : ℕ). eqb k n) (filled_long n text few) ∙ eqb-same n in
     rw (long, e, zeros_are_zero (n - length text)) refl

@@ -15,8 +15,8 @@ use Rattle.std.proofs.lemmas.List.Sums.{fails_before_first}
 use Rattle.file_graph.specs.declared.effect.Kind.{Kind}
 use Rattle.layout.specs.declared.directory.DirEntry.{DirEntry}
 use Rattle.layout.specs.Places.{is_inode}
-use Rattle.layout.specs.Bytes.{u32, zeros, filled, with_text, within, all_pairs}
-use Rattle.layout.specs.Directory.{EntryList, entry_text, entries_text, entries_spelling, fits_entry, fits_entries, differ, are_distinct, head_at, entries_field, listed, AreEntries, IsEntryList, no_entry, entry_of, with_entry_at, with_last, with_target, without_entry, without_last}
+use Rattle.layout.specs.Bytes.{u32, zeros, padded_text, with_text, within, all_pairs}
+use Rattle.layout.specs.Directory.{EntryList, entry_text, entries_text, entries_spelling, fits_entry, fits_entries, differ, are_distinct, head_at, entries_field, block_entries, AreEntries, IsEntryList, no_entry, entry_of, with_entry_at, with_last, with_target, without_entry, without_last}
 use Rattle.file_graph.specs.Kinds.{kind_byte}
 use Rattle.layout.proofs.Limits.{and_parts}
 use Rattle.layout.proofs.Fields.{u32_long}
@@ -27,12 +27,12 @@ use Rattle.layout.proofs.DirPlaces.{front_text, front_long, text_around, around_
 
 -- ---- a block that spells entries
 
-pub entries_now : (block : List ℕ) (v : EntryList) → fits_entries v ≡ true → block ≡ entries_spelling v → AreEntries block × (listed block ≡ v)
-unfolding listed
+pub entries_now : (block : List ℕ) (v : EntryList) → fits_entries v ≡ true → block ≡ entries_spelling v → AreEntries block × (block_entries block ≡ v)
+unfolding block_entries
 entries_now block v fit is =
     let p = and_parts (fits_list v) (are_distinct v.entries) fit in
     let read : within 4096 entries_field block ≡ Some v = ap (within 4096 entries_field) is ∙ list_again v p.0 in
-    let list : listed block ≡ v = ap (λ (o : Option EntryList). unwrap_or o (record { owner = 0; entries = [] })) read in
+    let list : block_entries block ≡ v = ap (λ (o : Option EntryList). unwrap_or o (record { owner = 0; entries = [] })) read in
     (record { fit = ap fits_entries list ∙ fit; spelled = is ∙ ap entries_spelling (sym list) }, list)
 
 -- what holds of entries that fit
@@ -60,15 +60,15 @@ spelling_long v f = filled_long 4096 (entries_text v) (text_short v f)
 
 pub listed_now : (block : List ℕ) → AreEntries block → IsEntryList block
 listed_now block e =
-    let f = fit_parts (listed block) e.fit in
-    let p = and_parts (fits_list (listed block)) (are_distinct (listed block).entries) e.fit in
-    record { spelled = ap (within 4096 entries_field) e.spelled ∙ list_again (listed block) p.0; few = f.few; long = ap length e.spelled ∙ spelling_long (listed block) f }
+    let f = fit_parts (block_entries block) e.fit in
+    let p = and_parts (fits_list (block_entries block)) (are_distinct (block_entries block).entries) e.fit in
+    record { spelled = ap (within 4096 entries_field) e.spelled ∙ list_again (block_entries block) p.0; few = f.few; long = ap length e.spelled ∙ spelling_long (block_entries block) f }
 
 -- what its head tells
-pub head_now : (block : List ℕ) → AreEntries block → (rest : List ℕ) × (head_at block ≡ Some (((listed block).owner, length (listed block).entries), rest))
-unfolding filled
+pub head_now : (block : List ℕ) → AreEntries block → (rest : List ℕ) × (head_at block ≡ Some (((block_entries block).owner, length (block_entries block).entries), rest))
+unfolding padded_text
 head_now block e =
-    let v : EntryList = listed block in
+    let v : EntryList = block_entries block in
     let f = fit_parts v e.fit in
     let texts : List ℕ = flat_map entry_text v.entries in
     let gap : List ℕ = zeros (4096 - length (entries_text v)) in
@@ -76,13 +76,13 @@ head_now block e =
 
 -- ---- another count
 
-count_set : (owner n m : ℕ) (texts : List ℕ) → with_text 4 (u32 m) (filled 4096 (head_text owner n ++ texts)) ≡ filled 4096 (head_text owner m ++ texts)
+count_set : (owner n m : ℕ) (texts : List ℕ) → with_text 4 (u32 m) (padded_text 4096 (head_text owner n ++ texts)) ≡ padded_text 4096 (head_text owner m ++ texts)
 count_set owner n m texts =
     let split : (k : ℕ) → head_text owner k ++ texts ≡ u32 owner ++ (u32 k ++ (zeros 56 ++ texts)) = λ k. ap (λ (t : List ℕ). t ++ texts) (sym (head_parts owner k)) ∙ simp append_assoc in
-    ap (λ (t : List ℕ). with_text 4 (u32 m) (filled 4096 t)) (split n)
-    ∙ ap (λ (k : ℕ). with_text k (u32 m) (filled 4096 (u32 owner ++ (u32 n ++ (zeros 56 ++ texts))))) (sym (u32_long owner))
+    ap (λ (t : List ℕ). with_text 4 (u32 m) (padded_text 4096 t)) (split n)
+    ∙ ap (λ (k : ℕ). with_text k (u32 m) (padded_text 4096 (u32 owner ++ (u32 n ++ (zeros 56 ++ texts))))) (sym (u32_long owner))
     ∙ around_place 4096 (u32 owner) (u32 n) (u32 m) (zeros 56 ++ texts) (u32_long m ∙ sym (u32_long n))
-    ∙ ap (filled 4096) (sym (split m))
+    ∙ ap (padded_text 4096) (sym (split m))
 
 -- ---- one entry more
 
@@ -93,14 +93,14 @@ entry_added v e f room short =
     let head : ℕ → List ℕ = head_text v.owner in
     let texts : List ℕ = flat_map entry_text v.entries in
     let long : length (entries_text v) ≡ 64 + 72 * n = omega (arith, length-append (head n) texts, head_text_long v.owner n, entry_texts_long v.entries f.each) in
-    let behind : with_text (64 + 72 * n) (entry_text e) (entries_spelling v) ≡ filled 4096 (entries_text v ++ entry_text e) =
+    let behind : with_text (64 + 72 * n) (entry_text e) (entries_spelling v) ≡ padded_text 4096 (entries_text v ++ entry_text e) =
     written_on 4096 (64 + 72 * n) (entries_text v) (entry_text e) (entries_spelling v) refl (sym long) (omega (arith, long, room, entry_text_long e short)) in
     let all : flat_map entry_text (v.entries ++ e ∷ []) ≡ texts ++ entry_text e = flat_map-append entry_text v.entries (e ∷ []) ∙ ap (λ (t : List ℕ). texts ++ t) (append-nil (entry_text e)) in
     let more : n + 1 ≡ length (v.entries ++ e ∷ []) = omega (arith, length-append v.entries (e ∷ [])) in
-    ap (with_text 4 (u32 (n + 1))) (behind ∙ ap (filled 4096) (append_assoc (head n) texts (entry_text e)))
+    ap (with_text 4 (u32 (n + 1))) (behind ∙ ap (padded_text 4096) (append_assoc (head n) texts (entry_text e)))
     ∙ count_set v.owner n (n + 1) (texts ++ entry_text e)
-    ∙ ap (λ (k : ℕ). filled 4096 (head k ++ (texts ++ entry_text e))) more
-    ∙ ap (λ (t : List ℕ). filled 4096 (head (length (v.entries ++ e ∷ [])) ++ t)) (sym all)
+    ∙ ap (λ (k : ℕ). padded_text 4096 (head k ++ (texts ++ entry_text e))) more
+    ∙ ap (λ (t : List ℕ). padded_text 4096 (head (length (v.entries ++ e ∷ [])) ++ t)) (sym all)
 
 -- an entry that differs from each may stand behind them
 distinct_more : (es : List DirEntry) (e : DirEntry) → list_all (λ x. differ x e) es ≡ true → are_distinct es ≡ true → are_distinct (es ++ e ∷ []) ≡ true
@@ -130,8 +130,8 @@ fit_added v e f room fit new = fit_from (with_last v e) (record {
 
 -- ---- the last one goes
 
-cut_off : (n : ℕ) (a x : List ℕ) → length a + length x ≤ n → with_text (length a) (zeros (length x)) (filled n (a ++ (x ++ []))) ≡ filled n a
-unfolding filled
+cut_off : (n : ℕ) (a x : List ℕ) → length a + length x ≤ n → with_text (length a) (zeros (length x)) (padded_text n (a ++ (x ++ []))) ≡ padded_text n a
+unfolding padded_text
 cut_off n a x fits =
     let w : List ℕ = zeros (length x) in
     let rest : n - length (a ++ (w ++ [])) ≡ n - (length a + length x) = omega (arith, length-append a (w ++ []), length-append w [], zeros_long (length x)) in
@@ -156,16 +156,16 @@ entry_removed v n count each some few =
     let front : List ℕ = front_text v i in
     let long : length front ≡ 64 + 72 * i = front_long v i each (omega (arith, within)) in
     let whole : entries_text v ≡ front ++ (entry_text last ++ []) = text_around v i no_entry within ∙ ap (λ (t : List DirEntry). front ++ (entry_text last ++ flat_map entry_text t)) nothing in
-    let cut : with_text (64 + 72 * i) (zeros 72) (entries_spelling v) ≡ filled 4096 front =
-    ap (λ (t : List ℕ). with_text (64 + 72 * i) (zeros 72) (filled 4096 t)) whole
-    ∙ ap (λ (k : ℕ). with_text k (zeros 72) (filled 4096 (front ++ (entry_text last ++ [])))) (sym long)
-    ∙ ap (λ (k : ℕ). with_text (length front) (zeros k) (filled 4096 (front ++ (entry_text last ++ [])))) (sym size)
+    let cut : with_text (64 + 72 * i) (zeros 72) (entries_spelling v) ≡ padded_text 4096 front =
+    ap (λ (t : List ℕ). with_text (64 + 72 * i) (zeros 72) (padded_text 4096 t)) whole
+    ∙ ap (λ (k : ℕ). with_text k (zeros 72) (padded_text 4096 (front ++ (entry_text last ++ [])))) (sym long)
+    ∙ ap (λ (k : ℕ). with_text (length front) (zeros k) (padded_text 4096 (front ++ (entry_text last ++ [])))) (sym size)
     ∙ cut_off 4096 front (entry_text last) (omega (arith, long, size, few, some)) in
     let left : length (take i es) ≡ i = omega (arith, length-take i es, within) in
     let one : length es - 1 ≡ i = omega (arith, count) in
     ap (with_text 4 (u32 i)) cut
     ∙ count_set v.owner (length es) i (flat_map entry_text (take i es))
-    ∙ ap (λ (k : ℕ). filled 4096 (head_text v.owner k ++ flat_map entry_text (take i es))) (sym left)
+    ∙ ap (λ (k : ℕ). padded_text 4096 (head_text v.owner k ++ flat_map entry_text (take i es))) (sym left)
     ∙ ap (λ (k : ℕ). entries_spelling (record { owner = v.owner; entries = take k es })) (sym one)
 
 all_front : {A : Type 0} (p : A → Bool) (n : ℕ) (xs : List A) → list_all p xs ≡ true → list_all p (take n xs) ≡ true
@@ -192,9 +192,9 @@ fit_removed v f = fit_from (without_last v) (record {
 
 -- ---- the last one takes another's place
 
-pub entry_bytes : (block : List ℕ) (i : ℕ) → AreEntries block → i < length (listed block).entries → take 72 (drop (64 + 72 * i) block) ≡ entry_text (entry_of (listed block) i)
+pub entry_bytes : (block : List ℕ) (i : ℕ) → AreEntries block → i < length (block_entries block).entries → take 72 (drop (64 + 72 * i) block) ≡ entry_text (entry_of (block_entries block) i)
 entry_bytes block i e lt =
-    let v : EntryList = listed block in
+    let v : EntryList = block_entries block in
     let x : DirEntry = entry_of v i in
     let p = and_parts (fits_list v) (are_distinct v.entries) e.fit in
     let s = stands_spelled block v i no_entry p.0 e.spelled lt in
@@ -280,7 +280,7 @@ target_set v i inode k f lt =
     let at : ℕ = 64 + 72 * i in
     let old : DirEntry = entry_of v i in
     let new : DirEntry = record { inode = inode; kind = k; name = old.name } in
-    let name : List ℕ = length old.name ∷ 0 ∷ 0 ∷ filled 64 old.name in
+    let name : List ℕ = length old.name ∷ 0 ∷ 0 ∷ padded_text 64 old.name in
     let x : List ℕ = u32 old.inode ++ (kind_byte old.kind ∷ []) in
     let w : List ℕ = u32 inode ++ (kind_byte k ∷ []) in
     let behind : List ℕ = flat_map entry_text (drop (i + 1) v.entries) in
@@ -289,8 +289,8 @@ target_set v i inode k f lt =
     let same : length w ≡ length x = omega (arith, length-append (u32 inode) (kind_byte k ∷ []), length-append (u32 old.inode) (kind_byte old.kind ∷ []), u32_long inode, u32_long old.inode) in
     let parts : (n : ℕ) (b : ℕ) → (u32 n ++ (b ∷ name)) ++ behind ≡ (u32 n ++ (b ∷ [])) ++ (name ++ behind) = λ n b. simp append_assoc in
     overwritten_then at (at + 4) (u32 inode) (kind_byte k ∷ []) (entries_spelling v) (omega (arith, u32_long inode)) (omega (arith, spelling_long v f, f.few, lt))
-    ∙ ap (λ (t : List ℕ). with_text at w (filled 4096 t)) (text_around v i no_entry lt ∙ ap (λ (t : List ℕ). front ++ t) (parts old.inode (kind_byte old.kind)))
-    ∙ ap (λ (n : ℕ). with_text n w (filled 4096 (front ++ (x ++ (name ++ behind))))) (sym long)
+    ∙ ap (λ (t : List ℕ). with_text at w (padded_text 4096 t)) (text_around v i no_entry lt ∙ ap (λ (t : List ℕ). front ++ t) (parts old.inode (kind_byte old.kind)))
+    ∙ ap (λ (n : ℕ). with_text n w (padded_text 4096 (front ++ (x ++ (name ++ behind))))) (sym long)
     ∙ around_place 4096 front x w (name ++ behind) same
-    ∙ ap (λ (t : List ℕ). filled 4096 (front ++ t)) (sym (parts inode (kind_byte k)))
-    ∙ ap (filled 4096) (text_set v i new lt)
+    ∙ ap (λ (t : List ℕ). padded_text 4096 (front ++ t)) (sym (parts inode (kind_byte k)))
+    ∙ ap (padded_text 4096) (text_set v i new lt)

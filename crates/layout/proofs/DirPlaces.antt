@@ -13,8 +13,8 @@ use Rattle.std.proofs.Math.Seq.{drop-append-add}
 use Rattle.file_graph.specs.declared.effect.Kind.TheVariants as kind
 use Rattle.layout.specs.declared.directory.DirEntry.{DirEntry}
 use Rattle.layout.specs.Places.{is_inode}
-use Rattle.layout.specs.Bytes.{◌>>=◌, AreBytes, Field, u32, zeros, filled, with_text, number_at, text_at, items_at, are_zero, within}
-use Rattle.layout.specs.Directory.{EntryList, entry_text, entries_text, entries_spelling, fits_entry, fits_entries, head_at, entry_at, fields_at, entries_field, entry_list_of, listed, IsEntryList, are_distinct, with_entry_at}
+use Rattle.layout.specs.Bytes.{◌>>=◌, AreBytes, Field, u32, zeros, padded_text, with_text, number_at, text_at, items_at, are_zero, within}
+use Rattle.layout.specs.Directory.{EntryList, entry_text, entries_text, entries_spelling, fits_entry, fits_entries, head_at, entry_at, fields_at, entries_field, entry_list_of, block_entries, IsEntryList, are_distinct, with_entry_at}
 use Rattle.file_graph.specs.Kinds.{kind_byte}
 use Rattle.layout.proofs.Limits.{and_parts}
 use Rattle.layout.proofs.Fields.{bind_some, test_some, some_is, u32_long}
@@ -57,7 +57,7 @@ text_around v i d lt =
     ∙ sym (append_assoc (head_text v.owner (length v.entries)) (flat_map entry_text (take i v.entries)) (entry_text (get_or v.entries i d) ++ flat_map entry_text (drop (i + 1) v.entries)))
 
 pub stands_spelled : (block : List ℕ) (v : EntryList) (i : ℕ) (d : DirEntry) → fits_list v ≡ true → block ≡ entries_spelling v → i < length v.entries → Stands block (64 + 72 * i) (get_or v.entries i d)
-unfolding filled
+unfolding padded_text
 stands_spelled block v i d fit is lt =
     let f = list_fits v fit in
     let x : DirEntry = get_or v.entries i d in
@@ -81,13 +81,13 @@ stands block v i d are e lt =
 -- ---- the fields of an entry at its place
 
 abbrev tags : DirEntry → List ℕ → List ℕ
-tags e rest = kind_byte e.kind ∷ length e.name ∷ 0 ∷ 0 ∷ (filled 64 e.name ++ rest)
+tags e rest = kind_byte e.kind ∷ length e.name ∷ 0 ∷ 0 ∷ (padded_text 64 e.name ++ rest)
 
 pub whole_at : (block : List ℕ) (at : ℕ) (e : DirEntry) (s : Stands block at e) → drop at block ≡ entry_text e ++ s.rest
 whole_at block at e s = ap (drop at) s.parts ∙ drop_at s.front (entry_text e ++ s.rest) at s.long
 
 flat_text : (e : DirEntry) (rest : List ℕ) → entry_text e ++ rest ≡ u32 e.inode ++ tags e rest
-flat_text e rest = append_assoc (u32 e.inode) (kind_byte e.kind ∷ length e.name ∷ 0 ∷ 0 ∷ filled 64 e.name) rest
+flat_text e rest = append_assoc (u32 e.inode) (kind_byte e.kind ∷ length e.name ∷ 0 ∷ 0 ∷ padded_text 64 e.name) rest
 
 tags_at : (block : List ℕ) (at n k : ℕ) (e : DirEntry) (s : Stands block at e) → at + (4 + n) ≡ k → drop k block ≡ drop n (tags e s.rest)
 tags_at block at n k e s byte =
@@ -105,12 +105,12 @@ pub record NameThere (block : List ℕ) (at : ℕ) (name : List ℕ) : Type 0 wh
   pub text : take (length name) (drop (at + 8) block) ≡ name
 
 name_there : (block : List ℕ) (at : ℕ) (e : DirEntry) → Stands block at e → NameThere block at e.name
-unfolding filled
+unfolding padded_text
 name_there block at e s =
     let gap : List ℕ = zeros (64 - length e.name) in
     let here : at + 5 ≡ (at + 5) + 0 = omega arith in
-    let head : drop (at + 5) block ≡ length e.name ∷ 0 ∷ 0 ∷ (filled 64 e.name ++ s.rest) = tags_at block at 1 (at + 5) e s (omega arith) in
-    let name : drop (at + 8) block ≡ filled 64 e.name ++ s.rest = tags_at block at 4 (at + 8) e s (omega arith) in
+    let head : drop (at + 5) block ≡ length e.name ∷ 0 ∷ 0 ∷ (padded_text 64 e.name ++ s.rest) = tags_at block at 1 (at + 5) e s (omega arith) in
+    let name : drop (at + 8) block ≡ padded_text 64 e.name ++ s.rest = tags_at block at 4 (at + 8) e s (omega arith) in
     record {
       count = ap (λ (k : ℕ). get_or block k 0) here ∙ sym (get_or-drop (at + 5) block 0 0) ∙ ap (λ (t : List ℕ). get_or t 0 0) head;
       short = short_name e.name (entry_fits e s.fit).name;
@@ -121,14 +121,14 @@ pub same_entry : (f : Option (DirEntry × List ℕ)) (e x : DirEntry) (rest afte
 same_entry f e x rest after p q = ap (λ (y : DirEntry × List ℕ). y.0) (some_is (e, rest) (x, after) (sym p ∙ q))
 
 -- what a block that spells entries has at a place
-pub listed_name : (block : List ℕ) (i : ℕ) (d : DirEntry) → AreBytes block → IsEntryList block → i < length (listed block).entries → NameThere block (64 + 72 * i) (get_or (listed block).entries i d).name
-listed_name block i d are l lt = name_there block (64 + 72 * i) (get_or (listed block).entries i d) (stands block (listed block) i d are l.spelled lt)
+pub listed_name : (block : List ℕ) (i : ℕ) (d : DirEntry) → AreBytes block → IsEntryList block → i < length (block_entries block).entries → NameThere block (64 + 72 * i) (get_or (block_entries block).entries i d).name
+listed_name block i d are l lt = name_there block (64 + 72 * i) (get_or (block_entries block).entries i d) (stands block (block_entries block) i d are l.spelled lt)
 
-pub listed_fields : (block : List ℕ) (i : ℕ) (d : DirEntry) → AreBytes block → IsEntryList block → i < length (listed block).entries → (rest : List ℕ) × (fields_at (drop (64 + 72 * i) block) ≡ Some (get_or (listed block).entries i d, rest))
+pub listed_fields : (block : List ℕ) (i : ℕ) (d : DirEntry) → AreBytes block → IsEntryList block → i < length (block_entries block).entries → (rest : List ℕ) × (fields_at (drop (64 + 72 * i) block) ≡ Some (get_or (block_entries block).entries i d, rest))
 unfolding entry_at
 listed_fields block i d are l lt =
-    let e : DirEntry = get_or (listed block).entries i d in
-    let s = stands block (listed block) i d are l.spelled lt in
+    let e : DirEntry = get_or (block_entries block).entries i d in
+    let s = stands block (block_entries block) i d are l.spelled lt in
     let read : entry_at (drop (64 + 72 * i) block) ≡ Some (e, s.rest) = ap entry_at (whole_at block (64 + 72 * i) e s) ∙ entry_again e s.rest s.fit in
     let f = bind_some (fields_at (drop (64 + 72 * i) block)) _ (e, s.rest) read in
     let t = test_some (fits_entry f.0.0) f.0 (e, s.rest) f.2 in
@@ -137,12 +137,12 @@ listed_fields block i d are l lt =
 tail_at : (at : ℕ) (block : List ℕ) → take (length block - at) (drop at block) ≡ drop at block
 tail_at at block = take_all (length block - at) (drop at block) (omega (arith, length-drop at block))
 
-pub fields_there : (block : List ℕ) (i : ℕ) → AreBytes block → IsEntryList block → i < length (listed block).entries
-    → (e : DirEntry) × (rest : List ℕ) × (fields_at (take (length block - (64 + 72 * i)) (drop (64 + 72 * i) block)) ≡ Some (e, rest)) × (slice_get (listed block).entries i ≡ Some e) × (fits_entry e ≡ true)
+pub fields_there : (block : List ℕ) (i : ℕ) → AreBytes block → IsEntryList block → i < length (block_entries block).entries
+    → (e : DirEntry) × (rest : List ℕ) × (fields_at (take (length block - (64 + 72 * i)) (drop (64 + 72 * i) block)) ≡ Some (e, rest)) × (slice_get (block_entries block).entries i ≡ Some e) × (fits_entry e ≡ true)
 fields_there block i are l lt =
     let none : DirEntry = record { inode = 0; kind = kind.File; name = [] } in
     let f = listed_fields block i none are l lt in
-    (get_or (listed block).entries i none, f.0, ap fields_at (tail_at (64 + 72 * i) block) ∙ f.1, slice_get-get_or (listed block).entries i none lt, (stands block (listed block) i none are l.spelled lt).fit)
+    (get_or (block_entries block).entries i none, f.0, ap fields_at (tail_at (64 + 72 * i) block) ∙ f.1, slice_get-get_or (block_entries block).entries i none lt, (stands block (block_entries block) i none are l.spelled lt).fit)
 
 -- the name, as two cuts read it
 pub cut_name : (block : List ℕ) (at k : ℕ) (name : List ℕ) → NameThere block at name → length name ≡ k → at + 8 + 64 ≤ length block → (k ≤ length (take (length block - (at + 8)) (drop (at + 8) block))) × (take k (take (length block - (at + 8)) (drop (at + 8) block)) ≡ name)
@@ -157,8 +157,8 @@ replaced a x w c long =
     rw (front, far) (append_assoc a w c)
 
 -- bytes around a place, filled up
-pub around_place : (n : ℕ) (a x w c : List ℕ) → length w ≡ length x → with_text (length a) w (filled n (a ++ (x ++ c))) ≡ filled n (a ++ (w ++ c))
-unfolding filled
+pub around_place : (n : ℕ) (a x w c : List ℕ) → length w ≡ length x → with_text (length a) w (padded_text n (a ++ (x ++ c))) ≡ padded_text n (a ++ (w ++ c))
+unfolding padded_text
 around_place n a x w c long =
     let gap : List ℕ = zeros (n - length (a ++ (x ++ c))) in
     let same : length (a ++ (x ++ c)) ≡ length (a ++ (w ++ c)) = omega (arith, length-append a (x ++ c), length-append x c, length-append a (w ++ c), length-append w c, long) in
@@ -194,10 +194,10 @@ entry_set v i e fit lt short =
     let fx = entry_fits x (all_at fits_entry v.entries i e f.each lt) in
     let same : length (entry_text e) ≡ length (entry_text x) = entry_text_long e short ∙ sym (entry_text_long x (short_name x.name fx.name)) in
     let behind : List ℕ = flat_map entry_text (drop (i + 1) v.entries) in
-    ap (λ (t : List ℕ). with_text (64 + 72 * i) (entry_text e) (filled 4096 t)) (text_around v i e lt)
-    ∙ ap (λ (k : ℕ). with_text k (entry_text e) (filled 4096 (front_text v i ++ (entry_text x ++ behind)))) (sym (front_long v i f.each (omega arith)))
+    ap (λ (t : List ℕ). with_text (64 + 72 * i) (entry_text e) (padded_text 4096 t)) (text_around v i e lt)
+    ∙ ap (λ (k : ℕ). with_text k (entry_text e) (padded_text 4096 (front_text v i ++ (entry_text x ++ behind)))) (sym (front_long v i f.each (omega arith)))
     ∙ around_place 4096 (front_text v i) (entry_text x) (entry_text e) behind same
-    ∙ ap (filled 4096) (text_set v i e lt)
+    ∙ ap (padded_text 4096) (text_set v i e lt)
 
 -- ---- the list of a block, as it is read
 
@@ -229,8 +229,8 @@ no_end block owner count rest after long h e z =
 
 pub record IsList (block : List ℕ) (owner count : ℕ) : Type 0 where
   pub list : IsEntryList block
-  pub owner_is : owner ≡ (listed block).owner
-  pub count_is : count ≡ length (listed block).entries
+  pub owner_is : owner ≡ (block_entries block).owner
+  pub count_is : count ≡ length (block_entries block).entries
 
 head_few : (block : List ℕ) (owner count : ℕ) (rest : List ℕ) → head_at block ≡ Some ((owner, count), rest) → count ≤ 56
 unfolding head_at
@@ -258,12 +258,12 @@ unfolding entries_field
 whole_list block owner count rest x long h i z = list_from block long ∙ rw (h, i, z) refl
 
 pub list_there : (block : List ℕ) (owner count : ℕ) (rest after : List ℕ) → length block ≡ 4096 → head_at block ≡ Some ((owner, count), rest) → option_map (λ x. x.1) (items_at entry_at count rest) ≡ Some after → are_zero after ≡ true → IsList block owner count
-unfolding entries_field listed
+unfolding entries_field block_entries
 list_there block owner count rest after long h e z =
     let s = some_from (λ x. x.1) (items_at entry_at count rest) after e in
     let v : EntryList = record { owner = owner; entries = s.0.0 } in
     let whole = whole_list block owner count rest s.0 long h s.1 (ap are_zero s.2 ∙ z) in
-    let is : listed block ≡ v = ap (λ (o : Option EntryList). unwrap_or o (record { owner = 0; entries = [] })) whole in
+    let is : block_entries block ≡ v = ap (λ (o : Option EntryList). unwrap_or o (record { owner = 0; entries = [] })) whole in
     let n : length s.0.0 ≡ count = items_long entry_at count rest s.0 s.1 in
     let few = head_few block owner count rest h in
     record {
@@ -289,7 +289,7 @@ counts_none o e = rw e refl
 pub counts_some : (block : List ℕ) (owner count : ℕ) → IsList block owner count → some_pair owner count ≡ option_map counts (within 4096 entries_field block)
 counts_some block owner count l = rw (l.list.spelled, l.owner_is, l.count_is) refl
 
-pub counts_more : (block : List ℕ) (owner count : ℕ) → IsList block owner count → entry_list_of block ≡ Some (listed block) → some_pair owner count ≡ option_map counts (entry_list_of block)
+pub counts_more : (block : List ℕ) (owner count : ℕ) → IsList block owner count → entry_list_of block ≡ Some (block_entries block) → some_pair owner count ≡ option_map counts (entry_list_of block)
 counts_more block owner count l e = rw (e, l.owner_is, l.count_is) refl
 
 pub no_counts : (block : List ℕ) → None ≡ option_map counts (within 4096 entries_field block) → entry_list_of block ≡ None
@@ -297,16 +297,16 @@ no_counts block e = no_list block (none_from counts (within 4096 entries_field b
 
 pub list_counted : (block : List ℕ) (owner count : ℕ) → some_pair owner count ≡ option_map counts (within 4096 entries_field block) → IsEntryList block → IsList block owner count
 list_counted block owner count e l =
-    let is : (owner, count) ≡ counts (listed block) = some_is (owner, count) (counts (listed block)) (e ∙ ap (option_map counts) l.spelled) in
+    let is : (owner, count) ≡ counts (block_entries block) = some_is (owner, count) (counts (block_entries block)) (e ∙ ap (option_map counts) l.spelled) in
     record { list = l; owner_is = ap (λ (p : ℕ × ℕ). p.0) is; count_is = ap (λ (p : ℕ × ℕ). p.1) is }
 
 -- ---- the test of names
 
-pub names_meet : (block : List ℕ) → IsEntryList block → are_distinct (listed block).entries ≡ false → entry_list_of block ≡ None
+pub names_meet : (block : List ℕ) → IsEntryList block → are_distinct (block_entries block).entries ≡ false → entry_list_of block ≡ None
 unfolding entry_list_of
 names_meet block l e = rw (l.spelled, e) refl
 
-pub names_differ : (block : List ℕ) → IsEntryList block → are_distinct (listed block).entries ≡ true → entry_list_of block ≡ Some (listed block)
+pub names_differ : (block : List ℕ) → IsEntryList block → are_distinct (block_entries block).entries ≡ true → entry_list_of block ≡ Some (block_entries block)
 unfolding entry_list_of
 names_differ block l e = rw (l.spelled, e) refl
 

@@ -7,7 +7,7 @@ use Rattle.std.proofs.lemmas.List.{length-append, length-take, take_at, drop_at,
 use Rattle.file_graph.specs.posix_calls.Name.{is_name}
 use Rattle.layout.specs.declared.directory.DirEntry.{DirEntry}
 use Rattle.layout.specs.Places.{is_inode}
-use Rattle.layout.specs.Bytes.{AreBytes, u32, zeros, filled, byte_at, run_at, number_at, text_at, items_at, are_zero, within}
+use Rattle.layout.specs.Bytes.{AreBytes, u32, zeros, padded_text, byte_at, run_at, number_at, text_at, items_at, are_zero, within}
 use Rattle.layout.specs.Directory.{EntryList, entry_text, entries_text, entries_spelling, fits_entry, are_distinct, fits_entries, front_of, fields_at, entry_at, head_at, entries_field, entry_list_of}
 use Rattle.file_graph.specs.Kinds.{kind_byte, kind_field}
 use Rattle.layout.proofs.Limits.{and_parts}
@@ -25,11 +25,11 @@ short_name name is =
     leb-true _ _ r.1
 
 record IsFront (n : ℕ) (field name : List ℕ) : Type 0 where
-  is : field ≡ filled (length field) name
+  is : field ≡ padded_text (length field) name
   long : length name ≡ n
 
 front_is : (n : ℕ) (field name : List ℕ) → front_of n field ≡ Some name → IsFront n field name
-unfolding filled
+unfolding padded_text
 front_is n field name e =
     let t = test_some (leb n (length field) && are_zero (drop n field)) (take n field) name e in
     let p = and_parts (leb n (length field)) (are_zero (drop n field)) t.0 in
@@ -40,8 +40,8 @@ front_is n field name e =
     let whole : field ≡ take n field ++ zeros (length field - length (take n field)) = sym (take-append-drop n field) ∙ ap (λ (t : List ℕ). take n field ++ t) rest in
     subst (IsFront n field) t.1 (record { is = whole; long = long })
 
-front_again : (n m : ℕ) (name : List ℕ) → length name ≡ n → n ≤ m → front_of n (filled m name) ≡ Some name
-unfolding filled
+front_again : (n m : ℕ) (name : List ℕ) → length name ≡ n → n ≤ m → front_of n (padded_text m name) ≡ Some name
+unfolding padded_text
 front_again n m name long le =
     let gap : List ℕ = zeros (m - length name) in
     let fits : leb n (length (name ++ gap)) ≡ true = le-leb _ _ (omega (arith, long, length-append name gap)) in
@@ -83,9 +83,9 @@ fields_take bytes x are e =
     let s2 = Takes-then k.0.1 (n.0.0 ∷ []) n.0.1 (0 ∷ 0 ∷ f.0.0) f.0.1 t2 s3 in
     let s1 = Takes-then i.0.1 (kind_byte k.0.0 ∷ []) k.0.1 (n.0.0 ∷ 0 ∷ 0 ∷ f.0.0) f.0.1 t1 s2 in
     let s0 = Takes-then bytes (u32 i.0.0) i.0.1 (kind_byte k.0.0 ∷ n.0.0 ∷ 0 ∷ 0 ∷ f.0.0) f.0.1 t0 s1 in
-    let field : f.0.0 ≡ filled 64 m.0 = name.is ∙ ap (λ (j : ℕ). filled j m.0) t4.long in
-    let named : Takes bytes (u32 i.0.0 ++ (kind_byte k.0.0 ∷ n.0.0 ∷ 0 ∷ 0 ∷ filled 64 m.0)) f.0.1 = subst (λ (t : List ℕ). Takes bytes (u32 i.0.0 ++ (kind_byte k.0.0 ∷ n.0.0 ∷ 0 ∷ 0 ∷ t)) f.0.1) field s0 in
-    let counted : Takes bytes (u32 i.0.0 ++ (kind_byte k.0.0 ∷ length m.0 ∷ 0 ∷ 0 ∷ filled 64 m.0)) f.0.1 = subst (λ (j : ℕ). Takes bytes (u32 i.0.0 ++ (kind_byte k.0.0 ∷ j ∷ 0 ∷ 0 ∷ filled 64 m.0)) f.0.1) (sym name.long) named in
+    let field : f.0.0 ≡ padded_text 64 m.0 = name.is ∙ ap (λ (j : ℕ). padded_text j m.0) t4.long in
+    let named : Takes bytes (u32 i.0.0 ++ (kind_byte k.0.0 ∷ n.0.0 ∷ 0 ∷ 0 ∷ padded_text 64 m.0)) f.0.1 = subst (λ (t : List ℕ). Takes bytes (u32 i.0.0 ++ (kind_byte k.0.0 ∷ n.0.0 ∷ 0 ∷ 0 ∷ t)) f.0.1) field s0 in
+    let counted : Takes bytes (u32 i.0.0 ++ (kind_byte k.0.0 ∷ length m.0 ∷ 0 ∷ 0 ∷ padded_text 64 m.0)) f.0.1 = subst (λ (j : ℕ). Takes bytes (u32 i.0.0 ++ (kind_byte k.0.0 ∷ j ∷ 0 ∷ 0 ∷ padded_text 64 m.0)) f.0.1) (sym name.long) named in
     let made : DirEntry × List ℕ = (record { inode = i.0.0; kind = k.0.0; name = m.0 }, f.0.1) in
     subst (λ (y : DirEntry × List ℕ). Takes bytes (entry_text y.0) y.1) (some_is made x m.2) counted
 
@@ -107,7 +107,7 @@ unfolding entry_at fields_at
 entry_again e rest fit =
     let p = entry_fits e fit in
     let short = short_name e.name p.name in
-    let field : List ℕ = filled 64 e.name in
+    let field : List ℕ = padded_text 64 e.name in
     let long : length field ≡ 64 = filled_long 64 e.name short in
     let tail1 : List ℕ = length e.name ∷ 0 ∷ 0 ∷ (field ++ rest) in
     let tail0 : List ℕ = kind_byte e.kind ∷ tail1 in
@@ -121,7 +121,7 @@ entry_read = record { takes = entry_takes; again = entry_again }
 -- ---- the head
 
 abbrev pub head_text : ℕ → ℕ → List ℕ
-head_text owner count = filled 64 (u32 owner ++ u32 count)
+head_text owner count = padded_text 64 (u32 owner ++ u32 count)
 
 pub head_start_long : (owner count : ℕ) → length (u32 owner ++ u32 count) ≡ 8
 head_start_long owner count = simp (length-append, u32_long) refl
@@ -130,7 +130,7 @@ pub head_text_long : (owner count : ℕ) → length (head_text owner count) ≡ 
 head_text_long owner count = filled_long 64 (u32 owner ++ u32 count) (omega (arith, head_start_long owner count))
 
 pub head_parts : (owner count : ℕ) → (u32 owner ++ u32 count) ++ zeros 56 ≡ head_text owner count
-unfolding filled
+unfolding padded_text
 head_parts owner count = ap (λ (k : ℕ). (u32 owner ++ u32 count) ++ zeros k) (omega (arith, head_start_long owner count))
 
 head_takes : (bytes : List ℕ) (x : (ℕ × ℕ) × List ℕ) → AreBytes bytes → head_at bytes ≡ Some x → Takes bytes (head_text x.0.0 x.0.1) x.1 × (is_inode x.0.0 && leb x.0.1 56 ≡ true)
@@ -174,7 +174,7 @@ entries_take bytes x are e =
     subst (λ (y : EntryList × List ℕ). Takes bytes (entries_text y.0) y.1 × (fits_list y.0 ≡ true)) (some_is made x s.2) (counted, and_from _ _ few t1.all_fit)
 
 pub entry_text_long : (e : DirEntry) → length e.name ≤ 64 → length (entry_text e) ≡ 72
-entry_text_long e short = omega (arith, length-append (u32 e.inode) (kind_byte e.kind ∷ length e.name ∷ 0 ∷ 0 ∷ filled 64 e.name), u32_long e.inode, filled_long 64 e.name short)
+entry_text_long e short = omega (arith, length-append (u32 e.inode) (kind_byte e.kind ∷ length e.name ∷ 0 ∷ 0 ∷ padded_text 64 e.name), u32_long e.inode, filled_long 64 e.name short)
 
 pub entry_texts_long : (es : List DirEntry) → list_all fits_entry es ≡ true → length (flat_map entry_text es) ≡ 72 * length es
 entry_texts_long [] fit = refl

@@ -6,7 +6,7 @@ use Rattle.std.proofs.lemmas.Bool.{and_from}
 use Rattle.std.proofs.lemmas.List.{append-nil, take_more}
 use Rattle.std.proofs.lemmas.Grind.{flat_map-append}
 use Rattle.layout.proofs.Blocks.{written_on}
-use Rattle.layout.specs.Bytes.{◌>>=◌, AreBytes, Field, items_at, filled, with_text}
+use Rattle.layout.specs.Bytes.{◌>>=◌, AreBytes, Field, items_at, padded_text, with_text}
 use Rattle.layout.proofs.Limits.{and_parts}
 use Rattle.layout.proofs.Fields.{Takes, Takes-then, bind_some, some_is}
 
@@ -57,15 +57,15 @@ items_pass {A = A} field p each (suc n) bytes x e =
 
 -- ---- a loop that writes one after the other
 
-pub item_on : {A : Type 0} (text : A → List ℕ) (n at i : ℕ) (head : List ℕ) (xs : List A) (x d : A) (old : List ℕ) → old ≡ filled n (head ++ flat_map text (take i xs)) → length (head ++ flat_map text (take i xs)) ≡ at
-    → at + length (text x) ≤ n → i < length xs → x ≡ get_or xs i d → with_text at (text x) old ≡ filled n (head ++ flat_map text (take (i + 1) xs))
+pub item_on : {A : Type 0} (text : A → List ℕ) (n at i : ℕ) (head : List ℕ) (xs : List A) (x d : A) (old : List ℕ) → old ≡ padded_text n (head ++ flat_map text (take i xs)) → length (head ++ flat_map text (take i xs)) ≡ at
+    → at + length (text x) ≤ n → i < length xs → x ≡ get_or xs i d → with_text at (text x) old ≡ padded_text n (head ++ flat_map text (take (i + 1) xs))
 item_on {A = A} text n at i head xs x d old is long fits lt read =
     let so_far : List ℕ = head ++ flat_map text (take i xs) in
     let more : take (i + 1) xs ≡ take i xs ++ x ∷ [] = take_more xs i d lt ∙ ap (λ (y : A). take i xs ++ y ∷ []) (sym read) in
     let texts : so_far ++ text x ≡ head ++ flat_map text (take (i + 1) xs) =
     append_assoc head (flat_map text (take i xs)) (text x)
     ∙ ap (λ (t : List ℕ). head ++ t) (ap (λ (t : List ℕ). flat_map text (take i xs) ++ t) (sym (append-nil (text x))) ∙ sym (flat_map-append text (take i xs) (x ∷ [])) ∙ ap (flat_map text) (sym more)) in
-    written_on n at so_far (text x) old is (sym long) (omega (arith, long, fits)) ∙ ap (filled n) texts
+    written_on n at so_far (text x) old is (sym long) (omega (arith, long, fits)) ∙ ap (padded_text n) texts
 
 -- ---- a loop that reads one after the other
 

@@ -6,7 +6,7 @@ use Rattle.layout.specs.declared.slot.Slot.{Slot}
 use Rattle.layout.specs.declared.slot.Slot.TheVariants as slot
 use Rattle.layout.specs.declared.slot_fields.SlotFields.{SlotFields}
 use Rattle.layout.specs.Places.{Sizes, IsAllowed, is_node, node_end}
-use Rattle.layout.specs.Bytes.{AreBytes, u32, u64, filled, number_at, within}
+use Rattle.layout.specs.Bytes.{AreBytes, u32, u64, padded_text, number_at, within}
 use Rattle.layout.specs.Slot.{slot_fields, slot_text, slot_spelling, is_root_block, roots_apart, fits_slot, slot_at, is_blank, slot_from, slot_of}
 use Rattle.layout.proofs.Limits.{and_parts}
 use Rattle.layout.proofs.Fields.{Takes, Takes-then, bind_some, test_some, chosen, some_is, u32_takes, u64_takes, u32_again, u64_again, u32_long, u64_long}
@@ -172,7 +172,7 @@ slot_of_takes g bytes s are e =
     let fit = test_some (fits_slot g v.0) v.0 s v.2 in
     let p = within_parts 128 slot_at bytes f.0 f.1 in
     let t = fields_take bytes (f.0, p.0) are p.2 in
-    let spelled = filled_from 128 bytes (slot_text f.0) p.0 p.1 t p.3 ∙ ap (filled 128) (text_from f.0 v.0 v.1) in
+    let spelled = filled_from 128 bytes (slot_text f.0) p.0 p.1 t p.3 ∙ ap (padded_text 128) (text_from f.0 v.0 v.1) in
     subst (λ (y : Slot). (fits_slot g y ≡ true) × (bytes ≡ slot_spelling y)) fit.1 (fit.0, spelled)
 
 pub slot_of_again : (g : Sizes) (s : Slot) → IsAllowed g → fits_slot g s ≡ true → slot_of g (slot_spelling s) ≡ Some s

@@ -10,8 +10,8 @@ unfoldable pub zeros : ℕ → List ℕ
 zeros n = replicate n 0
 
 -- a text and zero bytes behind it, so many bytes in all
-unfoldable pub filled : ℕ → List ℕ → List ℕ
-filled n text = text ++ zeros (n - length text)
+unfoldable pub padded_text : ℕ → List ℕ → List ℕ
+padded_text n text = text ++ zeros (n - length text)
 
 -- bytes with a text over them from a place on
 abbrev pub with_text : ℕ → List ℕ → List ℕ → List ℕ

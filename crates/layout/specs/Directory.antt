@@ -11,7 +11,7 @@ use Rattle.file_graph.specs.declared.effect.Kind.{Kind}
 use Rattle.file_graph.specs.declared.effect.Kind.TheVariants as kind
 use Rattle.layout.specs.declared.directory.DirEntry.{DirEntry}
 use Rattle.layout.specs.Places.{is_inode}
-use Rattle.layout.specs.Bytes.{◌>>=◌, Field, u32, zeros, filled, number_at, byte_at, run_at, text_at, items_at, are_zero, within, all_pairs}
+use Rattle.layout.specs.Bytes.{◌>>=◌, Field, u32, zeros, padded_text, number_at, byte_at, run_at, text_at, items_at, are_zero, within, all_pairs}
 
 -- a directory, and entries of it
 pub record EntryList : Type 0 where
@@ -20,15 +20,15 @@ pub record EntryList : Type 0 where
 
 -- the inode, the kind, the length of the name, two zero bytes, and the name filled up with zeros
 abbrev pub entry_text : DirEntry → List ℕ
-entry_text e = u32 e.inode ++ kind_byte e.kind ∷ length e.name ∷ 0 ∷ 0 ∷ filled MAX_NAME e.name
+entry_text e = u32 e.inode ++ kind_byte e.kind ∷ length e.name ∷ 0 ∷ 0 ∷ padded_text MAX_NAME e.name
 
 -- the owner and the count, filled up with zeros, and the entries
 abbrev pub entries_text : EntryList → List ℕ
-entries_text v = filled FIRST_ENTRY_AT (u32 v.owner ++ u32 (length v.entries)) ++ flat_map entry_text v.entries
+entries_text v = padded_text FIRST_ENTRY_AT (u32 v.owner ++ u32 (length v.entries)) ++ flat_map entry_text v.entries
 
 -- the block that entries are spelled as
 abbrev pub entries_spelling : EntryList → List ℕ
-entries_spelling v = filled BLOCK (entries_text v)
+entries_spelling v = padded_text BLOCK (entries_text v)
 
 -- whether an entry leads to an inode, by a name
 abbrev pub fits_entry : DirEntry → Bool
@@ -89,26 +89,26 @@ entry_list_of bytes = do
   if are_distinct v.entries then Some v else None
 
 -- the entries that stand in a block, whatever their names; none where it has no such
-unfoldable pub listed : List ℕ → EntryList
-listed bytes = unwrap_or (within BLOCK entries_field bytes) (record { owner = 0; entries = [] })
+unfoldable pub block_entries : List ℕ → EntryList
+block_entries bytes = unwrap_or (within BLOCK entries_field bytes) (record { owner = 0; entries = [] })
 
 -- entries stand in the block
 pub record IsEntryList (bytes : List ℕ) : Type 0 where
-  pub spelled : within BLOCK entries_field bytes ≡ Some (listed bytes)
-  pub few : length (listed bytes).entries ≤ MAX_IN_BLOCK
+  pub spelled : within BLOCK entries_field bytes ≡ Some (block_entries bytes)
+  pub few : length (block_entries bytes).entries ≤ MAX_IN_BLOCK
   pub long : length bytes ≡ BLOCK
 
 -- a block of entries, no two of one name, and what its head tells
 pub record IsRead (owner count : ℕ) (bytes : List ℕ) : Type 0 where
   pub list : IsEntryList bytes
-  pub distinct : are_distinct (listed bytes).entries ≡ true
-  pub owner_is : owner ≡ (listed bytes).owner
-  pub count_is : count ≡ length (listed bytes).entries
+  pub distinct : are_distinct (block_entries bytes).entries ≡ true
+  pub owner_is : owner ≡ (block_entries bytes).owner
+  pub count_is : count ≡ length (block_entries bytes).entries
 
 -- The block spells entries of a directory: those that are listed.
 pub record AreEntries (bytes : List ℕ) : Type 0 where
-  pub fit : fits_entries (listed bytes) ≡ true
-  pub spelled : bytes ≡ entries_spelling (listed bytes)
+  pub fit : fits_entries (block_entries bytes) ≡ true
+  pub spelled : bytes ≡ entries_spelling (block_entries bytes)
 
 -- no entry at all, which stands where a list has none
 abbrev pub no_entry : DirEntry

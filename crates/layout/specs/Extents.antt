@@ -6,7 +6,7 @@ use Rattle.layout.specs.declared.extents.TheConstants.{MAX_EXTENTS}
 use Rattle.layout.specs.declared.extents.Extent.{Extent}
 use Rattle.layout.specs.declared.geometry.Space.{Space}
 use Rattle.layout.specs.Places.{Sizes, is_inode, is_run, blocks_in}
-use Rattle.layout.specs.Bytes.{◌>>=◌, Field, u32, filled, number_at, items_at, within, all_pairs}
+use Rattle.layout.specs.Bytes.{◌>>=◌, Field, u32, padded_text, number_at, items_at, within, all_pairs}
 
 -- an inode, how many levels of extent blocks are below, and the runs of its logical blocks
 pub record ExtentList : Type 0 where
@@ -24,7 +24,7 @@ extents_text v = u32 v.owner ++ (u32 (length v.extents) ++ (u32 v.level ++ (u32 
 
 -- the block that a list of extents is spelled as
 abbrev pub extents_spelling : ExtentList → List ℕ
-extents_spelling v = filled BLOCK (extents_text v)
+extents_spelling v = padded_text BLOCK (extents_text v)
 
 -- whether an extent has a block or more, ends within the logical blocks of a node, and the whole run is where such a node's
 -- content lies

@@ -2,7 +2,7 @@ pub mod Answers
 pub mod Bytes
 pub mod Directory
 pub mod Extents
-pub mod Lent
+pub mod LentEntry
 pub mod Marks
 pub mod Places
 pub mod Slot

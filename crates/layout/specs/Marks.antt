@@ -5,7 +5,7 @@ use Rattle.layout.specs.declared.places.TheConstants.{BLOCK}
 use Rattle.layout.specs.declared.marks.Mark.{Mark}
 use Rattle.layout.specs.declared.marks.Marks.{Marks}
 use Rattle.layout.specs.declared.marks.TheConstants.{CLIENTS}
-use Rattle.layout.specs.Bytes.{◌>>=◌, Field, u32, u64, filled, number_at, items_at, within}
+use Rattle.layout.specs.Bytes.{◌>>=◌, Field, u32, u64, padded_text, number_at, items_at, within}
 
 -- the generation, the records that are done, and four zero bytes
 abbrev pub mark_text : Mark → List ℕ
@@ -17,7 +17,7 @@ marks_text m = flat_map mark_text m.clients ++ u64 m.digests
 
 -- the block that marks are spelled as
 abbrev pub marks_spelling : Marks → List ℕ
-marks_spelling m = filled BLOCK (marks_text m)
+marks_spelling m = padded_text BLOCK (marks_text m)
 
 abbrev pub fits_mark : Mark → Bool
 fits_mark m = nat_lt m.generation (2 ^ 64) && nat_lt m.done (2 ^ 32)

@@ -7,7 +7,7 @@ use Rattle.layout.specs.declared.slot.Slot.{Slot}
 use Rattle.layout.specs.declared.slot.Slot.TheVariants as slot
 use Rattle.layout.specs.declared.slot_fields.SlotFields.{SlotFields}
 use Rattle.layout.specs.Places.{Sizes, is_node}
-use Rattle.layout.specs.Bytes.{◌>>=◌, Field, u32, u64, filled, number_at, within}
+use Rattle.layout.specs.Bytes.{◌>>=◌, Field, u32, u64, padded_text, number_at, within}
 
 -- the numbers of a slot: none of a free one, and of a directory the fast root alone
 abbrev pub slot_fields : Slot → SlotFields
@@ -21,7 +21,7 @@ slot_text f = u32 f.kind ++ (u32 f.names ++ (u64 f.size ++ (u64 f.touch ++ (u32 
 
 -- the bytes that a slot is spelled as
 abbrev pub slot_spelling : Slot → List ℕ
-slot_spelling s = filled SLOT_SIZE (slot_text (slot_fields s))
+slot_spelling s = padded_text SLOT_SIZE (slot_text (slot_fields s))
 
 -- whether a root is none or a block of the node pool
 abbrev pub is_root_block : Sizes → ℕ → Bool

@@ -4,7 +4,7 @@ use Rattle.layout.specs.declared.places.TheConstants.{BLOCK}
 use Rattle.layout.specs.declared.superblock.Super.{Super}
 use Rattle.layout.specs.declared.superblock.TheConstants.{VERSION}
 use Rattle.layout.specs.Places.{sizes, allows, geometry_of}
-use Rattle.layout.specs.Bytes.{◌>>=◌, Field, u32, filled, number_at, text_at, within}
+use Rattle.layout.specs.Bytes.{◌>>=◌, Field, u32, padded_text, number_at, text_at, within}
 
 -- the text STRATAFS
 abbrev pub magic : List ℕ
@@ -16,7 +16,7 @@ super_text s = magic ++ (u32 VERSION ++ (u32 s.geometry.units ++ (u32 s.geometry
 
 -- the block that a superblock is spelled as
 abbrev pub super_spelling : Super → List ℕ
-super_spelling s = filled BLOCK (super_text s)
+super_spelling s = padded_text BLOCK (super_text s)
 
 -- whether a superblock keeps the limits
 abbrev pub fits_super : Super → Bool

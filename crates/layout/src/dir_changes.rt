@@ -4,25 +4,25 @@ ghost use Rattle.std.specs.List.{list_all, position};
 ghost use Rattle.std.specs.Str.{bytes_eq};
 ghost use Rattle.file_graph.specs.posix_calls.declared.limits.TheConstants.{MAX_NAME};
 ghost use Rattle.layout.specs.Bytes.{u32 as bytes_4, zeros, with_text};
-ghost use Rattle.layout.specs.Directory.{EntryList, AreEntries, listed, are_distinct, entry_text, entries_spelling, fits_entry, fits_entries, entry_of, with_entry_at, with_last, with_target, without_entry, without_last};
+ghost use Rattle.layout.specs.Directory.{EntryList, AreEntries, block_entries, are_distinct, entry_text, entries_spelling, fits_entry, fits_entries, entry_of, with_entry_at, with_last, with_target, without_entry, without_last};
 ghost use Rattle.file_graph.specs.Kinds.{kind_byte};
-ghost use Rattle.layout.specs.Lent.{owned};
+ghost use Rattle.layout.specs.LentEntry.{owned_entry};
 
 use crate::dir_entries::{head_of, place_of};
 use crate::directory::{ENTRY_SIZE, FIRST_ENTRY_AT, MAX_IN_BLOCK};
 use crate::entry::{EntryRef, put_entry};
+use crate::field_writes::{put, put_u32};
 use crate::places::BLOCK;
-use crate::writing::{put, put_u32};
 use file_graph::{Kind, kind_byte};
 
 /// Adds an entry behind those of a block. It must lead to an inode, by a name that none of them has.
 pub fn add_entry(block: &mut [u8], entry: EntryRef<'_>)
     requires entries { AreEntries block.old }
-    requires room { length (listed block.old).entries < MAX_IN_BLOCK }
-    requires fits { fits_entry (owned entry) ≡ true }
-    requires new { position (λ e. bytes_eq e.name entry.name.now) (listed block.old).entries ≡ None }
+    requires room { length (block_entries block.old).entries < MAX_IN_BLOCK }
+    requires fits { fits_entry (owned_entry entry) ≡ true }
+    requires new { position (λ e. bytes_eq e.name entry.name.now) (block_entries block.old).entries ≡ None }
     ensures entries { AreEntries block.new }
-    ensures added { listed block.new ≡ with_last (listed block.old) (owned entry.entry) }
+    ensures added { block_entries block.new ≡ with_last (block_entries block.old) (owned_entry entry.entry) }
 {
     let count = count_in(block);
     put_entry(block, FIRST_ENTRY_AT + ENTRY_SIZE * count, entry);
@@ -32,9 +32,9 @@ pub fn add_entry(block: &mut [u8], entry: EntryRef<'_>)
 /// Takes the last entry of a block out.
 pub fn remove_last(block: &mut [u8])
     requires entries { AreEntries block.old }
-    requires some { 0 < length (listed block.old).entries }
+    requires some { 0 < length (block_entries block.old).entries }
     ensures entries { AreEntries block.new }
-    ensures removed { listed block.new ≡ without_last (listed block.old) }
+    ensures removed { block_entries block.new ≡ without_last (block_entries block.old) }
 {
     let count = count_in(block);
     drop_last(block, count);
@@ -43,9 +43,9 @@ pub fn remove_last(block: &mut [u8])
 /// Takes the entry at a place out of a block, whose last entry stands there then.
 pub fn take_entry(block: &mut [u8], index: usize)
     requires entries { AreEntries block.old }
-    requires inside { index < length (listed block.old).entries }
+    requires inside { index < length (block_entries block.old).entries }
     ensures entries { AreEntries block.new }
-    ensures taken { listed block.new ≡ without_entry (listed block.old) index }
+    ensures taken { block_entries block.new ≡ without_entry (block_entries block.old) index }
 {
     let count = count_in(block);
     copy_last(block, count, index);
@@ -56,9 +56,9 @@ pub fn take_entry(block: &mut [u8], index: usize)
 /// no entry has the name, and nothing has changed then.
 pub fn remove_entry(block: &mut [u8], name: &[u8]) -> Option<usize>
     requires entries { AreEntries block.old }
-    ensures place { result ≡ position (λ e. bytes_eq e.name name.now) (listed block.old).entries }
+    ensures place { result ≡ position (λ e. bytes_eq e.name name.now) (block_entries block.old).entries }
     ensures entries { AreEntries block.new }
-    ensures removed { IfSome result (λ index. listed block.new ≡ without_entry (listed block.old) index) }
+    ensures removed { IfSome result (λ index. block_entries block.new ≡ without_entry (block_entries block.old) index) }
     ensures none { IfNone result (block.new ≡ block.old) }
 {
     let count = count_in(block);
@@ -72,10 +72,10 @@ pub fn set_entry(block: &mut [u8], index: usize, entry: EntryRef<'_>)
     requires long { length block.old ≡ BLOCK }
     requires inside { index < MAX_IN_BLOCK }
     requires short { length entry.name.now ≤ MAX_NAME }
-    ensures text { block.new ≡ with_text (64 + 72 * index) (entry_text (owned entry.entry)) block.old }
-    ensures spelling { (v : EntryList) → fits_entries v ≡ true → block.old ≡ entries_spelling v → index < length v.entries → block.new ≡ entries_spelling (with_entry_at v index (owned entry.entry)) }
-    ensures entries { AreEntries block.old → index < length (listed block.old).entries → fits_entry (owned entry.entry) ≡ true → are_distinct (with_entry_at (listed block.old) index (owned entry.entry)).entries ≡ true
-        → AreEntries block.new × (listed block.new ≡ with_entry_at (listed block.old) index (owned entry.entry)) }
+    ensures text { block.new ≡ with_text (64 + 72 * index) (entry_text (owned_entry entry.entry)) block.old }
+    ensures spelling { (v : EntryList) → fits_entries v ≡ true → block.old ≡ entries_spelling v → index < length v.entries → block.new ≡ entries_spelling (with_entry_at v index (owned_entry entry.entry)) }
+    ensures entries { AreEntries block.old → index < length (block_entries block.old).entries → fits_entry (owned_entry entry.entry) ≡ true → are_distinct (with_entry_at (block_entries block.old) index (owned_entry entry.entry)).entries ≡ true
+        → AreEntries block.new × (block_entries block.new ≡ with_entry_at (block_entries block.old) index (owned_entry entry.entry)) }
 {
     put_entry(block, FIRST_ENTRY_AT + ENTRY_SIZE * index, entry);
 }
@@ -83,10 +83,10 @@ pub fn set_entry(block: &mut [u8], index: usize, entry: EntryRef<'_>)
 /// Lets the entry at a place of a block lead to another node, under its name.
 pub fn set_target(block: &mut [u8], index: usize, inode: u32, kind: Kind)
     requires entries { AreEntries block.old }
-    requires inside { index < length (listed block.old).entries }
-    requires fits { fits_entry (record { inode = inode; kind = kind; name = (entry_of (listed block.old) index).name }) ≡ true }
+    requires inside { index < length (block_entries block.old).entries }
+    requires fits { fits_entry (record { inode = inode; kind = kind; name = (entry_of (block_entries block.old) index).name }) ≡ true }
     ensures entries { AreEntries block.new }
-    ensures set { listed block.new ≡ with_target (listed block.old) index inode kind }
+    ensures set { block_entries block.new ≡ with_target (block_entries block.old) index inode kind }
 {
     let at = FIRST_ENTRY_AT + ENTRY_SIZE * index;
     put_u32(block, at, inode);
@@ -96,7 +96,7 @@ pub fn set_target(block: &mut [u8], index: usize, inode: u32, kind: Kind)
 // How many entries a block spells.
 fn count_in(block: &[u8]) -> usize
     requires { AreEntries block.now }
-    ensures count { result ≡ length (listed block.now).entries }
+    ensures count { result ≡ length (block_entries block.now).entries }
     ensures few { result ≤ MAX_IN_BLOCK }
     ensures long { length block.now ≡ BLOCK }
 {
@@ -109,11 +109,11 @@ fn count_in(block: &[u8]) -> usize
 // Writes the last of so many entries over the one at a place.
 fn copy_last(block: &mut [u8], count: usize, index: usize)
     requires entries { AreEntries block.old }
-    requires count { count ≡ length (listed block.old).entries }
+    requires count { count ≡ length (block_entries block.old).entries }
     requires inside { index < count }
     requires few { count ≤ MAX_IN_BLOCK }
     requires long { length block.old ≡ BLOCK }
-    ensures { block.new ≡ entries_spelling (with_entry_at (listed block.old) index (entry_of (listed block.old) (count - 1))) }
+    ensures { block.new ≡ entries_spelling (with_entry_at (block_entries block.old) index (entry_of (block_entries block.old) (count - 1))) }
 {
     let at = FIRST_ENTRY_AT + ENTRY_SIZE * (count - 1);
     let mut text = [0; ENTRY_SIZE];

@@ -4,16 +4,16 @@ ghost use Rattle.std.specs.List.{list_all, position};
 ghost use Rattle.std.specs.Str.{bytes_eq};
 ghost use Rattle.layout.specs.Answers.{or_damaged};
 ghost use Rattle.layout.specs.Bytes.{items_at, text_at, zeros, within};
-ghost use Rattle.layout.specs.Directory.{head_at, entry_at, entries_field, entry_list_of, listed, AreEntries, IsEntryList, IsRead, are_distinct, fits_entry};
-ghost use Rattle.layout.specs.Lent.{owned};
+ghost use Rattle.layout.specs.Directory.{head_at, entry_at, entries_field, entry_list_of, block_entries, AreEntries, IsEntryList, IsRead, are_distinct, fits_entry};
+ghost use Rattle.layout.specs.LentEntry.{owned_entry};
 ghost use Rattle.layout.specs.declared.directory.DirEntry.{DirEntry};
 ghost use Rattle.layout.specs.declared.error.What.TheVariants as what;
 
 use crate::directory::{ENTRY_SIZE, FIRST_ENTRY_AT, HEAD_GAP, MAX_IN_BLOCK};
 use crate::entry::{EntryRef, behind_entry, fields_of};
 use crate::error::{LayoutError, What};
+use crate::field_reads::{are_zero, text_of};
 use crate::places::BLOCK;
-use crate::reading::{are_zero, text_of};
 use file_graph::{is_inode, u32_of};
 use std::marker::Model;
 
@@ -26,11 +26,11 @@ pub struct DirEntries<'a> {
 }
 
 impl<'a> Model for DirEntries<'a> {
-    ghost use Rattle.layout.specs.Directory.{EntryList, listed, IsRead};
+    ghost use Rattle.layout.specs.Directory.{EntryList, block_entries, IsRead};
 
     ghost Value = { EntryList };
 
-    ghost view = { λ b. listed b.block.now };
+    ghost view = { λ b. block_entries b.block.now };
 
     ghost invariant = { λ b. IsRead b.owner b.count b.block.now };
 }
@@ -39,7 +39,7 @@ impl<'a> DirEntries<'a> {
     /// The entries that a block spells. `Damaged`, with the number of the block, where it spells none.
     pub fn read(number: u32, block: &'a [u8]) -> Result<Self, LayoutError>
         ensures read { result ≡ or_damaged what.DirBlock number (entry_list_of block.now) }
-        ensures listed { IfOk result (λ b. b ≡ listed block.now) }
+        ensures listed { IfOk result (λ b. b ≡ block_entries block.now) }
         ensures entries { OnOk result (AreEntries block.now) }
     {
         match head_of_entries(block) {
@@ -56,9 +56,9 @@ impl<'a> DirEntries<'a> {
     }
 
     /// The entries of a block that is known to spell some: nothing is tested.
-    pub fn known(block: &'a [u8]) -> Self
+    pub fn from_known(block: &'a [u8]) -> Self
         requires { AreEntries block.now }
-        ensures { result ≡ listed block.now }
+        ensures { result ≡ block_entries block.now }
     {
         match head_of(block) {
             Some(((owner, count), _)) => DirEntries {
@@ -88,8 +88,8 @@ impl<'a> DirEntries<'a> {
     /// The entry at a place; it leads to an inode, which may be the root, by a name.
     pub fn entry(&self, index: usize) -> EntryRef<'a>
         requires { index < length self.now.entries }
-        ensures entry { slice_get self.now.entries index ≡ Some (owned result) }
-        ensures fits { fits_entry (owned result) ≡ true }
+        ensures entry { slice_get self.now.entries index ≡ Some (owned_entry result) }
+        ensures fits { fits_entry (owned_entry result) ≡ true }
     {
         entry_in(self.block, index)
     }
@@ -166,8 +166,8 @@ fn behind_list(count: u32, bytes: &[u8]) -> Option<&[u8]>
 // Whether no two entries have one name.
 fn are_distinct(block: &[u8], count: usize) -> bool
     requires listed { IsEntryList block.now }
-    requires count { count ≡ length (listed block.now).entries }
-    ensures { result ≡ are_distinct (listed block.now).entries }
+    requires count { count ≡ length (block_entries block.now).entries }
+    ensures { result ≡ are_distinct (block_entries block.now).entries }
 {
     'entries: for index in 0..count {
         let name = name_in(block, index);
@@ -181,9 +181,9 @@ fn are_distinct(block: &[u8], count: usize) -> bool
 // Whether the entries from a place on have other names.
 fn differs_from(block: &[u8], first: usize, count: usize, name: &[u8]) -> bool
     requires listed { IsEntryList block.now }
-    requires count { count ≡ length (listed block.now).entries }
+    requires count { count ≡ length (block_entries block.now).entries }
     requires first { first ≤ count }
-    ensures { result ≡ list_all (λ e. not (bytes_eq name.now e.name)) (drop first (listed block.now).entries) }
+    ensures { result ≡ list_all (λ e. not (bytes_eq name.now e.name)) (drop first (block_entries block.now).entries) }
 {
     'entries: for index in first..count {
         if name == name_in(block, index) {
@@ -195,8 +195,8 @@ fn differs_from(block: &[u8], first: usize, count: usize, name: &[u8]) -> bool
 
 pub fn place_of(block: &[u8], count: usize, name: &[u8]) -> Option<usize>
     requires listed { IsEntryList block.now }
-    requires count { count ≡ length (listed block.now).entries }
-    ensures { result ≡ position (λ e. bytes_eq e.name name.now) (listed block.now).entries }
+    requires count { count ≡ length (block_entries block.now).entries }
+    ensures { result ≡ position (λ e. bytes_eq e.name name.now) (block_entries block.now).entries }
 {
     'entries: for index in 0..count {
         if name_in(block, index) == name {
@@ -209,8 +209,8 @@ pub fn place_of(block: &[u8], count: usize, name: &[u8]) -> Option<usize>
 // The name of the entry at a place.
 fn name_in(block: &[u8], index: usize) -> &[u8]
     requires listed { IsEntryList block.now }
-    requires inside { index < length (listed block.now).entries }
-    ensures { (d : DirEntry) → result.now ≡ (slice_index_or (listed block.now).entries index d).name }
+    requires inside { index < length (block_entries block.now).entries }
+    ensures { (d : DirEntry) → result.now ≡ (slice_index_or (block_entries block.now).entries index d).name }
 {
     let at = FIRST_ENTRY_AT + ENTRY_SIZE * index;
     let count = block[at + 5] as usize;
@@ -220,9 +220,9 @@ fn name_in(block: &[u8], index: usize) -> &[u8]
 
 fn entry_in(block: &[u8], index: usize) -> EntryRef<'_>
     requires listed { IsEntryList block.now }
-    requires inside { index < length (listed block.now).entries }
-    ensures entry { slice_get (listed block.now).entries index ≡ Some (owned result) }
-    ensures fits { fits_entry (owned result) ≡ true }
+    requires inside { index < length (block_entries block.now).entries }
+    ensures entry { slice_get (block_entries block.now).entries index ≡ Some (owned_entry result) }
+    ensures fits { fits_entry (owned_entry result) ≡ true }
 {
     let at = FIRST_ENTRY_AT + ENTRY_SIZE * index;
     match fields_of(&block[at..]) {

@@ -7,9 +7,9 @@ ghost use Rattle.layout.specs.declared.error.What.TheVariants as what;
 use crate::dir_entries::DirEntries;
 use crate::entry::{EntryRef, put_entry};
 use crate::error::{LayoutError, What};
+use crate::field_writes::{clear, put_u32};
 use crate::image::Image;
 use crate::places::BLOCK;
-use crate::writing::{clear, put_u32};
 use file_graph::{Kind, MAX_NAME, Name};
 use std::alloc::{AllocError, Global};
 use std::marker::Model;
@@ -112,11 +112,11 @@ impl Image for DirBlock {
 }
 
 impl DirEntry {
-    ghost use Rattle.layout.specs.Lent.{owned};
+    ghost use Rattle.layout.specs.LentEntry.{owned_entry};
 
     /// The entry, with its name lent.
-    pub fn lent(&self) -> EntryRef<'_>
-        ensures entry { owned result ≡ self.now }
+    pub fn entry_ref(&self) -> EntryRef<'_>
+        ensures entry { owned_entry result ≡ self.now }
         ensures short { length result.name.now ≤ MAX_NAME }
     {
         EntryRef {
@@ -147,7 +147,7 @@ fn write_block(block: &mut [u8], owner: u32, entries: &[DirEntry])
     put_u32(block, 0, owner);
     put_u32(block, 4, entries.len() as u32);
     for index in 0..entries.len() {
-        let entry = entries[index].lent();
+        let entry = entries[index].entry_ref();
         put_entry(block, FIRST_ENTRY_AT + ENTRY_SIZE * index, entry);
     }
 }

@@ -1,14 +1,14 @@
 // Entries of a directory, at the front of bytes.
 ghost use Rattle.std.specs.Prelude.{◌≡◌, ◌≤◌, ◌+◌, ◌∷◌, [], length, option_map, IfOk, true};
-ghost use Rattle.layout.specs.Bytes.{zeros, filled, with_text};
+ghost use Rattle.layout.specs.Bytes.{zeros, padded_text, with_text};
 ghost use Rattle.layout.specs.Directory.{front_of, fields_at, entry_at, entry_text};
 ghost use Rattle.file_graph.specs.Kinds.{kind_byte};
-ghost use Rattle.layout.specs.Lent.{owned};
+ghost use Rattle.layout.specs.LentEntry.{owned_entry};
 ghost use Rattle.file_graph.specs.posix_calls.Name.{is_name};
 
 use crate::directory::DirEntry;
-use crate::reading::{are_zero, text_of};
-use crate::writing::{put, put_u32};
+use crate::field_reads::{are_zero, text_of};
+use crate::field_writes::{put, put_u32};
 use file_graph::{Kind, MAX_NAME, Name, byte_of, is_inode, kind_byte, read_kind, run_of, u32_of};
 use std::alloc::{AllocError, Global};
 
@@ -24,7 +24,7 @@ impl<'a> EntryRef<'a> {
     /// The entry with a name of its own.
     pub fn to_entry(self, alloc: Global) -> Result<DirEntry, AllocError>
         requires { is_name self.name.now ≡ true }
-        ensures { IfOk result (λ e. e ≡ owned self.entry) }
+        ensures { IfOk result (λ e. e ≡ owned_entry self.entry) }
     {
         let copy = self.name.to_vec(alloc)?;
         match Name::from_vec(copy) {
@@ -41,7 +41,7 @@ impl<'a> EntryRef<'a> {
 pub fn put_entry(block: &mut [u8], at: usize, entry: EntryRef<'_>)
     requires within { at + 72 ≤ length block.old }
     requires short { length entry.name.now ≤ MAX_NAME }
-    ensures { block.new ≡ with_text at (entry_text (owned entry.entry)) block.old }
+    ensures { block.new ≡ with_text at (entry_text (owned_entry entry.entry)) block.old }
 {
     let name = entry.name;
     put_u32(block, at, entry.inode);
@@ -61,7 +61,7 @@ fn put_tags(block: &mut [u8], at: usize, kind: Kind, count: usize)
 fn put_name(block: &mut [u8], at: usize, name: &[u8])
     requires within { at + MAX_NAME ≤ length block.old }
     requires short { length name.now ≤ MAX_NAME }
-    ensures { block.new ≡ with_text at (filled MAX_NAME name.now) block.old }
+    ensures { block.new ≡ with_text at (padded_text MAX_NAME name.now) block.old }
 {
     put_zeros(block, at);
     put(block, at, name);
@@ -93,7 +93,7 @@ fn front_of(count: usize, field: &[u8]) -> Option<&[u8]>
 
 #[tactic(auto, unfolding(crate::specs::Directory::fields_at))]
 pub fn fields_of(bytes: &[u8]) -> Option<(EntryRef<'_>, &[u8])>
-    ensures { option_map (λ x. (owned x.0, x.1.now)) result ≡ fields_at bytes.now }
+    ensures { option_map (λ x. (owned_entry x.0, x.1.now)) result ≡ fields_at bytes.now }
 {
     let (inode, rest) = u32_of(bytes)?;
     let (kind, rest) = read_kind(rest)?;

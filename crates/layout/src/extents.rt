@@ -6,11 +6,11 @@ ghost use Rattle.layout.specs.Extents.{extent_text, extents_spelling, is_extent,
 ghost use Rattle.layout.specs.declared.error.What.TheVariants as what;
 
 use crate::error::{LayoutError, What};
+use crate::field_reads::are_zero;
+use crate::field_writes::{clear, put_u32};
 use crate::geometry::{Geometry, Space};
 use crate::image::Image;
 use crate::places::BLOCK;
-use crate::reading::are_zero;
-use crate::writing::{clear, put_u32};
 use file_graph::{is_inode, u32_of};
 use std::alloc::Global;
 use std::marker::Model;
@@ -105,7 +105,7 @@ impl ExtentBlock {
     ) -> Result<Self, LayoutError>
         ensures { Reads what.ExtentBlock number result (extents_of geometry.now space block.now) }
     {
-        let mut list = blank();
+        let mut list = blank_extents();
         let Some(head) = block_of(geometry, space, block, &mut list) else {
             return Err(LayoutError::Damaged {
                 what: What::ExtentBlock,
@@ -137,7 +137,7 @@ impl Image for ExtentBlock {
 }
 
 // Places for all extents that a block may have.
-fn blank() -> [Extent; MAX_EXTENTS] {
+fn blank_extents() -> [Extent; MAX_EXTENTS] {
     let none = Extent {
         logical: 0,
         length: 0,

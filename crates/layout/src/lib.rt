@@ -12,17 +12,17 @@ mod directory;
 mod entry;
 mod error;
 mod extents;
+mod field_reads;
+mod field_writes;
 mod geometry;
 mod image;
 mod laws;
 mod marks;
 mod numbers;
 mod places;
-mod reading;
 mod slot;
 mod slot_fields;
 mod superblock;
-mod writing;
 
 pub use dir_changes::{add_entry, remove_entry, remove_last, set_entry, set_target, take_entry};
 pub use dir_entries::DirEntries;
@@ -30,6 +30,7 @@ pub use directory::{DirBlock, DirEntry, MAX_IN_BLOCK};
 pub use entry::EntryRef;
 pub use error::{LayoutError, What};
 pub use extents::{Extent, ExtentBlock, MAX_EXTENTS};
+pub use field_reads::are_zero;
 pub use geometry::{Geometry, Space};
 pub use image::Image;
 pub use laws::{
@@ -43,7 +44,6 @@ pub use places::{
     MARKS_BLOCK, MAX_DATA_BLOCKS, MAX_IMAGES, MAX_UNITS, MIN_UNITS, SLOT_SIZE, SLOTS_IN_BLOCK,
     SUPER_BLOCK, slot_block, slot_byte,
 };
-pub use reading::are_zero;
 pub use slot::Slot;
 pub use superblock::Super;
 

@@ -5,10 +5,10 @@ ghost use Rattle.layout.specs.Marks.{mark_text, marks_spelling, mark_at, marks_a
 ghost use Rattle.layout.specs.declared.error.What.TheVariants as what;
 
 use crate::error::{LayoutError, What};
+use crate::field_reads::are_zero;
+use crate::field_writes::{clear, put_u32, put_u64};
 use crate::image::Image;
 use crate::places::{BLOCK, MARKS_BLOCK};
-use crate::reading::are_zero;
-use crate::writing::{clear, put_u32, put_u64};
 use file_graph::{u32_of, u64_of};
 
 /// How many clients have a mark.

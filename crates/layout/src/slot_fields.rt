@@ -1,11 +1,11 @@
 // The numbers of an inode slot, whatever they are.
 ghost use Rattle.std.specs.Prelude.{◌≡◌, length, option_map};
-ghost use Rattle.layout.specs.Bytes.{filled, within};
+ghost use Rattle.layout.specs.Bytes.{padded_text, within};
 ghost use Rattle.layout.specs.Slot.{slot_text, slot_at, is_blank};
 
+use crate::field_reads::are_zero;
+use crate::field_writes::{clear, put_u32, put_u64};
 use crate::places::SLOT_SIZE;
-use crate::reading::are_zero;
-use crate::writing::{clear, put_u32, put_u64};
 use file_graph::{u32_of, u64_of};
 
 #[derive(Clone, Copy)]
@@ -22,7 +22,7 @@ pub struct SlotFields {
 impl SlotFields {
     pub fn write(&self, bytes: &mut [u8])
         requires { length bytes.old ≡ SLOT_SIZE }
-        ensures { bytes.new ≡ filled SLOT_SIZE (slot_text self.now) }
+        ensures { bytes.new ≡ padded_text SLOT_SIZE (slot_text self.now) }
     {
         clear(bytes);
         put_u32(bytes, 0, self.kind);

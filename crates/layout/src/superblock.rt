@@ -4,11 +4,11 @@ ghost use Rattle.layout.specs.Super.{super_spelling, super_at, super_of};
 ghost use Rattle.layout.specs.declared.error.What.TheVariants as what;
 
 use crate::error::{LayoutError, What};
+use crate::field_reads::{are_zero, text_of};
+use crate::field_writes::{clear, put, put_u32};
 use crate::geometry::Geometry;
 use crate::image::Image;
 use crate::places::{BLOCK, SUPER_BLOCK};
-use crate::reading::{are_zero, text_of};
-use crate::writing::{clear, put, put_u32};
 use file_graph::u32_of;
 use tier_device::Tier;
 

@@ -1,7 +1,7 @@
 -- The inodes that a pass holds for writing, one after the other.
 use Rattle.std.proofs.Common.{◌≡◌, ℕ, zero, suc, ◌+◌, ◌<◌, ◌≤◌, ◌==◌, ◌||◌, Bool, true, false, cond, List, [], ◌∷◌, ◌++◌, length, get_or, refl, sym, ◌∙◌, ap, subst, arith, length-append, add-one}
 use Rattle.std.specs.Prelude.{◌&&◌, nat_le}
-use Rattle.std.specs.List.Sorted.{IsNonDecreasing}
+use Rattle.std.specs.List.Sorted.{IsStrictlyIncreasing}
 use Rattle.std.proofs.lemmas.Bool.Decides.{nat_tests}
 use Rattle.std.proofs.lemmas.List.{get_or_append_left}
 use Rattle.std.proofs.lemmas.List.Folds.{list_any-append}
@@ -9,7 +9,7 @@ use mathlib.Core.Logic.{dite}
 use native.Mathlib.Decide.{dec_lt}
 use Rattle.log_record.specs.file_graph.Graph.{is_among}
 use Rattle.lease_manager.specs.Passes.{PassView}
-use Rattle.lease_manager.specs.Held.{AreWritten, writes, written_up_to}
+use Rattle.lease_manager.specs.PassLeases.{AreWritten, writes, written_up_to}
 
 -- no number of a list is past a bound
 abbrev AreUpTo : ℕ → List ℕ → Type 0
@@ -31,24 +31,25 @@ module _ (xs : List ℕ) (m n : ℕ) where
   pub up_to_more : AreUpTo m xs → m ≤ n → AreUpTo n xs
   up_to_more low above i d here = let at = low i d here in omega arith
 
-  pub rising_push : AreUpTo m xs → m ≤ n → IsNonDecreasing xs → IsNonDecreasing (xs ++ n ∷ [])
-  rising_push low above rising i j d order here = dite (dec_lt j (length xs))
+  pub rising_push : AreUpTo m xs → m < n → IsStrictlyIncreasing xs → IsStrictlyIncreasing (xs ++ n ∷ [])
+  rising_push low above rising k here =
+      let all = length-append xs (n ∷ []) in
+      let k_in : k < length xs = omega (arith, here, all) in
+      let a = get_or_append_left xs (n ∷ []) 0 k k_in in
+      dite (dec_lt (k + 1) (length xs))
       (λ inside.
-      let i_in : i < length xs = omega arith in
-      let a = get_or_append_left xs (n ∷ []) d i i_in in
-      let b = get_or_append_left xs (n ∷ []) d j inside in
-      let at = rising i j d order inside in
-      omega arith)
+      let b = get_or_append_left xs (n ∷ []) 0 (k + 1) inside in
+      let at = rising k inside in
+      omega (arith, a, b, at))
       (λ past.
-      let b = end_of xs n j d (last_place xs n j here past) in
-      dite (dec_lt i (length xs))
-      (λ i_in. let a = get_or_append_left xs (n ∷ []) d i i_in in let at = low i d i_in in omega arith)
-      (λ i_past. let here_i : i < length (xs ++ n ∷ []) = omega arith in let a = end_of xs n i d (last_place xs n i here_i i_past) in omega arith))
+      let b = end_of xs n (k + 1) 0 (last_place xs n (k + 1) here past) in
+      let at = low k 0 k_in in
+      omega (arith, a, b, at, above))
 
 -- ---- all of them
 
-step_rising : (b : Bool) (xs : List ℕ) (n : ℕ) → AreUpTo n xs × IsNonDecreasing xs → AreUpTo (n + 1) (cond b (xs ++ (n + 1) ∷ []) xs) × IsNonDecreasing (cond b (xs ++ (n + 1) ∷ []) xs)
-step_rising true xs n h = let above : n ≤ n + 1 = omega arith in (up_to_push xs n (n + 1) h.0 above, rising_push xs n (n + 1) h.0 above h.1)
+step_rising : (b : Bool) (xs : List ℕ) (n : ℕ) → AreUpTo n xs × IsStrictlyIncreasing xs → AreUpTo (n + 1) (cond b (xs ++ (n + 1) ∷ []) xs) × IsStrictlyIncreasing (cond b (xs ++ (n + 1) ∷ []) xs)
+step_rising true xs n h = let above : n ≤ n + 1 = omega arith in let past : n < n + 1 = omega arith in (up_to_push xs n (n + 1) h.0 above, rising_push xs n (n + 1) h.0 past h.1)
 step_rising false xs n h = let above : n ≤ n + 1 = omega arith in (up_to_more xs n (n + 1) h.0 above, h.1)
 
 -- one more number, held or not
@@ -61,15 +62,15 @@ last_false i n true at = grind (arith, nat_tests)
 last_false i n false at = grind (arith, nat_tests)
 
 module _ (p : PassView) where
-  none_yet : AreUpTo 0 [] × IsNonDecreasing []
-  none_yet = (λ i d here. absurd (omega arith), λ i j d order here. absurd (omega arith))
+  none_yet : AreUpTo 0 [] × IsStrictlyIncreasing []
+  none_yet = (λ i d here. absurd (omega arith), λ k here. absurd (omega arith))
 
-  both : (n : ℕ) → AreUpTo n (written_up_to p n) × IsNonDecreasing (written_up_to p n)
+  both : (n : ℕ) → AreUpTo n (written_up_to p n) × IsStrictlyIncreasing (written_up_to p n)
   both zero = none_yet
-  both (suc n) = subst (λ m. AreUpTo m (written_up_to p (suc n)) × IsNonDecreasing (written_up_to p (suc n))) (omega arith) (step_rising (writes p (n + 1)) (written_up_to p n) n (both n))
+  both (suc n) = subst (λ m. AreUpTo m (written_up_to p (suc n)) × IsStrictlyIncreasing (written_up_to p (suc n))) (omega arith) (step_rising (writes p (n + 1)) (written_up_to p n) n (both n))
 
   -- they rise
-  pub held_rising : (n : ℕ) → IsNonDecreasing (written_up_to p n)
+  pub held_rising : (n : ℕ) → IsStrictlyIncreasing (written_up_to p n)
   held_rising n = (both n).1
 
   among_push : (xs : List ℕ) (m i : ℕ) → is_among i (xs ++ m ∷ []) ≡ (is_among i xs || (m == i))

@@ -6,9 +6,9 @@ pub mod Parts
 pub mod Law
 pub mod Plays
 pub mod Passes
-pub mod Counted
-pub mod Held
-pub mod Kept
+pub mod RecordCounts
+pub mod PassLeases
+pub mod LeaseCounts
 -- Passed on to the crates above, which so need not list those below.
 pub use Rattle.log_record.specs.file_graph
 pub use Rattle.log_record.specs as log_record

@@ -6,7 +6,7 @@ ghost use Rattle.log_record.specs.Grammar.{Fits, IsRecord};
 ghost use Rattle.lease_manager.specs.declared.view.LeaseMode.TheVariants.{Writing};
 ghost use Rattle.lease_manager.specs.Words.{HasWord};
 ghost use Rattle.lease_manager.specs.Passes.{lease_of, records_of};
-ghost use Rattle.lease_manager.specs.Counted.{HasNoted, HasCleaned, HasUncounted, is_touched, one_if, touching};
+ghost use Rattle.lease_manager.specs.RecordCounts.{HasNoted, HasCleaned, HasUncounted, is_touched, one_if, touch_count};
 
 use crate::{Leases, Pass};
 use log_record::{Effect, Record};
@@ -50,7 +50,7 @@ pub fn clean_effects(leases: &Leases, pass: &mut Pass, effects: &[Effect])
 pub fn clean_records(leases: &Leases, pass: &mut Pass, records: &[Record])
     requires table { pass.old.table ≡ leases.now }
     requires spelled { AllByRecursion IsRecord records.now }
-    requires there { (i : ℕ) → HasWord i → touching records.now i ≤ records_of pass.old i }
+    requires there { (i : ℕ) → HasWord i → touch_count records.now i ≤ records_of pass.old i }
     ensures { HasCleaned pass.old records.now pass.new }
 {
     for entry in records {

@@ -7,21 +7,21 @@
 //! given back while one of them does.
 #![tactic(auto)]
 
-mod asking;
-mod counting;
-mod holding;
+mod client_pair;
+mod counted_leases;
 mod inode_leases;
 mod laws;
 mod layout;
-mod lease_taking;
-mod meeting;
+mod lease_calls;
 mod pass;
+mod pass_leases;
+mod record_counts;
+mod requests;
 mod rule;
 mod table;
-mod taking;
 mod view;
 
-pub use holding::{is_inode, reads, writes, written_inodes};
+pub use counted_leases::{raise, take_read, take_write};
 pub use inode_leases::{clean_records, note_effects};
 #[cfg(test)]
 pub use laws::{
@@ -29,8 +29,8 @@ pub use laws::{
     waiting_question_was_asked,
 };
 pub use layout::{CLIENTS, INODES, ROWS, WORDS};
-pub use lease_taking::{raise, take_read, take_write};
 pub use pass::{Busy, Pass};
+pub use pass_leases::{is_inode, reads, writes, written_inodes};
 pub use table::{Leases, Opened};
 pub use view::{Event, LeaseMode, Part};
 

@@ -4,10 +4,10 @@ use Rattle.std.specs.Prelude.{◌==◌}
 use Rattle.std.proofs.lemmas.Bool.{cond-true, eq-eqb}
 use Rattle.lease_manager.specs.posix_calls.Tree.{Descriptors, with_own}
 use Rattle.lease_manager.specs.file_graph.Graph.{Graph}
-use Rattle.client_log.specs.call_effects.Known.{Knowledge, Agrees}
+use Rattle.client_log.specs.call_effects.Knowledge.{Knowledge, Agrees}
 use Rattle.client_view.specs.client_plan.declared.outcome.DescriptorChange.{DescriptorChange}
-use Rattle.client_view.specs.client_plan.Planned.{own_changed}
-use Rattle.client_view.specs.Logged.{with_change}
+use Rattle.client_view.specs.client_plan.CallPlan.{own_changed}
+use Rattle.client_view.specs.AfterRecord.{with_change}
 
 -- a descriptor has changed, in what the client knows and in the whole
 pub changed_agrees : (k : Knowledge) (g : Graph) (held : Descriptors) (change : Option DescriptorChange) → Agrees k g held → Agrees (with_change k change) g (with_own held k.client (own_changed k.own change))

@@ -3,7 +3,7 @@ use Rattle.std.proofs.Common.{◌≡◌, ℕ, zero, suc, ◌<◌, ◌≤◌, Boo
 use Rattle.std.specs.Prelude.{◌==◌, ◌&&◌, not}
 use Rattle.std.specs.List.{filter}
 use Rattle.std.proofs.lemmas.Bool.{and_parts, and_from, eqb-true, eq-eqb, cond-true, cond-false}
-use Rattle.client_view.specs.block_cache.Cached.{Block, bytes_at, in_front, is_at, put, without}
+use Rattle.client_view.specs.block_cache.CacheList.{Block, bytes_at, in_front, is_at, put_block, without}
 
 -- ---- more of the first ones
 
@@ -69,9 +69,9 @@ past_first bs i b j m n (suc k) bytes w off few is =
         (eq-eqb m b (eqb-true m x.block there.1 ∙ sym (eqb-true b x.block put'.1))))
 
 -- it is the first
-pub put_is_first : (bs : List Block) (i b k : ℕ) (bytes : List ℕ) → 0 < k → k ≤ 256 → bytes_at i b (take k (put i b bytes bs)) ≡ Some bytes
+pub put_is_first : (bs : List Block) (i b k : ℕ) (bytes : List ℕ) → 0 < k → k ≤ 256 → bytes_at i b (take k (put_block i b bytes bs)) ≡ Some bytes
 put_is_first bs i b k bytes some few = ap (bytes_at i b) (taken_twice (in_front i b bytes bs) k 256 few) ∙ first_of bs i b k bytes some
 
 -- and each other one is at most one place further on
-pub put_before : (bs : List Block) (i b j m n k : ℕ) (bytes w : List ℕ) → ((j == i) && (m == b)) ≡ false → n < k → k ≤ 256 → bytes_at j m (take n bs) ≡ Some w → bytes_at j m (take k (put i b bytes bs)) ≡ Some w
+pub put_before : (bs : List Block) (i b j m n k : ℕ) (bytes w : List ℕ) → ((j == i) && (m == b)) ≡ false → n < k → k ≤ 256 → bytes_at j m (take n bs) ≡ Some w → bytes_at j m (take k (put_block i b bytes bs)) ≡ Some w
 put_before bs i b j m n k bytes w off later few is = ap (bytes_at j m) (taken_twice (in_front i b bytes bs) k 256 few) ∙ past_first bs i b j m n k bytes w off later is

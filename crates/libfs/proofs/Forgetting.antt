@@ -9,10 +9,10 @@ use Rattle.std.proofs.lemmas.Grind.{flat_map-append}
 use Rattle.lease_manager.specs.file_graph.Graph.{is_among, subjects, touches}
 use Rattle.lease_manager.specs.file_graph.declared.effect.Effect.{Effect}
 use Rattle.lease_manager.specs.log_record.declared.format.Record.{Record}
-use Rattle.client_log.specs.call_effects.Known.{Knowledge}
-use Rattle.client_view.specs.Forgotten.{without_blocks}
-use Rattle.lease_manager.specs.Counted.{is_touched}
-use Rattle.libfs.specs.HandingOver.{is_named, without_blocks_at, without_blocks_of}
+use Rattle.client_log.specs.call_effects.Knowledge.{Knowledge}
+use Rattle.client_view.specs.KnowledgeChanges.{without_blocks}
+use Rattle.lease_manager.specs.RecordCounts.{is_touched}
+use Rattle.libfs.specs.RegionSeal.{is_named, without_blocks_at, without_blocks_of}
 
 -- what is forgotten of some inodes, and then of others, is forgotten of both
 abbrev without : Knowledge → (ℕ → Bool) → Knowledge

@@ -7,7 +7,8 @@ use Rattle.std.proofs.lemmas.List.{take_all}
 use Rattle.lease_manager.specs.file_graph.Graph.{is_among}
 use Rattle.kernel_fs.specs.Inodes.{is_inode, has}
 use Rattle.kernel_fs.proofs.Rows.{has_none, inode_tells}
-use Rattle.client_view.specs.Held.{Held, knows}
+use Rattle.client_view.specs.KnowledgeTables.{Held, knows}
+use Rattle.client_log.specs.tier_device.declared.media.Media.{Ghosts}
 use Rattle.client_log.specs.tier_device.declared.media.Tier.{Tier}
 use Rattle.lease_manager.specs.Passes.{client_of}
 use Rattle.client_log.specs.world_invariant.Machine.{Machine}
@@ -16,9 +17,9 @@ use Rattle.kernel_fs.specs.Free.{AreLowest}
 use Rattle.kernel_fs.specs.Nodes.{nodes_in}
 use Rattle.kernel_fs.specs.Steps.{grant, take_back}
 use Rattle.kernel_fs.specs.KernelView.{KernelView}
-use Rattle.kernel_fs.specs.Standing.{IsKernelOf}
-use Rattle.libfs.specs.Holding.{known_to}
-use Rattle.libfs.specs.Serving.{HasGivenBack, HasRefilled, inodes_granted, shared_by, with_numbers}
+use Rattle.kernel_fs.specs.MachineState.{IsKernelOf}
+use Rattle.libfs.specs.ClientHoldings.{known_to}
+use Rattle.libfs.specs.NeedService.{HasGivenBack, HasRefilled, inodes_granted, shared_by, with_numbers}
 use Rattle.libfs.specs.View.{ClientView}
 
 or_nothing : (b : Bool) → (b || false) ≡ b
@@ -142,9 +143,9 @@ knows_more h ns f is = λ t. record { client = h.client; own = (knows h).own; co
 same_but_numbers : (h new : Held) (ns : List ℕ) → new ≡ record h { numbers = ns } → new ≡ record h { numbers = new.numbers }
 same_but_numbers h new ns is = is ∙ ap (λ (xs : List ℕ). record h { numbers = xs }) (sym (ap (λ (x : Held). x.numbers) is))
 
-module _ {M S : Type 0} (shared : S → Tier → List ℕ) (k after : KernelView S) (old : ClientView M) (copies : Held) (ns : List ℕ) (is : copies ≡ record old.copies { numbers = ns }) where
-  pub refilled : (units inodes : ℕ) (more : ℕ → Bool) → ((i : ℕ) → is_among i ns ≡ (is_among i old.copies.numbers || more i)) → AreLowest (is_free k.book (nodes_in (shared_by shared k))) more inodes
-      → ((m : Machine) → IsKernelOf shared k m → IsKernelOf shared after (grant m (client_of old.pass) units more)) → HasRefilled shared k old units inodes (record old { spare = old.spare + units; copies = copies }) after
+module _ {M S : Type 0} (device : Ghosts S) (k after : KernelView S) (old : ClientView M) (copies : Held) (ns : List ℕ) (is : copies ≡ record old.copies { numbers = ns }) where
+  pub refilled : (units inodes : ℕ) (more : ℕ → Bool) → ((i : ℕ) → is_among i ns ≡ (is_among i old.copies.numbers || more i)) → AreLowest (is_free k.book (nodes_in (shared_by device k))) more inodes
+      → ((m : Machine) → IsKernelOf device k m → IsKernelOf device after (grant m (client_of old.pass) units more)) → HasRefilled device k old units inodes (record old { spare = old.spare + units; copies = copies }) after
   refilled units inodes more all lowest step = record {
     numbers = more;
     lowest = lowest;
@@ -154,7 +155,7 @@ module _ {M S : Type 0} (shared : S → Tier → List ℕ) (k after : KernelView
     step = step;
   }
 
-  pub given_back : ns ≡ [] → ((m : Machine) → IsKernelOf shared k m → IsKernelOf shared after (take_back m (client_of old.pass) old.spare (inodes_granted (known_to old)))) → HasGivenBack shared k old (record old { spare = 0; copies = copies }) after
+  pub given_back : ns ≡ [] → ((m : Machine) → IsKernelOf device k m → IsKernelOf device after (take_back m (client_of old.pass) old.spare (inodes_granted (known_to old)))) → HasGivenBack device k old (record old { spare = 0; copies = copies }) after
   given_back none step = record {
     spare = refl;
     numbers = ap (λ (h : Held). h.numbers) is ∙ none;

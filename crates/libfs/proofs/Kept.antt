@@ -5,34 +5,35 @@ use Rattle.std.specs.Option.{ForSome}
 use Rattle.std.proofs.lemmas.Bool.{true≢false, false≢true}
 use Rattle.std.proofs.lemmas.List.Sums.{sum_by-append}
 use Rattle.atomic_table.specs.Seated.{TableId}
+use Rattle.client_log.specs.tier_device.declared.media.Media.{Ghosts}
 use Rattle.client_log.specs.tier_device.declared.media.Tier.{Tier}
-use Rattle.client_view.specs.block_cache.Cached.{Block}
+use Rattle.client_view.specs.block_cache.CacheList.{Block}
 use Rattle.lease_manager.specs.log_record.declared.format.Record.{Record}
 use Rattle.client_log.specs.update_log.Frames.{with_record}
 use Rattle.lease_manager.specs.Words.{HasWord}
 use Rattle.lease_manager.specs.Passes.{PassView, client_of, records_of}
 use Rattle.client_log.specs.Turns.{Turn, turn_of}
-use Rattle.client_log.specs.View.{LogView, written}
-use Rattle.client_view.specs.Held.{Held, knows}
-use Rattle.client_view.specs.Prepared.{IsPreparedFor}
-use Rattle.libfs.specs.declared.begun.Begun.{Begun}
+use Rattle.client_log.specs.View.{LogView, current_records}
+use Rattle.client_view.specs.KnowledgeTables.{Held, knows}
+use Rattle.client_view.specs.Preparation.{IsPreparedFor}
+use Rattle.libfs.specs.declared.begun_record.Begun.{Begun}
 use Rattle.libfs.specs.View.{begun_record}
-use Rattle.lease_manager.specs.Counted.{Counts, HasNoted, HasCleaned, is_touched, one_if, touching}
-use Rattle.client_view.specs.Kept.{Kept}
-use Rattle.libfs.specs.Opening.{IsBlank}
-use Rattle.libfs.specs.HandingOver.{without_blocks_of}
+use Rattle.lease_manager.specs.RecordCounts.{Counts, HasNoted, HasCleaned, is_touched, one_if, touch_count}
+use Rattle.client_view.specs.RecordLists.{Kept}
+use Rattle.libfs.specs.NewClient.{IsBlank}
+use Rattle.libfs.specs.RegionSeal.{without_blocks_of}
 use Rattle.libfs.specs.Sound.{IsSound}
 use Rattle.client_view.specs.declared.own_change.OwnChange.{OwnChange}
-use Rattle.client_log.specs.call_effects.Known.{Knowledge}
+use Rattle.client_log.specs.call_effects.Knowledge.{Knowledge}
 use Rattle.std.proofs.lemmas.List.{append-nil}
 
 -- ---- lists of records
 
 -- how many of two lists' records touch an inode
-pub touching_both : (rs ss : List Record) (i : ℕ) → touching (rs ++ ss) i ≡ touching rs i + touching ss i
+pub touching_both : (rs ss : List Record) (i : ℕ) → touch_count (rs ++ ss) i ≡ touch_count rs i + touch_count ss i
 touching_both rs ss i = sum_by-append (λ (r : Record). one_if (is_touched r.effects i)) rs ss
 
-pub touching_one : (r : Record) (i : ℕ) → touching (r ∷ []) i ≡ one_if (is_touched r.effects i)
+pub touching_one : (r : Record) (i : ℕ) → touch_count (r ∷ []) i ≡ one_if (is_touched r.effects i)
 touching_one r i = none_more (one_if (is_touched r.effects i))
   where
     none_more : (n : ℕ) → 0 + n ≡ n
@@ -42,9 +43,9 @@ none_some : {X : Type 0} (P : X → Type 0) → ForSome None P
 none_some P x is = absurd (cc)
 
 -- the records of one region, and those of the other with the begun one
-parted : (rs ss : List Record) (o : Option Record) (i : ℕ) → touching (with_record (rs ++ ss) o) i ≡ touching rs i + touching (with_record ss o) i
+parted : (rs ss : List Record) (o : Option Record) (i : ℕ) → touch_count (with_record (rs ++ ss) o) i ≡ touch_count rs i + touch_count (with_record ss o) i
 parted rs ss None i = touching_both rs ss i
-parted rs ss (Some r) i = ap (λ (l : List Record). touching l i) (append_assoc rs ss (r ∷ [])) ∙ touching_both rs (ss ++ r ∷ []) i
+parted rs ss (Some r) i = ap (λ (l : List Record). touch_count l i) (append_assoc rs ss (r ∷ [])) ∙ touching_both rs (ss ++ r ∷ []) i
 
 at_most : (all part rest : ℕ) → all ≡ part + rest → part ≤ all
 at_most all part rest is = omega arith
@@ -62,16 +63,16 @@ sum_moves : (new old more : ℕ) → new + more ≡ old → (rest : ℕ) → old
 sum_moves new old more is rest all = omega arith
 
 -- what is written is told by the log's turn
-pub turn_written : {M : Type 0} (seen : M → Tier → List ℕ) (log : LogView M) (t : Turn) → turn_of seen log ≡ t → written seen log ≡ t.current
-turn_written seen log t is = ap (λ (x : Turn). x.current) is
+pub turn_written : {M : Type 0} (device : Ghosts M) (log : LogView M) (t : Turn) → turn_of device log ≡ t → current_records device log ≡ t.current
+turn_written device log t is = ap (λ (x : Turn). x.current) is
 
-pub turn_begun : {M : Type 0} (seen : M → Tier → List ℕ) (log : LogView M) (t : Turn) → turn_of seen log ≡ t → log.current.begun ≡ t.begun
-turn_begun seen log t is = ap (λ (x : Turn). x.begun) is
+pub turn_begun : {M : Type 0} (device : Ghosts M) (log : LogView M) (t : Turn) → turn_of device log ≡ t → log.current.begun ≡ t.begun
+turn_begun device log t is = ap (λ (x : Turn). x.begun) is
 
-module _ {M : Type 0} (seen : M → Tier → List ℕ) (leases : TableId) where
+module _ {M : Type 0} (device : Ghosts M) (leases : TableId) where
   -- a client as it begins
-  pub sound_new : (pass : PassView) (log : LogView M) (copies : Held) (kept : Kept) → pass.table ≡ leases → copies.client ≡ client_of pass → IsBlank seen log → ((i : ℕ) → HasWord i → records_of pass i ≡ 0) → kept.away ≡ [] → kept.current ≡ []
-      → IsSound seen leases pass log copies None false kept
+  pub sound_new : (pass : PassView) (log : LogView M) (copies : Held) (kept : Kept) → pass.table ≡ leases → copies.client ≡ client_of pass → IsBlank device log → ((i : ℕ) → HasWord i → records_of pass i ≡ 0) → kept.away ≡ [] → kept.current ≡ []
+      → IsSound device leases pass log copies None false kept
   sound_new pass log copies kept table number blank uncounted none empty = record {
     table = table;
     number = number;
@@ -80,16 +81,16 @@ module _ {M : Type 0} (seen : M → Tier → List ℕ) (leases : TableId) where
     begins = sym blank.idle;
     prepared = none_some _;
     room = λ some. absurd (false≢true some);
-    counts = λ i w. uncounted i w ∙ sym (ap (λ (l : List Record). touching l i) nothing);
+    counts = λ i w. uncounted i w ∙ sym (ap (λ (l : List Record). touch_count l i) nothing);
     failed = λ is. absurd (false≢true is);
   }
     where
       nothing : kept.away ++ kept.current ≡ []
       nothing = ap (λ (l : List Record). l ++ kept.current) none ∙ empty
 
-  module _ (pass : PassView) (log : LogView M) (copies : Held) (begun : Option Begun) (answered : Bool) (kept : Kept) (s : IsSound seen leases pass log copies begun answered kept) where
+  module _ (pass : PassView) (log : LogView M) (copies : Held) (begun : Option Begun) (answered : Bool) (kept : Kept) (s : IsSound device leases pass log copies begun answered kept) where
     -- a lease changes, and no count
-    pub sound_pass : (new : PassView) → new.table ≡ pass.table → new.part.place ≡ pass.part.place → new.records ≡ pass.records → IsSound seen leases new log copies begun answered kept
+    pub sound_pass : (new : PassView) → new.table ≡ pass.table → new.part.place ≡ pass.part.place → new.records ≡ pass.records → IsSound device leases new log copies begun answered kept
     sound_pass new table place records = record {
       table = table ∙ s.table;
       number = s.number ∙ sym (ap (λ n. n + 1) place);
@@ -103,7 +104,7 @@ module _ {M : Type 0} (seen : M → Tier → List ℕ) (leases : TableId) where
     }
 
     -- what the client knows changes, where no record is begun
-    pub sound_copies : (new : Held) → begun ≡ None → new.client ≡ copies.client → IsSound seen leases pass log new begun answered kept
+    pub sound_copies : (new : Held) → begun ≡ None → new.client ≡ copies.client → IsSound device leases pass log new begun answered kept
     sound_copies new idle client = record {
       table = s.table;
       number = client ∙ s.number;
@@ -120,8 +121,8 @@ module _ {M : Type 0} (seen : M → Tier → List ℕ) (leases : TableId) where
         not_both b is = let clash : ◌≡◌ {A = Option Begun} None (Some b) = sym idle ∙ is in cc
 
     -- the numbers that it was granted change
-    pub sound_numbers : (new : Held) (ns : List ℕ) → new ≡ record copies { numbers = ns } → IsSound seen leases pass log new begun answered kept
-    sound_numbers new ns is = subst (λ (h : Held). IsSound seen leases pass log h begun answered kept) (sym is)
+    pub sound_numbers : (new : Held) (ns : List ℕ) → new ≡ record copies { numbers = ns } → IsSound device leases pass log new begun answered kept
+    sound_numbers new ns is = subst (λ (h : Held). IsSound device leases pass log h begun answered kept) (sym is)
         (record {
           table = s.table;
           number = s.number;
@@ -135,8 +136,8 @@ module _ {M : Type 0} (seen : M → Tier → List ℕ) (leases : TableId) where
         })
 
     -- the blocks of files that it keeps change
-    pub sound_blocks : (new : Held) (bs : List Block) → new ≡ record copies { blocks = bs } → IsSound seen leases pass log new begun answered kept
-    sound_blocks new bs is = subst (λ (h : Held). IsSound seen leases pass log h begun answered kept) (sym is)
+    pub sound_blocks : (new : Held) (bs : List Block) → new ≡ record copies { blocks = bs } → IsSound device leases pass log new begun answered kept
+    sound_blocks new bs is = subst (λ (h : Held). IsSound device leases pass log h begun answered kept) (sym is)
         (record {
           table = s.table;
           number = s.number;
@@ -150,8 +151,8 @@ module _ {M : Type 0} (seen : M → Tier → List ℕ) (leases : TableId) where
         })
 
     -- a device call that changes no record
-    pub sound_log : (new : LogView M) → written seen new ≡ written seen log → new.current.begun ≡ log.current.begun → is_some new.other ≡ is_some log.other → (now : Bool) → (now ≡ true → (new.failed ≡ true) × (is_some begun ≡ true))
-        → IsSound seen leases pass new copies begun now kept
+    pub sound_log : (new : LogView M) → current_records device new ≡ current_records device log → new.current.begun ≡ log.current.begun → is_some new.other ≡ is_some log.other → (now : Bool) → (now ≡ true → (new.failed ≡ true) × (is_some begun ≡ true))
+        → IsSound device leases pass new copies begun now kept
     sound_log new records begins other now failed = record {
       table = s.table;
       number = s.number;
@@ -169,7 +170,7 @@ module _ {M : Type 0} (seen : M → Tier → List ℕ) (leases : TableId) where
 
     -- the records of a client that has begun none
     pub idle_counts : begun ≡ None → Counts pass (kept.away ++ kept.current)
-    idle_counts idle i w = s.counts i w ∙ ap (λ (o : Option Record). touching (with_record (kept.away ++ kept.current) o) i) (idle_record idle)
+    idle_counts idle i w = s.counts i w ∙ ap (λ (o : Option Record). touch_count (with_record (kept.away ++ kept.current) o) i) (idle_record idle)
 
     -- an answer that a fault gave leaves something begun
     pub idle_unanswered : begun ≡ None → answered ≡ true → ⊥
@@ -180,11 +181,11 @@ module _ {M : Type 0} (seen : M → Tier → List ℕ) (leases : TableId) where
     idle_none idle going = none_of begun answered idle (λ is. false≢true (sym going ∙ (s.failed is).0))
 
     -- the records of the region that is away are counted
-    pub away_counted : (i : ℕ) → HasWord i → touching kept.away i ≤ records_of pass i
-    away_counted i w = at_most (records_of pass i) (touching kept.away i) (touching (with_record kept.current (begun_record begun)) i) (s.counts i w ∙ parted kept.away kept.current (begun_record begun) i)
+    pub away_counted : (i : ℕ) → HasWord i → touch_count kept.away i ≤ records_of pass i
+    away_counted i w = at_most (records_of pass i) (touch_count kept.away i) (touch_count (with_record kept.current (begun_record begun)) i) (s.counts i w ∙ parted kept.away kept.current (begun_record begun) i)
 
     -- there is room for a record more, or none, and none is begun
-    pub sound_room : (more : Kept) → begun ≡ None → more ≡ record kept { has_room = more.has_room } → IsSound seen leases pass log copies begun answered more
+    pub sound_room : (more : Kept) → begun ≡ None → more ≡ record kept { has_room = more.has_room } → IsSound device leases pass log copies begun answered more
     sound_room more idle same = record {
       table = s.table;
       number = s.number;
@@ -193,13 +194,13 @@ module _ {M : Type 0} (seen : M → Tier → List ℕ) (leases : TableId) where
       begins = s.begins;
       prepared = s.prepared;
       room = λ some. absurd (false≢true (sym (ap is_some idle) ∙ some));
-      counts = λ i w. s.counts i w ∙ sym (ap (λ (k : Kept). touching (with_record (k.away ++ k.current) (begun_record begun)) i) same);
+      counts = λ i w. s.counts i w ∙ sym (ap (λ (k : Kept). touch_count (with_record (k.away ++ k.current) (begun_record begun)) i) same);
       failed = s.failed;
     }
 
     -- a record is begun, for which there is room
-    pub sound_begun : (noted : PassView) (new : LogView M) (b : Begun) (more : Kept) → begun ≡ None → HasNoted pass b.change.entry.effects noted → new.current.begun ≡ Some b.change.entry → written seen new ≡ written seen log → new.other ≡ log.other
-        → IsPreparedFor (knows copies) b.change → more ≡ record kept { has_room = more.has_room } → more.has_room ≡ true → IsSound seen leases noted new copies (Some b) answered more
+    pub sound_begun : (noted : PassView) (new : LogView M) (b : Begun) (more : Kept) → begun ≡ None → HasNoted pass b.change.logged.effects noted → new.current.begun ≡ Some b.change.logged → current_records device new ≡ current_records device log → new.other ≡ log.other
+        → IsPreparedFor (knows copies) b.change → more ≡ record kept { has_room = more.has_room } → more.has_room ≡ true → IsSound device leases noted new copies (Some b) answered more
     sound_begun noted new b more idle h begins records other prepared same room = record {
       table = ap (λ (p : PassView). p.table) h.rest ∙ s.table;
       number = s.number ∙ sym (ap (λ (p : PassView). client_of p) h.rest);
@@ -209,31 +210,31 @@ module _ {M : Type 0} (seen : M → Tier → List ℕ) (leases : TableId) where
       prepared = λ x is. let e : b ≡ x = cc in subst (λ (y : Begun). IsPreparedFor (knows copies) y.change) e prepared;
       room = λ _. room;
       counts = λ i w.
-          h.counts i w ∙ ap (λ n. n + one_if (is_touched b.change.entry.effects i)) (idle_counts idle i w)
-          ∙ sym (touching_both (more.away ++ more.current) (b.change.entry ∷ []) i ∙ ap (λ n. touching (more.away ++ more.current) i + n) (touching_one b.change.entry i) ∙ ap (λ (k : Kept). touching (k.away ++ k.current) i + one_if (is_touched b.change.entry.effects i)) same);
+          h.counts i w ∙ ap (λ n. n + one_if (is_touched b.change.logged.effects i)) (idle_counts idle i w)
+          ∙ sym (touching_both (more.away ++ more.current) (b.change.logged ∷ []) i ∙ ap (λ n. touch_count (more.away ++ more.current) i + n) (touching_one b.change.logged i) ∙ ap (λ (k : Kept). touch_count (k.away ++ k.current) i + one_if (is_touched b.change.logged.effects i)) same);
       failed = λ is. absurd (idle_unanswered idle is);
     }
 
     -- the record is kept, and the call answered
-    pub sound_replied : (new : LogView M) (known : Held) (b : Begun) (more : Kept) → begun ≡ Some b → answered ≡ false → written seen new ≡ written seen log ++ b.change.entry ∷ [] → new.current.begun ≡ None → new.other ≡ log.other → known.client ≡ copies.client
-        → more.current ≡ kept.current ++ b.change.entry ∷ [] → more.away ≡ kept.away → IsSound seen leases pass new known None answered more
+    pub sound_replied : (new : LogView M) (known : Held) (b : Begun) (more : Kept) → begun ≡ Some b → answered ≡ false → current_records device new ≡ current_records device log ++ b.change.logged ∷ [] → new.current.begun ≡ None → new.other ≡ log.other → known.client ≡ copies.client
+        → more.current ≡ kept.current ++ b.change.logged ∷ [] → more.away ≡ kept.away → IsSound device leases pass new known None answered more
     sound_replied new known b more pending open_yet records begins other client pushed away = record {
       table = s.table;
       number = client ∙ s.number;
-      written_is = pushed ∙ ap (λ (l : List Record). l ++ b.change.entry ∷ []) s.written_is ∙ sym records;
+      written_is = pushed ∙ ap (λ (l : List Record). l ++ b.change.logged ∷ []) s.written_is ∙ sym records;
       back = λ here. away ∙ s.back (sym (ap is_some other) ∙ here);
       begins = sym begins;
       prepared = none_some _;
       room = λ some. absurd (false≢true some);
-      counts = λ i w. s.counts i w ∙ ap (λ (o : Option Begun). touching (with_record (kept.away ++ kept.current) (begun_record o)) i) pending ∙ ap (λ (l : List Record). touching l i) (sym all);
+      counts = λ i w. s.counts i w ∙ ap (λ (o : Option Begun). touch_count (with_record (kept.away ++ kept.current) (begun_record o)) i) pending ∙ ap (λ (l : List Record). touch_count l i) (sym all);
       failed = λ is. absurd (false≢true (sym open_yet ∙ is));
     }
       where
-        all : more.away ++ more.current ≡ (kept.away ++ kept.current) ++ b.change.entry ∷ []
-        all = ap (λ (l : List Record). l ++ more.current) away ∙ ap (λ (l : List Record). kept.away ++ l) pushed ∙ sym (append_assoc kept.away kept.current (b.change.entry ∷ []))
+        all : more.away ++ more.current ≡ (kept.away ++ kept.current) ++ b.change.logged ∷ []
+        all = ap (λ (l : List Record). l ++ more.current) away ∙ ap (λ (l : List Record). kept.away ++ l) pushed ∙ sym (append_assoc kept.away kept.current (b.change.logged ∷ []))
 
     -- the current region is handed over
-    pub sound_sealed : (new : LogView M) (gone : Kept) → begun ≡ None → is_some log.other ≡ true → written seen new ≡ [] → new.current.begun ≡ None → new.other ≡ None → gone.away ≡ kept.current → gone.current ≡ [] → IsSound seen leases pass new copies begun answered gone
+    pub sound_sealed : (new : LogView M) (gone : Kept) → begun ≡ None → is_some log.other ≡ true → current_records device new ≡ [] → new.current.begun ≡ None → new.other ≡ None → gone.away ≡ kept.current → gone.current ≡ [] → IsSound device leases pass new copies begun answered gone
     sound_sealed new gone idle here records begins other is_gone is_empty = record {
       table = s.table;
       number = s.number;
@@ -243,8 +244,8 @@ module _ {M : Type 0} (seen : M → Tier → List ℕ) (leases : TableId) where
       prepared = s.prepared;
       room = λ some. absurd (false≢true (sym (ap is_some idle) ∙ some));
       counts = λ i w.
-          idle_counts idle i w ∙ ap (λ (l : List Record). touching l i) (sym all)
-          ∙ sym (ap (λ (o : Option Record). touching (with_record (gone.away ++ gone.current) o) i) (idle_record idle));
+          idle_counts idle i w ∙ ap (λ (l : List Record). touch_count l i) (sym all)
+          ∙ sym (ap (λ (o : Option Record). touch_count (with_record (gone.away ++ gone.current) o) i) (idle_record idle));
       failed = λ is. absurd (idle_unanswered idle is);
     }
       where
@@ -254,8 +255,8 @@ module _ {M : Type 0} (seen : M → Tier → List ℕ) (leases : TableId) where
             ∙ append-nil kept.current ∙ sym (ap (λ (l : List Record). l ++ kept.current) (s.back here))
 
     -- the region that was away is back
-    pub sound_back : (cleaned : PassView) (new : LogView M) (known : Held) (none : Kept) → HasCleaned pass kept.away cleaned → written seen new ≡ written seen log → new.current.begun ≡ log.current.begun → new.failed ≡ log.failed → knows known ≡ without_blocks_of (knows copies) kept.away → none ≡ record kept { away = [] }
-        → IsSound seen leases cleaned new known begun answered none
+    pub sound_back : (cleaned : PassView) (new : LogView M) (known : Held) (none : Kept) → HasCleaned pass kept.away cleaned → current_records device new ≡ current_records device log → new.current.begun ≡ log.current.begun → new.failed ≡ log.failed → knows known ≡ without_blocks_of (knows copies) kept.away → none ≡ record kept { away = [] }
+        → IsSound device leases cleaned new known begun answered none
     sound_back cleaned new known none h records begins fails is_known is_none = record {
       table = ap (λ (p : PassView). p.table) h.rest ∙ s.table;
       number = ap (λ (k : Knowledge). k.client) is_known ∙ s.number ∙ sym (ap (λ (p : PassView). client_of p) h.rest);
@@ -265,7 +266,7 @@ module _ {M : Type 0} (seen : M → Tier → List ℕ) (leases : TableId) where
       prepared = λ b is. subst (λ (k : Knowledge). IsPreparedFor k b.change) (sym is_known) (still_prepared (knows copies) kept.away b.change (s.prepared b is));
       room = λ some. ap (λ (k : Kept). k.has_room) is_none ∙ s.room some;
       counts = λ i w.
-          sum_moves (records_of cleaned i) (records_of pass i) (touching kept.away i) (h.counts i w) (touching (with_record kept.current (begun_record begun)) i) (s.counts i w ∙ parted kept.away kept.current (begun_record begun) i)
-          ∙ sym (ap (λ (k : Kept). touching (with_record (k.away ++ k.current) (begun_record begun)) i) is_none);
+          sum_moves (records_of cleaned i) (records_of pass i) (touch_count kept.away i) (h.counts i w) (touch_count (with_record kept.current (begun_record begun)) i) (s.counts i w ∙ parted kept.away kept.current (begun_record begun) i)
+          ∙ sym (ap (λ (k : Kept). touch_count (with_record (k.away ++ k.current) (begun_record begun)) i) is_none);
       failed = λ is. (fails ∙ (s.failed is).0, (s.failed is).1);
     }

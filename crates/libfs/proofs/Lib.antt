@@ -1,6 +1,7 @@
 pub mod Kept
 pub mod Ready
 pub mod LogSteps
+mod SealedRegions
 pub mod Forgetting
 pub mod Agreeing
 pub mod Granted

@@ -4,8 +4,9 @@ use Rattle.std.specs.Prelude.{Option, Some, None, Result, Ok, Err, IfOk, nat_le,
 use Rattle.std.specs.Option.{ForSome}
 use Rattle.std.proofs.lemmas.Bool.{false≢true, and_parts, leb-true}
 use Rattle.std.proofs.lemmas.List.Sums.{count_by-le-length}
+use Rattle.client_log.specs.tier_device.declared.media.Media.{Ghosts}
 use Rattle.client_log.specs.tier_device.declared.media.Tier.{Tier}
-use Rattle.lease_manager.specs.posix_calls.Query.{Part}
+use Rattle.lease_manager.specs.posix_calls.Part.{Part}
 use Rattle.lease_manager.specs.posix_calls.declared.call.Call.{Call}
 use Rattle.lease_manager.specs.posix_calls.declared.call.Call.TheVariants.{Pwrite}
 use Rattle.lease_manager.specs.posix_calls.declared.call.Reply.{Reply}
@@ -15,14 +16,14 @@ use Rattle.lease_manager.specs.log_record.declared.format.Record.{Record}
 use Rattle.client_log.specs.update_log.Frames.{end_behind}
 use Rattle.client_log.specs.update_log.View.{records_of as records_in}
 use Rattle.client_log.specs.update_log.declared.format.TheConstants.{REGION_SIZE}
-use Rattle.client_log.specs.call_effects.Known.{Knowledge, part_of}
+use Rattle.client_log.specs.call_effects.Knowledge.{Knowledge, part_of}
 use Rattle.client_view.specs.client_plan.declared.outcome.DescriptorChange.{DescriptorChange}
 use Rattle.client_view.specs.client_plan.declared.outcome.Outcome.{Outcome}
 use Rattle.client_view.specs.client_plan.declared.outcome.Outcome.TheVariants as outcomes
 use Rattle.client_view.specs.client_plan.declared.plain_writes.PlainWrite.{PlainWrite}
 use Rattle.client_view.specs.client_plan.Holdings.{Holdings}
 use Rattle.client_view.specs.client_plan.PlainWrite.{IsPlainWrite, write_logged, written_by}
-use Rattle.client_view.specs.client_plan.Planned.{outcome, OpensInRange, change_in}
+use Rattle.client_view.specs.client_plan.CallPlan.{outcome, OpensInRange, change_in}
 use Rattle.client_view.specs.client_plan.Steps.{IsOf, IsReady}
 use Rattle.lease_manager.specs.declared.view.LeaseMode.{LeaseMode}
 use Rattle.lease_manager.specs.declared.view.LeaseMode.TheVariants.{Free, Reading, Writing, Trying}
@@ -31,27 +32,27 @@ use Rattle.lease_manager.specs.Passes.{PassView, lease_of, records_of}
 use Rattle.client_log.specs.Steps.{most_of}
 use Rattle.client_log.specs.View.{LogView}
 use Rattle.libfs.specs.View.{ClientView}
-use Rattle.lease_manager.specs.Counted.{Counts, is_touched, touching}
-use Rattle.lease_manager.specs.Held.{is_writing, writes}
-use Rattle.libfs.specs.Holding.{holdings_of, known_to, outcome_for}
-use Rattle.libfs.specs.Starting.{IsReadyToBegin, MayGoOn}
+use Rattle.lease_manager.specs.RecordCounts.{Counts, is_touched, touch_count}
+use Rattle.lease_manager.specs.PassLeases.{is_writing, writes}
+use Rattle.libfs.specs.ClientHoldings.{holdings_of, known_to, outcome_for}
+use Rattle.libfs.specs.CallStart.{IsReadyToBegin, MayGoOn}
 
 -- what a client has is of what it knows
-pub has_of : {M : Type 0} (seen : M → Tier → List ℕ) (v : ClientView M) → IsOf (known_to v) (holdings_of seen v)
-has_of seen v = record { own = refl; numbers = λ i is. is }
+pub has_of : {M : Type 0} (device : Ghosts M) (v : ClientView M) → IsOf (known_to v) (holdings_of device v)
+has_of device v = record { own = refl; numbers = λ i is. is }
 
 -- so what a call comes to may be begun, if it comes to a record
-pub may_go_on : {M : Type 0} (seen : M → Tier → List ℕ) (v : ClientView M) (call : Call) (o : Outcome) → o ≡ outcome_for seen v call → ForSome (change_in o) OpensInRange
+pub may_go_on : {M : Type 0} (device : Ghosts M) (v : ClientView M) (call : Call) (o : Outcome) → o ≡ outcome_for device v call → ForSome (change_in o) OpensInRange
     → ((k : Knowledge) (h : Holdings) (c : Call) (change : Record) (reply : Reply) (made : Option ℕ) (descriptor : Option DescriptorChange) → IsOf k h → outcome (part_of k) h c ≡ outcomes.Log change reply made descriptor → IsReady k h c change reply made descriptor)
     → ((k : Knowledge) (h : Holdings) (c : Call) (entry : Record) (reply : Reply) (made : Option ℕ) (change : Option DescriptorChange) → IsOf k h → outcome (part_of k) h c ≡ outcomes.Log entry reply made change → ForSome made (λ n. is_inode n ≡ true))
-    → MayGoOn seen v o
-may_go_on seen v call (outcomes.Reply reply change) is number ready makes = number
-may_go_on seen v call (outcomes.Need need) is number ready makes = tt
-may_go_on seen v call (outcomes.Log entry reply made change) is number ready makes =
-    let r = ready (known_to v) (holdings_of seen v) call entry reply made change (has_of seen v) (sym is) in
+    → MayGoOn device v o
+may_go_on device v call (outcomes.Reply reply change) is number ready makes = number
+may_go_on device v call (outcomes.Need need) is number ready makes = tt
+may_go_on device v call (outcomes.Log entry reply made change) is number ready makes =
+    let r = ready (known_to v) (holdings_of device v) call entry reply made change (has_of device v) (sym is) in
     record {
       spelled = r.spelled;
-      makes = makes (known_to v) (holdings_of seen v) call entry reply made change (has_of seen v) (sym is);
+      makes = makes (known_to v) (holdings_of device v) call entry reply made change (has_of device v) (sym is);
       opens = number;
       enough = r.enough;
       held = r.leased;
@@ -61,19 +62,19 @@ may_go_on seen v call (outcomes.Log entry reply made change) is number ready mak
     }
 
 -- a write for which nothing is lacking
-module _ {M : Type 0} (seen : M → Tier → List ℕ) (v : ClientView M) (number at : ℕ) (bytes : List ℕ) (w : PlainWrite) where
+module _ {M : Type 0} (device : Ghosts M) (v : ClientView M) (number at : ℕ) (bytes : List ℕ) (w : PlainWrite) where
   -- it has no more bytes than one call may write
-  pub plain_few : (p : Part) → IsPlainWrite p (holdings_of seen v) number at (length bytes) w → length bytes ≤ MAX_TRANSFER
+  pub plain_few : (p : Part) → IsPlainWrite p (holdings_of device v) number at (length bytes) w → length bytes ≤ MAX_TRANSFER
   plain_few p is =
       let all = and_parts (nat_le 1 (length bytes) && nat_le (length bytes) MAX_TRANSFER) (nat_le (at + length bytes) MAX_FILE) is.write in
       leb-true (length bytes) MAX_TRANSFER (and_parts (nat_le 1 (length bytes)) (nat_le (length bytes) MAX_TRANSFER) all.0).1
 
   -- and its record may be begun
-  pub plain_ready : outcome_for seen v (Pwrite number at bytes) ≡ write_logged w at bytes
+  pub plain_ready : outcome_for device v (Pwrite number at bytes) ≡ write_logged w at bytes
       → ((k : Knowledge) (h : Holdings) (c : Call) (change : Record) (reply : Reply) (made : Option ℕ) (descriptor : Option DescriptorChange) → IsOf k h → outcome (part_of k) h c ≡ outcomes.Log change reply made descriptor → IsReady k h c change reply made descriptor)
       → ((k : Knowledge) (h : Holdings) (c : Call) (entry : Record) (reply : Reply) (made : Option ℕ) (change : Option DescriptorChange) → IsOf k h → outcome (part_of k) h c ≡ outcomes.Log entry reply made change → ForSome made (λ n. is_inode n ≡ true))
-      → IsReadyToBegin seen v (written_by w at bytes) None None
-  plain_ready logged ready makes = may_go_on seen v (Pwrite number at bytes) (write_logged w at bytes) (sym logged) (λ x e. absurd (cc)) ready makes
+      → IsReadyToBegin device v (written_by w at bytes) None None
+  plain_ready logged ready makes = may_go_on device v (Pwrite number at bytes) (write_logged w at bytes) (sym logged) (λ x e. absurd (cc)) ready makes
 
 -- of an answer that is there both hold, and what follows from both
 pub if_ok_from_both : {T E : Type 0} (r : Result T E) (P Q R : T → Type 0) → ((x : T) → P x → Q x → R x) → IfOk r P → IfOk r Q → IfOk r R
@@ -93,27 +94,27 @@ writes_lease p i e = writing_is (lease_of p i) (and_parts (is_inode i) (is_writi
 
 -- ---- room
 
-module _ {M : Type 0} (seen : M → Tier → List ℕ) (log : LogView M) (most : ℕ) (is : most_of seen log ≡ Some most) where
+module _ {M : Type 0} (device : Ghosts M) (log : LogView M) (most : ℕ) (is : most_of device log ≡ Some most) where
   room_parts : (ready fits : Bool) (n : ℕ) → cond (ready && fits) (Some n) None ≡ Some most → (ready ≡ true) × (fits ≡ true) × (n ≡ most)
   room_parts true true n e = (refl, refl, cc)
   room_parts true false n e = absurd (cc)
   room_parts false fits n e = absurd (cc)
 
-  parts : (log.ready ≡ true) × (nat_le (end_behind (records_in seen log.current) + 6) REGION_SIZE ≡ true) × (REGION_SIZE - (end_behind (records_in seen log.current) + 6) ≡ most)
-  parts = room_parts log.ready (nat_le (end_behind (records_in seen log.current) + 6) REGION_SIZE) (REGION_SIZE - (end_behind (records_in seen log.current) + 6)) is
+  parts : (log.ready ≡ true) × (nat_le (end_behind (records_in device log.current) + 6) REGION_SIZE ≡ true) × (REGION_SIZE - (end_behind (records_in device log.current) + 6) ≡ most)
+  parts = room_parts log.ready (nat_le (end_behind (records_in device log.current) + 6) REGION_SIZE) (REGION_SIZE - (end_behind (records_in device log.current) + 6)) is
 
   -- where a record has room, the log is ready for it
   pub room_ready : log.ready ≡ true
   room_ready = parts.0
 
   -- and it doesn't fill the region
-  pub room_fits : (len : ℕ) → len ≤ most → REGION_SIZE < end_behind (records_in seen log.current) + 5 + len + 1 → ⊥
-  room_fits len short full = let low : end_behind (records_in seen log.current) + 6 ≤ REGION_SIZE = leb-true (end_behind (records_in seen log.current) + 6) REGION_SIZE parts.1 in let rest = parts.2 in omega arith
+  pub room_fits : (len : ℕ) → len ≤ most → REGION_SIZE < end_behind (records_in device log.current) + 5 + len + 1 → ⊥
+  room_fits len short full = let low : end_behind (records_in device log.current) + 6 ≤ REGION_SIZE = leb-true (end_behind (records_in device log.current) + 6) REGION_SIZE parts.1 in let rest = parts.2 in omega arith
 
 -- a pass that counts just these records has room for one more
 pub one_more : (p : PassView) (away current : List Record) → Counts p (away ++ current) → length away + length current + 1 < 2 ^ 64 → (i : ℕ) → HasWord i → records_of p i + 1 < 2 ^ 64
 one_more p away current counts few i w =
     let all = length-append away current in
-    let most : touching (away ++ current) i ≤ length (away ++ current) = count_by-le-length (λ (r : Record). is_touched r.effects i) (away ++ current) in
+    let most : touch_count (away ++ current) i ≤ length (away ++ current) = count_by-le-length (λ (r : Record). is_touched r.effects i) (away ++ current) in
     let is = counts i w in
     omega arith

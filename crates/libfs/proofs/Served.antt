@@ -3,10 +3,11 @@ use Rattle.std.proofs.Common.{◌≡◌, inl, inr, ℕ, zero, suc, ◌+◌, ◌-
 use Rattle.std.specs.Prelude.{◌==◌, ◌||◌, ◌&&◌, nat_le, not, option_map, Ok}
 use Rattle.std.proofs.lemmas.Bool.{cases_Bool, true≢false, cond-true, cond-false, eq-eqb, le-leb}
 use Rattle.std.proofs.lemmas.List.Folds.{list_any-append}
+use Rattle.client_log.specs.tier_device.declared.media.Media.{Ghosts}
 use Rattle.client_log.specs.tier_device.declared.media.Tier.{Tier}
 use Rattle.lease_manager.specs.posix_calls.Content.{range}
 use Rattle.lease_manager.specs.posix_calls.Tree.{sum_up_to}
-use Rattle.lease_manager.specs.posix_calls.Query.{Part, Known, blocks_touched, run_part}
+use Rattle.lease_manager.specs.posix_calls.Part.{Part, Known, blocks_touched, run_part}
 use Rattle.lease_manager.specs.posix_calls.Own.{own_of}
 use Rattle.lease_manager.specs.posix_calls.Decide.{decide}
 use Rattle.lease_manager.specs.posix_calls.declared.call.Call.{Call}
@@ -15,11 +16,11 @@ use Rattle.lease_manager.specs.posix_calls.declared.operation.Missing.TheVariant
 use Rattle.lease_manager.specs.posix_calls.declared.limits.TheConstants.{MAX_INODE}
 use Rattle.lease_manager.specs.file_graph.Graph.{is_among}
 use Rattle.lease_manager.specs.file_graph.Numbers.{is_inode}
-use Rattle.client_log.specs.call_effects.Blocks.{blocks_joined, followed, range_by}
-use Rattle.client_log.specs.call_effects.Known.{Knowledge, part_of}
+use Rattle.client_log.specs.call_effects.Blocks.{blocks_joined, joined_bytes, range_by}
+use Rattle.client_log.specs.call_effects.Knowledge.{Knowledge, part_of}
 use Rattle.client_log.specs.call_effects.Records.{units_asked}
-use Rattle.lease_manager.specs.Held.{is_reading, is_writing, reads, writes}
-use Rattle.client_view.specs.client_plan.Served.{AreUnread, IsLacking, IsShort}
+use Rattle.lease_manager.specs.PassLeases.{is_reading, is_writing, reads, writes}
+use Rattle.client_view.specs.client_plan.NeedEffects.{AreUnread, IsLacking, IsShort}
 use Rattle.client_view.specs.client_plan.declared.need.Mode.{Mode}
 use Rattle.client_view.specs.client_plan.declared.need.Mode.TheVariants.{Read, Write}
 use Rattle.client_view.specs.client_plan.declared.need.Need.TheVariants as needs
@@ -28,10 +29,10 @@ use Rattle.kernel_fs.specs.KernelView.{KernelView}
 use Rattle.lease_manager.specs.Passes.{lease_of}
 use Rattle.lease_manager.specs.Words.{HasWord}
 use Rattle.lease_manager.specs.declared.view.LeaseMode.{LeaseMode}
-use Rattle.libfs.specs.Leasing.{mode_of}
+use Rattle.libfs.specs.LeaseCalls.{mode_of}
 use Rattle.libfs.specs.View.{ClientView}
-use Rattle.libfs.specs.Holding.{holdings_of, known_to}
-use Rattle.libfs.specs.Serving.{AreAsLong, HasRefilled, HasThem, pinned, unpinned}
+use Rattle.libfs.specs.ClientHoldings.{holdings_of, known_to}
+use Rattle.libfs.specs.NeedService.{AreAsLong, HasRefilled, HasThem, with_pin, without_pin}
 
 -- ---- leases
 
@@ -39,19 +40,19 @@ in_range : (i : ℕ) → HasWord i → is_inode i ≡ true
 in_range i word = subst (λ b. (b && nat_le i MAX_INODE) ≡ true) (sym (le-leb 1 i word.0)) (le-leb i MAX_INODE word.1)
 
 -- what a client holds it may read, and what it holds for writing it may write
-pub is_had : {M : Type 0} (seen : M → Tier → List ℕ) (v : ClientView M) (call : Call) (i : ℕ) (mode : Mode) → HasWord i → lease_of v.pass i ≡ mode_of mode → IsLacking (part_of (known_to v)) (holdings_of seen v) call (needs.Lease i mode) → ⊥
-is_had seen v call i Read word is lacks =
+pub is_had : {M : Type 0} (device : Ghosts M) (v : ClientView M) (call : Call) (i : ℕ) (mode : Mode) → HasWord i → lease_of v.pass i ≡ mode_of mode → IsLacking (part_of (known_to v)) (holdings_of device v) call (needs.Lease i mode) → ⊥
+is_had device v call i Read word is lacks =
     let inode : is_inode i ≡ true = in_range i word in
     let both : (cond true (is_reading (lease_of v.pass i)) false || writes v.pass i) ≡ false = subst (λ b. ((b && is_reading (lease_of v.pass i)) || writes v.pass i) ≡ false) inode lacks in
     true≢false (subst (λ (m : LeaseMode). (is_reading m || writes v.pass i) ≡ false) is both)
-is_had seen v call i Write word is lacks =
+is_had device v call i Write word is lacks =
     let inode : is_inode i ≡ true = in_range i word in
     true≢false (subst (λ (m : LeaseMode). is_writing m ≡ false) is (subst (λ b. (b && is_writing (lease_of v.pass i)) ≡ false) inode lacks))
 
 -- ---- blocks
 
-joined_more : (first : Option (List ℕ)) (x : List ℕ) (rest : Option (List ℕ)) → first ≡ Some x → (y : List ℕ) × (rest ≡ Some y) → (w : List ℕ) × (followed first rest ≡ Some w)
-joined_more first x rest is more = (x ++ more.0, ap (λ o. followed o rest) is ∙ ap (option_map (λ ys. x ++ ys)) more.1)
+joined_more : (first : Option (List ℕ)) (x : List ℕ) (rest : Option (List ℕ)) → first ≡ Some x → (y : List ℕ) × (rest ≡ Some y) → (w : List ℕ) × (joined_bytes first rest ≡ Some w)
+joined_more first x rest is more = (x ++ more.0, ap (λ o. joined_bytes o rest) is ∙ ap (option_map (λ ys. x ++ ys)) more.1)
 
 all_joined : (blocks : ℕ → Option (List ℕ)) (first count : ℕ) (block : ℕ → List ℕ) → ((b : ℕ) → first ≤ b → b < first + count → blocks b ≡ Some (block b)) → (w : List ℕ) × (blocks_joined blocks first count ≡ Some w)
 all_joined blocks first zero block all = ([], refl)
@@ -83,8 +84,8 @@ unfolding sum_up_to
 sum_none zero p none = refl
 sum_none (suc n) p none = let first = cond-false {A = ℕ} (p (suc n)) 1 0 (none (suc n)) in let rest = sum_none n p none in omega (arith, first, rest)
 
-module _ {M S : Type 0} (seen : M → Tier → List ℕ) (shared : S → Tier → List ℕ) (k : KernelView S) (old new : ClientView M) where
-  pub blocks_read : (i first count : ℕ) → count ≤ 256 → AreAsLong seen shared k old i first count → HasThem seen shared k old i first count new → AreUnread (part_of (known_to new)) i first count → ⊥
+module _ {M S : Type 0} (device : Ghosts M) (shared : Ghosts S) (k : KernelView S) (old new : ClientView M) where
+  pub blocks_read : (i first count : ℕ) → count ≤ 256 → AreAsLong device shared k old i first count → HasThem device shared k old i first count new → AreUnread (part_of (known_to new)) i first count → ⊥
   blocks_read i first count few long has =
       all_read (known_to new) i first count long.block (λ b low high. (has few b (long.block b) long.mark low high long.is_mark (long.told b low high) (long.long b low high)).0)
 
@@ -107,7 +108,7 @@ module _ {M S : Type 0} (seen : M → Tier → List ℕ) (shared : S → Tier �
     -- ---- units
 
     -- units that were short were those that are granted
-    pub paid : (call : Call) (n more : ℕ) → units ≡ n → IsShort (part_of (known_to old)) (holdings_of seen old) call n → IsShort (part_of (known_to new)) (holdings_of seen new) call more → ⊥
+    pub paid : (call : Call) (n more : ℕ) → units ≡ n → IsShort (part_of (known_to old)) (holdings_of device old) call n → IsShort (part_of (known_to new)) (holdings_of device new) call more → ⊥
     paid call n more all was is = absurd (omega (arith, all, same_units, was.lacks, is.lacks, is.some, h.spare))
       where
         same_part : part_of (known_to new) ≡ part_of (known_to old)
@@ -128,7 +129,7 @@ or_true : (a : Bool) → (a || true) ≡ true
 or_true true = refl
 or_true false = refl
 
-pub is_pinned : (pins : List ℕ) (i : ℕ) → is_among i (pinned pins i) ≡ true
+pub is_pinned : (pins : List ℕ) (i : ℕ) → is_among i (with_pin pins i) ≡ true
 is_pinned pins i = elim (cases_Bool (is_among i pins)) [
   | inl there ↦ ap (is_among i) (cond-true (is_among i pins) pins (pins ++ i ∷ []) there) ∙ there
   | inr not' ↦
@@ -138,9 +139,9 @@ is_pinned pins i = elim (cases_Bool (is_among i pins)) [
       ∙ or_true (is_among i pins)
 ]
 
-pub is_unpinned : (pins : List ℕ) (i : ℕ) → is_among i (unpinned pins i) ≡ false
+pub is_unpinned : (pins : List ℕ) (i : ℕ) → is_among i (without_pin pins i) ≡ false
 is_unpinned [] i = refl
 is_unpinned (j ∷ pins) i = elim (cases_Bool (j == i)) [
-  | inl same ↦ ap (λ t. is_among i (cond (not t) (j ∷ unpinned pins i) (unpinned pins i))) same ∙ is_unpinned pins i
-  | inr other ↦ ap (λ t. is_among i (cond (not t) (j ∷ unpinned pins i) (unpinned pins i))) other ∙ ap (λ t. t || is_among i (unpinned pins i)) other ∙ is_unpinned pins i
+  | inl same ↦ ap (λ t. is_among i (cond (not t) (j ∷ without_pin pins i) (without_pin pins i))) same ∙ is_unpinned pins i
+  | inr other ↦ ap (λ t. is_among i (cond (not t) (j ∷ without_pin pins i) (without_pin pins i))) other ∙ ap (λ t. t || is_among i (without_pin pins i)) other ∙ is_unpinned pins i
 ]

@@ -9,8 +9,8 @@ use Rattle.lease_manager.specs.posix_calls.declared.call.Reply.{Reply}
 use Rattle.lease_manager.specs.posix_calls.declared.call.Reply.TheVariants.{Read}
 use Rattle.lease_manager.specs.posix_calls.declared.descriptor.Descriptor.{Descriptor}
 use Rattle.lease_manager.specs.posix_calls.declared.limits.TheConstants.{UNIT_BYTES}
-use Rattle.client_view.specs.block_cache.Cached.{Block, used_run}
-use Rattle.libfs.specs.Used.{blocks_read, used_by}
+use Rattle.client_view.specs.block_cache.CacheList.{Block, used_run}
+use Rattle.libfs.specs.BlockUse.{blocks_read, used_by}
 
 module _ (call : Call) (reply : Reply) (own : Own) (bs : List Block) (d at count : ℕ) (bytes : List ℕ) where
   -- a read of what is open at a descriptor, if something is

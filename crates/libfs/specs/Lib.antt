@@ -1,14 +1,15 @@
-pub mod Denied
+pub mod Denial
 pub mod View
-pub mod Holding
+pub mod ClientHoldings
 pub mod Sound
-pub mod Starting
-pub mod Stepping
-pub mod Used
-pub mod Leasing
-pub mod HandingOver
-pub mod Opening
-pub mod Serving
+pub mod CallStart
+pub mod CallStep
+pub mod BlockUse
+pub mod LeaseCalls
+pub mod SealedRegion
+pub mod RegionSeal
+pub mod NewClient
+pub mod NeedService
 -- Passed on to the crates above, which so need not list those below.
 pub use Rattle.kernel_fs.specs.area_image
 pub use Rattle.client_log.specs.call_effects

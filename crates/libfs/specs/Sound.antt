@@ -2,23 +2,24 @@
 use Rattle.std.specs.Prelude.{◌≡◌, ℕ, ◌++◌, Bool, true, List, [], Option, is_some}
 use Rattle.std.specs.Option.{ForSome}
 use Rattle.atomic_table.specs.Seated.{TableId}
+use Rattle.client_log.specs.tier_device.declared.media.Media.{Ghosts}
 use Rattle.client_log.specs.tier_device.declared.media.Tier.{Tier}
 use Rattle.client_log.specs.update_log.Frames.{with_record}
 use Rattle.lease_manager.specs.Passes.{PassView, client_of}
-use Rattle.client_log.specs.View.{LogView, written}
-use Rattle.client_view.specs.Held.{Held, knows}
-use Rattle.client_view.specs.Prepared.{IsPreparedFor}
-use Rattle.libfs.specs.declared.begun.Begun.{Begun}
+use Rattle.client_log.specs.View.{LogView, current_records}
+use Rattle.client_view.specs.KnowledgeTables.{Held, knows}
+use Rattle.client_view.specs.Preparation.{IsPreparedFor}
+use Rattle.libfs.specs.declared.begun_record.Begun.{Begun}
 use Rattle.libfs.specs.View.{begun_record}
-use Rattle.lease_manager.specs.Counted.{Counts}
-use Rattle.client_view.specs.Kept.{Kept}
+use Rattle.lease_manager.specs.RecordCounts.{Counts}
+use Rattle.client_view.specs.RecordLists.{Kept}
 
 -- Pass, log and copies are one client's; what is begun here is begun in the log, and prepared; and the pass counts the records that are not digested.
-pub record IsSound {M : Type 0} (seen : M → Tier → List ℕ) (leases : TableId) (pass : PassView) (log : LogView M) (copies : Held) (begun : Option Begun) (answered : Bool) (records : Kept) : Type 0 where
+pub record IsSound {M : Type 0} (device : Ghosts M) (leases : TableId) (pass : PassView) (log : LogView M) (copies : Held) (begun : Option Begun) (answered : Bool) (records : Kept) : Type 0 where
   pub table : pass.table ≡ leases
   pub number : copies.client ≡ client_of pass
   -- the records of the current region are in memory too; those of the other one while it is away
-  pub written_is : records.current ≡ written seen log
+  pub written_is : records.current ≡ current_records device log
   pub back : is_some log.other ≡ true → records.away ≡ []
   pub begins : begun_record begun ≡ log.current.begun
   pub prepared : ForSome begun (λ b. IsPreparedFor (knows copies) b.change)

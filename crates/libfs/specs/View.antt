@@ -1,12 +1,13 @@
 -- A client, as its callers see it.
 use Rattle.std.specs.Prelude.{ℕ, ◌&&◌, ◌++◌, not, Bool, List, Option, is_some, option_map}
+use Rattle.client_log.specs.tier_device.declared.media.Media.{Ghosts}
 use Rattle.client_log.specs.tier_device.declared.media.Tier.{Tier}
 use Rattle.lease_manager.specs.log_record.declared.format.Record.{Record}
 use Rattle.client_log.specs.update_log.Frames.{with_record}
 use Rattle.lease_manager.specs.Passes.{PassView}
-use Rattle.client_log.specs.View.{LogView, written}
-use Rattle.client_view.specs.Held.{Held}
-use Rattle.libfs.specs.declared.begun.Begun.{Begun}
+use Rattle.client_log.specs.View.{LogView, current_records}
+use Rattle.client_view.specs.KnowledgeTables.{Held}
+use Rattle.libfs.specs.declared.begun_record.Begun.{Begun}
 
 pub record ClientView (M : Type 0) : Type 0 where
   -- its leases, and how many undigested records it counts on each inode
@@ -29,8 +30,8 @@ is_pending v = is_some v.begun && not v.answered
 
 -- the record that is begun, if there is one
 abbrev pub begun_record : Option Begun → Option Record
-begun_record begun = option_map (λ b. b.change.entry) begun
+begun_record begun = option_map (λ b. b.change.logged) begun
 
 -- the client's records that are not digested, the begun one among them
-abbrev pub own_records : {M : Type 0} → (M → Tier → List ℕ) → ClientView M → List Record
-own_records seen v = with_record (v.sealed ++ written seen v.log) (begun_record v.begun)
+abbrev pub own_records : {M : Type 0} → Ghosts M → ClientView M → List Record
+own_records device v = with_record (v.sealed ++ current_records device v.log) (begun_record v.begun)

@@ -2,7 +2,7 @@ ghost use Rattle.std.specs.Prelude.{◌≡◌, ◌≢◌, ◌<◌, ◌≤◌, �
 ghost use Rattle.std.specs.List.{AllByRecursion};
 ghost use Rattle.lease_manager.specs.file_graph.Graph.{is_among};
 ghost use Rattle.lease_manager.specs.log_record.Grammar.{IsRecord};
-ghost use Rattle.client_log.specs.update_log.Counting.{next_generation};
+ghost use Rattle.client_log.specs.update_log.RecordCounts.{next_generation};
 ghost use Rattle.client_log.specs.update_log.Frames.{end_behind};
 ghost use Rattle.client_log.specs.update_log.View.{records_of as records_in};
 ghost use Rattle.lease_manager.specs.declared.view.LeaseMode.TheVariants.{Writing, Trying};
@@ -10,14 +10,14 @@ ghost use Rattle.lease_manager.specs.Words.{HasWord, IsClient};
 ghost use Rattle.lease_manager.specs.Passes.{client_of, lease_of, records_of};
 ghost use Rattle.lease_manager.specs.posix_calls.Tree.{has_open};
 ghost use Rattle.client_log.specs.Counts.{AreLeft, CountOf};
-ghost use Rattle.client_log.specs.Regions.{IsWiped, in_turn};
-ghost use Rattle.client_log.specs.View.{written};
+ghost use Rattle.client_log.specs.Regions.{CountsNothing, IsWiped, in_turn};
+ghost use Rattle.client_log.specs.View.{current_records};
 ghost use Rattle.libfs.specs.View.{begun_record, is_pending, own_records};
-ghost use Rattle.lease_manager.specs.Counted.{Counts, touching};
-ghost use Rattle.libfs.specs.Holding.{known_to};
-ghost use Rattle.libfs.specs.Opening.{IsBlank, IsNew};
+ghost use Rattle.lease_manager.specs.RecordCounts.{Counts, touch_count};
+ghost use Rattle.libfs.specs.ClientHoldings.{known_to};
+ghost use Rattle.libfs.specs.NewClient.{IsBlank, IsNew};
 
-use crate::begun::Begun;
+use crate::begun_record::Begun;
 use client_log::{ClientLog, Media, Region};
 use client_view::{ClientCopies, OwnRecords};
 use lease_manager::{LeaseMode, Leases, Pass};
@@ -44,8 +44,8 @@ pub struct Client<M: Media> {
 
 impl<M: Media> Model for Client<M> {
     ghost use Rattle.std.specs.Coded.{codes};
-    ghost use Rattle.client_view.specs.Held.{held_code};
-    ghost use Rattle.libfs.specs.contracts.begun.Begun as begun_call;
+    ghost use Rattle.client_view.specs.KnowledgeTables.{held_code};
+    ghost use Rattle.libfs.specs.contracts.begun_record.Begun as begun_call;
     ghost use Rattle.libfs.specs.View.{ClientView};
     ghost use Rattle.libfs.specs.Sound.{IsSound};
 
@@ -55,7 +55,7 @@ impl<M: Media> Model for Client<M> {
 
     ghost view = { λ c. record { pass = c.pass; log = c.log; copies = c.copies; pins = c.pins.items; spare = c.spare; begun = c.begun; answered = c.answered; sealed = c.records.away } };
 
-    ghost invariant = { λ c. IsSound M.seen c.leases c.pass c.log c.copies c.begun c.answered c.records };
+    ghost invariant = { λ c. IsSound M.Media c.leases c.pass c.log c.copies c.begun c.answered c.records };
 }
 
 /// What a client leaves.
@@ -78,7 +78,7 @@ impl<M: Media> Client<M> {
         log: ClientLog<M>,
     ) -> Result<Self, (AllocError, (Leases, Pass, ClientLog<M>))>
         requires table { pass.table ≡ leases }
-        requires blank { IsBlank M.seen log }
+        requires blank { IsBlank M.Media log }
         requires uncounted { (i : ℕ) → HasWord i → records_of pass i ≡ 0 }
         ensures opened { IfOk result (IsNew pass log) }
         ensures back { IfErr result (λ e. e.1 ≡ (leases, pass, log)) }
@@ -133,9 +133,9 @@ impl<M: Media> Client<M> {
 
     /// How many records of the client are not known to be digested: those of the current region, and of the one that is away.
     pub fn undigested(&self) -> usize
-        ensures { result ≡ length (self.now.sealed ++ written M.seen self.now.log) }
+        ensures { result ≡ length (self.now.sealed ++ current_records M.Media self.now.log) }
     {
-        self.records.away().len() + self.records.current().len()
+        self.records.sealed_records().len() + self.records.current().len()
     }
 
     /// The units that it was granted and has not used.
@@ -179,25 +179,26 @@ impl<M: Media> Client<M> {
     /// writing. Where both regions are here none of its records is away, those that are away have spellings, and only where a device has failed a call is answered whose record stays begun.
     pub fn own_records_are_held(&self)
         ensures begins { begun_record self.now.begun ≡ self.now.log.current.begun }
-        ensures counts { Counts self.now.pass (own_records M.seen self.now) }
-        ensures held { (i : ℕ) → HasWord i → 0 < touching (own_records M.seen self.now) i → lease_of self.now.pass i ≡ Writing }
+        ensures counts { Counts self.now.pass (own_records M.Media self.now) }
+        ensures held { (i : ℕ) → HasWord i → 0 < touch_count (own_records M.Media self.now) i → lease_of self.now.pass i ≡ Writing }
         ensures back { is_some self.now.log.other ≡ true → self.now.sealed ≡ [] }
         ensures spelled { AllByRecursion IsRecord self.now.sealed }
         ensures failed { self.now.answered ≡ true → (self.now.log.failed ≡ true) × (is_some self.now.begun ≡ true) }
     {
         self.pass.counts_held();
-        let _away = self.records.away();
+        let _away = self.records.sealed_records();
     }
 
     /// What a stop may leave now, between two calls: of what the regions hold that are here, just the records of the client's log count, with the begun one or without. And which of them are
     /// wiped, as a log that is opened asks for.
     pub fn left_now(&self)
         // The next record's gate stands behind the records of the current region.
-        ensures end { self.now.log.current.end ≡ end_behind (records_in M.seen self.now.log.current) }
+        ensures end { self.now.log.current.end ≡ end_behind (records_in M.Media self.now.log.current) }
 
-        ensures current_wiped { self.now.log.failed ≡ false → self.now.log.ready ≡ true → self.now.log.current.begun ≡ None → written M.seen self.now.log ≡ [] → IsWiped M.seen self.now.log.generation self.now.log.current }
-        ensures other_wiped { self.now.log.clean ≡ true → IfSome self.now.log.other (IsWiped M.seen (next_generation self.now.log.generation)) }
-        ensures counts { (regions : ℕ → List ℕ) → AreLeft M.moment M.left self.now.log self.now.log regions → CountOf self.now.log.generation (is_some self.now.log.other) (written M.seen self.now.log) self.now.log.current.begun regions }
+        ensures current_wiped { self.now.log.failed ≡ false → self.now.log.ready ≡ true → self.now.log.current.begun ≡ None → current_records M.Media self.now.log ≡ [] → IsWiped M.Media self.now.log.generation self.now.log.current }
+        ensures other_wiped { self.now.log.clean ≡ true → IfSome self.now.log.other (IsWiped M.Media (next_generation self.now.log.generation)) }
+        ensures beside { IfSome self.now.log.other (CountsNothing M.Media (next_generation self.now.log.generation)) }
+        ensures counts { (regions : ℕ → List ℕ) → AreLeft M.Media self.now.log self.now.log regions → CountOf self.now.log.generation (is_some self.now.log.other) (current_records M.Media self.now.log) self.now.log.current.begun regions }
     {
         self.log.left_now();
     }

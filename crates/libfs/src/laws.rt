@@ -7,23 +7,23 @@ ghost use Rattle.lease_manager.specs.posix_calls.declared.call.Reply.{Reply};
 ghost use Rattle.lease_manager.specs.file_graph.Graph.{Graph, after_effects};
 ghost use Rattle.lease_manager.specs.file_graph.Units.{growth};
 ghost use Rattle.lease_manager.specs.log_record.declared.format.Record.{Record};
-ghost use Rattle.client_log.specs.call_effects.Known.{Agrees};
+ghost use Rattle.client_log.specs.call_effects.Knowledge.{Agrees};
 ghost use Rattle.client_log.specs.call_effects.Wholes.{IsSound, state_of};
 ghost use Rattle.client_view.specs.client_plan.declared.need.Mode.{Mode};
 ghost use Rattle.client_view.specs.client_plan.declared.need.Need.TheVariants as needs;
 ghost use Rattle.client_view.specs.client_plan.declared.outcome.DescriptorChange.{DescriptorChange};
 ghost use Rattle.client_view.specs.client_plan.declared.outcome.Outcome.TheVariants as outcomes;
-ghost use Rattle.client_view.specs.client_plan.Planned.{own_changed};
+ghost use Rattle.client_view.specs.client_plan.CallPlan.{own_changed};
 ghost use Rattle.client_view.specs.client_plan.Steps.{IsAnswered, IsOf, IsReady, IsRefused};
 ghost use Rattle.client_view.specs.block_cache.declared.blocks.TheConstants.{MOST_BLOCKS};
-ghost use Rattle.client_view.specs.Logged.{knows_logged, with_change};
+ghost use Rattle.client_view.specs.AfterRecord.{knows_logged, with_change};
 ghost use Rattle.kernel_fs.specs.KernelView.{KernelView};
 ghost use Rattle.lease_manager.specs.Passes.{lease_of};
 ghost use Rattle.lease_manager.specs.Words.{HasWord};
-ghost use Rattle.libfs.specs.Leasing.{mode_of};
+ghost use Rattle.libfs.specs.LeaseCalls.{mode_of};
 ghost use Rattle.libfs.specs.View.{ClientView};
-ghost use Rattle.libfs.specs.Holding.{holdings_of, known_to, outcome_for};
-ghost use Rattle.libfs.specs.Serving.{AreAsLong, HasFetched, HasRefilled, HasThem, pinned, unpinned};
+ghost use Rattle.libfs.specs.ClientHoldings.{holdings_of, known_to, outcome_for};
+ghost use Rattle.libfs.specs.NeedService.{AreAsLong, HasFetched, HasRefilled, HasThem, with_pin, without_pin};
 
 use client_log::Media;
 use client_view::{
@@ -35,12 +35,12 @@ use client_view::{
 /// one does, and with that the whole is sound and agrees with what the client knows as before. By what the client knows the call is refused, or comes to an operation without effects, and what that
 /// opens is pinned.
 pub fn answered_start_is_a_step<M: Media>()
-    ensures has { (v : ClientView M) → IsOf (known_to v) (holdings_of M.seen v) }
-    ensures ready { (v : ClientView M) (call : Call) (reply : Reply) (change : Option DescriptorChange) → outcome_for M.seen v call ≡ outcomes.Reply reply change
-        → IsRefused (known_to v) call reply change ⊎ IsAnswered (known_to v) (holdings_of M.seen v) call reply change }
-    ensures sound { (v : ClientView M) (g : Graph) (held : Descriptors) (call : Call) (reply : Reply) (change : Option DescriptorChange) → IsSound g held → Agrees (known_to v) g held → outcome_for M.seen v call ≡ outcomes.Reply reply change
+    ensures has { (v : ClientView M) → IsOf (known_to v) (holdings_of M.Media v) }
+    ensures ready { (v : ClientView M) (call : Call) (reply : Reply) (change : Option DescriptorChange) → outcome_for M.Media v call ≡ outcomes.Reply reply change
+        → IsRefused (known_to v) call reply change ⊎ IsAnswered (known_to v) (holdings_of M.Media v) call reply change }
+    ensures sound { (v : ClientView M) (g : Graph) (held : Descriptors) (call : Call) (reply : Reply) (change : Option DescriptorChange) → IsSound g held → Agrees (known_to v) g held → outcome_for M.Media v call ≡ outcomes.Reply reply change
         → IsSound g (with_own held (known_to v).client (own_changed (known_to v).own change)) }
-    ensures step { (v : ClientView M) (g : Graph) (held : Descriptors) (call : Call) (reply : Reply) (change : Option DescriptorChange) → IsSound g held → Agrees (known_to v) g held → outcome_for M.seen v call ≡ outcomes.Reply reply change
+    ensures step { (v : ClientView M) (g : Graph) (held : Descriptors) (call : Call) (reply : Reply) (change : Option DescriptorChange) → IsSound g held → Agrees (known_to v) g held → outcome_for M.Media v call ≡ outcomes.Reply reply change
         → Step (state_of g held) (known_to v).client call reply (state_of g (with_own held (known_to v).client (own_changed (known_to v).own change))) }
     ensures agrees { (v : ClientView M) (g : Graph) (held : Descriptors) (change : Option DescriptorChange) → Agrees (known_to v) g held
         → Agrees (with_change (known_to v) change) g (with_own held (known_to v).client (own_changed (known_to v).own change)) }
@@ -51,15 +51,15 @@ pub fn answered_start_is_a_step<M: Media>()
 /// A call of which a record is begun is one step of the file tree, in every sound whole that agrees with what the client knows: to the whole after the record's effects, which is sound. What the
 /// client knows once it is answered agrees with that. The call has all that it needs as its record is begun, and the whole grows by the record's units.
 pub fn begun_record_is_a_step<M: Media>()
-    ensures ready { (v : ClientView M) (call : Call) (entry : Record) (reply : Reply) (made : Option ℕ) (change : Option DescriptorChange) → outcome_for M.seen v call ≡ outcomes.Log entry reply made change
-        → IsReady (known_to v) (holdings_of M.seen v) call entry reply made change }
-    ensures growth { (v : ClientView M) (g : Graph) (held : Descriptors) (call : Call) (entry : Record) (reply : Reply) (made : Option ℕ) (change : Option DescriptorChange) → IsSound g held → Agrees (known_to v) g held → outcome_for M.seen v call ≡ outcomes.Log entry reply made change
+    ensures ready { (v : ClientView M) (call : Call) (entry : Record) (reply : Reply) (made : Option ℕ) (change : Option DescriptorChange) → outcome_for M.Media v call ≡ outcomes.Log entry reply made change
+        → IsReady (known_to v) (holdings_of M.Media v) call entry reply made change }
+    ensures growth { (v : ClientView M) (g : Graph) (held : Descriptors) (call : Call) (entry : Record) (reply : Reply) (made : Option ℕ) (change : Option DescriptorChange) → IsSound g held → Agrees (known_to v) g held → outcome_for M.Media v call ≡ outcomes.Log entry reply made change
         → growth g entry.effects ≡ entry.units }
-    ensures step { (v : ClientView M) (g : Graph) (held : Descriptors) (call : Call) (entry : Record) (reply : Reply) (made : Option ℕ) (change : Option DescriptorChange) → IsSound g held → Agrees (known_to v) g held → outcome_for M.seen v call ≡ outcomes.Log entry reply made change
+    ensures step { (v : ClientView M) (g : Graph) (held : Descriptors) (call : Call) (entry : Record) (reply : Reply) (made : Option ℕ) (change : Option DescriptorChange) → IsSound g held → Agrees (known_to v) g held → outcome_for M.Media v call ≡ outcomes.Log entry reply made change
         → Step (state_of g held) (known_to v).client call reply (state_of (after_effects g entry.effects) (with_own held (known_to v).client (own_changed (known_to v).own change))) }
-    ensures sound { (v : ClientView M) (g : Graph) (held : Descriptors) (call : Call) (entry : Record) (reply : Reply) (made : Option ℕ) (change : Option DescriptorChange) → IsSound g held → Agrees (known_to v) g held → outcome_for M.seen v call ≡ outcomes.Log entry reply made change
+    ensures sound { (v : ClientView M) (g : Graph) (held : Descriptors) (call : Call) (entry : Record) (reply : Reply) (made : Option ℕ) (change : Option DescriptorChange) → IsSound g held → Agrees (known_to v) g held → outcome_for M.Media v call ≡ outcomes.Log entry reply made change
         → IsSound (after_effects g entry.effects) (with_own held (known_to v).client (own_changed (known_to v).own change)) }
-    ensures agrees { (v : ClientView M) (g : Graph) (held : Descriptors) (call : Call) (entry : Record) (reply : Reply) (made : Option ℕ) (change : Option DescriptorChange) → IsSound g held → Agrees (known_to v) g held → outcome_for M.seen v call ≡ outcomes.Log entry reply made change
+    ensures agrees { (v : ClientView M) (g : Graph) (held : Descriptors) (call : Call) (entry : Record) (reply : Reply) (made : Option ℕ) (change : Option DescriptorChange) → IsSound g held → Agrees (known_to v) g held → outcome_for M.Media v call ≡ outcomes.Log entry reply made change
         → Agrees (knows_logged (known_to v) entry.effects made change) (after_effects g entry.effects) (with_own held (known_to v).client (own_changed (known_to v).own change)) }
 {
     logged_call_is_a_step();
@@ -70,15 +70,15 @@ pub fn begun_record_is_a_step<M: Media>()
 /// long as its copy tells; no number, no units at all once those were granted that were asked for; not a pin that was set, and not to give back one that is dropped. Nor does it need a lease that the
 /// client holds.
 pub fn served_client_needs_it_no_longer<M: Media, S: Media>()
-    ensures lease { (v : ClientView M) (call : Call) (i : ℕ) (mode : Mode) → HasWord i → lease_of v.pass i ≡ mode_of mode → outcome_for M.seen v call ≢ outcomes.Need (needs.Lease i mode) }
-    ensures view { (k : KernelView S) (old new : ClientView M) (call : Call) (i : ℕ) → HasFetched M.seen S.seen k old i new → outcome_for M.seen new call ≢ outcomes.Need (needs.View i) }
-    ensures blocks { (k : KernelView S) (old new : ClientView M) (call : Call) (i first count : ℕ) → count ≤ MOST_BLOCKS → AreAsLong M.seen S.seen k old i first count → HasThem M.seen S.seen k old i first count new
-        → outcome_for M.seen new call ≢ outcomes.Need (needs.Blocks i first count) }
-    ensures inodes { (k after : KernelView S) (old new : ClientView M) (call : Call) (units n more : ℕ) → 0 < n → HasRefilled S.seen k old units n new after → outcome_for M.seen new call ≢ outcomes.Need (needs.Inodes more) }
-    ensures units { (k after : KernelView S) (old new : ClientView M) (call : Call) (n inodes more : ℕ) → outcome_for M.seen old call ≡ outcomes.Need (needs.Units n) → HasRefilled S.seen k old n inodes new after
-        → outcome_for M.seen new call ≢ outcomes.Need (needs.Units more) }
-    ensures pin { (old new : ClientView M) (call : Call) (i : ℕ) → new ≡ record old { pins = pinned old.pins i } → outcome_for M.seen new call ≢ outcomes.Need (needs.Pin i) }
-    ensures unpin { (old new : ClientView M) (call : Call) (i : ℕ) → new ≡ record old { pins = unpinned old.pins i } → outcome_for M.seen new call ≢ outcomes.Need (needs.Unpin i) }
+    ensures lease { (v : ClientView M) (call : Call) (i : ℕ) (mode : Mode) → HasWord i → lease_of v.pass i ≡ mode_of mode → outcome_for M.Media v call ≢ outcomes.Need (needs.Lease i mode) }
+    ensures view { (k : KernelView S) (old new : ClientView M) (call : Call) (i : ℕ) → HasFetched M.Media S.Media k old i new → outcome_for M.Media new call ≢ outcomes.Need (needs.View i) }
+    ensures blocks { (k : KernelView S) (old new : ClientView M) (call : Call) (i first count : ℕ) → count ≤ MOST_BLOCKS → AreAsLong M.Media S.Media k old i first count → HasThem M.Media S.Media k old i first count new
+        → outcome_for M.Media new call ≢ outcomes.Need (needs.Blocks i first count) }
+    ensures inodes { (k after : KernelView S) (old new : ClientView M) (call : Call) (units n more : ℕ) → 0 < n → HasRefilled S.Media k old units n new after → outcome_for M.Media new call ≢ outcomes.Need (needs.Inodes more) }
+    ensures units { (k after : KernelView S) (old new : ClientView M) (call : Call) (n inodes more : ℕ) → outcome_for M.Media old call ≡ outcomes.Need (needs.Units n) → HasRefilled S.Media k old n inodes new after
+        → outcome_for M.Media new call ≢ outcomes.Need (needs.Units more) }
+    ensures pin { (old new : ClientView M) (call : Call) (i : ℕ) → new ≡ record old { pins = with_pin old.pins i } → outcome_for M.Media new call ≢ outcomes.Need (needs.Pin i) }
+    ensures unpin { (old new : ClientView M) (call : Call) (i : ℕ) → new ≡ record old { pins = without_pin old.pins i } → outcome_for M.Media new call ≢ outcomes.Need (needs.Unpin i) }
 {
     served_need_is_lacking_no_longer();
 }

@@ -2,7 +2,7 @@
 //!
 //! A call is started (`Client::start`): it is answered at once, or something is lacking first, or a record of it is begun in the client's log. That record is kept by four device
 //! calls, one a `Client::step`, and then the call is answered. What a call comes to is decided by `client_plan`, from what the client knows (`client_copies`) and what it holds
-//! (`specs/Holding.antt`); neither `start` nor `step` nor a call on a lease waits for anyone.
+//! (`specs/ClientHoldings.antt`); neither `start` nor `step` nor a call on a lease waits for anyone.
 //!
 //! The records that are not digested stay in memory beside the log: those of the current region and those of the region that is away. The pass counts on each inode how many of them
 //! touch it, so no lease goes while a record on its inode is not digested.
@@ -13,36 +13,37 @@
 //! That what a client answers is a step of the file tree, in every whole that agrees with what it knows, is told by the laws.
 #![tactic(auto)]
 
-mod begun;
-mod block_fetching;
+mod begun_record;
+mod block_fetch;
+mod call_start;
+mod call_step;
 mod client;
-mod denying;
-mod fetching;
-mod granting;
-mod handing_over;
+mod copy_fetch;
+mod denial;
+mod grants;
 mod laws;
-mod leasing;
+mod leases;
+mod needs;
 mod now;
-mod serving;
-mod starting;
-mod stepping;
+mod region_seal;
+mod sealed_region;
 mod supplies;
 
-pub use begun::Begun;
+pub use begun_record::Begun;
 pub use client::{Client, Detached};
-pub use denying::Denied;
-pub use handing_over::Sealed;
+pub use denial::Denied;
 pub use laws::{
     answered_start_is_a_step, begun_record_is_a_step, served_client_needs_it_no_longer,
 };
 pub use now::Now;
+pub use sealed_region::SealedRegion;
 
 // Passed on to the crates above, which so need not list those below.
-pub use client_log::{ClientLog, HandedOver, LogError, Media, Region, Tier, WipeProgress};
+pub use client_log::{ClientLog, LogError, Media, Region, Tier, WipeProgress};
 pub use client_view::{Mode, Need, NodeSummary};
 pub use kernel_fs::{
     AcceptError, AreaError, Chunk, DigestError, Digestion, Fetched, Figures, Kernel, KernelError,
-    ReclaimError, RelocateError, SealedLog, Shared, prepare,
+    ReclaimError, RelocateError, SealedLog, Shared, client_index,
 };
 pub use lease_manager::{
     CLIENTS, Call, INODES, LeaseMode, Leases, Opened, Pass, Record, Reply, is_inode,

@@ -1,6 +1,6 @@
 //! What a client has for its calls.
 ghost use Rattle.std.specs.Prelude.{◌≡◌};
-ghost use Rattle.libfs.specs.Holding.{holdings_of};
+ghost use Rattle.libfs.specs.ClientHoldings.{holdings_of};
 
 use crate::client::Client;
 use client_log::Media;
@@ -8,7 +8,7 @@ use client_view::Supplies;
 use lease_manager::{OwnDescriptors, reads, writes};
 
 impl<M: Media> Supplies for Client<M> {
-    ghost holdings = { holdings_of M.seen };
+    ghost holdings = { holdings_of M.Media };
 
     fn own(&self) -> &OwnDescriptors {
         self.copies.own()
@@ -35,6 +35,6 @@ impl<M: Media> Supplies for Client<M> {
     }
 
     fn room(&self) -> Option<usize> {
-        self.log.most()
+        self.log.record_limit()
     }
 }

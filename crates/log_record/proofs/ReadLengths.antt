@@ -11,7 +11,7 @@ use Rattle.file_graph.specs.declared.effect.Effect.{Effect}
 use Rattle.file_graph.specs.declared.effect.Effect.TheVariants as effect
 use Rattle.log_record.specs.declared.format.Record.{Record}
 use Rattle.log_record.specs.declared.format.TheConstants.{MAKE, ENTER, LEAVE, NAMES, SIZE, BYTES, DROP}
-use Rattle.log_record.specs.Grammar.{◌>>=◌, fits, u32, u64, effect_bytes, spelling, byte_at, run_at, number_at, make_at, enter_at, leave_at, names_at, size_at, bytes_at, dropped_at, fields_at, effect_at, effects_at, header_at, record_at, record_of}
+use Rattle.log_record.specs.Grammar.{◌>>=◌, fits, u32, u64, effect_bytes, record_bytes, byte_at, run_at, number_at, make_at, enter_at, leave_at, names_at, size_at, bytes_at, dropped_at, fields_at, effect_at, effects_at, header_at, record_at, record_of}
 use Rattle.file_graph.specs.Kinds.{kind_byte, kind_field}
 use Rattle.log_record.proofs.Fields.{bind_some, chosen, test_some, some_is}
 use Rattle.log_record.proofs.Lengths.{length-u32, length-u64}
@@ -184,19 +184,19 @@ header_long bytes x e =
     let g = test_some (leb 1 b.0.0 && leb b.0.0 8) made x b.2 in
     omega (arith, number_long 4 bytes a.0 a.1, byte_long a.0.1 b.0 b.1, ap (λ (y : (ℕ × ℕ) × List ℕ). length y.1) g.1)
 
-record_long : (bytes : List ℕ) (x : Record × List ℕ) → record_at bytes ≡ Some x → length bytes ≡ length (spelling x.0) + length x.1
+record_long : (bytes : List ℕ) (x : Record × List ℕ) → record_at bytes ≡ Some x → length bytes ≡ length (record_bytes x.0) + length x.1
 unfolding record_at
 record_long bytes x e =
     let a = bind_some (header_at bytes) (λ h. effects_at h.0.1 h.1 >>= λ es. Some (record { units = h.0.0; effects = es.0 }, es.1)) x e in
     let b = bind_some (effects_at a.0.0.1 a.0.1) (λ es. Some (record { units = a.0.0.0; effects = es.0 }, es.1)) x a.2 in
     let made : Record × List ℕ = (record { units = a.0.0.0; effects = b.0.0 }, b.0.1) in
-    subst (λ (y : Record × List ℕ). length bytes ≡ length (spelling y.0) + length y.1) (some_is made x b.2)
+    subst (λ (y : Record × List ℕ). length bytes ≡ length (record_bytes y.0) + length y.1) (some_is made x b.2)
     (omega (arith, header_long bytes a.0 a.1, effects_long a.0.0.1 a.0.1 b.0 b.1, length-append (u32 a.0.0.0) (length b.0.0 ∷ flat_map effect_bytes b.0.0), length-u32 a.0.0.0))
 
-pub record_of_long : (bytes : List ℕ) (r : Record) → record_of bytes ≡ Some r → length bytes ≡ length (spelling r)
+pub record_of_long : (bytes : List ℕ) (r : Record) → record_of bytes ≡ Some r → length bytes ≡ length (record_bytes r)
 unfolding record_of
 record_of_long bytes r e =
     let a = bind_some (record_at bytes) (λ x. cond (eqb (length x.1) 0) (Some x.0) None) r e in
     let g = test_some (eqb (length a.0.1) 0) a.0.0 r a.2 in
     let none_behind : length a.0.1 ≡ 0 = eqb-true (length a.0.1) 0 g.0 in
-    omega (arith, record_long bytes a.0 a.1, ap (λ (s : Record). length (spelling s)) g.1)
+    omega (arith, record_long bytes a.0 a.1, ap (λ (s : Record). length (record_bytes s)) g.1)

@@ -7,7 +7,7 @@ use Rattle.std.proofs.lemmas.List.Concat.{flat_map-cons}
 use Rattle.file_graph.specs.declared.effect.Effect.{Effect}
 use Rattle.log_record.specs.declared.format.Record.{Record}
 use Rattle.log_record.specs.declared.format.TheConstants.{MAX_EFFECTS}
-use Rattle.log_record.specs.Grammar.{◌>>=◌, AreBytes, Fits, IsRecord, spelling, u32, effect_bytes, byte_at, number_at, effect_at, effects_at, header_at, record_at, record_of, Begins, NoneBegins}
+use Rattle.log_record.specs.Grammar.{◌>>=◌, AreBytes, Fits, IsRecord, record_bytes, u32, effect_bytes, byte_at, number_at, effect_at, effects_at, header_at, record_at, record_of, Begins, NoneBegins}
 use Rattle.std.specs.Prelude.{option_map, is_some, ◌-◌}
 use Rattle.log_record.proofs.Fields.{bind_some, test_some, some_is, Takes, Takes-then, u32_takes, u32_again, byte_takes}
 use Rattle.log_record.proofs.Effects.{and_parts, effect_takes, effect_again}
@@ -69,7 +69,7 @@ header_again units count rest small some few = rw (u32_again units (count ∷ re
 
 -- ---- records
 
-pub record_takes : (bytes : List ℕ) (x : Record × List ℕ) → AreBytes bytes → record_at bytes ≡ Some x → IsRecord x.0 × (bytes ≡ spelling x.0 ++ x.1)
+pub record_takes : (bytes : List ℕ) (x : Record × List ℕ) → AreBytes bytes → record_at bytes ≡ Some x → IsRecord x.0 × (bytes ≡ record_bytes x.0 ++ x.1)
 unfolding record_at
 record_takes bytes x are e =
     let a = bind_some (header_at bytes) (λ h. effects_at h.0.1 h.1 >>= λ es. Some (record { units = h.0.0; effects = es.0 }, es.1)) x e in
@@ -80,31 +80,31 @@ record_takes bytes x are e =
     let regrouped : (u32 a.0.0.0 ++ a.0.0.1 ∷ []) ++ flat_map effect_bytes b.0.0 ≡ u32 a.0.0.0 ++ a.0.0.1 ∷ flat_map effect_bytes b.0.0 = append_assoc (u32 a.0.0.0) (a.0.0.1 ∷ []) (flat_map effect_bytes b.0.0) in
     let counted : u32 a.0.0.0 ++ a.0.0.1 ∷ flat_map effect_bytes b.0.0 ≡ u32 a.0.0.0 ++ length b.0.0 ∷ flat_map effect_bytes b.0.0 = ap (λ (n : ℕ). u32 a.0.0.0 ++ n ∷ flat_map effect_bytes b.0.0) (sym body.count) in
     let made : Record × List ℕ = (record { units = a.0.0.0; effects = b.0.0 }, b.0.1) in
-    subst (λ (y : Record × List ℕ). IsRecord y.0 × (bytes ≡ spelling y.0 ++ y.1)) (some_is made x b.2)
+    subst (λ (y : Record × List ℕ). IsRecord y.0 × (bytes ≡ record_bytes y.0 ++ y.1)) (some_is made x b.2)
     (record { units = head.units_fit; some = omega (arith, head.some, body.count); few = omega (arith, head.few, body.count); fit = body.fit }, both ∙ ap (λ (t : List ℕ). t ++ b.0.1) (regrouped ∙ counted))
 
-pub record_again : (r : Record) (rest : List ℕ) → IsRecord r → record_at (spelling r ++ rest) ≡ Some (r, rest)
+pub record_again : (r : Record) (rest : List ℕ) → IsRecord r → record_at (record_bytes r ++ rest) ≡ Some (r, rest)
 unfolding record_at
 record_again r rest is =
-    let regrouped : spelling r ++ rest ≡ u32 r.units ++ length r.effects ∷ (flat_map effect_bytes r.effects ++ rest) = append_assoc (u32 r.units) (length r.effects ∷ flat_map effect_bytes r.effects) rest in
+    let regrouped : record_bytes r ++ rest ≡ u32 r.units ++ length r.effects ∷ (flat_map effect_bytes r.effects ++ rest) = append_assoc (u32 r.units) (length r.effects ∷ flat_map effect_bytes r.effects) rest in
     ap record_at regrouped ∙ rw (header_again r.units (length r.effects) (flat_map effect_bytes r.effects ++ rest) is.units is.some is.few, effects_again r.effects rest is.fit) refl
 
-pub record_of_takes : (bytes : List ℕ) (r : Record) → AreBytes bytes → record_of bytes ≡ Some r → IsRecord r × (bytes ≡ spelling r)
+pub record_of_takes : (bytes : List ℕ) (r : Record) → AreBytes bytes → record_of bytes ≡ Some r → IsRecord r × (bytes ≡ record_bytes r)
 unfolding record_of
 record_of_takes bytes r are e =
     let a = bind_some (record_at bytes) (λ x. cond (eqb (length x.1) 0) (Some x.0) None) r e in
     let g = test_some (eqb (length a.0.1) 0) a.0.0 r a.2 in
     let nothing : a.0.1 ≡ [] = nil_from_length a.0.1 (eqb-true _ _ g.0) in
     let t = record_takes bytes a.0 are a.1 in
-    subst (λ (y : Record). IsRecord y × (bytes ≡ spelling y)) g.1 (t.0, t.1 ∙ ap (λ (w : List ℕ). spelling a.0.0 ++ w) nothing ∙ append-nil (spelling a.0.0))
+    subst (λ (y : Record). IsRecord y × (bytes ≡ record_bytes y)) g.1 (t.0, t.1 ∙ ap (λ (w : List ℕ). record_bytes a.0.0 ++ w) nothing ∙ append-nil (record_bytes a.0.0))
 
-pub record_of_again : (r : Record) → IsRecord r → record_of (spelling r) ≡ Some r
+pub record_of_again : (r : Record) → IsRecord r → record_of (record_bytes r) ≡ Some r
 unfolding record_of
 record_of_again r is =
-    let front : record_at (spelling r) ≡ Some (r, []) = ap record_at (sym (append-nil (spelling r))) ∙ record_again r [] is in
+    let front : record_at (record_bytes r) ≡ Some (r, []) = ap record_at (sym (append-nil (record_bytes r))) ∙ record_again r [] is in
     rw front refl
 
-pub one_spelling : (r s : Record) (x y : List ℕ) → IsRecord r → IsRecord s → spelling r ++ x ≡ spelling s ++ y → (r ≡ s) × (x ≡ y)
+pub one_spelling : (r s : Record) (x y : List ℕ) → IsRecord r → IsRecord s → record_bytes r ++ x ≡ record_bytes s ++ y → (r ≡ s) × (x ≡ y)
 one_spelling r s x y is are e =
     let same : (r, x) ≡ (s, y) = some_is (r, x) (s, y) (sym (record_again r x is) ∙ ap record_at e ∙ record_again s y are) in
     (ap (λ (p : Record × List ℕ). p.0) same, ap (λ (p : Record × List ℕ). p.1) same)
@@ -120,10 +120,10 @@ pub record IsFront (bytes : List ℕ) (r : Record) (rest : List ℕ) : Type 0 wh
 pub front_is : (bytes : List ℕ) (r : Record) (rest : List ℕ) → AreBytes bytes → record_at bytes ≡ Some (r, rest) → IsFront bytes r rest
 front_is bytes r rest are e =
     let t = record_takes bytes (r, rest) are e in
-    let long : length bytes ≡ length (spelling r) + length rest = ap length t.1 ∙ length-append (spelling r) rest in
-    let count : length bytes - length rest ≡ length (spelling r) = omega (arith, long) in
-    let after : drop (length bytes - length rest) bytes ≡ rest = ap (drop (length bytes - length rest)) t.1 ∙ drop_at (spelling r) rest (length bytes - length rest) (sym count) in
-    record { within = omega (arith, long); begins = record { is = t.0; front = t.1 ∙ ap (λ (w : List ℕ). spelling r ++ w) (sym after); count = count }; after = after }
+    let long : length bytes ≡ length (record_bytes r) + length rest = ap length t.1 ∙ length-append (record_bytes r) rest in
+    let count : length bytes - length rest ≡ length (record_bytes r) = omega (arith, long) in
+    let after : drop (length bytes - length rest) bytes ≡ rest = ap (drop (length bytes - length rest)) t.1 ∙ drop_at (record_bytes r) rest (length bytes - length rest) (sym count) in
+    record { within = omega (arith, long); begins = record { is = t.0; front = t.1 ∙ ap (λ (w : List ℕ). record_bytes r ++ w) (sym after); count = count }; after = after }
 
 pub none_begins : (bytes : List ℕ) → record_at bytes ≡ None → NoneBegins bytes
 none_begins bytes none r rest is e =

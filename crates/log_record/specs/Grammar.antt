@@ -50,8 +50,8 @@ effect_bytes (effect.Bytes i at new) = BYTES ∷ (u32 i ++ (u64 at ++ (u32 (leng
 effect_bytes (effect.Drop i) = DROP ∷ u32 i
 
 -- the units, the count of the effects, and each of them
-abbrev pub spelling : Record → List ℕ
-spelling r = u32 r.units ++ (length r.effects ∷ flat_map effect_bytes r.effects)
+abbrev pub record_bytes : Record → List ℕ
+record_bytes r = u32 r.units ++ (length r.effects ∷ flat_map effect_bytes r.effects)
 
 -- ---- the reading
 
@@ -168,9 +168,9 @@ record_of bytes = do
 -- the first n bytes are the spelling of this record
 pub record Begins (bytes : List ℕ) (r : Record) (n : ℕ) : Type 0 where
   pub is : IsRecord r
-  pub front : bytes ≡ spelling r ++ drop n bytes
-  pub count : n ≡ length (spelling r)
+  pub front : bytes ≡ record_bytes r ++ drop n bytes
+  pub count : n ≡ length (record_bytes r)
 
 -- no beginning of the bytes is a spelling
 abbrev pub NoneBegins : List ℕ → Type 0
-NoneBegins bytes = (r : Record) (rest : List ℕ) → IsRecord r → bytes ≡ spelling r ++ rest → ⊥
+NoneBegins bytes = (r : Record) (rest : List ℕ) → IsRecord r → bytes ≡ record_bytes r ++ rest → ⊥

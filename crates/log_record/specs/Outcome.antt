@@ -8,14 +8,14 @@ use Rattle.log_record.specs.declared.format.RecordError.{RecordError}
 use Rattle.log_record.specs.declared.format.RecordError.TheVariants.{NoRecord, Memory}
 
 -- the effect that is lent
-abbrev pub owned : EffectRef → Effect
-owned (lent.Make i k) = effect.Make i k
-owned (lent.Enter d i k name) = effect.Enter d i k name.now
-owned (lent.Leave d name) = effect.Leave d name.now
-owned (lent.Names i n) = effect.Names i n
-owned (lent.Size i size) = effect.Size i size
-owned (lent.Bytes i at new) = effect.Bytes i at new.now
-owned (lent.Drop i) = effect.Drop i
+abbrev pub owned_effect : EffectRef → Effect
+owned_effect (lent.Make i k) = effect.Make i k
+owned_effect (lent.Enter d i k name) = effect.Enter d i k name.now
+owned_effect (lent.Leave d name) = effect.Leave d name.now
+owned_effect (lent.Names i n) = effect.Names i n
+owned_effect (lent.Size i size) = effect.Size i size
+owned_effect (lent.Bytes i at new) = effect.Bytes i at new.now
+owned_effect (lent.Drop i) = effect.Drop i
 
 -- no record only where none is read; a want of memory stands in place of any answer
 abbrev pub Fails : {Y : Type 0} → RecordError → Option Y → Type 0

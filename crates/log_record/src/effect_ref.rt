@@ -1,5 +1,5 @@
 ghost use Rattle.std.specs.Prelude.{◌≡◌, if◌then◌else◌};
-ghost use Rattle.log_record.specs.Outcome.{Gives, owned};
+ghost use Rattle.log_record.specs.Outcome.{Gives, owned_effect};
 ghost use Rattle.log_record.specs.Grammar.{fits, is_write};
 
 use crate::format::RecordError;
@@ -44,7 +44,7 @@ pub enum EffectRef<'a> {
 impl EffectRef<'_> {
     /// Whether it keeps the limits of the format.
     pub fn fits(&self) -> bool
-        ensures { result ≡ fits (owned self.now) }
+        ensures { result ≡ fits (owned_effect self.now) }
     {
         match *self {
             EffectRef::Make { inode, .. } => is_inode(inode),
@@ -64,7 +64,7 @@ impl EffectRef<'_> {
 
     /// The effect with a copy of its name or bytes, where it keeps the limits.
     pub fn to_effect(&self, alloc: Global) -> Result<Effect, RecordError>
-        ensures { Gives (λ e. e) result (if fits (owned self.now) then Some (owned self.now) else None) }
+        ensures { Gives (λ e. e) result (if fits (owned_effect self.now) then Some (owned_effect self.now) else None) }
     {
         if !self.fits() {
             return Err(RecordError::NoRecord);
@@ -102,7 +102,7 @@ impl EffectRef<'_> {
 
 /// The effect, lent.
 pub fn lend(effect: &Effect) -> EffectRef<'_>
-    ensures { owned result ≡ effect.now }
+    ensures { owned_effect result ≡ effect.now }
 {
     match effect {
         Effect::Make { inode, kind } => EffectRef::Make {

@@ -9,8 +9,8 @@ mod effect_ref;
 mod format;
 mod laws;
 mod numbers;
-mod reading;
-mod writing;
+mod record_reads;
+mod record_writes;
 
 pub use format::{MAX_EFFECTS, Record, RecordError};
 pub use laws::{
@@ -18,8 +18,8 @@ pub use laws::{
     written_is_read,
 };
 pub use numbers::record_has_its_numbers;
-pub use reading::{is_payload, read_payload, read_record};
-pub use writing::{write_behind, write_record};
+pub use record_reads::{is_payload, read_payload, read_record};
+pub use record_writes::{write_behind, write_record};
 
 // Passed on to the crates above, which so need not list those below.
 pub use file_graph::{
@@ -27,5 +27,5 @@ pub use file_graph::{
     Effects as FileGraphEffects, Errno, Flags, Kind, Location, MAX_CLIENTS, MAX_ENTRIES, MAX_FILE,
     MAX_INODE, MAX_NAMES, MAX_TRANSFER, Missing, Name, NameMap, NamedInode, Names, Operation,
     OwnDescriptors, Path, PlainEntry, PlainGraph, ROOT, Replaced, Reply, SharedBytes, TreeAnswers,
-    UNIT_BYTES, UNIT_ENTRIES, decide, is_inode, known, u32_of,
+    UNIT_BYTES, UNIT_ENTRIES, client_index, decide, is_inode, known_or_missing, u32_of,
 };

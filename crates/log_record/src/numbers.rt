@@ -4,7 +4,7 @@ ghost use Rattle.std.specs.Prelude.{◌≡◌, ◌∷◌, []};
 ghost use Rattle.file_graph.specs.declared.effect.Kind.TheVariants as kind;
 ghost use Rattle.file_graph.specs.declared.effect.Effect.TheVariants as effect;
 ghost use Rattle.file_graph.specs.posix_calls.declared.limits.TheConstants.{MAX_NAME, MAX_TRANSFER, MAX_FILE, MAX_NAMES, MAX_INODE};
-ghost use Rattle.log_record.specs.Grammar.{effect_bytes, spelling};
+ghost use Rattle.log_record.specs.Grammar.{effect_bytes, record_bytes};
 
 use crate::format::MAX_EFFECTS;
 
@@ -18,7 +18,7 @@ pub fn record_has_its_numbers()
     ensures size { effect_bytes (effect.Size 2 258) ≡ 5 ∷ 2 ∷ 0 ∷ 0 ∷ 0 ∷ 2 ∷ 1 ∷ 0 ∷ 0 ∷ 0 ∷ 0 ∷ 0 ∷ 0 ∷ [] }
     ensures bytes { effect_bytes (effect.Bytes 2 258 (120 ∷ 121 ∷ [])) ≡ 6 ∷ 2 ∷ 0 ∷ 0 ∷ 0 ∷ 2 ∷ 1 ∷ 0 ∷ 0 ∷ 0 ∷ 0 ∷ 0 ∷ 0 ∷ 2 ∷ 0 ∷ 0 ∷ 0 ∷ 120 ∷ 121 ∷ [] }
     ensures drop { effect_bytes (effect.Drop 3) ≡ 7 ∷ 3 ∷ 0 ∷ 0 ∷ 0 ∷ [] }
-    ensures record_of_two { spelling (record { units = 256; effects = effect.Names 2 0 ∷ effect.Drop 3 ∷ [] }) ≡ 0 ∷ 1 ∷ 0 ∷ 0 ∷ 2 ∷ 4 ∷ 2 ∷ 0 ∷ 0 ∷ 0 ∷ 0 ∷ 0 ∷ 0 ∷ 0 ∷ 7 ∷ 3 ∷ 0 ∷ 0 ∷ 0 ∷ [] }
+    ensures record_of_two { record_bytes (record { units = 256; effects = effect.Names 2 0 ∷ effect.Drop 3 ∷ [] }) ≡ 0 ∷ 1 ∷ 0 ∷ 0 ∷ 2 ∷ 4 ∷ 2 ∷ 0 ∷ 0 ∷ 0 ∷ 0 ∷ 0 ∷ 0 ∷ 0 ∷ 7 ∷ 3 ∷ 0 ∷ 0 ∷ 0 ∷ [] }
     ensures most_effects { MAX_EFFECTS ≡ 8 }
     ensures last_inode { MAX_INODE ≡ 1024 }
     ensures most_names { MAX_NAMES ≡ 1000 }

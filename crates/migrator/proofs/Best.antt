@@ -5,23 +5,23 @@ use Rattle.std.proofs.lemmas.Bool.{cases_lt, and_parts, leb-true, false_from_ne_
 use Rattle.shared_area.specs.tier_device.declared.media.Tier.{Tier}
 use Rattle.shared_area.specs.layout.Places.{Sizes, is_inode}
 use Rattle.shared_area.specs.area_image.Store.{Store}
-use Rattle.shared_area.specs.Running.{file_lies, FindsRun}
+use Rattle.shared_area.specs.FirstRun.{file_lies, FindsRun}
 use Rattle.shared_area.proofs.FirstRuns.{no_inode_lies}
 use Rattle.shared_area.specs.block_alloc.declared.runs.Run.{Run}
-use Rattle.migrator.specs.declared.picking.TheConstants.{MOST_BLOCKS}
-use Rattle.migrator.specs.Picking.{LiesIn, touched, ComesBefore, IsPickedIn, FoundFile, pick_of, IsBestBelow, IsCandidate, IsFirstOf}
+use Rattle.migrator.specs.declared.run_choice.TheConstants.{MOST_BLOCKS}
+use Rattle.migrator.specs.RunChoice.{LiesIn, last_digest, ComesBefore, IsPickedIn, FoundFile, pick_of, IsBestBelow, IsCandidate, IsFirstOf}
 
 past_is_none : (j : ℕ) → 1025 ≤ j → is_inode j ≡ false
 past_is_none j past = false_from_ne_true (is_inode j) (λ is. let p = and_parts (nat_le 1 j) (nat_le j 1024) is in let low = leb-true j 1024 p.1 in omega (arith, low, past))
 
 module _ (g : Sizes) (s : Store) (t : Tier) where
   -- a file with its first run there, where one is found
-  pub candidate_some : (i : ℕ) (run : Run) (o : Option Run) (touch : ℕ) → o ≡ Some run → FindsRun (file_lies g s i t) MOST_BLOCKS o → touch ≡ touched g s i → IsCandidate g s t i (Some (touch, record { inode = i; run = run }))
+  pub candidate_some : (i : ℕ) (run : Run) (o : Option Run) (touch : ℕ) → o ≡ Some run → FindsRun (file_lies g s i t) MOST_BLOCKS o → touch ≡ last_digest g s i → IsCandidate g s t i (Some (touch, record { inode = i; run = run }))
   candidate_some i run o touch is finds same = record {
     picked = record {
       inside = refl;
       run = subst (λ (x : Option Run). FindsRun (file_lies g s i t) MOST_BLOCKS x) is finds;
-      least = λ j among lies. inr (ap (touched g s) (sym among), omega (arith, among));
+      least = λ j among lies. inr (ap (last_digest g s) (sym among), omega (arith, among));
     };
     touch = same;
   }
@@ -39,14 +39,14 @@ module _ (g : Sizes) (s : Store) (t : Tier) where
     touch = tt;
   }
 
-  before_here : (i : ℕ) (best found : FoundFile) → best.0 ≡ touched g s best.1.inode → found.0 ≡ touched g s found.1.inode → best.0 ≤ found.0 → best.1.inode < i → (j : ℕ) → j ≡ i → ComesBefore g s found.1.inode j → ComesBefore g s best.1.inode j
+  before_here : (i : ℕ) (best found : FoundFile) → best.0 ≡ last_digest g s best.1.inode → found.0 ≡ last_digest g s found.1.inode → best.0 ≤ found.0 → best.1.inode < i → (j : ℕ) → j ≡ i → ComesBefore g s found.1.inode j → ComesBefore g s best.1.inode j
   before_here i best found is_best is_found le low j here (inl less) = inl (omega (arith, is_best, is_found, le, less))
   before_here i best found is_best is_found le low j here (inr both) = elim (cases_lt best.0 found.0) [
     | inl less ↦ (let same = both.0 in inl (omega (arith, is_best, is_found, less, same)))
     | inr ge ↦ (let same = both.0 in inr (omega (arith, is_best, is_found, le, ge, same), omega (arith, low, here)))
   ]
 
-  found_first : (best found : FoundFile) → best.0 ≡ touched g s best.1.inode → found.0 ≡ touched g s found.1.inode → found.0 < best.0 → (j : ℕ) → ComesBefore g s best.1.inode j → ComesBefore g s found.1.inode j
+  found_first : (best found : FoundFile) → best.0 ≡ last_digest g s best.1.inode → found.0 ≡ last_digest g s found.1.inode → found.0 < best.0 → (j : ℕ) → ComesBefore g s best.1.inode j → ComesBefore g s found.1.inode j
   found_first best found is_best is_found less j (inl first) = inl (omega (arith, is_best, is_found, less, first))
   found_first best found is_best is_found less j (inr both) = (let same = both.0 in inl (omega (arith, is_best, is_found, less, same)))
 

@@ -9,12 +9,12 @@ use Rattle.shared_area.specs.layout.declared.slot.Slot.TheVariants as slots
 use Rattle.shared_area.specs.layout.Places.{Sizes}
 use Rattle.shared_area.specs.extent_tree.Places.{in_run}
 use Rattle.shared_area.specs.tree_blocks.Inode.{LogicalBlocks, inode_of}
-use Rattle.shared_area.specs.area_image.Store.{Store, slot, place, logical}
+use Rattle.shared_area.specs.area_image.Store.{Store, slot, place, logical_block}
 use Rattle.shared_area.specs.area_image.declared.error.AreaError.{AreaError}
-use Rattle.shared_area.specs.inode_plan.Placed.{is_faster}
-use Rattle.shared_area.specs.Running.{file_place, file_lies}
-use Rattle.migrator.specs.declared.picking.FileRun.{FileRun}
-use Rattle.migrator.specs.Picking.{IsPickedIn, MayBeMoved}
+use Rattle.shared_area.specs.inode_plan.RunPlaces.{is_faster}
+use Rattle.shared_area.specs.FirstRun.{file_place, file_lies}
+use Rattle.migrator.specs.declared.run_choice.FileRun.{FileRun}
+use Rattle.migrator.specs.RunChoice.{IsPickedIn, MayBeMoved}
 
 -- where a block of a file lies, there is a file ..
 is_file : (x : Slot) (blocks : LogicalBlocks) (at : Option ℕ) → IsSome (file_place x at) → (inode_of x blocks).kind ≡ Some kind.File
@@ -47,7 +47,7 @@ module _ (g : Sizes) (s : Store) (t to : Tier) (faster : is_faster t to ≡ true
       let some = run.some in
       let few = run.few in
       record {
-        kind_is = is_file (slot g s x.inode) (logical g s x.inode) (place g s x.inode t (x.run.first + 0)) (run.each 0 some);
+        kind_is = is_file (slot g s x.inode) (logical_block g s x.inode) (place g s x.inode t (x.run.first + 0)) (run.each 0 some);
         some = omega (arith, some);
         few = omega (arith, few);
         above = λ k inside. (t, faster, lies_in_run x run.each k inside);

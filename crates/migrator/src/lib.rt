@@ -1,11 +1,11 @@
 //! The migrator: which run of a file's blocks is moved down next, and how it is moved.
 #![tactic(auto)]
 
-mod migrating;
-mod picking;
+mod migration;
+mod run_choice;
 
-pub use migrating::migrate;
-pub use picking::{FileRun, MOST_BLOCKS, pick};
+pub use migration::migrate;
+pub use run_choice::{FileRun, MOST_BLOCKS, pick};
 
 // Passed on to the crates above, which so need not list those below.
 pub use shared_area::{

@@ -6,13 +6,14 @@ use Rattle.file_graph.proofs.posix_calls_lemmas.Counts.{order}
 use Rattle.file_graph.proofs.posix_calls_lemmas.Directory.{entries-empty}
 use Rattle.file_graph.specs.posix_calls.Tree.{Node, File, Dir, entries_of}
 use Rattle.file_graph.specs.posix_calls.declared.operation.Missing.{Missing}
-use Rattle.file_graph.specs.posix_calls.Query.{Query, Gives, Refuses, IsDir, Look, Range, View, Found, Known, Unknown, run, run_part, seen, whole_part}
+use Rattle.file_graph.specs.posix_calls.Query.{Query, Gives, Refuses, IsDir, Look, Range, View, run, seen_node}
+use Rattle.file_graph.specs.posix_calls.Part.{Found, Known, Unknown, run_part, whole_part}
 use Rattle.file_graph.specs.posix_calls.Walk.{entries_seen}
 use Rattle.plain_tree.specs.Plain.{stored_tree}
 use Rattle.std.proofs.lemmas.Bool.{ltb-false}
 use Rattle.std.proofs.lemmas.List.{get_or_past}
 
-pub entries_are_seen : (n : ℕ) (o : Option Node) → entries_seen (option_map (seen n) o) ≡ entries_of o
+pub entries_are_seen : (n : ℕ) (o : Option Node) → entries_seen (option_map (seen_node n) o) ≡ entries_of o
 entries_are_seen n None = refl
 entries_are_seen n (Some (File bytes)) = refl
 entries_are_seen n (Some (Dir entries)) = refl

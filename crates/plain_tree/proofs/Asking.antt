@@ -5,7 +5,8 @@ use Rattle.std.proofs.lemmas.Bool.Decides.{nat_tests}
 use Rattle.std.proofs.lemmas.List.{get_or_default}
 use Rattle.file_graph.specs.posix_calls.Tree.{Own, State}
 use Rattle.file_graph.specs.posix_calls.Own.{own_of}
-use Rattle.file_graph.specs.posix_calls.Query.{Known, run, run_part, view_of, whole_part}
+use Rattle.file_graph.specs.posix_calls.Query.{run, view_of}
+use Rattle.file_graph.specs.posix_calls.Part.{Known, run_part, whole_part}
 use Rattle.file_graph.specs.posix_calls.Decide.{decide}
 use Rattle.file_graph.specs.posix_calls.Operations.{answer, Follows, Step, makes, is_client}
 use Rattle.file_graph.specs.posix_calls.Exact.{IsLowest, IsAnswered, IsGivenUp}

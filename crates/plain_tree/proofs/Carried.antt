@@ -1,7 +1,9 @@
 -- What operations make of the nodes and the rows of a plain tree.
 use Rattle.std.proofs.Common.{◌≡◌, ℕ, List, Option, None, Some, true, false, if◌then◌else◌, refl, sym, ap, ◌∙◌}
 use Rattle.file_graph.specs.posix_calls.Tree.{Node, Tree, Descriptors, with_own, State}
-use Rattle.file_graph.specs.posix_calls.Operations.{tree_after, own_after, held_after, state_after, opens, only_tells, reply_of, IsInRange}
+use Rattle.file_graph.specs.posix_calls.Operations.{tree_after, own_after, held_after, state_after, reply_of}
+use Rattle.file_graph.specs.posix_calls.Kinds.{opens, is_query}
+use Rattle.file_graph.specs.posix_calls.Exact.{IsInRange}
 use Rattle.file_graph.proofs.posix_calls_lemmas.Steps.{with_same}
 use Rattle.plain_tree.specs.Plain.{stored_tree, held_of, state_in, with_opened, HasNumber, IsDone}
 use Rattle.file_graph.specs.posix_calls.declared.operation.Operation.{Operation}
@@ -37,7 +39,7 @@ pub carried_as : (nodes nodes' : List (Option Node)) (rows rows' : List (List (O
 carried_as nodes nodes' rows rows' client new operation known is held tree = carried nodes nodes' rows rows' client new known held tree ∙ ap (state_after client new (state_in nodes rows)) (sym is)
 
 -- an operation that only tells is done at once
-pub told : (nodes : List (Option Node)) (rows : List (List (Option Descriptor))) (client : ℕ) (operation : Operation) (r : Reply) → only_tells operation ≡ true → r ≡ reply_of operation → IsDone (state_in nodes rows) client operation r (state_in nodes rows)
+pub told : (nodes : List (Option Node)) (rows : List (List (Option Descriptor))) (client : ℕ) (operation : Operation) (r : Reply) → is_query operation ≡ true → r ≡ reply_of operation → IsDone (state_in nodes rows) client operation r (state_in nodes rows)
 told nodes rows client (Tell answer) r tells is = (0, λ e. absurd (cc), is, quiet nodes nodes rows client 0 (Tell answer) refl refl)
 told nodes rows client (NewDir at) r tells is = absurd (cc)
 told nodes rows client (NewFile at number reads writes) r tells is = absurd (cc)
@@ -51,14 +53,14 @@ told nodes rows client (DropName at i) r tells is = absurd (cc)
 told nodes rows client (Move from to i is_dir replaced) r tells is = absurd (cc)
 
 -- what the reply of an operation says of it
-pub tells_none : (operation : Operation) → (if only_tells operation then None else Some (reply_of operation)) ≡ None → only_tells operation ≡ true
-tells_none operation e = elim (only_tells operation) as (λ b. ◌≡◌ {A = Option Reply} (if b then None else Some (reply_of operation)) None → b ≡ true) [ true ↦ λ h. refl | false ↦ λ h. absurd (cc) ] e
+pub tells_none : (operation : Operation) → (if is_query operation then None else Some (reply_of operation)) ≡ None → is_query operation ≡ true
+tells_none operation e = elim (is_query operation) as (λ b. ◌≡◌ {A = Option Reply} (if b then None else Some (reply_of operation)) None → b ≡ true) [ true ↦ λ h. refl | false ↦ λ h. absurd (cc) ] e
 
-pub tells_not : (operation : Operation) (r : Reply) → (if only_tells operation then None else Some (reply_of operation)) ≡ Some r → only_tells operation ≡ false
-tells_not operation r e = elim (only_tells operation) as (λ b. ◌≡◌ {A = Option Reply} (if b then None else Some (reply_of operation)) (Some r) → b ≡ false) [ true ↦ λ h. absurd (cc) | false ↦ λ h. refl ] e
+pub tells_not : (operation : Operation) (r : Reply) → (if is_query operation then None else Some (reply_of operation)) ≡ Some r → is_query operation ≡ false
+tells_not operation r e = elim (is_query operation) as (λ b. ◌≡◌ {A = Option Reply} (if b then None else Some (reply_of operation)) (Some r) → b ≡ false) [ true ↦ λ h. absurd (cc) | false ↦ λ h. refl ] e
 
-pub tells_some : (operation : Operation) (r : Reply) → (if only_tells operation then None else Some (reply_of operation)) ≡ Some r → r ≡ reply_of operation
-tells_some operation r e = elim (only_tells operation) as (λ b. ◌≡◌ {A = Option Reply} (if b then None else Some (reply_of operation)) (Some r) → r ≡ reply_of operation) [ true ↦ λ h. absurd (cc) | false ↦ λ h. let same : reply_of operation ≡ r = cc in sym same ] e
+pub tells_some : (operation : Operation) (r : Reply) → (if is_query operation then None else Some (reply_of operation)) ≡ Some r → r ≡ reply_of operation
+tells_some operation r e = elim (is_query operation) as (λ b. ◌≡◌ {A = Option Reply} (if b then None else Some (reply_of operation)) (Some r) → r ≡ reply_of operation) [ true ↦ λ h. absurd (cc) | false ↦ λ h. let same : reply_of operation ≡ r = cc in sym same ] e
 
 -- what an operation that closes nothing makes of the descriptors
 pub opened_held : (held : Descriptors) (client new : ℕ) (operation : Operation) → ((i number : ℕ) → operation ≡ CloseFile i number → ⊥) → with_opened held client (opens new operation) ≡ held_after client new held operation

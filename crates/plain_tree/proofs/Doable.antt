@@ -1,10 +1,11 @@
 -- What a call comes to in a sound state can be done.
 use Rattle.std.proofs.Common.{◌≡◌, ℕ, true, Some, None, Ok, refl, sym, ap, ◌∙◌}
 use Rattle.std.specs.Prelude.{option_map}
-use Rattle.file_graph.specs.posix_calls.Tree.{Own, State, IsBare}
+use Rattle.file_graph.specs.posix_calls.Tree.{Own, State}
+use Rattle.file_graph.specs.posix_calls.WellFormed.{IsBare}
 use Rattle.file_graph.specs.posix_calls.Query.{run, view_of, dir_test}
 use Rattle.file_graph.specs.posix_calls.Decide.{decide}
-use Rattle.file_graph.specs.posix_calls.Operations.{IsInRange}
+use Rattle.file_graph.specs.posix_calls.Exact.{IsInRange}
 use Rattle.plain_tree.specs.Plain.{IsConsistent, IsHeld, Replaces, IsPlaced, IsDoable}
 use Rattle.file_graph.specs.posix_calls.WellFormed.{IsDirectory}
 use Rattle.file_graph.specs.posix_calls.declared.operation.Location.{Location}

@@ -2,14 +2,14 @@
 use Rattle.std.proofs.Common.{◌≡◌, ◌≢◌, ℕ, Option, sym, ap, ◌∙◌}
 use Rattle.std.specs.FinMap as fin
 use Rattle.file_graph.specs.posix_calls.Tree.{Node, Tree, Dir, set_node, entries_of}
-use Rattle.file_graph.specs.posix_calls.Operations.{entered, IsFree}
+use Rattle.file_graph.specs.posix_calls.Operations.{with_entry, IsFree}
 use Rattle.plain_tree.specs.Plain.{IsHeld}
 use Rattle.file_graph.specs.posix_calls.declared.operation.Location.{Location}
 use Rattle.std.specs.Prelude.{Some}
 use Rattle.file_graph.proofs.posix_calls_lemmas.Changes.{set_other}
 use Rattle.plain_tree.proofs.Moves.{set_swap}
 
-pub named_after : (t : Tree) (at : Location) (i : ℕ) (x : Option Node) → at.parent ≢ i → set_node (entered t at i) i x ≡ entered (set_node t i x) at i
+pub named_after : (t : Tree) (at : Location) (i : ℕ) (x : Option Node) → at.parent ≢ i → set_node (with_entry t at i) i x ≡ with_entry (set_node t i x) at i
 named_after t at i x apart =
     set_swap t at.parent i (Some (Dir (fin.insert (entries_of (t at.parent)) at.name i))) x apart
     ∙ ap (λ (o : Option Node). set_node (set_node t i x) at.parent (Some (Dir (fin.insert (entries_of o) at.name i)))) (sym (set_other t i at.parent x apart))

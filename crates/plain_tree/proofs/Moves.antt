@@ -7,7 +7,7 @@ use Rattle.std.proofs.lemmas.Bool.{cases_eq}
 use Rattle.std.proofs.lemmas.Bool.Decides.{nat_tests}
 use Rattle.file_graph.specs.posix_calls.Content.{Entries}
 use Rattle.file_graph.specs.posix_calls.Tree.{Node, Tree, Dir, set_node, entries_of, names_in, names_of, sum_up_to, is_open, Descriptors}
-use Rattle.file_graph.specs.posix_calls.Operations.{entered, left, less_replaced}
+use Rattle.file_graph.specs.posix_calls.Operations.{with_entry, without_entry, less_replaced}
 use Rattle.plain_tree.specs.Plain.{less_put_out, at_location, IsMovable}
 use Rattle.file_graph.specs.posix_calls.declared.operation.Location.{Location}
 use Rattle.file_graph.specs.posix_calls.declared.operation.Replaced.{Replaced}
@@ -62,57 +62,57 @@ less_name o a = Some (Dir (fin.remove (entries_of o) a))
 abbrev AreApart : Location → Location → Type 0
 AreApart from to = from.parent ≡ to.parent → from.name ≢ to.name
 
-swapped : (t : Tree) (from to : Location) (i : ℕ) → AreApart from to → left (entered t to i) from ≡ entered (left t from) to i
+swapped : (t : Tree) (from to : Location) (i : ℕ) → AreApart from to → without_entry (with_entry t to i) from ≡ with_entry (without_entry t from) to i
 swapped t from to i apart =
     elim (cases_eq from.parent to.parent) [
       | inl same ↦
           let q = from.parent in
           let p = to.parent in
           let e : Entries ℕ = entries_of (t p) in
-          ap (λ n. set_node (entered t to i) n (less_name (entered t to i n) from.name)) same
-          ∙ ap (λ (o : Option Node). set_node (entered t to i) p (less_name o from.name)) (set_there t p (with_name (t p) to.name i))
+          ap (λ n. set_node (with_entry t to i) n (less_name (with_entry t to i n) from.name)) same
+          ∙ ap (λ (o : Option Node). set_node (with_entry t to i) p (less_name o from.name)) (set_there t p (with_name (t p) to.name i))
           ∙ set_twice t p _ _
           ∙ ap (λ (m : Entries ℕ). set_node t p (Some (Dir m))) (crossed e from.name to.name i (apart same))
           ∙ sym (set_twice t p (less_name (t p) from.name) (with_name (less_name (t p) from.name) to.name i))
           ∙ sym (ap (λ (o : Option Node). set_node (set_node t p (less_name (t p) from.name)) p (with_name o to.name i)) (set_there t p (less_name (t p) from.name)))
-          ∙ sym (ap (λ n. entered (set_node t n (less_name (t n) from.name)) to i) same)
+          ∙ sym (ap (λ n. with_entry (set_node t n (less_name (t n) from.name)) to i) same)
       | inr other ↦
           let q = from.parent in
           let p = to.parent in
-          ap (λ (o : Option Node). set_node (entered t to i) q (less_name o from.name)) (set_other t p q (with_name (t p) to.name i) other)
+          ap (λ (o : Option Node). set_node (with_entry t to i) q (less_name o from.name)) (set_other t p q (with_name (t p) to.name i) other)
           ∙ set_swap t p q (with_name (t p) to.name i) (less_name (t q) from.name) (λ e. other (sym e))
-          ∙ sym (ap (λ (o : Option Node). set_node (left t from) p (with_name o to.name i)) (set_other t q p (less_name (t q) from.name) (λ e. other (sym e))))
+          ∙ sym (ap (λ (o : Option Node). set_node (without_entry t from) p (with_name o to.name i)) (set_other t q p (less_name (t q) from.name) (λ e. other (sym e))))
     ]
 
 -- a name that was taken out first
-pub renewed : (t : Tree) (to : Location) (i : ℕ) → entered (left t to) to i ≡ entered t to i
+pub renewed : (t : Tree) (to : Location) (i : ℕ) → with_entry (without_entry t to) to i ≡ with_entry t to i
 renewed t to i =
     let p = to.parent in
-    ap (λ (o : Option Node). set_node (left t to) p (with_name o to.name i)) (set_there t p (less_name (t p) to.name))
+    ap (λ (o : Option Node). set_node (without_entry t to) p (with_name o to.name i)) (set_there t p (less_name (t p) to.name))
     ∙ set_twice t p _ _
     ∙ ap (λ (m : Entries ℕ). set_node t p (Some (Dir m))) (put_back (entries_of (t p)) to.name i)
 
 -- another node goes before or after
-left_apart : (t : Tree) (at : Location) (j : ℕ) → j ≢ at.parent → left (set_node t j None) at ≡ set_node (left t at) j None
+left_apart : (t : Tree) (at : Location) (j : ℕ) → j ≢ at.parent → without_entry (set_node t j None) at ≡ set_node (without_entry t at) j None
 left_apart t at j apart =
     ap (λ (o : Option Node). set_node (set_node t j None) at.parent (less_name o at.name)) (set_other t j at.parent None (λ e. apart (sym e)))
     ∙ set_swap t j at.parent None (less_name (t at.parent) at.name) apart
 
-entered_apart : (t : Tree) (at : Location) (i j : ℕ) → j ≢ at.parent → entered (set_node t j None) at i ≡ set_node (entered t at i) j None
+entered_apart : (t : Tree) (at : Location) (i j : ℕ) → j ≢ at.parent → with_entry (set_node t j None) at i ≡ set_node (with_entry t at i) j None
 entered_apart t at i j apart =
     ap (λ (o : Option Node). set_node (set_node t j None) at.parent (with_name o at.name i)) (set_other t j at.parent None (λ e. apart (sym e)))
     ∙ set_swap t j at.parent None (with_name (t at.parent) at.name i) apart
 
-kept : (t : Tree) (from to : Location) (i : ℕ) → AreApart from to → left (entered t to i) from ≡ entered (left (left t to) from) to i
-kept t from to i apart = ap (λ (u : Tree). left u from) (sym (renewed t to i)) ∙ swapped (left t to) from to i apart
+kept : (t : Tree) (from to : Location) (i : ℕ) → AreApart from to → without_entry (with_entry t to i) from ≡ with_entry (without_entry (without_entry t to) from) to i
+kept t from to i apart = ap (λ (u : Tree). without_entry u from) (sym (renewed t to i)) ∙ swapped (without_entry t to) from to i apart
 
 gone : (t : Tree) (from to : Location) (i j : ℕ) → AreApart from to → j ≢ from.parent → j ≢ to.parent
-    → left (set_node (entered t to i) j None) from ≡ entered (left (set_node (left t to) j None) from) to i
+    → without_entry (set_node (with_entry t to i) j None) from ≡ with_entry (without_entry (set_node (without_entry t to) j None) from) to i
 gone t from to i j apart off_from off_to =
-    left_apart (entered t to i) from j off_from
+    left_apart (with_entry t to i) from j off_from
     ∙ ap (λ (u : Tree). set_node u j None) (kept t from to i apart)
-    ∙ sym (entered_apart (left (left t to) from) to i j off_to)
-    ∙ sym (ap (λ (u : Tree). entered u to i) (left_apart (left t to) from j off_from))
+    ∙ sym (entered_apart (without_entry (without_entry t to) from) to i j off_to)
+    ∙ sym (ap (λ (u : Tree). with_entry u to i) (left_apart (without_entry t to) from j off_from))
 
 -- ---- names that are counted
 
@@ -126,7 +126,7 @@ put_in_one o b i j apart =
     let count : counted j (fin.insert e b i) ≡ counted j (fin.remove e b) = omega (arith, more, none, same) in
     counted_is j (fin.insert e b i) ∙ count ∙ sym (counted_is j (fin.remove e b))
 
-put_in_at : (t : Tree) (to : Location) (i j d : ℕ) → i ≢ j → names_in j (entered t to i d) ≡ names_in j (left t to d)
+put_in_at : (t : Tree) (to : Location) (i j d : ℕ) → i ≢ j → names_in j (with_entry t to i d) ≡ names_in j (without_entry t to d)
 put_in_at t to i j d apart = either (d == to.parent) (with_name (t to.parent) to.name i) (less_name (t to.parent) to.name) (put_in_one (t to.parent) to.name i j apart)
   where
     either : (b : Bool) (x y : Option Node) → names_in j x ≡ names_in j y → names_in j (if b then x else t d) ≡ names_in j (if b then y else t d)
@@ -134,7 +134,7 @@ put_in_at t to i j d apart = either (d == to.parent) (with_name (t to.parent) to
     either false x y same = refl
 
 -- so it does in the whole tree
-same_names : (t : Tree) (to : Location) (i j : ℕ) → i ≢ j → names_of (entered t to i) j ≡ names_of (left t to) j
+same_names : (t : Tree) (to : Location) (i j : ℕ) → i ≢ j → names_of (with_entry t to i) j ≡ names_of (without_entry t to) j
 unfolding names_of
 same_names t to i j apart = ap (sum_up_to MAX_INODE) (λ k d. put_in_at t to i j d apart k)
 
@@ -154,13 +154,13 @@ both true x y u v f g p q = p
 both false x y u v f g p q = q
 
 pub moved : (held : Descriptors) (t : Tree) (from to : Location) (i : ℕ) (replaced : Replaced) → IsMovable t from to i replaced
-    → left (less_put_out held (entered t to i) replaced) from ≡ entered (left (less_replaced held t to replaced) from) to i
+    → without_entry (less_put_out held (with_entry t to i) replaced) from ≡ with_entry (without_entry (less_replaced held t to replaced) from) to i
 moved held t from to i Nothing h = swapped t from to i (locations_apart t from to i None h.0 h.1 (λ e. absurd cc))
 moved held t from to i (OldDir j) h =
     gone t from to i j (locations_apart t from to i (Some j) h.0 h.1.1 (λ e. h.1.0 (cc))) (off_parent t from j i h.0 h.1.2) (off_parent t to j j h.1.1 h.1.2)
 moved held t from to i (OldFile j) h =
     let apart : AreApart from to = locations_apart t from to i (Some j) h.0 h.1.1 (λ e. h.1.0 (cc)) in
     let test : (n : ℕ) → Bool = λ n. (n == 0) && not (is_open held j) in
-    ap (λ (n : ℕ). left (cond (test n) (set_node (entered t to i) j None) (entered t to i)) from) (same_names t to i j h.1.0)
-    ∙ both (test (names_of (left t to) j)) (λ u. set_node u j None) (λ u. u) (entered t to i) (left t to) (λ u. left u from) (λ u. entered (left u from) to i)
+    ap (λ (n : ℕ). without_entry (cond (test n) (set_node (with_entry t to i) j None) (with_entry t to i)) from) (same_names t to i j h.1.0)
+    ∙ both (test (names_of (without_entry t to) j)) (λ u. set_node u j None) (λ u. u) (with_entry t to i) (without_entry t to) (λ u. without_entry u from) (λ u. with_entry (without_entry u from) to i)
     (gone t from to i j apart (off_parent t from j i h.0 h.1.2) (off_parent t to j j h.1.1 h.1.2)) (kept t from to i apart)

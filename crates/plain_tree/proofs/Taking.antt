@@ -11,10 +11,12 @@ use Rattle.file_graph.specs.posix_calls.declared.call.Call.TheVariants as call
 use Rattle.file_graph.specs.posix_calls.declared.descriptor.Descriptor.{Descriptor}
 use Rattle.file_graph.specs.posix_calls.declared.operation.Operation.{Operation}
 use Rattle.file_graph.specs.posix_calls.Tree.{State, Own}
-use Rattle.file_graph.specs.posix_calls.Path.{components, fault, first_fault, unless, reading_behind, reading_short, reading, first_is_faultless, name_behind, name_first, comes_to_name}
-use Rattle.file_graph.specs.posix_calls.Query.{Seen, File, Dir, Gives, Refuses, View, run, view_of, whole_part, dir_test}
-use Rattle.file_graph.specs.posix_calls.Walk.{Place, said, prefix, is_root, is_there, is_true, kind_at, walk}
-use Rattle.file_graph.specs.posix_calls.Decide.{opened, described, write_at, open_path, close, pread, pwrite, truncate, mkdir, rmdir, link, unlink, rename, list_path, stat, decide}
+use Rattle.file_graph.specs.posix_calls.Path.{components, fault, first_fault, unless, reading_behind, reading_short, path_names}
+use Rattle.file_graph.specs.posix_calls.FirstName.{first_is_faultless, name_behind, name_first, comes_to_name}
+use Rattle.file_graph.specs.posix_calls.Query.{Seen, File, Dir, Gives, Refuses, View, run, view_of, dir_test}
+use Rattle.file_graph.specs.posix_calls.Part.{whole_part}
+use Rattle.file_graph.specs.posix_calls.Walk.{Place, read_or_error, prefix, is_root, is_there, is_true, kind_at, walk}
+use Rattle.file_graph.specs.posix_calls.Decide.{open_inode, node_description, write_at, open_path, close, pread, pwrite, truncate, mkdir, rmdir, link, unlink, rename, list_path, stat, decide}
 use Rattle.file_graph.specs.posix_calls.Memory.{writes_bytes, takes_memory}
 use Rattle.file_graph.specs.posix_calls.WellFormed.{IsWellFormed}
 use Rattle.file_graph.proofs.posix_calls_lemmas.Comes.{bind_ok, no_bit, not_refused, given}
@@ -45,13 +47,13 @@ module _ (names : List (List ℕ)) (named : is_root names ≡ false) where
     by_slash false e = absurd (cc)
 
   -- a path that was read, and is not that of the root, begins with a name
-  pub name_read : (bytes : List ℕ) → reading bytes ≡ Ok names → comes_to_name bytes ≡ true
+  pub name_read : (bytes : List ℕ) → path_names bytes ≡ Ok names → comes_to_name bytes ≡ true
   name_read bytes e = by_length (nat_lt 1024 (length bytes)) e where
     by_length : (c : Bool) → (if c then Err errno.NameTooLong else reading_short bytes) ≡ Ok names → (not c && name_first bytes) ≡ true
     by_length true e = absurd (cc)
     by_length false e = short_read bytes e
 
-said_is : {A : Type 0} (v : View) (r : Result A Errno) (x : A) → run v (said r) ≡ Ok x → r ≡ Ok x
+said_is : {A : Type 0} (v : View) (r : Result A Errno) (x : A) → run v (read_or_error r) ≡ Ok x → r ≡ Ok x
 unfolding run
 said_is v (Ok y) x e = cc
 said_is v (Err y) x e = absurd (cc)
@@ -65,7 +67,7 @@ record IsOpen (test : Descriptor → Bool) (o : Option Descriptor) : Type 0 wher
   is : o ≡ Some it
   passes : test it ≡ true
 
-open_is : (v : View) (test : Descriptor → Bool) (o : Option Descriptor) (i : ℕ) → run v (opened test o) ≡ Ok i → IsOpen test o
+open_is : (v : View) (test : Descriptor → Bool) (o : Option Descriptor) (i : ℕ) → run v (open_inode test o) ≡ Ok i → IsOpen test o
 unfolding run
 open_is v test None i e = absurd (cc)
 open_is v test (Some d) i e = by_test (test d) refl e where
@@ -107,7 +109,7 @@ module _ (s : State) (fine : IsWellFormed s) where
       let exists = bind_ok v _ _ _ place.2 in
       let is_dir = bind_ok v _ _ _ exists.2 in
       let refused = bind_ok v _ _ _ is_dir.2 in
-      name_read names.0 (not_root names.0 place.0 is_dir.0 place.1 is_dir.1 (not_refused v errno.IsDirectory _ _ refused.1)) path (said_is v (reading path) names.0 names.1)
+      name_read names.0 (not_root names.0 place.0 is_dir.0 place.1 is_dir.1 (not_refused v errno.IsDirectory _ _ refused.1)) path (said_is v (path_names path) names.0 names.1)
 
   truncate_takes : (path : List ℕ) (len : ℕ) (operation : Operation) → run v (truncate path len) ≡ Ok operation → comes_to_name path ≡ true
   unfolding truncate
@@ -117,7 +119,7 @@ module _ (s : State) (fine : IsWellFormed s) where
       let i = bind_ok v _ _ _ place.2 in
       let is_dir = bind_ok v _ _ _ i.2 in
       let refused = bind_ok v _ _ _ is_dir.2 in
-      name_read names.0 (not_root names.0 place.0 is_dir.0 place.1 is_dir.1 (not_refused v errno.IsDirectory _ _ refused.1)) path (said_is v (reading path) names.0 names.1)
+      name_read names.0 (not_root names.0 place.0 is_dir.0 place.1 is_dir.1 (not_refused v errno.IsDirectory _ _ refused.1)) path (said_is v (path_names path) names.0 names.1)
 
   mkdir_takes : (path : List ℕ) (operation : Operation) → run v (mkdir path) ≡ Ok operation → comes_to_name path ≡ true
   unfolding mkdir
@@ -125,21 +127,21 @@ module _ (s : State) (fine : IsWellFormed s) where
       let names = bind_ok v _ _ _ e in
       let place = bind_ok v _ _ _ names.2 in
       let new = bind_ok v _ _ _ place.2 in
-      name_read names.0 (unmade_root names.0 place.0 place.1 (not_refused v errno.Exists _ _ new.1)) path (said_is v (reading path) names.0 names.1)
+      name_read names.0 (unmade_root names.0 place.0 place.1 (not_refused v errno.Exists _ _ new.1)) path (said_is v (path_names path) names.0 names.1)
 
   rmdir_takes : (path : List ℕ) (operation : Operation) → run v (rmdir path) ≡ Ok operation → comes_to_name path ≡ true
   unfolding rmdir
   rmdir_takes path operation e =
       let names = bind_ok v _ _ _ e in
       let busy = bind_ok v _ _ _ names.2 in
-      name_read names.0 (not_refused v errno.Busy _ _ busy.1) path (said_is v (reading path) names.0 names.1)
+      name_read names.0 (not_refused v errno.Busy _ _ busy.1) path (said_is v (path_names path) names.0 names.1)
 
   unlink_takes : (path : List ℕ) (operation : Operation) → run v (unlink path) ≡ Ok operation → comes_to_name path ≡ true
   unfolding unlink
   unlink_takes path operation e =
       let names = bind_ok v _ _ _ e in
       let busy = bind_ok v _ _ _ names.2 in
-      name_read names.0 (not_refused v errno.Busy _ _ busy.1) path (said_is v (reading path) names.0 names.1)
+      name_read names.0 (not_refused v errno.Busy _ _ busy.1) path (said_is v (path_names path) names.0 names.1)
 
   link_takes : (old new : List ℕ) (operation : Operation) → run v (link old new) ≡ Ok operation → comes_to_name old ≡ true
   unfolding link
@@ -150,7 +152,7 @@ module _ (s : State) (fine : IsWellFormed s) where
       let i = bind_ok v _ _ _ from.2 in
       let is_dir = bind_ok v _ _ _ i.2 in
       let refused = bind_ok v _ _ _ is_dir.2 in
-      name_read old_names.0 (not_root old_names.0 from.0 is_dir.0 from.1 is_dir.1 (not_refused v errno.NotPermitted _ _ refused.1)) old (said_is v (reading old) old_names.0 old_names.1)
+      name_read old_names.0 (not_root old_names.0 from.0 is_dir.0 from.1 is_dir.1 (not_refused v errno.NotPermitted _ _ refused.1)) old (said_is v (path_names old) old_names.0 old_names.1)
 
   rename_takes : (old new : List ℕ) (operation : Operation) → run v (rename old new) ≡ Ok operation → comes_to_name old ≡ true
   unfolding rename
@@ -159,7 +161,7 @@ module _ (s : State) (fine : IsWellFormed s) where
       let new_names = bind_ok v _ _ _ old_names.2 in
       let busy = bind_ok v _ _ _ new_names.2 in
       let roots = no_bit (is_root old_names.0) (is_root new_names.0) (not_refused v errno.Busy _ _ busy.1) in
-      name_read old_names.0 roots.0 old (said_is v (reading old) old_names.0 old_names.1)
+      name_read old_names.0 roots.0 old (said_is v (path_names old) old_names.0 old_names.1)
 
   -- ---- by a descriptor
 
@@ -205,7 +207,7 @@ module _ (s : State) (fine : IsWellFormed s) where
       let entries = bind_ok v _ _ _ refused.2 in
       tells_none operation _ (given v entries.2) refl takes
 
-  described_none : (o : Option Seen) (operation : Operation) → run v (described o) ≡ Ok operation → takes_room operation ≡ true → ⊥
+  described_none : (o : Option Seen) (operation : Operation) → run v (node_description o) ≡ Ok operation → takes_room operation ≡ true → ⊥
   unfolding run
   described_none None operation e takes = absurd (cc)
   described_none (Some (File names bytes)) operation e takes = tells_none operation _ (given v e) refl takes

@@ -5,8 +5,9 @@ use Rattle.std.specs.declared.alloc.AllocError.{AllocError}
 use Rattle.std.proofs.lemmas.Bool.{cases_lt}
 use Rattle.std.proofs.lemmas.List.{get_or_past}
 use Rattle.std.specs.FinMap as fin
-use Rattle.file_graph.specs.posix_calls.Tree.{Node, Tree, Dir, set_node, entries_of, names_in, names_of, IsBare}
-use Rattle.file_graph.specs.posix_calls.Operations.{entered, left}
+use Rattle.file_graph.specs.posix_calls.Tree.{Node, Tree, Dir, set_node, entries_of, names_in, names_of}
+use Rattle.file_graph.specs.posix_calls.WellFormed.{IsBare}
+use Rattle.file_graph.specs.posix_calls.Operations.{with_entry, without_entry}
 use Rattle.plain_tree.specs.Plain.{stored_tree, count_at, one_for, at_location, IsBareReplaced, HasPlace, AreNameCounts, Replaces}
 use Rattle.file_graph.specs.posix_calls.declared.operation.Replaced.{Replaced}
 use Rattle.file_graph.specs.posix_calls.declared.operation.Replaced.TheVariants.{Nothing, OldFile, OldDir}
@@ -23,18 +24,18 @@ use Rattle.std.proofs.lemmas.Bool.Decides.{eqb_tells}
 
 -- ---- how many there are
 
-less_none : (t : Tree) (at : Location) → HasPlace at.parent → at_location t at ≡ None → (k : ℕ) → names_of (left t at) k + 0 ≡ names_of t k
+less_none : (t : Tree) (at : Location) → HasPlace at.parent → at_location t at ≡ None → (k : ℕ) → names_of (without_entry t at) k + 0 ≡ names_of t k
 less_none t at place none k =
-    let change : names_of (left t at) k + names_in k (t at.parent) ≡ names_of t k + counted k (fin.remove (entries_of (t at.parent)) at.name)
+    let change : names_of (without_entry t at) k + names_in k (t at.parent) ≡ names_of t k + counted k (fin.remove (entries_of (t at.parent)) at.name)
     = names_of-set_node t at.parent k (Some (Dir (fin.remove (entries_of (t at.parent)) at.name))) place.0 place.1 ∙ ap (λ n. names_of t k + n) (counted_is k (fin.remove (entries_of (t at.parent)) at.name)) in
     let before = in_node k (t at.parent) in
     let same : counted k (fin.remove (entries_of (t at.parent)) at.name) ≡ counted k (entries_of (t at.parent)) = ap (counted k) (absent (entries_of (t at.parent)) at.name none) in
     omega (arith, change, before, same)
 
 -- the inode under a name that goes has one fewer
-pub names_left : (t : Tree) (at : Location) → HasPlace at.parent → (k : ℕ) → names_of (left t at) k + one_for (at_location t at) k ≡ names_of t k
+pub names_left : (t : Tree) (at : Location) → HasPlace at.parent → (k : ℕ) → names_of (without_entry t at) k + one_for (at_location t at) k ≡ names_of t k
 names_left t at place k =
-    elim (at_location t at) as (λ (o : Option ℕ). at_location t at ≡ o → names_of (left t at) k + one_for o k ≡ names_of t k) [
+    elim (at_location t at) as (λ (o : Option ℕ). at_location t at ≡ o → names_of (without_entry t at) k + one_for o k ≡ names_of t k) [
       | None ↦ λ none. less_none t at place none k
       | Some i ↦ λ is. left_names t at i is place.0 place.1 k
     ] refl
@@ -43,28 +44,28 @@ pub named_most : (t : Tree) (at : Location) → HasPlace at.parent → (k : ℕ)
 named_most t at place k = let e = names_left t at place k in omega (arith, e)
 
 -- a name that comes is one more, once what is there went
-pub names_entered : (t : Tree) (at : Location) (i : ℕ) → HasPlace at.parent → (k : ℕ) → names_of (entered t at i) k ≡ names_of (left t at) k + one_for (Some i) k
-names_entered t at i place k = ap (λ (u : Tree). names_of u k) (sym (renewed t at i)) ∙ entered_names (left t at) at i (left_here t at) place.0 place.1 k
+pub names_entered : (t : Tree) (at : Location) (i : ℕ) → HasPlace at.parent → (k : ℕ) → names_of (with_entry t at i) k ≡ names_of (without_entry t at) k + one_for (Some i) k
+names_entered t at i place k = ap (λ (u : Tree). names_of u k) (sym (renewed t at i)) ∙ entered_names (without_entry t at) at i (left_here t at) place.0 place.1 k
 
 -- ---- what has no entries still has none
 
-pub bare_entered : (t : Tree) (at : Location) (i j : ℕ) → j ≢ at.parent → IsBare (t j) → IsBare (entered t at i j)
+pub bare_entered : (t : Tree) (at : Location) (i j : ℕ) → j ≢ at.parent → IsBare (t j) → IsBare (with_entry t at i j)
 bare_entered t at i j apart bare = ap entries_of (set_other t at.parent j (Some (Dir (fin.insert (entries_of (t at.parent)) at.name i))) apart) ∙ bare
 
-pub bare_left : (t : Tree) (at : Location) (j : ℕ) → IsBare (t j) → IsBare (left t at j)
+pub bare_left : (t : Tree) (at : Location) (j : ℕ) → IsBare (t j) → IsBare (without_entry t at j)
 bare_left t at j bare =
     elim (eqb_tells j at.parent) [
       | inl same ↦
           let m = entries_of (t at.parent) in
           let was : m ≡ fin.empty = ap (λ (k : ℕ). entries_of (t k)) (sym same.1) ∙ bare in
-          ap (λ (k : ℕ). entries_of (left t at k)) same.1
+          ap (λ (k : ℕ). entries_of (without_entry t at k)) same.1
           ∙ ap entries_of (set_there t at.parent (Some (Dir (fin.remove m at.name))))
           ∙ absent m at.name (ap (λ (e : Entries ℕ). fin.get e at.name) was ∙ get_nothing at.name)
           ∙ was
       | inr off ↦ ap entries_of (set_other t at.parent j (Some (Dir (fin.remove (entries_of (t at.parent)) at.name))) off.1) ∙ bare
     ]
 
-pub bare_put_out : (t : Tree) (to : Location) (i : ℕ) (replaced : Replaced) → Replaces t to i replaced → IsBareReplaced (entered t to i) replaced
+pub bare_put_out : (t : Tree) (to : Location) (i : ℕ) (replaced : Replaced) → Replaces t to i replaced → IsBareReplaced (with_entry t to i) replaced
 bare_put_out t to i Nothing h = tt
 bare_put_out t to i (OldFile j) h = bare_entered t to i j (off_parent t to j j h.1 h.2) h.2
 bare_put_out t to i (OldDir j) h = bare_entered t to i j (off_parent t to j j h.1 h.2) h.2
@@ -112,9 +113,9 @@ module _ (counts made : List ℕ) (old : Nodes) (at : Location) (o : Option ℕ)
         let before = was i in
         omega (arith, few, now, less, before)
 
-    pub counted_left : (new : Nodes) → stored_tree new ≡ left (stored_tree old) at → AreNameCounts between new
+    pub counted_left : (new : Nodes) → stored_tree new ≡ without_entry (stored_tree old) at → AreNameCounts between new
     counted_left new tree k =
-        let all : names_of (stored_tree new) k ≡ names_of (left (stored_tree old) at) k = ap (λ (t : Tree). names_of t k) tree in
+        let all : names_of (stored_tree new) k ≡ names_of (without_entry (stored_tree old) at) k = ap (λ (t : Tree). names_of t k) tree in
         let less = names_left (stored_tree old) at place k in
         let one : one_for o k ≡ one_for (at_location (stored_tree old) at) k = ap (λ (p : Option ℕ). one_for p k) is in
         let now : count_at made k ≡ count_at counts k = ap (λ (f : ℕ → ℕ). f k) same in
@@ -122,9 +123,9 @@ module _ (counts made : List ℕ) (old : Nodes) (at : Location) (o : Option ℕ)
         let stored = fewer k in
         omega (arith, all, less, one, now, before, stored)
 
-    pub counted_entered : (after : List ℕ) (new : Nodes) (i : ℕ) → ((k : ℕ) → count_at after k ≡ count_at between k + one_for (Some i) k) → stored_tree new ≡ entered (stored_tree old) at i → AreNameCounts after new
+    pub counted_entered : (after : List ℕ) (new : Nodes) (i : ℕ) → ((k : ℕ) → count_at after k ≡ count_at between k + one_for (Some i) k) → stored_tree new ≡ with_entry (stored_tree old) at i → AreNameCounts after new
     counted_entered after new i more tree k =
-        let all : names_of (stored_tree new) k ≡ names_of (entered (stored_tree old) at i) k = ap (λ (t : Tree). names_of t k) tree in
+        let all : names_of (stored_tree new) k ≡ names_of (with_entry (stored_tree old) at i) k = ap (λ (t : Tree). names_of t k) tree in
         let come = names_entered (stored_tree old) at i place k in
         let less = names_left (stored_tree old) at place k in
         let one : one_for o k ≡ one_for (at_location (stored_tree old) at) k = ap (λ (p : Option ℕ). one_for p k) is in

@@ -1,9 +1,12 @@
 -- The state that a plain tree stores.
 use Rattle.std.specs.Prelude.{◌≡◌, ◌≢◌, ◌⊎◌, Bool, true, false, ℕ, zero, suc, ◌<◌, ◌≤◌, ◌==◌, List, [], get_or, Option, Some, None, if◌then◌else◌}
 use Rattle.std.specs.FinMap as fin
-use Rattle.file_graph.specs.posix_calls.Tree.{Node, Tree, set_node, entries_of, IsBare, names_of, Descriptors, State, set_descriptor}
+use Rattle.file_graph.specs.posix_calls.Tree.{Node, Tree, set_node, entries_of, names_of, Descriptors, State}
+use Rattle.file_graph.specs.posix_calls.Own.{set_descriptor}
+use Rattle.file_graph.specs.posix_calls.WellFormed.{IsBare}
 use Rattle.file_graph.specs.posix_calls.Own.{own_of}
-use Rattle.file_graph.specs.posix_calls.Operations.{less_unused, makes, reply_of, state_after, IsInRange}
+use Rattle.file_graph.specs.posix_calls.Operations.{less_unused, makes, reply_of, state_after}
+use Rattle.file_graph.specs.posix_calls.Exact.{IsInRange}
 use Rattle.file_graph.specs.posix_calls.Exact.{IsLowest, IsTaken}
 use Rattle.file_graph.specs.posix_calls.declared.operation.Location.{Location}
 use Rattle.file_graph.specs.posix_calls.declared.operation.Replaced.{Replaced}

@@ -1,6 +1,6 @@
 ghost use Rattle.std.specs.Prelude.{◌≡◌, ℕ, Option, None, Some, length, take, drop, map, option_map, [], ◌<◌, IfOk, IfErr, OnOk, OnErr};
 ghost use Rattle.std.specs.FinMap as fin;
-ghost use Rattle.file_graph.specs.posix_calls.Content.{resized, written};
+ghost use Rattle.file_graph.specs.posix_calls.Content.{with_length, with_bytes};
 ghost use Rattle.file_graph.specs.posix_calls.Tree.{File, Dir, bytes_of, entries_of};
 ghost use Rattle.file_graph.specs.posix_calls.Query.{dir_test};
 ghost use Rattle.plain_tree.specs.Bodies.{node_of};
@@ -148,7 +148,7 @@ impl PlainNode {
 
     /// Puts bytes into a file at an offset; what is none becomes one. Where there is no memory for it, the node stays.
     pub fn write(&mut self, alloc: Global, at: u64, bytes: &[u8]) -> Result<(), AllocError>
-        ensures ok { OnOk result (self.new ≡ Some (File (written at bytes.now (bytes_of self.old)))) }
+        ensures ok { OnOk result (self.new ≡ Some (File (with_bytes at bytes.now (bytes_of self.old)))) }
         ensures err { OnErr result (self.new ≡ self.old) }
     {
         write(alloc, &mut self.body, at, bytes)
@@ -156,7 +156,7 @@ impl PlainNode {
 
     /// Cuts or grows a file to a length; what is none becomes one. Where there is no memory for it, the node stays.
     pub fn resize(&mut self, alloc: Global, len: u64) -> Result<(), AllocError>
-        ensures ok { OnOk result (self.new ≡ Some (File (resized len (bytes_of self.old)))) }
+        ensures ok { OnOk result (self.new ≡ Some (File (with_length len (bytes_of self.old)))) }
         ensures err { OnErr result (self.new ≡ self.old) }
     {
         resize(alloc, &mut self.body, len)
@@ -192,7 +192,7 @@ fn leave(alloc: Global, body: &mut PlainBody, name: &[u8])
 }
 
 fn write(alloc: Global, body: &mut PlainBody, at: u64, bytes: &[u8]) -> Result<(), AllocError>
-    ensures ok { OnOk result (node_of body.new ≡ Some (File (written at bytes.now (bytes_of (node_of body.old))))) }
+    ensures ok { OnOk result (node_of body.new ≡ Some (File (with_bytes at bytes.now (bytes_of (node_of body.old))))) }
     ensures err { OnErr result (node_of body.new ≡ node_of body.old) }
 {
     match body {
@@ -207,7 +207,7 @@ fn write(alloc: Global, body: &mut PlainBody, at: u64, bytes: &[u8]) -> Result<(
 }
 
 fn resize(alloc: Global, body: &mut PlainBody, len: u64) -> Result<(), AllocError>
-    ensures ok { OnOk result (node_of body.new ≡ Some (File (resized len (bytes_of (node_of body.old))))) }
+    ensures ok { OnOk result (node_of body.new ≡ Some (File (with_length len (bytes_of (node_of body.old))))) }
     ensures err { OnErr result (node_of body.new ≡ node_of body.old) }
 {
     match body {

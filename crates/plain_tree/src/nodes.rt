@@ -1,7 +1,8 @@
 ghost use Rattle.std.specs.Prelude.{◌≡◌, ◌≤◌, ◌<◌, ℕ, [], Option, None, Some, length, OnOk, OnErr, get_or, MatchOption, IsTrue, ◌↔◌};
-ghost use Rattle.file_graph.specs.posix_calls.Content.{resized, written};
-ghost use Rattle.file_graph.specs.posix_calls.Tree.{File, bytes_of, set_node, has_open, names_of, is_open, IsBare};
-ghost use Rattle.file_graph.specs.posix_calls.Operations.{entered, left, less_unused};
+ghost use Rattle.file_graph.specs.posix_calls.Content.{with_length, with_bytes};
+ghost use Rattle.file_graph.specs.posix_calls.Tree.{File, bytes_of, set_node, has_open, names_of, is_open};
+ghost use Rattle.file_graph.specs.posix_calls.WellFormed.{IsBare};
+ghost use Rattle.file_graph.specs.posix_calls.Operations.{with_entry, without_entry, less_unused};
 ghost use Rattle.file_graph.specs.posix_calls.Own.{own_of};
 ghost use Rattle.file_graph.specs.posix_calls.Exact.{IsLowest, IsTaken};
 ghost use Rattle.plain_tree.specs.Plain.{stored_tree, held_of, at_location, HasPlace};
@@ -95,7 +96,7 @@ impl PlainNodes {
     pub fn enter(&mut self, alloc: Global, at: Location, inode: u32) -> Result<(), AllocError>
         requires place { HasPlace at.parent }
         requires few { names_of (stored_tree self.old) inode ≤ MAX_NAMES }
-        ensures ok { OnOk result (stored_tree self.new ≡ entered (stored_tree self.old) at inode) }
+        ensures ok { OnOk result (stored_tree self.new ≡ with_entry (stored_tree self.old) at inode) }
         ensures err { OnErr result (stored_tree self.new ≡ stored_tree self.old) }
         ensures longer { length self.old ≤ length self.new }
     {
@@ -111,7 +112,7 @@ impl PlainNodes {
     pub fn leave(&mut self, alloc: Global, at: &Location)
         requires room { at.now.parent < length self.old }
         requires place { HasPlace at.now.parent }
-        ensures tree { stored_tree self.new ≡ left (stored_tree self.old) at.now }
+        ensures tree { stored_tree self.new ≡ without_entry (stored_tree self.old) at.now }
         ensures kept { length self.new ≡ length self.old }
     {
         let before = entry_in(&self.nodes, at);
@@ -128,7 +129,7 @@ impl PlainNodes {
         bytes: &[u8],
     ) -> Result<(), AllocError>
         requires { IsBare (stored_tree self.old inode) }
-        ensures ok { OnOk result (stored_tree self.new ≡ set_node (stored_tree self.old) inode (Some (File (written at bytes.now (bytes_of (stored_tree self.old inode)))))) }
+        ensures ok { OnOk result (stored_tree self.new ≡ set_node (stored_tree self.old) inode (Some (File (with_bytes at bytes.now (bytes_of (stored_tree self.old inode)))))) }
         ensures err { OnErr result (stored_tree self.new ≡ stored_tree self.old) }
     {
         write(alloc, &mut self.nodes, inode, at, bytes)
@@ -137,7 +138,7 @@ impl PlainNodes {
     /// Cuts or grows a file. Where there is no memory for it, the tree stays as it was.
     pub fn resize(&mut self, alloc: Global, inode: u32, len: u64) -> Result<(), AllocError>
         requires { IsBare (stored_tree self.old inode) }
-        ensures ok { OnOk result (stored_tree self.new ≡ set_node (stored_tree self.old) inode (Some (File (resized len (bytes_of (stored_tree self.old inode)))))) }
+        ensures ok { OnOk result (stored_tree self.new ≡ set_node (stored_tree self.old) inode (Some (File (with_length len (bytes_of (stored_tree self.old inode)))))) }
         ensures err { OnErr result (stored_tree self.new ≡ stored_tree self.old) }
     {
         resize(alloc, &mut self.nodes, inode, len)
@@ -189,7 +190,7 @@ fn enter(
     at: Location,
     inode: u32,
 ) -> Result<(), AllocError>
-    ensures ok { OnOk result (stored_tree nodes.new.items ≡ entered (stored_tree nodes.old.items) at inode) }
+    ensures ok { OnOk result (stored_tree nodes.new.items ≡ with_entry (stored_tree nodes.old.items) at inode) }
     ensures err { OnErr result (stored_tree nodes.new.items ≡ stored_tree nodes.old.items) }
     ensures longer { length nodes.old.items ≤ length nodes.new.items }
 {
@@ -199,7 +200,7 @@ fn enter(
 
 fn leave(alloc: Global, nodes: &mut Vec<PlainNode>, at: &Location)
     requires { at.now.parent < length nodes.old.items }
-    ensures tree { stored_tree nodes.new.items ≡ left (stored_tree nodes.old.items) at.now }
+    ensures tree { stored_tree nodes.new.items ≡ without_entry (stored_tree nodes.old.items) at.now }
     ensures kept { length nodes.new.items ≡ length nodes.old.items }
 {
     nodes[at.parent as usize].leave(alloc, at.name.as_slice());
@@ -212,7 +213,7 @@ fn write(
     at: u64,
     bytes: &[u8],
 ) -> Result<(), AllocError>
-    ensures ok { OnOk result (stored_tree nodes.new.items ≡ set_node (stored_tree nodes.old.items) inode (Some (File (written at bytes.now (bytes_of (stored_tree nodes.old.items inode)))))) }
+    ensures ok { OnOk result (stored_tree nodes.new.items ≡ set_node (stored_tree nodes.old.items) inode (Some (File (with_bytes at bytes.now (bytes_of (stored_tree nodes.old.items inode)))))) }
     ensures err { OnErr result (stored_tree nodes.new.items ≡ stored_tree nodes.old.items) }
 {
     make_room(nodes, inode)?;
@@ -220,7 +221,7 @@ fn write(
 }
 
 fn resize(alloc: Global, nodes: &mut Vec<PlainNode>, inode: u32, len: u64) -> Result<(), AllocError>
-    ensures ok { OnOk result (stored_tree nodes.new.items ≡ set_node (stored_tree nodes.old.items) inode (Some (File (resized len (bytes_of (stored_tree nodes.old.items inode)))))) }
+    ensures ok { OnOk result (stored_tree nodes.new.items ≡ set_node (stored_tree nodes.old.items) inode (Some (File (with_length len (bytes_of (stored_tree nodes.old.items inode)))))) }
     ensures err { OnErr result (stored_tree nodes.new.items ≡ stored_tree nodes.old.items) }
 {
     make_room(nodes, inode)?;

@@ -1,6 +1,8 @@
 ghost use Rattle.std.specs.Prelude.{◌≡◌, ◌≢◌, ◌≤◌, ◌<◌, ℕ, [], None, Some, length, OnOk, OnErr, if◌then◌else◌};
-ghost use Rattle.file_graph.specs.posix_calls.Tree.{File, set_node, set_descriptor, names_of, IsBare};
-ghost use Rattle.file_graph.specs.posix_calls.Operations.{entered, left, less_unused, less_replaced};
+ghost use Rattle.file_graph.specs.posix_calls.Tree.{File, set_node, names_of};
+ghost use Rattle.file_graph.specs.posix_calls.Own.{set_descriptor};
+ghost use Rattle.file_graph.specs.posix_calls.WellFormed.{IsBare};
+ghost use Rattle.file_graph.specs.posix_calls.Operations.{with_entry, without_entry, less_unused, less_replaced};
 ghost use Rattle.plain_tree.specs.Plain.{stored_tree, held_of, less_put_out, HasPlace, IsBareReplaced, IsMovable, HasNumber, with_opened};
 ghost use Rattle.file_graph.specs.posix_calls.declared.limits.TheConstants.{MAX_NAMES};
 
@@ -23,7 +25,7 @@ pub fn make(
     requires free { IsBare (stored_tree nodes.old inode) }
     requires bare { IsBare node }
     requires few { names_of (stored_tree nodes.old) inode ≤ MAX_NAMES }
-    ensures ok { OnOk result (stored_tree nodes.new ≡ entered (set_node (stored_tree nodes.old) inode node) at inode) }
+    ensures ok { OnOk result (stored_tree nodes.new ≡ with_entry (set_node (stored_tree nodes.old) inode node) at inode) }
     ensures err { OnErr result (stored_tree nodes.new ≡ stored_tree nodes.old) }
 {
     nodes.make_room(inode)?;
@@ -60,7 +62,7 @@ pub fn remove_dir(
 ) -> Result<(), AllocError>
     requires place { HasPlace at.now.parent }
     requires bare { IsBare (stored_tree nodes.old inode) }
-    ensures ok { OnOk result (stored_tree nodes.new ≡ set_node (left (stored_tree nodes.old) at.now) inode None) }
+    ensures ok { OnOk result (stored_tree nodes.new ≡ set_node (without_entry (stored_tree nodes.old) at.now) inode None) }
     ensures err { OnErr result (stored_tree nodes.new ≡ stored_tree nodes.old) }
 {
     nodes.make_room(at.parent)?;
@@ -79,7 +81,7 @@ pub fn drop_name(
 ) -> Result<(), AllocError>
     requires place { HasPlace at.now.parent }
     requires bare { IsBare (stored_tree nodes.old inode) }
-    ensures ok { OnOk result (stored_tree nodes.new ≡ less_unused (held_of rows.now) (left (stored_tree nodes.old) at.now) inode) }
+    ensures ok { OnOk result (stored_tree nodes.new ≡ less_unused (held_of rows.now) (without_entry (stored_tree nodes.old) at.now) inode) }
     ensures err { OnErr result (stored_tree nodes.new ≡ stored_tree nodes.old) }
 {
     nodes.make_room(at.parent)?;
@@ -102,7 +104,7 @@ pub fn move_name(
     requires to_place { HasPlace to.parent }
     requires few { names_of (stored_tree nodes.old) inode ≤ MAX_NAMES }
     requires movable { IsMovable (stored_tree nodes.old) from.now to inode replaced }
-    ensures ok { OnOk result (stored_tree nodes.new ≡ entered (left (less_replaced (held_of rows.now) (stored_tree nodes.old) to replaced) from.now) to inode) }
+    ensures ok { OnOk result (stored_tree nodes.new ≡ with_entry (without_entry (less_replaced (held_of rows.now) (stored_tree nodes.old) to replaced) from.now) to inode) }
     ensures err { OnErr result (stored_tree nodes.new ≡ stored_tree nodes.old) }
 {
     nodes.make_room(from.parent)?;

@@ -1,9 +1,12 @@
 ghost use Rattle.std.specs.Prelude.{◌≡◌, ◌⊎◌, ◌≤◌, ◌<◌, ℕ, true, false, Ok, Some, length, option_map, IfOk, IfErr, OnOk, OnErr, MatchOption, None};
 ghost use Rattle.std.specs.FinMap as fin;
-ghost use Rattle.file_graph.specs.posix_calls.Tree.{opening, empty_tree, entries_of};
-ghost use Rattle.file_graph.specs.posix_calls.Query.{dir_test, view_of, whole_part};
+ghost use Rattle.file_graph.specs.posix_calls.Tree.{entries_of};
+ghost use Rattle.file_graph.specs.posix_calls.EmptyTree.{empty_state, empty_tree};
+ghost use Rattle.file_graph.specs.posix_calls.Query.{dir_test, view_of};
+ghost use Rattle.file_graph.specs.posix_calls.Part.{whole_part};
 ghost use Rattle.file_graph.specs.posix_calls.Answers.{description_of};
-ghost use Rattle.file_graph.specs.posix_calls.Operations.{Step, makes, only_tells, reply_of, state_after, tree_after};
+ghost use Rattle.file_graph.specs.posix_calls.Operations.{Step, makes, reply_of, state_after, tree_after};
+ghost use Rattle.file_graph.specs.posix_calls.Kinds.{is_query};
 ghost use Rattle.file_graph.specs.posix_calls.Exact.{IsAnswered, IsGivenUp, IsLowest, IsTaken};
 ghost use Rattle.plain_tree.specs.Plain.{stored_tree, held_of, stored_state, state_in, IsNoClose, IsDoable, IsDone, IsDropped, takes_room};
 ghost use Rattle.file_graph.specs.posix_calls.declared.call.Reply.TheVariants.{Failed};
@@ -43,7 +46,7 @@ impl Model for PlainTree {
 impl PlainTree {
     /// The empty tree: a root with no entry, of which nothing is open.
     pub fn new(alloc: Global) -> Result<Self, AllocError>
-        ensures { IfOk result (λ tree. stored_state tree ≡ opening) }
+        ensures { IfOk result (λ tree. stored_state tree ≡ empty_state) }
     {
         let nodes = root_alone(alloc)?;
         let rows = no_descriptors(alloc, MAX_CLIENTS)?;
@@ -224,7 +227,7 @@ fn change(
     requires low { 0 < client }
     requires high { client ≤ length rows.old.items }
     requires doable { IsDoable (stored_tree nodes.old) operation }
-    requires changes { only_tells operation ≡ false }
+    requires changes { is_query operation ≡ false }
     requires reply { reply ≡ reply_of operation }
     ensures done { IsDone (state_in nodes.old rows.old.items) client operation result (state_in nodes.new rows.new.items) ⊎ IsDropped (state_in nodes.old rows.old.items) operation result (state_in nodes.new rows.new.items) }
     ensures kept { length rows.new.items ≡ length rows.old.items }
@@ -264,7 +267,7 @@ fn apply(
     requires low { 0 < client }
     requires high { client ≤ length rows.old.items }
     requires doable { IsDoable (stored_tree nodes.old) operation }
-    requires changes { only_tells operation ≡ false }
+    requires changes { is_query operation ≡ false }
     requires lowest { makes operation ≡ true → IsLowest (stored_tree nodes.old) new }
     ensures memory { IfErr result (λ _. takes_room operation ≡ true) }
     ensures ok { OnOk result (state_in nodes.new rows.new.items ≡ state_after client new (state_in nodes.old rows.old.items) operation) }

@@ -11,7 +11,7 @@ use Rattle.posix_calls.specs.declared.operation.Operation.{Operation}
 use Rattle.posix_calls.specs.declared.operation.Replaced.{Replaced}
 use Rattle.posix_calls.specs.declared.operation.Operation.TheVariants.{NewDir, NewFile, Write, Resize, AddName, Move}
 use Rattle.posix_calls.specs.declared.operation.Replaced.TheVariants.{Nothing, OldFile, OldDir}
-use Rattle.posix_calls.specs.Operations.{entered, left, less_unused, less_replaced}
+use Rattle.posix_calls.specs.Operations.{with_entry, without_entry, less_unused, less_replaced}
 use Rattle.posix_calls.specs.WellFormed.{IsWellFormed, IsWithinLimits}
 use Rattle.posix_calls.proofs.Changes.{IsBare, IsRoom, entry, bare_file, bare_names, set_there, set_other, entered_names, left_names, off_one, bare_same}
 use Rattle.posix_calls.proofs.Trees.{tree_of, range_of, parent_range}
@@ -70,7 +70,7 @@ lesser_unused t held i nodes bare low high = if_unused (names_of t i == 0 && not
   if_unused false = record { nodes = nodes; names = λ k. same_le (names_of t k) (names_of t k) refl }
 
 -- a name goes
-pub lesser_left : (s : State) (at : Location) (i : ℕ) → IsWellFormed s → AreNodesWithin s.tree → entry s.tree at ≡ Some i → IsLesser s.tree (left s.tree at)
+pub lesser_left : (s : State) (at : Location) (i : ℕ) → IsWellFormed s → AreNodesWithin s.tree → entry s.tree at ≡ Some i → IsLesser s.tree (without_entry s.tree at)
 lesser_left s at i fine nodes is = record {
   nodes = left_within s.tree at nodes;
   names = λ k. let range = parent_range s.tree at i (tree_of s fine) is in let change = left_names s.tree at i is range.0 range.1 k in omega (arith, change);
@@ -85,7 +85,7 @@ at_most : (b : Bool) → cond b 1 0 ≤ 1
 at_most true = omega arith
 at_most false = omega arith
 
-pub within_made : (s : State) (at : Location) (i : ℕ) (x : Node) → IsWellFormed s → IsWithinLimits s.tree → IsRoom s.tree at → IsFew s.tree at → s.tree i ≡ None → 1 < i → i ≤ 1024 → IsBare (Some x) → IsNodeWithin (Some x) → IsWithinLimits (entered (set_node s.tree i (Some x)) at i)
+pub within_made : (s : State) (at : Location) (i : ℕ) (x : Node) → IsWellFormed s → IsWithinLimits s.tree → IsRoom s.tree at → IsFew s.tree at → s.tree i ≡ None → 1 < i → i ≤ 1024 → IsBare (Some x) → IsNodeWithin (Some x) → IsWithinLimits (with_entry (set_node s.tree i (Some x)) at i)
 within_made s at i x fine within room few free low high new small =
     let t = s.tree in
     let made = set_node t i (Some x) in
@@ -110,7 +110,7 @@ within_made s at i x fine within room few free low high new small =
       valid = λ j. (nodes j).valid;
     }
 
-pub within_added : (s : State) (at : Location) (i : ℕ) → IsWellFormed s → IsWithinLimits s.tree → IsRoom s.tree at → IsFew s.tree at → names_of s.tree i < 1000 → IsWithinLimits (entered s.tree at i)
+pub within_added : (s : State) (at : Location) (i : ℕ) → IsWellFormed s → IsWithinLimits s.tree → IsRoom s.tree at → IsFew s.tree at → names_of s.tree i < 1000 → IsWithinLimits (with_entry s.tree at i)
 within_added s at i fine within room few names =
     let t = s.tree in
     let range = range_of t at.parent true (tree_of s fine) room.directory in
@@ -133,54 +133,54 @@ within_added s at i fine within room few names =
 
 -- ---- a name moves
 
-left_len : (t : Tree) (at : Location) (d : ℕ) → fin.len (entries_of (left t at d)) ≤ fin.len (entries_of (t d))
+left_len : (t : Tree) (at : Location) (d : ℕ) → fin.len (entries_of (without_entry t at d)) ≤ fin.len (entries_of (t d))
 left_len t at d = elim (eqb_tells d at.parent) [
   | inl same ↦
       let less = remove_length (entries_of (t at.parent)) at.name in
-      let now : fin.len (entries_of (left t at d)) ≡ fin.len (fin.remove (entries_of (t at.parent)) at.name) = ap (λ o. fin.len (entries_of o)) (ap (left t at) same.1 ∙ set_there t at.parent _) in
+      let now : fin.len (entries_of (without_entry t at d)) ≡ fin.len (fin.remove (entries_of (t at.parent)) at.name) = ap (λ o. fin.len (entries_of o)) (ap (without_entry t at) same.1 ∙ set_there t at.parent _) in
       let was : fin.len (entries_of (t d)) ≡ fin.len (entries_of (t at.parent)) = ap (λ k. fin.len (entries_of (t k))) same.1 in
       omega (arith, less, now, was)
-  | inr off ↦ same_le (fin.len (entries_of (left t at d))) (fin.len (entries_of (t d))) (ap (λ o. fin.len (entries_of o)) (set_other t at.parent d _ off.1))
+  | inr off ↦ same_le (fin.len (entries_of (without_entry t at d))) (fin.len (entries_of (t d))) (ap (λ o. fin.len (entries_of o)) (set_other t at.parent d _ off.1))
 ]
 
 -- a directory that has lost a name has room
-left_few : (t : Tree) (at : Location) (i : ℕ) → AreNodesWithin t → entry t at ≡ Some i → fin.len (entries_of (left t at at.parent)) < 3584
+left_few : (t : Tree) (at : Location) (i : ℕ) → AreNodesWithin t → entry t at ≡ Some i → fin.len (entries_of (without_entry t at at.parent)) < 3584
 left_few t at i nodes is =
     let less = removed_length (entries_of (t at.parent)) at.name i 3584 is (nodes at.parent).entries in
-    let now : fin.len (entries_of (left t at at.parent)) ≡ fin.len (fin.remove (entries_of (t at.parent)) at.name) = ap (λ o. fin.len (entries_of o)) (set_there t at.parent _) in
+    let now : fin.len (entries_of (without_entry t at at.parent)) ≡ fin.len (fin.remove (entries_of (t at.parent)) at.name) = ap (λ o. fin.len (entries_of o)) (set_there t at.parent _) in
     omega (arith, less, now)
 
-within_moved : (s : State) (from to : Location) (i : ℕ) → IsWellFormed s → IsWithinLimits s.tree → entry s.tree from ≡ Some i → IsRoom s.tree to → fin.len (entries_of (left s.tree from to.parent)) < 3584 → is_name to.name ≡ true → IsWithinLimits (entered (left s.tree from) to i)
+within_moved : (s : State) (from to : Location) (i : ℕ) → IsWellFormed s → IsWithinLimits s.tree → entry s.tree from ≡ Some i → IsRoom s.tree to → fin.len (entries_of (without_entry s.tree from to.parent)) < 3584 → is_name to.name ≡ true → IsWithinLimits (with_entry (without_entry s.tree from) to i)
 within_moved s from to i fine within is room few valid =
-    lesser_within s.tree (entered (left s.tree from) to i) within (record {
-      nodes = entered_within (left s.tree from) to i (left_within s.tree from (nodes_of s.tree within)) few valid;
-      names = λ k. same_le (names_of (entered (left s.tree from) to i) k) (names_of s.tree k) (moved_names s from to i fine is room k);
+    lesser_within s.tree (with_entry (without_entry s.tree from) to i) within (record {
+      nodes = entered_within (without_entry s.tree from) to i (left_within s.tree from (nodes_of s.tree within)) few valid;
+      names = λ k. same_le (names_of (with_entry (without_entry s.tree from) to i) k) (names_of s.tree k) (moved_names s from to i fine is room k);
     })
 
-room_for : (s : State) (from to : Location) (i : ℕ) → IsWithinLimits s.tree → entry s.tree from ≡ Some i → (from.parent ≡ to.parent) ⊎ (fin.len (entries_of (s.tree to.parent)) < 3584) → fin.len (entries_of (left s.tree from to.parent)) < 3584
-room_for s from to i within is (inl same) = subst (λ d. fin.len (entries_of (left s.tree from d)) < 3584) same (left_few s.tree from i (nodes_of s.tree within) is)
+room_for : (s : State) (from to : Location) (i : ℕ) → IsWithinLimits s.tree → entry s.tree from ≡ Some i → (from.parent ≡ to.parent) ⊎ (fin.len (entries_of (s.tree to.parent)) < 3584) → fin.len (entries_of (without_entry s.tree from to.parent)) < 3584
+room_for s from to i within is (inl same) = subst (λ d. fin.len (entries_of (without_entry s.tree from d)) < 3584) same (left_few s.tree from i (nodes_of s.tree within) is)
 room_for s from to i within is (inr few) = let less = left_len s.tree from to.parent in omega (arith, less, few)
 
 -- where something was replaced, its name has made room
-room_replaced : (t u : Tree) (from to : Location) (j k : ℕ) → AreNodesWithin t → entry t to ≡ Some j → IsLess (left t to) u k → fin.len (entries_of (left u from to.parent)) < 3584
+room_replaced : (t u : Tree) (from to : Location) (j k : ℕ) → AreNodesWithin t → entry t to ≡ Some j → IsLess (without_entry t to) u k → fin.len (entries_of (without_entry u from to.parent)) < 3584
 room_replaced t u from to j k nodes is less =
     let few = left_few t to j nodes is in
-    let same : fin.len (entries_of (u to.parent)) ≡ fin.len (entries_of (left t to to.parent)) = ap fin.len (less.entries to.parent) in
+    let same : fin.len (entries_of (u to.parent)) ≡ fin.len (entries_of (without_entry t to to.parent)) = ap fin.len (less.entries to.parent) in
     let fewer = left_len u from to.parent in
     omega (arith, few, same, fewer)
 
 pub within_replaced : (s : State) (from to : Location) (i : ℕ) (replaced : Replaced) → IsWellFormed s → IsWithinLimits s.tree → entry s.tree from ≡ Some i → FitsReplaced s.tree to i replaced → is_name to.name ≡ true → HasRoom s.tree from to replaced
-    → IsWithinLimits (entered (left (less_replaced s.descriptors s.tree to replaced) from) to i)
+    → IsWithinLimits (with_entry (without_entry (less_replaced s.descriptors s.tree to replaced) from) to i)
 within_replaced s from to i Nothing fine within is fits valid room = within_moved s from to i fine within is fits (room_for s from to i within is room) valid
 within_replaced s from to i (OldFile j) fine within is fits valid room =
     let t = s.tree in
     let bare = bare_file (t j) fits.2 in
     let gone = bare_left t to j fits.1 bare in
     let range = range_of t j false (tree_of s fine) fits.2 in
-    let u = less_unused s.descriptors (left t to) j in
-    let less = less_if (names_of (left t to) j == 0 && not (is_open s.descriptors j)) (left t to) j gone in
+    let u = less_unused s.descriptors (without_entry t to) j in
+    let less = less_if (names_of (without_entry t to) j == 0 && not (is_open s.descriptors j)) (without_entry t to) j gone in
     let first = lesser_left s to j fine (nodes_of t within) fits.1 in
-    let kept = lesser_within t u within (lesser_both t (left t to) u first (lesser_unused (left t to) s.descriptors j first.nodes gone range.0 range.1)) in
+    let kept = lesser_within t u within (lesser_both t (without_entry t to) u first (lesser_unused (without_entry t to) s.descriptors j first.nodes gone range.0 range.1)) in
     within_moved (record { tree = u; descriptors = s.descriptors }) from to i (dropped_fine s to j fine fits.1 fits.2) kept
     (from_after s u from to i j is fits.0 fits.1 bare less) (room_after s u from to i j is fits.0 fits.1 bare less) (room_replaced t u from to j j (nodes_of t within) fits.1 less) valid
 within_replaced s from to i (OldDir j) fine within is fits valid room =
@@ -188,9 +188,9 @@ within_replaced s from to i (OldDir j) fine within is fits valid room =
     let bare = fits.3 in
     let gone = bare_left t to j fits.1 bare in
     let range = range_of t j true (tree_of s fine) fits.2 in
-    let u = set_node (left t to) j None in
-    let less = less_none (left t to) j gone in
+    let u = set_node (without_entry t to) j None in
+    let less = less_none (without_entry t to) j gone in
     let first = lesser_left s to j fine (nodes_of t within) fits.1 in
-    let kept = lesser_within t u within (lesser_both t (left t to) u first (lesser_set (left t to) j None first.nodes gone refl range.0 range.1 none_within)) in
+    let kept = lesser_within t u within (lesser_both t (without_entry t to) u first (lesser_set (without_entry t to) j None first.nodes gone refl range.0 range.1 none_within)) in
     within_moved (record { tree = u; descriptors = s.descriptors }) from to i (removed_fine s to j fine fits.1 fits.2 fits.3) kept
     (from_after s u from to i j is fits.0 fits.1 bare less) (room_after s u from to i j is fits.0 fits.1 bare less) (room_replaced t u from to j j (nodes_of t within) fits.1 less) valid

@@ -4,7 +4,7 @@ use Rattle.std.proofs.lemmas.Bool.Decides.{eqb_tells}
 use Rattle.std.specs.FinMap as fin
 use Rattle.posix_calls.specs.Tree.{Tree, State, names_of, entries_of}
 use Rattle.posix_calls.specs.declared.operation.Location.{Location}
-use Rattle.posix_calls.specs.Operations.{left}
+use Rattle.posix_calls.specs.Operations.{without_entry}
 use Rattle.posix_calls.specs.Resolve.{child, then_from, resolve_from}
 use Rattle.posix_calls.specs.WellFormed.{IsDirectory, IsWellFormed}
 use Rattle.posix_calls.proofs.Changes.{entry, entry_parent, left_names, has_name, set_other, on_one}
@@ -26,8 +26,8 @@ one_parent s a b c fine one e f = elim (eqb_tells b a) [
       let range_b = parent_range t (location b f.0) c tree f.1 in
       let less = left_names t (location a e.0) c e.1 range.0 range.1 c in
       let it = on_one c in
-      let stays : entry (left t (location a e.0)) (location b f.0) ≡ Some c = ap (λ o. fin.get (entries_of o) f.0) (set_other t a b _ off.1) ∙ f.1 in
-      let more = has_name (left t (location a e.0)) (location b f.0) c stays range_b.0 range_b.1 in
+      let stays : entry (without_entry t (location a e.0)) (location b f.0) ≡ Some c = ap (λ o. fin.get (entries_of o) f.0) (set_other t a b _ off.1) ∙ f.1 in
+      let more = has_name (without_entry t (location a e.0)) (location b f.0) c stays range_b.0 range_b.1 in
       absurd (omega (arith, less, it, more, one))
 ]
 

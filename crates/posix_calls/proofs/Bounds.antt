@@ -2,7 +2,8 @@
 use Rattle.std.proofs.Common.{ℕ, ◌≤◌, List, [], ◌∷◌, None, Some, Option, Bool, true, false, sym, subst, arith, ◌==◌, if◌then◌else◌}
 use Rattle.std.specs.Prelude.{◌||◌, nat_lt}
 use Rattle.std.specs.FinMap as fin
-use Rattle.posix_calls.specs.Tree.{Node, Dir, State, opening, names_of}
+use Rattle.posix_calls.specs.Tree.{Node, Dir, State, names_of}
+use Rattle.posix_calls.specs.EmptyTree.{empty_state}
 use Rattle.posix_calls.specs.Run.{Turn, Run, settled}
 use Rattle.posix_calls.specs.WellFormed.{IsWellFormed, IsWithinLimits}
 use Rattle.posix_calls.proofs.Within.{IsNodeWithin, none_within, empty_within, set_within}
@@ -11,7 +12,7 @@ use Rattle.posix_calls.proofs.Lasting.{step_fine}
 use Rattle.posix_calls.proofs.Passing.{step_within}
 use Rattle.posix_calls.proofs.Settled.{no_names, same_names}
 
-pub opening_within : IsWithinLimits opening.tree
+pub opening_within : IsWithinLimits empty_state.tree
 opening_within =
     let nodes = set_within (λ i. None) 1 (Some (Dir fin.empty)) (λ i. none_within) empty_within in
     record {

@@ -12,7 +12,7 @@ use Rattle.posix_calls.specs.Tree.{State}
 use Rattle.posix_calls.specs.declared.descriptor.Descriptor.{Descriptor}
 use Rattle.posix_calls.specs.Query.{Seen, File, Dir, Gives, View, run, view_of, dir_test}
 use Rattle.posix_calls.specs.Walk.{Place, prefix, is_root, is_there, kind_at, walk, leads_to}
-use Rattle.posix_calls.specs.Decide.{described, write_at, open_there, replacing, replacing_dir, renamed, open_path, close, pread, pwrite, truncate, mkdir, rmdir, link, unlink, rename, list_path, stat, decide}
+use Rattle.posix_calls.specs.Decide.{node_description, write_at, open_there, replaced_at, replacing_dir, rename_to, open_path, close, pread, pwrite, truncate, mkdir, rmdir, link, unlink, rename, list_path, stat, decide}
 use Rattle.posix_calls.specs.declared.operation.Operation.{Operation}
 use Rattle.posix_calls.specs.declared.operation.Replaced.{Replaced}
 use Rattle.posix_calls.specs.declared.operation.Operation.TheVariants.{Tell, Resize}
@@ -201,7 +201,7 @@ module _ (s : State) (fine : IsWellFormed s) where
 
   -- ---- rename
 
-  replaced_fits : (from to : Place) (i : ℕ) (old_dir : Bool) (o : Option ℕ) (replaced : Replaced) → IsPlace s.tree to → to.inode ≡ o → leads_to i o ≡ false → run v (replacing from to old_dir o) ≡ Ok replaced → FitsReplaced s.tree to.location i replaced
+  replaced_fits : (from to : Place) (i : ℕ) (old_dir : Bool) (o : Option ℕ) (replaced : Replaced) → IsPlace s.tree to → to.inode ≡ o → leads_to i o ≡ false → run v (replaced_at from to old_dir o) ≡ Ok replaced → FitsReplaced s.tree to.location i replaced
   replaced_fits from to i old_dir None replaced at is other e =
       let full = bind_ok v _ _ _ e in
       subst (FitsReplaced s.tree to.location i) (given v full.2) (room_at to at is)
@@ -220,7 +220,7 @@ module _ (s : State) (fine : IsWellFormed s) where
         | false ↦ λ yes rest. subst (FitsReplaced s.tree to.location i) (given v rest) (apart, entry_at to j at is, known ∙ ap (λ b. Some b) yes)
       ] refl no_file.2
 
-  renamed_fits : (client : ℕ) (from to : Place) (i : ℕ) (operation : Operation) → IsPlace s.tree from → from.inode ≡ Some i → IsPlace s.tree to → leads_to i to.inode ≡ false → IsWay s.tree i to.location.parent → run v (renamed from to i) ≡ Ok operation → FitsIn client operation
+  renamed_fits : (client : ℕ) (from to : Place) (i : ℕ) (operation : Operation) → IsPlace s.tree from → from.inode ≡ Some i → IsPlace s.tree to → leads_to i to.inode ≡ false → IsWay s.tree i to.location.parent → run v (rename_to from to i) ≡ Ok operation → FitsIn client operation
   renamed_fits client from to i operation at is at_to other way e =
       let old_dir = bind_ok v _ _ _ e in
       let replaced = bind_ok v _ _ _ old_dir.2 in
@@ -245,7 +245,7 @@ module _ (s : State) (fine : IsWellFormed s) where
       let at = beyond old_names.0 from.0 from.1 roots.0 in
       let at_to = beyond new_names.0 to.0 to.1 roots.1 in
       let way = way_of new_names.0 to.0 i.0 to.1 roots.1 (not_refused v errno.Invalid _ _ under.1) in
-      elim (leads_to i.0 to.0.inode) as (λ b. leads_to i.0 to.0.inode ≡ b → run v (cond b (Gives (Tell reply.Done)) (renamed from.0 to.0 i.0)) ≡ Ok operation → FitsIn client operation) [
+      elim (leads_to i.0 to.0.inode) as (λ b. leads_to i.0 to.0.inode ≡ b → run v (cond b (Gives (Tell reply.Done)) (rename_to from.0 to.0 i.0)) ≡ Ok operation → FitsIn client operation) [
         | true ↦ λ same done. fits_as client _ operation (given v done) tt
         | false ↦ λ other rest. renamed_fits client from.0 to.0 i.0 operation at (there_is v from.0.inode i.0 i.1) at_to other way rest
       ] refl under.2
@@ -263,7 +263,7 @@ module _ (s : State) (fine : IsWellFormed s) where
       let entries = bind_ok v _ _ _ refused.2 in
       fits_as client _ operation (given v entries.2) tt
 
-  described_fits : (client : ℕ) (o : Option Seen) (operation : Operation) → run v (described o) ≡ Ok operation → FitsIn client operation
+  described_fits : (client : ℕ) (o : Option Seen) (operation : Operation) → run v (node_description o) ≡ Ok operation → FitsIn client operation
   unfolding run
   described_fits client None operation e = absurd (cc)
   described_fits client (Some (File names bytes)) operation e = fits_as client _ operation (given v e) tt

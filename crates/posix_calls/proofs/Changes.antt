@@ -9,8 +9,8 @@ use Rattle.posix_calls.specs.Tree.{Tree, Node, File, Dir, set_node, entries_of, 
 use Rattle.posix_calls.specs.declared.limits.TheConstants.{MAX_INODE}
 use Rattle.posix_calls.specs.Query.{dir_test}
 use Rattle.posix_calls.specs.declared.operation.Location.{Location}
-use Rattle.posix_calls.specs.Operations.{entered, left}
-pub use Rattle.posix_calls.specs.Tree.{IsBare}
+use Rattle.posix_calls.specs.Operations.{with_entry, without_entry}
+pub use Rattle.posix_calls.specs.WellFormed.{IsBare}
 use Rattle.posix_calls.specs.WellFormed.{IsDirectory, IsFile}
 use Rattle.posix_calls.proofs.Sums.{names_of-set_node, same_if, there_if}
 use Rattle.posix_calls.proofs.Counts.{order, counted, counted_is, counted_insert, counted_remove, counted_empty, gone, get_left, none_left, get_other, get_other_insert, get_here, insert_back}
@@ -89,13 +89,13 @@ module _ (t : Tree) (at : Location) (i : ℕ) where
   abbrev after_in : Option Node
   after_in = Some (Dir (fin.insert (entries_of (t at.parent)) at.name i))
 
-  pub entered_kind : IsDirectory (t at.parent) → (j : ℕ) → option_map dir_test (entered t at i j) ≡ option_map dir_test (t j)
+  pub entered_kind : IsDirectory (t at.parent) → (j : ℕ) → option_map dir_test (with_entry t at i j) ≡ option_map dir_test (t j)
   entered_kind is j = set_alike (option_map dir_test) t at.parent after_in (sym is) j
 
-  pub entered_here : entry (entered t at i) at ≡ Some i
+  pub entered_here : entry (with_entry t at i) at ≡ Some i
   entered_here = ap (λ o. fin.get (entries_of o) at.name) (set_there t at.parent after_in) ∙ get_here (entries_of (t at.parent)) at.name i
 
-  pub entered_back : (x : Location) (j : ℕ) → entry (entered t at i) x ≡ Some j → (j ≡ i) ⊎ (entry t x ≡ Some j)
+  pub entered_back : (x : Location) (j : ℕ) → entry (with_entry t at i) x ≡ Some j → (j ≡ i) ⊎ (entry t x ≡ Some j)
   entered_back x j e = elim (eqb_tells x.parent at.parent) [
     | inl same ↦ elim (insert_back (entries_of (t at.parent)) at.name x.name i j (sym (ap (λ b. fin.get (entries_of (cond b after_in (t x.parent))) x.name) same.0) ∙ e)) [
       | inl new ↦ inl new
@@ -104,7 +104,7 @@ module _ (t : Tree) (at : Location) (i : ℕ) where
     | inr off ↦ inr (sym (ap (λ o. fin.get (entries_of o) x.name) (set_other t at.parent x.parent after_in off.1)) ∙ e)
   ]
 
-  pub entered_keeps : entry t at ≡ None → (x : Location) (j : ℕ) → entry t x ≡ Some j → entry (entered t at i) x ≡ Some j
+  pub entered_keeps : entry t at ≡ None → (x : Location) (j : ℕ) → entry t x ≡ Some j → entry (with_entry t at i) x ≡ Some j
   entered_keeps none x j e = elim (eqb_tells x.parent at.parent) [
     | inl same ↦
         let here : fin.get (entries_of (t at.parent)) x.name ≡ Some j = ap (λ d. fin.get (entries_of (t d)) x.name) (sym same.1) ∙ e in
@@ -113,9 +113,9 @@ module _ (t : Tree) (at : Location) (i : ℕ) where
     | inr off ↦ ap (λ o. fin.get (entries_of o) x.name) (set_other t at.parent x.parent after_in off.1) ∙ e
   ]
 
-  pub entered_names : entry t at ≡ None → 1 ≤ at.parent → at.parent ≤ 1024 → (k : ℕ) → names_of (entered t at i) k ≡ names_of t k + cond (i == k) 1 0
+  pub entered_names : entry t at ≡ None → 1 ≤ at.parent → at.parent ≤ 1024 → (k : ℕ) → names_of (with_entry t at i) k ≡ names_of t k + cond (i == k) 1 0
   entered_names none low high k =
-      let change : names_of (entered t at i) k + names_in k (t at.parent) ≡ names_of t k + counted k (fin.insert (entries_of (t at.parent)) at.name i)
+      let change : names_of (with_entry t at i) k + names_in k (t at.parent) ≡ names_of t k + counted k (fin.insert (entries_of (t at.parent)) at.name i)
       = names_of-set_node t at.parent k after_in low high ∙ ap (λ n. names_of t k + n) (counted_is k (fin.insert (entries_of (t at.parent)) at.name i)) in
       let before = in_node k (t at.parent) in
       let more = counted_insert k (entries_of (t at.parent)) at.name i none in
@@ -127,25 +127,25 @@ module _ (t : Tree) (at : Location) where
   abbrev after_out : Option Node
   after_out = Some (Dir (fin.remove (entries_of (t at.parent)) at.name))
 
-  pub left_kind : IsDirectory (t at.parent) → (j : ℕ) → option_map dir_test (left t at j) ≡ option_map dir_test (t j)
+  pub left_kind : IsDirectory (t at.parent) → (j : ℕ) → option_map dir_test (without_entry t at j) ≡ option_map dir_test (t j)
   left_kind is j = set_alike (option_map dir_test) t at.parent after_out (sym is) j
 
-  pub left_here : entry (left t at) at ≡ None
+  pub left_here : entry (without_entry t at) at ≡ None
   left_here = ap (λ o. fin.get (entries_of o) at.name) (set_there t at.parent after_out) ∙ gone (entries_of (t at.parent)) at.name
 
-  pub left_back : (x : Location) (j : ℕ) → entry (left t at) x ≡ Some j → entry t x ≡ Some j
+  pub left_back : (x : Location) (j : ℕ) → entry (without_entry t at) x ≡ Some j → entry t x ≡ Some j
   left_back x j e = elim (eqb_tells x.parent at.parent) [
     | inl same ↦ ap (λ d. fin.get (entries_of (t d)) x.name) same.1 ∙ get_left (entries_of (t at.parent)) at.name x.name j (sym (ap (λ b. fin.get (entries_of (cond b after_out (t x.parent))) x.name) same.0) ∙ e)
     | inr off ↦ sym (ap (λ o. fin.get (entries_of o) x.name) (set_other t at.parent x.parent after_out off.1)) ∙ e
   ]
 
-  pub left_none : (x : Location) → entry t x ≡ None → entry (left t at) x ≡ None
+  pub left_none : (x : Location) → entry t x ≡ None → entry (without_entry t at) x ≡ None
   left_none x e = elim (eqb_tells x.parent at.parent) [
     | inl same ↦ ap (λ b. fin.get (entries_of (cond b after_out (t x.parent))) x.name) same.0 ∙ none_left (entries_of (t at.parent)) at.name x.name (ap (λ d. fin.get (entries_of (t d)) x.name) (sym same.1) ∙ e)
     | inr off ↦ ap (λ o. fin.get (entries_of o) x.name) (set_other t at.parent x.parent after_out off.1) ∙ e
   ]
 
-  pub left_keeps : (i : ℕ) → entry t at ≡ Some i → (x : Location) (j : ℕ) → j ≢ i → entry t x ≡ Some j → entry (left t at) x ≡ Some j
+  pub left_keeps : (i : ℕ) → entry t at ≡ Some i → (x : Location) (j : ℕ) → j ≢ i → entry t x ≡ Some j → entry (without_entry t at) x ≡ Some j
   left_keeps i is x j other e = elim (eqb_tells x.parent at.parent) [
     | inl same ↦
         let here : fin.get (entries_of (t at.parent)) x.name ≡ Some j = ap (λ d. fin.get (entries_of (t d)) x.name) (sym same.1) ∙ e in
@@ -154,9 +154,9 @@ module _ (t : Tree) (at : Location) where
     | inr off ↦ ap (λ o. fin.get (entries_of o) x.name) (set_other t at.parent x.parent after_out off.1) ∙ e
   ]
 
-  pub left_names : (i : ℕ) → entry t at ≡ Some i → 1 ≤ at.parent → at.parent ≤ 1024 → (k : ℕ) → names_of (left t at) k + cond (i == k) 1 0 ≡ names_of t k
+  pub left_names : (i : ℕ) → entry t at ≡ Some i → 1 ≤ at.parent → at.parent ≤ 1024 → (k : ℕ) → names_of (without_entry t at) k + cond (i == k) 1 0 ≡ names_of t k
   left_names i is low high k =
-      let change : names_of (left t at) k + names_in k (t at.parent) ≡ names_of t k + counted k (fin.remove (entries_of (t at.parent)) at.name)
+      let change : names_of (without_entry t at) k + names_in k (t at.parent) ≡ names_of t k + counted k (fin.remove (entries_of (t at.parent)) at.name)
       = names_of-set_node t at.parent k after_out low high ∙ ap (λ n. names_of t k + n) (counted_is k (fin.remove (entries_of (t at.parent)) at.name)) in
       let before = in_node k (t at.parent) in
       let less = counted_remove k (entries_of (t at.parent)) at.name i is in
@@ -165,7 +165,7 @@ module _ (t : Tree) (at : Location) where
 -- what is named has a name
 pub has_name : (t : Tree) (at : Location) (i : ℕ) → entry t at ≡ Some i → 1 ≤ at.parent → at.parent ≤ 1024 → 1 ≤ names_of t i
 has_name t at i is low high =
-    let less : names_of (left t at) i + cond (i == i) 1 0 ≡ names_of t i = left_names t at i is low high i in
+    let less : names_of (without_entry t at) i + cond (i == i) 1 0 ≡ names_of t i = left_names t at i is low high i in
     let one : ◌≡◌ {A = ℕ} (cond (i == i) 1 0) 1 = ap (λ b. cond b 1 0) (eq-eqb i i refl) in
     omega (arith, less, one)
 

@@ -9,9 +9,9 @@ use Rattle.posix_calls.specs.declared.errno.Errno.{Errno}
 use Rattle.posix_calls.specs.declared.errno.Errno.TheVariants as errno
 use Rattle.posix_calls.specs.Tree.{Tree, Node, File, Dir, Own, names_of, entries_of}
 use Rattle.posix_calls.specs.declared.descriptor.Descriptor.{Descriptor}
-use Rattle.posix_calls.specs.Query.{Seen, Query, Gives, Refuses, IsDir, Look, Range, ◌>>=◌, View, run, view_of, seen, dir_test}
+use Rattle.posix_calls.specs.Query.{Seen, Query, Gives, Refuses, IsDir, Look, Range, ◌>>=◌, View, run, view_of, seen_node, dir_test}
 use Rattle.posix_calls.specs.Walk.{Place, refuse, is_true, kind_at, entries_seen, entries_at, directory, directory_if, walk, is_there, there}
-use Rattle.posix_calls.specs.Decide.{opened, lowest_free, number_or}
+use Rattle.posix_calls.specs.Decide.{open_inode, lowest_free, number_or}
 use Rattle.posix_calls.specs.WellFormed.{IsDirectory}
 use Rattle.posix_calls.proofs.Changes.{IsBare, entry}
 use Rattle.posix_calls.proofs.Reached.{Avoids, Chain, Edge}
@@ -43,7 +43,7 @@ looked v i f y e = cc
 
 -- ---- nodes
 
-seen_entries : (n : ℕ) (o : Option Node) → entries_seen (option_map (seen n) o) ≡ entries_of o
+seen_entries : (n : ℕ) (o : Option Node) → entries_seen (option_map (seen_node n) o) ≡ entries_of o
 seen_entries n None = refl
 seen_entries n (Some (File bytes)) = refl
 seen_entries n (Some (Dir es)) = refl
@@ -141,7 +141,7 @@ walk_is t i from way name (next ∷ names) place e apart =
 
 -- ---- descriptors
 
-pub opened_is : (v : View) (test : Descriptor → Bool) (o : Option Descriptor) (i : ℕ) → run v (opened test o) ≡ Ok i → (x : Descriptor) × (o ≡ Some x) × (x.inode ≡ i)
+pub opened_is : (v : View) (test : Descriptor → Bool) (o : Option Descriptor) (i : ℕ) → run v (open_inode test o) ≡ Ok i → (x : Descriptor) × (o ≡ Some x) × (x.inode ≡ i)
 unfolding run
 opened_is v test None i e = absurd (cc)
 opened_is v test (Some x) i e = (x, refl, elim (test x) as (λ b. run v (cond b (Gives x.inode) (Refuses errno.BadDescriptor)) ≡ Ok i → x.inode ≡ i) [ true ↦ λ s. cc | false ↦ λ s. absurd (cc) ] e)

@@ -8,7 +8,8 @@ use Rattle.std.proofs.lemmas.List.Sums.{fails_before_first}
 use Rattle.std.specs.Option.{option_or}
 use Rattle.posix_calls.specs.declared.errno.Errno.{Errno}
 use Rattle.posix_calls.specs.Name.{is_name}
-use Rattle.posix_calls.specs.Path.{has_no_slash, is_invalid, fault, first_fault, first_is_faultless, components}
+use Rattle.posix_calls.specs.Path.{is_invalid, fault, first_fault, components}
+use Rattle.posix_calls.specs.FirstName.{has_no_slash, first_is_faultless}
 
 -- a byte that no name has is a zero byte or a slash
 pub bad_bytes : (part : List ℕ) → list_any (λ b. (b == 0) || (b == 47)) part ≡ (list_any (λ b. b == 0) part || list_any (λ b. b == 47) part)

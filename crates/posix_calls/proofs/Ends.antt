@@ -1,6 +1,8 @@
 -- When a file goes: with its last name and its last descriptor.
 use Rattle.std.proofs.Common.{◌≡◌, [], ◌∷◌, true, false, refl, Some, None, ◌∙◌}
-use Rattle.posix_calls.specs.Tree.{File, State, empty_tree, set_node, set_descriptor, names_of, is_open, any_up_to}
+use Rattle.posix_calls.specs.Tree.{File, State, set_node, names_of, is_open, any_up_to}
+use Rattle.posix_calls.specs.Own.{set_descriptor}
+use Rattle.posix_calls.specs.EmptyTree.{empty_tree}
 use Rattle.posix_calls.specs.declared.operation.Operation.TheVariants.{CloseFile}
 use Rattle.posix_calls.specs.Operations.{state_after}
 use Rattle.posix_calls.proofs.Changes.{bare_names}

@@ -2,7 +2,7 @@
 use Rattle.std.proofs.Common.{◌≡◌, ◌≢◌, ℕ, ◌<◌, ◌≤◌, List, [], ◌∷◌, refl, Some, None, cond, ap, sym, ◌∙◌, subst, Bool, true, false, ◌==◌, if◌then◌else◌}
 use Rattle.std.specs.Prelude.{option_map, ◌&&◌, not}
 use Rattle.std.specs.FinMap as fin
-use Rattle.posix_calls.specs.Content.{written, resized}
+use Rattle.posix_calls.specs.Content.{with_bytes, with_length}
 use Rattle.posix_calls.specs.Tree.{Tree, File, Dir, with_own, Own, State, set_node, names_of, is_open, bytes_of, entries_of}
 use Rattle.posix_calls.specs.declared.descriptor.Descriptor.{Descriptor}
 use Rattle.posix_calls.specs.Query.{dir_test}
@@ -11,7 +11,7 @@ use Rattle.posix_calls.specs.declared.operation.Operation.{Operation}
 use Rattle.posix_calls.specs.declared.operation.Replaced.{Replaced}
 use Rattle.posix_calls.specs.declared.operation.Operation.TheVariants.{Tell, NewDir, NewFile, OpenFile, CloseFile, Write, Resize, RemoveDir, AddName, DropName, Move}
 use Rattle.posix_calls.specs.declared.operation.Replaced.TheVariants.{Nothing, OldFile, OldDir}
-use Rattle.posix_calls.specs.Operations.{entered, left, less_unused, less_replaced, tree_after, makes, IsFree, state_after}
+use Rattle.posix_calls.specs.Operations.{with_entry, without_entry, less_unused, less_replaced, tree_after, makes, IsFree, state_after}
 use Rattle.posix_calls.specs.WellFormed.{IsDirectory, IsFile, IsWellFormed}
 use Rattle.posix_calls.proofs.Changes.{IsBare, IsRoom, entry, entry_parent, bare_entry, bare_file, bare_entries, set_there, set_other, entered_kind, left_kind, left_here, left_keeps}
 use Rattle.posix_calls.proofs.Reached.{Avoids, Chain, nowhere, chain_moves}
@@ -63,14 +63,14 @@ avoids_bare : (t : Tree) (j a : ℕ) (qs : List ℕ) (q : ℕ) → IsBare (t j) 
 avoids_bare t j a [] q bare other e = tt
 avoids_bare t j a (c ∷ qs) q bare other e = (λ same. nowhere t j qs q bare other (subst (λ x. Chain t x qs q) same e.1), avoids_bare t j c qs q bare other e.1)
 
-module _ (s : State) (u : Tree) (from to : Location) (i j : ℕ) (is : entry s.tree from ≡ Some i) (other : i ≢ j) (there : entry s.tree to ≡ Some j) (bare : IsBare (s.tree j)) (less : IsLess (left s.tree to) u j) where
+module _ (s : State) (u : Tree) (from to : Location) (i j : ℕ) (is : entry s.tree from ≡ Some i) (other : i ≢ j) (there : entry s.tree to ≡ Some j) (bare : IsBare (s.tree j)) (less : IsLess (without_entry s.tree to) u j) where
   parent : IsDirectory (s.tree to.parent)
   parent = entry_parent (s.tree to.parent) to.name j there
 
   pub parent_apart : to.parent ≢ j
   parent_apart same = bare_entry (s.tree j) to.name j bare (ap (λ k. entry s.tree (record { parent = k; name = to.name })) (sym same) ∙ there)
 
-  same_entry : (x : Location) → entry u x ≡ entry (left s.tree to) x
+  same_entry : (x : Location) → entry u x ≡ entry (without_entry s.tree to) x
   same_entry x = ap (λ m. fin.get m x.name) (less.entries x.parent)
 
   -- then the moved name finds what it needs
@@ -80,24 +80,24 @@ module _ (s : State) (u : Tree) (from to : Location) (i j : ℕ) (is : entry s.t
   pub room_after : IsRoom u to
   room_after = record { directory = less.kinds to.parent parent_apart ∙ left_kind s.tree to parent to.parent ∙ parent; none = same_entry to ∙ left_here s.tree to }
 
-  pub moved_after : IsWellFormed (record { tree = u; descriptors = s.descriptors }) → IsWay s.tree i to.parent → IsWellFormed (record { tree = entered (left u from) to i; descriptors = s.descriptors })
+  pub moved_after : IsWellFormed (record { tree = u; descriptors = s.descriptors }) → IsWay s.tree i to.parent → IsWellFormed (record { tree = with_entry (without_entry u from) to i; descriptors = s.descriptors })
   moved_after fine way = moved_fine (record { tree = u; descriptors = s.descriptors }) from to i fine from_after room_after
       (way.0, way.1, chain_moves s.tree u j (λ a c off e. (e.0, same_entry (record { parent = a; name = e.0 }) ∙ left_keeps s.tree to j there (record { parent = a; name = e.0 }) c off e.1)) 1 way.0 to.parent (avoids_bare s.tree j 1 way.0 to.parent bare parent_apart way.2) way.2)
 
-pub bare_left : (t : Tree) (to : Location) (j : ℕ) → entry t to ≡ Some j → IsBare (t j) → IsBare (left t to j)
+pub bare_left : (t : Tree) (to : Location) (j : ℕ) → entry t to ≡ Some j → IsBare (t j) → IsBare (without_entry t to j)
 bare_left t to j there bare = ap entries_of (set_other t to.parent j _ (λ same. bare_entry (t j) to.name j bare (ap (λ k. entry t (record { parent = k; name = to.name })) same ∙ there))) ∙ bare
 
 replaced_fine : (s : State) (from to : Location) (i : ℕ) (replaced : Replaced) → IsWellFormed s → entry s.tree from ≡ Some i → FitsReplaced s.tree to i replaced → IsWay s.tree i to.parent
-    → IsWellFormed (record { tree = entered (left (less_replaced s.descriptors s.tree to replaced) from) to i; descriptors = s.descriptors })
+    → IsWellFormed (record { tree = with_entry (without_entry (less_replaced s.descriptors s.tree to replaced) from) to i; descriptors = s.descriptors })
 replaced_fine s from to i Nothing fine is fits way = moved_fine s from to i fine is fits way
 replaced_fine s from to i (OldFile j) fine is fits way =
     let bare = bare_file (s.tree j) fits.2 in
-    let u = less_unused s.descriptors (left s.tree to) j in
-    let less = less_if (names_of (left s.tree to) j == 0 && not (is_open s.descriptors j)) (left s.tree to) j (bare_left s.tree to j fits.1 bare) in
+    let u = less_unused s.descriptors (without_entry s.tree to) j in
+    let less = less_if (names_of (without_entry s.tree to) j == 0 && not (is_open s.descriptors j)) (without_entry s.tree to) j (bare_left s.tree to j fits.1 bare) in
     moved_after s u from to i j is fits.0 fits.1 bare less (dropped_fine s to j fine fits.1 fits.2) way
 replaced_fine s from to i (OldDir j) fine is fits way =
-    let less = less_none (left s.tree to) j (bare_left s.tree to j fits.1 fits.3) in
-    moved_after s (set_node (left s.tree to) j None) from to i j is fits.0 fits.1 fits.3 less (removed_fine s to j fine fits.1 fits.2 fits.3) way
+    let less = less_none (without_entry s.tree to) j (bare_left s.tree to j fits.1 fits.3) in
+    moved_after s (set_node (without_entry s.tree to) j None) from to i j is fits.0 fits.1 fits.3 less (removed_fine s to j fine fits.1 fits.2 fits.3) way
 
 -- ---- every operation
 
@@ -124,14 +124,14 @@ operation_fine s client new (NewFile at number r w) fine low high fits free =
     let made = set_node s.tree new (Some (File [])) in
     let apart : at.parent ≢ new = λ same. let clash : None ≡ Some true = sym (ap (option_map dir_test) f.none) ∙ ap (λ k. option_map dir_test (s.tree k)) (sym same) ∙ room.directory in cc in
     let parent : IsDirectory (made at.parent) = ap (option_map dir_test) (set_other s.tree new at.parent (Some (File [])) apart) ∙ room.directory in
-    opened_fine (record { tree = entered made at new; descriptors = s.descriptors }) client number new r w
+    opened_fine (record { tree = with_entry made at new; descriptors = s.descriptors }) client number new r w
     (made_fine s at new (File []) fine room f.none f.low f.high refl)
     (entered_kind made at new parent new ∙ ap (option_map dir_test) (set_there s.tree new (Some (File []))))
     low high fits.1.few fits.1.free
 operation_fine s client new (OpenFile i empties number r w) fine low high fits free = opened_if s client number i empties r w fine fits.0 low high fits.1
 operation_fine s client new (CloseFile i number) fine low high fits free = closed_fine s client number i fits.0 fine fits.1 fits.2
-operation_fine s client new (Write i at bytes) fine low high fits free = kept_held s client new (Write i at bytes) (written_fine s i (written at bytes (bytes_of (s.tree i))) fine fits)
-operation_fine s client new (Resize i len) fine low high fits free = kept_held s client new (Resize i len) (written_fine s i (resized len (bytes_of (s.tree i))) fine fits)
+operation_fine s client new (Write i at bytes) fine low high fits free = kept_held s client new (Write i at bytes) (written_fine s i (with_bytes at bytes (bytes_of (s.tree i))) fine fits)
+operation_fine s client new (Resize i len) fine low high fits free = kept_held s client new (Resize i len) (written_fine s i (with_length len (bytes_of (s.tree i))) fine fits)
 operation_fine s client new (RemoveDir at i) fine low high fits free = kept_held s client new (RemoveDir at i) (removed_fine s at i fine fits.0 fits.1 fits.2)
 operation_fine s client new (AddName at i) fine low high fits free = kept_held s client new (AddName at i) (added_fine s at i fine fits.0 fits.1)
 operation_fine s client new (DropName at i) fine low high fits free = kept_held s client new (DropName at i) (dropped_fine s at i fine fits.0 fits.1)

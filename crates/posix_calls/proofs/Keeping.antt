@@ -1,11 +1,11 @@
 -- Each call that is not refused comes to an operation that keeps the limits, and so does a step.
 use Rattle.std.proofs.Common.{◌≡◌, ℕ, ◌≤◌, List, [], length, refl, Some, None, sym, subst, Bool, true, false, arith, if◌then◌else◌}
 use Rattle.std.specs.FinMap as fin
-use Rattle.posix_calls.specs.Content.{written, resized}
+use Rattle.posix_calls.specs.Content.{with_bytes, with_length}
 use Rattle.posix_calls.specs.Tree.{File, Dir, State, set_node, bytes_of}
 use Rattle.posix_calls.specs.declared.operation.Operation.{Operation}
 use Rattle.posix_calls.specs.declared.operation.Operation.TheVariants.{Tell, NewDir, NewFile, OpenFile, CloseFile, Write, Resize, RemoveDir, AddName, DropName, Move}
-use Rattle.posix_calls.specs.Operations.{entered, left, less_replaced, held_after, state_after, makes, IsFree}
+use Rattle.posix_calls.specs.Operations.{with_entry, without_entry, less_replaced, held_after, state_after, makes, IsFree}
 use Rattle.posix_calls.specs.WellFormed.{IsFile, IsWellFormed, IsWithinLimits}
 use Rattle.posix_calls.proofs.Changes.{bare_file}
 use Rattle.posix_calls.proofs.Trees.{tree_of, range_of}
@@ -36,20 +36,20 @@ operation_within s client new (CloseFile i number) fine within fits able free =
     let file : IsFile (t i) = subst (λ k. IsFile (t k)) fits.2 (fine.opened client number fits.0 fits.1) in
     let range = range_of t i false (tree_of s fine) file in
     lesser_within t _ within (lesser_unused t held i (nodes_of t within) (bare_file (t i) file) range.0 range.1)
-operation_within s client new (Write i at bytes) fine within fits able free = within_written s i (written at bytes (bytes_of (s.tree i))) fine within fits (written_length at bytes (bytes_of (s.tree i)) 1048576 able (within.sizes i))
-operation_within s client new (Resize i len) fine within fits able free = within_written s i (resized len (bytes_of (s.tree i))) fine within fits (let e = resized_length len (bytes_of (s.tree i)) in omega (arith, e, able))
+operation_within s client new (Write i at bytes) fine within fits able free = within_written s i (with_bytes at bytes (bytes_of (s.tree i))) fine within fits (written_length at bytes (bytes_of (s.tree i)) 1048576 able (within.sizes i))
+operation_within s client new (Resize i len) fine within fits able free = within_written s i (with_length len (bytes_of (s.tree i))) fine within fits (let e = resized_length len (bytes_of (s.tree i)) in omega (arith, e, able))
 operation_within s client new (RemoveDir at i) fine within fits able free =
     let t = s.tree in
     let range = range_of t i true (tree_of s fine) fits.1 in
     let first = lesser_left s at i fine (nodes_of t within) fits.0 in
-    lesser_within t _ within (lesser_both t (left t at) _ first (lesser_set (left t at) i None first.nodes (bare_left t at i fits.0 fits.2) refl range.0 range.1 none_within))
+    lesser_within t _ within (lesser_both t (without_entry t at) _ first (lesser_set (without_entry t at) i None first.nodes (bare_left t at i fits.0 fits.2) refl range.0 range.1 none_within))
 operation_within s client new (AddName at i) fine within fits able free = within_added s at i fine within fits.0 able.0 able.1
 operation_within s client new (DropName at i) fine within fits able free =
     let t = s.tree in
     let held = held_after client new s.descriptors (DropName at i) in
     let range = range_of t i false (tree_of s fine) fits.1 in
     let first = lesser_left s at i fine (nodes_of t within) fits.0 in
-    lesser_within t _ within (lesser_both t (left t at) _ first (lesser_unused (left t at) held i first.nodes (bare_left t at i fits.0 (bare_file (t i) fits.1)) range.0 range.1))
+    lesser_within t _ within (lesser_both t (without_entry t at) _ first (lesser_unused (without_entry t at) held i first.nodes (bare_left t at i fits.0 (bare_file (t i) fits.1)) range.0 range.1))
 operation_within s client new (Move from to i is_dir replaced) fine within fits able free =
-    subst (λ held. IsWithinLimits (entered (left (less_replaced held s.tree to replaced) from) to i)) (sym (with_same s.descriptors client))
+    subst (λ held. IsWithinLimits (with_entry (without_entry (less_replaced held s.tree to replaced) from) to i)) (sym (with_same s.descriptors client))
     (within_replaced s from to i replaced fine within fits.0 fits.1 able.0 able.1)

@@ -3,7 +3,8 @@ use Rattle.std.proofs.Common.{◌≡◌, refl, Some, None, Result, ap, ◌∙◌
 use Rattle.posix_calls.specs.declared.errno.Errno.{Errno}
 use Rattle.posix_calls.specs.declared.operation.Missing.{Missing}
 use Rattle.posix_calls.specs.declared.operation.Missing.TheVariants as missing
-use Rattle.posix_calls.specs.Query.{Query, Gives, Refuses, IsDir, Look, Range, View, Part, Found, Known, Unknown, blocks_missing, IsPart, IsLeft, run, run_part}
+use Rattle.posix_calls.specs.Query.{Query, Gives, Refuses, IsDir, Look, Range, View, run}
+use Rattle.posix_calls.specs.Part.{Part, Found, Known, Unknown, blocks_missing, IsPart, IsLeft, run_part}
 
 -- what is known by a part is so in the whole
 pub known_is_run : {A : Type 0} (p : Part) (v : View) → IsPart p v → (q : Query A) (r : Result A Errno) → run_part p q ≡ Known r → run v q ≡ r

@@ -5,7 +5,7 @@ use Rattle.std.proofs.lemmas.Bool.{ltb-false}
 use Rattle.std.proofs.lemmas.Bool.Decides.{eqb_tells, leb_tells}
 use Rattle.std.specs.FinMap as fin
 use Rattle.posix_calls.specs.Name.{is_name}
-use Rattle.posix_calls.specs.Path.{reading}
+use Rattle.posix_calls.specs.Path.{path_names}
 use Rattle.posix_calls.specs.declared.errno.Errno.TheVariants as errno
 use Rattle.posix_calls.specs.declared.call.Flags.{Flags}
 use Rattle.posix_calls.specs.declared.call.Call.{Call}
@@ -13,10 +13,10 @@ use Rattle.posix_calls.specs.declared.call.Call.TheVariants as call
 use Rattle.posix_calls.specs.declared.call.Reply.{Reply}
 use Rattle.posix_calls.specs.declared.call.Reply.TheVariants as reply
 use Rattle.posix_calls.specs.Tree.{Tree, Node, File, Dir, State, names_of, entries_of}
-use Rattle.posix_calls.specs.Query.{Seen, Query, Gives, View, run, view_of, seen, dir_test}
+use Rattle.posix_calls.specs.Query.{Seen, Query, Gives, View, run, view_of, seen_node, dir_test}
 use Rattle.posix_calls.specs.Query as query
-use Rattle.posix_calls.specs.Walk.{Place, said, walk, prefix, is_root, is_there, names_seen, leads_to}
-use Rattle.posix_calls.specs.Decide.{described, write_at, open_there, replacing, replacing_dir, renamed, open_path, close, pread, pwrite, truncate, mkdir, rmdir, link, unlink, rename, list_path, stat, decide}
+use Rattle.posix_calls.specs.Walk.{Place, read_or_error, walk, prefix, is_root, is_there, names_seen, leads_to}
+use Rattle.posix_calls.specs.Decide.{node_description, write_at, open_there, replaced_at, replacing_dir, rename_to, open_path, close, pread, pwrite, truncate, mkdir, rmdir, link, unlink, rename, list_path, stat, decide}
 use Rattle.posix_calls.specs.declared.operation.Operation.{Operation}
 use Rattle.posix_calls.specs.declared.operation.Replaced.{Replaced}
 use Rattle.posix_calls.specs.declared.operation.Operation.TheVariants.{Tell, Resize}
@@ -35,7 +35,7 @@ use Rattle.posix_calls.proofs.Readings.{AreNames, reading_names}
 fewer : (a b : ℕ) → nat_le a b ≡ false → b < a
 fewer a b e = elim (leb_tells a b) [ inl more ↦ absurd (let clash : true ≡ false = sym more.0 ∙ e in cc) | inr less ↦ less.1 ]
 
-said_is : {A : Type 0} (v : View) (r : Result A _) (x : A) → run v (said r) ≡ Ok x → r ≡ Ok x
+said_is : {A : Type 0} (v : View) (r : Result A _) (x : A) → run v (read_or_error r) ≡ Ok x → r ≡ Ok x
 unfolding run
 said_is v (Ok y) x e = e
 said_is v (Err y) x e = absurd (cc)
@@ -96,7 +96,7 @@ module _ (s : State) (fine : IsWellFormed s) where
       let exists = bind_ok v _ _ _ place.2 in
       let is_dir = bind_ok v _ _ _ exists.2 in
       let refused = bind_ok v _ _ _ is_dir.2 in
-      there_able names.0 place.0 number.0 f place.0.inode operation (reading_names path names.0 (said_is v (reading path) names.0 names.1)) place.1 refl refused.2
+      there_able names.0 place.0 number.0 f place.0.inode operation (reading_names path names.0 (said_is v (path_names path) names.0 names.1)) place.1 refl refused.2
 
   write_able : (i at : ℕ) (bytes : List ℕ) (operation : Operation) → run v (write_at i at bytes) ≡ Ok operation → AbleIn operation
   write_able i at [] operation e = able_as _ operation (given v e) tt
@@ -141,7 +141,7 @@ module _ (s : State) (fine : IsWellFormed s) where
       let place = bind_ok v _ _ _ names.2 in
       let new = bind_ok v _ _ _ place.2 in
       let room = bind_ok v _ _ _ new.2 in
-      able_as _ operation (given v room.2) (few_at names.0 place.0 (reading_names path names.0 (said_is v (reading path) names.0 names.1)) place.1 (not_refused v errno.Exists _ _ new.1) (not_refused v errno.NoSpace _ _ room.1))
+      able_as _ operation (given v room.2) (few_at names.0 place.0 (reading_names path names.0 (said_is v (path_names path) names.0 names.1)) place.1 (not_refused v errno.Exists _ _ new.1) (not_refused v errno.NoSpace _ _ room.1))
 
   rmdir_able : (path : List ℕ) (operation : Operation) → run v (rmdir path) ≡ Ok operation → AbleIn operation
   unfolding rmdir
@@ -167,7 +167,7 @@ module _ (s : State) (fine : IsWellFormed s) where
       let refused = bind_ok v _ _ _ is_dir.2 in
       able_as _ operation (given v refused.2) tt
 
-  names_are : (n : ℕ) (o : Option Node) → IsFile o → names_seen (option_map (seen n) o) ≡ n
+  names_are : (n : ℕ) (o : Option Node) → IsFile o → names_seen (option_map (seen_node n) o) ≡ n
   names_are n None e = absurd (cc)
   names_are n (Some (File bytes)) e = refl
   names_are n (Some (Dir es)) e = absurd (cc)
@@ -187,7 +187,7 @@ module _ (s : State) (fine : IsWellFormed s) where
       let many = bind_ok v _ _ _ names.2 in
       let full = bind_ok v _ _ _ many.2 in
       let file = file_at s fine old_names.0 from.0 i.0 is_dir.0 from.1 (there_is v from.0.inode i.0 i.1) is_dir.1 (not_refused v errno.NotPermitted _ _ refused.1) in
-      let few = few_at new_names.0 to.0 (reading_names new new_names.0 (said_is v (reading new) new_names.0 new_names.1)) to.1 (not_refused v errno.Exists _ _ exists.1) (not_refused v errno.NoSpace _ _ full.1) in
+      let few = few_at new_names.0 to.0 (reading_names new new_names.0 (said_is v (path_names new) new_names.0 new_names.1)) to.1 (not_refused v errno.Exists _ _ exists.1) (not_refused v errno.NoSpace _ _ full.1) in
       let same : names_of s.tree i.0 ≡ names.0 = sym (names_are (names_of s.tree i.0) (s.tree i.0) file) ∙ looked v i.0 names_seen names.0 names.1 in
       able_as _ operation (given v full.2) (few, subst (λ n. n < 1000) (sym same) (fewer 1000 names.0 (not_refused v errno.TooManyLinks _ _ many.1)))
 
@@ -202,7 +202,7 @@ module _ (s : State) (fine : IsWellFormed s) where
   room_as : (from to : Place) (x y : Replaced) → x ≡ y → HasRoom s.tree from.location to.location x → HasRoom s.tree from.location to.location y
   room_as from to x y e = subst (HasRoom s.tree from.location to.location) e
 
-  replaced_room : (from to : Place) (old_dir : Bool) (o : Option ℕ) (replaced : Replaced) → IsEnd s.tree to → run v (replacing from to old_dir o) ≡ Ok replaced → HasRoom s.tree from.location to.location replaced
+  replaced_room : (from to : Place) (old_dir : Bool) (o : Option ℕ) (replaced : Replaced) → IsEnd s.tree to → run v (replaced_at from to old_dir o) ≡ Ok replaced → HasRoom s.tree from.location to.location replaced
   replaced_room from to old_dir None replaced end e =
       let full = bind_ok v _ _ _ e in
       room_as from to _ replaced (given v full.2) (room_or_same from to end (not_refused v errno.NoSpace _ _ full.1))
@@ -218,7 +218,7 @@ module _ (s : State) (fine : IsWellFormed s) where
         | false ↦ λ rest. room_as from to _ replaced (given v rest) tt
       ] no_file.2
 
-  renamed_able : (from to : Place) (i : ℕ) (operation : Operation) → IsEnd s.tree to → run v (renamed from to i) ≡ Ok operation → AbleIn operation
+  renamed_able : (from to : Place) (i : ℕ) (operation : Operation) → IsEnd s.tree to → run v (rename_to from to i) ≡ Ok operation → AbleIn operation
   renamed_able from to i operation end e =
       let old_dir = bind_ok v _ _ _ e in
       let replaced = bind_ok v _ _ _ old_dir.2 in
@@ -235,8 +235,8 @@ module _ (s : State) (fine : IsWellFormed s) where
       let to = bind_ok v _ _ _ i.2 in
       let under = bind_ok v _ _ _ to.2 in
       let roots = no_bit (is_root old_names.0) (is_root new_names.0) (not_refused v errno.Busy _ _ busy.1) in
-      let end = end_beyond new_names.0 to.0 (reading_names new new_names.0 (said_is v (reading new) new_names.0 new_names.1)) to.1 roots.1 in
-      elim (leads_to i.0 to.0.inode) as (λ b. run v (cond b (Gives (Tell reply.Done)) (renamed from.0 to.0 i.0)) ≡ Ok operation → AbleIn operation) [
+      let end = end_beyond new_names.0 to.0 (reading_names new new_names.0 (said_is v (path_names new) new_names.0 new_names.1)) to.1 roots.1 in
+      elim (leads_to i.0 to.0.inode) as (λ b. run v (cond b (Gives (Tell reply.Done)) (rename_to from.0 to.0 i.0)) ≡ Ok operation → AbleIn operation) [
         | true ↦ λ done. able_as _ operation (given v done) tt
         | false ↦ λ rest. renamed_able from.0 to.0 i.0 operation end rest
       ] under.2
@@ -254,7 +254,7 @@ module _ (s : State) (fine : IsWellFormed s) where
       let entries = bind_ok v _ _ _ refused.2 in
       able_as _ operation (given v entries.2) tt
 
-  described_able : (o : Option Seen) (operation : Operation) → run v (described o) ≡ Ok operation → AbleIn operation
+  described_able : (o : Option Seen) (operation : Operation) → run v (node_description o) ≡ Ok operation → AbleIn operation
   unfolding run
   described_able None operation e = absurd (cc)
   described_able (Some (query.File names bytes)) operation e = able_as _ operation (given v e) tt

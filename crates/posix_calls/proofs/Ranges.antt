@@ -2,11 +2,12 @@
 use Rattle.std.proofs.Common.{◌≡◌, ℕ, ◌<◌, ◌==◌, List, [], ◌∷◌, length, Bool, true, false, refl, subst, Option, Some, None, Result, Ok, Err, cond, nat_lt, ltb-false}
 use Rattle.std.specs.Prelude.{IfOk}
 use Rattle.posix_calls.specs.Tree.{Own}
-use Rattle.posix_calls.specs.Query.{Seen, File, Dir, Query, Gives, Refuses, IsDir, Look, Range, ◌>>=◌, Part, Known, Unknown, blocks_missing, run_part}
+use Rattle.posix_calls.specs.Query.{Seen, File, Dir, Query, Gives, Refuses, IsDir, Look, Range, ◌>>=◌}
+use Rattle.posix_calls.specs.Part.{Part, Known, Unknown, blocks_missing, run_part}
 use Rattle.posix_calls.specs.Walk.{Place, refuse, leads_to}
-use Rattle.posix_calls.specs.Answers.{Tells}
-use Rattle.posix_calls.specs.Decide.{lowest_free, number_or, open_there, open_path, close, pread, write_at, pwrite, truncate, mkdir, rmdir, link, unlink, renamed, rename, list_path, described, stat}
-use Rattle.posix_calls.specs.Operations.{IsInRange}
+use Rattle.posix_calls.specs.Answers.{IsAnswer}
+use Rattle.posix_calls.specs.Decide.{lowest_free, number_or, open_there, open_path, close, pread, write_at, pwrite, truncate, mkdir, rmdir, link, unlink, rename_to, rename, list_path, node_description, stat}
+use Rattle.posix_calls.specs.Exact.{IsInRange}
 use Rattle.posix_calls.specs.declared.call.Flags.{Flags}
 use Rattle.posix_calls.specs.declared.call.Reply.TheVariants as reply
 use Rattle.posix_calls.specs.declared.errno.Errno.{Errno}
@@ -69,7 +70,7 @@ found P p (Range i at count next) x all e =
     ] e
 
 -- so does what is told of a call
-pub told_in_range : {p : Part} {q : Query Operation} (r : Result Operation DecideError) → Always IsInRange q → Tells p q r → IfOk r (λ operation. IsInRange operation)
+pub told_in_range : {p : Part} {q : Query Operation} (r : Result Operation DecideError) → Always IsInRange q → IsAnswer p q r → IfOk r (λ operation. IsInRange operation)
 told_in_range {p = p} {q = q} (Ok operation) all tells = found IsInRange p q operation all (tells.gives operation refl)
 told_in_range (Err e) all tells = tt
 
@@ -137,7 +138,7 @@ unfolding rename
 rename_in_range old new =
     then_always _ _ (λ old_names. then_always _ _ (λ new_names. then_always _ _ (λ _. then_always _ _ (λ from. then_always _ _ (λ i. then_always _ _ (λ to. then_always _ _ (λ _. moved from to i (leads_to i to.inode))))))))
   where
-    moved : (from to : Place) (i : ℕ) (same : Bool) → Always IsInRange (cond same (Gives (Tell reply.Done)) (renamed from to i))
+    moved : (from to : Place) (i : ℕ) (same : Bool) → Always IsInRange (cond same (Gives (Tell reply.Done)) (rename_to from to i))
     moved from to i true = tt
     moved from to i false = then_always _ _ (λ old_dir. then_always _ _ (λ replaced. tt))
 
@@ -145,7 +146,7 @@ pub list_in_range : (path : List ℕ) → Always IsInRange (list_path path)
 unfolding list_path
 list_in_range path = then_always _ _ (λ names. then_always _ _ (λ place. then_always _ _ (λ i. then_always _ _ (λ is_dir. then_always _ _ (λ _. then_always _ _ (λ entries. tt))))))
 
-described_in_range : (s : Option Seen) → Always IsInRange (described s)
+described_in_range : (s : Option Seen) → Always IsInRange (node_description s)
 described_in_range None = tt
 described_in_range (Some (File names size)) = tt
 described_in_range (Some (Dir entries)) = tt

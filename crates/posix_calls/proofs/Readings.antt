@@ -8,7 +8,8 @@ use Rattle.std.specs.Option.{option_or}
 use Rattle.posix_calls.specs.declared.errno.Errno.{Errno}
 use Rattle.posix_calls.specs.declared.errno.Errno.TheVariants.{Invalid, NameTooLong}
 use Rattle.posix_calls.specs.Name.{is_name}
-use Rattle.posix_calls.specs.Path.{components, has_no_slash, is_invalid, fault, first_fault, unless, reading_behind, reading_short, reading}
+use Rattle.posix_calls.specs.Path.{components, is_invalid, fault, first_fault, unless, reading_behind, reading_short, path_names}
+use Rattle.posix_calls.specs.FirstName.{has_no_slash}
 use Rattle.posix_calls.proofs.Components.{component_is_name, found_at, components_step, step_has_no_slash, components_last, last_has_no_slash}
 
 -- all of them are names
@@ -73,7 +74,7 @@ short_names (b ∷ bytes) names e = by_slash (b == 47) e where
   by_slash false e = absurd (cc)
 
 -- what was read is a list of names
-pub reading_names : (bytes : List ℕ) (names : List (List ℕ)) → reading bytes ≡ Ok names → AreNames names
+pub reading_names : (bytes : List ℕ) (names : List (List ℕ)) → path_names bytes ≡ Ok names → AreNames names
 reading_names bytes names e = by_length (nat_lt 1024 (length bytes)) e where
   by_length : (c : Bool) → (if c then Err NameTooLong else reading_short bytes) ≡ Ok names → AreNames names
   by_length true e = absurd (cc)

@@ -3,7 +3,8 @@ use Rattle.std.proofs.Common.{◌≡◌, ℕ, [], ◌∷◌, List, true, false, 
 use Rattle.std.specs.Prelude.{codes}
 use Rattle.std.specs.FinMap as fin
 use Rattle.posix_calls.specs.Content.{Entries}
-use Rattle.posix_calls.specs.Tree.{Tree, Own, empty_tree, set_node, set_own}
+use Rattle.posix_calls.specs.Tree.{Tree, Own, set_node, set_own}
+use Rattle.posix_calls.specs.EmptyTree.{empty_tree}
 use Rattle.posix_calls.specs.Tree as N
 use Rattle.posix_calls.specs.declared.errno.Errno.TheVariants as errno
 use Rattle.posix_calls.specs.declared.call.Flags.{Flags}

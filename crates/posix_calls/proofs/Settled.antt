@@ -4,7 +4,8 @@ use Rattle.std.specs.Prelude.{option_map, IsSome, is_some, ◌||◌, nat_lt}
 use Rattle.std.proofs.lemmas.Bool.{ltb-false, ltb-true}
 use Rattle.std.proofs.lemmas.Bool.Decides.{eqb_tells}
 use Rattle.std.specs.FinMap as fin
-use Rattle.posix_calls.specs.Tree.{Tree, Node, File, Dir, State, entries_of, empty_tree, opening, names_of, names_in, sum_up_to}
+use Rattle.posix_calls.specs.Tree.{Tree, Node, File, Dir, State, entries_of, names_of, names_in, sum_up_to}
+use Rattle.posix_calls.specs.EmptyTree.{empty_tree, empty_state}
 use Rattle.posix_calls.specs.Query.{dir_test}
 use Rattle.posix_calls.specs.Run.{settled_tree, settled}
 use Rattle.posix_calls.specs.Resolve.{resolve_from}
@@ -41,7 +42,7 @@ at_root : (i : ℕ) → i ≡ 1 → resolve_from empty_tree [] 1 ≡ Ok i
 unfolding resolve_from
 at_root i e = ap (λ k. Ok k) (sym e)
 
-pub opening_fine : IsWellFormed opening
+pub opening_fine : IsWellFormed empty_state
 opening_fine = record {
   root = refl;
   root_names = no_names 1;

@@ -1,9 +1,11 @@
 -- No call but `pread` asks for bytes.
 use Rattle.std.proofs.Common.{◌≡◌, ℕ, List, [], ◌∷◌, Bool, true, false, refl, Option, Some, None, Result, Ok, Err, cond}
 use Rattle.posix_calls.specs.Tree.{Own}
-use Rattle.posix_calls.specs.Query.{Seen, File, Dir, Query, Gives, Refuses, IsDir, Look, Range, ◌>>=◌, AsksNoBytes, Part, Found, Unknown, run_part}
-use Rattle.posix_calls.specs.Walk.{Place, refuse, said, there, kind_at, directory, directory_if, walk, leads_to}
-use Rattle.posix_calls.specs.Decide.{opened, number_or, empties, open_there, open_path, close, write_at, pwrite, truncate, mkdir, rmdir, link, unlink, replacing, replacing_dir, renamed, rename, list_path, described, stat, decide, is_pread}
+use Rattle.posix_calls.specs.Query.{Seen, File, Dir, Query, Gives, Refuses, IsDir, Look, Range, ◌>>=◌}
+use Rattle.posix_calls.specs.Part.{AsksNoBytes, Part, Found, Unknown, run_part}
+use Rattle.posix_calls.specs.Walk.{Place, refuse, read_or_error, there, kind_at, directory, directory_if, walk, leads_to}
+use Rattle.posix_calls.specs.Decide.{open_inode, number_or, empties, open_there, open_path, close, write_at, pwrite, truncate, mkdir, rmdir, link, unlink, replaced_at, replacing_dir, rename_to, rename, list_path, node_description, stat, decide}
+use Rattle.posix_calls.specs.Kinds.{is_pread}
 use Rattle.posix_calls.specs.declared.call.Call.{Call}
 use Rattle.posix_calls.specs.declared.call.Call.TheVariants as call
 use Rattle.posix_calls.specs.declared.call.Flags.{Flags}
@@ -47,7 +49,7 @@ refuse_silent : (e : Errno) (b : Bool) → AsksNoBytes (refuse e b)
 refuse_silent e true = tt
 refuse_silent e false = tt
 
-said_silent : {A : Type 0} (r : Result A Errno) → AsksNoBytes (said r)
+said_silent : {A : Type 0} (r : Result A Errno) → AsksNoBytes (read_or_error r)
 said_silent (Ok x) = tt
 said_silent (Err e) = tt
 
@@ -73,7 +75,7 @@ walk_silent dir way [] = tt
 walk_silent dir way (name ∷ []) = silent_bind _ _ (λ s. tt) (λ entries. tt)
 walk_silent dir way (name ∷ next ∷ names) = silent_bind _ _ (λ s. tt) (λ entries. silent_bind _ _ (directory_silent _) (λ child. walk_silent child (dir ∷ way) (next ∷ names)))
 
-opened_silent : (test : Descriptor → Bool) (o : Option Descriptor) → AsksNoBytes (opened test o)
+opened_silent : (test : Descriptor → Bool) (o : Option Descriptor) → AsksNoBytes (open_inode test o)
 opened_silent test None = tt
 opened_silent test (Some d) = elim (test d) as (λ b. AsksNoBytes (cond b (Gives d.inode) (Refuses errno.BadDescriptor))) [ true ↦ tt | false ↦ tt ]
 
@@ -136,11 +138,11 @@ replaced_silent : (j : ℕ) (is_dir : Bool) → AsksNoBytes (cond is_dir (replac
 replaced_silent j true = silent_bind _ _ (λ s. tt) (λ entries. silent_bind _ _ (refuse_silent _ _) (λ _. tt))
 replaced_silent j false = tt
 
-replacing_silent : (from to : Place) (old_dir : Bool) (o : Option ℕ) → AsksNoBytes (replacing from to old_dir o)
+replacing_silent : (from to : Place) (old_dir : Bool) (o : Option ℕ) → AsksNoBytes (replaced_at from to old_dir o)
 replacing_silent from to old_dir None = silent_bind _ _ (refuse_silent _ _) (λ _. tt)
 replacing_silent from to old_dir (Some j) = silent_bind _ _ (kind_silent (Some j)) (λ new_dir. silent_bind _ _ (refuse_silent _ _) (λ _. silent_bind _ _ (refuse_silent _ _) (λ _. replaced_silent j new_dir)))
 
-renamed_silent : (from to : Place) (i : ℕ) (same : Bool) → AsksNoBytes (cond same (Gives (Tell reply.Done)) (renamed from to i))
+renamed_silent : (from to : Place) (i : ℕ) (same : Bool) → AsksNoBytes (cond same (Gives (Tell reply.Done)) (rename_to from to i))
 renamed_silent from to i true = tt
 renamed_silent from to i false = silent_bind _ _ (kind_silent _) (λ old_dir. silent_bind _ _ (replacing_silent from to old_dir to.inode) (λ replaced. tt))
 
@@ -153,7 +155,7 @@ list_silent : (path : List ℕ) → AsksNoBytes (list_path path)
 unfolding list_path
 list_silent path = silent_bind _ _ (said_silent _) (λ names. silent_bind _ _ (walk_silent _ _ names) (λ place. silent_bind _ _ (there_silent _) (λ i. silent_bind _ _ (kind_silent _) (λ is_dir. silent_bind _ _ (refuse_silent _ _) (λ _. silent_bind _ _ (λ s. tt) (λ entries. tt))))))
 
-described_silent : (s : Option Seen) → AsksNoBytes (described s)
+described_silent : (s : Option Seen) → AsksNoBytes (node_description s)
 described_silent None = tt
 described_silent (Some (File names size)) = tt
 described_silent (Some (Dir entries)) = tt

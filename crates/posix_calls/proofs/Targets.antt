@@ -10,9 +10,10 @@ use Rattle.posix_calls.specs.declared.operation.DecideError.TheVariants as why
 use Rattle.posix_calls.specs.declared.operation.Missing.{Missing}
 use Rattle.posix_calls.specs.declared.walk.Target.{Target}
 use Rattle.posix_calls.specs.declared.limits.TheConstants.{ROOT}
-use Rattle.posix_calls.specs.Query.{Query, Gives, ◌>>=◌, Part, Found, Known, Unknown, run_part}
+use Rattle.posix_calls.specs.Query.{Query, Gives, ◌>>=◌}
+use Rattle.posix_calls.specs.Part.{Part, Found, Known, Unknown, run_part}
 use Rattle.posix_calls.specs.Walk.{Place, prefix, refuse, there, kind_at, entries_at}
-use Rattle.posix_calls.specs.Answers.{Tells, last_name, other_kind, target, no_entries}
+use Rattle.posix_calls.specs.Answers.{IsAnswer, last_name, other_kind, target, no_entries}
 use Rattle.posix_calls.proofs.Chain.{then_found, part_bind, tells_err, tells_missing, tells_memory, tells_same, gives, refuses}
 use Rattle.posix_calls.proofs.Walks.{value_or, found_after, named}
 
@@ -65,7 +66,7 @@ there_is p None i e = absurd (cc)
 there_is p (Some j) i e = let same : j ≡ i = cc in ap (λ z. Some z) same
 
 -- what follows may use the target
-pub bind_target : {B : Type 0} {p : Part} (wants : Bool) (e : Errno) (names : List (List ℕ)) {to : Target} (rest : Place → ℕ → Query B) {r : _} → Tells p (target wants e names) (Ok to) → ((walked : List ℕ) (entries : ℕ) → Tells p (rest (record { location = record { parent = to.parent; name = last_name names }; inode = Some to.inode; walked = walked; entries = entries }) to.inode) r) → Tells p (prefix names >>= (λ place. there place.inode >>= (λ i. kind_at place.inode >>= (λ is_dir. refuse e (other_kind wants is_dir) >>= (λ _. rest place i))))) r
+pub bind_target : {B : Type 0} {p : Part} (wants : Bool) (e : Errno) (names : List (List ℕ)) {to : Target} (rest : Place → ℕ → Query B) {r : _} → IsAnswer p (target wants e names) (Ok to) → ((walked : List ℕ) (entries : ℕ) → IsAnswer p (rest (record { location = record { parent = to.parent; name = last_name names }; inode = Some to.inode; walked = walked; entries = entries }) to.inode) r) → IsAnswer p (prefix names >>= (λ place. there place.inode >>= (λ i. kind_at place.inode >>= (λ is_dir. refuse e (other_kind wants is_dir) >>= (λ _. rest place i))))) r
 bind_target {p = p} wants e names {to = to} rest {r = r} h after =
     let all = sym (by_target p wants e names) ∙ h.gives to refl in
     let a = found_after (run_part p (prefix names)) (λ place. then_found (run_part p (there place.inode)) (λ i. then_found (run_part p (kind_at place.inode)) (λ is_dir. then_found (run_part p (refuse e (other_kind wants is_dir))) (λ _. Known (Ok (record { parent = place.location.parent; inode = i })))))) to all in
@@ -84,8 +85,8 @@ bind_target {p = p} wants e names {to = to} rest {r = r} h after =
     ∙ ap (λ z. then_found z (λ i. then_found (run_part p (kind_at place.inode)) (λ is_dir. then_found (run_part p (refuse e (other_kind wants is_dir))) (λ _. run_part p (rest place i))))) b.1
     ∙ ap (λ z. then_found z (λ is_dir. then_found (run_part p (refuse e (other_kind wants is_dir))) (λ _. run_part p (rest place b.0)))) c.1
     ∙ ap (λ z. then_found z (λ _. run_part p (rest place b.0))) d.1 in
-    let told = subst (λ (t : Target). Tells p (rest (record { location = record { parent = t.parent; name = last_name names }; inode = Some t.inode; walked = place.walked; entries = place.entries }) t.inode) r) (sym aimed) (after place.walked place.entries) in
-    tells_same (by_steps p wants e names rest ∙ goes) (subst (λ z. Tells p (rest z b.0) r) same told)
+    let told = subst (λ (t : Target). IsAnswer p (rest (record { location = record { parent = t.parent; name = last_name names }; inode = Some t.inode; walked = place.walked; entries = place.entries }) t.inode) r) (sym aimed) (after place.walked place.entries) in
+    tells_same (by_steps p wants e names rest ∙ goes) (subst (λ z. IsAnswer p (rest z b.0) r) same told)
 
 -- an error on the way to the target is one of what follows it
 stops_before : {B : Type 0} (x : Found Place) (y : Place → Found ℕ) (k : Place → Found Bool) (t : Bool → Found (Unit {0})) (aim : Place → ℕ → Target) (after : Place → ℕ → Found B) (d : Errno) → then_found x (λ place. then_found (y place) (λ i. then_found (k place) (λ is_dir. then_found (t is_dir) (λ _. Known (Ok (aim place i)))))) ≡ Known (Err d) → then_found x (λ place. then_found (y place) (λ i. then_found (k place) (λ is_dir. then_found (t is_dir) (λ _. after place i)))) ≡ Known (Err d)
@@ -104,7 +105,7 @@ misses_before x y k t aim after d h =
     misses_at (t is_dir) (λ _. Known (Ok (aim place i))) (λ _. after place i) d in_test (λ u never. no_gap never))))
 
 -- where the walk stops, or leads to the other kind, nothing follows
-pub bind_target_stops : {B : Type 0} {p : Part} (wants : Bool) (e : Errno) (names : List (List ℕ)) (rest : Place → ℕ → Query B) {s : DecideError} → Tells p (target wants e names) (Err s) → Tells p (prefix names >>= (λ place. there place.inode >>= (λ i. kind_at place.inode >>= (λ is_dir. refuse e (other_kind wants is_dir) >>= (λ _. rest place i))))) (Err s)
+pub bind_target_stops : {B : Type 0} {p : Part} (wants : Bool) (e : Errno) (names : List (List ℕ)) (rest : Place → ℕ → Query B) {s : DecideError} → IsAnswer p (target wants e names) (Err s) → IsAnswer p (prefix names >>= (λ place. there place.inode >>= (λ i. kind_at place.inode >>= (λ is_dir. refuse e (other_kind wants is_dir) >>= (λ _. rest place i))))) (Err s)
 bind_target_stops {p = p} wants e names rest {s = Refused d} h = tells_err (by_steps p wants e names rest ∙ stops_before (run_part p (prefix names)) (λ place. run_part p (there place.inode)) (λ place. run_part p (kind_at place.inode)) (λ is_dir. run_part p (refuse e (other_kind wants is_dir))) (λ place i. record { parent = place.location.parent; inode = i }) (λ place i. run_part p (rest place i)) d (sym (by_target p wants e names) ∙ h.refuses d refl))
 bind_target_stops {p = p} wants e names rest {s = why.Missing d} h = tells_missing (by_steps p wants e names rest ∙ misses_before (run_part p (prefix names)) (λ place. run_part p (there place.inode)) (λ place. run_part p (kind_at place.inode)) (λ is_dir. run_part p (refuse e (other_kind wants is_dir))) (λ place i. record { parent = place.location.parent; inode = i }) (λ place i. run_part p (rest place i)) d (sym (by_target p wants e names) ∙ h.missing d refl))
 bind_target_stops {p = p} wants e names rest {s = Memory} h = tells_memory p _
@@ -116,6 +117,6 @@ unfolding ◌>>=◌
 empty_first i rest = refl
 
 -- what the test alone tells
-pub refused_told : {p : Part} (e : Errno) {a b : Bool} → a ≡ b → (r : Result (Unit {0}) DecideError) → IfOk r (λ _. b ≡ false) → IfErr r (λ d. (d ≡ Refused e) × (b ≡ true)) → Tells p (refuse e a) r
-refused_told {p = p} e is (Ok x) clear refused = subst (λ z. Tells p (refuse e z) (Ok x)) (sym (is ∙ clear)) gives
-refused_told {p = p} e is (Err d) clear refused = subst (λ z. Tells p (refuse e z) (Err d)) (sym (is ∙ refused.1)) (subst (λ z. Tells {A = Unit {0}} p (refuse e true) (Err z)) (sym refused.0) refuses)
+pub refused_told : {p : Part} (e : Errno) {a b : Bool} → a ≡ b → (r : Result (Unit {0}) DecideError) → IfOk r (λ _. b ≡ false) → IfErr r (λ d. (d ≡ Refused e) × (b ≡ true)) → IsAnswer p (refuse e a) r
+refused_told {p = p} e is (Ok x) clear refused = subst (λ z. IsAnswer p (refuse e z) (Ok x)) (sym (is ∙ clear)) gives
+refused_told {p = p} e is (Err d) clear refused = subst (λ z. IsAnswer p (refuse e z) (Err d)) (sym (is ∙ refused.1)) (subst (λ z. IsAnswer {A = Unit {0}} p (refuse e true) (Err z)) (sym refused.0) refuses)

@@ -6,7 +6,7 @@ use Rattle.posix_calls.specs.Tree.{Tree, Node, Descriptors, State, set_node, nam
 use Rattle.posix_calls.specs.declared.descriptor.Descriptor.{Descriptor}
 use Rattle.posix_calls.specs.Query.{dir_test}
 use Rattle.posix_calls.specs.declared.operation.Location.{Location}
-use Rattle.posix_calls.specs.Operations.{entered, left}
+use Rattle.posix_calls.specs.Operations.{with_entry, without_entry}
 use Rattle.posix_calls.specs.WellFormed.{IsDirectory, IsFile, IsWellFormed}
 use Rattle.posix_calls.proofs.Changes.{entry, entry_parent, set_other, entered_kind, left_kind, has_name}
 use Rattle.posix_calls.proofs.Reached.{AreReached, path_chain, chain_path}
@@ -46,16 +46,16 @@ named_once t at i tree is = let range = parent_range t at i tree is in has_name 
 
 -- ---- the tree after a change
 
-pub tree_entered : (t : Tree) (at : Location) (i : ℕ) → IsTree t → IsDirectory (t at.parent) → IsTree (entered t at i)
+pub tree_entered : (t : Tree) (at : Location) (i : ℕ) → IsTree t → IsDirectory (t at.parent) → IsTree (with_entry t at i)
 tree_entered t at i tree is = record {
   root = entered_kind t at i is 1 ∙ tree.root;
-  inodes = λ j some. tree.inodes j (some_alike (t j) (entered t at i j) (sym (entered_kind t at i is j)) some);
+  inodes = λ j some. tree.inodes j (some_alike (t j) (with_entry t at i j) (sym (entered_kind t at i is j)) some);
 }
 
-pub tree_left : (t : Tree) (at : Location) → IsTree t → IsDirectory (t at.parent) → IsTree (left t at)
+pub tree_left : (t : Tree) (at : Location) → IsTree t → IsDirectory (t at.parent) → IsTree (without_entry t at)
 tree_left t at tree is = record {
   root = left_kind t at is 1 ∙ tree.root;
-  inodes = λ j some. tree.inodes j (some_alike (t j) (left t at j) (sym (left_kind t at is j)) some);
+  inodes = λ j some. tree.inodes j (some_alike (t j) (without_entry t at j) (sym (left_kind t at is j)) some);
 }
 
 pub tree_set : (t : Tree) (i : ℕ) (x : Option Node) → IsTree t → i ≢ 1 → 1 ≤ i → i ≤ 1024 → IsTree (set_node t i x)

@@ -13,9 +13,11 @@ use Rattle.posix_calls.specs.declared.operation.Missing.{Missing}
 use Rattle.posix_calls.specs.declared.operation.Missing.TheVariants as missing
 use Rattle.posix_calls.specs.declared.walk.Landing.{Landing}
 use Rattle.posix_calls.specs.declared.limits.TheConstants.{ROOT}
-use Rattle.posix_calls.specs.Query.{Seen, Query, Gives, Look, ◌>>=◌, Part, Found, Known, Unknown, run_part, run, view_of, seen, dir_test}
-use Rattle.posix_calls.specs.Walk.{Place, root_place, walk, prefix, led, directory, directory_if, entries_seen, leads_to, there, kind_at}
-use Rattle.posix_calls.specs.Answers.{Tells, entry_in, count_in, last_name, landing_of, landing, untold, place_at, child_at}
+use Rattle.posix_calls.specs.Query.{Seen, Query, Gives, Look, ◌>>=◌, run, view_of, seen_node, dir_test}
+use Rattle.posix_calls.specs.Part.{Part, Found, Known, Unknown, run_part}
+use Rattle.posix_calls.specs.Walk.{Place, root_place, walk, prefix, directory, directory_if, entries_seen, leads_to, there, kind_at}
+use Rattle.posix_calls.specs.Resolve.{walk_inode}
+use Rattle.posix_calls.specs.Answers.{IsAnswer, entry_in, count_in, last_name, landing_of, landing, without_kind, place_at, child_at}
 use Rattle.posix_calls.proofs.Chain.{then_found, part_bind, part_gives, tells_ok, tells_err, tells_missing, tells_memory, tells_same, bind_stops, gives, look_missing}
 use Rattle.std.specs.FinMap as fin
 use Rattle.posix_calls.specs.Content.{Entries}
@@ -31,8 +33,8 @@ there_is t (Some i) = refl
 
 -- from a directory on, the walk through what stands at an inode goes as the path does
 through : (t : Tree) (next : List ℕ) (names : List (List ℕ)) (way : List ℕ)
-    → ((c : ℕ) (es : Entries ℕ) → t c ≡ Some (Dir es) → run (view_of t) (walk c way (next ∷ names) >>= led) ≡ resolve_from t (next ∷ names) c)
-    → (i : ℕ) (x : Option Node) → t i ≡ x → run (view_of t) (directory_if i (option_map dir_test x) >>= (λ c. walk c way (next ∷ names)) >>= led) ≡ then_from (resolve_from t names) (child x next)
+    → ((c : ℕ) (es : Entries ℕ) → t c ≡ Some (Dir es) → run (view_of t) (walk c way (next ∷ names) >>= walk_inode) ≡ resolve_from t (next ∷ names) c)
+    → (i : ℕ) (x : Option Node) → t i ≡ x → run (view_of t) (directory_if i (option_map dir_test x) >>= (λ c. walk c way (next ∷ names)) >>= walk_inode) ≡ then_from (resolve_from t names) (child x next)
 unfolding run ◌>>=◌ resolve_from
 through t next names way ih i None is = refl
 through t next names way ih i (Some (File bytes)) is = refl
@@ -40,26 +42,26 @@ through t next names way ih i (Some (Dir es)) is = ih i es is ∙ ap (λ x. then
 
 -- so it goes through an entry, if there is one
 by_entry : (t : Tree) (next : List ℕ) (names : List (List ℕ)) (way : List ℕ)
-    → ((c : ℕ) (es : Entries ℕ) → t c ≡ Some (Dir es) → run (view_of t) (walk c way (next ∷ names) >>= led) ≡ resolve_from t (next ∷ names) c)
-    → (o : Option ℕ) → run (view_of t) (directory o >>= (λ c. walk c way (next ∷ names)) >>= led) ≡ then_from (resolve_from t (next ∷ names)) (entry_or o)
+    → ((c : ℕ) (es : Entries ℕ) → t c ≡ Some (Dir es) → run (view_of t) (walk c way (next ∷ names) >>= walk_inode) ≡ resolve_from t (next ∷ names) c)
+    → (o : Option ℕ) → run (view_of t) (directory o >>= (λ c. walk c way (next ∷ names)) >>= walk_inode) ≡ then_from (resolve_from t (next ∷ names)) (entry_or o)
 unfolding run ◌>>=◌ resolve_from
 by_entry t next names way ih None = refl
 by_entry t next names way ih (Some i) = through t next names way ih i (t i) refl
 
 -- the walk from a directory along some names
-pub walk_resolves : (t : Tree) (name : List ℕ) (names : List (List ℕ)) (way : List ℕ) (dir : ℕ) (es : Entries ℕ) → t dir ≡ Some (Dir es) → run (view_of t) (walk dir way (name ∷ names) >>= led) ≡ resolve_from t (name ∷ names) dir
+pub walk_resolves : (t : Tree) (name : List ℕ) (names : List (List ℕ)) (way : List ℕ) (dir : ℕ) (es : Entries ℕ) → t dir ≡ Some (Dir es) → run (view_of t) (walk dir way (name ∷ names) >>= walk_inode) ≡ resolve_from t (name ∷ names) dir
 unfolding run ◌>>=◌ walk resolve_from
 walk_resolves t name [] way dir es is =
-    ap (λ x. run (view_of t) (there (fin.get (entries_seen (option_map (seen (names_of t dir)) x)) name))) is
+    ap (λ x. run (view_of t) (there (fin.get (entries_seen (option_map (seen_node (names_of t dir)) x)) name))) is
     ∙ there_is t (fin.get es name)
     ∙ ap (λ x. then_from (resolve_from t []) (child x name)) (sym is)
 walk_resolves t name (next ∷ names) way dir es is =
-    ap (λ x. run (view_of t) (directory (fin.get (entries_seen (option_map (seen (names_of t dir)) x)) name) >>= (λ c. walk c (dir ∷ way) (next ∷ names)) >>= led)) is
+    ap (λ x. run (view_of t) (directory (fin.get (entries_seen (option_map (seen_node (names_of t dir)) x)) name) >>= (λ c. walk c (dir ∷ way) (next ∷ names)) >>= walk_inode)) is
     ∙ by_entry t next names (dir ∷ way) (λ c cs at. walk_resolves t next names (dir ∷ way) c cs at) (fin.get es name)
     ∙ ap (λ x. then_from (resolve_from t (next ∷ names)) (child x name)) (sym is)
 
 -- the walk from the root
-pub prefix_resolves : (t : Tree) (names : List (List ℕ)) (es : Entries ℕ) → t ROOT ≡ Some (Dir es) → run (view_of t) (walk ROOT [] names >>= led) ≡ resolve_from t names ROOT
+pub prefix_resolves : (t : Tree) (names : List (List ℕ)) (es : Entries ℕ) → t ROOT ≡ Some (Dir es) → run (view_of t) (walk ROOT [] names >>= walk_inode) ≡ resolve_from t names ROOT
 unfolding run ◌>>=◌ walk resolve_from
 prefix_resolves t [] es is = refl
 prefix_resolves t (name ∷ names) es is = walk_resolves t name names [] ROOT es is
@@ -114,11 +116,11 @@ same_step {p = p} {watched = watched} {dir = dir} {name = name} before last w =
     ∙ part_assoc p (child_at dir name) (λ child. walk child (dir ∷ w.way) (before ++ last ∷ [])) (λ place. Gives (landing_of watched place))
 
 -- where a step ends the walk, that is told
-pub walked_stops : {p : Part} {watched : Option ℕ} {names : List (List ℕ)} {dir : ℕ} {passed : Bool} {name : List ℕ} (before : List (List ℕ)) (last : List ℕ) {s : DecideError} → Walked p watched names dir passed (name ∷ (before ++ last ∷ [])) → Tells p (child_at dir name) (Err s) → Tells p (landing watched names) (Err s)
+pub walked_stops : {p : Part} {watched : Option ℕ} {names : List (List ℕ)} {dir : ℕ} {passed : Bool} {name : List ℕ} (before : List (List ℕ)) (last : List ℕ) {s : DecideError} → Walked p watched names dir passed (name ∷ (before ++ last ∷ [])) → IsAnswer p (child_at dir name) (Err s) → IsAnswer p (landing watched names) (Err s)
 walked_stops before last w h = tells_same (same_step before last w) (bind_stops _ h)
 
 -- otherwise it goes on
-pub walked_on : {p : Part} {watched : Option ℕ} {names : List (List ℕ)} {dir : ℕ} {passed : Bool} {name : List ℕ} (before : List (List ℕ)) (last : List ℕ) {child : ℕ} → Walked p watched names dir passed (name ∷ (before ++ last ∷ [])) → Tells p (child_at dir name) (Ok child) → Walked p watched names child (passed || leads_to dir watched) (before ++ last ∷ [])
+pub walked_on : {p : Part} {watched : Option ℕ} {names : List (List ℕ)} {dir : ℕ} {passed : Bool} {name : List ℕ} (before : List (List ℕ)) (last : List ℕ) {child : ℕ} → Walked p watched names dir passed (name ∷ (before ++ last ∷ [])) → IsAnswer p (child_at dir name) (Ok child) → Walked p watched names child (passed || leads_to dir watched) (before ++ last ∷ [])
 walked_on {p = p} {watched = watched} {dir = dir} {passed = passed} {name = name} before last w h = record {
   way = dir ∷ w.way;
   same = same_step before last w ∙ part_bind p (child_at dir name) (λ child. walk child (dir ∷ w.way) (before ++ last ∷ []) >>= (λ place. Gives (landing_of watched place))) ∙ ap (λ z. then_found z (λ child. run_part p (walk child (dir ∷ w.way) (before ++ last ∷ []) >>= (λ place. Gives (landing_of watched place))))) (h.gives _ refl);
@@ -131,7 +133,7 @@ unfolding walk ◌>>=◌
 last_is p watched dir way name = refl
 
 -- what is not known of the last directory is missing
-pub walked_missing : {C : Type 0} {p : Part} {watched : Option ℕ} {names : List (List ℕ)} {dir : ℕ} {passed : Bool} {last : List ℕ} {s : DecideError} (g : Option Seen → C) → Walked p watched names dir passed (last ∷ []) → s ≡ why.Missing (missing.Node dir) → option_map g (p.node dir) ≡ None → Tells p (landing watched names) (Err s)
+pub walked_missing : {C : Type 0} {p : Part} {watched : Option ℕ} {names : List (List ℕ)} {dir : ℕ} {passed : Bool} {last : List ℕ} {s : DecideError} (g : Option Seen → C) → Walked p watched names dir passed (last ∷ []) → s ≡ why.Missing (missing.Node dir) → option_map g (p.node dir) ≡ None → IsAnswer p (landing watched names) (Err s)
 walked_missing {p = p} {watched = watched} {dir = dir} {last = last} g w lack is = tells_same (w.same ∙ last_is p watched dir w.way last) (look_missing g _ lack is)
 
 -- what is known is where the walk leads
@@ -148,12 +150,12 @@ look_lands : (p : Part) (dir : ℕ) (name : List ℕ) (passed : Bool) (o : Optio
 unfolding run_part
 look_lands p dir name passed o n e h = lands p dir name passed o n (p.node dir) e h
 
-pub walked_lands : {p : Part} {watched : Option ℕ} {names : List (List ℕ)} {dir : ℕ} {passed : Bool} {last : List ℕ} {o : Option ℕ} {n : ℕ} → Walked p watched names dir passed (last ∷ []) → option_map (entry_in last) (p.node dir) ≡ Some o → option_map count_in (p.node dir) ≡ Some n → Tells p (landing watched names) (Ok (record { parent = dir; inode = o; entries = n; passed = passed || leads_to dir watched; is_dir = None }))
+pub walked_lands : {p : Part} {watched : Option ℕ} {names : List (List ℕ)} {dir : ℕ} {passed : Bool} {last : List ℕ} {o : Option ℕ} {n : ℕ} → Walked p watched names dir passed (last ∷ []) → option_map (entry_in last) (p.node dir) ≡ Some o → option_map count_in (p.node dir) ≡ Some n → IsAnswer p (landing watched names) (Ok (record { parent = dir; inode = o; entries = n; passed = passed || leads_to dir watched; is_dir = None }))
 walked_lands {p = p} {watched = watched} {dir = dir} {passed = passed} {last = last} {o = o} {n = n} w e h =
     tells_ok (w.same ∙ last_is p watched dir w.way last ∙ look_lands p dir last (leads_to dir watched || list_any (λ d. leads_to d watched) w.way) o n e h ∙ ap (λ z. Known (Ok (record { parent = dir; inode = o; entries = n; passed = leads_to dir watched || z; is_dir = None }))) w.seen ∙ ap (λ z. Known (Ok (record { parent = dir; inode = o; entries = n; passed = z; is_dir = None }))) (or_swap (leads_to dir watched) passed))
 
 -- `/` leads to the root
-pub lands_at_root : (p : Part) (watched : Option ℕ) (names : List (List ℕ)) → length names < 1 → Tells p (landing watched names) (Ok (record { parent = 0; inode = Some ROOT; entries = 0; passed = false; is_dir = None }))
+pub lands_at_root : (p : Part) (watched : Option ℕ) (names : List (List ℕ)) → length names < 1 → IsAnswer p (landing watched names) (Ok (record { parent = 0; inode = Some ROOT; entries = 0; passed = false; is_dir = None }))
 unfolding walk ◌>>=◌
 lands_at_root p watched [] short = gives
 lands_at_root p watched (name ∷ names) short = absurd (omega arith)
@@ -221,7 +223,7 @@ named p (name ∷ next ∷ names) dir way place e =
     named p (next ∷ names) after.0 (dir ∷ way) place after.2
 
 -- what follows a walk may use what is kept of its place
-pub bind_place : {B : Type 0} {p : Part} (watched : Option ℕ) (names : List (List ℕ)) {to : Landing} (f : Place → Query B) {r : Result B DecideError} → Tells p (landing watched names) (Ok to) → ((walked : List ℕ) → list_any (λ d. leads_to d watched) walked ≡ to.passed → Tells p (f (place_at names to walked)) r) → Tells p (prefix names >>= f) r
+pub bind_place : {B : Type 0} {p : Part} (watched : Option ℕ) (names : List (List ℕ)) {to : Landing} (f : Place → Query B) {r : Result B DecideError} → IsAnswer p (landing watched names) (Ok to) → ((walked : List ℕ) → list_any (λ d. leads_to d watched) walked ≡ to.passed → IsAnswer p (f (place_at names to walked)) r) → IsAnswer p (prefix names >>= f) r
 bind_place {p = p} watched names {to = to} f {r = r} h rest =
     let after = found_after (run_part p (prefix names)) (λ place. run_part p (Gives (landing_of watched place))) to (sym (part_bind p (prefix names) (λ place. Gives (landing_of watched place))) ∙ h.gives to refl) in
     let place : Place = after.0 in
@@ -230,7 +232,7 @@ bind_place {p = p} watched names {to = to} f {r = r} h rest =
     let same : place_at names to place.walked ≡ place =
     ap (λ t. place_at names t place.walked) (sym land)
     ∙ ap (λ (n : List ℕ). record { location = record { parent = place.location.parent; name = n }; inode = place.inode; walked = place.walked; entries = place.entries }) (sym name) in
-    tells_same (part_bind p (prefix names) f ∙ ap (λ z. then_found z (λ x. run_part p (f x))) after.1) (subst (λ z. Tells p (f z) r) same (rest place.walked (ap (λ t. t.passed) land)))
+    tells_same (part_bind p (prefix names) f ∙ ap (λ z. then_found z (λ x. run_part p (f x))) after.1) (subst (λ z. IsAnswer p (f z) r) same (rest place.walked (ap (λ t. t.passed) land)))
 
 err_before : {A B : Type 0} (p : Part) (found : Found A) (g : A → B) (e : Errno) → then_found found (λ x. run_part p (Gives (g x))) ≡ Known (Err e) → found ≡ Known (Err e)
 err_before p (Known (Ok x)) g e h = absurd (let clash : Known (Ok (g x)) ≡ Known (Err e) = sym (part_gives p (g x)) ∙ h in cc)
@@ -243,7 +245,7 @@ missing_before p (Known (Err d)) g what h = absurd (cc)
 missing_before p (Unknown other) g what h = let same : other ≡ what = cc in ap (λ z. Unknown z) same
 
 -- where the walk stops, nothing follows
-pub bind_place_stops : {B : Type 0} {p : Part} (watched : Option ℕ) (names : List (List ℕ)) (f : Place → Query B) {s : DecideError} → Tells p (landing watched names) (Err s) → Tells p (prefix names >>= f) (Err s)
+pub bind_place_stops : {B : Type 0} {p : Part} (watched : Option ℕ) (names : List (List ℕ)) (f : Place → Query B) {s : DecideError} → IsAnswer p (landing watched names) (Err s) → IsAnswer p (prefix names >>= f) (Err s)
 bind_place_stops {p = p} watched names f {s = Refused e} h =
     bind_stops f (tells_err (err_before p (run_part p (prefix names)) (landing_of watched) e (sym (part_bind p (prefix names) (λ place. Gives (landing_of watched place))) ∙ h.refuses e refl)))
 bind_place_stops {p = p} watched names f {s = why.Missing what} h =
@@ -251,9 +253,9 @@ bind_place_stops {p = p} watched names f {s = why.Missing what} h =
 bind_place_stops {p = p} watched names f {s = Memory} h = tells_memory p (prefix names >>= f)
 
 -- an error of a walk, which tells nothing beside
-pub exits_untold : {p : Part} {q : Query Landing} (r : Result Landing DecideError) {s : DecideError} → IsErrAnd r (λ t. t ≡ s) → Tells p q (Err s) → Tells p q (untold r)
-exits_untold {p = p} {q = q} r is h = let e = err_from_is_err_and r is in subst (λ z. Tells p q (untold z)) (sym (e.1 ∙ ap (λ z. Err z) e.2)) h
+pub exits_untold : {p : Part} {q : Query Landing} (r : Result Landing DecideError) {s : DecideError} → IsErrAnd r (λ t. t ≡ s) → IsAnswer p q (Err s) → IsAnswer p q (without_kind r)
+exits_untold {p = p} {q = q} r is h = let e = err_from_is_err_and r is in subst (λ z. IsAnswer p q (without_kind z)) (sym (e.1 ∙ ap (λ z. Err z) e.2)) h
 
 -- whether there is a directory, where what is there is known
-pub kind_there : {p : Part} {o : Option ℕ} {i : ℕ} {r : Result Bool DecideError} → o ≡ Some i → Tells p (kind_at o) r → Tells p (kind_at (Some i)) r
-kind_there {p = p} {r = r} is h = subst (λ z. Tells p (kind_at z) r) is h
+pub kind_there : {p : Part} {o : Option ℕ} {i : ℕ} {r : Result Bool DecideError} → o ≡ Some i → IsAnswer p (kind_at o) r → IsAnswer p (kind_at (Some i)) r
+kind_there {p = p} {r = r} is h = subst (λ z. IsAnswer p (kind_at z) r) is h

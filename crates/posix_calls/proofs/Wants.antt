@@ -9,7 +9,8 @@ use Rattle.posix_calls.specs.declared.operation.DecideError.TheVariants.{Refused
 use Rattle.posix_calls.specs.declared.limits.TheConstants.{MAX_PATH}
 use Rattle.posix_calls.specs.declared.errno.Errno.{Errno}
 use Rattle.posix_calls.specs.declared.errno.Errno.TheVariants.{Invalid, NameTooLong}
-use Rattle.posix_calls.specs.Path.{reading, reading_short, reading_behind, comes_to_name, name_first, name_behind, components, first_fault, first_is_faultless, unless, fault}
+use Rattle.posix_calls.specs.Path.{path_names, reading_short, reading_behind, components, first_fault, unless, fault}
+use Rattle.posix_calls.specs.FirstName.{comes_to_name, name_first, name_behind, first_is_faultless}
 use Rattle.posix_calls.specs.Memory.{come_to_names}
 use Rattle.posix_calls.specs.Walk.{is_root}
 use Rattle.posix_calls.proofs.Chain.{or_left, or_right}
@@ -23,9 +24,9 @@ exit_wants {r = r} {s = s} is want =
 
 -- the first path is read at once, and the second once the first was
 pub first_comes : (old new : List ℕ) → comes_to_name old ≡ true → come_to_names old new ≡ true
-first_comes old new comes = or_left (is_ok (reading old) && comes_to_name new) comes
+first_comes old new comes = or_left (is_ok (path_names old) && comes_to_name new) comes
 
-pub second_comes : (old new : List ℕ) {names : List (List ℕ)} → reading old ≡ Ok names → comes_to_name new ≡ true → come_to_names old new ≡ true
+pub second_comes : (old new : List ℕ) {names : List (List ℕ)} → path_names old ≡ Ok names → comes_to_name new ≡ true → come_to_names old new ≡ true
 second_comes old new is comes = or_right (comes_to_name old) (ap (λ z. is_ok z && comes_to_name new) is ∙ comes)
 
 -- an exit that is refused does not
@@ -56,5 +57,5 @@ short_enough true bytes names is some = absurd (cc)
 short_enough false [] names is some = absurd (cc)
 short_enough false (b ∷ bytes) names is some = behind_slash (b == 47) bytes names is some
 
-pub name_comes : (bytes : List ℕ) (names : List (List ℕ)) → reading bytes ≡ Ok names → is_root names ≡ false → comes_to_name bytes ≡ true
+pub name_comes : (bytes : List ℕ) (names : List (List ℕ)) → path_names bytes ≡ Ok names → is_root names ≡ false → comes_to_name bytes ≡ true
 name_comes bytes names is some = short_enough (nat_lt MAX_PATH (length bytes)) bytes names is some

@@ -5,20 +5,20 @@ use Rattle.std.proofs.lemmas.Grind.{common_steps}
 use Rattle.std.proofs.lemmas.Bool.Decides.{eqb_tells}
 use Rattle.std.specs.FinMap as fin
 use Rattle.std.specs.Cmp.Lexicographic.{nat_list_cmp_total}
-use Rattle.posix_calls.specs.Content.{Entries, written, resized}
+use Rattle.posix_calls.specs.Content.{Entries, with_bytes, with_length}
 use Rattle.posix_calls.specs.Name.{is_name}
 use Rattle.posix_calls.specs.Tree.{Tree, Node, File, Dir, set_node, bytes_of, entries_of}
 use Rattle.posix_calls.specs.declared.operation.Location.{Location}
-use Rattle.posix_calls.specs.Operations.{entered, left}
+use Rattle.posix_calls.specs.Operations.{with_entry, without_entry}
 use Rattle.posix_calls.proofs.Counts.{order, get_left, insert_named}
 use Rattle.posix_calls.proofs.Changes.{set_there, set_other}
 
 -- ---- lengths
 
-pub written_length : (at : ℕ) (new old : List ℕ) (most : ℕ) → at + length new ≤ most → length old ≤ most → length (written at new old) ≤ most
+pub written_length : (at : ℕ) (new old : List ℕ) (most : ℕ) → at + length new ≤ most → length old ≤ most → length (with_bytes at new old) ≤ most
 written_length at new old most short had = grind (arith, common_steps)
 
-pub resized_length : (len : ℕ) (old : List ℕ) → length (resized len old) ≡ len
+pub resized_length : (len : ℕ) (old : List ℕ) → length (with_length len old) ≡ len
 resized_length len old = grind (arith, common_steps)
 
 insert_if : (b : Bool) (n : ℕ) → cond b n (n + 1) ≤ n + 1
@@ -86,7 +86,7 @@ set_within t i x all new j = elim (eqb_tells j i) [
   | inr off ↦ subst IsNodeWithin (sym (set_other t i j x off.1)) (all j)
 ]
 
-pub left_within : (t : Tree) (at : Location) → AreNodesWithin t → AreNodesWithin (left t at)
+pub left_within : (t : Tree) (at : Location) → AreNodesWithin t → AreNodesWithin (without_entry t at)
 left_within t at all =
     let m = entries_of (t at.parent) in
     let was = all at.parent in
@@ -100,7 +100,7 @@ insert_valid m at i valid was name j is = elim (insert_named m at name i j is) [
   | inr old ↦ was name j old
 ]
 
-pub entered_within : (t : Tree) (at : Location) (i : ℕ) → AreNodesWithin t → fin.len (entries_of (t at.parent)) < 3584 → is_name at.name ≡ true → AreNodesWithin (entered t at i)
+pub entered_within : (t : Tree) (at : Location) (i : ℕ) → AreNodesWithin t → fin.len (entries_of (t at.parent)) < 3584 → is_name at.name ≡ true → AreNodesWithin (with_entry t at i)
 entered_within t at i all few valid =
     let m = entries_of (t at.parent) in
     let was = all at.parent in

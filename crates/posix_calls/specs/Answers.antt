@@ -2,7 +2,8 @@
 use Rattle.std.specs.Prelude.{◌≡◌, ℕ, List, [], ◌∷◌, map, Bool, true, false, not, nat_lt, Option, Some, None, Result, Ok, Err}
 use Rattle.std.specs.FinMap as fin
 use Rattle.std.specs.List.{list_any}
-use Rattle.posix_calls.specs.Query.{Seen, File, Dir, Query, Gives, Look, ◌>>=◌, Part, Known, Unknown, run_part}
+use Rattle.posix_calls.specs.Query.{Seen, File, Dir, Query, Gives, Look, ◌>>=◌}
+use Rattle.posix_calls.specs.Part.{Part, Known, Unknown, run_part}
 use Rattle.posix_calls.specs.Walk.{Place, entries_seen, entries_at, directory, prefix, leads_to, there, kind_at, refuse}
 use Rattle.posix_calls.specs.declared.errno.Errno.{Errno}
 use Rattle.posix_calls.specs.declared.errno.Errno.TheVariants.{NoMemory, NotEmpty}
@@ -56,13 +57,13 @@ abbrev pub landing : Option ℕ → List (List ℕ) → Query Landing
 landing watched names = prefix names >>= (λ place. Gives (landing_of watched place))
 
 -- a landing as the walk's questions give it, without what an entry told beside
-abbrev pub untold : Result Landing DecideError → Result Landing DecideError
-untold (Err e) = Err e
-untold (Ok to) = Ok (record { parent = to.parent; inode = to.inode; entries = to.entries; passed = to.passed; is_dir = None })
+abbrev pub without_kind : Result Landing DecideError → Result Landing DecideError
+without_kind (Err e) = Err e
+without_kind (Ok to) = Ok (record { parent = to.parent; inode = to.inode; entries = to.entries; passed = to.passed; is_dir = None })
 
 -- what an entry told beside is so
-abbrev pub IsTold : Part → Landing → Type 0
-IsTold p to = (i : ℕ) (is_dir : Bool) → to.inode ≡ Some i → to.is_dir ≡ Some is_dir → p.is_dir i ≡ Some (Some is_dir)
+abbrev pub HasKnownKind : Part → Landing → Type 0
+HasKnownKind p to = (i : ℕ) (is_dir : Bool) → to.inode ≡ Some i → to.is_dir ≡ Some is_dir → p.is_dir i ≡ Some (Some is_dir)
 
 -- the directory under a name of a directory
 abbrev pub child_at : ℕ → List ℕ → Query ℕ
@@ -96,7 +97,7 @@ decide_error NoMemory = Memory
 decide_error e = Refused e
 
 -- by what is known, a result is what the questions come to, an error too, and what is missing is what they miss; want of memory says nothing
-pub record Tells {A : Type 0} (p : Part) (q : Query A) (result : Result A DecideError) : Type 0 where
+pub record IsAnswer {A : Type 0} (p : Part) (q : Query A) (result : Result A DecideError) : Type 0 where
   pub gives : (x : A) → result ≡ Ok x → run_part p q ≡ Known (Ok x)
   pub refuses : (e : Errno) → result ≡ Err (Refused e) → run_part p q ≡ Known (Err e)
   pub missing : (what : Missing) → result ≡ Err (why.Missing what) → run_part p q ≡ Unknown what

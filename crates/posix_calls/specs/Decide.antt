@@ -1,12 +1,13 @@
+-- Trusted: headline
 -- Each call's errors in their order, and the operation that it comes to if none holds.
 use Rattle.std.specs.Prelude.{ℕ, zero, suc, ◌+◌, ◌-◌, List, [], ◌∷◌, map, length, min, Bool, true, false, ◌&&◌, ◌||◌, not, ◌==◌, nat_lt, nat_le, Option, Some, None, if◌then◌else◌}
 use Rattle.std.specs.FinMap as fin
 use Rattle.std.specs.List.{list_any}
-use Rattle.posix_calls.specs.Path.{reading}
+use Rattle.posix_calls.specs.Path.{path_names}
 use Rattle.posix_calls.specs.Tree.{Own}
 use Rattle.posix_calls.specs.declared.descriptor.Descriptor.{Descriptor}
 use Rattle.posix_calls.specs.Query.{Seen, File, Dir, Query, Gives, Refuses, Look, Range, ◌>>=◌}
-use Rattle.posix_calls.specs.Walk.{Place, refuse, said, entries_at, size_at, size_seen, names_at, kind_at, prefix, is_root, is_there, leads_to, there, is_full}
+use Rattle.posix_calls.specs.Walk.{Place, refuse, read_or_error, entries_at, size_at, size_seen, names_at, kind_at, prefix, is_root, is_there, leads_to, there, is_full}
 use Rattle.posix_calls.specs.declared.limits.TheConstants.{MAX_DESCRIPTORS, MAX_FILE, MAX_NAMES, MAX_TRANSFER}
 use Rattle.posix_calls.specs.declared.errno.Errno.TheVariants as errno
 use Rattle.posix_calls.specs.declared.call.Flags.{Flags}
@@ -21,9 +22,9 @@ use Rattle.posix_calls.specs.declared.operation.Replaced.TheVariants.{Nothing, O
 -- ---- descriptors
 
 -- the inode that is open, where the descriptor passes
-abbrev pub opened : (Descriptor → Bool) → Option Descriptor → Query ℕ
-opened test None = Refuses errno.BadDescriptor
-opened test (Some d) = if test d then Gives d.inode else Refuses errno.BadDescriptor
+abbrev pub open_inode : (Descriptor → Bool) → Option Descriptor → Query ℕ
+open_inode test None = Refuses errno.BadDescriptor
+open_inode test (Some d) = if test d then Gives d.inode else Refuses errno.BadDescriptor
 
 -- the lowest of so many numbers from n on at which nothing is open
 abbrev pub lowest_free : Own → ℕ → ℕ → Option ℕ
@@ -70,13 +71,13 @@ open_at own names f = do
 -- a file is opened, and made first where it is not there and the flags say so
 unfoldable pub open_path : Own → List ℕ → Flags → Query Operation
 open_path own path f = do
-  names ← said (reading path)
+  names ← read_or_error (path_names path)
   open_at own names f
 
 -- a number is given back
 unfoldable pub close : Own → ℕ → Query Operation
 close own number = do
-  i ← opened (λ d. true) (own number)
+  i ← open_inode (λ d. true) (own number)
   Gives (CloseFile i number)
 
 -- so many bytes of a file that there are; none are asked for where there are none
@@ -87,7 +88,7 @@ bytes_from i at (suc count) = Range i at (suc count) (λ bytes. Gives bytes)
 -- the bytes present, up to as many as asked; none at or past the end
 unfoldable pub pread : Own → ℕ → ℕ → ℕ → Query Operation
 pread own number at count = do
-  i ← opened (λ d. d.reads) (own number)
+  i ← open_inode (λ d. d.reads) (own number)
   _ ← refuse errno.Invalid (nat_lt MAX_TRANSFER count)
   size ← size_at i
   bytes ← bytes_from i at (min count (size - at))
@@ -103,7 +104,7 @@ write_at i at (b ∷ bytes) = do
 -- bytes are put at an offset
 unfoldable pub pwrite : Own → ℕ → ℕ → List ℕ → Query Operation
 pwrite own number at bytes = do
-  i ← opened (λ d. d.writes) (own number)
+  i ← open_inode (λ d. d.writes) (own number)
   _ ← refuse errno.Invalid (nat_lt MAX_TRANSFER (length bytes))
   write_at i at bytes
 
@@ -112,7 +113,7 @@ pwrite own number at bytes = do
 -- a file is cut or grown to a length; where it has that already nothing changes
 unfoldable pub truncate : List ℕ → ℕ → Query Operation
 truncate path len = do
-  names ← said (reading path)
+  names ← read_or_error (path_names path)
   place ← prefix names
   i ← there place.inode
   is_dir ← kind_at place.inode
@@ -124,7 +125,7 @@ truncate path len = do
 -- an empty directory is made
 unfoldable pub mkdir : List ℕ → Query Operation
 mkdir path = do
-  names ← said (reading path)
+  names ← read_or_error (path_names path)
   place ← prefix names
   _ ← refuse errno.Exists (is_there place.inode)
   _ ← refuse errno.NoSpace (is_full place)
@@ -145,7 +146,7 @@ rmdir_at names = do
 -- an empty directory goes
 unfoldable pub rmdir : List ℕ → Query Operation
 rmdir path = do
-  names ← said (reading path)
+  names ← read_or_error (path_names path)
   rmdir_at names
 
 -- what follows once both paths are read
@@ -165,8 +166,8 @@ link_at old_names new_names = do
 -- a file has one more name
 unfoldable pub link : List ℕ → List ℕ → Query Operation
 link old new = do
-  old_names ← said (reading old)
-  new_names ← said (reading new)
+  old_names ← read_or_error (path_names old)
+  new_names ← read_or_error (path_names new)
   link_at old_names new_names
 
 -- what follows once the path is read
@@ -182,7 +183,7 @@ unlink_at names = do
 -- a file has one name fewer
 unfoldable pub unlink : List ℕ → Query Operation
 unlink path = do
-  names ← said (reading path)
+  names ← read_or_error (path_names path)
   unlink_at names
 
 -- ---- rename
@@ -195,21 +196,21 @@ replacing_dir j = do
   Gives (OldDir j)
 
 -- what is at the new name is replaced if it is of the old one's kind; a name in another directory needs room
-abbrev pub replacing : Place → Place → Bool → Option ℕ → Query Replaced
-replacing from to old_dir None = do
+abbrev pub replaced_at : Place → Place → Bool → Option ℕ → Query Replaced
+replaced_at from to old_dir None = do
   _ ← refuse errno.NoSpace (not (from.location.parent == to.location.parent) && is_full to)
   Gives Nothing
-replacing from to old_dir (Some j) = do
+replaced_at from to old_dir (Some j) = do
   new_dir ← kind_at (Some j)
   _ ← refuse errno.NotDirectory (old_dir && not new_dir)
   _ ← refuse errno.IsDirectory (not old_dir && new_dir)
   if new_dir then replacing_dir j else Gives (OldFile j)
 
 -- the name moves
-abbrev pub renamed : Place → Place → ℕ → Query Operation
-renamed from to i = do
+abbrev pub rename_to : Place → Place → ℕ → Query Operation
+rename_to from to i = do
   old_dir ← kind_at from.inode
-  replaced ← replacing from to old_dir to.inode
+  replaced ← replaced_at from to old_dir to.inode
   Gives (Move from.location to.location i old_dir replaced)
 
 -- what follows once both paths are read
@@ -220,13 +221,13 @@ rename_at old_names new_names = do
   i ← there from.inode
   to ← prefix new_names
   _ ← refuse errno.Invalid (list_any (λ d. d == i) to.walked)
-  if leads_to i to.inode then Gives (Tell reply.Done) else renamed from to i
+  if leads_to i to.inode then Gives (Tell reply.Done) else rename_to from to i
 
 -- a name moves, in place of what was there; between two names of one node nothing changes
 unfoldable pub rename : List ℕ → List ℕ → Query Operation
 rename old new = do
-  old_names ← said (reading old)
-  new_names ← said (reading new)
+  old_names ← read_or_error (path_names old)
+  new_names ← read_or_error (path_names new)
   rename_at old_names new_names
 
 -- ---- list, stat
@@ -244,22 +245,22 @@ list_at names = do
 -- all names in a directory, in the order of their bytes
 unfoldable pub list_path : List ℕ → Query Operation
 list_path path = do
-  names ← said (reading path)
+  names ← read_or_error (path_names path)
   list_at names
 
 -- what there is to say of a node
-abbrev pub described : Option Seen → Query Operation
-described None = Refuses errno.NoEntry
-described (Some (File names size)) = Gives (Tell (reply.File size names))
-described (Some (Dir entries)) = Gives (Tell (reply.Dir (fin.len entries)))
+abbrev pub node_description : Option Seen → Query Operation
+node_description None = Refuses errno.NoEntry
+node_description (Some (File names size)) = Gives (Tell (reply.File size names))
+node_description (Some (Dir entries)) = Gives (Tell (reply.Dir (fin.len entries)))
 
 -- what is at a path
 unfoldable pub stat : List ℕ → Query Operation
 stat path = do
-  names ← said (reading path)
+  names ← read_or_error (path_names path)
   place ← prefix names
   i ← there place.inode
-  Look i described
+  Look i node_description
 
 -- what a call of a client with these descriptors asks, and comes to
 abbrev pub decide : Own → Call → Query Operation
@@ -275,8 +276,3 @@ decide own (call.Unlink path) = unlink path
 decide own (call.Rename old new) = rename old new
 decide own (call.List path) = list_path path
 decide own (call.Stat path) = stat path
-
--- whether a call is `pread`
-abbrev pub is_pread : Call → Bool
-is_pread (call.Pread number at count) = true
-is_pread _ = false

@@ -1,8 +1,10 @@
 -- Which calls take memory when they are decided: for the names on their paths, and for the bytes and names that they carry.
 use Rattle.std.specs.Prelude.{ℕ, ◌+◌, ◌-◌, List, length, min, Bool, false, ◌&&◌, ◌||◌, nat_lt, nat_le, Option, Some, None, is_some, Result, Ok, Err, is_ok}
-use Rattle.posix_calls.specs.Path.{reading, comes_to_name}
+use Rattle.posix_calls.specs.Path.{path_names}
+use Rattle.posix_calls.specs.FirstName.{comes_to_name}
 use Rattle.posix_calls.specs.Tree.{Own}
-use Rattle.posix_calls.specs.Query.{Seen, Part}
+use Rattle.posix_calls.specs.Query.{Seen}
+use Rattle.posix_calls.specs.Part.{Part}
 use Rattle.posix_calls.specs.Walk.{size_seen, is_root}
 use Rattle.posix_calls.specs.Answers.{count_in}
 use Rattle.posix_calls.specs.declared.limits.TheConstants.{ROOT, MAX_TRANSFER, MAX_FILE}
@@ -38,7 +40,7 @@ writes_bytes (Some d) at bytes = d.writes && nat_lt 0 (length bytes) && nat_le (
 
 -- whether the paths of a call on two of them come to a name
 abbrev pub come_to_names : List ℕ → List ℕ → Bool
-come_to_names old new = comes_to_name old || (is_ok (reading old) && comes_to_name new)
+come_to_names old new = comes_to_name old || (is_ok (path_names old) && comes_to_name new)
 
 -- whether a call takes memory, decided by who knows a part of the tree
 abbrev pub takes_memory : Part → Own → Call → Bool
@@ -52,5 +54,5 @@ takes_memory p own (call.Rmdir path) = comes_to_name path
 takes_memory p own (call.Link old new) = come_to_names old new
 takes_memory p own (call.Unlink path) = comes_to_name path
 takes_memory p own (call.Rename old new) = come_to_names old new
-takes_memory p own (call.List path) = comes_to_name path || lists_root p (reading path)
+takes_memory p own (call.List path) = comes_to_name path || lists_root p (path_names path)
 takes_memory p own (call.Stat path) = comes_to_name path

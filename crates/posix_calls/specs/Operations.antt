@@ -1,17 +1,17 @@
+-- Trusted: headline
 -- What an operation makes of a tree and its descriptors, and one step of the file tree.
-use Rattle.std.specs.Prelude.{◌≡◌, ◌⊎◌, ℕ, ◌<◌, ◌≤◌, [], length, Bool, true, false, ◌&&◌, not, ◌==◌, nat_le, Option, Some, None, Result, Ok, Err, if◌then◌else◌}
+use Rattle.std.specs.Prelude.{◌≡◌, ◌⊎◌, ℕ, ◌<◌, ◌≤◌, [], length, Bool, true, false, ◌&&◌, not, ◌==◌, nat_le, Some, None, Result, Ok, Err, if◌then◌else◌}
 use Rattle.std.specs.FinMap as fin
-use Rattle.posix_calls.specs.Content.{resized, written}
+use Rattle.posix_calls.specs.Content.{with_length, with_bytes}
 use Rattle.posix_calls.specs.Tree.{File, Dir, Tree, set_node, bytes_of, entries_of, Own, Descriptors, set_own, with_own, State, names_of, is_open}
 use Rattle.posix_calls.specs.Query.{view_of, run}
-use Rattle.posix_calls.specs.declared.descriptor.Descriptor.{Descriptor}
 use Rattle.posix_calls.specs.declared.operation.Location.{Location}
 use Rattle.posix_calls.specs.Decide.{decide}
 use Rattle.posix_calls.specs.declared.operation.Replaced.{Replaced}
 use Rattle.posix_calls.specs.declared.operation.Operation.{Operation}
 use Rattle.posix_calls.specs.declared.operation.Operation.TheVariants.{Tell, NewDir, NewFile, OpenFile, CloseFile, Write, Resize, RemoveDir, AddName, DropName, Move}
 use Rattle.posix_calls.specs.declared.operation.Replaced.TheVariants.{Nothing, OldFile, OldDir}
-use Rattle.posix_calls.specs.declared.limits.TheConstants.{ROOT, MAX_INODE, MAX_CLIENTS, MAX_DESCRIPTORS, MAX_TRANSFER}
+use Rattle.posix_calls.specs.declared.limits.TheConstants.{ROOT, MAX_INODE, MAX_CLIENTS}
 use Rattle.posix_calls.specs.declared.errno.Errno.{Errno}
 use Rattle.posix_calls.specs.declared.errno.Errno.TheVariants as errno
 use Rattle.posix_calls.specs.declared.call.Call.{Call}
@@ -19,12 +19,12 @@ use Rattle.posix_calls.specs.declared.call.Reply.{Reply}
 use Rattle.posix_calls.specs.declared.call.Reply.TheVariants as reply
 
 -- the tree with one more name of an inode
-abbrev pub entered : Tree → Location → ℕ → Tree
-entered t at i = set_node t at.parent (Some (Dir (fin.insert (entries_of (t at.parent)) at.name i)))
+abbrev pub with_entry : Tree → Location → ℕ → Tree
+with_entry t at i = set_node t at.parent (Some (Dir (fin.insert (entries_of (t at.parent)) at.name i)))
 
 -- the tree with a name taken out
-abbrev pub left : Tree → Location → Tree
-left t at = set_node t at.parent (Some (Dir (fin.remove (entries_of (t at.parent)) at.name)))
+abbrev pub without_entry : Tree → Location → Tree
+without_entry t at = set_node t at.parent (Some (Dir (fin.remove (entries_of (t at.parent)) at.name)))
 
 -- a file that has no name, and that nobody has open, goes
 abbrev pub less_unused : Descriptors → Tree → ℕ → Tree
@@ -33,22 +33,22 @@ less_unused held t i = if names_of t i == 0 && not (is_open held i) then set_nod
 -- what a rename replaces goes with its name, but a file that has another or is open
 abbrev pub less_replaced : Descriptors → Tree → Location → Replaced → Tree
 less_replaced held t at Nothing = t
-less_replaced held t at (OldFile j) = less_unused held (left t at) j
-less_replaced held t at (OldDir j) = set_node (left t at) j None
+less_replaced held t at (OldFile j) = less_unused held (without_entry t at) j
+less_replaced held t at (OldDir j) = set_node (without_entry t at) j None
 
 -- the tree after an operation, where `held` is open after it, and a new node has the number new
 abbrev pub tree_after : Descriptors → ℕ → Tree → Operation → Tree
 tree_after held new t (Tell answer) = t
-tree_after held new t (NewDir at) = entered (set_node t new (Some (Dir fin.empty))) at new
-tree_after held new t (NewFile at number reads writes) = entered (set_node t new (Some (File []))) at new
+tree_after held new t (NewDir at) = with_entry (set_node t new (Some (Dir fin.empty))) at new
+tree_after held new t (NewFile at number reads writes) = with_entry (set_node t new (Some (File []))) at new
 tree_after held new t (OpenFile i empties number reads writes) = if empties then set_node t i (Some (File [])) else t
 tree_after held new t (CloseFile i number) = less_unused held t i
-tree_after held new t (Write i at bytes) = set_node t i (Some (File (written at bytes (bytes_of (t i)))))
-tree_after held new t (Resize i len) = set_node t i (Some (File (resized len (bytes_of (t i)))))
-tree_after held new t (RemoveDir at i) = set_node (left t at) i None
-tree_after held new t (AddName at i) = entered t at i
-tree_after held new t (DropName at i) = less_unused held (left t at) i
-tree_after held new t (Move from to i is_dir replaced) = entered (left (less_replaced held t to replaced) from) to i
+tree_after held new t (Write i at bytes) = set_node t i (Some (File (with_bytes at bytes (bytes_of (t i)))))
+tree_after held new t (Resize i len) = set_node t i (Some (File (with_length len (bytes_of (t i)))))
+tree_after held new t (RemoveDir at i) = set_node (without_entry t at) i None
+tree_after held new t (AddName at i) = with_entry t at i
+tree_after held new t (DropName at i) = less_unused held (without_entry t at) i
+tree_after held new t (Move from to i is_dir replaced) = with_entry (without_entry (less_replaced held t to replaced) from) to i
 
 -- a client's descriptors after its operation
 abbrev pub own_after : ℕ → Own → Operation → Own
@@ -64,24 +64,6 @@ reply_of (NewFile at number reads writes) = reply.Opened number
 reply_of (OpenFile i empties number reads writes) = reply.Opened number
 reply_of (Write i at bytes) = reply.Wrote (length bytes)
 reply_of _ = reply.Done
-
--- whether an operation does no more than tell
-abbrev pub only_tells : Operation → Bool
-only_tells (Tell answer) = true
-only_tells _ = false
-
--- what an operation opens, and its number, where a new node has the number new
-abbrev pub opens : ℕ → Operation → Option (ℕ × Descriptor)
-opens new (NewFile at number reads writes) = Some (number, record { inode = new; reads = reads; writes = writes })
-opens new (OpenFile i empties number reads writes) = Some (number, record { inode = i; reads = reads; writes = writes })
-opens new _ = None
-
--- no more is written than one call may write, and what is opened has the number of a descriptor
-abbrev pub IsInRange : Operation → Type 0
-IsInRange (Write i at bytes) = length bytes ≤ MAX_TRANSFER
-IsInRange (NewFile at number reads writes) = number < MAX_DESCRIPTORS
-IsInRange (OpenFile i empties number reads writes) = number < MAX_DESCRIPTORS
-IsInRange _ = Unit {0}
 
 -- whether an operation makes a node
 abbrev pub makes : Operation → Bool

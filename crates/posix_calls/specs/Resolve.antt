@@ -5,6 +5,8 @@ use Rattle.posix_calls.specs.Tree.{Node, File, Dir, Tree}
 use Rattle.posix_calls.specs.declared.limits.TheConstants.{ROOT}
 use Rattle.posix_calls.specs.declared.errno.Errno.{Errno}
 use Rattle.posix_calls.specs.declared.errno.Errno.TheVariants.{NoEntry, NotDirectory}
+use Rattle.posix_calls.specs.Query.{Query, ◌>>=◌}
+use Rattle.posix_calls.specs.Walk.{prefix, Place, there}
 
 -- an inode, or that there is no entry
 abbrev pub entry_or : Option ℕ → Result ℕ Errno
@@ -30,3 +32,11 @@ resolve_from t (name ∷ names) i = then_from (resolve_from t names) (child (t i
 -- the inode that a path leads to, or the first error on the way
 abbrev pub resolve : Tree → List (List ℕ) → Result ℕ Errno
 resolve t names = resolve_from t names ROOT
+
+-- the inode that a walk led to
+abbrev pub walk_inode : Place → Query ℕ
+walk_inode place = there place.inode
+
+-- the inode that the walk along a path leads to
+abbrev pub inode_at : List (List ℕ) → Query ℕ
+inode_at names = prefix names >>= walk_inode

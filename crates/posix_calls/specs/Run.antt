@@ -1,3 +1,4 @@
+-- Trusted: headline
 -- Calls one after another, and what is left where nobody has a file open.
 use Rattle.std.specs.Prelude.{◌≡◌, ℕ, List, [], ◌∷◌, ◌||◌, ◌==◌, nat_lt, None, if◌then◌else◌}
 use Rattle.posix_calls.specs.Tree.{Tree, State, names_of}

@@ -1,9 +1,10 @@
+-- Trusted: headline
 -- The file tree, and the files that its clients have open.
-use Rattle.std.specs.Prelude.{◌≡◌, ℕ, zero, suc, ◌+◌, ◌-◌, List, [], count_by, Bool, false, ◌||◌, ◌==◌, Option, Some, None, if◌then◌else◌}
+use Rattle.std.specs.Prelude.{ℕ, zero, suc, ◌+◌, ◌-◌, List, [], count_by, Bool, false, ◌||◌, ◌==◌, Option, Some, None, if◌then◌else◌}
 use Rattle.std.specs.FinMap as fin
 use Rattle.posix_calls.specs.Content.{Entries}
 use Rattle.posix_calls.specs.declared.descriptor.Descriptor.{Descriptor}
-use Rattle.posix_calls.specs.declared.limits.TheConstants.{ROOT, MAX_INODE, MAX_CLIENTS, MAX_DESCRIPTORS}
+use Rattle.posix_calls.specs.declared.limits.TheConstants.{MAX_INODE, MAX_CLIENTS, MAX_DESCRIPTORS}
 
 -- a file has bytes, a directory has an inode under each name
 pub data Node : Type 0 where
@@ -18,10 +19,6 @@ Tree = ℕ → Option Node
 abbrev pub set_node : Tree → ℕ → Option Node → Tree
 set_node t i x j = if j == i then x else t j
 
--- a root with no entry, and nothing else
-abbrev pub empty_tree : Tree
-empty_tree = set_node (λ i. None) ROOT (Some (Dir fin.empty))
-
 -- the bytes of a file; what is none has none
 abbrev pub bytes_of : Option Node → List ℕ
 bytes_of None = []
@@ -33,10 +30,6 @@ abbrev pub entries_of : Option Node → Entries ℕ
 entries_of None = fin.empty
 entries_of (Some (File bytes)) = fin.empty
 entries_of (Some (Dir entries)) = entries
-
--- there are no entries
-abbrev pub IsBare : Option Node → Type 0
-IsBare o = entries_of o ≡ fin.empty
 
 -- ---- descriptors
 
@@ -56,18 +49,10 @@ set_own own number what n = if n == number then what else own n
 abbrev pub with_own : Descriptors → ℕ → Own → Descriptors
 with_own held client own c n = if c == client then own n else held c n
 
--- the descriptors with one number of one client changed
-abbrev pub set_descriptor : Descriptors → ℕ → ℕ → Option Descriptor → Descriptors
-set_descriptor held client number what = with_own held client (set_own (held client) number what)
-
 -- a tree and what is open of it
 pub record State : Type 0 where
   pub tree : Tree
   pub descriptors : Descriptors
-
--- the empty tree, of which nothing is open
-abbrev pub opening : State
-opening = record { tree = empty_tree; descriptors = λ c n. None }
 
 -- ---- sums over the numbers from 1 on
 

@@ -1,3 +1,4 @@
+-- Trusted: headline
 -- The words of which the calls are made: an error, a node's parts, and the walk along a path.
 use Rattle.std.specs.Prelude.{ℕ, List, [], ◌∷◌, Bool, true, false, ◌==◌, nat_le, Option, Some, None, Result, Ok, Err}
 use Rattle.std.specs.FinMap as fin
@@ -14,9 +15,9 @@ refuse e true = Refuses e
 refuse e false = Gives tt
 
 -- what was read, or why it was not
-abbrev pub said : {A : Type 0} → Result A Errno → Query A
-said (Ok x) = Gives x
-said (Err e) = Refuses e
+abbrev pub read_or_error : {A : Type 0} → Result A Errno → Query A
+read_or_error (Ok x) = Gives x
+read_or_error (Err e) = Refuses e
 
 -- ---- nodes
 
@@ -118,14 +119,6 @@ leads_to i (Some j) = i == j
 abbrev pub there : Option ℕ → Query ℕ
 there None = Refuses errno.NoEntry
 there (Some i) = Gives i
-
--- the inode that a walk led to
-abbrev pub led : Place → Query ℕ
-led place = there place.inode
-
--- the inode that the walk along a path leads to
-abbrev pub inode_at : List (List ℕ) → Query ℕ
-inode_at names = prefix names >>= led
 
 -- whether the directory takes no more names
 abbrev pub is_full : Place → Bool

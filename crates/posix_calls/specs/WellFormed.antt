@@ -39,3 +39,7 @@ pub record IsWithinLimits (t : Tree) : Type 0 where
   pub names : (i : ℕ) → names_of t i ≤ MAX_NAMES
   -- every entry has a name that is one
   pub valid : (i : ℕ) (name : List ℕ) (j : ℕ) → fin.get (entries_of (t i)) name ≡ Some j → is_name name ≡ true
+
+-- there are no entries
+abbrev pub IsBare : Option Node → Type 0
+IsBare o = entries_of o ≡ fin.empty

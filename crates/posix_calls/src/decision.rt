@@ -1,8 +1,8 @@
 ghost use Rattle.std.specs.Prelude.{◌≡◌, Err, IfOk, true};
-ghost use Rattle.posix_calls.specs.Answers.{Tells};
+ghost use Rattle.posix_calls.specs.Answers.{IsAnswer};
 ghost use Rattle.posix_calls.specs.Decide.{decide};
 ghost use Rattle.posix_calls.specs.Memory.{takes_memory};
-ghost use Rattle.posix_calls.specs.Operations.{IsInRange};
+ghost use Rattle.posix_calls.specs.Exact.{IsInRange};
 ghost use Rattle.posix_calls.specs.Own.{own_of};
 ghost use Rattle.posix_calls.specs.declared.operation.DecideError.TheVariants.{Memory};
 
@@ -31,7 +31,7 @@ pub fn decide<T: TreeAnswers>(
     own: &OwnDescriptors,
     call: &Call,
 ) -> Result<Operation, DecideError>
-    ensures tells { Tells (T.part tree.now) (decide (own_of own.now) call.now) result }
+    ensures answer { IsAnswer (T.part tree.now) (decide (own_of own.now) call.now) result }
     ensures memory { result ≡ Err Memory → takes_memory (T.part tree.now) (own_of own.now) call.now ≡ true }
     ensures range { IfOk result (λ operation. IsInRange operation) }
 {

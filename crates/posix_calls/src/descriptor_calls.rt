@@ -1,15 +1,15 @@
 // What the calls that take or give a descriptor come to: open, close, pread, pwrite.
 ghost use Rattle.std.specs.Prelude.{◌≡◌, ◌≢◌, ◌<◌, ◌≤◌, ◌&&◌, ◌+◌, ◌^◌, nat_lt, is_some, true, false, Some, Err, IfOk};
-ghost use Rattle.posix_calls.specs.Path.{comes_to_name};
+ghost use Rattle.posix_calls.specs.FirstName.{comes_to_name};
 ghost use Rattle.posix_calls.specs.Memory.{reads_bytes, writes_bytes};
 ghost use Rattle.posix_calls.specs.Walk.{is_there, is_root};
 ghost use Rattle.posix_calls.specs.declared.descriptor.Descriptor.{Descriptor};
 ghost use Rattle.posix_calls.specs.declared.operation.DecideError.TheVariants.{Memory};
-ghost use Rattle.posix_calls.specs.Query.{Part, blocks_missing};
-ghost use Rattle.posix_calls.specs.Answers.{Tells};
+ghost use Rattle.posix_calls.specs.Part.{Part, blocks_missing};
+ghost use Rattle.posix_calls.specs.Answers.{IsAnswer};
 ghost use Rattle.posix_calls.specs.Own.{own_of};
 ghost use Rattle.posix_calls.specs.declared.limits.TheConstants.{MAX_DESCRIPTORS, MAX_TRANSFER};
-ghost use Rattle.posix_calls.specs.Decide.{is_senseless, number_or, lowest_free, opened, empties, open_path, open_at, close, bytes_from, pread, write_at, pwrite};
+ghost use Rattle.posix_calls.specs.Decide.{is_senseless, number_or, lowest_free, open_inode, empties, open_path, open_at, close, bytes_from, pread, write_at, pwrite};
 
 use crate::bytes::Bytes;
 use crate::call::{Flags, Reply};
@@ -19,7 +19,7 @@ use crate::operation::{DecideError, Missing, Operation};
 use crate::own::OwnDescriptors;
 use crate::path::Path;
 use crate::shared_bytes::SharedBytes;
-use crate::tree_answers::{TreeAnswers, known};
+use crate::tree_answers::{TreeAnswers, known_or_missing};
 use crate::walk::{Landing, kind_at, location, prefix, read_path, refuse_if};
 use std::alloc::Global;
 
@@ -43,7 +43,7 @@ impl Flags {
 
 // The lowest number that is free.
 fn free_number(own: &OwnDescriptors) -> Result<u32, DecideError>
-    ensures tells { (p : Part) → Tells p (number_or (lowest_free (own_of own.now) 0 MAX_DESCRIPTORS)) result }
+    ensures answer { (p : Part) → IsAnswer p (number_or (lowest_free (own_of own.now) 0 MAX_DESCRIPTORS)) result }
     ensures memory { result ≢ Err Memory }
 {
     match own.lowest_free() {
@@ -56,13 +56,13 @@ fn free_number(own: &OwnDescriptors) -> Result<u32, DecideError>
 
 // Whether there are bytes to take away.
 fn empties<T: TreeAnswers>(tree: &T, truncate: bool, inode: u32) -> Result<bool, DecideError>
-    ensures tells { Tells (T.part tree.now) (empties truncate inode) result }
+    ensures answer { IsAnswer (T.part tree.now) (empties truncate inode) result }
     ensures memory { result ≢ Err Memory }
 {
     if !truncate {
         return Ok(false);
     }
-    let size = known(tree.file_size(inode), Missing::Node { inode })?;
+    let size = known_or_missing(tree.file_size(inode), Missing::Node { inode })?;
     Ok(size > 0)
 }
 
@@ -73,7 +73,7 @@ pub(crate) fn open<T: TreeAnswers>(
     bytes: &[u8],
     flags: Flags,
 ) -> Result<Operation, DecideError>
-    ensures tells { Tells (T.part tree.now) (open_path (own_of own.now) bytes.now flags) result }
+    ensures answer { IsAnswer (T.part tree.now) (open_path (own_of own.now) bytes.now flags) result }
     ensures memory { result ≡ Err Memory → comes_to_name bytes.now ≡ true }
 {
     let path = read_path(alloc, bytes)?;
@@ -88,7 +88,7 @@ fn open_at<T: TreeAnswers>(
     path: &Path,
     flags: Flags,
 ) -> Result<Operation, DecideError>
-    ensures tells { Tells (T.part tree.now) (open_at (own_of own.now) path.now flags) result }
+    ensures answer { IsAnswer (T.part tree.now) (open_at (own_of own.now) path.now flags) result }
     ensures memory { result ≡ Err Memory → is_root path.now ≡ false }
 {
     refuse_if(flags.is_senseless(), Errno::Invalid)?;
@@ -120,7 +120,7 @@ fn open_at<T: TreeAnswers>(
 
 // The inode that is open at a number.
 fn open_inode(own: &OwnDescriptors, number: u32) -> Result<u32, DecideError>
-    ensures tells { (p : Part) → Tells p (opened (λ d. true) (own_of own.now number)) result }
+    ensures answer { (p : Part) → IsAnswer p (open_inode (λ d. true) (own_of own.now number)) result }
     ensures memory { result ≢ Err Memory }
 {
     match own.get(number) {
@@ -133,7 +133,7 @@ fn open_inode(own: &OwnDescriptors, number: u32) -> Result<u32, DecideError>
 
 // The inode that is open at a number for reading.
 fn readable_inode(own: &OwnDescriptors, number: u32) -> Result<u32, DecideError>
-    ensures tells { (p : Part) → Tells p (opened (λ d. d.reads) (own_of own.now number)) result }
+    ensures answer { (p : Part) → IsAnswer p (open_inode (λ d. d.reads) (own_of own.now number)) result }
     ensures memory { result ≢ Err Memory }
     ensures open { IfOk result (λ inode. (d : Descriptor) × (own_of own.now number ≡ Some d) × (d.reads ≡ true) × (d.inode ≡ inode)) }
 {
@@ -148,7 +148,7 @@ fn readable_inode(own: &OwnDescriptors, number: u32) -> Result<u32, DecideError>
 
 // The inode that is open at a number for writing.
 fn writable_inode(own: &OwnDescriptors, number: u32) -> Result<u32, DecideError>
-    ensures tells { (p : Part) → Tells p (opened (λ d. d.writes) (own_of own.now number)) result }
+    ensures answer { (p : Part) → IsAnswer p (open_inode (λ d. d.writes) (own_of own.now number)) result }
     ensures memory { result ≢ Err Memory }
     ensures open { IfOk result (λ inode. (d : Descriptor) × (own_of own.now number ≡ Some d) × (d.writes ≡ true) × (d.inode ≡ inode)) }
 {
@@ -162,7 +162,7 @@ fn writable_inode(own: &OwnDescriptors, number: u32) -> Result<u32, DecideError>
 }
 
 pub(crate) fn close(own: &OwnDescriptors, number: u32) -> Result<Operation, DecideError>
-    ensures tells { (p : Part) → Tells p (close (own_of own.now) number) result }
+    ensures answer { (p : Part) → IsAnswer p (close (own_of own.now) number) result }
     ensures memory { result ≢ Err Memory }
 {
     let inode = open_inode(own, number)?;
@@ -180,12 +180,12 @@ pub(crate) fn pread<T: TreeAnswers>(
     at: u64,
     count: u64,
 ) -> Result<Operation, DecideError>
-    ensures tells { Tells (T.part tree.now) (pread (own_of own.now) number at count) result }
+    ensures answer { IsAnswer (T.part tree.now) (pread (own_of own.now) number at count) result }
     ensures memory { result ≡ Err Memory → reads_bytes (T.part tree.now) (own_of own.now number) at count ≡ true }
 {
     let inode = readable_inode(own, number)?;
     refuse_if(count > MAX_TRANSFER as u64, Errno::Invalid)?;
-    let size = known(tree.file_size(inode), Missing::Node { inode })?;
+    let size = known_or_missing(tree.file_size(inode), Missing::Node { inode })?;
     let bytes = bytes_from(alloc, tree, inode, at, count.min(size.saturating_sub(at)))?;
     Ok(Operation::Tell {
         answer: Reply::Read { bytes },
@@ -202,14 +202,14 @@ fn bytes_from<T: TreeAnswers>(
 ) -> Result<Bytes, DecideError>
     requires some { at + count < 2 ^ 64 }
     requires few { count ≤ MAX_TRANSFER }
-    ensures tells { Tells (T.part tree.now) (bytes_from inode at count) result }
+    ensures answer { IsAnswer (T.part tree.now) (bytes_from inode at count) result }
     ensures memory { result ≡ Err Memory → (0 < count) × (is_some ((T.part tree.now).bytes inode at count) ≡ true) }
 {
     if count == 0 {
         return Ok(Bytes::from_vec(Vec::new(alloc)));
     }
     let answer = tree.read(alloc, inode, at, count)?;
-    known(answer, blocks_missing(inode, at, count))
+    known_or_missing(answer, blocks_missing(inode, at, count))
 }
 
 // The blocks that a range of the bytes of a file touches.
@@ -234,7 +234,7 @@ pub(crate) fn pwrite(
     at: u64,
     bytes: &SharedBytes,
 ) -> Result<Operation, DecideError>
-    ensures tells { (p : Part) → Tells p (pwrite (own_of own.now) number at bytes.now) result }
+    ensures answer { (p : Part) → IsAnswer p (pwrite (own_of own.now) number at bytes.now) result }
     ensures memory { result ≡ Err Memory → writes_bytes (own_of own.now number) at bytes.now ≡ true }
 {
     let inode = writable_inode(own, number)?;

@@ -1,9 +1,9 @@
 // What the calls that make and take away a directory come to: mkdir, rmdir.
 ghost use Rattle.std.specs.Prelude.{◌≡◌, Err, true, false};
-ghost use Rattle.posix_calls.specs.Path.{comes_to_name};
+ghost use Rattle.posix_calls.specs.FirstName.{comes_to_name};
 ghost use Rattle.posix_calls.specs.Walk.{is_root};
 ghost use Rattle.posix_calls.specs.declared.operation.DecideError.TheVariants.{Memory};
-ghost use Rattle.posix_calls.specs.Answers.{Tells};
+ghost use Rattle.posix_calls.specs.Answers.{IsAnswer};
 ghost use Rattle.posix_calls.specs.Decide.{mkdir, rmdir, rmdir_at};
 
 use crate::errno::Errno;
@@ -18,7 +18,7 @@ pub(crate) fn mkdir<T: TreeAnswers>(
     tree: &T,
     bytes: &[u8],
 ) -> Result<Operation, DecideError>
-    ensures tells { Tells (T.part tree.now) (mkdir bytes.now) result }
+    ensures answer { IsAnswer (T.part tree.now) (mkdir bytes.now) result }
     ensures memory { result ≡ Err Memory → comes_to_name bytes.now ≡ true }
 {
     let path = read_path(alloc, bytes)?;
@@ -34,7 +34,7 @@ pub(crate) fn rmdir<T: TreeAnswers>(
     tree: &T,
     bytes: &[u8],
 ) -> Result<Operation, DecideError>
-    ensures tells { Tells (T.part tree.now) (rmdir bytes.now) result }
+    ensures answer { IsAnswer (T.part tree.now) (rmdir bytes.now) result }
     ensures memory { result ≡ Err Memory → comes_to_name bytes.now ≡ true }
 {
     let path = read_path(alloc, bytes)?;
@@ -43,7 +43,7 @@ pub(crate) fn rmdir<T: TreeAnswers>(
 
 // What follows once the path is read.
 fn rmdir_at<T: TreeAnswers>(alloc: Global, tree: &T, path: &Path) -> Result<Operation, DecideError>
-    ensures tells { Tells (T.part tree.now) (rmdir_at path.now) result }
+    ensures answer { IsAnswer (T.part tree.now) (rmdir_at path.now) result }
     ensures memory { result ≡ Err Memory → is_root path.now ≡ false }
 {
     refuse_root(path)?;

@@ -3,10 +3,13 @@
 ghost use Rattle.std.specs.Prelude.{◌≡◌, ◌≢◌, ◌∷◌, ◌++◌, ℕ, List, Result, Ok, Some, IsSome, true, false};
 ghost use Rattle.std.specs.FinMap.{get};
 ghost use Rattle.posix_calls.specs.Content.{Entries};
-ghost use Rattle.posix_calls.specs.Tree.{Tree, Dir, Own, State, entries_of, opening};
-ghost use Rattle.posix_calls.specs.Query.{Query, View, Part, Known, Unknown, IsPart, IsLeft, AsksNoBytes, run, run_part, view_of};
-ghost use Rattle.posix_calls.specs.Decide.{decide, is_pread};
-ghost use Rattle.posix_calls.specs.Walk.{inode_at};
+ghost use Rattle.posix_calls.specs.Tree.{Tree, Dir, Own, State, entries_of};
+ghost use Rattle.posix_calls.specs.EmptyTree.{empty_state};
+ghost use Rattle.posix_calls.specs.Query.{Query, View, run, view_of};
+ghost use Rattle.posix_calls.specs.Part.{Part, Known, Unknown, IsPart, IsLeft, AsksNoBytes, run_part};
+ghost use Rattle.posix_calls.specs.Decide.{decide};
+ghost use Rattle.posix_calls.specs.Kinds.{is_pread};
+ghost use Rattle.posix_calls.specs.Resolve.{inode_at};
 ghost use Rattle.posix_calls.specs.declared.operation.Missing.{Missing};
 ghost use Rattle.posix_calls.specs.declared.operation.Missing.TheVariants.{Blocks};
 ghost use Rattle.posix_calls.specs.declared.operation.Operation.{Operation};
@@ -60,7 +63,7 @@ pub fn walk_leads_where_the_path_does()
 /// Where no call was made the state is well-formed; so is one after a step or a run from such a state, and what is left of it
 /// where nobody has a file open.
 pub fn states_stay_well_formed()
-    ensures opening { IsWellFormed opening }
+    ensures opening { IsWellFormed empty_state }
     ensures step { (old : State) (client : ℕ) (call : Call) (reply : Reply) (after : State) → IsWellFormed old → Step old client call reply after → IsWellFormed after }
     ensures run { (turns : List Turn) (old last : State) → IsWellFormed old → Run old turns last → IsWellFormed last }
     ensures settled { (s : State) → IsWellFormed s → IsWellFormed (settled s) }
@@ -69,7 +72,7 @@ pub fn states_stay_well_formed()
 /// So it is with the limits: no file is too large, no directory too full, no file has too many names, and every entry's name
 /// is one.
 pub fn states_stay_within_limits()
-    ensures opening { IsWithinLimits opening.tree }
+    ensures opening { IsWithinLimits empty_state.tree }
     ensures step { (old : State) (client : ℕ) (call : Call) (reply : Reply) (after : State) → IsWellFormed old → IsWithinLimits old.tree → Step old client call reply after → IsWithinLimits after.tree }
     ensures run { (turns : List Turn) (old last : State) → IsWellFormed old → IsWithinLimits old.tree → Run old turns last → IsWithinLimits last.tree }
     ensures settled { (s : State) → IsWellFormed s → IsWithinLimits s.tree → IsWithinLimits (settled s).tree }

@@ -11,6 +11,7 @@
 
 mod bytes;
 mod call;
+mod clients;
 mod decide_error;
 mod decision;
 mod descriptor;
@@ -34,6 +35,7 @@ mod walk;
 
 pub use bytes::Bytes;
 pub use call::{Call, Flags, Reply};
+pub use clients::client_index;
 pub use decision::decide;
 pub use descriptor::Descriptor;
 pub use errno::Errno;
@@ -53,4 +55,4 @@ pub use operation::{DecideError, Description, Location, Missing, Operation, Repl
 pub use own::OwnDescriptors;
 pub use path::Path;
 pub use shared_bytes::SharedBytes;
-pub use tree_answers::{NamedInode, TreeAnswers, known};
+pub use tree_answers::{NamedInode, TreeAnswers, known_or_missing};

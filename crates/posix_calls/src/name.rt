@@ -1,7 +1,9 @@
 ghost use Rattle.std.specs.List.{list_any};
 ghost use Rattle.std.specs.Prelude.{◌≡◌, ◌⊎◌, ◌==◌, ◌||◌, List, ℕ, true, false, None, Some, Err, IfOk, IfErr, IsTrue};
-ghost use Rattle.posix_calls.specs.Name.{is_name, is_dots};
-ghost use Rattle.posix_calls.specs.Path.{has_no_slash, fault};
+ghost use Rattle.posix_calls.specs.Name.{is_name};
+ghost use Rattle.posix_calls.specs.Path.{is_dots};
+ghost use Rattle.posix_calls.specs.Path.{fault};
+ghost use Rattle.posix_calls.specs.FirstName.{has_no_slash};
 
 use crate::errno::Errno;
 use crate::limits::MAX_NAME;

@@ -1,5 +1,7 @@
 ghost use Rattle.std.specs.Prelude.{◌≡◌, None, Some, if◌then◌else◌};
-ghost use Rattle.posix_calls.specs.Operations.{IsInRange, makes, only_tells, opens, reply_of};
+ghost use Rattle.posix_calls.specs.Operations.{makes, reply_of};
+ghost use Rattle.posix_calls.specs.Kinds.{is_query, opens};
+ghost use Rattle.posix_calls.specs.Exact.{IsInRange};
 
 use crate::call::Reply;
 use crate::descriptor::Descriptor;
@@ -97,7 +99,7 @@ impl Operation {
     /// What the call is answered; of an operation that does no more than tell, `None`: `into_reply` moves its answer out.
     pub fn reply(&self) -> Option<Reply>
         requires { IsInRange self.now }
-        ensures { result ≡ (if only_tells self.now then None else Some (reply_of self.now)) }
+        ensures { result ≡ (if is_query self.now then None else Some (reply_of self.now)) }
     {
         match self {
             Operation::Tell { .. } => None,

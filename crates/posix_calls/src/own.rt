@@ -1,6 +1,7 @@
 ghost use Rattle.std.specs.Prelude.{◌≡◌, ◌<◌, ℕ, None};
 ghost use Rattle.posix_calls.specs.Tree.{set_own, refers_to, has_open};
-ghost use Rattle.posix_calls.specs.Operations.{IsInRange, own_after};
+ghost use Rattle.posix_calls.specs.Operations.{own_after};
+ghost use Rattle.posix_calls.specs.Exact.{IsInRange};
 ghost use Rattle.posix_calls.specs.Decide.{lowest_free};
 ghost use Rattle.posix_calls.specs.Own.{own_of};
 

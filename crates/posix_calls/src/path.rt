@@ -1,7 +1,8 @@
 ghost use Rattle.std.specs.Prelude.{◌≡◌, ◌⊎◌, ◌==◌, ◌↔◌, All, List, ℕ, true, None, Some, Ok, Err, [], IfOk, IfErr, IsTrue};
 ghost use Rattle.std.specs.List.{position};
 ghost use Rattle.posix_calls.specs.Name.{is_name};
-ghost use Rattle.posix_calls.specs.Path.{components, first_fault, first_is_faultless, comes_to_name, reading};
+ghost use Rattle.posix_calls.specs.Path.{components, first_fault, path_names};
+ghost use Rattle.posix_calls.specs.FirstName.{first_is_faultless, comes_to_name};
 
 use crate::errno::Errno;
 use crate::limits::MAX_PATH;
@@ -31,8 +32,8 @@ impl Path {
     /// `.`, `..` or with a zero byte, `Invalid`; over 64 bytes, `NameTooLong`. So a `/` at the end is `Invalid`. `NoMemory` may
     /// stand in place of any answer to a path of at most 1,024 bytes that begins with `/` and a name.
     pub fn read(alloc: Global, bytes: &[u8]) -> Result<Path, Errno>
-        ensures names { IfOk result (λ path. reading bytes.now ≡ Ok path) }
-        ensures refused { IfErr result (λ errno. (errno ≡ Errno.NoMemory) ⊎ (reading bytes.now ≡ Err errno)) }
+        ensures names { IfOk result (λ path. path_names bytes.now ≡ Ok path) }
+        ensures refused { IfErr result (λ errno. (errno ≡ Errno.NoMemory) ⊎ (path_names bytes.now ≡ Err errno)) }
         ensures memory { result ≡ Err Errno.NoMemory → comes_to_name bytes.now ≡ true }
     {
         if bytes.len() > MAX_PATH {

@@ -1,5 +1,5 @@
 ghost use Rattle.std.specs.Prelude.{◌≡◌, Bool, Some, None, option_map, is_some, true, IfOk, IfErr};
-ghost use Rattle.posix_calls.specs.Query.{Part};
+ghost use Rattle.posix_calls.specs.Part.{Part};
 ghost use Rattle.posix_calls.specs.Answers.{entry_in, count_in, listed_in, description_of};
 ghost use Rattle.posix_calls.specs.Memory.{has_names};
 ghost use Rattle.posix_calls.specs.Walk.{names_seen, size_seen};
@@ -72,7 +72,7 @@ pub trait TreeAnswers {
 }
 
 /// What was answered, or what is missing where nothing was.
-pub fn known<A: Drop>(answer: Option<A>, what: Missing) -> Result<A, DecideError>
+pub fn known_or_missing<A: Drop>(answer: Option<A>, what: Missing) -> Result<A, DecideError>
     ensures known { IfOk result (λ x. answer ≡ Some x) }
     ensures missing { IfErr result (λ error. (error ≡ why.Missing what) × (answer ≡ None)) }
 {

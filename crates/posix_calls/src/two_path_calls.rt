@@ -2,16 +2,16 @@
 ghost use Rattle.std.specs.Prelude.{◌≡◌, ◌≢◌, ◌==◌, ◌&&◌, not, ℕ, List, [], Err, true, false};
 ghost use Rattle.posix_calls.specs.Memory.{come_to_names};
 ghost use Rattle.posix_calls.specs.declared.operation.DecideError.TheVariants.{Memory};
-ghost use Rattle.posix_calls.specs.Answers.{Tells, IsTold, place_at};
+ghost use Rattle.posix_calls.specs.Answers.{IsAnswer, HasKnownKind, place_at};
 ghost use Rattle.posix_calls.specs.Walk.{is_full, is_root};
-ghost use Rattle.posix_calls.specs.Decide.{link, link_at, rename, rename_at, replacing};
+ghost use Rattle.posix_calls.specs.Decide.{link, link_at, rename, rename_at, replaced_at};
 
 use crate::call::Reply;
 use crate::errno::Errno;
 use crate::limits::MAX_NAMES;
 use crate::operation::{DecideError, Missing, Operation, Replaced};
 use crate::path::Path;
-use crate::tree_answers::{TreeAnswers, known};
+use crate::tree_answers::{TreeAnswers, known_or_missing};
 use crate::walk::{
     Landing, kind_at, leads_to, location, prefix, reach, read_path, refuse_entries, refuse_if,
     refuse_root, there, walk,
@@ -24,7 +24,7 @@ pub(crate) fn link<T: TreeAnswers>(
     old: &[u8],
     new: &[u8],
 ) -> Result<Operation, DecideError>
-    ensures tells { Tells (T.part tree.now) (link old.now new.now) result }
+    ensures answer { IsAnswer (T.part tree.now) (link old.now new.now) result }
     ensures memory { result ≡ Err Memory → come_to_names old.now new.now ≡ true }
 {
     let old_path = read_path(alloc, old)?;
@@ -39,13 +39,13 @@ fn link_at<T: TreeAnswers>(
     old_path: &Path,
     new_path: &Path,
 ) -> Result<Operation, DecideError>
-    ensures tells { Tells (T.part tree.now) (link_at old_path.now new_path.now) result }
+    ensures answer { IsAnswer (T.part tree.now) (link_at old_path.now new_path.now) result }
     ensures memory { result ≡ Err Memory → is_root new_path.now ≡ false }
 {
     let inode = reach(tree, old_path, false, Errno::NotPermitted)?.inode;
     let to = prefix(tree, new_path)?;
     refuse_if(to.is_there(), Errno::Exists)?;
-    let names = known(tree.file_names(inode), Missing::Node { inode })?;
+    let names = known_or_missing(tree.file_names(inode), Missing::Node { inode })?;
     refuse_if(names >= MAX_NAMES, Errno::TooManyLinks)?;
     refuse_if(to.is_full(), Errno::NoSpace)?;
     let at = location(alloc, to.parent, new_path)?;
@@ -60,14 +60,14 @@ fn missing_room(from: Landing, to: Landing) -> bool
 }
 
 // What is at the new name, and is put out of its place.
-fn replaced<T: TreeAnswers>(
+fn find_replaced<T: TreeAnswers>(
     tree: &T,
     from: Landing,
     to: Landing,
     old_dir: bool,
 ) -> Result<Replaced, DecideError>
-    requires { IsTold (T.part tree.now) to }
-    ensures tells { (a b : List (List ℕ)) (v w : List ℕ) → Tells (T.part tree.now) (replacing (place_at a from v) (place_at b to w) old_dir to.inode) result }
+    requires { HasKnownKind (T.part tree.now) to }
+    ensures answer { (a b : List (List ℕ)) (v w : List ℕ) → IsAnswer (T.part tree.now) (replaced_at (place_at a from v) (place_at b to w) old_dir to.inode) result }
     ensures memory { result ≢ Err Memory }
 {
     let Some(inode) = to.inode else {
@@ -90,7 +90,7 @@ pub(crate) fn rename<T: TreeAnswers>(
     old: &[u8],
     new: &[u8],
 ) -> Result<Operation, DecideError>
-    ensures tells { Tells (T.part tree.now) (rename old.now new.now) result }
+    ensures answer { IsAnswer (T.part tree.now) (rename old.now new.now) result }
     ensures memory { result ≡ Err Memory → come_to_names old.now new.now ≡ true }
 {
     let old_path = read_path(alloc, old)?;
@@ -105,7 +105,7 @@ fn rename_at<T: TreeAnswers>(
     old_path: &Path,
     new_path: &Path,
 ) -> Result<Operation, DecideError>
-    ensures tells { Tells (T.part tree.now) (rename_at old_path.now new_path.now) result }
+    ensures answer { IsAnswer (T.part tree.now) (rename_at old_path.now new_path.now) result }
     ensures memory { result ≡ Err Memory → is_root old_path.now ≡ false }
 {
     refuse_root(old_path)?;
@@ -120,7 +120,7 @@ fn rename_at<T: TreeAnswers>(
         });
     }
     let is_dir = kind_at(tree, from)?;
-    let replaced = replaced(tree, from, to, is_dir)?;
+    let replaced = find_replaced(tree, from, to, is_dir)?;
     let old_location = location(alloc, from.parent, old_path)?;
     let new_location = location(alloc, to.parent, new_path)?;
     Ok(Operation::Move {

@@ -1,10 +1,11 @@
 // The walk along a path, and the tests that several calls have in common. Each function answers one question of a call.
 ghost use Rattle.std.specs.Prelude.{◌≡◌, ◌≢◌, Bool, Some, None, Ok, Err, true, false, IfOk, IfErr, nat_le, option_map};
-ghost use Rattle.posix_calls.specs.Path.{comes_to_name, reading};
-ghost use Rattle.posix_calls.specs.Query.{Part};
+ghost use Rattle.posix_calls.specs.Path.{path_names};
+ghost use Rattle.posix_calls.specs.FirstName.{comes_to_name};
+ghost use Rattle.posix_calls.specs.Part.{Part};
 ghost use Rattle.posix_calls.specs.declared.tree_answers.NamedInode.{NamedInode};
-ghost use Rattle.posix_calls.specs.Walk.{said, kind_at, there, is_root, is_there, leads_to};
-ghost use Rattle.posix_calls.specs.Answers.{Tells, IsTold, last_name, landing, untold, child_at, other_kind, target, no_entries};
+ghost use Rattle.posix_calls.specs.Walk.{read_or_error, kind_at, there, is_root, is_there, leads_to};
+ghost use Rattle.posix_calls.specs.Answers.{IsAnswer, HasKnownKind, last_name, landing, without_kind, child_at, other_kind, target, no_entries};
 ghost use Rattle.posix_calls.specs.declared.operation.DecideError.TheVariants as why;
 ghost use Rattle.posix_calls.specs.declared.operation.DecideError.TheVariants.{Refused, Memory};
 ghost use Rattle.posix_calls.specs.declared.operation.Missing.TheVariants as missing;
@@ -14,7 +15,7 @@ use crate::limits::{MAX_ENTRIES, ROOT};
 use crate::name::Name;
 use crate::operation::{DecideError, Location, Missing};
 use crate::path::Path;
-use crate::tree_answers::{NamedInode, TreeAnswers, known};
+use crate::tree_answers::{NamedInode, TreeAnswers, known_or_missing};
 use std::alloc::Global;
 
 // Where a path leads: the directory of its last name, the inode there, and how many entries that directory has; whether the walk
@@ -59,17 +60,17 @@ pub(crate) fn refuse_root(path: &Path) -> Result<(), DecideError>
 
 // Reads a path.
 pub(crate) fn read_path(alloc: Global, bytes: &[u8]) -> Result<Path, DecideError>
-    ensures tells { (p : Part) → Tells p (said (reading bytes.now)) result }
+    ensures answer { (p : Part) → IsAnswer p (read_or_error (path_names bytes.now)) result }
     ensures memory { result ≡ Err Memory → comes_to_name bytes.now ≡ true }
-    ensures names { IfOk result (λ path. reading bytes.now ≡ Ok path) }
+    ensures names { IfOk result (λ path. path_names bytes.now ≡ Ok path) }
 {
     Ok(Path::read(alloc, bytes)?)
 }
 
 // Whether there is a directory where a path leads.
 pub(crate) fn kind_at<T: TreeAnswers>(tree: &T, to: Landing) -> Result<bool, DecideError>
-    requires { IsTold (T.part tree.now) to }
-    ensures tells { Tells (T.part tree.now) (kind_at to.inode) result }
+    requires { HasKnownKind (T.part tree.now) to }
+    ensures answer { IsAnswer (T.part tree.now) (kind_at to.inode) result }
     ensures memory { result ≢ Err Memory }
 {
     let Some(inode) = to.inode else {
@@ -91,7 +92,7 @@ pub(crate) fn leads_to(inode: u32, at: Option<u32>) -> bool
 
 // The inode, where there is one.
 pub(crate) fn there(inode: Option<u32>) -> Result<u32, DecideError>
-    ensures tells { (p : Part) → Tells p (there inode) result }
+    ensures answer { (p : Part) → IsAnswer p (there inode) result }
     ensures memory { result ≢ Err Memory }
     ensures there { IfOk result (λ i. inode ≡ Some i) }
 {
@@ -115,16 +116,16 @@ fn kind_of<T: TreeAnswers>(
 {
     match told {
         Some(is_dir) => Ok(Some(is_dir)),
-        None => known(tree.is_dir(inode), Missing::Node { inode }),
+        None => known_or_missing(tree.is_dir(inode), Missing::Node { inode }),
     }
 }
 
 // The directory under a name of a directory.
 fn child_at<T: TreeAnswers>(tree: &T, dir: u32, name: &[u8]) -> Result<u32, DecideError>
-    ensures tells { Tells (T.part tree.now) (child_at dir name.now) result }
+    ensures answer { IsAnswer (T.part tree.now) (child_at dir name.now) result }
     ensures memory { result ≢ Err Memory }
 {
-    let entry = known(tree.entry(dir, name), Missing::Node { inode: dir })?;
+    let entry = known_or_missing(tree.entry(dir, name), Missing::Node { inode: dir })?;
     let Some(child) = entry else {
         return Err(DecideError::Refused {
             errno: Errno::NoEntry,
@@ -148,7 +149,7 @@ fn landing_at(parent: u32, child: Option<NamedInode>, entries: u32, passed: bool
     ensures inode { result.inode ≡ option_map (λ e. e.inode) child }
     ensures entries { result.entries ≡ entries }
     ensures passed { result.passed ≡ passed }
-    ensures told { (is_dir : Bool) → result.is_dir ≡ Some is_dir → (e : NamedInode) × (child ≡ Some e) × (e.is_dir ≡ Some is_dir) }
+    ensures known_kind { (is_dir : Bool) → result.is_dir ≡ Some is_dir → (e : NamedInode) × (child ≡ Some e) × (e.is_dir ≡ Some is_dir) }
 {
     match child {
         Some(child) => Landing {
@@ -174,8 +175,8 @@ pub(crate) fn walk<T: TreeAnswers>(
     path: &Path,
     watched: Option<u32>,
 ) -> Result<Landing, DecideError>
-    ensures tells { Tells (T.part tree.now) (landing watched path.now) (untold result) }
-    ensures told { IfOk result (λ to. IsTold (T.part tree.now) to) }
+    ensures answer { IsAnswer (T.part tree.now) (landing watched path.now) (without_kind result) }
+    ensures known_kind { IfOk result (λ to. HasKnownKind (T.part tree.now) to) }
     ensures memory { result ≢ Err Memory }
     ensures root { IfOk result (λ to. is_root path.now ≡ true → to.inode ≡ Some ROOT) }
 {
@@ -194,19 +195,19 @@ pub(crate) fn walk<T: TreeAnswers>(
         passed |= leads_to(dir, watched);
         dir = child_at(tree, dir, name.as_slice())?;
     }
-    let child = known(
+    let child = known_or_missing(
         tree.entry(dir, last.as_slice()),
         Missing::Node { inode: dir },
     )?;
-    let entries = known(tree.entry_count(dir), Missing::Node { inode: dir })?;
+    let entries = known_or_missing(tree.entry_count(dir), Missing::Node { inode: dir })?;
     passed |= leads_to(dir, watched);
     Ok(landing_at(dir, child, entries, passed))
 }
 
 // Walks along a path to the parent of its last name.
 pub(crate) fn prefix<T: TreeAnswers>(tree: &T, path: &Path) -> Result<Landing, DecideError>
-    ensures tells { Tells (T.part tree.now) (landing None path.now) (untold result) }
-    ensures told { IfOk result (λ to. IsTold (T.part tree.now) to) }
+    ensures answer { IsAnswer (T.part tree.now) (landing None path.now) (without_kind result) }
+    ensures known_kind { IfOk result (λ to. HasKnownKind (T.part tree.now) to) }
     ensures memory { result ≢ Err Memory }
     ensures root { IfOk result (λ to. is_root path.now ≡ true → to.inode ≡ Some ROOT) }
 {
@@ -230,7 +231,7 @@ pub(crate) fn reach<T: TreeAnswers>(
     wants_dir: bool,
     errno: Errno,
 ) -> Result<Target, DecideError>
-    ensures tells { Tells (T.part tree.now) (target wants_dir errno path.now) result }
+    ensures answer { IsAnswer (T.part tree.now) (target wants_dir errno path.now) result }
     ensures memory { result ≢ Err Memory }
     ensures root { IfOk result (λ to. is_root path.now ≡ true → to.inode ≡ ROOT) }
 {
@@ -246,10 +247,10 @@ pub(crate) fn reach<T: TreeAnswers>(
 
 // A directory with entries is refused.
 pub(crate) fn refuse_entries<T: TreeAnswers>(tree: &T, inode: u32) -> Result<(), DecideError>
-    ensures tells { Tells (T.part tree.now) (no_entries inode) result }
+    ensures answer { IsAnswer (T.part tree.now) (no_entries inode) result }
     ensures memory { result ≢ Err Memory }
 {
-    let entries = known(tree.entry_count(inode), Missing::Node { inode })?;
+    let entries = known_or_missing(tree.entry_count(inode), Missing::Node { inode })?;
     refuse_if(entries > 0, Errno::NotEmpty)
 }
 

@@ -15,7 +15,7 @@ use Rattle.call_effects.specs.log_record.declared.format.Record.{Record}
 use Rattle.call_effects.specs.NodeView.{NodeView, FileView, DirView, view_at, view_after}
 use Rattle.call_effects.proofs.NodeViews.{viewed_after}
 use Rattle.record_validation.specs.Counts.{counts_of}
-use Rattle.record_validation.specs.Known.{Known, ViewsAgree, known_at, first_unknown}
+use Rattle.record_validation.specs.KnownNodes.{Known, ViewsAgree, known_at, first_unknown}
 use Rattle.record_validation.specs.Good.{KeepsLimits, AreHeld, IsGood, are_held, is_within, keeps}
 use Rattle.record_validation.proofs.Touched.{as_known, next_all}
 

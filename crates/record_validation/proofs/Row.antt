@@ -10,7 +10,7 @@ use Rattle.call_effects.specs.file_graph.Graph.{Graph, after_effects, touches, i
 use Rattle.call_effects.specs.file_graph.Units.{charge}
 use Rattle.call_effects.proofs.file_graph_lemmas.Touches.{untouched}
 use Rattle.call_effects.specs.NodeView.{NodeView, view_at, view_of_node, view_after}
-use Rattle.record_validation.specs.Known.{Known, ViewsAgree, first_unknown, is_unknown, known_after}
+use Rattle.record_validation.specs.KnownNodes.{Known, ViewsAgree, first_unknown, is_unknown, known_after}
 use Rattle.record_validation.specs.Row.{with_known}
 use Rattle.record_validation.proofs.Touched.{all_known}
 

@@ -9,7 +9,7 @@ use Rattle.call_effects.specs.file_graph.declared.effect.Effect.{Effect}
 use Rattle.call_effects.specs.file_graph.Graph.{Graph, after_effects, subjects, is_among}
 use Rattle.call_effects.specs.NodeView.{NodeView, view_at, view_acted, view_after}
 use Rattle.call_effects.proofs.NodeViews.{viewed_after}
-use Rattle.record_validation.specs.Known.{Known, ViewsAgree, known_acted, known_after}
+use Rattle.record_validation.specs.KnownNodes.{Known, ViewsAgree, known_acted, known_after}
 use Rattle.record_validation.specs.Memory.{enters_known, want_room}
 
 composed : (f g : Option NodeView → Option NodeView) (o : Option (Option NodeView)) → option_map (λ v. f (g v)) o ≡ option_map f (option_map g o)

@@ -12,7 +12,7 @@ use Rattle.call_effects.specs.file_graph.Graph.{Graph, after_effects, touches, s
 use Rattle.call_effects.specs.file_graph.Units.{growth, charge}
 use Rattle.call_effects.specs.log_record.Grammar.{Fits}
 use Rattle.call_effects.specs.NodeView.{NodeView, view_at}
-use Rattle.record_validation.specs.Known.{Known, ViewsAgree, known_at, first_unknown, is_unknown}
+use Rattle.record_validation.specs.KnownNodes.{Known, ViewsAgree, known_at, first_unknown, is_unknown}
 use Rattle.record_validation.specs.Rises.{view_rise, view_cost, view_cost_after, sum_distinct}
 use Rattle.record_validation.proofs.Rises.{growth_told, charge_told}
 

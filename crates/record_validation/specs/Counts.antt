@@ -3,7 +3,7 @@ use Rattle.std.specs.Prelude.{ℕ, ◌+◌, ◌-◌, max, List, [], ◌∷◌, l
 use Rattle.std.specs.Ordering.{nat_cmp, eq_by_cmp}
 use Rattle.std.specs.Cmp.Lexicographic.{slice_cmp}
 use Rattle.std.specs.FinMap as fin
-use Rattle.call_effects.specs.posix_calls.Content.{file_units, directory_units}
+use Rattle.call_effects.specs.posix_calls.Units.{file_units, directory_units}
 use Rattle.call_effects.specs.file_graph.declared.effect.Kind.{Kind}
 use Rattle.call_effects.specs.file_graph.declared.effect.Kind.TheVariants as kind
 use Rattle.call_effects.specs.file_graph.declared.effect.Effect.{Effect}

@@ -14,7 +14,7 @@ use Rattle.record_validation.specs.declared.node_counts.NodeCounts.TheVariants a
 use Rattle.record_validation.specs.declared.verdict.Verdict.{Verdict}
 use Rattle.record_validation.specs.declared.verdict.Verdict.TheVariants as verdict
 use Rattle.record_validation.specs.Counts.{counts_after}
-use Rattle.record_validation.specs.Known.{Known, known_at}
+use Rattle.record_validation.specs.KnownNodes.{Known, known_at}
 
 -- no file is too large, no directory too full, and no node has too many names
 abbrev pub KeepsLimits : Option NodeView → Type 0
@@ -38,16 +38,16 @@ pub record IsGood (held : List ℕ) (capacity : ℕ) (g : Graph) (r : Record) : 
   pub charge : charge (after_effects g r.effects) ≤ capacity
 
 -- what a verdict says of a record over a graph: it is good, and the charge after it is told, or it is not
-abbrev pub VerdictTells : List ℕ → ℕ → Graph → Record → Verdict → Type 0
-VerdictTells held capacity g r (verdict.Good units) = IsGood held capacity g r × (charge (after_effects g r.effects) ≡ units)
-VerdictTells held capacity g r verdict.Bad = IsGood held capacity g r → ⊥
-VerdictTells held capacity g r (verdict.Unknown i) = Unit {0}
+abbrev pub IsVerdict : List ℕ → ℕ → Graph → Record → Verdict → Type 0
+IsVerdict held capacity g r (verdict.Good units) = IsGood held capacity g r × (charge (after_effects g r.effects) ≡ units)
+IsVerdict held capacity g r verdict.Bad = IsGood held capacity g r → ⊥
+IsVerdict held capacity g r (verdict.Unknown i) = Unit {0}
 
 -- the inode that a verdict asks for
-abbrev pub asked : Verdict → Option ℕ
-asked (verdict.Good units) = None
-asked verdict.Bad = None
-asked (verdict.Unknown i) = Some i
+abbrev pub asked_inode : Verdict → Option ℕ
+asked_inode (verdict.Good units) = None
+asked_inode verdict.Bad = None
+asked_inode (verdict.Unknown i) = Some i
 
 -- ---- tests
 

@@ -1,10 +1,10 @@
 pub mod Counts
 pub mod Good
-pub mod Known
+pub mod KnownNodes
 pub mod Memory
 pub mod Rises
 pub mod Row
-pub mod Seen
+pub mod NodeAnswers
 pub mod Summary
 -- Passed on to the crates above, which so need not list those below.
 pub use Rattle.call_effects.specs as call_effects

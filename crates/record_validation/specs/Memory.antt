@@ -3,7 +3,7 @@ use Rattle.std.specs.Prelude.{ℕ, List, [], ◌∷◌, Bool, true, false, ◌||
 use Rattle.call_effects.specs.file_graph.declared.effect.Effect.{Effect}
 use Rattle.call_effects.specs.file_graph.declared.effect.Effect.TheVariants as effect
 use Rattle.call_effects.specs.NodeView.{NodeView, view_is_dir}
-use Rattle.record_validation.specs.Known.{known_acted}
+use Rattle.record_validation.specs.KnownNodes.{known_acted}
 
 -- whether an effect enters a name
 abbrev pub is_enter : Effect → Bool

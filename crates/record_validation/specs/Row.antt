@@ -7,7 +7,7 @@ use Rattle.call_effects.specs.NodeView.{NodeView, view_at}
 use Rattle.record_validation.specs.declared.record_validation.RecordCheck.{RecordCheck}
 use Rattle.record_validation.specs.declared.verdict.Verdict.{Verdict}
 use Rattle.record_validation.specs.declared.verdict.Verdict.TheVariants as verdict
-use Rattle.record_validation.specs.Known.{ViewsAgree, is_unknown, known_after}
+use Rattle.record_validation.specs.KnownNodes.{ViewsAgree, is_unknown, known_after}
 
 -- a check stands over a graph that is as it knows it, and has the charge that it knows
 abbrev pub Stands : RecordCheck → Graph → Type 0

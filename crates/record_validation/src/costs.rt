@@ -8,11 +8,11 @@ ghost use Rattle.call_effects.specs.log_record.Grammar.{Fits};
 ghost use Rattle.call_effects.specs.log_record.declared.format.TheConstants.{MAX_EFFECTS};
 ghost use Rattle.record_validation.specs.Counts.{counts_of, counts_after, counts_cost};
 ghost use Rattle.record_validation.specs.Good.{is_within, keeps};
-ghost use Rattle.record_validation.specs.Known.{ViewsAgree, first_unknown, known_at};
+ghost use Rattle.record_validation.specs.KnownNodes.{ViewsAgree, first_unknown, known_at};
 ghost use Rattle.record_validation.specs.Rises.{sum_distinct, view_cost, view_cost_after, view_rise};
 
-use crate::counting::{counts_after, counts_of, is_on};
-use crate::known::known_node;
+use crate::count_changes::{counts_after, counts_of, is_on};
+use crate::known_nodes::known_node;
 use crate::node_counts::{cost, is_within};
 use crate::node_summary::NodeSummary;
 use call_effects::Effect;

@@ -2,7 +2,7 @@
 
 ghost use Rattle.std.specs.Prelude.{◌≡◌, ◌+◌, ℕ, true, Option, option_map, List};
 ghost use Rattle.call_effects.specs.file_graph.declared.effect.Effect.{Effect};
-ghost use Rattle.call_effects.specs.file_graph.Graph.{Graph, Node, acted, after_effects, touches, is_among};
+ghost use Rattle.call_effects.specs.file_graph.Graph.{Graph, Node, subject_after, after_effects, touches, is_among};
 ghost use Rattle.std.specs.List.{AllByRecursion};
 ghost use Rattle.call_effects.specs.file_graph.Units.{charge, growth};
 ghost use Rattle.call_effects.specs.log_record.Grammar.{Fits};
@@ -12,13 +12,13 @@ ghost use Rattle.call_effects.specs.NodeView.{NodeView, view_of_node, view_at, v
 
 /// What an effect makes of the summary of a node is the summary of what it makes of the node; so do effects one after the other.
 pub fn summary_is_of_the_node_after()
-    ensures single { (e : Effect) (o : Option Node) → option_map view_of_node (acted e o) ≡ view_acted e (option_map view_of_node o) }
+    ensures single { (e : Effect) (o : Option Node) → option_map view_of_node (subject_after e o) ≡ view_acted e (option_map view_of_node o) }
     ensures rows { (g : Graph) (es : List Effect) (i : ℕ) (view : Option NodeView) → view_at g i ≡ view → view_at (after_effects g es) i ≡ view_after es i view }
 {}
 
 /// The growth of effects that keep the limits of the format, and the charge after them, are told by the nodes that they touch, each
 /// counted once, whatever stands elsewhere in the graph.
-pub fn growth_is_told_by_what_is_touched()
+pub fn growth_follows_what_is_touched()
     ensures growth { (g : Graph) (es : List Effect) (known : ℕ → Option NodeView) → AllByRecursion Fits es → ((i : ℕ) → is_among i (touches es) ≡ true → view_at g i ≡ known i) → growth g es ≡ sum_distinct (view_rise es known) (touches es) }
     ensures charge { (g : Graph) (es : List Effect) (known : ℕ → Option NodeView) → AllByRecursion Fits es → ((i : ℕ) → is_among i (touches es) ≡ true → view_at g i ≡ known i) → charge (after_effects g es) + sum_distinct (view_cost known) (touches es) ≡ charge g + sum_distinct (view_cost_after es known) (touches es) }
 {}

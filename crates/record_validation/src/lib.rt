@@ -12,28 +12,28 @@
 #![tactic(auto)]
 
 mod costs;
-mod counting;
-mod known;
+mod count_changes;
+mod effect_steps;
+mod known_nodes;
 mod laws;
+mod node_answers;
 mod node_counts;
-mod node_seen;
 mod node_summary;
 mod nodes;
 mod record_validation;
-mod taking;
 mod verdict;
 
 pub use costs::{RecordCosts, record_costs};
-pub use counting::counts_after;
-pub use known::{first_unknown, is_unknown};
+pub use count_changes::counts_after;
+pub use effect_steps::take_effects;
+pub use known_nodes::{first_unknown, is_unknown};
 pub use laws::{
-    counts_are_of_the_node_after, growth_is_told_by_what_is_touched, summary_is_of_the_node_after,
+    counts_are_of_the_node_after, growth_follows_what_is_touched, summary_is_of_the_node_after,
 };
 pub use node_counts::{NodeCounts, cost};
 pub use node_summary::{NodeSummary, SummaryBody};
 pub use nodes::Nodes;
 pub use record_validation::RecordCheck;
-pub use taking::take_effects;
 pub use verdict::{Verdict, test_record};
 
 // Passed on to the crates above, which so need not list those below.

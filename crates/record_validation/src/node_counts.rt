@@ -1,5 +1,5 @@
 ghost use Rattle.std.specs.Prelude.{◌≡◌, ◌+◌, ◌-◌, ◌≤◌, ◌<◌, ◌^◌, Some, max, option_map, if◌then◌else◌};
-ghost use Rattle.call_effects.specs.posix_calls.Content.{file_units, directory_units};
+ghost use Rattle.call_effects.specs.posix_calls.Units.{file_units, directory_units};
 ghost use Rattle.call_effects.specs.log_record.Grammar.{Fits};
 ghost use Rattle.record_validation.specs.Good.{is_within};
 ghost use Rattle.record_validation.specs.Counts.{counts_acted, counts_cost, empty_counts, entry_count, in_count, in_length, with_count};
@@ -55,7 +55,7 @@ fn directory_units(entries: u64) -> u64
 
 /// The numbers after an effect on the inode, where it is told whether there was an entry of the name that the effect enters or
 /// takes out.
-pub fn acted(counts: Option<NodeCounts>, effect: &Effect, was: bool) -> Option<NodeCounts>
+pub fn apply_effect(counts: Option<NodeCounts>, effect: &Effect, was: bool) -> Option<NodeCounts>
     requires fits { Fits effect.now }
     requires few { entry_count counts ≤ 4294967303 }
     ensures is { result ≡ counts_acted effect.now was counts }
@@ -63,11 +63,11 @@ pub fn acted(counts: Option<NodeCounts>, effect: &Effect, was: bool) -> Option<N
 {
     match effect {
         Effect::Make { kind, .. } => Some(empty(*kind)),
-        Effect::Enter { .. } => entered(counts, was),
-        Effect::Leave { .. } => taken_out(counts, was),
-        Effect::Names { names, .. } => named(counts, *names),
-        Effect::Size { size, .. } => sized(counts, *size),
-        Effect::Bytes { at, bytes, .. } => grown(counts, *at + bytes.as_slice().len() as u64),
+        Effect::Enter { .. } => with_entry(counts, was),
+        Effect::Leave { .. } => without_entry(counts, was),
+        Effect::Names { names, .. } => with_names(counts, *names),
+        Effect::Size { size, .. } => with_size(counts, *size),
+        Effect::Bytes { at, bytes, .. } => with_growth(counts, *at + bytes.as_slice().len() as u64),
         Effect::Drop { .. } => None,
     }
 }
@@ -87,7 +87,7 @@ fn empty(kind: Kind) -> NodeCounts
 }
 
 // With a name entered, which was there or not.
-fn entered(counts: Option<NodeCounts>, was: bool) -> Option<NodeCounts>
+fn with_entry(counts: Option<NodeCounts>, was: bool) -> Option<NodeCounts>
     requires { entry_count counts ≤ 4294967303 }
     ensures is { result ≡ option_map (in_count (λ n. if was then n else n + 1)) counts }
     ensures few { entry_count result ≤ entry_count counts + 1 }
@@ -102,7 +102,7 @@ fn entered(counts: Option<NodeCounts>, was: bool) -> Option<NodeCounts>
 }
 
 // With a name taken out, which was there or not.
-fn taken_out(counts: Option<NodeCounts>, was: bool) -> Option<NodeCounts>
+fn without_entry(counts: Option<NodeCounts>, was: bool) -> Option<NodeCounts>
     ensures is { result ≡ option_map (in_count (λ n. if was then n - 1 else n)) counts }
     ensures few { entry_count result ≤ entry_count counts }
 {
@@ -120,7 +120,7 @@ fn taken_out(counts: Option<NodeCounts>, was: bool) -> Option<NodeCounts>
 }
 
 // With another number of names.
-fn named(counts: Option<NodeCounts>, count: u32) -> Option<NodeCounts>
+fn with_names(counts: Option<NodeCounts>, count: u32) -> Option<NodeCounts>
     ensures is { result ≡ option_map (with_count count) counts }
     ensures few { entry_count result ≤ entry_count counts }
 {
@@ -135,7 +135,7 @@ fn named(counts: Option<NodeCounts>, count: u32) -> Option<NodeCounts>
 }
 
 // With another size.
-fn sized(counts: Option<NodeCounts>, len: u64) -> Option<NodeCounts>
+fn with_size(counts: Option<NodeCounts>, len: u64) -> Option<NodeCounts>
     ensures is { result ≡ option_map (in_length (λ size. len)) counts }
     ensures few { entry_count result ≤ entry_count counts }
 {
@@ -146,7 +146,7 @@ fn sized(counts: Option<NodeCounts>, len: u64) -> Option<NodeCounts>
 }
 
 // With a size that is at least this.
-fn grown(counts: Option<NodeCounts>, end: u64) -> Option<NodeCounts>
+fn with_growth(counts: Option<NodeCounts>, end: u64) -> Option<NodeCounts>
     ensures is { result ≡ option_map (in_length (λ size. max size end)) counts }
     ensures few { entry_count result ≤ entry_count counts }
 {

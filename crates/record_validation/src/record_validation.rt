@@ -8,13 +8,13 @@ ghost use Rattle.call_effects.specs.file_graph.Graph.{Graph};
 ghost use Rattle.call_effects.specs.file_graph.Units.{charge};
 ghost use Rattle.call_effects.specs.log_record.Grammar.{IsRecord};
 ghost use Rattle.call_effects.specs.NodeView.{view_at};
-ghost use Rattle.record_validation.specs.Good.{IsGood, VerdictTells, asked};
-ghost use Rattle.record_validation.specs.Known.{first_unknown, is_unknown};
+ghost use Rattle.record_validation.specs.Good.{IsGood, IsVerdict, asked_inode};
+ghost use Rattle.record_validation.specs.KnownNodes.{first_unknown, is_unknown};
 ghost use Rattle.record_validation.specs.Memory.{want_room};
 ghost use Rattle.record_validation.specs.Row.{HasCome, Stands, known_by, left_by, with_known};
 
+use crate::effect_steps::take_effects;
 use crate::node_summary::NodeSummary;
-use crate::taking::take_effects;
 use crate::verdict::{Verdict, test_record};
 use call_effects::Record;
 use std::alloc::{AllocError, Global};
@@ -69,8 +69,8 @@ impl RecordCheck {
     ) -> Result<Verdict, AllocError>
         requires spelled { IsRecord next.now }
         requires rising { IsNonDecreasing held.now }
-        ensures tells { IfOk result (λ v. (g : Graph) → Stands self.old g → VerdictTells held.now capacity g next.now v) }
-        ensures unknown { IfOk result (λ v. asked v ≡ first_unknown self.old.known next.now.effects) }
+        ensures answer { IfOk result (λ v. (g : Graph) → Stands self.old g → IsVerdict held.now capacity g next.now v) }
+        ensures unknown { IfOk result (λ v. asked_inode v ≡ first_unknown self.old.known next.now.effects) }
         ensures known { IfOk result (λ v. get nat_cmp self.new.known ≡ known_by v next.now (get nat_cmp self.old.known)) }
         ensures stands { IfOk result (λ v. (g : Graph) → Stands self.old g → Stands self.new (left_by v g next.now)) }
         ensures first { IfOk result (λ v. (g h : Graph) → HasCome self.old g h → HasCome self.new g (left_by v h next.now)) }

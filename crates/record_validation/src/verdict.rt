@@ -5,8 +5,8 @@ ghost use Rattle.std.specs.List.Sorted.{IsNonDecreasing};
 ghost use Rattle.call_effects.specs.file_graph.Graph.{Graph, is_among};
 ghost use Rattle.call_effects.specs.file_graph.Units.{charge};
 ghost use Rattle.call_effects.specs.log_record.Grammar.{IsRecord};
-ghost use Rattle.record_validation.specs.Good.{VerdictTells, are_held, asked};
-ghost use Rattle.record_validation.specs.Known.{ViewsAgree, first_unknown};
+ghost use Rattle.record_validation.specs.Good.{IsVerdict, are_held, asked_inode};
+ghost use Rattle.record_validation.specs.KnownNodes.{ViewsAgree, first_unknown};
 
 use crate::costs::{RecordCosts, tally_record};
 use crate::node_summary::NodeSummary;
@@ -37,8 +37,8 @@ pub fn test_record(
 ) -> Verdict
     requires spelled { IsRecord next.now }
     requires rising { IsNonDecreasing held.now }
-    ensures tells { (g : Graph) → ViewsAgree known.now g → charge g ≡ used → VerdictTells held.now capacity g next.now result }
-    ensures unknown { asked result ≡ first_unknown known.now next.now.effects }
+    ensures answer { (g : Graph) → ViewsAgree known.now g → charge g ≡ used → IsVerdict held.now capacity g next.now result }
+    ensures unknown { asked_inode result ≡ first_unknown known.now next.now.effects }
 {
     let effects = next.effects.as_slice();
     let tally = match tally_record(known, effects) {

@@ -22,7 +22,7 @@ use Rattle.inode_plan.proofs.area_image_lemmas.Shown.{extents_none}
 use Rattle.inode_plan.specs.Lists.{IsListOf}
 use Rattle.inode_plan.proofs.area_commit_lemmas.Given.{cons_cases, nothing}
 use Rattle.inode_plan.proofs.Steps.{inside}
-use Rattle.inode_plan.specs.area_commit.Moved.{with_roots}
+use Rattle.inode_plan.specs.area_commit.InodeMove.{with_roots}
 
 -- ---- lists
 

@@ -2,6 +2,7 @@
 use Rattle.std.proofs.Common.{◌≡◌, ◌≢◌, ◌≤◌, ◌⊎◌, inl, inr, ◌+◌, ◌∙◌, ℕ, List, length, true, false, refl, sym, ap, subst, arith}
 use Rattle.std.specs.Prelude.{Result, Ok, Err, OnOk, OnErr, IfErr, IsErrOf}
 use Rattle.std.proofs.lemmas.Bool.{true≢false}
+use Rattle.inode_plan.specs.tier_device.declared.media.Media.{Ghosts}
 use Rattle.inode_plan.specs.tier_device.declared.media.Tier.{Tier}
 use Rattle.inode_plan.specs.tier_device.declared.media.Tier.TheVariants.{Fast}
 use Rattle.inode_plan.specs.tier_device.Media.{Rose}
@@ -12,22 +13,22 @@ use Rattle.inode_plan.specs.batch_journal.View.{JournalView}
 use Rattle.inode_plan.proofs.batch_journal_lemmas.Courses.{left_before, tiers_same, unmoved_on}
 use Rattle.inode_plan.specs.area_image.declared.error.AreaError.{AreaError}
 use Rattle.inode_plan.specs.area_image.declared.error.AreaError.TheVariants as area
-use Rattle.inode_plan.specs.area_image.Store.{Store, store_of}
-use Rattle.inode_plan.specs.area_image.Spelled.{IsOpenable}
+use Rattle.inode_plan.specs.area_image.Store.{Store, disk, store_of}
+use Rattle.inode_plan.specs.area_image.Format.{IsOpenable}
 use Rattle.inode_plan.specs.area_image.Damage.{OnDamage}
 use Rattle.inode_plan.specs.area_image.Looks.{Looks}
 use Rattle.inode_plan.specs.extent_tree.Map.{TierRuns}
 use Rattle.inode_plan.specs.area_commit.Value.{PoolsView, HasRanges, AreFree}
-use Rattle.relocation.specs.Errors.{IsTold}
+use Rattle.relocation.specs.Errors.{IsRelocateError}
 use Rattle.relocation.specs.declared.error.RelocateError.{RelocateError}
 use Rattle.relocation.specs.declared.error.RelocateError.TheVariants as errors
 use Rattle.inode_plan.specs.area_commit.declared.plan.Rewrite.{Rewrite}
-use Rattle.inode_plan.specs.area_commit.Done.{IsCarriedOut, AllOrNothing}
+use Rattle.inode_plan.specs.area_commit.PlanOutcome.{IsCarriedOut, AllOrNothing}
 use Rattle.inode_plan.proofs.area_commit_lemmas.Course.{Rests}
 use Rattle.inode_plan.proofs.area_commit_lemmas.Moments.{rest_loose}
-use Rattle.relocation.specs.declared.finding.MovableRun.{MovableRun}
-use Rattle.relocation.specs.Made.{IsMovePlan, IsPlanOfMove}
-use Rattle.relocation.specs.RunMoving.{AreLowestFree, IsSettled, IsMovedStore, IsMovedOrNot, Moves, MovesInFewCalls, StaysStill, Ends}
+use Rattle.relocation.specs.declared.run_search.MovableRun.{MovableRun}
+use Rattle.relocation.specs.MovedFile.{IsMovePlan, IsPlanOfMove}
+use Rattle.relocation.specs.RunMove.{AreLowestFree, IsSettled, IsMovedStore, IsMovedOrNot, Moves, MovesInFewCalls, StaysStill, Ends}
 
 -- ---- answers
 
@@ -98,12 +99,12 @@ pub err_other : (r : Result (Unit {0}) RelocateError) (f : RelocateError) → If
 err_other (Ok u) f other is = ok_no_err u f is
 err_other (Err e) f other is = other (err_same e f is)
 
-pub told_memory : (e : AreaError) (r : RelocateError) → IsTold e r → IsErrOf {T = Unit {0}} {E = RelocateError} (Err r) errors.Memory → e ≡ area.Memory
+pub told_memory : (e : AreaError) (r : RelocateError) → IsRelocateError e r → IsErrOf {T = Unit {0}} {E = RelocateError} (Err r) errors.Memory → e ≡ area.Memory
 told_memory area.DeviceFault r is full = absurd (memory_fault (sym (err_same r errors.Memory full) ∙ is))
 told_memory (area.Damaged w b) r is full = absurd is
 told_memory area.Memory r is full = refl
 
-pub told_forced : (e : AreaError) (r : RelocateError) → IsTold e r → IsForced r
+pub told_forced : (e : AreaError) (r : RelocateError) → IsRelocateError e r → IsForced r
 told_forced area.DeviceFault r is = inl is
 told_forced (area.Damaged w b) r is = absurd is
 told_forced area.Memory r is = inr is
@@ -131,37 +132,37 @@ moved_for law g s i first count to plan allowed opens p new out =
 
 -- ---- courses
 
-module _ {M : Type 0} (moment : M → ℕ) (seen : M → Tier → List ℕ) (left : M → ℕ → Tier → List ℕ → Type 0) (faults : M → ℕ)
-    (sized : (x : M) (n : ℕ) (t : Tier) (c : List ℕ) → n ≤ moment x → left x n t c → length c ≡ length (seen x t)) where
+module _ {M : Type 0} (device : Ghosts M)
+    (sized : (x : M) (n : ℕ) (t : Tier) (c : List ℕ) → n ≤ device.moment x → device.left x n t c → length c ≡ length (device.seen x t)) where
   -- The media are settled.
   abbrev pub SettledAt : JournalView M → PoolsView → Type 0
-  SettledAt j pools = IsSettled j.geometry (seen j.media) (left j.media (moment j.media)) pools
+  SettledAt j pools = IsSettled j.geometry (device.seen j.media) (device.left j.media (device.moment j.media)) pools
 
   -- Nothing was written.
   abbrev pub StillAt : JournalView M → JournalView M → Type 0
-  StillAt old new = Unmoved (moment old.media) (moment new.media) (seen old.media) (seen new.media) (left old.media) (left new.media)
+  StillAt old new = Unmoved (device.moment old.media) (device.moment new.media) (device.seen old.media) (device.seen new.media) (device.left old.media) (device.left new.media)
 
   pub still_self : (j : JournalView M) → StillAt j j
   still_self j = record { clock = refl; reads = λ t. refl; past = λ m t c le l. l; kept = λ m t c le l. l }
 
   pub settled_still : (old new : JournalView M) (pools : PoolsView) → StillAt old new → new.geometry ≡ old.geometry → SettledAt old pools → SettledAt new pools
   settled_still old new pools still geometry settled =
-      let same : store_of (seen new.media) ≡ store_of (seen old.media) = ap store_of (tiers_same (seen old.media) (seen new.media) still.reads) in
+      let same : disk device new ≡ disk device old = ap store_of (tiers_same (device.seen old.media) (device.seen new.media) still.reads) in
       record {
-        opens = subst (λ (g : Sizes). IsOpenable g (store_of (seen new.media))) (sym geometry) (subst (IsOpenable old.geometry) (sym same) settled.opens);
+        opens = subst (λ (g : Sizes). IsOpenable g (disk device new)) (sym geometry) (subst (IsOpenable old.geometry) (sym same) settled.opens);
         rests = λ t c l. settled.rests t c (left_before still t c l) ∙ sym (still.reads t);
         ranges = subst (λ (g : Sizes). HasRanges g pools) (sym geometry) settled.ranges;
-        free = subst (λ (g : Sizes). AreFree g (store_of (seen new.media)) pools) (sym geometry) (subst (λ (s : Store). AreFree old.geometry s pools) (sym same) settled.free);
+        free = subst (λ (g : Sizes). AreFree g (disk device new) pools) (sym geometry) (subst (λ (s : Store). AreFree old.geometry s pools) (sym same) settled.free);
       }
 
   module _ (i first count : ℕ) (to : Tier) where
     -- what a move may leave, from one journal to another
     abbrev MovesTo : JournalView M → JournalView M → Type 0
-    MovesTo old new = Moves old.geometry (store_of (seen old.media)) i first count to (moment old.media) (moment new.media) (left old.media) (left new.media)
+    MovesTo old new = Moves old.geometry (disk device old) i first count to (device.moment old.media) (device.moment new.media) (device.left old.media) (device.left new.media)
 
     -- how many calls there are between them
     abbrev FewTo : JournalView M → JournalView M → Type 0
-    FewTo old new = MovesInFewCalls old.geometry (store_of (seen old.media)) to count (moment old.media) (moment new.media)
+    FewTo old new = MovesInFewCalls old.geometry (disk device old) to count (device.moment old.media) (device.moment new.media)
 
     few_still : (old new : JournalView M) → StillAt old new → FewTo old new
     few_still old new still = inl (let clock = still.clock in omega (arith, clock))
@@ -170,33 +171,33 @@ module _ {M : Type 0} (moment : M → ℕ) (seen : M → Tier → List ℕ) (lef
     few_on old mid new still geometry (inl none) = inl (let clock = still.clock in omega (arith, none, clock))
     few_on old mid new still geometry (inr some) = inr (record {
       runs = some.runs;
-      lowest = subst (λ (g : Sizes). AreLowestFree g (store_of (seen old.media)) to count some.runs) geometry (subst (λ (s : Store). AreLowestFree mid.geometry s to count some.runs) (ap store_of (tiers_same (seen old.media) (seen mid.media) still.reads)) some.lowest);
+      lowest = subst (λ (g : Sizes). AreLowestFree g (disk device old) to count some.runs) geometry (subst (λ (s : Store). AreLowestFree mid.geometry s to count some.runs) (ap store_of (tiers_same (device.seen old.media) (device.seen mid.media) still.reads)) some.lowest);
       few = (let few = some.few in let clock = still.clock in omega (arith, few, clock));
     })
 
     abbrev EndsAt : JournalView M → JournalView M → PoolsView → Result (Unit {0}) RelocateError → Type 0
-    EndsAt old new pools r = Ends moment seen left faults i first count to old new pools r
+    EndsAt old new pools r = Ends device i first count to old new pools r
 
-    back : (old new : JournalView M) → StillAt old new → (m : ℕ) → moment old.media ≤ m → m ≤ moment new.media → (t : Tier) (c : List ℕ) → left new.media m t c → left old.media (moment old.media) t c
-    back old new still m lo hi t c l = subst (λ (n : ℕ). left old.media n t c) (omega (arith, lo, hi, still.clock)) (still.past m t c (omega (arith, hi, still.clock)) l)
+    back : (old new : JournalView M) → StillAt old new → (m : ℕ) → device.moment old.media ≤ m → m ≤ device.moment new.media → (t : Tier) (c : List ℕ) → device.left new.media m t c → device.left old.media (device.moment old.media) t c
+    back old new still m lo hi t c l = subst (λ (n : ℕ). device.left old.media n t c) (omega (arith, lo, hi, still.clock)) (still.past m t c (omega (arith, hi, still.clock)) l)
 
-    moves_still : (old new : JournalView M) → Rests moment seen left old.geometry old.media → StillAt old new → MovesTo old new
+    moves_still : (old new : JournalView M) → Rests device old.geometry old.media → StillAt old new → MovesTo old new
     moves_still old new rests still = record {
       later = omega (arith, still.clock);
       past = still.past;
       kept = still.kept;
       any_moment = λ m content lo hi l. record {
         volume = record {
-          sizes = λ t. sized old.media (moment old.media) t (content t) (omega arith) (back old new still m lo hi t (content t) (l t)) ∙ rests.sizes t;
+          sizes = λ t. sized old.media (device.moment old.media) t (content t) (omega arith) (back old new still m lo hi t (content t) (l t)) ∙ rests.sizes t;
           journal = rests.journal (content Fast) (back old new still m lo hi Fast (content Fast) (l Fast));
         };
-        store = inl (λ t. rest_loose old.geometry (seen old.media) (left old.media (moment old.media)) rests.rest t (content t) (back old new still m lo hi t (content t) (l t)));
+        store = inl (λ t. rest_loose old.geometry (device.seen old.media) (device.left old.media (device.moment old.media)) rests.rest t (content t) (back old new still m lo hi t (content t) (l t)));
       };
     }
 
     -- ---- refusals
 
-    pub ends_fault : (old new : JournalView M) (pools : PoolsView) → MovesTo old new → FewTo old new → (new.failed ≡ true) × Rose (faults old.media) (faults new.media) → new.geometry ≡ old.geometry → faults old.media ≤ faults new.media → faults new.media ≤ faults old.media + 1
+    pub ends_fault : (old new : JournalView M) (pools : PoolsView) → MovesTo old new → FewTo old new → (new.failed ≡ true) × Rose (device.faults old.media) (device.faults new.media) → new.geometry ≡ old.geometry → device.faults old.media ≤ device.faults new.media → device.faults new.media ≤ device.faults old.media + 1
         → EndsAt old new pools (Err errors.DeviceFault)
     ends_fault old new pools moves few fault geometry more one = record {
       any_moment = moves;
@@ -211,7 +212,7 @@ module _ {M : Type 0} (moment : M → ℕ) (seen : M → Tier → List ℕ) (lef
       few = few;
     }
 
-    pub ends_refused : (old new : JournalView M) (pools : PoolsView) (e : RelocateError) → e ≢ errors.DeviceFault → Rests moment seen left old.geometry old.media → StillAt old new → new.geometry ≡ old.geometry → new.failed ≡ false → faults new.media ≡ faults old.media
+    pub ends_refused : (old new : JournalView M) (pools : PoolsView) (e : RelocateError) → e ≢ errors.DeviceFault → Rests device old.geometry old.media → StillAt old new → new.geometry ≡ old.geometry → new.failed ≡ false → device.faults new.media ≡ device.faults old.media
         → SettledAt old pools → EndsAt old new pools (Err e)
     ends_refused old new pools e other rests still geometry going quiet settled = record {
       any_moment = moves_still old new rests still;
@@ -230,7 +231,7 @@ module _ {M : Type 0} (moment : M → ℕ) (seen : M → Tier → List ℕ) (lef
     failed_now p never = (p.0, elim p.1 [ inl b ↦ absurd (never b) | inr c ↦ c ])
 
     -- what a reader was refused for
-    pub ends_told : {T : Type 0} (old new : JournalView M) (pools : PoolsView) (e : AreaError) (f : RelocateError) → IsTold e f → Looks {T = T} moment seen left faults old new (Err e) → old.failed ≡ false → Rests moment seen left old.geometry old.media → SettledAt old pools
+    pub ends_told : {T : Type 0} (old new : JournalView M) (pools : PoolsView) (e : AreaError) (f : RelocateError) → IsRelocateError e f → Looks {T = T} device old new (Err e) → old.failed ≡ false → Rests device old.geometry old.media → SettledAt old pools
         → EndsAt old new pools (Err f)
     ends_told old new pools area.DeviceFault f is looks going rests settled = subst (λ (x : RelocateError). EndsAt old new pools (Err x)) (sym is) (
         ends_fault old new pools (moves_still old new rests looks.unmoved) (few_still old new looks.unmoved) (failed_now (looks.fault refl) (λ was. true≢false (sym was ∙ going))) looks.geometry looks.more_faults looks.one_fault
@@ -248,23 +249,23 @@ module _ {M : Type 0} (moment : M → ℕ) (seen : M → Tier → List ℕ) (lef
       past = λ m t c le l. still.past m t c le (moves.past m t c (omega (arith, le, still.clock)) l);
       kept = λ m t c le l. moves.kept m t c (omega (arith, le, still.clock)) (still.kept m t c le l);
       any_moment = λ m content lo hi l.
-          let same : store_of (seen mid.media) ≡ store_of (seen old.media) = ap store_of (tiers_same (seen old.media) (seen mid.media) still.reads) in
-          subst (λ (g : Sizes). IsMovedOrNot g (store_of (seen old.media)) i first count to content) geometry (
+          let same : disk device mid ≡ disk device old = ap store_of (tiers_same (device.seen old.media) (device.seen mid.media) still.reads) in
+          subst (λ (g : Sizes). IsMovedOrNot g (disk device old) i first count to content) geometry (
           subst (λ (s : Store). IsMovedOrNot mid.geometry s i first count to content) same (moves.any_moment m content (omega (arith, lo, still.clock)) hi l)
           );
     }
 
-    moved_on : (old mid new : JournalView M) → StillAt old mid → mid.geometry ≡ old.geometry → IsMovedStore mid.geometry (store_of (seen mid.media)) i first count to (store_of (seen new.media)) → IsMovedStore old.geometry (store_of (seen old.media)) i first count to (store_of (seen new.media))
+    moved_on : (old mid new : JournalView M) → StillAt old mid → mid.geometry ≡ old.geometry → IsMovedStore mid.geometry (disk device mid) i first count to (disk device new) → IsMovedStore old.geometry (disk device old) i first count to (disk device new)
     moved_on old mid new still geometry moved =
-        let same : store_of (seen mid.media) ≡ store_of (seen old.media) = ap store_of (tiers_same (seen old.media) (seen mid.media) still.reads) in
-        subst (λ (g : Sizes). IsMovedStore g (store_of (seen old.media)) i first count to (store_of (seen new.media))) geometry (
-        subst (λ (s : Store). IsMovedStore mid.geometry s i first count to (store_of (seen new.media))) same moved
+        let same : disk device mid ≡ disk device old = ap store_of (tiers_same (device.seen old.media) (device.seen mid.media) still.reads) in
+        subst (λ (g : Sizes). IsMovedStore g (disk device old) i first count to (disk device new)) geometry (
+        subst (λ (s : Store). IsMovedStore mid.geometry s i first count to (disk device new)) same moved
         )
 
-    still_on : (old mid new : JournalView M) → StillAt old mid → faults mid.media ≡ faults old.media → StaysStill moment seen left faults mid new → StaysStill moment seen left faults old new
+    still_on : (old mid new : JournalView M) → StillAt old mid → device.faults mid.media ≡ device.faults old.media → StaysStill device mid new → StaysStill device old new
     still_on old mid new still quiet stays = record { still = unmoved_on still stays.still; going = stays.going; quiet = stays.quiet ∙ quiet }
 
-    pub ends_on : (old mid new : JournalView M) (pools : PoolsView) (r : Result (Unit {0}) RelocateError) → StillAt old mid → mid.geometry ≡ old.geometry → faults mid.media ≡ faults old.media → EndsAt mid new pools r → EndsAt old new pools r
+    pub ends_on : (old mid new : JournalView M) (pools : PoolsView) (r : Result (Unit {0}) RelocateError) → StillAt old mid → mid.geometry ≡ old.geometry → device.faults mid.media ≡ device.faults old.media → EndsAt mid new pools r → EndsAt old new pools r
     ends_on old mid new pools (Ok u) still geometry quiet ends = record {
       any_moment = moves_on old mid new still geometry ends.any_moment;
       moved = moved_on old mid new still geometry ends.moved;
@@ -282,7 +283,7 @@ module _ {M : Type 0} (moment : M → ℕ) (seen : M → Tier → List ℕ) (lef
       moved = tt;
       settled = ends.settled;
       unmoved = λ other. still_on old mid new still quiet (ends.unmoved other);
-      fault = λ is. (let f = ends.fault is in (f.0, subst (λ (n : ℕ). Rose n (faults new.media)) quiet f.1));
+      fault = λ is. (let f = ends.fault is in (f.0, subst (λ (n : ℕ). Rose n (device.faults new.media)) quiet f.1));
       quiet = tt;
       geometry = ends.geometry ∙ geometry;
       more_faults = (let more = ends.more_faults in omega (arith, more, quiet));
@@ -292,8 +293,8 @@ module _ {M : Type 0} (moment : M → ℕ) (seen : M → Tier → List ℕ) (lef
 
     -- ---- a plan that is carried out
 
-    module _ (old new : JournalView M) (plan : Rewrite) (done : (store : Store) → IsCarriedOut old.geometry (store_of (seen old.media)) plan store → IsMovedStore old.geometry (store_of (seen old.media)) i first count to store)
-        (all : AllOrNothing old.geometry (store_of (seen old.media)) plan (moment old.media) (moment new.media) (left old.media) (left new.media)) where
+    module _ (old new : JournalView M) (plan : Rewrite) (done : (store : Store) → IsCarriedOut old.geometry (disk device old) plan store → IsMovedStore old.geometry (disk device old) i first count to store)
+        (all : AllOrNothing old.geometry (disk device old) plan (device.moment old.media) (device.moment new.media) (device.left old.media) (device.left new.media)) where
       moves_all : MovesTo old new
       moves_all = record {
         later = all.later;
@@ -304,10 +305,10 @@ module _ {M : Type 0} (moment : M → ℕ) (seen : M → Tier → List ℕ) (lef
             record { volume = at.volume; store = elim at.store [ inl loose ↦ inl loose | inr out ↦ inr (done (store_of content) out) ] };
       }
 
-      pub ends_done : (u : Unit {0}) (pools : PoolsView) → FewTo old new → IsCarriedOut old.geometry (store_of (seen old.media)) plan (store_of (seen new.media)) → SettledAt new pools → (new.failed ≡ false) × (faults new.media ≡ faults old.media) → new.geometry ≡ old.geometry → EndsAt old new pools (Ok u)
+      pub ends_done : (u : Unit {0}) (pools : PoolsView) → FewTo old new → IsCarriedOut old.geometry (disk device old) plan (disk device new) → SettledAt new pools → (new.failed ≡ false) × (device.faults new.media ≡ device.faults old.media) → new.geometry ≡ old.geometry → EndsAt old new pools (Ok u)
       ends_done u pools few out settled quiet geometry = record {
         any_moment = moves_all;
-        moved = done (store_of (seen new.media)) out;
+        moved = done (disk device new) out;
         settled = λ g. settled;
         unmoved = tt;
         fault = λ is. absurd (ok_no_err u errors.DeviceFault is);
@@ -318,8 +319,8 @@ module _ {M : Type 0} (moment : M → ℕ) (seen : M → Tier → List ℕ) (lef
         few = few;
       }
 
-      pub ends_undone : (pools : PoolsView) (e : AreaError) (f : RelocateError) → FewTo old new → IsTold e f → (e ≡ area.DeviceFault → (new.failed ≡ true) × Rose (faults old.media) (faults new.media)) → (e ≡ area.Memory → Looks {T = Unit {0}} moment seen left faults old new (Err e)) → new.geometry ≡ old.geometry → faults old.media ≤ faults new.media
-          → faults new.media ≤ faults old.media + 1 → old.failed ≡ false → Rests moment seen left old.geometry old.media → SettledAt old pools → EndsAt old new pools (Err f)
+      pub ends_undone : (pools : PoolsView) (e : AreaError) (f : RelocateError) → FewTo old new → IsRelocateError e f → (e ≡ area.DeviceFault → (new.failed ≡ true) × Rose (device.faults old.media) (device.faults new.media)) → (e ≡ area.Memory → Looks {T = Unit {0}} device old new (Err e)) → new.geometry ≡ old.geometry → device.faults old.media ≤ device.faults new.media
+          → device.faults new.media ≤ device.faults old.media + 1 → old.failed ≡ false → Rests device old.geometry old.media → SettledAt old pools → EndsAt old new pools (Err f)
       ends_undone pools area.DeviceFault f few is fault memory geometry more one going rests settled = subst (λ (x : RelocateError). EndsAt old new pools (Err x)) (sym is) (ends_fault old new pools moves_all few (fault refl) geometry more one)
       ends_undone pools (area.Damaged w b) f few is fault memory geometry more one going rests settled = absurd is
       ends_undone pools area.Memory f few is fault memory geometry more one going rests settled = ends_told old new pools area.Memory f is (memory refl) going rests settled

@@ -13,21 +13,21 @@ use Rattle.inode_plan.specs.layout.Places.{Sizes, is_node, node_end, data_first,
 use Rattle.inode_plan.specs.layout.Slot.{fits_slot, is_root_block}
 use Rattle.inode_plan.specs.block_alloc.Runs.{Rising, blocks_of}
 use Rattle.inode_plan.proofs.block_alloc_lemmas.Blocks.{normal-rising}
-use Rattle.inode_plan.specs.extent_tree.Spelled.{LiesWithin}
+use Rattle.inode_plan.specs.extent_tree.BlockFormat.{LiesWithin}
 use Rattle.inode_plan.specs.extent_tree.Map.{TierRuns, runs_in, lies_at, LieBelow}
 use Rattle.inode_plan.specs.area_image.Store.{Store, slot, root_of, length_of, space_of}
 use Rattle.inode_plan.specs.area_image.Reads.{Free}
 use Rattle.inode_plan.specs.area_image.Map.{in_tier}
 use Rattle.inode_plan.proofs.area_image_lemmas.Parts.{slot_as}
 use Rattle.inode_plan.proofs.area_image_lemmas.Shown.{slot_limits}
-use Rattle.inode_plan.specs.area_commit.Taking.{runs_of}
-use Rattle.relocation.specs.declared.finding.MovableRun.{MovableRun}
+use Rattle.inode_plan.specs.area_commit.Allocations.{runs_of}
+use Rattle.relocation.specs.declared.run_search.MovableRun.{MovableRun}
 use Rattle.inode_plan.specs.Lists.{SpareFits, LacksRoot}
 use Rattle.inode_plan.proofs.area_commit_lemmas.Given.{cons_cases, cons_here, nothing}
 use Rattle.inode_plan.proofs.PlacesFit.{tier_is, placed_once, placed_below, placed_apart, placed_within, placed_elsewhere, elsewhere_within}
-use Rattle.inode_plan.specs.area_commit.Written.{IsFit}
+use Rattle.inode_plan.specs.area_commit.InodeRewrite.{IsFit}
 use Rattle.inode_plan.specs.area_commit.declared.plan.Rewrite.{Rewrite}
-use Rattle.relocation.specs.Made.{first_of, IsSpareFor, IsMovePlan}
+use Rattle.relocation.specs.MovedFile.{first_of, IsSpareFor, IsMovePlan}
 use Rattle.relocation.proofs.Basics.{some_block, list_some, rootless, data_space, roots_long, roots_space}
 
 -- ---- numbers

@@ -13,12 +13,12 @@ use Rattle.inode_plan.specs.block_alloc.declared.error.AllocatorError.TheVariant
 use Rattle.inode_plan.specs.block_alloc.Runs.{run_blocks, blocks_of, AreNormalRuns}
 use Rattle.inode_plan.specs.area_image.Store.{Store, root_of}
 use Rattle.inode_plan.specs.area_commit.Value.{PoolsView, data_pool, AreInOrder, HasRanges, AreFree}
-use Rattle.inode_plan.specs.area_commit.declared.taking.Taken.{Taken}
-use Rattle.inode_plan.specs.area_commit.Taking.{runs_of, WereTaken}
-use Rattle.relocation.specs.declared.finding.MovableRun.{MovableRun}
-use Rattle.inode_plan.specs.Placed.{EndsFit}
+use Rattle.inode_plan.specs.area_commit.declared.allocation.Allocation.{Allocation}
+use Rattle.inode_plan.specs.area_commit.Allocations.{runs_of, WereTaken}
+use Rattle.relocation.specs.declared.run_search.MovableRun.{MovableRun}
+use Rattle.inode_plan.specs.RunPlaces.{EndsFit}
 use Rattle.inode_plan.specs.area_commit.Plan.{WereFree}
-use Rattle.relocation.specs.Made.{first_of, spare_count, IsSpareFor, IsTakenFor}
+use Rattle.relocation.specs.MovedFile.{first_of, spare_count, IsSpareFor, IsTakenFor}
 
 -- ---- runs
 
@@ -53,13 +53,13 @@ ends_below low end (r ∷ rs) fits normal = (omega (arith, fits, normal.2), ends
 
 -- What is known of blocks that were taken.
 abbrev pub TakenWereFree : Type 0
-TakenWereFree = (g : Sizes) (s : Store) (before left : PoolsView) (taken : Taken) → HasRanges g before → AreFree g s before → WereTaken before left taken → WereFree g s taken
+TakenWereFree = (g : Sizes) (s : Store) (before left : PoolsView) (taken : Allocation) → HasRanges g before → AreFree g s before → WereTaken before left taken → WereFree g s taken
 
-not_refused : (taken : Taken) (e : AllocatorError) → IsErrOf {T = Taken} {E = AllocatorError} (Ok taken) e → ⊥
+not_refused : (taken : Allocation) (e : AllocatorError) → IsErrOf {T = Allocation} {E = AllocatorError} (Ok taken) e → ⊥
 not_refused taken e is = cc
 
 module _ (before left : PoolsView) (f : MovableRun) (to : Tier) where
-  spare : (taken : Taken) → spare_count (root_of f.slot to) ≤ length before.nodes.free → blocks_of taken.nodes.items ≡ take (spare_count (root_of f.slot to)) before.nodes.free → WereTaken before left taken → IsSpareFor (root_of f.slot to) taken.nodes.items
+  spare : (taken : Allocation) → spare_count (root_of f.slot to) ≤ length before.nodes.free → blocks_of taken.nodes.items ≡ take (spare_count (root_of f.slot to)) before.nodes.free → WereTaken before left taken → IsSpareFor (root_of f.slot to) taken.nodes.items
   spare taken enough is were = elim (cases_Bool (root_of f.slot to == 0)) [
     | inl zero_root ↦
         let one : spare_count (root_of f.slot to) ≡ 1 = ap (λ b. if b then 1 else 0) zero_root in
@@ -75,7 +75,7 @@ module _ (before left : PoolsView) (f : MovableRun) (to : Tier) where
         )
   ]
 
-  module _ (taken : Taken) (few : IsErrOf {T = Taken} {E = AllocatorError} (Ok taken) NoBlock ↔ ((length before.nodes.free < spare_count (root_of f.slot to)) ⊎ (length (data_pool before to).free < f.run.count))) where
+  module _ (taken : Allocation) (few : IsErrOf {T = Allocation} {E = AllocatorError} (Ok taken) NoBlock ↔ ((length before.nodes.free < spare_count (root_of f.slot to)) ⊎ (length (data_pool before to).free < f.run.count))) where
     enough : f.run.count ≤ length (data_pool before to).free
     enough = elim (cases_lt (length (data_pool before to).free) f.run.count) [
       | inl less ↦ absurd (not_refused taken NoBlock (few.1 (inr less)))
@@ -88,7 +88,7 @@ module _ (before left : PoolsView) (f : MovableRun) (to : Tier) where
       | inr there ↦ there
     ]
 
-  pub taken_for : TakenWereFree → (r : Result Taken AllocatorError) → IfOk r (λ taken. blocks_of taken.nodes.items ≡ take (spare_count (root_of f.slot to)) before.nodes.free)
+  pub taken_for : TakenWereFree → (r : Result Allocation AllocatorError) → IfOk r (λ taken. blocks_of taken.nodes.items ≡ take (spare_count (root_of f.slot to)) before.nodes.free)
       → IfOk r (λ taken. blocks_of (runs_of taken to) ≡ take f.run.count (data_pool before to).free) → IfOk r (λ taken. (t : Tier) → t ≢ to → blocks_of (runs_of taken t) ≡ []) → IfOk r (WereTaken before left)
       → (IsErrOf r NoBlock ↔ ((length before.nodes.free < spare_count (root_of f.slot to)) ⊎ (length (data_pool before to).free < f.run.count)))
       → AreInOrder before → IfOk r (λ taken. (g : Sizes) (s : Store) → HasRanges g before → AreFree g s before → IsTakenFor g s f to taken)

@@ -10,7 +10,7 @@ use Rattle.inode_plan.specs.batch_journal.Images.{image_for}
 use Rattle.inode_plan.specs.area_image.Store.{root_of}
 use Rattle.inode_plan.specs.area_image.Map.{in_tier}
 use Rattle.inode_plan.specs.area_image.declared.tiers.InodeExtents.{InodeExtents}
-use Rattle.relocation.specs.Made.{PutsList, HasImages}
+use Rattle.relocation.specs.MovedFile.{PutsList, HasImages}
 
 puts_here : (root : ℕ) (o : Option ExtentList) (old new : List (ℕ × List ℕ)) → PutsList root o old new → (v : ExtentList) → o ≡ Some v → image_for root new ≡ Some (extents_spelling v)
 puts_here root None old new puts v is = absurd (false≢true (subst IsSome (sym is) refl))

@@ -16,19 +16,19 @@ use Rattle.inode_plan.specs.block_alloc.Runs.{run_blocks, blocks_of}
 use Rattle.inode_plan.specs.extent_tree.Places.{place_of}
 use Rattle.inode_plan.specs.extent_tree.Map.{TierRuns, runs_in, lies_at, places_of, place_list, HasBlock}
 use Rattle.inode_plan.specs.area_image.Store.{Store, root_of, place}
-use Rattle.inode_plan.specs.area_image.Spelled.{used}
-use Rattle.inode_plan.specs.area_commit.Taking.{runs_of}
-use Rattle.relocation.specs.declared.finding.MovableRun.{MovableRun}
+use Rattle.inode_plan.specs.area_image.Format.{used_block}
+use Rattle.inode_plan.specs.area_commit.Allocations.{runs_of}
+use Rattle.relocation.specs.declared.run_search.MovableRun.{MovableRun}
 use Rattle.inode_plan.specs.Lists.{root_left, roots_left}
-use Rattle.inode_plan.specs.Placed.{is_faster}
+use Rattle.inode_plan.specs.RunPlaces.{is_faster}
 use Rattle.inode_plan.proofs.area_commit_lemmas.Given.{all_from, cons_here, nothing}
 use Rattle.inode_plan.proofs.Steps.{inside}
 use Rattle.inode_plan.proofs.area_commit_lemmas.GivenUp.{Once, once_rest, once_apart, beside, places_once, lies_there}
 use Rattle.inode_plan.proofs.PlacesFit.{tier_is, run_cases, gone, stays}
-use Rattle.inode_plan.specs.area_commit.Written.{block_by}
+use Rattle.inode_plan.specs.area_commit.InodeRewrite.{block_by}
 use Rattle.inode_plan.specs.area_commit.declared.plan.Rewrite.{Rewrite}
 use Rattle.inode_plan.specs.area_commit.Plan.{Loses, IsLost, HoldLost, LieApart, is_changed, lost_in}
-use Rattle.relocation.specs.Made.{IsMovePlan}
+use Rattle.relocation.specs.MovedFile.{IsMovePlan}
 use Rattle.relocation.proofs.Fitting.{one_block, node_within, slot_here, old_data, old_root_node}
 use Rattle.relocation.proofs.Using.{root_use, root_block, block_root, place_block, block_place, roots_differ, changed_is, changed_here, Root, is_kept, is_new, root_cases, root_some}
 
@@ -184,7 +184,7 @@ module _ (g : Sizes) (s : Store) (i : ℕ) (to : Tier) (f : MovableRun) (x : Slo
       by there (is_kept was same) = none (block_root (root_of x t) there ∙ ap (λ n. Some (tiers.Fast, n)) (same ∙ is))
       by there (is_new here none_there same at) = some none_there
 
-  was_root : (t u : Tier) (k : ℕ) → used g s (record { inode = i; tier = u; logical = None }) ≡ Some (t, k) → (block_by x m u None ≡ Some (t, k) → ⊥) → Was t k
+  was_root : (t u : Tier) (k : ℕ) → used_block g s (record { inode = i; tier = u; logical = None }) ≡ Some (t, k) → (block_by x m u None ≡ Some (t, k) → ⊥) → Was t k
   was_root t u k was none =
       let here : root_use (root_of f.slot u) ≡ Some (t, k) = ap (λ (y : Slot). root_use (root_of y u)) (sym (slot_here g s i to f x m plan p)) ∙ was in
       let r = root_block (root_of f.slot u) (t, k) here in
@@ -193,7 +193,7 @@ module _ (g : Sizes) (s : Store) (i : ℕ) (to : Tier) (f : MovableRun) (x : Slo
       let z = root_gone u k r.0 is (subst (λ (a : Tier). block_by x m u None ≡ Some (a, k) → ⊥) (sym fast) none) in
       root (sym fast) (subst (Contains (roots_left f.slot x)) is (left_here f.slot x u r.0 z)) (subst (λ n. n < node_end g) is (node_within g (root_of f.slot u) (old_root_node g s i to f x m plan p u r.0)).1)
 
-  was_place : (t u : Tier) (b k : ℕ) → used g s (record { inode = i; tier = u; logical = Some b }) ≡ Some (t, k) → (block_by x m u (Some b) ≡ Some (t, k) → ⊥) → Was t k
+  was_place : (t u : Tier) (b k : ℕ) → used_block g s (record { inode = i; tier = u; logical = Some b }) ≡ Some (t, k) → (block_by x m u (Some b) ≡ Some (t, k) → ⊥) → Was t k
   was_place t u b k was none =
       let r = place_block u (place g s i u b) (t, k) was in
       let tier : u ≡ t = ap (λ (c : Tier × ℕ). c.0) r.2 in
@@ -205,7 +205,7 @@ module _ (g : Sizes) (s : Store) (i : ℕ) (to : Tier) (f : MovableRun) (x : Slo
         | inr far ↦ absurd (moved (stays f.run.first to (blocks_of (runs_of plan.taken to)) f.map m p.made.placed t b far ∙ lay))
       ]) (old_data g s i to f x m plan p t b k lay).0
 
-  was_by : (t u : Tier) (l : Option ℕ) (k : ℕ) → used g s (record { inode = i; tier = u; logical = l }) ≡ Some (t, k) → (block_by x m u l ≡ Some (t, k) → ⊥) → Was t k
+  was_by : (t u : Tier) (l : Option ℕ) (k : ℕ) → used_block g s (record { inode = i; tier = u; logical = l }) ≡ Some (t, k) → (block_by x m u l ≡ Some (t, k) → ⊥) → Was t k
   was_by t u None k was none = was_root t u k was none
   was_by t u (Some b) k was none = was_place t u b k was none
 

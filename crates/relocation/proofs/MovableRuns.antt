@@ -8,10 +8,10 @@ use Rattle.inode_plan.specs.layout.Places.{Sizes}
 use Rattle.inode_plan.specs.layout.declared.slot.Slot.{Slot}
 use Rattle.inode_plan.specs.layout.declared.slot.Slot.TheVariants as slots
 use Rattle.inode_plan.specs.tree_blocks.Inode.{LogicalBlocks, inode_of}
-use Rattle.inode_plan.specs.area_image.Store.{Store, slot, logical, length_of}
+use Rattle.inode_plan.specs.area_image.Store.{Store, slot, logical_block, length_of}
 use Rattle.inode_plan.proofs.area_image_lemmas.Tails.{place_past}
-use Rattle.relocation.specs.Found.{IsWithinFile}
-use Rattle.relocation.specs.Moving.{CanMove}
+use Rattle.relocation.specs.MovableFile.{IsWithinFile}
+use Rattle.relocation.specs.TierMove.{CanMove}
 use Rattle.inode_plan.proofs.Steps.{inside}
 
 pub any_blocks : (x : Slot) (a b : LogicalBlocks) → (inode_of x a).kind ≡ (inode_of x b).kind
@@ -25,7 +25,7 @@ movable_within g s i first count to can =
     let last : ℕ = first + count - 1 in
     let above = can.above (first + count - 1) (inside first count (first + count - 1) (omega (arith, some)) (omega (arith, some))) in
     record {
-      kind_is = any_blocks (slot g s i) (λ k. []) (logical g s i) ∙ can.kind_is;
+      kind_is = any_blocks (slot g s i) (λ k. []) (logical_block g s i) ∙ can.kind_is;
       some = some;
       within = elim (cases_lt (first + count - 1) (length_of (slot g s i))) [
         | inl lt ↦ omega (arith, lt, some)

@@ -11,18 +11,18 @@ use Rattle.inode_plan.specs.layout.Places.{Sizes, IsAllowed, data_first, tier_bl
 use Rattle.inode_plan.specs.block_alloc.declared.runs.Run.{Run}
 use Rattle.inode_plan.specs.block_alloc.Runs.{run_blocks, blocks_of, AreNormalRuns}
 use Rattle.inode_plan.specs.extent_tree.Map.{TierRuns, HasBlock}
-use Rattle.inode_plan.specs.area_image.Store.{Store, logical}
+use Rattle.inode_plan.specs.area_image.Store.{Store, logical_block}
 use Rattle.inode_plan.specs.area_commit.declared.slots.ChangedSlot.{ChangedSlot}
-use Rattle.inode_plan.specs.area_commit.declared.taking.Taken.{Taken}
-use Rattle.inode_plan.specs.area_commit.Taking.{runs_of}
-use Rattle.inode_plan.specs.area_commit.Writing.{fences_of, tier_calls, calls_for}
-use Rattle.relocation.specs.declared.finding.MovableRun.{MovableRun}
+use Rattle.inode_plan.specs.area_commit.declared.allocation.Allocation.{Allocation}
+use Rattle.inode_plan.specs.area_commit.Allocations.{runs_of}
+use Rattle.inode_plan.specs.area_commit.DataWrite.{fences_of, tier_calls, calls_for}
+use Rattle.relocation.specs.declared.run_search.MovableRun.{MovableRun}
 use Rattle.inode_plan.specs.Lists.{HoldsRun}
-use Rattle.inode_plan.specs.area_commit.declared.plan.Lost.{Lost}
+use Rattle.inode_plan.specs.area_commit.declared.plan.FreedBlocks.{FreedBlocks}
 use Rattle.inode_plan.specs.area_commit.declared.plan.Rewrite.{Rewrite}
 use Rattle.inode_plan.specs.area_commit.Plan.{lost_in}
-use Rattle.relocation.specs.Made.{IsTakenFor, IsMade, IsReadyMove, IsMovePlan, IsPlanOfMove}
-use Rattle.relocation.specs.RunMoving.{AreLowestFree, MovesInFewCalls}
+use Rattle.relocation.specs.MovedFile.{IsTakenFor, IsMade, IsReadyMove, IsMovePlan, IsPlanOfMove}
+use Rattle.relocation.specs.RunMove.{AreLowestFree, MovesInFewCalls}
 use Rattle.relocation.proofs.Fresh.{no_blocks}
 
 -- each block of a tier has a number of 32 bits
@@ -31,21 +31,21 @@ tier_fits g tiers.Fast allowed = omega (arith, allowed.few_units, allowed.fast)
 tier_fits g tiers.Block allowed = omega (arith, allowed.block)
 tier_fits g tiers.Slow allowed = omega (arith, allowed.slow)
 
-module _ (g : Sizes) (s : Store) (i : ℕ) (to : Tier) (f : MovableRun) (bytes : List ℕ) (lost : Lost) (taken : Taken) (ready : IsReadyMove g s i to f bytes lost taken) where
+module _ (g : Sizes) (s : Store) (i : ℕ) (to : Tier) (f : MovableRun) (bytes : List ℕ) (lost : FreedBlocks) (taken : Allocation) (ready : IsReadyMove g s i to f bytes lost taken) where
   pub is_move_plan : (x : Slot) (m : TierRuns) (slots : List ChangedSlot) (nodes : List (ℕ × List ℕ)) (left : List Run) (plan : Rewrite) → IsMade i f to taken slots nodes left x m → plan.slots.items ≡ slots → plan.marks ≡ None → plan.nodes ≡ nodes → plan.taken ≡ taken → plan.bytes.items ≡ bytes
       → plan.lost.nodes.items ≡ left → ((t : Tier) → lost_in plan.lost t ≡ lost_in lost t) → IsMovePlan g s i to f x m plan
   is_move_plan x m slots nodes left plan made slots_are marks_are nodes_are taken_is bytes_are left_is lost_is = record {
     file = ready.run.file;
-    took = subst (λ (v : Taken). IsTakenFor g s f to v) (sym taken_is) ready.took;
+    took = subst (λ (v : Allocation). IsTakenFor g s f to v) (sym taken_is) ready.took;
     made =
-        subst (λ (v : Taken). IsMade i f to v plan.slots.items plan.nodes plan.lost.nodes.items x m) (sym taken_is) (
+        subst (λ (v : Allocation). IsMade i f to v plan.slots.items plan.nodes plan.lost.nodes.items x m) (sym taken_is) (
         subst (λ (v : List ChangedSlot). IsMade i f to taken v plan.nodes plan.lost.nodes.items x m) (sym slots_are) (
         subst (λ (v : List (ℕ × List ℕ)). IsMade i f to taken slots v plan.lost.nodes.items x m) (sym nodes_are) (subst (λ (v : List Run). IsMade i f to taken slots nodes v x m) (sym left_is) made)
         )
         );
     places = λ t. ap blocks_of (lost_is t) ∙ ready.run.places t;
     some = λ t. subst (AllByRecursion HasBlock) (sym (lost_is t)) (ready.run.some t);
-    holds = subst (HoldsRun (logical g s i) f.run.first f.run.count) (sym bytes_are) ready.run.holds;
+    holds = subst (HoldsRun (logical_block g s i) f.run.first f.run.count) (sym bytes_are) ready.run.holds;
     size = ap length bytes_are ∙ ready.run.size;
     marks = marks_are;
   }
@@ -61,7 +61,7 @@ one_fence : (rs : List Run) → fences_of rs ≤ 1
 one_fence [] = omega arith
 one_fence (r ∷ rs) = omega arith
 
-module _ (g : Sizes) (s : Store) (f : MovableRun) (to : Tier) (taken : Taken) (took : IsTakenFor g s f to taken) where
+module _ (g : Sizes) (s : Store) (f : MovableRun) (to : Tier) (taken : Allocation) (took : IsTakenFor g s f to taken) where
   none_in : (t : Tier) → t ≢ to → tier_calls (runs_of taken t) ≡ 0
   none_in t other = ap tier_calls (no_blocks (data_first g t) (tier_blocks g t) (runs_of taken t) (took.free.apart t) (took.others t other))
 
@@ -69,7 +69,7 @@ module _ (g : Sizes) (s : Store) (f : MovableRun) (to : Tier) (taken : Taken) (t
   some_in = omega (arith, one_fence (runs_of taken to))
 
 -- the device calls that write what was taken
-taken_calls : (g : Sizes) (s : Store) (f : MovableRun) (to : Tier) (taken : Taken) → IsTakenFor g s f to taken → calls_for taken ≤ length (runs_of taken to) + 1
+taken_calls : (g : Sizes) (s : Store) (f : MovableRun) (to : Tier) (taken : Allocation) → IsTakenFor g s f to taken → calls_for taken ≤ length (runs_of taken to) + 1
 taken_calls g s f tiers.Fast taken took = omega (arith, some_in g s f tiers.Fast taken took, none_in g s f tiers.Fast taken took tiers.Block (λ e. cc), none_in g s f tiers.Fast taken took tiers.Slow (λ e. cc))
 taken_calls g s f tiers.Block taken took = omega (arith, some_in g s f tiers.Block taken took, none_in g s f tiers.Block taken took tiers.Fast (λ e. cc), none_in g s f tiers.Block taken took tiers.Slow (λ e. cc))
 taken_calls g s f tiers.Slow taken took = omega (arith, some_in g s f tiers.Slow taken took, none_in g s f tiers.Slow taken took tiers.Fast (λ e. cc), none_in g s f tiers.Slow taken took tiers.Block (λ e. cc))

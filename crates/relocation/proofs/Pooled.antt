@@ -12,20 +12,20 @@ use Rattle.inode_plan.specs.block_alloc.declared.error.AllocatorError.TheVariant
 use Rattle.inode_plan.specs.area_image.Store.{Store, store_of}
 use Rattle.inode_plan.specs.area_image.Reads.{Free}
 use Rattle.inode_plan.specs.area_commit.Value.{PoolsView, data_pool}
-use Rattle.inode_plan.specs.area_commit.declared.taking.Taken.{Taken}
-use Rattle.inode_plan.specs.area_commit.Taking.{SameBlocks, SameFree, KeepsRoom, WereTaken, CanUndo, WasUndone}
+use Rattle.inode_plan.specs.area_commit.declared.allocation.Allocation.{Allocation}
+use Rattle.inode_plan.specs.area_commit.Allocations.{SameBlocks, SameFree, KeepsRoom, WereTaken, CanRelease, WasReleased}
 use Rattle.relocation.specs.Errors.{relocate_error}
-use Rattle.relocation.specs.Found.{IsMovableRun}
-use Rattle.relocation.specs.declared.finding.MovableRun.{MovableRun}
+use Rattle.relocation.specs.MovableFile.{IsMovableRun}
+use Rattle.relocation.specs.declared.run_search.MovableRun.{MovableRun}
 use Rattle.relocation.specs.declared.error.RelocateError.{RelocateError}
 use Rattle.relocation.specs.declared.error.RelocateError.TheVariants as errors
-use Rattle.inode_plan.specs.area_commit.declared.plan.Lost.{Lost}
+use Rattle.inode_plan.specs.area_commit.declared.plan.FreedBlocks.{FreedBlocks}
 use Rattle.inode_plan.specs.area_commit.declared.plan.Rewrite.{Rewrite}
 use Rattle.inode_plan.specs.area_commit.Plan.{lost_in}
 use Rattle.inode_plan.specs.area_commit.Room.{AreReadyFor}
 use Rattle.inode_plan.proofs.area_commit_lemmas.Returned.{same_free}
-use Rattle.relocation.specs.Made.{spare_count, HasRoomFor, AreReadyToMove}
-use Rattle.relocation.specs.RunMoving.{IsSettled}
+use Rattle.relocation.specs.MovedFile.{spare_count, HasRoomFor, AreReadyToMove}
+use Rattle.relocation.specs.RunMove.{IsSettled}
 use Rattle.relocation.proofs.Ending.{err_same, memory_fault, memory_mapped, memory_block, block_fault, block_mapped}
 
 -- ---- the same free blocks
@@ -80,7 +80,7 @@ room_kept a b kept Fast = kept.fast
 room_kept a b kept Block = kept.block
 room_kept a b kept Slow = kept.slow
 
-pub room_still : (a b : PoolsView) (lost : Lost) → KeepsRoom a b → HasRoomFor a lost → HasRoomFor b lost
+pub room_still : (a b : PoolsView) (lost : FreedBlocks) → KeepsRoom a b → HasRoomFor a lost → HasRoomFor b lost
 room_still a b lost kept room = record {
   nodes = (let nodes = room.nodes in let more = kept.nodes in omega (arith, nodes, more));
   per_tier = λ t. (let some = room.per_tier t in let more = room_kept a b kept t in omega (arith, some, more));
@@ -88,29 +88,29 @@ room_still a b lost kept room = record {
 
 -- ---- a plan over them
 
-pub ready_for : (g : Sizes) (s : Store) (left : PoolsView) (taken : Taken) (lost : Lost) (plan : Rewrite) → AreReadyToMove g s left taken lost → plan.taken ≡ taken → ((t : Tier) → lost_in plan.lost t ≡ lost_in lost t) → length plan.lost.nodes.items ≤ 3 → AreReadyFor g s left plan
+pub ready_for : (g : Sizes) (s : Store) (left : PoolsView) (taken : Allocation) (lost : FreedBlocks) (plan : Rewrite) → AreReadyToMove g s left taken lost → plan.taken ≡ taken → ((t : Tier) → lost_in plan.lost t ≡ lost_in lost t) → length plan.lost.nodes.items ≤ 3 → AreReadyFor g s left plan
 ready_for g s left taken lost plan ready taken_is lost_is few = record {
   before = ready.before;
   order = ready.order;
   ranges = ready.ranges;
   free = ready.free;
-  took = subst (λ (v : Taken). WereTaken ready.before left v) (sym taken_is) ready.took;
-  undo = subst (λ (v : Taken). CanUndo left v) (sym taken_is) ready.undo;
+  took = subst (λ (v : Allocation). WereTaken ready.before left v) (sym taken_is) ready.took;
+  undo = subst (λ (v : Allocation). CanRelease left v) (sym taken_is) ready.undo;
   nodes_room = (let room = ready.room.nodes in omega (arith, few, room));
   room = λ t. (let room = ready.room.per_tier t in let long = ap length (lost_is t) in omega (arith, room, long));
 }
 
 -- given back, they are settled again
-pub settled_undone : (g : Sizes) (seen : Tier → List ℕ) (may_leave : Tier → List ℕ → Type 0) (before left after : PoolsView) (taken : Taken) → WereTaken before left taken → WasUndone left after taken → IsSettled g seen may_leave before → IsSettled g seen may_leave after
+pub settled_undone : (g : Sizes) (seen : Tier → List ℕ) (may_leave : Tier → List ℕ → Type 0) (before left after : PoolsView) (taken : Allocation) → WereTaken before left taken → WasReleased left after taken → IsSettled g seen may_leave before → IsSettled g seen may_leave after
 settled_undone g seen may_leave before left after taken took undone settled = settled_same g seen may_leave before after (same_free before left after taken took undone) settled
 
 -- ---- too few
 
 -- Where blocks were taken, as many are free.
-pub enough : (taken : Taken) (n nodes count free : ℕ) → (IsErrOf {T = Taken} {E = AllocatorError} (Ok taken) refusal.NoBlock ↔ ((nodes < n) ⊎ (free < count))) → count ≤ free
+pub enough : (taken : Allocation) (n nodes count free : ℕ) → (IsErrOf {T = Allocation} {E = AllocatorError} (Ok taken) refusal.NoBlock ↔ ((nodes < n) ⊎ (free < count))) → count ≤ free
 enough taken n nodes count free few = elim (cases_lt free count) [ inl less ↦ absurd (none (few.1 (inr less))) | inr there ↦ there ]
   where
-    none : IsErrOf {T = Taken} {E = AllocatorError} (Ok taken) refusal.NoBlock → ⊥
+    none : IsErrOf {T = Allocation} {E = AllocatorError} (Ok taken) refusal.NoBlock → ⊥
     none is = cc
 
 spare_few : (root : ℕ) → spare_count root ≤ 1
@@ -120,7 +120,7 @@ spare_few root = elim (cases_Bool (root == 0)) [
 ]
 
 -- Where none were, it is for the data blocks: the node pool has some.
-pub too_few : (e : AllocatorError) (r : RelocateError) (root nodes count free : ℕ) → r ≡ relocate_error e → (IsErrOf {T = Taken} {E = AllocatorError} (Err e) refusal.NoBlock ↔ ((nodes < spare_count root) ⊎ (free < count))) → 2048 ≤ nodes → IsErrOf {T = Unit {0}} {E = RelocateError} (Err r) errors.NoBlock → free < count
+pub too_few : (e : AllocatorError) (r : RelocateError) (root nodes count free : ℕ) → r ≡ relocate_error e → (IsErrOf {T = Allocation} {E = AllocatorError} (Err e) refusal.NoBlock ↔ ((nodes < spare_count root) ⊎ (free < count))) → 2048 ≤ nodes → IsErrOf {T = Unit {0}} {E = RelocateError} (Err r) errors.NoBlock → free < count
 too_few refusal.NoBlock r root nodes count free is few some refused = elim (few.0 refl) [ inl none ↦ (let one = spare_few root in absurd (omega (arith, none, some, one))) | inr less ↦ less ]
 too_few refusal.Memory r root nodes count free is few some refused = absurd (memory_block (sym is ∙ err_same r errors.NoBlock refused))
 

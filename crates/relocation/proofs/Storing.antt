@@ -16,31 +16,31 @@ use Rattle.inode_plan.specs.block_alloc.Runs.{blocks_of}
 use Rattle.inode_plan.specs.batch_journal.Images.{image_for, slice}
 use Rattle.inode_plan.specs.extent_tree.Places.{place_of, in_run}
 use Rattle.inode_plan.specs.extent_tree.Map.{TierRuns, runs_in, lies_at}
-use Rattle.inode_plan.specs.area_image.Store.{Store, slot, slot_bytes, slot_read, root_of, touch_of, place, logical}
+use Rattle.inode_plan.specs.area_image.Store.{Store, slot, slot_bytes, slot_read, root_of, touch_of, place, logical_block}
 use Rattle.inode_plan.specs.area_image.Reads.{Free}
-use Rattle.inode_plan.specs.area_image.Spelled.{Use, used}
+use Rattle.inode_plan.specs.area_image.Format.{Use, used_block}
 use Rattle.inode_plan.specs.area_image.Map.{in_tier}
 use Rattle.inode_plan.proofs.area_image_lemmas.Lists.{place_placed}
-use Rattle.inode_plan.specs.area_commit.Written.{logical_by}
-use Rattle.inode_plan.specs.area_commit.Moved.{with_roots, StaysBlock, StaysInode as IsWrittenMoved}
+use Rattle.inode_plan.specs.area_commit.InodeRewrite.{logical_by}
+use Rattle.inode_plan.specs.area_commit.InodeMove.{with_roots, StaysBlock, StaysInode as IsWrittenMoved}
 use Rattle.inode_plan.proofs.area_commit_lemmas.Places.{by_there, by_same}
 use Rattle.inode_plan.specs.area_commit.declared.slots.ChangedSlot.{ChangedSlot}
 use Rattle.inode_plan.specs.area_commit.Slots.{RiseIn}
-use Rattle.inode_plan.specs.area_commit.declared.taking.Taken.{Taken}
+use Rattle.inode_plan.specs.area_commit.declared.allocation.Allocation.{Allocation}
 use Rattle.inode_plan.specs.area_commit.Value.{on_tier}
-use Rattle.inode_plan.specs.area_commit.Taking.{taken_data, runs_of}
-use Rattle.inode_plan.specs.area_commit.Writing.{block_at}
+use Rattle.inode_plan.specs.area_commit.Allocations.{taken_data, runs_of}
+use Rattle.inode_plan.specs.area_commit.DataWrite.{block_at}
 use Rattle.inode_plan.proofs.area_commit_lemmas.Members.{cons_cases, nothing}
-use Rattle.relocation.specs.declared.finding.MovableRun.{MovableRun}
+use Rattle.relocation.specs.declared.run_search.MovableRun.{MovableRun}
 use Rattle.inode_plan.specs.Lists.{IsListOf}
-use Rattle.relocation.specs.Moving.{IsMoved}
+use Rattle.relocation.specs.TierMove.{IsMoved}
 use Rattle.inode_plan.proofs.PlacesFit.{run_cases, there, gone, stays}
 use Rattle.inode_plan.proofs.Steps.{inside}
 use Rattle.inode_plan.specs.area_commit.declared.plan.Rewrite.{Rewrite}
-use Rattle.inode_plan.specs.area_commit.Done.{IsCarriedOut}
+use Rattle.inode_plan.specs.area_commit.PlanOutcome.{IsCarriedOut}
 use Rattle.inode_plan.specs.area_commit.Plan.{IsPlanned, IsPlannedInode, is_changed}
-use Rattle.relocation.specs.Made.{IsMovePlan}
-use Rattle.relocation.specs.RunMoving.{LieInLowest}
+use Rattle.relocation.specs.MovedFile.{IsMovePlan}
+use Rattle.relocation.specs.RunMove.{LieInLowest}
 use Rattle.relocation.proofs.Basics.{some_block, list_some, roots_touch}
 use Rattle.relocation.proofs.Fitting.{node_within, slot_here, is_fit, old_data}
 use Rattle.relocation.proofs.Using.{changed_is, listed, uses, once, all, imaged, images, image_node, some_root, root_some, run_there}
@@ -48,7 +48,7 @@ use Rattle.relocation.proofs.Losing.{hold_lost}
 
 -- ---- data of one tier
 
-pub data_in : (to : Tier) (taken : Taken) → ((t : Tier) → t ≢ to → blocks_of (runs_of taken t) ≡ []) → taken_data taken ≡ on_tier to (blocks_of (runs_of taken to))
+pub data_in : (to : Tier) (taken : Allocation) → ((t : Tier) → t ≢ to → blocks_of (runs_of taken t) ≡ []) → taken_data taken ≡ on_tier to (blocks_of (runs_of taken to))
 data_in tiers.Fast taken others =
     ap (λ bs. on_tier tiers.Fast (blocks_of taken.fast.items) ++ (on_tier tiers.Block bs ++ on_tier tiers.Slow (blocks_of taken.slow.items))) (others tiers.Block (λ e. cc))
     ∙ ap (λ bs. on_tier tiers.Fast (blocks_of taken.fast.items) ++ on_tier tiers.Slow bs) (others tiers.Slow (λ e. cc)) ∙ append-nil (on_tier tiers.Fast (blocks_of taken.fast.items))
@@ -152,21 +152,21 @@ module _ (g : Sizes) (s : Store) (i : ℕ) (to : Tier) (f : MovableRun) (x : Slo
         let imageless : t ≡ tiers.Fast → image_for b plan.nodes ≡ None = λ fast. no_image b (image_for b plan.nodes) refl (data_no_image k b (subst (λ (u : Tier). lies_at f.map u k ≡ Some b) fast (p.file.places t k ∙ at))) in
         out.blocks_stay t b (place_placed g s i t k b at).room no_free imageless
 
-    block_same : (k : ℕ) → logical_by new m k ≡ logical g s i k
+    block_same : (k : ℕ) → logical_by new m k ≡ logical_block g s i k
     block_same k = elim (run_cases f.run.first (length (blocks_of (runs_of plan.taken to))) k) [
       | inl within ↦ run_block (k - f.run.first) (let many = p.took.many in let low = within.0 in let high = within.1 in omega (arith, many, low, high)) (let low = within.0 in omega (arith, low))
       | inr far ↦ by_same g s new i m k (λ t. stays f.run.first to (blocks_of (runs_of plan.taken to)) f.map m p.made.placed t k far ∙ p.file.places t k) (λ t b at. block_kept t k b at)
     ]
       where
-        run_block : (n : ℕ) → n < f.run.count → f.run.first + n ≡ k → logical_by new m k ≡ logical g s i k
-        run_block n lt same = subst (λ j. logical_by new m j ≡ logical g s i j) same (
+        run_block : (n : ℕ) → n < f.run.count → f.run.first + n ≡ k → logical_by new m k ≡ logical_block g s i k
+        run_block n lt same = subst (λ j. logical_by new m j ≡ logical_block g s i j) same (
             by_there new m (f.run.first + n) (get_or (blocks_of (runs_of plan.taken to)) n 0) (is_fit g s i to f x m plan p).once to (run_there g s i to f x m plan p n lt) ∙ held n lt ∙ p.holds n lt
             )
 
     pub written_moved : IsWrittenMoved g s new i x m
     written_moved = record {
       slot_is = p.made.slot_is ∙ ap (λ (y : Slot). with_roots (root_of x) y) (sym (slot_here g s i to f x m plan p));
-      blocks = λ k lt. stays_block x (logical g s i k) (logical_by new m k) (block_same k);
+      blocks = λ k lt. stays_block x (logical_block g s i k) (logical_by new m k) (block_same k);
     }
 
     pub run_lies_lowest : ((t : Tier) (k : ℕ) → place g new i t k ≡ lies_at m t k) → LieInLowest g s new i f.run.first f.run.count to
@@ -178,7 +178,7 @@ module _ (g : Sizes) (s : Store) (i : ℕ) (to : Tier) (f : MovableRun) (x : Slo
     other_slot : (j : ℕ) → j ≢ i → slot g new j ≡ slot g s j
     other_slot j other = slot_kept g s new j (λ number. out.slots_stay j number (λ c at same. other (sym same ∙ ap (λ (d : ChangedSlot). d.inode) (sym (one_slot c at)))))
 
-    module _ (places : (t : Tier) (k : ℕ) → place g new i t k ≡ lies_at m t k) (slot_new : slot g new i ≡ x) (stay : (u : Use) → is_changed plan.slots.items u.inode ≡ false → used g new u ≡ used g s u) where
+    module _ (places : (t : Tier) (k : ℕ) → place g new i t k ≡ lies_at m t k) (slot_new : slot g new i ≡ x) (stay : (u : Use) → is_changed plan.slots.items u.inode ≡ false → used_block g new u ≡ used_block g s u) where
       touch_stays : (j : ℕ) → touch_of (slot g new j) ≡ touch_of (slot g s j)
       touch_stays j = elim (cases_Bool (i == j)) [
         | inl same ↦ subst (λ n. touch_of (slot g new n) ≡ touch_of (slot g s n)) (eqb-true i j same) (ap touch_of slot_new ∙ ap touch_of p.made.slot_is ∙ roots_touch f.slot (root_of x) ∙ ap touch_of (sym (slot_here g s i to f x m plan p)))

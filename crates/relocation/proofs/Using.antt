@@ -16,20 +16,20 @@ use Rattle.inode_plan.specs.block_alloc.Runs.{blocks_of}
 use Rattle.inode_plan.specs.batch_journal.Images.{image_for, or_else, with_images}
 use Rattle.inode_plan.specs.extent_tree.Map.{TierRuns, runs_in, lies_at}
 use Rattle.inode_plan.specs.area_image.Store.{Store, root_of, place}
-use Rattle.inode_plan.specs.area_image.Spelled.{Use, used}
+use Rattle.inode_plan.specs.area_image.Format.{Use, used_block}
 use Rattle.inode_plan.specs.area_image.Map.{in_tier}
-use Rattle.inode_plan.specs.area_commit.Taking.{runs_of}
-use Rattle.relocation.specs.declared.finding.MovableRun.{MovableRun}
+use Rattle.inode_plan.specs.area_commit.Allocations.{runs_of}
+use Rattle.relocation.specs.declared.run_search.MovableRun.{MovableRun}
 use Rattle.inode_plan.specs.Lists.{IsListOf, root_for}
 use Rattle.inode_plan.proofs.area_commit_lemmas.Given.{cons_here, nothing}
 use Rattle.inode_plan.proofs.PlacesFit.{tier_is, run_cases, there, gone, stays}
 use Rattle.inode_plan.proofs.ListRoots.{apart_parts}
-use Rattle.inode_plan.specs.area_commit.Written.{IsListed, block_by}
-use Rattle.inode_plan.specs.area_commit.Many.{HasBlockFor}
-use Rattle.inode_plan.specs.area_commit.Changing.{BlockIsTaken}
+use Rattle.inode_plan.specs.area_commit.InodeRewrite.{IsListed, block_by}
+use Rattle.inode_plan.specs.area_commit.StoreRewrite.{HasBlockFor}
+use Rattle.inode_plan.specs.area_commit.BlockExchange.{BlockIsTaken}
 use Rattle.inode_plan.specs.area_commit.declared.plan.Rewrite.{Rewrite}
 use Rattle.inode_plan.specs.area_commit.Plan.{is_changed}
-use Rattle.relocation.specs.Made.{first_of, IsSpareFor, IsMovePlan}
+use Rattle.relocation.specs.MovedFile.{first_of, IsSpareFor, IsMovePlan}
 use Rattle.relocation.proofs.Basics.{contains_at, list_from, no_runs}
 use Rattle.relocation.proofs.Fitting.{one_block, node_within, slot_here, spare_free, lacks_to, limits, is_fit, new_data, root_node}
 
@@ -203,14 +203,14 @@ module _ (g : Sizes) (s : Store) (i : ℕ) (to : Tier) (f : MovableRun) (x : Slo
 
   -- ---- uses
 
-  use_root : (t : Tier) (b : Tier × ℕ) → Root t → (tiers.Fast, root_of x t) ≡ b → (used g s (record { inode = i; tier = t; logical = None }) ≡ Some b) ⊎ BlockIsTaken plan.taken b.0 b.1
+  use_root : (t : Tier) (b : Tier × ℕ) → Root t → (tiers.Fast, root_of x t) ≡ b → (used_block g s (record { inode = i; tier = t; logical = None }) ≡ Some b) ⊎ BlockIsTaken plan.taken b.0 b.1
   use_root t b (is_kept some is) at = inl (
       ap (λ (y : Slot). root_use (root_of y t)) (slot_here g s i to f x m plan p) ∙ block_root (root_of f.slot t) some
       ∙ ap (λ n. Some (tiers.Fast, n)) (sym is) ∙ ap Some at
       )
   use_root t b (is_new here none is there) at = inr (subst (λ (c : Tier × ℕ). BlockIsTaken plan.taken c.0 c.1) at (inl (refl, subst (Contains (blocks_of plan.taken.nodes.items)) (sym is) there)))
 
-  pub uses : (t : Tier) (k : Option ℕ) (b : Tier × ℕ) → block_by x m t k ≡ Some b → (used g s (record { inode = i; tier = t; logical = k }) ≡ Some b) ⊎ BlockIsTaken plan.taken b.0 b.1
+  pub uses : (t : Tier) (k : Option ℕ) (b : Tier × ℕ) → block_by x m t k ≡ Some b → (used_block g s (record { inode = i; tier = t; logical = k }) ≡ Some b) ⊎ BlockIsTaken plan.taken b.0 b.1
   uses t None b at = let r = root_block (root_of x t) b at in use_root t b (root_cases t (root_some t r.0)) r.1
   uses t (Some k) b at =
       let r = place_block t (lies_at m t k) b at in

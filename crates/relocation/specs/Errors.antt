@@ -13,7 +13,7 @@ relocate_error pools.NoBlock = errors.NoBlock
 relocate_error pools.Memory = errors.Memory
 
 -- A refusal of a reader or a writer that tells of no damage is told as this one.
-abbrev pub IsTold : AreaError → RelocateError → Type 0
-IsTold area.DeviceFault e = e ≡ errors.DeviceFault
-IsTold (area.Damaged what block) e = ⊥
-IsTold area.Memory e = e ≡ errors.Memory
+abbrev pub IsRelocateError : AreaError → RelocateError → Type 0
+IsRelocateError area.DeviceFault e = e ≡ errors.DeviceFault
+IsRelocateError (area.Damaged what block) e = ⊥
+IsRelocateError area.Memory e = e ≡ errors.Memory

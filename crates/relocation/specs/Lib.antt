@@ -1,5 +1,5 @@
 pub mod Errors
-pub mod Found
-pub mod Moving
-pub mod RunMoving
-pub mod Made
+pub mod MovableFile
+pub mod TierMove
+pub mod RunMove
+pub mod MovedFile

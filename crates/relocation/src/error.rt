@@ -1,7 +1,7 @@
 ghost use Rattle.std.specs.Prelude.{◌≡◌};
 ghost use Rattle.inode_plan.specs.area_image.Damage.{OnDamage};
 ghost use Rattle.relocation.specs.declared.error.RelocateError.TheVariants.{Memory};
-ghost use Rattle.relocation.specs.Errors.{relocate_error, IsTold};
+ghost use Rattle.relocation.specs.Errors.{relocate_error, IsRelocateError};
 
 use inode_plan::{AllocatorError, AreaError};
 use std::alloc::AllocError;
@@ -42,9 +42,9 @@ impl From<AllocatorError> for RelocateError {
 }
 
 /// Why a run of blocks was not moved, where the media were not read or not written; no damage is found on media that are opened.
-pub fn told(error: AreaError) -> RelocateError
+pub fn relocate_error(error: AreaError) -> RelocateError
     requires { OnDamage error (λ _ _. ⊥) }
-    ensures { IsTold error result }
+    ensures { IsRelocateError error result }
 {
     match error {
         AreaError::DeviceFault => RelocateError::DeviceFault,

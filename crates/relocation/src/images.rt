@@ -3,7 +3,7 @@ ghost use Rattle.std.specs.Prelude.{◌≤◌, ◌+◌, length, OnOk, IfOk, IfSo
 ghost use Rattle.inode_plan.specs.tier_device.declared.media.Tier.{Tier};
 ghost use Rattle.inode_plan.specs.layout.declared.extents.TheConstants.{MAX_EXTENTS};
 ghost use Rattle.inode_plan.specs.area_image.Map.{in_tier};
-ghost use Rattle.relocation.specs.Made.{PutsList, HasImages};
+ghost use Rattle.relocation.specs.MovedFile.{PutsList, HasImages};
 
 use inode_plan::{ExtentBlock, InodeExtents, NodeImages, Slot, Tier, root_of};
 use std::alloc::{AllocError, Global};

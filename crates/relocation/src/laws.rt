@@ -6,13 +6,13 @@ ghost use Rattle.inode_plan.specs.layout.declared.slot.Slot.{Slot};
 ghost use Rattle.inode_plan.specs.layout.Places.{Sizes, IsAllowed};
 ghost use Rattle.inode_plan.specs.extent_tree.Map.{TierRuns};
 ghost use Rattle.inode_plan.specs.area_image.Store.{Store};
-ghost use Rattle.inode_plan.specs.area_image.Spelled.{IsOpenable};
-ghost use Rattle.relocation.specs.declared.finding.MovableRun.{MovableRun};
+ghost use Rattle.inode_plan.specs.area_image.Format.{IsOpenable};
+ghost use Rattle.relocation.specs.declared.run_search.MovableRun.{MovableRun};
 ghost use Rattle.inode_plan.specs.area_commit.declared.plan.Rewrite.{Rewrite};
 ghost use Rattle.inode_plan.specs.area_commit.Plan.{IsPlanned};
-ghost use Rattle.inode_plan.specs.area_commit.Done.{IsCarriedOut};
-ghost use Rattle.relocation.specs.Made.{IsMovePlan};
-ghost use Rattle.relocation.specs.RunMoving.{IsMovedStore};
+ghost use Rattle.inode_plan.specs.area_commit.PlanOutcome.{IsCarriedOut};
+ghost use Rattle.relocation.specs.MovedFile.{IsMovePlan};
+ghost use Rattle.relocation.specs.RunMove.{IsMovedStore};
 
 use inode_plan::{
     carried_out_inodes_are_written_anew, carried_out_marks, moved_store_spells_the_same_graph,

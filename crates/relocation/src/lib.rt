@@ -4,27 +4,27 @@
 //! What is to be written goes as one plan to `area_commit`.
 #![tactic(auto)]
 
-mod changing;
 mod error;
-mod finding;
+mod freed_places;
 mod images;
 mod laws;
-mod leaving;
-mod moving;
-mod planning;
-mod reading;
-mod relocating;
-mod taking;
-mod testing;
+mod move_plan;
+mod new_inode;
+mod run_move;
+mod run_read;
+mod run_search;
+mod target_blocks;
+mod tier_move;
+mod tier_test;
 
-pub use changing::{NewInode, changed};
-pub use error::{RelocateError, told};
-pub use finding::{MovableRun, find_run, read_map};
+pub use error::{RelocateError, relocate_error};
+pub use freed_places::lost_places;
 pub use images::images_of;
 pub use laws::{carried_out_move_moves, move_is_planned};
-pub use leaving::lost_places;
-pub use planning::plan_move;
-pub use reading::read_run;
-pub use relocating::relocate;
-pub use taking::take_blocks;
-pub use testing::{is_faster, lie_above};
+pub use move_plan::plan_move;
+pub use new_inode::{NewInode, moved_inode};
+pub use run_read::read_run;
+pub use run_search::{MovableRun, find_run, read_map};
+pub use target_blocks::take_blocks;
+pub use tier_move::relocate;
+pub use tier_test::{is_faster, lie_above};

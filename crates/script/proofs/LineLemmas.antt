@@ -6,7 +6,7 @@ use Rattle.std.specs.Io.{StartsWith}
 use Rattle.std.specs.Io.KnownBytes.{Consumes}
 use Rattle.script.specs.declared.script.part.TheConstants.{MAX_LINE}
 use Rattle.script.specs.declared.script.part.End.TheVariants.{TooLong}
-use Rattle.script.specs.Reading.{IsWithinLine, BeginsTooLong}
+use Rattle.script.specs.LineReads.{IsWithinLine, BeginsTooLong}
 use Rattle.script.specs.Parts.{Adds}
 
 -- a front of what stands in front stands in front

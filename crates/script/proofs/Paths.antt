@@ -1,20 +1,20 @@
 -- How the bytes of a path come off from the left.
 use Rattle.std.proofs.Common.{rules, append-nil, ◌≡◌, ◌==◌, List, ℕ, ◌<◌, true, false, Option, None, Some, [], ◌∷◌, ◌++◌, refl, arith, length, if◌then◌else◌, is_some, option_map, append_assoc}
 use Rattle.std.proofs.lemmas.Grind.{common_steps}
-use Rattle.script.specs.Script.{decoded, decoded_first, before}
-use Rattle.script.specs.Seen.{or_empty}
+use Rattle.script.specs.Script.{path_bytes, decoded_first, before}
+use Rattle.script.specs.LineValues.{or_empty}
 
 -- a path begins with the first byte that it spells
-pub decoded-first : (text : List ℕ) (b : ℕ) (rest : List ℕ) → decoded_first text ≡ Some (b, rest) → decoded text ≡ before (Some b) (decoded rest)
-unfolding decoded
+pub decoded-first : (text : List ℕ) (b : ℕ) (rest : List ℕ) → decoded_first text ≡ Some (b, rest) → path_bytes text ≡ before (Some b) (path_bytes rest)
+unfolding path_bytes
 decoded-first [] b rest is = grind (arith, common_steps, is)
 decoded-first (x ∷ []) b rest is = grind (arith, common_steps, is)
 decoded-first (x ∷ h ∷ []) b rest is = grind (arith, common_steps, is)
 decoded-first (x ∷ h ∷ l ∷ ts) b rest is = grind (arith, common_steps, is)
 
 -- where it spells no first byte it is empty or no path
-pub decoded-no_first : (text : List ℕ) → decoded_first text ≡ None → decoded text ≡ (if length text == 0 then Some [] else None)
-unfolding decoded
+pub decoded-no_first : (text : List ℕ) → decoded_first text ≡ None → path_bytes text ≡ (if length text == 0 then Some [] else None)
+unfolding path_bytes
 decoded-no_first [] is = refl
 decoded-no_first (x ∷ []) is = grind (arith, common_steps, is)
 decoded-no_first (x ∷ h ∷ []) is = grind (arith, common_steps, is)
@@ -38,12 +38,12 @@ decoded_first-shorter (x ∷ h ∷ []) b rest is = grind (arith, common_steps, i
 decoded_first-shorter (x ∷ h ∷ l ∷ ts) b rest is = grind (arith, common_steps, is)
 
 -- a path that spells a first byte is one where the rest is
-pub is_some-decoded : (text : List ℕ) (b : ℕ) (rest : List ℕ) → decoded_first text ≡ Some (b, rest) → is_some (decoded text) ≡ is_some (decoded rest)
-is_some-decoded text b rest is = rw (decoded-first text b rest is) (is_some-before b (decoded rest))
+pub is_some-decoded : (text : List ℕ) (b : ℕ) (rest : List ℕ) → decoded_first text ≡ Some (b, rest) → is_some (path_bytes text) ≡ is_some (path_bytes rest)
+is_some-decoded text b rest is = rw (decoded-first text b rest is) (is_some-before b (path_bytes rest))
 
 -- a path's bytes behind some others
-pub behind-decoded : (front : List ℕ) (text : List ℕ) (b : ℕ) (rest : List ℕ) → decoded_first text ≡ Some (b, rest) → option_map (λ bs. front ++ bs) (decoded text) ≡ option_map (λ bs. (front ++ b ∷ []) ++ bs) (decoded rest)
-behind-decoded front text b rest is = rw (decoded-first text b rest is) (behind-before front b (decoded rest))
+pub behind-decoded : (front : List ℕ) (text : List ℕ) (b : ℕ) (rest : List ℕ) → decoded_first text ≡ Some (b, rest) → option_map (λ bs. front ++ bs) (path_bytes text) ≡ option_map (λ bs. (front ++ b ∷ []) ++ bs) (path_bytes rest)
+behind-decoded front text b rest is = rw (decoded-first text b rest is) (behind-before front b (path_bytes rest))
 
 -- a value that is there
 pub or_empty-some : (o : Option (List ℕ)) → is_some o ≡ true → Some (or_empty o) ≡ o
@@ -56,13 +56,13 @@ none-is None is = refl
 none-is (Some bs) is = grind (arith, common_steps, is)
 
 -- where a path that can be read spells no first byte, no bytes are left
-pub decoded-end : (text : List ℕ) (whole : Option (List ℕ)) (front : List ℕ) → decoded_first text ≡ None → is_some whole ≡ true → whole ≡ option_map (λ bs. front ++ bs) (decoded text) → or_empty whole ≡ front
-unfolding decoded
+pub decoded-end : (text : List ℕ) (whole : Option (List ℕ)) (front : List ℕ) → decoded_first text ≡ None → is_some whole ≡ true → whole ≡ option_map (λ bs. front ++ bs) (path_bytes text) → or_empty whole ≡ front
+unfolding path_bytes
 decoded-end [] whole front is readable split = rw split (append-nil front)
 decoded-end (b ∷ bs) whole front is readable split =
-    let e : decoded (b ∷ bs) ≡ None = grind (arith, common_steps, decoded-no_first (b ∷ bs) is) in
+    let e : path_bytes (b ∷ bs) ≡ None = grind (arith, common_steps, decoded-no_first (b ∷ bs) is) in
     grind (arith, common_steps, e, split, readable)
 
 -- whether a text that spells no first byte is a path
-pub is_some-end : (text : List ℕ) → decoded_first text ≡ None → is_some (decoded text) ≡ (length text == 0)
+pub is_some-end : (text : List ℕ) → decoded_first text ≡ None → is_some (path_bytes text) ≡ (length text == 0)
 is_some-end text is = rw (decoded-no_first text is) (search rules)

@@ -5,7 +5,7 @@ use Rattle.std.proofs.Math.Seq.{take-append-add}
 use Rattle.std.proofs.lemmas.Grind.{common_steps}
 use Rattle.std.specs.List.{flat_map}
 use Rattle.script.specs.Script.{all_runs, with_first, run_bytes, run, parts}
-use Rattle.script.specs.Seen.{or_empty}
+use Rattle.script.specs.LineValues.{or_empty}
 use Rattle.script.specs.declared.runs.TheConstants.{MAX_DATA}
 
 -- how much text is left

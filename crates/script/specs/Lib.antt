@@ -1,11 +1,11 @@
 pub mod Lines
 pub mod Runs
 pub mod Script
-pub mod Seen
+pub mod LineValues
 pub mod SystemLines
 pub mod Parts
-pub mod Printed
-pub mod Reading
+pub mod PrintRuns
+pub mod LineReads
 pub mod View
 -- Passed on to the crates above, which so need not list those below.
 pub use Rattle.update_log.specs.file_graph

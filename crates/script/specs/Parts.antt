@@ -2,7 +2,7 @@
 use Rattle.std.specs.Prelude.{◌≡◌, ◌+◌, ◌<◌, ℕ, List, [], ◌∷◌, ◌++◌, length, Option, Some, IfSome}
 use Rattle.std.specs.Io.KnownBytes.{Consumes}
 use Rattle.std.specs.Io.{StartsWith}
-use Rattle.script.specs.Reading.{IsWithinLine}
+use Rattle.script.specs.LineReads.{IsWithinLine}
 use Rattle.script.specs.declared.script.part.TheConstants.{MAX_LINE}
 use Rattle.script.specs.declared.script.part.End.{End}
 use Rattle.script.specs.declared.script.part.End.TheVariants.{Open, Newline, Input, TooLong}

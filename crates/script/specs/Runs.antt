@@ -8,5 +8,5 @@ abbrev pub pair_of : Run → ℕ × ℕ
 pair_of r = (r.byte, r.count)
 
 -- a run, and the text behind it
-abbrev pub seen : Run × Option (Bor (List ℕ)) → (ℕ × ℕ) × Option (List ℕ)
-seen r = (pair_of r.0, option_map (λ t. t.now) r.1)
+abbrev pub run_seen : Run × Option (Bor (List ℕ)) → (ℕ × ℕ) × Option (List ℕ)
+run_seen r = (pair_of r.0, option_map (λ t. t.now) r.1)

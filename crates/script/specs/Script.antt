@@ -97,18 +97,18 @@ front letter [] = false
 front letter (b ∷ bs) = b == letter
 
 -- what is behind a letter, where it stands in front
-abbrev pub behind : ℕ → List ℕ → List ℕ
-behind letter [] = []
-behind letter (b ∷ bs) = if b == letter then bs else b ∷ bs
+abbrev pub text_behind : ℕ → List ℕ → List ℕ
+text_behind letter [] = []
+text_behind letter (b ∷ bs) = if b == letter then bs else b ∷ bs
 
 -- some of the letters `rwcxt`, in this order (114, 119, 99, 120, 116)
 abbrev pub flags : List ℕ → Option Flags
 flags word =
-    let w = behind 114 word in
-    let c = behind 119 w in
-    let x = behind 99 c in
-    let t = behind 120 x in
-    if length (behind 116 t) == 0 then Some (record { read = front 114 word; write = front 119 w; create = front 99 c; exclusive = front 120 x; truncate = front 116 t }) else None
+    let w = text_behind 114 word in
+    let c = text_behind 119 w in
+    let x = text_behind 99 c in
+    let t = text_behind 120 x in
+    if length (text_behind 116 t) == 0 then Some (record { read = front 114 word; write = front 119 w; create = front 99 c; exclusive = front 120 x; truncate = front 116 t }) else None
 
 -- ---- paths
 
@@ -128,11 +128,11 @@ abbrev pub plain : ℕ → Option ℕ
 plain b = if b == 37 then None else Some b
 
 -- the bytes that a path spells: `%` (37) and two hexadecimal digits are one byte, any other byte is itself
-unfoldable pub decoded : List ℕ → Option (List ℕ)
-decoded [] = Some []
-decoded (b ∷ []) = before (plain b) (Some [])
-decoded (b ∷ h ∷ []) = before (plain b) (before (plain h) (Some []))
-decoded (b ∷ h ∷ l ∷ rest) = if b == 37 then before (hex_byte h l) (decoded rest) else before (Some b) (decoded (h ∷ l ∷ rest))
+unfoldable pub path_bytes : List ℕ → Option (List ℕ)
+path_bytes [] = Some []
+path_bytes (b ∷ []) = before (plain b) (Some [])
+path_bytes (b ∷ h ∷ []) = before (plain b) (before (plain h) (Some []))
+path_bytes (b ∷ h ∷ l ∷ rest) = if b == 37 then before (hex_byte h l) (path_bytes rest) else before (Some b) (path_bytes (h ∷ l ∷ rest))
 
 -- ---- bytes
 
@@ -173,8 +173,8 @@ is_dash (b ∷ []) = b == 45
 is_dash (b ∷ c ∷ bs) = false
 
 -- the bytes of runs, or none at a `-`
-abbrev pub repeated : List ℕ → Option (List ℕ)
-repeated text = if is_dash text then Some [] else joined_runs text
+abbrev pub repeated_bytes : List ℕ → Option (List ℕ)
+repeated_bytes text = if is_dash text then Some [] else joined_runs text
 
 -- ---- what is printed
 

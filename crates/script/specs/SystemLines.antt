@@ -2,7 +2,7 @@
 use Rattle.std.specs.Prelude.{ℕ, ◌==◌, List, [], ◌∷◌, Option, Some, None, if◌then◌else◌, option_map, codes}
 use Rattle.std.specs.Str.{bytes_eq}
 use Rattle.update_log.specs.posix_calls.declared.call.Call.{Call}
-use Rattle.script.specs.Script.{◌>>=◌, parts, one, two, four, number, client, decoded}
+use Rattle.script.specs.Script.{◌>>=◌, parts, one, two, four, number, client, path_bytes}
 use Rattle.script.specs.Lines.{verb, call_for}
 use Rattle.script.specs.declared.system_line.Manner.{Manner}
 use Rattle.script.specs.declared.system_line.Manner.TheVariants as manners
@@ -62,8 +62,8 @@ abbrev pub asks_event : EventWord → List (List ℕ) → Option Asked
 asks_event events.Step words = one words >>= λ w. option_map Steps (client w)
 asks_event events.Digest words = one words >>= λ w. option_map Digests (client w)
 asks_event events.Wipe words = one words >>= λ w. option_map Wipes (client w)
-asks_event events.Migrate words = four words >>= λ w. decoded w.0 >>= λ path. number w.1 >>= λ first. number w.2 >>= λ count. option_map (Moves path first count) (lower_tier w.3)
-asks_event events.Where words = two words >>= λ w. decoded w.0 >>= λ path. option_map (Places path) (number w.1)
+asks_event events.Migrate words = four words >>= λ w. path_bytes w.0 >>= λ path. number w.1 >>= λ first. number w.2 >>= λ count. option_map (Moves path first count) (lower_tier w.3)
+asks_event events.Where words = two words >>= λ w. path_bytes w.0 >>= λ path. option_map (Places path) (number w.1)
 
 -- the call of the client that the first word numbers
 abbrev pub asks_numbered : List ℕ → List (List ℕ) → Option Asked

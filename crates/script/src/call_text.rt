@@ -1,8 +1,8 @@
 // What a line asks, as it stands there.
 ghost use Rattle.std.specs.Prelude.{◌≡◌, IfOk, option_map};
 ghost use Rattle.script.specs.Script.{parts};
-ghost use Rattle.script.specs.Seen.{path_of, asked, line_seen};
-ghost use Rattle.script.specs.Lines.{verb, one_decoded, two_decoded, call_for, understood};
+ghost use Rattle.script.specs.LineValues.{path_of, asked_call, line_seen};
+ghost use Rattle.script.specs.Lines.{verb, one_decoded, two_decoded, call_for, line_request};
 ghost use Rattle.script.specs.declared.call_text.Verb.TheVariants as verbs;
 
 use crate::data_text::DataText;
@@ -90,7 +90,7 @@ pub enum CallText<'a> {
 
 /// What a line is; none where it can't be read.
 pub fn read_line(line: &[u8]) -> Option<Line<'_>>
-    ensures { option_map line_seen result ≡ understood line.now }
+    ensures { option_map line_seen result ≡ line_request line.now }
 {
     match line {
         [] => Some(Line::Silent),
@@ -126,7 +126,7 @@ pub fn verb_of(word: &[u8]) -> Option<Verb>
 }
 
 pub fn call_of(verb: Verb, words: &[u8]) -> Option<CallText<'_>>
-    ensures { option_map asked result ≡ call_for verb (parts 32 words.now) }
+    ensures { option_map asked_call result ≡ call_for verb (parts 32 words.now) }
 {
     match verb {
         Verb::Open => open_of(words),
@@ -161,14 +161,14 @@ pub fn call_of(verb: Verb, words: &[u8]) -> Option<CallText<'_>>
 }
 
 fn close_of(words: &[u8]) -> Option<CallText<'_>>
-    ensures { option_map asked result ≡ call_for verbs.Close (parts 32 words.now) }
+    ensures { option_map asked_call result ≡ call_for verbs.Close (parts 32 words.now) }
 {
     let descriptor = descriptor_of(one_word(words)?)?;
     Some(CallText::Close { descriptor })
 }
 
 fn open_of(words: &[u8]) -> Option<CallText<'_>>
-    ensures { option_map asked result ≡ call_for verbs.Open (parts 32 words.now) }
+    ensures { option_map asked_call result ≡ call_for verbs.Open (parts 32 words.now) }
 {
     let (path, flags) = two_words(words)?;
     let path = PathText::read(path)?;
@@ -177,7 +177,7 @@ fn open_of(words: &[u8]) -> Option<CallText<'_>>
 }
 
 fn pread_of(words: &[u8]) -> Option<CallText<'_>>
-    ensures { option_map asked result ≡ call_for verbs.Pread (parts 32 words.now) }
+    ensures { option_map asked_call result ≡ call_for verbs.Pread (parts 32 words.now) }
 {
     let (descriptor, at, count) = three_words(words)?;
     let descriptor = descriptor_of(descriptor)?;
@@ -191,7 +191,7 @@ fn pread_of(words: &[u8]) -> Option<CallText<'_>>
 }
 
 fn pwrite_of(words: &[u8]) -> Option<CallText<'_>>
-    ensures { option_map asked result ≡ call_for verbs.Pwrite (parts 32 words.now) }
+    ensures { option_map asked_call result ≡ call_for verbs.Pwrite (parts 32 words.now) }
 {
     let (descriptor, at, data) = three_words(words)?;
     let descriptor = descriptor_of(descriptor)?;
@@ -205,7 +205,7 @@ fn pwrite_of(words: &[u8]) -> Option<CallText<'_>>
 }
 
 fn truncate_of(words: &[u8]) -> Option<CallText<'_>>
-    ensures { option_map asked result ≡ call_for verbs.Truncate (parts 32 words.now) }
+    ensures { option_map asked_call result ≡ call_for verbs.Truncate (parts 32 words.now) }
 {
     let (path, len) = two_words(words)?;
     let path = PathText::read(path)?;
@@ -229,7 +229,7 @@ fn two_paths(words: &[u8]) -> Option<(PathText<'_>, PathText<'_>)>
 impl CallText<'_> {
     /// The call, with paths and bytes of its own.
     pub fn to_call(&self, alloc: Global) -> Result<Call, AllocError>
-        ensures { IfOk result (λ call. call ≡ asked self.now) }
+        ensures { IfOk result (λ call. call ≡ asked_call self.now) }
     {
         match *self {
             CallText::Open { path, flags } => {
@@ -268,7 +268,7 @@ impl CallText<'_> {
 
     // The same of a call that makes or takes away a name, or tells of a node.
     fn to_name_call(&self, alloc: Global) -> Result<Call, AllocError>
-        ensures { IfOk result (λ call. call ≡ asked self.now) }
+        ensures { IfOk result (λ call. call ≡ asked_call self.now) }
     {
         match *self {
             CallText::Link { old, new } => {

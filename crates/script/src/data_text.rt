@@ -1,6 +1,6 @@
 // Bytes as a script has them.
 ghost use Rattle.std.specs.Prelude.{◌≡◌, IfOk, true, is_some, option_map, take};
-ghost use Rattle.script.specs.Script.{repeated, is_dash};
+ghost use Rattle.script.specs.Script.{repeated_bytes, is_dash};
 
 use crate::runs::{MAX_DATA, are_runs, first_run, push_run};
 use std::alloc::{AllocError, Global};
@@ -10,15 +10,15 @@ use update_log::Bytes;
 #[derive(Clone, Copy)]
 pub struct DataText<'a> {
     text: &'a [u8],
-    ghost readable: { is_some (repeated text.now) ≡ true },
+    ghost readable: { is_some (repeated_bytes text.now) ≡ true },
 }
 
 impl<'a> DataText<'a> {
-    ghost use Rattle.script.specs.Seen.{data_of};
+    ghost use Rattle.script.specs.LineValues.{data_of};
 
     /// None where a run is of another form.
     pub fn read(text: &'a [u8]) -> Option<Self>
-        ensures { option_map data_of result ≡ repeated text.now }
+        ensures { option_map data_of result ≡ repeated_bytes text.now }
     {
         if !is_dash(text) && !are_runs(text) {
             return None;

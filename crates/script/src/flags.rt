@@ -1,6 +1,6 @@
 // How a file is opened, as letters.
 ghost use Rattle.std.specs.Prelude.{◌≡◌};
-ghost use Rattle.script.specs.Script.{front, behind, flags};
+ghost use Rattle.script.specs.Script.{front, text_behind, flags};
 
 use update_log::Flags;
 
@@ -28,7 +28,7 @@ pub fn flags_of(word: &[u8]) -> Option<Flags>
 // Whether the letter stands in front, and what stands behind it.
 fn letter(letter: u8, word: &[u8]) -> (bool, &[u8])
     ensures front { result.0 ≡ front letter word.now }
-    ensures behind { result.1.now ≡ behind letter word.now }
+    ensures behind { result.1.now ≡ text_behind letter word.now }
 {
     match word {
         [first, rest @ ..] if *first == letter => (true, rest),

@@ -1,6 +1,6 @@
 // What is printed of bytes and names.
 ghost use Rattle.std.specs.Prelude.{◌≡◌, ◌<◌, IfSome, length, option_map};
-ghost use Rattle.script.specs.Printed.{run_in_front};
+ghost use Rattle.script.specs.PrintRuns.{run_in_front};
 
 use crate::{is_plain, run_len};
 use std::io::{self, Write};

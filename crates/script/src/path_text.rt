@@ -1,6 +1,6 @@
 // A path as a script has it.
 ghost use Rattle.std.specs.Prelude.{◌≡◌, IfOk, true, is_some, option_map};
-ghost use Rattle.script.specs.Script.{decoded, decoded_first};
+ghost use Rattle.script.specs.Script.{path_bytes, decoded_first};
 
 use crate::hex::hex_byte;
 use std::alloc::{AllocError, Global};
@@ -10,15 +10,15 @@ use update_log::Bytes;
 #[derive(Clone, Copy)]
 pub struct PathText<'a> {
     text: &'a [u8],
-    ghost readable: { is_some (decoded text.now) ≡ true },
+    ghost readable: { is_some (path_bytes text.now) ≡ true },
 }
 
 impl<'a> PathText<'a> {
-    ghost use Rattle.script.specs.Seen.{path_of};
+    ghost use Rattle.script.specs.LineValues.{path_of};
 
     /// None where a `%` has no two digits behind it.
     pub fn read(text: &'a [u8]) -> Option<Self>
-        ensures { option_map path_of result ≡ decoded text.now }
+        ensures { option_map path_of result ≡ path_bytes text.now }
     {
         if !is_readable(text) {
             return None;
@@ -41,7 +41,7 @@ impl<'a> PathText<'a> {
 }
 
 fn is_readable(text: &[u8]) -> bool
-    ensures { result ≡ is_some (decoded text.now) }
+    ensures { result ≡ is_some (path_bytes text.now) }
 {
     let mut rest = text;
     while let Some((_, behind)) = first_byte(rest) {

@@ -30,12 +30,12 @@ pub fn run_program<R: Env + AllocGlobal, E: Write, F: FnOnce(&[&str]) -> io::Res
 fn words_of<R: Env + AllocGlobal>(rt: &R) -> Result<Vec<String>, WordsError> {
     match env::args(rt) {
         Ok(args) => Ok(args.collect(rt.alloc())?),
-        Err(error) => Err(unread(error)),
+        Err(error) => Err(words_fault(error)),
     }
 }
 
 // Why there are no words.
-fn unread(error: io::Error) -> WordsError {
+fn words_fault(error: io::Error) -> WordsError {
     match error.kind() {
         ErrorKind::InvalidData => WordsError::Value("a word of the command line is no text"),
         _ => WordsError::Memory,

@@ -1,5 +1,5 @@
 // A row of a table of scripts.
-use crate::spelled::Spelled;
+use crate::table_text::Spelled;
 use std::alloc::Global;
 
 /// A run of a program, and what it is to print.

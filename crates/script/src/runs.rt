@@ -1,7 +1,7 @@
 // Runs of one byte.
 ghost use Rattle.std.specs.Prelude.{◌≡◌, ◌≤◌, ◌<◌, ◌++◌, IfSome, OnOk, Some, is_some, option_map, take, length, vec_len};
 ghost use Rattle.script.specs.Script.{run, all_runs, with_first, run_bytes};
-ghost use Rattle.script.specs.Runs.{pair_of, seen};
+ghost use Rattle.script.specs.Runs.{pair_of, run_seen};
 
 use crate::hex::hex_byte;
 use crate::number::number_of;
@@ -47,7 +47,7 @@ pub fn are_runs(text: &[u8]) -> bool
 
 /// The first run, and what stands behind the `+` after it.
 pub fn first_run(text: &[u8]) -> Option<(Run, Option<&[u8]>)>
-    ensures runs { all_runs (Some text.now) ≡ with_first (option_map seen result) }
+    ensures runs { all_runs (Some text.now) ≡ with_first (option_map run_seen result) }
     ensures shorter { IfSome result (λ r. IfSome r.1 (λ behind. length behind.now < length text.now)) }
 {
     match cut(text, b'+') {

@@ -2,7 +2,7 @@
 ghost use Rattle.std.specs.Prelude.{◌≡◌, [], ◌∷◌, Some, option_map};
 ghost use Rattle.script.specs.Script.{parts};
 ghost use Rattle.script.specs.SystemLines.{manner, event, lower_tier, asks, asks_event, asks_call, asks_in, asks_numbered, system_line};
-ghost use Rattle.script.specs.Seen.{system_line_seen};
+ghost use Rattle.script.specs.LineValues.{system_line_seen};
 ghost use Rattle.script.specs.declared.system_line.EventWord.TheVariants as events;
 
 use crate::call_text::{CallText, call_of, verb_of};
@@ -96,12 +96,12 @@ fn read_asked(line: &[u8]) -> Option<SystemLine<'_>>
     };
     match event_of(word) {
         Some(event) => asked_event(event, words),
-        None => asked_of(word, words),
+        None => call_line(word, words),
     }
 }
 
 // The call of the client that a word numbers.
-fn asked_of<'a>(word: &[u8], words: &'a [u8]) -> Option<SystemLine<'a>>
+fn call_line<'a>(word: &[u8], words: &'a [u8]) -> Option<SystemLine<'a>>
     ensures { option_map system_line_seen result ≡ option_map Some (asks_numbered word.now (parts 32 words.now)) }
 {
     let client = client_of(word)?;
@@ -189,8 +189,8 @@ fn asked_call(client: u32, words: &[u8]) -> Option<SystemLine<'_>>
 {
     let (word, rest) = cut(words, b' ')?;
     match manner_of(word) {
-        Some(manner) => asked_in(client, manner, rest),
-        None => asked_in(client, Manner::Served, words),
+        Some(manner) => line_by(client, manner, rest),
+        None => line_by(client, Manner::Served, words),
     }
 }
 
@@ -204,7 +204,7 @@ fn manner_of(word: &[u8]) -> Option<Manner>
     }
 }
 
-fn asked_in(client: u32, manner: Manner, words: &[u8]) -> Option<SystemLine<'_>>
+fn line_by(client: u32, manner: Manner, words: &[u8]) -> Option<SystemLine<'_>>
     ensures { option_map system_line_seen result ≡ option_map Some (asks_in client manner (parts 32 words.now)) }
 {
     let (verb, words) = cut(words, b' ')?;

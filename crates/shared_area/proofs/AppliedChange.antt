@@ -3,6 +3,7 @@ use Rattle.std.proofs.Common.{◌≡◌, ◌≢◌, ◌≤◌, ◌<◌, ◌+◌,
 use Rattle.std.specs.Prelude.{Result, Ok, Err, OnOk, IfErr, IsErrOf}
 use Rattle.std.proofs.lemmas.Bool.{true≢false}
 use Rattle.std.proofs.lemmas.List.{length-append, length-map}
+use Rattle.change_plan.specs.tier_device.declared.media.Media.{Ghosts}
 use Rattle.change_plan.specs.tier_device.declared.media.Tier.{Tier}
 use Rattle.change_plan.specs.tier_device.declared.media.Tier.TheVariants.{Fast, Block, Slow}
 use Rattle.change_plan.specs.tier_device.Media.{Rose}
@@ -15,20 +16,20 @@ use Rattle.change_plan.specs.batch_journal.View.{JournalView}
 use Rattle.change_plan.proofs.batch_journal_lemmas.Courses.{tiers_same}
 use Rattle.change_plan.specs.area_image.declared.error.AreaError.{AreaError}
 use Rattle.change_plan.specs.area_image.declared.error.AreaError.TheVariants as area
-use Rattle.change_plan.specs.area_image.Store.{Store, store_of, graph, marks}
-use Rattle.change_plan.specs.area_image.Spelled.{IsOpenable}
+use Rattle.change_plan.specs.area_image.Store.{Store, disk, store_of, graph, marks}
+use Rattle.change_plan.specs.area_image.Format.{IsOpenable}
 use Rattle.change_plan.specs.area_image.Looks.{Looks}
 use Rattle.change_plan.proofs.area_image_lemmas.Frames.{loose_graph, loose_marks}
 use Rattle.change_plan.specs.area_commit.Value.{PoolsView, free_data, on_tier, AreInOrder, HasRanges, AreFree}
-use Rattle.change_plan.specs.area_commit.Settled.{IsSettled, StaysStill}
-use Rattle.shared_area.specs.ChangeApplying.{IsAppliedStore, MakesFewCalls, Applies, Ends}
+use Rattle.change_plan.specs.area_commit.StableState.{IsSettled, StaysStill}
+use Rattle.shared_area.specs.ChangeApply.{IsAppliedStore, MakesFewCalls, Applies, Ends}
 use Rattle.shared_area.specs.Costs.{units_in}
 use Rattle.shared_area.specs.declared.error.ApplyError.{ApplyError}
 use Rattle.shared_area.specs.declared.error.ApplyError.TheVariants.{DeviceFault}
 use Rattle.shared_area.proofs.Calls.{few_then}
 use Rattle.shared_area.proofs.Ending.{settled_still}
 use Rattle.shared_area.specs.Ready.{IsReady}
-use Rattle.shared_area.specs.Applying.{HasTooFewData, StaysOrChanges, AppliesOrStays}
+use Rattle.shared_area.specs.GraphUpdate.{HasTooFewData, StaysOrChanges, AppliesOrStays}
 use Rattle.shared_area.proofs.Counts.{data_count}
 use Rattle.shared_area.proofs.Ready.{keeps_opens}
 
@@ -79,17 +80,17 @@ units_few was units all few is = omega (arith, few, is)
 
 -- ---- a change, and then reads
 
-module _ {M : Type 0} (moment : M → ℕ) (seen : M → Tier → List ℕ) (left : M → ℕ → Tier → List ℕ → Type 0) (faults : M → ℕ)
-    (sized : (x : M) (n : ℕ) (t : Tier) (c : List ℕ) → n ≤ moment x → left x n t c → length c ≡ length (seen x t)) where
+module _ {M : Type 0} (device : Ghosts M)
+    (sized : (x : M) (n : ℕ) (t : Tier) (c : List ℕ) → n ≤ device.moment x → device.left x n t c → length c ≡ length (device.seen x t)) where
   abbrev StillAt : JournalView M → JournalView M → Type 0
-  StillAt old new = Unmoved (moment old.media) (moment new.media) (seen old.media) (seen new.media) (left old.media) (left new.media)
+  StillAt old new = Unmoved (device.moment old.media) (device.moment new.media) (device.seen old.media) (device.seen new.media) (device.left old.media) (device.left new.media)
 
   module _ (cs : Changes) (v : Marks) where
     abbrev AppliesTo : JournalView M → JournalView M → Type 0
-    AppliesTo old new = Applies old.geometry (store_of (seen old.media)) cs v (moment old.media) (moment new.media) (left old.media) (left new.media)
+    AppliesTo old new = Applies old.geometry (disk device old) cs v (device.moment old.media) (device.moment new.media) (device.left old.media) (device.left new.media)
 
     abbrev EndsAt : JournalView M → JournalView M → PoolsView → Result (Unit {0}) ApplyError → Type 0
-    EndsAt old new pools r = Ends moment seen left faults cs v old new pools r
+    EndsAt old new pools r = Ends device cs v old new pools r
 
     failed_now : {A B C : Type 0} → A × (B ⊎ C) → (B → ⊥) → A × C
     failed_now p never = (p.0, elim p.1 [ inl b ↦ absurd (never b) | inr c ↦ c ])
@@ -99,23 +100,23 @@ module _ {M : Type 0} (moment : M → ℕ) (seen : M → Tier → List ℕ) (lef
       later = (let later = applies.later in let clock = still.clock in omega (arith, later, clock));
       past = λ m t c le l. applies.past m t c le (still.past m t c (let later = applies.later in omega (arith, le, later)) l);
       kept = λ m t c le l. still.kept m t c (let later = applies.later in omega (arith, le, later)) (applies.kept m t c le l);
-      any_moment = λ m content lo hi l. (let clock = still.clock in let within : m ≤ moment mid.media = omega (arith, hi, clock) in applies.any_moment m content lo within (λ t. still.past m t (content t) within (l t)));
+      any_moment = λ m content lo hi l. (let clock = still.clock in let within : m ≤ device.moment mid.media = omega (arith, hi, clock) in applies.any_moment m content lo within (λ t. still.past m t (content t) within (l t)));
     }
 
     abbrev MakesFew : JournalView M → JournalView M → Type 0
-    MakesFew old new = MakesFewCalls old.geometry (store_of (seen old.media)) cs (moment old.media) (moment new.media) (left old.media) (left new.media)
+    MakesFew old new = MakesFewCalls old.geometry (disk device old) cs (device.moment old.media) (device.moment new.media) (device.left old.media) (device.left new.media)
 
-    few_on : (old mid new : JournalView M) → moment old.media ≤ moment mid.media → MakesFew old mid → StillAt mid new → MakesFew old new
-    few_on old mid new later few still = few_then old.geometry (store_of (seen old.media)) cs (moment old.media) (moment mid.media) (moment new.media) (left old.media) (left mid.media) (left new.media) later still.clock still.past few
+    few_on : (old mid new : JournalView M) → device.moment old.media ≤ device.moment mid.media → MakesFew old mid → StillAt mid new → MakesFew old new
+    few_on old mid new later few still = few_then old.geometry (disk device old) cs (device.moment old.media) (device.moment mid.media) (device.moment new.media) (device.left old.media) (device.left mid.media) (device.left new.media) later still.clock still.past few
 
-    store_still : (mid new : JournalView M) → StillAt mid new → store_of (seen new.media) ≡ store_of (seen mid.media)
-    store_still mid new still = ap store_of (tiers_same (seen mid.media) (seen new.media) still.reads)
+    store_still : (mid new : JournalView M) → StillAt mid new → disk device new ≡ disk device mid
+    store_still mid new still = ap store_of (tiers_same (device.seen mid.media) (device.seen new.media) still.reads)
 
-    pub ends_read : {T : Type 0} (old mid new : JournalView M) (pools : PoolsView) (u : Unit {0}) (x : T) → EndsAt old mid pools (Ok u) → Looks moment seen left faults mid new (Ok x) → EndsAt old new pools (Ok u)
+    pub ends_read : {T : Type 0} (old mid new : JournalView M) (pools : PoolsView) (u : Unit {0}) (x : T) → EndsAt old mid pools (Ok u) → Looks device mid new (Ok x) → EndsAt old new pools (Ok u)
     ends_read old mid new pools u x ends looks = record {
       any_moment = applies_then old mid new ends.any_moment looks.unmoved;
-      applied = subst (IsAppliedStore old.geometry (store_of (seen old.media)) cs v) (sym (store_still mid new looks.unmoved)) ends.applied;
-      settled = λ going. settled_still moment seen left faults sized mid new pools looks.unmoved looks.geometry (ends.settled looks.going.0);
+      applied = subst (IsAppliedStore old.geometry (disk device old) cs v) (sym (store_still mid new looks.unmoved)) ends.applied;
+      settled = λ going. settled_still device sized mid new pools looks.unmoved looks.geometry (ends.settled looks.going.0);
       unmoved = tt;
       fault = λ is. absurd (ok_fault u is);
       quiet = (looks.going.1, looks.quiet ∙ ends.quiet.1);
@@ -129,10 +130,10 @@ module _ {M : Type 0} (moment : M → ℕ) (seen : M → Tier → List ℕ) (lef
         ok_fault u is = cc
 
     -- what a change tells of media of which no device had failed
-    pub ends_of : (old new : JournalView M) (pools : PoolsView) (r : Result (Unit {0}) ApplyError) → old.failed ≡ false → (old.failed ≡ false → AppliesTo old new) → OnOk r (IsAppliedStore old.geometry (store_of (seen old.media)) cs v (store_of (seen new.media)))
-        → (new.failed ≡ false → IsSettled new.geometry (seen new.media) (left new.media (moment new.media)) pools) → IfErr r (λ e. e ≢ DeviceFault → StaysStill moment seen left faults old new)
-        → (IsErrOf r DeviceFault → (new.failed ≡ true) × ((old.failed ≡ true) ⊎ Rose (faults old.media) (faults new.media))) → OnOk r ((new.failed ≡ false) × (faults new.media ≡ faults old.media))
-        → new.geometry ≡ old.geometry → faults old.media ≤ faults new.media → faults new.media ≤ faults old.media + 1 → MakesFew old new → EndsAt old new pools r
+    pub ends_of : (old new : JournalView M) (pools : PoolsView) (r : Result (Unit {0}) ApplyError) → old.failed ≡ false → (old.failed ≡ false → AppliesTo old new) → OnOk r (IsAppliedStore old.geometry (disk device old) cs v (disk device new))
+        → (new.failed ≡ false → IsSettled new.geometry (device.seen new.media) (device.left new.media (device.moment new.media)) pools) → IfErr r (λ e. e ≢ DeviceFault → StaysStill device old new)
+        → (IsErrOf r DeviceFault → (new.failed ≡ true) × ((old.failed ≡ true) ⊎ Rose (device.faults old.media) (device.faults new.media))) → OnOk r ((new.failed ≡ false) × (device.faults new.media ≡ device.faults old.media))
+        → new.geometry ≡ old.geometry → device.faults old.media ≤ device.faults new.media → device.faults new.media ≤ device.faults old.media + 1 → MakesFew old new → EndsAt old new pools r
     ends_of old new pools r going applies applied settled unmoved fault quiet geometry more one few = record {
       any_moment = applies going;
       applied = applied;
@@ -147,7 +148,7 @@ module _ {M : Type 0} (moment : M → ℕ) (seen : M → Tier → List ℕ) (lef
     }
 
     -- where a device fails in them, the change is made all the same, and the area has failed
-    pub ends_broken : {T : Type 0} (old mid new : JournalView M) (pools : PoolsView) (u : Unit {0}) (e : AreaError) → e ≡ area.DeviceFault → EndsAt old mid pools (Ok u) → Looks {T = T} moment seen left faults mid new (Err e) → EndsAt old new pools (Err DeviceFault)
+    pub ends_broken : {T : Type 0} (old mid new : JournalView M) (pools : PoolsView) (u : Unit {0}) (e : AreaError) → e ≡ area.DeviceFault → EndsAt old mid pools (Ok u) → Looks {T = T} device mid new (Err e) → EndsAt old new pools (Err DeviceFault)
     ends_broken old mid new pools u e is ends looks =
         let fault = failed_now (looks.fault is) (λ was. true≢false (sym was ∙ ends.quiet.0)) in
         record {
@@ -155,7 +156,7 @@ module _ {M : Type 0} (moment : M → ℕ) (seen : M → Tier → List ℕ) (lef
           applied = tt;
           settled = λ going. absurd (true≢false (sym fault.0 ∙ going));
           unmoved = λ other. absurd (other refl);
-          fault = λ _. (fault.0, subst (λ (n : ℕ). Rose n (faults new.media)) ends.quiet.1 fault.1);
+          fault = λ _. (fault.0, subst (λ (n : ℕ). Rose n (device.faults new.media)) ends.quiet.1 fault.1);
           quiet = tt;
           geometry = looks.geometry ∙ ends.geometry;
           more_faults = (let a = ends.more_faults in let b = looks.more_faults in omega (arith, a, b));
@@ -165,18 +166,18 @@ module _ {M : Type 0} (moment : M → ℕ) (seen : M → Tier → List ℕ) (lef
 
     -- ---- what is in memory
 
-    graph_on : (old mid : JournalView M) → StillAt old mid → mid.geometry ≡ old.geometry → graph mid.geometry (store_of (seen mid.media)) ≡ graph old.geometry (store_of (seen old.media))
-    graph_on old mid still geometry = ap (λ (g : Sizes). graph g (store_of (seen mid.media))) geometry ∙ ap (graph old.geometry) (store_still old mid still)
+    graph_on : (old mid : JournalView M) → StillAt old mid → mid.geometry ≡ old.geometry → graph mid.geometry (disk device mid) ≡ graph old.geometry (disk device old)
+    graph_on old mid still geometry = ap (λ (g : Sizes). graph g (disk device mid)) geometry ∙ ap (graph old.geometry) (store_still old mid still)
 
-    pub charge_on : (old mid : JournalView M) (units : ℕ) → StillAt old mid → mid.geometry ≡ old.geometry → units ≡ charge (graph old.geometry (store_of (seen old.media))) → units ≡ charge (graph mid.geometry (store_of (seen mid.media)))
+    pub charge_on : (old mid : JournalView M) (units : ℕ) → StillAt old mid → mid.geometry ≡ old.geometry → units ≡ charge (graph old.geometry (disk device old)) → units ≡ charge (graph mid.geometry (disk device mid))
     charge_on old mid units still geometry is = is ∙ sym (ap charge (graph_on old mid still geometry))
 
     -- the change is made
-    pub ready_made : (old new : JournalView M) (pools : PoolsView) (units : ℕ) (u : Unit {0}) → EndsAt old new pools (Ok u) → units ≡ charge (graph new.geometry (store_of (seen new.media))) → IsReady new.geometry (seen new.media) (left new.media (moment new.media)) pools v units
+    pub ready_made : (old new : JournalView M) (pools : PoolsView) (units : ℕ) (u : Unit {0}) → EndsAt old new pools (Ok u) → units ≡ charge (graph new.geometry (disk device new)) → IsReady new.geometry (device.seen new.media) (device.left new.media (device.moment new.media)) pools v units
     ready_made old new pools units u ends is = (let settled = ends.settled ends.quiet.0 in record { opens = settled.opens; rests = settled.rests; ranges = settled.ranges; free = settled.free; marked = ends.applied.new_marks; charged = is })
 
     -- or it is not
-    pub ready_refused : (old new : JournalView M) (pools pools' : PoolsView) (told : Marks) (units : ℕ) (e : ApplyError) → IsReady old.geometry (seen old.media) (left old.media (moment old.media)) pools told units → EndsAt old new pools' (Err e) → new.failed ≡ false → IsReady new.geometry (seen new.media) (left new.media (moment new.media)) pools' told units
+    pub ready_refused : (old new : JournalView M) (pools pools' : PoolsView) (told : Marks) (units : ℕ) (e : ApplyError) → IsReady old.geometry (device.seen old.media) (device.left old.media (device.moment old.media)) pools told units → EndsAt old new pools' (Err e) → new.failed ≡ false → IsReady new.geometry (device.seen new.media) (device.left new.media (device.moment new.media)) pools' told units
     ready_refused old new pools pools' told units e ready ends going =
         let settled = ends.settled going in
         let other : e ≢ DeviceFault = λ is. true≢false (sym (ends.fault (ap Err is)).0 ∙ going) in
@@ -190,7 +191,7 @@ module _ {M : Type 0} (moment : M → ℕ) (seen : M → Tier → List ℕ) (lef
           charged = charge_on old new units still ends.geometry ready.charged;
         }
 
-    pub applies_or_stays : (old new : JournalView M) (pools : PoolsView) (r : Result (Unit {0}) ApplyError) → old.failed ≡ false → EndsAt old new pools r → AppliesOrStays moment seen left faults old new r
+    pub applies_or_stays : (old new : JournalView M) (pools : PoolsView) (r : Result (Unit {0}) ApplyError) → old.failed ≡ false → EndsAt old new pools r → AppliesOrStays device old new r
     applies_or_stays old new pools (Ok u) going ends = record {
       unmoved = tt;
       geometry = ends.geometry;
@@ -215,7 +216,7 @@ module _ {M : Type 0} (moment : M → ℕ) (seen : M → Tier → List ℕ) (lef
     }
 
   -- an area that has failed
-  pub failed_stays : (old : JournalView M) → old.failed ≡ true → AppliesOrStays moment seen left faults old old (Err DeviceFault)
+  pub failed_stays : (old : JournalView M) → old.failed ≡ true → AppliesOrStays device old old (Err DeviceFault)
   failed_stays old was = record {
     unmoved = λ other. absurd (other refl);
     geometry = refl;

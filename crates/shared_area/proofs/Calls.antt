@@ -6,19 +6,19 @@ use Rattle.change_plan.specs.graph_change.Change.{Changes}
 use Rattle.change_plan.specs.layout.declared.marks.Marks.{Marks}
 use Rattle.change_plan.specs.layout.Places.{Sizes}
 use Rattle.change_plan.specs.area_image.Store.{Store}
-use Rattle.change_plan.specs.Adding.{HasTaken}
+use Rattle.change_plan.specs.PlanAddition.{HasTaken}
 use Rattle.change_plan.specs.First.{IsWhole}
-use Rattle.change_plan.specs.Laid.{GetPlaces}
+use Rattle.change_plan.specs.FileLayout.{GetPlaces}
 use Rattle.change_plan.specs.area_commit.Value.{PoolsView}
-use Rattle.change_plan.specs.area_commit.declared.taking.Taken.{Taken}
-use Rattle.change_plan.specs.area_commit.Taking.{taken_data}
-use Rattle.change_plan.specs.area_commit.Writing.{TakenInTurn, calls_for}
-use Rattle.change_plan.specs.declared.partial.PartialPlan.{PartialPlan}
+use Rattle.change_plan.specs.area_commit.declared.allocation.Allocation.{Allocation}
+use Rattle.change_plan.specs.area_commit.Allocations.{taken_data}
+use Rattle.change_plan.specs.area_commit.DataWrite.{TakenInTurn, calls_for}
+use Rattle.change_plan.specs.declared.partial_plan.PartialPlan.{PartialPlan}
 use Rattle.change_plan.proofs.area_commit_lemmas.Returned.{were_free}
 use Rattle.change_plan.proofs.area_commit_lemmas.Turns.{turn_behind, turn_read}
-use Rattle.shared_area.specs.ChangeApplying.{MakesFewCalls}
+use Rattle.shared_area.specs.ChangeApply.{MakesFewCalls}
 
-pub few_calls : (g : Sizes) (s : Store) (cs : Changes) (v : Marks) (plan : PartialPlan) (taken : Taken) (left : PoolsView) (before now : ℕ) (L M : ℕ → Tier → List ℕ → Type 0) → IsWhole g s cs v.digests plan taken (Some v) → HasTaken g s left taken → (blocks : List (ℕ × ℕ)) × GetPlaces g s cs blocks (taken_data taken)
+pub few_calls : (g : Sizes) (s : Store) (cs : Changes) (v : Marks) (plan : PartialPlan) (taken : Allocation) (left : PoolsView) (before now : ℕ) (L M : ℕ → Tier → List ℕ → Type 0) → IsWhole g s cs v.digests plan taken (Some v) → HasTaken g s left taken → (blocks : List (ℕ × ℕ)) × GetPlaces g s cs blocks (taken_data taken)
     → now ≤ before + calls_for taken + min (length plan.slots.items) 32 + length plan.nodes + 8 → TakenInTurn taken before now L M → MakesFewCalls g s cs before now L M
 few_calls g s cs v plan taken left before now L M whole took got few turn = inr (record {
   blocks = got.0;

@@ -13,7 +13,7 @@ use Rattle.std.proofs.lemmas.Bool.{cond-true, cond-false, eq-eqb, ne_eqb, or_lef
 use Rattle.std.proofs.lemmas.List.Sums.{sum_by-cons}
 use Rattle.record_validation.specs.file_graph.Graph.{Graph, Node, cost, is_among}
 use Rattle.record_validation.specs.file_graph.Units.{charge}
-use Rattle.change_plan.specs.graph_change.Change.{changed, net_of, new_change}
+use Rattle.change_plan.specs.graph_change.Change.{changed_graph, net_of, new_change}
 use Rattle.change_plan.specs.graph_change.Net.{Kept, node_after}
 use Rattle.change_plan.specs.graph_change.View.{change_of, nodes_of}
 use Rattle.change_plan.specs.graph_change.declared.node_change.NodeChange.{NodeChange}
@@ -21,11 +21,11 @@ use Rattle.change_plan.proofs.graph_change_lemmas.Law.{empty_at, coalesced_law}
 use Rattle.change_plan.proofs.graph_change_lemmas.Maps.{value_at}
 use Rattle.change_plan.specs.layout.Places.{Sizes, is_inode}
 use Rattle.change_plan.specs.area_image.Store.{Store, slot, graph}
-use Rattle.change_plan.specs.area_image.Spelled.{IsSpelled}
+use Rattle.change_plan.specs.area_image.Format.{IsSpelled}
 use Rattle.change_plan.specs.area_image.Units.{slot_units}
 use Rattle.change_plan.proofs.area_image_lemmas.Costs.{units_told}
 use Rattle.change_plan.proofs.area_commit_lemmas.Given.{cons_cases, cons_here, cons_there, nothing}
-use Rattle.change_plan.specs.area_commit.Changing.{AreInodesOnce}
+use Rattle.change_plan.specs.area_commit.BlockExchange.{AreInodesOnce}
 use Rattle.shared_area.specs.Costs.{units_in}
 use Rattle.change_plan.proofs.inode_plan_lemmas.Keys.{key_there, key_is}
 
@@ -54,7 +54,7 @@ module _ (m : BTreeMap ℕ NodeChange) (old : Graph) (i : ℕ) (other : is_among
   none_said (Some c) is = absurd (true≢false (sym (contains_among (keys_of m.entries) i (key_there i m.entries (ap is_some is))) ∙ other))
 
   -- of the others nothing is said
-  pub stays_so : changed (nodes_of m) old i ≡ old i
+  pub stays_so : changed_graph (nodes_of m) old i ≡ old i
   stays_so = ap (λ o. node_after (net_of (unwrap_or o (new_change Kept))) (old i)) (value_at change_of m i ∙ ap (option_map change_of) (none_said (get nat_cmp m i) refl)) ∙ kept_node (old i)
 
 not_among : (i : ℕ) (is : List ℕ) → AllByRecursion (λ j. nat_cmp i j ≡ Less) is → is_among i is ≡ false
@@ -114,7 +114,7 @@ pub units_within : GraphsDiffer → (g : Sizes) (s : Store) (is : List ℕ) → 
 units_within law g s is spelled once = (let within = costs_within law (graph g s) is once in let same = slots_tell g s is spelled once in omega (arith, within, same))
 
 -- the charge of a graph that is changed
-pub units_follow : GraphsDiffer → (g : Sizes) (old new : Store) (m : BTreeMap ℕ NodeChange) → IsSpelled g old → IsSpelled g new → AreInodesOnce (keys_of m.entries) → graph g new ≡ changed (nodes_of m) (graph g old)
+pub units_follow : GraphsDiffer → (g : Sizes) (old new : Store) (m : BTreeMap ℕ NodeChange) → IsSpelled g old → IsSpelled g new → AreInodesOnce (keys_of m.entries) → graph g new ≡ changed_graph (nodes_of m) (graph g old)
     → charge (graph g old) + units_in g new (keys_of m.entries) ≡ charge (graph g new) + units_in g old (keys_of m.entries)
 units_follow law g old new m before after once is =
     let all = law (graph g old) (graph g new) (keys_of m.entries) once (λ i none. ap cost (ap (λ (h : Graph). h i) is ∙ stays_so m (graph g old) i none)) in

@@ -2,6 +2,7 @@
 use Rattle.std.proofs.Common.{◌≡◌, ◌≢◌, ◌≤◌, ◌⊎◌, inl, inr, ◌+◌, ◌∙◌, ℕ, List, length, true, false, refl, sym, ap, subst, arith}
 use Rattle.std.specs.Prelude.{Result, Ok, Err, OnErr, IfErr, IsErrOf}
 use Rattle.std.proofs.lemmas.Bool.{true≢false}
+use Rattle.change_plan.specs.tier_device.declared.media.Media.{Ghosts}
 use Rattle.change_plan.specs.tier_device.declared.media.Tier.{Tier}
 use Rattle.change_plan.specs.tier_device.declared.media.Tier.TheVariants.{Fast}
 use Rattle.change_plan.specs.tier_device.Media.{Rose}
@@ -13,18 +14,18 @@ use Rattle.change_plan.specs.batch_journal.View.{JournalView}
 use Rattle.change_plan.proofs.batch_journal_lemmas.Courses.{left_before, tiers_same, unmoved_on}
 use Rattle.change_plan.specs.area_image.declared.error.AreaError.{AreaError}
 use Rattle.change_plan.specs.area_image.declared.error.AreaError.TheVariants as area
-use Rattle.change_plan.specs.area_image.Store.{Store, store_of}
-use Rattle.change_plan.specs.area_image.Spelled.{IsOpenable}
+use Rattle.change_plan.specs.area_image.Store.{Store, disk, store_of}
+use Rattle.change_plan.specs.area_image.Format.{IsOpenable}
 use Rattle.change_plan.specs.area_image.Damage.{OnDamage}
 use Rattle.change_plan.specs.area_image.Looks.{Looks}
 use Rattle.change_plan.specs.area_commit.Value.{PoolsView, HasRanges, AreFree}
 use Rattle.change_plan.specs.area_commit.declared.plan.Rewrite.{Rewrite}
-use Rattle.change_plan.specs.area_commit.Done.{IsCarriedOut, AllOrNothing}
-use Rattle.change_plan.specs.area_commit.Settled.{IsSettled, StaysStill}
+use Rattle.change_plan.specs.area_commit.PlanOutcome.{IsCarriedOut, AllOrNothing}
+use Rattle.change_plan.specs.area_commit.StableState.{IsSettled, StaysStill}
 use Rattle.change_plan.proofs.area_commit_lemmas.Course.{Rests}
 use Rattle.change_plan.proofs.area_commit_lemmas.Moments.{rest_loose}
-use Rattle.shared_area.specs.ChangeApplying.{IsAppliedStore, IsAppliedOrNot, MakesFewCalls, Applies, Ends}
-use Rattle.shared_area.specs.Errors.{IsTold, IsForced}
+use Rattle.shared_area.specs.ChangeApply.{IsAppliedStore, IsAppliedOrNot, MakesFewCalls, Applies, Ends}
+use Rattle.shared_area.specs.Errors.{IsApplyFault, IsForced}
 use Rattle.shared_area.specs.declared.error.ApplyError.{ApplyError}
 use Rattle.shared_area.specs.declared.error.ApplyError.TheVariants as errors
 use Rattle.shared_area.proofs.Calls.{few_behind}
@@ -62,7 +63,7 @@ forced_block (Err e) only is = elim only [
   | inr full ↦ block_memory (sym (err_same e errors.NoBlock is) ∙ full)
 ]
 
-pub told_forced : (e : AreaError) (r : ApplyError) → IsTold e r → IsForced r
+pub told_forced : (e : AreaError) (r : ApplyError) → IsApplyFault e r → IsForced r
 told_forced area.DeviceFault r is = inl is
 told_forced (area.Damaged w b) r is = absurd is
 told_forced area.Memory r is = inr is
@@ -80,55 +81,55 @@ no_damage_told area.Memory is = tt
 
 -- ---- courses
 
-module _ {M : Type 0} (moment : M → ℕ) (seen : M → Tier → List ℕ) (left : M → ℕ → Tier → List ℕ → Type 0) (faults : M → ℕ)
-    (sized : (x : M) (n : ℕ) (t : Tier) (c : List ℕ) → n ≤ moment x → left x n t c → length c ≡ length (seen x t)) where
+module _ {M : Type 0} (device : Ghosts M)
+    (sized : (x : M) (n : ℕ) (t : Tier) (c : List ℕ) → n ≤ device.moment x → device.left x n t c → length c ≡ length (device.seen x t)) where
   -- The media are settled.
   abbrev pub SettledAt : JournalView M → PoolsView → Type 0
-  SettledAt j pools = IsSettled j.geometry (seen j.media) (left j.media (moment j.media)) pools
+  SettledAt j pools = IsSettled j.geometry (device.seen j.media) (device.left j.media (device.moment j.media)) pools
 
   -- Nothing was written.
   abbrev pub StillAt : JournalView M → JournalView M → Type 0
-  StillAt old new = Unmoved (moment old.media) (moment new.media) (seen old.media) (seen new.media) (left old.media) (left new.media)
+  StillAt old new = Unmoved (device.moment old.media) (device.moment new.media) (device.seen old.media) (device.seen new.media) (device.left old.media) (device.left new.media)
 
   pub still_self : (j : JournalView M) → StillAt j j
   still_self j = record { clock = refl; reads = λ t. refl; past = λ m t c le l. l; kept = λ m t c le l. l }
 
   pub settled_still : (old new : JournalView M) (pools : PoolsView) → StillAt old new → new.geometry ≡ old.geometry → SettledAt old pools → SettledAt new pools
   settled_still old new pools still geometry settled =
-      let same : store_of (seen new.media) ≡ store_of (seen old.media) = ap store_of (tiers_same (seen old.media) (seen new.media) still.reads) in
+      let same : disk device new ≡ disk device old = ap store_of (tiers_same (device.seen old.media) (device.seen new.media) still.reads) in
       record {
-        opens = subst (λ (g : Sizes). IsOpenable g (store_of (seen new.media))) (sym geometry) (subst (IsOpenable old.geometry) (sym same) settled.opens);
+        opens = subst (λ (g : Sizes). IsOpenable g (disk device new)) (sym geometry) (subst (IsOpenable old.geometry) (sym same) settled.opens);
         rests = λ t c l. settled.rests t c (left_before still t c l) ∙ sym (still.reads t);
         ranges = subst (λ (g : Sizes). HasRanges g pools) (sym geometry) settled.ranges;
-        free = subst (λ (g : Sizes). AreFree g (store_of (seen new.media)) pools) (sym geometry) (subst (λ (s : Store). AreFree old.geometry s pools) (sym same) settled.free);
+        free = subst (λ (g : Sizes). AreFree g (disk device new) pools) (sym geometry) (subst (λ (s : Store). AreFree old.geometry s pools) (sym same) settled.free);
       }
 
   module _ (cs : Changes) (v : Marks) where
     -- what a change may leave, from one journal to another
     abbrev AppliesTo : JournalView M → JournalView M → Type 0
-    AppliesTo old new = Applies old.geometry (store_of (seen old.media)) cs v (moment old.media) (moment new.media) (left old.media) (left new.media)
+    AppliesTo old new = Applies old.geometry (disk device old) cs v (device.moment old.media) (device.moment new.media) (device.left old.media) (device.left new.media)
 
     -- how many calls it makes
     abbrev MakesFew : JournalView M → JournalView M → Type 0
-    MakesFew old new = MakesFewCalls old.geometry (store_of (seen old.media)) cs (moment old.media) (moment new.media) (left old.media) (left new.media)
+    MakesFew old new = MakesFewCalls old.geometry (disk device old) cs (device.moment old.media) (device.moment new.media) (device.left old.media) (device.left new.media)
 
     abbrev EndsAt : JournalView M → JournalView M → PoolsView → Result (Unit {0}) ApplyError → Type 0
-    EndsAt old new pools r = Ends moment seen left faults cs v old new pools r
+    EndsAt old new pools r = Ends device cs v old new pools r
 
-    back : (old new : JournalView M) → StillAt old new → (m : ℕ) → moment old.media ≤ m → m ≤ moment new.media → (t : Tier) (c : List ℕ) → left new.media m t c → left old.media (moment old.media) t c
-    back old new still m lo hi t c l = subst (λ (n : ℕ). left old.media n t c) (omega (arith, lo, hi, still.clock)) (still.past m t c (omega (arith, hi, still.clock)) l)
+    back : (old new : JournalView M) → StillAt old new → (m : ℕ) → device.moment old.media ≤ m → m ≤ device.moment new.media → (t : Tier) (c : List ℕ) → device.left new.media m t c → device.left old.media (device.moment old.media) t c
+    back old new still m lo hi t c l = subst (λ (n : ℕ). device.left old.media n t c) (omega (arith, lo, hi, still.clock)) (still.past m t c (omega (arith, hi, still.clock)) l)
 
-    applies_still : (old new : JournalView M) → Rests moment seen left old.geometry old.media → StillAt old new → AppliesTo old new
+    applies_still : (old new : JournalView M) → Rests device old.geometry old.media → StillAt old new → AppliesTo old new
     applies_still old new rests still = record {
       later = omega (arith, still.clock);
       past = still.past;
       kept = still.kept;
       any_moment = λ m content lo hi l. record {
         volume = record {
-          sizes = λ t. sized old.media (moment old.media) t (content t) (omega arith) (back old new still m lo hi t (content t) (l t)) ∙ rests.sizes t;
+          sizes = λ t. sized old.media (device.moment old.media) t (content t) (omega arith) (back old new still m lo hi t (content t) (l t)) ∙ rests.sizes t;
           journal = rests.journal (content Fast) (back old new still m lo hi Fast (content Fast) (l Fast));
         };
-        store = inl (λ t. rest_loose old.geometry (seen old.media) (left old.media (moment old.media)) rests.rest t (content t) (back old new still m lo hi t (content t) (l t)));
+        store = inl (λ t. rest_loose old.geometry (device.seen old.media) (device.left old.media (device.moment old.media)) rests.rest t (content t) (back old new still m lo hi t (content t) (l t)));
       };
     }
 
@@ -137,7 +138,7 @@ module _ {M : Type 0} (moment : M → ℕ) (seen : M → Tier → List ℕ) (lef
 
     -- ---- refusals
 
-    ends_fault : (old new : JournalView M) (pools : PoolsView) → AppliesTo old new → (new.failed ≡ true) × Rose (faults old.media) (faults new.media) → new.geometry ≡ old.geometry → faults old.media ≤ faults new.media → faults new.media ≤ faults old.media + 1 → MakesFew old new → EndsAt old new pools (Err errors.DeviceFault)
+    ends_fault : (old new : JournalView M) (pools : PoolsView) → AppliesTo old new → (new.failed ≡ true) × Rose (device.faults old.media) (device.faults new.media) → new.geometry ≡ old.geometry → device.faults old.media ≤ device.faults new.media → device.faults new.media ≤ device.faults old.media + 1 → MakesFew old new → EndsAt old new pools (Err errors.DeviceFault)
     ends_fault old new pools applies fault geometry more one few = record {
       any_moment = applies;
       applied = tt;
@@ -151,7 +152,7 @@ module _ {M : Type 0} (moment : M → ℕ) (seen : M → Tier → List ℕ) (lef
       at_most = few;
     }
 
-    pub ends_refused : (old new : JournalView M) (pools : PoolsView) (e : ApplyError) → e ≢ errors.DeviceFault → Rests moment seen left old.geometry old.media → StillAt old new → new.geometry ≡ old.geometry → new.failed ≡ false → faults new.media ≡ faults old.media
+    pub ends_refused : (old new : JournalView M) (pools : PoolsView) (e : ApplyError) → e ≢ errors.DeviceFault → Rests device old.geometry old.media → StillAt old new → new.geometry ≡ old.geometry → new.failed ≡ false → device.faults new.media ≡ device.faults old.media
         → SettledAt old pools → EndsAt old new pools (Err e)
     ends_refused old new pools e other rests still geometry going quiet settled = record {
       any_moment = applies_still old new rests still;
@@ -170,7 +171,7 @@ module _ {M : Type 0} (moment : M → ℕ) (seen : M → Tier → List ℕ) (lef
     failed_now p never = (p.0, elim p.1 [ inl b ↦ absurd (never b) | inr c ↦ c ])
 
     -- what a reader was refused for
-    pub ends_told : {T : Type 0} (old new : JournalView M) (pools : PoolsView) (e : AreaError) (f : ApplyError) → IsTold e f → Looks {T = T} moment seen left faults old new (Err e) → old.failed ≡ false → Rests moment seen left old.geometry old.media → SettledAt old pools → EndsAt old new pools (Err f)
+    pub ends_told : {T : Type 0} (old new : JournalView M) (pools : PoolsView) (e : AreaError) (f : ApplyError) → IsApplyFault e f → Looks {T = T} device old new (Err e) → old.failed ≡ false → Rests device old.geometry old.media → SettledAt old pools → EndsAt old new pools (Err f)
     ends_told old new pools area.DeviceFault f is looks going rests settled = subst (λ (x : ApplyError). EndsAt old new pools (Err x)) (sym is) (
         ends_fault old new pools (applies_still old new rests looks.unmoved) (failed_now (looks.fault refl) (λ was. true≢false (sym was ∙ going))) looks.geometry looks.more_faults looks.one_fault (none_still old new looks.unmoved)
         )
@@ -187,31 +188,31 @@ module _ {M : Type 0} (moment : M → ℕ) (seen : M → Tier → List ℕ) (lef
       past = λ m t c le l. still.past m t c le (applies.past m t c (omega (arith, le, still.clock)) l);
       kept = λ m t c le l. applies.kept m t c (omega (arith, le, still.clock)) (still.kept m t c le l);
       any_moment = λ m content lo hi l.
-          let same : store_of (seen mid.media) ≡ store_of (seen old.media) = ap store_of (tiers_same (seen old.media) (seen mid.media) still.reads) in
-          subst (λ (g : Sizes). IsAppliedOrNot g (store_of (seen old.media)) cs v content) geometry (
+          let same : disk device mid ≡ disk device old = ap store_of (tiers_same (device.seen old.media) (device.seen mid.media) still.reads) in
+          subst (λ (g : Sizes). IsAppliedOrNot g (disk device old) cs v content) geometry (
           subst (λ (s : Store). IsAppliedOrNot mid.geometry s cs v content) same (applies.any_moment m content (omega (arith, lo, still.clock)) hi l)
           );
     }
 
-    applied_on : (old mid new : JournalView M) → StillAt old mid → mid.geometry ≡ old.geometry → IsAppliedStore mid.geometry (store_of (seen mid.media)) cs v (store_of (seen new.media)) → IsAppliedStore old.geometry (store_of (seen old.media)) cs v (store_of (seen new.media))
+    applied_on : (old mid new : JournalView M) → StillAt old mid → mid.geometry ≡ old.geometry → IsAppliedStore mid.geometry (disk device mid) cs v (disk device new) → IsAppliedStore old.geometry (disk device old) cs v (disk device new)
     applied_on old mid new still geometry applied =
-        let same : store_of (seen mid.media) ≡ store_of (seen old.media) = ap store_of (tiers_same (seen old.media) (seen mid.media) still.reads) in
-        subst (λ (g : Sizes). IsAppliedStore g (store_of (seen old.media)) cs v (store_of (seen new.media))) geometry (
-        subst (λ (s : Store). IsAppliedStore mid.geometry s cs v (store_of (seen new.media))) same applied
+        let same : disk device mid ≡ disk device old = ap store_of (tiers_same (device.seen old.media) (device.seen mid.media) still.reads) in
+        subst (λ (g : Sizes). IsAppliedStore g (disk device old) cs v (disk device new)) geometry (
+        subst (λ (s : Store). IsAppliedStore mid.geometry s cs v (disk device new)) same applied
         )
 
-    still_on : (old mid new : JournalView M) → StillAt old mid → faults mid.media ≡ faults old.media → StaysStill moment seen left faults mid new → StaysStill moment seen left faults old new
+    still_on : (old mid new : JournalView M) → StillAt old mid → device.faults mid.media ≡ device.faults old.media → StaysStill device mid new → StaysStill device old new
     still_on old mid new still quiet stays = record { still = unmoved_on still stays.still; going = stays.going; quiet = stays.quiet ∙ quiet }
 
     few_on : (old mid new : JournalView M) → StillAt old mid → mid.geometry ≡ old.geometry → MakesFew mid new → MakesFew old new
     few_on old mid new still geometry few =
-        let same : store_of (seen mid.media) ≡ store_of (seen old.media) = ap store_of (tiers_same (seen old.media) (seen mid.media) still.reads) in
-        subst (λ (g : Sizes). MakesFewCalls g (store_of (seen old.media)) cs (moment old.media) (moment new.media) (left old.media) (left new.media)) geometry (
-        subst (λ (s : Store). MakesFewCalls mid.geometry s cs (moment old.media) (moment new.media) (left old.media) (left new.media)) same (
-        few_behind mid.geometry (store_of (seen mid.media)) cs (moment old.media) (moment mid.media) (moment new.media) (left old.media) (left mid.media) (left new.media) still.clock still.past few
+        let same : disk device mid ≡ disk device old = ap store_of (tiers_same (device.seen old.media) (device.seen mid.media) still.reads) in
+        subst (λ (g : Sizes). MakesFewCalls g (disk device old) cs (device.moment old.media) (device.moment new.media) (device.left old.media) (device.left new.media)) geometry (
+        subst (λ (s : Store). MakesFewCalls mid.geometry s cs (device.moment old.media) (device.moment new.media) (device.left old.media) (device.left new.media)) same (
+        few_behind mid.geometry (disk device mid) cs (device.moment old.media) (device.moment mid.media) (device.moment new.media) (device.left old.media) (device.left mid.media) (device.left new.media) still.clock still.past few
         ))
 
-    pub ends_on : (old mid new : JournalView M) (pools : PoolsView) (r : Result (Unit {0}) ApplyError) → StillAt old mid → mid.geometry ≡ old.geometry → faults mid.media ≡ faults old.media → EndsAt mid new pools r → EndsAt old new pools r
+    pub ends_on : (old mid new : JournalView M) (pools : PoolsView) (r : Result (Unit {0}) ApplyError) → StillAt old mid → mid.geometry ≡ old.geometry → device.faults mid.media ≡ device.faults old.media → EndsAt mid new pools r → EndsAt old new pools r
     ends_on old mid new pools (Ok u) still geometry quiet ends = record {
       any_moment = applies_on old mid new still geometry ends.any_moment;
       applied = applied_on old mid new still geometry ends.applied;
@@ -229,7 +230,7 @@ module _ {M : Type 0} (moment : M → ℕ) (seen : M → Tier → List ℕ) (lef
       applied = tt;
       settled = ends.settled;
       unmoved = λ other. still_on old mid new still quiet (ends.unmoved other);
-      fault = λ is. (let f = ends.fault is in (f.0, subst (λ (n : ℕ). Rose n (faults new.media)) quiet f.1));
+      fault = λ is. (let f = ends.fault is in (f.0, subst (λ (n : ℕ). Rose n (device.faults new.media)) quiet f.1));
       quiet = tt;
       geometry = ends.geometry ∙ geometry;
       more_faults = (let more = ends.more_faults in omega (arith, more, quiet));
@@ -239,8 +240,8 @@ module _ {M : Type 0} (moment : M → ℕ) (seen : M → Tier → List ℕ) (lef
 
     -- ---- a plan that is carried out
 
-    module _ (old new : JournalView M) (plan : Rewrite) (done : (store : Store) → IsCarriedOut old.geometry (store_of (seen old.media)) plan store → IsAppliedStore old.geometry (store_of (seen old.media)) cs v store)
-        (all : AllOrNothing old.geometry (store_of (seen old.media)) plan (moment old.media) (moment new.media) (left old.media) (left new.media)) (few : MakesFew old new) where
+    module _ (old new : JournalView M) (plan : Rewrite) (done : (store : Store) → IsCarriedOut old.geometry (disk device old) plan store → IsAppliedStore old.geometry (disk device old) cs v store)
+        (all : AllOrNothing old.geometry (disk device old) plan (device.moment old.media) (device.moment new.media) (device.left old.media) (device.left new.media)) (few : MakesFew old new) where
       applies_all : AppliesTo old new
       applies_all = record {
         later = all.later;
@@ -251,10 +252,10 @@ module _ {M : Type 0} (moment : M → ℕ) (seen : M → Tier → List ℕ) (lef
             record { volume = at.volume; store = elim at.store [ inl loose ↦ inl loose | inr out ↦ inr (done (store_of content) out) ] };
       }
 
-      pub ends_done : (u : Unit {0}) (pools : PoolsView) → IsCarriedOut old.geometry (store_of (seen old.media)) plan (store_of (seen new.media)) → SettledAt new pools → (new.failed ≡ false) × (faults new.media ≡ faults old.media) → new.geometry ≡ old.geometry → EndsAt old new pools (Ok u)
+      pub ends_done : (u : Unit {0}) (pools : PoolsView) → IsCarriedOut old.geometry (disk device old) plan (disk device new) → SettledAt new pools → (new.failed ≡ false) × (device.faults new.media ≡ device.faults old.media) → new.geometry ≡ old.geometry → EndsAt old new pools (Ok u)
       ends_done u pools out settled quiet geometry = record {
         any_moment = applies_all;
-        applied = done (store_of (seen new.media)) out;
+        applied = done (disk device new) out;
         settled = λ g. settled;
         unmoved = tt;
         fault = λ is. absurd (ok_no_err u errors.DeviceFault is);
@@ -265,8 +266,8 @@ module _ {M : Type 0} (moment : M → ℕ) (seen : M → Tier → List ℕ) (lef
         at_most = few;
       }
 
-      pub ends_undone : (pools : PoolsView) (e : AreaError) (f : ApplyError) → IsTold e f → (e ≡ area.DeviceFault → (new.failed ≡ true) × Rose (faults old.media) (faults new.media)) → (e ≡ area.Memory → Looks {T = Unit {0}} moment seen left faults old new (Err e)) → new.geometry ≡ old.geometry → faults old.media ≤ faults new.media
-          → faults new.media ≤ faults old.media + 1 → old.failed ≡ false → Rests moment seen left old.geometry old.media → SettledAt old pools → EndsAt old new pools (Err f)
+      pub ends_undone : (pools : PoolsView) (e : AreaError) (f : ApplyError) → IsApplyFault e f → (e ≡ area.DeviceFault → (new.failed ≡ true) × Rose (device.faults old.media) (device.faults new.media)) → (e ≡ area.Memory → Looks {T = Unit {0}} device old new (Err e)) → new.geometry ≡ old.geometry → device.faults old.media ≤ device.faults new.media
+          → device.faults new.media ≤ device.faults old.media + 1 → old.failed ≡ false → Rests device old.geometry old.media → SettledAt old pools → EndsAt old new pools (Err f)
       ends_undone pools area.DeviceFault f is fault memory geometry more one going rests settled = subst (λ (x : ApplyError). EndsAt old new pools (Err x)) (sym is) (ends_fault old new pools applies_all (fault refl) geometry more one few)
       ends_undone pools (area.Damaged w b) f is fault memory geometry more one going rests settled = absurd is
       ends_undone pools area.Memory f is fault memory geometry more one going rests settled = ends_told old new pools area.Memory f is (memory refl) going rests settled

@@ -10,16 +10,16 @@ use Rattle.change_plan.specs.layout.declared.directory.DirEntry.{DirEntry}
 use Rattle.change_plan.specs.layout.declared.slot.Slot.{Slot}
 use Rattle.change_plan.specs.layout.declared.slot.Slot.TheVariants as slots
 use Rattle.change_plan.specs.layout.Places.{Sizes, is_inode}
-use Rattle.change_plan.specs.layout.Directory.{EntryList, AreEntries, listed, entry_of, no_entry}
+use Rattle.change_plan.specs.layout.Directory.{EntryList, AreEntries, block_entries, entry_of, no_entry}
 use Rattle.change_plan.proofs.layout_lemmas.DirChanges.{listed_now}
-use Rattle.change_plan.specs.tree_blocks.Inode.{LogicalBlocks, Entry, plain, entry_at, entries_in, blocks_for, named, byte_of, AreDistinct, AreDirectoryBlocks, inode_of, node_of}
+use Rattle.change_plan.specs.tree_blocks.Inode.{LogicalBlocks, Entry, plain, entry_at, entries_in, blocks_for, named_entries, byte_of, AreDistinct, AreDirectoryBlocks, inode_of, node_of}
 use Rattle.change_plan.specs.tree_blocks.After.{IsEntered}
 use Rattle.change_plan.proofs.tree_blocks_lemmas.Entering.{named_entered}
 use Rattle.change_plan.proofs.tree_blocks_lemmas.Held.{entry_is}
-use Rattle.change_plan.specs.area_image.Store.{Store, slot_read, logical, graph}
+use Rattle.change_plan.specs.area_image.Store.{Store, slot_read, logical_block, graph}
 use Rattle.change_plan.proofs.area_image_lemmas.Parts.{slot_as}
-use Rattle.shared_area.specs.Naming.{AreNext}
-use Rattle.shared_area.specs.Reading.{ShowsBytes}
+use Rattle.shared_area.specs.DirectoryReads.{AreNext}
+use Rattle.shared_area.specs.FileReads.{ShowsBytes}
 use Rattle.shared_area.proofs.Sound.{no_slot}
 
 -- ---- a block
@@ -50,13 +50,13 @@ module _ (entry : ℕ → Entry) (n : ℕ) (v : EntryList) (next : AreNext entry
     others = λ i li other. refl;
   }
 
-  pub next_entry : (x : DirEntry) → slice_get v.entries k ≡ Some x → named entry (n + (k + 1)) ≡ fin.insert (named entry (n + k)) x.name (x.inode, x.kind)
+  pub next_entry : (x : DirEntry) → slice_get v.entries k ≡ Some x → named_entries entry (n + (k + 1)) ≡ fin.insert (named_entries entry (n + k)) x.name (x.inode, x.kind)
   next_entry x is =
       let here : entry (n + k) ≡ plain x = next.each k lt ∙ ap plain (get_or_from_slice_get v.entries k x no_entry is) in
       let more : n + (k + 1) ≡ n + k + 1 = omega arith in
-      ap (named entry) more
+      ap (named_entries entry) more
       ∙ named_entered (n + k) entry (n + k) below (entry (n + k)) (n + k + 1) entry entered
-      ∙ ap (λ (e : Entry). fin.insert (named entry (n + k)) e.0 e.1) here
+      ∙ ap (λ (e : Entry). fin.insert (named_entries entry (n + k)) e.0 e.1) here
 
 -- ---- the entries of a block behind those before it
 
@@ -64,34 +64,34 @@ module _ (owner n : ℕ) (blocks : LogicalBlocks) (is : AreDirectoryBlocks owner
   some : 56 * k < n
   some = omega (arith, lt)
 
-  count : length (listed (blocks k)).entries ≡ entries_in n k
+  count : length (block_entries (blocks k)).entries ≡ entries_in n k
   count = (is.parts k lt).count_is
 
-  each : (j : ℕ) → j < length (listed (blocks k)).entries → entry_at blocks (56 * k + j) ≡ plain (entry_of (listed (blocks k)) j)
+  each : (j : ℕ) → j < length (block_entries (blocks k)).entries → entry_at blocks (56 * k + j) ≡ plain (entry_of (block_entries (blocks k)) j)
   each j lt' =
       let few : j < 56 = omega (arith, lt', count) in
       let block : (56 * k + j) / 56 ≡ k = omega (arith, few) in
       let place : (56 * k + j) % 56 ≡ j = omega (arith, few) in
-      entry_is blocks (56 * k + j) (listed (blocks k)) (ap (λ b. listed (blocks b)) block) ∙ ap (λ i. plain (entry_of (listed (blocks k)) i)) place
+      entry_is blocks (56 * k + j) (block_entries (blocks k)) (ap (λ b. block_entries (blocks b)) block) ∙ ap (λ i. plain (entry_of (block_entries (blocks k)) i)) place
 
-  pub next_block : AreNext (entry_at blocks) (56 * k) (listed (blocks k))
+  pub next_block : AreNext (entry_at blocks) (56 * k) (block_entries (blocks k))
   next_block = record { each = each; distinct = λ i j li lj same. is.distinct i j (omega (arith, li, count, some)) (omega (arith, lj, count, some)) same }
 
   pub so_far : min n (56 * k) ≡ 56 * k
   so_far = omega (arith, some)
 
-  pub and_more : 56 * k + length (listed (blocks k)).entries ≡ min n (56 * (k + 1))
+  pub and_more : 56 * k + length (block_entries (blocks k)).entries ≡ min n (56 * (k + 1))
   and_more = omega (arith, some, count)
 
 -- ---- what stands at an inode
 
 module _ (g : Sizes) (s : Store) (i : ℕ) where
-  view_by : (x : Slot) → slot_read g s i ≡ Some x → view_at (graph g s) i ≡ option_map view_of_node (node_of (inode_of x (logical g s i)))
-  view_by x read = ap (λ (x : Slot). option_map view_of_node (node_of (inode_of x (logical g s i)))) (slot_as g s i x read)
+  view_by : (x : Slot) → slot_read g s i ≡ Some x → view_at (graph g s) i ≡ option_map view_of_node (node_of (inode_of x (logical_block g s i)))
+  view_by x read = ap (λ (x : Slot). option_map view_of_node (node_of (inode_of x (logical_block g s i)))) (slot_as g s i x read)
 
   pub file_view : (names size touch fast block slow : ℕ) → slot_read g s i ≡ Some (slots.File names size touch fast block slow) → Some (FileView names size) ≡ view_at (graph g s) i
   file_view names size touch fast block slow read =
-      sym (view_by (slots.File names size touch fast block slow) read ∙ ap (λ n. Some (FileView names n)) (length-map-range_with_len (byte_of (logical g s i)) 0 size))
+      sym (view_by (slots.File names size touch fast block slow) read ∙ ap (λ n. Some (FileView names n)) (length-map-range_with_len (byte_of (logical_block g s i)) 0 size))
 
   pub no_view : is_inode i ≡ false → None ≡ view_at (graph g s) i
-  no_view none = sym (ap (λ (x : Slot). option_map view_of_node (node_of (inode_of x (logical g s i)))) (no_slot g s i none))
+  no_view none = sym (ap (λ (x : Slot). option_map view_of_node (node_of (inode_of x (logical_block g s i)))) (no_slot g s i none))

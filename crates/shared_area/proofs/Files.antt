@@ -15,12 +15,12 @@ use Rattle.change_plan.specs.batch_journal.Images.{slice}
 use Rattle.change_plan.specs.batch_journal.Blocks.{ShowsHome}
 use Rattle.change_plan.proofs.batch_journal_lemmas.Meaning.{slice_slice}
 use Rattle.change_plan.specs.tree_blocks.Inode.{LogicalBlocks, byte_of, bytes_of_blocks, inode_of, node_of}
-use Rattle.change_plan.specs.area_image.Store.{Store, store_of, slot_read, place, logical, graph}
+use Rattle.change_plan.specs.area_image.Store.{Store, store_of, slot_read, place, logical_block, graph}
 use Rattle.change_plan.specs.area_image.Reads.{IsRoom}
 use Rattle.change_plan.proofs.area_image_lemmas.Parts.{slot_as}
 use Rattle.change_plan.proofs.area_image_lemmas.Twins.{room_home}
 use Rattle.change_plan.proofs.area_image_lemmas.Damages.{at_none}
-use Rattle.shared_area.specs.Reading.{bytes_of_inode, ShowsBytes, IsReadUpTo, IsReadFrom}
+use Rattle.shared_area.specs.FileReads.{bytes_of_inode, ShowsBytes, IsReadUpTo, IsReadFrom}
 use Rattle.shared_area.proofs.Sound.{no_slot}
 
 -- what is read of a tier is a part of the block
@@ -52,7 +52,7 @@ hole_shows blocks at n out inside long is none k lt =
     ap (λ l. get_or l k 0) is ∙ get_or-replicate n k 0 0 (omega (arith, lt, long))
     ∙ sym (ap (λ b. get_or b (at % 4096 + k) 0) none) ∙ sym (byte_here blocks at k (omega (arith, lt, long, inside)))
 
-pub no_block : (g : Sizes) (s : Store) (i k : ℕ) → ((t : Tier) → place g s i t k ≡ None) → logical g s i k ≡ []
+pub no_block : (g : Sizes) (s : Store) (i k : ℕ) → ((t : Tier) → place g s i t k ≡ None) → logical_block g s i k ≡ []
 no_block g s i k none = at_none g s i k (none Fast) (none Block) (none Slow)
 
 -- ---- one piece behind the other
@@ -139,14 +139,14 @@ module _ (blocks : LogicalBlocks) (size at n count : ℕ) (out new : List ℕ) (
 -- ---- the bytes of what stands at an inode
 
 module _ (g : Sizes) (s : Store) (i : ℕ) where
-  bytes_by : (x : Slot) → slot_read g s i ≡ Some x → bytes_of_inode (graph g s) i ≡ unwrap_or (bytes_of (node_of (inode_of x (logical g s i)))) []
-  bytes_by x read = ap (λ (x : Slot). unwrap_or (bytes_of (node_of (inode_of x (logical g s i)))) []) (slot_as g s i x read)
+  bytes_by : (x : Slot) → slot_read g s i ≡ Some x → bytes_of_inode (graph g s) i ≡ unwrap_or (bytes_of (node_of (inode_of x (logical_block g s i)))) []
+  bytes_by x read = ap (λ (x : Slot). unwrap_or (bytes_of (node_of (inode_of x (logical_block g s i)))) []) (slot_as g s i x read)
 
   pub bytes_long : (names size touch fast block slow : ℕ) → slot_read g s i ≡ Some (slots.File names size touch fast block slow) → length (bytes_of_inode (graph g s) i) ≡ size
-  bytes_long names size touch fast block slow read = ap length (bytes_by (slots.File names size touch fast block slow) read) ∙ length-map-range_with_len (byte_of (logical g s i)) 0 size
+  bytes_long names size touch fast block slow read = ap length (bytes_by (slots.File names size touch fast block slow) read) ∙ length-map-range_with_len (byte_of (logical_block g s i)) 0 size
 
   pub no_bytes : is_inode i ≡ false → bytes_of_inode (graph g s) i ≡ []
-  no_bytes none = ap (λ (x : Slot). unwrap_or (bytes_of (node_of (inode_of x (logical g s i)))) []) (no_slot g s i none)
+  no_bytes none = ap (λ (x : Slot). unwrap_or (bytes_of (node_of (inode_of x (logical_block g s i)))) []) (no_slot g s i none)
 
 pub none_of : (n at : ℕ) (bytes : List ℕ) → bytes ≡ [] → 0 ≡ min n (length bytes - at)
 none_of n at bytes none = let zero : length bytes ≡ 0 = ap length none in omega (arith, zero)

@@ -7,13 +7,13 @@ use Rattle.change_plan.specs.layout.Places.{Sizes, is_inode}
 use Rattle.change_plan.specs.block_alloc.declared.runs.Run.{Run}
 use Rattle.change_plan.specs.area_image.Store.{Store, place, length_of}
 use Rattle.change_plan.specs.area_image.Map.{place_by, IsOnceAt}
-use Rattle.change_plan.specs.area_image.Spelled.{IsOpenable}
+use Rattle.change_plan.specs.area_image.Format.{IsOpenable}
 use Rattle.change_plan.specs.area_image.declared.tiers.InodeExtents.{InodeExtents}
 use Rattle.change_plan.specs.area_image.declared.inode.InodeParts.{InodeParts}
 use Rattle.change_plan.proofs.area_image_lemmas.Parts.{slot_as}
 use Rattle.change_plan.proofs.area_image_lemmas.Tails.{place_is, placed_by}
 use Rattle.shared_area.specs.Parts.{HasParts}
-use Rattle.shared_area.specs.Running.{FindsRun, file_place, file_lies}
+use Rattle.shared_area.specs.FirstRun.{FindsRun, file_place, file_lies}
 use Rattle.shared_area.proofs.Sound.{no_slot}
 
 none_from : (o : Option ℕ) → (IsSome o → ⊥) → o ≡ None

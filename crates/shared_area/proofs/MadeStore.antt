@@ -10,7 +10,7 @@ use Rattle.change_plan.specs.area_image.Store.{Store, slot_bytes, slot_read, slo
 use Rattle.change_plan.specs.area_commit.declared.slots.ChangedSlot.{ChangedSlot}
 use Rattle.change_plan.specs.area_commit.declared.plan.Rewrite.{Rewrite}
 use Rattle.change_plan.specs.area_commit.Plan.{is_changed}
-use Rattle.change_plan.specs.area_commit.Done.{IsCarriedOut}
+use Rattle.change_plan.specs.area_commit.PlanOutcome.{IsCarriedOut}
 use Rattle.change_plan.proofs.area_commit_lemmas.Chosen.{has_changed}
 
 -- an inode whose slot is not in the plan has no slot there

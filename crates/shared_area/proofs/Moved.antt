@@ -2,6 +2,7 @@
 use Rattle.std.proofs.Common.{◌≡◌, ◌≢◌, ◌≤◌, ◌<◌, ◌+◌, ◌⊎◌, ◌∙◌, ℕ, List, Bool, true, false, refl, sym, ap, inl, inr}
 use Rattle.std.specs.Prelude.{Result, Ok, Err, OnOk, IfErr, IsErrOf}
 use Rattle.std.proofs.lemmas.Bool.{cases_Bool, true≢false}
+use Rattle.change_plan.specs.tier_device.declared.media.Media.{Ghosts}
 use Rattle.change_plan.specs.tier_device.declared.media.Tier.{Tier}
 use Rattle.change_plan.specs.tier_device.Media.{Rose}
 use Rattle.record_validation.specs.file_graph.Units.{charge}
@@ -9,16 +10,16 @@ use Rattle.change_plan.specs.layout.declared.marks.Marks.{Marks}
 use Rattle.change_plan.specs.layout.Places.{Sizes}
 use Rattle.change_plan.specs.batch_journal.View.{JournalView}
 use Rattle.change_plan.proofs.batch_journal_lemmas.Courses.{tiers_same}
-use Rattle.change_plan.specs.area_image.Store.{Store, store_of, graph, marks}
-use Rattle.change_plan.specs.area_image.Spelled.{IsOpenable}
+use Rattle.change_plan.specs.area_image.Store.{Store, disk, store_of, graph, marks}
+use Rattle.change_plan.specs.area_image.Format.{IsOpenable}
 use Rattle.change_plan.proofs.area_image_lemmas.Frames.{loose_graph, loose_marks}
 use Rattle.change_plan.specs.area_commit.Value.{PoolsView}
-use Rattle.relocation.specs.Moving.{IsMoved}
+use Rattle.relocation.specs.TierMove.{IsMoved}
 use Rattle.relocation.specs.declared.error.RelocateError.{RelocateError}
 use Rattle.relocation.specs.declared.error.RelocateError.TheVariants.{DeviceFault, NotMapped, NoBlock, Memory}
-use Rattle.relocation.specs.RunMoving.{LieInLowest, IsSettled, IsMovedStore, Moves, StaysStill}
+use Rattle.relocation.specs.RunMove.{LieInLowest, IsSettled, IsMovedStore, Moves, StaysStill}
 use Rattle.shared_area.specs.Ready.{IsReady, HasFree}
-use Rattle.shared_area.specs.Moving.{HasTooFew, HasEnough, StaysOpen, MovesOrStays}
+use Rattle.shared_area.specs.TierMoves.{HasTooFew, HasEnough, StaysOpen, MovesOrStays}
 use Rattle.shared_area.proofs.Ready.{keeps_opens}
 
 -- what a stop leaves at each moment
@@ -79,7 +80,7 @@ module _ (failed : Bool) (g : Sizes) (s : Store) (t : Tier) (n count : ℕ) (fre
   pub err_few : (r : Result (Unit {0}) RelocateError) → (failed ≡ true → r ≡ Err DeviceFault) → (r ≡ Err NoBlock → C × (n < count)) → r ≡ Err NoBlock → C × HasTooFew g s t count
   err_few r stays few short = elim (cases_Bool failed) [ inl was ↦ absurd (few_fault r short (stays was)) | inr going ↦ ((few short).0, (n, free going, (few short).1)) ]
 
-module _ {M : Type 0} (moment : M → ℕ) (seen : M → Tier → List ℕ) (left : M → ℕ → Tier → List ℕ → Type 0) (faults : M → ℕ) where
+module _ {M : Type 0} (device : Ghosts M) where
   -- no device has failed before a call behind which none has
   was_going : (old new : JournalView M) → (old.failed ≡ true → new ≡ old) → new.failed ≡ false → old.failed ≡ false
   was_going old new stays going = elim (cases_Bool old.failed) [
@@ -89,29 +90,29 @@ module _ {M : Type 0} (moment : M → ℕ) (seen : M → Tier → List ℕ) (lef
 
   -- settled media with the graph and the marks from before
   same_ready : (old new : JournalView M) (pools pools' : PoolsView) (told : Marks) (units : ℕ) → new.geometry ≡ old.geometry
-      → graph old.geometry (store_of (seen new.media)) ≡ graph old.geometry (store_of (seen old.media)) → marks (store_of (seen new.media)) ≡ marks (store_of (seen old.media))
-      → IsReady old.geometry (seen old.media) (left old.media (moment old.media)) pools told units → IsSettled new.geometry (seen new.media) (left new.media (moment new.media)) pools'
-      → IsReady new.geometry (seen new.media) (left new.media (moment new.media)) pools' told units
+      → graph old.geometry (disk device new) ≡ graph old.geometry (disk device old) → marks (disk device new) ≡ marks (disk device old)
+      → IsReady old.geometry (device.seen old.media) (device.left old.media (device.moment old.media)) pools told units → IsSettled new.geometry (device.seen new.media) (device.left new.media (device.moment new.media)) pools'
+      → IsReady new.geometry (device.seen new.media) (device.left new.media (device.moment new.media)) pools' told units
   same_ready old new pools pools' told units geometry same_graph same_marks ready settled = record {
     opens = settled.opens;
     rests = settled.rests;
     ranges = settled.ranges;
     free = settled.free;
     marked = same_marks ∙ ready.marked;
-    charged = ready.charged ∙ sym (ap charge (ap (λ (g : Sizes). graph g (store_of (seen new.media))) geometry ∙ same_graph));
+    charged = ready.charged ∙ sym (ap charge (ap (λ (g : Sizes). graph g (disk device new)) geometry ∙ same_graph));
   }
 
   -- the graph and the marks of the store are as they were
   abbrev SameStore : JournalView M → JournalView M → Type 0
-  SameStore old new = (graph old.geometry (store_of (seen new.media)) ≡ graph old.geometry (store_of (seen old.media))) × (marks (store_of (seen new.media)) ≡ marks (store_of (seen old.media)))
+  SameStore old new = (graph old.geometry (disk device new) ≡ graph old.geometry (disk device old)) × (marks (disk device new) ≡ marks (disk device old))
 
-  unmoved_store : (old new : JournalView M) → StaysStill moment seen left faults old new → SameStore old new
+  unmoved_store : (old new : JournalView M) → StaysStill device old new → SameStore old new
   unmoved_store old new is =
-      let store : store_of (seen new.media) ≡ store_of (seen old.media) = ap store_of (tiers_same (seen old.media) (seen new.media) is.still.reads) in
+      let store : disk device new ≡ disk device old = ap store_of (tiers_same (device.seen old.media) (device.seen new.media) is.still.reads) in
       (ap (graph old.geometry) store, ap marks store)
 
   same_store : (old new : JournalView M) (r : Result (Unit {0}) RelocateError) (i first count : ℕ) (to : Tier) → new.failed ≡ false
-      → OnOk r (IsMovedStore old.geometry (store_of (seen old.media)) i first count to (store_of (seen new.media))) → IfErr r (λ e. e ≢ DeviceFault → StaysStill moment seen left faults old new)
+      → OnOk r (IsMovedStore old.geometry (disk device old) i first count to (disk device new)) → IfErr r (λ e. e ≢ DeviceFault → StaysStill device old new)
       → (IsErrOf r DeviceFault → new.failed ≡ true) → SameStore old new
   same_store old new (Ok x) i first count to going moved still fault = (moved.same_graph, moved.same_marks)
   same_store old new (Err DeviceFault) i first count to going moved still fault = absurd (true≢false (sym (fault refl) ∙ going))
@@ -121,26 +122,26 @@ module _ {M : Type 0} (moment : M → ℕ) (seen : M → Tier → List ℕ) (lef
 
   -- what is in memory stays true
   pub ready_moved : (old new : JournalView M) (r : Result (Unit {0}) RelocateError) (pools pools' : PoolsView) (told : Marks) (units i first count : ℕ) (to : Tier)
-      → OnOk r (IsMovedStore old.geometry (store_of (seen old.media)) i first count to (store_of (seen new.media))) → IfErr r (λ e. e ≢ DeviceFault → StaysStill moment seen left faults old new)
-      → (IsErrOf r DeviceFault → new.failed ≡ true) → (new.failed ≡ false → IsSettled new.geometry (seen new.media) (left new.media (moment new.media)) pools') → (old.failed ≡ true → new ≡ old)
-      → new.geometry ≡ old.geometry → (old.failed ≡ false → IsReady old.geometry (seen old.media) (left old.media (moment old.media)) pools told units)
-      → new.failed ≡ false → IsReady new.geometry (seen new.media) (left new.media (moment new.media)) pools' told units
+      → OnOk r (IsMovedStore old.geometry (disk device old) i first count to (disk device new)) → IfErr r (λ e. e ≢ DeviceFault → StaysStill device old new)
+      → (IsErrOf r DeviceFault → new.failed ≡ true) → (new.failed ≡ false → IsSettled new.geometry (device.seen new.media) (device.left new.media (device.moment new.media)) pools') → (old.failed ≡ true → new ≡ old)
+      → new.geometry ≡ old.geometry → (old.failed ≡ false → IsReady old.geometry (device.seen old.media) (device.left old.media (device.moment old.media)) pools told units)
+      → new.failed ≡ false → IsReady new.geometry (device.seen new.media) (device.left new.media (device.moment new.media)) pools' told units
   ready_moved old new r pools pools' told units i first count to moved still fault settled stays geometry ready going =
       let same = same_store old new r i first count to going moved still fault in
       same_ready old new pools pools' told units geometry same.0 same.1 (ready (was_going old new stays going)) (settled going)
 
-  pub moves_or_stays : (old new : JournalView M) (r : Result (Unit {0}) RelocateError) → IfErr r (λ e. e ≢ DeviceFault → StaysStill moment seen left faults old new)
-      → (IsErrOf r DeviceFault → (new.failed ≡ true) × ((old.failed ≡ true) ⊎ Rose (faults old.media) (faults new.media))) → (old.failed ≡ true → (r ≡ Err DeviceFault) × (new ≡ old))
-      → OnOk r ((new.failed ≡ false) × (faults new.media ≡ faults old.media)) → new.geometry ≡ old.geometry → faults old.media ≤ faults new.media → faults new.media ≤ faults old.media + 1
-      → MovesOrStays moment seen left faults old new r
+  pub moves_or_stays : (old new : JournalView M) (r : Result (Unit {0}) RelocateError) → IfErr r (λ e. e ≢ DeviceFault → StaysStill device old new)
+      → (IsErrOf r DeviceFault → (new.failed ≡ true) × ((old.failed ≡ true) ⊎ Rose (device.faults old.media) (device.faults new.media))) → (old.failed ≡ true → (r ≡ Err DeviceFault) × (new ≡ old))
+      → OnOk r ((new.failed ≡ false) × (device.faults new.media ≡ device.faults old.media)) → new.geometry ≡ old.geometry → device.faults old.media ≤ device.faults new.media → device.faults new.media ≤ device.faults old.media + 1
+      → MovesOrStays device old new r
   moves_or_stays old new r still fault stays quiet geometry more one = ends r still fault stays quiet
     where
-      was : StaysStill moment seen left faults old new → (old.failed ≡ true → new ≡ old) → (faults new.media ≡ faults old.media) × (old.failed ≡ false) × (new.failed ≡ false)
+      was : StaysStill device old new → (old.failed ≡ true → new ≡ old) → (device.faults new.media ≡ device.faults old.media) × (old.failed ≡ false) × (new.failed ≡ false)
       was is stays = (is.quiet, was_going old new stays is.going, is.going)
 
-      ends : (r : Result (Unit {0}) RelocateError) → IfErr r (λ e. e ≢ DeviceFault → StaysStill moment seen left faults old new)
-          → (IsErrOf r DeviceFault → (new.failed ≡ true) × ((old.failed ≡ true) ⊎ Rose (faults old.media) (faults new.media))) → (old.failed ≡ true → (r ≡ Err DeviceFault) × (new ≡ old))
-          → OnOk r ((new.failed ≡ false) × (faults new.media ≡ faults old.media)) → MovesOrStays moment seen left faults old new r
+      ends : (r : Result (Unit {0}) RelocateError) → IfErr r (λ e. e ≢ DeviceFault → StaysStill device old new)
+          → (IsErrOf r DeviceFault → (new.failed ≡ true) × ((old.failed ≡ true) ⊎ Rose (device.faults old.media) (device.faults new.media))) → (old.failed ≡ true → (r ≡ Err DeviceFault) × (new ≡ old))
+          → OnOk r ((new.failed ≡ false) × (device.faults new.media ≡ device.faults old.media)) → MovesOrStays device old new r
       ends (Ok x) still fault stays quiet = record {
         unmoved = tt;
         geometry = geometry;

@@ -18,12 +18,12 @@ use Rattle.change_plan.specs.extent_tree.declared.map.Place.{Place}
 use Rattle.change_plan.specs.area_image.Store.{Store, store_of}
 use Rattle.change_plan.specs.area_image.Reads.{Free}
 use Rattle.change_plan.specs.area_commit.Value.{PoolsView, data_pool, on_tier, free_data, AreInOrder, HasRanges}
-use Rattle.change_plan.specs.area_commit.declared.taking.Taken.{Taken}
-use Rattle.change_plan.specs.area_commit.Taking.{runs_of, taken_data, WasTaken, CanGive, WereTaken, CanUndo, SameBlocks, SameFree, KeepsRoom}
-use Rattle.change_plan.specs.inode_plan.Placed.{EndsFit}
+use Rattle.change_plan.specs.area_commit.declared.allocation.Allocation.{Allocation}
+use Rattle.change_plan.specs.area_commit.Allocations.{runs_of, taken_data, WasTaken, CanGive, WereTaken, CanRelease, SameBlocks, SameFree, KeepsRoom}
+use Rattle.change_plan.specs.inode_plan.RunPlaces.{EndsFit}
 use Rattle.change_plan.specs.inode_plan.PlannedFile.{pair_of, pairs_of}
-use Rattle.change_plan.specs.area_commit.Settled.{IsSettled}
-use Rattle.change_plan.specs.Adding.{HasTaken}
+use Rattle.change_plan.specs.area_commit.StableState.{IsSettled}
+use Rattle.change_plan.specs.PlanAddition.{HasTaken}
 use Rattle.change_plan.proofs.Sparing.{normal_ends}
 
 -- ---- the same free blocks
@@ -82,19 +82,19 @@ can_still p q runs same more can = record {
   room = (let r = can.room in omega (arith, r, more));
 }
 
-pub were_still : (before a b : PoolsView) (taken : Taken) → SameFree a b → KeepsRoom a b → WereTaken before a taken → WereTaken before b taken
+pub were_still : (before a b : PoolsView) (taken : Allocation) → SameFree a b → KeepsRoom a b → WereTaken before a taken → WereTaken before b taken
 were_still before a b taken same kept took = record {
   nodes = was_still before.nodes a.nodes b.nodes taken.nodes.items same.nodes kept.nodes took.nodes;
   per_tier = λ t. was_still (data_pool before t) (data_pool a t) (data_pool b t) (runs_of taken t) (same_in a b same t) (room_in a b kept t) (took.per_tier t);
 }
 
-pub undo_still : (a b : PoolsView) (taken : Taken) → SameFree a b → KeepsRoom a b → CanUndo a taken → CanUndo b taken
+pub undo_still : (a b : PoolsView) (taken : Allocation) → SameFree a b → KeepsRoom a b → CanRelease a taken → CanRelease b taken
 undo_still a b taken same kept can = record {
   nodes = can_still a.nodes b.nodes taken.nodes.items same.nodes kept.nodes can.nodes;
   per_tier = λ t. can_still (data_pool a t) (data_pool b t) (runs_of taken t) (same_in a b same t) (room_in a b kept t) (can.per_tier t);
 }
 
-pub has_still : (g : Sizes) (s : Store) (a b : PoolsView) (taken : Taken) → SameFree a b → KeepsRoom a b → HasTaken g s a taken → HasTaken g s b taken
+pub has_still : (g : Sizes) (s : Store) (a b : PoolsView) (taken : Allocation) → SameFree a b → KeepsRoom a b → HasTaken g s a taken → HasTaken g s b taken
 has_still g s a b taken same kept has = record {
   before = has.before;
   order = has.order;
@@ -117,7 +117,7 @@ tier_end g Fast allowed = omega (arith, allowed.few_units, allowed.fast)
 tier_end g Block allowed = omega (arith, allowed.block)
 tier_end g Slow allowed = omega (arith, allowed.slow)
 
-pub taken_ends : (g : Sizes) (before left : PoolsView) (taken : Taken) → IsAllowed g → HasRanges g before → WereTaken before left taken → (t : Tier) → EndsFit (runs_of taken t)
+pub taken_ends : (g : Sizes) (before left : PoolsView) (taken : Allocation) → IsAllowed g → HasRanges g before → WereTaken before left taken → (t : Tier) → EndsFit (runs_of taken t)
 taken_ends g before left taken allowed ranges took t =
     normal_ends (data_pool before t).first (data_pool before t).end (runs_of taken t) (took.per_tier t).apart (let last = ranges.end t in let fits = tier_end g t allowed in omega (arith, last, fits))
 
@@ -148,7 +148,7 @@ few_free g p allowed ranges order =
     omega (arith, fast, block, slow, a, b, x, y, z)
 
 -- as many places as blocks
-pub count_places : (places : List Place) (taken : Taken) → pairs_of places ≡ taken_data taken → length places ≡ length (taken_data taken)
+pub count_places : (places : List Place) (taken : Allocation) → pairs_of places ≡ taken_data taken → length places ≡ length (taken_data taken)
 count_places places taken is = sym (length-map places pair_of) ∙ ap length is
 
 -- ---- what was taken
@@ -162,12 +162,12 @@ drop_none [] = refl
 drop_none (x ∷ xs) = refl
 
 -- where blocks were taken, as many are free
-pub enough_free : (taken : Taken) (nodes count free : ℕ) → (IsErrOf {T = Taken} {E = AllocatorError} (Ok taken) refusal.NoBlock ↔ ((nodes < 0) ⊎ (free < count))) → count ≤ free
+pub enough_free : (taken : Allocation) (nodes count free : ℕ) → (IsErrOf {T = Allocation} {E = AllocatorError} (Ok taken) refusal.NoBlock ↔ ((nodes < 0) ⊎ (free < count))) → count ≤ free
 enough_free taken nodes count free few = elim (cases_lt free count) [ inl less ↦ absurd (none (few.1 (inr less))) | inr there ↦ there ]
   where
-    none : IsErrOf {T = Taken} {E = AllocatorError} (Ok taken) refusal.NoBlock → ⊥
+    none : IsErrOf {T = Allocation} {E = AllocatorError} (Ok taken) refusal.NoBlock → ⊥
     none is = cc
 
 -- and fewer are, where they were not
-pub too_few_free : (e : AllocatorError) (nodes count free : ℕ) → e ≡ refusal.NoBlock → (IsErrOf {T = Taken} {E = AllocatorError} (Err e) refusal.NoBlock ↔ ((nodes < 0) ⊎ (free < count))) → free < count
+pub too_few_free : (e : AllocatorError) (nodes count free : ℕ) → e ≡ refusal.NoBlock → (IsErrOf {T = Allocation} {E = AllocatorError} (Err e) refusal.NoBlock ↔ ((nodes < 0) ⊎ (free < count))) → free < count
 too_few_free e nodes count free is few = elim (few.0 (ap Err is)) [ inl none ↦ absurd (omega (arith, none)) | inr less ↦ less ]

@@ -2,6 +2,7 @@
 use Rattle.std.proofs.Common.{◌≡◌, ◌≤◌, ◌*◌, ◌∙◌, ℕ, List, length, false, sym, ap, subst, inl, inr}
 use Rattle.std.specs.Prelude.{Result, Some}
 use Rattle.std.proofs.lemmas.Bool.{cases_Bool, true≢false}
+use Rattle.change_plan.specs.tier_device.declared.media.Media.{Ghosts}
 use Rattle.change_plan.specs.tier_device.declared.media.Tier.{Tier}
 use Rattle.change_plan.specs.tier_device.declared.media.Tier.TheVariants.{Fast}
 use Rattle.record_validation.specs.file_graph.Graph.{Graph}
@@ -12,8 +13,8 @@ use Rattle.change_plan.specs.batch_journal.View.{JournalView}
 use Rattle.change_plan.specs.batch_journal.Volume.{IsJournal}
 use Rattle.change_plan.proofs.batch_journal_lemmas.Courses.{left_before}
 use Rattle.change_plan.specs.area_image.declared.error.AreaError.{AreaError}
-use Rattle.change_plan.specs.area_image.Store.{Store, store_of, content_blocks, graph, marks}
-use Rattle.change_plan.specs.area_image.Spelled.{IsOpenable}
+use Rattle.change_plan.specs.area_image.Store.{Store, disk, store_of, content_blocks, graph, marks}
+use Rattle.change_plan.specs.area_image.Format.{IsOpenable}
 use Rattle.change_plan.specs.area_image.Looks.{Looks}
 use Rattle.change_plan.specs.area_image.Reads.{Loose}
 use Rattle.change_plan.proofs.area_image_lemmas.Looked.{carried}
@@ -22,20 +23,20 @@ use Rattle.change_plan.proofs.area_image_lemmas.Torn.{loose_whole}
 use Rattle.change_plan.specs.area_commit.Value.{PoolsView, HasRanges, AreFree}
 use Rattle.shared_area.specs.Ready.{IsReady, OpensAs}
 
-module _ {M : Type 0} (moment : M → ℕ) (seen : M → Tier → List ℕ) (left : M → ℕ → Tier → List ℕ → Type 0) (faults : M → ℕ) where
+module _ {M : Type 0} (device : Ghosts M) where
   -- no device has failed before a call behind which none has
-  was_going : {T : Type 0} (old new : JournalView M) (r : Result T AreaError) → Looks moment seen left faults old new r → new.failed ≡ false → old.failed ≡ false
+  was_going : {T : Type 0} (old new : JournalView M) (r : Result T AreaError) → Looks device old new r → new.failed ≡ false → old.failed ≡ false
   was_going old new r looks going = elim (cases_Bool old.failed) [
     | inl was ↦ absurd (true≢false (sym was ∙ sym (ap (λ (v : JournalView M). v.failed) (looks.stays_failed was).1) ∙ going))
     | inr still ↦ still
   ]
 
-  pub still_ready : {T : Type 0} (old new : JournalView M) (r : Result T AreaError) → Looks moment seen left faults old new r → (pools : PoolsView) (told : Marks) (units : ℕ)
-      → (old.failed ≡ false → IsReady old.geometry (seen old.media) (left old.media (moment old.media)) pools told units)
-      → new.failed ≡ false → IsReady new.geometry (seen new.media) (left new.media (moment new.media)) pools told units
+  pub still_ready : {T : Type 0} (old new : JournalView M) (r : Result T AreaError) → Looks device old new r → (pools : PoolsView) (told : Marks) (units : ℕ)
+      → (old.failed ≡ false → IsReady old.geometry (device.seen old.media) (device.left old.media (device.moment old.media)) pools told units)
+      → new.failed ≡ false → IsReady new.geometry (device.seen new.media) (device.left new.media (device.moment new.media)) pools told units
   still_ready old new r looks pools told units before going =
       let ready = before (was_going old new r looks going) in
-      let on : (P : Sizes → Store → Type 0) → P old.geometry (store_of (seen old.media)) → P new.geometry (store_of (seen new.media)) = λ P p. carried moment seen left faults P old new r looks p in
+      let on : (P : Sizes → Store → Type 0) → P old.geometry (disk device old) → P new.geometry (disk device new) = λ P p. carried device P old new r looks p in
       record {
         opens = on IsOpenable ready.opens;
         rests = λ t x l. ready.rests t x (left_before looks.unmoved t x l) ∙ sym (looks.unmoved.reads t);

@@ -3,7 +3,7 @@ use Rattle.std.proofs.Common.{◌≡◌, ◌≢◌, ◌+◌, ◌∙◌, ℕ, Lis
 use Rattle.std.proofs.lemmas.Bool.{cases_Bool}
 use Rattle.change_plan.specs.tier_device.declared.media.Tier.{Tier}
 use Rattle.change_plan.specs.tier_device.declared.media.Tier.TheVariants.{Fast, Block, Slow}
-use Rattle.change_plan.specs.tier_device.Media.{AtRest}
+use Rattle.change_plan.specs.tier_device.AfterStop.{AtRest}
 use Rattle.change_plan.specs.layout.declared.error.What.{What}
 use Rattle.change_plan.specs.layout.Places.{Sizes}
 use Rattle.change_plan.specs.batch_journal.declared.error.JournalError.{JournalError}
@@ -18,10 +18,10 @@ use Rattle.change_plan.proofs.batch_journal_lemmas.Openings.{spells_one}
 use Rattle.change_plan.specs.area_image.declared.error.AreaError.{AreaError}
 use Rattle.change_plan.specs.area_image.declared.error.AreaError.TheVariants as errors
 use Rattle.change_plan.specs.area_image.Store.{Store, store_of, content_blocks}
-use Rattle.change_plan.specs.area_image.Spelled.{IsOpenable}
+use Rattle.change_plan.specs.area_image.Format.{IsOpenable}
 use Rattle.change_plan.specs.area_image.Damage.{OnDamage}
 use Rattle.change_plan.proofs.area_image_lemmas.Parts.{on_damage}
-use Rattle.shared_area.specs.Opening.{SpellsNone, IsToldAs}
+use Rattle.shared_area.specs.AreaOpen.{SpellsNone, IsJournalFault}
 
 -- The medium is as it was at rest, but for the replay of an open journal.
 pub record IsReplayed (s s' : Tier → List ℕ) (a b : ℕ) (L M : ℕ → Tier → List ℕ → Type 0) : Type 0 where
@@ -85,25 +85,25 @@ spells_none g s x e volume same none = on_damage e (λ w block not h other opens
 
 -- ---- what the journal was refused for
 
-pub told_damage : (j : JournalError) (e : AreaError) {P Q : What → ℕ → Type 0} → IsToldAs j e → ((w : What) (block : ℕ) → P w block → Q w block) → OnJournalDamage j P → OnDamage e Q
+pub told_damage : (j : JournalError) (e : AreaError) {P Q : What → ℕ → Type 0} → IsJournalFault j e → ((w : What) (block : ℕ) → P w block → Q w block) → OnJournalDamage j P → OnDamage e Q
 told_damage journal.DeviceFault e {Q = Q} is f p = subst (λ (x : AreaError). OnDamage x Q) (sym is) tt
 told_damage journal.BatchTooLarge e is f p = absurd is
 told_damage (journal.Damaged w block) e {Q = Q} is f p = subst (λ (x : AreaError). OnDamage x Q) (sym is) (f w block p)
 told_damage journal.Memory e {Q = Q} is f p = subst (λ (x : AreaError). OnDamage x Q) (sym is) tt
 
-pub told_fault : (j : JournalError) (e : AreaError) → IsToldAs j e → e ≡ errors.DeviceFault → j ≡ journal.DeviceFault
+pub told_fault : (j : JournalError) (e : AreaError) → IsJournalFault j e → e ≡ errors.DeviceFault → j ≡ journal.DeviceFault
 told_fault journal.DeviceFault e is fault = refl
 told_fault journal.BatchTooLarge e is fault = absurd is
 told_fault (journal.Damaged w block) e is fault = cc
 told_fault journal.Memory e is fault = cc
 
-pub told_other : (j : JournalError) (e : AreaError) → IsToldAs j e → e ≢ errors.DeviceFault → j ≢ journal.DeviceFault
+pub told_other : (j : JournalError) (e : AreaError) → IsJournalFault j e → e ≢ errors.DeviceFault → j ≢ journal.DeviceFault
 told_other journal.DeviceFault e is other fault = other is
 told_other journal.BatchTooLarge e is other fault = is
 told_other (journal.Damaged w block) e is other fault = cc
 told_other journal.Memory e is other fault = cc
 
-pub told_memory : (j : JournalError) (e : AreaError) → IsToldAs j e → e ≡ errors.Memory → j ≡ journal.Memory
+pub told_memory : (j : JournalError) (e : AreaError) → IsJournalFault j e → e ≡ errors.Memory → j ≡ journal.Memory
 told_memory journal.DeviceFault e is memory = cc
 told_memory journal.BatchTooLarge e is memory = absurd is
 told_memory (journal.Damaged w block) e is memory = cc

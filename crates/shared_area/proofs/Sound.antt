@@ -11,7 +11,7 @@ use Rattle.change_plan.specs.area_image.declared.error.AreaError.TheVariants as 
 use Rattle.change_plan.specs.area_image.declared.inode.InodeParts.{InodeParts}
 use Rattle.change_plan.specs.area_image.Store.{Store, slot_bytes, slot, slot_read, place}
 use Rattle.change_plan.specs.area_image.Map.{place_by}
-use Rattle.change_plan.specs.area_image.Spelled.{IsOpenable}
+use Rattle.change_plan.specs.area_image.Format.{IsOpenable}
 use Rattle.change_plan.specs.area_image.Damage.{OnDamage, IsDamaged}
 use Rattle.change_plan.proofs.area_image_lemmas.Damages.{damage_none, no_some}
 use Rattle.change_plan.proofs.area_image_lemmas.Complete.{root_inode, root_some}

@@ -9,8 +9,8 @@ use Rattle.change_plan.specs.layout.Places.{Sizes, is_inode}
 use Rattle.change_plan.specs.layout.Extents.{extents_of}
 use Rattle.change_plan.specs.extent_tree.Places.{place_of}
 use Rattle.change_plan.specs.tree_blocks.Inode.{IsConsistent, AreDirectoryBlocks, IsDirectoryBlock, blocks_for, inode_of}
-use Rattle.change_plan.specs.area_image.Store.{Store, slot_read, root_of, space_of, length_of, extents_by, extents_read, place, logical}
-use Rattle.change_plan.specs.area_image.Spelled.{SpellsInode}
+use Rattle.change_plan.specs.area_image.Store.{Store, slot_read, root_of, space_of, length_of, extents_by, extents_read, place, logical_block}
+use Rattle.change_plan.specs.area_image.Format.{SpellsInode}
 use Rattle.change_plan.specs.area_image.Map.{WantsMemory}
 use Rattle.change_plan.proofs.area_image_lemmas.Parts.{slot_as}
 use Rattle.change_plan.proofs.area_image_lemmas.Shown.{own_none, extents_some}
@@ -49,8 +49,8 @@ module _ (g : Sizes) (s : Store) (i : ℕ) (x : Slot) (read : slot_read g s i �
 
 -- a directory that has entries
 module _ (g : Sizes) (s : Store) (i names entries touch root : ℕ) (number : is_inode i ≡ true) (read : slot_read g s i ≡ Some (slots.Directory names entries touch root)) (spells : SpellsInode g s i) where
-  directory : AreDirectoryBlocks i entries (logical g s i)
-  directory = subst (λ (y : Slot). IsConsistent i (inode_of y (logical g s i))) (slot_as g s i (slots.Directory names entries touch root) read) spells.consistent
+  directory : AreDirectoryBlocks i entries (logical_block g s i)
+  directory = subst (λ (y : Slot). IsConsistent i (inode_of y (logical_block g s i))) (slot_as g s i (slots.Directory names entries touch root) read) spells.consistent
 
   pub directory_wants : 0 < blocks_for entries → WantsMemory g s i
   directory_wants some = elim (option_cases (place g s i Fast 0)) [

@@ -6,10 +6,10 @@ use Rattle.shared_area.specs.declared.error.ApplyError.{ApplyError}
 use Rattle.shared_area.specs.declared.error.ApplyError.TheVariants as errors
 
 -- A refusal of a reader or a writer that tells of no damage is told as this one.
-abbrev pub IsTold : AreaError → ApplyError → Type 0
-IsTold area.DeviceFault e = e ≡ errors.DeviceFault
-IsTold (area.Damaged what block) e = ⊥
-IsTold area.Memory e = e ≡ errors.Memory
+abbrev pub IsApplyFault : AreaError → ApplyError → Type 0
+IsApplyFault area.DeviceFault e = e ≡ errors.DeviceFault
+IsApplyFault (area.Damaged what block) e = ⊥
+IsApplyFault area.Memory e = e ≡ errors.Memory
 
 -- A device failed, or there was no memory.
 abbrev pub IsForced : ApplyError → Type 0

@@ -1,14 +1,14 @@
 pub mod Ready
 pub mod Parts
-pub mod Opening
-pub mod Reading
-pub mod Naming
-pub mod Running
-pub mod Moving
-pub mod Asking
-pub mod Staying
-pub mod Applying
-pub mod ChangeApplying
+pub mod AreaOpen
+pub mod FileReads
+pub mod DirectoryReads
+pub mod FirstRun
+pub mod TierMoves
+pub mod NodeQuestions
+pub mod UnchangedMedia
+pub mod GraphUpdate
+pub mod ChangeApply
 pub mod Errors
 pub mod Costs
 -- Passed on to the crates above, which so need not list those below.

@@ -2,7 +2,7 @@
 use Rattle.std.specs.Prelude.{◌≡◌, ◌≤◌, ◌↔◌, ℕ, List, length, Some}
 use Rattle.std.specs.List.{Contains}
 use Rattle.change_plan.specs.tier_device.declared.media.Tier.{Tier}
-use Rattle.change_plan.specs.tier_device.Media.{AtRest}
+use Rattle.change_plan.specs.tier_device.AfterStop.{AtRest}
 use Rattle.record_validation.specs.file_graph.Units.{charge}
 use Rattle.change_plan.specs.layout.declared.marks.Marks.{Marks}
 use Rattle.change_plan.specs.layout.Places.{Sizes, data_first, tier_blocks}
@@ -10,7 +10,7 @@ use Rattle.change_plan.specs.block_alloc.Runs.{Rising}
 use Rattle.change_plan.specs.batch_journal.Volume.{IsVolume}
 use Rattle.change_plan.specs.area_image.Store.{Store, store_of, graph, marks}
 use Rattle.change_plan.specs.area_image.Reads.{Free}
-use Rattle.change_plan.specs.area_image.Spelled.{IsOpenable}
+use Rattle.change_plan.specs.area_image.Format.{IsOpenable}
 use Rattle.change_plan.specs.area_commit.Value.{PoolsView, HasRanges, AreFree}
 
 -- The media spell a graph, and nothing is pending on them; the pools have the free blocks, the marks are those that are spelled, and the units are what the graph costs.

@@ -1,5 +1,5 @@
 ghost use Rattle.change_plan.specs.area_image.Damage.{OnDamage};
-ghost use Rattle.shared_area.specs.Errors.{IsTold};
+ghost use Rattle.shared_area.specs.Errors.{IsApplyFault};
 
 use change_plan::AreaError;
 use thiserror::Error;
@@ -17,9 +17,9 @@ pub enum ApplyError {
 }
 
 /// Why a change was not made, where the media were not read or not written; no damage is found on media that are opened.
-pub fn told(error: AreaError) -> ApplyError
+pub fn apply_error(error: AreaError) -> ApplyError
     requires { OnDamage error (λ _ _. ⊥) }
-    ensures { IsTold error result }
+    ensures { IsApplyFault error result }
 {
     match error {
         AreaError::DeviceFault => ApplyError::DeviceFault,

@@ -6,28 +6,28 @@
 //! in one batch with the marks: at each moment a stop leaves the graph and the marks from before, or those after.
 #![tactic(auto)]
 
-mod applied;
-mod applying;
-mod asking;
-mod change_applying;
-mod costing;
+mod apply_laws;
+mod area;
+mod block_search;
+mod change_apply;
+mod digest_number;
+mod directory_read;
 mod error;
-mod finding;
-mod naming;
+mod file_read;
+mod graph_update;
+mod inode_cost;
+mod media_contents;
 mod node;
-mod opening;
-mod reading;
-mod running;
-mod shared;
-mod touching;
-mod writing;
+mod node_questions;
+mod plan_write;
+mod run_search;
 
-pub use applied::carried_out_change_is_made;
-pub use change_applying::apply;
-pub use costing::{charge_follows_the_change, units_of_change};
+pub use apply_laws::carried_out_change_is_made;
+pub use area::Shared;
+pub use change_apply::apply;
 pub use error::ApplyError;
-pub use shared::Shared;
-pub use writing::reserve_and_write;
+pub use inode_cost::{charge_follows_the_change, units_of_change};
+pub use plan_write::reserve_blocks;
 
 // Passed on to the crates above, which so need not list those below.
 pub use change_plan::{

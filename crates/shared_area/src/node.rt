@@ -1,15 +1,15 @@
 // What stands at an inode.
 ghost use Rattle.std.specs.Prelude.{◌≡◌, false, IfOk, IfErr};
 ghost use Rattle.record_validation.specs.call_effects.NodeView.{view_at};
-ghost use Rattle.change_plan.specs.area_image.Store.{store_of, graph};
-ghost use Rattle.change_plan.specs.area_image.Spelled.{IsOpenable};
+ghost use Rattle.change_plan.specs.area_image.Store.{disk, graph};
+ghost use Rattle.change_plan.specs.area_image.Format.{IsOpenable};
 ghost use Rattle.change_plan.specs.area_image.Looks.{Looks};
 ghost use Rattle.change_plan.specs.area_image.Map.{WantsMemory};
 ghost use Rattle.change_plan.specs.area_image.declared.error.AreaError.TheVariants.{Memory};
 ghost use Rattle.shared_area.specs.Parts.{IsNoDamage, HasParts};
 
-use crate::finding::find_parts;
-use crate::naming::read_entries;
+use crate::block_search::find_parts;
+use crate::directory_read::read_entries;
 use change_plan::{AreaError, InodeParts, Journal, Media, Slot, length_of};
 use record_validation::NodeSummary;
 use std::alloc::Global;
@@ -21,13 +21,13 @@ fn node_of<M: Media>(
     inode: u32,
     parts: &InodeParts,
 ) -> Result<Option<NodeSummary>, AreaError>
-    requires parts { HasParts journal.old.geometry (store_of (M.seen journal.old.media)) inode parts.now }
-    requires opens { IsOpenable journal.old.geometry (store_of (M.seen journal.old.media)) }
+    requires parts { HasParts journal.old.geometry (disk M.Media journal.old) inode parts.now }
+    requires opens { IsOpenable journal.old.geometry (disk M.Media journal.old) }
     requires going { journal.old.failed ≡ false }
-    ensures node { IfOk result (λ x. x ≡ view_at (graph journal.old.geometry (store_of (M.seen journal.old.media))) inode) }
+    ensures node { IfOk result (λ x. x ≡ view_at (graph journal.old.geometry (disk M.Media journal.old)) inode) }
     ensures only { IfErr result IsNoDamage }
-    ensures memory { IfErr result (λ e. e ≡ Memory → WantsMemory journal.old.geometry (store_of (M.seen journal.old.media)) inode) }
-    ensures looks { Looks M.moment M.seen M.left M.faults journal.old journal.new result }
+    ensures memory { IfErr result (λ e. e ≡ Memory → WantsMemory journal.old.geometry (disk M.Media journal.old) inode) }
+    ensures looks { Looks M.Media journal.old journal.new result }
 {
     match parts.slot {
         Slot::Free => Ok(None),
@@ -48,11 +48,11 @@ pub fn find_node<M: Media>(
     journal: &mut Journal<M>,
     inode: u32,
 ) -> Result<Option<NodeSummary>, AreaError>
-    requires { journal.old.failed ≡ false → IsOpenable journal.old.geometry (store_of (M.seen journal.old.media)) }
-    ensures node { IfOk result (λ x. x ≡ view_at (graph journal.old.geometry (store_of (M.seen journal.old.media))) inode) }
+    requires { journal.old.failed ≡ false → IsOpenable journal.old.geometry (disk M.Media journal.old) }
+    ensures node { IfOk result (λ x. x ≡ view_at (graph journal.old.geometry (disk M.Media journal.old)) inode) }
     ensures only { IfErr result IsNoDamage }
-    ensures memory { IfErr result (λ e. e ≡ Memory → WantsMemory journal.old.geometry (store_of (M.seen journal.old.media)) inode) }
-    ensures looks { Looks M.moment M.seen M.left M.faults journal.old journal.new result }
+    ensures memory { IfErr result (λ e. e ≡ Memory → WantsMemory journal.old.geometry (disk M.Media journal.old) inode) }
+    ensures looks { Looks M.Media journal.old journal.new result }
 {
     match find_parts(alloc, journal, inode) {
         Ok(Some(parts)) => match node_of(alloc, journal, inode, &parts) {

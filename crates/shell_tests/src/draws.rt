@@ -126,11 +126,11 @@ impl Draws {
                 let _ = script.push(' ');
             }
             first = false;
-            let _ = script.push_str(self.drawn(word));
+            let _ = script.push_str(self.draw_word(word));
         }
     }
 
-    fn drawn(&mut self, word: &'static str) -> &'static str {
+    fn draw_word(&mut self, word: &'static str) -> &'static str {
         match word {
             "C" => self.next_of(&CLIENTS),
             "P" | "Q" => self.next_of(&PATHS),

@@ -4,7 +4,7 @@ use std::alloc::{AllocError, Global};
 use std::io::{self, ErrorKind};
 use std::test::Fail;
 use workload_cli::{
-    FaultMedia, Geometry, MediaMaker, RamMedia, Running, Trip, answer_line, open_fresh,
+    Events, FaultMedia, Geometry, MediaMaker, RamMedia, Running, Trip, answer_line, open_fresh,
     read_system_line, write_answer,
 };
 
@@ -50,7 +50,7 @@ impl MediaMaker<FaultMedia<RamMedia>> for Failing {
 }
 
 // What the lines print where the devices' write or fence of this number fails.
-fn printed(alloc: Global, call: u64) -> io::Result<Vec<u8>>
+fn printed_lines(alloc: Global, call: u64) -> io::Result<Vec<u8>>
     requires { 1 ≤ call }
 {
     let trip = Trip::new(alloc)?;
@@ -69,7 +69,7 @@ fn printed(alloc: Global, call: u64) -> io::Result<Vec<u8>>
     }
 }
 
-fn answer_all<S: Running>(alloc: Global, system: &mut S) -> io::Result<Vec<u8>> {
+fn answer_all<S: Events + Running>(alloc: Global, system: &mut S) -> io::Result<Vec<u8>> {
     let mut out = Vec::new(alloc);
     for line in &LINES {
         if let Some(line) = read_system_line(line.as_bytes()) {
@@ -83,7 +83,7 @@ fn answer_all<S: Running>(alloc: Global, system: &mut S) -> io::Result<Vec<u8>> 
 fn is_right(found: &[u8], healthy: &[u8]) -> bool {
     let mut wanted = healthy.split(is_newline);
     for (place, line) in found.split(is_newline).enumerate() {
-        if wanted.next() != Some(line) && !tells_a_failure(place, line) {
+        if wanted.next() != Some(line) && !is_failure_line(place, line) {
             return false;
         }
     }
@@ -95,7 +95,7 @@ fn is_newline(byte: &u8) -> bool {
 }
 
 // A file that a client was told of is never missing, but it may not have reached the shared area.
-fn tells_a_failure(place: usize, line: &[u8]) -> bool {
+fn is_failure_line(place: usize, line: &[u8]) -> bool {
     matches!(
         line,
         b"EIO" | b"EBADF" | b"blocked" | b"refused 2" | b"refused 13" | b"digested 0" | b"clean"
@@ -106,10 +106,10 @@ fn tells_a_failure(place: usize, line: &[u8]) -> bool {
 #[test]
 fn each_device_call_fails_and_no_answer_is_wrong(rt: HostRuntime) -> Result<(), Fail> {
     let alloc = rt.alloc();
-    let healthy = printed(alloc, MANY)?;
+    let healthy = printed_lines(alloc, MANY)?;
     let mut failed = 0;
     for call in 1..MANY {
-        let found = printed(alloc, call)?;
+        let found = printed_lines(alloc, call)?;
         if found == healthy {
             break;
         }

@@ -4,14 +4,14 @@
 #![tactic(auto)]
 
 #[cfg(test)]
-mod beside;
-#[cfg(test)]
-mod drawn;
+mod against_model;
 #[cfg(test)]
 mod drawn_lines;
 #[cfg(test)]
 mod draws;
 #[cfg(test)]
 mod failures;
+#[cfg(test)]
+mod script_runs;
 #[cfg(test)]
 mod streams;

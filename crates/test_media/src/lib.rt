@@ -3,19 +3,19 @@
 //! hold the same.
 #![tactic(auto)]
 
-mod bare;
-mod breaking;
-mod cold;
-mod comparing;
-mod opening;
-mod planning;
+mod area_open;
+mod cold_files;
+mod comparison;
+mod empty_world;
+mod failures;
+mod step_plan;
 mod steps;
 mod world;
 
-pub use bare::bare_media;
-pub use comparing::{same_bytes, tells_the_root};
-pub use opening::opened;
-pub use planning::{MOST_STEPS, are_rising, planned};
+pub use area_open::open_medium;
+pub use comparison::{has_small_root, same_bytes};
+pub use empty_world::bare_media;
+pub use step_plan::{MOST_STEPS, are_rising, plan_steps};
 pub use steps::{Step, are_spelled, record_of};
 pub use world::{LONG_SIZE, SIZE, World, put};
 

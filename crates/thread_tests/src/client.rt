@@ -18,12 +18,12 @@ pub fn clients(alloc: Global) -> Result<(Leases, Vec<Client>), AllocError> {
         handles,
         passes,
     } = Leases::open(alloc)?;
-    let clients = paired(alloc, &leases, handles, passes)?;
+    let clients = pair_clients(alloc, &leases, handles, passes)?;
     Ok((leases, clients))
 }
 
 // Each pass with a handle of its own.
-fn paired(
+fn pair_clients(
     alloc: Global,
     table: &Leases,
     mut handles: Vec<Leases>,

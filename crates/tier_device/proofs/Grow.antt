@@ -8,7 +8,7 @@ use Rattle.tier_device.specs.declared.media.Tier.{Tier}
 use Rattle.tier_device.specs.declared.media.Tier.TheVariants.{Fast, Block, Slow}
 use Rattle.tier_device.specs.DeviceCall.{DeviceCall, Write, Fence}
 use Rattle.tier_device.specs.Media.{overwritten, Torn, Puts, Keeps, Tears, TearsAll, Settles}
-use Rattle.tier_device.specs.Record.{same_tier, hits, shown, Leaves, replayed, LeftAfter}
+use Rattle.tier_device.specs.Record.{same_tier, hits, call_content, Leaves, replay_content, LeftAfter}
 use Rattle.tier_device.specs.RecordLaws.{replayed_left}
 
 pub same_self : (t : Tier) → same_tier t t ≡ true
@@ -38,18 +38,18 @@ cases_Tier Slow Fast = inr (λ e. cc)
 cases_Tier Slow Block = inr (λ e. cc)
 cases_Tier Slow Slow = inl refl
 
-pub replayed_push : (tier : Tier) (seen : List ℕ) (xs : List DeviceCall) (x : DeviceCall) → replayed tier seen (xs ++ x ∷ []) ≡ shown tier (replayed tier seen xs) x
+pub replayed_push : (tier : Tier) (seen : List ℕ) (xs : List DeviceCall) (x : DeviceCall) → replay_content tier seen (xs ++ x ∷ []) ≡ call_content tier (replay_content tier seen xs) x
 replayed_push tier seen [] x = refl
-replayed_push tier seen (y ∷ xs) x = replayed_push tier (shown tier seen y) xs x
+replayed_push tier seen (y ∷ xs) x = replayed_push tier (call_content tier seen y) xs x
 
 -- both ways
-to_push : (tier : Tier) (seen : List ℕ) (Before : List ℕ → Type 0) (xs : List DeviceCall) (x : DeviceCall) (c : List ℕ) → Leaves tier (replayed tier seen xs) (LeftAfter tier seen Before xs) x c → LeftAfter tier seen Before (xs ++ x ∷ []) c
+to_push : (tier : Tier) (seen : List ℕ) (Before : List ℕ → Type 0) (xs : List DeviceCall) (x : DeviceCall) (c : List ℕ) → Leaves tier (replay_content tier seen xs) (LeftAfter tier seen Before xs) x c → LeftAfter tier seen Before (xs ++ x ∷ []) c
 to_push tier seen Before [] x c left = left
-to_push tier seen Before (y ∷ xs) x c left = to_push tier (shown tier seen y) (Leaves tier seen Before y) xs x c left
+to_push tier seen Before (y ∷ xs) x c left = to_push tier (call_content tier seen y) (Leaves tier seen Before y) xs x c left
 
-of_push : (tier : Tier) (seen : List ℕ) (Before : List ℕ → Type 0) (xs : List DeviceCall) (x : DeviceCall) (c : List ℕ) → LeftAfter tier seen Before (xs ++ x ∷ []) c → Leaves tier (replayed tier seen xs) (LeftAfter tier seen Before xs) x c
+of_push : (tier : Tier) (seen : List ℕ) (Before : List ℕ → Type 0) (xs : List DeviceCall) (x : DeviceCall) (c : List ℕ) → LeftAfter tier seen Before (xs ++ x ∷ []) c → Leaves tier (replay_content tier seen xs) (LeftAfter tier seen Before xs) x c
 of_push tier seen Before [] x c left = left
-of_push tier seen Before (y ∷ xs) x c left = of_push tier (shown tier seen y) (Leaves tier seen Before y) xs x c left
+of_push tier seen Before (y ∷ xs) x c left = of_push tier (call_content tier seen y) (Leaves tier seen Before y) xs x c left
 
 pub keeps_same : (now : ℕ) (left : ℕ → Tier → List ℕ → Type 0) → Keeps now now left left
 keeps_same now left = record { later = omega arith; at_most_one = omega arith; nothing_else = λ m t c le l. l; keeps = λ m t c le l. l }
@@ -69,11 +69,11 @@ module _ (first : Tier → List ℕ) where
     front : (k : ℕ) → k ≤ length xs → take k ys ≡ take k xs
     front k le = ap (take k) grown ∙ take-append-le k xs (x ∷ []) le
 
-    to_now : (t : Tier) (c : List ℕ) → Leaves t (replayed t (first t) xs) (LeftAfter t (first t) (From t) xs) x c → LeftAt ys (length ys) t c
+    to_now : (t : Tier) (c : List ℕ) → Leaves t (replay_content t (first t) xs) (LeftAfter t (first t) (From t) xs) x c → LeftAt ys (length ys) t c
     to_now t c left =
         subst (λ (l : List DeviceCall). LeftAfter t (first t) (From t) l c) (sym (take_all (length ys) ys (omega arith) ∙ grown)) (to_push t (first t) (From t) xs x c left)
 
-    of_now : (t : Tier) (c : List ℕ) → LeftAt ys (length ys) t c → Leaves t (replayed t (first t) xs) (LeftAfter t (first t) (From t) xs) x c
+    of_now : (t : Tier) (c : List ℕ) → LeftAt ys (length ys) t c → Leaves t (replay_content t (first t) xs) (LeftAfter t (first t) (From t) xs) x c
     of_now t c left =
         of_push t (first t) (From t) xs x c (subst (λ (l : List DeviceCall). LeftAfter t (first t) (From t) l c) (take_all (length ys) ys (omega arith) ∙ grown) left)
 
@@ -97,28 +97,28 @@ module _ (first : Tier → List ℕ) where
       subst (λ (l : List DeviceCall). Tears tier at n (LeftAt xs (length xs)) (LeftAt l (length l))) (sym same)
       (record { here = λ c left. (c, left, record { before = refl; after = refl; same_length = refl }); others = λ u c apart left. left })
 
-  module _ (xs ys : List DeviceCall) (tier : Tier) (at : ℕ) (v : List ℕ) (grown : ys ≡ xs ++ Write tier at v ∷ []) (fits : at + length v ≤ length (replayed tier (first tier) xs)) where
-    hit : hits tier (replayed tier (first tier) xs) tier at v ≡ true
-    hit = and_from (same_tier tier tier) (nat_le (at + length v) (length (replayed tier (first tier) xs))) (same_self tier) (le-leb _ _ fits)
+  module _ (xs ys : List DeviceCall) (tier : Tier) (at : ℕ) (v : List ℕ) (grown : ys ≡ xs ++ Write tier at v ∷ []) (fits : at + length v ≤ length (replay_content tier (first tier) xs)) where
+    hit : hits tier (replay_content tier (first tier) xs) tier at v ≡ true
+    hit = and_from (same_tier tier tier) (nat_le (at + length v) (length (replay_content tier (first tier) xs))) (same_self tier) (le-leb _ _ fits)
 
-    miss : (u : Tier) → u ≢ tier → hits u (replayed u (first u) xs) tier at v ≡ false
-    miss u apart = and_left (same_tier tier u) (nat_le (at + length v) (length (replayed u (first u) xs))) (not_same tier u apart)
+    miss : (u : Tier) → u ≢ tier → hits u (replay_content u (first u) xs) tier at v ≡ false
+    miss u apart = and_left (same_tier tier u) (nat_le (at + length v) (length (replay_content u (first u) xs))) (not_same tier u apart)
 
-    pub write_shows : replayed tier (first tier) ys ≡ overwritten (replayed tier (first tier) xs) at v
+    pub write_shows : replay_content tier (first tier) ys ≡ overwritten (replay_content tier (first tier) xs) at v
     write_shows =
-        ap (replayed tier (first tier)) grown ∙ replayed_push tier (first tier) xs (Write tier at v)
-        ∙ cond-true (hits tier (replayed tier (first tier) xs) tier at v) (overwritten (replayed tier (first tier) xs) at v) (replayed tier (first tier) xs) hit
+        ap (replay_content tier (first tier)) grown ∙ replayed_push tier (first tier) xs (Write tier at v)
+        ∙ cond-true (hits tier (replay_content tier (first tier) xs) tier at v) (overwritten (replay_content tier (first tier) xs) at v) (replay_content tier (first tier) xs) hit
 
-    pub write_shows_else : (u : Tier) → u ≢ tier → replayed u (first u) ys ≡ replayed u (first u) xs
+    pub write_shows_else : (u : Tier) → u ≢ tier → replay_content u (first u) ys ≡ replay_content u (first u) xs
     write_shows_else u apart =
-        ap (replayed u (first u)) grown ∙ replayed_push u (first u) xs (Write tier at v)
-        ∙ cond-false (hits u (replayed u (first u) xs) tier at v) (overwritten (replayed u (first u) xs) at v) (replayed u (first u) xs) (miss u apart)
+        ap (replay_content u (first u)) grown ∙ replayed_push u (first u) xs (Write tier at v)
+        ∙ cond-false (hits u (replay_content u (first u) xs) tier at v) (overwritten (replay_content u (first u) xs) at v) (replay_content u (first u) xs) (miss u apart)
 
     -- so what is there is what the longer record shows
-    pub write_kept : (old new : Tier → List ℕ) → ((u : Tier) → old u ≡ replayed u (first u) xs) → Puts tier (overwritten (old tier) at v) old new → (u : Tier) → new u ≡ replayed u (first u) ys
+    pub write_kept : (old new : Tier → List ℕ) → ((u : Tier) → old u ≡ replay_content u (first u) xs) → Puts tier (overwritten (old tier) at v) old new → (u : Tier) → new u ≡ replay_content u (first u) ys
     write_kept old new is puts u = elim (cases_Tier u tier) [
       | inl same ↦
-          subst (λ w. new w ≡ replayed w (first w) ys) (sym same) (puts.here ∙ ap (λ (s : List ℕ). overwritten s at v) (is tier) ∙ sym write_shows)
+          subst (λ w. new w ≡ replay_content w (first w) ys) (sym same) (puts.here ∙ ap (λ (s : List ℕ). overwritten s at v) (is tier) ∙ sym write_shows)
       | inr apart ↦ puts.others u apart ∙ is u ∙ sym (write_shows_else u apart)
     ]
 
@@ -143,23 +143,23 @@ module _ (first : Tier → List ℕ) where
     }
 
   module _ (xs ys : List DeviceCall) (tier : Tier) (grown : ys ≡ xs ++ Fence tier ∷ []) where
-    pub fence_shows : (u : Tier) → replayed u (first u) ys ≡ replayed u (first u) xs
-    fence_shows u = ap (replayed u (first u)) grown ∙ replayed_push u (first u) xs (Fence tier)
+    pub fence_shows : (u : Tier) → replay_content u (first u) ys ≡ replay_content u (first u) xs
+    fence_shows u = ap (replay_content u (first u)) grown ∙ replayed_push u (first u) xs (Fence tier)
 
     pub fence_leaves : (u : Tier) (c : List ℕ) → LeftAt ys (length ys) u c → LeftAt xs (length xs) u c
     fence_leaves u c left =
         let now = of_now xs ys (Fence tier) grown u c left in
         elim (cases_Bool (same_tier tier u)) [
           | inl is ↦
-              let settled = MatchBool-at_true (c ≡ replayed u (first u) xs) (LeftAfter u (first u) (From u) xs c) is now in
+              let settled = MatchBool-at_true (c ≡ replay_content u (first u) xs) (LeftAfter u (first u) (From u) xs c) is now in
               to_was xs u c (subst (LeftAfter u (first u) (From u) xs) (sym settled) (replayed_left u (first u) (From u) xs refl))
-          | inr is ↦ to_was xs u c (MatchBool-at_false (c ≡ replayed u (first u) xs) (LeftAfter u (first u) (From u) xs c) is now)
+          | inr is ↦ to_was xs u c (MatchBool-at_false (c ≡ replay_content u (first u) xs) (LeftAfter u (first u) (From u) xs c) is now)
         ]
 
-    pub fence_settles : (seen : Tier → List ℕ) → seen tier ≡ replayed tier (first tier) xs → Settles tier seen (LeftAt xs (length xs)) (LeftAt ys (length ys))
+    pub fence_settles : (seen : Tier → List ℕ) → seen tier ≡ replay_content tier (first tier) xs → Settles tier seen (LeftAt xs (length xs)) (LeftAt ys (length ys))
     fence_settles seen is = record {
-      here = λ c left. MatchBool-at_true (c ≡ replayed tier (first tier) xs) (LeftAfter tier (first tier) (From tier) xs c) (same_self tier) (of_now xs ys (Fence tier) grown tier c left) ∙ sym is;
+      here = λ c left. MatchBool-at_true (c ≡ replay_content tier (first tier) xs) (LeftAfter tier (first tier) (From tier) xs c) (same_self tier) (of_now xs ys (Fence tier) grown tier c left) ∙ sym is;
       others = λ u c apart was.
           to_now xs ys (Fence tier) grown u c
-          (subst (λ b. MatchBool b (c ≡ replayed u (first u) xs) (LeftAfter u (first u) (From u) xs c)) (sym (not_same tier u apart)) (of_was xs u c was));
+          (subst (λ b. MatchBool b (c ≡ replay_content u (first u) xs) (LeftAfter u (first u) (From u) xs c)) (sym (not_same tier u apart)) (of_was xs u c was));
     }

@@ -12,33 +12,33 @@ use Rattle.tier_device.specs.declared.fill.Fill.{Fill}
 use Rattle.tier_device.specs.Fill.{left_bytes, left_byte, fill_at}
 use Rattle.tier_device.specs.DeviceCall.{DeviceCall, Write, Fence}
 use Rattle.tier_device.specs.Media.{Torn}
-use Rattle.tier_device.specs.Record.{same_tier, hits, shown, Leaves, replayed, LeftAfter}
+use Rattle.tier_device.specs.Record.{same_tier, hits, call_content, Leaves, replay_content, LeftAfter}
 use Rattle.tier_device.specs.RecordLaws.{torn_overwritten, length-overwritten, length-shown, hit_fits}
 use Rattle.tier_device.specs.declared.record.Entry.{Entry}
 use Rattle.tier_device.specs.declared.record.Entry.TheVariants as entry
 use Rattle.tier_device.specs.CallLog.{calls_of, total_len}
-use Rattle.tier_device.specs.Held.{spoiled, spoilt, spoilt_all, held, NoFence, NoFenceIn}
+use Rattle.tier_device.specs.StopContent.{range_content, spoilt, spoilt_all, stop_content, NoFence, NoFenceIn}
 use Rattle.tier_device.proofs.CallLogs.{calls_of-append}
 use Rattle.tier_device.proofs.Grow.{same_self, not_same}
 
-held_unfenced : (fill : Fill) (tier : Tier) (seen kept : List ℕ) (xs : List DeviceCall) → NoFence tier xs → held fill tier seen kept xs ≡ spoilt_all fill tier kept xs
+held_unfenced : (fill : Fill) (tier : Tier) (seen kept : List ℕ) (xs : List DeviceCall) → NoFence tier xs → stop_content fill tier seen kept xs ≡ spoilt_all fill tier kept xs
 held_unfenced fill tier seen kept [] free = refl
-held_unfenced fill tier seen kept (Write t at bytes ∷ xs) free = held_unfenced fill tier (shown tier seen (Write t at bytes)) (spoilt fill tier kept (Write t at bytes)) xs free.1
+held_unfenced fill tier seen kept (Write t at bytes ∷ xs) free = held_unfenced fill tier (call_content tier seen (Write t at bytes)) (spoilt fill tier kept (Write t at bytes)) xs free.1
 held_unfenced fill tier seen kept (Fence t ∷ xs) free =
     let other : same_tier t tier ≡ false = not_same t tier (λ e. free.0 (ap Fence (sym e))) in
-    subst (λ (b : Bool). held fill tier seen (cond b seen kept) xs ≡ spoilt_all fill tier kept xs) (sym other) (held_unfenced fill tier seen kept xs free.1)
+    subst (λ (b : Bool). stop_content fill tier seen (cond b seen kept) xs ≡ spoilt_all fill tier kept xs) (sym other) (held_unfenced fill tier seen kept xs free.1)
 
 fence_of : (t tier : Tier) → Fence t ≡ Fence tier → t ≡ tier
 fence_of t tier e = cc
 
-held_fenced : (fill : Fill) (tier : Tier) (seen kept : List ℕ) (front back : List DeviceCall) → held fill tier seen kept (front ++ Fence tier ∷ back) ≡ held fill tier (replayed tier seen front) (replayed tier seen front) back
-held_fenced fill tier seen kept [] back = subst (λ (b : Bool). held fill tier seen (cond b seen kept) back ≡ held fill tier seen seen back) (sym (same_self tier)) refl
-held_fenced fill tier seen kept (Write t at bytes ∷ front) back = held_fenced fill tier (shown tier seen (Write t at bytes)) (spoilt fill tier kept (Write t at bytes)) front back
+held_fenced : (fill : Fill) (tier : Tier) (seen kept : List ℕ) (front back : List DeviceCall) → stop_content fill tier seen kept (front ++ Fence tier ∷ back) ≡ stop_content fill tier (replay_content tier seen front) (replay_content tier seen front) back
+held_fenced fill tier seen kept [] back = subst (λ (b : Bool). stop_content fill tier seen (cond b seen kept) back ≡ stop_content fill tier seen seen back) (sym (same_self tier)) refl
+held_fenced fill tier seen kept (Write t at bytes ∷ front) back = held_fenced fill tier (call_content tier seen (Write t at bytes)) (spoilt fill tier kept (Write t at bytes)) front back
 held_fenced fill tier seen kept (Fence t ∷ front) back = held_fenced fill tier seen (cond (same_tier t tier) seen kept) front back
 
-replayed_fence : (tier : Tier) (seen : List ℕ) (xs : List DeviceCall) → replayed tier seen (xs ++ Fence tier ∷ []) ≡ replayed tier seen xs
+replayed_fence : (tier : Tier) (seen : List ℕ) (xs : List DeviceCall) → replay_content tier seen (xs ++ Fence tier ∷ []) ≡ replay_content tier seen xs
 replayed_fence tier seen [] = refl
-replayed_fence tier seen (x ∷ xs) = replayed_fence tier (shown tier seen x) xs
+replayed_fence tier seen (x ∷ xs) = replayed_fence tier (call_content tier seen x) xs
 
 no_fence : (tier : Tier) (es : List Entry) (w : List ℕ) → NoFenceIn tier es → NoFence tier (calls_of es w)
 no_fence tier [] w free = tt
@@ -47,7 +47,7 @@ no_fence tier (entry.Fence t ∷ es) w free = ((λ e. free.0 (ap entry.Fence (fe
 
 -- the calls up to the last fence are shown, and those after it spoil
 pub held_cut : (fill : Fill) (tier : Tier) (first w : List ℕ) (es : List Entry) (k : ℕ) → k ≤ length es → (0 < k → slice_get es (k - 1) ≡ Some (entry.Fence tier)) → NoFenceIn tier (drop k es)
-    → spoilt_all fill tier (replayed tier first (calls_of (take k es) w)) (calls_of (drop k es) (drop (total_len (take k es)) w)) ≡ held fill tier first first (calls_of es w)
+    → spoilt_all fill tier (replay_content tier first (calls_of (take k es) w)) (calls_of (drop k es) (drop (total_len (take k es)) w)) ≡ stop_content fill tier first first (calls_of es w)
 held_cut fill tier first w es zero within last free = sym (held_unfenced fill tier first first (calls_of es w) (no_fence tier es w free))
 held_cut fill tier first w es (suc j) within last free =
     let last_fence : slice_get es (suc j - 1) ≡ Some (entry.Fence tier) = last (omega arith) in
@@ -57,12 +57,12 @@ held_cut fill tier first w es (suc j) within last free =
     let back = calls_of (drop (suc j) es) (drop (total_len (take (suc j) es)) w) in
     let whole : (calls_of (take j es) w ++ Fence tier ∷ []) ++ back ≡ calls_of es w =
     ap (λ (x : List DeviceCall). x ++ back) (sym mine) ∙ sym (calls_of-append (take (suc j) es) (drop (suc j) es) w) ∙ ap (λ (x : List Entry). calls_of x w) (take-append-drop (suc j) es) in
-    let seen = replayed tier first (calls_of (take j es) w) in
-    ap (λ (l : List DeviceCall). spoilt_all fill tier (replayed tier first l) back) mine
+    let seen = replay_content tier first (calls_of (take j es) w) in
+    ap (λ (l : List DeviceCall). spoilt_all fill tier (replay_content tier first l) back) mine
     ∙ ap (λ (l : List ℕ). spoilt_all fill tier l back) (replayed_fence tier first (calls_of (take j es) w))
     ∙ sym (held_unfenced fill tier seen seen back (no_fence tier (drop (suc j) es) (drop (total_len (take (suc j) es)) w) free))
     ∙ sym (held_fenced fill tier first first (calls_of (take j es) w) back)
-    ∙ ap (held fill tier first first) (sym (append_assoc (calls_of (take j es) w) (Fence tier ∷ []) back) ∙ whole)
+    ∙ ap (stop_content fill tier first first) (sym (append_assoc (calls_of (take j es) w) (Fence tier ∷ []) back) ∙ whole)
 
 pub length-left_bytes : (fill : Fill) (tier : Tier) (at : ℕ) (olds news : List ℕ) → length news ≤ length olds → length (left_bytes fill tier at olds news) ≡ length news
 length-left_bytes fill tier at [] [] le = refl
@@ -77,36 +77,36 @@ module _ (fill : Fill) (tier : Tier) (kept : List ℕ) (at : ℕ) (bytes : List 
   within : at + length (left_bytes fill tier at (drop at kept) bytes) ≤ length kept
   within = omega (arith, filled)
 
-  length-spoiled : length (spoiled fill tier kept at bytes) ≡ length kept
+  length-spoiled : length (range_content fill tier kept at bytes) ≡ length kept
   length-spoiled = length-overwritten kept at (left_bytes fill tier at (drop at kept) bytes) within
 
-  spoiled_torn : Torn at (length bytes) kept (spoiled fill tier kept at bytes)
-  spoiled_torn = subst (λ (n : ℕ). Torn at n kept (spoiled fill tier kept at bytes)) filled (torn_overwritten kept at (left_bytes fill tier at (drop at kept) bytes) within)
+  spoiled_torn : Torn at (length bytes) kept (range_content fill tier kept at bytes)
+  spoiled_torn = subst (λ (n : ℕ). Torn at n kept (range_content fill tier kept at bytes)) filled (torn_overwritten kept at (left_bytes fill tier at (drop at kept) bytes) within)
 
 -- what a stop leaves by a fill is one of the contents that it may leave
-pub held_left : (fill : Fill) (tier : Tier) (seen kept : List ℕ) (Before : List ℕ → Type 0) (xs : List DeviceCall) → length kept ≡ length seen → Before kept → LeftAfter tier seen Before xs (held fill tier seen kept xs)
+pub held_left : (fill : Fill) (tier : Tier) (seen kept : List ℕ) (Before : List ℕ → Type 0) (xs : List DeviceCall) → length kept ≡ length seen → Before kept → LeftAfter tier seen Before xs (stop_content fill tier seen kept xs)
 held_left fill tier seen kept Before [] long before = before
 held_left fill tier seen kept Before (Write t at bytes ∷ xs) long before =
     let x = Write t at bytes in
     let same : hits tier kept t at bytes ≡ hits tier seen t at bytes = ap (λ (n : ℕ). same_tier t tier && nat_le (at + length bytes) n) long in
-    held_left fill tier (shown tier seen x) (spoilt fill tier kept x) (Leaves tier seen Before x) xs
+    held_left fill tier (call_content tier seen x) (spoilt fill tier kept x) (Leaves tier seen Before x) xs
     (length-spoilt_write ∙ long ∙ sym (length-shown tier seen x))
     (elim (cases_Bool (hits tier seen t at bytes)) [
       | inl is ↦
           let here : hits tier kept t at bytes ≡ true = same ∙ is in
           let torn = spoiled_torn fill tier kept at bytes (hit_fits tier kept t at bytes here) in
           subst (λ (b : Bool). MatchBool b ((d : List ℕ) × Before d × Torn at (length bytes) d (spoilt fill tier kept x)) (Before (spoilt fill tier kept x))) (sym is)
-          (subst (λ (b : Bool). (d : List ℕ) × Before d × Torn at (length bytes) d (cond b (spoiled fill tier kept at bytes) kept)) (sym here) (kept, before, torn))
+          (subst (λ (b : Bool). (d : List ℕ) × Before d × Torn at (length bytes) d (cond b (range_content fill tier kept at bytes) kept)) (sym here) (kept, before, torn))
       | inr is ↦
           let here : hits tier kept t at bytes ≡ false = same ∙ is in
           subst (λ (b : Bool). MatchBool b ((d : List ℕ) × Before d × Torn at (length bytes) d (spoilt fill tier kept x)) (Before (spoilt fill tier kept x))) (sym is)
-          (subst (λ (b : Bool). Before (cond b (spoiled fill tier kept at bytes) kept)) (sym here) before)
+          (subst (λ (b : Bool). Before (cond b (range_content fill tier kept at bytes) kept)) (sym here) before)
     ])
   where
     length-spoilt_write : length (spoilt fill tier kept (Write t at bytes)) ≡ length kept
     length-spoilt_write = elim (cases_Bool (hits tier kept t at bytes)) [
-      | inl is ↦ subst (λ (b : Bool). length (cond b (spoiled fill tier kept at bytes) kept) ≡ length kept) (sym is) (length-spoiled fill tier kept at bytes (hit_fits tier kept t at bytes is))
-      | inr is ↦ subst (λ (b : Bool). length (cond b (spoiled fill tier kept at bytes) kept) ≡ length kept) (sym is) refl
+      | inl is ↦ subst (λ (b : Bool). length (cond b (range_content fill tier kept at bytes) kept) ≡ length kept) (sym is) (length-spoiled fill tier kept at bytes (hit_fits tier kept t at bytes is))
+      | inr is ↦ subst (λ (b : Bool). length (cond b (range_content fill tier kept at bytes) kept) ≡ length kept) (sym is) refl
     ]
 held_left fill tier seen kept Before (Fence t ∷ xs) long before = elim (cases_Bool (same_tier t tier)) [
   | inl is ↦

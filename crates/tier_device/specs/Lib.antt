@@ -1,4 +1,5 @@
 pub mod Media
+pub mod AfterStop
 pub mod MediaLaws
 pub mod Rows
 pub mod DeviceCall
@@ -6,7 +7,7 @@ pub mod CallLog
 pub mod Record
 pub mod RecordLaws
 pub mod Fill
-pub mod Held
+pub mod StopContent
 pub mod Memory
 pub mod MemoryLaws
 pub mod Turn

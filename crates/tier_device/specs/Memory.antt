@@ -2,10 +2,10 @@
 use Rattle.std.specs.Prelude.{◌≡◌, ◌+◌, ◌-◌, ◌^◌, ℕ, List, length, take, min}
 use Rattle.tier_device.specs.declared.media.Tier.{Tier}
 use Rattle.tier_device.specs.declared.memory.MemMedia.{MemMedia}
-use Rattle.tier_device.specs.Media.{AtRest}
+use Rattle.tier_device.specs.AfterStop.{AtRest}
 use Rattle.tier_device.specs.Rows.{row}
 use Rattle.tier_device.specs.declared.fill.Fill.{Fill}
-use Rattle.tier_device.specs.Held.{held}
+use Rattle.tier_device.specs.StopContent.{stop_content}
 use Rattle.tier_device.specs.Record.{LeftAfter}
 
 -- what a read gives of a tier
@@ -22,7 +22,7 @@ memory_left m moment tier c = LeftAfter tier (row m.first tier) (λ d. d ≡ row
 
 -- what a tier holds after a stop now, by what each byte that was written and not fenced then holds
 abbrev pub memory_held : Fill → MemMedia → Tier → List ℕ
-memory_held fill m tier = held fill tier (row m.first tier) (row m.first tier) m.calls
+memory_held fill m tier = stop_content fill tier (row m.first tier) (row m.first tier) m.calls
 
 -- a stop now leaves what a read gives, and nothing else
 abbrev pub IsAtRest : MemMedia → Type 0

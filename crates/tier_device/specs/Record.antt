@@ -21,9 +21,9 @@ abbrev pub hits : Tier → List ℕ → Tier → ℕ → List ℕ → Bool
 hits tier seen t at bytes = same_tier t tier && nat_le (at + length bytes) (length seen)
 
 -- what a read gives after one more call
-abbrev pub shown : Tier → List ℕ → DeviceCall → List ℕ
-shown tier seen (Write t at bytes) = if hits tier seen t at bytes then overwritten seen at bytes else seen
-shown tier seen (Fence t) = seen
+abbrev pub call_content : Tier → List ℕ → DeviceCall → List ℕ
+call_content tier seen (Write t at bytes) = if hits tier seen t at bytes then overwritten seen at bytes else seen
+call_content tier seen (Fence t) = seen
 
 -- what a stop may leave after one more call: a write may leave any bytes in its range, a fence leaves what a read gives
 abbrev pub Leaves : Tier → List ℕ → (List ℕ → Type 0) → DeviceCall → List ℕ → Type 0
@@ -32,11 +32,11 @@ Leaves tier seen Before (Write t at bytes) c =
 Leaves tier seen Before (Fence t) c = MatchBool (same_tier t tier) (c ≡ seen) (Before c)
 
 -- what a read gives after all of them
-abbrev pub replayed : Tier → List ℕ → List DeviceCall → List ℕ
-replayed tier seen [] = seen
-replayed tier seen (x ∷ xs) = replayed tier (shown tier seen x) xs
+abbrev pub replay_content : Tier → List ℕ → List DeviceCall → List ℕ
+replay_content tier seen [] = seen
+replay_content tier seen (x ∷ xs) = replay_content tier (call_content tier seen x) xs
 
 -- what a stop may leave after all of them
 abbrev pub LeftAfter : Tier → List ℕ → (List ℕ → Type 0) → List DeviceCall → List ℕ → Type 0
 LeftAfter tier seen Before [] c = Before c
-LeftAfter tier seen Before (x ∷ xs) c = LeftAfter tier (shown tier seen x) (Leaves tier seen Before x) xs c
+LeftAfter tier seen Before (x ∷ xs) c = LeftAfter tier (call_content tier seen x) (Leaves tier seen Before x) xs c

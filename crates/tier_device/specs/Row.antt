@@ -2,6 +2,6 @@
 use Rattle.std.specs.Prelude.{ℕ, List, [], ◌∷◌, ◌++◌}
 
 -- one after the other
-abbrev pub joined : List (List ℕ) → List ℕ
-joined [] = []
-joined (piece ∷ pieces) = piece ++ joined pieces
+abbrev pub row_bytes : List (List ℕ) → List ℕ
+row_bytes [] = []
+row_bytes (piece ∷ pieces) = piece ++ row_bytes pieces

@@ -23,16 +23,16 @@ abbrev pub turn : StopMedia → Turn
 turn s = s.count.turn
 
 -- how many writes and fences it counts before the one that it stops in, if it is to stop by a count of its own, and the fill
-abbrev pub armed : StopMedia → Option (ℕ × Fill)
-armed s = if s.stopped then None else option_map (λ n. (n, s.fill)) s.count.more
+abbrev pub calls_left : StopMedia → Option (ℕ × Fill)
+calls_left s = if s.stopped then None else option_map (λ n. (n, s.fill)) s.count.more
 
 -- the fill that a stop will have
 abbrev pub next_fill : StopMedia → Fill
 next_fill s = s.fill
 
 -- the fill, if it has stopped
-abbrev pub stopped : StopMedia → Option Fill
-stopped s = if s.stopped then Some s.fill else None
+abbrev pub stop_fill : StopMedia → Option Fill
+stop_fill s = if s.stopped then Some s.fill else None
 
 abbrev pub Runs : StopMedia → Type 0
 Runs s = s.stopped ≡ false

@@ -9,6 +9,6 @@ turn_of None = Passes
 turn_of (Some n) = if n == 0 then IsTheOne else Passes
 
 -- one call less; once it has run out it counts no more
-abbrev pub less : Option ℕ → Option ℕ
-less None = None
-less (Some n) = if n == 0 then None else Some (n - 1)
+abbrev pub one_less : Option ℕ → Option ℕ
+one_less None = None
+one_less (Some n) = if n == 0 then None else Some (n - 1)

@@ -1,7 +1,7 @@
 // What counts the calls of a medium that is to stop or to fail.
 ghost use Rattle.std.specs.Prelude.{◌≡◌, ◌≤◌, ◌-◌, Some, None};
 ghost use Rattle.tier_device.specs.declared.trip.Turn.TheVariants.{Passes};
-ghost use Rattle.tier_device.specs.Turn.{turn_of, less};
+ghost use Rattle.tier_device.specs.Turn.{turn_of, one_less};
 
 use crate::trip::{Trip, Turn};
 
@@ -17,7 +17,7 @@ impl Count {
     ghost use Rattle.tier_device.specs.Count.{IsAlone, HasCounted};
 
     /// A count of its own that is not armed.
-    pub fn idle() -> Self
+    pub fn without_limit() -> Self
         ensures alone { IsAlone result }
         ensures more { result.more ≡ None }
     {
@@ -42,7 +42,7 @@ impl Count {
     }
 
     /// A count by a shared trip.
-    pub fn shared(trip: Trip) -> Self
+    pub fn by_trip(trip: Trip) -> Self
         ensures trip { result.trip ≡ Some trip }
         ensures more { result.more ≡ None }
     {
@@ -62,7 +62,7 @@ impl Count {
             Some(trip) => trip.count(for_good),
             None => turn_of(self.more),
         };
-        self.more = less(self.more);
+        self.more = one_less(self.more);
         self.turn = turn;
         turn
     }
@@ -77,8 +77,8 @@ fn turn_of(more: Option<u64>) -> Turn
     }
 }
 
-fn less(more: Option<u64>) -> Option<u64>
-    ensures { result ≡ less more }
+fn one_less(more: Option<u64>) -> Option<u64>
+    ensures { result ≡ one_less more }
 {
     match more {
         None => None,

@@ -33,7 +33,7 @@ impl<M: Media> FaultMedia<M> {
     {
         FaultMedia {
             inner,
-            count: Count::idle(),
+            count: Count::without_limit(),
             faults: 0,
         }
     }
@@ -56,7 +56,7 @@ impl<M: Media> FaultMedia<M> {
         ensures shared { (fault_count self.new).trip ≡ Some trip }
         ensures faults { failures self.new ≡ failures self.old }
     {
-        self.count = Count::shared(trip);
+        self.count = Count::by_trip(trip);
     }
 
     /// The medium beneath, as it is now.

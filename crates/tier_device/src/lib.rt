@@ -9,12 +9,12 @@
 mod count;
 mod fault;
 mod fill;
-mod held;
 mod media;
 mod memory;
 mod record;
 mod row;
 mod stop;
+mod stop_content;
 mod tiers;
 mod trip;
 

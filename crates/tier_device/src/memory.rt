@@ -5,11 +5,11 @@ ghost use Rattle.tier_device.specs.Media.{overwritten, Puts, Keeps, Tears, Tears
 ghost use Rattle.tier_device.specs.declared.media.Tier.{Tier};
 ghost use Rattle.tier_device.specs.declared.media.Tier.TheVariants.{Fast, Block, Slow};
 ghost use Rattle.tier_device.specs.Rows.{row};
-ghost use Rattle.tier_device.specs.Record.{replayed};
+ghost use Rattle.tier_device.specs.Record.{replay_content};
 
 use crate::fill::Fill;
-use crate::held::held_after;
 use crate::record::CallLog;
+use crate::stop_content::held_after;
 use crate::tiers::Tiers;
 use crate::{Media, MediaError, Tier, lies_within};
 use std::alloc::{AllocError, AllocFailed, Global};
@@ -24,7 +24,7 @@ pub struct MemMedia {
     first: Tiers,
     calls: CallLog,
     faults: u64,
-    ghost replays: { (t : Tier) → row tiers t ≡ replayed t (row first t) calls },
+    ghost replays: { (t : Tier) → row tiers t ≡ replay_content t (row first t) calls },
     ghost few: { faults < 2 ^ 64 },
 }
 

@@ -1,6 +1,6 @@
 // A row of bytes that only grows.
 ghost use Rattle.std.specs.Prelude.{◌≡◌, ◌++◌, [], IfOk, OnOk, OnErr};
-ghost use Rattle.tier_device.specs.Row.{joined};
+ghost use Rattle.tier_device.specs.Row.{row_bytes};
 
 use std::alloc::{AllocError, Global};
 use std::marker::Model;
@@ -20,11 +20,11 @@ pub(crate) struct Row {
 
 impl Model for Row {
     ghost use Rattle.std.specs.Prelude.{◌++◌, ℕ, List};
-    ghost use Rattle.tier_device.specs.Row.{joined};
+    ghost use Rattle.tier_device.specs.Row.{row_bytes};
 
     ghost Value = { List ℕ };
 
-    ghost view = { λ r. joined r.full.items ++ r.last };
+    ghost view = { λ r. row_bytes r.full.items ++ r.last };
 }
 
 // Bytes in one piece of memory.

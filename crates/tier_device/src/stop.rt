@@ -25,19 +25,19 @@ pub struct StopMedia {
 impl StopMedia {
     ghost use Rattle.tier_device.specs.Memory.{memory_seen, memory_left, memory_moment, memory_held, IsRefused, IsAtRest};
     ghost use Rattle.tier_device.specs.Count.{IsAlone, HasCounted};
-    ghost use Rattle.tier_device.specs.Stop.{medium_of, count_of, turn, armed, next_fill, stopped, fill_of, failures, Runs, HasStopped, IsWithinTier, IsStill, Stops, RunsOn, IsTorn};
+    ghost use Rattle.tier_device.specs.Stop.{medium_of, count_of, turn, calls_left, next_fill, stop_fill, fill_of, failures, Runs, HasStopped, IsWithinTier, IsStill, Stops, RunsOn, IsTorn};
 
     /// A medium that runs until it is stopped.
     pub fn new(inner: MemMedia) -> Self
         ensures inner { medium_of result ≡ inner }
-        ensures armed { armed result ≡ None }
+        ensures armed { calls_left result ≡ None }
         ensures alone { IsAlone (count_of result) }
-        ensures running { stopped result ≡ None }
+        ensures running { stop_fill result ≡ None }
         ensures faults { failures result ≡ 0 }
     {
         StopMedia {
             inner,
-            count: Count::idle(),
+            count: Count::without_limit(),
             fill: Fill::New,
             stopped: false,
             faults: 0,
@@ -49,9 +49,9 @@ impl StopMedia {
     pub fn stop_within(&mut self, call: u64, fill: Fill)
         requires { 1 ≤ call }
         ensures inner { medium_of self.new ≡ medium_of self.old }
-        ensures armed { stopped self.old ≡ None → armed self.new ≡ Some (call - 1, fill) }
-        ensures alone { stopped self.old ≡ None → IsAlone (count_of self.new) }
-        ensures stopped { stopped self.new ≡ stopped self.old }
+        ensures armed { stop_fill self.old ≡ None → calls_left self.new ≡ Some (call - 1, fill) }
+        ensures alone { stop_fill self.old ≡ None → IsAlone (count_of self.new) }
+        ensures stopped { stop_fill self.new ≡ stop_fill self.old }
         ensures faults { failures self.new ≡ failures self.old }
     {
         if !self.stopped {
@@ -64,13 +64,13 @@ impl StopMedia {
     /// another medium. It replaces what it counted by. A medium that has stopped stays so.
     pub fn stop_with(&mut self, trip: Trip, fill: Fill)
         ensures inner { medium_of self.new ≡ medium_of self.old }
-        ensures shared { stopped self.old ≡ None → (count_of self.new).trip ≡ Some trip }
-        ensures fill { stopped self.old ≡ None → next_fill self.new ≡ fill }
-        ensures stopped { stopped self.new ≡ stopped self.old }
+        ensures shared { stop_fill self.old ≡ None → (count_of self.new).trip ≡ Some trip }
+        ensures fill { stop_fill self.old ≡ None → next_fill self.new ≡ fill }
+        ensures stopped { stop_fill self.new ≡ stop_fill self.old }
         ensures faults { failures self.new ≡ failures self.old }
     {
         if !self.stopped {
-            self.count = Count::shared(trip);
+            self.count = Count::by_trip(trip);
             self.fill = fill;
         }
     }
@@ -78,8 +78,8 @@ impl StopMedia {
     /// Stops it now, between two calls. A medium that has stopped stays as it is.
     pub fn halt(&mut self, fill: Fill)
         ensures inner { medium_of self.new ≡ medium_of self.old }
-        ensures stopped { stopped self.old ≡ None → stopped self.new ≡ Some fill }
-        ensures stays { IfSome (stopped self.old) (λ first. stopped self.new ≡ Some first) }
+        ensures stopped { stop_fill self.old ≡ None → stop_fill self.new ≡ Some fill }
+        ensures stays { IfSome (stop_fill self.old) (λ first. stop_fill self.new ≡ Some first) }
         ensures faults { failures self.new ≡ failures self.old }
     {
         if !self.stopped {
@@ -90,7 +90,7 @@ impl StopMedia {
 
     /// Whether it has stopped.
     pub fn is_stopped(&self) -> bool
-        ensures { result ≡ is_some (stopped self.now) }
+        ensures { result ≡ is_some (stop_fill self.now) }
     {
         self.stopped
     }
@@ -98,7 +98,7 @@ impl StopMedia {
     /// The medium after the stop, at rest: each byte that was written and not fenced holds what the fill says, of a medium
     /// that has not stopped what was written. Where memory runs out the medium is handed back.
     pub fn rest(self) -> Result<MemMedia, Self>
-        ensures held { IfOk result (λ m. (t : Tier) → memory_seen m t ≡ memory_held (fill_of (stopped self)) (medium_of self) t) }
+        ensures held { IfOk result (λ m. (t : Tier) → memory_seen m t ≡ memory_held (fill_of (stop_fill self)) (medium_of self) t) }
         ensures allowed { IfOk result (λ m. (t : Tier) → memory_left (medium_of self) (memory_moment (medium_of self)) t (memory_seen m t)) }
         ensures at_rest { IfOk result (λ m. IsAtRest m) }
         ensures clock { IfOk result (λ m. memory_moment m ≡ 0) }

@@ -5,7 +5,7 @@ use Rattle.std.specs.FinMap as fin
 use Rattle.layout.specs.file_graph.declared.effect.Kind.{Kind}
 use Rattle.layout.specs.file_graph.declared.effect.Kind.TheVariants as kind
 use Rattle.layout.specs.file_graph.Graph.{FileBody, DirBody}
-use Rattle.layout.specs.Directory.{listed, entry_of}
+use Rattle.layout.specs.Directory.{block_entries, entry_of}
 use Rattle.tree_blocks.specs.Inode.{LogicalBlocks, Inode, plain, byte_of, entry_at, IsDirectoryBlock, blocks_for, node_by, node_of, body_of_blocks, IsConsistentBy, IsConsistent, ReadAlike, AreAlike}
 
 pub mapped_same : {X : Type 0} (f g : ℕ → X) (a n : ℕ) → ((k : ℕ) → k < a + n → f k ≡ g k) → map f (range_with_len a n) ≡ map g (range_with_len a n)
@@ -14,7 +14,7 @@ mapped_same f g a (suc n) same = λ t. same a (omega arith) t ∷ mapped_same f 
 
 pub entries_same : (size : ℕ) (b c : LogicalBlocks) → ((k : ℕ) → k < blocks_for size → c k ≡ b k) → (e : ℕ) → e < size → entry_at c e ≡ entry_at b e
 unfolding entry_at
-entries_same size b c same e lt = ap (λ l. plain (entry_of (listed l) (e % 56))) (same (e / 56) (omega (arith, lt)))
+entries_same size b c same e lt = ap (λ l. plain (entry_of (block_entries l) (e % 56))) (same (e / 56) (omega (arith, lt)))
 
 body_same : (k : Kind) (size : ℕ) (b c : LogicalBlocks) → ReadAlike (Some k) size b c → body_of_blocks k size c ≡ body_of_blocks k size b
 body_same kind.File size b c same = ap FileBody (mapped_same (byte_of c) (byte_of b) 0 size (λ at lt. same at))

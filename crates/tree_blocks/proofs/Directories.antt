@@ -9,7 +9,7 @@ use Rattle.std.specs.Prelude.{is_some}
 use Rattle.std.proofs.lemmas.List.FromFn.{map-range_with_len_more}
 use Rattle.std.proofs.lemmas.Bool.{cases_lt, cases_Bool}
 use Rattle.layout.specs.file_graph.declared.effect.Kind.{Kind}
-use Rattle.tree_blocks.specs.Inode.{Entry, named, AreDistinct}
+use Rattle.tree_blocks.specs.Inode.{Entry, named_entries, AreDistinct}
 
 abbrev Name : Type 0
 Name = List ℕ
@@ -64,11 +64,11 @@ missing_from f a (suc n) q none =
     ap (λ b. cond b (Some (f a).1) (fin.find (slice_cmp nat_cmp) q (map f (range_with_len (a + 1) n)))) (name_other q (f a).0 (λ e. none a (omega arith) (omega arith) (sym e)))
     ∙ missing_from f (a + 1) n q (λ j ge lt. none j (omega (arith, ge)) (omega (arith, lt)))
 
-pub get_there : (f : ℕ → Entry) (n k : ℕ) (q : Name) → AreDistinct f n → k < n → (f k).0 ≡ q → fin.get (named f n) q ≡ Some (f k).1
+pub get_there : (f : ℕ → Entry) (n k : ℕ) (q : Name) → AreDistinct f n → k < n → (f k).0 ≡ q → fin.get (named_entries f n) q ≡ Some (f k).1
 unfolding find_name
 get_there f n k q distinct lt is = fin.get-from_entries nat_list_cmp_total (listed f n) q ∙ there_from f 0 n k q (omega arith) (omega (arith, lt)) is (λ j ge below e. distinct j k (omega (arith, below)) lt (e ∙ sym is))
 
-pub get_missing : (f : ℕ → Entry) (n : ℕ) (q : Name) → ((j : ℕ) → j < n → (f j).0 ≢ q) → fin.get (named f n) q ≡ None
+pub get_missing : (f : ℕ → Entry) (n : ℕ) (q : Name) → ((j : ℕ) → j < n → (f j).0 ≢ q) → fin.get (named_entries f n) q ≡ None
 unfolding find_name
 get_missing f n q none = fin.get-from_entries nat_list_cmp_total (listed f n) q ∙ missing_from f 0 n q (λ j ge lt. none j (omega (arith, lt)))
 
@@ -84,16 +84,16 @@ place_of f (suc n) q = elim (place_of f n q) [
 ]
 
 -- as many names as places, which the charge counts
-pub len_named : (f : ℕ → Entry) (n : ℕ) → AreDistinct f n → fin.len (named f n) ≡ n
+pub len_named : (f : ℕ → Entry) (n : ℕ) → AreDistinct f n → fin.len (named_entries f n) ≡ n
 len_named f zero distinct = fin.len-empty (slice_cmp nat_cmp) (ℕ × Kind)
 len_named f (suc n) distinct =
     let below : AreDistinct f n = λ i j li lj. distinct i j (omega (arith, li)) (omega (arith, lj)) in
     let more : n + 1 ≡ suc n = omega arith in
-    let absent : fin.get (named f n) (f n).0 ≡ None = get_missing f n (f n).0 (λ j lt is. absurd (omega (arith, lt, distinct j n (omega (arith, lt)) (omega arith) is))) in
+    let absent : fin.get (named_entries f n) (f n).0 ≡ None = get_missing f n (f n).0 (λ j lt is. absurd (omega (arith, lt, distinct j n (omega (arith, lt)) (omega arith) is))) in
     let missing : fin.find (slice_cmp nat_cmp) (f n).0 (listed f n) ≡ None = sym (fin.get-from_entries nat_list_cmp_total (listed f n) (f n).0) ∙ absent in
     let list : listed f (suc n) ≡ listed f n ++ f n ∷ [] = ap (listed f) (sym more) ∙ map-range_with_len_more f 0 n n (omega arith) in
     ap (λ es. fin.len (fin.from_entries {R = slice_cmp nat_cmp} es)) list
     ∙ ap fin.len (fin.from_entries_push nat_list_cmp_total names_same (listed f n) (f n).0 (f n).1 missing)
-    ∙ fin.len-insert nat_list_cmp_total (named f n) (f n).0 (f n).1
-    ∙ ap (λ o. cond (is_some o) (fin.len (named f n)) (fin.len (named f n) + 1)) absent
+    ∙ fin.len-insert nat_list_cmp_total (named_entries f n) (f n).0 (f n).1
+    ∙ ap (λ o. cond (is_some o) (fin.len (named_entries f n)) (fin.len (named_entries f n) + 1)) absent
     ∙ ap (λ x. x + 1) (len_named f n below) ∙ more

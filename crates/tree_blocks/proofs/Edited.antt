@@ -8,11 +8,11 @@ use Rattle.layout.specs.file_graph.declared.effect.Kind.{Kind}
 use Rattle.layout.specs.file_graph.declared.effect.Kind.TheVariants as kind
 use Rattle.layout.specs.file_graph.Graph.{Node, FileBody, DirBody}
 use Rattle.graph_change.specs.Bytes.{BytesChange, length_after, byte_after, bytes_after}
-use Rattle.graph_change.specs.Net.{Base, Kept, Made, Gone, Net, based, edited, node_after}
-use Rattle.graph_change.specs.Change.{Change, Changes, new_change, net_of, change_at, changed}
+use Rattle.graph_change.specs.Net.{Base, Kept, Made, Gone, Net, base_node, edited_node, node_after}
+use Rattle.graph_change.specs.Change.{Change, Changes, new_change, net_of, change_at, changed_graph}
 use Rattle.graph_change.proofs.Law.{empty_at, coalesced_law}
 use Rattle.tree_blocks.specs.Inode.{LogicalBlocks, Inode, byte_of, bytes_of_blocks, IsZeroFrom, node_by, node_of, graph_of_inodes, IsConsistentBy, IsConsistent}
-use Rattle.tree_blocks.specs.After.{started, IsFileAfter, BodyAfter, IsInodeAfter, AreInodesAfter}
+use Rattle.tree_blocks.specs.After.{start_node, IsFileAfter, BodyAfter, IsInodeAfter, AreInodesAfter}
 use Rattle.tree_blocks.proofs.Files.{length_file}
 use Rattle.tree_blocks.proofs.Alike.{mapped_same, node_same, consistent_same}
 
@@ -32,7 +32,7 @@ module _ (c : BytesChange) (size : ℕ) (old : LogicalBlocks) (new_size : ℕ) (
 -- ---- one inode
 
 edited_by : (number : ℕ) (k : Option Kind) (c : Net) (old new : Inode) → IsConsistentBy number k old.size old.blocks → BodyAfter number k c old new
-    → (node_by k new.names new.size new.blocks ≡ option_map (edited c) (node_by k old.names old.size old.blocks)) × IsConsistentBy number k new.size new.blocks
+    → (node_by k new.names new.size new.blocks ≡ option_map (edited_node c) (node_by k old.names old.size old.blocks)) × IsConsistentBy number k new.size new.blocks
 edited_by number None c old new is after = (refl, tt)
 edited_by number (Some kind.File) c old new is after = (
   λ t. Some (record { names = after.0 t; body = FileBody (bytes_are c.bytes old.size old.blocks new.size new.blocks after.1 t) }),
@@ -40,7 +40,7 @@ edited_by number (Some kind.File) c old new is after = (
 )
 edited_by number (Some kind.Directory) c old new is after = (λ t. Some (record { names = after.0 t; body = DirBody (after.1.entries t) }), after.1.directory)
 
-started_node : (b : Base) (old : Inode) → node_of (started b old) ≡ based b (node_of old)
+started_node : (b : Base) (old : Inode) → node_of (start_node b old) ≡ base_node b (node_of old)
 started_node Kept old = refl
 started_node (Made kind.File) old = refl
 started_node (Made kind.Directory) old = refl
@@ -50,7 +50,7 @@ no_bytes : IsZeroFrom 0 (λ k. [])
 unfolding byte_of
 no_bytes at ge = refl
 
-pub started_consistent : (number : ℕ) (b : Base) (old : Inode) → IsConsistent number old → IsConsistent number (started b old)
+pub started_consistent : (number : ℕ) (b : Base) (old : Inode) → IsConsistent number old → IsConsistent number (start_node b old)
 started_consistent number Kept old is = is
 started_consistent number (Made kind.File) old is = no_bytes
 started_consistent number (Made kind.Directory) old is = record { parts = λ k lt. absurd (omega (arith, lt)); distinct = λ i j lt. absurd (omega (arith, lt)) }
@@ -58,9 +58,9 @@ started_consistent number Gone old is = tt
 
 pub node_law : (number : ℕ) (c : Net) (old new : Inode) → IsConsistent number old → IsInodeAfter number c old new → (node_of new ≡ node_after c (node_of old)) × IsConsistent number new
 node_law number c old new is after =
-    let start = started c.base old in
+    let start = start_node c.base old in
     let one = edited_by number start.kind c start new (started_consistent number c.base old is) after.body in (
-      ap (λ k. node_by k new.names new.size new.blocks) after.kind ∙ one.0 ∙ ap (option_map (edited c)) (started_node c.base old),
+      ap (λ k. node_by k new.names new.size new.blocks) after.kind ∙ one.0 ∙ ap (option_map (edited_node c)) (started_node c.base old),
       subst (λ k. IsConsistentBy number k new.size new.blocks) (sym after.kind) one.1,
     )
 
@@ -75,9 +75,9 @@ missing None e = refl
 missing (Some c) e = absurd cc
 
 pub graph_law : (cs : Changes) (old new : ℕ → Inode) → ((i : ℕ) → IsConsistent i (old i)) → AreInodesAfter cs old new
-    → (graph_of_inodes new ≡ changed cs (graph_of_inodes old)) × ((i : ℕ) → IsConsistent i (new i))
+    → (graph_of_inodes new ≡ changed_graph cs (graph_of_inodes old)) × ((i : ℕ) → IsConsistent i (new i))
 graph_law cs old new is after = ((λ t i. (each i).0 t), λ i. (each i).1) where
-  each : (i : ℕ) → (graph_of_inodes new i ≡ changed cs (graph_of_inodes old) i) × IsConsistent i (new i)
+  each : (i : ℕ) → (graph_of_inodes new i ≡ changed_graph cs (graph_of_inodes old) i) × IsConsistent i (new i)
   each i = elim (cases_Bool (fin.contains_key cs i)) [
     | inl said ↦ node_law i (net_of (change_at cs i)) (old i) (new i) (is i) (after.changed i said)
     | inr unsaid_of ↦

@@ -3,7 +3,7 @@ use Rattle.std.proofs.Common.{◌≡◌, ◌≢◌, ◌⊎◌, inl, inr, ℕ, �
 use Rattle.std.specs.FinMap as fin
 use Rattle.std.specs.Cmp.Lexicographic.{nat_list_cmp_total}
 use Rattle.std.proofs.lemmas.Bool.{cases_lt, cases_eq}
-use Rattle.tree_blocks.specs.Inode.{Entry, named, AreDistinct}
+use Rattle.tree_blocks.specs.Inode.{Entry, named_entries, AreDistinct}
 use Rattle.tree_blocks.specs.After.{IsEntered, IsTakenOut}
 use Rattle.tree_blocks.proofs.Directories.{names_same, same_name, cases_name, get_there, get_missing, place_of}
 
@@ -46,18 +46,18 @@ module _ (place : ℕ) (f : ℕ → Entry) (n : ℕ) (distinct : AreDistinct f n
     ]
   ]
 
-  pub named_entered : named g m ≡ fin.insert (named f n) e.0 e.1
+  pub named_entered : named_entries g m ≡ fin.insert (named_entries f n) e.0 e.1
   unfolding same_name
-  named_entered = fin.same_map nat_list_cmp_total names_same (named g m) (fin.insert (named f n) e.0 e.1) (λ q.
+  named_entered = fin.same_map nat_list_cmp_total names_same (named_entries g m) (fin.insert (named_entries f n) e.0 e.1) (λ q.
       elim (cases_name q e.0) [
         | inl same ↦
             get_there g m place q distinct_entered inside (ap (λ x. x.0) put.there ∙ sym same.0) ∙ ap (λ x. Some x.1) put.there
-            ∙ sym (fin.get-insert nat_list_cmp_total (named f n) e.0 e.1 q ∙ ap (λ b. cond b (Some e.1) (fin.get (named f n) q)) same.1)
+            ∙ sym (fin.get-insert nat_list_cmp_total (named_entries f n) e.0 e.1 q ∙ ap (λ b. cond b (Some e.1) (fin.get (named_entries f n) q)) same.1)
         | inr other ↦
             unchanged q other.0 (place_of f n q)
-            ∙ sym (fin.get-insert nat_list_cmp_total (named f n) e.0 e.1 q ∙ ap (λ b. cond b (Some e.1) (fin.get (named f n) q)) other.1)
+            ∙ sym (fin.get-insert nat_list_cmp_total (named_entries f n) e.0 e.1 q ∙ ap (λ b. cond b (Some e.1) (fin.get (named_entries f n) q)) other.1)
       ]) where
-        unchanged : (q : Name) → q ≢ e.0 → ((k : ℕ) × (k < n) × ((f k).0 ≡ q)) ⊎ ((j : ℕ) → j < n → (f j).0 ≢ q) → fin.get (named g m) q ≡ fin.get (named f n) q
+        unchanged : (q : Name) → q ≢ e.0 → ((k : ℕ) × (k < n) × ((f k).0 ≡ q)) ⊎ ((j : ℕ) → j < n → (f j).0 ≢ q) → fin.get (named_entries g m) q ≡ fin.get (named_entries f n) q
         unchanged q other (inl found) =
             let off : found.0 ≢ place = λ is. elim (put.at_name) [ inl old ↦ other (sym found.2 ∙ ap (λ k. (f k).0) is ∙ old.1) | inr new ↦ absurd (omega (arith, found.1, is, new.0)) ] in
             let same : g found.0 ≡ f found.0 = put.others found.0 found.1 off in
@@ -100,21 +100,21 @@ module _ (place : ℕ) (f : ℕ → Entry) (n : ℕ) (distinct : AreDistinct f n
           | inr a_stays ↦ elim (b.moved) [ inl b_last ↦ absurd (omega (arith, one, b_last.1, a_stays.1, li, left.count)) | inr b_stays ↦ sym a_stays.1 ∙ one ∙ b_stays.1 ]
         ]
 
-  pub named_left : named g m ≡ fin.remove (named f n) (f place).0
+  pub named_left : named_entries g m ≡ fin.remove (named_entries f n) (f place).0
   unfolding same_name
-  named_left = fin.same_map nat_list_cmp_total names_same (named g m) (fin.remove (named f n) (f place).0) (λ q.
+  named_left = fin.same_map nat_list_cmp_total names_same (named_entries g m) (fin.remove (named_entries f n) (f place).0) (λ q.
       elim (cases_name q (f place).0) [
         | inl same ↦
             get_missing g m q (λ k lt is. let s = source k lt in s.other (distinct s.was place s.below left.inside (ap (λ x. x.0) (sym s.same) ∙ is ∙ same.0)))
-            ∙ sym (fin.get-remove nat_list_cmp_total (named f n) (f place).0 q ∙ ap (λ b. cond b None (fin.get (named f n) q)) same.1)
+            ∙ sym (fin.get-remove nat_list_cmp_total (named_entries f n) (f place).0 q ∙ ap (λ b. cond b None (fin.get (named_entries f n) q)) same.1)
         | inr other ↦
             unchanged q other.0 (place_of f n q)
-            ∙ sym (fin.get-remove nat_list_cmp_total (named f n) (f place).0 q ∙ ap (λ b. cond b None (fin.get (named f n) q)) other.1)
+            ∙ sym (fin.get-remove nat_list_cmp_total (named_entries f n) (f place).0 q ∙ ap (λ b. cond b None (fin.get (named_entries f n) q)) other.1)
       ]) where
-        standing : (q : Name) (k j : ℕ) → j < m → g j ≡ f k → k < n → (f k).0 ≡ q → fin.get (named g m) q ≡ fin.get (named f n) q
+        standing : (q : Name) (k j : ℕ) → j < m → g j ≡ f k → k < n → (f k).0 ≡ q → fin.get (named_entries g m) q ≡ fin.get (named_entries f n) q
         standing q k j lt same below is = get_there g m j q distinct_left lt (ap (λ x. x.0) same ∙ is) ∙ ap (λ x. Some x.1) same ∙ sym (get_there f n k q distinct below is)
 
-        unchanged : (q : Name) → q ≢ (f place).0 → ((k : ℕ) × (k < n) × ((f k).0 ≡ q)) ⊎ ((j : ℕ) → j < n → (f j).0 ≢ q) → fin.get (named g m) q ≡ fin.get (named f n) q
+        unchanged : (q : Name) → q ≢ (f place).0 → ((k : ℕ) × (k < n) × ((f k).0 ≡ q)) ⊎ ((j : ℕ) → j < n → (f j).0 ≢ q) → fin.get (named_entries g m) q ≡ fin.get (named_entries f n) q
         unchanged q other (inl found) =
             let off : found.0 ≢ place = λ e. other (sym found.2 ∙ ap (λ k. (f k).0) e) in
             elim (cases_lt found.0 (n - 1)) [

@@ -7,11 +7,11 @@ use Rattle.std.proofs.lemmas.Bool.{cases_lt, cases_Bool, lt-ltb, le-ltb, le-leb,
 use Rattle.std.proofs.lemmas.List.{get_or_append_left, get_or-append_right, get_or-take, get_or-replicate, get_or_past, ext_get_or, length-take, length-append, length-replicate}
 use Rattle.std.proofs.lemmas.List.FromFn.{get_or-map-range_with_len, length-map-range_with_len}
 use Rattle.graph_change.specs.Bytes.{Length, Grown, Cut, length_after, kept_byte, byte_after, end, IsOrdered, IsTidy}
-use Rattle.graph_change.specs.Change.{Change, Patch, blank, patch_at, net_of, patched, IsWhole, writes_block, ends_within, cuts_within}
+use Rattle.graph_change.specs.Change.{Change, Patch, blank, patch_at, net_of, patched_bytes, IsWhole, writes_block, ends_within, cuts_within}
 use Rattle.graph_change.specs.Tidy.{IsTidyChange}
 use Rattle.tree_blocks.specs.Inode.{LogicalBlocks, byte_of, bytes_of_blocks, IsZeroFrom}
 use Rattle.tree_blocks.specs.After.{IsFileAfter}
-use Rattle.tree_blocks.specs.FileBlock.{kept_in, in_block, block_after, is_cut_off, ReadSame, ReadsAfter, AreWritten}
+use Rattle.tree_blocks.specs.FileBlock.{kept_length, in_block, block_after, is_cut_off, ReadSame, ReadsAfter, AreWritten}
 use Rattle.tree_blocks.proofs.Alike.{mapped_same}
 use Rattle.tree_blocks.proofs.Files.{length_file, byte_read}
 
@@ -44,9 +44,9 @@ cut_long old kept le =
     omega (arith, length-append (take kept old) (replicate (length old - kept) 0), length-take kept old, as_long (length old - kept) 0, le)
 
 -- bytes put over a block that was cut
-pub block_is : (len : Length) (patch : Patch) (k : ℕ) (old : List ℕ) → length old ≡ 4096 → kept_in len k ≤ 4096 → patched patch (take (kept_in len k) old ++ replicate (length old - kept_in len k) 0) ≡ block_after len patch k old
+pub block_is : (len : Length) (patch : Patch) (k : ℕ) (old : List ℕ) → length old ≡ 4096 → kept_length len k ≤ 4096 → patched_bytes patch (take (kept_length len k) old ++ replicate (length old - kept_length len k) 0) ≡ block_after len patch k old
 block_is len patch k old long le =
-    let kept : ℕ = kept_in len k in
+    let kept : ℕ = kept_length len k in
     let low : kept ≤ length old = omega (arith, long, le) in
     let size : length (take kept old ++ replicate (length old - kept) 0) ≡ 4096 = cut_long old kept low ∙ long in
     ap (λ (n : ℕ). map (λ p. unwrap_or (patch p) (get_or (take kept old ++ replicate (length old - kept) 0) p 0)) (range_with_len 0 n)) size
@@ -60,9 +60,9 @@ itself xs n long =
     let size : length (map f (range_with_len 0 n)) ≡ n = length-map-range_with_len f 0 n in
     ext_get_or 0 (map f (range_with_len 0 n)) xs (size ∙ sym long) (λ i lt. get_or-map-range_with_len f 0 n i i 0 (omega (arith, lt, size)) (omega arith))
 
-pub block_is_cut : (len : Length) (k : ℕ) (old : List ℕ) → length old ≡ 4096 → kept_in len k ≤ 4096 → take (kept_in len k) old ++ replicate (length old - kept_in len k) 0 ≡ block_after len blank k old
+pub block_is_cut : (len : Length) (k : ℕ) (old : List ℕ) → length old ≡ 4096 → kept_length len k ≤ 4096 → take (kept_length len k) old ++ replicate (length old - kept_length len k) 0 ≡ block_after len blank k old
 block_is_cut len k old long le =
-    let kept : ℕ = kept_in len k in
+    let kept : ℕ = kept_length len k in
     let low : kept ≤ length old = omega (arith, long, le) in
     sym (itself (take kept old ++ replicate (length old - kept) 0) (length old) (cut_long old kept low))
     ∙ ap (λ (n : ℕ). map (λ p. get_or (take kept old ++ replicate (length old - kept) 0) p 0) (range_with_len 0 n)) (sym (cut_long old kept low)) ∙ block_is len blank k old long le
@@ -73,16 +73,16 @@ byte_made len patch k buffer p lt = get_or-map-range_with_len (byte_after (in_bl
 
 pub made_of_same : (len : Length) (patch : Patch) (k : ℕ) (old buffer : List ℕ) → ReadSame buffer old → ReadsAfter len patch k old (block_after len patch k buffer)
 made_of_same len patch k old buffer same p lt =
-    byte_made len patch k buffer p lt ∙ ap (λ x. elim (patch p) [ None ↦ cond (nat_lt p (kept_in len k)) x 0 | Some b ↦ b ]) (same p lt)
+    byte_made len patch k buffer p lt ∙ ap (λ x. elim (patch p) [ None ↦ cond (nat_lt p (kept_length len k)) x 0 | Some b ↦ b ]) (same p lt)
 
 pub made_whole : (len : Length) (patch : Patch) (k : ℕ) (old buffer : List ℕ) → IsWhole patch → ReadsAfter len patch k old (block_after len patch k buffer)
 made_whole len patch k old buffer is p lt = byte_made len patch k buffer p lt ∙ put (patch p) (is p lt) where
-  put : (o : Option ℕ) → IsSome o → ◌≡◌ {A = ℕ} (elim o [ None ↦ kept_byte (Cut (kept_in len k) 4096) buffer p | Some b ↦ b ]) (elim o [ None ↦ kept_byte (Cut (kept_in len k) 4096) old p | Some b ↦ b ])
+  put : (o : Option ℕ) → IsSome o → ◌≡◌ {A = ℕ} (elim o [ None ↦ kept_byte (Cut (kept_length len k) 4096) buffer p | Some b ↦ b ]) (elim o [ None ↦ kept_byte (Cut (kept_length len k) 4096) old p | Some b ↦ b ])
   put (Some b) some = refl
   put None some = absurd cc
 
 -- of a block that begins behind a cut nothing is kept
-kept_none : (len : Length) (k : ℕ) → is_cut_off len k ≡ true → kept_in len k ≡ 0
+kept_none : (len : Length) (k : ℕ) → is_cut_off len k ≡ true → kept_length len k ≡ 0
 kept_none (Grown to) k off = absurd (cc)
 kept_none (Cut least to) k off = let le = leb-true least (4096 * k) off in omega (arith, le)
 
@@ -90,14 +90,14 @@ pub made_behind : (len : Length) (patch : Patch) (k : ℕ) (old buffer : List �
 made_behind len patch k old buffer off p lt =
     byte_made len patch k buffer p lt ∙ ap (λ x. elim (patch p) [ None ↦ x | Some b ↦ b ]) (zero buffer ∙ sym (zero old))
   where
-    zero : (bytes : List ℕ) → kept_byte (Cut (kept_in len k) 4096) bytes p ≡ 0
-    zero bytes = ap (λ b. cond b (get_or bytes p 0) 0) (le-ltb p (kept_in len k) (omega (arith, kept_none len k off)))
+    zero : (bytes : List ℕ) → kept_byte (Cut (kept_length len k) 4096) bytes p ≡ 0
+    zero bytes = ap (λ b. cond b (get_or bytes p 0) 0) (le-ltb p (kept_length len k) (omega (arith, kept_none len k off)))
 
 pub zeros_are_none : ReadSame (replicate 4096 0) []
 zeros_are_none p lt = get_or-replicate 4096 p 0 0 lt
 
 pub hole_stays : (len : Length) (k : ℕ) → ReadsAfter len blank k [] []
-hole_stays len k p lt = zero (nat_lt p (kept_in len k)) where
+hole_stays len k p lt = zero (nat_lt p (kept_length len k)) where
   zero : (b : Bool) → ◌≡◌ {A = ℕ} 0 (cond b 0 0)
   zero true = refl
   zero false = refl
@@ -126,11 +126,11 @@ left_inside c old_size k tidy = left_by c.length old_size k tidy.bytes.ordered
 
 module _ (c : Change) (old_size new_size : ℕ) (old new : LogicalBlocks) (tidy : IsTidy (net_of c).bytes) (zeros : IsZeroFrom old_size old) (size : new_size ≡ length_after c.length old_size) (are : AreWritten c old new) where
   -- what is left of a byte, told by its block or by the file
-  left_is : (len : Length) (at : ℕ) → kept_byte (Cut (kept_in len (at / 4096)) 4096) (old (at / 4096)) (at % 4096) ≡ kept_byte len (bytes_of_blocks old old_size) at
+  left_is : (len : Length) (at : ℕ) → kept_byte (Cut (kept_length len (at / 4096)) 4096) (old (at / 4096)) (at % 4096) ≡ kept_byte len (bytes_of_blocks old old_size) at
   unfolding byte_of
   left_is (Grown to) at = ap (λ b. cond b (get_or (old (at / 4096)) (at % 4096) 0) 0) (lt-ltb (at % 4096) 4096 (omega arith)) ∙ sym (byte_read old old_size at zeros)
   left_is (Cut least to) at =
-      let kept : ℕ = kept_in (Cut least to) (at / 4096) in
+      let kept : ℕ = kept_length (Cut least to) (at / 4096) in
       elim (cases_lt at least) [
         | inl lt ↦
             ap (λ b. cond b (get_or (old (at / 4096)) (at % 4096) 0) 0) (lt-ltb (at % 4096) kept (omega (arith, lt))) ∙ sym (byte_read old old_size at zeros)
@@ -152,7 +152,7 @@ module _ (c : Change) (old_size new_size : ℕ) (old new : LogicalBlocks) (tidy 
   unput None is = refl
   unput (Some x) is = absurd (cc)
 
-  kept_whole : (len : Length) (k : ℕ) → cuts_within len k ≡ false → is_cut_off len k ≡ false → kept_in len k ≡ 4096
+  kept_whole : (len : Length) (k : ℕ) → cuts_within len k ≡ false → is_cut_off len k ≡ false → kept_length len k ≡ 4096
   kept_whole (Grown to) k within off = refl
   kept_whole (Cut least to) k within off = elim (cases_lt (4096 * k) least) [
     | inr le ↦ (let on : nat_le least (4096 * k) ≡ true = le-leb least (4096 * k) le in let bad : true ≡ false = sym on ∙ off in absurd (cc))
@@ -177,10 +177,10 @@ module _ (c : Change) (old_size new_size : ℕ) (old new : LogicalBlocks) (tidy 
         let none : patch_at c.patches k ≡ blank = unput (fin.get c.patches k) both.0 in
         elim (cases_Bool (is_cut_off c.length k)) [
           | inl off ↦
-              are.gone k p unset off lt ∙ sym (ap (λ b. cond b (get_or (old k) p 0) 0) (le-ltb p (kept_in c.length k) (omega (arith, kept_none c.length k off))))
+              are.gone k p unset off lt ∙ sym (ap (λ b. cond b (get_or (old k) p 0) 0) (le-ltb p (kept_length c.length k) (omega (arith, kept_none c.length k off))))
               ∙ sym (ap (λ (q : Patch). byte_after (in_block c.length q k) (old k) p) none)
           | inr on ↦
-              are.others k p unset on lt ∙ sym (ap (λ b. cond b (get_or (old k) p 0) 0) (lt-ltb p (kept_in c.length k) (omega (arith, lt, kept_whole c.length k both.1 on))))
+              are.others k p unset on lt ∙ sym (ap (λ b. cond b (get_or (old k) p 0) 0) (lt-ltb p (kept_length c.length k) (omega (arith, lt, kept_whole c.length k both.1 on))))
               ∙ sym (ap (λ (q : Patch). byte_after (in_block c.length q k) (old k) p) none)
         ]
   ]

@@ -3,33 +3,33 @@ use Rattle.std.proofs.Common.{◌≡◌, ◌≢◌, inl, inr, ℕ, ◌+◌, ◌-
 use Rattle.std.proofs.lemmas.Bool.{cases_eq}
 use Rattle.std.proofs.lemmas.List.{get_or-set_same, get_or-set_other, length-set, length-append, get_or-take, get_or_append_left, get_or_push}
 use Rattle.layout.specs.declared.directory.DirEntry.{DirEntry}
-use Rattle.layout.specs.Directory.{EntryList, AreEntries, listed, no_entry, entry_of, with_entry_at, with_last, without_entry, without_last}
+use Rattle.layout.specs.Directory.{EntryList, AreEntries, block_entries, no_entry, entry_of, with_entry_at, with_last, without_entry, without_last}
 use Rattle.tree_blocks.specs.Inode.{LogicalBlocks, plain, entry_at, entries_in, blocks_for, IsAbsent, IsDirectoryBlock, AreDirectoryBlocks}
 use Rattle.tree_blocks.specs.After.{IsEntered}
 
 -- an entry by the list of its block
-pub entry_is : (b : LogicalBlocks) (e : ℕ) (v : EntryList) → listed (b (e / 56)) ≡ v → entry_at b e ≡ plain (entry_of v (e % 56))
+pub entry_is : (b : LogicalBlocks) (e : ℕ) (v : EntryList) → block_entries (b (e / 56)) ≡ v → entry_at b e ≡ plain (entry_of v (e % 56))
 unfolding entry_at
 entry_is b e v is = ap (λ l. plain (entry_of l (e % 56))) is
 
 -- the same block leaves the same entries
 pub same_block : (b c : LogicalBlocks) (e : ℕ) → c (e / 56) ≡ b (e / 56) → entry_at c e ≡ entry_at b e
 unfolding entry_at
-same_block b c e same = ap (λ l. plain (entry_of (listed l) (e % 56))) same
+same_block b c e same = ap (λ l. plain (entry_of (block_entries l) (e % 56))) same
 
 -- one block lists others than it did
-module _ (b c : LogicalBlocks) (place : ℕ) (v : EntryList) (others : (k : ℕ) → k ≢ place / 56 → c k ≡ b k) (is : listed (c (place / 56)) ≡ v) where
+module _ (b c : LogicalBlocks) (place : ℕ) (v : EntryList) (others : (k : ℕ) → k ≢ place / 56 → c k ≡ b k) (is : block_entries (c (place / 56)) ≡ v) where
   pub entry_there : entry_at c place ≡ plain (entry_of v (place % 56))
   unfolding entry_at
   entry_there = ap (λ l. plain (entry_of l (place % 56))) is
 
   -- an entry beside it that the lists have in common
-  pub entry_beside : (e : ℕ) → (e / 56 ≡ place / 56 → entry_of v (e % 56) ≡ entry_of (listed (b (place / 56))) (e % 56)) → entry_at c e ≡ entry_at b e
+  pub entry_beside : (e : ℕ) → (e / 56 ≡ place / 56 → entry_of v (e % 56) ≡ entry_of (block_entries (b (place / 56))) (e % 56)) → entry_at c e ≡ entry_at b e
   unfolding entry_at
   entry_beside e same = elim (cases_eq (e / 56) (place / 56)) [
     | inl at ↦
-        ap (λ k. plain (entry_of (listed (c k)) (e % 56))) at ∙ ap (λ l. plain (entry_of l (e % 56))) is ∙ ap plain (same at)
-        ∙ ap (λ k. plain (entry_of (listed (b k)) (e % 56))) (sym at)
+        ap (λ k. plain (entry_of (block_entries (c k)) (e % 56))) at ∙ ap (λ l. plain (entry_of l (e % 56))) is ∙ ap plain (same at)
+        ∙ ap (λ k. plain (entry_of (block_entries (b k)) (e % 56))) (sym at)
     | inr off ↦ same_block b c e (others (e / 56) off)
   ]
 
@@ -41,19 +41,19 @@ set_same v i x lt = get_or-set_same v.entries i x no_entry lt
 pub set_other : (v : EntryList) (i j : ℕ) (x : DirEntry) → j ≢ i → entry_of (with_entry_at v i x) j ≡ entry_of v j
 set_other v i j x off = get_or-set_other v.entries i j x no_entry off
 
-module _ (b c : LogicalBlocks) (place : ℕ) (x : DirEntry) (others : (k : ℕ) → k ≢ place / 56 → c k ≡ b k) (is : listed (c (place / 56)) ≡ with_entry_at (listed (b (place / 56))) (place % 56) x)
-    (inside : place % 56 < length (listed (b (place / 56))).entries) where
+module _ (b c : LogicalBlocks) (place : ℕ) (x : DirEntry) (others : (k : ℕ) → k ≢ place / 56 → c k ≡ b k) (is : block_entries (c (place / 56)) ≡ with_entry_at (block_entries (b (place / 56))) (place % 56) x)
+    (inside : place % 56 < length (block_entries (b (place / 56))).entries) where
   pub set_there : entry_at c place ≡ plain x
-  set_there = entry_there b c place (with_entry_at (listed (b (place / 56))) (place % 56) x) others is ∙ ap plain (set_same (listed (b (place / 56))) (place % 56) x inside)
+  set_there = entry_there b c place (with_entry_at (block_entries (b (place / 56))) (place % 56) x) others is ∙ ap plain (set_same (block_entries (b (place / 56))) (place % 56) x inside)
 
   pub set_beside : (e : ℕ) → e ≢ place → entry_at c e ≡ entry_at b e
   set_beside e off =
-      entry_beside b c place (with_entry_at (listed (b (place / 56))) (place % 56) x) others is e (λ at. set_other (listed (b (place / 56))) (place % 56) (e % 56) x (λ same. off (omega (arith, at, same))))
+      entry_beside b c place (with_entry_at (block_entries (b (place / 56))) (place % 56) x) others is e (λ at. set_other (block_entries (b (place / 56))) (place % 56) (e % 56) x (λ same. off (omega (arith, at, same))))
 
 -- ---- one entry more, behind the last
 
-module _ (b c : LogicalBlocks) (n : ℕ) (v : EntryList) (x : DirEntry) (others : (k : ℕ) → k ≢ n / 56 → c k ≡ b k) (is : listed (c (n / 56)) ≡ with_last v x)
-    (long : length v.entries ≡ n % 56) (before : (i : ℕ) → i < n % 56 → entry_of v i ≡ entry_of (listed (b (n / 56))) i) where
+module _ (b c : LogicalBlocks) (n : ℕ) (v : EntryList) (x : DirEntry) (others : (k : ℕ) → k ≢ n / 56 → c k ≡ b k) (is : block_entries (c (n / 56)) ≡ with_last v x)
+    (long : length v.entries ≡ n % 56) (before : (i : ℕ) → i < n % 56 → entry_of v i ≡ entry_of (block_entries (b (n / 56))) i) where
   pub last_there : entry_at c n ≡ plain x
   last_there = entry_there b c n (with_last v x) others is ∙ ap plain (get_or_push v.entries x no_entry (n % 56) long)
 
@@ -85,13 +85,13 @@ module _ (owner n : ℕ) (b : LogicalBlocks) (is : AreDirectoryBlocks owner n b)
   pub part_of : (e : ℕ) → e < n → IsDirectoryBlock owner n (e / 56) (b (e / 56))
   part_of e lt = is.parts (e / 56) (omega (arith, lt))
 
-  pub within_part : (e : ℕ) → e < n → e % 56 < length (listed (b (e / 56))).entries
+  pub within_part : (e : ℕ) → e < n → e % 56 < length (block_entries (b (e / 56))).entries
   within_part e lt = let p = (part_of e lt).count_is in omega (arith, lt, p)
 
   -- ---- an entry leads elsewhere
 
   module _ (c : LogicalBlocks) (place : ℕ) (lt : place < n) (x : DirEntry) (others : (k : ℕ) → k ≢ place / 56 → c k ≡ b k) (entries : AreEntries (c (place / 56)))
-      (now : listed (c (place / 56)) ≡ with_entry_at (listed (b (place / 56))) (place % 56) x) where
+      (now : block_entries (c (place / 56)) ≡ with_entry_at (block_entries (b (place / 56))) (place % 56) x) where
     pub is_set : (name : List ℕ) → (entry_at b place).0 ≡ name → x.name ≡ name → IsEntered place (name, (x.inode, x.kind)) n (entry_at b) n (entry_at c)
     is_set name old new = record {
       at_name = inl (lt, old, refl);
@@ -106,14 +106,14 @@ module _ (owner n : ℕ) (b : LogicalBlocks) (is : AreDirectoryBlocks owner n b)
           subst (λ j. IsDirectoryBlock owner n j (c j)) (sym here) (record {
             entries = entries;
             owner_is = ap (λ v. v.owner) now ∙ part.owner_is;
-            count_is = ap (λ v. length v.entries) now ∙ length-set (listed (b (place / 56))).entries (place % 56) x ∙ part.count_is;
+            count_is = ap (λ v. length v.entries) now ∙ length-set (block_entries (b (place / 56))).entries (place % 56) x ∙ part.count_is;
           })
       | inr off ↦ part_stays owner n n k (b k) (c k) (others k off) refl (is.parts k low)
     ]
 
   -- ---- one entry more
 
-  module _ (c : LogicalBlocks) (v : EntryList) (x : DirEntry) (others : (k : ℕ) → k ≢ n / 56 → c k ≡ b k) (entries : AreEntries (c (n / 56))) (now : listed (c (n / 56)) ≡ with_last v x)
+  module _ (c : LogicalBlocks) (v : EntryList) (x : DirEntry) (others : (k : ℕ) → k ≢ n / 56 → c k ≡ b k) (entries : AreEntries (c (n / 56))) (now : block_entries (c (n / 56)) ≡ with_last v x)
       (long : length v.entries ≡ n % 56) (by : v.owner ≡ owner) where
     pub parts_more : (k : ℕ) → k < blocks_for (n + 1) → IsDirectoryBlock owner (n + 1) k (c k)
     parts_more k low = elim (cases_eq k (n / 56)) [
@@ -130,7 +130,7 @@ module _ (owner n : ℕ) (b : LogicalBlocks) (is : AreDirectoryBlocks owner n b)
           part_stays owner n (n + 1) k (b k) (c k) (others k off) full (is.parts k (omega (arith, low, off)))
     ]
 
-    pub is_more : ((i : ℕ) → i < n % 56 → entry_of v i ≡ entry_of (listed (b (n / 56))) i) → IsAbsent x.name (entry_at b) n → IsEntered n (plain x) n (entry_at b) (n + 1) (entry_at c)
+    pub is_more : ((i : ℕ) → i < n % 56 → entry_of v i ≡ entry_of (block_entries (b (n / 56))) i) → IsAbsent x.name (entry_at b) n → IsEntered n (plain x) n (entry_at b) (n + 1) (entry_at c)
     is_more before absent = record {
       at_name = inr (refl, absent, refl);
       there = last_there b c n v x others now long before;

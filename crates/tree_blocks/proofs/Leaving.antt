@@ -3,7 +3,7 @@ use Rattle.std.proofs.Common.{◌≡◌, ◌≢◌, ◌⊎◌, inl, inr, ℕ, �
 use Rattle.std.proofs.lemmas.Bool.{cases_eq}
 use Rattle.std.proofs.lemmas.List.{length-set, length-take}
 use Rattle.layout.specs.declared.directory.DirEntry.{DirEntry}
-use Rattle.layout.specs.Directory.{EntryList, AreEntries, listed, entry_of, are_distinct, with_entry_at, without_entry, without_last}
+use Rattle.layout.specs.Directory.{EntryList, AreEntries, block_entries, entry_of, are_distinct, with_entry_at, without_entry, without_last}
 use Rattle.tree_blocks.specs.Inode.{LogicalBlocks, plain, entry_at, entries_in, blocks_for, IsDirectoryBlock, AreDirectoryBlocks}
 use Rattle.tree_blocks.specs.After.{IsTakenOut}
 use Rattle.tree_blocks.specs.Directory.{HaveOneLess}
@@ -21,17 +21,17 @@ length_taken v i = omega (arith, length-take (length v.entries - 1) (with_entry_
 module _ (owner last : ℕ) (b : LogicalBlocks) (is : AreDirectoryBlocks owner (last + 1) b) where
   -- what stands in the block of the last entry
   abbrev pub own : EntryList
-  own = listed (b (last / 56))
+  own = block_entries (b (last / 56))
 
   -- the block of the last entry ends with it
   pub last_part : IsDirectoryBlock owner (last + 1) (last / 56) (b (last / 56))
   last_part = is.parts (last / 56) (omega arith)
 
-  pub last_long : length (listed (b (last / 56))).entries ≡ last % 56 + 1
+  pub last_long : length (block_entries (b (last / 56))).entries ≡ last % 56 + 1
   last_long = let n = last_part.count_is in omega (arith, n)
 
-  last_is : (i : ℕ) → i ≡ last % 56 → entry_at b last ≡ plain (entry_of (listed (b (last / 56))) i)
-  last_is i same = entry_is b last (listed (b (last / 56))) refl ∙ ap (λ j. plain (entry_of (listed (b (last / 56))) j)) (sym same)
+  last_is : (i : ℕ) → i ≡ last % 56 → entry_at b last ≡ plain (entry_of (block_entries (b (last / 56))) i)
+  last_is i same = entry_is b last (block_entries (b (last / 56))) refl ∙ ap (λ j. plain (entry_of (block_entries (b (last / 56))) j)) (sym same)
 
   -- the blocks before it are full
   full_stays : (k : ℕ) (c : List ℕ) → k < last / 56 → c ≡ b k → IsDirectoryBlock owner last k c
@@ -40,7 +40,7 @@ module _ (owner last : ℕ) (b : LogicalBlocks) (is : AreDirectoryBlocks owner (
   -- ---- within one block
 
   module _ (c : LogicalBlocks) (place : ℕ) (le : place ≤ last) (here : place / 56 ≡ last / 56) (others : (k : ℕ) → k ≢ last / 56 → c k ≡ b k) (entries : AreEntries (c (last / 56)))
-      (now : listed (c (last / 56)) ≡ without_entry (listed (b (last / 56))) (place % 56)) where
+      (now : block_entries (c (last / 56)) ≡ without_entry (block_entries (b (last / 56))) (place % 56)) where
     taken_within : IsTakenOut place (last + 1) (entry_at b) last (entry_at c)
     taken_within = record {
       inside = omega (arith, le);
@@ -49,16 +49,16 @@ module _ (owner last : ℕ) (b : LogicalBlocks) (is : AreDirectoryBlocks owner (
           let before : place % 56 < length own.entries - 1 = omega (arith, last_long, here, le, low) in
           let end : length own.entries - 1 ≡ last % 56 = omega (arith, last_long) in
           let final : last ≡ last + 1 - 1 = omega arith in
-          entry_is c place (without_entry own (place % 56)) (ap (λ k. listed (c k)) here ∙ now) ∙ ap plain (taken_there own (place % 56) before) ∙ sym (last_is (length own.entries - 1) end) ∙ ap (entry_at b) final;
+          entry_is c place (without_entry own (place % 56)) (ap (λ k. block_entries (c k)) here ∙ now) ∙ ap plain (taken_there own (place % 56) before) ∙ sym (last_is (length own.entries - 1) end) ∙ ap (entry_at b) final;
       others = λ e low off. beside e (omega (arith, low)) off (cases_eq (e / 56) (last / 56));
     } where
       beside : (e : ℕ) → e < last → e ≢ place → (e / 56 ≡ last / 56) ⊎ (e / 56 ≢ last / 56) → entry_at c e ≡ entry_at b e
       beside e low off (inr away) = same_block b c e (others (e / 56) away)
       beside e low off (inl at) =
           let before : e % 56 < length own.entries - 1 = omega (arith, last_long, at, low) in
-          entry_is c e (without_entry own (place % 56)) (ap (λ k. listed (c k)) at ∙ now)
+          entry_is c e (without_entry own (place % 56)) (ap (λ k. block_entries (c k)) at ∙ now)
           ∙ ap plain (taken_other own (place % 56) (e % 56) (λ same. off (omega (arith, same, at, here))) before)
-          ∙ sym (entry_is b e own (ap (λ k. listed (b k)) at))
+          ∙ sym (entry_is b e own (ap (λ k. block_entries (b k)) at))
 
     parts_within : (k : ℕ) → k < blocks_for last → IsDirectoryBlock owner last k (c k)
     parts_within k low = elim (cases_eq k (last / 56)) [
@@ -79,7 +79,7 @@ module _ (owner last : ℕ) (b : LogicalBlocks) (is : AreDirectoryBlocks owner (
 
   module _ (place : ℕ) (before : place / 56 < last / 56) where
     abbrev pub target : EntryList
-    target = listed (b (place / 56))
+    target = block_entries (b (place / 56))
 
     abbrev pub moved : DirEntry
     moved = entry_of own (length own.entries - 1)
@@ -116,7 +116,7 @@ module _ (owner last : ℕ) (b : LogicalBlocks) (is : AreDirectoryBlocks owner (
             was = number;
             below = omega (arith, low, before);
             name = ap (λ e. e.name) (set_other target (place % 56) i moved off)
-                ∙ sym (ap (λ e. e.0) (entry_is b number target (ap (λ k. listed (b k)) block)) ∙ ap (λ j. (entry_of target j).name) index);
+                ∙ sym (ap (λ e. e.0) (entry_is b number target (ap (λ k. block_entries (b k)) block)) ∙ ap (λ j. (entry_of target j).name) index);
             at = inr (off, refl);
           }
     ]
@@ -134,7 +134,7 @@ module _ (owner last : ℕ) (b : LogicalBlocks) (is : AreDirectoryBlocks owner (
               ]
 
     module _ (c : LogicalBlocks) (others : (k : ℕ) → k ≢ place / 56 → k ≢ last / 56 → c k ≡ b k) (entries : AreEntries (c (place / 56))) (left : AreEntries (c (last / 56)))
-        (now : listed (c (place / 56)) ≡ with_entry_at target (place % 56) moved) (less : listed (c (last / 56)) ≡ without_last own) where
+        (now : block_entries (c (place / 56)) ≡ with_entry_at target (place % 56) moved) (less : block_entries (c (last / 56)) ≡ without_last own) where
       taken_across : IsTakenOut place (last + 1) (entry_at b) last (entry_at c)
       taken_across = record {
         inside = omega (arith, before);
@@ -146,13 +146,13 @@ module _ (owner last : ℕ) (b : LogicalBlocks) (is : AreDirectoryBlocks owner (
       } where
         beside : (e : ℕ) → e < last → e ≢ place → (e / 56 ≡ last / 56) ⊎ (e / 56 ≢ last / 56) → (e / 56 ≡ place / 56) ⊎ (e / 56 ≢ place / 56) → entry_at c e ≡ entry_at b e
         beside e low off (inl at) any =
-            entry_is c e (without_last own) (ap (λ k. listed (c k)) at ∙ less)
+            entry_is c e (without_last own) (ap (λ k. block_entries (c k)) at ∙ less)
             ∙ ap plain (less_same own (e % 56) (omega (arith, last_long, at, low)))
-            ∙ sym (entry_is b e own (ap (λ k. listed (b k)) at))
+            ∙ sym (entry_is b e own (ap (λ k. block_entries (b k)) at))
         beside e low off (inr away) (inl at) =
-            entry_is c e (with_entry_at target (place % 56) moved) (ap (λ k. listed (c k)) at ∙ now)
+            entry_is c e (with_entry_at target (place % 56) moved) (ap (λ k. block_entries (c k)) at ∙ now)
             ∙ ap plain (set_other target (place % 56) (e % 56) moved (λ same. off (omega (arith, same, at))))
-            ∙ sym (entry_is b e target (ap (λ k. listed (b k)) at))
+            ∙ sym (entry_is b e target (ap (λ k. block_entries (b k)) at))
         beside e low off (inr away) (inr apart) = same_block b c e (others (e / 56) apart away)
 
       parts_across : (k : ℕ) → k < blocks_for last → IsDirectoryBlock owner last k (c k)

@@ -15,9 +15,9 @@ use Rattle.graph_change.specs.posix_calls.Content.{Entries}
 use Rattle.graph_change.specs.posix_calls.declared.limits.TheConstants.{MAX_ENTRIES}
 use Rattle.layout.proofs.DirChanges.{listed_now}
 use Rattle.graph_change.specs.Net.{Child}
-use Rattle.tree_blocks.specs.Inode.{entry_at, named}
-use Rattle.tree_blocks.specs.Directory.{numbered, AreHeld}
-use Rattle.tree_blocks.specs.Written.{numbers_from, count_set, WereMarked, TellsWritten}
+use Rattle.tree_blocks.specs.Inode.{entry_at, named_entries}
+use Rattle.tree_blocks.specs.Directory.{numbered_blocks, AreHeld}
+use Rattle.tree_blocks.specs.BlockMarks.{numbers_from, count_set, WereMarked, ListsWritten}
 use Rattle.tree_blocks.proofs.Directories.{len_named}
 
 count_cons : (b : Bool) (marks : List Bool) → count_set (b ∷ marks) ≡ cond b 1 0 + count_set marks
@@ -44,7 +44,7 @@ before marks a k unset = elim (cases_lt k (length marks)) [
 pub mark_none : (marks : List Bool) (bs : List (List ℕ)) → WereMarked 0 marks marks bs bs
 mark_none marks bs = record { long = refl; few = omega arith; stay = λ k unset. unset; others = λ k lt unset. refl }
 
-pub mark_one : (marks : List Bool) (a : ℕ) (old new : List (List ℕ)) → ((k : ℕ) → k ≢ a → numbered new k ≡ numbered old k) → WereMarked 1 marks (set marks a true) old new
+pub mark_one : (marks : List Bool) (a : ℕ) (old new : List (List ℕ)) → ((k : ℕ) → k ≢ a → numbered_blocks new k ≡ numbered_blocks old k) → WereMarked 1 marks (set marks a true) old new
 mark_one marks a old new others = record {
   long = length-set marks a true;
   few = count_one marks a;
@@ -52,7 +52,7 @@ mark_one marks a old new others = record {
   others = λ k lt unset. others k (apart marks a k (subst (λ n. k < n) (length-set marks a true) lt) unset);
 }
 
-pub mark_two : (marks : List Bool) (a b : ℕ) (old new : List (List ℕ)) → ((k : ℕ) → k ≢ a → k ≢ b → numbered new k ≡ numbered old k) → WereMarked 2 marks (set (set marks a true) b true) old new
+pub mark_two : (marks : List Bool) (a b : ℕ) (old new : List (List ℕ)) → ((k : ℕ) → k ≢ a → k ≢ b → numbered_blocks new k ≡ numbered_blocks old k) → WereMarked 2 marks (set (set marks a true) b true) old new
 mark_two marks a b old new others =
     let one = set marks a true in
     let long = length-set marks a true in
@@ -131,20 +131,20 @@ pub written_few : (n end most : ℕ) (marks : List Bool) (old new : List (List �
 written_few n end most marks old new are = omega (arith, numbers_few 0 (take end marks), count_front end marks, are.few, count_none n)
 
 -- a block that was not there before is marked, since it has bytes
-module _ (most n : ℕ) (marks : List Bool) (old new : List (List ℕ)) (are : WereMarked most (replicate n false) marks old new) (room : length new ≤ n) (some : (k : ℕ) → k < length new → 0 < length (numbered new k)) where
+module _ (most n : ℕ) (marks : List Bool) (old new : List (List ℕ)) (are : WereMarked most (replicate n false) marks old new) (room : length new ≤ n) (some : (k : ℕ) → k < length new → 0 < length (numbered_blocks new k)) where
   long : length marks ≡ n
   long = are.long ∙ length-replicate n false
 
   numbered_in : (k : ℕ) → k < length new → get_or marks k false ≡ true → Contains (numbers_from 0 (take (length new) marks)) k
   numbered_in k lt on = subst (Contains (numbers_from 0 (take (length new) marks))) (omega arith) (has 0 (take (length new) marks) k (get_or-take (length new) marks k false lt ∙ on))
 
-  pub written_are : TellsWritten old new (numbers_from 0 (take (length new) marks))
+  pub written_are : ListsWritten old new (numbers_from 0 (take (length new) marks))
   written_are = record {
     rising = numbers_rise 0 (take (length new) marks);
     inside = All-from_recursion (λ k. k < length new) (numbers_from 0 (take (length new) marks)) (below 0 (length new) (take (length new) marks) (omega (arith, length-take (length new) marks)));
     added = λ k past lt. elim (cases_Bool (get_or marks k false)) [
       | inl on ↦ numbered_in k lt on
-      | inr unset ↦ (let same : length (numbered new k) ≡ 0 = ap length (are.others k (omega (arith, long, room, lt)) unset ∙ get_or_past old k [] past) in absurd (omega (arith, same, some k lt)))
+      | inr unset ↦ (let same : length (numbered_blocks new k) ≡ 0 = ap length (are.others k (omega (arith, long, room, lt)) unset ∙ get_or_past old k [] past) in absurd (omega (arith, same, some k lt)))
     ];
     others = λ k lt. elim (cases_Bool (get_or marks k false)) [
       | inl on ↦ inl (numbered_in k lt on)
@@ -155,11 +155,11 @@ module _ (most n : ℕ) (marks : List Bool) (old new : List (List ℕ)) (are : W
 -- ---- a directory after a change of names
 
 module _ (owner n : ℕ) (bs : List (List ℕ)) (held : AreHeld owner n bs) where
-  pub block_has : (k : ℕ) → k < length bs → 0 < length (numbered bs k)
-  block_has k lt = let size = (listed_now (numbered bs k) (held.directory.parts k (subst (λ m. k < m) held.long lt)).entries).long in omega (arith, size)
+  pub block_has : (k : ℕ) → k < length bs → 0 < length (numbered_blocks bs k)
+  block_has k lt = let size = (listed_now (numbered_blocks bs k) (held.directory.parts k (subst (λ m. k < m) held.long lt)).entries).long in omega (arith, size)
 
-  pub few_left : (m : Entries Child) → named (entry_at (numbered bs)) n ≡ m → (MAX_ENTRIES < fin.len m → ⊥) → n ≤ MAX_ENTRIES
+  pub few_left : (m : Entries Child) → named_entries (entry_at (numbered_blocks bs)) n ≡ m → (MAX_ENTRIES < fin.len m → ⊥) → n ≤ MAX_ENTRIES
   few_left m is none = elim (cases_lt MAX_ENTRIES (fin.len m)) [
     | inl over ↦ absurd (none over)
-    | inr le ↦ let same = sym (len_named (entry_at (numbered bs)) n held.directory.distinct) ∙ ap (λ (x : Entries Child). fin.len x) is in omega (arith, same, le)
+    | inr le ↦ let same = sym (len_named (entry_at (numbered_blocks bs)) n held.directory.distinct) ∙ ap (λ (x : Entries Child). fin.len x) is in omega (arith, same, le)
   ]

@@ -10,10 +10,10 @@ use Rattle.std.specs.FinMap.Entries.{below_all}
 use Rattle.std.proofs.Math.Seq.{drop-cons}
 use Rattle.std.proofs.Math.ListN.{drop_of_length-le}
 use Rattle.graph_change.specs.posix_calls.Content.{Entries}
-use Rattle.layout.specs.file_graph.Named.{pairs}
+use Rattle.layout.specs.file_graph.NameOrder.{pairs}
 use Rattle.layout.specs.file_graph.declared.name_map.NamedEntry.{NamedEntry}
 use Rattle.graph_change.specs.Net.{Child, with_entry, with_entries}
-use Rattle.tree_blocks.specs.Directory.{coming, counted}
+use Rattle.tree_blocks.specs.Directory.{coming_count, next_count}
 use Rattle.tree_blocks.proofs.Directories.{names_same, same_name, cases_name}
 
 abbrev Name : Type 0
@@ -67,60 +67,60 @@ all_behind es = ap (behind es) (sym (pairs_long es)) ∙ all_done (pairs es)
 
 -- ---- how many names come
 
-pub coming_drop : (cs : List NameChange) (k : ℕ) → coming (drop k cs) ≤ coming cs
+pub coming_drop : (cs : List NameChange) (k : ℕ) → coming_count (drop k cs) ≤ coming_count cs
 coming_drop [] zero = omega arith
 coming_drop [] (suc k) = omega arith
 coming_drop (c ∷ cs) zero = omega arith
-coming_drop (c ∷ cs) (suc k) = let rest = coming_drop cs k in let one = at_least (coming cs) (is_some c.1) in omega (arith, rest, one) where
-  at_least : (n : ℕ) (b : Bool) → n ≤ counted n false b
+coming_drop (c ∷ cs) (suc k) = let rest = coming_drop cs k in let one = at_least (coming_count cs) (is_some c.1) in omega (arith, rest, one) where
+  at_least : (n : ℕ) (b : Bool) → n ≤ next_count n false b
   at_least n true = omega arith
   at_least n false = omega arith
 
 -- ---- how many names there are after one change
 
-pub len_entry : (name : Name) (what : Option Child) (m : Entries Child) → fin.len (with_entry name what m) ≡ counted (fin.len m) (fin.contains_key m name) (is_some what)
+pub len_entry : (name : Name) (what : Option Child) (m : Entries Child) → fin.len (with_entry name what m) ≡ next_count (fin.len m) (fin.contains_key m name) (is_some what)
 len_entry name None m = fin.len-remove nat_list_cmp_total m name
 len_entry name (Some x) m = fin.len-insert nat_list_cmp_total m name x
 
-counted_most : (n : ℕ) (stood comes : Bool) → counted n stood comes ≤ counted n false comes
+counted_most : (n : ℕ) (stood comes : Bool) → next_count n stood comes ≤ next_count n false comes
 counted_most n true true = omega arith
 counted_most n true false = omega arith
 counted_most n false comes = omega arith
 
-counted_more : (n k : ℕ) (comes : Bool) → counted (n + k) false comes ≡ n + counted k false comes
+counted_more : (n k : ℕ) (comes : Bool) → next_count (n + k) false comes ≡ n + next_count k false comes
 counted_more n k true = omega arith
 counted_more n k false = refl
 
-counted_up : (n k : ℕ) (comes : Bool) → n ≤ k → counted n false comes ≤ counted k false comes
+counted_up : (n k : ℕ) (comes : Bool) → n ≤ k → next_count n false comes ≤ next_count k false comes
 counted_up n k true le = omega (arith, le)
 counted_up n k false le = le
 
-pub len_bound : (cs : List NameChange) (m : Entries Child) → fin.len (with_entries cs m) ≤ fin.len m + coming cs
+pub len_bound : (cs : List NameChange) (m : Entries Child) → fin.len (with_entries cs m) ≤ fin.len m + coming_count cs
 len_bound [] m = omega arith
 len_bound (c ∷ cs) m =
     let rest = with_entries cs m in
     let one = len_entry c.0 c.1 rest in
     let two = counted_most (fin.len rest) (fin.contains_key rest c.0) (is_some c.1) in
-    let three = counted_up (fin.len rest) (fin.len m + coming cs) (is_some c.1) (len_bound cs m) in
-    let four = counted_more (fin.len m) (coming cs) (is_some c.1) in
+    let three = counted_up (fin.len rest) (fin.len m + coming_count cs) (is_some c.1) (len_bound cs m) in
+    let four = counted_more (fin.len m) (coming_count cs) (is_some c.1) in
     omega (arith, one, two, three, four)
 
-pub counted_one : (n : ℕ) (stood comes : Bool) → counted n stood comes ≤ n + 1
+pub counted_one : (n : ℕ) (stood comes : Bool) → next_count n stood comes ≤ n + 1
 counted_one n true true = omega arith
 counted_one n true false = omega arith
 counted_one n false true = omega arith
 counted_one n false false = omega arith
 
 -- no more names come than the changes have
-pub few_behind : (es : List (NamedEntry (Option Child))) (done : ℕ) → coming (behind es done) ≤ coming (pairs es)
+pub few_behind : (es : List (NamedEntry (Option Child))) (done : ℕ) → coming_count (behind es done) ≤ coming_count (pairs es)
 few_behind es done = coming_drop (pairs es) (length (pairs es) - done)
 
-pub grown : (es : List (NamedEntry (Option Child))) (done : ℕ) (x : NamedEntry (Option Child)) → done < length es → x ≡ get_or es (length es - 1 - done) x → (after count : ℕ) → after ≤ count + coming (behind es done)
-    → counted after false (is_some x.value) ≤ count + coming (behind es (done + 1))
+pub grown : (es : List (NamedEntry (Option Child))) (done : ℕ) (x : NamedEntry (Option Child)) → done < length es → x ≡ get_or es (length es - 1 - done) x → (after count : ℕ) → after ≤ count + coming_count (behind es done)
+    → next_count after false (is_some x.value) ≤ count + coming_count (behind es (done + 1))
 grown es done x lt is after count few =
-    let next = ap coming (next_behind es done x lt is) in
-    let up = counted_up after (count + coming (behind es done)) (is_some x.value) few in
-    let more = counted_more count (coming (behind es done)) (is_some x.value) in
+    let next = ap coming_count (next_behind es done x lt is) in
+    let up = counted_up after (count + coming_count (behind es done)) (is_some x.value) few in
+    let more = counted_more count (coming_count (behind es done)) (is_some x.value) in
     omega (arith, next, up, more)
 
 -- where a name stands there is one at least

@@ -6,13 +6,13 @@ use Rattle.layout.specs.file_graph.declared.effect.Kind.TheVariants as kind
 use Rattle.graph_change.specs.Bytes.{BytesChange, length_after, byte_after}
 use Rattle.graph_change.specs.Net.{Base, Kept, Made, Gone, EntryChanges, Net, names_after, entries_after}
 use Rattle.graph_change.specs.Change.{Changes, net_of, change_at}
-use Rattle.tree_blocks.specs.Inode.{LogicalBlocks, Entry, Inode, byte_of, bytes_of_blocks, entry_at, named, IsAbsent, AreDirectoryBlocks, blank_inode, AreAlike}
+use Rattle.tree_blocks.specs.Inode.{LogicalBlocks, Entry, Inode, byte_of, bytes_of_blocks, entry_at, named_entries, IsAbsent, AreDirectoryBlocks, blank_inode, AreAlike}
 
 -- what the rest of a change starts from: the inode that was there, or one without names and blocks
-abbrev pub started : Base → Inode → Inode
-started Kept old = old
-started (Made kind) old = blank_inode (Some kind)
-started Gone old = blank_inode None
+abbrev pub start_node : Base → Inode → Inode
+start_node Kept old = old
+start_node (Made kind) old = blank_inode (Some kind)
+start_node Gone old = blank_inode None
 
 -- ---- a file
 
@@ -25,7 +25,7 @@ pub record IsFileAfter (c : BytesChange) (old_size : ℕ) (old : LogicalBlocks) 
 
 -- a directory after a change of its entries: what stands under each name, and that its blocks are again those of a directory
 pub record IsDirectoryAfter (number : ℕ) (c : EntryChanges) (old_size : ℕ) (old : LogicalBlocks) (new_size : ℕ) (new : LogicalBlocks) : Type 0 where
-  pub entries : named (entry_at new) new_size ≡ entries_after c (named (entry_at old) old_size)
+  pub entries : named_entries (entry_at new) new_size ≡ entries_after c (named_entries (entry_at old) old_size)
   pub directory : AreDirectoryBlocks number new_size new
 
 -- one entry entered under a number: that of the entry which has its name, or else the one behind the last entry; all others stay
@@ -55,7 +55,7 @@ pub record IsEdited (number : ℕ) (c : Net) (old new : Inode) : Type 0 where
 
 -- an inode after a net change
 abbrev pub IsInodeAfter : ℕ → Net → Inode → Inode → Type 0
-IsInodeAfter number c old new = IsEdited number c (started c.base old) new
+IsInodeAfter number c old new = IsEdited number c (start_node c.base old) new
 
 -- ---- all inodes
 

@@ -14,24 +14,24 @@ pub record EntryBlocks : Type 0 where
   pub blocks : List (List ℕ)
 
 -- blocks by their numbers, the first at 0
-abbrev pub numbered : List (List ℕ) → LogicalBlocks
-numbered blocks k = get_or blocks k []
+abbrev pub numbered_blocks : List (List ℕ) → LogicalBlocks
+numbered_blocks blocks k = get_or blocks k []
 
 -- its entries by their numbers
 abbrev pub numbered_entries : EntryBlocks → ℕ → Entry
-numbered_entries d = entry_at (numbered d.blocks)
+numbered_entries d = entry_at (numbered_blocks d.blocks)
 
 -- it is a directory, in as many blocks as its entries want
 pub record IsHeld (d : EntryBlocks) : Type 0 where
   pub number : is_inode d.owner ≡ true
   pub few : d.count ≤ MAX_ENTRIES
   pub long : length d.blocks ≡ blocks_for d.count
-  pub directory : AreDirectoryBlocks d.owner d.count (numbered d.blocks)
+  pub directory : AreDirectoryBlocks d.owner d.count (numbered_blocks d.blocks)
 
 -- blocks are those of a directory of so many entries, and no more
 pub record AreHeld (owner count : ℕ) (blocks : List (List ℕ)) : Type 0 where
   pub long : length blocks ≡ blocks_for count
-  pub directory : AreDirectoryBlocks owner count (numbered blocks)
+  pub directory : AreDirectoryBlocks owner count (numbered_blocks blocks)
 
 -- ---- a change of names
 
@@ -40,22 +40,22 @@ abbrev pub LeadToInodes : List (List ℕ × Option (ℕ × Kind)) → Type 0
 LeadToInodes cs = (i : ℕ) → i < length cs → IfSome (get_or cs i ([], None)).1 (λ child. is_inode child.0 ≡ true)
 
 -- how many there are where a name stood or did not, and is to stand there or not
-abbrev pub counted : ℕ → Bool → Bool → ℕ
-counted n stood comes = if comes then (if stood then n else n + 1) else (if stood then n - 1 else n)
+abbrev pub next_count : ℕ → Bool → Bool → ℕ
+next_count n stood comes = if comes then (if stood then n else n + 1) else (if stood then n - 1 else n)
 
 -- how many names are to stand there afterwards
-abbrev pub coming : List (List ℕ × Option (ℕ × Kind)) → ℕ
-coming [] = 0
-coming (c ∷ cs) = counted (coming cs) false (is_some c.1)
+abbrev pub coming_count : List (List ℕ × Option (ℕ × Kind)) → ℕ
+coming_count [] = 0
+coming_count (c ∷ cs) = next_count (coming_count cs) false (is_some c.1)
 
 -- ---- blocks as they change
 
 -- the blocks of a directory of so many entries with one more behind them
 pub record HaveOneMore (owner count : ℕ) (e : Entry) (old new : List (List ℕ)) : Type 0 where
   pub long : length new ≡ blocks_for (count + 1)
-  pub directory : AreDirectoryBlocks owner (count + 1) (numbered new)
-  pub entered : IsEntered count e count (entry_at (numbered old)) (count + 1) (entry_at (numbered new))
-  pub others : (k : ℕ) → k ≢ count / MAX_IN_BLOCK → numbered new k ≡ numbered old k
+  pub directory : AreDirectoryBlocks owner (count + 1) (numbered_blocks new)
+  pub entered : IsEntered count e count (entry_at (numbered_blocks old)) (count + 1) (entry_at (numbered_blocks new))
+  pub others : (k : ℕ) → k ≢ count / MAX_IN_BLOCK → numbered_blocks new k ≡ numbered_blocks old k
 
 -- the blocks of a directory of which the last entry stands at the place of another, and not behind the others; `last` is its number
 pub record HaveOneLess (owner last number : ℕ) (old new : LogicalBlocks) : Type 0 where

@@ -13,13 +13,13 @@ put_in None = blank
 put_in (Some b) = patch_of b
 
 -- how many of its bytes are kept
-abbrev pub kept_in : Length → ℕ → ℕ
-kept_in (Grown to) k = BLOCK
-kept_in (Cut least to) k = min BLOCK (least - BLOCK * k)
+abbrev pub kept_length : Length → ℕ → ℕ
+kept_length (Grown to) k = BLOCK
+kept_length (Cut least to) k = min BLOCK (least - BLOCK * k)
 
 -- the change of block k, as that of a file of its bytes alone
 abbrev pub in_block : Length → Patch → ℕ → BytesChange
-in_block len patch k = record { length = Cut (kept_in len k) BLOCK; new = patch }
+in_block len patch k = record { length = Cut (kept_length len k) BLOCK; new = patch }
 
 -- the bytes of the block after it; one that no tier holds was zeros
 abbrev pub block_after : Length → Patch → ℕ → List ℕ → List ℕ

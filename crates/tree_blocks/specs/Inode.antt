@@ -11,7 +11,7 @@ use Rattle.layout.specs.declared.directory.TheConstants.{MAX_IN_BLOCK}
 use Rattle.layout.specs.declared.directory.DirEntry.{DirEntry}
 use Rattle.layout.specs.declared.slot.Slot.{Slot}
 use Rattle.layout.specs.declared.slot.Slot.TheVariants as slot
-use Rattle.layout.specs.Directory.{AreEntries, listed, entry_of}
+use Rattle.layout.specs.Directory.{AreEntries, block_entries, entry_of}
 
 -- the logical blocks by their numbers; one that no tier holds has no bytes, which reads as zeros
 abbrev pub LogicalBlocks : Type 0
@@ -43,11 +43,11 @@ plain e = (e.name, (e.inode, e.kind))
 
 -- the entry of a number
 unfoldable pub entry_at : LogicalBlocks → ℕ → Entry
-entry_at blocks e = plain (entry_of (listed (blocks (e / MAX_IN_BLOCK))) (e % MAX_IN_BLOCK))
+entry_at blocks e = plain (entry_of (block_entries (blocks (e / MAX_IN_BLOCK))) (e % MAX_IN_BLOCK))
 
 -- entries by their numbers, the first so many, as a map by name
-abbrev pub named : (ℕ → Entry) → ℕ → Entries (ℕ × Kind)
-named entry n = fin.from_entries (map entry (range_with_len 0 n))
+abbrev pub named_entries : (ℕ → Entry) → ℕ → Entries (ℕ × Kind)
+named_entries entry n = fin.from_entries (map entry (range_with_len 0 n))
 
 -- no two of the first so many entries have one name
 abbrev pub AreDistinct : (ℕ → Entry) → ℕ → Type 0
@@ -68,8 +68,8 @@ entries_in n k = min MAX_IN_BLOCK (n - MAX_IN_BLOCK * k)
 -- what block k of a directory of n entries is
 pub record IsDirectoryBlock (owner n k : ℕ) (block : List ℕ) : Type 0 where
   pub entries : AreEntries block
-  pub owner_is : (listed block).owner ≡ owner
-  pub count_is : length (listed block).entries ≡ entries_in n k
+  pub owner_is : (block_entries block).owner ≡ owner
+  pub count_is : length (block_entries block).entries ≡ entries_in n k
 
 -- a directory of n entries: each block spells its part of them, and no two have one name
 pub record AreDirectoryBlocks (owner n : ℕ) (blocks : LogicalBlocks) : Type 0 where
@@ -98,7 +98,7 @@ inode_of (slot.Directory names entries touch root) blocks = record { kind = Some
 
 abbrev pub body_of_blocks : Kind → ℕ → LogicalBlocks → Body
 body_of_blocks kind.File size blocks = FileBody (bytes_of_blocks blocks size)
-body_of_blocks kind.Directory size blocks = DirBody (named (entry_at blocks) size)
+body_of_blocks kind.Directory size blocks = DirBody (named_entries (entry_at blocks) size)
 
 abbrev pub node_by : Option Kind → ℕ → ℕ → LogicalBlocks → Option Node
 node_by None names size blocks = None

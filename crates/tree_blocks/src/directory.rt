@@ -1,20 +1,20 @@
 ghost use Rattle.std.specs.Prelude.{◌≡◌, ◌≢◌, ◌≤◌, ◌<◌, ◌/◌, ◌%◌, ◌+◌, ◌-◌, ◌*◌, ◌↔◌, ℕ, [], length, get_or, true, IfOk, IfErr, IfNone, IfSome, OnOk, OnErr};
 ghost use Rattle.graph_change.specs.posix_calls.declared.limits.TheConstants.{MAX_ENTRIES};
 ghost use Rattle.layout.specs.Places.{is_inode};
-ghost use Rattle.layout.specs.Lent.{owned};
+ghost use Rattle.layout.specs.LentEntry.{owned_entry};
 ghost use Rattle.layout.specs.Directory.{fits_entry};
 ghost use Rattle.layout.specs.declared.directory.TheConstants.{MAX_IN_BLOCK};
-ghost use Rattle.tree_blocks.specs.Inode.{plain, named, blocks_for, IsAbsent};
+ghost use Rattle.tree_blocks.specs.Inode.{plain, named_entries, blocks_for, IsAbsent};
 ghost use Rattle.std.specs.FinMap as fin;
 ghost use Rattle.graph_change.specs.Net.{entries_after};
 ghost use Rattle.tree_blocks.specs.After.{IsEntered, IsTakenOut, IsDirectoryAfter};
-ghost use Rattle.tree_blocks.specs.Directory.{EntryBlocks, IsHeld, LeadToInodes, coming, numbered, numbered_entries};
-ghost use Rattle.tree_blocks.specs.Written.{TellsWritten};
+ghost use Rattle.tree_blocks.specs.Directory.{EntryBlocks, IsHeld, LeadToInodes, coming_count, numbered_blocks, numbered_entries};
+ghost use Rattle.tree_blocks.specs.BlockMarks.{ListsWritten};
 
-use crate::changing::{are_too_many, change_names, coming};
 use crate::entry_blocks::{add_to, find_in, take_from};
 use crate::error::EnterError;
-use crate::written::{MOST_BLOCKS, WrittenBlocks};
+use crate::name_changes::{are_too_many, change_names, coming_count};
+use crate::written_blocks::{MOST_BLOCKS, WrittenBlocks};
 use graph_change::MAX_ENTRIES;
 use layout::{BLOCK, DirEntries, EntryRef, Kind, MAX_IN_BLOCK, NameMap, set_target};
 use std::alloc::{AllocError, Global};
@@ -110,10 +110,10 @@ impl Directory {
     /// The entry of a number.
     pub fn entry(&self, number: usize) -> EntryRef<'_>
         requires { number < self.now.count }
-        ensures entry { plain (owned result) ≡ numbered_entries self.now number }
-        ensures fits { fits_entry (owned result) ≡ true }
+        ensures entry { plain (owned_entry result) ≡ numbered_entries self.now number }
+        ensures fits { fits_entry (owned_entry result) ≡ true }
     {
-        DirEntries::known(&self.blocks[number / MAX_IN_BLOCK]).entry(number % MAX_IN_BLOCK)
+        DirEntries::from_known(&self.blocks[number / MAX_IN_BLOCK]).entry(number % MAX_IN_BLOCK)
     }
 
     /// Lets the entry of a number lead to another node, under its name.
@@ -122,7 +122,7 @@ impl Directory {
         requires fits { fits_entry (record { inode = inode; kind = kind; name = (numbered_entries self.old number).0 }) ≡ true }
         ensures set { IsEntered number ((numbered_entries self.old number).0, (inode, kind)) self.old.count (numbered_entries self.old) self.new.count (numbered_entries self.new) }
         ensures owner { self.new.owner ≡ self.old.owner }
-        ensures others { (k : ℕ) → k ≢ number / MAX_IN_BLOCK → numbered self.new.blocks k ≡ numbered self.old.blocks k }
+        ensures others { (k : ℕ) → k ≢ number / MAX_IN_BLOCK → numbered_blocks self.new.blocks k ≡ numbered_blocks self.old.blocks k }
     {
         set_target(
             &mut self.blocks[number / MAX_IN_BLOCK],
@@ -136,10 +136,10 @@ impl Directory {
     /// the one in which that stands changes. `Full` where no entry has the name and there are as many as a directory may have; `Memory` where a block more was wanted.
     /// The directory stays as it was then.
     pub fn enter(&mut self, entry: EntryRef<'_>) -> Result<usize, EnterError>
-        requires { fits_entry (owned entry) ≡ true }
-        ensures entered { IfOk result (λ number. IsEntered number (plain (owned entry.entry)) self.old.count (numbered_entries self.old) self.new.count (numbered_entries self.new)) }
+        requires { fits_entry (owned_entry entry) ≡ true }
+        ensures entered { IfOk result (λ number. IsEntered number (plain (owned_entry entry.entry)) self.old.count (numbered_entries self.old) self.new.count (numbered_entries self.new)) }
         ensures owner { self.new.owner ≡ self.old.owner }
-        ensures others { IfOk result (λ number. (k : ℕ) → k ≢ number / MAX_IN_BLOCK → numbered self.new.blocks k ≡ numbered self.old.blocks k) }
+        ensures others { IfOk result (λ number. (k : ℕ) → k ≢ number / MAX_IN_BLOCK → numbered_blocks self.new.blocks k ≡ numbered_blocks self.old.blocks k) }
         ensures full { result ≡ Err EnterError.Full ↔ (IsAbsent entry.entry.name.now (numbered_entries self.old) self.old.count × (self.old.count ≡ MAX_ENTRIES)) }
         ensures memory { result ≡ Err EnterError.Memory → IsAbsent entry.entry.name.now (numbered_entries self.old) self.old.count × (self.old.count % MAX_IN_BLOCK ≡ 0) }
         ensures refused { OnErr result (self.new ≡ self.old) }
@@ -157,13 +157,13 @@ impl Directory {
 
     // Puts an entry behind the last one.
     fn add(&mut self, entry: EntryRef<'_>) -> Result<(), AllocError>
-        requires fits { fits_entry (owned entry) ≡ true }
+        requires fits { fits_entry (owned_entry entry) ≡ true }
         requires new { IsAbsent entry.name.now (numbered_entries self.old) self.old.count }
         requires room { self.old.count < MAX_ENTRIES }
-        ensures added { OnOk result (IsEntered self.old.count (plain (owned entry.entry)) self.old.count (numbered_entries self.old) self.new.count (numbered_entries self.new)) }
+        ensures added { OnOk result (IsEntered self.old.count (plain (owned_entry entry.entry)) self.old.count (numbered_entries self.old) self.new.count (numbered_entries self.new)) }
         ensures count { OnOk result (self.new.count ≡ self.old.count + 1) }
         ensures owner { self.new.owner ≡ self.old.owner }
-        ensures others { (k : ℕ) → k ≢ self.old.count / MAX_IN_BLOCK → numbered self.new.blocks k ≡ numbered self.old.blocks k }
+        ensures others { (k : ℕ) → k ≢ self.old.count / MAX_IN_BLOCK → numbered_blocks self.new.blocks k ≡ numbered_blocks self.old.blocks k }
         ensures refused { OnErr result (self.new ≡ self.old) }
         ensures memory { OnErr result (self.old.count % MAX_IN_BLOCK ≡ 0) }
     {
@@ -178,7 +178,7 @@ impl Directory {
         ensures taken { IfSome result (λ number. IsTakenOut number self.old.count (numbered_entries self.old) self.new.count (numbered_entries self.new)) }
         ensures named { IfSome result (λ number. (numbered_entries self.old number).0 ≡ name.now) }
         ensures owner { self.new.owner ≡ self.old.owner }
-        ensures others { IfSome result (λ number. (k : ℕ) → k ≢ number / MAX_IN_BLOCK → k ≢ (self.old.count - 1) / MAX_IN_BLOCK → numbered self.new.blocks k ≡ numbered self.old.blocks k) }
+        ensures others { IfSome result (λ number. (k : ℕ) → k ≢ number / MAX_IN_BLOCK → k ≢ (self.old.count - 1) / MAX_IN_BLOCK → numbered_blocks self.new.blocks k ≡ numbered_blocks self.old.blocks k) }
         ensures absent { IfNone result (IsAbsent name.now (numbered_entries self.old) self.old.count) }
         ensures stays { IfNone result (self.new ≡ self.old) }
     {
@@ -192,7 +192,7 @@ impl Directory {
         requires { number < self.old.count }
         ensures taken { IsTakenOut number self.old.count (numbered_entries self.old) self.new.count (numbered_entries self.new) }
         ensures owner { self.new.owner ≡ self.old.owner }
-        ensures others { (k : ℕ) → k ≢ number / MAX_IN_BLOCK → k ≢ (self.old.count - 1) / MAX_IN_BLOCK → numbered self.new.blocks k ≡ numbered self.old.blocks k }
+        ensures others { (k : ℕ) → k ≢ number / MAX_IN_BLOCK → k ≢ (self.old.count - 1) / MAX_IN_BLOCK → numbered_blocks self.new.blocks k ≡ numbered_blocks self.old.blocks k }
     {
         let last = self.count - 1;
         take_from(&mut self.blocks, number, last);
@@ -207,20 +207,20 @@ impl Directory {
         changes: &NameMap<Option<(u32, Kind)>>,
     ) -> Result<WrittenBlocks, EnterError>
         requires { LeadToInodes (fin.entries changes.now) }
-        ensures changed { OnOk result (IsDirectoryAfter self.old.owner changes.now self.old.count (numbered self.old.blocks) self.new.count (numbered self.new.blocks)) }
-        ensures written { IfOk result (TellsWritten self.old.blocks self.new.blocks) }
+        ensures changed { OnOk result (IsDirectoryAfter self.old.owner changes.now self.old.count (numbered_blocks self.old.blocks) self.new.count (numbered_blocks self.new.blocks)) }
+        ensures written { IfOk result (ListsWritten self.old.blocks self.new.blocks) }
         ensures few { IfOk result (λ written. length written ≤ 2 * fin.len changes.now) }
         ensures long { OnOk result (length self.new.blocks ≡ blocks_for self.new.count) }
         ensures owner { self.new.owner ≡ self.old.owner }
-        ensures memory { result ≡ Err EnterError.Memory → blocks_for self.old.count < blocks_for (self.old.count + coming (fin.entries changes.now)) }
-        ensures full { result ≡ Err EnterError.Full ↔ MAX_ENTRIES < fin.len (entries_after changes.now (named (numbered_entries self.old) self.old.count)) }
+        ensures memory { result ≡ Err EnterError.Memory → blocks_for self.old.count < blocks_for (self.old.count + coming_count (fin.entries changes.now)) }
+        ensures full { result ≡ Err EnterError.Full ↔ MAX_ENTRIES < fin.len (entries_after changes.now (named_entries (numbered_entries self.old) self.old.count)) }
         ensures refused { OnErr result (self.new ≡ self.old) }
     {
         let names = changes.as_slice();
         if are_too_many(&self.blocks, self.count, names) {
             return Err(EnterError::Full);
         }
-        let most = self.count + coming(names);
+        let most = self.count + coming_count(names);
         self.blocks
             .reserve(most.div_ceil(MAX_IN_BLOCK) - self.blocks.len())?;
         let mut marks = [false; MOST_BLOCKS];
@@ -232,6 +232,6 @@ impl Directory {
             self.count,
             names,
         );
-        Ok(WrittenBlocks::marked(&marks[..self.blocks.len()]))
+        Ok(WrittenBlocks::from_marks(&marks[..self.blocks.len()]))
     }
 }

@@ -8,7 +8,7 @@ ghost use Rattle.graph_change.specs.View.{new_length};
 ghost use Rattle.layout.specs.declared.places.TheConstants.{BLOCK};
 ghost use Rattle.tree_blocks.specs.Inode.{LogicalBlocks, IsZeroFrom};
 ghost use Rattle.tree_blocks.specs.After.{IsFileAfter};
-ghost use Rattle.tree_blocks.specs.FileBlock.{put_in, kept_in, block_after, is_cut_off, ReadSame, ReadsAfter, AreWritten};
+ghost use Rattle.tree_blocks.specs.FileBlock.{put_in, kept_length, block_after, is_cut_off, ReadSame, ReadsAfter, AreWritten};
 
 use graph_change::{BlockChange, NodeLength};
 use layout::BLOCK;
@@ -19,7 +19,7 @@ pub fn change_block(block: &mut [u8], number: u64, len: NodeLength, put: Option<
     requires { length block.old ≡ BLOCK }
     ensures { block.new ≡ block_after (new_length len) (put_in (option_map (λ b. b.now) put.entry)) number block.old }
 {
-    cut_block(block, kept_in(number, len));
+    cut_block(block, kept_length(number, len));
     match put {
         Some(change) => change.put_over(block),
         None => {}
@@ -27,8 +27,8 @@ pub fn change_block(block: &mut [u8], number: u64, len: NodeLength, put: Option<
 }
 
 // How many bytes of a block are kept.
-fn kept_in(number: u64, len: NodeLength) -> usize
-    ensures kept { result ≡ kept_in (new_length len) number }
+fn kept_length(number: u64, len: NodeLength) -> usize
+    ensures kept { result ≡ kept_length (new_length len) number }
     ensures few { result ≤ BLOCK }
 {
     let NodeLength::Cut { least, .. } = len else {

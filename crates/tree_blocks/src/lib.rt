@@ -4,26 +4,28 @@
 //! net change of `graph_change` makes of its slot and its blocks.
 #![tactic(auto)]
 
-mod after;
-mod changing;
+mod change_laws;
 mod directory;
 mod entry_blocks;
 mod error;
 mod file_blocks;
-mod reading;
-mod rewritten;
-mod written;
+mod name_changes;
+mod node_laws;
+mod rewrite_laws;
+mod written_blocks;
 
-pub use after::{entries_change_by_name, inode_after_is_node_after, inodes_after_are_graph_after};
+pub use change_laws::{
+    entries_change_by_name, inode_after_is_node_after, inodes_after_are_graph_after,
+};
 pub use directory::Directory;
 pub use error::EnterError;
 pub use file_blocks::{
     blocks_after_are_file_after, blocks_begin_before_the_end, change_block,
     changed_blocks_read_as_after,
 };
-pub use reading::{alike_inodes_are_one_node, nodes_are_read_by_place};
-pub use rewritten::{bounded_entries_lead_to_inodes, rewritten_inode_is_inode_after};
-pub use written::WrittenBlocks;
+pub use node_laws::{alike_inodes_are_one_node, nodes_are_read_by_place};
+pub use rewrite_laws::{bounded_entries_lead_to_inodes, rewritten_inode_is_inode_after};
+pub use written_blocks::WrittenBlocks;
 
 // Passed on to the crates above, which so need not list those below.
 pub use graph_change::{BlockChange, GraphChange, NodeBase, NodeChange, NodeLength};

@@ -7,8 +7,8 @@ use Rattle.byteorder.specs.Numbers.{little_from-take}
 use Rattle.log_record.specs.declared.format.Record.{Record}
 use Rattle.update_log.specs.Frames.{records, header, with_record}
 use Rattle.update_log.specs.View.{WithOrWithout}
-use Rattle.update_log.specs.Wiping.{generation, LeftInWipe}
-use Rattle.update_log.specs.Counting.{records_under, next_generation, records_in, counted, with_region}
+use Rattle.update_log.specs.WipeStops.{generation, LeftInWipe}
+use Rattle.update_log.specs.RecordCounts.{records_under, next_generation, records_in, counted_records, with_region}
 
 -- a region that names another generation counts nothing
 pub other_counts_none : (g : ℕ) (content : List ℕ) → generation content ≢ g → records_under g content ≡ []
@@ -55,11 +55,11 @@ module _ (regions : ℕ → List ℕ) (r : ℕ) (content : List ℕ) where
   there_in g is = ap (records_under g) (cond-true (g % 2 == r) content (regions (g % 2)) (eq-eqb (g % 2) r is))
 
   pub both_kept : (g done : ℕ) → records_under g content ≡ [] → records_under g (regions r) ≡ [] → records_under (next_generation g) content ≡ [] → records_under (next_generation g) (regions r) ≡ []
-      → counted g done now ≡ counted g done regions
+      → counted_records g done now ≡ counted_records g done regions
   both_kept g done none none' next next' = (λ k. drop done (kept_in g none none' k) ++ kept_in (next_generation g) next next' k)
 
 pub wipe_keeps : (g done r : ℕ) (regions : ℕ → List ℕ) (content : List ℕ) (behind : List Record) → LeftInWipe (header (regions r)) behind content → generation (regions r) ≢ g → generation (regions r) ≢ next_generation g
-    → counted g done (with_region regions r content) ≡ counted g done regions
+    → counted_records g done (with_region regions r content) ≡ counted_records g done regions
 wipe_keeps g done r regions content behind wiped other next =
     let none_under : (k : ℕ) → generation (regions r) ≢ k → records_under k content ≡ [] =
     λ k apart. wiped_counts_none k (header (regions r)) content behind wiped (λ is. apart (sym (header_tells (regions r)) ∙ is)) in
@@ -80,7 +80,7 @@ next_is_other g lt is = omega (arith, lt, is)
 
 module _ (g done : ℕ) (regions : ℕ → List ℕ) (content : List ℕ) (begun : Option Record) (small : g < 2 ^ 64) where
   abbrev EitherIn : ℕ → Type 0
-  EitherIn r = (counted g done (with_region regions r content) ≡ counted g done regions) ⊎ (counted g done (with_region regions r content) ≡ with_record (counted g done regions) begun)
+  EitherIn r = (counted_records g done (with_region regions r content) ≡ counted_records g done regions) ⊎ (counted_records g done (with_region regions r content) ≡ with_record (counted_records g done regions) begun)
 
   abbrev next_one : ℕ
   next_one = next_generation g
@@ -95,7 +95,7 @@ module _ (g done : ℕ) (regions : ℕ → List ℕ) (content : List ℕ) (begun
       let last : records_in (with_region regions r content) next_one ≡ records content =
       there_in regions r content next_one refl ∙ own_counts next_one content (same ∙ names) in
       let was : records_in regions next_one ≡ records (regions r) = own_counts next_one (regions r) names in
-      let all : counted g done (with_region regions r content) ≡ drop done (records_in regions g) ++ records content = (λ k. drop done (first k) ++ last k) in
+      let all : counted_records g done (with_region regions r content) ≡ drop done (records_in regions g) ++ records content = (λ k. drop done (first k) ++ last k) in
       elim (shows.records_are) [
         | inl is ↦ inl (all ∙ ap (λ (l : List Record). drop done (records_in regions g) ++ l) (is ∙ sym was))
         | inr more ↦ inr (all ∙ ap (λ (l : List Record). drop done (records_in regions g) ++ l) (more ∙ ap (λ (l : List Record). with_record l begun) (sym was))
@@ -111,8 +111,8 @@ module _ (g done : ℕ) (regions : ℕ → List ℕ) (content : List ℕ) (begun
       let last : records_in (with_region regions r content) next_one ≡ [] =
       kept_in regions r content next_one (other_counts_none next_one content (λ is. apart (sym is ∙ same ∙ names))) (other_counts_none next_one (regions r) (λ is. apart (sym is ∙ names))) ∙ none in
       let was : records_in regions g ≡ records (regions r) = own_counts g (regions r) names in
-      let all : counted g done (with_region regions r content) ≡ drop done (records content) = (λ k. drop done (first k) ++ last k) ∙ append-nil (drop done (records content)) in
-      let before : counted g done regions ≡ drop done (records (regions r)) = (λ k. drop done (was k) ++ none k) ∙ append-nil (drop done (records (regions r))) in
+      let all : counted_records g done (with_region regions r content) ≡ drop done (records content) = (λ k. drop done (first k) ++ last k) ∙ append-nil (drop done (records content)) in
+      let before : counted_records g done regions ≡ drop done (records (regions r)) = (λ k. drop done (was k) ++ none k) ∙ append-nil (drop done (records (regions r))) in
       elim (shows.records_are) [
         | inl is ↦ inl (all ∙ ap (drop done) is ∙ sym before)
         | inr more ↦ inr (all ∙ ap (drop done) more ∙ drop_joined done (records (regions r)) begun le ∙ ap (λ (l : List Record). with_record l begun) (sym before))
@@ -120,13 +120,13 @@ module _ (g done : ℕ) (regions : ℕ → List ℕ) (content : List ℕ) (begun
 
 -- ---- a digest
 
-pub fewer_within : (g done n : ℕ) (regions : ℕ → List ℕ) → done + n ≤ length (records_in regions g) → counted g (done + n) regions ≡ drop n (counted g done regions)
+pub fewer_within : (g done n : ℕ) (regions : ℕ → List ℕ) → done + n ≤ length (records_in regions g) → counted_records g (done + n) regions ≡ drop n (counted_records g done regions)
 fewer_within g done n regions le =
     let own = records_in regions g in
     let next = records_in regions (next_generation g) in
     ap (λ (l : List Record). l ++ next) (sym (drop-drop n done own)) ∙ sym (drop-append-le n (drop done own) next (omega (arith, le, length-drop done own)))
 
-pub generation_done : (g done : ℕ) (regions : ℕ → List ℕ) → length (records_in regions g) ≤ done → records_in regions (next_generation (next_generation g)) ≡ [] → counted (next_generation g) 0 regions ≡ counted g done regions
+pub generation_done : (g done : ℕ) (regions : ℕ → List ℕ) → length (records_in regions g) ≤ done → records_in regions (next_generation (next_generation g)) ≡ [] → counted_records (next_generation g) 0 regions ≡ counted_records g done regions
 generation_done g done regions le none =
     let next = records_in regions (next_generation g) in
     ap (λ (l : List Record). next ++ l) none ∙ append-nil next ∙ sym (ap (λ (l : List Record). l ++ next) (drop_all done (records_in regions g) le))

@@ -1,6 +1,7 @@
 -- Each device call of an append, over any medium.
 use Rattle.std.proofs.Common.{◌≡◌, ◌∙◌, ℕ, ◌+◌, ◌≤◌, List, [], ◌∷◌, length, take, sym, subst, arith}
 use Rattle.std.specs.Prelude.{Result, Ok, Err, OnOk, OnErr}
+use Rattle.tier_device.specs.declared.media.Media.{Ghosts}
 use Rattle.tier_device.specs.declared.media.Tier.{Tier}
 use Rattle.tier_device.specs.declared.media.Tier.TheVariants.{Fast}
 use Rattle.tier_device.specs.Media.{overwritten, Puts, Tears}
@@ -18,91 +19,91 @@ pub on_ok_both : {T E P Q R : Type 0} (r : Result T E) → (P → Q → R) → O
 on_ok_both (Ok x) f p q = f p q
 on_ok_both (Err e) f p q = tt
 
-module _ {M : Type 0} (seen : M → Tier → List ℕ) (moment : M → ℕ) (left : M → ℕ → Tier → List ℕ → Type 0) (seen_now : (m : M) (t : Tier) → left m (moment m) t (seen m t)) (sized : (m : M) (k : ℕ) (t : Tier) (c : List ℕ) → k ≤ moment m → left m k t c → length c ≡ length (seen m t)) (end : ℕ) (body : List ℕ) (m m' : M) where
+module _ {M : Type 0} (device : Ghosts M) (seen_now : (m : M) (t : Tier) → device.left m (device.moment m) t (device.seen m t)) (sized : (m : M) (k : ℕ) (t : Tier) (c : List ℕ) → k ≤ device.moment m → device.left m k t c → length c ≡ length (device.seen m t)) (end : ℕ) (body : List ℕ) (m m' : M) where
   abbrev Here : List ℕ → Type 0
-  Here c = left m (moment m) Fast c
+  Here c = device.left m (device.moment m) Fast c
 
   abbrev There : List ℕ → Type 0
-  There c = left m' (moment m') Fast c
+  There c = device.left m' (device.moment m') Fast c
 
   abbrev Each : (List ℕ → Type 0) → Type 0
-  Each Left = (c : List ℕ) → Left c → BeforeOrAfter (take end (seen m Fast)) (payload_in body) c
+  Each Left = (c : List ℕ) → Left c → BeforeOrAfter (take end (device.seen m Fast)) (payload_in body) c
 
   -- what is known after a call, and what besides where it succeeds
   pub record Outcome (stage : Stage) (Succeeds : Type 0) : Type 0 where
-    pub done : Succeeds → HasMoved end stage body (seen m Fast) (seen m' Fast) There
-    pub failed : HasFailed end body (seen m Fast) (seen m' Fast) There
+    pub done : Succeeds → HasMoved end stage body (device.seen m Fast) (device.seen m' Fast) There
+    pub failed : HasFailed end body (device.seen m Fast) (device.seen m' Fast) There
     pub before : Each Here
     pub after : Each There
 
-  long : (c : List ℕ) → Here c → length c ≡ length (seen m Fast)
-  long c l = sized m (moment m) Fast c (omega arith) l
+  long : (c : List ℕ) → Here c → length c ≡ length (device.seen m Fast)
+  long c l = sized m (device.moment m) Fast c (omega arith) l
 
   abbrev Fewer : Type 0
   Fewer = (c : List ℕ) → There c → Here c
 
   -- a fence succeeds
   pub record Fenced : Type 0 where
-    pub only : (c : List ℕ) → There c → c ≡ seen m Fast
-    pub same : seen m' Fast ≡ seen m Fast
+    pub only : (c : List ℕ) → There c → c ≡ device.seen m Fast
+    pub same : device.seen m' Fast ≡ device.seen m Fast
 
-  pub write_body : (stage : Stage) → stage ≡ stages.Begun → FitsItsStage end stage body (seen m Fast) Here → Tears Fast (end + 1) (length body) (left m (moment m)) (left m' (moment m')) → Outcome stage (seen m' Fast ≡ overwritten (seen m Fast) (end + 1) body)
+  pub write_body : (stage : Stage) → stage ≡ stages.Begun → FitsItsStage end stage body (device.seen m Fast) Here → Tears Fast (end + 1) (length body) (device.left m (device.moment m)) (device.left m' (device.moment m')) → Outcome stage (device.seen m' Fast ≡ overwritten (device.seen m Fast) (end + 1) body)
   write_body stage is sound tears =
       let now = seen_now m Fast in
       let now' = seen_now m' Fast in
-      let s = subst (λ (st : Stage). FitsItsStage end st body (seen m Fast) Here) is sound in
-      let after = either1 end body (seen m Fast) Here long now (seen m' Fast) There now' tears.here s in
-      subst (λ (st : Stage). Outcome st (seen m' Fast ≡ overwritten (seen m Fast) (end + 1) body)) (sym is) (record {
-        done = written end body (seen m Fast) Here long now (seen m' Fast) There now' tears.here s;
-        failed = fails end body (seen m Fast) Here long now (seen m' Fast) There now' stages.Begun s (size1 end body (seen m Fast) Here long now (seen m' Fast) There now' tears.here s) after;
-        before = either end body (seen m Fast) Here stages.Begun tt s;
+      let s = subst (λ (st : Stage). FitsItsStage end st body (device.seen m Fast) Here) is sound in
+      let after = either1 end body (device.seen m Fast) Here long now (device.seen m' Fast) There now' tears.here s in
+      subst (λ (st : Stage). Outcome st (device.seen m' Fast ≡ overwritten (device.seen m Fast) (end + 1) body)) (sym is) (record {
+        done = written end body (device.seen m Fast) Here long now (device.seen m' Fast) There now' tears.here s;
+        failed = fails end body (device.seen m Fast) Here long now (device.seen m' Fast) There now' stages.Begun s (size1 end body (device.seen m Fast) Here long now (device.seen m' Fast) There now' tears.here s) after;
+        before = either end body (device.seen m Fast) Here stages.Begun tt s;
         after = after;
       })
 
-  pub fence_body : (stage : Stage) → stage ≡ stages.Written → FitsItsStage end stage body (seen m Fast) Here → Fewer → Outcome stage Fenced
+  pub fence_body : (stage : Stage) → stage ≡ stages.Written → FitsItsStage end stage body (device.seen m Fast) Here → Fewer → Outcome stage Fenced
   fence_body stage is sound fewer =
       let now = seen_now m Fast in
       let now' = seen_now m' Fast in
-      let s = subst (λ (st : Stage). FitsItsStage end st body (seen m Fast) Here) is sound in
-      let before = either end body (seen m Fast) Here stages.Written tt s in
+      let s = subst (λ (st : Stage). FitsItsStage end st body (device.seen m Fast) Here) is sound in
+      let before = either end body (device.seen m Fast) Here stages.Written tt s in
       let after : Each There = λ c l. before c (fewer c l) in
       subst (λ (st : Stage). Outcome st Fenced) (sym is) (record {
-        done = λ f. kept end body (seen m Fast) Here long now (seen m' Fast) There now' fewer s f.only;
-        failed = fails end body (seen m Fast) Here long now (seen m' Fast) There now' stages.Written s (size2 end body (seen m Fast) Here long now (seen m' Fast) There now' fewer s) after;
+        done = λ f. kept end body (device.seen m Fast) Here long now (device.seen m' Fast) There now' fewer s f.only;
+        failed = fails end body (device.seen m Fast) Here long now (device.seen m' Fast) There now' stages.Written s (size2 end body (device.seen m Fast) Here long now (device.seen m' Fast) There now' fewer s) after;
         before = before;
         after = after;
       })
 
-  pub open_gate : (stage : Stage) → stage ≡ stages.Kept → FitsItsStage end stage body (seen m Fast) Here → Tears Fast end 1 (left m (moment m)) (left m' (moment m')) → Outcome stage (seen m' Fast ≡ overwritten (seen m Fast) end (165 ∷ []))
+  pub open_gate : (stage : Stage) → stage ≡ stages.Kept → FitsItsStage end stage body (device.seen m Fast) Here → Tears Fast end 1 (device.left m (device.moment m)) (device.left m' (device.moment m')) → Outcome stage (device.seen m' Fast ≡ overwritten (device.seen m Fast) end (165 ∷ []))
   open_gate stage is sound tears =
       let now = seen_now m Fast in
       let now' = seen_now m' Fast in
-      let s = subst (λ (st : Stage). FitsItsStage end st body (seen m Fast) Here) is sound in
-      let after = either3 end body (seen m Fast) Here long now (seen m' Fast) There now' tears.here s in
-      subst (λ (st : Stage). Outcome st (seen m' Fast ≡ overwritten (seen m Fast) end (165 ∷ []))) (sym is) (record {
-        done = opened end body (seen m Fast) Here long now (seen m' Fast) There now' tears.here s;
-        failed = fails end body (seen m Fast) Here long now (seen m' Fast) There now' stages.Kept s (size3 end body (seen m Fast) Here long now (seen m' Fast) There now' tears.here s) after;
-        before = either end body (seen m Fast) Here stages.Kept tt s;
+      let s = subst (λ (st : Stage). FitsItsStage end st body (device.seen m Fast) Here) is sound in
+      let after = either3 end body (device.seen m Fast) Here long now (device.seen m' Fast) There now' tears.here s in
+      subst (λ (st : Stage). Outcome st (device.seen m' Fast ≡ overwritten (device.seen m Fast) end (165 ∷ []))) (sym is) (record {
+        done = opened end body (device.seen m Fast) Here long now (device.seen m' Fast) There now' tears.here s;
+        failed = fails end body (device.seen m Fast) Here long now (device.seen m' Fast) There now' stages.Kept s (size3 end body (device.seen m Fast) Here long now (device.seen m' Fast) There now' tears.here s) after;
+        before = either end body (device.seen m Fast) Here stages.Kept tt s;
         after = after;
       })
 
-  pub fence_gate : (stage : Stage) → stage ≡ stages.Opened → FitsItsStage end stage body (seen m Fast) Here → Fewer → Outcome stage Fenced
+  pub fence_gate : (stage : Stage) → stage ≡ stages.Opened → FitsItsStage end stage body (device.seen m Fast) Here → Fewer → Outcome stage Fenced
   fence_gate stage is sound fewer =
       let now = seen_now m Fast in
       let now' = seen_now m' Fast in
-      let s = subst (λ (st : Stage). FitsItsStage end st body (seen m Fast) Here) is sound in
-      let before = either end body (seen m Fast) Here stages.Opened tt s in
+      let s = subst (λ (st : Stage). FitsItsStage end st body (device.seen m Fast) Here) is sound in
+      let before = either end body (device.seen m Fast) Here stages.Opened tt s in
       let after : Each There = λ c l. before c (fewer c l) in
       subst (λ (st : Stage). Outcome st Fenced) (sym is) (record {
-        done = λ f. appended end body (seen m Fast) Here long now (seen m' Fast) There now' fewer s f.only f.same;
-        failed = fails end body (seen m Fast) Here long now (seen m' Fast) There now' stages.Opened s (size4 end body (seen m Fast) Here long now (seen m' Fast) There now' fewer s) after;
+        done = λ f. appended end body (device.seen m Fast) Here long now (device.seen m' Fast) There now' fewer s f.only f.same;
+        failed = fails end body (device.seen m Fast) Here long now (device.seen m' Fast) There now' stages.Opened s (size4 end body (device.seen m Fast) Here long now (device.seen m' Fast) There now' fewer s) after;
         before = before;
         after = after;
       })
 
 -- what a read gives of the tiers after a call of a stage
-pub shown : {M : Type 0} (seen : M → Tier → List ℕ) (end : ℕ) (body : List ℕ) (m m' : M) (stage at : Stage) → stage ≡ at → Puts Fast (seen_after at end body (seen m Fast)) (seen m) (seen m') → Puts Fast (seen_after stage end body (seen m Fast)) (seen m) (seen m')
-shown seen end body m m' stage at is puts = subst (λ (st : Stage). Puts Fast (seen_after st end body (seen m Fast)) (seen m) (seen m')) (sym is) puts
+pub shown : {M : Type 0} (device : Ghosts M) (end : ℕ) (body : List ℕ) (m m' : M) (stage at : Stage) → stage ≡ at → Puts Fast (seen_after at end body (device.seen m Fast)) (device.seen m) (device.seen m') → Puts Fast (seen_after stage end body (device.seen m Fast)) (device.seen m) (device.seen m')
+shown device end body m m' stage at is puts = subst (λ (st : Stage). Puts Fast (seen_after st end body (device.seen m Fast)) (device.seen m) (device.seen m')) (sym is) puts
 
-pub fenced : {M : Type 0} (seen : M → Tier → List ℕ) (end : ℕ) (body : List ℕ) (m m' : M) (stage at : Stage) → stage ≡ at → seen_after at end body (seen m Fast) ≡ seen m Fast → ((t : Tier) → seen m' t ≡ seen m t) → Puts Fast (seen_after stage end body (seen m Fast)) (seen m) (seen m')
-fenced seen end body m m' stage at is none same = shown seen end body m m' stage at is (record { here = same Fast ∙ sym none; others = λ t other. same t })
+pub fenced : {M : Type 0} (device : Ghosts M) (end : ℕ) (body : List ℕ) (m m' : M) (stage at : Stage) → stage ≡ at → seen_after at end body (device.seen m Fast) ≡ device.seen m Fast → ((t : Tier) → device.seen m' t ≡ device.seen m t) → Puts Fast (seen_after stage end body (device.seen m Fast)) (device.seen m) (device.seen m')
+fenced device end body m m' stage at is none same = shown device end body m m' stage at is (record { here = same Fast ∙ sym none; others = λ t other. same t })

@@ -5,7 +5,7 @@ use Rattle.std.proofs.lemmas.List.{append-nil, take_at, drop_at, drop_more, drop
 use Rattle.std.proofs.lemmas.Bool.{cases_eq, eq-eqb, lt-ltb, ltb-true, and_parts, and_from, ne_eqb, and_left, cond-true, cond-false}
 use Rattle.byteorder.specs.Endian.{little_number, little_bytes}
 use Rattle.byteorder.specs.Numbers.{little_number-reads_back, length-bytes_low_first, little_from-append}
-use Rattle.update_log.specs.Frames.{payload_length, payload_of, is_payload, is_whole, payloads_from, payloads, before_gate, framed, behind_gate}
+use Rattle.update_log.specs.Frames.{payload_length, payload_of, is_payload, is_whole, payloads_from, payloads, before_gate, framed_length, behind_gate}
 use Rattle.update_log.specs.Scan.{IsPayloadBehind, IsRecordAt}
 use Rattle.update_log.specs.Stage.{IsFront, IsShut, BeforeOrAfter}
 
@@ -87,7 +87,7 @@ is_either front payload rest gate content stands small is_spelled is = record {
   ];
 }
 
-framed_more : (ps : List (List ℕ)) (payload : List ℕ) → framed (ps ++ payload ∷ []) ≡ framed ps + 5 + length payload
+framed_more : (ps : List (List ℕ)) (payload : List ℕ) → framed_length (ps ++ payload ∷ []) ≡ framed_length ps + 5 + length payload
 framed_more [] payload = omega arith
 framed_more (p ∷ ps) payload = omega (arith, framed_more ps payload)
 
@@ -107,7 +107,7 @@ front_grows front size payload stands four tells is_spelled =
     each 0 [] ∙ ap (λ l. (before_gate front ++ payload ∷ []) ++ l) (payloads_shut 0 [] (omega arith)) ∙ append-nil (before_gate front ++ payload ∷ []) in
     record {
       stands = record {
-        long = omega (arith, stands.long, length-append front (165 ∷ more), length-append size payload, four, ap framed alone, framed_more (before_gate front) payload);
+        long = omega (arith, stands.long, length-append front (165 ∷ more), length-append size payload, four, ap framed_length alone, framed_more (before_gate front) payload);
         ends = λ gate rest. each gate rest ∙ ap (λ l. l ++ payloads_from 0 (gate ∷ rest)) (sym alone);
       };
       more = alone;
@@ -129,7 +129,7 @@ pub front_none : (content : List ℕ) → 16 ≤ length content → IsFront (tak
 front_none content le =
     let alone = none_in_header content le in
     record {
-      long = omega (arith, length-take-le 16 content le, ap framed alone);
+      long = omega (arith, length-take-le 16 content le, ap framed_length alone);
       ends = λ gate rest. behind_header content le gate rest ∙ ap (λ l. l ++ payloads_from 0 (gate ∷ rest)) (sym alone);
     }
 

@@ -11,10 +11,11 @@ use Rattle.log_record.specs.declared.format.Record.{Record}
 use Rattle.log_record.specs.Grammar.{record_of}
 use Rattle.tier_device.specs.declared.media.Tier.{Tier}
 use Rattle.tier_device.specs.declared.media.Tier.TheVariants.{Fast}
-use Rattle.tier_device.specs.Media.{Keeps, LeftSince}
+use Rattle.tier_device.specs.Media.{Keeps}
+use Rattle.tier_device.specs.AfterStop.{LeftSince}
 use Rattle.update_log.specs.declared.stage.Stage.{Stage}
 use Rattle.update_log.specs.declared.stage.Stage.TheVariants as stages
-use Rattle.update_log.specs.Frames.{payloads, records, header, before_gate, spelled, with_record, behind_gate, is_payload}
+use Rattle.update_log.specs.Frames.{payloads, records, header, before_gate, spelled_records, with_record, behind_gate, is_payload}
 use Rattle.update_log.specs.Stage.{IsFront, IsShut, IsWhole, HasRecord, BeforeOrAfter, IsResting, FitsItsStage, AtStage, IsAppending, IsIdle, payload_in, next}
 use Rattle.update_log.specs.Wipe.{IsWiping}
 use Rattle.update_log.specs.View.{begun_in, WithOrWithout}
@@ -82,21 +83,21 @@ join_one : (rs : List Record) (o : Option Record) → rs ++ cons_option o [] ≡
 join_one rs None = append-nil rs
 join_one rs (Some r) = refl
 
-pub spelled_more : (ps : List (List ℕ)) (payload : List ℕ) → spelled (ps ++ payload ∷ []) ≡ with_record (spelled ps) (record_of payload)
-spelled_more ps payload = filter_map-append record_of ps (payload ∷ []) ∙ join_one (spelled ps) (record_of payload)
+pub spelled_more : (ps : List (List ℕ)) (payload : List ℕ) → spelled_records (ps ++ payload ∷ []) ≡ with_record (spelled_records ps) (record_of payload)
+spelled_more ps payload = filter_map-append record_of ps (payload ∷ []) ∙ join_one (spelled_records ps) (record_of payload)
 
-pub with_or_without : (front payload c : List ℕ) → IsFront front → BeforeOrAfter front payload c → WithOrWithout (header front) (spelled (before_gate front)) (record_of payload) c
+pub with_or_without : (front payload c : List ℕ) → IsFront front → BeforeOrAfter front payload c → WithOrWithout (header front) (spelled_records (before_gate front)) (record_of payload) c
 with_or_without front payload c stands either = record {
   header_is = sym (ap header (sym (either.front_stands)) ∙ take-take 16 (length front) c (omega (arith, stands.long)));
   records_are = elim (either.payloads_are) [
-    | inl same ↦ inl (ap spelled same)
-    | inr more ↦ inr (ap spelled more ∙ spelled_more (before_gate front) payload)
+    | inl same ↦ inl (ap spelled_records same)
+    | inr more ↦ inr (ap spelled_records more ∙ spelled_more (before_gate front) payload)
   ];
 }
 
 -- what a region at rest shows
-pub rest_shown : (front seen c : List ℕ) (left : List ℕ → Type 0) → IsResting front seen left → left c → (c ≡ seen) × (records c ≡ spelled (before_gate front))
-rest_shown front seen c left resting l = let same = resting.rest c l in (same, ap records same ∙ ap spelled (payloads_closed front seen resting.stands resting.shut))
+pub rest_shown : (front seen c : List ℕ) (left : List ℕ → Type 0) → IsResting front seen left → left c → (c ≡ seen) × (records c ≡ spelled_records (before_gate front))
+rest_shown front seen c left resting l = let same = resting.rest c l in (same, ap records same ∙ ap spelled_records (payloads_closed front seen resting.stands resting.shut))
 
 -- what holds of a region holds of one that shows the same and of which a stop leaves no more
 pub sound_kept : (end : ℕ) (stage : Stage) (body seen seen' : List ℕ) (left left' : List ℕ → Type 0) → seen' ≡ seen → ((c : List ℕ) → left' c → left c) → FitsItsStage end stage body seen left → FitsItsStage end stage body seen' left'
@@ -174,11 +175,11 @@ reopened end stage body seen left shut (inr is) size within stands ends rest =
 
 module _ (end : ℕ) (stage : Stage) (body seen : List ℕ) (left : List ℕ → Type 0) (sound : FitsItsStage end stage body seen left) where
   abbrev Either : List ℕ → Type 0
-  Either c = WithOrWithout (header (take end seen)) (spelled (before_gate (take end seen))) (begun_in stage (payload_in body)) c
+  Either c = WithOrWithout (header (take end seen)) (spelled_records (before_gate (take end seen))) (begun_in stage (payload_in body)) c
 
   pub shows_either : begun_in stage (payload_in body) ≡ record_of (payload_in body) → (c : List ℕ) → BeforeOrAfter (take end seen) (payload_in body) c → Either c
   shows_either begun c either =
-      subst (λ (o : Option Record). WithOrWithout (header (take end seen)) (spelled (before_gate (take end seen))) o c) (sym begun)
+      subst (λ (o : Option Record). WithOrWithout (header (take end seen)) (spelled_records (before_gate (take end seen))) o c) (sym begun)
       (with_or_without (take end seen) (payload_in body) c (stands_of end stage body seen left sound) either)
 
   -- what a stop may leave of a region where a record is begun
@@ -192,20 +193,20 @@ pub header_front : (end : ℕ) (seen : List ℕ) → IsFront (take end seen) →
 header_front end seen stands = take-take 16 end seen (omega (arith, stands.long, length-take end seen))
 
 -- what a stop may leave of a region where nothing is begun
-pub idle_now : (end : ℕ) (stage : Stage) (body seen : List ℕ) (left : List ℕ → Type 0) → FitsItsStage end stage body seen left → IsIdle stage → (c : List ℕ) → left c → (c ≡ seen) × (records c ≡ spelled (before_gate (take end seen)))
+pub idle_now : (end : ℕ) (stage : Stage) (body seen : List ℕ) (left : List ℕ → Type 0) → FitsItsStage end stage body seen left → IsIdle stage → (c : List ℕ) → left c → (c ≡ seen) × (records c ≡ spelled_records (before_gate (take end seen)))
 idle_now end stage body seen left sound (inl is) c l = rest_shown (take end seen) seen c left (subst (λ (st : Stage). FitsItsStage end st body seen left) is sound).at_stage l
 idle_now end stage body seen left sound (inr is) c l =
     let foreign = (subst (λ (st : Stage). FitsItsStage end st body seen left) is sound).at_stage in
     let same = foreign.rest c l in
-    (same, ap records same ∙ ap spelled foreign.ends)
+    (same, ap records same ∙ ap spelled_records foreign.ends)
 
-idle_either : (end : ℕ) (stage : Stage) (body seen : List ℕ) (left : List ℕ → Type 0) → FitsItsStage end stage body seen left → IsIdle stage → (o : Option Record) (c : List ℕ) → left c → WithOrWithout (header (take end seen)) (spelled (before_gate (take end seen))) o c
+idle_either : (end : ℕ) (stage : Stage) (body seen : List ℕ) (left : List ℕ → Type 0) → FitsItsStage end stage body seen left → IsIdle stage → (o : Option Record) (c : List ℕ) → left c → WithOrWithout (header (take end seen)) (spelled_records (before_gate (take end seen))) o c
 idle_either end stage body seen left sound idle o c l =
     let shown = idle_now end stage body seen left sound idle c l in
     record { header_is = ap header shown.0 ∙ sym (header_front end seen (stands_of end stage body seen left sound)); records_are = inl shown.1 }
 
 -- and of any region that is not being wiped
-pub either_now : (end : ℕ) (stage : Stage) (body seen : List ℕ) (left : List ℕ → Type 0) → FitsItsStage end stage body seen left → (IsWiping stage → ⊥) → (c : List ℕ) → left c → WithOrWithout (header (take end seen)) (spelled (before_gate (take end seen))) (begun_in stage (payload_in body)) c
+pub either_now : (end : ℕ) (stage : Stage) (body seen : List ℕ) (left : List ℕ → Type 0) → FitsItsStage end stage body seen left → (IsWiping stage → ⊥) → (c : List ℕ) → left c → WithOrWithout (header (take end seen)) (spelled_records (before_gate (take end seen))) (begun_in stage (payload_in body)) c
 either_now end stages.Resting body seen left sound still c l = idle_either end stages.Resting body seen left sound (inl refl) None c l
 either_now end stages.Foreign body seen left sound still c l = idle_either end stages.Foreign body seen left sound (inr refl) None c l
 either_now end stages.Begun body seen left sound still c l = begun_now end stages.Begun body seen left sound (inl tt) c l

@@ -4,9 +4,9 @@ use Rattle.std.proofs.lemmas.List.{take-take}
 use Rattle.tier_device.specs.Media.{Torn}
 use Rattle.update_log.specs.declared.stage.Stage.{Stage}
 use Rattle.update_log.specs.declared.stage.Stage.TheVariants as stages
-use Rattle.update_log.specs.Frames.{header, before_gate, spelled}
+use Rattle.update_log.specs.Frames.{header, before_gate, spelled_records}
 use Rattle.update_log.specs.Stage.{FitsItsStage, AtStage, HasRecord, IsIdle, IsShut}
-use Rattle.update_log.specs.Wiping.{records_behind_gate, LeftInWipe}
+use Rattle.update_log.specs.WipeStops.{records_behind_gate, LeftInWipe}
 use Rattle.update_log.specs.Wipe.{CanWipe, IsWiping, MayWipe, IsDoneWith}
 use Rattle.update_log.proofs.Reading.{front_none, none_in_header}
 use Rattle.update_log.proofs.Views.{idle_now}
@@ -87,11 +87,11 @@ wiped_fits to body seen left size done = record { size = size; within = omega ar
     none stages.WipeFailed d = tt
 
 -- where there are records and nothing is begun, those behind the first gate are all
-pub behind_records : (end : ℕ) (stage : Stage) (body seen : List ℕ) (left : List ℕ → Type 0) → left seen → FitsItsStage end stage body seen left → IsIdle stage → spelled (before_gate (take end seen)) ≢ [] → records_behind_gate seen ≡ spelled (before_gate (take end seen))
+pub behind_records : (end : ℕ) (stage : Stage) (body seen : List ℕ) (left : List ℕ → Type 0) → left seen → FitsItsStage end stage body seen left → IsIdle stage → spelled_records (before_gate (take end seen)) ≢ [] → records_behind_gate seen ≡ spelled_records (before_gate (take end seen))
 behind_records end stage body seen left now sound idle some =
     let same = (idle_now end stage body seen left sound idle seen now).1 in
     behind_open seen (omega (arith, sound.size)) (λ none. some (sym same ∙ none)) ∙ same
 
 -- no record stands before the first gate
-pub none_before : (seen : List ℕ) → length seen ≡ 262144 → spelled (before_gate (take 16 seen)) ≡ []
-none_before seen size = ap spelled (none_in_header seen (omega (arith, size)))
+pub none_before : (seen : List ℕ) → length seen ≡ 262144 → spelled_records (before_gate (take 16 seen)) ≡ []
+none_before seen size = ap spelled_records (none_in_header seen (omega (arith, size)))

@@ -3,9 +3,9 @@ use Rattle.std.proofs.Common.{◌≡◌, ◌≢◌, ◌⊎◌, inl, inr, ℕ, �
 use Rattle.std.proofs.lemmas.Bool.{cases_eq}
 use Rattle.std.proofs.lemmas.List.{take_at, drop_at, drop_more, drop-drop, drop-take, take-take, length-take-le}
 use Rattle.tier_device.specs.Media.{overwritten, Torn}
-use Rattle.update_log.specs.Frames.{spelled, records, header}
+use Rattle.update_log.specs.Frames.{spelled_records, records, header}
 use Rattle.update_log.specs.Stage.{IsShut, IsGateWritten, IsGateKept, IsNameWritten, IsUnwiped}
-use Rattle.update_log.specs.Wiping.{records_behind_gate, LeftInClosing, LeftInNaming, LeftInWipe}
+use Rattle.update_log.specs.WipeStops.{records_behind_gate, LeftInClosing, LeftInNaming, LeftInWipe}
 use Rattle.update_log.proofs.Reading.{payloads_closed, front_none, none_in_header}
 use Rattle.update_log.proofs.Writes.{torn_gate}
 
@@ -26,7 +26,7 @@ zero_shut content lt zero' = record { gate = get_or content 16 0; rest = drop 17
 
 -- behind a first gate that is closed no record counts
 pub none_counts : (content : List ℕ) → 16 ≤ length content → IsShut (header content) content → records content ≡ []
-none_counts content le shut = ap spelled (payloads_closed (header content) content (front_none content le) shut ∙ none_in_header content le)
+none_counts content le shut = ap spelled_records (payloads_closed (header content) content (front_none content le) shut ∙ none_in_header content le)
 
 -- the same header, and any byte at the first gate
 pub closing_left : (content c : List ℕ) → 16 < length content → Torn 16 1 content c → LeftInClosing (header content) (records_behind_gate content) c

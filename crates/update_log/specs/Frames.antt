@@ -3,7 +3,7 @@ use Rattle.std.specs.Prelude.{ℕ, zero, suc, ◌+◌, List, [], ◌∷◌, ◌+
 use Rattle.std.specs.List.{filter_map}
 use Rattle.byteorder.specs.Endian.{little_number, little_bytes}
 use Rattle.log_record.specs.declared.format.Record.{Record}
-use Rattle.log_record.specs.Grammar.{record_of, spelling}
+use Rattle.log_record.specs.Grammar.{record_of, record_bytes}
 use Rattle.update_log.specs.declared.format.TheConstants.{HEADER, OPEN, CLOSED}
 
 -- the length that the four bytes behind a gate tell
@@ -34,12 +34,12 @@ abbrev pub payloads : List ℕ → List (List ℕ)
 payloads content = payloads_from HEADER content
 
 -- the records that payloads spell
-abbrev pub spelled : List (List ℕ) → List Record
-spelled ps = filter_map record_of ps
+abbrev pub spelled_records : List (List ℕ) → List Record
+spelled_records ps = filter_map record_of ps
 
 -- the records of a region
 abbrev pub records : List ℕ → List Record
-records content = spelled (payloads content)
+records content = spelled_records (payloads content)
 
 -- the bytes before the first gate
 abbrev pub header : List ℕ → List ℕ
@@ -54,18 +54,18 @@ abbrev pub before_gate : List ℕ → List (List ℕ)
 before_gate front = payloads (front ++ CLOSED ∷ [])
 
 -- how many bytes payloads take, each behind its gate and its length
-abbrev pub framed : List (List ℕ) → ℕ
-framed [] = 0
-framed (payload ∷ ps) = 5 + length payload + framed ps
+abbrev pub framed_length : List (List ℕ) → ℕ
+framed_length [] = 0
+framed_length (payload ∷ ps) = 5 + length payload + framed_length ps
 
 -- how many bytes records take, each behind its gate and its length
-abbrev pub taken : List Record → ℕ
-taken [] = 0
-taken (r ∷ rs) = 5 + length (spelling r) + taken rs
+abbrev pub taken_length : List Record → ℕ
+taken_length [] = 0
+taken_length (r ∷ rs) = 5 + length (record_bytes r) + taken_length rs
 
 -- where the gate behind these records stands
 abbrev pub end_behind : List Record → ℕ
-end_behind rs = HEADER + taken rs
+end_behind rs = HEADER + taken_length rs
 
 -- records, and one more where there is one
 abbrev pub with_record : List Record → Option Record → List Record

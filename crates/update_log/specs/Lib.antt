@@ -1,12 +1,12 @@
 pub mod Frames
-pub mod Wiping
+pub mod WipeStops
 pub mod Stage
 pub mod View
 pub mod Moments
 pub mod Calls
 pub mod Wipe
 pub mod Scan
-pub mod Counting
+pub mod RecordCounts
 -- Passed on to the crates above, which so need not list those below.
 pub use Rattle.log_record.specs.file_graph
 pub use Rattle.log_record.specs as log_record

@@ -6,12 +6,12 @@ use Rattle.update_log.specs.declared.stage.Stage.{Stage}
 use Rattle.update_log.specs.declared.stage.Stage.TheVariants as stages
 use Rattle.update_log.specs.declared.stage.Progress.{Progress}
 use Rattle.update_log.specs.declared.stage.Progress.TheVariants.{Going, Appended}
-use Rattle.update_log.specs.Frames.{payloads, payloads_from, before_gate, framed, header, is_payload, behind_gate}
-use Rattle.update_log.specs.Wiping.{LeftInWipe, records_behind_gate}
+use Rattle.update_log.specs.Frames.{payloads, payloads_from, before_gate, framed_length, header, is_payload, behind_gate}
+use Rattle.update_log.specs.WipeStops.{LeftInWipe, records_behind_gate}
 
 -- A header and the bytes of whole records, whatever gate and bytes follow.
 pub record IsFront (front : List ℕ) : Type 0 where
-  pub long : length front ≡ HEADER + framed (before_gate front)
+  pub long : length front ≡ HEADER + framed_length (before_gate front)
   pub ends : (gate : ℕ) (rest : List ℕ) → payloads (front ++ gate ∷ rest) ≡ before_gate front ++ payloads_from 0 (gate ∷ rest)
 
 -- this front, and a gate behind it that is not open

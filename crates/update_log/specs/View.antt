@@ -1,5 +1,6 @@
 -- A region, as its callers see it.
 use Rattle.std.specs.Prelude.{◌≡◌, ◌⊎◌, ℕ, List, length, take, Option, None}
+use Rattle.tier_device.specs.declared.media.Media.{Ghosts}
 use Rattle.tier_device.specs.declared.media.Tier.{Tier}
 use Rattle.tier_device.specs.declared.media.Tier.TheVariants.{Fast, Block, Slow}
 use Rattle.log_record.specs.declared.format.Record.{Record}
@@ -7,7 +8,7 @@ use Rattle.log_record.specs.Grammar.{record_of}
 use Rattle.update_log.specs.declared.format.TheConstants.{REGION_SIZE}
 use Rattle.update_log.specs.declared.stage.Stage.{Stage}
 use Rattle.update_log.specs.declared.stage.Stage.TheVariants as stages
-use Rattle.update_log.specs.Frames.{before_gate, spelled, records, header, with_record}
+use Rattle.update_log.specs.Frames.{before_gate, spelled_records, records, header, with_record}
 
 pub record RegionView (M : Type 0) : Type 0 where
   pub media : M
@@ -18,16 +19,16 @@ pub record RegionView (M : Type 0) : Type 0 where
   pub begun : Option Record
 
 -- the bytes before the next gate
-abbrev pub front_of : {M : Type 0} → (M → Tier → List ℕ) → RegionView M → List ℕ
-front_of seen v = take v.end (seen v.media Fast)
+abbrev pub front_of : {M : Type 0} → Ghosts M → RegionView M → List ℕ
+front_of device v = take v.end (device.seen v.media Fast)
 
 -- the header
-abbrev pub header_of : {M : Type 0} → (M → Tier → List ℕ) → RegionView M → List ℕ
-header_of seen v = header (front_of seen v)
+abbrev pub header_of : {M : Type 0} → Ghosts M → RegionView M → List ℕ
+header_of device v = header (front_of device v)
 
 -- the records that are appended
-abbrev pub records_of : {M : Type 0} → (M → Tier → List ℕ) → RegionView M → List Record
-records_of seen v = spelled (before_gate (front_of seen v))
+abbrev pub records_of : {M : Type 0} → Ghosts M → RegionView M → List Record
+records_of device v = spelled_records (before_gate (front_of device v))
 
 -- the record that a payload spells, at the stages where one is begun
 abbrev pub begun_in : Stage → List ℕ → Option Record

@@ -10,7 +10,7 @@ use Rattle.update_log.specs.declared.stage.WipeProgress.{WipeProgress}
 use Rattle.update_log.specs.declared.stage.WipeProgress.TheVariants.{Going, Wiped}
 use Rattle.update_log.specs.Frames.{header}
 use Rattle.update_log.specs.Stage.{IsGateWritten, IsGateKept, IsNameWritten}
-use Rattle.update_log.specs.Wiping.{named, LeftInClosing, LeftInNaming}
+use Rattle.update_log.specs.WipeStops.{header_of, LeftInClosing, LeftInNaming}
 
 -- a device call of a wipe is under way
 abbrev pub IsWiping : Stage → Type 0
@@ -71,7 +71,7 @@ seen_wiped _ g seen = seen
 
 -- the header after it
 abbrev pub header_wiped : Stage → ℕ → List ℕ → List ℕ
-header_wiped stages.Naming g head = named g head
+header_wiped stages.Naming g head = header_of g head
 header_wiped _ g head = head
 
 -- what a stop leaves at each moment of the call that leads to a stage

@@ -3,7 +3,7 @@ ghost use Rattle.std.specs.Prelude.{◌≡◌, ◌≤◌, ◌+◌, [], length, I
 ghost use Rattle.tier_device.specs.declared.media.Tier.{Tier};
 ghost use Rattle.tier_device.specs.declared.media.Tier.TheVariants.{Fast};
 ghost use Rattle.tier_device.specs.Media.{Keeps, Rose};
-ghost use Rattle.log_record.specs.Grammar.{IsRecord, spelling};
+ghost use Rattle.log_record.specs.Grammar.{IsRecord, record_bytes};
 ghost use Rattle.update_log.specs.declared.format.TheConstants.{REGION_SIZE};
 ghost use Rattle.update_log.specs.Frames.{behind_gate};
 
@@ -68,13 +68,13 @@ impl Buffer {
     }
 
     /// What stands behind a record's gate: the length of its payload, the payload, and a closed gate.
-    pub fn put(&mut self, entry: &Record)
-        requires fits { IsRecord entry.now }
-        requires short { length (spelling entry.now) + 5 ≤ REGION_SIZE }
-        ensures { self.new ≡ behind_gate (spelling entry.now) }
+    pub fn put(&mut self, logged: &Record)
+        requires fits { IsRecord logged.now }
+        requires short { length (record_bytes logged.now) + 5 ≤ REGION_SIZE }
+        ensures { self.new ≡ behind_gate (record_bytes logged.now) }
     {
         self.bytes.clear();
-        match put_behind_gate(&mut self.bytes, entry) {
+        match put_behind_gate(&mut self.bytes, logged) {
             Ok(()) => {}
             Err(_) => unreachable!(),
         }
@@ -82,19 +82,19 @@ impl Buffer {
 }
 
 // Puts those bytes into a vector that holds none.
-fn put_behind_gate(bytes: &mut Vec<u8>, entry: &Record) -> Result<(), AllocError>
-    requires fits { IsRecord entry.now }
+fn put_behind_gate(bytes: &mut Vec<u8>, logged: &Record) -> Result<(), AllocError>
+    requires fits { IsRecord logged.now }
     requires none { bytes.old.items ≡ [] }
     requires empty { vec_len bytes.old ≡ 0 }
-    requires short { length (spelling entry.now) + 5 ≤ 262144 }
-    ensures is { OnOk result (bytes.new.items ≡ behind_gate (spelling entry.now)) }
-    ensures room { length (spelling entry.now) + 5 ≤ vec_capacity bytes.old → IsOk result }
+    requires short { length (record_bytes logged.now) + 5 ≤ 262144 }
+    ensures is { OnOk result (bytes.new.items ≡ behind_gate (record_bytes logged.now)) }
+    ensures room { length (record_bytes logged.now) + 5 ≤ vec_capacity bytes.old → IsOk result }
     ensures capacity { vec_capacity bytes.old ≤ vec_capacity bytes.new }
 {
     let mut size = [0; 4];
-    LittleEndian::write_u32(&mut size, entry.spelled_len() as u32);
+    LittleEndian::write_u32(&mut size, logged.spelled_len() as u32);
     bytes.extend_from_slice(&size)?;
-    write_behind(bytes, entry)?;
+    write_behind(bytes, logged)?;
     bytes.push(CLOSED)?;
     Ok(())
 }

@@ -4,7 +4,7 @@ ghost use Rattle.tier_device.specs.declared.media.Tier.{Tier};
 ghost use Rattle.tier_device.specs.declared.media.Tier.TheVariants.{Fast};
 ghost use Rattle.tier_device.specs.Media.{Keeps, Rose};
 ghost use Rattle.update_log.specs.declared.format.TheConstants.{CLOSED, GENERATION_SIZE};
-ghost use Rattle.update_log.specs.Wiping.{generation};
+ghost use Rattle.update_log.specs.WipeStops.{generation};
 ghost use Rattle.update_log.specs.declared.error.RegionError.TheVariants.{DeviceFault, Memory};
 
 use crate::error::RegionError;

@@ -1,7 +1,7 @@
 // What holds of the bytes of all regions.
 ghost use Rattle.std.specs.Prelude.{◌≡◌, ◌∷◌, [], ℕ, List};
-ghost use Rattle.update_log.specs.Frames.{payloads, records, framed, taken, end_behind, behind_gate, header};
-ghost use Rattle.update_log.specs.Wiping.{generation, named};
+ghost use Rattle.update_log.specs.Frames.{payloads, records, framed_length, taken_length, end_behind, behind_gate, header};
+ghost use Rattle.update_log.specs.WipeStops.{generation, header_of};
 ghost use Rattle.update_log.specs.Wipe.{seen_wiped};
 ghost use Rattle.update_log.specs.declared.stage.Stage.TheVariants as stages;
 
@@ -10,7 +10,7 @@ use log_record::read_is_as_long;
 
 /// The records of a content take as many bytes as their spellings have, each behind its gate and its length.
 pub fn records_are_as_long()
-    ensures { (content : List ℕ) → framed (payloads content) ≡ taken (records content) }
+    ensures { (content : List ℕ) → framed_length (payloads content) ≡ taken_length (records content) }
 {
     read_is_as_long();
 }
@@ -21,7 +21,7 @@ pub fn region_has_its_numbers()
     ensures first_gate { HEADER ≡ 16 }
     ensures generation_size { GENERATION_SIZE ≡ 8 }
     ensures generation_read { generation (1 ∷ 2 ∷ 3 ∷ 4 ∷ 5 ∷ 6 ∷ 7 ∷ 8 ∷ 9 ∷ []) ≡ 578437695752307201 }
-    ensures generation_named { named 578437695752307201 (9 ∷ 9 ∷ 9 ∷ 9 ∷ 9 ∷ 9 ∷ 9 ∷ 9 ∷ 0 ∷ 0 ∷ 0 ∷ 0 ∷ 0 ∷ 0 ∷ 0 ∷ 0 ∷ []) ≡ 1 ∷ 2 ∷ 3 ∷ 4 ∷ 5 ∷ 6 ∷ 7 ∷ 8 ∷ 0 ∷ 0 ∷ 0 ∷ 0 ∷ 0 ∷ 0 ∷ 0 ∷ 0 ∷ [] }
+    ensures generation_named { header_of 578437695752307201 (9 ∷ 9 ∷ 9 ∷ 9 ∷ 9 ∷ 9 ∷ 9 ∷ 9 ∷ 0 ∷ 0 ∷ 0 ∷ 0 ∷ 0 ∷ 0 ∷ 0 ∷ 0 ∷ []) ≡ 1 ∷ 2 ∷ 3 ∷ 4 ∷ 5 ∷ 6 ∷ 7 ∷ 8 ∷ 0 ∷ 0 ∷ 0 ∷ 0 ∷ 0 ∷ 0 ∷ 0 ∷ 0 ∷ [] }
     ensures generation_written { seen_wiped stages.Naming 513 (9 ∷ 9 ∷ 9 ∷ 9 ∷ 9 ∷ 9 ∷ 9 ∷ 9 ∷ 0 ∷ 0 ∷ 0 ∷ 0 ∷ 0 ∷ 0 ∷ 0 ∷ 0 ∷ 0 ∷ 7 ∷ []) ≡ 1 ∷ 2 ∷ 0 ∷ 0 ∷ 0 ∷ 0 ∷ 0 ∷ 0 ∷ 0 ∷ 0 ∷ 0 ∷ 0 ∷ 0 ∷ 0 ∷ 0 ∷ 0 ∷ 0 ∷ 7 ∷ [] }
     ensures gate_closed { seen_wiped stages.Closing 513 (1 ∷ 2 ∷ 0 ∷ 0 ∷ 0 ∷ 0 ∷ 0 ∷ 0 ∷ 0 ∷ 0 ∷ 0 ∷ 0 ∷ 0 ∷ 0 ∷ 0 ∷ 0 ∷ 165 ∷ 7 ∷ []) ≡ 1 ∷ 2 ∷ 0 ∷ 0 ∷ 0 ∷ 0 ∷ 0 ∷ 0 ∷ 0 ∷ 0 ∷ 0 ∷ 0 ∷ 0 ∷ 0 ∷ 0 ∷ 0 ∷ 0 ∷ 7 ∷ [] }
     ensures open_byte { OPEN ≡ 165 }

@@ -7,7 +7,7 @@
 
 mod append;
 mod buffer;
-mod counting;
+mod count_laws;
 mod error;
 mod format;
 mod front;
@@ -17,7 +17,7 @@ mod scan;
 mod stage;
 mod wipe;
 
-pub use counting::{append_counts_one_more, digest_counts_fewer, wipe_counts_nothing};
+pub use count_laws::{append_counts_one_more, digest_counts_fewer, wipe_counts_nothing};
 pub use error::RegionError;
 pub use format::{CLOSED, GENERATION_SIZE, HEADER, OPEN, REGION_SIZE};
 pub use laws::region_has_its_numbers;
@@ -28,7 +28,7 @@ pub use stage::{Progress, Stage, WipeProgress};
 pub use log_record::{
     Bytes, Call, Child, DIRECTORY_KIND, DecideError, Effect, Errno, FileGraphEffects as Effects,
     Flags, Kind, MAX_CLIENTS, MAX_INODE, MAX_TRANSFER, Name, NameMap, Path, PlainGraph, ROOT,
-    Record, RecordError, Reply, SharedBytes, UNIT_BYTES, is_payload, read_payload, read_record,
-    u32_of, write_record,
+    Record, RecordError, Reply, SharedBytes, UNIT_BYTES, client_index, is_payload, read_payload,
+    read_record, u32_of, write_record,
 };
 pub use tier_device::{FaultMedia, Fill, Media, MediaError, MemMedia, StopMedia, Tier, Trip};

@@ -1,8 +1,9 @@
 ghost use Rattle.std.specs.Prelude.{◌≡◌, ◌≢◌, ◌≤◌, ◌<◌, ◌+◌, ◌⊎◌, ℕ, List, [], length, IfOk, IfErr, IfSome, IfNone, IsErrOf, IsTrue, ◌↔◌, OnOk, OnErr, Some, None, get_or};
-ghost use Rattle.log_record.specs.Grammar.{IsRecord, spelling};
+ghost use Rattle.log_record.specs.Grammar.{IsRecord, record_bytes};
 ghost use Rattle.tier_device.specs.declared.media.Tier.{Tier};
 ghost use Rattle.tier_device.specs.declared.media.Tier.TheVariants.{Fast};
-ghost use Rattle.tier_device.specs.Media.{AtRest, LeftSince, Keeps, Puts, Rose};
+ghost use Rattle.tier_device.specs.Media.{Keeps, Puts, Rose};
+ghost use Rattle.tier_device.specs.AfterStop.{AtRest, LeftSince};
 ghost use Rattle.update_log.specs.declared.error.RegionError.TheVariants.{DeviceFault, RegionFull, Damaged, Memory};
 ghost use Rattle.update_log.specs.declared.format.TheConstants.{HEADER, REGION_SIZE, OPEN};
 ghost use Rattle.update_log.specs.declared.stage.Stage.TheVariants as stages;
@@ -55,7 +56,7 @@ impl<M: Media> Region<M> {
     ghost use Rattle.update_log.specs.View.{HasSize, WithOrWithout, header_of, records_of, begun_of};
     ghost use Rattle.update_log.specs.Calls.{ShowsCall};
     ghost use Rattle.update_log.specs.Moments.{PastStays};
-    ghost use Rattle.update_log.specs.Wiping.{LeftInWipe, generation, records_behind_gate};
+    ghost use Rattle.update_log.specs.WipeStops.{LeftInWipe, generation, records_behind_gate};
     ghost use Rattle.update_log.specs.Wipe.{CanWipe, IsWiping, LeftInCall, wipe_next, wipe_progress, seen_wiped, header_wiped};
 
     /// The region that a medium holds, with the records that stand in it. Nothing may be pending on the medium. It makes no
@@ -66,8 +67,8 @@ impl<M: Media> Region<M> {
     pub fn reopen(alloc: Global, media: M) -> Result<Self, (RegionError, M)>
         requires { AtRest (M.seen media) (M.left media (M.moment media)) Fast }
         ensures size { IfOk result (λ r. HasSize (M.seen media)) }
-        ensures header { IfOk result (λ r. header_of M.seen r ≡ header (M.seen media Fast)) }
-        ensures records { IfOk result (λ r. records_of M.seen r ≡ records (M.seen media Fast)) }
+        ensures header { IfOk result (λ r. header_of M.Media r ≡ header (M.seen media Fast)) }
+        ensures records { IfOk result (λ r. records_of M.Media r ≡ records (M.seen media Fast)) }
         ensures end { IfOk result (λ r. r.end ≡ end_behind (records (M.seen media Fast))) }
 
         // Nothing is begun, and a record may be unless an open gate stands behind the records.
@@ -106,8 +107,8 @@ impl<M: Media> Region<M> {
     fn read(alloc: Global, media: M, buffer: Buffer) -> Result<Self, (RegionError, M)>
         requires rests { AtRest (M.seen media) (M.left media (M.moment media)) Fast }
         requires size { length (M.seen media Fast) ≡ REGION_SIZE }
-        ensures header { IfOk result (λ r. header_of M.seen r ≡ header (M.seen media Fast)) }
-        ensures records { IfOk result (λ r. records_of M.seen r ≡ records (M.seen media Fast)) }
+        ensures header { IfOk result (λ r. header_of M.Media r ≡ header (M.seen media Fast)) }
+        ensures records { IfOk result (λ r. records_of M.Media r ≡ records (M.seen media Fast)) }
         ensures end { IfOk result (λ r. r.end ≡ end_behind (records (M.seen media Fast))) }
         ensures none { IfOk result (λ r. begun_of r ≡ None) }
         ensures idle { IfOk result (λ r. IsIdle r.stage) }
@@ -149,25 +150,25 @@ impl<M: Media> Region<M> {
     /// Begins to append a record. It makes no device call and takes no memory.
     ///
     /// Refused, with nothing changed, is a record that leaves no place for the gate behind it (`RegionFull`).
-    pub fn begin(&mut self, entry: &Record) -> Result<(), RegionError>
+    pub fn begin(&mut self, logged: &Record) -> Result<(), RegionError>
         requires ready { self.old.stage ≡ stages.Resting }
-        requires fits { IsRecord entry.now }
-        ensures begun { OnOk result (begun_of self.new ≡ Some entry.now) }
+        requires fits { IsRecord logged.now }
+        ensures begun { OnOk result (begun_of self.new ≡ Some logged.now) }
         ensures stage { OnOk result (self.new.stage ≡ stages.Begun) }
         ensures media { self.new.media ≡ self.old.media }
         ensures end { self.new.end ≡ self.old.end }
 
-        ensures full { IsErrOf result RegionFull ↔ (REGION_SIZE < end_behind (records_of M.seen self.old) + 5 + length (spelling entry.now) + 1) }
+        ensures full { IsErrOf result RegionFull ↔ (REGION_SIZE < end_behind (records_of M.Media self.old) + 5 + length (record_bytes logged.now) + 1) }
         ensures only { IfErr result (λ e. e ≡ RegionFull) }
         ensures refused { OnErr result (self.new ≡ self.old) }
     {
         written_is_read();
-        let len = entry.spelled_len();
+        let len = logged.spelled_len();
         let left = REGION_SIZE - self.end();
         if left < 6 || left - 6 < len {
             return Err(RegionError::RegionFull);
         }
-        self.body.put(entry);
+        self.body.put(logged);
         self.stage = Stage::Begun;
         Ok(())
     }
@@ -181,19 +182,19 @@ impl<M: Media> Region<M> {
 
         // At each moment of the call a stop leaves the records from before the append, with the begun one or without.
         ensures any_moment { (c : List ℕ) → LeftSince (M.left self.new.media) (M.moment self.new.media) (M.moment self.old.media) Fast c
-            → WithOrWithout (header_of M.seen self.old) (records_of M.seen self.old) (begun_of self.old) c }
+            → WithOrWithout (header_of M.Media self.old) (records_of M.Media self.old) (begun_of self.old) c }
 
         // The first call writes the begun record and a closed gate behind it, the third opens its gate, and nothing else changes.
         ensures seen { OnOk result (ShowsCall self.old.stage self.old.end (begun_of self.old) (M.seen self.old.media) (M.seen self.new.media)) }
 
         ensures progress { IfOk result (λ p. p ≡ progress self.old.stage) }
         ensures stage { OnOk result (self.new.stage ≡ next self.old.stage) }
-        ensures same_header { header_of M.seen self.new ≡ header_of M.seen self.old }
+        ensures same_header { header_of M.Media self.new ≡ header_of M.Media self.old }
 
         // Until the last call the record is begun; then it is appended, and every stop leaves it.
-        ensures going { self.new.stage ≢ stages.Resting → (records_of M.seen self.new ≡ records_of M.seen self.old) × (begun_of self.new ≡ begun_of self.old) }
-        ensures appended { self.new.stage ≡ stages.Resting → records_of M.seen self.new ≡ with_record (records_of M.seen self.old) (begun_of self.old) }
-        ensures kept { self.new.stage ≡ stages.Resting → (c : List ℕ) → M.left self.new.media (M.moment self.new.media) Fast c → records c ≡ records_of M.seen self.new }
+        ensures going { self.new.stage ≢ stages.Resting → (records_of M.Media self.new ≡ records_of M.Media self.old) × (begun_of self.new ≡ begun_of self.old) }
+        ensures appended { self.new.stage ≡ stages.Resting → records_of M.Media self.new ≡ with_record (records_of M.Media self.old) (begun_of self.old) }
+        ensures kept { self.new.stage ≡ stages.Resting → (c : List ℕ) → M.left self.new.media (M.moment self.new.media) Fast c → records c ≡ records_of M.Media self.new }
 
         ensures one_call { OnOk result (M.moment self.new.media ≡ M.moment self.old.media + 1) }
         ensures at_most { M.moment self.new.media ≤ M.moment self.old.media + 1 }
@@ -223,35 +224,35 @@ impl<M: Media> Region<M> {
     /// Appends a record by its four device calls, one after the other. It takes no memory.
     ///
     /// Refused as `begin` is, with nothing changed; where the device fails, as `step` is, and no further call is made.
-    pub fn append(&mut self, entry: &Record) -> Result<(), RegionError>
+    pub fn append(&mut self, logged: &Record) -> Result<(), RegionError>
         requires ready { self.old.stage ≡ stages.Resting }
-        requires fits { IsRecord entry.now }
+        requires fits { IsRecord logged.now }
 
         // At each moment of the call a stop leaves the records from before it, with this one or without.
         ensures any_moment { (c : List ℕ) → LeftSince (M.left self.new.media) (M.moment self.new.media) (M.moment self.old.media) Fast c
-            → WithOrWithout (header_of M.seen self.old) (records_of M.seen self.old) (Some entry.now) c }
+            → WithOrWithout (header_of M.Media self.old) (records_of M.Media self.old) (Some logged.now) c }
         ensures past { PastStays (M.moment self.old.media) (M.moment self.new.media) (M.left self.old.media) (M.left self.new.media) }
 
-        ensures appended { OnOk result (records_of M.seen self.new ≡ with_record (records_of M.seen self.old) (Some entry.now)) }
-        ensures kept { OnOk result ((c : List ℕ) → M.left self.new.media (M.moment self.new.media) Fast c → records c ≡ records_of M.seen self.new) }
+        ensures appended { OnOk result (records_of M.Media self.new ≡ with_record (records_of M.Media self.old) (Some logged.now)) }
+        ensures kept { OnOk result ((c : List ℕ) → M.left self.new.media (M.moment self.new.media) Fast c → records c ≡ records_of M.Media self.new) }
         ensures stage { OnOk result (self.new.stage ≡ stages.Resting) }
-        ensures same_header { header_of M.seen self.new ≡ header_of M.seen self.old }
+        ensures same_header { header_of M.Media self.new ≡ header_of M.Media self.old }
         ensures four_calls { OnOk result (M.moment self.new.media ≡ M.moment self.old.media + 4) }
         ensures at_most { M.moment self.new.media ≤ M.moment self.old.media + 4 }
 
-        ensures full { IsErrOf result RegionFull ↔ (REGION_SIZE < end_behind (records_of M.seen self.old) + 5 + length (spelling entry.now) + 1) }
+        ensures full { IsErrOf result RegionFull ↔ (REGION_SIZE < end_behind (records_of M.Media self.old) + 5 + length (record_bytes logged.now) + 1) }
         ensures refused { IsErrOf result RegionFull → self.new ≡ self.old }
         ensures only { IfErr result (λ e. (e ≡ RegionFull) ⊎ (e ≡ DeviceFault)) }
 
         // A device fault ends it: the record is begun, and nothing more is done to it.
         ensures failed { IsErrOf result DeviceFault → self.new.stage ≡ stages.Failed }
-        ensures unanswered { IsErrOf result DeviceFault → (records_of M.seen self.new ≡ records_of M.seen self.old) × (begun_of self.new ≡ Some entry.now) }
+        ensures unanswered { IsErrOf result DeviceFault → (records_of M.Media self.new ≡ records_of M.Media self.old) × (begun_of self.new ≡ Some logged.now) }
         ensures fault { IsErrOf result DeviceFault → Rose (M.faults self.old.media) (M.faults self.new.media) }
         ensures sound { OnOk result (M.faults self.new.media ≡ M.faults self.old.media) }
         ensures faults { (M.faults self.old.media ≤ M.faults self.new.media) × (M.faults self.new.media ≤ M.faults self.old.media + 1) }
     {
         self.left_now();
-        self.begin(entry)?;
+        self.begin(logged)?;
         self.finish()
     }
 
@@ -263,17 +264,17 @@ impl<M: Media> Region<M> {
 
         // At each moment of the calls a stop leaves the records from before them, with the begun one or without.
         ensures any_moment { (c : List ℕ) → LeftSince (M.left self.new.media) (M.moment self.new.media) (M.moment self.old.media) Fast c
-            → WithOrWithout (header_of M.seen self.old) (records_of M.seen self.old) (begun_of self.old) c }
+            → WithOrWithout (header_of M.Media self.old) (records_of M.Media self.old) (begun_of self.old) c }
         ensures past { PastStays (M.moment self.old.media) (M.moment self.new.media) (M.left self.old.media) (M.left self.new.media) }
-        ensures appended { OnOk result (records_of M.seen self.new ≡ with_record (records_of M.seen self.old) (begun_of self.old)) }
-        ensures kept { OnOk result ((c : List ℕ) → M.left self.new.media (M.moment self.new.media) Fast c → records c ≡ records_of M.seen self.new) }
+        ensures appended { OnOk result (records_of M.Media self.new ≡ with_record (records_of M.Media self.old) (begun_of self.old)) }
+        ensures kept { OnOk result ((c : List ℕ) → M.left self.new.media (M.moment self.new.media) Fast c → records c ≡ records_of M.Media self.new) }
         ensures stage { OnOk result (self.new.stage ≡ stages.Resting) }
-        ensures same_header { header_of M.seen self.new ≡ header_of M.seen self.old }
+        ensures same_header { header_of M.Media self.new ≡ header_of M.Media self.old }
         ensures calls { OnOk result (M.moment self.new.media ≡ M.moment self.old.media + calls_left self.old.stage) }
         ensures at_most { M.moment self.new.media ≤ M.moment self.old.media + calls_left self.old.stage }
         ensures only { IfErr result (λ e. e ≡ DeviceFault) }
         ensures failed { OnErr result (self.new.stage ≡ stages.Failed) }
-        ensures unanswered { OnErr result ((records_of M.seen self.new ≡ records_of M.seen self.old) × (begun_of self.new ≡ begun_of self.old)) }
+        ensures unanswered { OnErr result ((records_of M.Media self.new ≡ records_of M.Media self.old) × (begun_of self.new ≡ begun_of self.old)) }
         ensures fault { OnErr result (Rose (M.faults self.old.media) (M.faults self.new.media)) }
         ensures sound { OnOk result (M.faults self.new.media ≡ M.faults self.old.media) }
         ensures faults { (M.faults self.old.media ≤ M.faults self.new.media) × (M.faults self.new.media ≤ M.faults self.old.media + 1) }
@@ -295,13 +296,13 @@ impl<M: Media> Region<M> {
         // At each moment of a call on the first gate a stop leaves the header, and the records behind the gate or none; at each moment of
         // a call on the generation no record, and the other bytes of the header.
         ensures any_moment { (c : List ℕ) → LeftSince (M.left self.new.media) (M.moment self.new.media) (M.moment self.old.media) Fast c
-            → LeftInCall (wipe_next self.old.stage (get_or (M.seen self.old.media Fast) HEADER 0)) (header_of M.seen self.old) (records_behind_gate (M.seen self.old.media Fast)) c }
+            → LeftInCall (wipe_next self.old.stage (get_or (M.seen self.old.media Fast) HEADER 0)) (header_of M.Media self.old) (records_behind_gate (M.seen self.old.media Fast)) c }
 
         ensures seen { OnOk result (Puts Fast (seen_wiped self.new.stage generation (M.seen self.old.media Fast)) (M.seen self.old.media) (M.seen self.new.media)) }
         ensures stage { OnOk result (self.new.stage ≡ wipe_next self.old.stage (get_or (M.seen self.old.media Fast) HEADER 0)) }
         ensures progress { IfOk result (λ p. p ≡ wipe_progress self.new.stage) }
-        ensures header { OnOk result (header_of M.seen self.new ≡ header_wiped self.new.stage generation (header_of M.seen self.old)) }
-        ensures none { records_of M.seen self.new ≡ [] }
+        ensures header { OnOk result (header_of M.Media self.new ≡ header_wiped self.new.stage generation (header_of M.Media self.old)) }
+        ensures none { records_of M.Media self.new ≡ [] }
         ensures nothing_begun { begun_of self.new ≡ None }
 
         // After the last call every stop leaves what a read gives.
@@ -334,7 +335,7 @@ impl<M: Media> Region<M> {
 
     /// The records that are appended, in their order. It reads them from the medium, and changes nothing.
     pub fn records(&mut self) -> Result<Vec<Record>, RegionError>
-        ensures found { IfOk result (λ found. found.items ≡ records_of M.seen self.old) }
+        ensures found { IfOk result (λ found. found.items ≡ records_of M.Media self.old) }
         ensures same { (self.new.end ≡ self.old.end) × (self.new.stage ≡ self.old.stage) × (begun_of self.new ≡ begun_of self.old) }
         ensures seen { (t : Tier) → M.seen self.new.media t ≡ M.seen self.old.media t }
         ensures clock { M.moment self.new.media ≡ M.moment self.old.media }
@@ -356,7 +357,7 @@ impl<M: Media> Region<M> {
 
     /// The generation that the header names. It reads it from the medium, and changes nothing.
     pub fn generation(&mut self) -> Result<u64, RegionError>
-        ensures named { IfOk result (λ g. g ≡ generation (header_of M.seen self.old)) }
+        ensures named { IfOk result (λ g. g ≡ generation (header_of M.Media self.old)) }
         ensures same { (self.new.end ≡ self.old.end) × (self.new.stage ≡ self.old.stage) × (begun_of self.new ≡ begun_of self.old) }
         ensures seen { (t : Tier) → M.seen self.new.media t ≡ M.seen self.old.media t }
         ensures clock { M.moment self.new.media ≡ M.moment self.old.media }
@@ -373,22 +374,22 @@ impl<M: Media> Region<M> {
     /// What a stop may leave now, between two calls.
     pub fn left_now(&self)
         ensures either { (IsWiping self.now.stage → ⊥) → (c : List ℕ) → M.left self.now.media (M.moment self.now.media) Fast c
-            → WithOrWithout (header_of M.seen self.now) (records_of M.seen self.now) (begun_of self.now) c }
+            → WithOrWithout (header_of M.Media self.now) (records_of M.Media self.now) (begun_of self.now) c }
 
         // Between two calls of a wipe it leaves the header and the records behind the first gate, or no record.
         ensures wiping { IsWiping self.now.stage → (c : List ℕ) → M.left self.now.media (M.moment self.now.media) Fast c
-            → LeftInWipe (header_of M.seen self.now) (records_behind_gate (M.seen self.now.media Fast)) c }
+            → LeftInWipe (header_of M.Media self.now) (records_behind_gate (M.seen self.now.media Fast)) c }
 
         // Where there are records and nothing is begun, the first gate is open, and those behind it are all.
-        ensures behind { IsIdle self.now.stage → records_of M.seen self.now ≢ [] → records_behind_gate (M.seen self.now.media Fast) ≡ records_of M.seen self.now }
+        ensures behind { IsIdle self.now.stage → records_of M.Media self.now ≢ [] → records_behind_gate (M.seen self.now.media Fast) ≡ records_of M.Media self.now }
 
         // Where nothing is begun, also behind a foreign gate, it leaves what a read gives.
         ensures idle { IsIdle self.now.stage → (c : List ℕ) → M.left self.now.media (M.moment self.now.media) Fast c
-            → (c ≡ M.seen self.now.media Fast) × (records c ≡ records_of M.seen self.now) }
+            → (c ≡ M.seen self.now.media Fast) × (records c ≡ records_of M.Media self.now) }
         ensures none { IsIdle self.now.stage → begun_of self.now ≡ None }
 
         // The next gate stands behind the records.
-        ensures end { self.now.end ≡ end_behind (records_of M.seen self.now) }
+        ensures end { self.now.end ≡ end_behind (records_of M.Media self.now) }
     {
         records_are_as_long();
         let _ = &self.end;
@@ -397,7 +398,7 @@ impl<M: Media> Region<M> {
     // Where the next gate stands.
     fn end(&self) -> usize
         ensures is { result ≡ self.now.end }
-        ensures behind { result ≡ end_behind (records_of M.seen self.now) }
+        ensures behind { result ≡ end_behind (records_of M.Media self.now) }
         ensures within { result < REGION_SIZE }
     {
         self.left_now();
@@ -413,8 +414,8 @@ impl<M: Media> Region<M> {
 
     /// The length of the longest payload that the next record may have, in bytes; none fits where it is `None`.
     pub fn room(&self) -> Option<usize>
-        ensures some { IfSome result (λ most. end_behind (records_of M.seen self.now) + 5 + most + 1 ≡ REGION_SIZE) }
-        ensures none { IfNone result (REGION_SIZE < end_behind (records_of M.seen self.now) + 5 + 0 + 1) }
+        ensures some { IfSome result (λ most. end_behind (records_of M.Media self.now) + 5 + most + 1 ≡ REGION_SIZE) }
+        ensures none { IfNone result (REGION_SIZE < end_behind (records_of M.Media self.now) + 5 + 0 + 1) }
     {
         (REGION_SIZE - self.end()).checked_sub(6)
     }

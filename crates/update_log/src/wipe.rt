@@ -3,11 +3,12 @@ ghost use Rattle.std.specs.Prelude.{◌≡◌, ◌≤◌, ◌<◌, ◌+◌, ◌�
 ghost use Rattle.byteorder.specs.Endian.{little_bytes};
 ghost use Rattle.tier_device.specs.declared.media.Tier.{Tier};
 ghost use Rattle.tier_device.specs.declared.media.Tier.TheVariants.{Fast};
-ghost use Rattle.tier_device.specs.Media.{Keeps, LeftSince, Puts, Rose};
+ghost use Rattle.tier_device.specs.Media.{Keeps, Puts, Rose};
+ghost use Rattle.tier_device.specs.AfterStop.{LeftSince};
 ghost use Rattle.update_log.specs.declared.format.TheConstants.{GENERATION_SIZE, HEADER, REGION_SIZE};
 ghost use Rattle.update_log.specs.Frames.{header};
 ghost use Rattle.update_log.specs.Stage.{IsUnwiped};
-ghost use Rattle.update_log.specs.Wiping.{records_behind_gate};
+ghost use Rattle.update_log.specs.WipeStops.{records_behind_gate};
 ghost use Rattle.update_log.specs.Wipe.{MayWipe, IsReadyFor, IsDoneWith, LeftInCall, first_stage, wipe_next, seen_wiped, header_wiped};
 
 use crate::format::{CLOSED, GENERATION_SIZE, HEADER};

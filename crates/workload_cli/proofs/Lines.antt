@@ -3,7 +3,7 @@ use Rattle.std.proofs.Common.{◌≡◌, ◌∙◌, ℕ, suc, List, inr, refl, s
 use Rattle.std.proofs.lemmas.Result.{err_from_is_err_and}
 use Rattle.std.specs.Prelude.{Option, Some, Result, Err, IsErrAnd}
 use Rattle.script.specs.SystemLines.{Asked, system_line}
-use Rattle.script.specs.Reading.{BeginsTooLong, LosesLine}
+use Rattle.script.specs.LineReads.{BeginsTooLong, LosesLine}
 use Rattle.script.specs.declared.script.reader.ScriptError.{ScriptError}
 use Rattle.script.specs.declared.script.reader.ScriptError.TheVariants as stops
 use Rattle.workload_cli.specs.Script.{EndsAt, IsAnsweredTo}

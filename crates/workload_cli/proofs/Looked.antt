@@ -2,28 +2,29 @@
 use Rattle.std.proofs.Common.{◌≡◌, ◌∙◌, ℕ, List, ap, subst}
 use Rattle.std.proofs.Math.Path.{fun_ext}
 use Rattle.std.specs.Prelude.{Option}
+use Rattle.script.specs.tier_device.declared.media.Media.{Ghosts}
 use Rattle.script.specs.tier_device.declared.media.Tier.{Tier}
 use Rattle.fresh_system.specs.call_effects.Wholes.{tree_of}
 use Rattle.fresh_system.specs.layout.Places.{Sizes}
 use Rattle.fresh_system.specs.shared_area.Parts.{IsTierOf}
-use Rattle.fresh_system.specs.area_image.Store.{graph, store_of}
+use Rattle.fresh_system.specs.area_image.Store.{graph, disk, store_of}
 use Rattle.fresh_system.specs.event_steps.View.{SystemView}
 use Rattle.workload_cli.specs.OfSystem.{HasLooked, LiesIn, tree_in}
 
-module _ {M : Type 0} (moment : M → ℕ) (seen : M → Tier → List ℕ) where
+module _ {M : Type 0} (device : Ghosts M) where
   -- one behind another
-  pub looked_on : (old mid new : SystemView M) → HasLooked moment seen old mid → HasLooked moment seen mid new → HasLooked moment seen old new
+  pub looked_on : (old mid new : SystemView M) → HasLooked device old mid → HasLooked device mid new → HasLooked device old new
   looked_on old mid new a b = record { seats = b.seats ∙ a.seats; book = b.book ∙ a.book; geometry = b.geometry ∙ a.geometry; clock = b.clock ∙ a.clock; reads = λ t. b.reads t ∙ a.reads t }
 
   -- the media spell the same graph
-  pub same_graph : (old new : SystemView M) → HasLooked moment seen old new → graph new.kernel.area.geometry (store_of (seen new.kernel.area.media)) ≡ graph old.kernel.area.geometry (store_of (seen old.kernel.area.media))
+  pub same_graph : (old new : SystemView M) → HasLooked device old new → graph new.kernel.area.geometry (disk device new.kernel.area) ≡ graph old.kernel.area.geometry (disk device old.kernel.area)
   same_graph old new a =
-      ap (λ g. graph g (store_of (seen new.kernel.area.media))) a.geometry ∙ ap (λ (content : Tier → List ℕ). graph old.kernel.area.geometry (store_of content)) (fun_ext a.reads)
+      ap (λ g. graph g (disk device new.kernel.area)) a.geometry ∙ ap (λ (content : Tier → List ℕ). graph old.kernel.area.geometry (store_of content)) (fun_ext a.reads)
 
-  pub same_tree : (old new : SystemView M) → HasLooked moment seen old new → tree_in seen new.kernel ≡ tree_in seen old.kernel
+  pub same_tree : (old new : SystemView M) → HasLooked device old new → tree_in device new.kernel ≡ tree_in device old.kernel
   same_tree old new a = ap tree_of (same_graph old new a)
 
   -- and blocks lie where they did
-  pub same_place : (old new : SystemView M) (i block : ℕ) (tier : Option Tier) → HasLooked moment seen old new → LiesIn seen new.kernel i block tier → LiesIn seen old.kernel i block tier
+  pub same_place : (old new : SystemView M) (i block : ℕ) (tier : Option Tier) → HasLooked device old new → LiesIn device new.kernel i block tier → LiesIn device old.kernel i block tier
   same_place old new i block tier a lies =
-      subst (λ (content : Tier → List ℕ). IsTierOf old.kernel.area.geometry (store_of content) i block tier) (fun_ext a.reads) (subst (λ (g : Sizes). IsTierOf g (store_of (seen new.kernel.area.media)) i block tier) a.geometry lies)
+      subst (λ (content : Tier → List ℕ). IsTierOf old.kernel.area.geometry (store_of content) i block tier) (fun_ext a.reads) (subst (λ (g : Sizes). IsTierOf g (disk device new.kernel.area) i block tier) a.geometry lies)

@@ -12,9 +12,9 @@ use Rattle.script.specs.posix_calls.Tree.{Tree}
 use Rattle.script.specs.file_graph.Graph.{Graph, Node, Body, FileBody, DirBody}
 use Rattle.fresh_system.specs.call_effects.NodeView.{NodeView, FileView, DirView, view_is_dir, view_of_body, view_of_node, view_at}
 use Rattle.fresh_system.specs.call_effects.Wholes.{tree_of, tree_node, tree_body}
-use Rattle.fresh_system.specs.record_validation.Seen.{seen}
+use Rattle.fresh_system.specs.record_validation.NodeAnswers.{seen_node}
 use Rattle.workload_cli.specs.Paths.{child_in, unless_directory}
-use Rattle.workload_cli.specs.Told.{IsNoFile, IsUnread}
+use Rattle.workload_cli.specs.AnswerText.{IsNoFile, IsUnread}
 use Rattle.workload_cli.specs.declared.answer.Answer.{Answer}
 
 -- what stands under a name in what is known of a node, if a node there is
@@ -52,7 +52,7 @@ file_has_none (FileView names size) name is = refl
 file_has_none (DirView names entries) name is = absurd (true≢false is)
 
 -- nor has a directory one that is not found in it
-pub directory_has_none : (v : NodeView) (name : List ℕ) → view_is_dir v ≡ true → entry_in name (seen v) ≡ None → child_in v name ≡ Err NoEntry
+pub directory_has_none : (v : NodeView) (name : List ℕ) → view_is_dir v ≡ true → entry_in name (seen_node v) ≡ None → child_in v name ≡ Err NoEntry
 directory_has_none (FileView names size) name is none = absurd (true≢false (sym is))
 directory_has_none (DirView names entries) name is none = ap entry_or none
 

@@ -1,6 +1,6 @@
 pub mod Manners
 pub mod Paths
 pub mod OfSystem
-pub mod Told
-pub mod Answering
+pub mod AnswerText
+pub mod LineResults
 pub mod Script

@@ -3,7 +3,7 @@ use Rattle.std.specs.Prelude.{ℕ, List, Option, Some, None, Result, Ok, Err}
 use Rattle.std.specs.FinMap as fin
 use Rattle.script.specs.posix_calls.declared.errno.Errno.{Errno}
 use Rattle.script.specs.posix_calls.declared.errno.Errno.TheVariants.{IsDirectory, NotDirectory}
-use Rattle.script.specs.posix_calls.Path.{reading}
+use Rattle.script.specs.posix_calls.Path.{path_names}
 use Rattle.script.specs.posix_calls.Resolve.{resolve, then_from, entry_or}
 use Rattle.script.specs.posix_calls.Tree.{Node, File, Dir, Tree}
 use Rattle.fresh_system.specs.call_effects.NodeView.{NodeView, FileView, DirView}
@@ -31,4 +31,4 @@ file_by t (Err e) = Err e
 
 -- the inode of the file that a path leads to, or what is wrong with it
 abbrev pub file_in : Tree → List ℕ → Result ℕ Errno
-file_in t path = file_by t (reading path)
+file_in t path = file_by t (path_names path)

@@ -2,7 +2,7 @@
 use Rattle.std.specs.Prelude.{◌≡◌, ◌⊎◌, ℕ, zero, suc, List, Option, Some, None, Result, Ok, Err}
 use Rattle.std.specs.Io.KnownBytes.{IsAtEnd}
 use Rattle.script.specs.SystemLines.{Asked, system_line}
-use Rattle.script.specs.Reading.{BeginsTooLong, LosesLine}
+use Rattle.script.specs.LineReads.{BeginsTooLong, LosesLine}
 use Rattle.script.specs.declared.script.reader.ScriptError.{ScriptError}
 use Rattle.script.specs.declared.script.reader.ScriptError.TheVariants as stops
 use Rattle.workload_cli.specs.declared.answer.Answer.{Answer}

@@ -1,6 +1,6 @@
 // What the lines of a script are answered, and how that is printed.
 ghost use Rattle.std.specs.Prelude.{◌≡◌};
-ghost use Rattle.workload_cli.specs.Told.{told_failed};
+ghost use Rattle.workload_cli.specs.AnswerText.{failure_answer};
 
 use fresh_system::{Figures, Refusal};
 use script::{Errno, Reply, Tier, write_reply};
@@ -69,8 +69,8 @@ fn write_book<W: Write>(out: &mut W, figures: Figures) -> io::Result<()> {
 }
 
 /// That a call failed.
-pub fn failed(errno: Errno) -> Answer
-    ensures { result ≡ told_failed errno }
+pub fn failure_answer(errno: Errno) -> Answer
+    ensures { result ≡ failure_answer errno }
 {
     Answer::Call(Reply::Failed { errno })
 }

@@ -1,34 +1,34 @@
 // A client's call.
 ghost use Rattle.std.specs.Prelude.{◌≡◌};
-ghost use Rattle.script.specs.Seen.{asked};
-ghost use Rattle.workload_cli.specs.Answering.{IsCallAnswered, IsStepAnswered};
+ghost use Rattle.script.specs.LineValues.{asked_call};
+ghost use Rattle.workload_cli.specs.LineResults.{IsCallAnswered, IsStepAnswered};
 ghost use Rattle.workload_cli.specs.Manners.{IsServedIn};
-ghost use Rattle.workload_cli.specs.Told.{told_call};
+ghost use Rattle.workload_cli.specs.AnswerText.{call_answer};
 
-use crate::answer::{Answer, failed};
-use crate::running::Running;
-use call_driver::{Served, begin_call, serve_call, step_call};
+use crate::answer::{Answer, failure_answer};
+use crate::system_queries::Running;
+use call_driver::{CallResult, Events, begin_call, serve_call, step_call};
 use script::{Call, CallText, Errno, Manner};
 use std::alloc::Global;
 
 /// What a client's call is answered.
-pub fn answer_call<S: Running>(
+pub fn answer_call<S: Events + Running>(
     alloc: Global,
     system: &mut S,
     client: u32,
     manner: Manner,
     call: &CallText<'_>,
 ) -> Answer
-    ensures { IsCallAnswered S.plays S.owes S.leases S.waits S.broken system.old client manner (asked call.now) result system.new }
+    ensures { IsCallAnswered S.Events system.old client manner (asked_call call.now) result system.new }
 {
     match call.to_call(alloc) {
-        Ok(call) => told_call(serve(system, client, manner, call)),
-        Err(_) => failed(Errno::NoMemory),
+        Ok(call) => call_answer(serve(system, client, manner, call)),
+        Err(_) => failure_answer(Errno::NoMemory),
     }
 }
 
-fn serve<S: Running>(system: &mut S, client: u32, manner: Manner, call: Call) -> Served
-    ensures { IsServedIn S.plays S.owes S.leases S.waits S.broken manner client call result system.old system.new }
+fn serve<S: Events + Running>(system: &mut S, client: u32, manner: Manner, call: Call) -> CallResult
+    ensures { IsServedIn S.Events manner client call result system.old system.new }
 {
     match manner {
         Manner::Served => serve_call(system, client, call, true),
@@ -37,24 +37,24 @@ fn serve<S: Running>(system: &mut S, client: u32, manner: Manner, call: Call) ->
     }
 }
 
-fn told_call(served: Served) -> Answer
-    ensures { result ≡ told_call served }
+fn call_answer(served: CallResult) -> Answer
+    ensures { result ≡ call_answer served }
 {
     match served {
-        Served::Reply(reply) => Answer::Call(reply),
-        Served::Pending => Answer::Pending,
-        Served::Blocked => Answer::Blocked,
-        Served::NoMemory => failed(Errno::NoMemory),
+        CallResult::Reply(reply) => Answer::Call(reply),
+        CallResult::Pending => Answer::Pending,
+        CallResult::Blocked => Answer::Blocked,
+        CallResult::NoMemory => failure_answer(Errno::NoMemory),
     }
 }
 
 /// One device call of a call that waits for its answer, and what came of it.
-pub fn answer_step<S: Running>(system: &mut S, client: u32) -> Answer
-    ensures { IsStepAnswered S.plays S.owes S.leases S.waits S.broken system.old client result system.new }
+pub fn answer_step<S: Events + Running>(system: &mut S, client: u32) -> Answer
+    ensures { IsStepAnswered S.Events system.old client result system.new }
 {
     match step_call(system, client) {
-        Some(Served::Pending) => Answer::Stepped,
-        Some(served) => told_call(served),
+        Some(CallResult::Pending) => Answer::Stepped,
+        Some(served) => call_answer(served),
         None => Answer::Idle,
     }
 }

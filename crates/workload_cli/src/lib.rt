@@ -2,24 +2,25 @@
 #![tactic(auto)]
 
 mod answer;
+mod area_view;
 mod calls;
-mod looking;
+mod need_notes;
 mod needs;
-mod noting;
-mod opening;
 mod options;
 mod rows;
 mod run;
-mod running;
 mod shell;
+mod system_open;
+mod system_queries;
 mod tiers;
 
 pub use answer::{Answer, write_answer};
 pub use run::run_sh;
-pub use running::Running;
 pub use shell::answer_line;
+pub use system_queries::Running;
 
 // Passed on to the crates above, which so need not list those below.
+pub use call_driver::Events;
 pub use fresh_system::{Geometry, MediaMaker, RamMedia, open_fresh};
 pub use script::{
     CallText, FaultMedia, Manner, SystemLine, Trip, read_system_line, run_program, write_reply,

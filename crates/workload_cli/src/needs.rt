@@ -1,9 +1,9 @@
 // What the calls of a script need.
 use crate::answer::write_answer;
-use crate::noting::Noting;
-use crate::running::Running;
+use crate::need_notes::Noting;
 use crate::shell::answer_line;
-use call_driver::{Events, Served, serve_call};
+use crate::system_queries::Running;
+use call_driver::{CallResult, Events, serve_call};
 use fresh_system::{Geometry, RamMaker, open_fresh};
 use script::{Call, SystemLine, read_system_line, write_reply};
 use std::alloc::Global;
@@ -23,7 +23,7 @@ pub fn run_needs(alloc: Global, script: &[u8], out: &mut Vec<u8>) -> u8 {
     }
 }
 
-fn answer_each<S: Running>(
+fn answer_each<S: Events + Running>(
     alloc: Global,
     system: &mut Noting<S>,
     script: &[u8],
@@ -41,7 +41,7 @@ fn is_newline(byte: &u8) -> bool {
     *byte == b'\n'
 }
 
-fn answer<S: Running>(
+fn answer<S: Events + Running>(
     alloc: Global,
     system: &mut Noting<S>,
     line: SystemLine<'_>,
@@ -60,11 +60,11 @@ fn answer<S: Running>(
     }
 }
 
-fn serve<S: Running>(system: &mut Noting<S>, client: u32, call: Call, out: &mut Vec<u8>) {
+fn serve<S: Events + Running>(system: &mut Noting<S>, client: u32, call: Call, out: &mut Vec<u8>) {
     let served = serve_call(system, client, call, true);
     let _ = out.write_all(&system.notes);
     system.notes.clear();
-    if let Served::Reply(reply) = served {
+    if let CallResult::Reply(reply) = served {
         let _ = write_reply(out, &reply);
     }
 }

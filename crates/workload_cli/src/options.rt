@@ -51,6 +51,8 @@ pub struct Options {
     pub sizes: Sizes,
     /// Whether standard input is a table of scripts, each with what it prints.
     pub is_table: bool,
+    /// Whether each line of a script is printed before its answer.
+    pub echoes: bool,
 }
 
 /// What the words ask for. The first word is the program's name.
@@ -59,6 +61,7 @@ pub fn read_options<'a>(alloc: Global, words: &'a [&'a str]) -> Result<Options, 
     Ok(Options {
         sizes: sizes_of(&matches),
         is_table: matches.get_flag("rows"),
+        echoes: matches.get_flag("echo"),
     })
 }
 
@@ -78,7 +81,9 @@ fn number(matches: &ArgMatches<'_>, name: &str, default: u32) -> u32 {
 fn command<'a>(alloc: Global) -> Result<Command<'a>, AllocError> {
     Command::new(alloc, "strata_sh")
         .about("Answers a script of file system calls, read from standard input line by line")
-        .override_usage("strata_sh [--units N] [--fast N] [--block N] [--slow N] [--rows] < SCRIPT")
+        .override_usage(
+            "strata_sh [--units N] [--fast N] [--block N] [--slow N] [--echo] [--rows] < SCRIPT",
+        )
         .after_help(LANGUAGE)
         .arg(size(
             alloc,
@@ -104,6 +109,7 @@ fn command<'a>(alloc: Global) -> Result<Command<'a>, AllocError> {
             0,
             "Data blocks of the slow tier; 1024 if left out",
         ))?
+        .arg(flag(alloc, "echo", "Prints each line before its answer"))?
         .arg(flag(
             alloc,
             "rows",

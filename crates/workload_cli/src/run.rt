@@ -1,14 +1,15 @@
 // A run of `strata_sh`.
 ghost use Rattle.std.specs.Prelude.{ℕ, List, Option};
-ghost use Rattle.workload_cli.specs.Answering.{IsAnswerTo};
+ghost use Rattle.workload_cli.specs.LineResults.{IsAnswerTo};
 ghost use Rattle.workload_cli.specs.Script.{EndsAt, IsAnsweredTo};
 
 use crate::answer::{Answer, write_answer};
-use crate::opening::open_system;
 use crate::options::{Options, read_options};
 use crate::rows::run_table;
-use crate::running::Running;
 use crate::shell::answer_line;
+use crate::system_open::open_system;
+use crate::system_queries::Running;
+use call_driver::Events;
 use script::{RunError, ScriptError, ScriptLines, read_system_line, tell, tell_fault};
 use std::alloc::Global;
 use std::io::{BufRead, Write};
@@ -18,6 +19,8 @@ use std::io::{BufRead, Write};
 ///
 /// A line that is unreadable ends the run, with `line N: unreadable` on `err`. Only the line at hand is kept in memory, in `MAX_LINE` bytes that are taken before the first. Where memory is wanting later, the
 /// line's answer tells it and the run goes on. What was printed is flushed whenever the reader has nothing at hand, so that no answer waits for more of the script.
+///
+/// With `--echo` each line is printed before its answer.
 ///
 /// With `--rows` the input is a table of scripts, each with what it is to print: each is run over fresh media, and what differs is printed.
 ///
@@ -59,17 +62,17 @@ fn run_script<R: BufRead + Drop, O: Write, E: Write>(
     err: &mut E,
 ) -> u8 {
     let end = run(alloc, options, reader, out);
-    tell_end(flushed(end, out), err)
+    tell_end(flush_output(end, out), err)
 }
 
 // Tells how a table ended, and answers the exit status.
 fn end_table<O: Write, E: Write>(end: Result<bool, RunError>, out: &mut O, err: &mut E) -> u8 {
     match end {
-        Ok(hold) => match tell_end(flushed(Ok(()), out), err) {
+        Ok(hold) => match tell_end(flush_output(Ok(()), out), err) {
             0 if !hold => 1,
             status => status,
         },
-        Err(fault) => tell_end(flushed(Err(ScriptError::Run(fault)), out), err),
+        Err(fault) => tell_end(flush_output(Err(ScriptError::Run(fault)), out), err),
     }
 }
 
@@ -86,7 +89,7 @@ fn tell_end<E: Write>(end: Result<(), ScriptError>, err: &mut E) -> u8 {
 }
 
 // Flushes what was printed. A fault of the run comes before one of the flush.
-fn flushed<O: Write>(end: Result<(), ScriptError>, out: &mut O) -> Result<(), ScriptError> {
+fn flush_output<O: Write>(end: Result<(), ScriptError>, out: &mut O) -> Result<(), ScriptError> {
     let flush = out.flush();
     if let Err(ScriptError::Run(fault)) = end {
         return Err(ScriptError::Run(fault));
@@ -105,31 +108,43 @@ fn run<R: BufRead + Drop, O: Write>(
 ) -> Result<(), ScriptError> {
     let mut system = open_system(alloc, options.sizes)?;
     let mut lines = ScriptLines::new(alloc, reader)?;
-    answer_all(alloc, &mut system, &mut lines, out)
+    answer_all(alloc, &mut system, &mut lines, options.echoes, out)
 }
 
 // Answers the lines in their order, each once, up to the end of the script or a fault.
-fn answer_all<S: Running, R: BufRead + Drop, O: Write>(
+fn answer_all<S: Events + Running, R: BufRead + Drop, O: Write>(
     alloc: Global,
     system: &mut S,
     lines: &mut ScriptLines<R>,
+    echoes: bool,
     out: &mut O,
 ) -> Result<(), ScriptError>
-    ensures { (behind : Option (List ℕ)) × IsAnsweredTo (IsAnswerTo S.plays S.owes S.leases S.waits S.broken S.dead S.tree S.lies S.figures_in S.looks) lines.old.left system.old behind system.new × EndsAt result behind }
+    ensures { (behind : Option (List ℕ)) × IsAnsweredTo (IsAnswerTo S.Events S.Running) lines.old.left system.old behind system.new × EndsAt result behind }
 {
     for _ in 0..u64::MAX {
         if !lines.read_next(out)? {
             return Ok(());
         }
-        match read_system_line(lines.line()) {
-            Some(line) => printed(out, &answer_line(alloc, system, line))?,
-            None => return Err(lines.unreadable()),
+        let text = lines.line();
+        match read_system_line(text) {
+            Some(line) => print_answer(out, echoes, text, &answer_line(alloc, system, line))?,
+            None => return Err(lines.unreadable_line()),
         }
     }
     Err(ScriptError::Run(RunError::Device))
 }
 
-fn printed<O: Write>(out: &mut O, answer: &Answer) -> Result<(), RunError> {
+// Prints an answer, behind its line where lines are printed too.
+fn print_answer<O: Write>(
+    out: &mut O,
+    echoes: bool,
+    line: &[u8],
+    answer: &Answer,
+) -> Result<(), RunError> {
+    if echoes {
+        out.write_all(line)?;
+        out.write_all(b"\n")?;
+    }
     write_answer(out, answer)?;
     Ok(())
 }

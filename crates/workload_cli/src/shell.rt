@@ -1,20 +1,24 @@
 // A running system answers the lines of a script.
 ghost use Rattle.std.specs.Prelude.{◌≡◌};
-ghost use Rattle.script.specs.Seen.{system_line_seen};
-ghost use Rattle.workload_cli.specs.Answering.{IsAnswerTo, IsDigestAnswered, IsWipeAnswered};
-ghost use Rattle.workload_cli.specs.Told.{told_book};
+ghost use Rattle.script.specs.LineValues.{system_line_seen};
+ghost use Rattle.workload_cli.specs.LineResults.{IsAnswerTo, IsDigestAnswered, IsWipeAnswered};
+ghost use Rattle.workload_cli.specs.AnswerText.{book_answer};
 
 use crate::answer::Answer;
 use crate::calls::{answer_call, answer_step};
-use crate::running::Running;
+use crate::system_queries::Running;
 use crate::tiers::{answer_migrate, answer_where};
-use call_driver::{digest_and_reclaim, wipe_all};
+use call_driver::{Events, clear_client, wipe_all};
 use script::SystemLine;
 use std::alloc::Global;
 
 /// What a line is answered. Where there is no memory to build its call or its path, no event is played.
-pub fn answer_line<S: Running>(alloc: Global, system: &mut S, line: SystemLine<'_>) -> Answer
-    ensures { IsAnswerTo S.plays S.owes S.leases S.waits S.broken S.dead S.tree S.lies S.figures_in S.looks system.old (system_line_seen line.entry) result system.new }
+pub fn answer_line<S: Events + Running>(
+    alloc: Global,
+    system: &mut S,
+    line: SystemLine<'_>,
+) -> Answer
+    ensures { IsAnswerTo S.Events S.Running system.old (system_line_seen line.entry) result system.new }
 {
     match line {
         SystemLine::Silent => Answer::Silent,
@@ -38,20 +42,20 @@ pub fn answer_line<S: Running>(alloc: Global, system: &mut S, line: SystemLine<'
 }
 
 // A client that has a call which waits for its answer digests nothing.
-fn answer_digest<S: Running>(system: &mut S, client: u32) -> Answer
-    ensures { IsDigestAnswered S.plays S.owes S.leases S.waits S.broken system.old client result system.new }
+fn answer_digest<S: Events + Running>(system: &mut S, client: u32) -> Answer
+    ensures { IsDigestAnswered S.Events system.old client result system.new }
 {
     if system.is_pending(client) || system.has_failed(client) {
         return Answer::Blocked;
     }
-    match digest_and_reclaim(system, client) {
+    match clear_client(system, client) {
         Ok(count) => Answer::Digested(count),
         Err(refusal) => Answer::Refused(refusal),
     }
 }
 
-fn answer_wipe<S: Running>(system: &mut S, client: u32) -> Answer
-    ensures { IsWipeAnswered S.plays S.owes S.leases S.waits S.broken system.old client result system.new }
+fn answer_wipe<S: Events + Running>(system: &mut S, client: u32) -> Answer
+    ensures { IsWipeAnswered S.Events system.old client result system.new }
 {
     match wipe_all(system, client) {
         Ok(true) => Answer::Wiped,
@@ -60,8 +64,8 @@ fn answer_wipe<S: Running>(system: &mut S, client: u32) -> Answer
     }
 }
 
-fn answer_book<S: Running>(system: &S) -> Answer
-    ensures { result ≡ told_book (S.figures_in system.now) }
+fn answer_book<S: Events + Running>(system: &S) -> Answer
+    ensures { result ≡ book_answer (S.figures_now system.now) }
 {
     match system.figures() {
         Ok(figures) => Answer::Book(figures),

@@ -2,25 +2,26 @@
 ghost use Rattle.std.specs.Prelude.{◌≡◌, ◌-◌, ◌^◌, min};
 ghost use Rattle.fresh_system.specs.event_steps.declared.event.Event.TheVariants as kinds;
 ghost use Rattle.fresh_system.specs.event_steps.declared.outcome.Outcome.{Outcome};
-ghost use Rattle.script.specs.Seen.{path_of};
-ghost use Rattle.workload_cli.specs.Answering.{IsMoveAnswered, IsPlaceAnswered};
-ghost use Rattle.workload_cli.specs.Told.{tier_below, told_move};
+ghost use Rattle.script.specs.LineValues.{path_of};
+ghost use Rattle.workload_cli.specs.LineResults.{IsMoveAnswered, IsPlaceAnswered};
+ghost use Rattle.workload_cli.specs.AnswerText.{tier_below, move_answer};
 
 use crate::answer::Answer;
-use crate::running::Running;
+use crate::system_queries::Running;
+use call_driver::Events;
 use fresh_system::{Event, Outcome};
 use script::{LowerTier, PathText, Tier};
 use std::alloc::Global;
 
 /// A run of a file's blocks, `run.1` of them from logical block `run.0` on, goes down to a tier.
-pub fn answer_migrate<S: Running>(
+pub fn answer_migrate<S: Events + Running>(
     alloc: Global,
     system: &mut S,
     path: &PathText<'_>,
     run: (u64, u64),
     to: LowerTier,
 ) -> Answer
-    ensures { IsMoveAnswered S.plays S.owes S.leases S.waits S.broken S.dead S.tree S.lies S.figures_in S.looks system.old (path_of path.now) run.0 run.1 to result system.new }
+    ensures { IsMoveAnswered S.Events S.Running system.old (path_of path.now) run.0 run.1 to result system.new }
 {
     match system.file_at(alloc, path) {
         Ok(inode) => migrate(system, inode, run, to),
@@ -28,8 +29,13 @@ pub fn answer_migrate<S: Running>(
     }
 }
 
-fn migrate<S: Running>(system: &mut S, inode: u32, run: (u64, u64), to: LowerTier) -> Answer
-    ensures { (o : Outcome) × S.plays system.old (kinds.Migrate inode run.0 (min run.1 (2 ^ 32 - 1)) (tier_below to)) o system.new × (result ≡ told_move run.1 o) }
+fn migrate<S: Events + Running>(
+    system: &mut S,
+    inode: u32,
+    run: (u64, u64),
+    to: LowerTier,
+) -> Answer
+    ensures { (o : Outcome) × S.plays system.old (kinds.Migrate inode run.0 (min run.1 (2 ^ 32 - 1)) (tier_below to)) o system.new × (result ≡ move_answer run.1 o) }
 {
     let (first, count) = run;
     let event = Event::Migrate {
@@ -62,13 +68,13 @@ fn tier_of(to: LowerTier) -> Tier
 }
 
 /// The tier of a logical block of a file.
-pub fn answer_where<S: Running>(
+pub fn answer_where<S: Events + Running>(
     alloc: Global,
     system: &mut S,
     path: &PathText<'_>,
     block: u64,
 ) -> Answer
-    ensures { IsPlaceAnswered S.plays S.owes S.leases S.waits S.broken S.dead S.tree S.lies S.figures_in S.looks system.old (path_of path.now) block result system.new }
+    ensures { IsPlaceAnswered S.Events S.Running system.old (path_of path.now) block result system.new }
 {
     match system.tier_at(alloc, path, block) {
         Ok(tier) => Answer::Lies(tier),

@@ -4,7 +4,7 @@ use Rattle.std.proofs.lemmas.List.{length-append, length-drop}
 use Rattle.call_effects.specs.posix_calls.Operations.{is_client}
 use Rattle.call_effects.specs.log_record.declared.format.Record.{Record}
 use Rattle.world_invariant.specs.World.{Region, Wiped, Away, Back, Client, World, at}
-use Rattle.world_invariant.specs.Standing.{IsMarked}
+use Rattle.world_invariant.specs.ClientParts.{IsMarked}
 use Rattle.world_invariant.specs.Invariant.{IsCoherent}
 use Rattle.world_invariant.specs.RegionSteps.{CanSeal, region_sealed, CanTakeBack, taken_back, CanWipeOther, other_wiped}
 use Rattle.world_invariant.specs.KernelSteps.{CanDigest}

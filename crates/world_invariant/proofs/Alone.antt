@@ -4,10 +4,10 @@ use Rattle.call_effects.specs.posix_calls.Tree.{sum_up_to}
 use Rattle.call_effects.specs.posix_calls.Operations.{is_client}
 use Rattle.call_effects.specs.file_graph.Graph.{Graph}
 use Rattle.call_effects.specs.Wholes.{IsSound}
-use Rattle.call_effects.specs.Known.{Agrees}
+use Rattle.call_effects.specs.Knowledge.{Agrees}
 use Rattle.call_effects.specs.file_graph.Units.{charge}
-use Rattle.world_invariant.specs.World.{Account, Client, World, undigested, has_lease, log_of, whole, held, at, moved}
-use Rattle.world_invariant.specs.Standing.{IsBooked, IsBeside}
+use Rattle.world_invariant.specs.World.{Account, Client, World, undigested_records, has_lease, log_of, whole_graph, held_descriptors, at, moved_world}
+use Rattle.world_invariant.specs.ClientParts.{IsBooked, IsBeside}
 use Rattle.world_invariant.specs.Invariant.{IsCoherent}
 use Rattle.world_invariant.specs.Parts.{BookPart, HoldsIn, ClientPart, HoldsOf, WorldPart, Book, Each, LeasesLegal, WholeSound, WholeKnown, Holds}
 use Rattle.world_invariant.proofs.Kernels.{each}
@@ -24,17 +24,17 @@ IsLegalBeside w c p = (d : ℕ) → is_client d ≡ true → d ≢ c → IsBesid
 
 -- what one client knows is as the whole is, and what the others know
 abbrev pub AllKnow : World → ℕ → Client → World → Type 0
-AllKnow w c p now = Agrees p.knows (whole now) (held now) × ((d : ℕ) → is_client d ≡ true → d ≢ c → Agrees (w.clients d).knows (whole now) (held now))
+AllKnow w c p now = Agrees p.knows (whole_graph now) (held_descriptors now) × ((d : ℕ) → is_client d ≡ true → d ≢ c → Agrees (w.clients d).knows (whole_graph now) (held_descriptors now))
 
 module _ (part : WorldPart) (w : World) (c : ℕ) (g : Graph) (a : Account) (p : Client) (is_c : is_client c ≡ true) where
-  pub moved_others : ((q : BookPart) → Book q ≢ part → HoldsIn q (moved w c g a p).kernel)
+  pub moved_others : ((q : BookPart) → Book q ≢ part → HoldsIn q (moved_world w c g a p).kernel)
       → ((q : ClientPart) → Each q ≢ part → HoldsOf q g a c p)
       → OthersStand part w c g
       → (LeasesLegal ≢ part → Holds LeasesLegal w)
       → (LeasesLegal ≢ part → IsLegalBeside w c p)
-      → (WholeSound ≢ part → IsSound (whole (moved w c g a p)) (held (moved w c g a p)))
-      → (WholeKnown ≢ part → AllKnow w c p (moved w c g a p))
-      → (q : WorldPart) → q ≢ part → Holds q (moved w c g a p)
+      → (WholeSound ≢ part → IsSound (whole_graph (moved_world w c g a p)) (held_descriptors (moved_world w c g a p)))
+      → (WholeKnown ≢ part → AllKnow w c p (moved_world w c g a p))
+      → (q : WorldPart) → q ≢ part → Holds q (moved_world w c g a p)
   moved_others book own others were legal sound known (Book q) off = book q off
   moved_others book own others were legal sound known (Each q) off = λ d is_d. each_client w c g a p (λ e b r. is_client e ≡ true → HoldsOf q g b e r) (λ is. own q off) (λ e other is. others q off e is other) d is_d
   moved_others book own others were legal sound known LeasesLegal off = λ d e is_d is_e apart. beside d e is_d is_e apart
@@ -46,17 +46,17 @@ module _ (part : WorldPart) (w : World) (c : ℕ) (g : Graph) (a : Account) (p :
           (λ d off_c is apart. each w.clients c p (λ e q. is_client e ≡ true → e ≢ d → IsBeside (w.clients d) q) (λ is_c other. (legal off d is off_c).1) (λ e off_e is_e other. were off d e is is_e other) e is_e apart)
           d is_d apart
   moved_others book own others were legal sound known WholeSound off = sound off
-  moved_others book own others were legal sound known WholeKnown off = λ d is_d. each w.clients c p (λ e r. is_client e ≡ true → Agrees r.knows (whole (moved w c g a p)) (held (moved w c g a p))) (λ is. (known off).0) (λ e other is. (known off).1 e is other) d is_d
+  moved_others book own others were legal sound known WholeKnown off = λ d is_d. each w.clients c p (λ e r. is_client e ≡ true → Agrees r.knows (whole_graph (moved_world w c g a p)) (held_descriptors (moved_world w c g a p))) (λ is. (known off).0) (λ e other is. (known off).1 e is other) d is_d
 
 -- the shared graph, the client's log and what it has open stay
-module _ (part : WorldPart) (w : World) (c : ℕ) (a : Account) (p : Client) (h : IsCoherent w) (is_c : is_client c ≡ true) (log : undigested a p ≡ log_of w c) (own_same : p.knows.own ≡ (w.clients c).knows.own) where
+module _ (part : WorldPart) (w : World) (c : ℕ) (a : Account) (p : Client) (h : IsCoherent w) (is_c : is_client c ≡ true) (log : undigested_records a p ≡ log_of w c) (own_same : p.knows.own ≡ (w.clients c).knows.own) where
   abbrev now : World
-  now = moved w c w.kernel.shared a p
+  now = moved_world w c w.kernel.shared a p
 
   pub quiet_others : ((q : BookPart) → Book q ≢ part → HoldsIn q now.kernel)
       → ((q : ClientPart) → Each q ≢ part → HoldsOf q w.kernel.shared a c p)
       → (LeasesLegal ≢ part → IsLegalBeside w c p)
-      → (WholeKnown ≢ part → Agrees p.knows (whole w) (held w))
+      → (WholeKnown ≢ part → Agrees p.knows (whole_graph w) (held_descriptors w))
       → (q : WorldPart) → q ≢ part → Holds q now
   quiet_others book own legal known = moved_others part w c w.kernel.shared a p is_c book own
       (λ q off d is_d other. client_parts w.kernel.shared (w.kernel.accounts d) d (w.clients d) (h.stands d is_d) q)
@@ -66,7 +66,7 @@ module _ (part : WorldPart) (w : World) (c : ℕ) (a : Account) (p : Client) (h 
 
 -- and its account has no more numbers and units than before, and the client no more leases
 pub record IsLess (w : World) (c : ℕ) (a : Account) (p : Client) : Type 0 where
-  pub log : undigested a p ≡ log_of w c
+  pub log : undigested_records a p ≡ log_of w c
   pub own : p.knows.own ≡ (w.clients c).knows.own
   pub numbers : (i : ℕ) → a.numbers i ≡ true → (w.kernel.accounts c).numbers i ≡ true
   pub units : a.units ≤ (w.kernel.accounts c).units
@@ -74,7 +74,7 @@ pub record IsLess (w : World) (c : ℕ) (a : Account) (p : Client) : Type 0 wher
   pub leases : (i : ℕ) → has_lease (w.clients c) i ≡ false → has_lease p i ≡ false
 
 -- the same account, and the same leases
-pub same_less : (w : World) (c : ℕ) (p : Client) → undigested (w.kernel.accounts c) p ≡ log_of w c → p.knows.own ≡ (w.clients c).knows.own → p.reads ≡ (w.clients c).reads → p.writes ≡ (w.clients c).writes → IsLess w c (w.kernel.accounts c) p
+pub same_less : (w : World) (c : ℕ) (p : Client) → undigested_records (w.kernel.accounts c) p ≡ log_of w c → p.knows.own ≡ (w.clients c).knows.own → p.reads ≡ (w.clients c).reads → p.writes ≡ (w.clients c).writes → IsLess w c (w.kernel.accounts c) p
 same_less w c p log own reads writes = record {
   log = log;
   own = own;
@@ -85,7 +85,7 @@ same_less w c p log own reads writes = record {
 }
 
 module _ (part : WorldPart) (w : World) (c : ℕ) (a : Account) (p : Client) (h : IsCoherent w) (is_c : is_client c ≡ true) (less : IsLess w c a p) where
-  booked_less : IsBooked (moved w c w.kernel.shared a p).kernel
+  booked_less : IsBooked (moved_world w c w.kernel.shared a p).kernel
   booked_less = booked_moved w c w.kernel.shared a p h is_c
       (λ i e. h.booked.free c i is_c (less.numbers i e)) (λ d i is_d other e. h.booked.free d i is_d e)
       (λ i e. h.booked.range c i is_c (less.numbers i e)) (λ d i is_d other e. h.booked.alone c d i is_c is_d other (less.numbers i e))
@@ -99,8 +99,8 @@ module _ (part : WorldPart) (w : World) (c : ℕ) (a : Account) (p : Client) (h 
           omega (arith, changed, fitted, fewer)
 
   pub less_others : ((q : ClientPart) → Each q ≢ part → HoldsOf q w.kernel.shared a c p)
-      → (WholeKnown ≢ part → Agrees p.knows (whole w) (held w))
-      → (q : WorldPart) → q ≢ part → Holds q (moved w c w.kernel.shared a p)
+      → (WholeKnown ≢ part → Agrees p.knows (whole_graph w) (held_descriptors w))
+      → (q : WorldPart) → q ≢ part → Holds q (moved_world w c w.kernel.shared a p)
   less_others own known = quiet_others part w c a p h is_c less.log less.own
-      (λ q off. book_parts (moved w c w.kernel.shared a p).kernel booked_less q) own
+      (λ q off. book_parts (moved_world w c w.kernel.shared a p).kernel booked_less q) own
       (λ off d is_d other. (before_less w c p h is_c less.writes d is_d other, after_less w c p h is_c less.leases d is_d other)) known

@@ -6,16 +6,16 @@ use Rattle.std.proofs.lemmas.Bool.Decides.{eqb_tells}
 use Rattle.call_effects.specs.file_graph.Graph.{Graph, fresh, file_bytes}
 use Rattle.call_effects.specs.file_graph.Units.{charge}
 use Rattle.call_effects.specs.Blocks.{block_at, block_of, range_by}
-use Rattle.call_effects.specs.Known.{Agrees, IsPlanned, IsPutBack, part_of}
+use Rattle.call_effects.specs.Knowledge.{Agrees, IsPlanned, IsPutBack, part_of}
 use Rattle.call_effects.specs.NodeView.{NodeView, view_at}
 use Rattle.world_invariant.specs.Logs.{after_clients}
-use Rattle.world_invariant.specs.World.{Begun, Client, World, whole, held}
+use Rattle.world_invariant.specs.World.{Begun, Client, World, whole_graph, held_descriptors}
 use Rattle.world_invariant.specs.Invariant.{IsCoherent}
-use Rattle.world_invariant.specs.Opening.{idle_client, idle_account, idle_world}
-use Rattle.world_invariant.specs.ClientSteps.{IsBegun, replied}
+use Rattle.world_invariant.specs.FormatWorld.{idle_client, idle_account, idle_world}
+use Rattle.world_invariant.specs.ClientSteps.{IsBegun, after_reply}
 use Rattle.world_invariant.specs.PairWalk.{write_7, two}
-use Rattle.world_invariant.specs.Walk.{making}
-use Rattle.world_invariant.specs.Broken.{entered, stale, watching, root_alone, block_watching, first_block}
+use Rattle.world_invariant.specs.Walk.{make_world}
+use Rattle.world_invariant.specs.BrokenWorlds.{entered_graph, stale, watch_world, root_alone, block_watching, first_block}
 use Rattle.world_invariant.specs.Parts.{ClientPart, CopiesLeased, BlocksLeased, BegunPlanned, BegunHasEffects, HoldsOf, Each, LeasesLegal, WholeKnown, BreaksAlone}
 use Rattle.world_invariant.proofs.Alone.{less_others, same_less, quiet_others}
 use Rattle.world_invariant.proofs.AloneRecords.{entered_sound, entered_within}
@@ -37,19 +37,19 @@ root_copied i copy e = elim (eqb_tells i 1) [
 -- ---- a copy that is not as the whole is
 
 abbrev still : World
-still = idle_world (charge entered) entered
+still = idle_world (charge entered_graph) entered_graph
 
 still_holds : IsCoherent still
-still_holds = idle_holds (charge entered) entered (omega arith) entered_sound entered_within
+still_holds = idle_holds (charge entered_graph) entered_graph (omega arith) entered_sound entered_within
 
 abbrev stale_client : Client
 stale_client = stale.clients 2
 
-stale_own : (q : ClientPart) → HoldsOf q entered (idle_account 0) 2 stale_client
+stale_own : (q : ClientPart) → HoldsOf q entered_graph (idle_account 0) 2 stale_client
 stale_own CopiesLeased = root_copied
 stale_own BegunPlanned = λ b e. none_some b e
 stale_own BlocksLeased = λ i b bytes e. none_some bytes e
-stale_own q = client_parts entered (idle_account 0) 2 (idle_client 2 0) (idle_stands entered 2 0) q
+stale_own q = client_parts entered_graph (idle_account 0) 2 (idle_client 2 0) (idle_stands entered_graph 2 0) q
 
 pub stale_alone : BreaksAlone WholeKnown stale
 stale_alone = record {
@@ -63,48 +63,48 @@ stale_alone = record {
 -- ---- a copy without a lease, or beside another client's
 
 abbrev watcher : (ℕ → Bool) → Client
-watcher reads = (watching reads).clients 2
+watcher reads = (watch_world reads).clients 2
 
-watcher_known : (reads : ℕ → Bool) → Agrees (watcher reads).knows (whole making) (held making)
+watcher_known : (reads : ℕ → Bool) → Agrees (watcher reads).knows (whole_graph make_world) (held_descriptors make_world)
 unfolding after_clients
 watcher_known reads = record {
   client = refl;
   own = λ n. refl;
-  back = whole making;
+  back = whole_graph make_world;
   put_back = λ i. inl refl;
   copies = λ i copy e. elim (eqb_tells i 1) [
     | inl same ↦
         let there : Some (view_at fresh 1) ≡ Some copy = sym (ap (λ b. cond b (Some (view_at fresh 1)) None) same.0) ∙ e in
         let one : view_at fresh 1 ≡ copy = cc in
-        ap (view_at (whole making)) same.1 ∙ one
+        ap (view_at (whole_graph make_world)) same.1 ∙ one
     | inr off ↦ none_some copy (sym (ap (λ b. cond b (Some (view_at fresh 1)) None) off.0) ∙ e)
   ];
   blocks = λ i b bytes e. none_some bytes e;
   granted = λ i e. absurd (false≢true e);
 }
 
-unleased_own : (q : ClientPart) → Each q ≢ Each CopiesLeased → HoldsOf q making.kernel.shared (making.kernel.accounts 2) 2 (watcher (λ i. false))
+unleased_own : (q : ClientPart) → Each q ≢ Each CopiesLeased → HoldsOf q make_world.kernel.shared (make_world.kernel.accounts 2) 2 (watcher (λ i. false))
 unleased_own CopiesLeased off = absurd (off refl)
 unleased_own BegunPlanned off = λ b e. none_some b e
-unleased_own q off = client_parts making.kernel.shared (making.kernel.accounts 2) 2 (making.clients 2) (making_holds.stands 2 refl) q
+unleased_own q off = client_parts make_world.kernel.shared (make_world.kernel.accounts 2) 2 (make_world.clients 2) (making_holds.stands 2 refl) q
 
-pub unleased_alone : BreaksAlone (Each CopiesLeased) (watching (λ i. false))
+pub unleased_alone : BreaksAlone (Each CopiesLeased) (watch_world (λ i. false))
 unleased_alone = record {
   broken = λ is. false≢true (is 2 refl 1 (view_at fresh 1) refl);
-  others = less_others (Each CopiesLeased) making 2 (making.kernel.accounts 2) (watcher (λ i. false)) making_holds refl (same_less making 2 (watcher (λ i. false)) refl refl refl refl) unleased_own (λ off. watcher_known (λ i. false));
+  others = less_others (Each CopiesLeased) make_world 2 (make_world.kernel.accounts 2) (watcher (λ i. false)) making_holds refl (same_less make_world 2 (watcher (λ i. false)) refl refl refl refl) unleased_own (λ off. watcher_known (λ i. false));
 }
 
-beside_own : (q : ClientPart) → HoldsOf q making.kernel.shared (making.kernel.accounts 2) 2 (watcher root_alone)
+beside_own : (q : ClientPart) → HoldsOf q make_world.kernel.shared (make_world.kernel.accounts 2) 2 (watcher root_alone)
 beside_own CopiesLeased = root_copied
 beside_own BlocksLeased = λ i b bytes e. none_some bytes e
 beside_own BegunPlanned = λ b e. none_some b e
-beside_own q = client_parts making.kernel.shared (making.kernel.accounts 2) 2 (making.clients 2) (making_holds.stands 2 refl) q
+beside_own q = client_parts make_world.kernel.shared (make_world.kernel.accounts 2) 2 (make_world.clients 2) (making_holds.stands 2 refl) q
 
-pub beside_alone : BreaksAlone LeasesLegal (watching root_alone)
+pub beside_alone : BreaksAlone LeasesLegal (watch_world root_alone)
 beside_alone = record {
   broken = λ is. false≢true (sym (is 1 2 refl refl (λ e. false≢true (ap (λ n. n == 1) e)) 1 refl));
-  others = quiet_others LeasesLegal making 2 (making.kernel.accounts 2) (watcher root_alone) making_holds refl refl refl
-      (λ q off. book_parts (watching root_alone).kernel (booked_same making 2 (watcher root_alone) making_holds refl) q) (λ q off. beside_own q)
+  others = quiet_others LeasesLegal make_world 2 (make_world.kernel.accounts 2) (watcher root_alone) making_holds refl refl refl
+      (λ q off. book_parts (watch_world root_alone).kernel (booked_same make_world 2 (watcher root_alone) making_holds refl) q) (λ q off. beside_own q)
       (λ off. absurd (off refl))
       (λ off. watcher_known root_alone);
 }
@@ -130,17 +130,17 @@ reader_own BlocksLeased off = absurd (off refl)
 reader_own BegunPlanned off = reader_planned
 reader_own q off = two_parts q
 
-empty_file : file_bytes (whole two 2) ≡ Some []
+empty_file : file_bytes (whole_graph two 2) ≡ Some []
 unfolding after_clients
 empty_file = refl
 
-known_block : (back : Graph) → IsPutBack (whole two) back → block_at back 2 0 ≡ Some (block_of 0 [])
+known_block : (back : Graph) → IsPutBack (whole_graph two) back → block_at back 2 0 ≡ Some (block_of 0 [])
 known_block back put = elim (put 2) [
   | inl same ↦ ap (λ o. option_map (block_of 0) (file_bytes o)) same ∙ ap (option_map (block_of 0)) empty_file
   | inr gone ↦ absurd (let clash : None ≡ Some [] = sym (ap file_bytes gone.nothing) ∙ empty_file in cc)
 ]
 
-reader_known : Agrees reader.knows (whole two) (held two)
+reader_known : Agrees reader.knows (whole_graph two) (held_descriptors two)
 reader_known = let is = two_hold.agrees 2 refl in record {
   client = is.client;
   own = is.own;
@@ -168,11 +168,11 @@ block_alone = record {
 pub block_begun : IsBegun block_watching 1 write_7
 block_begun = record { client = refl; there = refl; known = λ e. absurd (cc) }
 
-one_byte : option_map length (block_at (whole (replied block_watching 1 write_7)) 2 0) ≡ Some 1
+one_byte : option_map length (block_at (whole_graph (after_reply block_watching 1 write_7)) 2 0) ≡ Some 1
 unfolding after_clients
 one_byte = refl
 
-pub block_stale : Agrees ((replied block_watching 1 write_7).clients 2).knows (whole (replied block_watching 1 write_7)) (held (replied block_watching 1 write_7)) → ⊥
+pub block_stale : Agrees ((after_reply block_watching 1 write_7).clients 2).knows (whole_graph (after_reply block_watching 1 write_7)) (held_descriptors (after_reply block_watching 1 write_7)) → ⊥
 block_stale agrees = elim (agrees.put_back 2) [
   | inl same ↦ absurd (let clash : Some 1 ≡ Some 0 = sym one_byte ∙ ap (λ o. option_map length (option_map (block_of 0) (file_bytes o))) (sym same) ∙ ap (option_map length) (agrees.blocks 2 0 (block_of 0 []) refl) in cc)
   | inr gone ↦ absurd (let clash : Some 1 ≡ None = sym one_byte ∙ ap (λ o. option_map length (option_map (block_of 0) (file_bytes o))) gone.nothing in cc)

@@ -6,13 +6,13 @@ use Rattle.call_effects.specs.posix_calls.Operations.{is_client}
 use Rattle.call_effects.proofs.posix_calls_lemmas.Sums.{all_zero, one_changes, same_if}
 use Rattle.call_effects.specs.file_graph.Graph.{Graph}
 use Rattle.call_effects.specs.file_graph.Units.{charge}
-use Rattle.call_effects.specs.Settled.{nobody}
+use Rattle.call_effects.specs.ClosedGraph.{nobody}
 use Rattle.call_effects.specs.Wholes.{IsSound}
-use Rattle.call_effects.specs.Known.{Knowledge, Agrees}
+use Rattle.call_effects.specs.Knowledge.{Knowledge, Agrees}
 use Rattle.world_invariant.specs.Limits.{AreWithin}
 use Rattle.world_invariant.specs.Logs.{after_records, after_clients}
-use Rattle.world_invariant.specs.World.{Account, Client, World, undigested, whole, held, at, moved}
-use Rattle.world_invariant.specs.Opening.{knows_nothing, idle_client, idle_account, idle_world}
+use Rattle.world_invariant.specs.World.{Account, Client, World, undigested_records, whole_graph, held_descriptors, at, moved_world}
+use Rattle.world_invariant.specs.FormatWorld.{knows_nothing, idle_client, idle_account, idle_world}
 use Rattle.world_invariant.specs.Parts.{BookPart, NumbersFree, NumbersInRange, NumbersInOneHand, NodesWithin, UnitsFit, HoldsIn, ClientPart, HoldsOf, WorldPart, Book, Each, Holds}
 use Rattle.world_invariant.proofs.Alone.{moved_others}
 use Rattle.world_invariant.proofs.Idle.{none_some, idle_held, idle_stands}
@@ -40,18 +40,18 @@ pub record IsAll (part : WorldPart) (capacity : ℕ) (g : Graph) (a : Account) (
   pub range : Book NumbersInRange ≢ part → (i : ℕ) → a.numbers i ≡ true → (1 < i) × (i ≤ 1024)
   pub within : AreWithin g
   pub fits : charge g + a.units ≤ capacity
-  pub sound : IsSound (after_records g (undigested a p)) nobody
-  pub known : Agrees p.knows (after_records g (undigested a p)) nobody
+  pub sound : IsSound (after_records g (undigested_records a p)) nobody
+  pub known : Agrees p.knows (after_records g (undigested_records a p)) nobody
 
 module _ (part : WorldPart) (capacity : ℕ) (g : Graph) (a : Account) (p : Client) (is : IsAll part capacity g a p) where
   abbrev one : World
-  one = moved (idle_world capacity g) 1 g a p
+  one = moved_world (idle_world capacity g) 1 g a p
 
-  one_whole : whole one ≡ after_records g (undigested a p)
+  one_whole : whole_graph one ≡ after_records g (undigested_records a p)
   unfolding after_clients
   one_whole = refl
 
-  one_held : held one ≡ nobody
+  one_held : held_descriptors one ≡ nobody
   one_held = held_same (idle_world capacity g) 1 g a p is.closed ∙ idle_held capacity g
 
   each_account : (Q : ℕ → Account → Type 0) → Q 1 a → ((d : ℕ) → d ≢ 1 → Q d (idle_account 0)) → (d : ℕ) → Q d (at (λ c. idle_account 0) 1 a d)
@@ -70,7 +70,7 @@ module _ (part : WorldPart) (capacity : ℕ) (g : Graph) (a : Account) (p : Clie
       let fits : charge g + a.units ≤ capacity = is.fits in
       omega (arith, nothing, changed, fits)
 
-  one_known : (k : Knowledge) → Agrees k (after_records g (undigested a p)) nobody → Agrees k (whole one) (held one)
+  one_known : (k : Knowledge) → Agrees k (after_records g (undigested_records a p)) nobody → Agrees k (whole_graph one) (held_descriptors one)
   one_known k agrees = both_same (λ s o. Agrees k s o) one_whole one_held agrees
 
   pub one_others : (q : WorldPart) → q ≢ part → Holds q one
@@ -79,4 +79,4 @@ module _ (part : WorldPart) (capacity : ℕ) (g : Graph) (a : Account) (p : Clie
       (λ off c d is_c is_d other i e. refl)
       (λ off d is_d other. (λ i e. refl, λ i e. absurd (false≢true e)))
       (λ off. both_same (λ s o. IsSound s o) one_whole one_held is.sound)
-      (λ off. (one_known p.knows is.known, λ d is_d other. one_known (knows_nothing d) (nothing_known d (after_records g (undigested a p)) is_d)))
+      (λ off. (one_known p.knows is.known, λ d is_d other. one_known (knows_nothing d) (nothing_known d (after_records g (undigested_records a p)) is_d)))

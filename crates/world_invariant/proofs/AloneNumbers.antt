@@ -5,18 +5,18 @@ use Rattle.std.proofs.lemmas.Bool.{false≢true, eqb-true}
 use Rattle.call_effects.specs.file_graph.Graph.{Graph, fresh, after_effects}
 use Rattle.call_effects.specs.file_graph.Units.{charge}
 use Rattle.call_effects.specs.file_graph.declared.effect.Kind.TheVariants as kind
-use Rattle.call_effects.specs.Settled.{nobody}
+use Rattle.call_effects.specs.ClosedGraph.{nobody}
 use Rattle.call_effects.specs.Wholes.{IsSound}
-use Rattle.call_effects.specs.Known.{Agrees}
+use Rattle.call_effects.specs.Knowledge.{Agrees}
 use Rattle.call_effects.proofs.Fresh.{fresh_sound}
 use Rattle.call_effects.specs.Fits.{IsNew}
 use Rattle.call_effects.specs.log_record.declared.format.Record.{Record}
 use Rattle.world_invariant.specs.Logs.{IsPaid, Keeps, NamesNone}
 use Rattle.world_invariant.specs.Limits.{IsWithin}
 use Rattle.world_invariant.specs.World.{Account, Away, Client}
-use Rattle.world_invariant.specs.Opening.{knows_nothing, idle_client, idle_account}
+use Rattle.world_invariant.specs.FormatWorld.{knows_nothing, idle_client, idle_account}
 use Rattle.world_invariant.specs.LeaseSteps.{also}
-use Rattle.world_invariant.specs.Broken.{making, making_directory, dropping, with_file, taken_number, far_number, used_number, made_twice}
+use Rattle.world_invariant.specs.BrokenWorlds.{make_record, making_directory, drop_record, with_file, taken_number, far_number, used_number, made_twice}
 use Rattle.world_invariant.specs.Parts.{NumbersFree, NumbersInRange, ClientPart, MarkNotPast, AwayHasRecords, BackHasNone, RecordsLeased, RecordsPaid, RecordsNameNone, RecordsKeepLimits, UnitsBooked, MadeBooked, MadeOnce, GrantedBooked, GrantedUnused, CopiesLeased, BlocksLeased, BegunPlanned, HoldsOf, Book, Each, BreaksAlone}
 use Rattle.world_invariant.proofs.AloneIdle.{nothing_known, one_others}
 use Rattle.world_invariant.proofs.Fresh.{fresh_within}
@@ -80,12 +80,12 @@ abbrev used_account : Account
 used_account = record (idle_account 0) { units = 1; numbers = λ i. i == 2 }
 
 abbrev used_client : Client
-used_client = record (idle_client 1 0) { knows = record (knows_nothing 1) { granted = λ i. i == 2 }; sealed = making_directory ∷ dropping ∷ []; other = Away; writes = λ i. i == 2 }
+used_client = record (idle_client 1 0) { knows = record (knows_nothing 1) { granted = λ i. i == 2 }; sealed = making_directory ∷ drop_record ∷ []; other = Away; writes = λ i. i == 2 }
 
 used_own : (q : ClientPart) → Each q ≢ Each GrantedUnused → HoldsOf q fresh used_account 1 used_client
 used_own GrantedUnused off = absurd (off refl)
 used_own MarkNotPast off = omega arith
-used_own AwayHasRecords off = λ away. no_second making_directory (dropping ∷ [])
+used_own AwayHasRecords off = λ away. no_second making_directory (drop_record ∷ [])
 used_own BackHasNone off = λ back. absurd (back refl)
 used_own RecordsLeased off = λ i e. two_of (λ b. (b || false) || ((b || false) || false)) refl i e
 used_own RecordsPaid off = (new_paid kind.Directory 1 (omega arith), (drop_paid with_directory, tt))
@@ -127,20 +127,20 @@ abbrev twice_account : Account
 twice_account = record (idle_account 0) { units = 2; numbers = λ i. i == 2 }
 
 abbrev twice_client : Client
-twice_client = record (idle_client 1 0) { sealed = making_directory ∷ dropping ∷ making ∷ []; other = Away; writes = λ i. i == 2 }
+twice_client = record (idle_client 1 0) { sealed = making_directory ∷ drop_record ∷ make_record ∷ []; other = Away; writes = λ i. i == 2 }
 
 abbrev again : Graph
-again = after_effects with_directory dropping.effects
+again = after_effects with_directory drop_record.effects
 
 twice_own : (q : ClientPart) → Each q ≢ Each MadeOnce → HoldsOf q fresh twice_account 1 twice_client
 twice_own MadeOnce off = absurd (off refl)
 twice_own MarkNotPast off = omega arith
-twice_own AwayHasRecords off = λ away. no_second making_directory (dropping ∷ making ∷ [])
+twice_own AwayHasRecords off = λ away. no_second making_directory (drop_record ∷ make_record ∷ [])
 twice_own BackHasNone off = λ back. absurd (back refl)
 twice_own RecordsLeased off = λ i e. two_of (λ b. (b || false) || ((b || false) || ((b || false) || false))) refl i e
-twice_own RecordsPaid off = (new_paid kind.Directory 1 (omega arith), (drop_paid with_directory, (subst (λ g. IsPaid g making) (sym dropped) (new_paid kind.File 1 (omega arith)), tt)))
-twice_own RecordsNameNone off = (new_names_none kind.Directory 1, (drop_names_none, (subst (λ g. NamesNone g making) (sym dropped) (new_names_none kind.File 1), tt)))
-twice_own RecordsKeepLimits off = (new_keeps_limits kind.Directory 1, (drop_keeps_limits with_directory, (subst (λ g. Keeps IsWithin g making) (sym dropped) (new_keeps_limits kind.File 1), tt)))
+twice_own RecordsPaid off = (new_paid kind.Directory 1 (omega arith), (drop_paid with_directory, (subst (λ g. IsPaid g make_record) (sym dropped) (new_paid kind.File 1 (omega arith)), tt)))
+twice_own RecordsNameNone off = (new_names_none kind.Directory 1, (drop_names_none, (subst (λ g. NamesNone g make_record) (sym dropped) (new_names_none kind.File 1), tt)))
+twice_own RecordsKeepLimits off = (new_keeps_limits kind.Directory 1, (drop_keeps_limits with_directory, (subst (λ g. Keeps IsWithin g make_record) (sym dropped) (new_keeps_limits kind.File 1), tt)))
 twice_own UnitsBooked off = omega arith
 twice_own MadeBooked off = λ i e. two_of (λ b. (b || false) || ((b || false) || false)) refl i e
 twice_own GrantedBooked off = λ i e. absurd (false≢true e)
@@ -149,8 +149,8 @@ twice_own CopiesLeased off = λ i copy e. none_some copy e
 twice_own BlocksLeased off = λ i b bytes e. none_some bytes e
 twice_own q off = client_parts fresh (idle_account 0) 1 (idle_client 1 0) (idle_stands fresh 1 0) q
 
-made_again : after_effects again making.effects ≡ with_file
-made_again = ap (λ g. after_effects g making.effects) dropped ∙ makes_file
+made_again : after_effects again make_record.effects ≡ with_file
+made_again = ap (λ g. after_effects g make_record.effects) dropped ∙ makes_file
 
 pub twice_alone : BreaksAlone (Each MadeOnce) made_twice
 twice_alone = record {
@@ -163,6 +163,6 @@ twice_alone = record {
     within = fresh_within;
     fits = omega arith;
     sound = subst (λ g. IsSound g nobody) (sym made_again) (file_sound []);
-    known = nothing_known 1 (after_effects again making.effects) refl;
+    known = nothing_known 1 (after_effects again make_record.effects) refl;
   });
 }

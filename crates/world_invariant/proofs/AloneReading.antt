@@ -2,20 +2,21 @@
 use Rattle.std.proofs.Common.{◌≡◌, ◌≢◌, ℕ, ◌≤◌, List, [], ◌∷◌, refl, Some, None, Option, Ok, ap, sym, ◌∙◌, subst, arith}
 use Rattle.std.proofs.lemmas.Bool.{false≢true}
 use Rattle.call_effects.specs.posix_calls.Tree.{sum_up_to}
-use Rattle.call_effects.specs.posix_calls.Query.{Query, Range, Part, Found, Known, Unknown, blocks_missing, run_part}
+use Rattle.call_effects.specs.posix_calls.Query.{Query, Range}
+use Rattle.call_effects.specs.posix_calls.Part.{Part, Found, Known, Unknown, blocks_missing, run_part}
 use Rattle.call_effects.specs.posix_calls.declared.operation.Missing.{Missing}
 use Rattle.call_effects.specs.posix_calls.Decide.{pread}
-use Rattle.call_effects.specs.posix_calls.Operations.{opens}
+use Rattle.call_effects.specs.posix_calls.Kinds.{opens}
 use Rattle.call_effects.proofs.posix_calls_lemmas.Chain.{part_bind, part_gives, part_refuses}
 use Rattle.call_effects.proofs.posix_calls_lemmas.Sums.{all_zero}
 use Rattle.call_effects.specs.file_graph.Graph.{Graph}
 use Rattle.call_effects.specs.file_graph.Units.{growth}
-use Rattle.call_effects.specs.Known.{IsPlanned, Knowledge, part_of}
+use Rattle.call_effects.specs.Knowledge.{IsPlanned, Knowledge, part_of}
 use Rattle.world_invariant.specs.World.{Begun, Client}
 use Rattle.world_invariant.specs.Invariant.{IsCoherent}
 use Rattle.world_invariant.specs.LeaseSteps.{CanRead, CanForgetBlocks, blocks_forgotten}
-use Rattle.world_invariant.specs.PairWalk.{written}
-use Rattle.world_invariant.specs.Broken.{read_ready, reading, begun_reading}
+use Rattle.world_invariant.specs.PairWalk.{written_world}
+use Rattle.world_invariant.specs.BrokenWorlds.{read_ready, begun_read, begun_reading}
 use Rattle.world_invariant.specs.Parts.{ClientPart, UnwipedIsIdle, RecordsPaid, RecordsNameNone, RecordsKeepLimits, UnitsBooked, BegunPlanned, BegunHasEffects, BegunPinned, SettledIdle, HoldsOf, Each, Holds, BreaksAlone}
 use Rattle.world_invariant.proofs.Alone.{less_others, same_less}
 use Rattle.world_invariant.proofs.Fetches.{blocks_fetched_hold}
@@ -36,11 +37,11 @@ ruleset parts = (part_bind, part_gives, part_refuses, part_is_dir, part_look, pa
 
 -- ---- a file of one byte, and the block that has it
 
-can_read : CanRead written 1 2 1 (7 ∷ [])
+can_read : CanRead written_world 1 2 1 (7 ∷ [])
 can_read = record { client = refl; leased = refl; file = refl }
 
 ready_holds : IsCoherent read_ready
-ready_holds = blocks_fetched_hold written 1 2 0 1 1 (7 ∷ []) written_holds can_read
+ready_holds = blocks_fetched_hold written_world 1 2 0 1 1 (7 ∷ []) written_holds can_read
 
 ready_parts : (q : ClientPart) → HoldsOf q read_ready.kernel.shared (read_ready.kernel.accounts 1) 1 (read_ready.clients 1)
 ready_parts q = client_parts read_ready.kernel.shared (read_ready.kernel.accounts 1) 1 (read_ready.clients 1) (ready_holds.stands 1 refl) q
@@ -48,16 +49,16 @@ ready_parts q = client_parts read_ready.kernel.shared (read_ready.kernel.account
 -- ---- its byte is read
 
 abbrev reader : Client
-reader = record (read_ready.clients 1) { begun = Some reading }
+reader = record (read_ready.clients 1) { begun = Some begun_read }
 
-read_comes : run_part (part_of (read_ready.clients 1).knows) (pread (read_ready.clients 1).knows.own 0 0 1) ≡ Known (Ok reading.operation)
+read_comes : run_part (part_of (read_ready.clients 1).knows) (pread (read_ready.clients 1).knows.own 0 0 1) ≡ Known (Ok begun_read.operation)
 unfolding pread
 read_comes = simp parts refl
 
-read_planned : IsPlanned (read_ready.clients 1).knows reading.call 0 reading.operation []
+read_planned : IsPlanned (read_ready.clients 1).knows begun_read.call 0 begun_read.operation []
 read_planned = record { comes = read_comes; effects = simp parts refl; number = λ m. absurd (false≢true m) }
 
-is_reading : (b : Begun) → Some reading ≡ Some b → reading ≡ b
+is_reading : (b : Begun) → Some begun_read ≡ Some b → begun_read ≡ b
 is_reading b e = cc
 
 grows_none : (g : Graph) → growth g [] ≤ 0
@@ -78,7 +79,7 @@ reader_own q off = ready_parts q
 
 pub reading_alone : BreaksAlone (Each BegunHasEffects) begun_reading
 reading_alone = record {
-  broken = λ is. is 1 refl reading refl refl;
+  broken = λ is. is 1 refl begun_read refl refl;
   others = less_others (Each BegunHasEffects) read_ready 1 (read_ready.kernel.accounts 1) reader ready_holds refl (same_less read_ready 1 reader refl refl refl refl) reader_own (λ off. ready_holds.agrees 1 refl);
 }
 
@@ -95,4 +96,4 @@ unfolding pread
 read_unknown = simp parts refl
 
 pub reading_lost : Holds (Each BegunPlanned) (blocks_forgotten begun_reading 1 (λ i b. None)) → ⊥
-reading_lost is = absurd (let clash : Unknown (blocks_missing 2 0 1) ≡ Known (Ok reading.operation) = sym read_unknown ∙ (is 1 refl reading refl).comes in cc)
+reading_lost is = absurd (let clash : Unknown (blocks_missing 2 0 1) ≡ Known (Ok begun_read.operation) = sym read_unknown ∙ (is 1 refl begun_read refl).comes in cc)

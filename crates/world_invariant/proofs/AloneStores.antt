@@ -6,12 +6,12 @@ use Rattle.call_effects.specs.posix_calls.declared.limits.TheConstants.{MAX_FILE
 use Rattle.call_effects.proofs.posix_calls_lemmas.Sums.{all_zero}
 use Rattle.call_effects.specs.file_graph.Graph.{Graph, fresh, after_effects}
 use Rattle.call_effects.specs.file_graph.Units.{charge}
-use Rattle.call_effects.specs.Settled.{nobody}
+use Rattle.call_effects.specs.ClosedGraph.{nobody}
 use Rattle.call_effects.specs.Wholes.{IsSound}
 use Rattle.world_invariant.specs.Limits.{AreWithin}
-use Rattle.world_invariant.specs.World.{whole}
-use Rattle.world_invariant.specs.Opening.{idle_client, idle_account, idle_world}
-use Rattle.world_invariant.specs.Broken.{unpaid, one_file, rootless, with_bytes, large_file, overfull}
+use Rattle.world_invariant.specs.World.{whole_graph}
+use Rattle.world_invariant.specs.FormatWorld.{idle_client, idle_account, idle_world}
+use Rattle.world_invariant.specs.BrokenWorlds.{unpaid_record, one_file, rootless, with_bytes, large_file, overfull}
 use Rattle.world_invariant.specs.Parts.{NumbersFree, NumbersInRange, NumbersInOneHand, NodesWithin, UnitsFit, WorldPart, Book, Each, LeasesLegal, WholeSound, WholeKnown, Holds, BreaksAlone}
 use Rattle.world_invariant.proofs.Idle.{idle_stands, idle_agrees, idle_whole, idle_held}
 use Rattle.world_invariant.proofs.Parts.{client_parts}
@@ -33,7 +33,7 @@ module _ (part : WorldPart) (capacity : ℕ) (g : Graph) (fits : Book UnitsFit �
       omega (arith, nothing, fit)
   idle_others (Each q) off = λ c is_c. client_parts g (idle_account 0) c (idle_client c 0) (idle_stands g c 0) q
   idle_others LeasesLegal off = λ c d is_c is_d other i e. refl
-  idle_others WholeSound off = subst (λ h. IsSound (whole (idle_world capacity g)) h) (sym (idle_held capacity g)) (subst (λ h. IsSound h nobody) (sym (idle_whole capacity g)) (sound off))
+  idle_others WholeSound off = subst (λ h. IsSound (whole_graph (idle_world capacity g)) h) (sym (idle_held capacity g)) (subst (λ h. IsSound h nobody) (sym (idle_whole capacity g)) (sound off))
   idle_others WholeKnown off = idle_agrees capacity g
 
 -- ---- no root
@@ -54,8 +54,8 @@ large_alone bytes more = record {
 pub overfull_alone : BreaksAlone (Book UnitsFit) overfull
 overfull_alone = record {
   broken = λ fits.
-      let fit : charge (after_effects fresh unpaid.effects) + sum_up_to 8 (λ c. 0) ≤ charge fresh = fits in
-      let more : charge (after_effects fresh unpaid.effects) ≡ charge fresh + 1 = one_more in
+      let fit : charge (after_effects fresh unpaid_record.effects) + sum_up_to 8 (λ c. 0) ≤ charge fresh = fits in
+      let more : charge (after_effects fresh unpaid_record.effects) ≡ charge fresh + 1 = one_more in
       absurd (omega (arith, fit, more));
-  others = idle_others (Book UnitsFit) (charge fresh) (after_effects fresh unpaid.effects) (λ off. absurd (off refl)) (λ off. subst (λ g. IsSound g nobody) (sym makes_file) (file_sound [])) (λ off. subst AreWithin (sym makes_file) (file_within [] (omega arith)));
+  others = idle_others (Book UnitsFit) (charge fresh) (after_effects fresh unpaid_record.effects) (λ off. absurd (off refl)) (λ off. subst (λ g. IsSound g nobody) (sym makes_file) (file_sound [])) (λ off. subst AreWithin (sym makes_file) (file_within [] (omega arith)));
 }

@@ -9,8 +9,8 @@ use Rattle.call_effects.proofs.KnownUnits.{planned_units}
 use Rattle.call_effects.proofs.Rises.{growth_local}
 use Rattle.world_invariant.specs.Logs.{after_records, is_written, is_touched, units_in, IsPaid, ArePaid, IsNameless, Keeps, NamesNone, NameNone, KeepLimits}
 use Rattle.world_invariant.specs.Limits.{IsWithin}
-use Rattle.world_invariant.specs.World.{Begun, Failed, Status, Client, Account, World, undigested, records_of, change_of, log_of, whole, held, world_state, moved}
-use Rattle.world_invariant.specs.Standing.{is_settled, IsPending, Stands}
+use Rattle.world_invariant.specs.World.{Begun, Failed, Status, Client, Account, World, undigested_records, records_of, change_of, log_of, whole_graph, held_descriptors, world_state, moved_world}
+use Rattle.world_invariant.specs.ClientParts.{is_settled, IsPending, Stands}
 use Rattle.world_invariant.specs.Invariant.{IsCoherent}
 use Rattle.world_invariant.specs.ClientSteps.{CanBegin, call_begun, IsBegun, given_up, with_client}
 use Rattle.world_invariant.proofs.Records.{either, both, append_nil, front_written, written_append, or_neither, units_append}
@@ -24,12 +24,12 @@ use Rattle.world_invariant.proofs.Within.{planned_within}
 use Rattle.world_invariant.proofs.Moved.{quiet, booked_same, before_less, after_less, whole_same, held_same}
 
 -- a client's step that changes neither its records nor what it has open
-pub tree_same : (w : World) (c : ℕ) (g : Graph) (a : Account) (p : Client) → undigested a p ≡ log_of w c → g ≡ w.kernel.shared → p.knows.own ≡ (w.clients c).knows.own → world_state (moved w c g a p) ≡ world_state w
-tree_same w c g a p log shared own = ap (λ s. state_of s (held (moved w c g a p))) (whole_same w c g a p log shared) ∙ ap (λ o. state_of (whole w) o) (held_same w c g a p own)
+pub tree_same : (w : World) (c : ℕ) (g : Graph) (a : Account) (p : Client) → undigested_records a p ≡ log_of w c → g ≡ w.kernel.shared → p.knows.own ≡ (w.clients c).knows.own → world_state (moved_world w c g a p) ≡ world_state w
+tree_same w c g a p log shared own = ap (λ s. state_of s (held_descriptors (moved_world w c g a p))) (whole_same w c g a p log shared) ∙ ap (λ o. state_of (whole_graph w) o) (held_same w c g a p own)
 
 -- no record is begun
-pub idle_records : (a : Account) (p : Client) → p.begun ≡ None → records_of a p ≡ undigested a p
-idle_records a p idle = ap (λ o. undigested a p ++ change_of o) idle ∙ append_nil (undigested a p)
+pub idle_records : (a : Account) (p : Client) → p.begun ≡ None → records_of a p ≡ undigested_records a p
+idle_records a p idle = ap (λ o. undigested_records a p ++ change_of o) idle ∙ append_nil (undigested_records a p)
 
 module _ (w : World) (c : ℕ) (b : Begun) (h : IsCoherent w) (can : CanBegin w c b) where
   abbrev old : Client
@@ -51,13 +51,13 @@ module _ (w : World) (c : ℕ) (b : Begun) (h : IsCoherent w) (can : CanBegin w 
   ]
 
   -- where it touches, the whole is what the client's own records make of the shared graph
-  own_view : (i : ℕ) → is_touched i b.change ≡ true → whole w i ≡ after_records w.kernel.shared (log_of w c) i
+  own_view : (i : ℕ) → is_touched i b.change ≡ true → whole_graph w i ≡ after_records w.kernel.shared (log_of w c) i
   own_view i e = whole_at (log_of w) w.kernel.shared c i (owned w h c i can.client (writing_holds w h c i (can.leased i e)))
 
   grown : growth (after_records w.kernel.shared (log_of w c)) b.change.effects ≤ b.change.units
   grown =
-      let same : growth (whole w) b.change.effects ≡ growth (after_records w.kernel.shared (log_of w c)) b.change.effects = growth_local (whole w) (after_records w.kernel.shared (log_of w c)) b.change.effects own_view in
-      let units : growth (whole w) b.change.effects ≡ b.change.units = planned_units old.knows (whole w) (held w) b.call b.new b.operation b.change.effects b.change.units h.sound (h.agrees c can.client) can.planned can.counted in
+      let same : growth (whole_graph w) b.change.effects ≡ growth (after_records w.kernel.shared (log_of w c)) b.change.effects = growth_local (whole_graph w) (after_records w.kernel.shared (log_of w c)) b.change.effects own_view in
+      let units : growth (whole_graph w) b.change.effects ≡ b.change.units = planned_units old.knows (whole_graph w) (held_descriptors w) b.call b.new b.operation b.change.effects b.change.units h.sound (h.agrees c can.client) can.planned can.counted in
       omega (arith, same, units)
 
   log_paid : ArePaid w.kernel.shared (log_of w c ++ (b.change ∷ []))
@@ -71,12 +71,12 @@ module _ (w : World) (c : ℕ) (b : Begun) (h : IsCoherent w) (can : CanBegin w 
 
   log_unnamed : NameNone w.kernel.shared (log_of w c ++ (b.change ∷ []))
   log_unnamed = along_join NamesNone (log_of w c) (b.change ∷ []) w.kernel.shared (along_front NamesNone (log_of w c) (change_of old.begun) w.kernel.shared s.logged.unnamed)
-      (keep_same (λ i o. IsNameless o) (b.change ∷ []) (whole w) (after_records w.kernel.shared (log_of w c)) (λ i e. own_view i (one_written i e)) (planned_names_none old.knows (whole w) (held w) b.call b.new b.operation b.change.effects h.sound (h.agrees c can.client) can.planned, tt))
+      (keep_same (λ i o. IsNameless o) (b.change ∷ []) (whole_graph w) (after_records w.kernel.shared (log_of w c)) (λ i e. own_view i (one_written i e)) (planned_names_none old.knows (whole_graph w) (held_descriptors w) b.call b.new b.operation b.change.effects h.sound (h.agrees c can.client) can.planned, tt))
 
   log_limits : KeepLimits w.kernel.shared (log_of w c ++ (b.change ∷ []))
   log_limits = along_join (Keeps IsWithin) (log_of w c) (b.change ∷ []) w.kernel.shared (along_front (Keeps IsWithin) (log_of w c) (change_of old.begun) w.kernel.shared s.logged.limits)
-      (keep_same IsWithin (b.change ∷ []) (whole w) (after_records w.kernel.shared (log_of w c)) (λ i e. own_view i (one_written i e))
-      ((λ i within. planned_within old.knows (whole w) (held w) b.call b.new b.operation b.change.effects h.sound (h.agrees c can.client) can.planned (whole_within w h) i), tt))
+      (keep_same IsWithin (b.change ∷ []) (whole_graph w) (after_records w.kernel.shared (log_of w c)) (λ i e. own_view i (one_written i e))
+      ((λ i within. planned_within old.knows (whole_graph w) (held_descriptors w) b.call b.new b.operation b.change.effects h.sound (h.agrees c can.client) can.planned (whole_within w h) i), tt))
 
   pub begun_holds : IsCoherent (call_begun w c b)
   begun_holds =

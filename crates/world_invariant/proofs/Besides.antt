@@ -4,9 +4,9 @@ use Rattle.call_effects.specs.posix_calls.Operations.{is_client}
 use Rattle.call_effects.specs.posix_calls.declared.descriptor.Descriptor.{Descriptor}
 use Rattle.call_effects.specs.file_graph.Graph.{after_effects}
 use Rattle.call_effects.specs.log_record.declared.format.Record.{Record}
-use Rattle.world_invariant.specs.World.{Begun, Client, World, whole}
+use Rattle.world_invariant.specs.World.{Begun, Client, World, whole_graph}
 use Rattle.world_invariant.specs.Invariant.{IsCoherent}
-use Rattle.world_invariant.specs.ClientSteps.{IsBegun, replied}
+use Rattle.world_invariant.specs.ClientSteps.{IsBegun, after_reply}
 use Rattle.world_invariant.specs.KernelSteps.{CanDigest, records_digested, CanReclaim}
 use Rattle.world_invariant.proofs.Records.{both}
 use Rattle.world_invariant.proofs.Moved.{at_same}
@@ -17,7 +17,7 @@ module _ (w : World) (c d : ℕ) (b : Begun) (first rest : List Record) (h : IsC
   pub begun_still : IsBegun (records_digested w d first) c b
   begun_still = record { client = is.client; there = ap (λ (f : ℕ → Client). (f c).begun) (at_same w.clients d) ∙ is.there; known = λ e. is.known (sym (ap (λ (f : ℕ → Client). (f c).status) (at_same w.clients d)) ∙ e) }
 
-  pub replied_beside : whole (replied (records_digested w d first) c b) ≡ after_effects (whole w) b.change.effects
+  pub replied_beside : whole_graph (after_reply (records_digested w d first) c b) ≡ after_effects (whole_graph w) b.change.effects
   replied_beside = replied_whole (records_digested w d first) c b (digested_holds w d first rest h can) begun_still ∙ ap (λ g. after_effects g b.change.effects) (digest_keeps w d first rest h can)
 
 -- what is open is not reclaimed

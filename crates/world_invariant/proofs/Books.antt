@@ -9,11 +9,11 @@ use Rattle.call_effects.specs.file_graph.Units.{charge}
 use Rattle.call_effects.specs.Fits.{IsNew}
 use Rattle.call_effects.proofs.Served.{less_agrees}
 use Rattle.world_invariant.specs.Logs.{is_made_in, units_in}
-use Rattle.world_invariant.specs.World.{Client, Account, World, records_of, log_of, whole, held, world_state, at, moved}
-use Rattle.world_invariant.specs.Standing.{IsBooked, Stands}
+use Rattle.world_invariant.specs.World.{Client, Account, World, records_of, log_of, whole_graph, held_descriptors, world_state, at, moved_world}
+use Rattle.world_invariant.specs.ClientParts.{IsBooked, Stands}
 use Rattle.world_invariant.specs.Invariant.{IsCoherent}
 use Rattle.world_invariant.specs.LeaseSteps.{also, without}
-use Rattle.world_invariant.specs.BookSteps.{HasRoom, units_granted, units_returned, IsUnbooked, number_granted, CanReturn, number_returned, inode_pinned, CanUnpin, unpinned}
+use Rattle.world_invariant.specs.BookSteps.{HasRoom, units_granted, units_returned, IsUnbooked, number_granted, CanReturn, number_returned, inode_pinned, CanUnpin, after_unpin}
 use Rattle.world_invariant.proofs.Records.{both, in_first, in_rest, still_false}
 use Rattle.world_invariant.proofs.Owners.{client_is}
 use Rattle.world_invariant.proofs.Idle.{none_some}
@@ -42,7 +42,7 @@ to_without has i j off e = same_if j i false (has j) off ∙ e
 
 -- no more numbers in the account, and units that fit
 module _ (w : World) (c : ℕ) (a : Account) (p : Client) (h : IsCoherent w) (is_c : is_client c ≡ true) (fewer : (i : ℕ) → a.numbers i ≡ true → (w.kernel.accounts c).numbers i ≡ true) where
-  pub booked_fewer : charge w.kernel.shared + sum_up_to 8 (λ d. (at w.kernel.accounts c a d).units) ≤ w.kernel.capacity → IsBooked (moved w c w.kernel.shared a p).kernel
+  pub booked_fewer : charge w.kernel.shared + sum_up_to 8 (λ d. (at w.kernel.accounts c a d).units) ≤ w.kernel.capacity → IsBooked (moved_world w c w.kernel.shared a p).kernel
   booked_fewer fits = booked_moved w c w.kernel.shared a p h is_c (λ i e. h.booked.free c i is_c (fewer i e)) (λ d i is_d other e. h.booked.free d i is_d e) (λ i e. h.booked.range c i is_c (fewer i e)) (λ d i is_d other e. h.booked.alone c d i is_c is_d other (fewer i e)) h.booked.limits fits
 
 -- the same units
@@ -99,7 +99,7 @@ module _ (w : World) (c units : ℕ) (h : IsCoherent w) (is_c : is_client c ≡ 
 -- ---- numbers
 
 -- a number that stands in nobody's account is one of no node of the whole
-pub unbooked_new : (w : World) (i : ℕ) → IsCoherent w → IsUnbooked w.kernel i → IsNew (whole w) i
+pub unbooked_new : (w : World) (i : ℕ) → IsCoherent w → IsUnbooked w.kernel i → IsNew (whole_graph w) i
 unbooked_new w i h free = record {
   low = free.low;
   high = free.high;
@@ -161,7 +161,7 @@ module _ (w : World) (c i : ℕ) (h : IsCoherent w) (is_c : is_client c ≡ true
         put_back = known.put_back;
         copies = known.copies;
         blocks = known.blocks;
-        granted = λ j e. of_also (IsNew (whole w)) was.knows.granted i j e (unbooked_new w i h free) (λ has. known.granted j has);
+        granted = λ j e. of_also (IsNew (whole_graph w)) was.knows.granted i j e (unbooked_new w i h free) (λ has. known.granted j has);
       })
     where
       itself : (i : ℕ) → (i == i) ≡ true
@@ -207,7 +207,7 @@ module _ (w : World) (c i : ℕ) (h : IsCoherent w) (can : CanReturn w c i) wher
         pending = λ b e. none_some b (sym can.idle ∙ e);
       })
       (before_less w c without_number h can.client (λ j e. e)) (after_less w c without_number h can.client (λ j e. e))
-      (less_agrees had.knows (whole w) (held w) (h.agrees c can.client) without_number.knows (record { client = refl; own = λ n. refl; copies = record { nodes = λ j copy e. e; blocks = λ j b bytes e. e }; granted = λ j e. (of_without had.knows.granted i j e).1 }))
+      (less_agrees had.knows (whole_graph w) (held_descriptors w) (h.agrees c can.client) without_number.knows (record { client = refl; own = λ n. refl; copies = record { nodes = λ j copy e. e; blocks = λ j b bytes e. e }; granted = λ j e. (of_without had.knows.granted i j e).1 }))
 
   pub number_returned_tree : world_state (number_returned w c i) ≡ world_state w
   number_returned_tree = tree_same w c w.kernel.shared without_it without_number refl refl refl
@@ -256,7 +256,7 @@ module _ (w : World) (c i : ℕ) (h : IsCoherent w) (can : CanUnpin w c i) where
   abbrev drop_book : Account
   drop_book = record (w.kernel.accounts c) { pins = without (w.kernel.accounts c).pins i }
 
-  pub unpinned_holds : IsCoherent (unpinned w c i)
+  pub unpinned_holds : IsCoherent (after_unpin w c i)
   unpinned_holds =
       let x = h.stands c can.client in
       quiet w c w.kernel.shared drop_book dropper h can.client refl refl refl
@@ -281,5 +281,5 @@ module _ (w : World) (c i : ℕ) (h : IsCoherent w) (can : CanUnpin w c i) where
       })
       (before_less w c dropper h can.client (λ j e. e)) (after_less w c dropper h can.client (λ j e. e)) (h.agrees c can.client)
 
-  pub unpinned_tree : world_state (unpinned w c i) ≡ world_state w
+  pub unpinned_tree : world_state (after_unpin w c i) ≡ world_state w
   unpinned_tree = tree_same w c w.kernel.shared drop_book dropper refl refl refl

@@ -3,7 +3,7 @@ use Rattle.std.proofs.Common.{◌≢◌, ◌==◌, Bool, false, [], ◌∷◌, r
 use Rattle.std.proofs.lemmas.Bool.{false≢true}
 use Rattle.call_effects.specs.file_graph.Graph.{Graph, Node}
 use Rattle.world_invariant.specs.Logs.{after_each, LogsAreApart}
-use Rattle.world_invariant.specs.Broken.{both_counting, one_file}
+use Rattle.world_invariant.specs.BrokenWorlds.{both_counting, one_file}
 
 -- ---- a record that touches what its client doesn't hold
 

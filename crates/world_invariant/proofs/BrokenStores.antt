@@ -9,9 +9,9 @@ use Rattle.call_effects.specs.file_graph.Units.{charge}
 use Rattle.call_effects.specs.Wholes.{IsSound}
 use Rattle.world_invariant.specs.Limits.{AreWithin}
 use Rattle.world_invariant.specs.Logs.{after_clients, units_in}
-use Rattle.world_invariant.specs.World.{World, whole, held, log_of}
+use Rattle.world_invariant.specs.World.{World, whole_graph, held_descriptors, log_of}
 use Rattle.world_invariant.specs.Stop.{Leaves, Stores}
-use Rattle.world_invariant.specs.Broken.{unpaid, rootless, with_bytes, large_file, overfull}
+use Rattle.world_invariant.specs.BrokenWorlds.{unpaid_record, rootless, with_bytes, large_file, overfull}
 use Rattle.world_invariant.proofs.BrokenWorlds.{one_more}
 
 -- nothing is begun
@@ -20,7 +20,7 @@ leaves w c is_c = inl refl
 
 -- ---- no root
 
-pub rootless_broken : IsSound (whole rootless) (held rootless) → ⊥
+pub rootless_broken : IsSound (whole_graph rootless) (held_descriptors rootless) → ⊥
 unfolding after_clients
 rootless_broken sound = false≢true (ap is_some sound.typed.root)
 
@@ -40,6 +40,6 @@ large_stored bytes more stored = many bytes more stored.recoverable.limits
 
 pub overfull_stored : Stores overfull (log_of overfull) → ⊥
 overfull_stored stored =
-    let fits : charge (after_effects fresh unpaid.effects) + sum_up_to 8 (λ c. units_in (log_of overfull c)) ≤ charge fresh = stored.recoverable.fits in
-    let more : charge (after_effects fresh unpaid.effects) ≡ charge fresh + 1 = one_more in
+    let fits : charge (after_effects fresh unpaid_record.effects) + sum_up_to 8 (λ c. units_in (log_of overfull c)) ≤ charge fresh = stored.recoverable.fits in
+    let more : charge (after_effects fresh unpaid_record.effects) ≡ charge fresh + 1 = one_more in
     absurd (omega (arith, fits, more))

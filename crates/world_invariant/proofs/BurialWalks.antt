@@ -25,39 +25,39 @@ use Rattle.world_invariant.proofs.UnlinkWalks.{eight, unlinking_holds}
 -- ---- found
 
 dead_holds : IsCoherent walked.dead
-dead_holds = turned_holds unlinked.unlinking 1 Dead unlinking_holds refl refl (λ off is. let clash : Alive ≡ Failed = is in cc)
+dead_holds = turned_holds unlinked.unlink_world 1 Dead unlinking_holds refl refl (λ off is. let clash : Alive ≡ Failed = is in cc)
 
 still_begun : IsBegun walked.dead 1 unlinked.unlink_a
 still_begun = record { client = refl; there = refl; known = λ e. absurd (cc) }
 
-pub found_step : Step (world_state walked.dead) 1 unlinked.unlink_a.call Done (world_state walked.found)
+pub found_step : Step (world_state walked.dead) 1 unlinked.unlink_a.call Done (world_state walked.found_world)
 found_step = replied_step walked.dead 1 unlinked.unlink_a dead_holds still_begun
 
-can_depart : CanDepart walked.found 1
+can_depart : CanDepart walked.found_world 1
 can_depart = record { client = refl; dead = refl; idle = refl }
 
-gone_holds : IsCoherent walked.gone
-gone_holds = departed_holds walked.found 1 (replied_holds walked.dead 1 unlinked.unlink_a dead_holds still_begun) can_depart
+gone_holds : IsCoherent walked.gone_world
+gone_holds = departed_holds walked.found_world 1 (replied_holds walked.dead 1 unlinked.unlink_a dead_holds still_begun) can_depart
 
 -- ---- digested
 
-can_seal : CanSeal walked.gone 1
+can_seal : CanSeal walked.gone_world 1
 can_seal = record { client = refl; idle = refl; some = λ e. absurd (cc); back = λ e. absurd (cc) }
 
-handed_holds : IsCoherent (region_sealed walked.gone 1)
-handed_holds = sealed_holds walked.gone 1 gone_holds can_seal
+handed_holds : IsCoherent (region_sealed walked.gone_world 1)
+handed_holds = sealed_holds walked.gone_world 1 gone_holds can_seal
 
-can_digest : CanDigest (region_sealed walked.gone 1) 1 (unlinked.open_a.change ∷ unlinked.unlink_a.change ∷ []) []
+can_digest : CanDigest (region_sealed walked.gone_world 1) 1 (unlinked.open_a.change ∷ unlinked.unlink_a.change ∷ []) []
 can_digest = record { client = refl; some = λ e. absurd (cc); split = refl }
 
-kept_holds : IsCoherent walked.kept
-kept_holds = digested_holds (region_sealed walked.gone 1) 1 (unlinked.open_a.change ∷ unlinked.unlink_a.change ∷ []) [] handed_holds can_digest
+kept_holds : IsCoherent walked.kept_world
+kept_holds = digested_holds (region_sealed walked.gone_world 1) 1 (unlinked.open_a.change ∷ unlinked.unlink_a.change ∷ []) [] handed_holds can_digest
 
-can_take_back : CanTakeBack walked.kept 1
+can_take_back : CanTakeBack walked.kept_world 1
 can_take_back = record { client = refl; away = refl; digested = refl }
 
 back_holds : IsCoherent walked.back
-back_holds = taken_back_holds walked.kept 1 kept_holds can_take_back
+back_holds = taken_back_holds walked.kept_world 1 kept_holds can_take_back
 
 -- a client that is gone keeps its pins until it is buried
 pub back_unreclaimed : CanReclaim walked.back.kernel 2 → ⊥
@@ -68,45 +68,45 @@ back_unreclaimed can = false≢true (sym (can.unpinned 1 refl))
 pub can_bury : CanBury walked.back 1
 can_bury = record { client = refl; settled = refl; digested = refl; back = λ e. absurd (cc) }
 
-buried_still : IsCoherent walked.buried
+buried_still : IsCoherent walked.buried_world
 buried_still = buried_holds walked.back 1 back_holds can_bury
 
-pub can_reclaim : CanReclaim walked.buried.kernel 2
+pub can_reclaim : CanReclaim walked.buried_world.kernel 2
 can_reclaim = record {
   file = record { bytes = []; is = refl };
-  unpinned = λ c is_c. eight (λ c. (walked.buried.kernel.accounts c).pins 2 ≡ false) refl refl refl refl refl refl refl refl c (is_low c is_c) (is_high c is_c);
+  unpinned = λ c is_c. eight (λ c. (walked.buried_world.kernel.accounts c).pins 2 ≡ false) refl refl refl refl refl refl refl refl c (is_low c is_c) (is_high c is_c);
 }
 
-emptied_holds : IsCoherent walked.emptied
-emptied_holds = reclaimed_holds walked.buried 2 buried_still can_reclaim
+emptied_holds : IsCoherent walked.emptied_world
+emptied_holds = reclaimed_holds walked.buried_world 2 buried_still can_reclaim
 
-wiped_holds : IsCoherent walked.wiped
-wiped_holds = other_wiped_holds walked.emptied 1 emptied_holds refl refl
+wiped_holds : IsCoherent walked.wiped_world
+wiped_holds = other_wiped_holds walked.emptied_world 1 emptied_holds refl refl
 
 -- ---- joined
 
-pub can_join : CanJoin walked.wiped 1
+pub can_join : CanJoin walked.wiped_world 1
 can_join = record { client = refl; buried = refl; digested = refl; other = refl; ready = refl }
 
-pub new_holds : IsCoherent walked.renewed
-new_holds = joined_holds walked.wiped 1 wiped_holds can_join
+pub new_holds : IsCoherent walked.renewed_world
+new_holds = joined_holds walked.wiped_world 1 wiped_holds can_join
 
-pub new_tree : world_state walked.renewed ≡ world_state walked.gone
+pub new_tree : world_state walked.renewed_world ≡ world_state walked.gone_world
 new_tree =
-    joined_tree walked.wiped 1 wiped_holds can_join
-    ∙ other_wiped_tree walked.emptied 1 emptied_holds refl refl
-    ∙ reclaimed_tree walked.buried 2 buried_still can_reclaim
+    joined_tree walked.wiped_world 1 wiped_holds can_join
+    ∙ other_wiped_tree walked.emptied_world 1 emptied_holds refl refl
+    ∙ reclaimed_tree walked.buried_world 2 buried_still can_reclaim
     ∙ buried_tree walked.back 1 back_holds can_bury
-    ∙ taken_back_tree walked.kept 1 kept_holds can_take_back
-    ∙ digested_tree (region_sealed walked.gone 1) 1 (unlinked.open_a.change ∷ unlinked.unlink_a.change ∷ []) [] handed_holds can_digest
-    ∙ sealed_tree walked.gone 1 gone_holds can_seal
+    ∙ taken_back_tree walked.kept_world 1 kept_holds can_take_back
+    ∙ digested_tree (region_sealed walked.gone_world 1) 1 (unlinked.open_a.change ∷ unlinked.unlink_a.change ∷ []) [] handed_holds can_digest
+    ∙ sealed_tree walked.gone_world 1 gone_holds can_seal
 
 -- the burial left nothing in the account, so the kernel is as it was
-pub new_kernel : walked.renewed.kernel ≡ walked.wiped.kernel
-new_kernel = λ t. record { shared = walked.wiped.kernel.shared; capacity = walked.wiped.kernel.capacity; accounts = λ d. same d t }
+pub new_kernel : walked.renewed_world.kernel ≡ walked.wiped_world.kernel
+new_kernel = λ t. record { shared = walked.wiped_world.kernel.shared; capacity = walked.wiped_world.kernel.capacity; accounts = λ d. same d t }
   where
-    same : (d : ℕ) → walked.renewed.kernel.accounts d ≡ walked.wiped.kernel.accounts d
+    same : (d : ℕ) → walked.renewed_world.kernel.accounts d ≡ walked.wiped_world.kernel.accounts d
     same d = elim (eqb_tells d 1) [
-      | inl is ↦ ap walked.renewed.kernel.accounts is.1 ∙ sym (ap walked.wiped.kernel.accounts is.1)
-      | inr off ↦ same_if d 1 (walked.renewed.kernel.accounts 1) (walked.wiped.kernel.accounts d) off.1
+      | inl is ↦ ap walked.renewed_world.kernel.accounts is.1 ∙ sym (ap walked.wiped_world.kernel.accounts is.1)
+      | inr off ↦ same_if d 1 (walked.renewed_world.kernel.accounts 1) (walked.wiped_world.kernel.accounts d) off.1
     ]

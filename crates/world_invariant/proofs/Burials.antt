@@ -8,14 +8,14 @@ use Rattle.call_effects.specs.posix_calls.declared.descriptor.Descriptor.{Descri
 use Rattle.call_effects.proofs.posix_calls_lemmas.Sums.{same_if, there_if}
 use Rattle.call_effects.specs.file_graph.Graph.{Graph}
 use Rattle.call_effects.specs.file_graph.Units.{charge}
-use Rattle.call_effects.specs.Settled.{without_client}
+use Rattle.call_effects.specs.ClosedGraph.{without_client}
 use Rattle.call_effects.specs.Wholes.{IsSound, state_of}
-use Rattle.call_effects.specs.Known.{Agrees}
-use Rattle.world_invariant.specs.World.{Region, Wiped, Away, Status, Alive, Settled, Buried, Client, Account, World, undigested, log_of, whole, held, world_state, at, moved}
+use Rattle.call_effects.specs.Knowledge.{Agrees}
+use Rattle.world_invariant.specs.World.{Region, Wiped, Away, Status, Alive, Settled, Buried, Client, Account, World, undigested_records, log_of, whole_graph, held_descriptors, world_state, at, moved_world}
 use Rattle.world_invariant.specs.Invariant.{IsCoherent}
-use Rattle.world_invariant.specs.Opening.{knows_nothing, idle_client, idle_account}
-use Rattle.world_invariant.specs.Standing.{Stands, is_settled}
-use Rattle.world_invariant.specs.Burial.{CanDepart, departed, CanBury, client_buried, CanJoin, client_joined}
+use Rattle.world_invariant.specs.FormatWorld.{knows_nothing, idle_client, idle_account}
+use Rattle.world_invariant.specs.ClientParts.{Stands, is_settled}
+use Rattle.world_invariant.specs.Burial.{CanDepart, after_departure, CanBury, client_buried, CanJoin, client_joined}
 use Rattle.world_invariant.proofs.Idle.{none_some, idle_stands, nothing_left}
 use Rattle.world_invariant.proofs.Begins.{tree_same}
 use Rattle.world_invariant.proofs.Moved.{both_same, holds_moved, quiet, booked_same, before_less, after_less, units_moved, whole_same, held_moved, at_same}
@@ -53,10 +53,10 @@ module _ (w : World) (c : ℕ) (h : IsCoherent w) (can : CanDepart w c) where
   abbrev leaver : Client
   leaver = record (w.clients c) { knows = record (w.clients c).knows { own = λ n. None }; status = Settled }
 
-  whole_stays : whole (departed w c) ≡ whole w
+  whole_stays : whole_graph (after_departure w c) ≡ whole_graph w
   whole_stays = whole_same w c w.kernel.shared account leaver refl refl
 
-  held_is : held (departed w c) ≡ without_client (held w) c
+  held_is : held_descriptors (after_departure w c) ≡ without_client (held_descriptors w) c
   held_is = held_moved w c w.kernel.shared account leaver can.client
 
   s : Stands w.kernel.shared account c (w.clients c)
@@ -77,10 +77,10 @@ module _ (w : World) (c : ℕ) (h : IsCoherent w) (can : CanDepart w c) where
   }
 
   -- another client has open what it had
-  others : (d : ℕ) → is_client d ≡ true → d ≢ c → Agrees (w.clients d).knows (whole w) (without_client (held w) c)
+  others : (d : ℕ) → is_client d ≡ true → d ≢ c → Agrees (w.clients d).knows (whole_graph w) (without_client (held_descriptors w) c)
   others d is_d other = let known = h.agrees d is_d in record {
     client = known.client;
-    own = λ n. same_if ((w.clients d).knows.client) c None (held w (w.clients d).knows.client n) (λ same. other (sym (h.stands d is_d).number ∙ same)) ∙ known.own n;
+    own = λ n. same_if ((w.clients d).knows.client) c None (held_descriptors w (w.clients d).knows.client n) (λ same. other (sym (h.stands d is_d).number ∙ same)) ∙ known.own n;
     back = known.back;
     put_back = known.put_back;
     copies = known.copies;
@@ -88,10 +88,10 @@ module _ (w : World) (c : ℕ) (h : IsCoherent w) (can : CanDepart w c) where
     granted = known.granted;
   }
 
-  itself : Agrees leaver.knows (whole w) (without_client (held w) c)
+  itself : Agrees leaver.knows (whole_graph w) (without_client (held_descriptors w) c)
   itself = let known = h.agrees c can.client in record {
     client = known.client;
-    own = λ n. ap (λ d. without_client (held w) c d n) s.number ∙ there_if c None (held w c n);
+    own = λ n. ap (λ d. without_client (held_descriptors w) c d n) s.number ∙ there_if c None (held_descriptors w c n);
     back = known.back;
     put_back = known.put_back;
     copies = known.copies;
@@ -99,18 +99,18 @@ module _ (w : World) (c : ℕ) (h : IsCoherent w) (can : CanDepart w c) where
     granted = known.granted;
   }
 
-  pub departed_holds : IsCoherent (departed w c)
+  pub departed_holds : IsCoherent (after_departure w c)
   departed_holds = holds_moved w c w.kernel.shared account leaver h can.client
       (booked_same w c leaver h can.client)
       departed_stands
       (λ d is_d other. h.stands d is_d)
       (before_less w c leaver h can.client (λ i e. e)) (after_less w c leaver h can.client (λ i e. e))
-      (both_same (λ g o. IsSound g o) whole_stays held_is (less_open (whole w) (held w) c h.sound))
+      (both_same (λ g o. IsSound g o) whole_stays held_is (less_open (whole_graph w) (held_descriptors w) c h.sound))
       (both_same (λ g o. Agrees leaver.knows g o) whole_stays held_is itself)
       (λ d is_d other. both_same (λ g o. Agrees (w.clients d).knows g o) whole_stays held_is (others d is_d other))
 
-  pub departed_tree : world_state (departed w c) ≡ state_of (whole w) (without_client (held w) c)
-  departed_tree = ap (λ g. state_of g (held (departed w c))) whole_stays ∙ ap (λ o. state_of (whole w) o) held_is
+  pub departed_tree : world_state (after_departure w c) ≡ state_of (whole_graph w) (without_client (held_descriptors w) c)
+  departed_tree = ap (λ g. state_of g (held_descriptors (after_departure w c))) whole_stays ∙ ap (λ o. state_of (whole_graph w) o) held_is
 
 -- ---- nothing is left of a client but its mark and where its regions are
 
@@ -124,7 +124,7 @@ module _ (w : World) (c : ℕ) (other : Region) (ready : Bool) (status : Status)
   abbrev grave : Client
   grave = record (idle_client c mark) { other = other; ready = ready; status = status }
 
-  log_same : undigested empty grave ≡ log_of w c
+  log_same : undigested_records empty grave ≡ log_of w c
   log_same = nothing_left (mark - mark) ∙ sym digested
 
   had_closed : (n : ℕ) → (w.clients c).knows.own n ≡ None
@@ -139,11 +139,11 @@ module _ (w : World) (c : ℕ) (other : Region) (ready : Bool) (status : Status)
       let before : charge w.kernel.shared + sum_up_to 8 (λ d. (w.kernel.accounts d).units) ≤ w.kernel.capacity = h.booked.fits in
       omega (arith, sums, before)
 
-  nothing_known : Agrees (knows_nothing c) (whole w) (held w)
+  nothing_known : Agrees (knows_nothing c) (whole_graph w) (held_descriptors w)
   nothing_known = record {
     client = is_c;
     own = λ n. ap (λ b. cond b ((w.clients c).knows.own n) None) is_c ∙ had_closed n;
-    back = whole w;
+    back = whole_graph w;
     put_back = λ i. inl refl;
     copies = λ i copy e. none_some copy e;
     blocks = λ i b bytes e. none_some bytes e;
@@ -164,7 +164,7 @@ module _ (w : World) (c : ℕ) (other : Region) (ready : Bool) (status : Status)
     pending = λ b e. none_some b e;
   }
 
-  emptied_holds : IsCoherent (moved w c w.kernel.shared empty grave)
+  emptied_holds : IsCoherent (moved_world w c w.kernel.shared empty grave)
   emptied_holds = quiet w c w.kernel.shared empty grave h is_c refl log_same own_same
       (booked_fewer w c empty grave h is_c (λ i e. absurd (false≢true e)) fits)
       grave_stands
@@ -172,7 +172,7 @@ module _ (w : World) (c : ℕ) (other : Region) (ready : Bool) (status : Status)
       (λ d is_d off i e. refl)
       nothing_known
 
-  emptied_tree : world_state (moved w c w.kernel.shared empty grave) ≡ world_state w
+  emptied_tree : world_state (moved_world w c w.kernel.shared empty grave) ≡ world_state w
   emptied_tree = tree_same w c w.kernel.shared empty grave log_same refl own_same
 
 -- ---- buried

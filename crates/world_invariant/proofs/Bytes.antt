@@ -2,9 +2,10 @@
 use Rattle.std.proofs.Common.{◌≡◌, ◌≢◌, ℕ, cond, Bool, true, false, List, [], ◌∷◌, length, nat_lt, refl, Some, None, Option, Ok, Err, Result, ap, ◌∙◌}
 use Rattle.std.specs.FinMap as fin
 use Rattle.call_effects.specs.posix_calls.Tree.{Own}
-use Rattle.call_effects.specs.posix_calls.Query.{Seen, File, Dir, Query, Gives, Refuses, IsDir, Look, Range, ◌>>=◌, Part, Found, Known, Unknown, run_part}
-use Rattle.call_effects.specs.posix_calls.Walk.{Place, refuse, said, entries_at, size_at, names_at, kind_at, directory, directory_if, walk, leads_to, there, root_place}
-use Rattle.call_effects.specs.posix_calls.Decide.{opened, number_or, empties, open_there, write_at, replacing, replacing_dir, renamed, described, open_path, close, pread, pwrite, truncate, mkdir, rmdir, link, unlink, rename, list_path, stat, decide}
+use Rattle.call_effects.specs.posix_calls.Query.{Seen, File, Dir, Query, Gives, Refuses, IsDir, Look, Range, ◌>>=◌}
+use Rattle.call_effects.specs.posix_calls.Part.{Part, Found, Known, Unknown, run_part}
+use Rattle.call_effects.specs.posix_calls.Walk.{Place, refuse, read_or_error, entries_at, size_at, names_at, kind_at, directory, directory_if, walk, leads_to, there, root_place}
+use Rattle.call_effects.specs.posix_calls.Decide.{open_inode, number_or, empties, open_there, write_at, replaced_at, replacing_dir, rename_to, node_description, open_path, close, pread, pwrite, truncate, mkdir, rmdir, link, unlink, rename, list_path, stat, decide}
 use Rattle.call_effects.specs.posix_calls.declared.call.Call.{Call}
 use Rattle.call_effects.specs.posix_calls.declared.call.Call.TheVariants as call
 use Rattle.call_effects.specs.posix_calls.declared.call.Flags.{Flags}
@@ -17,7 +18,7 @@ use Rattle.call_effects.specs.posix_calls.declared.operation.Operation.{Operatio
 use Rattle.call_effects.specs.posix_calls.declared.operation.Operation.TheVariants.{Tell, CloseFile}
 use Rattle.call_effects.specs.posix_calls.declared.operation.Replaced.TheVariants.{OldFile}
 use Rattle.call_effects.specs.file_graph.declared.effect.Effect.{Effect}
-use Rattle.call_effects.specs.Effects.{recounted}
+use Rattle.call_effects.specs.Effects.{recounted_file}
 use Rattle.call_effects.specs.Records.{effects_asked, names_if}
 use Rattle.call_effects.proofs.KnownAsking.{bind_known}
 
@@ -70,7 +71,7 @@ kinds : {A : Type 0} (i : ℕ) (f : Option Bool → Query A) → ((o : Option Bo
 unfolding AsksNone
 kinds i f rest = rest
 
-on_said : {A : Type 0} (r : Result A Errno) → AsksNone (said r)
+on_said : {A : Type 0} (r : Result A Errno) → AsksNone (read_or_error r)
 on_said (Ok x) = gives x
 on_said (Err e) = refuses _ e
 
@@ -114,7 +115,7 @@ on_number : (o : Option ℕ) → AsksNone (number_or o)
 on_number None = refuses _ _
 on_number (Some n) = gives n
 
-on_opened : (test : Descriptor → Bool) (o : Option Descriptor) → AsksNone (opened test o)
+on_opened : (test : Descriptor → Bool) (o : Option Descriptor) → AsksNone (open_inode test o)
 on_opened test None = refuses _ _
 on_opened test (Some d) = elim (test d) as (λ b. AsksNone (cond b (Gives d.inode) (Refuses errno.BadDescriptor))) [ true ↦ gives _ | false ↦ refuses _ _ ]
 
@@ -161,7 +162,7 @@ on_link : (old new : List ℕ) → AsksNone (link old new)
 unfolding link
 on_link old new = on _ _ (on_said _) (λ old_names. on _ _ (on_said _) (λ new_names. on _ _ (on_walk 1 [] old_names) (λ from. on _ _ (on_there _) (λ i. on _ _ (on_kind _) (λ is_dir. on _ _ (on_refuse _ _) (λ u. on _ _ (on_walk 1 [] new_names) (λ to. on _ _ (on_refuse _ _) (λ v. on _ _ (on_names i) (λ names. on _ _ (on_refuse _ _) (λ t. on _ _ (on_refuse _ _) (λ s. gives _)))))))))))
 
-on_replacing : (from to : Place) (old_dir : Bool) (o : Option ℕ) → AsksNone (replacing from to old_dir o)
+on_replacing : (from to : Place) (old_dir : Bool) (o : Option ℕ) → AsksNone (replaced_at from to old_dir o)
 on_replacing from to old_dir None = on _ _ (on_refuse _ _) (λ u. gives _)
 on_replacing from to old_dir (Some j) = on _ _ (on_kind (Some j)) (λ new_dir. on _ _ (on_refuse _ _) (λ u. on _ _ (on_refuse _ _) (λ v. by_test new_dir)))
   where
@@ -173,7 +174,7 @@ on_rename : (old new : List ℕ) → AsksNone (rename old new)
 unfolding rename
 on_rename old new = on _ _ (on_said _) (λ old_names. on _ _ (on_said _) (λ new_names. on _ _ (on_refuse _ _) (λ u. on _ _ (on_walk 1 [] old_names) (λ from. on _ _ (on_there _) (λ i. on _ _ (on_walk 1 [] new_names) (λ to. on _ _ (on_refuse _ _) (λ v. moves from to i (leads_to i to.inode))))))))
   where
-    moves : (from to : Place) (i : ℕ) (same : Bool) → AsksNone (cond same (Gives (Tell replies.Done)) (renamed from to i))
+    moves : (from to : Place) (i : ℕ) (same : Bool) → AsksNone (cond same (Gives (Tell replies.Done)) (rename_to from to i))
     moves from to i true = gives _
     moves from to i false = on _ _ (on_kind _) (λ old_dir. on _ _ (on_replacing from to old_dir to.inode) (λ replaced. gives _))
 
@@ -181,7 +182,7 @@ on_list : (path : List ℕ) → AsksNone (list_path path)
 unfolding list_path
 on_list path = on _ _ (on_said _) (λ names. on _ _ (on_walk 1 [] names) (λ place. on _ _ (on_there _) (λ i. on _ _ (on_kind _) (λ is_dir. on _ _ (on_refuse _ _) (λ u. on _ _ (on_entries i) (λ entries. gives _))))))
 
-on_described : (s : Option Seen) → AsksNone (described s)
+on_described : (s : Option Seen) → AsksNone (node_description s)
 on_described None = refuses _ _
 on_described (Some (File names size)) = gives _
 on_described (Some (Dir entries)) = gives _
@@ -193,7 +194,7 @@ on_stat path = on _ _ (on_said _) (λ names. on _ _ (on_walk 1 [] names) (λ pla
 -- ---- a call that has a record
 
 on_effects : (new : ℕ) (operation : Operation) → AsksNone (effects_asked new operation)
-on_effects new operation = on _ _ (on_count (recounted operation)) (λ names. gives _)
+on_effects new operation = on _ _ (on_count (recounted_file operation)) (λ names. gives _)
   where
     on_count : (o : Option ℕ) → AsksNone (names_if o)
     on_count None = gives _

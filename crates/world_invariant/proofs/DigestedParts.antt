@@ -8,8 +8,8 @@ use Rattle.call_effects.specs.file_graph.Graph.{Graph}
 use Rattle.call_effects.specs.log_record.declared.format.Record.{Record}
 use Rattle.world_invariant.specs.Logs.{after_records, is_written, is_made_in, IsMadeOnce, units_in, IsPaid, ArePaid, Keeps, NamesNone, NameNone, KeepLimits}
 use Rattle.world_invariant.specs.Limits.{IsWithin}
-use Rattle.world_invariant.specs.World.{Client, Account, undigested, records_of, change_of}
-use Rattle.world_invariant.specs.Standing.{Stands}
+use Rattle.world_invariant.specs.World.{Client, Account, undigested_records, records_of, change_of}
+use Rattle.world_invariant.specs.ClientParts.{Stands}
 use Rattle.world_invariant.specs.Machine.{account_after}
 use Rattle.world_invariant.proofs.Records.{either, both, rest_written, units_append}
 use Rattle.world_invariant.proofs.Made.{front_unmade, rest_made, rest_unmade, once_rest, once_apart, made_append}
@@ -46,7 +46,7 @@ module _ (g : Graph) (a : Account) (c : ℕ) (p : Client) (first rest : List Rec
       let parts : length (drop (a.mark - p.past) p.sealed) ≡ length first + length rest = ap length split ∙ length-append first rest in
       omega (arith, low, high, dropped, parts)
 
-  pub log_was : undigested a p ≡ first ++ later
+  pub log_was : undigested_records a p ≡ first ++ later
   log_was = ap (λ rs. rs ++ p.current) split ∙ append_assoc first rest p.current
 
   dropped_now : drop ((a.mark + length first) - p.past) p.sealed ≡ rest
@@ -59,7 +59,7 @@ module _ (g : Graph) (a : Account) (c : ℕ) (p : Client) (first rest : List Rec
       moved_on : (m k n : ℕ) → k ≤ m → (m + n) - k ≡ (m - k) + n
       moved_on m k n low = omega (arith, low)
 
-  pub log_is : undigested after p ≡ later
+  pub log_is : undigested_records after p ≡ later
   log_is = ap (λ rs. rs ++ p.current) dropped_now
 
   pub all_was : records_of a p ≡ first ++ (later ++ change_of p.begun)

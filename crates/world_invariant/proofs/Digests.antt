@@ -7,11 +7,11 @@ use Rattle.call_effects.specs.file_graph.Graph.{Graph}
 use Rattle.call_effects.specs.file_graph.Units.{charge}
 use Rattle.call_effects.specs.log_record.declared.format.Record.{Record}
 use Rattle.call_effects.specs.Wholes.{IsSound, state_of}
-use Rattle.call_effects.specs.Known.{Agrees}
+use Rattle.call_effects.specs.Knowledge.{Agrees}
 use Rattle.world_invariant.specs.Logs.{after_records, is_written, is_made_in, units_in, IsPaid, Keeps}
 use Rattle.world_invariant.specs.Limits.{IsWithin}
-use Rattle.world_invariant.specs.World.{Client, Account, World, undigested, records_of, change_of, log_of, all_of, whole, held, world_state, at}
-use Rattle.world_invariant.specs.Standing.{IsBooked, Stands}
+use Rattle.world_invariant.specs.World.{Client, Account, World, undigested_records, records_of, change_of, log_of, all_of, whole_graph, held_descriptors, world_state, at}
+use Rattle.world_invariant.specs.ClientParts.{IsBooked, Stands}
 use Rattle.world_invariant.specs.Invariant.{IsCoherent}
 use Rattle.world_invariant.specs.KernelSteps.{CanDigest, records_digested}
 use Rattle.world_invariant.proofs.Records.{either, both, records_stay, front_unwritten}
@@ -48,7 +48,7 @@ module _ (w : World) (c : ℕ) (first rest : List Record) (h : IsCoherent w) (ca
   log_was : log_of w c ≡ first ++ later
   log_was = part.log_was w.kernel.shared account c p first rest s can.split
 
-  log_is : undigested after p ≡ later
+  log_is : undigested_records after p ≡ later
   log_is = part.log_is w.kernel.shared account c p first rest s can.split
 
   all_was : records_of account p ≡ first ++ (later ++ change_of p.begun)
@@ -56,14 +56,14 @@ module _ (w : World) (c : ℕ) (first rest : List Record) (h : IsCoherent w) (ca
 
   -- ---- the whole stays
 
-  pub digest_keeps : whole (records_digested w c first) ≡ whole w
+  pub digest_keeps : whole_graph (records_digested w c first) ≡ whole_graph w
   digest_keeps = λ t i. digested_whole (log_of w) (log_of (records_digested w c first)) w.kernel.shared c first later can.client (apart_logs w h) log_was (log_there w c shared after p ∙ log_is) (log_else w c shared after p) i t
 
-  open_same : held (records_digested w c first) ≡ held w
+  open_same : held_descriptors (records_digested w c first) ≡ held_descriptors w
   open_same = held_same w c shared after p refl
 
   pub digested_tree : world_state (records_digested w c first) ≡ world_state w
-  digested_tree = ap (λ g. state_of g (held (records_digested w c first))) digest_keeps ∙ ap (λ o. state_of (whole w) o) open_same
+  digested_tree = ap (λ g. state_of g (held_descriptors (records_digested w c first))) digest_keeps ∙ ap (λ o. state_of (whole_graph w) o) open_same
 
   -- ---- units
 

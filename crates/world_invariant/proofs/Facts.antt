@@ -8,12 +8,12 @@ use Rattle.call_effects.specs.posix_calls.declared.operation.Operation.TheVarian
 use Rattle.call_effects.specs.posix_calls.declared.operation.Replaced.TheVariants.{Nothing, OldFile, OldDir}
 use Rattle.call_effects.specs.file_graph.declared.effect.Effect.{Effect}
 use Rattle.call_effects.specs.log_record.declared.format.Record.{Record}
-use Rattle.call_effects.specs.Effects.{effects_by, stored_at, recounted}
-use Rattle.call_effects.specs.Known.{IsPlanned}
+use Rattle.call_effects.specs.Effects.{effects_by, stored_at, recounted_file}
+use Rattle.call_effects.specs.Knowledge.{IsPlanned}
 use Rattle.call_effects.proofs.KnownSteps.{planned_answer}
 use Rattle.world_invariant.specs.Logs.{is_written, is_made, LogsAreApart, Keeps}
 use Rattle.world_invariant.specs.Limits.{IsWithin, AreWithin}
-use Rattle.world_invariant.specs.World.{World, change_of, has_lease, log_of, all_of, whole, held}
+use Rattle.world_invariant.specs.World.{World, change_of, has_lease, log_of, all_of, whole_graph, held_descriptors}
 use Rattle.world_invariant.specs.Invariant.{IsCoherent}
 use Rattle.world_invariant.proofs.Records.{either, both, in_rest, still_false, front_written}
 use Rattle.world_invariant.proofs.Owners.{IsOwner, owner_of, whole_at}
@@ -73,7 +73,7 @@ module _ (w : World) (h : IsCoherent w) where
   owned c i is_c has = record { client = is_c; others = λ d is_d other. still_false (is_written i (all_of w d)) (is_written i (log_of w d)) (λ e. front_written i (log_of w d) (change_of (w.clients d).begun) e) (held_alone c d i is_c is_d other has) }
 
   -- the whole is within the limits
-  pub whole_within : AreWithin (whole w)
+  pub whole_within : AreWithin (whole_graph w)
   whole_within i =
       let o = owner_of (log_of w) i apart_logs in
       let s = h.stands o.0 o.1.client in
@@ -83,8 +83,8 @@ module _ (w : World) (h : IsCoherent w) where
   -- what a planned call makes is a number that its client was granted
   pub makes_granted : (c : ℕ) → is_client c ≡ true → (call : Call) (new : ℕ) (operation : Operation) (es : List Effect) → IsPlanned (w.clients c).knows call new operation es → (i : ℕ) → is_made i es ≡ true → (makes operation ≡ true) × (i ≡ new)
   makes_granted c is_c call new operation es plan i e =
-      let is = (planned_answer (w.clients c).knows (whole w) (held w) call new operation es h.sound (h.agrees c is_c) plan).1 in
-      made_is_new (stored_at (whole w) (recounted operation)) new i operation (subst (λ es. is_made i es ≡ true) (sym is) e)
+      let is = (planned_answer (w.clients c).knows (whole_graph w) (held_descriptors w) call new operation es h.sound (h.agrees c is_c) plan).1 in
+      made_is_new (stored_at (whole_graph w) (recounted_file operation)) new i operation (subst (λ es. is_made i es ≡ true) (sym is) e)
 
   -- a number that a client was granted no other was
   pub granted_alone : (c d i : ℕ) → is_client c ≡ true → is_client d ≡ true → d ≢ c → (w.clients c).knows.granted i ≡ true → (w.clients d).knows.granted i ≡ false

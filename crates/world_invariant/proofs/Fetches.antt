@@ -5,7 +5,7 @@ use Rattle.std.proofs.lemmas.Bool.{eqb-true}
 use Rattle.std.proofs.lemmas.Bool.Decides.{eqb_tells}
 use Rattle.call_effects.specs.posix_calls.Operations.{is_client}
 use Rattle.call_effects.specs.posix_calls.Decide.{decide}
-use Rattle.call_effects.specs.posix_calls.Query.{Known, run_part}
+use Rattle.call_effects.specs.posix_calls.Part.{Known, run_part}
 use Rattle.call_effects.specs.posix_calls.declared.call.Call.{Call}
 use Rattle.call_effects.specs.posix_calls.declared.operation.Operation.{Operation}
 use Rattle.call_effects.specs.file_graph.Graph.{FileBody, file_bytes}
@@ -13,15 +13,15 @@ use Rattle.call_effects.specs.file_graph.declared.effect.Effect.{Effect}
 use Rattle.call_effects.specs.Blocks.{block_of, block_at}
 use Rattle.call_effects.specs.NodeView.{NodeView, view_of_node, view_at}
 use Rattle.call_effects.specs.Records.{effects_asked}
-use Rattle.call_effects.specs.Known.{Knowledge, Agrees, HasCopies, IsPlanned, in_run, part_of, with_copy, with_blocks}
+use Rattle.call_effects.specs.Knowledge.{Knowledge, Agrees, HasCopies, IsPlanned, in_run, part_of, with_copy, with_blocks}
 use Rattle.call_effects.proofs.Changes.{fair_of}
 use Rattle.call_effects.proofs.KnownMissing.{stays_known}
 use Rattle.call_effects.proofs.PutBack.{stands_back}
 use Rattle.call_effects.proofs.Served.{copy_agrees, blocks_agree}
-use Rattle.world_invariant.specs.World.{Begun, Client, World, has_lease, log_of, whole, held, world_state}
-use Rattle.world_invariant.specs.Standing.{IsPending, Stands}
+use Rattle.world_invariant.specs.World.{Begun, Client, World, has_lease, log_of, whole_graph, held_descriptors, world_state}
+use Rattle.world_invariant.specs.ClientParts.{IsPending, Stands}
 use Rattle.world_invariant.specs.Invariant.{IsCoherent}
-use Rattle.world_invariant.specs.LeaseSteps.{own_view, CanFetch, fetched, CanRead, blocks_fetched}
+use Rattle.world_invariant.specs.LeaseSteps.{own_view, CanFetch, after_fetch, CanRead, blocks_fetched}
 use Rattle.world_invariant.proofs.Owners.{whole_at}
 use Rattle.world_invariant.proofs.Idle.{none_some}
 use Rattle.world_invariant.proofs.Facts.{owned}
@@ -29,18 +29,18 @@ use Rattle.world_invariant.proofs.Begins.{tree_same}
 use Rattle.world_invariant.proofs.Moved.{quiet, booked_same, before_less, after_less}
 
 -- a planned call stays one with more copies
-pub still_planned : (w : World) (h : IsCoherent w) (k more : Knowledge) → Agrees k (whole w) (held w) → Agrees more (whole w) (held w) → HasCopies more k → more.own ≡ k.own → ((i : ℕ) → k.granted i ≡ true → more.granted i ≡ true)
+pub still_planned : (w : World) (h : IsCoherent w) (k more : Knowledge) → Agrees k (whole_graph w) (held_descriptors w) → Agrees more (whole_graph w) (held_descriptors w) → HasCopies more k → more.own ≡ k.own → ((i : ℕ) → k.granted i ≡ true → more.granted i ≡ true)
     → (call : Call) (new : ℕ) (operation : Operation) (es : List Effect) → IsPlanned k call new operation es → IsPlanned more call new operation es
 still_planned w h k more less agrees all own granted call new operation es plan =
-    let fair = fair_of (whole w) (held w) h.sound in
+    let fair = fair_of (whole_graph w) (held_descriptors w) h.sound in
     record {
-      comes = subst (λ o. run_part (part_of more) (decide o call) ≡ Known (Ok operation)) (sym own) (stays_known k more all (whole w) (held w) fair less agrees (decide k.own call) (Ok operation) plan.comes);
-      effects = stays_known k more all (whole w) (held w) fair less agrees (effects_asked new operation) (Ok es) plan.effects;
+      comes = subst (λ o. run_part (part_of more) (decide o call) ≡ Known (Ok operation)) (sym own) (stays_known k more all (whole_graph w) (held_descriptors w) fair less agrees (decide k.own call) (Ok operation) plan.comes);
+      effects = stays_known k more all (whole_graph w) (held_descriptors w) fair less agrees (effects_asked new operation) (Ok es) plan.effects;
       number = λ m. granted new (plan.number m);
     }
 
 module _ (w : World) (c i : ℕ) (h : IsCoherent w) (is_c : is_client c ≡ true) (leased : has_lease (w.clients c) i ≡ true) where
-  pub view_is : whole w i ≡ own_view w c i
+  pub view_is : whole_graph w i ≡ own_view w c i
   view_is = whole_at (log_of w) w.kernel.shared c i (owned w h c i is_c leased)
 
 module _ (w : World) (c i : ℕ) (h : IsCoherent w) (can : CanFetch w c i) where
@@ -56,14 +56,14 @@ module _ (w : World) (c i : ℕ) (h : IsCoherent w) (can : CanFetch w c i) where
   s : Stands w.kernel.shared (w.kernel.accounts c) c (w.clients c)
   s = h.stands c can.client
 
-  seen : whole w i ≡ own_view w c i
+  seen : whole_graph w i ≡ own_view w c i
   seen = view_is w c i h can.client can.leased
 
-  same_copy : with_copy k i (view_at (whole w) i) ≡ more
+  same_copy : with_copy k i (view_at (whole_graph w) i) ≡ more
   same_copy = ap (λ o. with_copy k i (option_map view_of_node o)) seen
 
-  agrees : Agrees more (whole w) (held w)
-  agrees = subst (λ x. Agrees x (whole w) (held w)) same_copy (copy_agrees k (whole w) (held w) (h.agrees c can.client) i (λ none. can.clear (sym seen ∙ none)))
+  agrees : Agrees more (whole_graph w) (held_descriptors w)
+  agrees = subst (λ x. Agrees x (whole_graph w) (held_descriptors w)) same_copy (copy_agrees k (whole_graph w) (held_descriptors w) (h.agrees c can.client) i (λ none. can.clear (sym seen ∙ none)))
 
   pending : (b : Begun) → (w.clients c).begun ≡ Some b → IsPending (w.clients c).status more (w.clients c).pins b
   pending b e = elim can.missing [
@@ -87,12 +87,12 @@ module _ (w : World) (c i : ℕ) (h : IsCoherent w) (can : CanFetch w c i) where
     | inr off ↦ s.leased.copies j copy (sym (ap (λ t. cond t (Some (view_at (own_view w c) i)) (k.copies j)) off.0) ∙ e)
   ]
 
-  pub fetched_holds : IsCoherent (fetched w c i)
+  pub fetched_holds : IsCoherent (after_fetch w c i)
   fetched_holds = quiet w c w.kernel.shared (w.kernel.accounts c) p h can.client refl refl refl (booked_same w c p h can.client)
       (record { number = s.number; rests = s.rests; marked = s.marked; starts = s.starts; logged = s.logged; units = s.units; numbered = s.numbered; leased = record { copies = held_copy; blocks = s.leased.blocks }; pinned = s.pinned; pending = pending })
       (before_less w c p h can.client (λ j e. e)) (after_less w c p h can.client (λ j e. e)) agrees
 
-  pub fetched_tree : world_state (fetched w c i) ≡ world_state w
+  pub fetched_tree : world_state (after_fetch w c i) ≡ world_state w
   fetched_tree = tree_same w c w.kernel.shared (w.kernel.accounts c) p refl refl refl
 
 module _ (w : World) (c i first count names : ℕ) (bytes : List ℕ) (h : IsCoherent w) (can : CanRead w c i names bytes) where
@@ -108,11 +108,11 @@ module _ (w : World) (c i first count names : ℕ) (bytes : List ℕ) (h : IsCoh
   stood : Stands w.kernel.shared (w.kernel.accounts c) c (w.clients c)
   stood = h.stands c can.client
 
-  file_is : whole w i ≡ Some (record { names = names; body = FileBody bytes })
+  file_is : whole_graph w i ≡ Some (record { names = names; body = FileBody bytes })
   file_is = view_is w c i h can.client can.leased ∙ can.file
 
-  now_agrees : Agrees knows (whole w) (held w)
-  now_agrees = blocks_agree knew (whole w) (held w) (h.agrees c can.client) i first count names bytes file_is
+  now_agrees : Agrees knows (whole_graph w) (held_descriptors w)
+  now_agrees = blocks_agree knew (whole_graph w) (held_descriptors w) (h.agrees c can.client) i first count names bytes file_is
 
   -- blocks that the client had are those that it got
   kept_block : (j b : ℕ) (t : Bool) (block : List ℕ) → (j == i && in_run first count b) ≡ t → knew.blocks j b ≡ Some block → cond t (Some (block_of b bytes)) (knew.blocks j b) ≡ Some block
@@ -120,7 +120,7 @@ module _ (w : World) (c i first count names : ℕ) (bytes : List ℕ) (h : IsCoh
   kept_block j b true block test there =
       let known = h.agrees c can.client in
       let same : j ≡ i = eqb-true j i (first_of (j == i) (in_run first count b) test) in
-      let back : known.back i ≡ Some (record { names = names; body = FileBody bytes }) = stands_back (whole w) known.back known.put_back i (record { names = names; body = FileBody bytes }) file_is in
+      let back : known.back i ≡ Some (record { names = names; body = FileBody bytes }) = stands_back (whole_graph w) known.back known.put_back i (record { names = names; body = FileBody bytes }) file_is in
       sym (ap (λ o. option_map (block_of b) (file_bytes o)) back) ∙ ap (λ x. block_at known.back x b) (sym same) ∙ known.blocks j b block there
     where
       first_of : (x y : Bool) → (x && y) ≡ true → x ≡ true

@@ -7,8 +7,8 @@ use Rattle.call_effects.specs.file_graph.Units.{charge}
 use Rattle.call_effects.specs.Fits.{IsNew}
 use Rattle.call_effects.proofs.Served.{less_agrees}
 use Rattle.world_invariant.specs.Logs.{is_made_in, units_in}
-use Rattle.world_invariant.specs.World.{Client, Account, World, records_of, log_of, whole, held, world_state, at}
-use Rattle.world_invariant.specs.Standing.{Stands}
+use Rattle.world_invariant.specs.World.{Client, Account, World, records_of, log_of, whole_graph, held_descriptors, world_state, at}
+use Rattle.world_invariant.specs.ClientParts.{Stands}
 use Rattle.world_invariant.specs.Invariant.{IsCoherent}
 use Rattle.world_invariant.specs.LeaseSteps.{also, without}
 use Rattle.world_invariant.specs.BookSteps.{HasRoom, IsUnbooked, CanReturn, CanUnpin}
@@ -143,7 +143,7 @@ module _ (w : World) (c i : ℕ) (h : IsCoherent w) (is_c : is_client c ≡ true
   number_unbooked_tree = tree_same w c w.kernel.shared without_it q refl refl refl
 
   -- a number that is on its way is one of no node of the whole
-  coming_new : IsOnItsWay w c i → IsNew (whole w) i
+  coming_new : IsOnItsWay w c i → IsNew (whole_graph w) i
   coming_new can = record {
     low = (h.booked.range c i is_c can.booked).0;
     high = (h.booked.range c i is_c can.booked).1;
@@ -169,7 +169,7 @@ module _ (w : World) (c i : ℕ) (h : IsCoherent w) (is_c : is_client c ≡ true
         put_back = known.put_back;
         copies = known.copies;
         blocks = known.blocks;
-        granted = λ j e. of_also (IsNew (whole w)) q.knows.granted i j e (coming_new can) (λ has. known.granted j has);
+        granted = λ j e. of_also (IsNew (whole_graph w)) q.knows.granted i j e (coming_new can) (λ has. known.granted j has);
       })
 
   pub number_received_tree : world_state (number_received w c i) ≡ world_state w
@@ -180,7 +180,7 @@ module _ (w : World) (c i : ℕ) (h : IsCoherent w) (is_c : is_client c ≡ true
       quiet w c w.kernel.shared b without_number h is_c refl refl refl (booked_same w c without_number h is_c)
       (record { number = t.number; rests = t.rests; marked = t.marked; starts = t.starts; logged = t.logged; units = t.units; numbered = record { made = t.numbered.made; once = t.numbered.once; granted = λ j e. t.numbered.granted j (of_without q.knows.granted i j e).1; unused = λ j e. t.numbered.unused j (of_without q.knows.granted i j e).1 }; leased = record { copies = t.leased.copies; blocks = t.leased.blocks }; pinned = t.pinned; pending = λ x is. none_some x (sym can.idle ∙ is) })
       (before_less w c without_number h is_c (λ j e. e)) (after_less w c without_number h is_c (λ j e. e))
-      (less_agrees q.knows (whole w) (held w) (h.agrees c is_c) without_number.knows (record { client = refl; own = λ n. refl; copies = record { nodes = λ j copy e. e; blocks = λ j b bytes e. e }; granted = λ j e. (of_without q.knows.granted i j e).1 }))
+      (less_agrees q.knows (whole_graph w) (held_descriptors w) (h.agrees c is_c) without_number.knows (record { client = refl; own = λ n. refl; copies = record { nodes = λ j copy e. e; blocks = λ j b bytes e. e }; granted = λ j e. (of_without q.knows.granted i j e).1 }))
 
   pub number_sent_tree : world_state (number_sent w c i) ≡ world_state w
   number_sent_tree = tree_same w c w.kernel.shared b without_number refl refl refl

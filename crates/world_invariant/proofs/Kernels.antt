@@ -8,7 +8,7 @@ use Rattle.call_effects.specs.file_graph.Graph.{Graph}
 use Rattle.call_effects.specs.file_graph.Units.{charge}
 use Rattle.world_invariant.specs.Limits.{AreWithin}
 use Rattle.world_invariant.specs.World.{Account, Kernel, at}
-use Rattle.world_invariant.specs.Standing.{IsBooked}
+use Rattle.world_invariant.specs.ClientParts.{IsBooked}
 use Rattle.world_invariant.specs.Machine.{kernel_with}
 use Rattle.world_invariant.proofs.Records.{either, both}
 use Rattle.world_invariant.proofs.Owners.{is_low, is_high}

@@ -4,7 +4,8 @@ use Rattle.std.specs.Prelude.{◌&&◌, not}
 use Rattle.std.proofs.lemmas.Bool.{false≢true}
 use Rattle.std.proofs.lemmas.Bool.Decides.{eqb_tells}
 use Rattle.call_effects.specs.posix_calls.Tree.{Own, Descriptors, with_own}
-use Rattle.call_effects.specs.posix_calls.Operations.{is_client, makes, own_after, opens}
+use Rattle.call_effects.specs.posix_calls.Operations.{is_client, makes, own_after}
+use Rattle.call_effects.specs.posix_calls.Kinds.{opens}
 use Rattle.call_effects.specs.posix_calls.declared.call.Call.{Call}
 use Rattle.call_effects.specs.posix_calls.declared.descriptor.Descriptor.{Descriptor}
 use Rattle.call_effects.specs.posix_calls.declared.operation.Operation.{Operation}
@@ -16,12 +17,12 @@ use Rattle.call_effects.specs.file_graph.declared.effect.Effect.{Effect}
 use Rattle.call_effects.specs.Blocks.{block_after, block_acted}
 use Rattle.call_effects.specs.NodeView.{view_after}
 use Rattle.call_effects.specs.Wholes.{IsSound}
-use Rattle.call_effects.specs.Known.{Knowledge, Agrees, IsPlanned, knows_after}
+use Rattle.call_effects.specs.Knowledge.{Knowledge, Agrees, IsPlanned, knows_after}
 use Rattle.call_effects.proofs.Blocks.{mapped}
 use Rattle.call_effects.proofs.KnownSteps.{planned_sound}
 use Rattle.call_effects.proofs.KnownAfter.{agrees_after, other_agrees}
-use Rattle.world_invariant.specs.World.{World, has_lease, whole, held}
-use Rattle.world_invariant.specs.Standing.{IsLeased, IsPinned, OpensPinned}
+use Rattle.world_invariant.specs.World.{World, has_lease, whole_graph, held_descriptors}
+use Rattle.world_invariant.specs.ClientParts.{IsLeased, IsPinned, OpensPinned}
 use Rattle.world_invariant.specs.Invariant.{IsCoherent}
 use Rattle.world_invariant.proofs.Records.{either, both, or_first, or_rest, or_joined}
 use Rattle.world_invariant.proofs.Idle.{none_some}
@@ -102,19 +103,19 @@ module _ (w : World) (c : ℕ) (h : IsCoherent w) (is_c : is_client c ≡ true) 
   k = (w.clients c).knows
 
   abbrev after : Graph
-  after = after_effects (whole w) es
+  after = after_effects (whole_graph w) es
 
   abbrev opened : Descriptors
-  opened = with_own (held w) c (own_after new k.own operation)
+  opened = with_own (held_descriptors w) c (own_after new k.own operation)
 
   numbered : k.client ≡ c
   numbered = (h.stands c is_c).number
 
   pub planned_sound_after : IsSound after opened
-  planned_sound_after = subst (λ d. IsSound after (with_own (held w) d (own_after new k.own operation))) numbered (planned_sound k (whole w) (held w) h.sound (h.agrees c is_c) call new operation es planned)
+  planned_sound_after = subst (λ d. IsSound after (with_own (held_descriptors w) d (own_after new k.own operation))) numbered (planned_sound k (whole_graph w) (held_descriptors w) h.sound (h.agrees c is_c) call new operation es planned)
 
   pub own_agrees_after : Agrees (knows_after k new operation es) after opened
-  own_agrees_after = subst (λ d. Agrees (knows_after k new operation es) after (with_own (held w) d (own_after new k.own operation))) numbered (agrees_after k (whole w) (held w) call new operation es h.sound (h.agrees c is_c) planned)
+  own_agrees_after = subst (λ d. Agrees (knows_after k new operation es) after (with_own (held_descriptors w) d (own_after new k.own operation))) numbered (agrees_after k (whole_graph w) (held_descriptors w) call new operation es h.sound (h.agrees c is_c) planned)
 
   -- what another holds is not touched
   beside : (d i : ℕ) → is_client d ≡ true → d ≢ c → has_lease (w.clients d) i ≡ true → is_among i (touches es) ≡ false
@@ -125,8 +126,8 @@ module _ (w : World) (c : ℕ) (h : IsCoherent w) (is_c : is_client c ≡ true) 
 
   pub others_agree_after : (d : ℕ) → is_client d ≡ true → d ≢ c → Agrees (w.clients d).knows after opened
   others_agree_after d is_d other =
-      subst (λ e. Agrees (w.clients d).knows after (with_own (held w) e (own_after new k.own operation))) numbered
-      (other_agrees k (whole w) (held w) call new operation es h.sound (h.agrees c is_c) planned (w.clients d).knows (h.agrees d is_d)
+      subst (λ e. Agrees (w.clients d).knows after (with_own (held_descriptors w) e (own_after new k.own operation))) numbered
+      (other_agrees k (whole_graph w) (held_descriptors w) call new operation es h.sound (h.agrees c is_c) planned (w.clients d).knows (h.agrees d is_d)
       (λ same. other (sym (h.stands d is_d).number ∙ same ∙ numbered))
       (λ i copy e. beside d i is_d other ((h.stands d is_d).leased.copies i copy e))
       (λ i b bytes e. beside d i is_d other ((h.stands d is_d).leased.blocks i b bytes e))

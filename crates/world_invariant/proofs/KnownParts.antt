@@ -3,9 +3,9 @@ use Rattle.std.proofs.Common.{◌≡◌, ◌≢◌, inl, inr, ℕ, cond, true, f
 use Rattle.std.proofs.lemmas.Bool.Decides.{eqb_tells}
 use Rattle.call_effects.specs.posix_calls.Operations.{is_client}
 use Rattle.call_effects.specs.Fits.{IsNew}
-use Rattle.call_effects.specs.Known.{Agrees}
+use Rattle.call_effects.specs.Knowledge.{Agrees}
 use Rattle.world_invariant.specs.Logs.{is_made_in}
-use Rattle.world_invariant.specs.World.{World, log_of, whole, held}
+use Rattle.world_invariant.specs.World.{World, log_of, whole_graph, held_descriptors}
 use Rattle.world_invariant.specs.Parts.{BookPart, NumbersFree, NumbersInRange, NumbersInOneHand, HoldsIn, ClientPart, OwnNumber, MadeBooked, GrantedBooked, GrantedUnused, HoldsOf, WorldPart, Book, Each, WholeKnown, Holds, HasTrueCopies}
 use Rattle.world_invariant.proofs.Made.{clients_none}
 use Rattle.world_invariant.proofs.Owners.{client_is}
@@ -21,7 +21,7 @@ module _ (w : World) (has : (q : WorldPart) → q ≢ WholeKnown → Holds q w) 
   number_is : (w.clients c).knows.client ≡ c
   number_is = of_client OwnNumber c is_c
 
-  granted_new : (i : ℕ) → (w.clients c).knows.granted i ≡ true → IsNew (whole w) i
+  granted_new : (i : ℕ) → (w.clients c).knows.granted i ≡ true → IsNew (whole_graph w) i
   granted_new i e =
       let booked : (w.kernel.accounts c).numbers i ≡ true = of_client GrantedBooked c is_c i e in
       let range = of_book NumbersInRange c i is_c booked in
@@ -33,10 +33,10 @@ module _ (w : World) (has : (q : WorldPart) → q ≢ WholeKnown → Holds q w) 
         | inr other ↦ still_false ((w.kernel.accounts d).numbers i) (is_made_in i (log_of w d)) (λ made. of_client MadeBooked d is_d i made) (of_book NumbersInOneHand c d i is_c is_d other.1 (of_client GrantedBooked c is_c i e))
       ]
 
-  pub known_of_copies : HasTrueCopies (w.clients c).knows (whole w) → Agrees (w.clients c).knows (whole w) (held w)
+  pub known_of_copies : HasTrueCopies (w.clients c).knows (whole_graph w) → Agrees (w.clients c).knows (whole_graph w) (held_descriptors w)
   known_of_copies t = record {
     client = ap is_client number_is ∙ is_c;
-    own = λ n. ap (λ d. held w d n) number_is ∙ ap (λ b. cond b ((w.clients c).knows.own n) None) is_c;
+    own = λ n. ap (λ d. held_descriptors w d n) number_is ∙ ap (λ b. cond b ((w.clients c).knows.own n) None) is_c;
     back = t.back;
     put_back = t.put_back;
     copies = t.copies;

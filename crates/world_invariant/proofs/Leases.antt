@@ -4,13 +4,13 @@ use Rattle.std.proofs.lemmas.Bool.{false≢true}
 use Rattle.std.proofs.lemmas.Bool.Decides.{eqb_tells}
 use Rattle.call_effects.specs.posix_calls.Operations.{is_client}
 use Rattle.call_effects.proofs.posix_calls_lemmas.Sums.{same_if}
-use Rattle.call_effects.specs.Known.{Knowledge, IsForgetful}
+use Rattle.call_effects.specs.Knowledge.{Knowledge, IsForgetful}
 use Rattle.call_effects.proofs.Served.{less_agrees}
 use Rattle.world_invariant.specs.Logs.{is_written}
-use Rattle.world_invariant.specs.World.{Client, World, records_of, has_lease, whole, held, world_state}
-use Rattle.world_invariant.specs.Standing.{Stands}
+use Rattle.world_invariant.specs.World.{Client, World, records_of, has_lease, whole_graph, held_descriptors, world_state}
+use Rattle.world_invariant.specs.ClientParts.{Stands}
 use Rattle.world_invariant.specs.Invariant.{IsCoherent}
-use Rattle.world_invariant.specs.LeaseSteps.{also, without, IsUnwritten, IsUnheld, read_taken, write_taken, CanGive, forgetting, given}
+use Rattle.world_invariant.specs.LeaseSteps.{also, without, IsUnwritten, IsUnheld, read_taken, write_taken, CanGive, without_copies, after_give}
 use Rattle.world_invariant.proofs.Records.{both, or_first, or_rest, or_neither, in_first, in_rest}
 use Rattle.world_invariant.proofs.Idle.{none_some}
 use Rattle.world_invariant.proofs.Facts.{writing_holds}
@@ -93,7 +93,7 @@ kept_if P j i o x e there = elim (eqb_tells j i) [
   | inr off ↦ there off.1 (sym (ap (λ t. cond t None o) off.0) ∙ e)
 ]
 
-pub forgets : (k : Knowledge) (i : ℕ) → IsForgetful k (forgetting k i)
+pub forgets : (k : Knowledge) (i : ℕ) → IsForgetful k (without_copies k i)
 forgets k i = record {
   client = refl;
   own = λ n. refl;
@@ -106,7 +106,7 @@ forgets k i = record {
 
 module _ (w : World) (c i : ℕ) (h : IsCoherent w) (can : CanGive w c i) where
   abbrev giver : Client
-  giver = record (w.clients c) { reads = without (w.clients c).reads i; writes = without (w.clients c).writes i; knows = forgetting (w.clients c).knows i }
+  giver = record (w.clients c) { reads = without (w.clients c).reads i; writes = without (w.clients c).writes i; knows = without_copies (w.clients c).knows i }
 
   stood : Stands w.kernel.shared (w.kernel.accounts c) c (w.clients c)
   stood = h.stands c can.client
@@ -129,7 +129,7 @@ module _ (w : World) (c i : ℕ) (h : IsCoherent w) (can : CanGive w c i) where
   giver_clean : is_written i (records_of (w.kernel.accounts c) (w.clients c)) ≡ false
   giver_clean = ap (is_written i) (idle_records (w.kernel.accounts c) (w.clients c) can.idle) ∙ can.clean
 
-  pub given_holds : IsCoherent (given w c i)
+  pub given_holds : IsCoherent (after_give w c i)
   given_holds = quiet w c w.kernel.shared (w.kernel.accounts c) giver h can.client refl refl refl (booked_same w c giver h can.client)
       (record {
         number = stood.number;
@@ -153,7 +153,7 @@ module _ (w : World) (c i : ℕ) (h : IsCoherent w) (can : CanGive w c i) where
       })
       (before_less w c giver h can.client (λ j e. less (w.clients c).writes j e))
       (after_less w c giver h can.client (λ j e. or_neither (without (w.clients c).reads i j) (without (w.clients c).writes i j) (fewer (w.clients c).reads j (or_first ((w.clients c).reads j) ((w.clients c).writes j) e)) (fewer (w.clients c).writes j (or_rest ((w.clients c).reads j) ((w.clients c).writes j) e))))
-      (less_agrees (w.clients c).knows (whole w) (held w) (h.agrees c can.client) (forgetting (w.clients c).knows i) (forgets (w.clients c).knows i))
+      (less_agrees (w.clients c).knows (whole_graph w) (held_descriptors w) (h.agrees c can.client) (without_copies (w.clients c).knows i) (forgets (w.clients c).knows i))
 
-  pub given_tree : world_state (given w c i) ≡ world_state w
+  pub given_tree : world_state (after_give w c i) ≡ world_state w
   given_tree = tree_same w c w.kernel.shared (w.kernel.accounts c) giver refl refl refl

@@ -13,9 +13,9 @@ use Rattle.call_effects.specs.file_graph.Units.{charge}
 use Rattle.call_effects.specs.log_record.declared.format.Record.{Record}
 use Rattle.world_invariant.specs.Limits.{IsWithin}
 use Rattle.world_invariant.specs.Logs.{after_records, is_written, is_made_in, IsMadeOnce, units_in, IsPaid, Along, Keeps, NamesNone}
-use Rattle.world_invariant.specs.World.{Account, Client, Kernel, undigested, records_of, change_of, at}
-use Rattle.world_invariant.specs.Standing.{IsLogged, Stands}
-use Rattle.world_invariant.specs.Opening.{idle_account}
+use Rattle.world_invariant.specs.World.{Account, Client, Kernel, undigested_records, records_of, change_of, at}
+use Rattle.world_invariant.specs.ClientParts.{IsLogged, Stands}
+use Rattle.world_invariant.specs.FormatWorld.{idle_account}
 use Rattle.world_invariant.specs.LeaseSteps.{also, without}
 use Rattle.world_invariant.specs.BookSteps.{HasRoom, IsUnbooked}
 use Rattle.world_invariant.specs.KernelSteps.{CanReclaim}
@@ -42,7 +42,7 @@ sealed_stands g a c p s =
       low = s.marked.low;
       high = s.marked.high;
       logged = record {
-        leased = λ i e. s.logged.leased i (front_written i (undigested a p) (change_of p.begun) (front_written i (drop (a.mark - p.past) p.sealed) p.current e));
+        leased = λ i e. s.logged.leased i (front_written i (undigested_records a p) (change_of p.begun) (front_written i (drop (a.mark - p.past) p.sealed) p.current e));
         paid = front IsPaid s.logged.paid;
         unnamed = front NamesNone s.logged.unnamed;
         limits = front (Keeps IsWithin) s.logged.limits;
@@ -53,7 +53,7 @@ sealed_stands g a c p s =
     }
   where
     front : (IsSo : Graph → Record → Type 0) → Along IsSo g (records_of a p) → Along IsSo g (drop (a.mark - p.past) p.sealed)
-    front IsSo so = along_front IsSo (drop (a.mark - p.past) p.sealed) p.current g (along_front IsSo (undigested a p) (change_of p.begun) g so)
+    front IsSo so = along_front IsSo (drop (a.mark - p.past) p.sealed) p.current g (along_front IsSo (undigested_records a p) (change_of p.begun) g so)
 
 -- ---- the book
 

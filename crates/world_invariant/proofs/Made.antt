@@ -1,7 +1,7 @@
 -- Which records make a node.
 use Rattle.std.proofs.Common.{◌≡◌, inl, inr, ℕ, zero, suc, ◌≤◌, ◌||◌, cond, Bool, true, false, List, [], ◌∷◌, ◌++◌, refl, None, Option, ap, sym, ◌∙◌, arith}
 use Rattle.std.proofs.lemmas.Bool.{false≢true}
-use Rattle.call_effects.specs.file_graph.Graph.{Graph, Node, after_effect, after_effects, acted, is_among}
+use Rattle.call_effects.specs.file_graph.Graph.{Graph, Node, after_effect, after_effects, subject_after, is_among}
 use Rattle.call_effects.specs.file_graph.declared.effect.Effect.{Effect}
 use Rattle.call_effects.specs.file_graph.declared.effect.Effect.TheVariants as effect
 use Rattle.call_effects.specs.log_record.declared.format.Record.{Record}
@@ -62,13 +62,13 @@ cond_same true = refl
 cond_same false = refl
 
 effect_stays : (g : Graph) (e : Effect) (i : ℕ) → g i ≡ None → makes_node i e ≡ false → after_effect g e i ≡ None
-effect_stays g (effect.Make x k) i none e = ap (λ b. cond (b || false) (acted (effect.Make x k) (g i)) (g i)) e ∙ none
-effect_stays g (effect.Enter x j k name) i none e = ap (λ o. cond (is_among i (x ∷ [])) (acted (effect.Enter x j k name) o) o) none ∙ cond_same (is_among i (x ∷ []))
-effect_stays g (effect.Leave x name) i none e = ap (λ o. cond (is_among i (x ∷ [])) (acted (effect.Leave x name) o) o) none ∙ cond_same (is_among i (x ∷ []))
-effect_stays g (effect.Names x n) i none e = ap (λ o. cond (is_among i (x ∷ [])) (acted (effect.Names x n) o) o) none ∙ cond_same (is_among i (x ∷ []))
-effect_stays g (effect.Size x size) i none e = ap (λ o. cond (is_among i (x ∷ [])) (acted (effect.Size x size) o) o) none ∙ cond_same (is_among i (x ∷ []))
-effect_stays g (effect.Bytes x at new) i none e = ap (λ o. cond (is_among i (x ∷ [])) (acted (effect.Bytes x at new) o) o) none ∙ cond_same (is_among i (x ∷ []))
-effect_stays g (effect.Drop x) i none e = ap (λ o. cond (is_among i (x ∷ [])) (acted (effect.Drop x) o) o) none ∙ cond_same (is_among i (x ∷ []))
+effect_stays g (effect.Make x k) i none e = ap (λ b. cond (b || false) (subject_after (effect.Make x k) (g i)) (g i)) e ∙ none
+effect_stays g (effect.Enter x j k name) i none e = ap (λ o. cond (is_among i (x ∷ [])) (subject_after (effect.Enter x j k name) o) o) none ∙ cond_same (is_among i (x ∷ []))
+effect_stays g (effect.Leave x name) i none e = ap (λ o. cond (is_among i (x ∷ [])) (subject_after (effect.Leave x name) o) o) none ∙ cond_same (is_among i (x ∷ []))
+effect_stays g (effect.Names x n) i none e = ap (λ o. cond (is_among i (x ∷ [])) (subject_after (effect.Names x n) o) o) none ∙ cond_same (is_among i (x ∷ []))
+effect_stays g (effect.Size x size) i none e = ap (λ o. cond (is_among i (x ∷ [])) (subject_after (effect.Size x size) o) o) none ∙ cond_same (is_among i (x ∷ []))
+effect_stays g (effect.Bytes x at new) i none e = ap (λ o. cond (is_among i (x ∷ [])) (subject_after (effect.Bytes x at new) o) o) none ∙ cond_same (is_among i (x ∷ []))
+effect_stays g (effect.Drop x) i none e = ap (λ o. cond (is_among i (x ∷ [])) (subject_after (effect.Drop x) o) o) none ∙ cond_same (is_among i (x ∷ []))
 
 pub effects_none : (g : Graph) (es : List Effect) (i : ℕ) → g i ≡ None → is_made i es ≡ false → after_effects g es i ≡ None
 effects_none g [] i none e = none

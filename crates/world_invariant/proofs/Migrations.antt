@@ -5,12 +5,12 @@ use Rattle.call_effects.specs.posix_calls.Operations.{is_client}
 use Rattle.call_effects.specs.file_graph.Graph.{Graph}
 use Rattle.call_effects.specs.file_graph.Units.{charge}
 use Rattle.call_effects.specs.Wholes.{IsSound, state_of}
-use Rattle.call_effects.specs.Known.{Agrees}
+use Rattle.call_effects.specs.Knowledge.{Agrees}
 use Rattle.call_effects.specs.log_record.declared.format.Record.{Record}
 use Rattle.world_invariant.specs.Limits.{IsWithin}
 use Rattle.world_invariant.specs.Logs.{after_records, after_clients}
-use Rattle.world_invariant.specs.World.{Account, Kernel, World, undigested, log_of, whole, held, world_state}
-use Rattle.world_invariant.specs.Standing.{Stands, IsBooked}
+use Rattle.world_invariant.specs.World.{Account, Kernel, World, undigested_records, log_of, whole_graph, held_descriptors, world_state}
+use Rattle.world_invariant.specs.ClientParts.{Stands, IsBooked}
 use Rattle.world_invariant.specs.Invariant.{IsCoherent}
 use Rattle.world_invariant.specs.KernelSteps.{IsMigrated, run_migrated}
 use Rattle.world_invariant.specs.Machine.{Machine, IsRunning, migrate}
@@ -60,13 +60,13 @@ module _ (before after : Kernel) (is : IsMigrated before after) where
       }
 
 module _ (w : World) (after : Kernel) (is : IsMigrated w.kernel after) where
-  pub migrated_whole : whole (run_migrated w after) ≡ whole w
+  pub migrated_whole : whole_graph (run_migrated w after) ≡ whole_graph w
   migrated_whole =
       ap (λ g. after_clients (log_of (run_migrated w after)) g 8) (shared_same w.kernel after is)
-      ∙ same_logs 8 (log_of (run_migrated w after)) (log_of w) w.kernel.shared (λ d low high. ap (λ a. undigested a (w.clients d)) (is.accounts d (client_is d low high)))
+      ∙ same_logs 8 (log_of (run_migrated w after)) (log_of w) w.kernel.shared (λ d low high. ap (λ a. undigested_records a (w.clients d)) (is.accounts d (client_is d low high)))
 
   pub migrated_tree : world_state (run_migrated w after) ≡ world_state w
-  migrated_tree = ap (λ g. state_of g (held w)) migrated_whole
+  migrated_tree = ap (λ g. state_of g (held_descriptors w)) migrated_whole
 
   pub migrated_stored : (logs : ℕ → List Record) → stored_graph (run_migrated w after) logs ≡ stored_graph w logs
   migrated_stored logs = ap (λ g. after_clients logs g 8) (shared_same w.kernel after is)
@@ -76,8 +76,8 @@ module _ (w : World) (after : Kernel) (is : IsMigrated w.kernel after) where
     booked = booked_still w.kernel after is h.booked;
     stands = λ c is_c. subst (λ g. Stands g (after.accounts c) c (w.clients c)) (sym (shared_same w.kernel after is)) (subst (λ a. Stands w.kernel.shared a c (w.clients c)) (sym (is.accounts c is_c)) (h.stands c is_c));
     beside = h.beside;
-    sound = subst (λ g. IsSound g (held w)) (sym migrated_whole) h.sound;
-    agrees = λ c is_c. subst (λ g. Agrees (w.clients c).knows g (held w)) (sym migrated_whole) (h.agrees c is_c);
+    sound = subst (λ g. IsSound g (held_descriptors w)) (sym migrated_whole) h.sound;
+    agrees = λ c is_c. subst (λ g. Agrees (w.clients c).knows g (held_descriptors w)) (sym migrated_whole) (h.agrees c is_c);
   }
 
 pub migrated_runs : (m : Machine) (after : Kernel) → IsRunning m → IsMigrated m.kernel after → IsRunning (migrate m after)

@@ -4,7 +4,7 @@ use Rattle.std.proofs.lemmas.Bool.Decides.{eqb_tells}
 use Rattle.call_effects.specs.posix_calls.Tree.{Own, Descriptors}
 use Rattle.call_effects.specs.posix_calls.Query.{Seen, File, Dir, Query, Gives, Look, ◌>>=◌, View, run}
 use Rattle.call_effects.specs.posix_calls.Walk.{Place, leads_to}
-use Rattle.call_effects.specs.posix_calls.Decide.{open_there, renamed, write_at, described, mkdir, unlink, rmdir, link, rename, truncate, pwrite, pread, close, open_path, list_path, stat, decide}
+use Rattle.call_effects.specs.posix_calls.Decide.{open_there, rename_to, write_at, node_description, mkdir, unlink, rmdir, link, rename, truncate, pwrite, pread, close, open_path, list_path, stat, decide}
 use Rattle.call_effects.specs.posix_calls.Operations.{makes}
 use Rattle.call_effects.specs.posix_calls.declared.call.Call.{Call}
 use Rattle.call_effects.specs.posix_calls.declared.call.Call.TheVariants as call
@@ -14,14 +14,14 @@ use Rattle.call_effects.specs.posix_calls.declared.errno.Errno.TheVariants as er
 use Rattle.call_effects.specs.posix_calls.declared.operation.Operation.{Operation}
 use Rattle.call_effects.specs.posix_calls.declared.operation.Operation.TheVariants.{Tell, NewDir, NewFile, OpenFile, CloseFile, Write, Resize, RemoveDir, AddName, DropName, Move}
 use Rattle.call_effects.specs.posix_calls.declared.operation.Replaced.TheVariants.{Nothing, OldFile, OldDir}
-use Rattle.call_effects.specs.file_graph.Graph.{Graph, Node, FileBody, after_effect, after_effects, acted, is_among}
+use Rattle.call_effects.specs.file_graph.Graph.{Graph, Node, FileBody, after_effect, after_effects, subject_after, is_among}
 use Rattle.call_effects.specs.file_graph.declared.effect.Effect.{Effect}
 use Rattle.call_effects.specs.file_graph.declared.effect.Effect.TheVariants as effect
 use Rattle.call_effects.specs.file_graph.declared.effect.Kind.TheVariants as kind
-use Rattle.call_effects.specs.Effects.{stored, effects_by, stored_at, recounted}
+use Rattle.call_effects.specs.Effects.{stored_count, effects_by, stored_at, recounted_file}
 use Rattle.call_effects.specs.Wholes.{IsSound, kind_of, one_if, graph_view}
 use Rattle.call_effects.specs.Fits.{IsNew, IsEmptyDir, OperationFits}
-use Rattle.call_effects.specs.Known.{Knowledge, Agrees, IsPlanned}
+use Rattle.call_effects.specs.Knowledge.{Knowledge, Agrees, IsPlanned}
 use Rattle.call_effects.proofs.Asked.{bind_ok, given}
 use Rattle.call_effects.proofs.Calls.{place_of, there_is}
 use Rattle.call_effects.proofs.Changes.{IsFair, fair_of, named, has_name}
@@ -49,14 +49,14 @@ chosen true o p one other = one
 chosen false o p one other = other
 
 one_spares : (g : Graph) (e : Effect) (i : ℕ) → Spares i e → IsNameless (g i) → IsNameless (after_effect g e i)
-one_spares g (effect.Make x k) i off file = record { bytes = file.bytes; is = ap (λ b. cond (b || false) (acted (effect.Make x k) (g i)) (g i)) off ∙ file.is }
-one_spares g (effect.Enter x j k name) i off file = chosen (is_among i (x ∷ [])) _ _ (record { bytes = file.bytes; is = ap (acted (effect.Enter x j k name)) file.is }) file
-one_spares g (effect.Leave x name) i off file = chosen (is_among i (x ∷ [])) _ _ (record { bytes = file.bytes; is = ap (acted (effect.Leave x name)) file.is }) file
-one_spares g (effect.Names x n) i (inl off) file = record { bytes = file.bytes; is = ap (λ b. cond (b || false) (acted (effect.Names x n) (g i)) (g i)) off ∙ file.is }
-one_spares g (effect.Names x n) i (inr zero) file = chosen (is_among i (x ∷ [])) _ _ (record { bytes = file.bytes; is = ap (acted (effect.Names x n)) file.is ∙ ap (λ m. Some (record { names = m; body = FileBody file.bytes })) zero }) file
-one_spares g (effect.Size x size) i off file = chosen (is_among i (x ∷ [])) _ _ (record { bytes = _; is = ap (acted (effect.Size x size)) file.is }) file
-one_spares g (effect.Bytes x at new) i off file = chosen (is_among i (x ∷ [])) _ _ (record { bytes = _; is = ap (acted (effect.Bytes x at new)) file.is }) file
-one_spares g (effect.Drop x) i off file = record { bytes = file.bytes; is = ap (λ b. cond (b || false) (acted (effect.Drop x) (g i)) (g i)) off ∙ file.is }
+one_spares g (effect.Make x k) i off file = record { bytes = file.bytes; is = ap (λ b. cond (b || false) (subject_after (effect.Make x k) (g i)) (g i)) off ∙ file.is }
+one_spares g (effect.Enter x j k name) i off file = chosen (is_among i (x ∷ [])) _ _ (record { bytes = file.bytes; is = ap (subject_after (effect.Enter x j k name)) file.is }) file
+one_spares g (effect.Leave x name) i off file = chosen (is_among i (x ∷ [])) _ _ (record { bytes = file.bytes; is = ap (subject_after (effect.Leave x name)) file.is }) file
+one_spares g (effect.Names x n) i (inl off) file = record { bytes = file.bytes; is = ap (λ b. cond (b || false) (subject_after (effect.Names x n) (g i)) (g i)) off ∙ file.is }
+one_spares g (effect.Names x n) i (inr zero) file = chosen (is_among i (x ∷ [])) _ _ (record { bytes = file.bytes; is = ap (subject_after (effect.Names x n)) file.is ∙ ap (λ m. Some (record { names = m; body = FileBody file.bytes })) zero }) file
+one_spares g (effect.Size x size) i off file = chosen (is_among i (x ∷ [])) _ _ (record { bytes = _; is = ap (subject_after (effect.Size x size)) file.is }) file
+one_spares g (effect.Bytes x at new) i off file = chosen (is_among i (x ∷ [])) _ _ (record { bytes = _; is = ap (subject_after (effect.Bytes x at new)) file.is }) file
+one_spares g (effect.Drop x) i off file = record { bytes = file.bytes; is = ap (λ b. cond (b || false) (subject_after (effect.Drop x) (g i)) (g i)) off ∙ file.is }
 
 all_spare : (g : Graph) (es : List Effect) (i : ℕ) → AllSpare i es → IsNameless (g i) → IsNameless (after_effects g es i)
 all_spare g [] i spare file = file
@@ -80,7 +80,7 @@ reached_named g d names place i fair (inr at) is file =
     let node = named_at g d place i fair at is in
     let range = fair.typed.numbers place.location.parent kind.Directory (ap kind_of node.entry.is) in
     let one : 1 ≤ named g i = has_name g place.location.parent node.entry.names place.location.name node.entry.entries (i, node.kind) node.entry.is range.0 range.1 node.entry.there in
-    let count : 0 ≡ named g i + one_if (i == 1) = sym (ap stored file.is) ∙ fair.counted i in
+    let count : 0 ≡ named g i + one_if (i == 1) = sym (ap stored_count file.is) ∙ fair.counted i in
     absurd (omega (arith, one, count))
 
 module _ (g : Graph) (d : Descriptors) where
@@ -151,7 +151,7 @@ module _ (g : Graph) (d : Descriptors) where
   unfolding rename
   rename_names old new = on _ _ (λ old_names. on _ _ (λ new_names. on _ _ (λ _. on _ _ (λ from. on _ _ (λ i. on _ _ (λ to. on _ _ (λ _. moves from to i (leads_to i to.inode))))))))
     where
-      moves : (from to : Place) (i : ℕ) (same : Bool) → Comes (cond same (Gives (Tell replies.Done)) (renamed from to i))
+      moves : (from to : Place) (i : ℕ) (same : Bool) → Comes (cond same (Gives (Tell replies.Done)) (rename_to from to i))
       moves from to i true = comes _ tt
       moves from to i false = on _ _ (λ old_dir. on _ _ (λ replaced. comes _ tt))
 
@@ -159,13 +159,13 @@ module _ (g : Graph) (d : Descriptors) where
   unfolding list_path
   list_names path = on _ _ (λ names. on _ _ (λ place. on _ _ (λ i. on _ _ (λ is_dir. on _ _ (λ _. on _ _ (λ entries. comes _ tt))))))
 
-  described_names : (s : Option Seen) → Comes (described s)
+  described_names : (s : Option Seen) → Comes (node_description s)
   unfolding run
   described_names None operation e = absurd (cc)
   described_names (Some (File names size)) operation e = comes _ tt operation e
   described_names (Some (Dir entries)) operation e = comes _ tt operation e
 
-  looked_names : (i : ℕ) → Comes (Look i described)
+  looked_names : (i : ℕ) → Comes (Look i node_description)
   unfolding run
   looked_names i = described_names (v.node i)
 
@@ -203,13 +203,13 @@ module _ (g : Graph) (d : Descriptors) where
     is_dir x dir other = let clash : Some kind.Directory ≡ Some kind.File = sym (ap kind_of dir.is) ∙ ap kind_of other.is in cc
 
     -- one name fewer than none is none
-    fewer : (x : ℕ) → ((x == i) ≡ false) ⊎ (stored (g x) - 1 ≡ 0)
+    fewer : (x : ℕ) → ((x == i) ≡ false) ⊎ (stored_count (g x) - 1 ≡ 0)
     fewer x = elim (eqb_tells x i) [
-      | inl same ↦ let none : stored (g x) ≡ 0 = ap (λ y. stored (g y)) same.1 ∙ ap stored file.is in inr (omega (arith, none))
+      | inl same ↦ let none : stored_count (g x) ≡ 0 = ap (λ y. stored_count (g y)) same.1 ∙ ap stored_count file.is in inr (omega (arith, none))
       | inr off ↦ inl off.0
     ]
 
-    spared : (own : Own) (new : ℕ) (operation : Operation) → OperationFits g d own operation → (makes operation ≡ true → IsNew g new) → NamesNamed g operation → AllSpare i (effects_by (stored_at g (recounted operation)) new operation)
+    spared : (own : Own) (new : ℕ) (operation : Operation) → OperationFits g d own operation → (makes operation ≡ true → IsNew g new) → NamesNamed g operation → AllSpare i (effects_by (stored_at g (recounted_file operation)) new operation)
     spared own new (Tell answer) fits free fine = tt
     spared own new (NewDir at) fits free fine = let off = not_here new (is_none new ((free refl).none)) in (off, (tt, (inl off, tt)))
     spared own new (NewFile at number r w) fits free fine = let off = not_here new (is_none new ((free refl).none)) in (off, (tt, (inl off, tt)))
@@ -231,4 +231,4 @@ planned_names_none k g d c new operation es sound agrees plan i file =
     let a = planned_answer k g d c new operation es sound agrees plan in
     let comes = sym (ap (λ b. cond b (run (graph_view g d) (decide (d k.client) c)) (Err errno.Invalid)) agrees.client) ∙ a.0 in
     let spare = spared g d i file (d k.client) new operation (answer_fits g d k.client c operation sound a.0) (λ m. agrees.granted new (plan.number m)) (decide_names g d (d k.client) c (fair_of g d sound) operation comes) in
-    subst (λ es. IsNameless (after_effects g es i)) a.1 (all_spare g (effects_by (stored_at g (recounted operation)) new operation) i spare file)
+    subst (λ es. IsNameless (after_effects g es i)) a.1 (all_spare g (effects_by (stored_at g (recounted_file operation)) new operation) i spare file)

@@ -4,7 +4,7 @@ use Rattle.std.specs.Prelude.{option_map}
 use Rattle.std.specs.FinMap as fin
 use Rattle.std.proofs.lemmas.Bool.{false≢true, eq-eqb}
 use Rattle.std.proofs.lemmas.Bool.Decides.{eqb_tells}
-use Rattle.call_effects.specs.posix_calls.Content.{directory_units}
+use Rattle.call_effects.specs.posix_calls.Units.{directory_units}
 use Rattle.call_effects.specs.posix_calls.Tree as tree
 use Rattle.call_effects.specs.posix_calls.Tree.{Descriptors, sum_up_to}
 use Rattle.call_effects.specs.posix_calls.Resolve.{resolve, resolve_from}
@@ -20,15 +20,15 @@ use Rattle.call_effects.specs.file_graph.declared.effect.Effect.{Effect}
 use Rattle.call_effects.specs.file_graph.declared.effect.Effect.TheVariants as effect
 use Rattle.call_effects.proofs.file_graph_lemmas.Touches.{untouched}
 use Rattle.call_effects.specs.log_record.declared.format.Record.{Record}
-use Rattle.call_effects.specs.Settled.{nobody}
-use Rattle.call_effects.specs.Effects.{stored}
+use Rattle.call_effects.specs.ClosedGraph.{nobody}
+use Rattle.call_effects.specs.Effects.{stored_count}
 use Rattle.call_effects.specs.Wholes.{IsSound, kind_of, tree_of, tree_node}
 use Rattle.call_effects.proofs.Changes.{typed_put, sound_of, sound_fair, fair_of, names_stay, file, dir}
 use Rattle.call_effects.proofs.Puts.{put_other}
 use Rattle.call_effects.proofs.Fresh.{fresh_sound}
 use Rattle.world_invariant.specs.Limits.{IsBodyWithin, IsWithin, AreWithin}
 use Rattle.world_invariant.specs.Logs.{after_records, IsNameless, IsPaid, NamesNone, Keeps}
-use Rattle.world_invariant.specs.Broken.{with_bytes, making_directory, dropping, counting, entered}
+use Rattle.world_invariant.specs.BrokenWorlds.{with_bytes, making_directory, drop_record, counted_record, entered_graph}
 use Rattle.world_invariant.proofs.Fresh.{no_entries, fresh_within}
 use Rattle.world_invariant.proofs.Idle.{none_some}
 
@@ -99,7 +99,7 @@ module _ (bytes : List ℕ) where
       let typed = typed_put fresh nobody 2 (file 0 bytes) fresh_sound.typed (omega arith) (omega arith) (λ k is. none_some k is) (λ n es name e is there. absurd (let clash : Some kind.File ≡ Some kind.Directory = ap kind_of is in cc)) in
       let stays = λ (j : ℕ). names_stay fresh 2 (file 0 bytes) j (omega arith) (omega arith) refl in
       sound_fair (with_bytes bytes) nobody (sound_of fresh (with_bytes bytes) nobody nobody 2 (fair_of fresh nobody fresh_sound) typed
-      (λ j off. ap stored (put_other fresh 2 j (file 0 bytes) off)) (λ j off. ap kind_of (put_other fresh 2 j (file 0 bytes) off)) (λ j off. stays j)
+      (λ j off. ap stored_count (put_other fresh 2 j (file 0 bytes) off)) (λ j off. ap kind_of (put_other fresh 2 j (file 0 bytes) off)) (λ j off. stays j)
       (fresh_sound.counts.counted 2 ∙ ap (λ n. n + 0) (sym (stays 2))) (λ is. absurd (let clash : Some kind.File ≡ Some kind.Directory = is in cc))) (λ i is. ([], at_root i (only_root i is)))
 
   pub file_within : length bytes ≤ MAX_FILE → AreWithin (with_bytes bytes)
@@ -126,43 +126,43 @@ with_directory = after_effects fresh making_directory.effects
 unmoved : (g : Graph) (e : Effect) (i : ℕ) → subjects e ≡ 2 ∷ [] → i ≢ 2 → after_effects g (e ∷ []) i ≡ g i
 unmoved g e i is off = untouched g (e ∷ []) i (ap (λ is. is_among i (is ++ [])) is ∙ elim (eqb_tells 2 i) [ inl same ↦ absurd (off (sym same.1)) | inr other ↦ ap (λ b. b || false) other.0 ])
 
-pub drop_paid : (g : Graph) → IsPaid g dropping
+pub drop_paid : (g : Graph) → IsPaid g drop_record
 unfolding growth
 drop_paid g =
-    let nothing : sum_up_to 1024 (λ i. cond (is_among i (touches dropping.effects)) (rise g (after_effects g dropping.effects) i) 0) ≡ 0 = all_zero 1024 (λ i. cond (is_among i (touches dropping.effects)) (rise g (after_effects g dropping.effects) i) 0) (λ i. none_risen (2 == i) (g i)) in
+    let nothing : sum_up_to 1024 (λ i. cond (is_among i (touches drop_record.effects)) (rise g (after_effects g drop_record.effects) i) 0) ≡ 0 = all_zero 1024 (λ i. cond (is_among i (touches drop_record.effects)) (rise g (after_effects g drop_record.effects) i) 0) (λ i. none_risen (2 == i) (g i)) in
     omega (arith, nothing)
   where
     none_risen : (b : Bool) (o : Option Node) → cond (b || false) (cost (cond (b || false) None o) - cost o) 0 ≡ 0
     none_risen true o = omega arith
     none_risen false o = refl
 
-pub drop_names_none : NamesNone with_directory dropping
+pub drop_names_none : NamesNone with_directory drop_record
 drop_names_none i was = elim (eqb_tells i 2) [
   | inl same ↦ absurd (let clash : Some kind.Directory ≡ Some kind.File = sym (ap (λ j. kind_of (with_directory j)) same.1) ∙ ap kind_of was.is in cc)
   | inr off ↦ subst (λ o. IsNameless o) (sym (unmoved with_directory (effect.Drop 2) i refl off.1)) was
 ]
 
-pub drop_keeps_limits : (g : Graph) → Keeps IsWithin g dropping
+pub drop_keeps_limits : (g : Graph) → Keeps IsWithin g drop_record
 drop_keeps_limits g i was = elim (eqb_tells i 2) [
-  | inl same ↦ subst (λ j. IsWithin j (after_effects g dropping.effects j)) (sym same.1) tt
+  | inl same ↦ subst (λ j. IsWithin j (after_effects g drop_record.effects j)) (sym same.1) tt
   | inr off ↦ subst (IsWithin i) (sym (unmoved g (effect.Drop 2) i refl off.1)) was
 ]
 
-pub dropped : after_effects with_directory dropping.effects ≡ fresh
+pub dropped : after_effects with_directory drop_record.effects ≡ fresh
 dropped = λ t i. same i t
   where
-    same : (i : ℕ) → after_effects with_directory dropping.effects i ≡ fresh i
+    same : (i : ℕ) → after_effects with_directory drop_record.effects i ≡ fresh i
     same i = elim (eqb_tells i 2) [
-      | inl there ↦ ap (after_effects with_directory dropping.effects) there.1 ∙ sym (ap fresh there.1)
+      | inl there ↦ ap (after_effects with_directory drop_record.effects) there.1 ∙ sym (ap fresh there.1)
       | inr off ↦ unmoved with_directory (effect.Drop 2) i refl off.1 ∙ off_two kind.Directory 0 i off.1
     ]
 
 -- ---- a count of names that is set
 
-pub count_paid : (g : Graph) (n : ℕ) → IsPaid g (counting n)
+pub count_paid : (g : Graph) (n : ℕ) → IsPaid g (counted_record n)
 unfolding growth
 count_paid g n =
-    let nothing : sum_up_to 1024 (λ i. cond (is_among i (touches (counting n).effects)) (rise g (after_effects g (counting n).effects) i) 0) ≡ 0 = all_zero 1024 (λ i. cond (is_among i (touches (counting n).effects)) (rise g (after_effects g (counting n).effects) i) 0) (λ i. none_risen (2 == i) (g i)) in
+    let nothing : sum_up_to 1024 (λ i. cond (is_among i (touches (counted_record n).effects)) (rise g (after_effects g (counted_record n).effects) i) 0) ≡ 0 = all_zero 1024 (λ i. cond (is_among i (touches (counted_record n).effects)) (rise g (after_effects g (counted_record n).effects) i) 0) (λ i. none_risen (2 == i) (g i)) in
     omega (arith, nothing)
   where
     none_risen : (b : Bool) (o : Option Node) → cond (b || false) (cost (cond (b || false) (option_map (λ x. record { names = n; body = x.body }) o) o) - cost o) 0 ≡ 0
@@ -170,19 +170,19 @@ count_paid g n =
     none_risen true (Some x) = omega arith
     none_risen false o = refl
 
-pub count_names_none : (g : Graph) (n : ℕ) → kind_of (g 2) ≡ Some kind.Directory → NamesNone g (counting n)
+pub count_names_none : (g : Graph) (n : ℕ) → kind_of (g 2) ≡ Some kind.Directory → NamesNone g (counted_record n)
 count_names_none g n is i was = elim (eqb_tells i 2) [
   | inl same ↦ absurd (let clash : Some kind.Directory ≡ Some kind.File = sym is ∙ sym (ap (λ j. kind_of (g j)) same.1) ∙ ap kind_of was.is in cc)
   | inr off ↦ subst (λ o. IsNameless o) (sym (unmoved g (effect.Names 2 n) i refl off.1)) was
 ]
 
-pub counted_back : after_records entered (counting 2000 ∷ counting 1 ∷ []) ≡ entered
+pub counted_back : after_records entered_graph (counted_record 2000 ∷ counted_record 1 ∷ []) ≡ entered_graph
 counted_back = λ t i. same i t
   where
-    same : (i : ℕ) → after_records entered (counting 2000 ∷ counting 1 ∷ []) i ≡ entered i
+    same : (i : ℕ) → after_records entered_graph (counted_record 2000 ∷ counted_record 1 ∷ []) i ≡ entered_graph i
     same i = elim (eqb_tells i 2) [
-      | inl there ↦ ap (after_records entered (counting 2000 ∷ counting 1 ∷ [])) there.1 ∙ sym (ap entered there.1)
-      | inr off ↦ unmoved (after_effects entered (counting 2000).effects) (effect.Names 2 1) i refl off.1 ∙ unmoved entered (effect.Names 2 2000) i refl off.1
+      | inl there ↦ ap (after_records entered_graph (counted_record 2000 ∷ counted_record 1 ∷ [])) there.1 ∙ sym (ap entered_graph there.1)
+      | inr off ↦ unmoved (after_effects entered_graph (counted_record 2000).effects) (effect.Names 2 1) i refl off.1 ∙ unmoved entered_graph (effect.Names 2 2000) i refl off.1
     ]
 
 -- ---- what holds of the inodes that a record of the inode 2 touches

@@ -7,10 +7,10 @@ use Rattle.call_effects.specs.file_graph.Graph.{Graph, file_bytes}
 use Rattle.call_effects.specs.log_record.declared.format.Record.{Record}
 use Rattle.call_effects.specs.Blocks.{block_of}
 use Rattle.call_effects.specs.NodeView.{view_of_node}
-use Rattle.call_effects.specs.Known.{Knowledge, IsGone, IsPutBack, Agrees}
+use Rattle.call_effects.specs.Knowledge.{Knowledge, IsGone, IsPutBack, Agrees}
 use Rattle.world_invariant.specs.Logs.{after_records, is_written, is_made_in, IsNameless, NameNone}
-use Rattle.world_invariant.specs.World.{Account, Client, World, undigested, change_of, has_lease, log_of, whole, held}
-use Rattle.world_invariant.specs.Standing.{IsLeased}
+use Rattle.world_invariant.specs.World.{Account, Client, World, undigested_records, change_of, has_lease, log_of, whole_graph, held_descriptors}
+use Rattle.world_invariant.specs.ClientParts.{IsLeased}
 use Rattle.world_invariant.specs.Parts.{ClientPart, RecordsLeased, CopiesLeased, BlocksLeased, HoldsOf, WorldPart, Each, LeasesLegal, WholeKnown, Holds, HasTrueCopies}
 use Rattle.world_invariant.specs.Copies.{HasOwnCopies}
 use Rattle.world_invariant.specs.Invariant.{IsCoherent}
@@ -54,7 +54,7 @@ module _ (k : Knowledge) (has : ℕ → Bool) (g h : Graph) (leased : IsLeased h
 pub own_copies : (w : World) (c : ℕ) → IsCoherent w → is_client c ≡ true → HasOwnCopies w.kernel.shared (w.kernel.accounts c) (w.clients c)
 own_copies w c h is_c =
     let known = h.agrees c is_c in
-    copies_move (w.clients c).knows (has_lease (w.clients c)) (whole w) (own_view w c) (h.stands c is_c).leased (λ i e. view_is w c i h is_c e)
+    copies_move (w.clients c).knows (has_lease (w.clients c)) (whole_graph w) (own_view w c) (h.stands c is_c).leased (λ i e. view_is w c i h is_c e)
     (record { back = known.back; put_back = known.put_back; copies = known.copies; blocks = known.blocks })
 
 module _ (w : World) (has : (q : WorldPart) → q ≢ WholeKnown → Holds q w) (c : ℕ) (is_c : is_client c ≡ true) where
@@ -67,15 +67,15 @@ module _ (w : World) (has : (q : WorldPart) → q ≢ WholeKnown → Holds q w) 
     | inr clean ↦ clean
   ]
 
-  pub known_of_own : HasOwnCopies w.kernel.shared (w.kernel.accounts c) (w.clients c) → Agrees (w.clients c).knows (whole w) (held w)
+  pub known_of_own : HasOwnCopies w.kernel.shared (w.kernel.accounts c) (w.clients c) → Agrees (w.clients c).knows (whole_graph w) (held_descriptors w)
   known_of_own t = known_of_copies w has c is_c
-      (copies_move (w.clients c).knows (has_lease (w.clients c)) (own_view w c) (whole w) (record { copies = of_each CopiesLeased c is_c; blocks = of_each BlocksLeased c is_c })
+      (copies_move (w.clients c).knows (has_lease (w.clients c)) (own_view w c) (whole_graph w) (record { copies = of_each CopiesLeased c is_c; blocks = of_each BlocksLeased c is_c })
       (λ i e. sym (whole_at (log_of w) w.kernel.shared c i (record { client = is_c; others = λ d is_d off. unwritten i d e is_d off }))) t)
 
 -- ---- steps of the kernel
 
 pub kept_elsewhere : (g h : Graph) (a : Account) (p : Client) → IsLeased (has_lease p) p.knows → ((i : ℕ) → has_lease p i ≡ true → g i ≡ h i) → HasOwnCopies g a p → HasOwnCopies h a p
-kept_elsewhere g h a p leased same t = copies_move p.knows (has_lease p) (after_records g (undigested a p)) (after_records h (undigested a p)) leased (λ i e. records_alone g h (undigested a p) i (same i e)) t
+kept_elsewhere g h a p leased same t = copies_move p.knows (has_lease p) (after_records g (undigested_records a p)) (after_records h (undigested_records a p)) leased (λ i e. records_alone g h (undigested_records a p) i (same i e)) t
 
 pub kept_beside : (m : Machine) (c : ℕ) (s : Sealed) (first rest : List Record) (a : Account) (p : Client) → StandsSealed m.kernel.shared (m.kernel.accounts c) s → CanDigestNext m c s first rest → IsLeased (has_lease p) p.knows
     → ((i : ℕ) → s.writes i ≡ true → has_lease p i ≡ false) → HasOwnCopies m.kernel.shared a p → HasOwnCopies (after_records m.kernel.shared first) a p
@@ -90,8 +90,8 @@ kept_beside m c s first rest a p stands can leased beside t = kept_elsewhere m.k
 pub kept_digested : (m : Machine) (c : ℕ) (p : Client) (first rest : List Record) → IsRunning m → StandsSealed m.kernel.shared (m.kernel.accounts c) (sealed_of p) → CanDigestNext m c (sealed_of p) first rest
     → HasOwnCopies m.kernel.shared (m.kernel.accounts c) p → HasOwnCopies (after_records m.kernel.shared first) (account_after (m.kernel.accounts c) first) p
 kept_digested m c p first rest r stands can t =
-    let was : undigested (m.kernel.accounts c) p ≡ first ++ (rest ++ p.current) = ap (λ rs. rs ++ p.current) can.split ∙ append_assoc first rest p.current in
-    let is : undigested (account_after (m.kernel.accounts c) first) p ≡ rest ++ p.current = ap (λ rs. rs ++ p.current) (left_now m r c (sealed_of p) first rest stands can) in
+    let was : undigested_records (m.kernel.accounts c) p ≡ first ++ (rest ++ p.current) = ap (λ rs. rs ++ p.current) can.split ∙ append_assoc first rest p.current in
+    let is : undigested_records (account_after (m.kernel.accounts c) first) p ≡ rest ++ p.current = ap (λ rs. rs ++ p.current) (left_now m r c (sealed_of p) first rest stands can) in
     subst (λ g. HasTrueCopies p.knows g)
     (ap (after_records m.kernel.shared) was ∙ records_append m.kernel.shared first (rest ++ p.current) ∙ ap (after_records (after_records m.kernel.shared first)) (sym is))
     t
@@ -99,18 +99,18 @@ kept_digested m c p first rest r stands can t =
 pub kept_in_account : (g : Graph) (a b : Account) (p : Client) → b.mark ≡ a.mark → HasOwnCopies g a p → HasOwnCopies g b p
 kept_in_account g a b p same t = subst (λ mark. HasTrueCopies p.knows (after_records g (drop (mark - p.past) p.sealed ++ p.current))) (sym same) t
 
-module _ (i : ℕ) (g h : Graph) (a : Account) (p : Client) (file : IsNameless (g i)) (gone : h i ≡ None) (same : (j : ℕ) → j ≢ i → h j ≡ g j) (unmade : is_made_in i (undigested a p) ≡ false) (unnamed : NameNone g (undigested a p)) (t : HasOwnCopies g a p) where
+module _ (i : ℕ) (g h : Graph) (a : Account) (p : Client) (file : IsNameless (g i)) (gone : h i ≡ None) (same : (j : ℕ) → j ≢ i → h j ≡ g j) (unmade : is_made_in i (undigested_records a p) ≡ false) (unnamed : NameNone g (undigested_records a p)) (t : HasOwnCopies g a p) where
   abbrev was : Graph
-  was = after_records g (undigested a p)
+  was = after_records g (undigested_records a p)
 
   abbrev now : Graph
-  now = after_records h (undigested a p)
+  now = after_records h (undigested_records a p)
 
   nothing : now i ≡ None
-  nothing = records_none h (undigested a p) i gone unmade
+  nothing = records_none h (undigested_records a p) i gone unmade
 
   nameless : IsNameless (was i)
-  nameless = through (λ j o. IsNameless o) (undigested a p) g i unnamed file
+  nameless = through (λ j o. IsNameless o) (undigested_records a p) g i unnamed file
 
   put_here : (t.back i ≡ now i) ⊎ IsGone (now i) (t.back i)
   put_here = elim (t.put_back i) [
@@ -120,7 +120,7 @@ module _ (i : ℕ) (g h : Graph) (a : Account) (p : Client) (file : IsNameless (
 
   put_else : (j : ℕ) → j ≢ i → (t.back j ≡ now j) ⊎ IsGone (now j) (t.back j)
   put_else j off =
-      let still : now j ≡ was j = records_alone h g (undigested a p) j (same j off) in
+      let still : now j ≡ was j = records_alone h g (undigested_records a p) j (same j off) in
       elim (t.put_back j) [
         | inl is ↦ inl (is ∙ sym still)
         | inr lost ↦ inr (record { nothing = still ∙ lost.nothing; bytes = lost.bytes; file = lost.file })

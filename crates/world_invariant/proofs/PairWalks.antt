@@ -4,11 +4,12 @@ use Rattle.std.specs.Prelude.{min, is_some, ◌&&◌}
 use Rattle.std.specs.FinMap as fin
 use Rattle.std.proofs.lemmas.Bool.{false≢true}
 use Rattle.std.proofs.lemmas.Bool.Decides.{eqb_tells}
-use Rattle.call_effects.specs.posix_calls.Content.{Entries, directory_units}
+use Rattle.call_effects.specs.posix_calls.Content.{Entries}
+use Rattle.call_effects.specs.posix_calls.Units.{directory_units}
 use Rattle.call_effects.specs.posix_calls.Tree.{sum_up_to}
 use Rattle.call_effects.specs.posix_calls.Operations.{Step}
 use Rattle.call_effects.specs.posix_calls.declared.call.Reply.TheVariants.{Done, Wrote}
-use Rattle.call_effects.specs.posix_calls.Query.{Known, run_part}
+use Rattle.call_effects.specs.posix_calls.Part.{Known, run_part}
 use Rattle.call_effects.specs.posix_calls.Walk.{walk}
 use Rattle.call_effects.specs.posix_calls.Decide.{mkdir, pwrite}
 use Rattle.call_effects.proofs.posix_calls_lemmas.Chain.{part_bind, part_gives, part_refuses}
@@ -17,7 +18,7 @@ use Rattle.call_effects.proofs.posix_calls_lemmas.Directory.{lists}
 use Rattle.call_effects.specs.file_graph.Graph.{file_bytes}
 use Rattle.call_effects.specs.file_graph.declared.effect.Kind.{Kind}
 use Rattle.call_effects.specs.file_graph.declared.effect.Kind.TheVariants as kind
-use Rattle.call_effects.specs.Known.{part_of}
+use Rattle.call_effects.specs.Knowledge.{part_of}
 use Rattle.call_effects.specs.Records.{units_asked}
 use Rattle.call_effects.specs.Wholes.{without_kinds}
 use Rattle.call_effects.proofs.GrowthAsked.{len_seen}
@@ -26,8 +27,8 @@ use Rattle.world_invariant.specs.Logs.{after_clients, is_touched}
 use Rattle.world_invariant.specs.World.{has_lease, log_of, all_of, world_state}
 use Rattle.world_invariant.specs.Invariant.{IsCoherent}
 use Rattle.world_invariant.specs.Stop.{Leaves, Stores, stored_graph}
-use Rattle.world_invariant.specs.ClientSteps.{CanBegin, IsBegun, replied}
-use Rattle.world_invariant.specs.LeaseSteps.{IsUnheld, CanFetch, CanGive, given}
+use Rattle.world_invariant.specs.ClientSteps.{CanBegin, IsBegun, after_reply}
+use Rattle.world_invariant.specs.LeaseSteps.{IsUnheld, CanFetch, CanGive, after_give}
 use Rattle.world_invariant.specs.BookSteps.{HasRoom, IsUnbooked, units_granted}
 use Rattle.world_invariant.specs.RegionSteps.{region_sealed}
 use Rattle.world_invariant.specs.KernelSteps.{CanDigest}
@@ -50,58 +51,58 @@ ruleset parts = (part_bind, part_gives, part_refuses, part_is_dir, part_look)
 
 -- ---- units, a number and a lease for client 2
 
-returned_holds : IsCoherent walked.returned
-returned_holds = units_returned_hold opened.known 1 4 known_holds refl (omega arith)
+returned_holds : IsCoherent walked.returned_world
+returned_holds = units_returned_hold opened.known_world 1 4 known_holds refl (omega arith)
 
-room : HasRoom walked.returned.kernel 4
+room : HasRoom walked.returned_world.kernel 4
 unfolding sum_up_to
 room = omega arith
 
-with_units : IsCoherent (units_granted walked.returned 2 4)
-with_units = units_granted_hold walked.returned 2 4 returned_holds refl room
+with_units : IsCoherent (units_granted walked.returned_world 2 4)
+with_units = units_granted_hold walked.returned_world 2 4 returned_holds refl room
 
-unbooked : IsUnbooked (units_granted walked.returned 2 4).kernel 3
+unbooked : IsUnbooked (units_granted walked.returned_world 2 4).kernel 3
 unbooked = record {
   low = omega arith;
   high = omega arith;
   none = refl;
-  nobody = λ d is_d. eight (λ d. ((units_granted walked.returned 2 4).kernel.accounts d).numbers 3 ≡ false) refl refl refl refl refl refl refl refl d (is_low d is_d) (is_high d is_d);
+  nobody = λ d is_d. eight (λ d. ((units_granted walked.returned_world 2 4).kernel.accounts d).numbers 3 ≡ false) refl refl refl refl refl refl refl refl d (is_low d is_d) (is_high d is_d);
 }
 
-granted_holds : IsCoherent walked.granted
-granted_holds = number_granted_holds (units_granted walked.returned 2 4) 2 3 with_units refl unbooked
+granted_holds : IsCoherent walked.granted_world
+granted_holds = number_granted_holds (units_granted walked.returned_world 2 4) 2 3 with_units refl unbooked
 
-three_unheld : IsUnheld walked.granted 2 3
-three_unheld d is_d other = eight (λ d. has_lease (walked.granted.clients d) 3 ≡ false) refl refl refl refl refl refl refl refl d (is_low d is_d) (is_high d is_d)
+three_unheld : IsUnheld walked.granted_world 2 3
+three_unheld d is_d other = eight (λ d. has_lease (walked.granted_world.clients d) 3 ≡ false) refl refl refl refl refl refl refl refl d (is_low d is_d) (is_high d is_d)
 
 three_holds : IsCoherent walked.held_three
-three_holds = write_taken_holds walked.granted 2 3 granted_holds refl three_unheld
+three_holds = write_taken_holds walked.granted_world 2 3 granted_holds refl three_unheld
 
 -- ---- client 1's record is digested, and the root passed on
 
-kept_holds : IsCoherent walked.kept
+kept_holds : IsCoherent walked.kept_world
 kept_holds = digested_holds (region_sealed walked.held_three 1) 1 (opened.open_a.change ∷ []) [] (sealed_holds walked.held_three 1 three_holds (record { client = refl; idle = refl; some = λ e. absurd (cc); back = λ e. absurd (cc) })) (record { client = refl; some = λ e. absurd (cc); split = refl })
 
 back_holds : IsCoherent walked.back
-back_holds = taken_back_holds walked.kept 1 kept_holds (record { client = refl; away = refl; digested = refl })
+back_holds = taken_back_holds walked.kept_world 1 kept_holds (record { client = refl; away = refl; digested = refl })
 
 pub can_give : CanGive walked.back 1 1
 can_give = record { client = refl; idle = refl; clean = refl }
 
-given_root : IsCoherent (given walked.back 1 1)
+given_root : IsCoherent (after_give walked.back 1 1)
 given_root = given_holds walked.back 1 1 back_holds can_give
 
-root_unheld : IsUnheld (given walked.back 1 1) 2 1
-root_unheld d is_d other = eight (λ d. has_lease ((given walked.back 1 1).clients d) 1 ≡ false) refl refl refl refl refl refl refl refl d (is_low d is_d) (is_high d is_d)
+root_unheld : IsUnheld (after_give walked.back 1 1) 2 1
+root_unheld d is_d other = eight (λ d. has_lease ((after_give walked.back 1 1).clients d) 1 ≡ false) refl refl refl refl refl refl refl refl d (is_low d is_d) (is_high d is_d)
 
-passed_holds : IsCoherent walked.passed
-passed_holds = write_taken_holds (given walked.back 1 1) 2 1 given_root refl root_unheld
+passed_holds : IsCoherent walked.passed_world
+passed_holds = write_taken_holds (after_give walked.back 1 1) 2 1 given_root refl root_unheld
 
-can_fetch : CanFetch walked.passed 2 1
+can_fetch : CanFetch walked.passed_world 2 1
 can_fetch = record { client = refl; leased = refl; missing = inl refl; clear = λ none. absurd (false≢true (sym (ap is_some none))) }
 
 ready_holds : IsCoherent walked.ready
-ready_holds = fetched_holds walked.passed 2 1 passed_holds can_fetch
+ready_holds = fetched_holds walked.passed_world 2 1 passed_holds can_fetch
 
 -- ---- both begin
 
@@ -192,31 +193,31 @@ made_if false false = refl
 
 -- ---- a digest beside the begun call
 
-pub written_holds : IsCoherent walked.written
+pub written_holds : IsCoherent walked.written_world
 written_holds = replied_holds walked.two 1 walked.write_7 two_hold (record { client = refl; there = refl; known = λ e. absurd (cc) })
 
-pub written_step : Step (world_state walked.two) 1 walked.write_7.call (Wrote 1) (world_state (replied walked.two 1 walked.write_7))
+pub written_step : Step (world_state walked.two) 1 walked.write_7.call (Wrote 1) (world_state (after_reply walked.two 1 walked.write_7))
 written_step = replied_step walked.two 1 walked.write_7 two_hold (record { client = refl; there = refl; known = λ e. absurd (cc) })
 
 pub beside_holds : IsCoherent walked.beside
-beside_holds = digested_holds (region_sealed walked.written 1) 1 (walked.write_7.change ∷ []) [] (sealed_holds walked.written 1 written_holds (record { client = refl; idle = refl; some = λ e. absurd (cc); back = λ e. absurd (cc) })) (record { client = refl; some = λ e. absurd (cc); split = refl })
+beside_holds = digested_holds (region_sealed walked.written_world 1) 1 (walked.write_7.change ∷ []) [] (sealed_holds walked.written_world 1 written_holds (record { client = refl; idle = refl; some = λ e. absurd (cc); back = λ e. absurd (cc) })) (record { client = refl; some = λ e. absurd (cc); split = refl })
 
 pub still_begun : IsBegun walked.beside 2 walked.mkdir_b
 still_begun = record { client = refl; there = refl; known = λ e. absurd (cc) }
 
-pub made_step : Step (world_state walked.beside) 2 walked.mkdir_b.call Done (world_state walked.made)
+pub made_step : Step (world_state walked.beside) 2 walked.mkdir_b.call Done (world_state walked.made_world)
 made_step = replied_step walked.beside 2 walked.mkdir_b beside_holds still_begun
 
 -- ---- both regions are sealed
 
-both_answered : IsCoherent (replied walked.written 2 walked.mkdir_b)
-both_answered = replied_holds walked.written 2 walked.mkdir_b written_holds (record { client = refl; there = refl; known = λ e. absurd (cc) })
+both_answered : IsCoherent (after_reply walked.written_world 2 walked.mkdir_b)
+both_answered = replied_holds walked.written_world 2 walked.mkdir_b written_holds (record { client = refl; there = refl; known = λ e. absurd (cc) })
 
-first_sealed : IsCoherent (region_sealed (replied walked.written 2 walked.mkdir_b) 1)
-first_sealed = sealed_holds (replied walked.written 2 walked.mkdir_b) 1 both_answered (record { client = refl; idle = refl; some = λ e. absurd (cc); back = λ e. absurd (cc) })
+first_sealed : IsCoherent (region_sealed (after_reply walked.written_world 2 walked.mkdir_b) 1)
+first_sealed = sealed_holds (after_reply walked.written_world 2 walked.mkdir_b) 1 both_answered (record { client = refl; idle = refl; some = λ e. absurd (cc); back = λ e. absurd (cc) })
 
 pub both_hold : IsCoherent walked.both
-both_hold = sealed_holds (region_sealed (replied walked.written 2 walked.mkdir_b) 1) 2 first_sealed (record { client = refl; idle = refl; some = λ e. absurd (cc); back = λ e. absurd (cc) })
+both_hold = sealed_holds (region_sealed (after_reply walked.written_world 2 walked.mkdir_b) 1) 2 first_sealed (record { client = refl; idle = refl; some = λ e. absurd (cc); back = λ e. absurd (cc) })
 
 pub first_digests : CanDigest walked.both 1 (walked.write_7.change ∷ []) []
 first_digests = record { client = refl; some = λ e. absurd (cc); split = refl }

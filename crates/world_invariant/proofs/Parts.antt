@@ -2,7 +2,7 @@
 use Rattle.std.proofs.Common.{ℕ}
 use Rattle.call_effects.specs.file_graph.Graph.{Graph}
 use Rattle.world_invariant.specs.World.{Account, Client, Kernel, World}
-use Rattle.world_invariant.specs.Standing.{IsBooked, Stands}
+use Rattle.world_invariant.specs.ClientParts.{IsBooked, Stands}
 use Rattle.world_invariant.specs.Invariant.{IsCoherent}
 use Rattle.world_invariant.specs.Parts.{BookPart, NumbersFree, NumbersInRange, NumbersInOneHand, NodesWithin, UnitsFit, HoldsIn, ClientPart, OwnNumber, MarkNotBefore, MarkNotPast, AwayHasRecords, BackHasNone, UnwipedHasNone, UnwipedIsIdle, RecordsLeased, RecordsPaid, RecordsNameNone, RecordsKeepLimits, UnitsBooked, MadeBooked, MadeOnce, GrantedBooked, GrantedUnused, CopiesLeased, BlocksLeased, OpenPinned, PinsBooked, BegunPlanned, BegunHasEffects, BegunPinned, SettledClosed, SettledIdle, HoldsOf, WorldPart, Book, Each, LeasesLegal, WholeSound, WholeKnown, Holds}
 

@@ -13,13 +13,13 @@ use Rattle.call_effects.proofs.file_graph_lemmas.Touches.{alone}
 use Rattle.call_effects.specs.log_record.declared.format.Record.{Record}
 use Rattle.call_effects.specs.Wholes.{IsSound, state_of}
 use Rattle.call_effects.specs.Fits.{IsUnusedFile}
-use Rattle.call_effects.specs.Known.{Agrees}
+use Rattle.call_effects.specs.Knowledge.{Agrees}
 use Rattle.call_effects.proofs.Unused.{same_state, sound_still, agrees_still}
 use Rattle.world_invariant.specs.Logs.{is_made, is_made_in, ArePaid, IsNameless, NamesNone}
 use Rattle.world_invariant.specs.Limits.{IsWithin}
-use Rattle.world_invariant.specs.World.{Begun, World, change_of, log_of, all_of, whole, held, world_state}
+use Rattle.world_invariant.specs.World.{Begun, World, change_of, log_of, all_of, whole_graph, held_descriptors, world_state}
 use Rattle.world_invariant.specs.Invariant.{IsCoherent}
-use Rattle.world_invariant.specs.KernelSteps.{CanReclaim, reclaimed}
+use Rattle.world_invariant.specs.KernelSteps.{CanReclaim, after_reclaim}
 use Rattle.world_invariant.proofs.Records.{either, both, or_first, or_rest, records_alone}
 use Rattle.world_invariant.proofs.Owners.{client_is, owner_of, whole_at}
 use Rattle.world_invariant.proofs.Idle.{none_some}
@@ -77,10 +77,10 @@ module _ (i : ℕ) where
       )
 
 -- what is open is pinned in the book
-open_pinned : (w : World) (i : ℕ) → IsCoherent w → ((c : ℕ) → is_client c ≡ true → (w.kernel.accounts c).pins i ≡ false) → is_open (held w) i ≡ false
+open_pinned : (w : World) (i : ℕ) → IsCoherent w → ((c : ℕ) → is_client c ≡ true → (w.kernel.accounts c).pins i ≡ false) → is_open (held_descriptors w) i ≡ false
 unfolding is_open
-open_pinned w i h unpinned = elim (either (any_up_to 8 (λ c. has_open (held w c) i))) [
-  | inl there ↦ let c = any_is 8 (λ c. has_open (held w c) i) there in absurd (by_client c.k (client_is c.k c.low c.high) c.passes)
+open_pinned w i h unpinned = elim (either (any_up_to 8 (λ c. has_open (held_descriptors w c) i))) [
+  | inl there ↦ let c = any_is 8 (λ c. has_open (held_descriptors w c) i) there in absurd (by_client c.k (client_is c.k c.low c.high) c.passes)
   | inr closed ↦ closed
 ]
   where
@@ -90,15 +90,15 @@ open_pinned w i h unpinned = elim (either (any_up_to 8 (λ c. has_open (held w c
       | Some o ↦ λ is e. (o, is, eqb-true o.inode i e)
     ] refl e
 
-    by_client : (c : ℕ) → is_client c ≡ true → has_open (held w c) i ≡ true → ⊥
+    by_client : (c : ℕ) → is_client c ≡ true → has_open (held_descriptors w c) i ≡ true → ⊥
     by_client c is_c e =
-        let n = any_is 32 (λ n. refers_to i (held w c (n - 1))) e in
-        let o = referred (held w c) (n.k - 1) i n.passes in
+        let n = any_is 32 (λ n. refers_to i (held_descriptors w c (n - 1))) e in
+        let o = referred (held_descriptors w c) (n.k - 1) i n.passes in
         let own : (w.clients c).knows.own (n.k - 1) ≡ Some o.0 = sym (ap (λ b. cond b ((w.clients c).knows.own (n.k - 1)) None) is_c) ∙ o.1 in
         both ((w.kernel.accounts c).pins i) ((h.stands c is_c).pinned.booked i (subst (λ j. (w.clients c).pins j ≡ true) o.2 ((h.stands c is_c).pinned.opened (n.k - 1) o.0 own))) (unpinned c is_c)
 
 -- a file of the shared graph that has no name there has none in the whole
-pub nameless_whole : (w : World) (i : ℕ) → IsCoherent w → IsNameless (w.kernel.shared i) → IsNameless (whole w i)
+pub nameless_whole : (w : World) (i : ℕ) → IsCoherent w → IsNameless (w.kernel.shared i) → IsNameless (whole_graph w i)
 nameless_whole w i h file =
     let o = owner_of (log_of w) i (apart_logs w h) in
     let none = along_front NamesNone (log_of w o.0) (change_of (w.clients o.0).begun) w.kernel.shared ((h.stands o.0 o.1.client).logged.unnamed) in
@@ -139,30 +139,30 @@ module _ (w : World) (i : ℕ) (h : IsCoherent w) (can : CanReclaim w.kernel i) 
   all_unmade : (d : ℕ) → is_client d ≡ true → is_made_in i (all_of w d) ≡ false
   all_unmade d is_d = unmade_append i (log_of w d) (change_of (w.clients d).begun) (log_unmade d is_d) (begun_unmade d is_d ((w.clients d).begun) refl)
 
-  pub reclaimed_whole : whole (reclaimed w i) ≡ set_node (whole w) i None
+  pub reclaimed_whole : whole_graph (after_reclaim w i) ≡ set_node (whole_graph w) i None
   reclaimed_whole = λ t j. at j t
     where
-      at : (j : ℕ) → whole (reclaimed w i) j ≡ set_node (whole w) i None j
+      at : (j : ℕ) → whole_graph (after_reclaim w i) j ≡ set_node (whole_graph w) i None j
       at j = elim (eqb_tells j i) [
         | inl same ↦
-            ap (λ x. whole (reclaimed w i) x) same.1
+            ap (λ x. whole_graph (after_reclaim w i) x) same.1
             ∙ clients_none 8 (log_of w) shared i gone (λ d low high. log_unmade d (client_is d low high))
-            ∙ sym (ap (λ b. cond b None (whole w j)) same.0)
+            ∙ sym (ap (λ b. cond b None (whole_graph w j)) same.0)
         | inr off ↦
             let o = owner_of (log_of w) j (apart_logs w h) in
             whole_at (log_of w) shared o.0 j o.1
             ∙ records_alone shared w.kernel.shared (log_of w o.0) j (else_same j off.1)
             ∙ sym (whole_at (log_of w) w.kernel.shared o.0 j o.1)
-            ∙ sym (ap (λ b. cond b None (whole w j)) off.0)
+            ∙ sym (ap (λ b. cond b None (whole_graph w j)) off.0)
       ]
 
-  unused : IsUnusedFile (whole w) (held w) i
+  unused : IsUnusedFile (whole_graph w) (held_descriptors w) i
   unused = let file = nameless_whole w i h can.file in record { bytes = file.bytes; is = file.is; closed = open_pinned w i h can.unpinned }
 
-  pub reclaimed_tree : world_state (reclaimed w i) ≡ world_state w
-  reclaimed_tree = ap (λ g. state_of g (held w)) reclaimed_whole ∙ same_state (whole w) (held w) i unused
+  pub reclaimed_tree : world_state (after_reclaim w i) ≡ world_state w
+  reclaimed_tree = ap (λ g. state_of g (held_descriptors w)) reclaimed_whole ∙ same_state (whole_graph w) (held_descriptors w) i unused
 
-  pub reclaimed_holds : IsCoherent (reclaimed w i)
+  pub reclaimed_holds : IsCoherent (after_reclaim w i)
   reclaimed_holds =
       let less : charge shared ≤ charge w.kernel.shared = charge_less i w.kernel.shared shared gone else_same in
       let fits : charge w.kernel.shared + sum_up_to 8 (λ d. (w.kernel.accounts d).units) ≤ w.kernel.capacity = h.booked.fits in
@@ -187,6 +187,6 @@ module _ (w : World) (i : ℕ) (h : IsCoherent w) (can : CanReclaim w.kernel i) 
           pending = s.pending;
         };
         beside = h.beside;
-        sound = subst (λ g. IsSound g (held w)) (sym reclaimed_whole) (sound_still (whole w) (held w) i unused h.sound);
-        agrees = λ c is_c. subst (λ g. Agrees (w.clients c).knows g (held w)) (sym reclaimed_whole) (agrees_still (whole w) (held w) i unused (w.clients c).knows (h.agrees c is_c));
+        sound = subst (λ g. IsSound g (held_descriptors w)) (sym reclaimed_whole) (sound_still (whole_graph w) (held_descriptors w) i unused h.sound);
+        agrees = λ c is_c. subst (λ g. Agrees (w.clients c).knows g (held_descriptors w)) (sym reclaimed_whole) (agrees_still (whole_graph w) (held_descriptors w) i unused (w.clients c).knows (h.agrees c is_c));
       }

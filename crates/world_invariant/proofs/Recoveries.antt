@@ -9,7 +9,7 @@ use Rattle.call_effects.specs.file_graph.Graph.{Graph, set_node}
 use Rattle.call_effects.specs.file_graph.Units.{charge}
 use Rattle.call_effects.specs.log_record.declared.format.Record.{Record}
 use Rattle.call_effects.specs.Fits.{IsUnusedFile}
-use Rattle.call_effects.specs.Settled.{nobody, settled_graph}
+use Rattle.call_effects.specs.ClosedGraph.{nobody, settled_graph}
 use Rattle.call_effects.specs.Wholes.{IsSound, state_of}
 use Rattle.call_effects.proofs.Settled.{closed_state, settled_state}
 use Rattle.call_effects.proofs.Unused.{same_state, sound_still}

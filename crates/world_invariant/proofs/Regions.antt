@@ -6,7 +6,7 @@ use Rattle.call_effects.specs.posix_calls.Operations.{is_client}
 use Rattle.call_effects.specs.log_record.declared.format.Record.{Record}
 use Rattle.world_invariant.specs.Logs.{units_in}
 use Rattle.world_invariant.specs.World.{Region, Wiped, Away, Back, Client, World, records_of, change_of, log_of, world_state}
-use Rattle.world_invariant.specs.Standing.{IsMarked, StartsWiped, IsLogged, IsNumbered, Stands}
+use Rattle.world_invariant.specs.ClientParts.{IsMarked, StartsWiped, IsLogged, IsNumbered, Stands}
 use Rattle.world_invariant.specs.Invariant.{IsCoherent}
 use Rattle.world_invariant.specs.ClientSteps.{with_client}
 use Rattle.world_invariant.specs.RegionSteps.{CanSeal, region_sealed, CanTakeBack, taken_back, is_wiped, other_wiped, current_wiped}

@@ -2,7 +2,7 @@
 use Rattle.std.proofs.Common.{◌≡◌, ◌≢◌, inl, inr, ℕ, ◌+◌, ◌-◌, ◌≤◌, ◌==◌, ◌||◌, true, false, List, [], ◌∷◌, ◌++◌, drop, refl, None, Err, ap, sym, ◌∙◌, subst, append_assoc}
 use Rattle.std.proofs.lemmas.Bool.{false≢true, eqb-true, eq-eqb}
 use Rattle.call_effects.specs.posix_calls.Tree.{with_own}
-use Rattle.call_effects.specs.posix_calls.Query.{Known, run_part}
+use Rattle.call_effects.specs.posix_calls.Part.{Known, run_part}
 use Rattle.call_effects.specs.posix_calls.Decide.{decide}
 use Rattle.call_effects.specs.posix_calls.Operations.{is_client, makes, own_after, reply_of, Step}
 use Rattle.call_effects.specs.posix_calls.declared.call.Call.{Call}
@@ -12,13 +12,13 @@ use Rattle.call_effects.specs.posix_calls.declared.operation.Operation.{Operatio
 use Rattle.call_effects.specs.file_graph.Graph.{after_effects, is_among, touches}
 use Rattle.call_effects.specs.file_graph.declared.effect.Effect.{Effect}
 use Rattle.call_effects.specs.Wholes.{IsSound, state_of}
-use Rattle.call_effects.specs.Known.{Agrees, IsPlanned, part_of, knows_after}
+use Rattle.call_effects.specs.Knowledge.{Agrees, IsPlanned, part_of, knows_after}
 use Rattle.call_effects.proofs.KnownSteps.{planned_step, refused_step}
 use Rattle.world_invariant.specs.Logs.{is_written, is_touched, is_made, is_made_in, units_in, ArePaid, NameNone, KeepLimits, LogsAreApart}
-use Rattle.world_invariant.specs.World.{Begun, Client, Account, World, undigested, records_of, change_of, log_of, all_of, whole, held, world_state}
-use Rattle.world_invariant.specs.Standing.{is_settled, IsNumbered, Stands}
+use Rattle.world_invariant.specs.World.{Begun, Client, Account, World, undigested_records, records_of, change_of, log_of, all_of, whole_graph, held_descriptors, world_state}
+use Rattle.world_invariant.specs.ClientParts.{is_settled, IsNumbered, Stands}
 use Rattle.world_invariant.specs.Invariant.{IsCoherent}
-use Rattle.world_invariant.specs.ClientSteps.{CanAnswer, answered, IsBegun, replied}
+use Rattle.world_invariant.specs.ClientSteps.{CanAnswer, after_answer, IsBegun, after_reply}
 use Rattle.world_invariant.proofs.Records.{either, both, append_nil, front_written, rest_written, in_first}
 use Rattle.world_invariant.proofs.Owners.{appended_whole}
 use Rattle.world_invariant.proofs.Idle.{none_some}
@@ -30,14 +30,14 @@ use Rattle.world_invariant.proofs.Moved.{both_same, holds_moved, booked_same, be
 -- a step of what a client knows is one of the tree
 module _ (w : World) (c : ℕ) (h : IsCoherent w) (is_c : is_client c ≡ true) where
   pub known_step : (call : Call) (new : ℕ) (operation : Operation) (es : List Effect) → IsPlanned (w.clients c).knows call new operation es
-      → Step (world_state w) c call (reply_of operation) (state_of (after_effects (whole w) es) (with_own (held w) c (own_after new (w.clients c).knows.own operation)))
+      → Step (world_state w) c call (reply_of operation) (state_of (after_effects (whole_graph w) es) (with_own (held_descriptors w) c (own_after new (w.clients c).knows.own operation)))
   known_step call new operation es planned =
-      subst (λ d. Step (world_state w) d call (reply_of operation) (state_of (after_effects (whole w) es) (with_own (held w) d (own_after new (w.clients c).knows.own operation)))) (h.stands c is_c).number
-      (planned_step (w.clients c).knows (whole w) (held w) h.sound (h.agrees c is_c) call new operation es planned)
+      subst (λ d. Step (world_state w) d call (reply_of operation) (state_of (after_effects (whole_graph w) es) (with_own (held_descriptors w) d (own_after new (w.clients c).knows.own operation)))) (h.stands c is_c).number
+      (planned_step (w.clients c).knows (whole_graph w) (held_descriptors w) h.sound (h.agrees c is_c) call new operation es planned)
 
   -- a call that is refused by what the client knows
   pub refused : (call : Call) (e : Errno) → run_part (part_of (w.clients c).knows) (decide (w.clients c).knows.own call) ≡ Known (Err e) → Step (world_state w) c call (reply.Failed e) (world_state w)
-  refused call e known = subst (λ d. Step (world_state w) d call (reply.Failed e) (world_state w)) (h.stands c is_c).number (refused_step (w.clients c).knows (whole w) (held w) h.sound (h.agrees c is_c) call e known)
+  refused call e known = subst (λ d. Step (world_state w) d call (reply.Failed e) (world_state w)) (h.stands c is_c).number (refused_step (w.clients c).knows (whole_graph w) (held_descriptors w) h.sound (h.agrees c is_c) call e known)
 
 -- ---- without a record
 
@@ -45,16 +45,16 @@ module _ (w : World) (c : ℕ) (call : Call) (new : ℕ) (operation : Operation)
   abbrev told : Client
   told = record (w.clients c) { knows = knows_after (w.clients c).knows new operation [] }
 
-  told_whole : whole (answered w c new operation) ≡ whole w
+  told_whole : whole_graph (after_answer w c new operation) ≡ whole_graph w
   told_whole = whole_same w c w.kernel.shared (w.kernel.accounts c) told refl refl
 
-  told_held : held (answered w c new operation) ≡ with_own (held w) c (own_after new (w.clients c).knows.own operation)
+  told_held : held_descriptors (after_answer w c new operation) ≡ with_own (held_descriptors w) c (own_after new (w.clients c).knows.own operation)
   told_held = held_moved w c w.kernel.shared (w.kernel.accounts c) told can.client
 
   touches_none : (i : ℕ) → is_among i (touches []) ≡ true → (w.clients c).writes i ≡ true
   touches_none i e = absurd (false≢true e)
 
-  pub answered_holds : IsCoherent (answered w c new operation)
+  pub answered_holds : IsCoherent (after_answer w c new operation)
   answered_holds =
       let s = h.stands c can.client in
       holds_moved w c w.kernel.shared (w.kernel.accounts c) told h can.client
@@ -77,7 +77,7 @@ module _ (w : World) (c : ℕ) (call : Call) (new : ℕ) (operation : Operation)
       (both_same (λ g o. Agrees (knows_after (w.clients c).knows new operation []) g o) told_whole told_held (own_agrees_after w c h can.client call new operation [] can.planned touches_none))
       (λ d is_d other. both_same (λ g o. Agrees (w.clients d).knows g o) told_whole told_held (others_agree_after w c h can.client call new operation [] can.planned touches_none d is_d other))
 
-  pub answered_step : Step (world_state w) c call (reply_of operation) (world_state (answered w c new operation))
+  pub answered_step : Step (world_state w) c call (reply_of operation) (world_state (after_answer w c new operation))
   answered_step = both_same (λ g o. Step (world_state w) c call (reply_of operation) (state_of g o)) told_whole told_held (known_step w c h can.client call new operation [] can.planned)
 
 -- ---- with its record
@@ -101,39 +101,39 @@ module _ (w : World) (c : ℕ) (b : Begun) (h : IsCoherent w) (is : IsBegun w c 
   all_were : records_of account was ≡ log_of w c ++ (b.change ∷ [])
   all_were = ap (λ o. log_of w c ++ change_of o) is.there
 
-  log_is : undigested account logged ≡ log_of w c ++ (b.change ∷ [])
+  log_is : undigested_records account logged ≡ log_of w c ++ (b.change ∷ [])
   log_is = sym (append_assoc (drop (account.mark - was.past) was.sealed) was.current (b.change ∷ []))
 
   -- the records, the begun one among them, are the same
   all_same : records_of account logged ≡ records_of account was
-  all_same = append_nil (undigested account logged) ∙ log_is ∙ sym all_were
+  all_same = append_nil (undigested_records account logged) ∙ log_is ∙ sym all_were
 
   leased : (i : ℕ) → is_among i (touches b.change.effects) ≡ true → was.writes i ≡ true
   leased i e = s.logged.leased i (ap (is_written i) all_were ∙ rest_written i (log_of w c) (b.change ∷ []) (in_first (is_touched i b.change) false e))
 
-  new_log : log_of (replied w c b) c ≡ log_of w c ++ (b.change ∷ [])
+  new_log : log_of (after_reply w c b) c ≡ log_of w c ++ (b.change ∷ [])
   new_log = log_there w c w.kernel.shared account logged ∙ log_is
 
-  logs_apart : LogsAreApart (log_of (replied w c b))
-  logs_apart = apart_less (all_of w) (log_of (replied w c b)) (λ d i is_d e. elim (◌==◌ d c) as (λ t. (d == c) ≡ t → is_written i (all_of w d) ≡ true) [
+  logs_apart : LogsAreApart (log_of (after_reply w c b))
+  logs_apart = apart_less (all_of w) (log_of (after_reply w c b)) (λ d i is_d e. elim (◌==◌ d c) as (λ t. (d == c) ≡ t → is_written i (all_of w d) ≡ true) [
     | true ↦ λ same. here d i (eqb-true d c same) e
     | false ↦ λ off. there d i (λ same. both (d == c) (eq-eqb d c same) off) e
   ] refl) (apart_all w h)
     where
-      here : (d i : ℕ) → d ≡ c → is_written i (log_of (replied w c b) d) ≡ true → is_written i (all_of w d) ≡ true
-      here d i same e = ap (λ x. is_written i (all_of w x)) same ∙ ap (is_written i) (all_were ∙ sym new_log) ∙ ap (λ x. is_written i (log_of (replied w c b) x)) (sym same) ∙ e
+      here : (d i : ℕ) → d ≡ c → is_written i (log_of (after_reply w c b) d) ≡ true → is_written i (all_of w d) ≡ true
+      here d i same e = ap (λ x. is_written i (all_of w x)) same ∙ ap (is_written i) (all_were ∙ sym new_log) ∙ ap (λ x. is_written i (log_of (after_reply w c b) x)) (sym same) ∙ e
 
-      there : (d i : ℕ) → d ≢ c → is_written i (log_of (replied w c b) d) ≡ true → is_written i (all_of w d) ≡ true
+      there : (d i : ℕ) → d ≢ c → is_written i (log_of (after_reply w c b) d) ≡ true → is_written i (all_of w d) ≡ true
       there d i other e = front_written i (log_of w d) (change_of (w.clients d).begun) (ap (is_written i) (sym (log_else w c w.kernel.shared account logged d other)) ∙ e)
 
-  pub replied_whole : whole (replied w c b) ≡ after_effects (whole w) b.change.effects
-  replied_whole = λ t i. appended_whole (log_of w) (log_of (replied w c b)) w.kernel.shared c (b.change ∷ []) is.client logs_apart new_log (log_else w c w.kernel.shared account logged) i t
+  pub replied_whole : whole_graph (after_reply w c b) ≡ after_effects (whole_graph w) b.change.effects
+  replied_whole = λ t i. appended_whole (log_of w) (log_of (after_reply w c b)) w.kernel.shared c (b.change ∷ []) is.client logs_apart new_log (log_else w c w.kernel.shared account logged) i t
 
-  held_is : held (replied w c b) ≡ with_own (held w) c (own_after b.new was.knows.own b.operation)
+  held_is : held_descriptors (after_reply w c b) ≡ with_own (held_descriptors w) c (own_after b.new was.knows.own b.operation)
   held_is = held_moved w c w.kernel.shared account logged is.client
 
   -- the number of the new node is used up
-  numbered : IsNumbered account.numbers logged.knows.granted (undigested account logged)
+  numbered : IsNumbered account.numbers logged.knows.granted (undigested_records account logged)
   numbered = subst (λ log. IsNumbered account.numbers logged.knows.granted log) (sym log_is) (record {
     made = λ i e. elim (either (is_made_in i (log_of w c))) [
       | inl there ↦ s.numbered.made i there
@@ -156,7 +156,7 @@ module _ (w : World) (c : ℕ) (b : Begun) (h : IsCoherent w) (is : IsBegun w c 
         | inr off ↦ both (is_made_in i (log_of w c ++ (b.change ∷ []))) e (unmade_append i (log_of w c) (b.change ∷ []) clean (ap (λ x. x || false) off))
       ]
 
-  pub replied_holds : IsCoherent (replied w c b)
+  pub replied_holds : IsCoherent (after_reply w c b)
   replied_holds =
       holds_moved w c w.kernel.shared account logged h is.client
       (booked_same w c logged h is.client)
@@ -178,5 +178,5 @@ module _ (w : World) (c : ℕ) (b : Begun) (h : IsCoherent w) (is : IsBegun w c 
       (both_same (λ g o. Agrees logged.knows g o) replied_whole held_is (own_agrees_after w c h is.client b.call b.new b.operation b.change.effects planned leased))
       (λ d is_d other. both_same (λ g o. Agrees (w.clients d).knows g o) replied_whole held_is (others_agree_after w c h is.client b.call b.new b.operation b.change.effects planned leased d is_d other))
 
-  pub replied_step : Step (world_state w) c b.call (reply_of b.operation) (world_state (replied w c b))
+  pub replied_step : Step (world_state w) c b.call (reply_of b.operation) (world_state (after_reply w c b))
   replied_step = both_same (λ g o. Step (world_state w) c b.call (reply_of b.operation) (state_of g o)) replied_whole held_is (known_step w c h is.client b.call b.new b.operation b.change.effects planned)

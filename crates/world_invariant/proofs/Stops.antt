@@ -11,7 +11,7 @@ use Rattle.call_effects.specs.file_graph.Graph.{Graph, after_effects, is_among, 
 use Rattle.call_effects.specs.file_graph.Units.{charge}
 use Rattle.call_effects.specs.log_record.declared.format.Record.{Record}
 use Rattle.call_effects.specs.Wholes.{IsSound, state_of}
-use Rattle.call_effects.specs.Known.{Knowledge, Agrees, IsPlanned}
+use Rattle.call_effects.specs.Knowledge.{Knowledge, Agrees, IsPlanned}
 use Rattle.call_effects.proofs.Settled.{closed_sound, settled_state, settled_well_formed, settled_within}
 use Rattle.call_effects.proofs.Limits.{seen_within}
 use Rattle.call_effects.proofs.KnownSteps.{planned_step, planned_sound}
@@ -19,9 +19,9 @@ use Rattle.call_effects.proofs.KnownAfter.{other_agrees}
 use Rattle.world_invariant.specs.Limits.{IsWithin}
 use Rattle.world_invariant.specs.Recovery.{IsRecoverable}
 use Rattle.world_invariant.specs.Logs.{after_records, after_each, is_written, is_touched, units_in, IsPaid, ArePaid, Keeps, KeepLimits, LogsAreApart, IsDistinct, IsOrder}
-use Rattle.world_invariant.specs.World.{Begun, World, change_of, records_of, log_of, all_of, has_lease, whole, held, world_state, at}
+use Rattle.world_invariant.specs.World.{Begun, World, change_of, records_of, log_of, all_of, has_lease, whole_graph, held_descriptors, world_state, at}
 use Rattle.world_invariant.specs.Invariant.{IsCoherent}
-use Rattle.world_invariant.specs.Outcome.{Unfinished, AreSomeOf}
+use Rattle.call_effects.specs.posix_calls.Outcome.{Unfinished, AreSomeOf}
 use Rattle.world_invariant.specs.Stop.{Leaves, stored_graph, begun_calls, Stores}
 use Rattle.world_invariant.proofs.Records.{either, both, in_first, in_rest, append_nil, front_written, rest_written, units_append}
 use Rattle.world_invariant.proofs.Owners.{is_low, is_high, client_is, ended_whole, first_in, among_rest}
@@ -230,11 +230,11 @@ module _ (w : World) (logs : ℕ → List Record) (h : IsCoherent w) (left : Lea
       let last : units_in (logs (suc n)) ≤ (w.kernel.accounts (suc n)).units = stop_units (suc n) is_c in
       omega (arith, before, last)
 
-  ends : Ends w h more (begun_calls w) all_clients (whole w) (held w)
-  ends = begun_run w h more (λ c is_c. some_more c (either (is_client c)) is_c) all_clients (begun_calls w) (whole w) (held w)
+  ends : Ends w h more (begun_calls w) all_clients (whole_graph w) (held_descriptors w)
+  ends = begun_run w h more (λ c is_c. some_more c (either (is_client c)) is_c) all_clients (begun_calls w) (whole_graph w) (held_descriptors w)
       (record { once = the_order.once; clients = the_order.clients; sound = h.sound; agrees = λ c there. h.agrees c (the_order.clients c there) }) (λ c there. refl)
 
-  stored_is : stored_graph w logs ≡ after_each more (whole w) all_clients
+  stored_is : stored_graph w logs ≡ after_each more (whole_graph w) all_clients
   stored_is = λ t i. ended_whole (log_of w) logs more w.kernel.shared all_clients stop_apart (λ c is_c. logs_end c (either (is_client c)) is_c) the_order i t
 
   stop_recoverable : IsSound (stored_graph w logs) ends.last → IsRecoverable w.kernel.capacity w.kernel.shared logs

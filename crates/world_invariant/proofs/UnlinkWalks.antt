@@ -4,14 +4,14 @@ use Rattle.std.specs.Prelude.{min, is_some}
 use Rattle.std.specs.FinMap as fin
 use Rattle.std.proofs.lemmas.Bool.{false≢true}
 use Rattle.std.proofs.lemmas.Bool.Decides.{eqb_tells}
-use Rattle.call_effects.specs.posix_calls.Content.{file_units, directory_units}
+use Rattle.call_effects.specs.posix_calls.Units.{file_units, directory_units}
 use Rattle.call_effects.specs.posix_calls.Operations.{Step}
 use Rattle.call_effects.specs.posix_calls.declared.call.Reply.TheVariants.{Done, Opened}
-use Rattle.call_effects.specs.posix_calls.Query.{Known, run_part}
+use Rattle.call_effects.specs.posix_calls.Part.{Known, run_part}
 use Rattle.call_effects.specs.posix_calls.Walk.{walk}
 use Rattle.call_effects.specs.posix_calls.Decide.{open_path, unlink, close}
 use Rattle.call_effects.proofs.posix_calls_lemmas.Directory.{lists}
-use Rattle.call_effects.specs.Known.{part_of}
+use Rattle.call_effects.specs.Knowledge.{part_of}
 use Rattle.call_effects.specs.Records.{units_asked}
 use Rattle.world_invariant.specs.Logs.{is_touched, IsNameless}
 use Rattle.world_invariant.specs.World.{world_state}
@@ -77,31 +77,31 @@ can_open = record {
   pinned = λ what e. let same : (0, record { inode = 2; reads = true; writes = true }) ≡ what = cc in ap (λ o. (walked.ready.clients 1).pins o.1.inode) (sym same);
 }
 
-pub opening_holds : IsCoherent walked.opening
+pub opening_holds : IsCoherent walked.initial_world
 opening_holds = begun_holds walked.ready 1 walked.open_a start_holds can_open
 
-opening_begun : IsBegun walked.opening 1 walked.open_a
+opening_begun : IsBegun walked.initial_world 1 walked.open_a
 opening_begun = record { client = refl; there = refl; known = λ e. absurd (cc) }
 
-pub opened_holds : IsCoherent walked.opened
-opened_holds = replied_holds walked.opening 1 walked.open_a opening_holds opening_begun
+pub opened_holds : IsCoherent walked.opened_world
+opened_holds = replied_holds walked.initial_world 1 walked.open_a opening_holds opening_begun
 
-pub opened_step : Step (world_state walked.opening) 1 walked.open_a.call (Opened 0) (world_state walked.opened)
-opened_step = replied_step walked.opening 1 walked.open_a opening_holds opening_begun
+pub opened_step : Step (world_state walked.initial_world) 1 walked.open_a.call (Opened 0) (world_state walked.opened_world)
+opened_step = replied_step walked.initial_world 1 walked.open_a opening_holds opening_begun
 
 -- ---- unlink
 
-can_fetch : CanFetch walked.opened 1 2
+can_fetch : CanFetch walked.opened_world 1 2
 can_fetch = record { client = refl; leased = refl; missing = inl refl; clear = λ none. absurd (false≢true (sym (ap is_some none))) }
 
-pub known_holds : IsCoherent walked.known
-known_holds = fetched_holds walked.opened 1 2 opened_holds can_fetch
+pub known_holds : IsCoherent walked.known_world
+known_holds = fetched_holds walked.opened_world 1 2 opened_holds can_fetch
 
-unlink_comes : run_part (part_of (walked.known.clients 1).knows) (unlink (47 ∷ 97 ∷ [])) ≡ Known (Ok walked.unlink_a.operation)
+unlink_comes : run_part (part_of (walked.known_world.clients 1).knows) (unlink (47 ∷ 97 ∷ [])) ≡ Known (Ok walked.unlink_a.operation)
 unfolding unlink walk
 unlink_comes = simp (parts, lists, fin.gets) refl
 
-pub can_unlink : CanBegin walked.known 1 walked.unlink_a
+pub can_unlink : CanBegin walked.known_world 1 walked.unlink_a
 can_unlink = record {
   client = refl;
   alive = refl;
@@ -118,37 +118,37 @@ can_unlink = record {
     wider : (i : ℕ) → is_touched i walked.unlink_a.change ≡ true → is_touched i made.mkdir_a.change ≡ true
     wider i e = elim (2 == i) as (λ b. (1 == i || (b || false)) ≡ true → (b || (1 == i || (b || false))) ≡ true) [ true ↦ λ e. refl | false ↦ λ e. e ] e
 
-pub unlinking_holds : IsCoherent walked.unlinking
-unlinking_holds = begun_holds walked.known 1 walked.unlink_a known_holds can_unlink
+pub unlinking_holds : IsCoherent walked.unlink_world
+unlinking_holds = begun_holds walked.known_world 1 walked.unlink_a known_holds can_unlink
 
-unlinking_begun : IsBegun walked.unlinking 1 walked.unlink_a
+unlinking_begun : IsBegun walked.unlink_world 1 walked.unlink_a
 unlinking_begun = record { client = refl; there = refl; known = λ e. absurd (cc) }
 
-pub unlinked_holds : IsCoherent walked.unlinked
-unlinked_holds = replied_holds walked.unlinking 1 walked.unlink_a unlinking_holds unlinking_begun
+pub unlinked_holds : IsCoherent walked.unlinked_world
+unlinked_holds = replied_holds walked.unlink_world 1 walked.unlink_a unlinking_holds unlinking_begun
 
-pub unlinked_step : Step (world_state walked.unlinking) 1 walked.unlink_a.call Done (world_state walked.unlinked)
-unlinked_step = replied_step walked.unlinking 1 walked.unlink_a unlinking_holds unlinking_begun
+pub unlinked_step : Step (world_state walked.unlink_world) 1 walked.unlink_a.call Done (world_state walked.unlinked_world)
+unlinked_step = replied_step walked.unlink_world 1 walked.unlink_a unlinking_holds unlinking_begun
 
 -- ---- digested
 
-pub kept_holds : IsCoherent walked.kept
-kept_holds = digested_holds (region_sealed walked.unlinked 1) 1 (walked.open_a.change ∷ walked.unlink_a.change ∷ []) [] (sealed_holds walked.unlinked 1 unlinked_holds (record { client = refl; idle = refl; some = λ e. absurd (cc); back = λ e. absurd (cc) })) (record { client = refl; some = λ e. absurd (cc); split = refl })
+pub kept_holds : IsCoherent walked.kept_world
+kept_holds = digested_holds (region_sealed walked.unlinked_world 1) 1 (walked.open_a.change ∷ walked.unlink_a.change ∷ []) [] (sealed_holds walked.unlinked_world 1 unlinked_holds (record { client = refl; idle = refl; some = λ e. absurd (cc); back = λ e. absurd (cc) })) (record { client = refl; some = λ e. absurd (cc); split = refl })
 
-pub kept_nameless : IsNameless (walked.kept.kernel.shared 2)
+pub kept_nameless : IsNameless (walked.kept_world.kernel.shared 2)
 kept_nameless = record { bytes = []; is = refl }
 
 -- while it is open it is pinned
-pub kept_unreclaimed : CanReclaim walked.kept.kernel 2 → ⊥
+pub kept_unreclaimed : CanReclaim walked.kept_world.kernel 2 → ⊥
 kept_unreclaimed can = false≢true (sym (can.unpinned 1 refl))
 
 -- ---- closed
 
-close_comes : run_part (part_of (walked.kept.clients 1).knows) (close (walked.kept.clients 1).knows.own 0) ≡ Known (Ok walked.closing)
+close_comes : run_part (part_of (walked.kept_world.clients 1).knows) (close (walked.kept_world.clients 1).knows.own 0) ≡ Known (Ok walked.close_operation)
 unfolding close
 close_comes = simp parts refl
 
-can_close : CanAnswer walked.kept 1 walked.close_0 0 walked.closing
+can_close : CanAnswer walked.kept_world 1 walked.close_0 0 walked.close_operation
 can_close = record {
   client = refl;
   alive = refl;
@@ -157,33 +157,33 @@ can_close = record {
   pinned = λ what e. none_some what e;
 }
 
-pub closed_holds : IsCoherent walked.closed
-closed_holds = answered_holds walked.kept 1 walked.close_0 0 walked.closing kept_holds can_close
+pub closed_holds : IsCoherent walked.closed_world
+closed_holds = answered_holds walked.kept_world 1 walked.close_0 0 walked.close_operation kept_holds can_close
 
-pub closed_step : Step (world_state walked.kept) 1 walked.close_0 Done (world_state walked.closed)
-closed_step = answered_step walked.kept 1 walked.close_0 0 walked.closing kept_holds can_close
+pub closed_step : Step (world_state walked.kept_world) 1 walked.close_0 Done (world_state walked.closed_world)
+closed_step = answered_step walked.kept_world 1 walked.close_0 0 walked.close_operation kept_holds can_close
 
-can_unpin : CanUnpin walked.closed 1 2
+can_unpin : CanUnpin walked.closed_world 1 2
 can_unpin = record {
   client = refl;
   idle = inl refl;
   closed = λ n o e. elim (eqb_tells n 0) [
-    | inl same ↦ none_some o (sym (ap (λ m. (walked.closed.clients 1).knows.own m) same.1) ∙ e)
+    | inl same ↦ none_some o (sym (ap (λ m. (walked.closed_world.clients 1).knows.own m) same.1) ∙ e)
     | inr off ↦ none_some o (sym (ap (λ b. cond b None (cond b (Some (record { inode = 2; reads = true; writes = true })) None)) off.0) ∙ e)
   ];
 }
 
-released_holds : IsCoherent walked.released
-released_holds = unpinned_holds walked.closed 1 2 closed_holds can_unpin
+released_holds : IsCoherent walked.released_world
+released_holds = unpinned_holds walked.closed_world 1 2 closed_holds can_unpin
 
-pub can_reclaim : CanReclaim walked.released.kernel 2
+pub can_reclaim : CanReclaim walked.released_world.kernel 2
 can_reclaim = record {
   file = record { bytes = []; is = refl };
-  unpinned = λ c is_c. eight (λ c. (walked.released.kernel.accounts c).pins 2 ≡ false) refl refl refl refl refl refl refl refl c (is_low c is_c) (is_high c is_c);
+  unpinned = λ c is_c. eight (λ c. (walked.released_world.kernel.accounts c).pins 2 ≡ false) refl refl refl refl refl refl refl refl c (is_low c is_c) (is_high c is_c);
 }
 
-pub emptied_holds : IsCoherent walked.emptied
-emptied_holds = reclaimed_holds walked.released 2 released_holds can_reclaim
+pub emptied_holds : IsCoherent walked.emptied_world
+emptied_holds = reclaimed_holds walked.released_world 2 released_holds can_reclaim
 
-pub emptied_tree : world_state walked.emptied ≡ world_state walked.released
-emptied_tree = reclaimed_tree walked.released 2 released_holds can_reclaim
+pub emptied_tree : world_state walked.emptied_world ≡ world_state walked.released_world
+emptied_tree = reclaimed_tree walked.released_world 2 released_holds can_reclaim

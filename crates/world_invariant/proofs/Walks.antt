@@ -4,11 +4,13 @@ use Rattle.std.specs.Prelude.{min}
 use Rattle.std.specs.FinMap as fin
 use Rattle.std.proofs.lemmas.Bool.{false≢true}
 use Rattle.std.proofs.lemmas.Bool.Decides.{eqb_tells}
-use Rattle.call_effects.specs.posix_calls.Content.{directory_units}
-use Rattle.call_effects.specs.posix_calls.Tree.{sum_up_to, opening}
+use Rattle.call_effects.specs.posix_calls.Units.{directory_units}
+use Rattle.call_effects.specs.posix_calls.Tree.{sum_up_to}
+use Rattle.call_effects.specs.posix_calls.EmptyTree.{empty_state}
 use Rattle.call_effects.specs.posix_calls.Operations.{is_client, Step}
 use Rattle.call_effects.specs.posix_calls.declared.call.Reply.TheVariants.{Done}
-use Rattle.call_effects.specs.posix_calls.Query.{Seen, Query, IsDir, Look, Part, Found, Known, Unknown, run_part}
+use Rattle.call_effects.specs.posix_calls.Query.{Seen, Query, IsDir, Look}
+use Rattle.call_effects.specs.posix_calls.Part.{Part, Found, Known, Unknown, run_part}
 use Rattle.call_effects.specs.posix_calls.Walk.{walk}
 use Rattle.call_effects.specs.posix_calls.Decide.{mkdir}
 use Rattle.call_effects.specs.posix_calls.declared.operation.Missing.{Missing}
@@ -23,7 +25,7 @@ use Rattle.call_effects.specs.file_graph.declared.effect.Kind.{Kind}
 use Rattle.call_effects.specs.NodeView.{view_at}
 use Rattle.call_effects.specs.Records.{units_asked}
 use Rattle.call_effects.specs.Wholes.{without_kinds}
-use Rattle.call_effects.specs.Known.{Knowledge, IsPlanned, part_of}
+use Rattle.call_effects.specs.Knowledge.{Knowledge, IsPlanned, part_of}
 use Rattle.call_effects.proofs.posix_calls_lemmas.Counts.{order}
 use Rattle.call_effects.proofs.GrowthAsked.{len_seen}
 use Rattle.world_invariant.specs.Logs.{is_touched}
@@ -31,7 +33,7 @@ use Rattle.world_invariant.specs.World.{log_of, all_of, has_lease, world_state}
 use Rattle.world_invariant.specs.Stop.{Stores}
 use Rattle.world_invariant.specs.Invariant.{IsCoherent}
 use Rattle.world_invariant.specs.ClientSteps.{CanBegin, IsBegun}
-use Rattle.world_invariant.specs.LeaseSteps.{IsUnheld, CanFetch, CanGive, write_taken, given}
+use Rattle.world_invariant.specs.LeaseSteps.{IsUnheld, CanFetch, CanGive, write_taken, after_give}
 use Rattle.world_invariant.specs.BookSteps.{HasRoom, IsUnbooked, units_granted}
 use Rattle.world_invariant.specs.Walk as walked
 use Rattle.world_invariant.proofs.Idle.{none_some, idle_holds, idle_tree}
@@ -93,27 +95,27 @@ with_units = units_granted_hold walked.start 1 10 start_holds refl room
 unbooked : IsUnbooked (units_granted walked.start 1 10).kernel 2
 unbooked = record { low = omega arith; high = omega arith; none = refl; nobody = λ d is_d. each walked.start.kernel.accounts 1 (record (walked.start.kernel.accounts 1) { units = 10 }) (λ d a. a.numbers 2 ≡ false) refl (λ d other. refl) d }
 
-granted_holds : IsCoherent walked.granted
+granted_holds : IsCoherent walked.granted_world
 granted_holds = number_granted_holds (units_granted walked.start 1 10) 1 2 with_units refl unbooked
 
 -- nobody else holds anything
-root_unheld : IsUnheld walked.granted 1 1
-root_unheld d is_d other = each (units_granted walked.start 1 10).clients 1 (walked.granted.clients 1) (λ d p. d ≢ 1 → has_lease p 1 ≡ false) (λ off. absurd (off refl)) (λ d off again. each walked.start.clients 1 ((units_granted walked.start 1 10).clients 1) (λ d p. d ≢ 1 → has_lease p 1 ≡ false) (λ off. absurd (off refl)) (λ d off again. refl) d off) d other
+root_unheld : IsUnheld walked.granted_world 1 1
+root_unheld d is_d other = each (units_granted walked.start 1 10).clients 1 (walked.granted_world.clients 1) (λ d p. d ≢ 1 → has_lease p 1 ≡ false) (λ off. absurd (off refl)) (λ d off again. each walked.start.clients 1 ((units_granted walked.start 1 10).clients 1) (λ d p. d ≢ 1 → has_lease p 1 ≡ false) (λ off. absurd (off refl)) (λ d off again. refl) d off) d other
 
-with_root : IsCoherent (write_taken walked.granted 1 1)
-with_root = write_taken_holds walked.granted 1 1 granted_holds refl root_unheld
+with_root : IsCoherent (write_taken walked.granted_world 1 1)
+with_root = write_taken_holds walked.granted_world 1 1 granted_holds refl root_unheld
 
-new_unheld : IsUnheld (write_taken walked.granted 1 1) 1 2
-new_unheld d is_d other = each walked.granted.clients 1 ((write_taken walked.granted 1 1).clients 1) (λ d p. d ≢ 1 → has_lease p 2 ≡ false) (λ off. absurd (off refl)) (λ d off again. each (units_granted walked.start 1 10).clients 1 (walked.granted.clients 1) (λ d p. d ≢ 1 → has_lease p 2 ≡ false) (λ off. absurd (off refl)) (λ d off again. each walked.start.clients 1 ((units_granted walked.start 1 10).clients 1) (λ d p. d ≢ 1 → has_lease p 2 ≡ false) (λ off. absurd (off refl)) (λ d off again. refl) d off) d off) d other
+new_unheld : IsUnheld (write_taken walked.granted_world 1 1) 1 2
+new_unheld d is_d other = each walked.granted_world.clients 1 ((write_taken walked.granted_world 1 1).clients 1) (λ d p. d ≢ 1 → has_lease p 2 ≡ false) (λ off. absurd (off refl)) (λ d off again. each (units_granted walked.start 1 10).clients 1 (walked.granted_world.clients 1) (λ d p. d ≢ 1 → has_lease p 2 ≡ false) (λ off. absurd (off refl)) (λ d off again. each walked.start.clients 1 ((units_granted walked.start 1 10).clients 1) (λ d p. d ≢ 1 → has_lease p 2 ≡ false) (λ off. absurd (off refl)) (λ d off again. refl) d off) d off) d other
 
-holding_holds : IsCoherent walked.holding
-holding_holds = write_taken_holds (write_taken walked.granted 1 1) 1 2 with_root refl new_unheld
+holding_holds : IsCoherent walked.lease_world
+holding_holds = write_taken_holds (write_taken walked.granted_world 1 1) 1 2 with_root refl new_unheld
 
-can_fetch : CanFetch walked.holding 1 1
+can_fetch : CanFetch walked.lease_world 1 1
 can_fetch = record { client = refl; leased = refl; missing = inl refl; clear = λ none. absurd (let clash : None ≡ fresh 1 = sym none in cc) }
 
 pub ready_holds : IsCoherent walked.ready
-ready_holds = fetched_holds walked.holding 1 1 holding_holds can_fetch
+ready_holds = fetched_holds walked.lease_world 1 1 holding_holds can_fetch
 
 -- ---- the call
 
@@ -146,61 +148,61 @@ can_begin = record {
   pinned = λ what e. none_some what e;
 }
 
-pub making_holds : IsCoherent walked.making
+pub making_holds : IsCoherent walked.make_world
 making_holds = begun_holds walked.ready 1 walked.mkdir_a ready_holds can_begin
 
-pub is_begun : IsBegun walked.making 1 walked.mkdir_a
+pub is_begun : IsBegun walked.make_world 1 walked.mkdir_a
 is_begun = record { client = refl; there = refl; known = λ e. absurd (cc) }
 
-pub made_holds : IsCoherent walked.made
-made_holds = replied_holds walked.making 1 walked.mkdir_a making_holds is_begun
+pub made_holds : IsCoherent walked.made_world
+made_holds = replied_holds walked.make_world 1 walked.mkdir_a making_holds is_begun
 
 -- ---- digested, and passed on
 
-pub handed_holds : IsCoherent walked.handed
-handed_holds = sealed_holds walked.made 1 made_holds (record { client = refl; idle = refl; some = λ e. absurd (cc); back = λ e. absurd (cc) })
+pub handed_holds : IsCoherent walked.handed_world
+handed_holds = sealed_holds walked.made_world 1 made_holds (record { client = refl; idle = refl; some = λ e. absurd (cc); back = λ e. absurd (cc) })
 
-kept_holds : IsCoherent walked.kept
-kept_holds = digested_holds walked.handed 1 (walked.mkdir_a.change ∷ []) [] handed_holds (record { client = refl; some = λ e. absurd (cc); split = refl })
+kept_holds : IsCoherent walked.kept_world
+kept_holds = digested_holds walked.handed_world 1 (walked.mkdir_a.change ∷ []) [] handed_holds (record { client = refl; some = λ e. absurd (cc); split = refl })
 
 pub back_holds : IsCoherent walked.back
-back_holds = taken_back_holds walked.kept 1 kept_holds (record { client = refl; away = refl; digested = refl })
+back_holds = taken_back_holds walked.kept_world 1 kept_holds (record { client = refl; away = refl; digested = refl })
 
 can_give : CanGive walked.back 1 2
 can_give = record { client = refl; idle = refl; clean = refl }
 
 -- whoever else there is held nothing while client 1 held the directory's inode for writing
-pub passed_holds : IsCoherent walked.passed
-passed_holds = write_taken_holds (given walked.back 1 2) 2 2 (given_holds walked.back 1 2 back_holds can_give) refl
-    (λ d is_d other. each walked.back.clients 1 ((given walked.back 1 2).clients 1) (λ d p. is_client d ≡ true → has_lease p 2 ≡ false) (λ is. refl) (λ d off is. back_holds.beside 1 d refl is off 2 refl) d is_d)
+pub passed_holds : IsCoherent walked.passed_world
+passed_holds = write_taken_holds (after_give walked.back 1 2) 2 2 (given_holds walked.back 1 2 back_holds can_give) refl
+    (λ d is_d other. each walked.back.clients 1 ((after_give walked.back 1 2).clients 1) (λ d p. is_client d ≡ true → has_lease p 2 ≡ false) (λ is. refl) (λ d off is. back_holds.beside 1 d refl is off 2 refl) d is_d)
 
 -- ---- the tree on the way
 
-pub making_tree : world_state walked.making ≡ opening
+pub making_tree : world_state walked.make_world ≡ empty_state
 making_tree =
     begun_tree walked.ready 1 walked.mkdir_a ready_holds can_begin
-    ∙ fetched_tree walked.holding 1 1 holding_holds can_fetch
-    ∙ write_taken_tree (write_taken walked.granted 1 1) 1 2 with_root refl
-    ∙ write_taken_tree walked.granted 1 1 granted_holds refl
+    ∙ fetched_tree walked.lease_world 1 1 holding_holds can_fetch
+    ∙ write_taken_tree (write_taken walked.granted_world 1 1) 1 2 with_root refl
+    ∙ write_taken_tree walked.granted_world 1 1 granted_holds refl
     ∙ number_granted_tree (units_granted walked.start 1 10) 1 2 with_units refl
     ∙ units_granted_tree walked.start 1 10 start_holds refl
     ∙ idle_tree (charge fresh + 10) fresh
     ∙ fresh_state
 
-pub made_step : Step opening 1 walked.mkdir_a.call Done (world_state walked.made)
-made_step = subst (λ s. Step s 1 walked.mkdir_a.call Done (world_state walked.made)) making_tree (replied_step walked.making 1 walked.mkdir_a making_holds is_begun)
+pub made_step : Step empty_state 1 walked.mkdir_a.call Done (world_state walked.made_world)
+made_step = subst (λ s. Step s 1 walked.mkdir_a.call Done (world_state walked.made_world)) making_tree (replied_step walked.make_world 1 walked.mkdir_a making_holds is_begun)
 
-pub passed_tree : world_state walked.passed ≡ world_state walked.made
+pub passed_tree : world_state walked.passed_world ≡ world_state walked.made_world
 passed_tree =
-    write_taken_tree (given walked.back 1 2) 2 2 (given_holds walked.back 1 2 back_holds can_give) refl
+    write_taken_tree (after_give walked.back 1 2) 2 2 (given_holds walked.back 1 2 back_holds can_give) refl
     ∙ given_tree walked.back 1 2 back_holds can_give
-    ∙ taken_back_tree walked.kept 1 kept_holds (record { client = refl; away = refl; digested = refl })
-    ∙ digested_tree walked.handed 1 (walked.mkdir_a.change ∷ []) [] handed_holds (record { client = refl; some = λ e. absurd (cc); split = refl })
-    ∙ sealed_tree walked.made 1 made_holds (record { client = refl; idle = refl; some = λ e. absurd (cc); back = λ e. absurd (cc) })
+    ∙ taken_back_tree walked.kept_world 1 kept_holds (record { client = refl; away = refl; digested = refl })
+    ∙ digested_tree walked.handed_world 1 (walked.mkdir_a.change ∷ []) [] handed_holds (record { client = refl; some = λ e. absurd (cc); split = refl })
+    ∙ sealed_tree walked.made_world 1 made_holds (record { client = refl; idle = refl; some = λ e. absurd (cc); back = λ e. absurd (cc) })
 
 -- a stop while the call is begun leaves its record or not
-pub stopped_without : Stores walked.making (log_of walked.making)
-stopped_without = stop_stores walked.making (log_of walked.making) making_holds (λ c is_c. inl refl)
+pub stopped_without : Stores walked.make_world (log_of walked.make_world)
+stopped_without = stop_stores walked.make_world (log_of walked.make_world) making_holds (λ c is_c. inl refl)
 
-pub stopped_with : Stores walked.making (all_of walked.making)
-stopped_with = stop_stores walked.making (all_of walked.making) making_holds (λ c is_c. inr refl)
+pub stopped_with : Stores walked.make_world (all_of walked.make_world)
+stopped_with = stop_stores walked.make_world (all_of walked.make_world) making_holds (λ c is_c. inr refl)

@@ -13,8 +13,8 @@ use Rattle.call_effects.specs.posix_calls.declared.operation.Operation.{Operatio
 use Rattle.call_effects.specs.file_graph.Graph.{Graph, Node, FileBody, DirBody, after_effects}
 use Rattle.call_effects.specs.file_graph.declared.effect.Kind.{Kind}
 use Rattle.call_effects.specs.file_graph.declared.effect.Effect.{Effect}
-use Rattle.call_effects.specs.Effects.{stored}
-use Rattle.call_effects.specs.Known.{Knowledge, Agrees, IsPlanned}
+use Rattle.call_effects.specs.Effects.{stored_count}
+use Rattle.call_effects.specs.Knowledge.{Knowledge, Agrees, IsPlanned}
 use Rattle.call_effects.specs.Wholes.{IsSound, tree_of, tree_body, tree_node, body_kind, kind_of, one_if}
 use Rattle.call_effects.proofs.GrowthAsked.{len_seen}
 use Rattle.call_effects.proofs.Inodes.{get_inodes}
@@ -25,7 +25,7 @@ use Rattle.world_invariant.proofs.Idle.{none_some}
 
 -- ---- one node
 
-few_names : (i : ℕ) (o : Option Node) → IsWithin i o → stored o ≤ 1000
+few_names : (i : ℕ) (o : Option Node) → IsWithin i o → stored_count o ≤ 1000
 few_names i None within = omega arith
 few_names i (Some n) within = within.names
 
@@ -70,7 +70,7 @@ pub tree_within : (g : Graph) (d : Descriptors) → IsSound g d → AreWithin g 
 tree_within g d sound within = record {
   sizes = λ i. small i (g i) (within i);
   entries = λ i. few_entries i (g i) (within i);
-  names = λ i. (let count : stored (g i) ≡ names_of (tree_of g) i + one_if (i == 1) = sound.counts.counted i in let few : stored (g i) ≤ 1000 = few_names i (g i) (within i) in omega (arith, count, few));
+  names = λ i. (let count : stored_count (g i) ≡ names_of (tree_of g) i + one_if (i == 1) = sound.counts.counted i in let few : stored_count (g i) ≤ 1000 = few_names i (g i) (within i) in omega (arith, count, few));
   valid = λ i name j there. valid_name i (g i) (within i) name j there;
 }
 
@@ -92,7 +92,7 @@ module _ (g : Graph) (d : Descriptors) (sound : IsSound g d) (within : IsWithinL
   node_within : (n : Node) → g i ≡ Some n → IsNodeWithin i n
   node_within n is =
       let range = sound.typed.numbers i (body_kind n.body) (ap kind_of is) in
-      record { low = range.0; high = range.1; names = subst (λ o. stored o ≤ 1000) is (few_stored g d i sound within); body = body_within n is }
+      record { low = range.0; high = range.1; names = subst (λ o. stored_count o ≤ 1000) is (few_stored g d i sound within); body = body_within n is }
 
   what_within : (o : Option Node) → g i ≡ o → IsWithin i o
   what_within None is = tt

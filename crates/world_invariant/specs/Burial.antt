@@ -1,9 +1,9 @@
 -- What becomes of a client that died, and of its number, each step with when it may be taken.
 use Rattle.std.specs.Prelude.{◌≡◌, ◌≢◌, ℕ, [], true, None}
 use Rattle.call_effects.specs.posix_calls.Operations.{is_client}
-use Rattle.world_invariant.specs.World.{Dead, Settled, Buried, Wiped, Away, World, log_of, moved}
+use Rattle.world_invariant.specs.World.{Dead, Settled, Buried, Wiped, Away, World, log_of, moved_world}
 use Rattle.world_invariant.specs.ClientSteps.{with_client}
-use Rattle.world_invariant.specs.Opening.{idle_client, idle_account}
+use Rattle.world_invariant.specs.FormatWorld.{idle_client, idle_account}
 
 -- its begun call, if there was one, was found whole or gone; what it had open is closed
 pub record CanDepart (w : World) (c : ℕ) : Type 0 where
@@ -11,8 +11,8 @@ pub record CanDepart (w : World) (c : ℕ) : Type 0 where
   pub dead : (w.clients c).status ≡ Dead
   pub idle : (w.clients c).begun ≡ None
 
-abbrev pub departed : World → ℕ → World
-departed w c = with_client w c (record (w.clients c) { knows = record (w.clients c).knows { own = λ n. None }; status = Settled })
+abbrev pub after_departure : World → ℕ → World
+after_departure w c = with_client w c (record (w.clients c) { knows = record (w.clients c).knows { own = λ n. None }; status = Settled })
 
 -- its records are digested, and no region of it is away
 pub record CanBury (w : World) (c : ℕ) : Type 0 where
@@ -23,7 +23,7 @@ pub record CanBury (w : World) (c : ℕ) : Type 0 where
 
 -- nothing is left of it but its mark and its regions
 abbrev pub client_buried : World → ℕ → World
-client_buried w c = moved w c w.kernel.shared (idle_account (w.kernel.accounts c).mark) (record (idle_client c (w.kernel.accounts c).mark) { other = (w.clients c).other; ready = (w.clients c).ready; status = Buried })
+client_buried w c = moved_world w c w.kernel.shared (idle_account (w.kernel.accounts c).mark) (record (idle_client c (w.kernel.accounts c).mark) { other = (w.clients c).other; ready = (w.clients c).ready; status = Buried })
 
 -- a new client takes its seat, once no region of it holds a record or has a wipe to come
 pub record CanJoin (w : World) (c : ℕ) : Type 0 where
@@ -35,4 +35,4 @@ pub record CanJoin (w : World) (c : ℕ) : Type 0 where
 
 -- it begins with nothing but its mark, as a client does at a format
 abbrev pub client_joined : World → ℕ → World
-client_joined w c = moved w c w.kernel.shared (idle_account (w.kernel.accounts c).mark) (idle_client c (w.kernel.accounts c).mark)
+client_joined w c = moved_world w c w.kernel.shared (idle_account (w.kernel.accounts c).mark) (idle_client c (w.kernel.accounts c).mark)

@@ -1,18 +1,18 @@
 -- The steps of a client's call, each with when it may be taken.
 use Rattle.std.specs.Prelude.{◌≡◌, ◌≢◌, ◌⊎◌, ℕ, ◌+◌, ◌-◌, ◌≤◌, [], ◌∷◌, ◌++◌, true, Some, None, Ok}
-use Rattle.call_effects.specs.posix_calls.Query.{Known, run_part}
+use Rattle.call_effects.specs.posix_calls.Part.{Known, run_part}
 use Rattle.call_effects.specs.posix_calls.Operations.{is_client}
 use Rattle.call_effects.specs.posix_calls.declared.call.Call.{Call}
 use Rattle.call_effects.specs.posix_calls.declared.operation.Operation.{Operation}
 use Rattle.call_effects.specs.Records.{units_asked}
-use Rattle.call_effects.specs.Known.{IsPlanned, part_of, knows_after}
+use Rattle.call_effects.specs.Knowledge.{IsPlanned, part_of, knows_after}
 use Rattle.world_invariant.specs.Logs.{is_touched}
-use Rattle.world_invariant.specs.World.{Begun, Alive, Failed, Dead, Client, World, moved}
-use Rattle.world_invariant.specs.Standing.{OpensPinned}
+use Rattle.world_invariant.specs.World.{Begun, Alive, Failed, Dead, Client, World, moved_world}
+use Rattle.world_invariant.specs.ClientParts.{OpensPinned}
 
 -- the world with another part of a client
 abbrev pub with_client : World → ℕ → Client → World
-with_client w c p = moved w c w.kernel.shared (w.kernel.accounts c) p
+with_client w c p = moved_world w c w.kernel.shared (w.kernel.accounts c) p
 
 -- ---- a call that writes no record
 
@@ -23,8 +23,8 @@ pub record CanAnswer (w : World) (c : ℕ) (call : Call) (new : ℕ) (operation 
   pub planned : IsPlanned (w.clients c).knows call new operation []
   pub pinned : OpensPinned (w.clients c).pins new operation
 
-abbrev pub answered : World → ℕ → ℕ → Operation → World
-answered w c new operation = with_client w c (record (w.clients c) { knows = knows_after (w.clients c).knows new operation [] })
+abbrev pub after_answer : World → ℕ → ℕ → Operation → World
+after_answer w c new operation = with_client w c (record (w.clients c) { knows = knows_after (w.clients c).knows new operation [] })
 
 -- ---- a call that begins its record
 
@@ -54,8 +54,8 @@ pub record IsBegun (w : World) (c : ℕ) (b : Begun) : Type 0 where
   pub known : (w.clients c).status ≢ Failed
 
 -- the record is in the log, and the call is answered; or it is found there once its client is gone
-abbrev pub replied : World → ℕ → Begun → World
-replied w c b = with_client w c (record (w.clients c) { begun = None; current = (w.clients c).current ++ (b.change ∷ []); knows = knows_after (w.clients c).knows b.new b.operation b.change.effects })
+abbrev pub after_reply : World → ℕ → Begun → World
+after_reply w c b = with_client w c (record (w.clients c) { begun = None; current = (w.clients c).current ++ (b.change ∷ []); knows = knows_after (w.clients c).knows b.new b.operation b.change.effects })
 
 -- the call is given up, and its record is not in the log
 abbrev pub given_up : World → ℕ → Begun → World
@@ -66,13 +66,13 @@ pub record CanFail (w : World) (c : ℕ) : Type 0 where
   pub client : is_client c ≡ true
   pub running : ((w.clients c).status ≡ Alive) ⊎ ((w.clients c).status ≡ Dead)
 
-abbrev pub failed : World → ℕ → World
-failed w c = with_client w c (record (w.clients c) { status = Failed })
+abbrev pub after_failure : World → ℕ → World
+after_failure w c = with_client w c (record (w.clients c) { status = Failed })
 
 -- the client dies
 pub record CanDie (w : World) (c : ℕ) : Type 0 where
   pub client : is_client c ≡ true
   pub alive : (w.clients c).status ≡ Alive
 
-abbrev pub died : World → ℕ → World
-died w c = with_client w c (record (w.clients c) { status = Dead })
+abbrev pub after_death : World → ℕ → World
+after_death w c = with_client w c (record (w.clients c) { status = Dead })

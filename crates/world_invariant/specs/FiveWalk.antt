@@ -5,8 +5,8 @@ use Rattle.call_effects.specs.posix_calls.declared.operation.Operation.TheVarian
 use Rattle.call_effects.specs.file_graph.declared.effect.Kind.TheVariants as kind
 use Rattle.call_effects.specs.file_graph.declared.effect.Effect.TheVariants as effect
 use Rattle.world_invariant.specs.World.{Begun, World}
-use Rattle.world_invariant.specs.ClientSteps.{call_begun, replied}
-use Rattle.world_invariant.specs.LeaseSteps.{write_taken, given, fetched}
+use Rattle.world_invariant.specs.ClientSteps.{call_begun, after_reply}
+use Rattle.world_invariant.specs.LeaseSteps.{write_taken, after_give, after_fetch}
 use Rattle.world_invariant.specs.BookSteps.{number_granted, inode_pinned}
 use Rattle.world_invariant.specs.RegionSteps.{region_sealed, taken_back, current_wiped}
 use Rattle.world_invariant.specs.KernelSteps.{records_digested}
@@ -34,43 +34,43 @@ open_y = record {
 
 -- client 1 has `/a` open, and both of its records digested; its region is back, the one that it is to write next is wiped, and the lease on the file goes to client 2
 abbrev pub back : World
-back = current_wiped (taken_back pair.made 1) 1
+back = current_wiped (taken_back pair.made_world 1) 1
 
-abbrev pub passed : World
-passed = given back 1 2
+abbrev pub passed_world : World
+passed_world = after_give back 1 2
 
 -- client 2 gets two numbers and three leases, copies of the directory that it made and of the file, and a pin
-abbrev pub granted : World
-granted = number_granted (number_granted passed 2 4) 2 5
+abbrev pub granted_world : World
+granted_world = number_granted (number_granted passed_world 2 4) 2 5
 
-abbrev pub holding : World
-holding = write_taken (write_taken (write_taken granted 2 4) 2 5) 2 2
+abbrev pub lease_world : World
+lease_world = write_taken (write_taken (write_taken granted_world 2 4) 2 5) 2 2
 
-abbrev pub known : World
-known = fetched (fetched holding 2 3) 2 2
+abbrev pub known_world : World
+known_world = after_fetch (after_fetch lease_world 2 3) 2 2
 
 abbrev pub ready : World
-ready = inode_pinned known 2 5
+ready = inode_pinned known_world 2 5
 
 -- it makes a directory and a file in it, and unlinks `/a`
-abbrev pub making : World
-making = call_begun ready 2 mkdir_x
+abbrev pub make_world : World
+make_world = call_begun ready 2 mkdir_x
 
-abbrev pub made : World
-made = replied making 2 mkdir_x
+abbrev pub made_world : World
+made_world = after_reply make_world 2 mkdir_x
 
-abbrev pub opening : World
-opening = call_begun made 2 open_y
+abbrev pub initial_world : World
+initial_world = call_begun made_world 2 open_y
 
-abbrev pub opened : World
-opened = replied opening 2 open_y
+abbrev pub opened_world : World
+opened_world = after_reply initial_world 2 open_y
 
-abbrev pub unlinking : World
-unlinking = call_begun opened 2 unlink_a
+abbrev pub unlink_world : World
+unlink_world = call_begun opened_world 2 unlink_a
 
-abbrev pub unlinked : World
-unlinked = replied unlinking 2 unlink_a
+abbrev pub unlinked_world : World
+unlinked_world = after_reply unlink_world 2 unlink_a
 
 -- its four records are digested
-abbrev pub kept : World
-kept = records_digested (region_sealed unlinked 2) 2 (mkdir_b.change ∷ mkdir_x.change ∷ open_y.change ∷ unlink_a.change ∷ [])
+abbrev pub kept_world : World
+kept_world = records_digested (region_sealed unlinked_world 2) 2 (mkdir_b.change ∷ mkdir_x.change ∷ open_y.change ∷ unlink_a.change ∷ [])

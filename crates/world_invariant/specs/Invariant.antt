@@ -2,9 +2,9 @@
 use Rattle.std.specs.Prelude.{◌≡◌, ◌≢◌, ℕ, true}
 use Rattle.call_effects.specs.posix_calls.Operations.{is_client}
 use Rattle.call_effects.specs.Wholes.{IsSound}
-use Rattle.call_effects.specs.Known.{Agrees}
-use Rattle.world_invariant.specs.World.{World, whole, held}
-use Rattle.world_invariant.specs.Standing.{Stands, IsBooked, IsBeside}
+use Rattle.call_effects.specs.Knowledge.{Agrees}
+use Rattle.world_invariant.specs.World.{World, whole_graph, held_descriptors}
+use Rattle.world_invariant.specs.ClientParts.{Stands, IsBooked, IsBeside}
 
 pub record IsCoherent (w : World) : Type 0 where
   pub booked : IsBooked w.kernel
@@ -12,5 +12,5 @@ pub record IsCoherent (w : World) : Type 0 where
   -- leases are legal
   pub beside : (c d : ℕ) → is_client c ≡ true → is_client d ≡ true → d ≢ c → IsBeside (w.clients c) (w.clients d)
   -- the whole is sound, and as each client knows it
-  pub sound : IsSound (whole w) (held w)
-  pub agrees : (c : ℕ) → is_client c ≡ true → Agrees (w.clients c).knows (whole w) (held w)
+  pub sound : IsSound (whole_graph w) (held_descriptors w)
+  pub agrees : (c : ℕ) → is_client c ≡ true → Agrees (w.clients c).knows (whole_graph w) (held_descriptors w)

@@ -4,7 +4,7 @@ use Rattle.call_effects.specs.posix_calls.Operations.{is_client}
 use Rattle.call_effects.specs.file_graph.Graph.{set_node}
 use Rattle.call_effects.specs.log_record.declared.format.Record.{Record}
 use Rattle.world_invariant.specs.Logs.{after_records, is_made_in, units_in, IsNameless}
-use Rattle.world_invariant.specs.World.{Kernel, World, moved}
+use Rattle.world_invariant.specs.World.{Kernel, World, moved_world}
 
 -- ---- records are digested
 
@@ -16,7 +16,7 @@ pub record CanDigest (w : World) (c : ℕ) (first rest : List Record) : Type 0 w
 
 -- their effects, the mark, their units and the numbers of their new nodes move at once
 abbrev pub records_digested : World → ℕ → List Record → World
-records_digested w c first = moved w c (after_records w.kernel.shared first) (record (w.kernel.accounts c) { mark = (w.kernel.accounts c).mark + length first; units = (w.kernel.accounts c).units - units_in first; numbers = λ i. (w.kernel.accounts c).numbers i && not (is_made_in i first) }) (w.clients c)
+records_digested w c first = moved_world w c (after_records w.kernel.shared first) (record (w.kernel.accounts c) { mark = (w.kernel.accounts c).mark + length first; units = (w.kernel.accounts c).units - units_in first; numbers = λ i. (w.kernel.accounts c).numbers i && not (is_made_in i first) }) (w.clients c)
 
 -- ---- a file is reclaimed
 
@@ -25,8 +25,8 @@ pub record CanReclaim (k : Kernel) (i : ℕ) : Type 0 where
   pub file : IsNameless (k.shared i)
   pub unpinned : (c : ℕ) → is_client c ≡ true → (k.accounts c).pins i ≡ false
 
-abbrev pub reclaimed : World → ℕ → World
-reclaimed w i = record { kernel = record { shared = set_node w.kernel.shared i None; capacity = w.kernel.capacity; accounts = w.kernel.accounts }; clients = w.clients }
+abbrev pub after_reclaim : World → ℕ → World
+after_reclaim w i = record { kernel = record { shared = set_node w.kernel.shared i None; capacity = w.kernel.capacity; accounts = w.kernel.accounts }; clients = w.clients }
 
 -- ---- a run of a file's blocks is migrated
 

@@ -4,7 +4,7 @@ use Rattle.call_effects.specs.posix_calls.Operations.{is_client}
 use Rattle.call_effects.specs.file_graph.Graph.{Graph, FileBody}
 use Rattle.call_effects.specs.Blocks.{block_of}
 use Rattle.call_effects.specs.NodeView.{view_at}
-use Rattle.call_effects.specs.Known.{Knowledge, IsForgetful, with_copy, with_blocks}
+use Rattle.call_effects.specs.Knowledge.{Knowledge, IsForgetful, with_copy, with_blocks}
 use Rattle.world_invariant.specs.Logs.{after_records, is_written}
 use Rattle.world_invariant.specs.World.{World, has_lease, log_of}
 use Rattle.world_invariant.specs.ClientSteps.{with_client}
@@ -41,11 +41,11 @@ pub record CanGive (w : World) (c i : ℕ) : Type 0 where
   pub clean : is_written i (log_of w c) ≡ false
 
 -- without the copies of an inode
-abbrev pub forgetting : Knowledge → ℕ → Knowledge
-forgetting k i = record k { copies = λ j. if j == i then None else k.copies j; blocks = λ j b. if j == i then None else k.blocks j b }
+abbrev pub without_copies : Knowledge → ℕ → Knowledge
+without_copies k i = record k { copies = λ j. if j == i then None else k.copies j; blocks = λ j b. if j == i then None else k.blocks j b }
 
-abbrev pub given : World → ℕ → ℕ → World
-given w c i = with_client w c (record (w.clients c) { reads = without (w.clients c).reads i; writes = without (w.clients c).writes i; knows = forgetting (w.clients c).knows i })
+abbrev pub after_give : World → ℕ → ℕ → World
+after_give w c i = with_client w c (record (w.clients c) { reads = without (w.clients c).reads i; writes = without (w.clients c).writes i; knows = without_copies (w.clients c).knows i })
 
 -- ---- a copy is fetched: the shared node, and what the client's own records make of it
 
@@ -60,8 +60,8 @@ pub record CanFetch (w : World) (c i : ℕ) : Type 0 where
   -- where nothing stands the client has no blocks
   pub clear : own_view w c i ≡ None → (b : ℕ) → (w.clients c).knows.blocks i b ≡ None
 
-abbrev pub fetched : World → ℕ → ℕ → World
-fetched w c i = with_client w c (record (w.clients c) { knows = with_copy (w.clients c).knows i (view_at (own_view w c) i) })
+abbrev pub after_fetch : World → ℕ → ℕ → World
+after_fetch w c i = with_client w c (record (w.clients c) { knows = with_copy (w.clients c).knows i (view_at (own_view w c) i) })
 
 -- ---- blocks of a file are fetched
 
@@ -81,8 +81,8 @@ pub record CanForget (w : World) (c : ℕ) (less : Knowledge) : Type 0 where
   pub idle : (w.clients c).begun ≡ None
   pub fewer : IsForgetful (w.clients c).knows less
 
-abbrev pub forgotten : World → ℕ → Knowledge → World
-forgotten w c less = with_client w c (record (w.clients c) { knows = less })
+abbrev pub forget_world : World → ℕ → Knowledge → World
+forget_world w c less = with_client w c (record (w.clients c) { knows = less })
 
 -- blocks alone, at any time: a begun call does not need them, since it has a record
 pub record CanForgetBlocks (w : World) (c : ℕ) (fewer : ℕ → ℕ → Option (List ℕ)) : Type 0 where

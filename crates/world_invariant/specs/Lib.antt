@@ -1,5 +1,5 @@
 pub mod BookSteps
-pub mod Broken
+pub mod BrokenWorlds
 pub mod BrokenParts
 pub mod Burial
 pub mod BurialWalk
@@ -12,14 +12,13 @@ pub mod KernelSteps
 pub mod LeaseSteps
 pub mod Limits
 pub mod Logs
-pub mod Opening
+pub mod FormatWorld
 pub mod Machine
-pub mod Outcome
 pub mod PairWalk
 pub mod Parts
 pub mod Recovery
 pub mod RegionSteps
-pub mod Standing
+pub mod ClientParts
 pub mod Stop
 pub mod UnlinkWalk
 pub mod Walk

@@ -5,8 +5,8 @@ use Rattle.call_effects.specs.file_graph.Graph.{Graph, set_node}
 use Rattle.call_effects.specs.log_record.declared.format.Record.{Record}
 use Rattle.world_invariant.specs.Logs.{after_records, is_made_in, IsMadeOnce, units_in}
 use Rattle.world_invariant.specs.World.{Account, Away, Client, Kernel, at}
-use Rattle.world_invariant.specs.Standing.{IsLogged, IsBooked}
-use Rattle.world_invariant.specs.Opening.{idle_account}
+use Rattle.world_invariant.specs.ClientParts.{IsLogged, IsBooked}
+use Rattle.world_invariant.specs.FormatWorld.{idle_account}
 use Rattle.world_invariant.specs.LeaseSteps.{also, without}
 
 pub record Machine : Type 0 where

@@ -6,12 +6,12 @@ use Rattle.call_effects.specs.file_graph.declared.effect.Kind.TheVariants as kin
 use Rattle.call_effects.specs.file_graph.declared.effect.Effect.TheVariants as effect
 use Rattle.call_effects.specs.log_record.declared.format.Record.{Record}
 use Rattle.world_invariant.specs.World.{Begun, World, log_of, all_of}
-use Rattle.world_invariant.specs.ClientSteps.{call_begun, replied}
-use Rattle.world_invariant.specs.LeaseSteps.{write_taken, given, fetched}
+use Rattle.world_invariant.specs.ClientSteps.{call_begun, after_reply}
+use Rattle.world_invariant.specs.LeaseSteps.{write_taken, after_give, after_fetch}
 use Rattle.world_invariant.specs.BookSteps.{units_granted, units_returned, number_granted}
 use Rattle.world_invariant.specs.RegionSteps.{region_sealed, taken_back}
 use Rattle.world_invariant.specs.KernelSteps.{records_digested}
-use Rattle.world_invariant.specs.UnlinkWalk.{open_a, known}
+use Rattle.world_invariant.specs.UnlinkWalk.{open_a, known_world}
 
 -- `mkdir /b`, where the directory gets the number 3
 abbrev pub mkdir_b : Begun
@@ -32,28 +32,28 @@ write_7 = record {
 }
 
 -- four of client 1's units go to client 2, with the number 3
-abbrev pub returned : World
-returned = units_returned known 1 4
+abbrev pub returned_world : World
+returned_world = units_returned known_world 1 4
 
-abbrev pub granted : World
-granted = number_granted (units_granted returned 2 4) 2 3
+abbrev pub granted_world : World
+granted_world = number_granted (units_granted returned_world 2 4) 2 3
 
 abbrev pub held_three : World
-held_three = write_taken granted 2 3
+held_three = write_taken granted_world 2 3
 
 -- client 1's record is digested
-abbrev pub kept : World
-kept = records_digested (region_sealed held_three 1) 1 (open_a.change ∷ [])
+abbrev pub kept_world : World
+kept_world = records_digested (region_sealed held_three 1) 1 (open_a.change ∷ [])
 
 abbrev pub back : World
-back = taken_back kept 1
+back = taken_back kept_world 1
 
 -- so no record touches the root, and its lease goes to client 2
-abbrev pub passed : World
-passed = write_taken (given back 1 1) 2 1
+abbrev pub passed_world : World
+passed_world = write_taken (after_give back 1 1) 2 1
 
 abbrev pub ready : World
-ready = fetched passed 2 1
+ready = after_fetch passed_world 2 1
 
 -- both have a call begun
 abbrev pub one : World
@@ -67,15 +67,15 @@ abbrev pub logs_left : (first second : Bool) → ℕ → List Record
 logs_left first second c = if (c == 1 && first) || (c == 2 && second) then all_of two c else log_of two c
 
 -- client 1 is answered, its region sealed beside the other one, which is not wiped yet, and its record digested, while client 2's call is begun
-abbrev pub written : World
-written = replied two 1 write_7
+abbrev pub written_world : World
+written_world = after_reply two 1 write_7
 
 abbrev pub beside : World
-beside = records_digested (region_sealed written 1) 1 (write_7.change ∷ [])
+beside = records_digested (region_sealed written_world 1) 1 (write_7.change ∷ [])
 
 -- or both clients are answered, and both regions sealed
 abbrev pub both : World
-both = region_sealed (region_sealed (replied written 2 mkdir_b) 1) 2
+both = region_sealed (region_sealed (after_reply written_world 2 mkdir_b) 1) 2
 
-abbrev pub made : World
-made = replied beside 2 mkdir_b
+abbrev pub made_world : World
+made_world = after_reply beside 2 mkdir_b

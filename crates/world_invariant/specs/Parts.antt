@@ -9,11 +9,11 @@ use Rattle.call_effects.specs.file_graph.Units.{charge}
 use Rattle.call_effects.specs.NodeView.{NodeView, view_at}
 use Rattle.call_effects.specs.Blocks.{block_at}
 use Rattle.call_effects.specs.Wholes.{IsSound}
-use Rattle.call_effects.specs.Known.{Knowledge, IsPlanned, IsPutBack, Agrees}
+use Rattle.call_effects.specs.Knowledge.{Knowledge, IsPlanned, IsPutBack, Agrees}
 use Rattle.world_invariant.specs.Limits.{AreWithin}
 use Rattle.world_invariant.specs.Logs.{is_written, is_made_in, IsMadeOnce, units_in, ArePaid, NameNone, KeepLimits}
-use Rattle.world_invariant.specs.World.{Begun, Away, Failed, Account, Client, Kernel, World, undigested, records_of, has_lease, whole, held}
-use Rattle.world_invariant.specs.Standing.{OpensPinned, is_settled, IsBeside}
+use Rattle.world_invariant.specs.World.{Begun, Away, Failed, Account, Client, Kernel, World, undigested_records, records_of, has_lease, whole_graph, held_descriptors}
+use Rattle.world_invariant.specs.ClientParts.{OpensPinned, is_settled, IsBeside}
 
 -- ---- of the kernel's book
 
@@ -78,10 +78,10 @@ HoldsOf RecordsPaid g a c p = ArePaid g (records_of a p)
 HoldsOf RecordsNameNone g a c p = NameNone g (records_of a p)
 HoldsOf RecordsKeepLimits g a c p = KeepLimits g (records_of a p)
 HoldsOf UnitsBooked g a c p = p.spare + units_in (records_of a p) ≤ a.units
-HoldsOf MadeBooked g a c p = (i : ℕ) → is_made_in i (undigested a p) ≡ true → a.numbers i ≡ true
-HoldsOf MadeOnce g a c p = (i : ℕ) → IsMadeOnce i (undigested a p)
+HoldsOf MadeBooked g a c p = (i : ℕ) → is_made_in i (undigested_records a p) ≡ true → a.numbers i ≡ true
+HoldsOf MadeOnce g a c p = (i : ℕ) → IsMadeOnce i (undigested_records a p)
 HoldsOf GrantedBooked g a c p = (i : ℕ) → p.knows.granted i ≡ true → a.numbers i ≡ true
-HoldsOf GrantedUnused g a c p = (i : ℕ) → p.knows.granted i ≡ true → is_made_in i (undigested a p) ≡ false
+HoldsOf GrantedUnused g a c p = (i : ℕ) → p.knows.granted i ≡ true → is_made_in i (undigested_records a p) ≡ false
 HoldsOf CopiesLeased g a c p = (i : ℕ) (copy : Option NodeView) → p.knows.copies i ≡ Some copy → has_lease p i ≡ true
 HoldsOf BlocksLeased g a c p = (i b : ℕ) (bytes : List ℕ) → p.knows.blocks i b ≡ Some bytes → has_lease p i ≡ true
 HoldsOf OpenPinned g a c p = (n : ℕ) (o : Descriptor) → p.knows.own n ≡ Some o → p.pins o.inode ≡ true
@@ -105,8 +105,8 @@ abbrev pub Holds : WorldPart → World → Type 0
 Holds (Book q) w = HoldsIn q w.kernel
 Holds (Each q) w = (c : ℕ) → is_client c ≡ true → HoldsOf q w.kernel.shared (w.kernel.accounts c) c (w.clients c)
 Holds LeasesLegal w = (c d : ℕ) → is_client c ≡ true → is_client d ≡ true → d ≢ c → IsBeside (w.clients c) (w.clients d)
-Holds WholeSound w = IsSound (whole w) (held w)
-Holds WholeKnown w = (c : ℕ) → is_client c ≡ true → Agrees (w.clients c).knows (whole w) (held w)
+Holds WholeSound w = IsSound (whole_graph w) (held_descriptors w)
+Holds WholeKnown w = (c : ℕ) → is_client c ≡ true → Agrees (w.clients c).knows (whole_graph w) (held_descriptors w)
 
 -- a world that lacks one part of the invariant, and has all others
 pub record BreaksAlone (part : WorldPart) (w : World) : Type 0 where

@@ -6,7 +6,7 @@ use Rattle.call_effects.specs.posix_calls.declared.limits.TheConstants.{MAX_CLIE
 use Rattle.call_effects.specs.file_graph.Graph.{Graph}
 use Rattle.call_effects.specs.file_graph.Units.{charge}
 use Rattle.call_effects.specs.log_record.declared.format.Record.{Record}
-use Rattle.call_effects.specs.Settled.{nobody}
+use Rattle.call_effects.specs.ClosedGraph.{nobody}
 use Rattle.call_effects.specs.Wholes.{IsSound}
 use Rattle.world_invariant.specs.Limits.{AreWithin}
 use Rattle.world_invariant.specs.Logs.{after_clients, units_in, LogsAreApart, ArePaid, KeepLimits}

@@ -5,11 +5,11 @@ use Rattle.call_effects.specs.posix_calls.WellFormed.{IsWellFormed, IsWithinLimi
 use Rattle.call_effects.specs.posix_calls.declared.limits.TheConstants.{MAX_CLIENTS}
 use Rattle.call_effects.specs.file_graph.Graph.{Graph}
 use Rattle.call_effects.specs.log_record.declared.format.Record.{Record}
-use Rattle.call_effects.specs.Settled.{nobody, settled_graph}
+use Rattle.call_effects.specs.ClosedGraph.{nobody, settled_graph}
 use Rattle.call_effects.specs.Wholes.{state_of}
 use Rattle.world_invariant.specs.Logs.{after_clients}
 use Rattle.world_invariant.specs.Recovery.{IsRecoverable}
-use Rattle.world_invariant.specs.Outcome.{Unfinished, IsOutcome}
+use Rattle.call_effects.specs.posix_calls.Outcome.{Unfinished, IsOutcome}
 use Rattle.world_invariant.specs.World.{World, change_of, log_of, world_state}
 
 -- in place of each log it leaves the log, or the log and the begun record

@@ -7,11 +7,11 @@ use Rattle.call_effects.specs.posix_calls.declared.operation.Operation.TheVarian
 use Rattle.call_effects.specs.file_graph.declared.effect.Kind.TheVariants as kind
 use Rattle.call_effects.specs.file_graph.declared.effect.Effect.TheVariants as effect
 use Rattle.world_invariant.specs.World.{Begun, World}
-use Rattle.world_invariant.specs.ClientSteps.{answered, call_begun, replied}
-use Rattle.world_invariant.specs.LeaseSteps.{fetched}
-use Rattle.world_invariant.specs.BookSteps.{inode_pinned, unpinned}
+use Rattle.world_invariant.specs.ClientSteps.{after_answer, call_begun, after_reply}
+use Rattle.world_invariant.specs.LeaseSteps.{after_fetch}
+use Rattle.world_invariant.specs.BookSteps.{inode_pinned, after_unpin}
 use Rattle.world_invariant.specs.RegionSteps.{region_sealed}
-use Rattle.world_invariant.specs.KernelSteps.{records_digested, reclaimed}
+use Rattle.world_invariant.specs.KernelSteps.{records_digested, after_reclaim}
 use Rattle.world_invariant.specs.Walk as walked
 
 -- `open /a`, which makes a file of the number 2, open under 0
@@ -35,39 +35,39 @@ unlink_a = record {
 abbrev pub close_0 : Call
 close_0 = call.Close 0
 
-abbrev pub closing : Operation
-closing = CloseFile 2 0
+abbrev pub close_operation : Operation
+close_operation = CloseFile 2 0
 
 -- client 1 has the number 2, and holds it and the root for writing; it pins the number
 abbrev pub ready : World
 ready = inode_pinned walked.ready 1 2
 
-abbrev pub opening : World
-opening = call_begun ready 1 open_a
+abbrev pub initial_world : World
+initial_world = call_begun ready 1 open_a
 
-abbrev pub opened : World
-opened = replied opening 1 open_a
+abbrev pub opened_world : World
+opened_world = after_reply initial_world 1 open_a
 
 -- it gets a copy of its new node, and unlinks it
-abbrev pub known : World
-known = fetched opened 1 2
+abbrev pub known_world : World
+known_world = after_fetch opened_world 1 2
 
-abbrev pub unlinking : World
-unlinking = call_begun known 1 unlink_a
+abbrev pub unlink_world : World
+unlink_world = call_begun known_world 1 unlink_a
 
-abbrev pub unlinked : World
-unlinked = replied unlinking 1 unlink_a
+abbrev pub unlinked_world : World
+unlinked_world = after_reply unlink_world 1 unlink_a
 
 -- both records are digested: the shared graph has the file, without a name
-abbrev pub kept : World
-kept = records_digested (region_sealed unlinked 1) 1 (open_a.change ∷ unlink_a.change ∷ [])
+abbrev pub kept_world : World
+kept_world = records_digested (region_sealed unlinked_world 1) 1 (open_a.change ∷ unlink_a.change ∷ [])
 
 -- it is closed, and the pin dropped
-abbrev pub closed : World
-closed = answered kept 1 0 closing
+abbrev pub closed_world : World
+closed_world = after_answer kept_world 1 0 close_operation
 
-abbrev pub released : World
-released = unpinned closed 1 2
+abbrev pub released_world : World
+released_world = after_unpin closed_world 1 2
 
-abbrev pub emptied : World
-emptied = reclaimed released 2
+abbrev pub emptied_world : World
+emptied_world = after_reclaim released_world 2

@@ -7,7 +7,7 @@ use Rattle.call_effects.specs.posix_calls.declared.operation.Operation.{Operatio
 use Rattle.call_effects.specs.posix_calls.declared.limits.TheConstants.{MAX_CLIENTS}
 use Rattle.call_effects.specs.file_graph.Graph.{Graph}
 use Rattle.call_effects.specs.log_record.declared.format.Record.{Record}
-use Rattle.call_effects.specs.Known.{Knowledge}
+use Rattle.call_effects.specs.Knowledge.{Knowledge}
 use Rattle.call_effects.specs.Wholes.{state_of}
 use Rattle.world_invariant.specs.Logs.{after_clients}
 
@@ -78,8 +78,8 @@ pub record World : Type 0 where
 -- ---- a client's records
 
 -- those that are answered and not digested
-abbrev pub undigested : Account → Client → List Record
-undigested a p = drop (a.mark - p.past) p.sealed ++ p.current
+abbrev pub undigested_records : Account → Client → List Record
+undigested_records a p = drop (a.mark - p.past) p.sealed ++ p.current
 
 abbrev pub change_of : Option Begun → List Record
 change_of None = []
@@ -87,7 +87,7 @@ change_of (Some b) = b.change ∷ []
 
 -- those, and the one that is begun
 abbrev pub records_of : Account → Client → List Record
-records_of a p = undigested a p ++ change_of p.begun
+records_of a p = undigested_records a p ++ change_of p.begun
 
 -- whether a client holds an inode
 abbrev pub has_lease : Client → ℕ → Bool
@@ -96,25 +96,25 @@ has_lease p i = p.reads i || p.writes i
 -- ---- the whole
 
 abbrev pub log_of : World → ℕ → List Record
-log_of w c = undigested (w.kernel.accounts c) (w.clients c)
+log_of w c = undigested_records (w.kernel.accounts c) (w.clients c)
 
 abbrev pub all_of : World → ℕ → List Record
 all_of w c = records_of (w.kernel.accounts c) (w.clients c)
 
 -- the shared graph after all answered records
-abbrev pub whole : World → Graph
-whole w = after_clients (log_of w) w.kernel.shared MAX_CLIENTS
+abbrev pub whole_graph : World → Graph
+whole_graph w = after_clients (log_of w) w.kernel.shared MAX_CLIENTS
 
 -- what the clients have open
 abbrev pub held_by : (ℕ → Client) → Descriptors
 held_by clients c n = if is_client c then (clients c).knows.own n else None
 
-abbrev pub held : World → Descriptors
-held w = held_by w.clients
+abbrev pub held_descriptors : World → Descriptors
+held_descriptors w = held_by w.clients
 
 -- the one tree that the world stands for
 abbrev pub world_state : World → State
-world_state w = state_of (whole w) (held w)
+world_state w = state_of (whole_graph w) (held_descriptors w)
 
 -- ---- a world in which one client's part changes
 
@@ -122,5 +122,5 @@ abbrev pub at : {A : Type 0} → (ℕ → A) → ℕ → A → ℕ → A
 at f c x d = if d == c then x else f d
 
 -- the shared graph, the account and the part of client c are these now
-abbrev pub moved : World → ℕ → Graph → Account → Client → World
-moved w c g a p = record { kernel = record { shared = g; capacity = w.kernel.capacity; accounts = at w.kernel.accounts c a }; clients = at w.clients c p }
+abbrev pub moved_world : World → ℕ → Graph → Account → Client → World
+moved_world w c g a p = record { kernel = record { shared = g; capacity = w.kernel.capacity; accounts = at w.kernel.accounts c a }; clients = at w.clients c p }

@@ -3,7 +3,7 @@
 ghost use Rattle.std.specs.Prelude.{◌≡◌, ℕ, ◌≤◌, true};
 ghost use Rattle.call_effects.specs.posix_calls.Operations.{is_client};
 ghost use Rattle.world_invariant.specs.World.{World, world_state};
-ghost use Rattle.world_invariant.specs.BookSteps.{HasRoom, units_granted, units_returned, IsUnbooked, number_granted, CanReturn, number_returned, inode_pinned, CanUnpin, unpinned};
+ghost use Rattle.world_invariant.specs.BookSteps.{HasRoom, units_granted, units_returned, IsUnbooked, number_granted, CanReturn, number_returned, inode_pinned, CanUnpin, after_unpin};
 ghost use Rattle.world_invariant.specs.Invariant.{IsCoherent};
 
 /// Units are granted where they fit beside what is charged and out, and spare ones are given back.
@@ -26,6 +26,6 @@ pub fn number_may_be_granted_and_returned()
 pub fn pin_may_be_set_and_dropped()
     ensures set { (w : World) (c i : ℕ) → IsCoherent w → is_client c ≡ true → IsCoherent (inode_pinned w c i) }
     ensures set_tree { (w : World) (c i : ℕ) → IsCoherent w → is_client c ≡ true → world_state (inode_pinned w c i) ≡ world_state w }
-    ensures dropped { (w : World) (c i : ℕ) → IsCoherent w → CanUnpin w c i → IsCoherent (unpinned w c i) }
-    ensures dropped_tree { (w : World) (c i : ℕ) → IsCoherent w → CanUnpin w c i → world_state (unpinned w c i) ≡ world_state w }
+    ensures dropped { (w : World) (c i : ℕ) → IsCoherent w → CanUnpin w c i → IsCoherent (after_unpin w c i) }
+    ensures dropped_tree { (w : World) (c i : ℕ) → IsCoherent w → CanUnpin w c i → world_state (after_unpin w c i) ≡ world_state w }
 {}

@@ -1,24 +1,24 @@
 //! What becomes of a client that died, and of its number.
 
 ghost use Rattle.std.specs.Prelude.{◌≡◌, ℕ};
-ghost use Rattle.call_effects.specs.Settled.{without_client};
+ghost use Rattle.call_effects.specs.ClosedGraph.{without_client};
 ghost use Rattle.call_effects.specs.Wholes.{state_of};
-ghost use Rattle.world_invariant.specs.World.{World, whole, held, world_state};
-ghost use Rattle.world_invariant.specs.ClientSteps.{CanDie, died};
-ghost use Rattle.world_invariant.specs.Burial.{CanDepart, departed, CanBury, client_buried, CanJoin, client_joined};
-ghost use Rattle.world_invariant.specs.Opening.{idle_client, idle_account};
+ghost use Rattle.world_invariant.specs.World.{World, whole_graph, held_descriptors, world_state};
+ghost use Rattle.world_invariant.specs.ClientSteps.{CanDie, after_death};
+ghost use Rattle.world_invariant.specs.Burial.{CanDepart, after_departure, CanBury, client_buried, CanJoin, client_joined};
+ghost use Rattle.world_invariant.specs.FormatWorld.{idle_client, idle_account};
 ghost use Rattle.world_invariant.specs.Invariant.{IsCoherent};
 
 /// A client dies at any point: the tree stays, and a begun call stays begun, till its record is found or not.
 pub fn client_may_die()
-    ensures holds { (w : World) (c : ℕ) → IsCoherent w → CanDie w c → IsCoherent (died w c) }
-    ensures tree { (w : World) (c : ℕ) → IsCoherent w → CanDie w c → world_state (died w c) ≡ world_state w }
+    ensures holds { (w : World) (c : ℕ) → IsCoherent w → CanDie w c → IsCoherent (after_death w c) }
+    ensures tree { (w : World) (c : ℕ) → IsCoherent w → CanDie w c → world_state (after_death w c) ≡ world_state w }
 {}
 
 /// Once its begun call is found whole or gone, a dead client departs: in the tree what it had open is closed, and nothing else changes.
 pub fn dead_client_may_depart()
-    ensures holds { (w : World) (c : ℕ) → IsCoherent w → CanDepart w c → IsCoherent (departed w c) }
-    ensures tree { (w : World) (c : ℕ) → IsCoherent w → CanDepart w c → world_state (departed w c) ≡ state_of (whole w) (without_client (held w) c) }
+    ensures holds { (w : World) (c : ℕ) → IsCoherent w → CanDepart w c → IsCoherent (after_departure w c) }
+    ensures tree { (w : World) (c : ℕ) → IsCoherent w → CanDepart w c → world_state (after_departure w c) ≡ state_of (whole_graph w) (without_client (held_descriptors w) c) }
 {}
 
 /// A client that has departed is buried once its records are digested and no region of it is away: its leases, copies, numbers, units and

@@ -1,7 +1,7 @@
 //! The steps of a client's call.
 
 ghost use Rattle.std.specs.Prelude.{◌≡◌, ℕ, true, Err};
-ghost use Rattle.call_effects.specs.posix_calls.Query.{Known, run_part};
+ghost use Rattle.call_effects.specs.posix_calls.Part.{Known, run_part};
 ghost use Rattle.call_effects.specs.posix_calls.Decide.{decide};
 ghost use Rattle.call_effects.specs.posix_calls.Operations.{is_client, may_give_up, reply_of, Step};
 ghost use Rattle.call_effects.specs.posix_calls.declared.call.Call.{Call};
@@ -9,16 +9,16 @@ ghost use Rattle.call_effects.specs.posix_calls.declared.call.Reply.TheVariants.
 ghost use Rattle.call_effects.specs.posix_calls.declared.errno.Errno.{Errno};
 ghost use Rattle.call_effects.specs.posix_calls.declared.operation.Operation.{Operation};
 ghost use Rattle.call_effects.specs.file_graph.Graph.{after_effects};
-ghost use Rattle.call_effects.specs.Known.{part_of};
-ghost use Rattle.world_invariant.specs.World.{Begun, World, whole, world_state};
-ghost use Rattle.world_invariant.specs.ClientSteps.{CanAnswer, answered, CanBegin, call_begun, IsBegun, replied, given_up, CanFail, failed};
+ghost use Rattle.call_effects.specs.Knowledge.{part_of};
+ghost use Rattle.world_invariant.specs.World.{Begun, World, whole_graph, world_state};
+ghost use Rattle.world_invariant.specs.ClientSteps.{CanAnswer, after_answer, CanBegin, call_begun, IsBegun, after_reply, given_up, CanFail, after_failure};
 ghost use Rattle.world_invariant.specs.Invariant.{IsCoherent};
 
 /// A call that a client answers without a record, by what it knows, is one step of the tree; one that it refuses by what it knows,
 /// and one that is given up, is a step that changes nothing.
 pub fn call_without_a_record_is_a_step()
-    ensures holds { (w : World) (c : ℕ) (call : Call) (new : ℕ) (operation : Operation) → IsCoherent w → CanAnswer w c call new operation → IsCoherent (answered w c new operation) }
-    ensures step { (w : World) (c : ℕ) (call : Call) (new : ℕ) (operation : Operation) → IsCoherent w → CanAnswer w c call new operation → Step (world_state w) c call (reply_of operation) (world_state (answered w c new operation)) }
+    ensures holds { (w : World) (c : ℕ) (call : Call) (new : ℕ) (operation : Operation) → IsCoherent w → CanAnswer w c call new operation → IsCoherent (after_answer w c new operation) }
+    ensures step { (w : World) (c : ℕ) (call : Call) (new : ℕ) (operation : Operation) → IsCoherent w → CanAnswer w c call new operation → Step (world_state w) c call (reply_of operation) (world_state (after_answer w c new operation)) }
     ensures refused { (w : World) (c : ℕ) (call : Call) (errno : Errno) → IsCoherent w → is_client c ≡ true → run_part (part_of (w.clients c).knows) (decide (w.clients c).knows.own call) ≡ Known (Err errno) → Step (world_state w) c call (Failed errno) (world_state w) }
     ensures given_up { (w : World) (c : ℕ) (call : Call) (errno : Errno) → may_give_up errno ≡ true → Step (world_state w) c call (Failed errno) (world_state w) }
 {}
@@ -32,9 +32,9 @@ pub fn begun_call_leaves_the_tree()
 /// Its answer is one step of the tree, and the whole is the one before after the record's effects; whatever the other clients did
 /// in between. So it is where the record is found in the log of a client that is gone.
 pub fn begun_call_is_a_step()
-    ensures holds { (w : World) (c : ℕ) (b : Begun) → IsCoherent w → IsBegun w c b → IsCoherent (replied w c b) }
-    ensures whole { (w : World) (c : ℕ) (b : Begun) → IsCoherent w → IsBegun w c b → whole (replied w c b) ≡ after_effects (whole w) b.change.effects }
-    ensures step { (w : World) (c : ℕ) (b : Begun) → IsCoherent w → IsBegun w c b → Step (world_state w) c b.call (reply_of b.operation) (world_state (replied w c b)) }
+    ensures holds { (w : World) (c : ℕ) (b : Begun) → IsCoherent w → IsBegun w c b → IsCoherent (after_reply w c b) }
+    ensures whole { (w : World) (c : ℕ) (b : Begun) → IsCoherent w → IsBegun w c b → whole_graph (after_reply w c b) ≡ after_effects (whole_graph w) b.change.effects }
+    ensures step { (w : World) (c : ℕ) (b : Begun) → IsCoherent w → IsBegun w c b → Step (world_state w) c b.call (reply_of b.operation) (world_state (after_reply w c b)) }
 {}
 
 /// A begun call that is given up before its record is in the log, or whose record is not found there once its client is gone, has
@@ -46,6 +46,6 @@ pub fn begun_call_may_be_given_up()
 
 /// Where the device of a client's region fails, the tree stays; a begun call stays begun, and nobody learns what became of it.
 pub fn failed_client_leaves_the_tree()
-    ensures holds { (w : World) (c : ℕ) → IsCoherent w → CanFail w c → IsCoherent (failed w c) }
-    ensures tree { (w : World) (c : ℕ) → IsCoherent w → CanFail w c → world_state (failed w c) ≡ world_state w }
+    ensures holds { (w : World) (c : ℕ) → IsCoherent w → CanFail w c → IsCoherent (after_failure w c) }
+    ensures tree { (w : World) (c : ℕ) → IsCoherent w → CanFail w c → world_state (after_failure w c) ≡ world_state w }
 {}

@@ -4,10 +4,10 @@ ghost use Rattle.std.specs.Prelude.{◌≡◌, ◌≢◌, ℕ, List, true, false
 ghost use Rattle.call_effects.specs.posix_calls.Operations.{is_client};
 ghost use Rattle.call_effects.specs.file_graph.Graph.{Graph};
 ghost use Rattle.call_effects.specs.log_record.declared.format.Record.{Record};
-ghost use Rattle.call_effects.specs.Known.{Agrees};
+ghost use Rattle.call_effects.specs.Knowledge.{Agrees};
 ghost use Rattle.world_invariant.specs.Logs.{after_records, is_made_in, IsNameless, NameNone};
-ghost use Rattle.world_invariant.specs.World.{Account, Client, World, undigested, has_lease, whole, held};
-ghost use Rattle.world_invariant.specs.Standing.{IsLeased};
+ghost use Rattle.world_invariant.specs.World.{Account, Client, World, undigested_records, has_lease, whole_graph, held_descriptors};
+ghost use Rattle.world_invariant.specs.ClientParts.{IsLeased};
 ghost use Rattle.world_invariant.specs.Parts.{WorldPart, WholeKnown, Holds};
 ghost use Rattle.world_invariant.specs.Copies.{HasOwnCopies};
 ghost use Rattle.world_invariant.specs.Machine.{Machine, IsRunning, Sealed, sealed_of, StandsSealed, CanDigestNext, account_after};
@@ -17,7 +17,7 @@ ghost use Rattle.world_invariant.specs.Invariant.{IsCoherent};
 /// other parts of the invariant all that the client knows follows from it.
 pub fn copies_are_of_the_own_records()
     ensures own { (w : World) (c : ℕ) → IsCoherent w → is_client c ≡ true → HasOwnCopies w.kernel.shared (w.kernel.accounts c) (w.clients c) }
-    ensures all { (w : World) → ((q : WorldPart) → q ≢ WholeKnown → Holds q w) → (c : ℕ) → is_client c ≡ true → HasOwnCopies w.kernel.shared (w.kernel.accounts c) (w.clients c) → Agrees (w.clients c).knows (whole w) (held w) }
+    ensures all { (w : World) → ((q : WorldPart) → q ≢ WholeKnown → Holds q w) → (c : ℕ) → is_client c ≡ true → HasOwnCopies w.kernel.shared (w.kernel.accounts c) (w.clients c) → Agrees (w.clients c).knows (whole_graph w) (held_descriptors w) }
 {}
 
 /// It stays so where the shared graph changes at inodes alone that the client doesn't hold, as by a digest of another client's records;
@@ -28,5 +28,5 @@ pub fn kernel_steps_keep_copies()
     ensures digest_beside { (m : Machine) (c : ℕ) (s : Sealed) (first rest : List Record) (a : Account) (p : Client) → StandsSealed m.kernel.shared (m.kernel.accounts c) s → CanDigestNext m c s first rest → IsLeased (has_lease p) p.knows → ((i : ℕ) → s.writes i ≡ true → has_lease p i ≡ false) → HasOwnCopies m.kernel.shared a p → HasOwnCopies (after_records m.kernel.shared first) a p }
     ensures digest_own { (m : Machine) (c : ℕ) (p : Client) (first rest : List Record) → IsRunning m → StandsSealed m.kernel.shared (m.kernel.accounts c) (sealed_of p) → CanDigestNext m c (sealed_of p) first rest → HasOwnCopies m.kernel.shared (m.kernel.accounts c) p → HasOwnCopies (after_records m.kernel.shared first) (account_after (m.kernel.accounts c) first) p }
     ensures account { (g : Graph) (a b : Account) (p : Client) → b.mark ≡ a.mark → HasOwnCopies g a p → HasOwnCopies g b p }
-    ensures reclaim { (i : ℕ) (g h : Graph) (a : Account) (p : Client) → IsNameless (g i) → h i ≡ None → ((j : ℕ) → j ≢ i → h j ≡ g j) → is_made_in i (undigested a p) ≡ false → NameNone g (undigested a p) → HasOwnCopies g a p → HasOwnCopies h a p }
+    ensures reclaim { (i : ℕ) (g h : Graph) (a : Account) (p : Client) → IsNameless (g i) → h i ≡ None → ((j : ℕ) → j ≢ i → h j ≡ g j) → is_made_in i (undigested_records a p) ≡ false → NameNone g (undigested_records a p) → HasOwnCopies g a p → HasOwnCopies h a p }
 {}

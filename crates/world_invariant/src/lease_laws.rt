@@ -3,10 +3,10 @@
 ghost use Rattle.std.specs.Prelude.{◌≡◌, ℕ, List, Option, true, Some};
 ghost use Rattle.call_effects.specs.posix_calls.Operations.{is_client};
 ghost use Rattle.call_effects.specs.NodeView.{NodeView};
-ghost use Rattle.call_effects.specs.Known.{Knowledge};
+ghost use Rattle.call_effects.specs.Knowledge.{Knowledge};
 ghost use Rattle.world_invariant.specs.Logs.{is_touched};
-ghost use Rattle.world_invariant.specs.World.{Begun, World, has_lease, whole, world_state};
-ghost use Rattle.world_invariant.specs.LeaseSteps.{IsUnwritten, IsUnheld, read_taken, write_taken, CanGive, given, own_view, CanFetch, fetched, CanRead, blocks_fetched, CanForget, forgotten, CanForgetBlocks, blocks_forgotten};
+ghost use Rattle.world_invariant.specs.World.{Begun, World, has_lease, whole_graph, world_state};
+ghost use Rattle.world_invariant.specs.LeaseSteps.{IsUnwritten, IsUnheld, read_taken, write_taken, CanGive, after_give, own_view, CanFetch, after_fetch, CanRead, blocks_fetched, CanForget, forget_world, CanForgetBlocks, blocks_forgotten};
 ghost use Rattle.world_invariant.specs.Burial.{CanBury};
 ghost use Rattle.world_invariant.specs.Invariant.{IsCoherent};
 
@@ -24,23 +24,23 @@ pub fn write_lease_may_be_taken()
 
 /// It gives a lease where no call of it is begun and none of its records touches the inode, and forgets its copies.
 pub fn lease_may_be_given()
-    ensures holds { (w : World) (c i : ℕ) → IsCoherent w → CanGive w c i → IsCoherent (given w c i) }
-    ensures tree { (w : World) (c i : ℕ) → IsCoherent w → CanGive w c i → world_state (given w c i) ≡ world_state w }
+    ensures holds { (w : World) (c i : ℕ) → IsCoherent w → CanGive w c i → IsCoherent (after_give w c i) }
+    ensures tree { (w : World) (c i : ℕ) → IsCoherent w → CanGive w c i → world_state (after_give w c i) ≡ world_state w }
 {}
 
 /// It gets a copy of a node that it holds, or blocks of a file: what its own records make of the shared node is what the whole has
 /// there, whatever the other clients' records are.
 pub fn copy_may_be_fetched()
-    ensures holds { (w : World) (c i : ℕ) → IsCoherent w → CanFetch w c i → IsCoherent (fetched w c i) }
-    ensures tree { (w : World) (c i : ℕ) → IsCoherent w → CanFetch w c i → world_state (fetched w c i) ≡ world_state w }
+    ensures holds { (w : World) (c i : ℕ) → IsCoherent w → CanFetch w c i → IsCoherent (after_fetch w c i) }
+    ensures tree { (w : World) (c i : ℕ) → IsCoherent w → CanFetch w c i → world_state (after_fetch w c i) ≡ world_state w }
     ensures blocks { (w : World) (c i first count names : ℕ) (bytes : List ℕ) → IsCoherent w → CanRead w c i names bytes → IsCoherent (blocks_fetched w c i first count bytes) }
     ensures blocks_tree { (w : World) (c i first count names : ℕ) (bytes : List ℕ) → IsCoherent w → CanRead w c i names bytes → world_state (blocks_fetched w c i first count bytes) ≡ world_state w }
 {}
 
 /// It forgets copies, blocks and numbers where no call is begun, and blocks at any time.
 pub fn knowledge_may_be_forgotten()
-    ensures holds { (w : World) (c : ℕ) (less : Knowledge) → IsCoherent w → CanForget w c less → IsCoherent (forgotten w c less) }
-    ensures tree { (w : World) (c : ℕ) (less : Knowledge) → IsCoherent w → CanForget w c less → world_state (forgotten w c less) ≡ world_state w }
+    ensures holds { (w : World) (c : ℕ) (less : Knowledge) → IsCoherent w → CanForget w c less → IsCoherent (forget_world w c less) }
+    ensures tree { (w : World) (c : ℕ) (less : Knowledge) → IsCoherent w → CanForget w c less → world_state (forget_world w c less) ≡ world_state w }
     ensures blocks { (w : World) (c : ℕ) (fewer : ℕ → ℕ → Option (List ℕ)) → IsCoherent w → CanForgetBlocks w c fewer → IsCoherent (blocks_forgotten w c fewer) }
     ensures blocks_tree { (w : World) (c : ℕ) (fewer : ℕ → ℕ → Option (List ℕ)) → IsCoherent w → CanForgetBlocks w c fewer → world_state (blocks_forgotten w c fewer) ≡ world_state w }
 {}
@@ -48,7 +48,7 @@ pub fn knowledge_may_be_forgotten()
 /// Where a client holds an inode, the whole has there what the client's own records make of the shared node, whatever the other
 /// clients' records are.
 pub fn view_of_a_held_inode_is_the_wholes()
-    ensures { (w : World) (c i : ℕ) → IsCoherent w → is_client c ≡ true → has_lease (w.clients c) i ≡ true → whole w i ≡ own_view w c i }
+    ensures { (w : World) (c i : ℕ) → IsCoherent w → is_client c ≡ true → has_lease (w.clients c) i ≡ true → whole_graph w i ≡ own_view w c i }
 {}
 
 /// While a call is begun, also where the client's device failed in it, the client holds for writing what its record touches and holds what it

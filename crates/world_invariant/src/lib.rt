@@ -1,6 +1,6 @@
 //! What holds of a world between two steps, over plain data: no medium, no thread.
 //!
-//! `specs/World.antt` says what there is: the kernel's part, and for each of eight clients its own. `specs/Standing.antt` and
+//! `specs/World.antt` says what there is: the kernel's part, and for each of eight clients its own. `specs/ClientParts.antt` and
 //! `specs/Invariant.antt` say what holds of it at any time; each law below is that a kind of step keeps it, and what becomes of the
 //! one file tree that the world stands for.
 //!
@@ -17,14 +17,14 @@
 //! | `Book NumbersInOneHand` | it is in one account | `granted_twice` | `number_in_two_hands_is_taken` |
 //! | `Book NodesWithin` | every shared node is within the limits | `large_file (zeros (MAX_FILE + 1))` | `stop_with_a_node_past_a_limit_is_not_recoverable` |
 //! | `Book UnitsFit` | what is charged and what is out fit | `overfull` | `stop_past_the_capacity_is_not_recoverable` |
-//! | `Each OwnNumber` | a client knows its number | `misnumbered` | `call_under_another_number_opens_nothing` |
+//! | `Each OwnNumber` | a client knows its number | `misnumbered_world` | `call_under_another_number_opens_nothing` |
 //! | `Each MarkNotBefore` | its mark is not before its sealed records | `marked_before` | `mark_before_its_records_loses_a_number` |
 //! | `Each MarkNotPast` | nor past them | `marked_past` | `mark_past_its_records_loses_a_call` |
 //! | `Each AwayHasRecords` | a region that is away has a record | `away_empty` | `region_without_a_record_is_not_accepted` |
 //! | `Each BackHasNone` | one that is not away has none | `left_behind` | `wipe_of_a_region_that_is_back_loses_a_call` |
-//! | `Each UnwipedHasNone` | a region to be wiped has no record | `unwiped` | `wipe_of_a_written_region_loses_a_call` |
+//! | `Each UnwipedHasNone` | a region to be wiped has no record | `unwiped_world` | `wipe_of_a_written_region_loses_a_call` |
 //! | `Each UnwipedIsIdle` | and none is begun in it | `begun_unwiped` | `call_begun_in_a_stale_region_is_written_there` |
-//! | `Each RecordsLeased` | records touch what their client holds for writing | `unleased` | `record_without_a_lease_is_missed_by_a_fetch` |
+//! | `Each RecordsLeased` | records touch what their client holds for writing | `unleased_world` | `record_without_a_lease_is_missed_by_a_fetch` |
 //! | `Each RecordsPaid` | they have the units for what they raise | `overdrawn unpaid` | `unpaid_record_passes_the_capacity` |
 //! | `Each RecordsNameNone` | they name no file that has no name | `to_be_named` | `reclaim_of_a_file_to_be_named_is_seen` |
 //! | `Each RecordsKeepLimits` | each keeps every node within the limits | `past_limit` | `record_past_a_limit_is_digested` |

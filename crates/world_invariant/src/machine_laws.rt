@@ -5,13 +5,13 @@ ghost use Rattle.call_effects.specs.posix_calls.Operations.{is_client};
 ghost use Rattle.call_effects.specs.file_graph.Graph.{Graph};
 ghost use Rattle.call_effects.specs.log_record.declared.format.Record.{Record};
 ghost use Rattle.world_invariant.specs.Logs.{after_records, is_written, is_made_in, units_in};
-ghost use Rattle.world_invariant.specs.World.{Account, Away, Client, Kernel, World, at, undigested, records_of};
-ghost use Rattle.world_invariant.specs.Standing.{Stands};
+ghost use Rattle.world_invariant.specs.World.{Account, Away, Client, Kernel, World, at, undigested_records, records_of};
+ghost use Rattle.world_invariant.specs.ClientParts.{Stands};
 ghost use Rattle.world_invariant.specs.BookSteps.{HasRoom, IsUnbooked};
-ghost use Rattle.world_invariant.specs.KernelSteps.{CanDigest, CanReclaim, IsMigrated, records_digested, reclaimed, run_migrated};
+ghost use Rattle.world_invariant.specs.KernelSteps.{CanDigest, CanReclaim, IsMigrated, records_digested, after_reclaim, run_migrated};
 ghost use Rattle.world_invariant.specs.Halves.{units_booked, units_unbooked, number_booked, number_unbooked, pin_booked, pin_unbooked};
 ghost use Rattle.world_invariant.specs.Burial.{CanBury, client_buried, CanJoin, client_joined};
-ghost use Rattle.world_invariant.specs.Opening.{idle_world};
+ghost use Rattle.world_invariant.specs.FormatWorld.{idle_world};
 ghost use Rattle.world_invariant.specs.RegionSteps.{CanSeal, region_sealed, CanTakeBack, taken_back, CanWipeOther, other_wiped};
 ghost use Rattle.world_invariant.specs.Machine.{Machine, IsRunning, AreAccepted, Sealed, sealed_of, undigested_sealed, StandsSealed, CanAccept, accept, CanDigestNext, account_after, digest, book_units, unbook_units, book_number, unbook_number, book_pin, unbook_pin, bury, migrate, reclaim};
 ghost use Rattle.world_invariant.specs.Invariant.{IsCoherent};
@@ -47,7 +47,7 @@ pub fn digest_keeps_what_is_sealed()
 pub fn parts_stand_where_they_write()
     ensures client { (g h : Graph) (a : Account) (c : ℕ) (p : Client) → ((i : ℕ) → is_written i (records_of a p) ≡ true → g i ≡ h i) → Stands g a c p → Stands h a c p }
     ensures client_less { (i : ℕ) (g h : Graph) (a : Account) (c : ℕ) (p : Client) → h i ≡ None → ((j : ℕ) → j ≢ i → h j ≡ g j) → is_made_in i (records_of a p) ≡ false → Stands g a c p → Stands h a c p }
-    ensures client_account { (g : Graph) (a b : Account) (c : ℕ) (p : Client) → b.mark ≡ a.mark → p.spare + units_in (records_of a p) ≤ b.units → ((i : ℕ) → p.knows.granted i ≡ true → b.numbers i ≡ true) → ((i : ℕ) → is_made_in i (undigested a p) ≡ true → b.numbers i ≡ true) → ((i : ℕ) → p.pins i ≡ true → b.pins i ≡ true) → Stands g a c p → Stands g b c p }
+    ensures client_account { (g : Graph) (a b : Account) (c : ℕ) (p : Client) → b.mark ≡ a.mark → p.spare + units_in (records_of a p) ≤ b.units → ((i : ℕ) → p.knows.granted i ≡ true → b.numbers i ≡ true) → ((i : ℕ) → is_made_in i (undigested_records a p) ≡ true → b.numbers i ≡ true) → ((i : ℕ) → p.pins i ≡ true → b.pins i ≡ true) → Stands g a c p → Stands g b c p }
     ensures sealed { (g h : Graph) (a : Account) (s : Sealed) → ((i : ℕ) → is_written i (undigested_sealed a s) ≡ true → g i ≡ h i) → StandsSealed g a s → StandsSealed h a s }
     ensures sealed_less { (i : ℕ) (g h : Graph) (a : Account) (s : Sealed) → h i ≡ None → ((j : ℕ) → j ≢ i → h j ≡ g j) → is_made_in i (undigested_sealed a s) ≡ false → StandsSealed g a s → StandsSealed h a s }
     ensures sealed_account { (g : Graph) (a b : Account) (s : Sealed) → b.mark ≡ a.mark → units_in (undigested_sealed a s) ≤ b.units → ((i : ℕ) → is_made_in i (undigested_sealed a s) ≡ true → b.numbers i ≡ true) → StandsSealed g a s → StandsSealed g b s }
@@ -57,7 +57,7 @@ pub fn parts_stand_where_they_write()
 /// The kernel's entries are what the world's steps make of the kernel's part.
 pub fn kernel_entries_are_steps_of_the_world()
     ensures digest { (w : World) (accepted : ℕ → ℕ) (c : ℕ) (first : List Record) → (digest (record { kernel = w.kernel; accepted = accepted }) c first).kernel ≡ (records_digested w c first).kernel }
-    ensures reclaim { (w : World) (accepted : ℕ → ℕ) (i : ℕ) → (reclaim (record { kernel = w.kernel; accepted = accepted }) i).kernel ≡ (reclaimed w i).kernel }
+    ensures reclaim { (w : World) (accepted : ℕ → ℕ) (i : ℕ) → (reclaim (record { kernel = w.kernel; accepted = accepted }) i).kernel ≡ (after_reclaim w i).kernel }
     ensures book_units { (w : World) (accepted : ℕ → ℕ) (c units : ℕ) → (book_units (record { kernel = w.kernel; accepted = accepted }) c units).kernel ≡ (units_booked w c units).kernel }
     ensures unbook_units { (w : World) (accepted : ℕ → ℕ) (c units : ℕ) → (unbook_units (record { kernel = w.kernel; accepted = accepted }) c units).kernel ≡ (units_unbooked w c units).kernel }
     ensures book_number { (w : World) (accepted : ℕ → ℕ) (c i : ℕ) → (book_number (record { kernel = w.kernel; accepted = accepted }) c i).kernel ≡ (number_booked w c i).kernel }

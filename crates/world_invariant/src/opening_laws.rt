@@ -1,15 +1,15 @@
 //! Where it begins.
 
 ghost use Rattle.std.specs.Prelude.{◌≡◌, ℕ, ◌≤◌};
-ghost use Rattle.call_effects.specs.posix_calls.Tree.{opening};
+ghost use Rattle.call_effects.specs.posix_calls.EmptyTree.{empty_state};
 ghost use Rattle.call_effects.specs.file_graph.Graph.{Graph, fresh};
 ghost use Rattle.call_effects.specs.file_graph.Units.{charge};
-ghost use Rattle.call_effects.specs.Settled.{nobody};
+ghost use Rattle.call_effects.specs.ClosedGraph.{nobody};
 ghost use Rattle.call_effects.specs.Wholes.{IsSound, state_of};
 ghost use Rattle.world_invariant.specs.Limits.{AreWithin};
 ghost use Rattle.world_invariant.specs.World.{world_state};
 ghost use Rattle.world_invariant.specs.Invariant.{IsCoherent};
-ghost use Rattle.world_invariant.specs.Opening.{idle_world, opening_world};
+ghost use Rattle.world_invariant.specs.FormatWorld.{idle_world, opening_world};
 
 /// A sound graph within the limits that fits, and of which nobody uses anything, is a world in which all holds, as after a recovery. It stands for the
 /// tree of the graph, with nothing open.
@@ -21,5 +21,5 @@ pub fn idle_world_holds()
 /// So is the world that a format makes, and it stands for the empty tree.
 pub fn opening_world_holds()
     ensures holds { (capacity : ℕ) → charge fresh ≤ capacity → IsCoherent (opening_world capacity) }
-    ensures tree { (capacity : ℕ) → world_state (opening_world capacity) ≡ opening }
+    ensures tree { (capacity : ℕ) → world_state (opening_world capacity) ≡ empty_state }
 {}

@@ -8,7 +8,7 @@ ghost use Rattle.call_effects.specs.file_graph.Graph.{Graph, set_node};
 ghost use Rattle.call_effects.specs.file_graph.Units.{charge};
 ghost use Rattle.call_effects.specs.log_record.declared.format.Record.{Record};
 ghost use Rattle.call_effects.specs.posix_calls.Tree.{Descriptors};
-ghost use Rattle.call_effects.specs.Settled.{nobody, settled_graph};
+ghost use Rattle.call_effects.specs.ClosedGraph.{nobody, settled_graph};
 ghost use Rattle.call_effects.specs.Wholes.{IsSound, state_of, tree_of};
 ghost use Rattle.world_invariant.specs.Limits.{AreWithin};
 ghost use Rattle.world_invariant.specs.Logs.{after_records, after_clients, IsNameless};

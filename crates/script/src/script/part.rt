@@ -1,6 +1,6 @@
 // The parts in which a line is read.
 ghost use Rattle.std.specs.Prelude.{◌≡◌, ◌≤◌, ◌<◌, IfOk, length, take, slice_index, vec_len};
-ghost use Rattle.script.specs.Reading.{IsWithinLine};
+ghost use Rattle.script.specs.LineReads.{IsWithinLine};
 ghost use Rattle.script.specs.Parts.{Adds};
 
 use crate::run_error::RunError;

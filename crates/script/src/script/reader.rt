@@ -58,7 +58,7 @@ impl<R: BufRead + Drop> Model for ScriptLines<R> {
 }
 
 impl<R: BufRead + Drop> ScriptLines<R> {
-    ghost use Rattle.script.specs.Reading.{number_after, LosesLine, BeginsTooLong};
+    ghost use Rattle.script.specs.LineReads.{number_after, LosesLine, BeginsTooLong};
 
     /// The lines of what the reader gives. The memory of the longest line is taken at once, so that none is wanted later.
     pub fn new(alloc: Global, reader: R) -> Result<Self, RunError>
@@ -110,7 +110,7 @@ impl<R: BufRead + Drop> ScriptLines<R> {
     }
 
     /// That the line that was read last can't be read.
-    pub fn unreadable(&self) -> ScriptError
+    pub fn unreadable_line(&self) -> ScriptError
         ensures { result ≡ ScriptError.Unreadable self.now.number }
     {
         ScriptError::Unreadable(self.number)

@@ -1,7 +1,7 @@
 use Rattle.std.proofs.Common.{◌∙◌, ◌++◌, ℕ, List, length, sym, subst, ap, arith}
 use Rattle.std.proofs.lemmas.List.{length-append}
 use Rattle.area_image.specs.batch_journal.Blocks.{AreJournaled}
-use Rattle.area_image.specs.Store.{store_of}
+use Rattle.area_image.specs.Store.{disk}
 use Rattle.area_commit.specs.Batches.{marks_images}
 use Rattle.area_commit.proofs.Images.{node_low, is_batch, same_geometry, marks_journaled, one_for_marks}
 use Rattle.area_commit.proofs.ByNumber.{journaled_both, nodes_journaled}
@@ -19,14 +19,14 @@ returns-clause-batch g c =
     let old = c.args.journal.now in
     let nodes = c.args.nodes.now in
     let all = c.in_ok-push_all.ensures.pushed ∙ ap (λ (b : List (ℕ × List ℕ)). b ++ nodes) c.in_ok-push_marks.ensures.pushed in
-    is_batch old.geometry (store_of (g.M.Media.seen old.media)) c.args.slots.now c.args.marks nodes c.push_slot_blocks.new.batch c.in_ok-push_slot_blocks.ensures.images c.requires.nodes c.push_all.new.batch c.in_ok-push_slot_blocks.ensures.whole all
+    is_batch old.geometry (disk g.M.Media old) c.args.slots.now c.args.marks nodes c.push_slot_blocks.new.batch c.in_ok-push_slot_blocks.ensures.images c.requires.nodes c.push_all.new.batch c.in_ok-push_slot_blocks.ensures.whole all
 
 pub returns-clause-superblock : goal.returns-clause-superblock
 returns-clause-superblock g c =
     let old = c.args.journal.now in
     let nodes = c.args.nodes.now in
     let all = c.in_ok-push_all.ensures.pushed ∙ ap (λ (b : List (ℕ × List ℕ)). b ++ nodes) c.in_ok-push_marks.ensures.pushed in
-    same_geometry old.geometry (store_of (g.M.Media.seen old.media)) c.args.slots.now c.args.marks nodes c.push_slot_blocks.new.batch c.in_ok-push_slot_blocks.ensures.images c.requires.nodes c.push_all.new.batch all
+    same_geometry old.geometry (disk g.M.Media old) c.args.slots.now c.args.marks nodes c.push_slot_blocks.new.batch c.in_ok-push_slot_blocks.ensures.images c.requires.nodes c.push_all.new.batch all
 
 pub returns-clause-places : goal.returns-clause-places
 returns-clause-places g c =

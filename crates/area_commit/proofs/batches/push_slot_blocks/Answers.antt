@@ -3,8 +3,8 @@ use Rattle.std.proofs.lemmas.Bool.{cases_eq}
 use Rattle.std.proofs.lemmas.List.{length-append}
 use Rattle.area_image.specs.tier_device.declared.media.Tier.TheVariants.{Fast}
 use Rattle.area_image.specs.batch_journal.Blocks.{AreJournaled}
-use Rattle.area_image.specs.Store.{Store, store_of}
-use Rattle.area_image.specs.Looks.{looked}
+use Rattle.area_image.specs.Store.{Store, disk}
+use Rattle.area_image.specs.Looks.{call_answer}
 use Rattle.area_image.proofs.Looked.{store_same, looks_on, looks_none, looks_answer}
 use Rattle.area_commit.specs.declared.slots.ChangedSlot.{ChangedSlot}
 use Rattle.area_commit.specs.Slots.{RiseIn, has_slot}
@@ -22,8 +22,8 @@ numbers-init g c =
     let images = c.args.batch.now in
     let none = c.requires.none in
     record {
-      looks = looks_none m.moment m.seen m.left m.faults old tt c.requires.going;
-      images = none_yet slots (store_of (m.seen old.media) Fast) images none;
+      looks = looks_none m old tt c.requires.going;
+      images = none_yet slots (disk m old Fast) images none;
       rises = c.requires.slots;
       tells = λ j le b. refl;
       whole = λ k lt has. absurd (none_whole slots k lt has);
@@ -60,15 +60,15 @@ numbers-preserved g c =
     let back = c.split_at.result.1.now in
     let images = c.numbers.batch in
     let first = c.numbers.invariant.looks in
-    let s = store_of (m.seen old.media) in
-    let same : store_of (m.seen mid.media) ≡ s = store_same m.moment m.seen m.left m.faults old mid looked first in
+    let s = disk m old in
+    let same : disk m mid ≡ s = store_same m old mid call_answer first in
     let tells : TellsFrom k (front ++ back) slots = subst (λ (l : List ChangedSlot). TellsFrom k l slots) c.split_at.ensures.by_index.0 c.numbers.invariant.tells in
     let here : RiseIn (32 * (k - 1) + 1) (32 * k) front = subst (RiseIn (32 * (k - 1) + 1) (32 * k)) (sym c.split_at.ensures.front) (c.count_up_to.ensures.front (32 * (k - 1) + 1) 1024 c.numbers.invariant.rises) in
     let behind : RiseIn (32 * k + 1) 1024 back = subst (RiseIn (32 * k + 1) 1024) (sym c.split_at.ensures.back) (c.count_up_to.ensures.rest (32 * (k - 1) + 1) 1024 c.numbers.invariant.rises) in
     let pushed : c.push_slot_block.new.batch ≡ images ++ images_for k front (s Fast k) = c.in-Ok.ensures.pushed ∙ ap (λ (t : Store). images ++ images_for k front (t Fast k)) same in
     let long = ap length pushed ∙ length-append images (images_for k front (s Fast k)) in
     record {
-      looks = looks_on m.moment m.seen m.left m.faults old mid new tt looked first (looks_answer m.moment m.seen m.left m.faults mid new c.in-Ok.field-0 tt c.in-Ok.ensures.looks);
+      looks = looks_on m old mid new tt call_answer first (looks_answer m mid new c.in-Ok.field-0 tt c.in-Ok.ensures.looks);
       images = subst (HasSlotImages slots (s Fast) (k + 1)) (sym pushed) (one_block k 1024 slots front back one tells here behind (s Fast) images c.numbers.invariant.images);
       rises = subst (λ (n : ℕ). RiseIn (32 * n + 1) 1024 back) (omega arith) behind;
       tells = tells_on k 1024 slots front back one tells here behind;
@@ -85,17 +85,17 @@ numbers-preserved g c =
 pub returns-in-Err-clause-looks : goal.returns-in-Err-clause-looks
 returns-in-Err-clause-looks g c =
     let m = g.M.Media in
-    looks_on m.moment m.seen m.left m.faults c.args.journal.now c.numbers.journal c.push_slot_block.new.journal tt (Err c.in-Err.error) c.numbers.invariant.looks c.in-Err.ensures.looks
+    looks_on m c.args.journal.now c.numbers.journal c.push_slot_block.new.journal tt (Err c.in-Err.error) c.numbers.invariant.looks c.in-Err.ensures.looks
 
 pub returns-clause-images : goal.returns-clause-images
 returns-clause-images g c =
     let last = c.numbers.auto.block-end in
     let end : c.numbers.block ≡ 33 = omega (arith, c.numbers-test.false, last (omega arith)) in
-    subst (λ (n : ℕ). HasSlotImages c.args.slots.now (store_of (g.M.Media.seen c.args.journal.now.media) Fast) n c.numbers.batch) end c.numbers.invariant.images
+    subst (λ (n : ℕ). HasSlotImages c.args.slots.now (disk g.M.Media c.args.journal.now Fast) n c.numbers.batch) end c.numbers.invariant.images
 
 pub returns-clause-whole : goal.returns-clause-whole
 returns-clause-whole g c =
-    all_whole 1 c.args.slots.now (store_of (g.M.Media.seen c.args.journal.now.media) Fast) c.requires.slots (λ k lt has. c.numbers.invariant.whole k (omega (arith, lt, c.numbers-test.false)) has)
+    all_whole 1 c.args.slots.now (disk g.M.Media c.args.journal.now Fast) c.requires.slots (λ k lt has. c.numbers.invariant.whole k (omega (arith, lt, c.numbers-test.false)) has)
 
 pub returns-clause-next : goal.returns-clause-next
 returns-clause-next g c =

@@ -2,7 +2,7 @@ use Rattle.std.proofs.Common.{◌≡◌, ◌≤◌, ◌+◌, length, take, drop}
 use Rattle.area_image.specs.tier_device.declared.media.Tier.{Tier}
 use Rattle.area_image.specs.block_alloc.Runs.{blocks_of}
 use Rattle.area_commit.specs.Value.{data_pool}
-use Rattle.area_commit.specs.Given.{AreUsed, WereAdded}
+use Rattle.area_commit.specs.Release.{AreUsed, WereAdded}
 use Rattle.area_commit.proofs.returned_blocks.give_nodes.Given as goal
 
 -- the first runs are given

@@ -1,5 +1,5 @@
 use Rattle.std.proofs.Common.{sym, subst, ◌∙◌, ◌≤◌, ℕ}
-use Rattle.area_image.specs.Store.{store_of}
+use Rattle.area_image.specs.Store.{disk}
 use Rattle.area_image.specs.Damage.{IsDamaged}
 use Rattle.area_image.proofs.Costs.{parts_units, few_units}
 use Rattle.area_image.proofs.Sharing.{room_for, marks_more, clash_damage}
@@ -10,18 +10,18 @@ pub mark_inode-requires : goal.mark_inode-requires
 mark_inode-requires g c =
     let old = c.args.journal.now in
     let x = c.in-Ok.parts in
-    room_for old.geometry (store_of (g.M.Media.seen old.media)) c.args.inode x c.in-Ok.ensures.slot c.in-Ok.ensures.extents c.args.used.now c.in-Ok.ensures.fits c.requires.before
+    room_for old.geometry (disk g.M.Media old) c.args.inode x c.in-Ok.ensures.slot c.in-Ok.ensures.extents c.args.used.now c.in-Ok.ensures.fits c.requires.before
 
 pub returns-in-None-clause-marks : goal.returns-in-None-clause-marks
 returns-in-None-clause-marks g c =
     let old = c.args.journal.now in
     let x = c.in-Ok.parts in
-    marks_more old.geometry (store_of (g.M.Media.seen old.media)) c.args.inode x c.in-Ok.ensures.slot c.in-Ok.ensures.extents c.args.used.now c.mark_inode.new.used c.in-Ok.ensures.fits c.requires.before c.in-None.ensures.none
+    marks_more old.geometry (disk g.M.Media old) c.args.inode x c.in-Ok.ensures.slot c.in-Ok.ensures.extents c.args.used.now c.mark_inode.new.used c.in-Ok.ensures.fits c.requires.before c.in-None.ensures.none
 
 pub returns-in-Ok-clause-damaged : goal.returns-in-Ok-clause-damaged
 returns-in-Ok-clause-damaged g c =
     let old = c.args.journal.now in
-    let s = store_of (g.M.Media.seen old.media) in
+    let s = disk g.M.Media old in
     let x = c.in-Ok.parts in
     let damage = clash_damage old.geometry s c.args.inode x c.in-Ok.ensures.slot c.in-Ok.ensures.extents c.args.used.now c.in-Some.tier c.requires.before c.in-Some.ensures.some in
     subst (IsDamaged old.geometry s what.ExtentBlock) (sym c.root_of.ensures) damage
@@ -29,7 +29,7 @@ returns-in-Ok-clause-damaged g c =
 pub returns-in-None-clause-units : goal.returns-in-None-clause-units
 returns-in-None-clause-units g c =
     let old = c.args.journal.now in
-    c.units_of.ensures.units ∙ sym (parts_units old.geometry (store_of (g.M.Media.seen old.media)) c.args.inode c.in-Ok.parts.slot c.in-Ok.ensures.slot c.in-Ok.ensures.spelled)
+    c.units_of.ensures.units ∙ sym (parts_units old.geometry (disk g.M.Media old) c.args.inode c.in-Ok.parts.slot c.in-Ok.ensures.slot c.in-Ok.ensures.spelled)
 
 pub returns-in-None-clause-small : goal.returns-in-None-clause-small
 returns-in-None-clause-small g c = subst (λ (n : ℕ). n ≤ 257) (sym c.units_of.ensures.units) (few_units c.args.journal.now.geometry c.in-Ok.parts.slot c.in-Ok.ensures.fits)

@@ -1,13 +1,13 @@
 use Rattle.std.proofs.Common.{◌≡◌, ◌+◌, ◌⊎◌, ◌∙◌, Err, sym, arith}
-use Rattle.area_image.specs.Store.{store_of, graph}
+use Rattle.area_image.specs.Store.{disk, graph}
 use Rattle.batch_journal.specs.file_graph.Graph.{cost}
 use Rattle.area_image.proofs.Costs.{total_none, total_more, total_all}
-use Rattle.area_image.specs.Spelled.{SpellsInode}
+use Rattle.area_image.specs.Format.{SpellsInode}
 use Rattle.area_image.specs.Damage.{IsDamaged}
 use Rattle.area_image.specs.Map.{WantsMemory}
 use Rattle.area_image.specs.Checks.{HasPart}
-use Rattle.area_image.specs.Looks.{looked}
-use Rattle.area_image.specs.Whole.{MarksUses}
+use Rattle.area_image.specs.Looks.{call_answer}
+use Rattle.area_image.specs.MediumUse.{MarksUses}
 use Rattle.area_image.proofs.Parts.{on_damage}
 use Rattle.area_image.proofs.Looked.{carried, carried_back, looks_on, looks_none, looks_answer}
 use Rattle.area_image.proofs.Sharing.{marks_none, all_once, all_marked, spelled_more, spelled_all}
@@ -18,71 +18,71 @@ inodes-init g c =
     let m = g.M.Media in
     let old = c.args.journal.now in
     record {
-      looks = looks_none m.moment m.seen m.left m.faults old tt (sym c.has_failed.ensures ∙ c.if-has_failed.false);
-      total = total_none (graph old.geometry (store_of (m.seen old.media)));
+      looks = looks_none m old tt (sym c.has_failed.ensures ∙ c.if-has_failed.false);
+      total = total_none (graph old.geometry (disk m old));
       few = omega arith;
-      marks = marks_none old.geometry (store_of (m.seen old.media)) c.args.used.now c.requires.room c.requires.none;
+      marks = marks_none old.geometry (disk m old) c.args.used.now c.requires.room c.requires.none;
       spelled = λ i first last. absurd (omega (arith, first, last));
     }
 
 pub add_inode-requires-clause-before : goal.add_inode-requires-clause-before
 add_inode-requires-clause-before g c =
     let m = g.M.Media in
-    carried m.moment m.seen m.left m.faults (λ x s. MarksUses x s c.inodes.inode c.inodes.used) c.args.journal.now c.inodes.journal looked c.inodes.invariant.looks c.inodes.invariant.marks
+    carried m (λ x s. MarksUses x s c.inodes.inode c.inodes.used) c.args.journal.now c.inodes.journal call_answer c.inodes.invariant.looks c.inodes.invariant.marks
 
 pub inodes-preserved : goal.inodes-preserved
 inodes-preserved g c =
     let m = g.M.Media in
     let old = c.args.journal.now in
     let first = c.inodes.invariant.looks in
-    let here = carried_back m.moment m.seen m.left m.faults (λ x s. SpellsInode x s c.inodes.inode) old c.inodes.journal looked first c.in-Ok.ensures.spelled in
+    let here = carried_back m (λ x s. SpellsInode x s c.inodes.inode) old c.inodes.journal call_answer first c.in-Ok.ensures.spelled in
     record {
-      looks = looks_on m.moment m.seen m.left m.faults old c.inodes.journal c.add_inode.new.journal tt looked first
-          (looks_answer m.moment m.seen m.left m.faults c.inodes.journal c.add_inode.new.journal c.in-Ok.more tt c.in-Ok.ensures.looks);
-      total = total_more (graph old.geometry (store_of (m.seen old.media))) c.inodes.inode c.inodes.units c.in-Ok.more c.inodes.auto.inode c.inodes.invariant.total
-          (carried_back m.moment m.seen m.left m.faults (λ x s. c.in-Ok.more ≡ cost (graph x s c.inodes.inode)) old c.inodes.journal looked first c.in-Ok.ensures.units);
+      looks = looks_on m old c.inodes.journal c.add_inode.new.journal tt call_answer first
+          (looks_answer m c.inodes.journal c.add_inode.new.journal c.in-Ok.more tt c.in-Ok.ensures.looks);
+      total = total_more (graph old.geometry (disk m old)) c.inodes.inode c.inodes.units c.in-Ok.more c.inodes.auto.inode c.inodes.invariant.total
+          (carried_back m (λ x s. c.in-Ok.more ≡ cost (graph x s c.inodes.inode)) old c.inodes.journal call_answer first c.in-Ok.ensures.units);
       few = (let low = c.inodes.auto.inode in let few = c.inodes.invariant.few in let small = c.in-Ok.ensures.small in omega (arith, low, few, small));
-      marks = carried_back m.moment m.seen m.left m.faults (λ x s. MarksUses x s (c.inodes.inode + 1) c.add_inode.new.used) old c.inodes.journal looked first c.in-Ok.ensures.marks;
-      spelled = spelled_more old.geometry (store_of (m.seen old.media)) c.inodes.inode c.inodes.invariant.spelled here;
+      marks = carried_back m (λ x s. MarksUses x s (c.inodes.inode + 1) c.add_inode.new.used) old c.inodes.journal call_answer first c.in-Ok.ensures.marks;
+      spelled = spelled_more old.geometry (disk m old) c.inodes.inode c.inodes.invariant.spelled here;
     }
 
 pub returns-in-Err-clause-damaged : goal.returns-in-Err-clause-damaged
 returns-in-Err-clause-damaged g c =
     let m = g.M.Media in
-    on_damage c.in-Err.error (λ w b d. carried_back m.moment m.seen m.left m.faults (λ x s. IsDamaged x s w b) c.args.journal.now c.inodes.journal looked c.inodes.invariant.looks d) c.in-Err.ensures.damaged
+    on_damage c.in-Err.error (λ w b d. carried_back m (λ x s. IsDamaged x s w b) c.args.journal.now c.inodes.journal call_answer c.inodes.invariant.looks d) c.in-Err.ensures.damaged
 
 pub returns-in-Err-clause-memory : goal.returns-in-Err-clause-memory
 returns-in-Err-clause-memory g c = λ is.
     let m = g.M.Media in
-    (c.inodes.inode, carried_back m.moment m.seen m.left m.faults (λ x s. (WantsMemory x s c.inodes.inode) ⊎ (HasPart x s c.inodes.inode)) c.args.journal.now c.inodes.journal looked c.inodes.invariant.looks (c.in-Err.ensures.memory is))
+    (c.inodes.inode, carried_back m (λ x s. (WantsMemory x s c.inodes.inode) ⊎ (HasPart x s c.inodes.inode)) c.args.journal.now c.inodes.journal call_answer c.inodes.invariant.looks (c.in-Err.ensures.memory is))
 
 pub returns-in-Err-clause-looks : goal.returns-in-Err-clause-looks
 returns-in-Err-clause-looks g c =
     let m = g.M.Media in
-    looks_on m.moment m.seen m.left m.faults c.args.journal.now c.inodes.journal c.add_inode.new.journal tt (Err c.in-Err.error) c.inodes.invariant.looks c.in-Err.ensures.looks
+    looks_on m c.args.journal.now c.inodes.journal c.add_inode.new.journal tt (Err c.in-Err.error) c.inodes.invariant.looks c.in-Err.ensures.looks
 
 pub returns-clause-inodes : goal.returns-clause-inodes
 returns-clause-inodes g c =
     let old = c.args.journal.now in
-    spelled_all old.geometry (store_of (g.M.Media.seen old.media)) c.inodes.inode c.inodes-test.false c.inodes.invariant.spelled
+    spelled_all old.geometry (disk g.M.Media old) c.inodes.inode c.inodes-test.false c.inodes.invariant.spelled
 
 pub returns-clause-apart : goal.returns-clause-apart
 returns-clause-apart g c =
     let old = c.args.journal.now in
-    all_once old.geometry (store_of (g.M.Media.seen old.media)) c.inodes.inode c.inodes-test.false c.inodes.used c.inodes.invariant.marks
+    all_once old.geometry (disk g.M.Media old) c.inodes.inode c.inodes-test.false c.inodes.used c.inodes.invariant.marks
 
 pub returns-clause-marked : goal.returns-clause-marked
 returns-clause-marked g c =
     let old = c.args.journal.now in
-    all_marked old.geometry (store_of (g.M.Media.seen old.media)) c.inodes.inode c.inodes-test.false c.inodes.used c.inodes.invariant.marks
+    all_marked old.geometry (disk g.M.Media old) c.inodes.inode c.inodes-test.false c.inodes.used c.inodes.invariant.marks
 
 pub returns-clause-looks : goal.returns-clause-looks
 returns-clause-looks g c =
     let m = g.M.Media in
-    looks_answer m.moment m.seen m.left m.faults c.args.journal.now c.inodes.journal tt c.inodes.units c.inodes.invariant.looks
+    looks_answer m c.args.journal.now c.inodes.journal tt c.inodes.units c.inodes.invariant.looks
 
 pub returns-clause-units : goal.returns-clause-units
 returns-clause-units g c =
     let old = c.args.journal.now in
     let last = c.inodes.auto.inode-end in
-    total_all (graph old.geometry (store_of (g.M.Media.seen old.media))) c.inodes.inode c.inodes.units c.inodes-test.false (last (omega arith)) c.inodes.invariant.total
+    total_all (graph old.geometry (disk g.M.Media old)) c.inodes.inode c.inodes.units c.inodes-test.false (last (omega arith)) c.inodes.invariant.total

@@ -1,6 +1,6 @@
 use Rattle.std.proofs.Common.{◌+◌, Err, sym, subst, arith}
-use Rattle.area_image.specs.Store.{store_of}
-use Rattle.area_image.specs.Looks.{looked}
+use Rattle.area_image.specs.Store.{disk}
+use Rattle.area_image.specs.Looks.{call_answer}
 use Rattle.area_image.specs.Checks.{IsEntries, HasFound, AreFirstParts, HasPart, IsDirectoryDamageOf}
 use Rattle.area_image.proofs.Parts.{on_damage}
 use Rattle.area_image.proofs.Looked.{carried, carried_back, looks_on, looks_none}
@@ -10,17 +10,17 @@ use Rattle.area_image.proofs.directory.check_directory.Goals as goal
 pub check_part-requires-clause-directory : goal.check_part-requires-clause-directory
 check_part-requires-clause-directory g c =
     let m = g.M.Media in
-    carried m.moment m.seen m.left m.faults (λ x s. IsEntries x s c.args.inode c.args.entries) c.args.journal.now c.parts.journal looked c.parts.invariant.looks c.requires.directory
+    carried m (λ x s. IsEntries x s c.args.inode c.args.entries) c.args.journal.now c.parts.journal call_answer c.parts.invariant.looks c.requires.directory
 
 pub check_part-requires-clause-found : goal.check_part-requires-clause-found
 check_part-requires-clause-found g c =
     let m = g.M.Media in
-    carried m.moment m.seen m.left m.faults (λ x s. HasFound x s c.args.inode c.args.found.now) c.args.journal.now c.parts.journal looked c.parts.invariant.looks c.requires.found
+    carried m (λ x s. HasFound x s c.args.inode c.args.found.now) c.args.journal.now c.parts.journal call_answer c.parts.invariant.looks c.requires.found
 
 pub check_part-requires-clause-before : goal.check_part-requires-clause-before
 check_part-requires-clause-before g c =
     let m = g.M.Media in
-    carried m.moment m.seen m.left m.faults (λ x s. AreFirstParts x s c.args.inode c.args.entries c.parts.number c.parts.names) c.args.journal.now c.parts.journal looked c.parts.invariant.looks c.parts.invariant.before
+    carried m (λ x s. AreFirstParts x s c.args.inode c.args.entries c.parts.number c.parts.names) c.args.journal.now c.parts.journal call_answer c.parts.invariant.looks c.parts.invariant.before
 
 pub check_part-requires-clause-going : goal.check_part-requires-clause-going
 check_part-requires-clause-going g c = c.parts.invariant.looks.going.1
@@ -30,8 +30,8 @@ parts-init g c =
     let m = g.M.Media in
     let old = c.args.journal.now in
     record {
-      looks = looks_none m.moment m.seen m.left m.faults old tt c.requires.going;
-      before = subst (AreFirstParts old.geometry (store_of (m.seen old.media)) c.args.inode c.args.entries 0) (sym c.new-names.ensures) (first_none old.geometry (store_of (m.seen old.media)) c.args.inode c.args.entries);
+      looks = looks_none m old tt c.requires.going;
+      before = subst (AreFirstParts old.geometry (disk m old) c.args.inode c.args.entries 0) (sym c.new-names.ensures) (first_none old.geometry (disk m old) c.args.inode c.args.entries);
     }
 
 pub parts-preserved : goal.parts-preserved
@@ -40,31 +40,31 @@ parts-preserved g c =
     let old = c.args.journal.now in
     let first = c.parts.invariant.looks in
     record {
-      looks = looks_on m.moment m.seen m.left m.faults old c.parts.journal c.check_part.new.journal tt looked first c.in-Ok.ensures.looks;
-      before = carried_back m.moment m.seen m.left m.faults (λ x s. AreFirstParts x s c.args.inode c.args.entries (c.parts.number + 1) c.check_part.new.names) old c.parts.journal looked first c.in-Ok.ensures.parts;
+      looks = looks_on m old c.parts.journal c.check_part.new.journal tt call_answer first c.in-Ok.ensures.looks;
+      before = carried_back m (λ x s. AreFirstParts x s c.args.inode c.args.entries (c.parts.number + 1) c.check_part.new.names) old c.parts.journal call_answer first c.in-Ok.ensures.parts;
     }
 
 pub returns-in-Err-clause-damaged : goal.returns-in-Err-clause-damaged
 returns-in-Err-clause-damaged g c =
     let m = g.M.Media in
-    on_damage c.in-Err.error (λ w b d. carried_back m.moment m.seen m.left m.faults (λ x s. IsDirectoryDamageOf x s c.args.inode w b) c.args.journal.now c.parts.journal looked c.parts.invariant.looks d) c.in-Err.ensures.damaged
+    on_damage c.in-Err.error (λ w b d. carried_back m (λ x s. IsDirectoryDamageOf x s c.args.inode w b) c.args.journal.now c.parts.journal call_answer c.parts.invariant.looks d) c.in-Err.ensures.damaged
 
 pub returns-in-Err-clause-memory : goal.returns-in-Err-clause-memory
 returns-in-Err-clause-memory g c = λ is.
     let m = g.M.Media in
-    carried_back m.moment m.seen m.left m.faults (λ x s. HasPart x s c.args.inode) c.args.journal.now c.parts.journal looked c.parts.invariant.looks (c.in-Err.ensures.memory is)
+    carried_back m (λ x s. HasPart x s c.args.inode) c.args.journal.now c.parts.journal call_answer c.parts.invariant.looks (c.in-Err.ensures.memory is)
 
 pub returns-in-Err-clause-looks : goal.returns-in-Err-clause-looks
 returns-in-Err-clause-looks g c =
     let m = g.M.Media in
-    looks_on m.moment m.seen m.left m.faults c.args.journal.now c.parts.journal c.check_part.new.journal tt (Err c.in-Err.error) c.parts.invariant.looks c.in-Err.ensures.looks
+    looks_on m c.args.journal.now c.parts.journal c.check_part.new.journal tt (Err c.in-Err.error) c.parts.invariant.looks c.in-Err.ensures.looks
 
 pub returns-clause-directory : goal.returns-clause-directory
 returns-clause-directory g c =
     let old = c.args.journal.now in
     let past = c.parts-test.false in
     let end = c.parts.auto.number-end in
-    first_all old.geometry (store_of (g.M.Media.seen old.media)) c.args.inode c.args.entries c.parts.number c.parts.names c.parts.invariant.before (omega (arith, past, end))
+    first_all old.geometry (disk g.M.Media old) c.args.inode c.args.entries c.parts.number c.parts.names c.parts.invariant.before (omega (arith, past, end))
 
 pub returns-clause-looks : goal.returns-clause-looks
 returns-clause-looks g c = c.parts.invariant.looks

@@ -1,5 +1,5 @@
-use Rattle.area_image.specs.Store.{store_of}
-use Rattle.area_image.specs.Looks.{Looks, looked}
+use Rattle.area_image.specs.Store.{disk}
+use Rattle.area_image.specs.Looks.{Looks, call_answer}
 use Rattle.area_image.specs.Checks.{AreFirstParts}
 use Rattle.area_image.proofs.directory.check_directory.Given as goal
 
@@ -7,6 +7,6 @@ abbrev pub invariant-parts : goal.invariant-parts
 invariant-parts g l =
     let m = g.M.Media in
     record {
-      looks : Looks m.moment m.seen m.left m.faults l.fn.journal l.journal looked;
-      before : AreFirstParts l.fn.journal.geometry (store_of (m.seen l.fn.journal.media)) l.inode l.entries l.number l.names;
+      looks : Looks m l.fn.journal l.journal call_answer;
+      before : AreFirstParts l.fn.journal.geometry (disk m l.fn.journal) l.inode l.entries l.number l.names;
     }

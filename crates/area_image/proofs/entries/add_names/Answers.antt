@@ -1,8 +1,8 @@
 use Rattle.std.proofs.Common.{◌≡◌, ◌<◌, ◌∙◌, ℕ, List, length, Some, ap, sym, subst}
 use Rattle.std.specs.Prelude.{◌⊎◌, ◌↔◌, Bool, MatchBool, slice_get}
 use Rattle.batch_journal.specs.layout.declared.directory.DirEntry.{DirEntry}
-use Rattle.batch_journal.specs.layout.Directory.{EntryList, listed, entry_of}
-use Rattle.batch_journal.specs.layout.Lent.{owned}
+use Rattle.batch_journal.specs.layout.Directory.{EntryList, block_entries, entry_of}
+use Rattle.batch_journal.specs.layout.LentEntry.{owned_entry}
 use Rattle.tree_blocks.proofs.Lists.{got}
 use Rattle.area_image.specs.Names.{IsAmong}
 use Rattle.area_image.proofs.Twins.{adds_more, shares_name}
@@ -17,27 +17,27 @@ HaveMore new old name = (n : List ℕ) → IsAmong new n ↔ (IsAmong old n ⊎ 
 
 pub returns-then-not-new : goal.returns-then-not-new
 returns-then-not-new c =
-    let v : EntryList = listed c.args.block.now in
+    let v : EntryList = block_entries c.args.block.now in
     let i : ℕ = c.entries.index in
-    let list : c.known-list.result ≡ v = c.known-list.ensures in
+    let list : c.from_known-list.result ≡ v = c.from_known-list.ensures in
     let test : i < c.len-index-end.result = c.entries-test.true in
     let long : c.len-index-end.result ≡ length v.entries = c.len-index-end.ensures.len ∙ ap (λ (l : EntryList). length l.entries) list in
     let lt : i < length v.entries = subst (λ n. i < n) long test in
-    let name = name_here v c.known-list.result.entries i (owned c.entry-entry.result) (ap (λ (l : EntryList). l.entries) list) lt c.entry-entry.ensures.entry in
-    let n : List ℕ = (owned c.entry-entry.result).name in
+    let name = name_here v c.from_known-list.result.entries i (owned_entry c.entry-entry.result) (ap (λ (l : EntryList). l.entries) list) lt c.entry-entry.ensures.entry in
+    let n : List ℕ = (owned_entry c.entry-entry.result).name in
     let there : IsAmong c.entries.names n = subst (λ (b : Bool). MatchBool b (IsAmong c.entries.names n → ⊥) (IsAmong c.entries.names n)) c.if-not-new.true c.in-Ok.ensures.new in
     shares_name c.args.block.now c.requires i lt c.args.names.now c.entries.names c.entries.invariant (subst (IsAmong c.entries.names) name there)
 
 pub entries-preserved : goal.entries-preserved
 entries-preserved c =
-    let v : EntryList = listed c.args.block.now in
+    let v : EntryList = block_entries c.args.block.now in
     let i : ℕ = c.entries.index in
-    let list : c.known-list.result ≡ v = c.known-list.ensures in
+    let list : c.from_known-list.result ≡ v = c.from_known-list.ensures in
     let test : i < c.len-index-end.result = c.entries-test.true in
     let long : c.len-index-end.result ≡ length v.entries = c.len-index-end.ensures.len ∙ ap (λ (l : EntryList). length l.entries) list in
     let lt : i < length v.entries = subst (λ n. i < n) long test in
-    let name = name_here v c.known-list.result.entries i (owned c.entry-entry.result) (ap (λ (l : EntryList). l.entries) list) lt c.entry-entry.ensures.entry in
-    let n : List ℕ = (owned c.entry-entry.result).name in
+    let name = name_here v c.from_known-list.result.entries i (owned_entry c.entry-entry.result) (ap (λ (l : EntryList). l.entries) list) lt c.entry-entry.ensures.entry in
+    let n : List ℕ = (owned_entry c.entry-entry.result).name in
     let fresh : IsAmong c.entries.names n → ⊥ = subst (λ (b : Bool). MatchBool b (IsAmong c.entries.names n → ⊥) (IsAmong c.entries.names n)) c.if-not-new.false c.in-Ok.ensures.new in
     let more : HaveMore c.add.new.self c.entries.names n = c.in-Ok.ensures.names in
     adds_more c.args.block.now c.requires i lt c.args.names.now c.entries.names c.entries.invariant c.add.new.self (subst (λ (x : List ℕ). IsAmong c.entries.names x → ⊥) name fresh) (subst (HaveMore c.add.new.self c.entries.names) name more)

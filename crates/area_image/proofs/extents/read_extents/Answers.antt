@@ -13,12 +13,12 @@ use Rattle.area_image.proofs.extents.read_extents.Goals as goal
 pub returns-then-has_failed-clause-looks : goal.returns-then-has_failed-clause-looks
 returns-then-has_failed-clause-looks g c =
     let m = g.M.Media in
-    looks_failed m.moment m.seen m.left m.faults c.args.journal.now (sym c.has_failed.ensures ∙ c.if-has_failed.true)
+    looks_failed m c.args.journal.now (sym c.has_failed.ensures ∙ c.if-has_failed.true)
 
 pub returns-then-root-eq0-clause-looks : goal.returns-then-root-eq0-clause-looks
 returns-then-root-eq0-clause-looks g c =
     let m = g.M.Media in
-    looks_none m.moment m.seen m.left m.faults c.args.journal.now None (sym c.has_failed.ensures ∙ c.if-has_failed.false)
+    looks_none m c.args.journal.now None (sym c.has_failed.ensures ∙ c.if-has_failed.false)
 
 pub returns-then-root-eq0-clause-extents : goal.returns-then-root-eq0-clause-extents
 returns-then-root-eq0-clause-extents g c =
@@ -32,7 +32,7 @@ returns-then-root-eq0-clause-extents g c =
 pub returns-in-Err-clause-looks : goal.returns-in-Err-clause-looks
 returns-in-Err-clause-looks g c =
     let m = g.M.Media in
-    looks_other m.moment m.seen m.left m.faults c.args.journal.now c.read_block.new.journal c.in_ok-read_block.field-0 (Err c.in-Err.error) c.in_ok-read_block.ensures.looks c.in-Err.ensures.device
+    looks_other m c.args.journal.now c.read_block.new.journal c.in_ok-read_block.field-0 (Err c.in-Err.error) c.in_ok-read_block.ensures.looks c.in-Err.ensures.device
 
 is_some_none : (v : ExtentList) → Some v ≡ None → ⊥
 is_some_none v e = cc

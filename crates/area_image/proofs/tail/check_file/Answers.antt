@@ -3,7 +3,7 @@ use Rattle.batch_journal.specs.layout.Bytes.{are_zero}
 use Rattle.batch_journal.specs.layout.Places.{Sizes, tier_blocks}
 use Rattle.batch_journal.specs.layout.declared.error.What.{What}
 use Rattle.batch_journal.specs.layout.declared.error.What.TheVariants as what
-use Rattle.area_image.specs.Store.{Store, store_of, place, logical}
+use Rattle.area_image.specs.Store.{Store, disk, place, logical_block}
 use Rattle.area_image.specs.Reads.{IsRoom}
 use Rattle.area_image.specs.Checks.{IsTailDamageOf}
 use Rattle.area_image.proofs.Parts.{on_damage}
@@ -14,34 +14,34 @@ use Rattle.area_image.proofs.tail.check_file.Goals as goal
 pub returns-then-rest-eq0-clause-zero : goal.returns-then-rest-eq0-clause-zero
 returns-then-rest-eq0-clause-zero g c =
     let old = c.args.journal.now in
-    zero_whole old.geometry (store_of (g.M.Media.seen old.media)) c.args.inode c.args.size c.requires.file c.if-rest-eq0.true
+    zero_whole old.geometry (disk g.M.Media old) c.args.inode c.args.size c.requires.file c.if-rest-eq0.true
 
 pub block_number-at-requires : goal.block_number-at-requires
 block_number-at-requires g c =
     let old = c.args.journal.now in
-    let p = placed_by old.geometry (store_of (g.M.Media.seen old.media)) c.args.inode c.args.found.now c.requires.found c.in-Some.tier (c.args.size / 4096) c.in-Some.place c.in-Some.ensures.some in
+    let p = placed_by old.geometry (disk g.M.Media old) c.args.inode c.args.found.now c.requires.found c.in-Some.tier (c.args.size / 4096) c.in-Some.place c.in-Some.ensures.some in
     subst (λ (x : Sizes). c.in-Some.place < tier_blocks x c.in-Some.tier) (sym c.geometry-geometry.ensures) p.room.last
 
 pub read_tail-requires-clause-room : goal.read_tail-requires-clause-room
 read_tail-requires-clause-room g c =
     let old = c.args.journal.now in
-    let p = placed_by old.geometry (store_of (g.M.Media.seen old.media)) c.args.inode c.args.found.now c.requires.found c.in-Some.tier (c.args.size / 4096) c.in-Some.place c.in-Some.ensures.some in
+    let p = placed_by old.geometry (disk g.M.Media old) c.args.inode c.args.found.now c.requires.found c.in-Some.tier (c.args.size / 4096) c.in-Some.place c.in-Some.ensures.some in
     subst (λ (n : ℕ). IsRoom old.geometry c.in-Some.tier n) (sym c.block_number-at.ensures) p.room
 
 pub returns-in-Ok-clause-zero : goal.returns-in-Ok-clause-zero
 returns-in-Ok-clause-zero g c =
     let old = c.args.journal.now in
-    let s : Store = store_of (g.M.Media.seen old.media) in
+    let s : Store = disk g.M.Media old in
     let t = c.in-Some.tier in
     let k : ℕ = c.args.size / 4096 in
     let there : place old.geometry s c.args.inode t k ≡ Some c.in-Some.place = place_is old.geometry s c.args.inode c.args.found.now c.requires.found t k ∙ c.in-Some.ensures.some in
-    let read : logical old.geometry s c.args.inode k ≡ s t c.block_number-at.result = logical_is old.geometry s c.args.inode c.requires.once t k c.in-Some.place there ∙ ap (s t) (sym c.block_number-at.ensures) in
+    let read : logical_block old.geometry s c.args.inode k ≡ s t c.block_number-at.result = logical_is old.geometry s c.args.inode c.requires.once t k c.in-Some.place there ∙ ap (s t) (sym c.block_number-at.ensures) in
     zero_last old.geometry s c.args.inode c.args.size c.requires.file (s t c.block_number-at.result) read c.in-Ok.ensures.zero
 
 pub returns-in-Err-clause-damaged : goal.returns-in-Err-clause-damaged
 returns-in-Err-clause-damaged g c =
     let old = c.args.journal.now in
-    let s : Store = store_of (g.M.Media.seen old.media) in
+    let s : Store = disk g.M.Media old in
     let i = c.args.inode in
     let t = c.in-Some.tier in
     let k : ℕ = c.args.size / 4096 in
@@ -55,5 +55,5 @@ returns-in-Err-clause-damaged g c =
 pub returns-in-None-clause-zero : goal.returns-in-None-clause-zero
 returns-in-None-clause-zero g c =
     let old = c.args.journal.now in
-    let s : Store = store_of (g.M.Media.seen old.media) in
+    let s : Store = disk g.M.Media old in
     zero_none old.geometry s c.args.inode c.args.size c.requires.file (λ t. place_is old.geometry s c.args.inode c.args.found.now c.requires.found t (c.args.size / 4096) ∙ c.in-None.ensures.none t)

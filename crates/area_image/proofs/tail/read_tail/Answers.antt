@@ -4,7 +4,7 @@ use Rattle.batch_journal.specs.layout.declared.error.What.TheVariants as what
 use Rattle.batch_journal.proofs.Courses.{on_ok, if_err}
 use Rattle.area_image.specs.declared.error.AreaError.{AreaError}
 use Rattle.area_image.specs.Damage.{OnDamage}
-use Rattle.area_image.specs.Store.{store_of}
+use Rattle.area_image.specs.Store.{disk}
 use Rattle.area_image.proofs.tail.read_tail.Goals as goal
 
 pub returns-clause-zero : goal.returns-clause-zero
@@ -12,6 +12,6 @@ returns-clause-zero g c = on_ok c.tail_of.result (λ is. subst (λ (b : List ℕ
 
 pub returns-clause-damaged : goal.returns-clause-damaged
 returns-clause-damaged g c =
-    let block : List ℕ = store_of (g.M.Media.seen c.args.journal.now.media) c.args.tier c.args.at in
+    let block : List ℕ = disk g.M.Media c.args.journal.now c.args.tier c.args.at in
     if_err c.tail_of.result (λ e is. subst (λ (e : AreaError). OnDamage e (λ w b. (w ≡ what.FileData) × (b ≡ c.args.at) × (length block ≡ 4096) × (are_zero (drop c.args.from block) ≡ false))) (sym is.0)
     (refl, refl, subst (λ (b : List ℕ). length b ≡ 4096) c.in_ok-read_block.ensures.bytes is.1, subst (λ (b : List ℕ). are_zero (drop c.args.from b) ≡ false) c.in_ok-read_block.ensures.bytes is.2)) c.tail_of.ensures.damaged

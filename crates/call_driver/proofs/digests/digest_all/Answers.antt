@@ -1,6 +1,6 @@
 use Rattle.std.proofs.Common.{refl, inr}
 use Rattle.event_steps.specs.declared.event.Event.TheVariants as event
-use Rattle.call_driver.specs.Whose.{IsDigesting}
+use Rattle.call_driver.specs.EventOwner.{IsDigesting}
 use Rattle.call_driver.proofs.Chains.{after_seal}
 use Rattle.call_driver.proofs.RunLemmas.{leads_on, leads_then}
 use Rattle.call_driver.proofs.digests.digest_all.Goals as goal
@@ -19,6 +19,6 @@ returns-in-Refused g c = record {
 
 pub returns-in-Done : goal.returns-in-Done
 returns-in-Done g c = record {
-  digested = after_seal g.E.Events.plays g.E.Events.owes c.args.client c.digest_region-in-Done.result _ _ _ _ c.in-Ok.ensures.digested c.digest_region.ensures.events c.in-Done.ensures c.digest_region-in-Done.ensures.digested;
+  digested = after_seal g.E.Events c.args.client c.digest_region-in-Done.result _ _ _ _ c.in-Ok.ensures.digested c.digest_region.ensures.events c.in-Done.ensures c.digest_region-in-Done.ensures.digested;
   events = leads_then g.E.Events.plays (IsDigesting c.args.client) _ _ _ (leads_on g.E.Events.plays (IsDigesting c.args.client) _ _ _ _ c.digest_region.ensures.events (inr refl) (c.carry_out.ensures.0, c.carry_out.ensures.1)) c.digest_region-in-Done.ensures.events;
 }

@@ -1,6 +1,6 @@
 use Rattle.std.proofs.Common.{refl, inl, inr}
 use Rattle.event_steps.specs.declared.event.Event.TheVariants as event
-use Rattle.call_driver.specs.Whose.{IsDigesting}
+use Rattle.call_driver.specs.EventOwner.{IsDigesting}
 use Rattle.call_driver.proofs.Chains.{once_more}
 use Rattle.call_driver.proofs.RunLemmas.{leads_on}
 use Rattle.call_driver.proofs.digests.digest_region.Goals as goal

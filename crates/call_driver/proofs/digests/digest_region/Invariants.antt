@@ -1,7 +1,7 @@
 use Rattle.event_steps.specs.declared.event.Event.TheVariants as event
 use Rattle.call_driver.specs.Digests.{Times}
 use Rattle.call_driver.specs.Runs.{Leads}
-use Rattle.call_driver.specs.Whose.{IsDigesting}
+use Rattle.call_driver.specs.EventOwner.{IsDigesting}
 use Rattle.call_driver.proofs.digests.digest_region.Given as goal
 
 -- what was played so far: so many chunks

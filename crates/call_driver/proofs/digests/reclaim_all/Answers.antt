@@ -1,7 +1,7 @@
 use Rattle.std.proofs.Common.{◌≡◌, ◌+◌, arith, refl, subst}
 use Rattle.event_steps.specs.declared.event.Event.TheVariants as event
 use Rattle.call_driver.specs.Digests.{Reclaims}
-use Rattle.call_driver.specs.Whose.{IsReclaim}
+use Rattle.call_driver.specs.EventOwner.{IsReclaim}
 use Rattle.call_driver.proofs.Chains.{one_more_file}
 use Rattle.call_driver.proofs.RunLemmas.{leads_on}
 use Rattle.call_driver.proofs.digests.reclaim_all.Goals as goal

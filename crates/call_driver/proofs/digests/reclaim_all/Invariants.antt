@@ -1,6 +1,6 @@
 use Rattle.call_driver.specs.Digests.{Reclaims}
 use Rattle.call_driver.specs.Runs.{Leads}
-use Rattle.call_driver.specs.Whose.{IsReclaim}
+use Rattle.call_driver.specs.EventOwner.{IsReclaim}
 use Rattle.call_driver.proofs.digests.reclaim_all.Given as goal
 
 -- what was played so far: so many files were tried

@@ -1,6 +1,6 @@
 use Rattle.std.proofs.Common.{◌≡◌}
 use Rattle.event_steps.specs.declared.event.Event.TheVariants as event
-use Rattle.call_driver.specs.Whose.{IsOf, IsDigesting}
+use Rattle.call_driver.specs.EventOwner.{IsOf, IsDigesting}
 use Rattle.call_driver.proofs.KindLemmas.{digesting_is_own, wipe_is_own}
 use Rattle.call_driver.proofs.RunLemmas.{leads_then, leads_wider}
 use Rattle.call_driver.proofs.needs.make_room.Goals as goal

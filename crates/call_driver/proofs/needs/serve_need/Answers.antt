@@ -1,4 +1,4 @@
-use Rattle.call_driver.specs.Whose.{IsOf, IsServing}
+use Rattle.call_driver.specs.EventOwner.{IsOf, IsServing}
 use Rattle.call_driver.proofs.KindLemmas.{own_serves}
 use Rattle.call_driver.proofs.RunLemmas.{leads_wider}
 use Rattle.call_driver.proofs.needs.serve_need.Goals as goal
@@ -9,4 +9,4 @@ returns-in-Room-clause-events g c =
 
 pub returns-in_default-clause-events : goal.returns-in_default-clause-events
 returns-in_default-clause-events g c =
-    leads_wider g.E.Events.plays (IsOf c.args.client) (IsServing c.args.hands_over c.args.client) (own_serves c.args.hands_over c.args.client) _ _ c.ask.ensures.events
+    leads_wider g.E.Events.plays (IsOf c.args.client) (IsServing c.args.hands_over c.args.client) (own_serves c.args.hands_over c.args.client) _ _ c.ask_kernel.ensures.events

@@ -1,6 +1,6 @@
 use Rattle.log_record.specs.posix_calls.Decide.{decide}
 use Rattle.log_record.proofs.posix_calls_lemmas.Parts.{missing_is_left}
-use Rattle.call_effects.specs.Known.{part_of}
+use Rattle.call_effects.specs.Knowledge.{part_of}
 use Rattle.call_effects.proofs.Changes.{fair_of}
 use Rattle.call_effects.proofs.KnownLooks.{call_looks}
 use Rattle.call_effects.proofs.KnownReads.{call_reads_next, call_blocks, call_blocks_few}

@@ -1,5 +1,5 @@
 use Rattle.std.proofs.Common.{refl}
-use Rattle.call_effects.specs.Known.{part_of}
+use Rattle.call_effects.specs.Knowledge.{part_of}
 use Rattle.call_effects.proofs.KnownRoot.{root_open, root_truncate, root_mkdir, root_rmdir, root_link, root_unlink, root_rename_from, root_rename_to}
 use Rattle.call_effects.proofs.known_laws.root_is_refused_without_a_copy.Goals as goal
 

@@ -5,14 +5,14 @@ use Rattle.log_record.specs.posix_calls.Query.{Gives}
 use Rattle.log_record.proofs.posix_calls_lemmas.Chain.{exits, gives, look_known, look_missing}
 use Rattle.call_effects.proofs.record.names_if.Goals as goal
 
-pub returns-in_default-clause-tells : goal.returns-in_default-clause-tells
-returns-in_default-clause-tells g c = rw c.in_default.is gives
+pub returns-in_default-clause-answer : goal.returns-in_default-clause-answer
+returns-in_default-clause-answer g c = rw c.in_default.is gives
 
-pub returns-in_err-names-clause-tells : goal.returns-in_err-names-clause-tells
-returns-in_err-names-clause-tells g c = exits c.from_residual.ensures.1 (rw c.in-Some.is (look_missing names_seen _ c.in_err-names.ensures.missing.0 (sym c.file_names.ensures ∙ c.in_err-names.ensures.missing.1)))
+pub returns-in_err-names-clause-answer : goal.returns-in_err-names-clause-answer
+returns-in_err-names-clause-answer g c = exits c.from_residual.ensures.1 (rw c.in-Some.is (look_missing names_seen _ c.in_err-names.ensures.missing.0 (sym c.file_names.ensures ∙ c.in_err-names.ensures.missing.1)))
 
-pub returns-clause-tells : goal.returns-clause-tells
-returns-clause-tells g c = rw c.in-Some.is (look_known names_seen (λ n. Gives n) (sym c.file_names.ensures ∙ c.in_ok-names.ensures.known) gives)
+pub returns-clause-answer : goal.returns-clause-answer
+returns-clause-answer g c = rw c.in-Some.is (look_known names_seen (λ n. Gives n) (sym c.file_names.ensures ∙ c.in_ok-names.ensures.known) gives)
 
 -- what is answered of a node is of one that is known
 known_there : {A B : Type 0} (f : A → B) (o : Option A) (x : B) → option_map f o ≡ Some x → is_some o ≡ true

@@ -1,6 +1,6 @@
 use Rattle.std.proofs.Common.{◌∙◌, ℕ, List, [], refl, sym, ap, subst, append-nil}
 use Rattle.inode_plan.specs.graph_change.View.{change_of}
-use Rattle.inode_plan.specs.area_image.Store.{Store, store_of}
+use Rattle.inode_plan.specs.area_image.Store.{Store, disk}
 use Rattle.inode_plan.specs.PlannedDirectory.{IsPlannedFrom, on_fast}
 use Rattle.change_plan.specs.Part.{IsPart}
 use Rattle.change_plan.specs.Directory.{of_nodes}
@@ -12,7 +12,7 @@ plan_directory-requires g c = let ready = c.requires.ready.1 in (c.args.journal.
 pub returns-in-Ok-push_planned-clause-part : goal.returns-in-Ok-push_planned-clause-part
 returns-in-Ok-push_planned-clause-part g c places before after taken =
     let old = c.args.journal.now in
-    let s : Store = store_of (g.M.Media.seen old.media) in
+    let s : Store = disk g.M.Media old in
     let change = change_of c.args.change.now in
     let ready = c.requires.ready.1 in
     let plan = c.in-Ok.planned in

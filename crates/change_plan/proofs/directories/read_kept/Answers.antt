@@ -5,10 +5,10 @@ use Rattle.inode_plan.specs.graph_change.Net.{Kept}
 use Rattle.inode_plan.specs.layout.Places.{Sizes}
 use Rattle.inode_plan.specs.layout.Slot.{fits_slot}
 use Rattle.inode_plan.specs.area_image.Map.{HasAllExtents}
-use Rattle.inode_plan.specs.area_image.Spelled.{IsSpelled}
-use Rattle.inode_plan.specs.area_image.Store.{Store, store_of, slot_read, inode}
+use Rattle.inode_plan.specs.area_image.Format.{IsSpelled}
+use Rattle.inode_plan.specs.area_image.Store.{Store, disk, slot_read, inode}
 use Rattle.inode_plan.proofs.area_image_lemmas.Looked.{carried, carried_back}
-use Rattle.inode_plan.specs.Started.{IsStarted, IsSoundStart}
+use Rattle.inode_plan.specs.DirectoryStart.{IsStarted, IsSoundStart}
 use Rattle.change_plan.proofs.NoDamage.{no_damage}
 use Rattle.change_plan.proofs.directories.read_kept.Goals as goal
 
@@ -21,12 +21,12 @@ read_directory-requires g c =
     let x = c.args.slot in
     record {
       parts = record {
-        spelled = carried m.moment m.seen m.left m.faults IsSpelled old new _ looks c.requires.spelled;
+        spelled = carried m IsSpelled old new _ looks c.requires.spelled;
         number = c.requires.number;
-        slot_is = carried m.moment m.seen m.left m.faults (λ h s. slot_read h s c.args.inode ≡ Some x) old new _ looks c.requires.slot_is;
+        slot_is = carried m (λ h s. slot_read h s c.args.inode ≡ Some x) old new _ looks c.requires.slot_is;
         fits = subst (λ (h : Sizes). fits_slot h x ≡ true) (sym looks.geometry) c.requires.fits;
-        kind_is = carried m.moment m.seen m.left m.faults (λ h s. (inode h s c.args.inode).kind ≡ Some kind.Directory) old new _ looks c.requires.is_directory;
-        extents = carried m.moment m.seen m.left m.faults (λ h s. HasAllExtents h (s tiers.Fast) c.args.inode x c.in-Ok.extents) old new _ looks c.in-Ok.ensures.extents;
+        kind_is = carried m (λ h s. (inode h s c.args.inode).kind ≡ Some kind.Directory) old new _ looks c.requires.is_directory;
+        extents = carried m (λ h s. HasAllExtents h (s tiers.Fast) c.args.inode x c.in-Ok.extents) old new _ looks c.in-Ok.ensures.extents;
       };
       going = looks.going.1;
     }
@@ -34,7 +34,7 @@ read_directory-requires g c =
 pub returns-in-Ok-read_directory-clause-started : goal.returns-in-Ok-read_directory-clause-started
 returns-in-Ok-read_directory-clause-started g c =
     let m = g.M.Media in
-    carried_back m.moment m.seen m.left m.faults (λ h s. IsStarted h s Kept c.args.inode c.in-Ok-read_directory.start) c.args.journal.now c.read_all_extents.new.journal _ c.in-Ok.ensures.looks c.in-Ok-read_directory.ensures.started
+    carried_back m (λ h s. IsStarted h s Kept c.args.inode c.in-Ok-read_directory.start) c.args.journal.now c.read_all_extents.new.journal _ c.in-Ok.ensures.looks c.in-Ok-read_directory.ensures.started
 
 pub returns-in-Ok-read_directory-clause-sound : goal.returns-in-Ok-read_directory-clause-sound
 returns-in-Ok-read_directory-clause-sound g c = subst (λ (h : Sizes). IsSoundStart h c.in-Ok-read_directory.start) c.in-Ok.ensures.looks.geometry c.in-Ok-read_directory.ensures.sound
@@ -42,5 +42,5 @@ returns-in-Ok-read_directory-clause-sound g c = subst (λ (h : Sizes). IsSoundSt
 pub returns-clause-only : goal.returns-clause-only
 returns-clause-only g c =
     let old = c.args.journal.now in
-    let s : Store = store_of (g.M.Media.seen old.media) in
+    let s : Store = disk g.M.Media old in
     no_damage old.geometry s c.args.inode c.args.slot c.in-Err.error c.requires.slot_is (c.requires.spelled.inodes c.args.inode c.requires.number) c.in-Err.ensures.damaged

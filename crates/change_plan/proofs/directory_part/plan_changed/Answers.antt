@@ -4,7 +4,7 @@ use Rattle.inode_plan.specs.file_graph.declared.effect.Kind.{Kind}
 use Rattle.inode_plan.specs.file_graph.declared.effect.Kind.TheVariants as kind
 use Rattle.inode_plan.specs.graph_change.View.{change_of}
 use Rattle.inode_plan.specs.block_alloc.Runs.{blocks_of}
-use Rattle.inode_plan.specs.area_image.Store.{Store, store_of}
+use Rattle.inode_plan.specs.area_image.Store.{Store, disk}
 use Rattle.inode_plan.specs.Spare.{spares_for}
 use Rattle.change_plan.specs.Directory.{IsReadyToWrite}
 use Rattle.change_plan.specs.Next.{nodes_left}
@@ -14,7 +14,7 @@ use Rattle.change_plan.proofs.directory_part.plan_changed.Goals as goal
 pub take_spares-requires : goal.take_spares-requires
 take_spares-requires g c =
     let old = c.args.journal.now in
-    let s : Store = store_of (g.M.Media.seen old.media) in
+    let s : Store = disk g.M.Media old in
     let next = c.requires.next in
     let from = c.requires.changed in
     record {
@@ -27,7 +27,7 @@ take_spares-requires g c =
 pub plan_over_spares-requires : goal.plan_over_spares-requires
 plan_over_spares-requires g c =
     let old = c.args.journal.now in
-    let s : Store = store_of (g.M.Media.seen old.media) in
+    let s : Store = disk g.M.Media old in
     let change = change_of c.args.change.now in
     let next = c.requires.next in
     let from = c.requires.changed in
@@ -47,7 +47,7 @@ plan_over_spares-requires g c =
 pub returns-in-Ok-plan_over_spares-clause-planned : goal.returns-in-Ok-plan_over_spares-clause-planned
 returns-in-Ok-plan_over_spares-clause-planned g c places =
     let old = c.args.journal.now in
-    let s : Store = store_of (g.M.Media.seen old.media) in
+    let s : Store = disk g.M.Media old in
     let change = change_of c.args.change.now in
     let next = c.requires.next in
     let from = c.requires.changed in

@@ -1,12 +1,12 @@
 use Rattle.std.proofs.Common.{refl}
 use Rattle.inode_plan.specs.graph_change.View.{change_of}
 use Rattle.inode_plan.proofs.area_image_lemmas.Looked.{carried, carried_back}
-use Rattle.change_plan.specs.Changed.{IsChangedFrom}
+use Rattle.change_plan.specs.DirectoryChange.{IsChangedFrom}
 use Rattle.change_plan.specs.Next.{IsNext, PlansInode}
 use Rattle.change_plan.proofs.directory_part.plan_directory_part.Goals as goal
 
-pub changed_from-requires : goal.changed_from-requires
-changed_from-requires g c =
+pub directory_change-requires : goal.directory_change-requires
+directory_change-requires g c =
     let next = c.requires.next in
     record {
       going = c.requires.going;
@@ -23,20 +23,20 @@ pub plan_changed-requires : goal.plan_changed-requires
 plan_changed-requires g c =
     let m = g.M.Media in
     let old = c.args.journal.now in
-    let new = c.changed_from.new.journal in
+    let new = c.directory_change.new.journal in
     let looks = c.in-Ok.ensures.looks in
     let change = change_of c.args.change.now in
     record {
       going = looks.going.1;
-      next = carried m.moment m.seen m.left m.faults (λ h s. IsNext h s c.args.inode c.args.slot.now change c.args.pools.now c.args.taken.now c.args.plan.now.nodes) old new _ looks c.requires.next;
-      changed = carried m.moment m.seen m.left m.faults (λ h s. IsChangedFrom h s change c.args.inode c.in-Ok.changed) old new _ looks c.in-Ok.ensures.changed;
+      next = carried m (λ h s. IsNext h s c.args.inode c.args.slot.now change c.args.pools.now c.args.taken.now c.args.plan.now.nodes) old new _ looks c.requires.next;
+      changed = carried m (λ h s. IsChangedFrom h s change c.args.inode c.in-Ok.changed) old new _ looks c.in-Ok.ensures.changed;
     }
 
 pub returns-in-Ok-plan_changed-clause-planned : goal.returns-in-Ok-plan_changed-clause-planned
 returns-in-Ok-plan_changed-clause-planned g c places =
     let m = g.M.Media in
     let change = change_of c.args.change.now in
-    carried_back m.moment m.seen m.left m.faults (λ h s. PlansInode h s change c.args.touch c.args.inode places 0 c.args.pools.now c.args.taken.now c.plan_changed.new.pools c.plan_changed.new.taken c.args.plan.now c.plan_changed.new.plan) c.args.journal.now c.changed_from.new.journal _ c.in-Ok.ensures.looks (c.in-Ok-plan_changed.ensures.planned places)
+    carried_back m (λ h s. PlansInode h s change c.args.touch c.args.inode places 0 c.args.pools.now c.args.taken.now c.plan_changed.new.pools c.plan_changed.new.taken c.args.plan.now c.plan_changed.new.plan) c.args.journal.now c.directory_change.new.journal _ c.in-Ok.ensures.looks (c.in-Ok-plan_changed.ensures.planned places)
 
 pub returns-clause-took : goal.returns-clause-took
 returns-clause-took g c = record { same = refl; took = λ before order was. was; undo = c.requires.next.pools.undo }

@@ -4,7 +4,7 @@ use Rattle.inode_plan.specs.batch_journal.Images.{slice}
 use Rattle.inode_plan.specs.graph_change.Change.{Change}
 use Rattle.inode_plan.specs.graph_change.View.{change_of}
 use Rattle.inode_plan.specs.tree_blocks.Inode.{LogicalBlocks}
-use Rattle.inode_plan.specs.area_image.Store.{store_of, logical}
+use Rattle.inode_plan.specs.area_image.Store.{disk, logical_block}
 use Rattle.inode_plan.specs.area_image.declared.tiers.InodeExtents.{InodeExtents}
 use Rattle.inode_plan.specs.Bytes.{IsBlockAfter, AddsBlocks, blocks_from}
 use Rattle.inode_plan.specs.PlacedFile.{nth_number}
@@ -24,13 +24,13 @@ adds_same c a b numbers count old new same adds = (
 pub returns-in-Ok-clause-added : goal.returns-in-Ok-clause-added
 returns-in-Ok-clause-added g c =
     let old = c.args.journal.now in
-    let blocks : LogicalBlocks = logical old.geometry (store_of (g.M.Media.seen old.media)) c.args.inode in
+    let blocks : LogicalBlocks = logical_block old.geometry (disk g.M.Media old) c.args.inode in
     adds_same (change_of c.args.change.now) _ (blocks_from c.args.found.now blocks) c.args.numbers.now (length c.args.numbers.now) c.args.out.now.items c.read_changed.new.out.items
     (λ k. sym (ap (λ (o : Option InodeExtents). blocks_from o blocks k) c.in-Some.is)) c.in-Ok.ensures.added
 
 pub returns-in-Ok-read_changed-clause-added : goal.returns-in-Ok-read_changed-clause-added
 returns-in-Ok-read_changed-clause-added g c =
     let old = c.args.journal.now in
-    let blocks : LogicalBlocks = logical old.geometry (store_of (g.M.Media.seen old.media)) c.args.inode in
+    let blocks : LogicalBlocks = logical_block old.geometry (disk g.M.Media old) c.args.inode in
     adds_same (change_of c.args.change.now) _ (blocks_from c.args.found.now blocks) c.args.numbers.now (length c.args.numbers.now) c.args.out.now.items c.read_changed-in-None.new.out.items
     (λ k. sym (ap (λ (o : Option InodeExtents). blocks_from o blocks k) c.in-None.is)) c.in-Ok-read_changed.ensures.added

@@ -1,7 +1,7 @@
 use Rattle.std.proofs.Common.{◌≡◌, ◌≤◌, ◌∙◌, inl, ℕ, List, length, take, refl, sym, ap, subst, arith}
 use Rattle.std.proofs.lemmas.List.{length-take-le}
 use Rattle.inode_plan.specs.graph_change.View.{change_of}
-use Rattle.change_plan.specs.Started.{IsPlacedFile}
+use Rattle.change_plan.specs.FileStart.{IsPlacedFile}
 use Rattle.change_plan.proofs.PlansFile.{long, first_free}
 use Rattle.change_plan.proofs.file_part.place_written.Goals as goal
 

@@ -2,8 +2,8 @@ use Rattle.std.proofs.Common.{◌≡◌, ◌+◌, ◌*◌, ◌∙◌, inl, ℕ, 
 use Rattle.std.specs.FinMap as fin
 use Rattle.inode_plan.specs.file_graph.declared.effect.Kind.{Kind}
 use Rattle.inode_plan.specs.graph_change.View.{change_of}
-use Rattle.inode_plan.specs.area_image.Store.{Store, store_of}
-use Rattle.change_plan.specs.Adding.{AddsPart}
+use Rattle.inode_plan.specs.area_image.Store.{Store, disk}
+use Rattle.change_plan.specs.PlanAddition.{AddsPart}
 use Rattle.change_plan.specs.Next.{nodes_for, nodes_left}
 use Rattle.change_plan.proofs.PlansFile.{long}
 use Rattle.change_plan.proofs.file_part.plan_started.Goals as goal
@@ -11,17 +11,17 @@ use Rattle.change_plan.proofs.file_part.plan_started.Goals as goal
 pub place_written-requires-clause-started : goal.place_written-requires-clause-started
 place_written-requires-clause-started g c =
     let old = c.args.journal.now in
-    (old.geometry, store_of (g.M.Media.seen old.media), c.requires.started, c.requires.places)
+    (old.geometry, disk g.M.Media old, c.requires.started, c.requires.places)
 
 pub plan_written-requires-clause-ready : goal.plan_written-requires-clause-ready
 plan_written-requires-clause-ready g c =
     let old = c.args.journal.now in
-    (c.args.places.now, c.in-Ok.ensures old.geometry (store_of (g.M.Media.seen old.media)) c.requires.started c.requires.places)
+    (c.args.places.now, c.in-Ok.ensures old.geometry (disk g.M.Media old) c.requires.started c.requires.places)
 
 pub returns-in-Ok-plan_written-clause-planned : goal.returns-in-Ok-plan_written-clause-planned
 returns-in-Ok-plan_written-clause-planned g c =
     let old = c.args.journal.now in
-    let s : Store = store_of (g.M.Media.seen old.media) in
+    let s : Store = disk g.M.Media old in
     let change = change_of c.args.change.now in
     let ready = c.in-Ok.ensures old.geometry s c.requires.started c.requires.places in
     let w = c.in-Ok.written in

@@ -6,18 +6,18 @@ use Rattle.inode_plan.specs.layout.Places.{Sizes}
 use Rattle.inode_plan.specs.layout.Slot.{fits_slot}
 use Rattle.inode_plan.specs.extent_tree.Map.{runs_in}
 use Rattle.inode_plan.specs.extent_tree.declared.map.Place.{Place}
-use Rattle.inode_plan.specs.tree_blocks.After.{started}
+use Rattle.inode_plan.specs.tree_blocks.After.{start_node}
 use Rattle.inode_plan.specs.area_image.Map.{in_tier}
-use Rattle.inode_plan.specs.area_image.Spelled.{IsSpelled}
-use Rattle.inode_plan.specs.area_image.Store.{Store, store_of, slot_read, logical, inode}
+use Rattle.inode_plan.specs.area_image.Format.{IsSpelled}
+use Rattle.inode_plan.specs.area_image.Store.{Store, disk, slot_read, logical_block, inode}
 use Rattle.inode_plan.proofs.area_image_lemmas.Looked.{carried, carried_back}
 use Rattle.inode_plan.specs.Bytes.{HoldsBlocks, blocks_from}
-use Rattle.inode_plan.specs.Mapped.{AreData}
+use Rattle.inode_plan.specs.MapChange.{AreData}
 use Rattle.inode_plan.specs.PlannedFile.{pair_of, pairs_of}
 use Rattle.inode_plan.specs.Roots.{roots_wanted}
 use Rattle.change_plan.specs.Part.{IsPart}
 use Rattle.change_plan.specs.FileSteps.{AddsFile}
-use Rattle.change_plan.specs.declared.partial.PartialPlan.{PartialPlan}
+use Rattle.change_plan.specs.declared.partial_plan.PartialPlan.{PartialPlan}
 use Rattle.change_plan.proofs.NextFits.{nodes_end}
 use Rattle.change_plan.proofs.PlansFile.{few_lists}
 use Rattle.change_plan.proofs.file_part.plan_written.Goals as goal
@@ -26,7 +26,7 @@ pub root_placed-requires-clause-before : goal.root_placed-requires-clause-before
 root_placed-requires-clause-before g c =
     let old = c.args.journal.now in
     let next = c.requires.next in
-    (next.pools.before, next.pools.order, next.pools.took, nodes_end old.geometry (store_of (g.M.Media.seen old.media)) c.args.inode c.args.slot.now (change_of c.args.change.now) c.args.pools.now c.args.taken.now c.args.plan.now.nodes next)
+    (next.pools.before, next.pools.order, next.pools.took, nodes_end old.geometry (disk g.M.Media old) c.args.inode c.args.slot.now (change_of c.args.change.now) c.args.pools.now c.args.taken.now c.args.plan.now.nodes next)
 
 pub root_placed-requires-clause-short : goal.root_placed-requires-clause-short
 root_placed-requires-clause-short g c t =
@@ -52,11 +52,11 @@ push_file-requires g c =
     let x = c.args.slot.now in
     let base = base_of c.args.change.now.base in
     record {
-      spelled = carried m.moment m.seen m.left m.faults IsSpelled old new _ looks next.spelled;
+      spelled = carried m IsSpelled old new _ looks next.spelled;
       number = next.number;
       fits = subst (λ (h : Sizes). fits_slot h x ≡ true) (sym looks.geometry) next.fits;
-      slot_is = carried m.moment m.seen m.left m.faults (λ h s. slot_read h s c.args.inode ≡ Some x) old new _ looks next.slot_is;
-      is_file = carried m.moment m.seen m.left m.faults (λ h s. (started base (inode h s c.args.inode)).kind ≡ Some kind.File) old new _ looks c.requires.ready.1.placed.kind_is;
+      slot_is = carried m (λ h s. slot_read h s c.args.inode ≡ Some x) old new _ looks next.slot_is;
+      is_file = carried m (λ h s. (start_node base (inode h s c.args.inode)).kind ≡ Some kind.File) old new _ looks c.requires.ready.1.placed.kind_is;
       going = looks.going.1;
     }
 
@@ -64,7 +64,7 @@ pub returns-in-Ok-push_file-clause-part : goal.returns-in-Ok-push_file-clause-pa
 returns-in-Ok-push_file-clause-part g c places ready =
     let m = g.M.Media in
     let old = c.args.journal.now in
-    let s : Store = store_of (m.seen old.media) in
+    let s : Store = disk m old in
     let change = change_of c.args.change.now in
     let i = c.args.inode in
     let next = c.requires.next in
@@ -76,9 +76,9 @@ returns-in-Ok-push_file-clause-part g c places ready =
     let before = c.args.plan.now in
     let mid : PartialPlan = record { slots = before.slots; nodes = c.root_placed.new.images; bytes = c.add_bytes.new.out; lost = before.lost } in
     let after = c.push_file.new.plan in
-    let adds = carried_back m.moment m.seen m.left m.faults (λ h t. AddsFile h t change.base i f r mid after) old c.add_bytes.new.journal _ c.in-Ok.ensures.looks c.in-Ok-push_file.ensures.adds in
+    let adds = carried_back m (λ h t. AddsFile h t change.base i f r mid after) old c.add_bytes.new.journal _ c.in-Ok.ensures.looks c.in-Ok-push_file.ensures.adds in
     let bytes = c.in-Ok.ensures.added in
-    let holds = subst (λ (ns : List ℕ). HoldsBlocks change (blocks_from f.found (logical old.geometry s i)) ns (length ns) bytes.0) c.deref.ensures.value bytes.2 in
+    let holds = subst (λ (ns : List ℕ). HoldsBlocks change (blocks_from f.found (logical_block old.geometry s i)) ns (length ns) bytes.0) c.deref.ensures.value bytes.2 in
     let wanted : ℕ = roots_wanted f.slot f.plan.lists in
     let spare : List ℕ = take wanted c.args.pools.now.nodes.free in
     let many : length first ≡ count = length-take-le count places ready.few in

@@ -4,10 +4,10 @@ use Rattle.inode_plan.specs.layout.declared.slot.Slot.{Slot}
 use Rattle.inode_plan.specs.layout.Places.{Sizes, IsAllowed}
 use Rattle.inode_plan.specs.extent_tree.Map.{TierRuns, lies_at}
 use Rattle.inode_plan.specs.area_image.Store.{Store, place}
-use Rattle.inode_plan.specs.area_image.Spelled.{IsSpelled}
+use Rattle.inode_plan.specs.area_image.Format.{IsSpelled}
 use Rattle.inode_plan.specs.area_commit.declared.plan.Rewrite.{Rewrite}
 use Rattle.inode_plan.specs.area_commit.Plan.{is_rewritten, IsPlanned}
-use Rattle.inode_plan.specs.area_commit.Done.{IsCarriedOut}
+use Rattle.inode_plan.specs.area_commit.PlanOutcome.{IsCarriedOut}
 use Rattle.change_plan.proofs.Lying.{places_got, places_kept, blocks_lie, place_stays}
 use Rattle.change_plan.proofs.laws.carried_out_blocks_lie_in_their_places.Goals as goal
 

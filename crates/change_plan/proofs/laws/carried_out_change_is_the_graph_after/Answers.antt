@@ -8,12 +8,12 @@ use Rattle.inode_plan.specs.layout.Places.{Sizes, IsAllowed}
 use Rattle.inode_plan.specs.tree_blocks.After.{IsInodeAfter}
 use Rattle.inode_plan.specs.extent_tree.Map.{TierRuns}
 use Rattle.inode_plan.specs.area_image.Store.{Store, inode}
-use Rattle.inode_plan.specs.area_image.Spelled.{IsSpelled}
-use Rattle.inode_plan.specs.area_commit.Written.{IsWritten}
-use Rattle.inode_plan.specs.area_commit.Many.{AreWrittenAnew}
+use Rattle.inode_plan.specs.area_image.Format.{IsSpelled}
+use Rattle.inode_plan.specs.area_commit.InodeRewrite.{IsWritten}
+use Rattle.inode_plan.specs.area_commit.StoreRewrite.{AreWrittenAnew}
 use Rattle.inode_plan.specs.area_commit.declared.plan.Rewrite.{Rewrite}
 use Rattle.inode_plan.specs.area_commit.Plan.{is_rewritten, IsPlanned}
-use Rattle.inode_plan.specs.area_commit.Done.{IsCarriedOut}
+use Rattle.inode_plan.specs.area_commit.PlanOutcome.{IsCarriedOut}
 use Rattle.change_plan.specs.Part.{IsWrittenFor, IsTouchedBy}
 use Rattle.change_plan.specs.Parts.{AreParts, share_of}
 use Rattle.change_plan.proofs.Summed.{written_for}

@@ -1,5 +1,5 @@
 use Rattle.std.proofs.Common.{sym, subst}
-use Rattle.inode_plan.specs.Placed.{EndsFit}
+use Rattle.inode_plan.specs.RunPlaces.{EndsFit}
 use Rattle.change_plan.proofs.Sparing.{normal_ends, same_data}
 use Rattle.change_plan.proofs.spares.take_spares.Goals as goal
 

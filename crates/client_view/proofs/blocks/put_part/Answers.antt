@@ -1,6 +1,6 @@
 use Rattle.std.proofs.Common.{◌≤◌, ◌-◌, ℕ, List, length, take, ap, sym, ◌∙◌, arith}
 use Rattle.std.proofs.lemmas.List.{length-take-le}
-use Rattle.client_plan.specs.posix_calls.Content.{written}
+use Rattle.client_plan.specs.posix_calls.Content.{with_bytes}
 use Rattle.client_view.proofs.Buffers.{writes}
 use Rattle.client_view.proofs.blocks.put_part.Goals as goal
 
@@ -8,5 +8,5 @@ pub returns-clause-written : goal.returns-clause-written
 returns-clause-written c =
     let short : length (take c.args.len c.args.buffer.now) ≤ 4096 = omega (arith, length-take-le c.args.len c.args.buffer.now) in
     c.put.ensures.written
-    ∙ ap (λ (xs : List ℕ). written c.at_most_a_block-at.result xs (take c.args.len c.args.buffer.now)) (c.cut-part.ensures.cut ∙ ap (take (4096 - c.at_most_a_block-at.result)) c.skip.ensures)
+    ∙ ap (λ (xs : List ℕ). with_bytes c.at_most_a_block-at.result xs (take c.args.len c.args.buffer.now)) (c.cut-part.ensures.cut ∙ ap (take (4096 - c.at_most_a_block-at.result)) c.skip.ensures)
     ∙ sym (writes 4096 c.args.offset c.args.skipped c.args.bytes.now (take c.args.len c.args.buffer.now) short c.at_most_a_block-at.result c.at_most_a_block-at.ensures)

@@ -1,5 +1,5 @@
 use Rattle.std.proofs.Common.{◌≡◌, ap, ◌∙◌, suc, arith}
-use Rattle.block_cache.specs.Cached.{used, used_run}
+use Rattle.block_cache.specs.CacheList.{use_block, used_run}
 use Rattle.client_view.proofs.copies.use_run.Goals as goal
 
 pub loop-block-preserved : goal.loop-block-preserved
@@ -7,7 +7,7 @@ loop-block-preserved c =
     let i = c.loop-block.invariant in (
       suc i.0,
       omega (arith, i.1),
-      c.get.follows.holds-at-none ∙ (λ t. used c.args.inode (i.1 t) (i.2 t)),
+      c.get.follows.holds-at-none ∙ (λ t. use_block c.args.inode (i.1 t) (i.2 t)),
     )
 
 pub returns : goal.returns

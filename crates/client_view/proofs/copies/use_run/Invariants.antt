@@ -1,5 +1,5 @@
 use Rattle.std.proofs.Common.{◌≡◌, ◌+◌, ℕ}
-use Rattle.block_cache.specs.Cached.{used_run}
+use Rattle.block_cache.specs.CacheList.{used_run}
 use Rattle.client_view.proofs.copies.use_run.Given as goal
 
 -- the blocks before this one are used

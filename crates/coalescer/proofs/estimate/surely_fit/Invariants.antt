@@ -1,5 +1,5 @@
 use Rattle.std.proofs.Common.{take}
-use Rattle.coalescer.specs.Counted.{IsEstimate}
+use Rattle.coalescer.specs.EffectCounts.{IsEstimate}
 use Rattle.coalescer.specs.Records.{effects_in}
 use Rattle.coalescer.proofs.estimate.surely_fit.Given as goal
 

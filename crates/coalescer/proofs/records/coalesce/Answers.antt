@@ -1,6 +1,6 @@
 use Rattle.std.proofs.Common.{◌≡◌, ◌<◌, length, take, ap, sym, ◌∙◌, subst}
 use Rattle.std.specs.FinMap as fin
-use Rattle.graph_change.specs.Change.{Coalesces, coalesced}
+use Rattle.graph_change.specs.Change.{Coalesces, coalesced_changes}
 use Rattle.graph_change.specs.View.{changes_of}
 use Rattle.graph_change.proofs.Touched.{coalesces}
 use Rattle.log_record.specs.declared.format.Record.{Record}
@@ -21,11 +21,11 @@ loop-logged-preserved c =
 pub returns-clause-meaning : goal.returns-clause-meaning
 returns-clause-meaning c =
     let rs = c.args.records.now in
-    let is : changes_of c.loop-logged.change ≡ coalesced (effects_in rs) = c.loop-logged.invariant ∙ ap (λ x. coalesced (effects_in x)) (take_all c.loop-logged.logged-index rs c.loop-logged-test.false) in
+    let is : changes_of c.loop-logged.change ≡ coalesced_changes (effects_in rs) = c.loop-logged.invariant ∙ ap (λ x. coalesced_changes (effects_in x)) (take_all c.loop-logged.logged-index rs c.loop-logged-test.false) in
     subst (Coalesces (effects_in rs)) (sym is) (coalesces (effects_in rs))
 
 pub returns-clause-exact : goal.returns-clause-exact
-returns-clause-exact c = c.loop-logged.invariant ∙ ap (λ x. coalesced (effects_in x)) (take_all c.loop-logged.logged-index c.args.records.now c.loop-logged-test.false)
+returns-clause-exact c = c.loop-logged.invariant ∙ ap (λ x. coalesced_changes (effects_in x)) (take_all c.loop-logged.logged-index c.args.records.now c.loop-logged-test.false)
 
 pub returns-in_err-add_record-clause-memory : goal.returns-in_err-add_record-clause-memory
 returns-in_err-add_record-clause-memory c =

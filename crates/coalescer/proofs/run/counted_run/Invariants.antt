@@ -1,7 +1,7 @@
 use Rattle.std.proofs.Common.{◌≡◌, ◌<◌, take, true}
 use Rattle.coalescer.specs.Records.{effects_in}
 use Rattle.coalescer.specs.Weight.{fits_chunk}
-use Rattle.coalescer.specs.Counted.{Weighs}
+use Rattle.coalescer.specs.EffectCounts.{Weighs}
 use Rattle.coalescer.proofs.run.counted_run.Given as goal
 
 abbrev pub invariant-loop-count : goal.invariant-loop-count

@@ -4,7 +4,7 @@ use Rattle.std.specs.List.{range_with_len}
 use Rattle.std.specs.Set.{is_member}
 use Rattle.std.specs.BTreeSet.{contains}
 use Rattle.coalescer.specs.Weight.{same_block, blocks_at}
-use Rattle.coalescer.specs.Counted.{block_cmp}
+use Rattle.coalescer.specs.EffectCounts.{block_cmp}
 use Rattle.coalescer.proofs.weight.add_blocks.Given as goal
 
 abbrev pub invariant-loop-block : goal.invariant-loop-block

@@ -2,10 +2,10 @@ use Rattle.std.proofs.Common.{List, sym, subst, ◌∙◌}
 use Rattle.std.proofs.lemmas.Result.{err_from_is_err_and}
 use Rattle.update_log.specs.file_graph.declared.effect.Effect.{Effect}
 use Rattle.update_log.specs.file_graph.Graph.{touches}
-use Rattle.shared_area.specs.record_validation.Good.{VerdictTells}
+use Rattle.shared_area.specs.record_validation.Good.{IsVerdict}
 use Rattle.shared_area.specs.record_validation.Row.{HasCome, left_by}
 use Rattle.shared_area.specs.record_validation.declared.verdict.Verdict.{Verdict}
-use Rattle.digester.specs.Asked.{AreAmong}
+use Rattle.digester.specs.Questions.{AreAmong}
 use Rattle.digester.proofs.Asks.{kept, known_on, known_once}
 use Rattle.digester.proofs.record_test.test_next.Goals as goal
 
@@ -17,7 +17,7 @@ returns-in_err-learn_touched-clause-refused g c =
 pub returns-in-Ok-Good-clause-good : goal.returns-in-Ok-Good-clause-good
 returns-in-Ok-Good-clause-good g c = λ t h come.
     let here = c.in_ok-learn_touched.ensures.come h come in
-    let told = subst (λ (v : Verdict). VerdictTells c.args.held.now c.args.capacity h c.args.next.now v) c.in-Ok-Good.field-0-is (c.in-Ok-Good.ensures.tells h here.0) in
+    let told = subst (λ (v : Verdict). IsVerdict c.args.held.now c.args.capacity h c.args.next.now v) c.in-Ok-Good.field-0-is (c.in-Ok-Good.ensures.answer h here.0) in
     (told.0, subst (λ (v : Verdict). HasCome c.next.new.self (g.N.Nodes.graph c.args.nodes.now) (left_by v h c.args.next.now)) c.in-Ok-Good.field-0-is (c.in-Ok-Good.ensures.first (g.N.Nodes.graph c.args.nodes.now) h here))
 
 pub returns-in-Ok-Good-clause-answered : goal.returns-in-Ok-Good-clause-answered

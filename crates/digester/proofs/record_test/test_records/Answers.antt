@@ -42,8 +42,8 @@ returns-in_err-test_next-clause-refused g c =
     rw (p.1, p.2)
     (c.in_err-test_next.ensures.refused c.args.nodes.now (touches (effects_in c.args.records.now)) (touched_in c.args.records.now c.loop-place.place c.index-records-place.result c.loop-place-test.true c.index-records-place.is) c.loop-place.invariant.asked)
 
-pub returns-then-not-branch-clause-tells : goal.returns-then-not-branch-clause-tells
-returns-then-not-branch-clause-tells g c =
+pub returns-then-not-branch-clause-answer : goal.returns-then-not-branch-clause-answer
+returns-then-not-branch-clause-answer g c =
     let first = g.N.Nodes.graph c.args.nodes.now in
     let held = c.args.held.now in
     let capacity = c.args.capacity in

@@ -1,6 +1,6 @@
 use Rattle.std.proofs.Common.{◌≡◌, map}
 use Rattle.std.specs.Prelude.{take}
-use Rattle.file_graph.specs.Named.{pairs}
+use Rattle.file_graph.specs.NameOrder.{pairs}
 use Rattle.file_graph.proofs.name_map.names_of_entries.Given as goal
 
 abbrev pub invariant-loop-entry : goal.invariant-loop-entry

@@ -4,7 +4,7 @@ use Rattle.std.proofs.lemmas.List.Sorted.{searchable_from_sorted}
 use Rattle.std.specs.List.Sorted.{IsBinarySearchResult, IsSearchInRange}
 use Rattle.std.specs.Cmp.Lexicographic.{nat_list_cmp_total}
 use Rattle.file_graph.specs.declared.name_map.NamedEntry.{NamedEntry}
-use Rattle.file_graph.specs.Named.{position_in, IsInOrder}
+use Rattle.file_graph.specs.NameOrder.{position_in, IsInOrder}
 use Rattle.file_graph.proofs.Ordered.{names_cmp, free_place, found_place, sorted_by_name}
 use Rattle.file_graph.proofs.name_map.place_of.Goals as goal
 

@@ -4,7 +4,7 @@ use Rattle.std.specs.List.{insert}
 use Rattle.std.specs.FinMap as fin
 use Rattle.std.proofs.lemmas.Result.{on_ok_weaker}
 use Rattle.file_graph.specs.declared.name_map.NamedEntry.{NamedEntry}
-use Rattle.file_graph.specs.Named.{position_in, pairs}
+use Rattle.file_graph.specs.NameOrder.{position_in, pairs}
 use Rattle.file_graph.proofs.Ordered.{names_cmp, put_found, put_new}
 use Rattle.file_graph.proofs.name_map.put_entry.Goals as goal
 

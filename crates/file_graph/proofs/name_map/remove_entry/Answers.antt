@@ -1,5 +1,5 @@
 use Rattle.std.proofs.Common.{◌≡◌, Ok, Err, ◌∙◌, ap}
-use Rattle.file_graph.specs.Named.{pairs, position_in}
+use Rattle.file_graph.specs.NameOrder.{pairs, position_in}
 use Rattle.file_graph.proofs.Ordered.{remove_found, remove_free}
 use Rattle.file_graph.proofs.name_map.remove_entry.Goals as goal
 

@@ -11,5 +11,5 @@ use Rattle.first_run.proofs.first.first_asked.Goals as goal
 pub returns : goal.returns
 returns c =
     let held : own_of c.first_descriptors.result ≡ file_open = fun_ext c.first_descriptors.ensures in
-    let asked = subst (λ call. IfOk c.logged.result (λ l. IsLogged (graph_of c.args.graph.now) (own_of c.first_descriptors.result) call NEW l.0 l.1)) c.in_ok-call.ensures c.logged.ensures in
-    subst (λ (own : Own). IfOk c.logged.result (λ l. IsLogged (graph_of c.args.graph.now) own first_call NEW l.0 l.1)) held asked
+    let asked = subst (λ call. IfOk c.log_call.result (λ l. IsLogged (graph_of c.args.graph.now) (own_of c.first_descriptors.result) call NEW l.0 l.1)) c.in_ok-call.ensures c.log_call.ensures in
+    subst (λ (own : Own). IfOk c.log_call.result (λ l. IsLogged (graph_of c.args.graph.now) own first_call NEW l.0 l.1)) held asked

@@ -4,4 +4,4 @@ use Rattle.first_run.proofs.regions.apply.Given as goal
 
 -- the effects that are still to come lead where all of them do
 abbrev pub invariant-loop-effect : goal.invariant-loop-effect
-invariant-loop-effect l = after_effects (graph_of l.graph) (drop l.effect-index l.effect-items) ≡ after_effects (graph_of l.initial.graph) l.entry.effects
+invariant-loop-effect l = after_effects (graph_of l.graph) (drop l.effect-index l.effect-items) ≡ after_effects (graph_of l.initial.graph) l.logged.effects

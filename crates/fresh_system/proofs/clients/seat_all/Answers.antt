@@ -9,5 +9,5 @@ pub loop-preserved : goal.loop-preserved
 loop-preserved g c = record {
   handles = c.next_seat.ensures.handles;
   passes = c.next_seat.ensures.passes;
-  fresh = subst (λ (ss : List (SeatView _)). All (IsFreshSeat g.M.Media.seen) ss) (sym c.in-Ok.ensures.items) (All-push (IsFreshSeat g.M.Media.seen) _ _ c.loop.invariant.fresh c.in_ok-seat.ensures.fresh);
+  fresh = subst (λ (ss : List (SeatView _)). All (IsFreshSeat g.M.Media c.args.leases.now) ss) (sym c.in-Ok.ensures.items) (All-push (IsFreshSeat g.M.Media c.args.leases.now) _ _ c.loop.invariant.fresh c.in_ok-seat.ensures.fresh);
 }

@@ -8,5 +8,5 @@ abbrev pub invariant-loop : goal.invariant-loop
 invariant-loop g l = record {
   handles : All (λ h. h ≡ l.fn.leases) l.handles.items;
   passes : All (CountsNone l.fn.leases) l.passes.items;
-  fresh : All (IsFreshSeat g.M.Media.seen) l.seats.items;
+  fresh : All (IsFreshSeat g.M.Media l.fn.leases) l.seats.items;
 }

@@ -1,7 +1,7 @@
 use Rattle.std.proofs.Common.{◌∙◌, [], ◌∷◌, arith, length, ap, sym, subst}
 use Rattle.std.proofs.lemmas.List.{length-append}
 use Rattle.graph_change.specs.Change.{over_patch, patch_at}
-use Rattle.graph_change.specs.Changed.{ChangedFrom}
+use Rattle.graph_change.specs.BlockChanges.{ChangedFrom}
 use Rattle.graph_change.specs.View.{patches_of}
 use Rattle.graph_change.proofs.Changed.{one_changed}
 use Rattle.graph_change.proofs.changed_blocks.changed_blocks.Goals as goal

@@ -1,5 +1,5 @@
 use Rattle.std.proofs.Common.{◌≡◌, ◌+◌, length}
-use Rattle.graph_change.specs.Changed.{ChangedFrom}
+use Rattle.graph_change.specs.BlockChanges.{ChangedFrom}
 use Rattle.graph_change.specs.View.{patches_of}
 use Rattle.graph_change.proofs.changed_blocks.changed_blocks.Given as goal
 

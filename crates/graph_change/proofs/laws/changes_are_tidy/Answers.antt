@@ -1,7 +1,7 @@
 use Rattle.std.proofs.Common.{ap}
 use Rattle.std.specs.Prelude.{option_map}
 use Rattle.graph_change.specs.Change.{net_of}
-use Rattle.graph_change.specs.Net.{based, edited}
+use Rattle.graph_change.specs.Net.{base_node, edited_node}
 use Rattle.graph_change.proofs.Tidying.{tidy_new, tidy_more, tidy_coalesced}
 use Rattle.graph_change.proofs.laws.changes_are_tidy.Goals as goal
 
@@ -10,5 +10,5 @@ returns c = record {
   new = tidy_new;
   kept = tidy_more;
   coalesced = tidy_coalesced;
-  gone = λ n old is. ap (λ b. option_map (edited (net_of n)) (based b old)) is;
+  gone = λ n old is. ap (λ b. option_map (edited_node (net_of n)) (base_node b old)) is;
 }

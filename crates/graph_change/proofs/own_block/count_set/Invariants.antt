@@ -1,6 +1,6 @@
 use Rattle.std.proofs.Common.{◌≡◌, take}
 use Rattle.std.specs.List.{count_by}
-use Rattle.graph_change.specs.Kept.{is_set}
+use Rattle.graph_change.specs.KeptBytes.{is_set}
 use Rattle.graph_change.proofs.own_block.count_set.Given as goal
 
 abbrev pub invariant-marks : goal.invariant-marks

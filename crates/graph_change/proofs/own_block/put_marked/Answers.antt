@@ -1,6 +1,6 @@
 use Rattle.std.proofs.Common.{arith}
 use Rattle.std.specs.Prelude.{map}
-use Rattle.graph_change.specs.Kept.{is_set}
+use Rattle.graph_change.specs.KeptBytes.{is_set}
 use Rattle.graph_change.specs.View.{patch_of}
 use Rattle.graph_change.proofs.Overs.{all_over}
 use Rattle.graph_change.proofs.own_block.put_marked.Goals as goal

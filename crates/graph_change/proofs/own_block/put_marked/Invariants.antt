@@ -1,5 +1,5 @@
 use Rattle.std.specs.Prelude.{map}
-use Rattle.graph_change.specs.Kept.{is_set}
+use Rattle.graph_change.specs.KeptBytes.{is_set}
 use Rattle.graph_change.specs.View.{patch_of}
 use Rattle.graph_change.proofs.Overs.{PutUpTo}
 use Rattle.graph_change.proofs.own_block.put_marked.Given as goal

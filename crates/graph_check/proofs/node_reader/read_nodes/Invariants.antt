@@ -1,5 +1,5 @@
 use Rattle.std.proofs.Common.{◌≡◌, ◌-◌, None}
-use Rattle.graph_check.specs.Asked.{down_from}
+use Rattle.graph_check.specs.Questions.{down_from}
 use Rattle.graph_check.specs.Tables.{HasPlaces, IsRead}
 use Rattle.graph_check.proofs.node_reader.read_nodes.Given as goal
 

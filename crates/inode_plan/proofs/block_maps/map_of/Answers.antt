@@ -10,7 +10,7 @@ use Rattle.area_commit.specs.extent_tree.Normal.{IsRising, PlacesFit}
 use Rattle.area_commit.specs.extent_tree.Places.{place_of, SamePlaces}
 use Rattle.area_commit.specs.extent_tree.Map.{TierRuns}
 use Rattle.area_commit.specs.area_image.Store.{space_of}
-use Rattle.area_commit.specs.extent_tree.Spelled.{LiesWithin}
+use Rattle.area_commit.specs.extent_tree.BlockFormat.{LiesWithin}
 use Rattle.area_commit.specs.area_image.Map.{extents_in, in_tier, IsOwnList}
 use Rattle.area_commit.specs.area_image.declared.tiers.InodeExtents.{InodeExtents}
 use Rattle.inode_plan.specs.Lists.{HasPlaces}
@@ -44,18 +44,18 @@ from_extents-requires c =
     let law : (p : Space) (v : ExtentList) → fits_extents g p v ≡ true → IsRising 0 4294967295 v.extents × PlacesFit v.extents = λ p v fits. (c.block_spells_a_map.ensures.rising g p v fits, c.block_spells_a_map.ensures.fit g p v c.units-units.ensures.allowed fits) in
     let is_map : List Extent → Type 0 = λ es. IsRising 0 4294967295 es × PlacesFit es in
     record {
-      fast = subst is_map (sym c.listed-fast.ensures) (as_map g (space_of slot Fast) i x.fast (law (space_of slot Fast)) (own Fast));
-      block = subst is_map (sym c.listed-block.ensures) (as_map g (space_of slot Block) i x.block (law (space_of slot Block)) (own Block));
-      slow = subst is_map (sym c.listed-slow.ensures) (as_map g (space_of slot Slow) i x.slow (law (space_of slot Slow)) (own Slow));
+      fast = subst is_map (sym c.block_extents-fast.ensures) (as_map g (space_of slot Fast) i x.fast (law (space_of slot Fast)) (own Fast));
+      block = subst is_map (sym c.block_extents-block.ensures) (as_map g (space_of slot Block) i x.block (law (space_of slot Block)) (own Block));
+      slow = subst is_map (sym c.block_extents-slow.ensures) (as_map g (space_of slot Slow) i x.slow (law (space_of slot Slow)) (own Slow));
     }
 
 pub returns-clause-places : goal.returns-clause-places
 returns-clause-places c = has_places c.args.found.now c.in_ok-map.map
-    (same _ _ _ c.listed-fast.ensures c.in_ok-map.ensures.fast) (same _ _ _ c.listed-block.ensures c.in_ok-map.ensures.block) (same _ _ _ c.listed-slow.ensures c.in_ok-map.ensures.slow)
+    (same _ _ _ c.block_extents-fast.ensures c.in_ok-map.ensures.fast) (same _ _ _ c.block_extents-block.ensures c.in_ok-map.ensures.block) (same _ _ _ c.block_extents-slow.ensures c.in_ok-map.ensures.slow)
 
 pub returns-clause-within : goal.returns-clause-within
 returns-clause-within c i slot own t b p at =
     let g = c.args.geometry.now in
     let x = c.args.found.now in
-    let places = has_places x c.in_ok-map.map (same _ _ _ c.listed-fast.ensures c.in_ok-map.ensures.fast) (same _ _ _ c.listed-block.ensures c.in_ok-map.ensures.block) (same _ _ _ c.listed-slow.ensures c.in_ok-map.ensures.slow) in
+    let places = has_places x c.in_ok-map.map (same _ _ _ c.block_extents-fast.ensures c.in_ok-map.ensures.fast) (same _ _ _ c.block_extents-block.ensures c.in_ok-map.ensures.block) (same _ _ _ c.block_extents-slow.ensures c.in_ok-map.ensures.slow) in
     lies_within g (space_of slot t) i (in_tier x t) (λ v fits. c.block_spells_a_map.ensures.within g (space_of slot t) v fits) (own t) b p (sym (places t b) ∙ at)

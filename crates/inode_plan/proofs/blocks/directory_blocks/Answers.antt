@@ -1,5 +1,5 @@
 use Rattle.std.proofs.Common.{ℕ, refl, sym, subst}
-use Rattle.inode_plan.specs.Started.{ArePlacesOf, LieInPool}
+use Rattle.inode_plan.specs.DirectoryStart.{ArePlacesOf, LieInPool}
 use Rattle.inode_plan.specs.declared.blocks.DirectoryBlocks.{DirectoryBlocks}
 use Rattle.inode_plan.proofs.Parts.{lie_in_pool, sound, uses_of}
 use Rattle.inode_plan.proofs.blocks.directory_blocks.Goals as goal

@@ -1,4 +1,4 @@
-use Rattle.inode_plan.specs.Started.{ArePlacesOf}
+use Rattle.inode_plan.specs.DirectoryStart.{ArePlacesOf}
 use Rattle.inode_plan.proofs.blocks.places_of.Given as goal
 
 abbrev pub invariant-each : goal.invariant-each

@@ -1,6 +1,6 @@
 use Rattle.area_commit.specs.graph_change.Change.{patch_at}
 use Rattle.area_commit.specs.graph_change.View.{new_length, patches_of}
-use Rattle.area_commit.specs.area_image.Store.{store_of, logical}
+use Rattle.area_commit.specs.area_image.Store.{disk, logical_block}
 use Rattle.inode_plan.specs.Bytes.{blocks_from}
 use Rattle.inode_plan.proofs.Adding.{put_is, made_from, made_anyway}
 use Rattle.inode_plan.proofs.file_change.change_into.Goals as goal
@@ -10,7 +10,7 @@ returns-then-not-needs_old-clause-made g c =
     let change = c.args.change.now in
     let old = c.args.journal.now in
     let k = c.args.number in
-    made_anyway (new_length change.length) (patch_at (patches_of change.blocks) k) _ k (blocks_from c.args.found (logical old.geometry (store_of (g.M.Media.seen old.media)) c.args.inode) k) c.args.block.now c.change_block.new.block
+    made_anyway (new_length change.length) (patch_at (patches_of change.blocks) k) _ k (blocks_from c.args.found (logical_block old.geometry (disk g.M.Media old) c.args.inode) k) c.args.block.now c.change_block.new.block
     c.change_block.ensures (put_is change.blocks k _ c.get-put.ensures.value) (c.needs_old.ensures c.if-not-needs_old.true)
 
 pub returns-in-Ok-clause-made : goal.returns-in-Ok-clause-made
@@ -18,5 +18,5 @@ returns-in-Ok-clause-made g c =
     let change = c.args.change.now in
     let old = c.args.journal.now in
     let k = c.args.number in
-    made_from (new_length change.length) (patch_at (patches_of change.blocks) k) _ k (blocks_from c.args.found (logical old.geometry (store_of (g.M.Media.seen old.media)) c.args.inode) k) c.read_started.new.out c.change_block-in-Ok.new.block
+    made_from (new_length change.length) (patch_at (patches_of change.blocks) k) _ k (blocks_from c.args.found (logical_block old.geometry (disk g.M.Media old) c.args.inode) k) c.read_started.new.out c.change_block-in-Ok.new.block
     c.change_block-in-Ok.ensures (put_is change.blocks k _ c.get-put.ensures.value) c.in-Ok.ensures.bytes

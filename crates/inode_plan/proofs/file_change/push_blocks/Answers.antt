@@ -2,8 +2,8 @@ use Rattle.std.proofs.Common.{◌∙◌, ◌++◌, ℕ, List, IfSome, ap}
 use Rattle.std.proofs.lemmas.List.{append_assoc}
 use Rattle.area_commit.specs.layout.Places.{Sizes}
 use Rattle.area_commit.specs.graph_change.View.{change_of}
-use Rattle.area_commit.specs.area_image.Store.{Store, store_of, logical}
-use Rattle.area_commit.specs.area_image.Looks.{looked}
+use Rattle.area_commit.specs.area_image.Store.{Store, disk, logical_block}
+use Rattle.area_commit.specs.area_image.Looks.{call_answer}
 use Rattle.area_commit.specs.area_image.Checks.{HasFound, IsOnce}
 use Rattle.area_commit.proofs.area_image_lemmas.Looked.{carried, carried_back, looks_on}
 use Rattle.inode_plan.specs.Bytes.{IsBlockAfter, blocks_from}
@@ -14,12 +14,12 @@ use Rattle.inode_plan.proofs.file_change.push_blocks.Goals as goal
 pub add_block-requires-clause-found : goal.add_block-requires-clause-found
 add_block-requires-clause-found g c =
     let m = g.M.Media in
-    carried m.moment m.seen m.left m.faults (λ (x : Sizes) (s : Store). IfSome c.args.found (λ e. HasFound x s c.args.inode e.now)) c.args.journal.now c.each.journal looked c.each.invariant.looks c.requires.found
+    carried m (λ (x : Sizes) (s : Store). IfSome c.args.found (λ e. HasFound x s c.args.inode e.now)) c.args.journal.now c.each.journal call_answer c.each.invariant.looks c.requires.found
 
 pub add_block-requires-clause-once : goal.add_block-requires-clause-once
 add_block-requires-clause-once g c =
     let m = g.M.Media in
-    carried m.moment m.seen m.left m.faults (λ (x : Sizes) (s : Store). IsOnce x s c.args.inode) c.args.journal.now c.each.journal looked c.each.invariant.looks c.requires.once
+    carried m (λ (x : Sizes) (s : Store). IsOnce x s c.args.inode) c.args.journal.now c.each.journal call_answer c.each.invariant.looks c.requires.once
 
 pub each-preserved : goal.each-preserved
 each-preserved g c =
@@ -29,12 +29,12 @@ each-preserved g c =
     let added = c.in-Ok.ensures.added in
     let before = c.each.invariant.added in
     let n = c.each.index in
-    let after = carried_back m.moment m.seen m.left m.faults (λ (x : Sizes) (s : Store). IsBlockAfter change (blocks_from c.args.found (logical x s c.args.inode)) (nth_number c.args.numbers.now n) added.0) old c.each.journal looked c.each.invariant.looks added.3 in
+    let after = carried_back m (λ (x : Sizes) (s : Store). IsBlockAfter change (blocks_from c.args.found (logical_block x s c.args.inode)) (nth_number c.args.numbers.now n) added.0) old c.each.journal call_answer c.each.invariant.looks added.3 in
     record {
-      looks = looks_on m.moment m.seen m.left m.faults old c.each.journal c.add_block.new.journal tt looked c.each.invariant.looks c.in-Ok.ensures.looks;
+      looks = looks_on m old c.each.journal c.add_block.new.journal tt call_answer c.each.invariant.looks c.in-Ok.ensures.looks;
       added = (
         before.0 ++ added.0,
         added.1 ∙ ap (λ (xs : List ℕ). xs ++ added.0) before.1 ∙ append_assoc c.args.out.now.items before.0 added.0,
-        holds_more change (blocks_from c.args.found (logical old.geometry (store_of (m.seen old.media)) c.args.inode)) c.args.numbers.now n before.0 added.0 before.2 added.2 after,
+        holds_more change (blocks_from c.args.found (logical_block old.geometry (disk m old) c.args.inode)) c.args.numbers.now n before.0 added.0 before.2 added.2 after,
       );
     }

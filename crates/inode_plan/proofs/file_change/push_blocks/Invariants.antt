@@ -1,5 +1,5 @@
-use Rattle.area_commit.specs.area_image.Store.{store_of, logical}
-use Rattle.area_commit.specs.area_image.Looks.{Looks, looked}
+use Rattle.area_commit.specs.area_image.Store.{disk, logical_block}
+use Rattle.area_commit.specs.area_image.Looks.{Looks, call_answer}
 use Rattle.area_commit.specs.graph_change.View.{change_of}
 use Rattle.inode_plan.specs.Bytes.{AddsBlocks, blocks_from}
 use Rattle.inode_plan.proofs.file_change.push_blocks.Given as goal
@@ -8,6 +8,6 @@ abbrev pub invariant-each : goal.invariant-each
 invariant-each g l =
     let m = g.M.Media in
     record {
-      looks : Looks m.moment m.seen m.left m.faults l.fn.journal l.journal looked;
-      added : AddsBlocks (change_of l.change) (blocks_from l.found (logical l.fn.journal.geometry (store_of (m.seen l.fn.journal.media)) l.inode)) l.numbers l.index l.fn.out.items l.out.items;
+      looks : Looks m l.fn.journal l.journal call_answer;
+      added : AddsBlocks (change_of l.change) (blocks_from l.found (logical_block l.fn.journal.geometry (disk m l.fn.journal) l.inode)) l.numbers l.index l.fn.out.items l.out.items;
     }

@@ -1,7 +1,7 @@
 use Rattle.std.proofs.Common.{◌≡◌, ◌≢◌, ◌<◌, ◌≤◌, ◌∙◌, ℕ, List, length, get_or, arith, sym, subst}
 use Rattle.std.specs.Global.{Vec}
 use Rattle.std.proofs.lemmas.List.{get_or_default}
-use Rattle.inode_plan.specs.Written.{HasOneMore}
+use Rattle.inode_plan.specs.BlockWrites.{HasOneMore}
 use Rattle.inode_plan.proofs.Rising.{one_more, all_greater}
 use Rattle.inode_plan.proofs.numbers.add_number.Goals.{else-at-len-via-then-at-len+else-index-number, else-at-len-via-else-at-len}
 use Rattle.inode_plan.proofs.numbers.add_number.Goals as goal

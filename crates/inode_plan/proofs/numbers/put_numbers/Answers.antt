@@ -6,7 +6,7 @@ use Rattle.std.specs.Ordering.{nat_cmp}
 use Rattle.std.proofs.lemmas.List.Elements.{Contains-append_right}
 use Rattle.std.specs.Map.{keys_of}
 use Rattle.area_commit.proofs.Given.{cons_here}
-use Rattle.inode_plan.specs.Written.{AreKeys}
+use Rattle.inode_plan.specs.BlockWrites.{AreKeys}
 use Rattle.inode_plan.proofs.Rising.{sorted_rise}
 use Rattle.inode_plan.proofs.Keyed.{with_err}
 use Rattle.inode_plan.proofs.Keys.{key_there, key_is}

@@ -1,7 +1,7 @@
 use Rattle.std.proofs.Common.{◌≡◌, ℕ, Vec, Global, true, refl, sym, subst}
 use Rattle.area_commit.specs.graph_change.Change.{writes_block}
 use Rattle.area_commit.specs.graph_change.View.{change_of}
-use Rattle.inode_plan.specs.Written.{AreNumbers}
+use Rattle.inode_plan.specs.BlockWrites.{AreNumbers}
 use Rattle.inode_plan.proofs.Keyed.{with_err, put_is, cut_is, with_cut, without_cut}
 use Rattle.inode_plan.proofs.numbers.written_numbers.Goals.{in-Some+in_ok-add_number, in_default}
 use Rattle.inode_plan.proofs.numbers.written_numbers.Goals as goal

@@ -1,6 +1,6 @@
 use Rattle.std.proofs.Common.{◌≡◌, ◌+◌, length, take}
 use Rattle.area_commit.specs.block_alloc.Runs.{blocks_of}
-use Rattle.inode_plan.specs.Placed.{ArePlaced}
+use Rattle.inode_plan.specs.RunPlaces.{ArePlaced}
 use Rattle.inode_plan.proofs.run_places.put_runs.Given as goal
 
 -- the blocks of the first runs are put

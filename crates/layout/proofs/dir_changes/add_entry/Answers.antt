@@ -1,18 +1,18 @@
 use Rattle.std.proofs.Common.{◌≡◌, ◌∙◌, ◌+◌, ◌*◌, ℕ, List, ap, length}
 use Rattle.layout.specs.Bytes.{u32, with_text}
-use Rattle.layout.specs.Directory.{listed, entry_text, entries_spelling, with_last}
-use Rattle.layout.specs.Lent.{owned}
+use Rattle.layout.specs.Directory.{block_entries, entry_text, entries_spelling, with_last}
+use Rattle.layout.specs.LentEntry.{owned_entry}
 use Rattle.layout.proofs.DirectoryLaws.{short_name, entry_fits}
 use Rattle.layout.proofs.DirChanges.{entries_now, fit_parts, fit_added, entry_added}
 use Rattle.layout.proofs.dir_changes.add_entry.Goals as goal
 
 pub put_entry-requires-clause-short : goal.put_entry-requires-clause-short
-put_entry-requires-clause-short c = short_name _ (entry_fits (owned c.args.entry) c.requires.fits).name
+put_entry-requires-clause-short c = short_name _ (entry_fits (owned_entry c.args.entry) c.requires.fits).name
 
 pub returns : goal.returns
 returns c =
-    let v = listed c.args.block.now in
-    let e = owned c.args.entry in
+    let v = block_entries c.args.block.now in
+    let e = owned_entry c.args.entry in
     let s = c.requires.entries in
     let f = fit_parts v s.fit in
     let n : c.count_in-count.result ≡ length v.entries = c.count_in-count.ensures.count in

@@ -1,13 +1,13 @@
 use Rattle.std.proofs.Common.{◌≡◌, ◌∙◌, ◌+◌, ◌*◌, ◌-◌, ◌<◌, ℕ, List, ap, take, drop, length, arith}
 use Rattle.layout.specs.Bytes.{with_text}
-use Rattle.layout.specs.Directory.{listed, entry_text, entry_of}
+use Rattle.layout.specs.Directory.{block_entries, entry_text, entry_of}
 use Rattle.layout.proofs.DirChanges.{entry_bytes, entry_copied}
 use Rattle.layout.proofs.dir_changes.copy_last.Goals as goal
 
 pub returns : goal.returns
 returns c =
     let block = c.args.block.now in
-    let v = listed block in
+    let v = block_entries block in
     let j = c.args.count - 1 in
     let lj : j < length v.entries = omega (arith, c.requires.count, c.requires.inside) in
     let s = c.requires.entries in

@@ -1,6 +1,6 @@
 use Rattle.std.proofs.Common.{◌≡◌, ◌∙◌, ◌+◌, ◌*◌, ℕ, [], ◌∷◌, ap, arith, rules, length, refl}
 use Rattle.layout.specs.Bytes.{u32, with_text}
-use Rattle.layout.specs.Directory.{listed, entries_spelling, entry_of, with_target}
+use Rattle.layout.specs.Directory.{block_entries, entries_spelling, entry_of, with_target}
 use Rattle.file_graph.specs.Kinds.{kind_byte}
 use Rattle.layout.specs.declared.directory.DirEntry.{DirEntry}
 use Rattle.layout.proofs.DirChanges.{listed_now, entries_now, fit_parts, fit_set, names_kept, target_set}
@@ -23,7 +23,7 @@ put-requires c = let l = listed_now c.args.block.now c.requires.entries in let s
 
 pub returns : goal.returns
 returns c =
-    let v = listed c.args.block.now in
+    let v = block_entries c.args.block.now in
     let i = c.args.index in
     let s = c.requires.entries in
     let f = fit_parts v s.fit in

@@ -1,12 +1,12 @@
 use Rattle.std.proofs.Common.{◌≡◌, ◌∙◌, ◌-◌, ◌<◌, sym, ap, arith, length}
 use Rattle.std.proofs.lemmas.List.{length-set}
-use Rattle.layout.specs.Directory.{EntryList, listed, entries_spelling, entry_of, with_entry_at, without_entry}
+use Rattle.layout.specs.Directory.{EntryList, block_entries, entries_spelling, entry_of, with_entry_at, without_entry}
 use Rattle.layout.proofs.DirChanges.{entries_now, fit_parts, copied_fit, taken_is, fit_taken}
 use Rattle.layout.proofs.dir_changes.take_entry.Goals as goal
 
 pub returns : goal.returns
 returns c =
-    let v = listed c.args.block.now in
+    let v = block_entries c.args.block.now in
     let i = c.args.index in
     let n = c.count_in-count.result in
     let s = c.requires.entries in

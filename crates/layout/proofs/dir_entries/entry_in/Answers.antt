@@ -1,6 +1,6 @@
 use Rattle.std.proofs.Common.{◌∙◌, ap, sym, Some}
 use Rattle.layout.specs.Directory.{fits_entry}
-use Rattle.layout.specs.Lent.{owned}
+use Rattle.layout.specs.LentEntry.{owned_entry}
 use Rattle.layout.proofs.DirPlaces.{fields_there, same_entry}
 use Rattle.layout.proofs.dir_entries.entry_in.Goals as goal
 
@@ -14,9 +14,9 @@ unreachable-requires c =
 pub returns-clause-entry : goal.returns-clause-entry
 returns-clause-entry c =
     let f = fields_there c.args.block.now c.args.index (λ i. (c.type_inv.block i).fits) c.requires.listed c.requires.inside in
-    f.3 ∙ ap Some (same_entry _ f.0 (owned c.in-Some.entry) f.1 c.in-Some.field-0-1.now f.2 (sym c.in-Some.ensures))
+    f.3 ∙ ap Some (same_entry _ f.0 (owned_entry c.in-Some.entry) f.1 c.in-Some.field-0-1.now f.2 (sym c.in-Some.ensures))
 
 pub returns-clause-fits : goal.returns-clause-fits
 returns-clause-fits c =
     let f = fields_there c.args.block.now c.args.index (λ i. (c.type_inv.block i).fits) c.requires.listed c.requires.inside in
-    ap fits_entry (sym (same_entry _ f.0 (owned c.in-Some.entry) f.1 c.in-Some.field-0-1.now f.2 (sym c.in-Some.ensures))) ∙ f.4
+    ap fits_entry (sym (same_entry _ f.0 (owned_entry c.in-Some.entry) f.1 c.in-Some.field-0-1.now f.2 (sym c.in-Some.ensures))) ∙ f.4

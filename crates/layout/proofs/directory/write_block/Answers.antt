@@ -3,7 +3,7 @@ use Rattle.std.specs.List.{flat_map}
 use Rattle.std.proofs.lemmas.List.{length-append, append-nil, take_all, take_more}
 use Rattle.std.proofs.lemmas.Grind.{flat_map-append}
 use Rattle.layout.specs.declared.directory.DirEntry.{DirEntry}
-use Rattle.layout.specs.Bytes.{u32, filled, with_text}
+use Rattle.layout.specs.Bytes.{u32, padded_text, with_text}
 use Rattle.layout.specs.Directory.{entry_text}
 use Rattle.layout.proofs.Blocks.{blank_filled, filled_twice, written_u32}
 use Rattle.layout.proofs.Items.{item_on}
@@ -17,12 +17,12 @@ pub loop-index-init : goal.loop-index-init
 loop-index-init c =
     let owner = c.args.owner in
     let count = length c.args.entries.now in
-    let b0 : c.args.block.now ≡ filled 4096 [] = blank_filled 4096 c.args.block.now c.requires.long c.requires.blank in
+    let b0 : c.args.block.now ≡ padded_text 4096 [] = blank_filled 4096 c.args.block.now c.requires.long c.requires.blank in
     let w1 = written_u32 4096 0 owner [] c.args.block.now b0 refl (omega arith) in
     let w2 = written_u32 4096 4 count (u32 owner) c.put_u32.new.bytes (c.put_u32.ensures ∙ w1.0) w1.1 (omega arith) in
     let start : List ℕ = u32 owner ++ u32 count in
     let head = filled_twice 64 4096 start (omega (arith, head_start_long owner count)) (omega arith) in
-    (c.put_u32-2.ensures ∙ w2.0 ∙ head ∙ ap (filled 4096) (append-nil-back (head_text owner count)), refl)
+    (c.put_u32-2.ensures ∙ w2.0 ∙ head ∙ ap (padded_text 4096) (append-nil-back (head_text owner count)), refl)
 
 -- the texts of one entry more
 longer : (es : List DirEntry) (i : ℕ) (x : DirEntry) → i < length es → x ≡ get_or es i x → length x.name ≤ 64 → length (flat_map entry_text (take i es)) ≡ 72 * i → length (flat_map entry_text (take (i + 1) es)) ≡ 72 * (i + 1)
@@ -37,8 +37,8 @@ loop-index-preserved c =
     let entries = c.args.entries.now in
     let x : DirEntry = c.index-entries-index.result in
     let read : x ≡ get_or entries i x = c.index-entries-index.is in
-    let lent = c.lent-entry.ensures.entry in
-    let short : length x.name ≤ 64 = subst (λ (e : DirEntry). length e.name ≤ 64) lent c.lent-entry.ensures.short in
+    let lent = c.entry_ref-entry.ensures.entry in
+    let short : length x.name ≤ 64 = subst (λ (e : DirEntry). length e.name ≤ 64) lent c.entry_ref-entry.ensures.short in
     let head : List ℕ = head_text c.args.owner (length entries) in
     let within : i < length entries = c.loop-index-test.true in
     let texts : List ℕ = flat_map entry_text (take i entries) in
@@ -54,4 +54,4 @@ returns c =
     let entries = c.args.entries.now in
     let all = take_all c.loop-index.index entries c.loop-index-test.false in
     c.loop-index.invariant.0
-    ∙ ap (λ (es : List DirEntry). filled 4096 (head_text c.args.owner (length entries) ++ flat_map entry_text es)) all
+    ∙ ap (λ (es : List DirEntry). padded_text 4096 (head_text c.args.owner (length entries) ++ flat_map entry_text es)) all

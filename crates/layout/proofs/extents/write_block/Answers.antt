@@ -2,7 +2,7 @@ use Rattle.std.proofs.Common.{◌≡◌, ◌+◌, ◌*◌, ◌<◌, ℕ, List, [
 use Rattle.std.specs.List.{flat_map}
 use Rattle.std.proofs.lemmas.List.{length-append, length-take, append-nil, take_all}
 use Rattle.layout.specs.declared.extents.Extent.{Extent}
-use Rattle.layout.specs.Bytes.{u32, filled}
+use Rattle.layout.specs.Bytes.{u32, padded_text}
 use Rattle.layout.specs.Extents.{extent_text}
 use Rattle.layout.proofs.Blocks.{blank_filled, written_u32}
 use Rattle.layout.proofs.Items.{item_on}
@@ -14,13 +14,13 @@ loop-index-init c =
     let owner = c.args.owner in
     let level = c.args.level in
     let count = length c.args.extents.now in
-    let b0 : c.args.block.now ≡ filled 4096 [] = blank_filled 4096 c.args.block.now c.requires.long c.requires.blank in
+    let b0 : c.args.block.now ≡ padded_text 4096 [] = blank_filled 4096 c.args.block.now c.requires.long c.requires.blank in
     let w1 = written_u32 4096 0 owner [] c.args.block.now b0 refl (omega arith) in
     let w2 = written_u32 4096 4 count (u32 owner) c.put_u32.new.bytes (c.put_u32.ensures ∙ w1.0) w1.1 (omega arith) in
     let t2 : List ℕ = u32 owner ++ u32 count in
     let w3 = written_u32 4096 8 level t2 c.put_u32-2.new.bytes (c.put_u32-2.ensures ∙ w2.0) w2.1 (omega arith) in
     let w4 = written_u32 4096 12 0 (t2 ++ u32 level) c.put_u32-3.new.bytes (c.put_u32-3.ensures ∙ w3.0) w3.1 (omega arith) in
-    c.put_u32-4.ensures ∙ w4.0 ∙ ap (filled 4096) (append-nil-back (head_text owner count level))
+    c.put_u32-4.ensures ∙ w4.0 ∙ ap (padded_text 4096) (append-nil-back (head_text owner count level))
   where
     append-nil-back : (t : List ℕ) → t ≡ t ++ []
     append-nil-back t = rw append-nil refl
@@ -43,5 +43,5 @@ returns c =
     let extents = c.args.extents.now in
     let all = take_all c.loop-index.index extents c.loop-index-test.false in
     c.loop-index.invariant
-    ∙ ap (λ (es : List Extent). filled 4096 (head_text c.args.owner (length extents) c.args.level ++ flat_map extent_text es)) all
-    ∙ ap (filled 4096) (head_and_extents (record { owner = c.args.owner; level = c.args.level; extents = extents }))
+    ∙ ap (λ (es : List Extent). padded_text 4096 (head_text c.args.owner (length extents) c.args.level ++ flat_map extent_text es)) all
+    ∙ ap (padded_text 4096) (head_and_extents (record { owner = c.args.owner; level = c.args.level; extents = extents }))

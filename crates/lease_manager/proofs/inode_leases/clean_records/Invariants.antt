@@ -1,5 +1,5 @@
 use Rattle.std.proofs.Common.{take}
-use Rattle.lease_manager.specs.Counted.{HasCleaned}
+use Rattle.lease_manager.specs.RecordCounts.{HasCleaned}
 use Rattle.lease_manager.proofs.inode_leases.clean_records.Given as goal
 
 abbrev pub invariant-loop-entry : goal.invariant-loop-entry

@@ -1,15 +1,16 @@
 use Rattle.std.proofs.Common.{subst, sym, ap, ◌∙◌}
-use Rattle.file_graph.specs.posix_calls.Tree.{Tree, IsBare}
-use Rattle.file_graph.specs.posix_calls.Operations.{left, less_unused}
+use Rattle.file_graph.specs.posix_calls.Tree.{Tree}
+use Rattle.file_graph.specs.posix_calls.WellFormed.{IsBare}
+use Rattle.file_graph.specs.posix_calls.Operations.{without_entry, less_unused}
 use Rattle.plain_tree.specs.Plain.{stored_tree, held_of}
 use Rattle.plain_tree.proofs.Tallies.{bare_left}
 use Rattle.plain_tree.proofs.operations.drop_name.Goals as goal
 
 pub drop_unused-requires : goal.drop_unused-requires
 drop_unused-requires c =
-    subst (λ (t : Tree). IsBare (t c.args.inode)) (sym (c.leave.ensures.tree ∙ ap (λ (t : Tree). left t c.args.at.now) c.make_room.ensures.tree)) (bare_left (stored_tree c.args.nodes.now) c.args.at.now c.args.inode c.requires.bare)
+    subst (λ (t : Tree). IsBare (t c.args.inode)) (sym (c.leave.ensures.tree ∙ ap (λ (t : Tree). without_entry t c.args.at.now) c.make_room.ensures.tree)) (bare_left (stored_tree c.args.nodes.now) c.args.at.now c.args.inode c.requires.bare)
 
 pub returns-clause-ok : goal.returns-clause-ok
 returns-clause-ok c =
     c.drop_unused.ensures.tree
-    ∙ ap (λ (t : Tree). less_unused (held_of c.args.rows.now) t c.args.inode) (c.leave.ensures.tree ∙ ap (λ (t : Tree). left t c.args.at.now) c.make_room.ensures.tree)
+    ∙ ap (λ (t : Tree). less_unused (held_of c.args.rows.now) t c.args.inode) (c.leave.ensures.tree ∙ ap (λ (t : Tree). without_entry t c.args.at.now) c.make_room.ensures.tree)

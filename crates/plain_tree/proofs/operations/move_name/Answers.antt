@@ -1,6 +1,6 @@
 use Rattle.std.proofs.Common.{◌≤◌, subst, sym, ap, ◌∙◌}
 use Rattle.file_graph.specs.posix_calls.Tree.{Tree, names_of}
-use Rattle.file_graph.specs.posix_calls.Operations.{entered, left}
+use Rattle.file_graph.specs.posix_calls.Operations.{with_entry, without_entry}
 use Rattle.plain_tree.specs.Plain.{stored_tree, held_of, less_put_out, IsBareReplaced}
 use Rattle.file_graph.specs.posix_calls.declared.limits.TheConstants.{MAX_NAMES}
 use Rattle.plain_tree.proofs.Tallies.{bare_put_out}
@@ -12,13 +12,13 @@ enter-requires-clause-few c = subst (λ (t : Tree). names_of t c.args.inode ≤ 
 
 pub put_out-requires : goal.put_out-requires
 put_out-requires c =
-    subst (λ (t : Tree). IsBareReplaced t c.args.replaced) (sym (c.in_ok-enter.ensures.ok ∙ ap (λ (t : Tree). entered t c.args.to c.args.inode) c.make_room.ensures.tree))
+    subst (λ (t : Tree). IsBareReplaced t c.args.replaced) (sym (c.in_ok-enter.ensures.ok ∙ ap (λ (t : Tree). with_entry t c.args.to c.args.inode) c.make_room.ensures.tree))
     (bare_put_out (stored_tree c.args.nodes.now) c.args.to c.args.inode c.args.replaced c.requires.movable.1)
 
 pub returns-clause-ok : goal.returns-clause-ok
 returns-clause-ok c =
     c.leave.ensures.tree
-    ∙ ap (λ (t : Tree). left t c.args.from.now)
+    ∙ ap (λ (t : Tree). without_entry t c.args.from.now)
     (c.put_out.ensures.tree
-    ∙ ap (λ (t : Tree). less_put_out (held_of c.args.rows.now) t c.args.replaced) (c.in_ok-enter.ensures.ok ∙ ap (λ (t : Tree). entered t c.args.to c.args.inode) c.make_room.ensures.tree))
+    ∙ ap (λ (t : Tree). less_put_out (held_of c.args.rows.now) t c.args.replaced) (c.in_ok-enter.ensures.ok ∙ ap (λ (t : Tree). with_entry t c.args.to c.args.inode) c.make_room.ensures.tree))
     ∙ moved (held_of c.args.rows.now) (stored_tree c.args.nodes.now) c.args.from.now c.args.to c.args.inode c.args.replaced c.requires.movable

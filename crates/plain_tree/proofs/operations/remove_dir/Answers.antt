@@ -1,15 +1,16 @@
 use Rattle.std.proofs.Common.{None, subst, sym, ap, ◌∙◌}
-use Rattle.file_graph.specs.posix_calls.Tree.{Tree, set_node, IsBare}
-use Rattle.file_graph.specs.posix_calls.Operations.{left}
+use Rattle.file_graph.specs.posix_calls.Tree.{Tree, set_node}
+use Rattle.file_graph.specs.posix_calls.WellFormed.{IsBare}
+use Rattle.file_graph.specs.posix_calls.Operations.{without_entry}
 use Rattle.plain_tree.specs.Plain.{stored_tree}
 use Rattle.plain_tree.proofs.Tallies.{bare_left}
 use Rattle.plain_tree.proofs.operations.remove_dir.Goals as goal
 
 pub clear-requires : goal.clear-requires
 clear-requires c =
-    subst (λ (t : Tree). IsBare (t c.args.inode)) (sym (c.leave.ensures.tree ∙ ap (λ (t : Tree). left t c.args.at.now) c.make_room.ensures.tree)) (bare_left (stored_tree c.args.nodes.now) c.args.at.now c.args.inode c.requires.bare)
+    subst (λ (t : Tree). IsBare (t c.args.inode)) (sym (c.leave.ensures.tree ∙ ap (λ (t : Tree). without_entry t c.args.at.now) c.make_room.ensures.tree)) (bare_left (stored_tree c.args.nodes.now) c.args.at.now c.args.inode c.requires.bare)
 
 pub returns-clause-ok : goal.returns-clause-ok
 returns-clause-ok c =
     c.clear.ensures.tree
-    ∙ ap (λ (t : Tree). set_node t c.args.inode None) (c.leave.ensures.tree ∙ ap (λ (t : Tree). left t c.args.at.now) c.make_room.ensures.tree)
+    ∙ ap (λ (t : Tree). set_node t c.args.inode None) (c.leave.ensures.tree ∙ ap (λ (t : Tree). without_entry t c.args.at.now) c.make_room.ensures.tree)

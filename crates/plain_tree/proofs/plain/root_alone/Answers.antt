@@ -1,7 +1,8 @@
 use Rattle.std.proofs.Common.{sym, subst, ap, ◌∙◌, refl}
 use Rattle.std.specs.Prelude.{List, Option, Some}
 use Rattle.std.specs.FinMap as fin
-use Rattle.file_graph.specs.posix_calls.Tree.{Node, Tree, Dir, set_node, IsBare}
+use Rattle.file_graph.specs.posix_calls.Tree.{Node, Tree, Dir, set_node}
+use Rattle.file_graph.specs.posix_calls.WellFormed.{IsBare}
 use Rattle.plain_tree.specs.Plain.{stored_tree}
 use Rattle.file_graph.specs.posix_calls.declared.limits.TheConstants.{ROOT}
 use Rattle.plain_tree.proofs.plain.root_alone.Goals as goal

@@ -3,11 +3,11 @@ use Rattle.posix_calls.specs.Walk.{size_seen}
 use Rattle.posix_calls.proofs.Chain.{exits, gives, gives_as, look_seen, look_missing}
 use Rattle.posix_calls.proofs.descriptor_calls.empties.Goals as goal
 
-pub returns-then-not-truncate-clause-tells : goal.returns-then-not-truncate-clause-tells
-returns-then-not-truncate-clause-tells g c = rw c.if-not-truncate.true gives
+pub returns-then-not-truncate-clause-answer : goal.returns-then-not-truncate-clause-answer
+returns-then-not-truncate-clause-answer g c = rw c.if-not-truncate.true gives
 
-pub returns-in_err-size-clause-tells : goal.returns-in_err-size-clause-tells
-returns-in_err-size-clause-tells g c = rw c.if-not-truncate.false (exits c.from_residual.ensures.1 (look_missing size_seen _ c.in_err-size.ensures.missing.0 (sym c.file_size.ensures ∙ c.in_err-size.ensures.missing.1)))
+pub returns-in_err-size-clause-answer : goal.returns-in_err-size-clause-answer
+returns-in_err-size-clause-answer g c = rw c.if-not-truncate.false (exits c.from_residual.ensures.1 (look_missing size_seen _ c.in_err-size.ensures.missing.0 (sym c.file_size.ensures ∙ c.in_err-size.ensures.missing.1)))
 
-pub returns-clause-tells : goal.returns-clause-tells
-returns-clause-tells g c = rw c.if-not-truncate.false (look_seen size_seen _ (sym c.file_size.ensures ∙ c.in_ok-size.ensures.known) (λ s is. gives_as (ap (nat_lt 0) is)))
+pub returns-clause-answer : goal.returns-clause-answer
+returns-clause-answer g c = rw c.if-not-truncate.false (look_seen size_seen _ (sym c.file_size.ensures ∙ c.in_ok-size.ensures.known) (λ s is. gives_as (ap (nat_lt 0) is)))

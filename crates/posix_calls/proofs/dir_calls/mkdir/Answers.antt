@@ -5,25 +5,25 @@ use Rattle.posix_calls.specs.Decide.{mkdir}
 use Rattle.posix_calls.proofs.Wants.{exit_wants, refused_wants}
 use Rattle.posix_calls.proofs.dir_calls.mkdir.Goals as goal
 
-pub returns-in_err-path-clause-tells : goal.returns-in_err-path-clause-tells
+pub returns-in_err-path-clause-answer : goal.returns-in_err-path-clause-answer
 unfolding mkdir
-returns-in_err-path-clause-tells g c = exits c.from_residual.ensures.1 (bind_stops _ (c.in_err-path.ensures.tells _))
+returns-in_err-path-clause-answer g c = exits c.from_residual.ensures.1 (bind_stops _ (c.in_err-path.ensures.answer _))
 
-pub returns-in_err-to-clause-tells : goal.returns-in_err-to-clause-tells
+pub returns-in_err-to-clause-answer : goal.returns-in_err-to-clause-answer
 unfolding mkdir
-returns-in_err-to-clause-tells g c = exits c.from_residual-in_err-to.ensures.1 (bind_gives _ (c.in_ok-path.ensures.tells _) (bind_place_stops None c.in_ok-path.path _ c.in_err-to.ensures.tells))
+returns-in_err-to-clause-answer g c = exits c.from_residual-in_err-to.ensures.1 (bind_gives _ (c.in_ok-path.ensures.answer _) (bind_place_stops None c.in_ok-path.path _ c.in_err-to.ensures.answer))
 
-pub returns-in_err-refuse_if-clause-tells : goal.returns-in_err-refuse_if-clause-tells
+pub returns-in_err-refuse_if-clause-answer : goal.returns-in_err-refuse_if-clause-answer
 unfolding mkdir
-returns-in_err-refuse_if-clause-tells g c = exits c.from_residual-in_err-refuse_if.ensures.1 (bind_gives _ (c.in_ok-path.ensures.tells _) (bind_place None c.in_ok-path.path _ c.in_ok-to.ensures.tells (λ to_walked to_seen. fails _ _ c.in_err-refuse_if.ensures.refused.0 (sym c.is_there.ensures ∙ c.in_err-refuse_if.ensures.refused.1))))
+returns-in_err-refuse_if-clause-answer g c = exits c.from_residual-in_err-refuse_if.ensures.1 (bind_gives _ (c.in_ok-path.ensures.answer _) (bind_place None c.in_ok-path.path _ c.in_ok-to.ensures.answer (λ to_walked to_seen. fails _ _ c.in_err-refuse_if.ensures.refused.0 (sym c.is_there.ensures ∙ c.in_err-refuse_if.ensures.refused.1))))
 
-pub returns-in_err-refuse_if-2-clause-tells : goal.returns-in_err-refuse_if-2-clause-tells
+pub returns-in_err-refuse_if-2-clause-answer : goal.returns-in_err-refuse_if-2-clause-answer
 unfolding mkdir
-returns-in_err-refuse_if-2-clause-tells g c = exits c.from_residual-in_err-refuse_if-2.ensures.1 (bind_gives _ (c.in_ok-path.ensures.tells _) (bind_place None c.in_ok-path.path _ c.in_ok-to.ensures.tells (λ to_walked to_seen. passes _ _ (sym c.is_there.ensures ∙ c.in_ok-refuse_if.ensures.clear) (fails _ _ c.in_err-refuse_if-2.ensures.refused.0 (sym c.is_full.ensures ∙ c.in_err-refuse_if-2.ensures.refused.1)))))
+returns-in_err-refuse_if-2-clause-answer g c = exits c.from_residual-in_err-refuse_if-2.ensures.1 (bind_gives _ (c.in_ok-path.ensures.answer _) (bind_place None c.in_ok-path.path _ c.in_ok-to.ensures.answer (λ to_walked to_seen. passes _ _ (sym c.is_there.ensures ∙ c.in_ok-refuse_if.ensures.clear) (fails _ _ c.in_err-refuse_if-2.ensures.refused.0 (sym c.is_full.ensures ∙ c.in_err-refuse_if-2.ensures.refused.1)))))
 
-pub returns-clause-tells : goal.returns-clause-tells
+pub returns-clause-answer : goal.returns-clause-answer
 unfolding mkdir
-returns-clause-tells g c = rw c.in_ok-at.ensures.location (bind_gives _ (c.in_ok-path.ensures.tells _) (bind_place None c.in_ok-path.path _ c.in_ok-to.ensures.tells (λ to_walked to_seen. passes _ _ (sym c.is_there.ensures ∙ c.in_ok-refuse_if.ensures.clear) (passes _ _ (sym c.is_full.ensures ∙ c.in_ok-refuse_if-2.ensures.clear) (gives)))))
+returns-clause-answer g c = rw c.in_ok-at.ensures.location (bind_gives _ (c.in_ok-path.ensures.answer _) (bind_place None c.in_ok-path.path _ c.in_ok-to.ensures.answer (λ to_walked to_seen. passes _ _ (sym c.is_there.ensures ∙ c.in_ok-refuse_if.ensures.clear) (passes _ _ (sym c.is_full.ensures ∙ c.in_ok-refuse_if-2.ensures.clear) (gives)))))
 
 pub returns-in_err-path-clause-memory : goal.returns-in_err-path-clause-memory
 returns-in_err-path-clause-memory g c = λ want. c.in_err-path.ensures.memory (exit_wants c.from_residual.ensures.1 want)

@@ -2,10 +2,10 @@ use Rattle.posix_calls.proofs.Chain.{exits, bind_gives, bind_stops}
 use Rattle.posix_calls.specs.Decide.{unlink}
 use Rattle.posix_calls.proofs.file_calls.unlink.Goals as goal
 
-pub returns-in_err-path-clause-tells : goal.returns-in_err-path-clause-tells
+pub returns-in_err-path-clause-answer : goal.returns-in_err-path-clause-answer
 unfolding unlink
-returns-in_err-path-clause-tells g c = exits c.from_residual.ensures.1 (bind_stops _ (c.in_err-path.ensures.tells _))
+returns-in_err-path-clause-answer g c = exits c.from_residual.ensures.1 (bind_stops _ (c.in_err-path.ensures.answer _))
 
-pub returns-clause-tells : goal.returns-clause-tells
+pub returns-clause-answer : goal.returns-clause-answer
 unfolding unlink
-returns-clause-tells g c = bind_gives _ (c.in_ok-path.ensures.tells _) c.unlink_at.ensures.tells
+returns-clause-answer g c = bind_gives _ (c.in_ok-path.ensures.answer _) c.unlink_at.ensures.answer

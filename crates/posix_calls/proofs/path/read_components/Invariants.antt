@@ -1,6 +1,7 @@
 use Rattle.std.proofs.Common.{◌≡◌, ◌⊎◌, All, true, ◌++◌, length}
 use Rattle.posix_calls.specs.Name.{is_name}
-use Rattle.posix_calls.specs.Path.{components, first_fault, first_is_faultless}
+use Rattle.posix_calls.specs.Path.{components, first_fault}
+use Rattle.posix_calls.specs.FirstName.{first_is_faultless}
 use Rattle.posix_calls.proofs.path.read_components.Given as goal
 
 abbrev pub invariant-loop-at : goal.invariant-loop-at

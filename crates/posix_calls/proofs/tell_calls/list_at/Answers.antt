@@ -7,11 +7,11 @@ use Rattle.posix_calls.specs.declared.operation.Operation.TheVariants as operati
 use Rattle.posix_calls.specs.declared.call.Reply.TheVariants as reply
 use Rattle.posix_calls.proofs.tell_calls.list_at.Goals as goal
 
-pub returns-in_err-inode-clause-tells : goal.returns-in_err-inode-clause-tells
-returns-in_err-inode-clause-tells g c = exits c.from_residual.ensures.1 (bind_target_stops true _ c.args.path.now _ c.in_err-inode.ensures.tells)
+pub returns-in_err-inode-clause-answer : goal.returns-in_err-inode-clause-answer
+returns-in_err-inode-clause-answer g c = exits c.from_residual.ensures.1 (bind_target_stops true _ c.args.path.now _ c.in_err-inode.ensures.answer)
 
-pub returns-in_err-names-clause-tells : goal.returns-in_err-names-clause-tells
-returns-in_err-names-clause-tells g c = exits c.from_residual-in_err-names.ensures.1 (bind_target true _ c.args.path.now _ c.in_ok-inode.ensures.tells (λ walked entries. bind_look_missing _ entries_seen listed_in _ c.in_err-names.ensures.missing.0 (sym c.in_ok-answer.ensures.names ∙ c.in_err-names.ensures.missing.1)))
+pub returns-in_err-names-clause-answer : goal.returns-in_err-names-clause-answer
+returns-in_err-names-clause-answer g c = exits c.from_residual-in_err-names.ensures.1 (bind_target true _ c.args.path.now _ c.in_ok-inode.ensures.answer (λ walked entries. bind_look_missing _ entries_seen listed_in _ c.in_err-names.ensures.missing.0 (sym c.in_ok-answer.ensures.names ∙ c.in_err-names.ensures.missing.1)))
 
-pub returns-clause-tells : goal.returns-clause-tells
-returns-clause-tells g c = bind_target true _ c.args.path.now _ c.in_ok-inode.ensures.tells (λ walked entries. bind_look _ entries_seen listed_in _ (sym c.in_ok-answer.ensures.names ∙ c.in_ok-names.ensures.known) (λ s is. gives_as (ap (λ z. operation.Tell (reply.Listed z)) is)))
+pub returns-clause-answer : goal.returns-clause-answer
+returns-clause-answer g c = bind_target true _ c.args.path.now _ c.in_ok-inode.ensures.answer (λ walked entries. bind_look _ entries_seen listed_in _ (sym c.in_ok-answer.ensures.names ∙ c.in_ok-names.ensures.known) (λ s is. gives_as (ap (λ z. operation.Tell (reply.Listed z)) is)))

@@ -5,30 +5,30 @@ use Rattle.posix_calls.proofs.Walks.{bind_place, bind_place_stops}
 use Rattle.posix_calls.specs.Decide.{stat}
 use Rattle.posix_calls.proofs.tell_calls.stat.Goals as goal
 
-pub returns-in_err-path-clause-tells : goal.returns-in_err-path-clause-tells
+pub returns-in_err-path-clause-answer : goal.returns-in_err-path-clause-answer
 unfolding stat
-returns-in_err-path-clause-tells g c = exits c.from_residual.ensures.1 (bind_stops _ (c.in_err-path.ensures.tells _))
+returns-in_err-path-clause-answer g c = exits c.from_residual.ensures.1 (bind_stops _ (c.in_err-path.ensures.answer _))
 
-pub returns-in_err-to-clause-tells : goal.returns-in_err-to-clause-tells
+pub returns-in_err-to-clause-answer : goal.returns-in_err-to-clause-answer
 unfolding stat
-returns-in_err-to-clause-tells g c = exits c.from_residual-in_err-to.ensures.1 (bind_gives _ (c.in_ok-path.ensures.tells _) (bind_place_stops None c.in_ok-path.path _ c.in_err-to.ensures.tells))
+returns-in_err-to-clause-answer g c = exits c.from_residual-in_err-to.ensures.1 (bind_gives _ (c.in_ok-path.ensures.answer _) (bind_place_stops None c.in_ok-path.path _ c.in_err-to.ensures.answer))
 
-pub returns-in_err-inode-clause-tells : goal.returns-in_err-inode-clause-tells
+pub returns-in_err-inode-clause-answer : goal.returns-in_err-inode-clause-answer
 unfolding stat
-returns-in_err-inode-clause-tells g c = exits c.from_residual-in_err-inode.ensures.1 (bind_gives _ (c.in_ok-path.ensures.tells _) (bind_place None c.in_ok-path.path _ c.in_ok-to.ensures.tells (λ to_walked to_seen. bind_stops _ (c.in_err-inode.ensures.tells _))))
+returns-in_err-inode-clause-answer g c = exits c.from_residual-in_err-inode.ensures.1 (bind_gives _ (c.in_ok-path.ensures.answer _) (bind_place None c.in_ok-path.path _ c.in_ok-to.ensures.answer (λ to_walked to_seen. bind_stops _ (c.in_err-inode.ensures.answer _))))
 
-pub returns-in_err-answer-clause-tells : goal.returns-in_err-answer-clause-tells
+pub returns-in_err-answer-clause-answer : goal.returns-in_err-answer-clause-answer
 unfolding stat
-returns-in_err-answer-clause-tells g c = exits c.from_residual-in_err-answer.ensures.1 (bind_gives _ (c.in_ok-path.ensures.tells _) (bind_place None c.in_ok-path.path _ c.in_ok-to.ensures.tells (λ to_walked to_seen. bind_gives _ (c.in_ok-inode.ensures.tells _) (look_missing description_of _ c.in_err-answer.ensures.missing.0 (sym c.describe.ensures ∙ c.in_err-answer.ensures.missing.1)))))
+returns-in_err-answer-clause-answer g c = exits c.from_residual-in_err-answer.ensures.1 (bind_gives _ (c.in_ok-path.ensures.answer _) (bind_place None c.in_ok-path.path _ c.in_ok-to.ensures.answer (λ to_walked to_seen. bind_gives _ (c.in_ok-inode.ensures.answer _) (look_missing description_of _ c.in_err-answer.ensures.missing.0 (sym c.describe.ensures ∙ c.in_err-answer.ensures.missing.1)))))
 
-pub returns-in_default-clause-tells : goal.returns-in_default-clause-tells
+pub returns-in_default-clause-answer : goal.returns-in_default-clause-answer
 unfolding stat
-returns-in_default-clause-tells g c = (bind_gives _ (c.in_ok-path.ensures.tells _) (bind_place None c.in_ok-path.path _ c.in_ok-to.ensures.tells (λ to_walked to_seen. bind_gives _ (c.in_ok-inode.ensures.tells _) (look_seen description_of _ (sym c.describe.ensures ∙ c.in_ok-answer.ensures.known) (λ s is. nothing_told s (is ∙ c.in_default.is))))))
+returns-in_default-clause-answer g c = (bind_gives _ (c.in_ok-path.ensures.answer _) (bind_place None c.in_ok-path.path _ c.in_ok-to.ensures.answer (λ to_walked to_seen. bind_gives _ (c.in_ok-inode.ensures.answer _) (look_seen description_of _ (sym c.describe.ensures ∙ c.in_ok-answer.ensures.known) (λ s is. nothing_told s (is ∙ c.in_default.is))))))
 
-pub returns-in-File-clause-tells : goal.returns-in-File-clause-tells
+pub returns-in-File-clause-answer : goal.returns-in-File-clause-answer
 unfolding stat
-returns-in-File-clause-tells g c = (bind_gives _ (c.in_ok-path.ensures.tells _) (bind_place None c.in_ok-path.path _ c.in_ok-to.ensures.tells (λ to_walked to_seen. bind_gives _ (c.in_ok-inode.ensures.tells _) (look_seen description_of _ (sym c.describe.ensures ∙ c.in_ok-answer.ensures.known) (λ s is. file_told s c.in-File.size c.in-File.names (is ∙ c.in-Some.is ∙ ap (λ z. Some z) c.in-File.is))))))
+returns-in-File-clause-answer g c = (bind_gives _ (c.in_ok-path.ensures.answer _) (bind_place None c.in_ok-path.path _ c.in_ok-to.ensures.answer (λ to_walked to_seen. bind_gives _ (c.in_ok-inode.ensures.answer _) (look_seen description_of _ (sym c.describe.ensures ∙ c.in_ok-answer.ensures.known) (λ s is. file_told s c.in-File.size c.in-File.names (is ∙ c.in-Some.is ∙ ap (λ z. Some z) c.in-File.is))))))
 
-pub returns-clause-tells : goal.returns-clause-tells
+pub returns-clause-answer : goal.returns-clause-answer
 unfolding stat
-returns-clause-tells g c = (bind_gives _ (c.in_ok-path.ensures.tells _) (bind_place None c.in_ok-path.path _ c.in_ok-to.ensures.tells (λ to_walked to_seen. bind_gives _ (c.in_ok-inode.ensures.tells _) (look_seen description_of _ (sym c.describe.ensures ∙ c.in_ok-answer.ensures.known) (λ s is. dir_told s c.in-Dir.entries (is ∙ c.in-Some.is ∙ ap (λ z. Some z) c.in-Dir.is))))))
+returns-clause-answer g c = (bind_gives _ (c.in_ok-path.ensures.answer _) (bind_place None c.in_ok-path.path _ c.in_ok-to.ensures.answer (λ to_walked to_seen. bind_gives _ (c.in_ok-inode.ensures.answer _) (look_seen description_of _ (sym c.describe.ensures ∙ c.in_ok-answer.ensures.known) (λ s is. dir_told s c.in-Dir.entries (is ∙ c.in-Some.is ∙ ap (λ z. Some z) c.in-Dir.is))))))

@@ -5,8 +5,8 @@ use Rattle.posix_calls.proofs.Chain.{exits, bind_look, bind_look_missing}
 use Rattle.posix_calls.proofs.Targets.{refused_told}
 use Rattle.posix_calls.proofs.walk.refuse_entries.Goals as goal
 
-pub returns-in_err-entries-clause-tells : goal.returns-in_err-entries-clause-tells
-returns-in_err-entries-clause-tells g c = exits c.from_residual.ensures.1 (bind_look_missing _ entries_seen count_in _ c.in_err-entries.ensures.missing.0 (sym c.entry_count.ensures ∙ c.in_err-entries.ensures.missing.1))
+pub returns-in_err-entries-clause-answer : goal.returns-in_err-entries-clause-answer
+returns-in_err-entries-clause-answer g c = exits c.from_residual.ensures.1 (bind_look_missing _ entries_seen count_in _ c.in_err-entries.ensures.missing.0 (sym c.entry_count.ensures ∙ c.in_err-entries.ensures.missing.1))
 
-pub returns-clause-tells : goal.returns-clause-tells
-returns-clause-tells g c = bind_look _ entries_seen count_in _ (sym c.entry_count.ensures ∙ c.in_ok-entries.ensures.known) (λ s is. refused_told _ (ap (nat_lt 0) is) c.refuse_if.result c.refuse_if.ensures.clear c.refuse_if.ensures.refused)
+pub returns-clause-answer : goal.returns-clause-answer
+returns-clause-answer g c = bind_look _ entries_seen count_in _ (sym c.entry_count.ensures ∙ c.in_ok-entries.ensures.known) (λ s is. refused_told _ (ap (nat_lt 0) is) c.refuse_if.result c.refuse_if.ensures.clear c.refuse_if.ensures.refused)

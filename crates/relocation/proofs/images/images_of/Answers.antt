@@ -1,7 +1,7 @@
 use Rattle.std.proofs.Common.{◌≤◌, ℕ, List, [], length, ap, subst, arith}
 use Rattle.inode_plan.specs.tier_device.declared.media.Tier.TheVariants as tiers
 use Rattle.inode_plan.specs.area_image.Store.{root_of}
-use Rattle.relocation.specs.Made.{PutsList}
+use Rattle.relocation.specs.MovedFile.{PutsList}
 use Rattle.relocation.proofs.Imaging.{has_images}
 use Rattle.relocation.proofs.images.images_of.Goals as goal
 

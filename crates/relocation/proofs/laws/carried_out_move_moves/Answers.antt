@@ -4,7 +4,7 @@ use Rattle.inode_plan.specs.file_graph.Units.{charge}
 use Rattle.inode_plan.specs.layout.declared.slot.Slot.{Slot}
 use Rattle.inode_plan.specs.extent_tree.Map.{TierRuns}
 use Rattle.inode_plan.proofs.area_image_lemmas.Parts.{slot_as}
-use Rattle.inode_plan.specs.area_commit.Moved.{StaysInode}
+use Rattle.inode_plan.specs.area_commit.InodeMove.{StaysInode}
 use Rattle.inode_plan.specs.area_commit.Plan.{is_changed}
 use Rattle.relocation.proofs.Fitting.{is_fit}
 use Rattle.relocation.proofs.Using.{changed_is, changed_here}

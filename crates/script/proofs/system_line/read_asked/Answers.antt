@@ -10,4 +10,4 @@ returns-in-None c =
     let word = c.in-Some.word.now in
     let words = c.in-Some.words.now in
     let none = c.in-None.ensures in
-    c.asked_of.ensures ∙ ap (option_map Some) (sym (ap asks c.in-Some.ensures.found ∙ asks-parts word words ∙ ap (λ e. asks_either e word (parts 32 words)) (sym none)))
+    c.call_line.ensures ∙ ap (option_map Some) (sym (ap asks c.in-Some.ensures.found ∙ asks-parts word words ∙ ap (λ e. asks_either e word (parts 32 words)) (sym none)))

@@ -1,6 +1,6 @@
 use Rattle.std.proofs.Common.{Ok}
-use Rattle.change_plan.specs.area_image.Store.{store_of}
-use Rattle.change_plan.specs.area_image.Spelled.{IsOpenable}
+use Rattle.change_plan.specs.area_image.Store.{disk}
+use Rattle.change_plan.specs.area_image.Format.{IsOpenable}
 use Rattle.change_plan.proofs.area_image_lemmas.Looked.{carried}
 use Rattle.shared_area.proofs.Sound.{parts_none}
 use Rattle.shared_area.proofs.Entries.{no_view}
@@ -10,10 +10,10 @@ pub node_of-requires-clause-opens : goal.node_of-requires-clause-opens
 node_of-requires-clause-opens g c =
     let m = g.M.Media in
     let looks = c.in-Ok-Some.ensures.looks in
-    carried m.moment m.seen m.left m.faults (λ x s. IsOpenable x s) c.args.journal.now c.find_parts.new.journal (Ok c.in-Ok-Some.field-0) looks (c.requires looks.going.0)
+    carried m (λ x s. IsOpenable x s) c.args.journal.now c.find_parts.new.journal (Ok c.in-Ok-Some.field-0) looks (c.requires looks.going.0)
 
 pub returns-in-Ok-None-clause-node : goal.returns-in-Ok-None-clause-node
 returns-in-Ok-None-clause-node g c =
     let old = c.args.journal.now in
-    let s = store_of (g.M.Media.seen old.media) in
+    let s = disk g.M.Media old in
     no_view old.geometry s c.args.inode (parts_none old.geometry s c.args.inode c.in-Ok-None.field-0 c.in-Ok-None.field-0-is c.in-Ok-None.ensures.parts)

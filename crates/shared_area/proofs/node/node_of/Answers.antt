@@ -1,5 +1,5 @@
 use Rattle.std.proofs.Common.{◌<◌, ◌∙◌, ℕ, Some, ap, subst}
-use Rattle.change_plan.specs.area_image.Store.{store_of, length_of}
+use Rattle.change_plan.specs.area_image.Store.{disk, length_of}
 use Rattle.shared_area.proofs.Entries.{file_view}
 use Rattle.shared_area.proofs.Wants.{directory_wants}
 use Rattle.shared_area.proofs.node.node_of.Goals as goal
@@ -8,12 +8,12 @@ pub returns-in-File-clause-node : goal.returns-in-File-clause-node
 returns-in-File-clause-node g c =
     let old = c.args.journal.now in
     let x = c.in-File in
-    ap Some c.file.ensures ∙ file_view old.geometry (store_of (g.M.Media.seen old.media)) c.args.inode x.names x.size x.touch x.fast x.block x.slow (c.requires.parts.slot ∙ ap Some x.is)
+    ap Some c.file.ensures ∙ file_view old.geometry (disk g.M.Media old) c.args.inode x.names x.size x.touch x.fast x.block x.slow (c.requires.parts.slot ∙ ap Some x.is)
 
 pub returns-in-Err-clause-memory : goal.returns-in-Err-clause-memory
 returns-in-Err-clause-memory g c memory =
     let old = c.args.journal.now in
-    let s = store_of (g.M.Media.seen old.media) in
+    let s = disk g.M.Media old in
     let x = c.in-Directory in
     let is = c.requires.parts.slot ∙ ap Some x.is in
     directory_wants old.geometry s c.args.inode x.names x.entries x.touch x.root c.requires.parts.number is (c.requires.opens.spelled.inodes c.args.inode c.requires.parts.number)

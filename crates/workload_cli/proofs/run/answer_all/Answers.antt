@@ -1,10 +1,10 @@
 use Rattle.std.proofs.Common.{◌∙◌, inl, zero, refl, ap, subst, sym}
 use Rattle.std.specs.Prelude.{Ok, Err}
-use Rattle.script.specs.Seen.{system_line_seen}
+use Rattle.script.specs.LineValues.{system_line_seen}
 use Rattle.script.specs.SystemLines.{system_line}
 use Rattle.script.specs.declared.script.reader.ScriptError.{ScriptError}
 use Rattle.script.specs.declared.script.reader.ScriptError.TheVariants as stops
-use Rattle.workload_cli.specs.Answering.{IsAnswerTo}
+use Rattle.workload_cli.specs.LineResults.{IsAnswerTo}
 use Rattle.workload_cli.specs.Script.{EndsAt, IsUnreadable}
 use Rattle.workload_cli.proofs.Lines.{ends_err, one_more, unread_ends}
 use Rattle.workload_cli.proofs.run.answer_all.Goals as goal
@@ -18,29 +18,29 @@ returns-in_err-read_next g c = let behind = c.loop.lines.left in (behind, c.loop
 pub returns-then-not-branch : goal.returns-then-not-branch
 returns-then-not-branch g c = let behind = c.loop.lines.left in (behind, c.loop.invariant, c.read_next.ensures.end (c.in_ok-read_next.was ∙ ap Ok c.if-not-branch.true))
 
-pub returns-in_err-printed-in-Some : goal.returns-in_err-printed-in-Some
-returns-in_err-printed-in-Some g c =
-    let answers = IsAnswerTo g.S.Events.plays g.S.Events.owes g.S.Events.leases g.S.Events.waits g.S.Events.broken g.S.Running.dead g.S.Running.tree g.S.Running.lies g.S.Running.figures_in g.S.Running.looks in
+pub returns-in_err-print_answer-in-Some : goal.returns-in_err-print_answer-in-Some
+returns-in_err-print_answer-in-Some g c =
+    let answers = IsAnswerTo g.S.Events g.S.Running in
     let behind = c.read_next.new.self.left in
-    let r = c.from_residual-in_err-printed-in-Some in (
+    let r = c.from_residual-in_err-print_answer-in-Some in (
       behind,
       (one_more answers c.args.lines.now.left c.args.system.now c.loop.lines.left c.loop.system behind c.answer_line.new.system c.read_next.new.self.line (system_line_seen c.in-Some.line) c.answer_line.result c.loop.invariant
-          (c.read_next.ensures.line (c.in_ok-read_next.was ∙ ap Ok c.if-not-branch.false)) (ap system_line (sym c.line.ensures) ∙ sym c.in-Some.ensures) c.answer_line.ensures),
-      ends_err r.result (stops.Run c.in_err-printed-in-Some.field-0.0) behind r.ensures.1 tt,
+          (c.read_next.ensures.line (c.in_ok-read_next.was ∙ ap Ok c.if-not-branch.false)) (ap system_line (sym c.line-text.ensures) ∙ sym c.in-Some.ensures) c.answer_line.ensures),
+      ends_err r.result (stops.Run c.in_err-print_answer-in-Some.field-0.0) behind r.ensures.1 tt,
     )
 
 pub returns-in-None : goal.returns-in-None
 returns-in-None g c =
     let behind = c.loop.lines.left in
-    let none : IsUnreadable behind = inl (c.read_next.new.self.line, c.read_next.new.self.left, c.read_next.ensures.line (c.in_ok-read_next.was ∙ ap Ok c.if-not-branch.false), ap system_line (sym c.line.ensures) ∙ sym c.in-None.ensures) in
-    (behind, c.loop.invariant, subst (λ (e : ScriptError). EndsAt (Err e) behind) (sym c.unreadable.ensures) none)
+    let none : IsUnreadable behind = inl (c.read_next.new.self.line, c.read_next.new.self.left, c.read_next.ensures.line (c.in_ok-read_next.was ∙ ap Ok c.if-not-branch.false), ap system_line (sym c.line-text.ensures) ∙ sym c.in-None.ensures) in
+    (behind, c.loop.invariant, subst (λ (e : ScriptError). EndsAt (Err e) behind) (sym c.unreadable_line.ensures) none)
 
 pub loop-preserved : goal.loop-preserved
 loop-preserved g c =
-    let answers = IsAnswerTo g.S.Events.plays g.S.Events.owes g.S.Events.leases g.S.Events.waits g.S.Events.broken g.S.Running.dead g.S.Running.tree g.S.Running.lies g.S.Running.figures_in g.S.Running.looks in
+    let answers = IsAnswerTo g.S.Events g.S.Running in
     let behind = c.read_next.new.self.left in
     one_more answers c.args.lines.now.left c.args.system.now c.loop.lines.left c.loop.system behind c.answer_line.new.system c.read_next.new.self.line (system_line_seen c.in-Some.line) c.answer_line.result c.loop.invariant
-    (c.read_next.ensures.line (c.in_ok-read_next.was ∙ ap Ok c.if-not-branch.false)) (ap system_line (sym c.line.ensures) ∙ sym c.in-Some.ensures) c.answer_line.ensures
+    (c.read_next.ensures.line (c.in_ok-read_next.was ∙ ap Ok c.if-not-branch.false)) (ap system_line (sym c.line-text.ensures) ∙ sym c.in-Some.ensures) c.answer_line.ensures
 
 pub returns : goal.returns
 returns g c = (c.loop.lines.left, c.loop.invariant, tt)

@@ -1,4 +1,4 @@
-use Rattle.world_invariant.specs.Broken.{root_alone}
+use Rattle.world_invariant.specs.BrokenWorlds.{root_alone}
 use Rattle.world_invariant.proofs.BrokenWorlds.{watching_begun, watching_stale}
 use Rattle.world_invariant.proofs.AloneCopies.{beside_alone}
 use Rattle.world_invariant.proofs.broken_laws.copy_beside_a_writer_goes_stale.Goals as goal

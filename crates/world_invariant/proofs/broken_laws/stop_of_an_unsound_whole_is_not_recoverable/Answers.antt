@@ -1,4 +1,4 @@
-use Rattle.world_invariant.specs.Broken.{rootless}
+use Rattle.world_invariant.specs.BrokenWorlds.{rootless}
 use Rattle.world_invariant.proofs.BrokenStores.{leaves, rootless_stored}
 use Rattle.world_invariant.proofs.AloneStores.{rootless_alone}
 use Rattle.world_invariant.proofs.broken_laws.stop_of_an_unsound_whole_is_not_recoverable.Goals as goal

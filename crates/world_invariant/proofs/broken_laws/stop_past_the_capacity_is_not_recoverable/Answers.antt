@@ -1,4 +1,4 @@
-use Rattle.world_invariant.specs.Broken.{overfull}
+use Rattle.world_invariant.specs.BrokenWorlds.{overfull}
 use Rattle.world_invariant.proofs.BrokenStores.{leaves, overfull_stored}
 use Rattle.world_invariant.proofs.AloneStores.{overfull_alone}
 use Rattle.world_invariant.proofs.broken_laws.stop_past_the_capacity_is_not_recoverable.Goals as goal

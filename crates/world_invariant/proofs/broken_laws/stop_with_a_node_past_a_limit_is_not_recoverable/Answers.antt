@@ -1,4 +1,4 @@
-use Rattle.world_invariant.specs.Broken.{large_file}
+use Rattle.world_invariant.specs.BrokenWorlds.{large_file}
 use Rattle.world_invariant.proofs.BrokenStores.{leaves, large_stored}
 use Rattle.world_invariant.proofs.AloneStores.{large_alone}
 use Rattle.world_invariant.proofs.broken_laws.stop_with_a_node_past_a_limit_is_not_recoverable.Goals as goal

@@ -1,7 +1,7 @@
 use Rattle.std.proofs.Common.{false, ap, sym, ◌∙◌}
 use Rattle.world_invariant.specs.Logs.{is_touched, is_written}
 use Rattle.world_invariant.specs.World.{change_of, log_of}
-use Rattle.world_invariant.specs.Standing.{is_settled}
+use Rattle.world_invariant.specs.ClientParts.{is_settled}
 use Rattle.world_invariant.proofs.Records.{in_first, rest_written}
 use Rattle.world_invariant.proofs.Idle.{none_some}
 use Rattle.world_invariant.proofs.lease_laws.begun_call_keeps_its_leases.Goals as goal

@@ -3,12 +3,12 @@ use Rattle.area_image.specs.tier_device.declared.media.Tier.TheVariants.{Fast, B
 use Rattle.area_image.specs.block_alloc.Runs.{blocks_of}
 use Rattle.area_commit.specs.Value.{PoolsView}
 use Rattle.std.specs.Prelude.{Ok}
-use Rattle.area_commit.specs.declared.taking.Taken.{Taken}
-use Rattle.area_commit.specs.Taking.{WereTaken, taken_data}
+use Rattle.area_commit.specs.declared.allocation.Allocation.{Allocation}
+use Rattle.area_commit.specs.Allocations.{WereTaken, taken_data}
 use Rattle.area_commit.proofs.Splits.{ok_at, with_ok, on_ok_each, FastestFirst, taken-length, data_taken, data_left}
 use Rattle.area_commit.proofs.pools.Pools.take.Goals as goal
 
-module _ (c : goal.After-take_parts) (taken : Taken) (is : c.take_parts.result ≡ Ok taken) where
+module _ (c : goal.After-take_parts) (taken : Allocation) (is : c.take_parts.result ≡ Ok taken) where
   abbrev pub old : PoolsView
   old = c.args.self.now
 
@@ -19,13 +19,13 @@ module _ (c : goal.After-take_parts) (taken : Taken) (is : c.take_parts.result �
   were = ok_at _ (WereTaken old new) taken is c.take_parts.ensures.fronts
 
   fast : length (blocks_of taken.fast.items) ≡ c.min-fast.result
-  fast = ok_at _ (λ (t : Taken). length (blocks_of t.fast.items) ≡ c.min-fast.result) taken is c.take_parts.ensures.fast
+  fast = ok_at _ (λ (t : Allocation). length (blocks_of t.fast.items) ≡ c.min-fast.result) taken is c.take_parts.ensures.fast
 
   block : length (blocks_of taken.block.items) ≡ c.min-block.result
-  block = ok_at _ (λ (t : Taken). length (blocks_of t.block.items) ≡ c.min-block.result) taken is c.take_parts.ensures.block
+  block = ok_at _ (λ (t : Allocation). length (blocks_of t.block.items) ≡ c.min-block.result) taken is c.take_parts.ensures.block
 
   slow : length (blocks_of taken.slow.items) ≡ c.args.blocks - c.min-fast.result - c.min-block.result
-  slow = ok_at _ (λ (t : Taken). length (blocks_of t.slow.items) ≡ c.args.blocks - c.min-fast.result - c.min-block.result) taken is c.take_parts.ensures.slow
+  slow = ok_at _ (λ (t : Allocation). length (blocks_of t.slow.items) ≡ c.args.blocks - c.min-fast.result - c.min-block.result) taken is c.take_parts.ensures.slow
 
   fast_had : length c.self.inside.fast.free ≡ length (blocks_of taken.fast.items) + length new.fast.free
   fast_had = omega (arith, ap (λ (v : PoolsView). length v.fast.free) c.self.view_is, ap length (were.per_tier Fast).front, length-append (blocks_of taken.fast.items) new.fast.free)

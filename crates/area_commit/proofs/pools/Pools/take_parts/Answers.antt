@@ -7,7 +7,7 @@ pub returns-in-Err-fill-clause-err : goal.returns-in-Err-fill-clause-err
 returns-in-Err-fill-clause-err c =
     let same = c.reserve.ensures.same in
     let taken = c.fill.ensures.taken in
-    let given = c.undo.ensures in
+    let given = c.release.ensures in
     record {
       nodes = back _ _ _ _ _ same.nodes taken.nodes given.nodes;
       fast = back _ _ _ _ _ same.fast (taken.per_tier Fast) (given.per_tier Fast);

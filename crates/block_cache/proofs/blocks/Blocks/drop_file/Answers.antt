@@ -1,5 +1,5 @@
 use Rattle.std.proofs.Common.{◌∙◌, ap, sym, subst}
-use Rattle.block_cache.specs.Cached.{without_file}
+use Rattle.block_cache.specs.CacheList.{without_file}
 use Rattle.block_cache.specs.Entries.{blocks_in}
 use Rattle.block_cache.proofs.Entries.{others_are_others}
 use Rattle.block_cache.specs.Spans.{AreIn}

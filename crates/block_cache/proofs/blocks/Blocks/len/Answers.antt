@@ -1,6 +1,6 @@
 use Rattle.std.proofs.Common.{subst, arith}
 use Rattle.std.proofs.lemmas.List.{length-map}
-use Rattle.block_cache.specs.Cached.{IsCache}
+use Rattle.block_cache.specs.CacheList.{IsCache}
 use Rattle.block_cache.specs.Entries.{block_of}
 use Rattle.block_cache.proofs.Entries.{once}
 use Rattle.block_cache.proofs.blocks.Blocks.len.Goals as goal

@@ -1,6 +1,6 @@
 use Rattle.std.proofs.Common.{Some, sym, ◌∙◌, ap}
 use Rattle.block_cache.specs.declared.blocks.Place.{Place}
-use Rattle.block_cache.specs.Cached.{bytes_at}
+use Rattle.block_cache.specs.CacheList.{bytes_at}
 use Rattle.block_cache.proofs.Entries.{found}
 use Rattle.block_cache.proofs.blocks.Blocks.peek.Goals as goal
 

@@ -1,6 +1,6 @@
 use Rattle.std.proofs.Common.{Some, ap, sym, ◌∙◌}
 use Rattle.block_cache.specs.declared.blocks.Place.{Place}
-use Rattle.block_cache.specs.Cached.{bytes_if_first}
+use Rattle.block_cache.specs.CacheList.{bytes_if_first}
 use Rattle.block_cache.proofs.Entries.{first_is, first_other, first_none}
 use Rattle.block_cache.proofs.blocks.Blocks.peek_if_first.Goals as goal
 use Rattle.block_cache.proofs.blocks.Blocks.peek_if_first.Goals.{in_default-via-in-Some+else-eq, in_default-via-in_default}

@@ -1,7 +1,7 @@
 use Rattle.std.proofs.Common.{Option, slice_get, ◌∙◌, ap, sym, subst}
 use Rattle.block_cache.specs.declared.span.Span.{Span}
 use Rattle.block_cache.specs.declared.blocks.Place.{Place}
-use Rattle.block_cache.specs.Cached.{put}
+use Rattle.block_cache.specs.CacheList.{put_block}
 use Rattle.block_cache.specs.Entries.{blocks_in}
 use Rattle.block_cache.proofs.Entries.{put_is_put}
 use Rattle.block_cache.specs.Spans.{AreIn, IsIn}
@@ -14,7 +14,7 @@ returns-in-Ok-clause-put c =
     let cache = c.self.inside.cache in
     ap (λ q. blocks_in q.entries) c.in-Ok.ensures.entries
     ∙ put_is_put p cache c.in_ok-copy.copy c.self.invariant.0 c.len.ensures.valid.0 c.len.ensures.valid.1
-    ∙ (λ k. put c.args.inode c.args.block (c.in_ok-copy.ensures k) (c.self.view_is k))
+    ∙ (λ k. put_block c.args.inode c.args.block (c.in_ok-copy.ensures k) (c.self.view_is k))
 
 pub invariant_of-self : goal.invariant_of-self
 invariant_of-self c =

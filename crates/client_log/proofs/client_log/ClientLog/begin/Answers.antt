@@ -14,9 +14,9 @@ invariant_of-self g c =
     let new = c.begin.new.self in
     elim c.match-begin.branch [
       | in-Ok w ↦
-          sound_current m.seen m.moment m.left s.generation s.current new s.ready s.ready s.other s.clean s.failed c.self.invariant
-          (λ e. begun_written m.seen m.moment m.left s.failed s.generation s.current new c.args.entry.now (c.self.invariant.written e) c.begin.ensures.media c.begin.ensures.end w.in-Ok.ensures.stage w.in-Ok.ensures.begun
+          sound_current m s.generation s.current new s.ready s.ready s.other s.clean s.failed c.self.invariant
+          (λ e. begun_written m s.failed s.generation s.current new c.args.logged.now (c.self.invariant.written e) c.begin.ensures.media c.begin.ensures.end w.in-Ok.ensures.stage w.in-Ok.ensures.begun
           (λ more. not_refused _ _ (w.in-Ok.ensures.full.1 more)))
           (λ e. absurd (true≢false (sym c.if-not-self.false ∙ e)))
-      | in-Err w ↦ subst (λ (v : RegionView _). IsSound m.seen m.moment m.left s.generation v s.ready s.other s.clean s.failed) (sym w.in-Err.ensures.refused) c.self.invariant
+      | in-Err w ↦ subst (λ (v : RegionView _). IsSound m s.generation v s.ready s.other s.clean s.failed) (sym w.in-Err.ensures.refused) c.self.invariant
     ]

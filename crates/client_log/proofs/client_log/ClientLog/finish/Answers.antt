@@ -3,7 +3,7 @@ use Rattle.std.specs.Prelude.{is_some}
 use Rattle.std.proofs.lemmas.Bool.{true≢false}
 use Rattle.client_log.specs.Counts.{AreLeft, CountOf}
 use Rattle.client_log.specs.Regions.{IsWritten}
-use Rattle.client_log.specs.View.{LogView, written}
+use Rattle.client_log.specs.View.{LogView, current_records}
 use Rattle.client_log.proofs.Begun.{begun_ready, step_failed}
 use Rattle.client_log.proofs.Sound.{append_counts, now_counts, sound_current, sound_failed}
 use Rattle.client_log.proofs.client_log.ClientLog.finish.Goals as goal
@@ -12,8 +12,8 @@ pub returns-then-self-clause-any_moment : goal.returns-then-self-clause-any_mome
 returns-then-self-clause-any_moment g c =
     let m = g.M.Media in
     let s = c.self.inside in
-    subst (λ (v : LogView _). (regions : ℕ → List ℕ) → AreLeft m.moment m.left v v regions → CountOf v.generation (is_some v.other) (written m.seen v) v.current.begun regions) c.self.view_is
-    (now_counts m.seen m.moment m.left (record { generation = s.generation; current = s.current; ready = s.ready; other = s.other; clean = s.clean; failed = s.failed }) c.self.invariant c.left_now.ensures.either)
+    subst (λ (v : LogView _). (regions : ℕ → List ℕ) → AreLeft m v v regions → CountOf v.generation (is_some v.other) (current_records m v) v.current.begun regions) c.self.view_is
+    (now_counts m (record { generation = s.generation; current = s.current; ready = s.ready; other = s.other; clean = s.clean; failed = s.failed }) c.self.invariant c.left_now.ensures.either)
 
 pub invariant_of-self-in-Err : goal.invariant_of-self-in-Err
 invariant_of-self-in-Err g c =
@@ -21,10 +21,10 @@ invariant_of-self-in-Err g c =
     let s = c.self.inside in
     let new = c.finish-finished.new.self in
     let some : is_some s.current.begun ≡ true = subst (λ (v : LogView _). is_some v.current.begun ≡ true) (sym c.self.view_is) c.requires in
-    let ready = begun_ready m.seen m.moment m.left (record { generation = s.generation; current = s.current; ready = s.ready; other = s.other; clean = s.clean; failed = s.failed }) c.self.invariant some in
-    sound_current m.seen m.moment m.left s.generation s.current new s.ready s.ready s.other s.clean true
-    (sound_failed m.seen m.moment m.left s.generation s.current s.ready s.other s.clean s.failed c.self.invariant)
-    (λ e. step_failed m.seen m.moment m.left s.generation s.current new (subst (λ (f : Bool). IsWritten m.seen f s.generation s.current) c.if-self.false (c.self.invariant.written e)) c.in-Err.ensures.failed c.finish-finished.ensures.same_header some
+    let ready = begun_ready m (record { generation = s.generation; current = s.current; ready = s.ready; other = s.other; clean = s.clean; failed = s.failed }) c.self.invariant some in
+    sound_current m s.generation s.current new s.ready s.ready s.other s.clean true
+    (sound_failed m s.generation s.current s.ready s.other s.clean s.failed c.self.invariant)
+    (λ e. step_failed m s.generation s.current new (subst (λ (f : Bool). IsWritten m f s.generation s.current) c.if-self.false (c.self.invariant.written e)) c.in-Err.ensures.failed c.finish-finished.ensures.same_header some
     (λ _. c.in-Err.ensures.unanswered))
     (λ e. absurd (true≢false (sym ready ∙ e)))
 
@@ -35,8 +35,8 @@ returns-in-Ok-clause-any_moment g c =
     let old : LogView _ = record { generation = s.generation; current = s.current; ready = s.ready; other = s.other; clean = s.clean; failed = s.failed } in
     let new : LogView _ = record { generation = s.generation; current = c.finish-finished.new.self; ready = s.ready; other = s.other; clean = s.clean; failed = s.failed } in
     let some : is_some s.current.begun ≡ true = subst (λ (v : LogView _). is_some v.current.begun ≡ true) (sym c.self.view_is) c.requires in
-    subst (λ (v : LogView _). (regions : ℕ → List ℕ) → AreLeft m.moment m.left v new regions → CountOf v.generation (is_some v.other) (written m.seen v) v.current.begun regions) c.self.view_is
-    (append_counts m.seen m.moment m.left old new c.self.invariant (begun_ready m.seen m.moment m.left old c.self.invariant some) refl c.finish-finished.ensures.any_moment)
+    subst (λ (v : LogView _). (regions : ℕ → List ℕ) → AreLeft m v new regions → CountOf v.generation (is_some v.other) (current_records m v) v.current.begun regions) c.self.view_is
+    (append_counts m old new c.self.invariant (begun_ready m old c.self.invariant some) refl c.finish-finished.ensures.any_moment)
 
 pub returns-in-Err-clause-any_moment : goal.returns-in-Err-clause-any_moment
 returns-in-Err-clause-any_moment g c =
@@ -45,5 +45,5 @@ returns-in-Err-clause-any_moment g c =
     let old : LogView _ = record { generation = s.generation; current = s.current; ready = s.ready; other = s.other; clean = s.clean; failed = s.failed } in
     let new : LogView _ = record { generation = s.generation; current = c.finish-finished.new.self; ready = s.ready; other = s.other; clean = s.clean; failed = true } in
     let some : is_some s.current.begun ≡ true = subst (λ (v : LogView _). is_some v.current.begun ≡ true) (sym c.self.view_is) c.requires in
-    subst (λ (v : LogView _). (regions : ℕ → List ℕ) → AreLeft m.moment m.left v new regions → CountOf v.generation (is_some v.other) (written m.seen v) v.current.begun regions) c.self.view_is
-    (append_counts m.seen m.moment m.left old new c.self.invariant (begun_ready m.seen m.moment m.left old c.self.invariant some) refl c.finish-finished.ensures.any_moment)
+    subst (λ (v : LogView _). (regions : ℕ → List ℕ) → AreLeft m v new regions → CountOf v.generation (is_some v.other) (current_records m v) v.current.begun regions) c.self.view_is
+    (append_counts m old new c.self.invariant (begun_ready m old c.self.invariant some) refl c.finish-finished.ensures.any_moment)

@@ -16,8 +16,8 @@ returns-in-Ok-true-clause-opened g c =
       unfailed = refl;
       beside = c.are_wiped.new.other;
       other_is = refl;
-      current_read = subst (λ (t : RegionView _ × RegionView _). IsOnlyRead m.seen m.moment m.left m.faults t.0 c.are_wiped.new.current) is c.are_wiped.ensures.read;
-      other_read = subst (λ (t : RegionView _ × RegionView _). IsOnlyRead m.seen m.moment m.left m.faults t.1 c.are_wiped.new.other) is c.are_wiped.ensures.other_read;
+      current_read = subst (λ (t : RegionView _ × RegionView _). IsOnlyRead m t.0 c.are_wiped.new.current) is c.are_wiped.ensures.read;
+      other_read = subst (λ (t : RegionView _ × RegionView _). IsOnlyRead m t.1 c.are_wiped.new.other) is c.are_wiped.ensures.other_read;
       quiet = subst (λ (t : RegionView _ × RegionView _). m.faults c.are_wiped.new.current.media ≡ m.faults t.0.media) is c.in-Ok-true.ensures.quiet.0;
       other_quiet = subst (λ (t : RegionView _ × RegionView _). m.faults c.are_wiped.new.other.media ≡ m.faults t.1.media) is c.in-Ok-true.ensures.quiet.1;
     }
@@ -40,11 +40,11 @@ returns-in-Err-clause-fault g c failed =
 pub returns-in-Err-clause-even_back : goal.returns-in-Err-clause-even_back
 returns-in-Err-clause-even_back g c =
     let m = g.M.Media in
-    back_even (IsOnlyRead m.seen m.moment m.left m.faults) c.args.generation c.args.regions (c.are_wiped.new.current, c.are_wiped.new.other) c.in_turn-current.result c.in_turn-in-Err.result
+    back_even (IsOnlyRead m) c.args.generation c.args.regions (c.are_wiped.new.current, c.are_wiped.new.other) c.in_turn-current.result c.in_turn-in-Err.result
     c.in_turn-current.ensures c.in_turn-in-Err.ensures c.are_wiped.ensures.read c.are_wiped.ensures.other_read
 
 pub returns-in-Err-clause-odd_back : goal.returns-in-Err-clause-odd_back
 returns-in-Err-clause-odd_back g c =
     let m = g.M.Media in
-    back_odd (IsOnlyRead m.seen m.moment m.left m.faults) c.args.generation c.args.regions (c.are_wiped.new.current, c.are_wiped.new.other) c.in_turn-current.result c.in_turn-in-Err.result
+    back_odd (IsOnlyRead m) c.args.generation c.args.regions (c.are_wiped.new.current, c.are_wiped.new.other) c.in_turn-current.result c.in_turn-in-Err.result
     c.in_turn-current.ensures c.in_turn-in-Err.ensures c.are_wiped.ensures.read c.are_wiped.ensures.other_read

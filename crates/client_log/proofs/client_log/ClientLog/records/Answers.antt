@@ -6,5 +6,5 @@ invariant_of-self-in-Err g c =
     let m = g.M.Media in
     let s = c.self.inside in
     let r = c.records.ensures in
-    sound_read m.seen m.moment m.left m.faults s.generation s.current c.records.new.self s.ready s.other s.clean s.failed c.self.invariant
+    sound_read m s.generation s.current c.records.new.self s.ready s.other s.clean s.failed c.self.invariant
     (record { same_end = r.same.0; same_stage = r.same.1; same_begun = r.same.2; same_seen = r.seen; clock = r.clock; past = r.past; faults_rise = r.faults; one_fault = r.one_fault })

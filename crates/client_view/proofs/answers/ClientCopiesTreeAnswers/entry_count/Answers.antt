@@ -1,5 +1,5 @@
 use Rattle.std.proofs.Common.{◌≡◌, Some, None, rules, sym}
-use Rattle.client_view.specs.Held.{copy_at}
+use Rattle.client_view.specs.KnowledgeTables.{copy_at}
 use Rattle.client_view.proofs.Views.{none_counted}
 use Rattle.client_view.proofs.answers.ClientCopiesTreeAnswers.entry_count.Goals as goal
 

@@ -1,5 +1,5 @@
 use Rattle.std.proofs.Common.{◌≡◌, Some, None, rules, ap, sym, ◌∙◌}
-use Rattle.client_view.specs.Held.{copy_at}
+use Rattle.client_view.specs.KnowledgeTables.{copy_at}
 use Rattle.client_view.proofs.Views.{none_listed}
 use Rattle.client_view.proofs.answers.ClientCopiesTreeAnswers.names.Goals as goal
 

@@ -1,9 +1,9 @@
 use Rattle.std.proofs.Common.{◌≡◌, List, ap, sym, ◌∙◌, subst}
 use Rattle.client_plan.specs.file_graph.declared.effect.Effect.{Effect}
-use Rattle.world_invariant.specs.call_effects.Known.{Knowledge}
-use Rattle.client_view.specs.Held.{knows}
-use Rattle.client_view.specs.Logged.{with_change, with_made}
-use Rattle.client_view.specs.Prepared.{AreReady}
+use Rattle.world_invariant.specs.call_effects.Knowledge.{Knowledge}
+use Rattle.client_view.specs.KnowledgeTables.{knows}
+use Rattle.client_view.specs.AfterRecord.{with_change, with_made}
+use Rattle.client_view.specs.Preparation.{AreReady}
 use Rattle.client_view.specs.declared.node_copies.NodeCopies.{NodeCopies}
 use Rattle.client_view.proofs.copies.ClientCopies.commit.Goals as goal
 

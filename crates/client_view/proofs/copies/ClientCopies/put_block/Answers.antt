@@ -1,7 +1,7 @@
 use Rattle.std.proofs.Common.{◌<◌, sym, subst, arith}
 use Rattle.std.proofs.lemmas.Result.{on_ok_weaker}
-use Rattle.client_view.specs.Held.{Held, knows}
-use Rattle.client_view.specs.Put.{IsBlockLong}
+use Rattle.client_view.specs.KnowledgeTables.{Held, knows}
+use Rattle.client_view.specs.BlockPut.{IsBlockLong}
 use Rattle.client_view.proofs.Put.{kept_after, there_after, less_after}
 use Rattle.client_view.proofs.copies.ClientCopies.put_block.Goals as goal
 

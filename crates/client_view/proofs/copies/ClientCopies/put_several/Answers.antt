@@ -1,6 +1,6 @@
 use Rattle.std.specs.Ordering.{nat_cmp}
 use Rattle.std.specs.BTreeMap.{get}
-use Rattle.client_view.specs.Held.{knows}
+use Rattle.client_view.specs.KnowledgeTables.{knows}
 use Rattle.client_view.proofs.CopiedNodes.{all_nodes_put, next_left}
 use Rattle.client_view.proofs.copies.ClientCopies.put_several.Goals as goal
 

@@ -1,7 +1,7 @@
 use Rattle.std.proofs.Common.{drop}
 use Rattle.std.specs.Ordering.{nat_cmp}
 use Rattle.std.specs.BTreeMap.{get}
-use Rattle.client_view.specs.Held.{knows}
+use Rattle.client_view.specs.KnowledgeTables.{knows}
 use Rattle.client_view.proofs.CopiedNodes.{AreLeft}
 use Rattle.client_view.proofs.copies.ClientCopies.put_several.Given as goal
 

@@ -1,8 +1,8 @@
 use Rattle.std.proofs.Common.{ap, sym, ◌∙◌}
-use Rattle.world_invariant.specs.call_effects.Known.{Knowledge}
-use Rattle.client_view.specs.Forgotten.{without_granted}
-use Rattle.client_view.specs.Held.{knows}
-use Rattle.client_view.specs.Logged.{with_made}
+use Rattle.world_invariant.specs.call_effects.Knowledge.{Knowledge}
+use Rattle.client_view.specs.KnowledgeChanges.{without_granted}
+use Rattle.client_view.specs.KnowledgeTables.{knows}
+use Rattle.client_view.specs.AfterRecord.{with_made}
 use Rattle.client_view.proofs.copies.ClientCopies.use_made.Goals as goal
 
 pub returns-in-Some : goal.returns-in-Some

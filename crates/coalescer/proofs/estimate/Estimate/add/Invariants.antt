@@ -1,6 +1,6 @@
 use Rattle.std.proofs.Common.{List, ◌++◌, take}
 use Rattle.log_record.specs.file_graph.declared.effect.Effect.{Effect}
-use Rattle.coalescer.specs.Counted.{IsEstimate}
+use Rattle.coalescer.specs.EffectCounts.{IsEstimate}
 use Rattle.coalescer.proofs.estimate.Estimate.add.Given as goal
 
 abbrev pub invariant-loop-effect : goal.invariant-loop-effect

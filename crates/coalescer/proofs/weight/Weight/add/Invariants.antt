@@ -1,6 +1,6 @@
 use Rattle.std.proofs.Common.{List, ◌++◌, take}
 use Rattle.log_record.specs.file_graph.declared.effect.Effect.{Effect}
-use Rattle.coalescer.specs.Counted.{Weighs}
+use Rattle.coalescer.specs.EffectCounts.{Weighs}
 use Rattle.coalescer.proofs.weight.Weight.add.Given as goal
 
 abbrev pub invariant-loop-effect : goal.invariant-loop-effect

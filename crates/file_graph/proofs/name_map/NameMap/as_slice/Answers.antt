@@ -2,7 +2,7 @@ use Rattle.std.proofs.Common.{◌≡◌, ap, sym, ◌∙◌, List}
 use Rattle.std.specs.FinMap as fin
 use Rattle.posix_calls.specs.Content.{Entries}
 use Rattle.file_graph.specs.declared.name_map.NamedEntry.{NamedEntry}
-use Rattle.file_graph.specs.Named.{pairs, IsInOrder}
+use Rattle.file_graph.specs.NameOrder.{pairs, IsInOrder}
 use Rattle.file_graph.proofs.Ordered.{entries_are, as_map}
 use Rattle.file_graph.proofs.name_map.NameMap.as_slice.Goals as goal
 

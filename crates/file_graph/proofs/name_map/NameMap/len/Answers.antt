@@ -3,7 +3,7 @@ use Rattle.std.specs.FinMap as fin
 use Rattle.std.proofs.lemmas.List.{length-map}
 use Rattle.posix_calls.specs.Content.{Entries}
 use Rattle.file_graph.specs.declared.name_map.NamedEntry.{NamedEntry}
-use Rattle.file_graph.specs.Named.{IsInOrder}
+use Rattle.file_graph.specs.NameOrder.{IsInOrder}
 use Rattle.file_graph.proofs.Ordered.{entries_are, as_map}
 use Rattle.file_graph.proofs.name_map.NameMap.len.Goals as goal
 

@@ -4,7 +4,7 @@ use Rattle.std.proofs.lemmas.List.{length-map}
 use Rattle.std.specs.FinMap as fin
 use Rattle.posix_calls.specs.Content.{Entries}
 use Rattle.file_graph.specs.declared.name_map.NamedEntry.{NamedEntry}
-use Rattle.file_graph.specs.Named.{pairs}
+use Rattle.file_graph.specs.NameOrder.{pairs}
 use Rattle.file_graph.proofs.name_map.NameMap.names.Goals as goal
 
 -- the first parts of equal lists of pairs

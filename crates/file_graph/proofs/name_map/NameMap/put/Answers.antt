@@ -2,7 +2,7 @@ use Rattle.std.proofs.Common.{◌≡◌, sym, subst, List, Result, Ok, Err}
 use Rattle.std.specs.Prelude.{OnOk, OnErr}
 use Rattle.std.proofs.lemmas.Result.{on_ok_weaker}
 use Rattle.file_graph.specs.declared.name_map.NamedEntry.{NamedEntry}
-use Rattle.file_graph.specs.Named.{IsInOrder}
+use Rattle.file_graph.specs.NameOrder.{IsInOrder}
 use Rattle.file_graph.proofs.Ordered.{put_is_insert}
 use Rattle.file_graph.proofs.name_map.NameMap.put.Goals as goal
 

@@ -5,4 +5,4 @@ use Rattle.first_run.proofs.regions.StopMediaStopping.new.Goals as goal
 
 -- the medium is the one that was given
 pub returns : goal.returns
-returns c = subst IsAtRest (sym c.armed.ensures.inner) c.requires Fast
+returns c = subst IsAtRest (sym c.arm_media.ensures.inner) c.requires Fast

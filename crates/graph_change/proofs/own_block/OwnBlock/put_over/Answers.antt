@@ -1,8 +1,8 @@
 use Rattle.std.proofs.Common.{◌≡◌, ◌∙◌, arith, ap, length, sym, take, subst}
 use Rattle.std.proofs.lemmas.List.{length-take-le}
 use Rattle.file_graph.specs.posix_calls.declared.limits.TheConstants.{UNIT_BYTES}
-use Rattle.graph_change.specs.Change.{patched}
-use Rattle.graph_change.specs.Kept.{bytes_in, kept_marks}
+use Rattle.graph_change.specs.Change.{patched_bytes}
+use Rattle.graph_change.specs.KeptBytes.{bytes_in, kept_marks}
 use Rattle.graph_change.specs.View.{patch_of}
 use Rattle.graph_change.proofs.Marks.{all_put_over, none_put_over}
 use Rattle.graph_change.proofs.own_block.OwnBlock.put_over.Goals as goal
@@ -26,10 +26,10 @@ returns-then-self c =
     let all = c.if-self.true in
     let old = c.args.block.now in
     let long = length-take-le UNIT_BYTES b.slots.items (c.self.invariant.bytes_long (omega (arith, all))) in
-    c.copy.ensures ∙ ap (take UNIT_BYTES) c.deref.ensures.value ∙ subst (λ v. bytes_in b.slots.items ≡ patched (patch_of v) old) c.self.view_is (all_put_over (bytes_in b.slots.items) (kept_marks b.slots.items) b.count old all long c.requires)
+    c.copy.ensures ∙ ap (take UNIT_BYTES) c.deref.ensures.value ∙ subst (λ v. bytes_in b.slots.items ≡ patched_bytes (patch_of v) old) c.self.view_is (all_put_over (bytes_in b.slots.items) (kept_marks b.slots.items) b.count old all long c.requires)
 
 pub returns-else-self-ne0 : goal.returns-else-self-ne0
 returns-else-self-ne0 c =
     let b = c.self.inside in
     let old = c.args.block.now in
-    subst (λ v. old ≡ patched (patch_of v) old) c.self.view_is (none_put_over (bytes_in b.slots.items) (kept_marks b.slots.items) b.count old c.if-self-ne0.false)
+    subst (λ v. old ≡ patched_bytes (patch_of v) old) c.self.view_is (none_put_over (bytes_in b.slots.items) (kept_marks b.slots.items) b.count old c.if-self-ne0.false)

@@ -1,5 +1,5 @@
 use Rattle.std.proofs.Math.Logic.{∥∥₁_map}
-use Rattle.host_media.specs.LeftLaws.{at_now}
+use Rattle.host_media.specs.HistoryLaws.{at_now}
 use Rattle.host_media.proofs.file.FileMedia.is_covered.Goals as goal
 
 pub returns : goal.returns

@@ -1,6 +1,6 @@
 use Rattle.std.proofs.Common.{◌≤◌, ◌+◌, length, ap, arith}
 use Rattle.tier_device.specs.DeviceCall.{Write}
-use Rattle.host_media.specs.Left.{shown_now}
+use Rattle.host_media.specs.TierHistory.{shown_now}
 use Rattle.host_media.proofs.Grow.{past_kept, write_tears, write_tears_all}
 use Rattle.host_media.proofs.file.FileMediaMedia.write.Goals as goal
 

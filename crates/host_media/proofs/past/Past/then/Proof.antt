@@ -1,6 +1,6 @@
 -- The body makes a value of no bytes, which the walk gives the calls that the clauses name.
 use Rattle.std.proofs.Common.{[], ◌∷◌, refl}
-use Rattle.host_media.specs.Noted.{noted}
+use Rattle.host_media.specs.NoteCall.{after_note}
 use mir.Val.{Val, vstruct, vnil, vptr}
 use base.Logic.{SProp}
 use types.Kit.{‵, raw, ◌⊛◌, ◌$◌, ◌∵◌, !, qed, done, move, keep, split, fjoin, suffices}
@@ -36,7 +36,7 @@ then_spec 𝓤 𝓛 𝓜 𝓡 wired =
     (λ κs. (shr_vals, (shr_vals, tt))) (λ κs. (shr_Tells (named 0) κs.0 Past.the_row, (shr_Tells (named 1) κs.1.0 (Note.the_row (named_lft 3 2 tt κs)), tt))) (λ κs qs bounds a g are.
     let p : Val = vptr a.0.ref_ptr.0 a.0.ref_ptr.1 in
     let q : Val = vptr a.1.0.ref_ptr.0 a.1.0.ref_ptr.1 in
-    let made : Past.the_row.Denot = record { history = noted a.0.now.history a.1.0.now } in
+    let made : Past.the_row.Denot = record { history = after_note a.0.now.history a.1.0.now } in
     let y : (walk_of 𝓛 f.ended stayed c).Ghost = ((κs, qs, bounds, a, (p ∷ [], (q ∷ [], tt))), g) in
     let Post : Val → SProp 𝓤 = (walk_of 𝓛 f.ended stayed c).post y in
     qed 𝓛 ((raw (alive 𝓛 f.ended.signature κs qs) ⊛ ‵ (owns (types_at f.ended.signature.params κs) a y.0.4)) ∷ raw ((c κs a).requires g) ∷ []) ∵

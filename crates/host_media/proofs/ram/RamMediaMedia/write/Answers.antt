@@ -1,7 +1,7 @@
 use Rattle.std.proofs.Common.{◌≤◌, ◌+◌, length, ap, arith}
 use Rattle.tier_device.specs.Rows.{row}
 use Rattle.tier_device.specs.DeviceCall.{Write}
-use Rattle.host_media.specs.Left.{shown_now}
+use Rattle.host_media.specs.TierHistory.{shown_now}
 use Rattle.host_media.proofs.Grow.{past_kept, write_kept, write_tears, write_tears_all}
 use Rattle.host_media.proofs.ram.RamMediaMedia.write.Goals as goal
 

@@ -7,20 +7,20 @@ use Rattle.kernel_fs.proofs.book.Book.take_back.Goals as goal
 
 pub overflow_sub-self : goal.overflow_sub-self
 overflow_sub-self c =
-    let within : _ = within_out c.self.inside.accounts c.args.client c.index-self-client.result c.self.invariant.0 c.requires.client in
+    let within : _ = within_out c.self.inside.accounts c.args.client c.client_index.result c.index-self-client_index.result c.self.invariant.0 c.requires.client c.client_index.ensures.is in
     let less : _ = c.take_back-given.ensures.units in
     omega (arith, within, less, c.self.invariant.1)
 
 pub invariant_of-self : goal.invariant_of-self
-invariant_of-self c = (long_still c.self.inside.accounts c.args.client _ c.self.invariant.0 c.requires.client, less_left c.self.inside.accounts c.args.client _ c.self.invariant.0 c.requires.client c.index-self-client.result c.self.inside.out c.take_back-given.result c.self.invariant.1 c.take_back-given.ensures.units)
+invariant_of-self c = (long_still c.self.inside.accounts c.args.client c.client_index.result _ c.self.invariant.0 c.requires.client c.client_index.ensures.is, less_left c.self.inside.accounts c.args.client c.client_index.result _ c.self.invariant.0 c.requires.client c.client_index.ensures.is c.index-self-client_index.result c.self.inside.out c.take_back-given.result c.self.invariant.1 c.take_back-given.ensures.units)
 
 pub returns-clause-out : goal.returns-clause-out
 returns-clause-out c =
-    let given : c.take_back-given.result ≡ min c.args.units (units_of c.args.self.now c.args.client) = c.take_back-given.ensures.given ∙ ap (λ (x : ClientAccount). min c.args.units x.units) (read_own c.self.inside.accounts c.args.client c.index-self-client.result c.self.invariant.0 c.requires.client) ∙ ap (λ b. min c.args.units (units_of b c.args.client)) c.self.view_is in
-    less_out c.self.inside.accounts c.args.client _ c.self.invariant.0 c.requires.client c.index-self-client.result c.take_back-given.result _ c.take_back-given.ensures.units (sym given) ∙ ap out_of c.self.view_is
+    let given : c.take_back-given.result ≡ min c.args.units (units_of c.args.self.now c.args.client) = c.take_back-given.ensures.given ∙ ap (λ (x : ClientAccount). min c.args.units x.units) (read_own c.self.inside.accounts c.args.client c.client_index.result c.index-self-client_index.result c.self.invariant.0 c.requires.client c.client_index.ensures.is) ∙ ap (λ b. min c.args.units (units_of b c.args.client)) c.self.view_is in
+    less_out c.self.inside.accounts c.args.client c.client_index.result _ c.self.invariant.0 c.requires.client c.client_index.ensures.is c.index-self-client_index.result c.take_back-given.result _ c.take_back-given.ensures.units (sym given) ∙ ap out_of c.self.view_is
 
 pub returns-clause-step : goal.returns-clause-step
 returns-clause-step c = λ m is.
     let own : IsBookOf c.self.inside.accounts m = subst (λ b. IsBookOf b m) (sym c.self.view_is) is in
-    moved_account c.self.inside.accounts c.args.client _ c.self.invariant.0 c.requires.client m _ own
-    (c.take_back-given.ensures.step (m.kernel.accounts c.args.client) (m.accepted c.args.client) (subst (λ x. IsAccountOf x (m.kernel.accounts c.args.client) (m.accepted c.args.client)) (sym (read_own c.self.inside.accounts c.args.client c.index-self-client.result c.self.invariant.0 c.requires.client)) (own c.args.client c.requires.client)))
+    moved_account c.self.inside.accounts c.args.client c.client_index.result _ c.self.invariant.0 c.requires.client c.client_index.ensures.is m _ own
+    (c.take_back-given.ensures.step (m.kernel.accounts c.args.client) (m.accepted c.args.client) (subst (λ x. IsAccountOf x (m.kernel.accounts c.args.client) (m.accepted c.args.client)) (sym (read_own c.self.inside.accounts c.args.client c.client_index.result c.index-self-client_index.result c.self.invariant.0 c.requires.client c.client_index.ensures.is)) (own c.args.client c.requires.client)))

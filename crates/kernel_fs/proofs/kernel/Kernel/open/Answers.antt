@@ -12,11 +12,11 @@ invariant_of-result g c = λ still.
     let old = c.args.area in
     let new = c.nodes_of.new.area in
     let looks = c.in-Ok.ensures.looks in (
-      moved_nodes m.seen old new (has c.in-Ok.nodes) looks.geometry (ap (λ s. graph old.geometry (store_of s)) (tiers_same (m.seen old.media) (m.seen new.media) looks.unmoved.reads)) c.in-Ok.ensures.nodes,
-      begins m.seen new c.of-began.result.value c.new.result c.of-began.ensures (opened_kernel m.seen new c.new.result c.marks-marks.result (c.marks-marks.ensures looks.going.1) c.new.ensures.opens),
+      moved_nodes m old new (has c.in-Ok.nodes) looks.geometry (ap (λ s. graph old.geometry (store_of s)) (tiers_same (m.seen old.media) (m.seen new.media) looks.unmoved.reads)) c.in-Ok.ensures.nodes,
+      begins m new c.of-began.result.value c.new.result c.of-began.ensures (opened_kernel m new c.new.result c.marks-marks.result (c.marks-marks.ensures looks.going.1) c.new.ensures.opens),
     )
 
 pub returns-in-Ok-clause-opens : goal.returns-in-Ok-clause-opens
 returns-in-Ok-clause-opens g c =
     let m = g.M.Media in
-    opened_kernel m.seen c.nodes_of.new.area c.new.result c.marks-marks.result (c.marks-marks.ensures c.in-Ok.ensures.looks.going.1) c.new.ensures.opens
+    opened_kernel m c.nodes_of.new.area c.new.result c.marks-marks.result (c.marks-marks.ensures c.in-Ok.ensures.looks.going.1) c.new.ensures.opens

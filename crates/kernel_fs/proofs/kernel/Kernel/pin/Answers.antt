@@ -1,7 +1,7 @@
 use Rattle.std.proofs.Common.{ℕ, ◌+◌, ◌-◌, ◌||◌, ◌&&◌, not, refl, ◌∙◌, sym}
 use Rattle.kernel_fs.specs.Inodes.{has}
 use Rattle.world_invariant.specs.LeaseSteps.{also, without}
-use Rattle.world_invariant.specs.Opening.{idle_account}
+use Rattle.world_invariant.specs.FormatWorld.{idle_account}
 use Rattle.kernel_fs.proofs.BookSteps.{stepped}
 use Rattle.kernel_fs.proofs.Runs.{goes_on}
 use Rattle.kernel_fs.specs.Run as entry
@@ -9,18 +9,18 @@ use Rattle.kernel_fs.proofs.kernel.Kernel.pin.Goals as goal
 
 pub returns-clause-step : goal.returns-clause-step
 returns-clause-step g c = λ m.
-    stepped g.M.Media.seen c.self.inside.area c.self.inside.book c.pin.new.self c.args.self.now c.self.view_is c.args.client m (record (m.kernel.accounts c.args.client) { pins = also (m.kernel.accounts c.args.client).pins c.args.inode }) refl (c.pin.ensures.step m)
+    stepped g.M.Media c.self.inside.area c.self.inside.book c.pin.new.self c.args.self.now c.self.view_is c.args.client m (record (m.kernel.accounts c.args.client) { pins = also (m.kernel.accounts c.args.client).pins c.args.inode }) refl (c.pin.ensures.step m)
 
 pub invariant_of-self : goal.invariant_of-self
 invariant_of-self g c = λ still.
     let going : _ = sym c.has_failed.ensures ∙ c.if-has_failed.false in
     let inside = c.self.invariant going in
-    let seen = g.M.Media.seen in
+    let device = g.M.Media in
     let area = c.self.inside.area in (
       inside.0,
-      goes_on seen c.self.inside.began.value area area c.self.inside.book c.pin.new.self (λ m. entry.Pin c.args.client c.args.inode) (λ m is. (
+      goes_on device c.self.inside.began.value area area c.self.inside.book c.pin.new.self (λ m. entry.Pin c.args.client c.args.inode) (λ m is. (
         c.requires.client,
-        stepped seen area c.self.inside.book c.pin.new.self (record { area = c.self.inside.area; book = c.self.inside.book; opening = c.self.inside.began.value }) refl c.args.client m
+        stepped device area c.self.inside.book c.pin.new.self (record { area = c.self.inside.area; book = c.self.inside.book; opening = c.self.inside.began.value }) refl c.args.client m
             (record (m.kernel.accounts c.args.client) { pins = also (m.kernel.accounts c.args.client).pins c.args.inode }) refl (c.pin.ensures.step m) is,
       )) inside.1,
     )

@@ -1,17 +1,17 @@
 use Rattle.std.proofs.Common.{◌≡◌, ◌⊎◌, false, refl, ◌∙◌, sym, subst}
 use Rattle.std.specs.Prelude.{Ok, Err}
-use Rattle.digester.specs.area_image.Store.{store_of, graph}
+use Rattle.digester.specs.area_image.Store.{disk, graph}
 use Rattle.digester.specs.area_image.Map.{WantsMemory}
 use Rattle.world_invariant.specs.Logs.{IsNameless}
-use Rattle.kernel_fs.specs.Answering.{Answers, told}
-use Rattle.kernel_fs.specs.Reclaiming.{IsUnused, ReclaimsOrStays, StaysOrReclaims}
+use Rattle.kernel_fs.specs.KernelAnswers.{Answers, kernel_answer}
+use Rattle.kernel_fs.specs.Reclaim.{IsUnused, ReclaimsOrStays, StaysOrReclaims}
 use Rattle.kernel_fs.specs.declared.error.ReclaimError.TheVariants as errors
 use Rattle.kernel_fs.proofs.Dropping.{still_open}
 use Rattle.kernel_fs.proofs.Answered.{answered}
 use Rattle.kernel_fs.proofs.Reclaimed.{in_use_no_fault, nothing_stays}
 use Rattle.kernel_fs.specs.Inodes.{has}
 use Rattle.kernel_fs.specs.KernelView.{KernelView}
-use Rattle.kernel_fs.specs.Standing.{IsKernelOf}
+use Rattle.kernel_fs.specs.MachineState.{IsKernelOf}
 use Rattle.kernel_fs.proofs.DropSteps.{may_reclaim, reclaimed_kernel, reclaimed_nodes}
 use Rattle.kernel_fs.proofs.Runs.{goes_on, reclaim_refused}
 use Rattle.kernel_fs.specs.Run as entry
@@ -19,21 +19,21 @@ use Rattle.kernel_fs.proofs.kernel.Kernel.reclaim.Goals as goal
 
 pub returns-clause-step : goal.returns-clause-step
 returns-clause-step g c = λ m is.
-    let own = subst (λ (v : KernelView _). IsKernelOf g.M.Media.seen v m) (sym c.self.view_is) is in
-    reclaimed_kernel g.M.Media.seen c.self.inside.area c.drop_nameless.new.area c.args.inode c.in-Ok.ensures.stays.geometry c.in-Ok.ensures.dropped c.self.inside.book m own
+    let own = subst (λ (v : KernelView _). IsKernelOf g.M.Media v m) (sym c.self.view_is) is in
+    reclaimed_kernel g.M.Media c.self.inside.area c.drop_nameless.new.area c.args.inode c.in-Ok.ensures.stays.geometry c.in-Ok.ensures.dropped c.self.inside.book m own
 
 pub returns-clause-can : goal.returns-clause-can
 returns-clause-can g c = λ m is.
-    let own = subst (λ (v : KernelView _). IsKernelOf g.M.Media.seen v m) (sym c.self.view_is) is in
-    may_reclaim g.M.Media.seen c.self.inside.area c.self.inside.book m c.args.inode (c.in-Ok.ensures.was, sym c.is_pinned.ensures ∙ c.if-is_pinned.false) own
+    let own = subst (λ (v : KernelView _). IsKernelOf g.M.Media v m) (sym c.self.view_is) is in
+    may_reclaim g.M.Media c.self.inside.area c.self.inside.book m c.args.inode (c.in-Ok.ensures.was, sym c.is_pinned.ensures ∙ c.if-is_pinned.false) own
 
 pub returns-then-is_pinned-clause-any_moment : goal.returns-then-is_pinned-clause-any_moment
 returns-then-is_pinned-clause-any_moment g c =
     let m = g.M.Media in
     let going : _ = sym c.has_failed.ensures ∙ c.if-has_failed.false in
     let area = c.self.inside.area in
-    subst (λ (v : KernelView _). v.area.failed ≡ false → StaysOrReclaims v.area.geometry (store_of (m.seen v.area.media)) c.args.inode (m.moment v.area.media) (m.moment v.area.media) (m.left v.area.media) (m.left v.area.media)) c.self.view_is
-    (λ _. still_open area.geometry (store_of (m.seen area.media)) c.args.inode (m.moment area.media) (m.left area.media) (m.moment area.media) (m.seen area.media) (m.seen area.media) (m.left area.media)
+    subst (λ (v : KernelView _). v.area.failed ≡ false → StaysOrReclaims v.area.geometry (disk m v.area) c.args.inode (m.moment v.area.media) (m.moment v.area.media) (m.left v.area.media) (m.left v.area.media)) c.self.view_is
+    (λ _. still_open area.geometry (disk m area) c.args.inode (m.moment area.media) (m.left area.media) (m.moment area.media) (m.seen area.media) (m.seen area.media) (m.left area.media)
     (record { clock = refl; reads = λ t. refl; past = λ n t x le l. l; kept = λ n t x le l. l }) (c.left_now.ensures.same going) (c.left_now.ensures.loose going))
 
 pub returns-then-is_pinned-clause-answers : goal.returns-then-is_pinned-clause-answers
@@ -42,8 +42,8 @@ returns-then-is_pinned-clause-answers g c =
     let going : _ = sym c.has_failed.ensures ∙ c.if-has_failed.false in
     let area = c.self.inside.area in
     let book = c.self.inside.book in
-    subst (λ (v : KernelView _). Answers v.area.failed v v (told (Err errors.InUse)) (ReclaimsOrStays m.moment m.seen m.left m.faults v.area v.area)) c.self.view_is
-    (answered (ReclaimsOrStays m.moment m.seen m.left m.faults) area area book book (record { area = area; book = book; opening = c.self.inside.began.value }) refl (Err errors.InUse) going (nothing_stays m.moment m.seen m.left m.faults area errors.InUse in_use_no_fault going))
+    subst (λ (v : KernelView _). Answers v.area.failed v v (kernel_answer (Err errors.InUse)) (ReclaimsOrStays m v.area v.area)) c.self.view_is
+    (answered (ReclaimsOrStays m) area area book book (record { area = area; book = book; opening = c.self.inside.began.value }) refl (Err errors.InUse) going (nothing_stays m area errors.InUse in_use_no_fault going))
 
 -- ---- where it was refused
 
@@ -52,24 +52,24 @@ invariant_of-self g c = λ still.
     let going : _ = sym c.has_failed.ensures ∙ c.if-has_failed.false in
     let inside = c.self.invariant going in
     let m = g.M.Media in
-    reclaim_refused m.seen c.self.inside.began.value (has c.self.inside.nodes) c.self.inside.book c.self.inside.area c.drop_nameless.new.area m.moment m.left m.faults c.in-Err.error c.in-Err.ensures.stays still inside
+    reclaim_refused m c.self.inside.began.value (has c.self.inside.nodes) c.self.inside.book c.self.inside.area c.drop_nameless.new.area c.in-Err.error c.in-Err.ensures.stays still inside
 
 pub returns-in-Err-clause-in_use : goal.returns-in-Err-clause-in_use
 returns-in-Err-clause-in_use g c = λ is.
-    subst (λ (v : KernelView _). IsUnused (graph v.area.geometry (store_of (g.M.Media.seen v.area.media))) v.book c.args.inode → ⊥) c.self.view_is
+    subst (λ (v : KernelView _). IsUnused (graph v.area.geometry (disk g.M.Media v.area)) v.book c.args.inode → ⊥) c.self.view_is
     (λ unused. c.in-Err.ensures.in_use (cc is) unused.0)
 
 pub returns-in-Err-clause-memory : goal.returns-in-Err-clause-memory
 returns-in-Err-clause-memory g c = λ is.
-    let seen = g.M.Media.seen in
-    subst (λ (v : KernelView _). WantsMemory v.area.geometry (store_of (seen v.area.media)) c.args.inode ⊎ IsNameless (graph v.area.geometry (store_of (seen v.area.media)) c.args.inode)) c.self.view_is
+    let device = g.M.Media in
+    subst (λ (v : KernelView _). WantsMemory v.area.geometry (disk device v.area) c.args.inode ⊎ IsNameless (graph v.area.geometry (disk device v.area) c.args.inode)) c.self.view_is
     (c.in-Err.ensures.memory (cc is))
 
 pub returns-in-Err-clause-answers : goal.returns-in-Err-clause-answers
 returns-in-Err-clause-answers g c =
     let m = g.M.Media in
     let going : _ = sym c.has_failed.ensures ∙ c.if-has_failed.false in
-    answered (ReclaimsOrStays m.moment m.seen m.left m.faults) c.self.inside.area c.drop_nameless.new.area c.self.inside.book c.self.inside.book c.args.self.now c.self.view_is (Err c.in-Err.error) going c.in-Err.ensures.stays
+    answered (ReclaimsOrStays m) c.self.inside.area c.drop_nameless.new.area c.self.inside.book c.self.inside.book c.args.self.now c.self.view_is (Err c.in-Err.error) going c.in-Err.ensures.stays
 
 -- ---- where it was dropped
 
@@ -77,15 +77,15 @@ pub invariant_of-self-2 : goal.invariant_of-self-2
 invariant_of-self-2 g c = λ still.
     let going : _ = sym c.has_failed.ensures ∙ c.if-has_failed.false in
     let inside = c.self.invariant going in
-    let seen = g.M.Media.seen in
+    let device = g.M.Media in
     let old = c.self.inside.area in
     let new = c.drop_nameless.new.area in
     let book = c.self.inside.book in
     let geometry = c.in-Ok.ensures.stays.geometry in (
-      reclaimed_nodes seen old new c.args.inode geometry c.in-Ok.ensures.dropped (has c.self.inside.nodes) (has c.remove.new.self) c.remove.ensures inside.0,
-      goes_on seen c.self.inside.began.value old new book book (λ m. entry.Reclaim c.args.inode) (λ m is. (
-        may_reclaim seen old book m c.args.inode (c.in-Ok.ensures.was, sym c.is_pinned.ensures ∙ c.if-is_pinned.false) is,
-        reclaimed_kernel seen old new c.args.inode geometry c.in-Ok.ensures.dropped book m is,
+      reclaimed_nodes device old new c.args.inode geometry c.in-Ok.ensures.dropped (has c.self.inside.nodes) (has c.remove.new.self) c.remove.ensures inside.0,
+      goes_on device c.self.inside.began.value old new book book (λ m. entry.Reclaim c.args.inode) (λ m is. (
+        may_reclaim device old book m c.args.inode (c.in-Ok.ensures.was, sym c.is_pinned.ensures ∙ c.if-is_pinned.false) is,
+        reclaimed_kernel device old new c.args.inode geometry c.in-Ok.ensures.dropped book m is,
       )) inside.1,
     )
 
@@ -93,4 +93,4 @@ pub returns-clause-answers : goal.returns-clause-answers
 returns-clause-answers g c =
     let m = g.M.Media in
     let going : _ = sym c.has_failed.ensures ∙ c.if-has_failed.false in
-    answered (ReclaimsOrStays m.moment m.seen m.left m.faults) c.self.inside.area c.drop_nameless.new.area c.self.inside.book c.self.inside.book c.args.self.now c.self.view_is (Ok tt) going c.in-Ok.ensures.stays
+    answered (ReclaimsOrStays m) c.self.inside.area c.drop_nameless.new.area c.self.inside.book c.self.inside.book c.args.self.now c.self.view_is (Ok tt) going c.in-Ok.ensures.stays

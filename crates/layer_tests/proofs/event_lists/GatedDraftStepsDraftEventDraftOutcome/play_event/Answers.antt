@@ -6,7 +6,7 @@ use Rattle.layer_tests.specs.contracts.event_lists.GatedDraftRecoverableDraftEve
 use Rattle.layer_tests.proofs.DraftStops.{commit_stops, draft_stops, mkdir_step, moves_none, none_moves, now_stops}
 use Rattle.layer_tests.specs.declared.gated_draft.DraftOutcome.TheVariants.{Done}
 use Rattle.layer_tests.specs.GatedDraft.{calls_of, clock_of, left_of, after_mkdir, news_of, pending, tree_of}
-use Rattle.courses.specs.posix_calls.Tree.{opening}
+use Rattle.courses.specs.posix_calls.EmptyTree.{empty_state}
 use Rattle.courses.specs.posix_calls.Run.{Run}
 use Rattle.layer_tests.proofs.event_lists.GatedDraftStepsDraftEventDraftOutcome.play_event.Goals as goal
 
@@ -16,7 +16,7 @@ returns-in-Fresh-Draft-clause-during c = λ c' held. subst (λ it. StopsNow ghos
 pub returns-in-Drafted-Commit-clause-run : goal.returns-in-Drafted-Commit-clause-run
 returns-in-Drafted-Commit-clause-run c =
     subst (λ it. Run (tree_of it) (news_of (calls_of it) c.args.event.now Done).turns after_mkdir) (sym c.in-Drafted-Commit.is-0)
-    (subst (λ e. Run opening (news_of pending e Done).turns after_mkdir) (sym c.in-Drafted-Commit.is-1) (after_mkdir, mkdir_step, refl))
+    (subst (λ e. Run empty_state (news_of pending e Done).turns after_mkdir) (sym c.in-Drafted-Commit.is-1) (after_mkdir, mkdir_step, refl))
 
 pub returns-in-Drafted-Commit-clause-during : goal.returns-in-Drafted-Commit-clause-during
 returns-in-Drafted-Commit-clause-during c = λ c' held. subst (λ it. StopsNow ghosts it c') (sym c.in-Drafted-Commit.is-0) (commit_stops c' (subst (λ it. LeftBetween (left_of Open) (clock_of it) (clock_of Open) c') c.in-Drafted-Commit.is-0 held))

@@ -1,7 +1,7 @@
 use Rattle.std.proofs.Common.{ap, sym}
 use Rattle.layout.specs.Answers.{or_damaged}
 use Rattle.layout.specs.declared.error.What.TheVariants as what
-use Rattle.layout.specs.Directory.{listed}
+use Rattle.layout.specs.Directory.{block_entries}
 use Rattle.layout.proofs.DirectoryLaws.{entries_of_takes}
 use Rattle.layout.proofs.DirPlaces.{names_differ}
 use Rattle.layout.proofs.dir_entries.DirEntries.read.Goals as goal
@@ -12,5 +12,5 @@ returns-in-Some-clause-read c = ap (or_damaged what.DirBlock c.args.number) (sym
 pub returns-in-Some-clause-entries : goal.returns-in-Some-clause-entries
 returns-in-Some-clause-entries c =
     let are = names_differ c.args.block.now c.in-Some.ensures.read.list c.in-Some.ensures.read.distinct in
-    let is = entries_of_takes c.args.block.now (listed c.args.block.now) (λ i. (c.type_inv.block i).fits) are in
+    let is = entries_of_takes c.args.block.now (block_entries c.args.block.now) (λ i. (c.type_inv.block i).fits) are in
     record { fit = is.0; spelled = is.1 }

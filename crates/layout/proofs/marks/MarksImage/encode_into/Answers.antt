@@ -2,7 +2,7 @@ use Rattle.std.proofs.Common.{◌≡◌, ◌*◌, ◌<◌, List, [], length, tak
 use Rattle.std.specs.List.{flat_map}
 use Rattle.std.proofs.lemmas.List.{length-take, take_all}
 use Rattle.layout.specs.declared.marks.Mark.{Mark}
-use Rattle.layout.specs.Bytes.{filled}
+use Rattle.layout.specs.Bytes.{padded_text}
 use Rattle.layout.specs.Marks.{mark_text}
 use Rattle.layout.proofs.Blocks.{blank_filled, written_u64}
 use Rattle.layout.proofs.Items.{item_on}
@@ -29,6 +29,6 @@ returns c =
     let clients = c.args.self.now.clients in
     let eight : length clients ≡ 8 = search rules in
     let all = take_all c.loop-client.client clients (omega (arith, c.loop-client-test.false, eight)) in
-    let block : c.loop-client.slot ≡ filled 4096 (flat_map mark_text clients) = c.loop-client.invariant ∙ ap (λ (ms : List Mark). filled 4096 (flat_map mark_text ms)) all in
+    let block : c.loop-client.slot ≡ padded_text 4096 (flat_map mark_text clients) = c.loop-client.invariant ∙ ap (λ (ms : List Mark). padded_text 4096 (flat_map mark_text ms)) all in
     let w = written_u64 4096 128 c.args.self.now.digests (flat_map mark_text clients) c.loop-client.slot block (omega (arith, mark_texts_long clients, eight)) (omega arith) in
     c.put_u64.ensures ∙ w.0

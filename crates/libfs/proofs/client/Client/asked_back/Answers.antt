@@ -7,5 +7,5 @@ pub invariant_of-self : goal.invariant_of-self
 invariant_of-self g c =
     let s = c.self.inside in
     let is = c.asked_back.ensures.heard in
-    sound_pass g.M.Media.seen s.leases s.pass s.log s.copies s.begun s.answered s.records c.self.invariant c.asked_back.new.pass
+    sound_pass g.M.Media s.leases s.pass s.log s.copies s.begun s.answered s.records c.self.invariant c.asked_back.new.pass
     (ap (λ (p : PassView). p.table) is) (ap (λ (p : PassView). p.part.place) is) (ap (λ (p : PassView). p.records) is)

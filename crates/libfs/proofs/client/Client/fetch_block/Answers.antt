@@ -8,7 +8,7 @@ pub returns-in-Ok-Some-clause-fetched : goal.returns-in-Ok-Some-clause-fetched
 returns-in-Ok-Some-clause-fetched g c =
     let low : c.args.block < 4294967296 = omega arith in
     let buffer = c.lay_block.new.buffer in
-    put_or_not g.M.Media.seen g.S.Media.seen c.args.kernel.now c.args.self.now c.args.inode c.args.block (take c.in-Ok-Some.len buffer) low
+    put_or_not g.M.Media g.S.Media c.args.kernel.now c.args.self.now c.args.inode c.args.block (take c.in-Ok-Some.len buffer) low
     (λ mark is. ap (λ (o : Option ℕ). option_map (λ n. take n buffer) o) (sym c.in-Ok-Some.field-0-is) ∙ c.in-Ok-Some.ensures.laid mark is)
     c.put_block.result c.put_block.new.self c.put_block.ensures.put c.put_block.ensures.same
 
@@ -17,13 +17,13 @@ returns-in-Ok-Some-clause-there g c =
     let low : c.args.block < 4294967296 = omega arith in
     let buffer = c.lay_block.new.buffer in
     on_ok_weaker c.put_block.result
-    (has_one g.M.Media.seen g.S.Media.seen c.args.kernel.now c.args.self.now c.args.inode c.args.block (take c.in-Ok-Some.len buffer) low
+    (has_one g.M.Media g.S.Media c.args.kernel.now c.args.self.now c.args.inode c.args.block (take c.in-Ok-Some.len buffer) low
     (λ mark is. ap (λ (o : Option ℕ). option_map (λ n. take n buffer) o) (sym c.in-Ok-Some.field-0-is) ∙ c.in-Ok-Some.ensures.laid mark is)
     c.put_block.new.self)
     c.put_block.ensures.put
 
 pub returns-in-Ok-None-clause-fetched : goal.returns-in-Ok-None-clause-fetched
-returns-in-Ok-None-clause-fetched g c = none_came g.M.Media.seen g.S.Media.seen c.args.kernel.now c.args.self.now c.args.inode c.args.self.now c.args.block 1 refl
+returns-in-Ok-None-clause-fetched g c = none_came g.M.Media g.S.Media c.args.kernel.now c.args.self.now c.args.inode c.args.self.now c.args.block 1 refl
 
 pub returns-in-Err-clause-fetched : goal.returns-in-Err-clause-fetched
-returns-in-Err-clause-fetched g c = none_came g.M.Media.seen g.S.Media.seen c.args.kernel.now c.args.self.now c.args.inode c.args.self.now c.args.block 1 refl
+returns-in-Err-clause-fetched g c = none_came g.M.Media g.S.Media c.args.kernel.now c.args.self.now c.args.inode c.args.self.now c.args.block 1 refl

@@ -3,10 +3,10 @@ use Rattle.std.specs.Prelude.{◌&&◌}
 use Rattle.lease_manager.specs.file_graph.Numbers.{is_inode}
 use Rattle.kernel_fs.specs.Inodes.{has}
 use Rattle.kernel_fs.specs.Steps.{take_back}
-use Rattle.kernel_fs.specs.Standing.{IsKernelOf}
+use Rattle.kernel_fs.specs.MachineState.{IsKernelOf}
 use Rattle.lease_manager.specs.Passes.{client_of}
-use Rattle.client_view.specs.Held.{knows}
-use Rattle.libfs.specs.Serving.{HasGivenBack, inodes_granted}
+use Rattle.client_view.specs.KnowledgeTables.{knows}
+use Rattle.libfs.specs.NeedService.{HasGivenBack, inodes_granted}
 use Rattle.libfs.specs.View.{ClientView}
 use Rattle.libfs.proofs.Granted.{given_back}
 use Rattle.libfs.proofs.Kept.{sound_numbers}
@@ -15,11 +15,11 @@ use Rattle.libfs.proofs.client.Client.give_back.Goals as goal
 pub invariant_of-self : goal.invariant_of-self
 invariant_of-self g c =
     let s = c.self.inside in
-    sound_numbers g.M.Media.seen s.leases s.pass s.log s.copies s.begun s.answered s.records c.self.invariant c.put_numbers.new.self c.new.result.items c.put_numbers.ensures
+    sound_numbers g.M.Media s.leases s.pass s.log s.copies s.begun s.answered s.records c.self.invariant c.put_numbers.new.self c.new.result.items c.put_numbers.ensures
 
 pub returns-in-Ok-clause-given : goal.returns-in-Ok-clause-given
 returns-in-Ok-clause-given g c =
-    let shared = g.S.Media.seen in
+    let shared = g.S.Media in
     let s = c.self.inside in
     let k = c.args.kernel.now in
     let v : ClientView _ = record { pass = s.pass; log = s.log; copies = s.copies; pins = s.pins.items; spare = s.spare; begun = s.begun; answered = s.answered; sealed = s.records.away } in

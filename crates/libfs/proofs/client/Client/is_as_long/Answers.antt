@@ -1,8 +1,8 @@
 use Rattle.std.proofs.Common.{◌↔◌, sym, ◌∙◌, subst}
 use Rattle.std.specs.Prelude.{IsTrue, ◌==◌}
-use Rattle.client_view.specs.Put.{IsBlockLong}
+use Rattle.client_view.specs.BlockPut.{IsBlockLong}
 use Rattle.libfs.specs.View.{ClientView}
-use Rattle.libfs.specs.Holding.{known_to}
+use Rattle.libfs.specs.ClientHoldings.{known_to}
 use Rattle.libfs.proofs.Lengths.{as_long}
 use Rattle.libfs.proofs.client.Client.is_as_long.Goals as goal
 

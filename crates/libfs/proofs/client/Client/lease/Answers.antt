@@ -5,4 +5,4 @@ pub invariant_of-self : goal.invariant_of-self
 invariant_of-self g c =
     let s = c.self.inside in
     let k = c.take.ensures.kept in
-    sound_pass g.M.Media.seen s.leases s.pass s.log s.copies s.begun s.answered s.records c.self.invariant c.take.new.pass k.table k.place k.records
+    sound_pass g.M.Media s.leases s.pass s.log s.copies s.begun s.answered s.records c.self.invariant c.take.new.pass k.table k.place k.records

@@ -3,8 +3,8 @@ use Rattle.std.specs.Prelude.{◌+◌, ◌||◌}
 use Rattle.lease_manager.specs.file_graph.Graph.{is_among}
 use Rattle.kernel_fs.specs.Inodes.{has}
 use Rattle.kernel_fs.specs.Steps.{grant}
-use Rattle.kernel_fs.specs.Standing.{IsKernelOf}
-use Rattle.libfs.specs.Serving.{HasRefilled}
+use Rattle.kernel_fs.specs.MachineState.{IsKernelOf}
+use Rattle.libfs.specs.NeedService.{HasRefilled}
 use Rattle.libfs.specs.View.{ClientView}
 use Rattle.libfs.proofs.Granted.{refilled}
 use Rattle.libfs.proofs.Kept.{sound_numbers}
@@ -13,11 +13,11 @@ use Rattle.libfs.proofs.client.Client.refill.Goals as goal
 pub invariant_of-self : goal.invariant_of-self
 invariant_of-self g c =
     let s = c.self.inside in
-    sound_numbers g.M.Media.seen s.leases s.pass s.log s.copies s.begun s.answered s.records c.self.invariant c.put_numbers.new.self c.add_all.new.numbers.items c.put_numbers.ensures
+    sound_numbers g.M.Media s.leases s.pass s.log s.copies s.begun s.answered s.records c.self.invariant c.put_numbers.new.self c.add_all.new.numbers.items c.put_numbers.ensures
 
 pub returns-in-Ok-refill-clause-refilled : goal.returns-in-Ok-refill-clause-refilled
 returns-in-Ok-refill-clause-refilled g c =
-    let shared = g.S.Media.seen in
+    let shared = g.S.Media in
     let s = c.self.inside in
     let k = c.args.kernel.now in
     let more = has c.in-Ok-refill.more in

@@ -1,11 +1,12 @@
 use Rattle.std.proofs.Common.{List, Option, Some, refl, subst, sym}
-use Rattle.file_graph.specs.posix_calls.Content.{resized}
-use Rattle.file_graph.specs.posix_calls.Tree.{Node, File, bytes_of, IsBare}
+use Rattle.file_graph.specs.posix_calls.Content.{with_length}
+use Rattle.file_graph.specs.posix_calls.Tree.{Node, File, bytes_of}
+use Rattle.file_graph.specs.posix_calls.WellFormed.{IsBare}
 use Rattle.plain_tree.specs.Plain.{stored_tree}
 use Rattle.plain_tree.proofs.Tallies.{counted_if}
 use Rattle.plain_tree.proofs.nodes.PlainNodes.resize.Goals as goal
 
 pub invariant_of-self : goal.invariant_of-self
 invariant_of-self c =
-    counted_if c.resize.result c.self.inside.counts.items c.self.inside.nodes.items c.resize.new.nodes.items c.args.inode (Some (File (resized c.args.len (bytes_of (stored_tree c.self.inside.nodes.items c.args.inode))))) c.self.invariant
+    counted_if c.resize.result c.self.inside.counts.items c.self.inside.nodes.items c.resize.new.nodes.items c.args.inode (Some (File (with_length c.args.len (bytes_of (stored_tree c.self.inside.nodes.items c.args.inode))))) c.self.invariant
     (subst (λ (nodes : List (Option Node)). IsBare (stored_tree nodes c.args.inode)) (sym c.self.view_is) c.requires) refl c.resize.ensures.ok c.resize.ensures.err

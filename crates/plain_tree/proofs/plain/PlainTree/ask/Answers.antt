@@ -1,5 +1,6 @@
 use Rattle.std.proofs.Common.{◌≡◌, true, refl, Ok, Err, inl, inr, ap, sym, subst, ◌∙◌, arith}
-use Rattle.file_graph.specs.posix_calls.Query.{run, view_of, whole_part}
+use Rattle.file_graph.specs.posix_calls.Query.{run, view_of}
+use Rattle.file_graph.specs.posix_calls.Part.{whole_part}
 use Rattle.file_graph.specs.posix_calls.Memory.{takes_memory}
 use Rattle.file_graph.specs.posix_calls.Decide.{decide}
 use Rattle.file_graph.specs.posix_calls.Tree.{Own}
@@ -18,7 +19,7 @@ carry_out-requires-clause-doable c =
     let s = state_in c.self.inside.nodes c.self.inside.rows.items in
     let row = row_of c.self.inside.rows.items c.args.client c.index.result.now (omega arith) (omega (arith, c.self.invariant.0, c.if-client-gt-MAX_CLIENTS.false)) c.index.ensures in
     let v = view_of (stored_tree c.args.self.now.nodes) in
-    let comes : run v (decide (own_of c.index.result.now) c.args.call.now) ≡ Ok c.in-Ok.operation = known_of v (decide (own_of c.index.result.now) c.args.call.now) (Ok c.in-Ok.operation) (c.decide.ensures.tells.gives c.in-Ok.operation c.in-Ok.is) in
+    let comes : run v (decide (own_of c.index.result.now) c.args.call.now) ≡ Ok c.in-Ok.operation = known_of v (decide (own_of c.index.result.now) c.args.call.now) (Ok c.in-Ok.operation) (c.decide.ensures.answer.gives c.in-Ok.operation c.in-Ok.is) in
     doable s c.self.invariant.1 c.args.client c.args.call.now c.in-Ok.operation c.in-Ok.ensures.range
     (subst (λ (own : Own). run (view_of s.tree) (decide own c.args.call.now) ≡ Ok c.in-Ok.operation) (sym row)
     (subst (λ (x : Stored). run (view_of (stored_tree x.nodes)) (decide (own_of c.index.result.now) c.args.call.now) ≡ Ok c.in-Ok.operation) (sym c.self.view_is) comes))
@@ -26,12 +27,12 @@ carry_out-requires-clause-doable c =
 pub unreachable-requires : goal.unreachable-requires
 unreachable-requires c =
     nothing_is_missing (view_of (stored_tree c.args.self.now.nodes)) (decide (own_of c.index.result.now) c.args.call.now) c.in-Err-Missing.field-0-0
-    (c.decide.ensures.tells.missing c.in-Err-Missing.field-0-0 (c.in-Err-Missing.is ∙ ap Err c.in-Err-Missing.field-0-is))
+    (c.decide.ensures.answer.missing c.in-Err-Missing.field-0-0 (c.in-Err-Missing.is ∙ ap Err c.in-Err-Missing.field-0-is))
 
 pub returns-in-Ok-clause-exact : goal.returns-in-Ok-clause-exact
 returns-in-Ok-clause-exact c =
     came_of (record { nodes = c.self.inside.nodes; rows = c.self.inside.rows.items }) c.args.self.now c.args.client c.args.call.now c.in-Ok.operation c.carry_out.result (state_in c.carry_out.new.nodes c.carry_out.new.rows.items) c.index.result.now
-    c.self.view_is (omega arith) (omega arith) c.self.invariant.0 c.index.ensures c.self.invariant.1 (c.decide.ensures.tells.gives c.in-Ok.operation c.in-Ok.is) c.carry_out.ensures.done
+    c.self.view_is (omega arith) (omega arith) c.self.invariant.0 c.index.ensures c.self.invariant.1 (c.decide.ensures.answer.gives c.in-Ok.operation c.in-Ok.is) c.carry_out.ensures.done
 
 pub invariant_of-self : goal.invariant_of-self
 invariant_of-self c =
@@ -40,7 +41,7 @@ invariant_of-self c =
       c.carry_out.ensures.kept ∙ c.self.invariant.0,
       sound_after old after c.args.client c.args.call.now c.carry_out.result (subst (λ (s : Stored). IsConsistent (stored_state s)) c.self.view_is c.self.invariant.1)
           (step_of old after c.args.client c.args.call.now c.carry_out.result
-          (came_of (record { nodes = c.self.inside.nodes; rows = c.self.inside.rows.items }) c.args.self.now c.args.client c.args.call.now c.in-Ok.operation c.carry_out.result after c.index.result.now c.self.view_is (omega arith) (omega arith) c.self.invariant.0 c.index.ensures c.self.invariant.1 (c.decide.ensures.tells.gives c.in-Ok.operation c.in-Ok.is) c.carry_out.ensures.done)),
+          (came_of (record { nodes = c.self.inside.nodes; rows = c.self.inside.rows.items }) c.args.self.now c.args.client c.args.call.now c.in-Ok.operation c.carry_out.result after c.index.result.now c.self.view_is (omega arith) (omega arith) c.self.invariant.0 c.index.ensures c.self.invariant.1 (c.decide.ensures.answer.gives c.in-Ok.operation c.in-Ok.is) c.carry_out.ensures.done)),
     )
 
 pub returns-in-Ok-clause-step : goal.returns-in-Ok-clause-step
@@ -56,7 +57,7 @@ returns-in-Err-Refused-clause-exact c =
     let row = ap (λ (s : Stored). held_of s.rows c.args.client) (sym c.self.view_is) ∙ row_of c.self.inside.rows.items c.args.client c.index.result.now (omega arith) (omega (arith, c.self.invariant.0, c.if-client-gt-MAX_CLIENTS.false)) c.index.ensures in
     let why : c.decide.result ≡ Err (Refused c.in-Err-Refused.errno) = c.in-Err-Refused.is ∙ ap Err c.in-Err-Refused.field-0-is in
     inl (refused_of c.args.self.now c.args.client c.args.call.now c.in-Err-Refused.errno
-    (answer_is c.args.self.now c.args.client c.args.call.now c.index.result.now (Err c.in-Err-Refused.errno) (among c.args.client (omega arith) (omega (arith, c.if-client-gt-MAX_CLIENTS.false))) row (c.decide.ensures.tells.refuses c.in-Err-Refused.errno why)))
+    (answer_is c.args.self.now c.args.client c.args.call.now c.index.result.now (Err c.in-Err-Refused.errno) (among c.args.client (omega arith) (omega (arith, c.if-client-gt-MAX_CLIENTS.false))) row (c.decide.ensures.answer.refuses c.in-Err-Refused.errno why)))
 
 pub returns-in-Err-Refused-clause-step : goal.returns-in-Err-Refused-clause-step
 returns-in-Err-Refused-clause-step c = step_of (stored_state c.args.self.now) _ c.args.client c.args.call.now _ (returns-in-Err-Refused-clause-exact c)

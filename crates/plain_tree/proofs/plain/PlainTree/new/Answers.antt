@@ -1,5 +1,5 @@
 use Rattle.std.proofs.Common.{◌≡◌, sym, subst}
-use Rattle.file_graph.specs.posix_calls.Tree.{opening}
+use Rattle.file_graph.specs.posix_calls.EmptyTree.{empty_state}
 use Rattle.plain_tree.specs.Plain.{state_in, IsConsistent}
 use Rattle.plain_tree.proofs.Carried.{same_state}
 use Rattle.file_graph.proofs.posix_calls_lemmas.Settled.{opening_fine}
@@ -8,7 +8,7 @@ use Rattle.plain_tree.proofs.plain.PlainTree.new.Goals as goal
 
 pub invariant_of-result : goal.invariant_of-result
 invariant_of-result c =
-    let is : state_in c.in_ok-nodes.nodes c.in_ok-rows.rows.items ≡ opening = same_state _ _ _ _ c.in_ok-nodes.ensures c.in_ok-rows.ensures.none in
+    let is : state_in c.in_ok-nodes.nodes c.in_ok-rows.rows.items ≡ empty_state = same_state _ _ _ _ c.in_ok-nodes.ensures c.in_ok-rows.ensures.none in
     (c.in_ok-rows.ensures.all, subst IsConsistent (sym is) (opening_fine, opening_within))
 
 pub returns : goal.returns

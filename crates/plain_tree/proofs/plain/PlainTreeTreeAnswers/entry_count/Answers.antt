@@ -1,7 +1,7 @@
 use Rattle.std.proofs.Common.{◌≡◌, Option, Some, None, ap, sym, ◌∙◌}
 use Rattle.std.specs.Prelude.{option_map}
 use Rattle.file_graph.specs.posix_calls.Tree.{Node, names_of}
-use Rattle.file_graph.specs.posix_calls.Query.{seen}
+use Rattle.file_graph.specs.posix_calls.Query.{seen_node}
 use Rattle.file_graph.specs.posix_calls.Answers.{count_in}
 use Rattle.plain_tree.specs.Plain.{Stored, stored_tree}
 use Rattle.plain_tree.proofs.Answering.{nothing_past, count_nothing}
@@ -11,4 +11,4 @@ pub returns-in-None : goal.returns-in-None
 returns-in-None c =
     let past : stored_tree c.args.self.now.nodes c.args.dir ≡ None = nothing_past c.as_slice.result.now c.args.self.now.nodes c.args.dir (c.as_slice.ensures ∙ ap (λ (s : Stored). s.nodes) c.self.view_is) c.in-None.ensures.lookup.0 in
     ap Some (sym (count_nothing))
-    ∙ sym (ap (λ (o : Option Node). Some (count_in (option_map (seen (names_of (stored_tree c.args.self.now.nodes) c.args.dir)) o))) past)
+    ∙ sym (ap (λ (o : Option Node). Some (count_in (option_map (seen_node (names_of (stored_tree c.args.self.now.nodes) c.args.dir)) o))) past)

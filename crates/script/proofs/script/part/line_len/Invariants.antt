@@ -1,5 +1,5 @@
 use Rattle.std.proofs.Common.{◌-◌, ◌≤◌, length, take}
-use Rattle.script.specs.Reading.{IsWithinLine}
+use Rattle.script.specs.LineReads.{IsWithinLine}
 use Rattle.script.proofs.script.part.line_len.Given as goal
 
 -- no newline was passed

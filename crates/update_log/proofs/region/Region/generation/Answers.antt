@@ -1,7 +1,7 @@
 use Rattle.std.proofs.Common.{◌≡◌, ◌∙◌, sym, ap}
 use Rattle.tier_device.specs.declared.media.Tier.TheVariants.{Fast}
 use Rattle.update_log.specs.View.{RegionView, header_of}
-use Rattle.update_log.specs.Wiping.{generation}
+use Rattle.update_log.specs.WipeStops.{generation}
 use Rattle.update_log.proofs.Counts.{header_tells}
 use Rattle.update_log.proofs.Moves.{stands_of}
 use Rattle.update_log.proofs.Options.{if_ok_weaker}
@@ -18,7 +18,7 @@ returns-clause-named g c =
     let m = g.M.Media in
     let s = c.self.inside in
     let seen = m.seen s.media Fast in
-    let same : generation seen ≡ generation (header_of m.seen c.args.self.now) =
+    let same : generation seen ≡ generation (header_of m c.args.self.now) =
     sym (header_tells seen) ∙ ap generation (sym (header_front s.end seen (stands_of s.end s.stage s.body seen (λ d. m.left s.media (m.moment s.media) Fast d) c.self.invariant)))
-    ∙ ap (λ (v : RegionView _). generation (header_of m.seen v)) c.self.view_is in
+    ∙ ap (λ (v : RegionView _). generation (header_of m v)) c.self.view_is in
     if_ok_weaker c.read_generation.result _ _ (λ x e. e ∙ same) c.read_generation.ensures.named

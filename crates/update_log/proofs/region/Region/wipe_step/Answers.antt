@@ -1,11 +1,11 @@
 use Rattle.std.proofs.Common.{◌≡◌, ◌∙◌, List, ℕ, take, get_or, sym, ap, subst, arith}
 use Rattle.std.proofs.lemmas.List.{take-take}
 use Rattle.tier_device.specs.declared.media.Tier.TheVariants.{Fast}
-use Rattle.tier_device.specs.Media.{LeftSince}
+use Rattle.tier_device.specs.AfterStop.{LeftSince}
 use Rattle.update_log.specs.Frames.{header}
 use Rattle.update_log.specs.View.{RegionView, header_of}
 use Rattle.update_log.specs.Wipe.{CanWipe, LeftInCall, wipe_next, header_wiped}
-use Rattle.update_log.specs.Wiping.{records_behind_gate}
+use Rattle.update_log.specs.WipeStops.{records_behind_gate}
 use Rattle.update_log.proofs.Moves.{stands_of}
 use Rattle.update_log.proofs.Views.{header_front}
 use Rattle.update_log.proofs.WipeViews.{may_wipe, wiped_fits, none_before}
@@ -36,7 +36,7 @@ returns-in-Ok-clause-any_moment g c =
     let seen = m.seen s.media Fast in
     let new = c.wipe_call.new.media in
     let same = header_front s.end seen (stands_of s.end s.stage s.body seen (λ d. m.left s.media (m.moment s.media) Fast d) c.self.invariant) in
-    subst (λ (v : RegionView _). (e : List ℕ) → LeftSince (m.left new) (m.moment new) (m.moment v.media) Fast e → LeftInCall (wipe_next v.stage (get_or (m.seen v.media Fast) 16 0)) (header_of m.seen v) (records_behind_gate (m.seen v.media Fast)) e)
+    subst (λ (v : RegionView _). (e : List ℕ) → LeftSince (m.left new) (m.moment new) (m.moment v.media) Fast e → LeftInCall (wipe_next v.stage (get_or (m.seen v.media Fast) 16 0)) (header_of m v) (records_behind_gate (m.seen v.media Fast)) e)
     c.self.view_is (λ e l. subst (λ (h : List ℕ). LeftInCall (wipe_next s.stage (get_or seen 16 0)) h (records_behind_gate seen) e) (sym same) (c.wipe_call.ensures.any_moment e l))
 
 pub returns-in-Err-clause-any_moment : goal.returns-in-Err-clause-any_moment
@@ -46,7 +46,7 @@ returns-in-Err-clause-any_moment g c =
     let seen = m.seen s.media Fast in
     let new = c.wipe_call.new.media in
     let same = header_front s.end seen (stands_of s.end s.stage s.body seen (λ d. m.left s.media (m.moment s.media) Fast d) c.self.invariant) in
-    subst (λ (v : RegionView _). (e : List ℕ) → LeftSince (m.left new) (m.moment new) (m.moment v.media) Fast e → LeftInCall (wipe_next v.stage (get_or (m.seen v.media Fast) 16 0)) (header_of m.seen v) (records_behind_gate (m.seen v.media Fast)) e)
+    subst (λ (v : RegionView _). (e : List ℕ) → LeftSince (m.left new) (m.moment new) (m.moment v.media) Fast e → LeftInCall (wipe_next v.stage (get_or (m.seen v.media Fast) 16 0)) (header_of m v) (records_behind_gate (m.seen v.media Fast)) e)
     c.self.view_is (λ e l. subst (λ (h : List ℕ). LeftInCall (wipe_next s.stage (get_or seen 16 0)) h (records_behind_gate seen) e) (sym same) (c.wipe_call.ensures.any_moment e l))
 
 pub returns-in-Ok-clause-header : goal.returns-in-Ok-clause-header
@@ -56,7 +56,7 @@ returns-in-Ok-clause-header g c =
     let seen = m.seen s.media Fast in
     let seen' = m.seen c.wipe_call.new.media Fast in
     let same = header_front s.end seen (stands_of s.end s.stage s.body seen (λ d. m.left s.media (m.moment s.media) Fast d) c.self.invariant) in
-    subst (λ (v : RegionView _). header (take 16 seen') ≡ header_wiped c.in-Ok.to c.args.generation (header_of m.seen v)) c.self.view_is
+    subst (λ (v : RegionView _). header (take 16 seen') ≡ header_wiped c.in-Ok.to c.args.generation (header_of m v)) c.self.view_is
     (take-take 16 16 seen' (omega arith) ∙ c.in-Ok.ensures.header ∙ ap (header_wiped c.in-Ok.to c.args.generation) (sym same))
 
 pub returns-in-Ok-clause-none : goal.returns-in-Ok-clause-none

@@ -1,6 +1,6 @@
 use Rattle.std.proofs.Common.{◌≡◌, ◌≤◌, vec_len}
 use Rattle.std.specs.Io.KnownBytes.{Consumes}
-use Rattle.script.specs.Reading.{number_after, IsWithinLine}
+use Rattle.script.specs.LineReads.{number_after, IsWithinLine}
 use Rattle.script.specs.declared.script.part.TheConstants.{MAX_LINE}
 use Rattle.script.proofs.script.reader.ScriptLines.read_next.Given as goal
 

@@ -1,0 +1,22 @@
+use Rattle.std.proofs.Common.{◌≡◌, ℕ, true, sym, subst}
+use Rattle.area_image.specs.graph_change.Change.{Change, net_of}
+use Rattle.area_image.specs.layout.declared.slot.Slot.{Slot}
+use Rattle.area_image.specs.layout.Places.{Sizes, IsAllowed, is_inode}
+use Rattle.area_image.specs.tree_blocks.After.{start_node, IsInodeAfter}
+use Rattle.area_image.specs.tree_blocks.InodeRewrite.{IsFileRewritten}
+use Rattle.area_image.specs.extent_tree.Map.{TierRuns}
+use Rattle.area_image.specs.Store.{Store, inode}
+use Rattle.area_commit.specs.InodeRewrite.{IsWritten, IsFit}
+use Rattle.area_commit.specs.InodeChange.{IsFileWritten}
+use Rattle.area_commit.proofs.ChangedNodes.{file_rewritten}
+use Rattle.area_commit.proofs.change_laws.written_file_is_rewritten.Goals as goal
+
+pub returns : goal.returns
+returns c =
+    let rewritten : (g : Sizes) (d : Change) (old new : Store) (i : ℕ) (x : Slot) (m : TierRuns) → IsAllowed g → is_inode i ≡ true → IsFit g x m → IsWritten new i x m → IsFileWritten g d old new i x m → IsFileRewritten d (start_node d.base (inode g old i)) (inode g new i) = λ g d old new i x m allowed number fit written changed. subst (IsFileRewritten d (start_node d.base (inode g old i))) (sym (c.written_inode_is_read.ensures.inodes g new i x m allowed number fit written)) (file_rewritten g d old new i x m changed) in
+    record {
+      rewritten = rewritten;
+      after = λ g d old new i x m allowed number fit written changed tidy consistent.
+          let is : IsInodeAfter i (net_of d) (inode g old i) (inode g new i) = c.rewritten_inode_is_inode_after.ensures.file i d (inode g old i) (inode g new i) tidy consistent (rewritten g d old new i x m allowed number fit written changed) in
+          (is, (c.inode_after_is_node_after.ensures i (net_of d) (inode g old i) (inode g new i) consistent is).1);
+    }

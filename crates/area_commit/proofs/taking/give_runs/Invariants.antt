@@ -1,8 +1,0 @@
-use Rattle.std.proofs.Common.{length, ◌-◌}
-use Rattle.area_image.specs.block_alloc.Value.{InOrder}
-use Rattle.area_commit.proofs.Fronts.{Ready}
-use Rattle.area_commit.proofs.taking.give_runs.Given as goal
-
--- the last runs stand before the free blocks again
-abbrev pub invariant-runs : goal.invariant-runs
-invariant-runs l = record { ready : Ready l.fn.pool l.pool l.runs (length l.runs - l.place); ordered : InOrder l.pool }

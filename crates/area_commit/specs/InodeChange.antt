@@ -1,0 +1,62 @@
+-- An inode that is written anew for a change of it.
+use Rattle.std.specs.Prelude.{◌≡◌, ◌<◌, true, false, ℕ, Option, Some, None}
+use Rattle.area_image.specs.tier_device.declared.media.Tier.{Tier}
+use Rattle.area_image.specs.tier_device.declared.media.Tier.TheVariants as tiers
+use Rattle.area_image.specs.file_graph.declared.effect.Kind.TheVariants as kind
+use Rattle.area_image.specs.graph_change.Bytes.{length_after}
+use Rattle.area_image.specs.graph_change.Net.{Base, Kept, Made, Gone, names_after}
+use Rattle.area_image.specs.graph_change.Change.{Change, patch_at, writes_block}
+use Rattle.area_image.specs.layout.declared.slot.Slot.{Slot}
+use Rattle.area_image.specs.layout.declared.slot.Slot.TheVariants as slots
+use Rattle.area_image.specs.layout.Places.{Sizes}
+use Rattle.area_image.specs.tree_blocks.Inode.{blocks_for}
+use Rattle.area_image.specs.tree_blocks.After.{start_node, IsDirectoryAfter}
+use Rattle.area_image.specs.tree_blocks.Directory.{EntryBlocks, numbered_blocks}
+use Rattle.area_image.specs.tree_blocks.FileBlock.{ReadsAfter, is_cut_off}
+use Rattle.area_image.specs.tree_blocks.InodeRewrite.{AreHeldOf}
+use Rattle.area_image.specs.extent_tree.Map.{TierRuns, lies_at}
+use Rattle.area_image.specs.Store.{Store, touch_of, root_of, place, inode}
+use Rattle.area_commit.specs.InodeRewrite.{logical_by}
+
+-- ---- a file
+
+-- The slot is that of a file of so many names and bytes.
+abbrev pub IsFileSlot : ℕ → ℕ → Slot → Type 0
+IsFileSlot names size x = x ≡ slots.File names size (touch_of x) (root_of x tiers.Fast) (root_of x tiers.Block) (root_of x tiers.Slow)
+
+-- where a block of it lies, that the change starts from: what is made anew has none
+abbrev pub place_from : Base → Option ℕ → Option ℕ
+place_from Kept p = p
+place_from (Made kind) p = None
+place_from Gone p = None
+
+-- Each logical block that the change writes reads as it makes it; one that is cut off lies nowhere; each other one lies where it lay, in a block that is the same.
+pub record LieAsChanged (g : Sizes) (c : Change) (old new : Store) (i : ℕ) (m : TierRuns) : Type 0 where
+  pub written : (k : ℕ) → writes_block c k ≡ true → ReadsAfter c.length (patch_at c.patches k) k ((start_node c.base (inode g old i)).blocks k) (logical_by new m k)
+  pub gone : (t : Tier) (k : ℕ) → writes_block c k ≡ false → is_cut_off c.length k ≡ true → lies_at m t k ≡ None
+  pub others : (t : Tier) (k : ℕ) → writes_block c k ≡ false → is_cut_off c.length k ≡ false → lies_at m t k ≡ place_from c.base (place g old i t k)
+  pub same : (t : Tier) (k p : ℕ) → writes_block c k ≡ false → lies_at m t k ≡ Some p → new t p ≡ old t p
+
+-- Inode i, a file that was there or is made, is written for a change of it.
+pub record IsFileWritten (g : Sizes) (c : Change) (old new : Store) (i : ℕ) (x : Slot) (m : TierRuns) : Type 0 where
+  pub is_file : (start_node c.base (inode g old i)).kind ≡ Some kind.File
+  pub slot_is : IsFileSlot (names_after c.names (start_node c.base (inode g old i)).names) (length_after c.length (start_node c.base (inode g old i)).size) x
+  pub blocks : LieAsChanged g c old new i m
+
+-- ---- a directory
+
+-- The slot is that of a directory of so many names and entries.
+abbrev pub IsDirectorySlot : ℕ → ℕ → Slot → Type 0
+IsDirectorySlot names entries x = x ≡ slots.Directory names entries (touch_of x) (root_of x tiers.Fast)
+
+-- Each block of a directory in memory lies on the fast tier.
+abbrev pub LiesHeld : Store → TierRuns → EntryBlocks → Type 0
+LiesHeld s m d = (k : ℕ) → k < blocks_for d.count → (p : ℕ) × (lies_at m tiers.Fast k ≡ Some p) × (s tiers.Fast p ≡ numbered_blocks d.blocks k)
+
+-- Inode i, a directory that was there or is made, is written for a change of it, from its blocks in memory before and after.
+pub record IsDirectoryWritten (g : Sizes) (c : Change) (before after : EntryBlocks) (old new : Store) (i : ℕ) (x : Slot) (m : TierRuns) : Type 0 where
+  pub is_directory : (start_node c.base (inode g old i)).kind ≡ Some kind.Directory
+  pub slot_is : IsDirectorySlot (names_after c.names (start_node c.base (inode g old i)).names) after.count x
+  pub read : AreHeldOf before (start_node c.base (inode g old i))
+  pub changed : IsDirectoryAfter i c.entries before.count (numbered_blocks before.blocks) after.count (numbered_blocks after.blocks)
+  pub blocks : LiesHeld new m after

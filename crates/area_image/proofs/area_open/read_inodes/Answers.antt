@@ -1,0 +1,25 @@
+use Rattle.std.proofs.Common.{ap, arith}
+use Rattle.batch_journal.specs.tier_device.declared.media.Tier.TheVariants.{Fast}
+use Rattle.batch_journal.specs.layout.Places.{Sizes}
+use Rattle.area_image.proofs.Damages.{is_some_at}
+use Rattle.area_image.proofs.area_open.read_inodes.Goals as goal
+
+pub returns-clause-openable : goal.returns-clause-openable
+returns-clause-openable g c =
+    let old = c.args.journal.now in
+    let seen = g.M.Media.seen old.media Fast in
+    record {
+      spelled = record {
+        superblock = (c.left_now.ensures.journal c.requires.going seen (g.met.M.Media.seen_now old.media Fast)).superblock;
+        marks = is_some_at _ c.args.marks c.requires.marks;
+        inodes = c.in-Ok-read_area.ensures.inodes;
+        apart = c.in-Ok-read_area.ensures.apart;
+      };
+      units = (
+          let over = c.if-units-charge.false in
+          let told = c.units.ensures.units in
+          let same = ap (λ (x : Sizes). x.units) c.geometry-geometry.ensures in
+          let here = c.in-Ok-read_area.ensures.units in
+          omega (arith, over, told, same, here)
+          );
+    }

@@ -1,0 +1,90 @@
+-- A call, from its start to its answer.
+use Rattle.std.specs.Prelude.{◌≡◌, ◌≢◌, ◌⊎◌, ℕ, zero, suc, Bool, true, false, Option, Result, Ok, Err}
+use Rattle.event_steps.specs.posix_calls.declared.call.Call.{Call}
+use Rattle.event_steps.specs.client_plan.declared.need.Need.{Need}
+use Rattle.event_steps.specs.lease_manager.declared.view.LeaseMode.{LeaseMode}
+use Rattle.event_steps.specs.libfs.declared.denial.Denied.{Denied}
+use Rattle.event_steps.specs.declared.event.Event.{Event}
+use Rattle.event_steps.specs.declared.event.Event.TheVariants as event
+use Rattle.event_steps.specs.declared.outcome.Outcome.{Outcome}
+use Rattle.event_steps.specs.declared.outcome.Outcome.TheVariants as outcome
+use Rattle.call_driver.specs.Needs.{IsServed}
+use Rattle.call_driver.specs.EventOwner.{after_deny, after_start, after_step}
+use Rattle.call_driver.specs.declared.call_result.CallResult.{CallResult}
+use Rattle.call_driver.specs.declared.call_result.CallResult.TheVariants as served
+use Rattle.call_driver.specs.declared.needs.NeedResult.{NeedResult}
+use Rattle.call_driver.specs.declared.needs.NeedResult.TheVariants as turns
+use Rattle.call_driver.specs.declared.calls.TheConstants.{STEPS, TURNS}
+use Rattle.call_driver.specs.declared.events.Events.{Ghosts}
+
+-- how a call ends that takes no further step
+abbrev pub IsLastStep : Outcome → CallResult → Type 0
+IsLastStep (outcome.Reply reply) x = x ≡ served.Reply reply
+IsLastStep outcome.Stepped x = ⊥
+IsLastStep outcome.Pending x = x ≡ served.Blocked
+IsLastStep (outcome.Need need) x = x ≡ served.Blocked
+IsLastStep (outcome.Refused refusal) x = x ≡ served.Blocked
+IsLastStep outcome.Idle x = x ≡ served.Blocked
+
+-- how one ends that is not started again, by what came of the last need
+abbrev pub IsEndedBy : NeedResult → Result CallResult Denied → Type 0
+IsEndedBy turns.Again r = ⊥
+IsEndedBy turns.Blocked r = r ≡ Ok served.Blocked
+IsEndedBy turns.NoMemory r = r ≡ Ok served.NoMemory
+IsEndedBy (turns.Denied why) r = r ≡ Err why
+
+module _ {S : Type 0} (plays : S → Event → Outcome → S → Type 0) where
+  -- one device call of a call that waits was made; none where none waits
+  abbrev pub IsStepOf : ℕ → Option CallResult → S → S → Type 0
+  IsStepOf client x s t = (o : Outcome) × plays s (event.Step client) o t × (x ≡ after_step o)
+
+  -- so many device calls were made for the call that a client has begun, and none answered it
+  abbrev pub GoesOn : ℕ → ℕ → S → S → Type 0
+  GoesOn client zero s t = t ≡ s
+  GoesOn client (suc n) s t = (u : S) × GoesOn client n s u × plays u (event.Step client) outcome.Stepped t
+
+  -- The call that a client has begun was carried on, to its answer.
+  pub record IsCarriedOn (client : ℕ) (x : CallResult) (s t : S) : Type 0 where
+    pub count : ℕ
+    pub last : S
+    pub steps : GoesOn client count s last
+    pub end : ((count ≡ STEPS) × (x ≡ served.Pending) × (t ≡ last)) ⊎ ((o : Outcome) × plays last (event.Step client) o t × IsLastStep o x)
+
+module _ {S : Type 0} (system : Ghosts S) where
+  -- A call was started so many times, lacked something each time, and got it.
+  abbrev pub Turns : Bool → ℕ → Call → ℕ → S → S → Type 0
+  Turns hands client call zero s t = t ≡ s
+  Turns hands client call (suc n) s t = (u : S) × (v : S) × (need : Need) × Turns hands client call n s u × system.plays u (event.Start client call) (outcome.Need need) v × IsServed system hands client need turns.Again v t
+
+  -- the last start told this
+  abbrev pub IsReadyAtOnce : ℕ → Call → Result CallResult Denied → S → S → Type 0
+  IsReadyAtOnce client call r s t = (x : CallResult) × (o : Outcome) × system.plays s (event.Start client call) o t × (after_start o ≡ Ok x) × (r ≡ Ok x)
+
+  -- what it lacked was not to be had
+  abbrev pub IsEndedByNeed : Bool → ℕ → Call → Result CallResult Denied → S → S → Type 0
+  IsEndedByNeed hands client call r s t = (need : Need) × (u : S) × (turn : NeedResult) × system.plays s (event.Start client call) (outcome.Need need) u × IsServed system hands client need turn u t × IsEndedBy turn r
+
+  -- A call was started until it lacked nothing, or what it lacked was not to be had, or so many times in vain as no call has needs.
+  pub record IsReadyCall (hands : Bool) (client : ℕ) (call : Call) (r : Result CallResult Denied) (s t : S) : Type 0 where
+    pub count : ℕ
+    pub last : S
+    pub turns : Turns hands client call count s last
+    pub end : ((count ≡ TURNS) × (r ≡ Ok served.Blocked) × (t ≡ last)) ⊎ (IsReadyAtOnce client call r last t ⊎ IsEndedByNeed hands client call r last t)
+
+  -- what the kernel refused it is told by a denial
+  pub record IsDenied (hands : Bool) (client : ℕ) (call : Call) (x : CallResult) (s t : S) : Type 0 where
+    pub why : Denied
+    pub last : S
+    pub refused : IsReadyCall hands client call (Err why) s last
+    pub came : Outcome
+    pub denied : system.plays last (event.Deny client call why) came t
+    pub told : x ≡ after_deny came
+
+  -- A call of a client that has one which waits is blocked, and no event is played; any other is started, and given up where the kernel refuses what it needs.
+  abbrev pub IsBegunCall : Bool → ℕ → Call → CallResult → S → S → Type 0
+  IsBegunCall hands client call x s t = ((system.pending s client ≡ true) × (x ≡ served.Blocked) × (t ≡ s))
+      ⊎ ((system.pending s client ≡ false) × (IsReadyCall hands client call (Ok x) s t ⊎ IsDenied hands client call x s t))
+
+  -- So it is, and then carried on, if its record is begun.
+  abbrev pub IsServedCall : Bool → ℕ → Call → CallResult → S → S → Type 0
+  IsServedCall hands client call x s t = ((x ≢ served.Pending) × IsBegunCall hands client call x s t) ⊎ ((u : S) × IsBegunCall hands client call served.Pending s u × IsCarriedOn system.plays client x u t)

@@ -1,0 +1,14 @@
+use inode_plan::{ChangedSlot, FreedBlocks, NodeImages};
+
+/// The plans of the inodes of a change that are made so far, one behind the other.
+#[derive(Debug, Drop)]
+pub struct PartialPlan {
+    /// The new slots, by rising inodes.
+    pub slots: Vec<ChangedSlot>,
+    /// Images of blocks of the node pool.
+    pub nodes: NodeImages,
+    /// 4,096 bytes for each data block that is written, in the order of their places.
+    pub bytes: Vec<u8>,
+    /// The blocks that the inodes had, and use no more.
+    pub lost: FreedBlocks,
+}

@@ -1,5 +1,0 @@
-use Rattle.std.proofs.Common.{length}
-use Rattle.client_plan.proofs.planning.+hold_all.Given as goal
-
-abbrev pub decreases-hold_all : goal.decreases-hold_all
-decreases-hold_all g l = length l.inodes.now

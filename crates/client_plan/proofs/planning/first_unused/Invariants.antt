@@ -1,7 +1,0 @@
-use Rattle.std.proofs.Common.{◌≡◌, drop}
-use Rattle.call_effects.specs.posix_calls.Own.{own_of}
-use Rattle.client_plan.specs.Holdings.{first_unused}
-use Rattle.client_plan.proofs.planning.first_unused.Given as goal
-
-abbrev pub invariant-loop-inode : goal.invariant-loop-inode
-invariant-loop-inode l = first_unused (own_of l.own) (drop l.inode-index l.pins) ≡ first_unused (own_of l.own) l.pins

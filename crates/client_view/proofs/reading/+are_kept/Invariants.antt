@@ -1,5 +1,0 @@
-use Rattle.client_view.proofs.reading.+are_kept.Given as goal
-
--- proposed from what the function passes where it calls itself
-abbrev pub decreases-are_kept : goal.decreases-are_kept
-decreases-are_kept l = l.count

@@ -1,5 +1,0 @@
-use Rattle.client_view.proofs.reading.+join.Given as goal
-
--- proposed from what the function passes where it calls itself
-abbrev pub decreases-join : goal.decreases-join
-decreases-join l = l.count

@@ -1,0 +1,21 @@
+-- What a client knows once it has forgotten some of it, used a number, or opened or closed a file.
+use Rattle.std.specs.Prelude.{ℕ, ◌==◌, ◌&&◌, not, Option, None, if◌then◌else◌}
+use Rattle.client_plan.specs.posix_calls.Tree.{set_own}
+use Rattle.client_plan.specs.posix_calls.declared.descriptor.Descriptor.{Descriptor}
+use Rattle.world_invariant.specs.call_effects.Knowledge.{Knowledge}
+
+-- no block of an inode
+abbrev pub without_blocks : Knowledge → ℕ → Knowledge
+without_blocks k i = record k { blocks = λ j b. if j == i then None else k.blocks j b }
+
+-- no copy of an inode, and no block of it
+abbrev pub without_inode : Knowledge → ℕ → Knowledge
+without_inode k i = record k { copies = λ j. if j == i then None else k.copies j; blocks = λ j b. if j == i then None else k.blocks j b }
+
+-- one number is granted no longer
+abbrev pub without_granted : Knowledge → ℕ → Knowledge
+without_granted k n = record k { granted = λ j. k.granted j && not (j == n) }
+
+-- something is open at a number, or nothing any more
+abbrev pub with_descriptor : Knowledge → ℕ → Option Descriptor → Knowledge
+with_descriptor k number what = record k { own = set_own k.own number what }

@@ -1,0 +1,189 @@
+ghost use Rattle.std.specs.Prelude.{◌≡◌, [], ◌∷◌, ◌++◌, ◌+◌, ◌^◌, ◌<◌, ◌≤◌, true, false, IfOk, OnErr, OnOk, option_map, take, drop, length};
+ghost use Rattle.std.specs.List.{AllByRecursion};
+ghost use Rattle.std.specs.Option.{ForSome};
+ghost use Rattle.client_plan.specs.posix_calls.declared.limits.TheConstants.{UNIT_BYTES};
+ghost use Rattle.client_plan.specs.log_record.Grammar.{IsRecord};
+ghost use Rattle.client_view.specs.After.{block_laid, enter_at, node_laid};
+ghost use Rattle.client_view.specs.RecordLists.{IsEmptied, beyond};
+
+use crate::blocks::block_after;
+use crate::nodes::node_after;
+use client_plan::{Effect, Effects, Record};
+use record_validation::NodeSummary;
+use std::alloc::{AllocError, Global};
+use std::marker::Model;
+use std::mem;
+
+/// The records of a client that may not be digested yet, kept in memory: those of the region that it handed over and can't read meanwhile, and those of the region that it writes.
+#[derive(Drop)]
+pub struct OwnRecords {
+    alloc: Global,
+    away: Vec<Record>,
+    current: Vec<Record>,
+    // records that were digested last: their lists of effects are empty, and keep their memory for the records to come
+    emptied: Vec<Record>,
+}
+
+impl Model for OwnRecords {
+    ghost use Rattle.std.specs.Prelude.{nat_lt, length, vec_capacity};
+    ghost use Rattle.std.specs.List.{AllByRecursion};
+    ghost use Rattle.client_plan.specs.log_record.Grammar.{IsRecord};
+    ghost use Rattle.client_view.specs.RecordLists.{IsEmptied, Kept};
+
+    ghost Value = { Kept };
+
+    ghost view = { λ o. record { away = o.away.items; current = o.current.items; has_room = nat_lt (length o.current.items) (vec_capacity o.current) } };
+
+    ghost invariant = { λ o. AllByRecursion IsRecord o.away.items × AllByRecursion IsRecord o.current.items × AllByRecursion IsEmptied o.emptied.items };
+}
+
+impl OwnRecords {
+    /// No records.
+    pub fn new(alloc: Global) -> Self
+        ensures away { result.away ≡ [] }
+        ensures current { result.current ≡ [] }
+    {
+        OwnRecords {
+            alloc,
+            away: Vec::new(alloc),
+            current: Vec::new(alloc),
+            emptied: Vec::new(alloc),
+        }
+    }
+
+    /// The records of the region that was handed over, until it is back.
+    pub fn sealed_records(&self) -> &[Record]
+        ensures list { result.now ≡ self.now.away }
+        ensures spelled { AllByRecursion IsRecord result.now }
+    {
+        &self.away
+    }
+
+    /// The records of the region that is written.
+    pub fn current(&self) -> &[Record]
+        ensures list { result.now ≡ self.now.current }
+        ensures spelled { AllByRecursion IsRecord result.now }
+    {
+        &self.current
+    }
+
+    /// Takes the memory for one record more of the region that is written, before it is begun. No memory is asked for where there is room already. With one more the records of both regions are still fewer
+    /// than 2⁶⁴.
+    pub fn make_room(&mut self) -> Result<(), AllocError>
+        ensures room { OnOk result (self.new.has_room ≡ true) }
+        ensures rest { self.new ≡ record self.old { has_room = self.new.has_room } }
+        ensures refused { OnErr result (self.old.has_room ≡ false) }
+        ensures few { length self.old.away + length self.old.current + 1 < 2 ^ 64 }
+    {
+        self.current.reserve(1)
+    }
+
+    /// A record is in the client's log. It takes no memory.
+    pub fn push(&mut self, logged: Record)
+        requires room { self.old.has_room ≡ true }
+        requires spelled { IsRecord logged }
+        ensures pushed { self.new.current ≡ self.old.current ++ logged ∷ [] }
+        ensures rest { self.new.away ≡ self.old.away }
+    {
+        match self.current.push(logged) {
+            Ok(()) => {}
+            Err(_) => unreachable!(),
+        }
+    }
+
+    /// The region that is written is handed over, and the client goes on in the other one, of which all records are digested. It takes no memory.
+    pub fn seal(&mut self)
+        ensures away { self.new.away ≡ self.old.current }
+        ensures current { self.new.current ≡ [] }
+    {
+        mem::swap(&mut self.away, &mut self.current);
+        self.current.clear();
+    }
+
+    /// The region that was handed over is back, and all its records are digested. Their lists of effects are kept, emptied, and those that were kept before are freed. It takes
+    /// no memory.
+    pub fn take_back(&mut self)
+        ensures { self.new ≡ record self.old { away = [] } }
+    {
+        mem::swap(&mut self.emptied, &mut self.away);
+        self.away.clear();
+        empty_lists(self.alloc, &mut self.emptied);
+    }
+
+    /// An empty list for the effects of a record: one that is kept of a digested record, or a new one with room for one effect, for which alone memory is asked for.
+    pub fn effect_list(&mut self) -> Result<Vec<Effect>, AllocError>
+        ensures empty { IfOk result (λ list. list.items ≡ []) }
+        ensures rest { self.new ≡ self.old }
+    {
+        match self.emptied.pop() {
+            Some(entry) => Ok(entry.effects.into_vec()),
+            None => Vec::with_capacity(self.alloc, 1),
+        }
+    }
+
+    /// What stands at an inode after the records behind a mark, given what stood there at the mark: whether that is in the generation of the region that is written, or in the one before, and how many
+    /// records of that one are digested. Memory is asked for to enter a name, and for nothing else.
+    pub fn node_after(
+        &self,
+        is_current: bool,
+        done: usize,
+        inode: u32,
+        node: Option<NodeSummary>,
+    ) -> Result<Option<NodeSummary>, AllocError>
+        ensures laid { IfOk result (λ after. after ≡ node_laid (beyond self.now is_current done) inode node) }
+        ensures memory { OnErr result (enter_at inode (beyond self.now is_current done) ≡ true) }
+    {
+        if is_current {
+            return node_after(self.alloc, records_from(&self.current, done), inode, node);
+        }
+        let before = node_after(self.alloc, records_from(&self.away, done), inode, node)?;
+        node_after(self.alloc, &self.current, inode, before)
+    }
+
+    /// A block of a file after the records behind a mark, in place, as `block_after` has it. It takes no memory.
+    pub fn block_after(
+        &self,
+        is_current: bool,
+        done: usize,
+        inode: u32,
+        block: u32,
+        buffer: &mut [u8],
+        len: Option<usize>,
+    ) -> Option<usize>
+        requires whole { length buffer.old ≡ UNIT_BYTES }
+        requires within { ForSome len (λ n. n ≤ UNIT_BYTES) }
+        ensures laid { option_map (λ n. take n buffer.new) result ≡ block_laid (beyond self.now is_current done) inode block (option_map (λ n. take n buffer.old) len) }
+        ensures within { ForSome result (λ n. n ≤ UNIT_BYTES) }
+    {
+        if is_current {
+            return block_after(records_from(&self.current, done), inode, block, buffer, len);
+        }
+        let before = block_after(records_from(&self.away, done), inode, block, buffer, len);
+        block_after(&self.current, inode, block, buffer, before)
+    }
+}
+
+// The lists of effects of records are emptied, and keep their memory.
+fn empty_lists(alloc: Global, records: &mut [Record])
+    ensures { AllByRecursion IsEmptied records.new }
+{
+    for entry in records.iter_mut() {
+        empty_list(alloc, &mut entry.effects);
+    }
+}
+
+fn empty_list(alloc: Global, effects: &mut Effects)
+    ensures { effects.new ≡ [] }
+{
+    let none = Effects::from_vec(Vec::new(alloc));
+    let mut list = mem::replace(effects, none).into_vec();
+    list.clear();
+    *effects = Effects::from_vec(list);
+}
+
+// The records behind so many.
+fn records_from(records: &[Record], done: usize) -> &[Record]
+    ensures { result.now ≡ drop done records.now }
+{
+    &records[done.min(records.len())..]
+}

@@ -1,0 +1,48 @@
+//! Files that go, and runs that go down.
+ghost use Rattle.std.specs.Prelude.{◌≡◌};
+ghost use Rattle.event_steps.specs.declared.outcome.Outcome.TheVariants as outcomes;
+ghost use Rattle.event_steps.specs.Media.{IsMovedIn, IsReclaimedIn};
+
+use crate::outcome::{Outcome, Refusal};
+use libfs::{Kernel, KernelError, Media, ReclaimError, RelocateError, Tier};
+
+pub fn reclaim<M: Media>(kernel: &mut Kernel<M>, inode: u32) -> Outcome
+    ensures { IsReclaimedIn M.Media kernel.old inode result kernel.new }
+{
+    match kernel.reclaim(inode) {
+        Ok(()) => Outcome::Stepped,
+        Err(KernelError::Failed) => refusal_outcome(Refusal::KernelFailed),
+        Err(KernelError::Refused(ReclaimError::InUse)) => refusal_outcome(Refusal::InUse),
+        Err(KernelError::Refused(ReclaimError::Memory)) => refusal_outcome(Refusal::Memory),
+        Err(KernelError::Refused(ReclaimError::DeviceFault)) => {
+            refusal_outcome(Refusal::DeviceFault)
+        }
+    }
+}
+
+pub fn migrate<M: Media>(
+    kernel: &mut Kernel<M>,
+    inode: u32,
+    first: u64,
+    count: u32,
+    to: Tier,
+) -> Outcome
+    ensures { IsMovedIn M.Media kernel.old inode first count to result kernel.new }
+{
+    match kernel.migrate(inode, first, count, to) {
+        Ok(()) => Outcome::Stepped,
+        Err(KernelError::Failed) => refusal_outcome(Refusal::KernelFailed),
+        Err(KernelError::Refused(RelocateError::NotMapped)) => refusal_outcome(Refusal::NotMapped),
+        Err(KernelError::Refused(RelocateError::NoBlock)) => refusal_outcome(Refusal::NoBlock),
+        Err(KernelError::Refused(RelocateError::Memory)) => refusal_outcome(Refusal::Memory),
+        Err(KernelError::Refused(RelocateError::DeviceFault)) => {
+            refusal_outcome(Refusal::DeviceFault)
+        }
+    }
+}
+
+fn refusal_outcome(refusal: Refusal) -> Outcome
+    ensures { result ≡ outcomes.Refused refusal }
+{
+    Outcome::Refused { refusal }
+}

@@ -1,0 +1,96 @@
+//! A chunk reaches the shared area, and what is kept in memory follows it.
+
+ghost use Rattle.std.specs.Prelude.{◌≡◌, ◌≤◌, ◌<◌, ◌+◌, ◌↔◌, ℕ, length, take, true, false, IsTrue, IfErr, OnOk, OnErr};
+ghost use Rattle.std.specs.List.{AllByRecursion};
+ghost use Rattle.digester.specs.posix_calls.Operations.{is_client};
+ghost use Rattle.digester.specs.file_graph.Graph.{Graph};
+ghost use Rattle.digester.specs.graph_change.View.{changes_of};
+ghost use Rattle.digester.specs.log_record.Grammar.{IsRecord};
+ghost use Rattle.digester.specs.shared_area.ChangeApply.{MakesFewCalls};
+ghost use Rattle.digester.specs.area_image.Store.{disk};
+ghost use Rattle.digester.specs.Chunk.{IsChunkOf, is_next};
+ghost use Rattle.digester.specs.DigestStep.{IsDigested, NamesFirstBad, StaysOrDigests, DigestsOrStays};
+ghost use Rattle.digester.specs.SealedLog.{HasUndigested, IsDoneBy, StandsAtMark, undone};
+ghost use Rattle.world_invariant.specs.Logs.{after_records, units_in};
+ghost use Rattle.world_invariant.specs.Machine.{Machine, digest as digested};
+ghost use Rattle.kernel_fs.specs.Book.{units_of, waiting_of, out_of, IsBookOf};
+ghost use Rattle.kernel_fs.specs.Inodes.{has};
+ghost use Rattle.kernel_fs.specs.Nodes.{AreNodes};
+ghost use Rattle.kernel_fs.specs.RegionAccept.{BeginsAtMark, HasAsManyWaiting};
+
+use crate::{Book, InodeSet};
+use digester::{Chunk, DigestError, Media, Record, SealedLog, Shared, digest_chunk};
+use std::alloc::Global;
+
+/// What becomes of a chunk that the kernel is to digest.
+#[derive(Clone, Copy, Debug, PartialEq, Eq)]
+pub enum Digestion {
+    /// It is digested.
+    Digested,
+    /// It does not begin at the mark of its log's client, for one of two reasons. It is stale: it does not begin with the first record that its log has undigested, and is to be prepared again. Or its log stands at
+    /// another mark than its client's: its generation is over, or records of it were digested that it does not count.
+    NotNext,
+    /// It begins at the mark, but not as many records of its client are waiting as its log has undigested: the region was not accepted since the media were opened, or its client was buried.
+    NotAccepted,
+}
+
+/// Whether a chunk of a log begins at the mark of the log's client.
+pub fn begins_at_mark<M: Media>(area: &Shared<M>, log: &SealedLog, chunk: &Chunk) -> bool
+    requires going { area.now.failed ≡ false }
+    ensures { IsTrue result ↔ BeginsAtMark log.now chunk.now (disk M.Media area.now) }
+{
+    chunk.is_next(log) && log.stands_at(&area.marks())
+}
+
+/// The book and the set of nodes follow records that were digested.
+pub fn follow(book: &mut Book, nodes: &mut InodeSet, client: u32, records: &[Record])
+    requires client { is_client client ≡ true }
+    requires waiting { length records.now ≤ waiting_of book.old client }
+    requires spelled { AllByRecursion IsRecord records.now }
+    ensures step { (m : Machine) → IsBookOf book.old m → IsBookOf book.new (digested m client records.now) }
+    ensures nodes { (g : Graph) → AreNodes g (has nodes.old) → AreNodes (after_records g records.now) (has nodes.new) }
+    ensures waiting { waiting_of book.new client + length records.now ≡ waiting_of book.old client }
+    ensures law { (before after capacity : ℕ) → units_in records.now ≤ units_of book.old client → after ≤ before + units_in records.now → before + out_of book.old ≤ capacity → after + out_of book.new ≤ capacity }
+{
+    book.digest(client, records);
+    nodes.follow(records);
+}
+
+/// Digests a chunk that begins at the mark, and what is kept in memory follows it.
+pub fn digest_at_mark<M: Media>(
+    alloc: Global,
+    area: &mut Shared<M>,
+    book: &mut Book,
+    nodes: &mut InodeSet,
+    log: &mut SealedLog,
+    chunk: &Chunk,
+) -> Result<(), DigestError>
+    requires some { HasUndigested log.old }
+    requires chunk { IsChunkOf log.old chunk.now }
+    requires next { is_next log.old chunk.now ≡ true }
+    requires at_mark { area.old.failed ≡ false → StandsAtMark log.old (disk M.Media area.old) }
+    requires accepted { HasAsManyWaiting book.old log.old }
+    ensures any_moment { area.old.failed ≡ false → StaysOrDigests area.old.geometry (disk M.Media area.old) log.old chunk.now.count (M.moment area.old.media) (M.moment area.new.media) (M.left area.old.media) (M.left area.new.media) }
+    ensures digested { OnOk result (IsDigested area.old.geometry (disk M.Media area.old) log.old chunk.now.count (disk M.Media area.new)) }
+    ensures done { OnOk result (IsDoneBy log.old chunk.now.count log.new) }
+    ensures at_mark { OnOk result (StandsAtMark log.new (disk M.Media area.new)) }
+    ensures book { OnOk result ((m : Machine) → IsBookOf book.old m → IsBookOf book.new (digested m log.old.client (take chunk.now.count (undone log.old)))) }
+    ensures nodes { OnOk result ((g : Graph) → AreNodes g (has nodes.old) → AreNodes (after_records g (take chunk.now.count (undone log.old))) (has nodes.new)) }
+    ensures accepted { OnOk result (HasAsManyWaiting book.new log.new) }
+    ensures law { OnOk result ((before after capacity : ℕ) → units_in (take chunk.now.count (undone log.old)) ≤ units_of book.old log.old.client → after ≤ before + units_in (take chunk.now.count (undone log.old)) → before + out_of book.old ≤ capacity → after + out_of book.new ≤ capacity) }
+    ensures bad { IfErr result (NamesFirstBad area.old.geometry (disk M.Media area.old) log.old chunk.now.count) }
+    ensures refused { OnErr result ((book.new ≡ book.old) × (nodes.new ≡ nodes.old) × (log.new ≡ log.old)) }
+    ensures digests { DigestsOrStays M.Media area.old area.new result }
+    ensures at_most { MakesFewCalls area.old.geometry (disk M.Media area.old) (changes_of chunk.now.change) (M.moment area.old.media) (M.moment area.new.media) (M.left area.old.media) (M.left area.new.media) }
+{
+    let first = log.digested_count() as usize;
+    match digest_chunk(alloc, area, log, chunk) {
+        Ok(()) => {
+            log.invariant();
+            let end = log.digested_count() as usize;
+            follow(book, nodes, log.client(), &log.records()[first..end]);
+            Ok(())
+        }
+        Err(error) => Err(error),
+    }
+}

@@ -1,0 +1,146 @@
+//! A file that nobody uses is dropped.
+
+ghost use Rattle.std.specs.Prelude.{◌≡◌, ◌≢◌, ◌↔◌, ◌⊎◌, ℕ, List, [], ◌∷◌, true, false, IfOk, IfErr, OnOk, IsTrue, IsErrOf};
+ghost use Rattle.digester.specs.file_graph.declared.effect.Effect.TheVariants as effect;
+ghost use Rattle.digester.specs.graph_change.Change.{coalesced_changes};
+ghost use Rattle.digester.specs.graph_change.Tidy.{AreTidyChanges};
+ghost use Rattle.digester.specs.graph_change.View.{changes_of};
+ghost use Rattle.digester.specs.log_record.Grammar.{IsInode};
+ghost use Rattle.digester.specs.area_image.Store.{disk, graph};
+ghost use Rattle.digester.specs.shared_area.declared.error.ApplyError.TheVariants.{NoBlock};
+ghost use Rattle.digester.specs.shared_area.ChangeApply.{MakesFewCalls};
+ghost use Rattle.digester.specs.area_image.Map.{WantsMemory};
+ghost use Rattle.digester.specs.shared_area.Parts.{IsNoDamage};
+ghost use Rattle.digester.specs.Errors.{IsAreaError, IsChangeError};
+ghost use Rattle.world_invariant.specs.Logs.{IsNameless};
+ghost use Rattle.kernel_fs.specs.Reclaim.{IsNamelessView, IsReclaimed, StaysOrReclaims, ReclaimsOrStays};
+ghost use Rattle.kernel_fs.specs.declared.error.ReclaimError.TheVariants.{DeviceFault, InUse, Memory};
+
+use crate::error::ReclaimError;
+use digester::{
+    ApplyError, AreaError, Effect, GraphChange, Media, NodeCounts, NodeSummary, Shared,
+    changes_are_the_effects, changes_keep_to_the_limits, marks_can_be_written,
+};
+use std::alloc::Global;
+
+// Whether what stands at an inode is a file that has no name.
+fn is_nameless(found: &Option<NodeSummary>) -> bool
+    ensures { IsTrue result ↔ IsNamelessView found.now }
+{
+    match found {
+        Some(node) => match node.counts() {
+            NodeCounts::File { names, .. } => names == 0,
+            NodeCounts::Directory { .. } => false,
+        },
+        None => false,
+    }
+}
+
+// Why the inode could not be looked at; no damage is found on media that are opened.
+fn node_error(error: AreaError) -> ReclaimError
+    requires { IsNoDamage error }
+    ensures { IsAreaError DeviceFault Memory error result }
+{
+    match error {
+        AreaError::DeviceFault => ReclaimError::DeviceFault,
+        AreaError::Damaged { .. } => unreachable!(),
+        AreaError::Memory => ReclaimError::Memory,
+    }
+}
+
+// Why the change was not made; it writes no block of data, so it always finds those that it writes.
+fn apply_error(error: ApplyError) -> ReclaimError
+    requires { error ≢ NoBlock }
+    ensures { IsChangeError DeviceFault Memory error result }
+{
+    match error {
+        ApplyError::DeviceFault => ReclaimError::DeviceFault,
+        ApplyError::NoBlock => unreachable!(),
+        ApplyError::Memory => ReclaimError::Memory,
+    }
+}
+
+// The change that drops a node, and nothing else.
+fn drop_change(alloc: Global, inode: u32) -> Result<GraphChange, ReclaimError>
+    ensures change { IfOk result (λ c. changes_of c ≡ coalesced_changes (effect.Drop inode ∷ [])) }
+    ensures tidy { IfOk result (λ c. AreTidyChanges (changes_of c)) }
+    ensures only { IfErr result (λ e. e ≡ Memory) }
+{
+    let mut change = GraphChange::new(alloc);
+    match change.add(alloc, &Effect::Drop { inode }) {
+        Ok(()) => Ok(change),
+        Err(_) => Err(ReclaimError::Memory),
+    }
+}
+
+// Makes that change of media where a node stands at the inode.
+fn drop_node<M: Media>(
+    area: &mut Shared<M>,
+    inode: u32,
+    change: &GraphChange,
+) -> Result<(), ReclaimError>
+    requires going { area.old.failed ≡ false }
+    requires inode { IsInode inode }
+    requires change { changes_of change.now ≡ coalesced_changes (effect.Drop inode ∷ []) }
+    requires tidy { AreTidyChanges (changes_of change.now) }
+    ensures any_moment { StaysOrReclaims area.old.geometry (disk M.Media area.old) inode (M.moment area.old.media) (M.moment area.new.media) (M.left area.old.media) (M.left area.new.media) }
+    ensures dropped { OnOk result (IsReclaimed area.old.geometry (disk M.Media area.old) inode (disk M.Media area.new)) }
+    ensures only { IsErrOf result InUse → ⊥ }
+    ensures stays { ReclaimsOrStays M.Media area.old area.new result }
+    ensures at_most { MakesFewCalls area.old.geometry (disk M.Media area.old) (coalesced_changes (effect.Drop inode ∷ [])) (M.moment area.old.media) (M.moment area.new.media) (M.left area.old.media) (M.left area.new.media) }
+{
+    area.left_now();
+    changes_are_the_effects();
+    changes_keep_to_the_limits();
+    // a file that is dropped is no digest
+    let marks = area.marks();
+    marks_can_be_written(marks);
+    match area.apply(change, marks) {
+        Ok(()) => Ok(()),
+        Err(error) => Err(apply_error(error)),
+    }
+}
+
+// Drops the node at an inode.
+fn drop_file<M: Media>(alloc: Global, area: &mut Shared<M>, inode: u32) -> Result<(), ReclaimError>
+    requires going { area.old.failed ≡ false }
+    requires inode { IsInode inode }
+    ensures any_moment { StaysOrReclaims area.old.geometry (disk M.Media area.old) inode (M.moment area.old.media) (M.moment area.new.media) (M.left area.old.media) (M.left area.new.media) }
+    ensures dropped { OnOk result (IsReclaimed area.old.geometry (disk M.Media area.old) inode (disk M.Media area.new)) }
+    ensures only { IsErrOf result InUse → ⊥ }
+    ensures stays { ReclaimsOrStays M.Media area.old area.new result }
+    ensures at_most { MakesFewCalls area.old.geometry (disk M.Media area.old) (coalesced_changes (effect.Drop inode ∷ [])) (M.moment area.old.media) (M.moment area.new.media) (M.left area.old.media) (M.left area.new.media) }
+{
+    area.left_now();
+    match drop_change(alloc, inode) {
+        Ok(change) => drop_node(area, inode, &change),
+        Err(error) => Err(error),
+    }
+}
+
+/// Drops the file at an inode, if one without a name stands there.
+pub fn drop_nameless<M: Media>(
+    alloc: Global,
+    area: &mut Shared<M>,
+    inode: u32,
+) -> Result<(), ReclaimError>
+    requires going { area.old.failed ≡ false }
+    ensures any_moment { StaysOrReclaims area.old.geometry (disk M.Media area.old) inode (M.moment area.old.media) (M.moment area.new.media) (M.left area.old.media) (M.left area.new.media) }
+    ensures was { OnOk result (IsNameless (graph area.old.geometry (disk M.Media area.old) inode)) }
+    ensures dropped { OnOk result (IsReclaimed area.old.geometry (disk M.Media area.old) inode (disk M.Media area.new)) }
+    ensures in_use { IsErrOf result InUse → IsNameless (graph area.old.geometry (disk M.Media area.old) inode) → ⊥ }
+    ensures memory { IsErrOf result Memory → WantsMemory area.old.geometry (disk M.Media area.old) inode ⊎ IsNameless (graph area.old.geometry (disk M.Media area.old) inode) }
+    ensures stays { ReclaimsOrStays M.Media area.old area.new result }
+    ensures at_most { MakesFewCalls area.old.geometry (disk M.Media area.old) (coalesced_changes (effect.Drop inode ∷ [])) (M.moment area.old.media) (M.moment area.new.media) (M.left area.old.media) (M.left area.new.media) }
+{
+    area.left_now();
+    match area.node(inode) {
+        Ok(found) => {
+            if !is_nameless(&found) {
+                return Err(ReclaimError::InUse);
+            }
+            drop_file(alloc, area, inode)
+        }
+        Err(error) => Err(node_error(error)),
+    }
+}

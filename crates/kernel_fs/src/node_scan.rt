@@ -1,0 +1,71 @@
+//! Which inodes are nodes of the shared graph, read once.
+
+ghost use Rattle.std.specs.Prelude.{◌≡◌, ◌≤◌, ◌<◌, ◌+◌, ℕ, false, IfOk, IfErr};
+ghost use Rattle.digester.specs.area_image.Store.{disk, graph};
+ghost use Rattle.digester.specs.area_image.declared.error.AreaError.TheVariants.{Memory};
+ghost use Rattle.digester.specs.area_image.Looks.{Looks};
+ghost use Rattle.digester.specs.area_image.Map.{WantsMemory};
+ghost use Rattle.digester.specs.shared_area.Parts.{IsNoDamage};
+ghost use Rattle.kernel_fs.specs.Inodes.{IsInode, has};
+ghost use Rattle.kernel_fs.specs.Nodes.{AreNodes, is_node};
+ghost use Rattle.kernel_fs.specs.NodeScan.{AreNodesBelow};
+
+use crate::InodeSet;
+use digester::{AreaError, MAX_INODE, Media, Shared};
+
+// Whether an inode is a node.
+fn is_there<M: Media>(area: &mut Shared<M>, inode: u32) -> Result<bool, AreaError>
+    ensures answer { IfOk result (λ b. b ≡ is_node (graph area.old.geometry (disk M.Media area.old) inode)) }
+    ensures only { IfErr result IsNoDamage }
+    ensures memory { IfErr result (λ e. e ≡ Memory → WantsMemory area.old.geometry (disk M.Media area.old) inode) }
+    ensures looks { Looks M.Media area.old area.new result }
+{
+    match area.node(inode) {
+        Ok(Some(_)) => Ok(true),
+        Ok(None) => Ok(false),
+        Err(error) => Err(error),
+    }
+}
+
+// One more inode is put into the set of those that are nodes, where it is one.
+fn add_node<M: Media>(
+    area: &mut Shared<M>,
+    nodes: &mut InodeSet,
+    inode: u32,
+) -> Result<(), AreaError>
+    requires inode { IsInode inode }
+    requires below { AreNodesBelow (graph area.old.geometry (disk M.Media area.old)) inode (has nodes.old) }
+    ensures below { IfOk result (λ _. AreNodesBelow (graph area.old.geometry (disk M.Media area.old)) (inode + 1) (has nodes.new)) }
+    ensures only { IfErr result IsNoDamage }
+    ensures memory { IfErr result (λ e. e ≡ Memory → WantsMemory area.old.geometry (disk M.Media area.old) inode) }
+    ensures looks { Looks M.Media area.old area.new result }
+{
+    match is_there(area, inode) {
+        Ok(true) => {
+            nodes.insert(inode);
+            Ok(())
+        }
+        Ok(false) => Ok(()),
+        Err(error) => Err(error),
+    }
+}
+
+/// The inodes that are nodes of the graph that the area spells.
+pub fn nodes_of<M: Media>(area: &mut Shared<M>) -> Result<InodeSet, AreaError>
+    ensures nodes { IfOk result (λ nodes. AreNodes (graph area.old.geometry (disk M.Media area.old)) (has nodes)) }
+    ensures only { IfErr result IsNoDamage }
+    ensures memory { IfErr result (λ e. e ≡ Memory → (i : ℕ) × WantsMemory area.old.geometry (disk M.Media area.old) i) }
+    ensures looks { Looks M.Media area.old area.new result }
+{
+    if area.has_failed() {
+        return Err(AreaError::DeviceFault);
+    }
+    let mut nodes = InodeSet::new();
+    'inodes: for inode in 1..MAX_INODE + 1 {
+        match add_node(area, &mut nodes, inode) {
+            Ok(()) => {}
+            Err(error) => return Err(error),
+        }
+    }
+    Ok(nodes)
+}

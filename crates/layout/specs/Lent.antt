@@ -1,7 +1,0 @@
--- Entries whose names lie elsewhere.
-use Rattle.layout.specs.declared.directory.DirEntry.{DirEntry}
-use Rattle.layout.specs.declared.entry.EntryRef.{EntryRef}
-
--- the entry that is lent
-abbrev pub owned : EntryRef → DirEntry
-owned e = record { inode = e.inode; kind = e.kind; name = e.name.now }

@@ -1,0 +1,39 @@
+-- What a pass holds.
+use Rattle.std.specs.Prelude.{◌≡◌, ℕ, zero, suc, ◌+◌, ◌&&◌, Bool, true, false, List, [], ◌∷◌, ◌++◌, if◌then◌else◌}
+use Rattle.std.specs.List.Sorted.{IsStrictlyIncreasing}
+use Rattle.log_record.specs.file_graph.Graph.{is_among}
+use Rattle.log_record.specs.file_graph.Numbers.{is_inode}
+use Rattle.lease_manager.specs.declared.view.LeaseMode.{LeaseMode}
+use Rattle.lease_manager.specs.declared.view.LeaseMode.TheVariants.{Free, Reading, Writing, Trying}
+use Rattle.lease_manager.specs.Passes.{PassView, lease_of}
+
+-- whether a lease is for reading
+abbrev pub is_reading : LeaseMode → Bool
+is_reading Free = false
+is_reading Reading = true
+is_reading Writing = false
+is_reading Trying = false
+
+-- whether it is for writing
+abbrev pub is_writing : LeaseMode → Bool
+is_writing Free = false
+is_writing Reading = false
+is_writing Writing = true
+is_writing Trying = false
+
+-- whether a pass holds an inode for reading, and whether for writing
+abbrev pub reads : PassView → ℕ → Bool
+reads p i = is_inode i && is_reading (lease_of p i)
+
+abbrev pub writes : PassView → ℕ → Bool
+writes p i = is_inode i && is_writing (lease_of p i)
+
+-- The inodes, rising and each once, that a pass holds for writing.
+pub record AreWritten (p : PassView) (held : List ℕ) : Type 0 where
+  pub rising : IsStrictlyIncreasing held
+  pub exact : (i : ℕ) → is_among i held ≡ writes p i
+
+-- those up to a number, as they are found
+abbrev pub written_up_to : PassView → ℕ → List ℕ
+written_up_to p zero = []
+written_up_to p (suc n) = if writes p (n + 1) then written_up_to p n ++ (n + 1) ∷ [] else written_up_to p n

@@ -1,0 +1,208 @@
+//! Units, numbers and pins, which the kernel's book has of each client.
+ghost use Rattle.std.specs.Prelude.{◌≡◌, ◌⊎◌, ◌<◌, ◌≤◌, ◌+◌, ◌^◌, ◌++◌, ◌∷◌, [], ◌||◌, ◌&&◌, ◌==◌, ℕ, true, false, OnOk, OnErr, IfOk, IfErr, IsErrOf, vec_len, vec_capacity, if◌then◌else◌};
+ghost use Rattle.lease_manager.specs.posix_calls.declared.limits.TheConstants.{MAX_INODE};
+ghost use Rattle.lease_manager.specs.file_graph.Graph.{is_among};
+ghost use Rattle.lease_manager.specs.file_graph.Numbers.{is_inode};
+ghost use Rattle.lease_manager.specs.file_graph.Units.{charge};
+ghost use Rattle.kernel_fs.specs.Book.{out_of, is_free};
+ghost use Rattle.kernel_fs.specs.Free.{count_of};
+ghost use Rattle.kernel_fs.specs.Inodes.{IsInode, has};
+ghost use Rattle.kernel_fs.specs.Nodes.{nodes_in};
+ghost use Rattle.kernel_fs.specs.MachineState.{IsKernelOf};
+ghost use Rattle.client_log.specs.world_invariant.Machine.{Machine, book_pin, unbook_pin};
+ghost use Rattle.lease_manager.specs.Passes.{client_of};
+ghost use Rattle.libfs.specs.declared.denial.Denied.TheVariants as denied;
+ghost use Rattle.libfs.specs.NeedService.{HasGivenBack, HasRefilled, with_pin, refill_denied, shared_by, without_pin};
+
+use crate::client::Client;
+use crate::denial::Denied;
+use client_log::Media;
+use kernel_fs::{InodeSet, Kernel, KernelError, RefillError};
+use lease_manager::{MAX_INODE, is_inode};
+use std::alloc::AllocError;
+
+impl<M: Media> Client<M> {
+    /// Is granted units, and so many of the lowest numbers for new nodes that are free.
+    ///
+    /// Refused: `Memory`, where there was none for the numbers; `KernelFailed` exactly where else a device of the kernel has failed; `NoUnits`, then `NoInode`, as the kernel tells. Nothing has changed
+    /// then, of client and kernel. No device call is made.
+    pub fn refill<S: Media>(
+        &mut self,
+        kernel: &mut Kernel<S>,
+        units: u32,
+        inodes: u32,
+    ) -> Result<(), Denied>
+        requires room { self.old.spare + units < 2 ^ 32 }
+        ensures refilled { OnOk result (HasRefilled S.Media kernel.old self.old units inodes self.new kernel.new) }
+        ensures out { OnOk result (out_of kernel.new.book ≡ out_of kernel.old.book + units) }
+        ensures law { OnOk result (charge (shared_by S.Media kernel.old) + out_of kernel.new.book ≤ kernel.old.area.geometry.units) }
+        ensures no_units { IsErrOf result denied.NoUnits → (kernel.old.area.failed ≡ false) × (kernel.old.area.geometry.units < charge (shared_by S.Media kernel.old) + out_of kernel.old.book + units) }
+        ensures no_inode { IsErrOf result denied.NoInode → (kernel.old.area.failed ≡ false) × (charge (shared_by S.Media kernel.old) + out_of kernel.old.book + units ≤ kernel.old.area.geometry.units)
+            × (count_of (is_free kernel.old.book (nodes_in (shared_by S.Media kernel.old))) < inodes) }
+        ensures failed { IsErrOf result denied.KernelFailed → kernel.old.area.failed ≡ true }
+        ensures going { OnOk result (kernel.old.area.failed ≡ false) }
+        ensures only { IfErr result (λ e. (e ≡ denied.Memory) ⊎ (e ≡ denied.KernelFailed) ⊎ (e ≡ denied.NoUnits) ⊎ (e ≡ denied.NoInode)) }
+        ensures refused { OnErr result ((self.new ≡ self.old) × (kernel.new ≡ kernel.old)) }
+        ensures area { kernel.new.area ≡ kernel.old.area }
+        ensures opening { kernel.new.opening ≡ kernel.old.opening }
+    {
+        let mut numbers = match self.numbers_with_room() {
+            Ok(numbers) => numbers,
+            Err(_) => return Err(Denied::Memory),
+        };
+        match kernel.refill(self.pass.client(), units as u64, inodes) {
+            Ok(more) => {
+                add_all(&mut numbers, &more);
+                self.copies.put_numbers(numbers);
+                self.spare += units;
+                Ok(())
+            }
+            Err(error) => Err(refill_denied(error)),
+        }
+    }
+
+    // The numbers that the client was granted, with room for all that there are.
+    fn numbers_with_room(&self) -> Result<Vec<u32>, AllocError>
+        ensures same { IfOk result (λ numbers. numbers.items ≡ self.now.copies.numbers) }
+        ensures room { IfOk result (λ numbers. vec_len numbers + MAX_INODE ≤ vec_capacity numbers) }
+    {
+        let held = self.copies.numbers();
+        let mut numbers = Vec::with_capacity(self.alloc, held.len() + MAX_INODE as usize)?;
+        numbers.extend_from_slice(held)?;
+        Ok(numbers)
+    }
+
+    /// Gives back the units and the numbers that it has not used.
+    pub fn give_back<S: Media>(&mut self, kernel: &mut Kernel<S>) -> Result<(), Denied>
+        ensures given { OnOk result (HasGivenBack S.Media kernel.old self.old self.new kernel.new) }
+        ensures going { OnOk result (kernel.old.area.failed ≡ false) }
+        ensures failed { OnErr result (kernel.old.area.failed ≡ true) }
+        ensures only { IfErr result (λ e. e ≡ denied.KernelFailed) }
+        ensures refused { OnErr result ((self.new ≡ self.old) × (kernel.new ≡ kernel.old)) }
+        ensures area { kernel.new.area ≡ kernel.old.area }
+        ensures opening { kernel.new.opening ≡ kernel.old.opening }
+    {
+        let numbers = set_of(self.copies.numbers());
+        match kernel.give_back(self.pass.client(), self.spare as u64, &numbers) {
+            Ok(()) => {
+                self.copies.put_numbers(Vec::new(self.alloc));
+                self.spare = 0;
+                Ok(())
+            }
+            Err(_) => Err(Denied::KernelFailed),
+        }
+    }
+
+    /// Pins a file, which it is about to open.
+    pub fn pin<S: Media>(&mut self, kernel: &mut Kernel<S>, inode: u32) -> Result<(), Denied>
+        requires inode { IsInode inode }
+        ensures pinned { OnOk result (self.new ≡ record self.old { pins = with_pin self.old.pins inode }) }
+        ensures step { OnOk result ((m : Machine) → IsKernelOf S.Media kernel.old m → IsKernelOf S.Media kernel.new (book_pin m (client_of self.old.pass) inode)) }
+        ensures out { out_of kernel.new.book ≡ out_of kernel.old.book }
+        ensures going { OnOk result (kernel.old.area.failed ≡ false) }
+        ensures failed { IsErrOf result denied.KernelFailed → kernel.old.area.failed ≡ true }
+        ensures only { IfErr result (λ e. (e ≡ denied.KernelFailed) ⊎ (e ≡ denied.Memory)) }
+        ensures refused { OnErr result ((self.new ≡ self.old) × (kernel.new ≡ kernel.old)) }
+        ensures area { kernel.new.area ≡ kernel.old.area }
+        ensures opening { kernel.new.opening ≡ kernel.old.opening }
+    {
+        match self.pins.reserve(1) {
+            Ok(()) => {}
+            Err(_) => return Err(Denied::Memory),
+        }
+        match kernel.pin(self.pass.client(), inode) {
+            Ok(()) => {
+                put_pin(&mut self.pins, inode);
+                Ok(())
+            }
+            Err(_) => Err(Denied::KernelFailed),
+        }
+    }
+
+    /// Drops the pin of a file that it has not open.
+    pub fn unpin<S: Media>(&mut self, kernel: &mut Kernel<S>, inode: u32) -> Result<(), Denied>
+        ensures unpinned { OnOk result (self.new ≡ record self.old { pins = without_pin self.old.pins inode }) }
+        ensures step { OnOk result ((m : Machine) → IsKernelOf S.Media kernel.old m → IsKernelOf S.Media kernel.new (unbook_pin m (client_of self.old.pass) inode)) }
+        ensures out { out_of kernel.new.book ≡ out_of kernel.old.book }
+        ensures going { OnOk result (kernel.old.area.failed ≡ false) }
+        ensures failed { OnErr result (kernel.old.area.failed ≡ true) }
+        ensures only { IfErr result (λ e. e ≡ denied.KernelFailed) }
+        ensures refused { OnErr result ((self.new ≡ self.old) × (kernel.new ≡ kernel.old)) }
+        ensures area { kernel.new.area ≡ kernel.old.area }
+        ensures opening { kernel.new.opening ≡ kernel.old.opening }
+    {
+        match kernel.unpin(self.pass.client(), inode) {
+            Ok(()) => {
+                drop_pin(&mut self.pins, inode);
+                Ok(())
+            }
+            Err(_) => Err(Denied::KernelFailed),
+        }
+    }
+}
+
+// A number more, for which there is room, if it is not among them.
+fn put_pin(pins: &mut Vec<u32>, inode: u32)
+    requires { vec_len pins.old < vec_capacity pins.old }
+    ensures { pins.new.items ≡ with_pin pins.old.items inode }
+{
+    if !pins.contains(&inode) {
+        pins.push_reserved(inode);
+    }
+}
+
+fn drop_pin(pins: &mut Vec<u32>, inode: u32)
+    ensures { pins.new.items ≡ without_pin pins.old.items inode }
+{
+    pins.retain(|pin| *pin != inode);
+}
+
+// The numbers of a set, behind others, for which there is room.
+fn add_all(numbers: &mut Vec<u32>, more: &InodeSet)
+    requires { vec_len numbers.old + MAX_INODE ≤ vec_capacity numbers.old }
+    ensures { (i : ℕ) → is_among i numbers.new.items ≡ (is_among i numbers.old.items || has more.now i) }
+{
+    for before in 0..MAX_INODE {
+        add_if_in(numbers, more, before + 1);
+    }
+}
+
+fn add_if_in(numbers: &mut Vec<u32>, more: &InodeSet, number: u32)
+    requires { vec_len numbers.old < vec_capacity numbers.old }
+    ensures added { numbers.new.items ≡ (if has more.now number then numbers.old.items ++ number ∷ [] else numbers.old.items) }
+    ensures bound { vec_len numbers.new ≤ vec_len numbers.old + 1 }
+    ensures room { vec_capacity numbers.new ≡ vec_capacity numbers.old }
+{
+    if more.contains(number) {
+        numbers.push_reserved(number);
+    }
+}
+
+// Those of some numbers that are inodes'.
+fn set_of(numbers: &[u32]) -> InodeSet
+    ensures { (i : ℕ) → has result i ≡ (is_inode i && is_among i numbers.now) }
+{
+    let mut set = InodeSet::new();
+    for number in numbers {
+        put_inode(&mut set, *number);
+    }
+    set
+}
+
+fn put_inode(set: &mut InodeSet, number: u32)
+    ensures { (i : ℕ) → has set.new i ≡ (has set.old i || (is_inode i && (number == i))) }
+{
+    if is_inode(number) {
+        set.insert(number);
+    }
+}
+
+fn refill_denied(error: KernelError<RefillError>) -> Denied
+    ensures { result ≡ refill_denied error }
+{
+    match error {
+        KernelError::Failed => Denied::KernelFailed,
+        KernelError::Refused(RefillError::NoUnits) => Denied::NoUnits,
+        KernelError::Refused(RefillError::NoInode) => Denied::NoInode,
+    }
+}

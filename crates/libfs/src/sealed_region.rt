@@ -1,0 +1,250 @@
+//! A region that a client sealed, until it is taken back.
+
+ghost use Rattle.std.specs.Prelude.{◌≡◌, ◌⊎◌, ◌<◌, ◌^◌, ◌==◌, ℕ, List, Ok, length, true, false, IfErr, IfOk, IsErrOf, OnErr, OnOk};
+ghost use Rattle.std.specs.List.{AllByRecursion};
+ghost use Rattle.std.specs.List.Sorted.{IsStrictlyIncreasing};
+ghost use Rattle.client_log.specs.tier_device.declared.media.Tier.TheVariants.{Fast};
+ghost use Rattle.client_log.specs.tier_device.Media.{Rose};
+ghost use Rattle.client_log.specs.update_log.Frames.{records};
+ghost use Rattle.client_log.specs.update_log.View.{records_of};
+ghost use Rattle.client_log.specs.update_log.WipeStops.{generation as named_in};
+ghost use Rattle.client_log.specs.Calls.{IsOnlyRead};
+ghost use Rattle.client_log.specs.Regions.{IsSealedRegion};
+ghost use Rattle.client_log.specs.declared.error.LogError.TheVariants as logs;
+ghost use Rattle.lease_manager.specs.log_record.Grammar.{IsRecord};
+ghost use Rattle.lease_manager.specs.posix_calls.Operations.{is_client};
+ghost use Rattle.kernel_fs.specs.digester.Chunk.{IsChunkOf, is_next};
+ghost use Rattle.kernel_fs.specs.digester.SealedLog.{HasUndigested, IsSealed};
+ghost use Rattle.kernel_fs.specs.digester.declared.error.DigestError.TheVariants.{Memory};
+ghost use Rattle.libfs.specs.SealedRegion.{AcceptsLog, DigestsChunk, log_of};
+
+use client_log::{LogError, Media, Region, left_of_sealed, read_sealed};
+use kernel_fs::{
+    AcceptError, Chunk, DigestError, Digestion, Kernel, KernelError, SealedLog, prepare,
+};
+use std::alloc::Global;
+use std::marker::Model;
+use std::mem;
+
+/// A region that its client sealed, with all its records, until the client takes it back: its records are read, the kernel accepts it, and it is digested chunk by chunk. Nothing is
+/// written to it meanwhile.
+///
+/// Contracts see `SealedRegionView` (`specs/SealedRegion.antt`). `read_records` and `prepare` ask no kernel.
+#[derive(Drop)]
+pub struct SealedRegion<M: Media> {
+    client: u32,
+    generation: u64,
+    region: Region<M>,
+    // the inodes that the client held for writing, until the records are read: then the log has them
+    held: Vec<u32>,
+    count: usize,
+    log: Option<SealedLog>,
+    accepted: bool,
+}
+
+impl<M: Media> Model for SealedRegion<M> {
+    ghost use Rattle.std.specs.Prelude.{is_some};
+    ghost use Rattle.libfs.specs.SealedRegion.{SealedRegionView, IsKept, done_in, held_in};
+
+    ghost Value = { SealedRegionView M };
+
+    ghost view = { λ r. record { client = r.client; generation = r.generation; region = r.region; held = held_in r.held.items r.log; read = is_some r.log; accepted = r.accepted; done = done_in r.log } };
+
+    ghost invariant = { λ r. IsKept M.Media r.client r.generation r.region r.held.items r.count r.log r.accepted };
+}
+
+impl<M: Media> SealedRegion<M> {
+    // The region of a client that has just sealed it with so many records, and held these inodes for writing.
+    pub(crate) fn new(
+        client: u32,
+        generation: u64,
+        region: Region<M>,
+        held: Vec<u32>,
+        count: usize,
+    ) -> Self
+        requires number { is_client client ≡ true }
+        requires sealed { IsSealedRegion M.Media generation region }
+        requires rising { IsStrictlyIncreasing held.items }
+        requires spelled { AllByRecursion IsRecord (records_of M.Media region) }
+        requires counted { count ≡ length (records_of M.Media region) }
+        ensures { result ≡ record { client = client; generation = generation; region = region; held = held.items; read = false; accepted = false; done = 0 } }
+    {
+        SealedRegion {
+            client,
+            generation,
+            region,
+            held,
+            count,
+            log: None,
+            accepted: false,
+        }
+    }
+
+    /// Whose it is, from 1 to 8.
+    pub fn client(&self) -> u32
+        ensures { result ≡ self.now.client }
+    {
+        self.client
+    }
+
+    /// The generation of its records.
+    pub fn generation(&self) -> u64
+        ensures { result ≡ self.now.generation }
+    {
+        self.generation
+    }
+
+    /// How many records it has, digested or not.
+    pub fn count(&self) -> usize
+        ensures { result ≡ length (records_of M.Media self.now.region) }
+    {
+        self.count
+    }
+
+    /// How many of its records are digested.
+    pub fn digested_count(&self) -> u32
+        ensures { result ≡ self.now.done }
+    {
+        match &self.log {
+            Some(log) => log.digested_count(),
+            None => 0,
+        }
+    }
+
+    /// Whether all its records are digested.
+    pub fn is_digested(&self) -> bool
+        ensures exact { result ≡ (self.now.done == length (records_of M.Media self.now.region)) }
+    {
+        self.digested_count() as usize == self.count()
+    }
+
+    /// Whether its records are read.
+    pub fn is_read(&self) -> bool
+        ensures { result ≡ self.now.read }
+    {
+        self.log.is_some()
+    }
+
+    /// Whether the kernel has accepted it.
+    pub fn is_accepted(&self) -> bool
+        ensures accepted { result ≡ self.now.accepted }
+        ensures read { result ≡ true → self.now.read ≡ true }
+    {
+        self.accepted
+    }
+
+    /// States what holds of it: it is at rest with some records, which every stop leaves, and its header names its generation; and what holds of its log.
+    pub fn left_now(&self)
+        ensures sealed { IsSealedRegion M.Media self.now.generation self.now.region }
+        ensures few { length (records_of M.Media self.now.region) < 2 ^ 32 }
+        ensures rests { (c : List ℕ) → M.left self.now.region.media (M.moment self.now.region.media) Fast c → c ≡ M.seen self.now.region.media Fast }
+        ensures records { (c : List ℕ) → M.left self.now.region.media (M.moment self.now.region.media) Fast c → records c ≡ records_of M.Media self.now.region }
+        ensures names { (c : List ℕ) → M.left self.now.region.media (M.moment self.now.region.media) Fast c → named_in c ≡ self.now.generation }
+        ensures log { IsSealed (log_of M.Media self.now) }
+    {
+        left_of_sealed(&self.region, self.generation);
+        match &self.log {
+            Some(log) => log.invariant(),
+            None => {}
+        }
+    }
+
+    /// Reads the records from the medium into memory, where they are not there yet, and changes nothing on it. It asks no kernel.
+    ///
+    /// `DeviceFault` where the device fails, `Memory` for want of memory; it may be asked again after either.
+    pub fn read_records(&mut self, alloc: Global) -> Result<(), LogError>
+        ensures read { OnOk result (self.new.read ≡ true) }
+        ensures only_read { IsOnlyRead M.Media self.old.region self.new.region }
+        ensures rest { self.new ≡ record self.old { region = self.new.region; read = self.new.read } }
+        ensures again { self.old.read ≡ true → (result ≡ Ok tt) × (self.new ≡ self.old) }
+        ensures unread { OnErr result ((self.old.read ≡ false) × (self.new.read ≡ false)) }
+        ensures only { IfErr result (λ e. (e ≡ logs.DeviceFault) ⊎ (e ≡ logs.Memory)) }
+        ensures fault { IsErrOf result logs.DeviceFault → Rose (M.faults self.old.region.media) (M.faults self.new.region.media) }
+        ensures quiet { IsErrOf result logs.DeviceFault ⊎ (M.faults self.new.region.media ≡ M.faults self.old.region.media) }
+    {
+        if self.log.is_some() {
+            return Ok(());
+        }
+        left_of_sealed(&self.region, self.generation);
+        match read_sealed(&mut self.region, self.generation) {
+            Ok(records) => {
+                let held = mem::replace(&mut self.held, Vec::new(alloc));
+                let log = SealedLog::new(self.client, self.generation, held, records);
+                self.log = Some(log);
+                Ok(())
+            }
+            Err(error) => Err(error),
+        }
+    }
+
+    // The log, once the records are read.
+    fn log(&self) -> &SealedLog
+        requires read { self.now.read ≡ true }
+        ensures { result.now ≡ log_of M.Media self.now }
+    {
+        match &self.log {
+            Some(log) => log,
+            None => unreachable!(),
+        }
+    }
+
+    /// Has the kernel accept it, before any of its records is digested; its records have to be read. It makes no device call.
+    ///
+    /// Refused as `Kernel::accept` is, with nothing changed.
+    pub fn accept<K: Media>(
+        &mut self,
+        kernel: &mut Kernel<K>,
+    ) -> Result<(), KernelError<AcceptError>>
+        requires read { self.old.read ≡ true }
+        requires some { HasUndigested (log_of M.Media self.old) }
+        ensures accepts { AcceptsLog K.Media kernel.old (log_of M.Media self.old) result kernel.new }
+        ensures accepted { OnOk result (self.new ≡ record self.old { accepted = true }) }
+        ensures refused { OnErr result (self.new ≡ self.old) }
+    {
+        match kernel.accept(self.log()) {
+            Ok(()) => {
+                self.accepted = true;
+                Ok(())
+            }
+            Err(error) => Err(error),
+        }
+    }
+
+    /// Prepares the next chunk: the longest run of its next records that one batch takes, one at least, and what it comes to. Its records have to be read, and one of them not digested. It
+    /// asks no kernel. An error is want of memory.
+    pub fn prepare(&self, alloc: Global) -> Result<Chunk, DigestError>
+        requires read { self.now.read ≡ true }
+        requires some { HasUndigested (log_of M.Media self.now) }
+        ensures exact { IfOk result (IsChunkOf (log_of M.Media self.now)) }
+        ensures next { IfOk result (λ chunk. is_next (log_of M.Media self.now) chunk ≡ true) }
+        ensures only { IfErr result (λ e. e ≡ Memory) }
+    {
+        prepare(alloc, self.log())
+    }
+
+    /// Has the kernel digest a chunk of it, as `Kernel::digest` does, whose answers and refusals it gives. Its records have to be read, and one of them not digested. Only how many are
+    /// digested changes, and that only where the chunk is.
+    pub fn digest<K: Media>(
+        &mut self,
+        kernel: &mut Kernel<K>,
+        chunk: &Chunk,
+    ) -> Result<Digestion, KernelError<DigestError>>
+        requires read { self.old.read ≡ true }
+        requires some { HasUndigested (log_of M.Media self.old) }
+        requires chunk { IsChunkOf (log_of M.Media self.old) chunk.now }
+        ensures digests { DigestsChunk K.Media kernel.old (log_of M.Media self.old) chunk.now result (log_of M.Media self.new) kernel.new }
+        ensures rest { self.new ≡ record self.old { done = self.new.done } }
+    {
+        match &mut self.log {
+            Some(log) => kernel.digest(log, chunk),
+            None => unreachable!(),
+        }
+    }
+
+    /// The region. Its client does not take it back then.
+    pub fn into_region(self) -> Region<M>
+        ensures { result ≡ self.region }
+    {
+        self.region
+    }
+}

@@ -1,0 +1,132 @@
+// Which run is moved down next.
+ghost use Rattle.std.specs.Prelude.{◌≡◌, ◌≤◌, ◌<◌, ◌+◌, ℕ, Option, Some, None, IfOk, IfErr, IfSome, IfNone};
+ghost use Rattle.shared_area.specs.tier_device.declared.media.Tier.{Tier};
+ghost use Rattle.shared_area.specs.layout.Places.{Sizes};
+ghost use Rattle.shared_area.specs.area_image.Store.{Store, disk};
+ghost use Rattle.shared_area.specs.area_image.Looks.{Looks};
+ghost use Rattle.shared_area.specs.area_image.Map.{WantsMemory};
+ghost use Rattle.shared_area.specs.area_image.declared.error.AreaError.TheVariants.{DeviceFault, Memory};
+ghost use Rattle.shared_area.specs.Parts.{IsNoDamage};
+ghost use Rattle.migrator.specs.RunChoice.{IsCandidate, IsBestBelow, IsFirstOf, IsPicked, IsPickedIn, MayBeMoved, pick_of};
+
+use shared_area::{AreaError, MAX_INODE, Media, Run, Shared, Tier};
+
+/// The most blocks that are moved at once.
+pub const MOST_BLOCKS: u32 = 256;
+
+/// A run of a file's logical blocks.
+#[derive(Clone, Copy, Debug, PartialEq, Eq)]
+pub struct FileRun {
+    pub inode: u32,
+    pub run: Run,
+}
+
+/// What is to be moved to a tier next: of the files that have a block in the tier next above it the one with the least touch number, of several the one with the least inode,
+/// with its first run there, of 256 blocks at most: a run that may be moved to the tier. `None` where no file has a block there, and for the fast tier. It changes nothing, and
+/// reads the slot and the extents of each inode. `Memory` where there was none for an extent block.
+pub fn pick<M: Media>(area: &mut Shared<M>, to: Tier) -> Result<Option<FileRun>, AreaError>
+    ensures picked { IfOk result (IsPicked area.old.geometry (disk M.Media area.old) to) }
+    ensures may_be_moved { IfOk result (λ x. IfSome x (MayBeMoved area.old.geometry (disk M.Media area.old) to)) }
+    ensures only { IfErr result IsNoDamage }
+    ensures memory { IfErr result (λ e. e ≡ Memory → (i : ℕ) × WantsMemory area.old.geometry (disk M.Media area.old) i) }
+    ensures looks { Looks M.Media area.old area.new result }
+{
+    match to {
+        Tier::Fast => none_in(area),
+        Tier::Block => pick_in(area, Tier::Fast),
+        Tier::Slow => pick_in(area, Tier::Block),
+    }
+}
+
+// Nothing is picked, unless a device has failed.
+fn none_in<M: Media>(area: &mut Shared<M>) -> Result<Option<FileRun>, AreaError>
+    ensures none { IfOk result (λ x. x ≡ None) }
+    ensures only { IfErr result (λ e. e ≡ DeviceFault) }
+    ensures looks { Looks M.Media area.old area.new result }
+{
+    if area.has_failed() {
+        return Err(AreaError::DeviceFault);
+    }
+    Ok(None)
+}
+
+// Of the files that have a block in a tier the one that comes first.
+fn pick_in<M: Media>(area: &mut Shared<M>, tier: Tier) -> Result<Option<FileRun>, AreaError>
+    ensures picked { IfOk result (IsPickedIn area.old.geometry (disk M.Media area.old) tier) }
+    ensures only { IfErr result IsNoDamage }
+    ensures memory { IfErr result (λ e. e ≡ Memory → (i : ℕ) × WantsMemory area.old.geometry (disk M.Media area.old) i) }
+    ensures looks { Looks M.Media area.old area.new result }
+{
+    if area.has_failed() {
+        return Err(AreaError::DeviceFault);
+    }
+    let mut best: Option<(u64, FileRun)> = None;
+    'inodes: for inode in 1..MAX_INODE + 1 {
+        match next_best(area, tier, inode, best) {
+            Ok(found) => best = found,
+            Err(error) => return Err(error),
+        }
+    }
+    Ok(best_run(best))
+}
+
+// The better one of what was best so far and the file at one more inode.
+fn next_best<M: Media>(
+    area: &mut Shared<M>,
+    tier: Tier,
+    inode: u32,
+    best: Option<(u64, FileRun)>,
+) -> Result<Option<(u64, FileRun)>, AreaError>
+    requires { IsBestBelow area.old.geometry (disk M.Media area.old) tier inode best }
+    ensures best { IfOk result (IsBestBelow area.old.geometry (disk M.Media area.old) tier (inode + 1)) }
+    ensures only { IfErr result IsNoDamage }
+    ensures memory { IfErr result (λ e. e ≡ Memory → WantsMemory area.old.geometry (disk M.Media area.old) inode) }
+    ensures looks { Looks M.Media area.old area.new result }
+{
+    match candidate(area, tier, inode) {
+        Ok(Some(found)) => Ok(Some(first_of(best, found))),
+        Ok(None) => Ok(best),
+        Err(error) => Err(error),
+    }
+}
+
+// The file at an inode, where it has a block in the tier.
+fn candidate<M: Media>(
+    area: &mut Shared<M>,
+    tier: Tier,
+    inode: u32,
+) -> Result<Option<(u64, FileRun)>, AreaError>
+    ensures found { IfOk result (IsCandidate area.old.geometry (disk M.Media area.old) tier inode) }
+    ensures only { IfErr result IsNoDamage }
+    ensures memory { IfErr result (λ e. e ≡ Memory → WantsMemory area.old.geometry (disk M.Media area.old) inode) }
+    ensures looks { Looks M.Media area.old area.new result }
+{
+    match area.first_run(inode, tier, MOST_BLOCKS) {
+        Ok(Some(run)) => match area.touch(inode) {
+            Ok(touch) => Ok(Some((touch, FileRun { inode, run }))),
+            Err(error) => Err(error),
+        },
+        Ok(None) => Ok(None),
+        Err(error) => Err(error),
+    }
+}
+
+// The one that was touched first; the first of two that were touched at once.
+fn first_of(best: Option<(u64, FileRun)>, found: (u64, FileRun)) -> (u64, FileRun)
+    ensures { IsFirstOf best found result }
+{
+    match best {
+        Some(before) if before.0 <= found.0 => before,
+        _ => found,
+    }
+}
+
+// What is picked, without the touch number.
+fn best_run(best: Option<(u64, FileRun)>) -> Option<FileRun>
+    ensures { result ≡ pick_of best }
+{
+    match best {
+        Some((_, pick)) => Some(pick),
+        None => None,
+    }
+}

@@ -1,0 +1,5 @@
+pub mod AreaLimits
+pub mod RecordCovers
+pub mod Slices
+pub mod AreaBytes
+pub mod AreaOpens

@@ -1,0 +1,23 @@
+//! What the bytes of a fresh area stand for.
+
+ghost use Rattle.std.specs.Prelude.{◌≡◌, Some};
+ghost use Rattle.digester.specs.area_image.Format.{IsOpenable};
+ghost use Rattle.digester.specs.area_image.Store.{store_of, graph, marks};
+ghost use Rattle.digester.specs.batch_journal.Volume.{IsVolume};
+ghost use Rattle.fresh_media.specs.Fresh.{no_marks, fresh_tiers};
+ghost use Rattle.fresh_media.specs.layout.Places.{Sizes, IsAllowed};
+ghost use Rattle.fresh_media.specs.layout.file_graph.Graph.{fresh};
+
+use fresh_media::{marks_are_read, slot_is_read, super_is_read};
+
+/// A fresh area is a volume of its geometry that can be opened. It spells the graph of a root without entries, and no record of a client is digested.
+pub fn fresh_area_opens()
+    ensures volume { (g : Sizes) → IsAllowed g → IsVolume g (fresh_tiers g) }
+    ensures opens { (g : Sizes) → IsAllowed g → IsOpenable g (store_of (fresh_tiers g)) }
+    ensures graph { (g : Sizes) → IsAllowed g → graph g (store_of (fresh_tiers g)) ≡ fresh }
+    ensures marks { (g : Sizes) → IsAllowed g → marks (store_of (fresh_tiers g)) ≡ Some no_marks }
+{
+    super_is_read();
+    slot_is_read();
+    marks_are_read();
+}

@@ -1,0 +1,51 @@
+use Rattle.std.proofs.Common.{◌≤◌, ◌<◌, refl, subst, arith}
+use Rattle.std.specs.Prelude.{OnOk}
+use Rattle.inode_plan.proofs.area_image_lemmas.Shown.{slot_limits}
+use Rattle.inode_plan.proofs.area_commit_lemmas.Course.{Rests}
+use Rattle.relocation.specs.declared.error.RelocateError.TheVariants.{NoBlock, Memory}
+use Rattle.relocation.proofs.Ending.{err_same, memory_fault, memory_mapped, memory_block, err_with, still_self, ends_refused}
+use Rattle.relocation.proofs.Pooled.{settled_same, same_then, same_count}
+use Rattle.relocation.proofs.run_move.move_bytes.Goals as goal
+
+pub lost_places-requires : goal.lost_places-requires
+lost_places-requires g c =
+    let few = (slot_limits c.args.journal.now.geometry c.args.file.slot c.requires.file.fits).few in
+    let within = c.requires.file.within_file.within in
+    omega (arith, few, within)
+
+pub allocate_run-requires-clause-settled : goal.allocate_run-requires-clause-settled
+allocate_run-requires-clause-settled g c =
+    let m = g.M.Media in
+    let old = c.args.journal.now in
+    settled_same old.geometry (m.seen old.media) (m.left old.media (m.moment old.media)) c.args.pools.now c.lost_places.new.pools c.lost_places.ensures.same c.requires.settled
+
+pub allocate_run-requires-clause-run : goal.allocate_run-requires-clause-run
+allocate_run-requires-clause-run g c = record { file = c.requires.file; holds = c.requires.holds; size = c.requires.size; places = c.in-Ok.ensures.places; some = c.in-Ok.ensures.some }
+
+pub allocate_run-requires-clause-room : goal.allocate_run-requires-clause-room
+allocate_run-requires-clause-room g c = record { nodes = c.in-Ok.ensures.nodes; per_tier = c.in-Ok.ensures.room }
+
+pub returns-in-Ok-clause-same : goal.returns-in-Ok-clause-same
+returns-in-Ok-clause-same g c = err_with c.allocate_run.result (same_then c.args.pools.now c.lost_places.new.pools c.allocate_run.new.pools c.lost_places.ensures.same) c.allocate_run.ensures.same
+
+pub returns-in-Ok-clause-enough : goal.returns-in-Ok-clause-enough
+returns-in-Ok-clause-enough g c = subst (λ n. OnOk c.allocate_run.result (c.args.file.run.count ≤ n)) (same_count c.args.pools.now c.lost_places.new.pools c.lost_places.ensures.same c.args.to) c.allocate_run.ensures.enough
+
+pub returns-in-Ok-clause-few : goal.returns-in-Ok-clause-few
+returns-in-Ok-clause-few g c is = subst (λ n. n < c.args.file.run.count) (same_count c.args.pools.now c.lost_places.new.pools c.lost_places.ensures.same c.args.to) (c.allocate_run.ensures.few is)
+
+pub returns-in-Err-clause-ends : goal.returns-in-Err-clause-ends
+returns-in-Err-clause-ends g c =
+    let m = g.M.Media in
+    let old = c.args.journal.now in
+    let f = c.args.file in
+    let pools = c.lost_places.new.pools in
+    let rests : Rests m old.geometry old.media = record { sizes = c.left_now.ensures.sizes c.requires.going; journal = c.left_now.ensures.journal c.requires.going; rest = c.requires.settled.rests } in
+    let settled = settled_same old.geometry (m.seen old.media) (m.left old.media (m.moment old.media)) c.args.pools.now pools c.lost_places.ensures.same c.requires.settled in
+    ends_refused m g.met.M.Media.sized c.args.inode f.run.first f.run.count c.args.to old old pools Memory memory_fault rests (still_self m g.met.M.Media.sized old) refl c.requires.going refl settled
+
+pub returns-in-Err-clause-few : goal.returns-in-Err-clause-few
+returns-in-Err-clause-few g c is = absurd (memory_block (err_same Memory NoBlock is))
+
+pub returns-in-Err-clause-mapped : goal.returns-in-Err-clause-mapped
+returns-in-Err-clause-mapped g c = memory_mapped

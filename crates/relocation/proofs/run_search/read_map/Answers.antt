@@ -1,0 +1,29 @@
+use Rattle.std.proofs.Common.{◌∙◌, sym, subst}
+use Rattle.inode_plan.specs.tier_device.declared.media.Tier.{Tier}
+use Rattle.inode_plan.specs.layout.Places.{Sizes}
+use Rattle.inode_plan.specs.extent_tree.BlockFormat.{LiesWithin}
+use Rattle.inode_plan.specs.extent_tree.Map.{runs_in}
+use Rattle.inode_plan.specs.area_image.Store.{Store, disk, space_of}
+use Rattle.inode_plan.proofs.area_image_lemmas.Parts.{extents_all}
+use Rattle.inode_plan.proofs.area_image_lemmas.Tails.{place_is}
+use Rattle.inode_plan.specs.Lists.{AreOwnLists}
+use Rattle.relocation.proofs.run_search.read_map.Goals as goal
+
+pub map_of-requires : goal.map_of-requires
+map_of-requires g c = (
+  c.args.inode,
+  c.args.slot.now,
+  subst (λ (x : Sizes). AreOwnLists x c.args.inode c.args.slot.now c.in-Ok.found) (sym c.geometry-geometry.ensures) (λ t. (c.in-Ok.ensures.extents t).list),
+)
+
+pub returns-in-Ok-map_of-clause-places : goal.returns-in-Ok-map_of-clause-places
+returns-in-Ok-map_of-clause-places g c t k =
+    let old = c.args.journal.now in
+    let s : Store = disk g.M.Media old in
+    let found = extents_all old.geometry s c.args.inode c.args.slot.now c.in-Ok.found c.requires.slot_is c.in-Ok.ensures.extents in
+    c.in-Ok-map_of.ensures.places t k ∙ sym (place_is old.geometry s c.args.inode c.in-Ok.found found t k)
+
+pub returns-in-Ok-map_of-clause-within : goal.returns-in-Ok-map_of-clause-within
+returns-in-Ok-map_of-clause-within g c =
+    subst (λ (x : Sizes). AreOwnLists x c.args.inode c.args.slot.now c.in-Ok.found → (t : Tier) → LiesWithin x (space_of c.args.slot.now t) (runs_in c.in-Ok-map_of.map t)) c.geometry-geometry.ensures
+    (c.in-Ok-map_of.ensures.within c.args.inode c.args.slot.now) (λ t. (c.in-Ok.ensures.extents t).list)

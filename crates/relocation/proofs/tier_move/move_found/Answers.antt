@@ -1,0 +1,107 @@
+use Rattle.std.proofs.Common.{◌≤◌, ◌<◌, ℕ, length, subst}
+use Rattle.std.specs.Prelude.{Err}
+use Rattle.inode_plan.specs.area_image.Store.{disk}
+use Rattle.inode_plan.proofs.area_image_lemmas.Looked.{carried}
+use Rattle.inode_plan.specs.area_commit.Value.{data_pool}
+use Rattle.inode_plan.proofs.area_commit_lemmas.Course.{Rests}
+use Rattle.relocation.specs.MovableFile.{IsMovableRun}
+use Rattle.relocation.specs.declared.error.RelocateError.TheVariants.{NotMapped, NoBlock, Memory}
+use Rattle.relocation.specs.RunMove.{Ends}
+use Rattle.relocation.proofs.Ending.{mapped_fault, mapped_memory, mapped_block, block_fault, block_memory, err_same, ok_with, err_other, told_memory, told_forced, forced_only, settled_still, ends_refused, ends_told, ends_on}
+use Rattle.relocation.proofs.Pooled.{same_self, own_run, found_run}
+use Rattle.relocation.proofs.tier_move.move_found.Goals as goal
+
+pub move_run-requires-clause-going : goal.move_run-requires-clause-going
+move_run-requires-clause-going g c = c.in-Ok-Some.ensures.looks.going.1
+
+pub move_run-requires-clause-settled : goal.move_run-requires-clause-settled
+move_run-requires-clause-settled g c =
+    let m = g.M.Media in
+    let looks = c.in-Ok-Some.ensures.looks in
+    settled_still m g.met.M.Media.sized c.args.journal.now c.find_run.new.journal c.args.pools.now looks.unmoved looks.geometry c.requires.settled
+
+pub move_run-requires-clause-file : goal.move_run-requires-clause-file
+move_run-requires-clause-file g c =
+    let m = g.M.Media in
+    let old = c.args.journal.now in
+    let there = c.in-Ok-Some in
+    let f = there.file in
+    let is = found_run old.geometry (disk g.M.Media old) c.args.inode c.args.first c.args.count c.args.to c.in-Ok-Some.field-0 c.in-Ok-Some.file c.in-Ok-Some.field-0-is c.in-Ok-Some.ensures.found in
+    carried m (λ h s. IsMovableRun h s c.args.inode f.run.first f.run.count c.args.to f) old c.find_run.new.journal _ there.ensures.looks
+    (own_run old.geometry (disk m old) c.args.inode c.args.first c.args.count c.args.to f is)
+
+pub returns-in-Ok-Some-clause-ends : goal.returns-in-Ok-Some-clause-ends
+returns-in-Ok-Some-clause-ends g c =
+    let m = g.M.Media in
+    let old = c.args.journal.now in
+    let new = c.move_run.new.journal in
+    let f = c.in-Ok-Some.file in
+    let is = found_run old.geometry (disk g.M.Media old) c.args.inode c.args.first c.args.count c.args.to c.in-Ok-Some.field-0 c.in-Ok-Some.file c.in-Ok-Some.field-0-is c.in-Ok-Some.ensures.found in
+    let looks = c.in-Ok-Some.ensures.looks in
+    let ends = ends_on m g.met.M.Media.sized c.args.inode f.run.first f.run.count c.args.to old c.find_run.new.journal new c.move_run.new.pools c.move_run.result looks.unmoved looks.geometry looks.quiet c.move_run.ensures.ends in
+    subst (λ (n : ℕ). Ends m c.args.inode c.args.first n c.args.to old new c.move_run.new.pools c.move_run.result) is.count_is (
+    subst (λ (n : ℕ). Ends m c.args.inode n f.run.count c.args.to old new c.move_run.new.pools c.move_run.result) is.first_is ends
+    )
+
+pub returns-in-Ok-Some-clause-can : goal.returns-in-Ok-Some-clause-can
+returns-in-Ok-Some-clause-can g c =
+    let old = c.args.journal.now in
+    let free = length (data_pool c.args.pools.now c.args.to).free in
+    let is = found_run old.geometry (disk g.M.Media old) c.args.inode c.args.first c.args.count c.args.to c.in-Ok-Some.field-0 c.in-Ok-Some.file c.in-Ok-Some.field-0-is c.in-Ok-Some.ensures.found in
+    ok_with c.move_run.result (λ (enough : c.in-Ok-Some.file.run.count ≤ length (data_pool c.args.pools.now c.args.to).free). (is.can, subst (λ (n : ℕ). n ≤ free) is.count_is enough)) c.move_run.ensures.enough
+
+pub returns-in-Ok-Some-clause-not_mapped : goal.returns-in-Ok-Some-clause-not_mapped
+returns-in-Ok-Some-clause-not_mapped g c none = absurd (err_other c.move_run.result NotMapped c.move_run.ensures.mapped none)
+
+pub returns-in-Ok-Some-clause-no_block : goal.returns-in-Ok-Some-clause-no_block
+returns-in-Ok-Some-clause-no_block g c none =
+    let old = c.args.journal.now in
+    let free = length (data_pool c.args.pools.now c.args.to).free in
+    let is = found_run old.geometry (disk g.M.Media old) c.args.inode c.args.first c.args.count c.args.to c.in-Ok-Some.field-0 c.in-Ok-Some.file c.in-Ok-Some.field-0-is c.in-Ok-Some.ensures.found in
+    (is.can, subst (λ (n : ℕ). free < n) is.count_is (c.move_run.ensures.few none))
+
+pub returns-in-Ok-Some-clause-memory : goal.returns-in-Ok-Some-clause-memory
+returns-in-Ok-Some-clause-memory g c full =
+    let old = c.args.journal.now in
+    let f = c.in-Ok-Some.file in
+    let is = found_run old.geometry (disk g.M.Media old) c.args.inode c.args.first c.args.count c.args.to c.in-Ok-Some.field-0 f c.in-Ok-Some.field-0-is c.in-Ok-Some.ensures.found in
+    record { file = f.slot; slot_is = is.slot_is; within = is.within_file }
+
+pub returns-in-Ok-None-clause-ends : goal.returns-in-Ok-None-clause-ends
+returns-in-Ok-None-clause-ends g c =
+    let m = g.M.Media in
+    let old = c.args.journal.now in
+    let rests : Rests m old.geometry old.media = record { sizes = c.left_now.ensures.sizes c.requires.going; journal = c.left_now.ensures.journal c.requires.going; rest = c.requires.settled.rests } in
+    let looks = c.in-Ok-None.ensures.looks in
+    ends_refused m g.met.M.Media.sized c.args.inode c.args.first c.args.count c.args.to old c.find_run.new.journal c.args.pools.now NotMapped mapped_fault rests looks.unmoved looks.geometry looks.going.1 looks.quiet c.requires.settled
+
+pub returns-in-Ok-None-clause-same : goal.returns-in-Ok-None-clause-same
+returns-in-Ok-None-clause-same g c = same_self c.args.pools.now
+
+pub returns-in-Ok-None-clause-not_mapped : goal.returns-in-Ok-None-clause-not_mapped
+returns-in-Ok-None-clause-not_mapped g c is = c.in-Ok-None.ensures.none c.in-Ok-None.field-0-is
+
+pub returns-in-Ok-None-clause-no_block : goal.returns-in-Ok-None-clause-no_block
+returns-in-Ok-None-clause-no_block g c is = absurd (mapped_block (err_same NotMapped NoBlock is))
+
+pub returns-in-Ok-None-clause-memory : goal.returns-in-Ok-None-clause-memory
+returns-in-Ok-None-clause-memory g c is = absurd (mapped_memory (err_same NotMapped Memory is))
+
+pub returns-in-Err-clause-ends : goal.returns-in-Err-clause-ends
+returns-in-Err-clause-ends g c =
+    let m = g.M.Media in
+    let old = c.args.journal.now in
+    let rests : Rests m old.geometry old.media = record { sizes = c.left_now.ensures.sizes c.requires.going; journal = c.left_now.ensures.journal c.requires.going; rest = c.requires.settled.rests } in
+    ends_told m g.met.M.Media.sized c.args.inode c.args.first c.args.count c.args.to old c.find_run.new.journal c.args.pools.now c.in-Err.error c.relocate_error.result c.relocate_error.ensures c.in-Err.ensures.looks c.requires.going rests c.requires.settled
+
+pub returns-in-Err-clause-same : goal.returns-in-Err-clause-same
+returns-in-Err-clause-same g c = same_self c.args.pools.now
+
+pub returns-in-Err-clause-not_mapped : goal.returns-in-Err-clause-not_mapped
+returns-in-Err-clause-not_mapped g c is = absurd (forced_only (Err c.relocate_error.result) NotMapped (told_forced c.in-Err.error c.relocate_error.result c.relocate_error.ensures) mapped_fault mapped_memory is)
+
+pub returns-in-Err-clause-no_block : goal.returns-in-Err-clause-no_block
+returns-in-Err-clause-no_block g c is = absurd (forced_only (Err c.relocate_error.result) NoBlock (told_forced c.in-Err.error c.relocate_error.result c.relocate_error.ensures) block_fault block_memory is)
+
+pub returns-in-Err-clause-memory : goal.returns-in-Err-clause-memory
+returns-in-Err-clause-memory g c is = c.in-Err.ensures.memory (told_memory c.in-Err.error c.relocate_error.result c.relocate_error.ensures is)

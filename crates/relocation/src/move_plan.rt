@@ -1,0 +1,62 @@
+// The plan of a move.
+ghost use Rattle.std.specs.Prelude.{◌≡◌, ◌≤◌, None, length, IfOk, IfErr};
+ghost use Rattle.inode_plan.specs.tier_device.declared.media.Tier.{Tier};
+ghost use Rattle.inode_plan.specs.layout.Places.{Sizes, IsAllowed};
+ghost use Rattle.inode_plan.specs.area_image.Store.{Store};
+ghost use Rattle.inode_plan.specs.area_commit.Plan.{lost_in};
+ghost use Rattle.relocation.specs.MovedFile.{IsReadyMove, IsPlanOfMove};
+
+use crate::MovableRun;
+use crate::new_inode::{NewInode, moved_inode};
+use inode_plan::{Allocation, FreedBlocks, Rewrite, Tier};
+use std::alloc::Global;
+
+// What is made of a file, together with its data and what it gives up.
+fn rewrite_of(new: NewInode, bytes: Vec<u8>, lost: FreedBlocks, taken: Allocation) -> Rewrite
+    ensures slots { result.slots.items ≡ new.slots.items }
+    ensures marks { result.marks ≡ None }
+    ensures nodes { result.nodes ≡ new.nodes }
+    ensures taken { result.taken ≡ taken }
+    ensures bytes { result.bytes.items ≡ bytes.items }
+    ensures left { result.lost.nodes.items ≡ new.left.items }
+    ensures lost { (t : Tier) → lost_in result.lost t ≡ lost_in lost t }
+{
+    Rewrite {
+        slots: new.slots,
+        marks: None,
+        nodes: new.nodes,
+        taken,
+        bytes,
+        lost: FreedBlocks {
+            nodes: new.left,
+            fast: lost.fast,
+            block: lost.block,
+            slow: lost.slow,
+        },
+    }
+}
+
+/// The plan of a move: the run's bytes go into the blocks that were taken, and its places are given up, with the blocks of the node pool that list no extents any more. Where
+/// there is no memory for it, what was taken is handed back.
+pub fn plan_move(
+    alloc: Global,
+    inode: u32,
+    to: Tier,
+    file: MovableRun,
+    bytes: Vec<u8>,
+    lost: FreedBlocks,
+    taken: Allocation,
+) -> Result<Rewrite, Allocation>
+    requires { (g : Sizes) × (s : Store) × IsAllowed g × IsReadyMove g s inode to file bytes.items lost taken }
+    ensures plan { IfOk result (λ plan. (g : Sizes) (s : Store) → IsReadyMove g s inode to file bytes.items lost taken → IsPlanOfMove g s inode file.run.first file.run.count to plan) }
+    ensures taken { IfOk result (λ plan. plan.taken ≡ taken) }
+    ensures lost { IfOk result (λ plan. (t : Tier) → lost_in plan.lost t ≡ lost_in lost t) }
+    ensures few { IfOk result (λ plan. length plan.lost.nodes.items ≤ 3) }
+    ensures refused { IfErr result (λ back. back ≡ taken) }
+{
+    let mut file = file;
+    match moved_inode(alloc, inode, &mut file, to, &taken) {
+        Ok(new) => Ok(rewrite_of(new, bytes, lost, taken)),
+        Err(_) => Err(taken),
+    }
+}

@@ -1,0 +1,113 @@
+use Rattle.std.proofs.Common.{ℕ, List, Some, sym, subst}
+use Rattle.change_plan.specs.tier_device.declared.media.Tier.{Tier}
+use Rattle.change_plan.specs.layout.Places.{IsAllowed}
+use Rattle.change_plan.specs.graph_change.View.{changes_of}
+use Rattle.change_plan.proofs.area_image_lemmas.Looked.{carried}
+use Rattle.change_plan.specs.area_commit.Value.{PoolsView}
+use Rattle.change_plan.proofs.area_commit_lemmas.Course.{Rests}
+use Rattle.change_plan.proofs.area_commit_lemmas.Returned.{same_free}
+use Rattle.change_plan.specs.area_image.Store.{disk}
+use Rattle.change_plan.specs.PlanAddition.{HasTaken}
+use Rattle.change_plan.specs.FileLayout.{AreFirstFree}
+use Rattle.change_plan.specs.area_commit.Allocations.{taken_data}
+use Rattle.shared_area.specs.ChangeApply.{CanApply}
+use Rattle.change_plan.specs.First.{IsWhole}
+use Rattle.shared_area.proofs.Ending.{told_forced, no_damage_told, settled_still, ends_told, ends_on}
+use Rattle.shared_area.proofs.Pooled.{settled_same}
+use Rattle.shared_area.proofs.change_apply.plan_change.Goals as goal
+
+pub plan_changes-requires-clause-allowed : goal.plan_changes-requires-clause-allowed
+plan_changes-requires-clause-allowed g c = subst IsAllowed c.geometry.ensures c.units-units.ensures.allowed
+
+pub plan_changes-requires-clause-spelled : goal.plan_changes-requires-clause-spelled
+plan_changes-requires-clause-spelled g c = c.requires.taken.3.opens.spelled
+
+pub plan_changes-requires-clause-took : goal.plan_changes-requires-clause-took
+plan_changes-requires-clause-took g c = record {
+  before = c.requires.taken.0;
+  order = c.requires.taken.1;
+  ranges = c.requires.taken.3.ranges;
+  free = c.requires.taken.3.free;
+  took = c.requires.taken.2;
+  undo = c.requires.undo;
+}
+
+pub reserve_blocks-requires-clause-going : goal.reserve_blocks-requires-clause-going
+reserve_blocks-requires-clause-going g c = c.in-Ok.ensures.looks.going.1
+
+pub reserve_blocks-requires-clause-opens : goal.reserve_blocks-requires-clause-opens
+reserve_blocks-requires-clause-opens g c =
+    let m = g.M.Media in
+    let looks = c.in-Ok.ensures.looks in
+    (settled_still m g.met.M.Media.sized c.args.journal.now c.plan_changes.new.journal c.requires.taken.0 looks.unmoved looks.geometry c.requires.taken.3).opens
+
+pub reserve_blocks-requires-clause-rests : goal.reserve_blocks-requires-clause-rests
+reserve_blocks-requires-clause-rests g c =
+    let m = g.M.Media in
+    let looks = c.in-Ok.ensures.looks in
+    (settled_still m g.met.M.Media.sized c.args.journal.now c.plan_changes.new.journal c.requires.taken.0 looks.unmoved looks.geometry c.requires.taken.3).rests
+
+pub reserve_blocks-requires-clause-can : goal.reserve_blocks-requires-clause-can
+reserve_blocks-requires-clause-can g c =
+    let m = g.M.Media in
+    carried m (λ h s. CanApply h s (changes_of c.args.change.now) c.args.marks) c.args.journal.now c.plan_changes.new.journal _ c.in-Ok.ensures.looks c.requires.can
+
+pub reserve_blocks-requires-clause-whole : goal.reserve_blocks-requires-clause-whole
+reserve_blocks-requires-clause-whole g c =
+    let m = g.M.Media in
+    carried m (λ h s. IsWhole h s (changes_of c.args.change.now) c.args.marks.digests c.plan_changes.new.plan c.plan_changes.new.taken (Some c.args.marks)) c.args.journal.now c.plan_changes.new.journal _ c.in-Ok.ensures.looks
+    (c.in-Ok.ensures.whole (Some c.args.marks) c.requires.can.fits)
+
+pub reserve_blocks-requires-clause-took : goal.reserve_blocks-requires-clause-took
+reserve_blocks-requires-clause-took g c =
+    let m = g.M.Media in
+    carried m (λ h s. HasTaken h s c.plan_changes.new.pools c.plan_changes.new.taken) c.args.journal.now c.plan_changes.new.journal _ c.in-Ok.ensures.looks c.in-Ok.ensures.kept
+
+pub reserve_blocks-requires-clause-first : goal.reserve_blocks-requires-clause-first
+reserve_blocks-requires-clause-first g c =
+    let m = g.M.Media in
+    let same = c.plan_changes.ensures.took.same in
+    carried m (λ h s. AreFirstFree h s (taken_data c.plan_changes.new.taken)) c.args.journal.now c.plan_changes.new.journal _ c.in-Ok.ensures.looks
+    (subst (λ (ps : List (Tier × ℕ)). AreFirstFree c.args.journal.now.geometry (disk m c.args.journal.now) ps) (sym same) c.requires.first)
+
+pub release-requires : goal.release-requires
+release-requires g c = c.plan_changes.ensures.took.undo
+
+pub apply_error-requires : goal.apply_error-requires
+apply_error-requires g c = no_damage_told c.in-Err.error c.in-Err.ensures.only
+
+pub returns-in-Ok-clause-ends : goal.returns-in-Ok-clause-ends
+returns-in-Ok-clause-ends g c =
+    let m = g.M.Media in
+    let looks = c.in-Ok.ensures.looks in
+    ends_on m g.met.M.Media.sized (changes_of c.args.change.now) c.args.marks c.args.journal.now c.plan_changes.new.journal c.reserve_blocks.new.journal c.reserve_blocks.new.pools c.reserve_blocks.result looks.unmoved looks.geometry looks.quiet c.reserve_blocks.ensures.ends
+
+pub returns-in-Ok-clause-same : goal.returns-in-Ok-clause-same
+returns-in-Ok-clause-same g c = λ (before : PoolsView) order took. c.reserve_blocks.ensures.same before order (c.plan_changes.ensures.took.took before order took)
+
+pub returns-in-Err-clause-ends : goal.returns-in-Err-clause-ends
+returns-in-Err-clause-ends g c =
+    let m = g.M.Media in
+    let old = c.args.journal.now in
+    let r = c.requires.taken in
+    let rests : Rests m old.geometry old.media = record { sizes = c.left_now.ensures.sizes c.requires.going; journal = c.left_now.ensures.journal c.requires.going; rest = r.3.rests } in
+    let settled = settled_same old.geometry (m.seen old.media) (m.left old.media (m.moment old.media)) r.0 c.release.new.self (same_free r.0 c.plan_changes.new.pools c.release.new.self c.plan_changes.new.taken (c.plan_changes.ensures.took.took r.0 r.1 r.2) c.release.ensures) r.3 in
+    ends_told m g.met.M.Media.sized (changes_of c.args.change.now) c.args.marks old c.plan_changes.new.journal c.release.new.self c.in-Err.error c.apply_error.result c.apply_error.ensures c.in-Err.ensures.looks c.requires.going rests settled
+
+pub returns-in-Err-clause-same : goal.returns-in-Err-clause-same
+returns-in-Err-clause-same g c = λ (before : PoolsView) order took. same_free before c.plan_changes.new.pools c.release.new.self c.plan_changes.new.taken (c.plan_changes.ensures.took.took before order took) c.release.ensures
+
+pub returns-in-Err-clause-only : goal.returns-in-Err-clause-only
+returns-in-Err-clause-only g c = told_forced c.in-Err.error c.apply_error.result c.apply_error.ensures
+
+pub plan_changes-requires-clause-bounded : goal.plan_changes-requires-clause-bounded
+plan_changes-requires-clause-bounded g c = c.requires.can.bounded
+
+pub plan_changes-requires-clause-tidy : goal.plan_changes-requires-clause-tidy
+plan_changes-requires-clause-tidy g c = c.requires.can.tidy
+
+pub plan_changes-requires-clause-entries : goal.plan_changes-requires-clause-entries
+plan_changes-requires-clause-entries g c = c.requires.can.entries
+
+pub plan_changes-requires-clause-images : goal.plan_changes-requires-clause-images
+plan_changes-requires-clause-images g c = c.requires.can.images

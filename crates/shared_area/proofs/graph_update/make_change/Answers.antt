@@ -1,0 +1,111 @@
+use Rattle.std.proofs.Common.{◌∙◌, ℕ, length, inl, inr, sym, subst, arith}
+use Rattle.std.specs.Prelude.{Ok, Err}
+use Rattle.std.proofs.lemmas.Bool.{true≢false}
+use Rattle.change_plan.specs.graph_change.View.{changes_of}
+use Rattle.change_plan.specs.area_image.Store.{disk}
+use Rattle.shared_area.specs.declared.error.ApplyError.TheVariants.{DeviceFault, NoBlock}
+use Rattle.shared_area.proofs.Ending.{block_fault, err_same}
+use Rattle.shared_area.specs.Ready.{IsReady}
+use Rattle.shared_area.proofs.AppliedChange.{stays_or_changes, too_few_data, ready_made, ready_refused, applies_or_stays, failed_stays}
+use Rattle.shared_area.proofs.graph_update.make_change.Goals as goal
+
+-- ---- where a device has failed
+
+pub returns-then-has_failed-clause-any_moment : goal.returns-then-has_failed-clause-any_moment
+returns-then-has_failed-clause-any_moment g c going = absurd (true≢false (sym c.if-has_failed.true ∙ c.has_failed.ensures ∙ going))
+
+pub returns-then-has_failed-clause-ready : goal.returns-then-has_failed-clause-ready
+returns-then-has_failed-clause-ready g c going = absurd (true≢false (sym c.if-has_failed.true ∙ c.has_failed.ensures ∙ going))
+
+pub returns-then-has_failed-clause-no_block : goal.returns-then-has_failed-clause-no_block
+returns-then-has_failed-clause-no_block g c is = absurd (block_fault (sym (err_same DeviceFault NoBlock is)))
+
+pub returns-then-has_failed-clause-never : goal.returns-then-has_failed-clause-never
+returns-then-has_failed-clause-never g c few is = block_fault (sym (err_same DeviceFault NoBlock is))
+
+pub returns-then-has_failed-clause-applies : goal.returns-then-has_failed-clause-applies
+returns-then-has_failed-clause-applies g c =
+    let m = g.M.Media in
+    failed_stays m g.met.M.Media.sized c.args.journal.now (sym c.has_failed.ensures ∙ c.if-has_failed.true)
+
+pub returns-then-has_failed-clause-at_most : goal.returns-then-has_failed-clause-at_most
+returns-then-has_failed-clause-at_most g c = inl (omega arith)
+
+-- ---- where none has
+
+pub apply_running-requires-clause-going : goal.apply_running-requires-clause-going
+apply_running-requires-clause-going g c = sym c.has_failed.ensures ∙ c.if-has_failed.false
+
+pub apply_running-requires-clause-settled : goal.apply_running-requires-clause-settled
+apply_running-requires-clause-settled g c = (let ready = c.requires.ready (sym c.has_failed.ensures ∙ c.if-has_failed.false) in record { opens = ready.opens; rests = ready.rests; ranges = ready.ranges; free = ready.free })
+
+pub apply_running-requires-clause-charged : goal.apply_running-requires-clause-charged
+apply_running-requires-clause-charged g c = (c.requires.ready (sym c.has_failed.ensures ∙ c.if-has_failed.false)).charged
+
+pub apply_running-requires-clause-can : goal.apply_running-requires-clause-can
+apply_running-requires-clause-can g c =
+    let going = sym c.has_failed.ensures ∙ c.if-has_failed.false in
+    record { bounded = c.requires.bounded; tidy = c.requires.tidy; entries = c.requires.entries going; images = c.requires.images; units = c.requires.units going; fits = c.requires.fits }
+
+pub returns-in-Ok-clause-ready : goal.returns-in-Ok-clause-ready
+returns-in-Ok-clause-ready g c going =
+    let m = g.M.Media in
+    ready_made m g.met.M.Media.sized (changes_of c.args.change.now) c.args.marks c.args.journal.now c.apply_running.new.journal c.apply_running.new.pools c.apply_running.new.units tt c.in-Ok.ensures.ends c.in-Ok.ensures.charged
+
+pub returns-in-Ok-clause-any_moment : goal.returns-in-Ok-clause-any_moment
+returns-in-Ok-clause-any_moment g c going =
+    let m = g.M.Media in
+    let old = c.args.journal.now in
+    let new = c.apply_running.new.journal in
+    stays_or_changes old.geometry (disk m old) (changes_of c.args.change.now) c.args.marks (m.moment old.media) (m.moment new.media) (m.left old.media) (m.left new.media) (c.requires.ready going).opens c.in-Ok.ensures.ends.any_moment
+
+pub returns-in-Ok-clause-applied : goal.returns-in-Ok-clause-applied
+returns-in-Ok-clause-applied g c = c.in-Ok.ensures.ends.applied
+
+pub returns-in-Ok-clause-applies : goal.returns-in-Ok-clause-applies
+returns-in-Ok-clause-applies g c =
+    let m = g.M.Media in
+    applies_or_stays m g.met.M.Media.sized (changes_of c.args.change.now) c.args.marks c.args.journal.now c.apply_running.new.journal c.apply_running.new.pools (Ok tt) (sym c.has_failed.ensures ∙ c.if-has_failed.false) c.in-Ok.ensures.ends
+
+pub returns-in-Err-clause-ready : goal.returns-in-Err-clause-ready
+returns-in-Err-clause-ready g c going =
+    let m = g.M.Media in
+    let old = c.args.journal.now in
+    let new = c.apply_running.new.journal in
+    let was = sym c.has_failed.ensures ∙ c.if-has_failed.false in
+    subst (λ (n : ℕ). IsReady new.geometry (m.seen new.media) (m.left new.media (m.moment new.media)) c.apply_running.new.pools c.args.told.now n) (sym c.in-Err.ensures.kept)
+    (ready_refused m g.met.M.Media.sized (changes_of c.args.change.now) c.args.marks old new c.args.pools.now c.apply_running.new.pools c.args.told.now c.args.units.now c.in-Err.error (c.requires.ready was) c.in-Err.ensures.ends going)
+
+pub returns-in-Err-clause-any_moment : goal.returns-in-Err-clause-any_moment
+returns-in-Err-clause-any_moment g c going =
+    let m = g.M.Media in
+    let old = c.args.journal.now in
+    let new = c.apply_running.new.journal in
+    stays_or_changes old.geometry (disk m old) (changes_of c.args.change.now) c.args.marks (m.moment old.media) (m.moment new.media) (m.left old.media) (m.left new.media) (c.requires.ready going).opens c.in-Err.ensures.ends.any_moment
+
+pub returns-in-Err-clause-no_block : goal.returns-in-Err-clause-no_block
+returns-in-Err-clause-no_block g c is =
+    let m = g.M.Media in
+    let old = c.args.journal.now in
+    let ready = c.requires.ready (sym c.has_failed.ensures ∙ c.if-has_failed.false) in
+    let b = c.in-Err.ensures.no_block is in
+    (b.0, b.1, too_few_data old.geometry (disk m old) c.args.pools.now (length b.0) ready.ranges ready.free c.free-free.ensures.ordered b.2)
+
+pub returns-in-Err-clause-never : goal.returns-in-Err-clause-never
+returns-in-Err-clause-never g c few is =
+    let m = g.M.Media in
+    let old = c.args.journal.now in
+    let ready = c.requires.ready (sym c.has_failed.ensures ∙ c.if-has_failed.false) in
+    let b = c.in-Err.ensures.no_block is in
+    c.small_changes_find_blocks.ensures.spare old.geometry (disk m old) c.args.pools.now 0 (length b.0) ready.opens.spelled ready.opens.units ready.free (omega arith) (few b.0 b.1) (inr b.2)
+
+pub returns-in-Err-clause-applies : goal.returns-in-Err-clause-applies
+returns-in-Err-clause-applies g c =
+    let m = g.M.Media in
+    applies_or_stays m g.met.M.Media.sized (changes_of c.args.change.now) c.args.marks c.args.journal.now c.apply_running.new.journal c.apply_running.new.pools (Err c.in-Err.error) (sym c.has_failed.ensures ∙ c.if-has_failed.false) c.in-Err.ensures.ends
+
+pub returns-in-Ok-clause-at_most : goal.returns-in-Ok-clause-at_most
+returns-in-Ok-clause-at_most g c = c.in-Ok.ensures.ends.at_most
+
+pub returns-in-Err-clause-at_most : goal.returns-in-Err-clause-at_most
+returns-in-Err-clause-at_most g c = c.in-Err.ensures.ends.at_most

@@ -1,0 +1,24 @@
+use Rattle.change_plan.specs.area_image.Store.{disk}
+use Rattle.shared_area.proofs.Sound.{parts_some, parts_none}
+use Rattle.shared_area.proofs.FirstRuns.{parts_once, parts_within, no_inode_lies}
+use Rattle.shared_area.proofs.run_search.find_first_run.Goals as goal
+
+pub run_of-requires-clause-once : goal.run_of-requires-clause-once
+run_of-requires-clause-once g c =
+    let old = c.args.journal.now in
+    let s = disk g.M.Media old in
+    let found = c.in-Ok-Some in
+    parts_once old.geometry s c.args.inode found.parts (parts_some old.geometry s c.args.inode found.field-0 found.parts found.field-0-is found.ensures.parts) (c.requires.opens found.ensures.looks.going.0)
+
+pub run_of-requires-clause-within : goal.run_of-requires-clause-within
+run_of-requires-clause-within g c =
+    let old = c.args.journal.now in
+    let s = disk g.M.Media old in
+    let found = c.in-Ok-Some in
+    parts_within old.geometry s c.args.inode found.parts (parts_some old.geometry s c.args.inode found.field-0 found.parts found.field-0-is found.ensures.parts) c.args.tier
+
+pub returns-in-Ok-None-clause-run : goal.returns-in-Ok-None-clause-run
+returns-in-Ok-None-clause-run g c =
+    let old = c.args.journal.now in
+    let s = disk g.M.Media old in
+    no_inode_lies old.geometry s c.args.inode c.args.tier (parts_none old.geometry s c.args.inode c.in-Ok-None.field-0 c.in-Ok-None.field-0-is c.in-Ok-None.ensures.parts)

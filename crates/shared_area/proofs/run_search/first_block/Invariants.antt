@@ -1,0 +1,6 @@
+use Rattle.std.proofs.Common.{◌≡◌, ◌<◌, ℕ, None}
+use Rattle.change_plan.specs.area_image.Map.{place_by}
+use Rattle.shared_area.proofs.run_search.first_block.Given as goal
+
+abbrev pub invariant-loop-block : goal.invariant-loop-block
+invariant-loop-block l = (k : ℕ) → k < l.block → place_by l.parts.extents l.tier k ≡ None

@@ -1,9 +1,0 @@
-use Rattle.std.proofs.Common.{sym, ap}
-use Rattle.change_plan.specs.area_image.Store.{store_of, touch_of}
-use Rattle.shared_area.proofs.Sound.{no_slot}
-use Rattle.shared_area.proofs.touching.find_touch.Goals as goal
-
-pub returns-then-not-is_inode-clause-touch : goal.returns-then-not-is_inode-clause-touch
-returns-then-not-is_inode-clause-touch g c =
-    let old = c.args.journal.now in
-    sym (ap touch_of (no_slot old.geometry (store_of (g.M.Media.seen old.media)) c.args.inode (sym c.if-not-is_inode.ensures)))

@@ -1,0 +1,33 @@
+-- What a move of a run leaves of shared media, and when it is refused.
+use Rattle.std.specs.Prelude.{◌⊎◌, ◌≤◌, ◌<◌, ℕ, List, Result}
+use Rattle.change_plan.specs.tier_device.declared.media.Media.{Ghosts}
+use Rattle.change_plan.specs.tier_device.declared.media.Tier.{Tier}
+use Rattle.change_plan.specs.layout.Places.{Sizes}
+use Rattle.change_plan.specs.batch_journal.View.{JournalView}
+use Rattle.change_plan.specs.area_image.Store.{Store, store_of}
+use Rattle.change_plan.specs.area_image.Reads.{Loose}
+use Rattle.relocation.specs.TierMove.{IsMoved}
+use Rattle.relocation.specs.declared.error.RelocateError.{RelocateError}
+use Rattle.relocation.specs.declared.error.RelocateError.TheVariants.{DeviceFault}
+use Rattle.shared_area.specs.Ready.{HasFree, OpensAs}
+use Rattle.shared_area.specs.UnchangedMedia.{Stays, AnswersOrStays}
+
+-- Fewer data blocks of a tier are free than so many.
+abbrev pub HasTooFew : Sizes → Store → Tier → ℕ → Type 0
+HasTooFew g s t count = (n : ℕ) × HasFree g s t n × (n < count)
+
+-- So many are free, or more.
+abbrev pub HasEnough : Sizes → Store → Tier → ℕ → Type 0
+HasEnough g s t count = (n : ℕ) × HasFree g s t n × (count ≤ n)
+
+-- The contents of three tiers can be opened, with the graph and the marks of that store. In them all blocks lie where they lie there, or the run of inode i is moved.
+pub record OpensMovedOrNot (g : Sizes) (s : Store) (i first count : ℕ) (to : Tier) (content : Tier → List ℕ) : Type 0 where
+  pub same : OpensAs g s content
+  pub run : Loose g s (store_of content) ⊎ IsMoved g s (store_of content) i first count to
+
+-- At each moment a stop leaves such contents.
+abbrev pub StaysOpen : Sizes → Store → ℕ → ℕ → ℕ → Tier → ℕ → ℕ → (ℕ → Tier → List ℕ → Type 0) → (ℕ → Tier → List ℕ → Type 0) → Type 0
+StaysOpen g s i first count to = Stays (OpensMovedOrNot g s i first count to)
+
+abbrev pub MovesOrStays : {M : Type 0} → Ghosts M → JournalView M → JournalView M → Result (Unit {0}) RelocateError → Type 0
+MovesOrStays = AnswersOrStays DeviceFault

@@ -1,0 +1,29 @@
+//! What holds of a whole change that is carried out.
+
+ghost use Rattle.std.specs.Prelude.{Some};
+ghost use Rattle.change_plan.specs.graph_change.Change.{Changes};
+ghost use Rattle.change_plan.specs.layout.declared.marks.Marks.{Marks};
+ghost use Rattle.change_plan.specs.layout.Places.{Sizes, IsAllowed};
+ghost use Rattle.change_plan.specs.area_image.Store.{Store};
+ghost use Rattle.change_plan.specs.area_image.Format.{IsSpelled};
+ghost use Rattle.change_plan.specs.area_commit.declared.allocation.Allocation.{Allocation};
+ghost use Rattle.change_plan.specs.area_commit.Allocations.{taken_data};
+ghost use Rattle.change_plan.specs.FileLayout.{AreFirstFree};
+ghost use Rattle.change_plan.specs.area_commit.PlanOutcome.{IsCarriedOut};
+ghost use Rattle.change_plan.specs.First.{IsWhole, whole_of};
+ghost use Rattle.shared_area.specs.ChangeApply.{CanApply, IsAppliedStore};
+ghost use Rattle.change_plan.specs.declared.partial_plan.PartialPlan.{PartialPlan};
+
+use change_plan::{
+    carried_out_marks, whole_change_can_be_carried_out, whole_change_lies_in_its_places,
+};
+
+/// Where the whole plan of a change is carried out, over the first data blocks that are free, with new marks, the change is made.
+pub fn carried_out_change_is_made()
+    ensures { (g : Sizes) (s : Store) (cs : Changes) (plan : PartialPlan) (taken : Allocation) (v : Marks) (new : Store)
+        → IsAllowed g → IsSpelled g s → CanApply g s cs v → IsWhole g s cs v.digests plan taken (Some v) → AreFirstFree g s (taken_data taken) → IsCarriedOut g s (whole_of plan taken (Some v)) new → IsAppliedStore g s cs v new }
+{
+    whole_change_can_be_carried_out();
+    whole_change_lies_in_its_places();
+    carried_out_marks();
+}

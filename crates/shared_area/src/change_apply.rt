@@ -1,0 +1,255 @@
+// A change of the graph is made on the shared media.
+ghost use Rattle.std.specs.Prelude.{◌≡◌, ◌≢◌, ◌≤◌, ◌<◌, ◌+◌, ◌⊎◌, ℕ, List, [], true, false, length, Err, OnOk, OnErr, IfErr, IfOk, IsErrOf};
+ghost use Rattle.record_validation.specs.file_graph.Units.{charge};
+ghost use Rattle.std.specs.FinMap as fin;
+ghost use Rattle.change_plan.specs.graph_change.Bounds.{AreBounded};
+ghost use Rattle.change_plan.specs.graph_change.Change.{changed_graph};
+ghost use Rattle.change_plan.specs.graph_change.Tidy.{AreTidyChanges};
+ghost use Rattle.change_plan.specs.graph_change.View.{changes_of};
+ghost use Rattle.change_plan.specs.tier_device.declared.media.Tier.{Tier};
+ghost use Rattle.change_plan.specs.tier_device.Media.{Rose};
+ghost use Rattle.change_plan.specs.layout.Marks.{fits_marks};
+ghost use Rattle.change_plan.specs.area_image.Store.{disk, graph};
+ghost use Rattle.change_plan.specs.area_commit.Value.{PoolsView, free_data, AreInOrder};
+ghost use Rattle.change_plan.specs.inode_plan.RunPlaces.{EndsFit};
+ghost use Rattle.change_plan.specs.area_commit.Allocations.{runs_of, WereTaken, CanRelease, SameFree, taken_data};
+ghost use Rattle.change_plan.specs.inode_plan.PlannedFile.{pairs_of};
+ghost use Rattle.change_plan.specs.area_commit.StableState.{IsSettled, StaysStill};
+ghost use Rattle.shared_area.specs.ChangeApply.{CanApply, IsAppliedStore, Applies, Ends, MakesFewCalls};
+ghost use Rattle.shared_area.specs.Errors.{IsForced};
+ghost use Rattle.change_plan.specs.First.{PlansNothing};
+ghost use Rattle.change_plan.specs.FileLayout.{AreFirstFree};
+ghost use Rattle.change_plan.specs.Next.{HasFewEntries};
+ghost use Rattle.change_plan.specs.BlockDemand.{images_for, WantsBlocks, AreWritten};
+ghost use Rattle.shared_area.specs.declared.error.ApplyError.TheVariants.{DeviceFault, NoBlock};
+
+use crate::error::{ApplyError, apply_error};
+use crate::plan_write::reserve_blocks;
+use change_plan::{
+    Allocation, AllocatorError, BLOCK, FreedBlocks, GraphChange, Journal, Marks, Media, NodeImages,
+    PartialPlan, Place, Pools, Tier, count_blocks, nodes_never_run_out, plan_changes, taken_places,
+    wanted_blocks_are_written,
+};
+use std::alloc::{AllocError, Global};
+
+// Room for the bytes of so many data blocks.
+fn room_for(alloc: Global, blocks: usize) -> Result<Vec<u8>, AllocError>
+    ensures { IfOk result (λ bytes. bytes.items ≡ []) }
+{
+    match blocks.checked_mul(BLOCK) {
+        Some(size) => Vec::with_capacity(alloc, size),
+        None => Err(AllocError),
+    }
+}
+
+// Before the first inode nothing is planned. There is room for the bytes of all data blocks, so that none are moved when others come behind them.
+fn nothing_planned(alloc: Global, blocks: usize) -> Result<PartialPlan, AllocError>
+    ensures { IfOk result (λ plan. PlansNothing plan) }
+{
+    Ok(PartialPlan {
+        slots: Vec::new(alloc),
+        nodes: NodeImages::new(alloc),
+        bytes: room_for(alloc, blocks)?,
+        lost: FreedBlocks {
+            nodes: Vec::new(alloc),
+            fast: Vec::new(alloc),
+            block: Vec::new(alloc),
+            slow: Vec::new(alloc),
+        },
+    })
+}
+
+// Lists the places of the data blocks that were taken, for a plan in which nothing stands yet.
+fn start_plan(alloc: Global, taken: &Allocation) -> Result<(Vec<Place>, PartialPlan), AllocError>
+    requires { (t : Tier) → EndsFit (runs_of taken.now t) }
+    ensures places { IfOk result (λ start. pairs_of start.0.items ≡ taken_data taken.now) }
+    ensures nothing { IfOk result (λ start. PlansNothing start.1) }
+{
+    let places = taken_places(alloc, taken)?;
+    let plan = nothing_planned(alloc, places.len())?;
+    Ok((places, plan))
+}
+
+// Plans a change over the data blocks that were taken for it, whose places these are, and carries it out.
+fn plan_change<M: Media>(
+    alloc: Global,
+    journal: &mut Journal<M>,
+    pools: &mut Pools,
+    change: &GraphChange,
+    marks: Marks,
+    places: &[Place],
+    taken: Allocation,
+    plan: PartialPlan,
+) -> Result<(), ApplyError>
+    requires going { journal.old.failed ≡ false }
+    requires can { CanApply journal.old.geometry (disk M.Media journal.old) (changes_of change.now) marks }
+    requires taken { (before : PoolsView) × AreInOrder before × WereTaken before pools.old taken × IsSettled journal.old.geometry (M.seen journal.old.media) (M.left journal.old.media (M.moment journal.old.media)) before }
+    requires undo { CanRelease pools.old taken }
+    requires first { AreFirstFree journal.old.geometry (disk M.Media journal.old) (taken_data taken) }
+    requires no_nodes { taken.nodes.items ≡ [] }
+    requires nodes { 255 ≤ length pools.old.nodes.free }
+    requires places { pairs_of places.now ≡ taken_data taken }
+    requires nothing { PlansNothing plan }
+    requires wants { WantsBlocks journal.old.geometry (disk M.Media journal.old) (changes_of change.now) (length places.now) }
+    ensures ends { Ends M.Media (changes_of change.now) marks journal.old journal.new pools.new result }
+    ensures same { (before : PoolsView) → AreInOrder before → WereTaken before pools.old taken → OnErr result (SameFree before pools.new) }
+    ensures only { IfErr result IsForced }
+{
+    journal.left_now();
+    let _units = journal.geometry().units();
+    let mut taken = taken;
+    let mut plan = plan;
+    match plan_changes(
+        alloc,
+        journal,
+        pools,
+        &mut taken,
+        change,
+        marks.digests,
+        places,
+        &mut plan,
+    ) {
+        Ok(()) => reserve_blocks(alloc, journal, pools, change, marks, plan, taken),
+        Err(error) => {
+            pools.release(taken);
+            Err(apply_error(error))
+        }
+    }
+}
+
+// Lists the places of the data blocks that were taken, and makes the change over them.
+fn place_blocks<M: Media>(
+    alloc: Global,
+    journal: &mut Journal<M>,
+    pools: &mut Pools,
+    change: &GraphChange,
+    marks: Marks,
+    taken: Allocation,
+) -> Result<(), ApplyError>
+    requires going { journal.old.failed ≡ false }
+    requires can { CanApply journal.old.geometry (disk M.Media journal.old) (changes_of change.now) marks }
+    requires taken { (before : PoolsView) × AreInOrder before × WereTaken before pools.old taken × IsSettled journal.old.geometry (M.seen journal.old.media) (M.left journal.old.media (M.moment journal.old.media)) before }
+    requires undo { CanRelease pools.old taken }
+    requires first { AreFirstFree journal.old.geometry (disk M.Media journal.old) (taken_data taken) }
+    requires no_nodes { taken.nodes.items ≡ [] }
+    requires nodes { 255 ≤ length pools.old.nodes.free }
+    requires wants { WantsBlocks journal.old.geometry (disk M.Media journal.old) (changes_of change.now) (length (taken_data taken)) }
+    ensures ends { Ends M.Media (changes_of change.now) marks journal.old journal.new pools.new result }
+    ensures same { (before : PoolsView) → AreInOrder before → WereTaken before pools.old taken → OnErr result (SameFree before pools.new) }
+    ensures only { IfErr result IsForced }
+{
+    journal.left_now();
+    let _units = journal.geometry().units();
+    match start_plan(alloc, &taken) {
+        Ok((places, plan)) => {
+            plan_change(alloc, journal, pools, change, marks, &places, taken, plan)
+        }
+        Err(_) => {
+            pools.release(taken);
+            Err(ApplyError::Memory)
+        }
+    }
+}
+
+// Takes as many data blocks as the change wants, and makes it.
+fn allocate_blocks<M: Media>(
+    alloc: Global,
+    journal: &mut Journal<M>,
+    pools: &mut Pools,
+    change: &GraphChange,
+    marks: Marks,
+    count: usize,
+) -> Result<(), ApplyError>
+    requires going { journal.old.failed ≡ false }
+    requires settled { IsSettled journal.old.geometry (M.seen journal.old.media) (M.left journal.old.media (M.moment journal.old.media)) pools.old }
+    requires can { CanApply journal.old.geometry (disk M.Media journal.old) (changes_of change.now) marks }
+    requires wants { WantsBlocks journal.old.geometry (disk M.Media journal.old) (changes_of change.now) count }
+    ensures ends { Ends M.Media (changes_of change.now) marks journal.old journal.new pools.new result }
+    ensures same { OnErr result (SameFree pools.old pools.new) }
+    ensures few { IsErrOf result NoBlock → length (free_data pools.old) < count }
+{
+    journal.left_now();
+    let _units = journal.geometry().units();
+    nodes_never_run_out();
+    let _free = pools.free(Tier::Fast);
+    if count > u32::MAX as usize {
+        return Err(ApplyError::NoBlock);
+    }
+    match pools.take(0, count as u32) {
+        Ok(taken) => place_blocks(alloc, journal, pools, change, marks, taken),
+        Err(AllocatorError::NoBlock) => Err(ApplyError::NoBlock),
+        Err(AllocatorError::Memory) => Err(ApplyError::Memory),
+    }
+}
+
+// Counts the blocks that the change wants, on media of which no device has failed, and makes it.
+fn apply_counted<M: Media>(
+    alloc: Global,
+    journal: &mut Journal<M>,
+    pools: &mut Pools,
+    change: &GraphChange,
+    marks: Marks,
+) -> Result<(), ApplyError>
+    requires going { journal.old.failed ≡ false }
+    requires settled { IsSettled journal.old.geometry (M.seen journal.old.media) (M.left journal.old.media (M.moment journal.old.media)) pools.old }
+    requires can { CanApply journal.old.geometry (disk M.Media journal.old) (changes_of change.now) marks }
+    ensures ends { Ends M.Media (changes_of change.now) marks journal.old journal.new pools.new result }
+    ensures same { OnErr result (SameFree pools.old pools.new) }
+    ensures few { IsErrOf result NoBlock → (n : ℕ) × WantsBlocks journal.old.geometry (disk M.Media journal.old) (changes_of change.now) n × (length (free_data pools.old) < n) }
+{
+    journal.left_now();
+    match count_blocks(alloc, journal, change) {
+        Ok(count) => allocate_blocks(alloc, journal, pools, change, marks, count),
+        Err(error) => Err(apply_error(error)),
+    }
+}
+
+/// Changes the graph on the shared media, with new marks, in one batch: each block that the change writes goes into a data block of its own, the first that are free, fastest tier
+/// first, with one write for each run of them in that order and then one fence for each tier that was written; then one batch writes slots, lists of extents, blocks of directories and marks;
+/// then what the inodes used and use no more is free. So a stop at any moment leaves the graph and the marks from before, or the graph after the change and the new marks. Each
+/// inode that is written tells the number of digests that the marks tell.
+///
+/// `NoBlock` where fewer data blocks are free than the change writes; `Memory` where there was none, before the first write. After these two the media and the free blocks are as
+/// before. `DeviceFault` where a device fails in the call, or has failed before it, and nothing is touched then; the journal answers nothing else until it is opened again. The
+/// blocks are counted by reading slots, so that of several reasons that stand together any may be told.
+pub fn apply<M: Media>(
+    alloc: Global,
+    journal: &mut Journal<M>,
+    pools: &mut Pools,
+    change: &GraphChange,
+    marks: Marks,
+) -> Result<(), ApplyError>
+    // The media spell a graph with nothing pending, and the pools have their free blocks.
+    requires settled { journal.old.failed ≡ false → IsSettled journal.old.geometry (M.seen journal.old.media) (M.left journal.old.media (M.moment journal.old.media)) pools.old }
+    requires bounded { AreBounded (changes_of change.now) }
+    requires tidy { AreTidyChanges (changes_of change.now) }
+    requires images { images_for (changes_of change.now) ≤ 255 }
+    requires fits { fits_marks marks ≡ true }
+    requires entries { journal.old.failed ≡ false → (i : ℕ) → fin.contains_key (changes_of change.now) i ≡ true → HasFewEntries (changed_graph (changes_of change.now) (graph journal.old.geometry (disk M.Media journal.old)) i) }
+    requires units { journal.old.failed ≡ false → charge (changed_graph (changes_of change.now) (graph journal.old.geometry (disk M.Media journal.old))) ≤ journal.old.geometry.units }
+
+    // At each moment a stop leaves the graph and the marks from before, or the graph after the change and the new marks.
+    ensures any_moment { journal.old.failed ≡ false → Applies journal.old.geometry (disk M.Media journal.old) (changes_of change.now) marks (M.moment journal.old.media) (M.moment journal.new.media) (M.left journal.old.media) (M.left journal.new.media) }
+    ensures applied { OnOk result (IsAppliedStore journal.old.geometry (disk M.Media journal.old) (changes_of change.now) marks (disk M.Media journal.new)) }
+    ensures settled { journal.new.failed ≡ false → IsSettled journal.new.geometry (M.seen journal.new.media) (M.left journal.new.media (M.moment journal.new.media)) pools.new }
+
+    // Files that the change leaves have more blocks that it writes than data blocks are free.
+    ensures no_block { IsErrOf result NoBlock → (bs : List (ℕ × ℕ)) × AreWritten journal.old.geometry (disk M.Media journal.old) (changes_of change.now) bs × (length (free_data pools.old) < length bs) }
+    ensures unmoved { IfErr result (λ e. e ≢ DeviceFault → StaysStill M.Media journal.old journal.new) }
+    ensures same { OnErr result (SameFree pools.old pools.new) }
+    ensures fault { IsErrOf result DeviceFault → (journal.new.failed ≡ true) × ((journal.old.failed ≡ true) ⊎ Rose (M.faults journal.old.media) (M.faults journal.new.media)) }
+    // A journal that has failed answers nothing else, and is not touched.
+    ensures stays_failed { journal.old.failed ≡ true → (result ≡ Err DeviceFault) × (journal.new ≡ journal.old) × (pools.new ≡ pools.old) }
+    ensures quiet { OnOk result ((journal.new.failed ≡ false) × (M.faults journal.new.media ≡ M.faults journal.old.media)) }
+    ensures geometry { journal.new.geometry ≡ journal.old.geometry }
+    ensures faults { M.faults journal.old.media ≤ M.faults journal.new.media }
+    ensures one_fault { M.faults journal.new.media ≤ M.faults journal.old.media + 1 }
+    // A write for each run of data blocks that is taken, fastest tier first, a fence for each tier that is written, in the same order, and the batch; what is read is not counted.
+    ensures at_most { MakesFewCalls journal.old.geometry (disk M.Media journal.old) (changes_of change.now) (M.moment journal.old.media) (M.moment journal.new.media) (M.left journal.old.media) (M.left journal.new.media) }
+{
+    if journal.has_failed() {
+        return Err(ApplyError::DeviceFault);
+    }
+    wanted_blocks_are_written();
+    apply_counted(alloc, journal, pools, change, marks)
+}

@@ -1,0 +1,129 @@
+// The entries of a directory.
+ghost use Rattle.std.specs.Prelude.{◌≡◌, ◌≤◌, ◌<◌, ◌+◌, ◌*◌, ℕ, min, length, true, false, OnOk, IfOk, IfErr};
+ghost use Rattle.std.specs.FinMap as fin;
+ghost use Rattle.record_validation.specs.posix_calls.declared.limits.TheConstants.{MAX_ENTRIES};
+ghost use Rattle.change_plan.specs.layout.declared.directory.TheConstants.{MAX_IN_BLOCK};
+ghost use Rattle.change_plan.specs.layout.Directory.{AreEntries, block_entries, fits_entry};
+ghost use Rattle.change_plan.specs.layout.LentEntry.{owned_entry};
+ghost use Rattle.change_plan.specs.tree_blocks.Inode.{Entry, AreDirectoryBlocks, entry_at, named_entries, blocks_for};
+ghost use Rattle.change_plan.specs.area_image.Store.{disk, logical_block};
+ghost use Rattle.change_plan.specs.area_image.Checks.{HasFound, IsOnce};
+ghost use Rattle.change_plan.specs.area_image.Looks.{Looks};
+ghost use Rattle.change_plan.specs.area_image.declared.error.AreaError.TheVariants.{DeviceFault, Memory};
+ghost use Rattle.shared_area.specs.DirectoryReads.{AreNext};
+ghost use Rattle.shared_area.specs.Parts.{IsNoDamage};
+
+use crate::file_read::read_within;
+use change_plan::{
+    AreaError, BLOCK, DirEntries, EntryRef, InodeExtents, Journal, Media, blank_block,
+};
+use record_validation::{Child, NameMap};
+use std::alloc::{AllocError, Global};
+
+// Puts one more entry.
+fn put_entry(
+    alloc: Global,
+    entries: &mut NameMap<Child>,
+    entry: EntryRef<'_>,
+) -> Result<(), AllocError>
+    requires { fits_entry (owned_entry entry) ≡ true }
+    ensures { OnOk result (entries.new ≡ fin.insert entries.old entry.entry.name.now (entry.entry.inode, entry.entry.kind)) }
+{
+    let owned = entry.to_entry(alloc)?;
+    entries.put(owned.name, Child::new(owned.inode, owned.kind))
+}
+
+// Puts the entries of a block behind those of a directory up to it.
+fn put_entries(alloc: Global, entries: &mut NameMap<Child>, block: &[u8]) -> Result<(), AllocError>
+    requires { AreEntries block.now }
+    ensures { OnOk result ((entry : ℕ → Entry) (n : ℕ) → AreNext entry n (block_entries block.now) → entries.old ≡ named_entries entry n → entries.new ≡ named_entries entry (n + length (block_entries block.now).entries)) }
+{
+    let list = DirEntries::from_known(block);
+    'entries: for index in 0..list.len() {
+        put_entry(alloc, entries, list.entry(index))?;
+    }
+    Ok(())
+}
+
+// A block of a directory.
+fn read_entry_block<M: Media>(
+    journal: &mut Journal<M>,
+    inode: u32,
+    found: &InodeExtents,
+    number: u64,
+) -> Result<[u8; BLOCK], AreaError>
+    requires few { number < 65536 }
+    requires entries { AreEntries (logical_block journal.old.geometry (disk M.Media journal.old) inode number) }
+    requires found { HasFound journal.old.geometry (disk M.Media journal.old) inode found.now }
+    requires once { IsOnce journal.old.geometry (disk M.Media journal.old) inode }
+    requires going { journal.old.failed ≡ false }
+    ensures block { IfOk result (λ b. b ≡ logical_block journal.old.geometry (disk M.Media journal.old) inode number) }
+    ensures only { IfErr result (λ e. e ≡ DeviceFault) }
+    ensures looks { Looks M.Media journal.old journal.new result }
+{
+    let mut block = blank_block();
+    match read_within(journal, inode, found, BLOCK as u64 * number, &mut block) {
+        Ok(()) => Ok(block),
+        Err(error) => Err(error),
+    }
+}
+
+// Puts the entries of one more block of a directory.
+fn add_part<M: Media>(
+    alloc: Global,
+    journal: &mut Journal<M>,
+    inode: u32,
+    found: &InodeExtents,
+    entries: u64,
+    number: u64,
+    map: &mut NameMap<Child>,
+) -> Result<(), AreaError>
+    requires few { number < 65536 }
+    requires within { number < blocks_for entries }
+    requires directory { AreDirectoryBlocks inode entries (logical_block journal.old.geometry (disk M.Media journal.old) inode) }
+    requires found { HasFound journal.old.geometry (disk M.Media journal.old) inode found.now }
+    requires once { IsOnce journal.old.geometry (disk M.Media journal.old) inode }
+    requires before { map.old ≡ named_entries (entry_at (logical_block journal.old.geometry (disk M.Media journal.old) inode)) (min entries (MAX_IN_BLOCK * number)) }
+    requires going { journal.old.failed ≡ false }
+    ensures after { OnOk result (map.new ≡ named_entries (entry_at (logical_block journal.old.geometry (disk M.Media journal.old) inode)) (min entries (MAX_IN_BLOCK * (number + 1)))) }
+    ensures only { IfErr result IsNoDamage }
+    ensures looks { Looks M.Media journal.old journal.new result }
+{
+    match read_entry_block(journal, inode, found, number) {
+        Ok(block) => match put_entries(alloc, map, &block) {
+            Ok(()) => Ok(()),
+            Err(_) => Err(AreaError::Memory),
+        },
+        Err(error) => Err(error),
+    }
+}
+
+/// The entries of a directory by name; so many blocks are read, each once.
+pub fn read_entries<M: Media>(
+    alloc: Global,
+    journal: &mut Journal<M>,
+    inode: u32,
+    found: &InodeExtents,
+    entries: u64,
+    blocks: u64,
+) -> Result<NameMap<Child>, AreaError>
+    requires few { entries ≤ MAX_ENTRIES }
+    requires blocks { blocks ≡ blocks_for entries }
+    requires directory { AreDirectoryBlocks inode entries (logical_block journal.old.geometry (disk M.Media journal.old) inode) }
+    requires found { HasFound journal.old.geometry (disk M.Media journal.old) inode found.now }
+    requires once { IsOnce journal.old.geometry (disk M.Media journal.old) inode }
+    requires going { journal.old.failed ≡ false }
+    ensures entries { IfOk result (λ m. m ≡ named_entries (entry_at (logical_block journal.old.geometry (disk M.Media journal.old) inode)) entries) }
+    ensures only { IfErr result IsNoDamage }
+    ensures memory { IfErr result (λ e. e ≡ Memory → 0 < blocks) }
+    ensures looks { Looks M.Media journal.old journal.new result }
+{
+    let mut map = NameMap::new(alloc);
+    'parts: for number in 0..blocks {
+        match add_part(alloc, journal, inode, found, entries, number, &mut map) {
+            Ok(()) => {}
+            Err(error) => return Err(error),
+        }
+    }
+    Ok(map)
+}

@@ -1,0 +1,123 @@
+// A change of the graph is made, and what is kept of the media in memory follows it.
+ghost use Rattle.std.specs.Prelude.{◌≡◌, ◌≤◌, ◌<◌, ℕ, List, true, false, length, OnOk, OnErr, IsErrOf};
+ghost use Rattle.std.specs.FinMap as fin;
+ghost use Rattle.record_validation.specs.file_graph.Units.{charge};
+ghost use Rattle.change_plan.specs.graph_change.Bounds.{AreBounded};
+ghost use Rattle.change_plan.specs.graph_change.Change.{changed_graph};
+ghost use Rattle.change_plan.specs.graph_change.Tidy.{AreTidyChanges};
+ghost use Rattle.change_plan.specs.graph_change.View.{changes_of};
+ghost use Rattle.change_plan.specs.layout.declared.places.TheConstants.{SPARE_BLOCKS};
+ghost use Rattle.change_plan.specs.layout.Marks.{fits_marks};
+ghost use Rattle.change_plan.specs.area_image.Store.{disk, graph};
+ghost use Rattle.change_plan.specs.area_commit.Value.{free_data};
+ghost use Rattle.change_plan.specs.area_commit.StableState.{IsSettled};
+ghost use Rattle.shared_area.specs.ChangeApply.{CanApply, IsAppliedStore, Ends, MakesFewCalls};
+ghost use Rattle.shared_area.specs.Costs.{inodes_of, units_in};
+ghost use Rattle.change_plan.specs.Next.{HasFewEntries};
+ghost use Rattle.change_plan.specs.BlockDemand.{images_for, AreWritten};
+ghost use Rattle.shared_area.specs.declared.error.ApplyError.TheVariants.{NoBlock};
+ghost use Rattle.shared_area.specs.Ready.{IsReady};
+ghost use Rattle.shared_area.specs.GraphUpdate.{HasTooFewData, StaysOrChanges, AppliesOrStays};
+
+use crate::{ApplyError, apply, charge_follows_the_change, units_of_change};
+use change_plan::{GraphChange, Journal, Marks, Media, Pools, Tier, small_changes_find_blocks};
+use std::alloc::Global;
+
+// Makes a change of inodes that cost so much before it, and counts what the graph costs then. The count stays where the change is not made.
+fn change_from<M: Media>(
+    alloc: Global,
+    journal: &mut Journal<M>,
+    pools: &mut Pools,
+    units: &mut u64,
+    before: u64,
+    change: &GraphChange,
+    marks: Marks,
+) -> Result<(), ApplyError>
+    requires going { journal.old.failed ≡ false }
+    requires settled { IsSettled journal.old.geometry (M.seen journal.old.media) (M.left journal.old.media (M.moment journal.old.media)) pools.old }
+    requires charged { units.old ≡ charge (graph journal.old.geometry (disk M.Media journal.old)) }
+    requires before { before ≡ units_in journal.old.geometry (disk M.Media journal.old) (inodes_of change.now) }
+    requires few { before ≤ units.old }
+    requires can { CanApply journal.old.geometry (disk M.Media journal.old) (changes_of change.now) marks }
+    ensures ends { Ends M.Media (changes_of change.now) marks journal.old journal.new pools.new result }
+    ensures charged { OnOk result (units.new ≡ charge (graph journal.new.geometry (disk M.Media journal.new))) }
+    ensures kept { OnErr result (units.new ≡ units.old) }
+    ensures no_block { IsErrOf result NoBlock → (bs : List (ℕ × ℕ)) × AreWritten journal.old.geometry (disk M.Media journal.old) (changes_of change.now) bs × (length (free_data pools.old) < length bs) }
+{
+    let _units = journal.geometry().units();
+    charge_follows_the_change();
+    match apply(alloc, journal, pools, change, marks) {
+        Ok(()) => match units_of_change(journal, change) {
+            Ok(after) => {
+                *units = *units - before + after;
+                Ok(())
+            }
+            Err(_) => Err(ApplyError::DeviceFault),
+        },
+        Err(error) => Err(error),
+    }
+}
+
+// The same, with what the inodes cost before it, on media of which no device has failed.
+fn apply_running<M: Media>(
+    alloc: Global,
+    journal: &mut Journal<M>,
+    pools: &mut Pools,
+    units: &mut u64,
+    change: &GraphChange,
+    marks: Marks,
+) -> Result<(), ApplyError>
+    requires going { journal.old.failed ≡ false }
+    requires settled { IsSettled journal.old.geometry (M.seen journal.old.media) (M.left journal.old.media (M.moment journal.old.media)) pools.old }
+    requires charged { units.old ≡ charge (graph journal.old.geometry (disk M.Media journal.old)) }
+    requires can { CanApply journal.old.geometry (disk M.Media journal.old) (changes_of change.now) marks }
+    ensures ends { Ends M.Media (changes_of change.now) marks journal.old journal.new pools.new result }
+    ensures charged { OnOk result (units.new ≡ charge (graph journal.new.geometry (disk M.Media journal.new))) }
+    ensures kept { OnErr result (units.new ≡ units.old) }
+    ensures no_block { IsErrOf result NoBlock → (bs : List (ℕ × ℕ)) × AreWritten journal.old.geometry (disk M.Media journal.old) (changes_of change.now) bs × (length (free_data pools.old) < length bs) }
+{
+    journal.left_now();
+    match units_of_change(journal, change) {
+        Ok(before) => change_from(alloc, journal, pools, units, before, change, marks),
+        Err(_) => Err(ApplyError::DeviceFault),
+    }
+}
+
+/// Makes a change of the graph with new marks, and keeps pools, marks and units true of the media.
+pub fn make_change<M: Media>(
+    alloc: Global,
+    journal: &mut Journal<M>,
+    pools: &mut Pools,
+    told: &mut Marks,
+    units: &mut u64,
+    change: &GraphChange,
+    marks: Marks,
+) -> Result<(), ApplyError>
+    requires ready { journal.old.failed ≡ false → IsReady journal.old.geometry (M.seen journal.old.media) (M.left journal.old.media (M.moment journal.old.media)) pools.old told.old units.old }
+    requires bounded { AreBounded (changes_of change.now) }
+    requires tidy { AreTidyChanges (changes_of change.now) }
+    requires images { images_for (changes_of change.now) ≤ 255 }
+    requires fits { fits_marks marks ≡ true }
+    requires entries { journal.old.failed ≡ false → (i : ℕ) → fin.contains_key (changes_of change.now) i ≡ true → HasFewEntries (changed_graph (changes_of change.now) (graph journal.old.geometry (disk M.Media journal.old)) i) }
+    requires units { journal.old.failed ≡ false → charge (changed_graph (changes_of change.now) (graph journal.old.geometry (disk M.Media journal.old))) ≤ journal.old.geometry.units }
+    ensures ready { journal.new.failed ≡ false → IsReady journal.new.geometry (M.seen journal.new.media) (M.left journal.new.media (M.moment journal.new.media)) pools.new told.new units.new }
+    ensures any_moment { journal.old.failed ≡ false → StaysOrChanges journal.old.geometry (disk M.Media journal.old) (changes_of change.now) marks (M.moment journal.old.media) (M.moment journal.new.media) (M.left journal.old.media) (M.left journal.new.media) }
+    ensures applied { OnOk result (IsAppliedStore journal.old.geometry (disk M.Media journal.old) (changes_of change.now) marks (disk M.Media journal.new)) }
+    ensures no_block { IsErrOf result NoBlock → (bs : List (ℕ × ℕ)) × AreWritten journal.old.geometry (disk M.Media journal.old) (changes_of change.now) bs × HasTooFewData journal.old.geometry (disk M.Media journal.old) (length bs) }
+    ensures never { ((bs : List (ℕ × ℕ)) → AreWritten journal.old.geometry (disk M.Media journal.old) (changes_of change.now) bs → length bs ≤ SPARE_BLOCKS) → IsErrOf result NoBlock → ⊥ }
+    ensures applies { AppliesOrStays M.Media journal.old journal.new result }
+    ensures at_most { MakesFewCalls journal.old.geometry (disk M.Media journal.old) (changes_of change.now) (M.moment journal.old.media) (M.moment journal.new.media) (M.left journal.old.media) (M.left journal.new.media) }
+{
+    if journal.has_failed() {
+        return Err(ApplyError::DeviceFault);
+    }
+    let _free = pools.free(Tier::Fast);
+    small_changes_find_blocks();
+    match apply_running(alloc, journal, pools, units, change, marks) {
+        Ok(()) => {
+            *told = marks;
+            Ok(())
+        }
+        Err(error) => Err(error),
+    }
+}

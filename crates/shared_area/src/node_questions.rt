@@ -1,0 +1,28 @@
+//! The shared area is asked for its nodes.
+
+use crate::area::Shared;
+use change_plan::{AreaError, Media};
+use record_validation::{NodeSummary, Nodes};
+use std::alloc::Global;
+
+impl<M: Media> Nodes for Shared<M> {
+    type Error = AreaError;
+
+    ghost use Rattle.change_plan.specs.area_image.Store.{disk, graph as graph_of};
+    ghost use Rattle.shared_area.specs.NodeQuestions.{HasAsked, nothing_asked, asked_on};
+
+    ghost graph = { λ a. graph_of a.geometry (disk M.Media a) };
+
+    ghost asked = { λ first last inodes refusal. HasAsked M.Media first last refusal };
+
+    ghost none_asked = { λ a. nothing_asked {M = M} (record { seen = M.seen; moment = M.moment; left = M.left; faults = M.faults }) a };
+
+    ghost more_asked = { λ first next last before behind refusal answered more. asked_on {M = M} (record { seen = M.seen; moment = M.moment; left = M.left; faults = M.faults }) first next last refusal answered more };
+
+    fn node(&mut self, _alloc: Global, inode: u32) -> Result<Option<NodeSummary>, AreaError> {
+        match Shared::node(self, inode) {
+            Ok(node) => Ok(node),
+            Err(error) => Err(error),
+        }
+    }
+}

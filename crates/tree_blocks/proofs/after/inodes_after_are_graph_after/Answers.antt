@@ -1,5 +1,0 @@
-use Rattle.tree_blocks.proofs.Edited.{graph_law}
-use Rattle.tree_blocks.proofs.after.inodes_after_are_graph_after.Goals as goal
-
-pub returns : goal.returns
-returns = λ c. graph_law

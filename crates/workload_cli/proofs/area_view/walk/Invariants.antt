@@ -1,0 +1,12 @@
+use Rattle.std.proofs.Common.{◌≡◌, drop}
+use Rattle.script.specs.posix_calls.Resolve.{resolve, resolve_from}
+use Rattle.workload_cli.specs.OfSystem.{HasLooked, tree_in}
+use Rattle.workload_cli.proofs.area_view.walk.Given as goal
+
+-- the names that are left lead from the inode to where all lead from the root
+abbrev pub invariant-loop-name : goal.invariant-loop-name
+invariant-loop-name g l = record {
+  looked : HasLooked g.M.Media l.fn.system l.system;
+  failed : l.system.kernel.area.failed ≡ l.fn.system.kernel.area.failed;
+  leads : resolve_from (tree_in g.M.Media l.fn.system.kernel) (drop l.name-index l.fn.path) l.inode ≡ resolve (tree_in g.M.Media l.fn.system.kernel) l.fn.path;
+}

@@ -1,0 +1,68 @@
+-- What a line of a script is answered, and what it makes of a running system.
+use Rattle.std.specs.Prelude.{◌≡◌, ◌⊎◌, ◌-◌, ◌^◌, ℕ, min, Bool, true, false, List, Option, Some, None, Result, Ok}
+use Rattle.script.specs.tier_device.declared.media.Tier.{Tier}
+use Rattle.script.specs.posix_calls.Tree.{Tree}
+use Rattle.script.specs.posix_calls.declared.call.Call.{Call}
+use Rattle.script.specs.posix_calls.declared.errno.Errno.TheVariants.{NoMemory}
+use Rattle.fresh_system.specs.lease_manager.declared.view.LeaseMode.{LeaseMode}
+use Rattle.script.specs.SystemLines.{Asked, Calls, Steps, Digests, Wipes, Moves, Places, Books}
+use Rattle.script.specs.declared.system_line.LowerTier.{LowerTier}
+use Rattle.script.specs.declared.system_line.Manner.{Manner}
+use Rattle.fresh_system.specs.kernel_fs.declared.kernel.Figures.{Figures}
+use Rattle.fresh_system.specs.event_steps.declared.event.Event.{Event}
+use Rattle.fresh_system.specs.event_steps.declared.event.Event.TheVariants as event
+use Rattle.fresh_system.specs.event_steps.declared.outcome.Outcome.{Outcome}
+use Rattle.fresh_system.specs.event_steps.declared.outcome.Refusal.{Refusal}
+use Rattle.call_driver.specs.Digests.{IsCleared, IsWiped}
+use Rattle.call_driver.specs.Calls.{IsStepOf}
+use Rattle.call_driver.specs.declared.call_result.CallResult.{CallResult}
+use Rattle.workload_cli.specs.Manners.{IsServedIn}
+use Rattle.workload_cli.specs.Paths.{file_in}
+use Rattle.workload_cli.specs.AnswerText.{IsNoFile, tier_below, book_answer, call_answer, digest_answer, failure_answer, move_answer, step_answer, wipe_answer}
+use Rattle.workload_cli.specs.declared.answer.Answer.{Answer}
+use Rattle.workload_cli.specs.declared.answer.Answer.TheVariants as answers
+use Rattle.workload_cli.specs.declared.system_queries.Running.{Ghosts as Looked}
+use Rattle.call_driver.specs.declared.events.Events.{Ghosts}
+
+-- what a system plays, what its clients owe, hold, wait for and have broken
+module _ {S : Type 0} (system : Ghosts S) where
+  -- There was no memory to build the call, and nothing was played; or it was served in its manner, and is told what became of it.
+  abbrev pub IsCallAnswered : S → ℕ → Manner → Call → Answer → S → Type 0
+  IsCallAnswered old client manner call answer new = ((answer ≡ failure_answer NoMemory) × (new ≡ old))
+      ⊎ ((x : CallResult) × IsServedIn system manner client call x old new × (answer ≡ call_answer x))
+
+  -- One step was played.
+  abbrev pub IsStepAnswered : S → ℕ → Answer → S → Type 0
+  IsStepAnswered old client answer new = (x : Option CallResult) × IsStepOf system.plays client x old new × (answer ≡ step_answer x)
+
+  -- A client that has a call which waits for its answer, or a device that has failed, digests nothing.
+  abbrev pub IsDigestAnswered : S → ℕ → Answer → S → Type 0
+  IsDigestAnswered old client answer new = (((system.pending old client ≡ true) ⊎ (system.failed old client ≡ true)) × (answer ≡ answers.Blocked) × (new ≡ old))
+      ⊎ ((system.pending old client ≡ false) × (system.failed old client ≡ false) × (r : Result ℕ Refusal) × IsCleared system client r old new × (answer ≡ digest_answer r))
+
+  abbrev pub IsWipeAnswered : S → ℕ → Answer → S → Type 0
+  IsWipeAnswered old client answer new = (r : Result Bool Refusal) × IsWiped system.plays client r old new × (answer ≡ wipe_answer r)
+
+  -- what it tells of its shared area: whether a device of that has failed, its file tree, where blocks lie, how the units stand; and that it was only read
+  module _ (area : Looked S) where
+    -- The file was looked up, and its run moved, where there is such a file.
+    pub record IsMoveAnswered (old : S) (path : List ℕ) (first count : ℕ) (to : LowerTier) (answer : Answer) (new : S) : Type 0 where
+      pub between : S
+      pub looked : area.only_reads old between
+      pub came : (IsNoFile (file_in (area.tree old) path) (area.area_failed old) (area.area_failed between) answer × (new ≡ between)) ⊎ ((i : ℕ) × (o : Outcome) × (file_in (area.tree old) path ≡ Ok i) × system.plays between (event.Migrate i first (min count (2 ^ 32 - 1)) (tier_below to)) o new × (answer ≡ move_answer count o))
+
+    -- The block was looked up.
+    pub record IsPlaceAnswered (old : S) (path : List ℕ) (block : ℕ) (answer : Answer) (new : S) : Type 0 where
+      pub looked : area.only_reads old new
+      pub came : IsNoFile (file_in (area.tree old) path) (area.area_failed old) (area.area_failed new) answer ⊎ ((i : ℕ) × (tier : Option Tier) × (file_in (area.tree old) path ≡ Ok i) × area.tier_in old i block tier × (answer ≡ answers.Lies tier))
+
+    -- What is asked of a system is answered so, and leaves it so.
+    abbrev pub IsAnswerTo : S → Option Asked → Answer → S → Type 0
+    IsAnswerTo old None answer new = (answer ≡ answers.Silent) × (new ≡ old)
+    IsAnswerTo old (Some (Calls client manner call)) answer new = IsCallAnswered old client manner call answer new
+    IsAnswerTo old (Some (Steps client)) answer new = IsStepAnswered old client answer new
+    IsAnswerTo old (Some (Digests client)) answer new = IsDigestAnswered old client answer new
+    IsAnswerTo old (Some (Wipes client)) answer new = IsWipeAnswered old client answer new
+    IsAnswerTo old (Some (Moves path first count to)) answer new = IsMoveAnswered old path first count to answer new
+    IsAnswerTo old (Some (Places path block)) answer new = IsPlaceAnswered old path block answer new
+    IsAnswerTo old (Some Books) answer new = (answer ≡ book_answer (area.figures_now old)) × (new ≡ old)

@@ -1,0 +1,56 @@
+// What a script asks of a running system beside its events.
+ghost use Rattle.std.specs.Prelude.{◌≡◌, ℕ, Bool, false, Ok, Option, Some, None, IfErr, IfOk, OnOk};
+ghost use Rattle.script.specs.tier_device.declared.media.Tier.{Tier};
+ghost use Rattle.script.specs.posix_calls.Tree.{Tree};
+ghost use Rattle.fresh_system.specs.event_steps.declared.outcome.Refusal.TheVariants as refusals;
+ghost use Rattle.fresh_system.specs.kernel_fs.declared.kernel.Figures.{Figures};
+ghost use Rattle.script.specs.LineValues.{path_of};
+ghost use Rattle.workload_cli.specs.Paths.{file_in};
+ghost use Rattle.workload_cli.specs.AnswerText.{IsNoFile};
+
+use crate::answer::Answer;
+use fresh_system::Figures;
+use script::{PathText, Tier};
+use std::alloc::Global;
+
+/// A running system that tells of its shared area. Where it can't tell, it answers why.
+pub trait Running {
+    /// Whether a device of the shared area has failed.
+    ghost area_failed: { Self → Bool };
+
+    /// The file tree of the shared area.
+    ghost tree: { Self → Tree };
+
+    /// The tier that has a logical block of an inode of that tree, if one does.
+    ghost tier_in: { Self → ℕ → ℕ → Option Tier → Type 0 };
+
+    /// How the units stand; none once a device of the shared area has failed.
+    ghost figures_now: { Self → Option Figures };
+
+    /// The shared area was read, and nothing else.
+    ghost only_reads: { Self → Self → Type 0 };
+
+    /// The inode of the file that a path leads to in the shared area.
+    fn file_at(&mut self, alloc: Global, path: &PathText<'_>) -> Result<u32, Answer>
+        ensures file { IfOk result (λ i. file_in (tree self.old) (path_of path.now) ≡ Ok i) }
+        ensures none { IfErr result (IsNoFile (file_in (tree self.old) (path_of path.now)) (area_failed self.old) (area_failed self.new)) }
+        ensures going { OnOk result ((area_failed self.old ≡ false) × (area_failed self.new ≡ false)) }
+        ensures looks { only_reads self.old self.new };
+
+    /// The tier that has a logical block of the file that a path leads to there; none where no tier does.
+    fn tier_at(
+        &mut self,
+        alloc: Global,
+        path: &PathText<'_>,
+        block: u64,
+    ) -> Result<Option<Tier>, Answer>
+        ensures tier { IfOk result (λ tier. (i : ℕ) × (file_in (tree self.old) (path_of path.now) ≡ Ok i) × tier_in self.old i block tier) }
+        ensures none { IfErr result (IsNoFile (file_in (tree self.old) (path_of path.now)) (area_failed self.old) (area_failed self.new)) }
+        ensures going { OnOk result ((area_failed self.old ≡ false) × (area_failed self.new ≡ false)) }
+        ensures looks { only_reads self.old self.new };
+
+    /// What the shared tree costs, what the clients were given, and how many units there are. Refused once a device of the shared area has failed.
+    fn figures(&self) -> Result<Figures, Answer>
+        ensures figures { IfOk result (λ f. figures_now self.now ≡ Some f) }
+        ensures failed { IfErr result (λ why. (why ≡ Answer.Refused refusals.KernelFailed) × (figures_now self.now ≡ None)) };
+}
