@@ -2,7 +2,7 @@
 use Rattle.std.specs.Prelude.{◌≡◌, ◌⊎◌, ◌-◌, ◌/◌, ℕ}
 use Rattle.libfs.specs.client_plan.declared.need.Mode.{Mode}
 use Rattle.libfs.specs.client_plan.declared.need.Mode.TheVariants.{Write}
-use Rattle.libfs.specs.lease_manager.Passes.{PassView, with_event, with_lease}
+use Rattle.libfs.specs.lease_manager.Passes.{PassView, lease_of, with_event, with_lease}
 use Rattle.libfs.specs.lease_manager.Words.{asked_bit, asked_word}
 use Rattle.libfs.specs.lease_manager.declared.view.Event.TheVariants.{Asked}
 use Rattle.libfs.specs.lease_manager.declared.view.LeaseMode.{LeaseMode}
@@ -19,7 +19,7 @@ HasPass old pass new = new ≡ record old { client = record old.client { pass = 
 
 -- A lease was tried: it is held now, or the number found in the inode's word showed another client that is in the way.
 abbrev pub IsTried : {M : Type 0} → SeatView M → ℕ → Mode → LeaseMode → Outcome → SeatView M → Type 0
-IsTried old i mode lease o new = ((o ≡ outcomes.Stepped) × HasPass old (with_lease old.client.pass i lease) new)
+IsTried old i mode lease o new = ((o ≡ outcomes.Stepped) × (lease_of new.client.pass i ≡ lease) × HasPass old (with_lease old.client.pass i lease) new)
     ⊎ ((found : ℕ) × (o ≡ outcomes.Refused refusals.Busy) × ShowsBar mode old.client.pass.part.place found × HasPass old (refused_pass old.client.pass i mode found) new)
 
 abbrev pub IsLeased : {M : Type 0} → SeatView M → ℕ → Mode → Outcome → SeatView M → Type 0

@@ -7,6 +7,7 @@ use Rattle.libfs.specs.graph_change.Change.{coalesced_changes}
 use Rattle.libfs.specs.shared_area.ChangeApply.{MakesFewCalls}
 use Rattle.libfs.specs.relocation.MovableFile.{HasFileRun}
 use Rattle.libfs.specs.area_image.Map.{WantsMemory}
+use Rattle.libfs.specs.area_image.batch_journal.Course.{Unmoved}
 use Rattle.libfs.specs.shared_area.TierMoves.{HasTooFew, HasEnough, StaysOpen, MovesOrStays}
 use Rattle.libfs.specs.relocation.declared.error.RelocateError.{RelocateError}
 use Rattle.libfs.specs.relocation.declared.error.RelocateError.TheVariants as moves
@@ -45,6 +46,8 @@ pub record IsReclaimedIn {M : Type 0} (device : Ghosts M) (k : KernelView M) (i 
   pub can : OnOk answer ((m : Machine) → IsKernelOf device k m → CanReclaim m.kernel i)
   pub step : OnOk answer ((m : Machine) → IsKernelOf device k m → IsKernelOf device after (reclaimed m i))
   pub in_use : IsErrOf answer (kernel.Refused reclaims.InUse) → IsUnused (graph k.area.geometry (disk device k.area)) k.book i → ⊥
+  -- what is no such file is not touched, whatever fails
+  pub untouched : (IsUnused (graph k.area.geometry (disk device k.area)) k.book i → ⊥) → Unmoved (device.moment k.area.media) (device.moment after.area.media) (device.seen k.area.media) (device.seen after.area.media) (device.left k.area.media) (device.left after.area.media)
   -- a pin is told before any device is asked
   pub pinned : k.area.failed ≡ false → is_pinned k.book i ≡ true → IsErrOf answer (kernel.Refused reclaims.InUse) × (after ≡ k)
   pub memory : IsErrOf answer (kernel.Refused reclaims.Memory) → WantsMemory k.area.geometry (disk device k.area) i ⊎ IsNameless (graph k.area.geometry (disk device k.area) i)

@@ -28,5 +28,5 @@ pub use system::System;
 pub use libfs::{
     AreaError, CLIENTS, Call, Client, ClientLog, Denied, Figures, INODES, Kernel, KernelError,
     LeaseMode, Leases as LeaseManagerLeases, LogError, Media as TierDeviceMedia, Mode, Need,
-    NodeSummary, Opened, Pass, Reply, Shared,
+    NodeSummary, Opened, Pass, Reply, Shared, answered_start_is_a_step, begun_record_is_a_step,
 };

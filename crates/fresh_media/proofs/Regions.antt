@@ -1,5 +1,6 @@
 -- The bytes of a fresh region.
-use Rattle.std.proofs.Common.{◌≡◌, ℕ, zero, suc, ◌+◌, ◌-◌, ◌^◌, ◌<◌, List, [], ◌∷◌, ◌++◌, length, refl, ap, ◌∙◌, arith}
+use Rattle.std.proofs.Common.{◌≡◌, ℕ, zero, suc, ◌+◌, ◌-◌, ◌^◌, ◌<◌, List, [], ◌∷◌, ◌++◌, length, get_or, refl, ap, ◌∙◌, arith}
+use Rattle.std.proofs.lemmas.List.{get_or-append-add, get_or-replicate}
 use Rattle.byteorder.specs.Endian.{little_number}
 use Rattle.byteorder.specs.Numbers.{little_number-reads_back, length-bytes_low_first}
 use Rattle.layout.specs.Bytes.{u64, zeros}
@@ -35,6 +36,14 @@ unfolding zeros
 none_in skip zero = refl
 none_in zero (suc more) = refl
 none_in (suc skip) (suc more) = none_in skip more
+
+pub region_closed : (n : ℕ) → get_or (fresh_region n) 16 0 ≡ 0
+unfolding zeros
+region_closed n =
+    let rest : ℕ = 262144 - length (u64 n) in
+    let header : 16 ≡ length (u64 n) + 8 = omega (arith, u64_long n) in
+    ap (λ c. get_or c 16 0) (padded_is 262144 (u64 n)) ∙ ap (λ k. get_or (u64 n ++ zeros rest) k 0) header ∙ get_or-append-add (u64 n) (zeros rest) 8 0
+    ∙ get_or-replicate rest 8 0 0 (omega (arith, u64_long n))
 
 pub region_empty : (n : ℕ) → records (fresh_region n) ≡ []
 region_empty n =

@@ -7,6 +7,7 @@ ghost use Rattle.digester.specs.graph_change.Tidy.{AreTidyChanges};
 ghost use Rattle.digester.specs.graph_change.View.{changes_of};
 ghost use Rattle.digester.specs.log_record.Grammar.{IsInode};
 ghost use Rattle.digester.specs.area_image.Store.{disk, graph};
+ghost use Rattle.digester.specs.batch_journal.Course.{Unmoved};
 ghost use Rattle.digester.specs.shared_area.declared.error.ApplyError.TheVariants.{NoBlock};
 ghost use Rattle.digester.specs.shared_area.ChangeApply.{MakesFewCalls};
 ghost use Rattle.digester.specs.area_image.Map.{WantsMemory};
@@ -129,6 +130,8 @@ pub fn drop_nameless<M: Media>(
     ensures was { OnOk result (IsNameless (graph area.old.geometry (disk M.Media area.old) inode)) }
     ensures dropped { OnOk result (IsReclaimed area.old.geometry (disk M.Media area.old) inode (disk M.Media area.new)) }
     ensures in_use { IsErrOf result InUse → IsNameless (graph area.old.geometry (disk M.Media area.old) inode) → ⊥ }
+    // What is no such file is not touched, whatever fails.
+    ensures untouched { (IsNameless (graph area.old.geometry (disk M.Media area.old) inode) → ⊥) → Unmoved (M.moment area.old.media) (M.moment area.new.media) (M.seen area.old.media) (M.seen area.new.media) (M.left area.old.media) (M.left area.new.media) }
     ensures memory { IsErrOf result Memory → WantsMemory area.old.geometry (disk M.Media area.old) inode ⊎ IsNameless (graph area.old.geometry (disk M.Media area.old) inode) }
     ensures stays { ReclaimsOrStays M.Media area.old area.new result }
     ensures at_most { MakesFewCalls area.old.geometry (disk M.Media area.old) (coalesced_changes (effect.Drop inode ∷ [])) (M.moment area.old.media) (M.moment area.new.media) (M.left area.old.media) (M.left area.new.media) }

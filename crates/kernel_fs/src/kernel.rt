@@ -1,4 +1,5 @@
 ghost use Rattle.std.specs.Prelude.{◌≡◌, ◌≢◌, ◌↔◌, ◌≤◌, ◌<◌, ◌+◌, ◌-◌, ◌*◌, ◌⊎◌, ℕ, List, [], ◌∷◌, min, length, take, drop, true, false, None, Some, Err, OnOk, OnErr, IfOk, IfErr, IfSome, IsErrOf};
+ghost use Rattle.digester.specs.batch_journal.Course.{Unmoved};
 ghost use Rattle.digester.specs.posix_calls.Operations.{is_client};
 ghost use Rattle.digester.specs.posix_calls.declared.limits.TheConstants.{UNIT_BYTES};
 ghost use Rattle.digester.specs.file_graph.Graph.{is_among};
@@ -514,6 +515,8 @@ impl<M: Media> Kernel<M> {
         ensures can { OnOk result ((m : Machine) → IsKernelOf M.Media self.old m → CanReclaim m.kernel inode) }
         ensures step { OnOk result ((m : Machine) → IsKernelOf M.Media self.old m → IsKernelOf M.Media self.new (reclaimed m inode)) }
         ensures in_use { IsErrOf result (Refused reclaims.InUse) → IsUnused (graph self.old.area.geometry (disk M.Media self.old.area)) self.old.book inode → ⊥ }
+        // What is no such file is not touched, whatever fails.
+        ensures untouched { (IsUnused (graph self.old.area.geometry (disk M.Media self.old.area)) self.old.book inode → ⊥) → Unmoved (M.moment self.old.area.media) (M.moment self.new.area.media) (M.seen self.old.area.media) (M.seen self.new.area.media) (M.left self.old.area.media) (M.left self.new.area.media) }
         ensures pinned { self.old.area.failed ≡ false → is_pinned self.old.book inode ≡ true → IsErrOf result (Refused reclaims.InUse) × (self.new ≡ self.old) }
         ensures memory { IsErrOf result (Refused reclaims.Memory) → WantsMemory self.old.area.geometry (disk M.Media self.old.area) inode ⊎ IsNameless (graph self.old.area.geometry (disk M.Media self.old.area) inode) }
         ensures book { self.new.book ≡ self.old.book }

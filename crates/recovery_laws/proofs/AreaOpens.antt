@@ -1,6 +1,6 @@
 -- A fresh area opens, as the graph of a root without entries.
 use Rattle.std.proofs.Common.{◌≡◌, ◌≢◌, inl, inr, ℕ, zero, suc, ◌+◌, ◌-◌, ◌*◌, ◌≤◌, ◌<◌, ◌||◌, true, false, cond, List, [], get_or, Option, Some, None, refl, sym, ap, subst, ◌∙◌, arith}
-use Rattle.std.specs.Prelude.{◌==◌, nat_le, unwrap_or, IsSome}
+use Rattle.std.specs.Prelude.{◌==◌, nat_le, replicate, unwrap_or, IsSome}
 use Rattle.std.specs.Option.{option_map}
 use Rattle.std.specs.FinMap as fin
 use Rattle.std.proofs.lemmas.Bool.{cases_Bool, cond-true, cond-false, and_parts, and_from, leb-true, le-leb, lt-ltb, eqb-true, eqb-false, eq-eqb, ne_eqb}
@@ -22,6 +22,7 @@ use Rattle.fresh_media.specs.layout.declared.slot.Slot.TheVariants as slots
 use Rattle.fresh_media.specs.layout.Slot.{fits_slot, slot_spelling, slot_of}
 use Rattle.fresh_media.specs.layout.declared.superblock.Super.{Super}
 use Rattle.fresh_media.specs.layout.Super.{fits_super, super_spelling, super_of}
+use Rattle.digester.specs.MarkMoves.{mark_of}
 use Rattle.digester.specs.batch_journal.Images.{slice}
 use Rattle.digester.specs.batch_journal.Blocks.{home, block_of, is_home, is_gate_open}
 use Rattle.digester.specs.batch_journal.Volume.{Spells, IsJournal, HasSizes, IsVolume}
@@ -42,6 +43,15 @@ allowed g a =
     (and_from _ _
     (and_from _ _ (and_from _ _ (le-leb _ _ a.some_units) (le-leb _ _ a.few_units)) (le-leb _ _ a.fast))
     (le-leb _ _ a.block)) (le-leb _ _ a.slow)) (le-leb _ _ a.enough)
+
+-- every client's mark is the same
+same_anywhere : {A : Type 0} (n i : ℕ) (a : A) → get_or (replicate n a) i a ≡ a
+same_anywhere zero i a = refl
+same_anywhere (suc n) zero a = refl
+same_anywhere (suc n) (suc i) a = same_anywhere n i a
+
+pub marks_undigested : (c : ℕ) → mark_of no_marks c ≡ record { generation = 0; done = 0 }
+marks_undigested c = same_anywhere 8 (c - 1) (record { generation = 0; done = 0 })
 
 -- a free slot is zeros
 free_zeros : slot_spelling slots.Free ≡ zeros 128

@@ -14,13 +14,13 @@ ghost use Rattle.world_invariant.specs.Logs.{is_written, ArePaid, KeepLimits};
 ghost use Rattle.world_invariant.specs.Recovery.{IsRecoverable};
 ghost use Rattle.recovery_laws.specs.Inodes.{HasEveryInode};
 
-/// Records that are paid for, and keep a graph that is within the limits so, are covered by whoever holds all that they write, whether they name a file that has no name or not.
+/// Records that are spelled and paid for, and keep a graph within the limits, are covered by whoever holds every inode that they write, also where they give a name to a file that has none.
 pub fn paid_records_are_covered()
     ensures { (held : List ℕ) (g : Graph) (rs : List Record) → AreWithin g → AllByRecursion IsRecord rs → ((i : ℕ) → is_written i rs ≡ true → is_among i held ≡ true) → ArePaid g rs → KeepLimits g rs → AreCovered held g rs }
 {}
 
-/// Of what can be recovered the first records of each client's log are covered by whoever holds every inode, and their units are there. So a test of some of them finds none bad; once they are digested the
-/// same is true of what is left (`recovery_may_digest_records`).
+/// Of what can be recovered the first records of each client's log, where they are spelled, are covered by whoever holds every inode, and their units are there. So a test of the first of them finds none bad;
+/// once they are digested the same is so of what is left (`recovery_may_digest_records`).
 pub fn recoverable_records_are_covered()
     ensures covered { (capacity : ℕ) (held : List ℕ) (g : Graph) (logs : ℕ → List Record) (c : ℕ) (first rest : List Record) → IsRecoverable capacity g logs → is_client c ≡ true → logs c ≡ first ++ rest → AllByRecursion IsRecord first → HasEveryInode held → AreCovered held g first }
     ensures charged { (capacity : ℕ) (g : Graph) (logs : ℕ → List Record) (c : ℕ) (first rest : List Record) → IsRecoverable capacity g logs → is_client c ≡ true → logs c ≡ first ++ rest → charge g + units_of first ≤ capacity }

@@ -101,3 +101,15 @@ returns-then-not-is_nameless-clause-at_most g c = inl (let clock = c.in-Ok.ensur
 
 pub returns-in-Err-clause-at_most : goal.returns-in-Err-clause-at_most
 returns-in-Err-clause-at_most g c = inl (let clock = c.in-Err.ensures.looks.unmoved.clock in omega (arith, clock))
+
+pub returns-then-not-is_nameless-clause-untouched : goal.returns-then-not-is_nameless-clause-untouched
+returns-then-not-is_nameless-clause-untouched g c = λ none. c.in-Ok.ensures.looks.unmoved
+
+pub returns-in-Err-clause-untouched : goal.returns-in-Err-clause-untouched
+returns-in-Err-clause-untouched g c = λ none. c.in-Err.ensures.looks.unmoved
+
+pub returns-else-not-is_nameless-clause-untouched : goal.returns-else-not-is_nameless-clause-untouched
+returns-else-not-is_nameless-clause-untouched g c = λ none.
+    let old = c.args.area.now in
+    let s : Store = disk g.M.Media old in
+    absurd (none (nameless_by (graph old.geometry s c.args.inode) (subst (λ (v : Option NodeView). IsNamelessView v) c.in-Ok.ensures.node (c.is_nameless.ensures.0 c.if-not-is_nameless.false))))

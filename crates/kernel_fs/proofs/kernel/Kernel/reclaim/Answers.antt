@@ -1,6 +1,7 @@
 use Rattle.std.proofs.Common.{◌≡◌, ◌⊎◌, false, refl, ◌∙◌, sym, subst}
 use Rattle.std.specs.Prelude.{Ok, Err}
 use Rattle.digester.specs.area_image.Store.{disk, graph}
+use Rattle.digester.specs.batch_journal.Course.{Unmoved}
 use Rattle.digester.specs.area_image.Map.{WantsMemory}
 use Rattle.world_invariant.specs.Logs.{IsNameless}
 use Rattle.kernel_fs.specs.KernelAnswers.{Answers, kernel_answer}
@@ -58,6 +59,13 @@ pub returns-in-Err-clause-in_use : goal.returns-in-Err-clause-in_use
 returns-in-Err-clause-in_use g c = λ is.
     subst (λ (v : KernelView _). IsUnused (graph v.area.geometry (disk g.M.Media v.area)) v.book c.args.inode → ⊥) c.self.view_is
     (λ unused. c.in-Err.ensures.in_use (cc is) unused.0)
+
+pub returns-in-Err-clause-untouched : goal.returns-in-Err-clause-untouched
+returns-in-Err-clause-untouched g c =
+    let m = g.M.Media in
+    let new = c.drop_nameless.new.area in
+    subst (λ (v : KernelView _). (IsUnused (graph v.area.geometry (disk m v.area)) v.book c.args.inode → ⊥) → Unmoved (m.moment v.area.media) (m.moment new.media) (m.seen v.area.media) (m.seen new.media) (m.left v.area.media) (m.left new.media)) c.self.view_is
+    (λ unless. c.in-Err.ensures.untouched (λ nameless. unless (nameless, sym c.is_pinned.ensures ∙ c.if-is_pinned.false)))
 
 pub returns-in-Err-clause-memory : goal.returns-in-Err-clause-memory
 returns-in-Err-clause-memory g c = λ is.

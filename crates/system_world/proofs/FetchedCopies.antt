@@ -1,0 +1,235 @@
+-- A client fetches a copy, and blocks of a file.
+use Rattle.std.proofs.Common.{◌≡◌, ◌≢◌, inl, inr, ℕ, ◌-◌, ◌==◌, ◌||◌, ◌&&◌, cond, Bool, true, false, List, ◌++◌, drop, Option, Some, None, Ok, Err, refl, ap, sym, ◌∙◌, subst, arith}
+use Rattle.std.specs.Prelude.{Result, OnErr, OnOk, IfSome, slice_set}
+use Rattle.std.proofs.lemmas.Bool.Decides.{eqb_tells, nat_tests}
+use Rattle.event_steps.specs.tier_device.declared.media.Media.{Ghosts}
+use Rattle.event_steps.specs.posix_calls.Operations.{is_client}
+use Rattle.event_steps.specs.posix_calls.Tree.{Own}
+use Rattle.event_steps.specs.posix_calls.declared.call.Call.{Call}
+use Rattle.event_steps.specs.area_image.Store.{disk}
+use Rattle.event_steps.specs.call_effects.Knowledge.{Agrees, IsPlanned, Knowledge, with_copy}
+use Rattle.event_steps.specs.call_effects.NodeView.{NodeView, view_at}
+use Rattle.event_steps.specs.kernel_fs.MachineState.{IsMarkIn}
+use Rattle.event_steps.specs.kernel_fs.digester.MarkMoves.{mark_of}
+use Rattle.event_steps.specs.kernel_fs.layout.declared.marks.Mark.{Mark}
+use Rattle.event_steps.specs.kernel_fs.layout.declared.marks.Marks.{Marks}
+use Rattle.event_steps.specs.lease_manager.PassLeases.{is_reading, is_writing, reads, writes}
+use Rattle.event_steps.specs.lease_manager.Passes.{client_of, lease_of}
+use Rattle.event_steps.specs.lease_manager.Words.{HasWord}
+use Rattle.event_steps.specs.lease_manager.declared.view.LeaseMode.{LeaseMode}
+use Rattle.event_steps.specs.lease_manager.declared.view.LeaseMode.TheVariants.{Free, Reading, Trying, Writing}
+use Rattle.event_steps.specs.libfs.ClientHoldings.{known_to}
+use Rattle.event_steps.specs.libfs.NeedService.{HasFetched, HasLooked, records_behind, shared_by}
+use Rattle.event_steps.specs.libfs.View.{ClientView}
+use Rattle.event_steps.specs.libfs.client_log.View.{current_records}
+use Rattle.event_steps.specs.libfs.declared.begun_record.Begun.{Begun}
+use Rattle.event_steps.specs.libfs.declared.denial.Denied.{Denied}
+use Rattle.event_steps.specs.libfs.file_graph.Graph.{Graph, is_among}
+use Rattle.event_steps.specs.libfs.file_graph.Numbers.{is_inode}
+use Rattle.event_steps.specs.libfs.log_record.declared.format.Record.{Record}
+use Rattle.event_steps.specs.libfs.world_invariant.ClientParts.{Stands}
+use Rattle.event_steps.specs.libfs.world_invariant.ClientSteps.{with_client}
+use Rattle.event_steps.specs.libfs.world_invariant.Invariant.{IsCoherent}
+use Rattle.event_steps.specs.libfs.world_invariant.World.{Account, Client, World, has_lease, log_of, held_descriptors, undigested_records, whole_graph, world_state}
+use Rattle.event_steps.specs.libfs.world_invariant.World as world
+use Rattle.event_steps.specs.Effects.{MakesAt}
+use Rattle.event_steps.specs.KernelRequests.{GetsCopy, HasAsked, HasNoneMeanwhile}
+use Rattle.event_steps.specs.Outcomes.{noted_refusals}
+use Rattle.event_steps.specs.Sound.{IsSeated}
+use Rattle.event_steps.specs.Stops.{SeatLeaves}
+use Rattle.event_steps.specs.Turns.{CanPlay, IsHeld}
+use Rattle.event_steps.specs.View.{SeatView, SystemView, seat_of}
+use Rattle.event_steps.specs.declared.event.Event.TheVariants.{Fetch}
+use Rattle.event_steps.specs.declared.outcome.Outcome.{Outcome}
+use Rattle.event_steps.specs.libfs.client_view.After.{node_laid}
+use Rattle.event_steps.specs.libfs.client_view.KnowledgeChanges.{without_blocks}
+use Rattle.event_steps.proofs.libfs_lemmas.client_view_lemmas.Agreeing.{node_agrees}
+use Rattle.event_steps.proofs.world_invariant_lemmas.Begins.{tree_same}
+use Rattle.event_steps.proofs.world_invariant_lemmas.Fetches.{view_is}
+use Rattle.event_steps.proofs.world_invariant_lemmas.Idle.{none_some}
+use Rattle.event_steps.proofs.world_invariant_lemmas.Moved.{after_less, before_less, booked_same, quiet}
+use Rattle.event_steps.proofs.world_invariant_lemmas.call_effects_lemmas.Served.{less_agrees}
+use Rattle.system_world.specs.Leaves.{IsSettledAt}
+use Rattle.system_world.specs.Relation.{Cut, IsBegunAs, IsClientOf, IsWorldOf, StandsMarked}
+use Rattle.system_world.specs.Steps.{IsBegunIn, IsStep}
+use Rattle.system_world.specs.Contents.{mark_by}
+use Rattle.system_world.specs.WorldTree.{WorldView, away_records, calls_of}
+use Rattle.system_world.proofs.FailedKernel.{refused_step}
+use Rattle.system_world.proofs.FailedRequests.{OfCopy, failed_request}
+use Rattle.system_world.proofs.Given.{Given}
+use Rattle.system_world.proofs.Looked.{looked_step}
+use Rattle.system_world.proofs.MarkPlaces.{behind_mark, mark_now, not_away}
+use Rattle.system_world.proofs.OwnSeat.{leaves_at, number_at, of_seat}
+use Rattle.system_world.proofs.Refills.{known_part}
+use Rattle.system_world.proofs.Seated.{own_mark, own_part, same_world}
+use Rattle.system_world.proofs.Seats.{client_is}
+use Rattle.system_world.proofs.Supplies.{client_with, supplied}
+
+-- ---- a client's records behind its mark
+
+module _ {M : Type 0} (device : Ghosts M) (s : SeatView M) (g : Graph) (a : Account) (c accepted : ℕ) (call : Option Call) (p : Client) (m : Mark) (of : IsClientOf device s call p) (marked : StandsMarked m s a accepted p) (seated : IsSeated device s.client s.away) (stands : Stands g a c p) where
+  -- the records of the region that is away are those that it keeps
+  kept_records : away_records device s.away ≡ s.client.sealed
+  kept_records = elim (s.away) as (λ o. IsSeated device s.client o → away_records device o ≡ s.client.sealed) [
+    | None ↦ λ here. sym (sym of.sealed ∙ stands.marked.none (λ away. not_away s.client.log.other s.client.log.clean here (sym of.turn.other ∙ away)))
+    | Some x ↦ λ from. from.records
+  ] seated
+
+  -- they are those that its account has as not digested
+  pub behind_stood : records_behind device s.client m ≡ undigested_records a p
+  behind_stood =
+      ap (λ (rs : List Record). cond (m.generation == s.client.log.generation) (drop m.done (current_records device s.client.log)) (drop m.done rs ++ current_records device s.client.log)) (sym kept_records)
+      ∙ behind_mark device s a p call seated of m (mark_now device s a p call seated of m g c accepted marked stands)
+
+-- ---- what a client knows
+
+-- with other copies and blocks of what it holds, which agree with the whole, and by which its begun call is planned
+module _ (w : World) (c : ℕ) (h : IsCoherent w) (is_c : is_client c ≡ true) (k : Knowledge) (client : k.client ≡ (w.clients c).knows.client) (own : k.own ≡ (w.clients c).knows.own) (granted : k.granted ≡ (w.clients c).knows.granted)
+    (agrees : Agrees k (whole_graph w) (held_descriptors w)) (copies : (i : ℕ) (copy : Option NodeView) → k.copies i ≡ Some copy → has_lease (w.clients c) i ≡ true) (blocks : (i b : ℕ) (bytes : List ℕ) → k.blocks i b ≡ Some bytes → has_lease (w.clients c) i ≡ true)
+    (pending : (b : world.Begun) → (w.clients c).begun ≡ Some b → IsPlanned k b.call b.new b.operation b.change.effects) where
+  abbrev knower : Client
+  knower = record (w.clients c) { knows = k }
+
+  pub known_holds : IsCoherent (with_client w c knower)
+  known_holds =
+      let s = h.stands c is_c in
+      quiet w c w.kernel.shared (w.kernel.accounts c) knower h is_c refl refl own (booked_same w c knower h is_c)
+      (record {
+        number = client ∙ s.number;
+        rests = record { closed = λ e n. ap (λ (o : Own). o n) own ∙ s.rests.closed e n; idle = s.rests.idle };
+        marked = s.marked;
+        starts = s.starts;
+        logged = s.logged;
+        units = s.units;
+        numbered = record {
+          made = s.numbered.made;
+          once = s.numbered.once;
+          granted = λ i e. s.numbered.granted i (sym (ap (λ (f : ℕ → Bool). f i) granted) ∙ e);
+          unused = λ i e. s.numbered.unused i (sym (ap (λ (f : ℕ → Bool). f i) granted) ∙ e);
+        };
+        leased = record { copies = copies; blocks = blocks };
+        pinned = record { opened = λ n o e. s.pinned.opened n o (sym (ap (λ (f : Own). f n) own) ∙ e); booked = s.pinned.booked };
+        pending = λ b e. let q = s.pending b e in record { planned = pending b e; some = q.some; pinned = q.pinned };
+      })
+      (before_less w c knower h is_c (λ i e. e)) (after_less w c knower h is_c (λ i e. e)) agrees
+
+  pub known_tree : world_state (with_client w c knower) ≡ world_state w
+  known_tree = tree_same w c w.kernel.shared (w.kernel.accounts c) knower refl refl own
+
+-- ---- what is held
+
+word_is : (i : ℕ) → HasWord i → is_inode i ≡ true
+word_is i word = grind (arith, nat_tests, word.0, word.1)
+
+held_for : (mode : LeaseMode) (b : Bool) → b ≡ true → mode ≢ Free → mode ≢ Trying → ((b && is_reading mode) || (b && is_writing mode)) ≡ true
+held_for Free b is free settled = absurd (free refl)
+held_for Reading b is free settled = ap (λ t. (t && true) || (t && false)) is
+held_for Writing b is free settled = ap (λ t. (t && false) || (t && true)) is
+held_for Trying b is free settled = absurd (settled refl)
+
+pub held_is : {M : Type 0} (p : Client) (s : SeatView M) (i : ℕ) → p.reads i ≡ reads s.client.pass i → p.writes i ≡ writes s.client.pass i → IsHeld s.client i → lease_of s.client.pass i ≢ Trying → has_lease p i ≡ true
+held_is p s i for_reading for_writing held settled = ap (λ t. t || p.writes i) for_reading ∙ ap (λ t. reads s.client.pass i || t) for_writing ∙ held_for (lease_of s.client.pass i) (is_inode i) (word_is i held.0) held.1 settled
+
+-- ---- a copy
+
+module _ (w : World) (c i : ℕ) (h : IsCoherent w) (is_c : is_client c ≡ true) (leased : has_lease (w.clients c) i ≡ true) (idle : (w.clients c).begun ≡ None) where
+  abbrev knew : Knowledge
+  knew = (w.clients c).knows
+
+  abbrev copied : Knowledge
+  copied = with_copy (without_blocks knew i) i (node_laid (log_of w c) i (view_at w.kernel.shared i))
+
+  no_block : (b : ℕ) → (without_blocks knew i).blocks i b ≡ None
+  no_block b = elim (eqb_tells i i) [ inl same ↦ ap (λ t. cond t None (knew.blocks i b)) same.0 | inr off ↦ absurd (off.1 refl) ]
+
+  block_of_other : (j b : ℕ) (bytes : List ℕ) → (without_blocks knew i).blocks j b ≡ Some bytes → knew.blocks j b ≡ Some bytes
+  block_of_other j b bytes e = elim (eqb_tells j i) [
+    | inl same ↦ none_some bytes (sym (ap (λ t. cond t None (knew.blocks j b)) same.0) ∙ e)
+    | inr off ↦ sym (ap (λ t. cond t None (knew.blocks j b)) off.0) ∙ e
+  ]
+
+  copied_agrees : Agrees copied (whole_graph w) (held_descriptors w)
+  copied_agrees = node_agrees (without_blocks knew i) w.kernel.shared (whole_graph w) (held_descriptors w) (log_of w c) i
+      (less_agrees knew (whole_graph w) (held_descriptors w) (h.agrees c is_c) (without_blocks knew i) (record { client = refl; own = λ n. refl; copies = record { nodes = λ j copy e. e; blocks = block_of_other }; granted = λ j e. e }))
+      (view_is w c i h is_c leased) no_block
+
+  held_copy : (j : ℕ) (copy : Option NodeView) → copied.copies j ≡ Some copy → has_lease (w.clients c) j ≡ true
+  held_copy j copy e = elim (eqb_tells j i) [
+    | inl same ↦ ap (has_lease (w.clients c)) same.1 ∙ leased
+    | inr off ↦ (h.stands c is_c).leased.copies j copy (sym (ap (λ t. cond t (Some (node_laid (log_of w c) i (view_at w.kernel.shared i))) (knew.copies j)) off.0) ∙ e)
+  ]
+
+  pub copied_holds : IsCoherent (with_client w c (record (w.clients c) { knows = copied }))
+  copied_holds = known_holds w c h is_c copied refl refl refl copied_agrees held_copy (λ j b bytes e. (h.stands c is_c).leased.blocks j b bytes (block_of_other j b bytes e)) (λ b e. none_some b (sym idle ∙ e))
+
+  pub copied_tree : world_state (with_client w c (record (w.clients c) { knows = copied })) ≡ world_state w
+  copied_tree = known_tree w c h is_c copied refl refl refl copied_agrees held_copy (λ j b bytes e. (h.stands c is_c).leased.blocks j b bytes (block_of_other j b bytes e)) (λ b e. none_some b (sym idle ∙ e))
+
+module _ {M : Type 0} (device : Ghosts M) (v : WorldView M) (w : World) (accepted : ℕ → ℕ) (shared_marks : Marks) (cut : Cut) (c : ℕ) (s : SeatView M) (is : IsWorldOf device v w accepted shared_marks cut) (is_c : is_client c ≡ true) (there : seat_of v.system c ≡ Some s) where
+  -- its records behind the mark that the kernel's medium has of it
+  pub behind_its_mark : SeatLeaves device s → client_of s.client.pass ≡ c → v.system.kernel.area.failed ≡ false → (mark : Mark) → IsMarkIn (disk device v.system.kernel.area) (client_of s.client.pass) mark → records_behind device s.client mark ≡ log_of w c
+  behind_its_mark left number going mark of =
+      let one : of.0 ≡ shared_marks = same_marks (sym of.1 ∙ (is.going going).1) in
+      let same : mark ≡ mark_by (Some shared_marks) c = of.2 ∙ ap (mark_of of.0) number ∙ ap (λ (x : Marks). mark_of x c) one in
+      behind_stood device s w.kernel.shared (w.kernel.accounts c) c (accepted c) (calls_of v c) (w.clients c) mark (own_part device v w accepted shared_marks cut c s is is_c there)
+      (subst (λ (m : Mark). StandsMarked m s (w.kernel.accounts c) (accepted c) (w.clients c)) (sym same) (own_mark device v w accepted shared_marks cut c s is is_c there)) left.seated (is.coherent.stands c is_c)
+    where
+      same_marks : {x y : Marks} → Some x ≡ Some y → x ≡ y
+      same_marks e = cc
+
+  -- what its pass holds it holds in the world
+  pub leased_is : (i : ℕ) → IsSettledAt v.system c i → IsHeld s.client i → has_lease (w.clients c) i ≡ true
+  leased_is i settled held =
+      let own = own_part device v w accepted shared_marks cut c s is is_c there in
+      held_is (w.clients c) s i (own.reads_are i) (own.writes_are i) held (of_seat device v c s is_c there (λ y. lease_of y.client.pass i ≢ Trying) (settled is_c held.0))
+
+  -- with its own copies, spare units and pins it is the client that it was
+  pub same_part : client_with (w.clients c) s.client ≡ w.clients c
+  same_part = let own = own_part device v w accepted shared_marks cut c s is is_c there in known_part (w.clients c) s.client (w.clients c).knows (w.clients c).spare (sym own.knows) (sym own.spare) own.pins
+
+module _ {M : Type 0} (device : Ghosts M) where
+  pub fetched : Given device → (v : WorldView M) (c i : ℕ) (o : Outcome) (new : SystemView M)
+      → IsBegunIn device v new → CanPlay device v.system (Fetch c i) → MakesAt device v.system c (Fetch c i) o new → IsSettledAt v.system c i → IsStep device v (Fetch c i) o (record { system = new; calls = v.calls })
+  fetched given v c i o new begun turn makes settled = elim makes.makes [ inl none ↦ meanwhile none | inr got ↦ by_failed v.system.kernel.area.failed refl got ]
+    where
+      meanwhile : HasNoneMeanwhile v.system.kernel makes.seat o makes.seat_then new.kernel → IsStep device v (Fetch c i) o (record { system = new; calls = v.calls })
+      meanwhile none = refused_step device given v new c makes.seat makes.seat.refused (Fetch c i) o begun (client_is c turn.0) makes.was none.kernel (makes.seats ∙ ap (λ (y : SeatView M). slice_set v.system.seats (c - 1) y) none.same) refl (λ stand. stand)
+
+      by_answer : (answer : Result (Unit {0}) Denied) → v.system.kernel.area.failed ≡ false → makes.seat.client.begun ≡ None → HasAsked makes.seat answer o makes.seat_then → OnOk answer (HasFetched device device v.system.kernel makes.seat.client i makes.seat_then.client)
+          → OnErr answer (makes.seat_then.client ≡ makes.seat.client) → HasLooked device v.system.kernel new.kernel answer → IsStep device v (Fetch c i) o (record { system = new; calls = v.calls })
+      by_answer (Err why) going idle asks got same looked =
+          let is = begun.stands.is in
+          let w = begun.stands.world in
+          let s = makes.seat in
+          let is_c = client_is c turn.0 in
+          let part = same_part device v w begun.stands.accepted begun.stands.shared_marks begun.stands.cut c s is is_c makes.was in
+          looked_step device given v new c s makes.seat_then (Fetch c i) o begun is_c makes.was makes.seats (λ stand. stand) refl s.client (noted_refusals (Err why) s.refused) (w.clients c) (Err why)
+          (asks.rest ∙ ap (λ (x : ClientView M). record s { client = x; refused = noted_refusals (Err why) s.refused }) same) going looked part
+          (subst IsCoherent (sym (same_world w c)) is.coherent) (ap world_state (same_world w c))
+      by_answer (Ok x) going idle asks got same looked =
+          let is = begun.stands.is in
+          let w = begun.stands.world in
+          let s = makes.seat in
+          let is_c = client_is c turn.0 in
+          let own = own_part device v w begun.stands.accepted begun.stands.shared_marks begun.stands.cut c s is is_c makes.was in
+          let number = number_at device v c s is_c makes.was begun.leaves in
+          let held = subst (λ (y : Option (SeatView M)). IfSome y (λ s. IsHeld s.client i)) makes.was turn.1 in
+          let leased = leased_is device v w begun.stands.accepted begun.stands.shared_marks begun.stands.cut c s is is_c makes.was i settled held in
+          let none = (subst (λ (b : Option Begun). IsBegunAs (calls_of v c) b (w.clients c).begun) idle own.begun).0 in
+          let records = behind_its_mark device v w begun.stands.accepted begun.stands.shared_marks begun.stands.cut c s is is_c makes.was (leaves_at device v c s is_c makes.was begun.leaves) number going got.mark got.is_mark in
+          let was = (is.going going).0 in
+          let knows : known_to makes.seat_then.client ≡ with_copy (without_blocks (w.clients c).knows i) i (node_laid (log_of w c) i (view_at w.kernel.shared i)) =
+          got.knows_then
+          ∙ ap (λ (k : Knowledge). with_copy (without_blocks k i) i (node_laid (records_behind device s.client got.mark) i (view_at (shared_by device v.system.kernel) i))) (sym own.knows)
+          ∙ ap (λ (rs : List Record). with_copy (without_blocks (w.clients c).knows i) i (node_laid rs i (view_at (shared_by device v.system.kernel) i))) records
+          ∙ ap (λ (g : Graph). with_copy (without_blocks (w.clients c).knows i) i (node_laid (log_of w c) i (view_at g i))) (sym was.shared) in
+          looked_step device given v new c s makes.seat_then (Fetch c i) o begun is_c makes.was makes.seats (λ stand. stand) refl makes.seat_then.client s.refused
+          (record (w.clients c) { knows = with_copy (without_blocks (w.clients c).knows i) i (node_laid (log_of w c) i (view_at w.kernel.shared i)) }) (Ok x)
+          (asks.rest ∙ ap (λ (y : ClientView M). record s { client = y; refused = s.refused }) (got.rest ∙ ap (λ (y : ClientView M). supplied s.client y) (sym got.rest))) going looked
+          (known_part (w.clients c) makes.seat_then.client (with_copy (without_blocks (w.clients c).knows i) i (node_laid (log_of w c) i (view_at w.kernel.shared i))) (w.clients c).spare knows
+          (ap (λ (y : ClientView M). y.spare) got.rest ∙ sym own.spare) (λ j. own.pins j ∙ ap (λ (y : ClientView M). is_among j y.pins) (sym got.rest)))
+          (copied_holds w c i is.coherent is_c leased none) (copied_tree w c i is.coherent is_c leased none)
+
+      by_failed : (b : Bool) → v.system.kernel.area.failed ≡ b → GetsCopy device v.system.kernel makes.seat i o makes.seat_then new.kernel → IsStep device v (Fetch c i) o (record { system = new; calls = v.calls })
+      by_failed true failed got = failed_request device given v c (Fetch c i) o new begun turn makes (OfCopy i) failed
+      by_failed false going got = by_answer got.answer going got.idle got.asks got.fetched got.refused got.kernel

@@ -1,0 +1,7 @@
+use Rattle.system_world.proofs.DigestedRegions.{digested}
+use Rattle.system_world.proofs.WorldFacts.{world_facts}
+use Rattle.system_world.proofs.regions.digested_region_is_a_step.Goals as goal
+
+pub returns : goal.returns
+returns g c = λ v number o new begun turn makes.
+    digested g.M.Media g.met.M.Media.sized (world_facts g.M.Media g.met.M.Media.seen_now g.met.M.Media.sized) v number o new begun turn makes

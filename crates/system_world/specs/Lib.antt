@@ -1,0 +1,11 @@
+pub mod Parts
+pub mod Contents
+pub mod WorldTree
+pub mod News
+pub mod Moves
+pub mod Leaves
+pub mod Relation
+pub mod Steps
+-- Passed on to the crates above, which so need not list those below.
+pub use Rattle.courses.specs as courses
+pub use Rattle.event_steps.specs as event_steps

@@ -1,0 +1,20 @@
+//! A call is given up for what the kernel refused.
+
+ghost use Rattle.std.specs.Prelude.{ℕ};
+ghost use Rattle.event_steps.specs.posix_calls.declared.call.Call.{Call};
+ghost use Rattle.event_steps.specs.libfs.declared.denial.Denied.{Denied};
+ghost use Rattle.event_steps.specs.Effects.{MakesAt};
+ghost use Rattle.event_steps.specs.Turns.{CanPlay};
+ghost use Rattle.event_steps.specs.View.{SystemView};
+ghost use Rattle.event_steps.specs.declared.event.Event.TheVariants.{Deny};
+ghost use Rattle.event_steps.specs.declared.outcome.Outcome.{Outcome};
+ghost use Rattle.system_world.specs.Steps.{IsBegunIn, IsStep};
+ghost use Rattle.system_world.specs.WorldTree.{WorldView};
+
+use event_steps::TierDeviceMedia as Media;
+
+/// A client's call that is given up is answered by an error, and the tree stays.
+pub fn denied_call_is_a_step<M: Media>()
+    ensures { (v : WorldView M) (c : ℕ) (call : Call) (why : Denied) (o : Outcome) (new : SystemView M) → IsBegunIn M.Media v new → CanPlay M.Media v.system (Deny c call why) → MakesAt M.Media v.system c (Deny c call why) o new
+        → IsStep M.Media v (Deny c call why) o (record { system = new; calls = v.calls }) }
+{}

@@ -1,0 +1,38 @@
+//! When a running system stands for a world over plain data (`world_invariant`), and that each event keeps it so.
+//!
+//! `specs/Relation.antt` says when (`IsWorldOf`): the kernel's book, graph and marks, each client's part, where its mark stands, and what a
+//! stop leaves of the seventeen parts (`specs/Parts.antt`). The file tree that a system stands for (`world_tree`) is read off its parts and
+//! the clients' descriptors alone. A law for each kind of event says that the new system stands for a world again, what the event
+//! acknowledges, and that whatever a stop leaves on its way is recovered to the tree before it (`specs/Steps.antt`).
+//!
+//! There is no code: these are laws, cited by what plays events on a world.
+#![tactic(auto)]
+
+mod denials;
+mod device_calls;
+mod events;
+mod idle;
+mod leases;
+mod media_moves;
+mod regions;
+mod requests;
+mod starts;
+
+pub use denials::denied_call_is_a_step;
+pub use device_calls::stepped_call_is_a_step;
+pub use events::played_event_is_a_step;
+pub use idle::idle_event_is_a_step;
+pub use leases::{
+    asked_lease_is_a_step, given_lease_is_a_step, raised_lease_is_a_step, taken_lease_is_a_step,
+};
+pub use media_moves::{migrated_run_is_a_step, reclaimed_file_is_a_step};
+pub use regions::{digested_region_is_a_step, sealed_region_is_a_step, wiped_region_is_a_step};
+pub use requests::{
+    dropped_pin_is_a_step, fetched_blocks_are_a_step, fetched_copy_is_a_step,
+    pinned_inode_is_a_step, refill_is_a_step, returned_units_are_a_step,
+};
+pub use starts::started_call_is_a_step;
+
+// Passed on to the crates above, which so need not list those below.
+pub use courses::{Recoverable, Steps, play_all};
+pub use event_steps::{Client, Event, Kernel, Outcome, System, TierDeviceMedia};

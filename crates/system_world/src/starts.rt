@@ -1,0 +1,23 @@
+//! A call is started.
+
+ghost use Rattle.std.specs.Prelude.{ℕ};
+ghost use Rattle.event_steps.specs.posix_calls.declared.call.Call.{Call};
+ghost use Rattle.event_steps.specs.Effects.{MakesAt};
+ghost use Rattle.event_steps.specs.Turns.{CanPlay};
+ghost use Rattle.event_steps.specs.View.{SystemView};
+ghost use Rattle.event_steps.specs.declared.event.Event.TheVariants.{Start};
+ghost use Rattle.event_steps.specs.declared.outcome.Outcome.{Outcome};
+ghost use Rattle.system_world.specs.News.{calls_then};
+ghost use Rattle.system_world.specs.Steps.{IsBegunIn, IsStep};
+ghost use Rattle.system_world.specs.WorldTree.{WorldView};
+
+use event_steps::{TierDeviceMedia as Media, answered_start_is_a_step, begun_record_is_a_step};
+
+/// A client's call that is answered at once is one step of the tree; where its record is begun it is unfinished from then on, and where it needs something nothing changes.
+pub fn started_call_is_a_step<M: Media>()
+    ensures { (v : WorldView M) (c : ℕ) (call : Call) (o : Outcome) (new : SystemView M) → IsBegunIn M.Media v new → CanPlay M.Media v.system (Start c call) → MakesAt M.Media v.system c (Start c call) o new
+        → IsStep M.Media v (Start c call) o (record { system = new; calls = calls_then v.calls (Start c call) o }) }
+{
+    answered_start_is_a_step::<M>();
+    begun_record_is_a_step::<M>();
+}
