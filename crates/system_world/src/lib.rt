@@ -21,7 +21,7 @@ mod starts;
 pub use denials::denied_call_is_a_step;
 pub use device_calls::stepped_call_is_a_step;
 pub use events::played_event_is_a_step;
-pub use idle::idle_event_is_a_step;
+pub use idle::{idle_event_is_a_step, stop_between_events_is_recovered};
 pub use leases::{
     asked_lease_is_a_step, given_lease_is_a_step, raised_lease_is_a_step, taken_lease_is_a_step,
 };

@@ -1,0 +1,3 @@
+mod EachClient
+mod OneEvent
+mod OnePart

@@ -1,0 +1,13 @@
+use Rattle.std.proofs.Common.{◌≡◌, ℕ, ◌<◌, ◌≤◌}
+use Rattle.system_world.specs.event_steps.Sound.{number_of}
+use Rattle.system_world.specs.event_steps.Stops.{SeatLeaves}
+use Rattle.system_world.specs.event_steps.View.{HasSeat}
+use Rattle.system_world.specs.Leaves.{HoldsRecords}
+use Rattle.world.proofs.stops.left_now.Given as goal
+
+abbrev pub invariant-clients : goal.invariant-clients
+invariant-clients g l = record {
+  leaves : (d : ℕ) → 1 ≤ d → d < l.number → HasSeat l.fn.system d (SeatLeaves g.M.Media);
+  whose : (d : ℕ) → 1 ≤ d → d < l.number → HasSeat l.fn.system d (λ s. number_of s ≡ d);
+  holds : (d : ℕ) → 1 ≤ d → d < l.number → HasSeat l.fn.system d (λ s. HoldsRecords g.M.Media s.client);
+}

@@ -1,0 +1,2 @@
+-- Passed on to the crates above, which so need not list those below.
+pub use Rattle.system_world.specs as system_world

@@ -1,0 +1,55 @@
+//! One event.
+
+ghost use Rattle.system_world.specs.News.{news};
+ghost use Rattle.system_world.specs.Moves.{EventMoves};
+ghost use Rattle.system_world.specs.Parts.{clocks_of, left_of};
+ghost use Rattle.system_world.specs.Steps.{MakesOrStays};
+ghost use Rattle.system_world.specs.Contents.{CanRecover, stored_state};
+ghost use Rattle.system_world.specs.WorldTree.{calls_of, world_tree};
+
+use crate::leases::{meet_in_event, settle_in_event};
+use crate::notes::Notes;
+use crate::stops::left_now;
+use crate::world::World;
+use system_world::{
+    Event, Outcome, Recoverable, Steps, TierDeviceMedia as Media, played_event_is_a_step,
+    stop_between_events_is_recovered,
+};
+
+impl<M: Media> Recoverable<Event, Outcome> for World<M> {
+    ghost tree = { world_tree M.Media };
+
+    ghost calls = { calls_of };
+
+    ghost clock = { λ v. clocks_of M.Media v.system };
+
+    ghost left = { λ v. left_of M.Media v.system };
+
+    ghost can = { λ v. CanRecover v.system.kernel.area.geometry };
+
+    ghost stored = { λ v. stored_state v.system.kernel.area.geometry };
+
+    ghost news = { news };
+
+    ghost moves = { EventMoves };
+
+    ghost makes = { MakesOrStays M.Media };
+}
+
+impl<M: Media + Drop> Steps<Event, Outcome> for World<M> {
+    fn play_event(&mut self, event: &Event) -> Outcome {
+        left_now(&self.system);
+        settle_in_event(&self.system, event);
+        let outcome = self.system.play(event);
+        meet_in_event(&mut self.system, event);
+        left_now(&self.system);
+        self.notes = Notes::after(&self.notes, event, &outcome);
+        played_event_is_a_step::<M>();
+        outcome
+    }
+
+    fn left_now(&self) {
+        left_now(&self.system);
+        stop_between_events_is_recovered::<M>();
+    }
+}
