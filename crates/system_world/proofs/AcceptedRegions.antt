@@ -1,5 +1,5 @@
 -- A region that is away is accepted by the kernel, or was before.
-use Rattle.std.proofs.Common.{◌≡◌, ◌≢◌, ◌⊎◌, inl, inr, ℕ, ◌+◌, ◌-◌, ◌<◌, cond, Bool, true, false, List, length, Option, Some, None, refl, ap, sym, ◌∙◌, subst, arith}
+use Rattle.std.proofs.Common.{◌≡◌, ◌≢◌, inl, inr, ℕ, ◌+◌, ◌<◌, cond, Bool, true, false, length, Option, Some, refl, ap, sym, ◌∙◌, subst, arith}
 use Rattle.std.proofs.lemmas.Bool.{false≢true}
 use Rattle.event_steps.specs.tier_device.declared.media.Media.{Ghosts}
 use Rattle.event_steps.specs.posix_calls.Operations.{is_client}
@@ -7,21 +7,17 @@ use Rattle.event_steps.specs.posix_calls.declared.call.Call.{Call}
 use Rattle.event_steps.specs.area_image.Store.{disk, marks}
 use Rattle.event_steps.specs.kernel_fs.KernelView.{KernelView}
 use Rattle.event_steps.specs.kernel_fs.MachineState.{IsKernelOf}
-use Rattle.event_steps.specs.kernel_fs.layout.declared.marks.Mark.{Mark}
-use Rattle.event_steps.specs.kernel_fs.layout.declared.marks.Marks.{Marks}
 use Rattle.event_steps.specs.libfs.file_graph.Graph.{is_among}
-use Rattle.event_steps.specs.libfs.log_record.declared.format.Record.{Record}
 use Rattle.event_steps.specs.libfs.update_log.RecordCounts.{next_generation}
 use Rattle.event_steps.specs.libfs.update_log.View.{records_of}
-use Rattle.event_steps.specs.libfs.client_log.Calls.{IsOnlyRead}
 use Rattle.event_steps.specs.libfs.SealedRegion.{SealedRegionView, log_of}
-use Rattle.event_steps.specs.libfs.world_invariant.Machine.{Sealed, accept}
-use Rattle.event_steps.specs.libfs.world_invariant.World.{Account, Client, World, at}
+use Rattle.event_steps.specs.libfs.world_invariant.Machine.{Sealed}
+use Rattle.event_steps.specs.libfs.world_invariant.World.{Client, at}
 use Rattle.event_steps.specs.Regions.{HasAccepted, IsAccepted, IsAwayRead}
 use Rattle.event_steps.specs.Sound.{IsAwayFrom, number_of}
 use Rattle.event_steps.specs.View.{SeatView}
 use Rattle.system_world.specs.Parts.{region_of}
-use Rattle.system_world.specs.Relation.{Cut, IsClientOf, StandsMarked, accepted_of, machine_of}
+use Rattle.system_world.specs.Relation.{IsClientOf, StandsMarked, accepted_of, machine_of}
 use Rattle.system_world.specs.Contents.{mark_by}
 use Rattle.system_world.proofs.AwayRegions.{MediumStays, itself, read_stays, same_records, with_away}
 use Rattle.system_world.proofs.ClientMoves.{StandsFor}

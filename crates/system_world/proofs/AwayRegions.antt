@@ -1,28 +1,25 @@
 -- A client whose region is away, which was only read; and events in which no part but the shared medium moves.
-use Rattle.std.proofs.Common.{◌≡◌, ◌≢◌, ◌⊎◌, ◌↔◌, inl, inr, ℕ, zero, suc, ◌+◌, ◌-◌, ◌/◌, ◌%◌, ◌<◌, ◌≤◌, Bool, true, false, List, take, Option, Some, None, refl, ap, sym, ◌∙◌, subst, arith}
+use Rattle.std.proofs.Common.{◌≡◌, ◌≢◌, ◌↔◌, inl, inr, ℕ, zero, suc, ◌+◌, ◌-◌, ◌/◌, ◌%◌, ◌<◌, ◌≤◌, true, List, take, Option, Some, refl, ap, sym, ◌∙◌, subst, arith}
 use Rattle.std.specs.Prelude.{slice_set}
 use Rattle.std.proofs.lemmas.Bool.Decides.{eqb_tells}
 use Rattle.event_steps.specs.tier_device.declared.media.Media.{Ghosts}
 use Rattle.event_steps.specs.tier_device.declared.media.Tier.{Tier}
-use Rattle.event_steps.specs.tier_device.declared.media.Tier.TheVariants.{Fast, Block, Slow}
-use Rattle.event_steps.specs.tier_device.AfterStop.{Left}
+use Rattle.event_steps.specs.tier_device.declared.media.Tier.TheVariants.{Fast}
 use Rattle.event_steps.specs.posix_calls.Operations.{is_client}
 use Rattle.event_steps.specs.posix_calls.Run.{Run}
 use Rattle.event_steps.specs.posix_calls.declared.call.Call.{Call}
 use Rattle.event_steps.specs.area_image.batch_journal.Course.{Unmoved}
 use Rattle.event_steps.specs.shared_area.UnchangedMedia.{Stays}
-use Rattle.event_steps.specs.libfs.log_record.declared.format.Record.{Record}
 use Rattle.event_steps.specs.libfs.update_log.Frames.{before_gate, spelled_records}
 use Rattle.event_steps.specs.libfs.update_log.View.{HasSize, RegionView, records_of}
 use Rattle.event_steps.specs.libfs.client_log.Calls.{IsOnlyRead}
 use Rattle.event_steps.specs.libfs.SealedRegion.{SealedRegionView}
 use Rattle.event_steps.specs.libfs.world_invariant.World.{Client, world_state}
-use Rattle.event_steps.specs.Regions.{IsAwayRead}
 use Rattle.event_steps.specs.Sound.{IsAwayFrom}
 use Rattle.event_steps.specs.View.{SeatView, SystemView, seat_of}
 use Rattle.event_steps.specs.declared.event.Event.{Event}
 use Rattle.event_steps.specs.declared.outcome.Outcome.{Outcome}
-use Rattle.courses.specs.Courses.{Content, MovesOnly, PARTS, WorldContent}
+use Rattle.courses.specs.Courses.{Content, MovesOnly, PARTS}
 use Rattle.system_world.specs.Moves.{EventMoves}
 use Rattle.system_world.specs.News.{news}
 use Rattle.system_world.specs.Parts.{clocks_of, left_of, medium_of, region_medium, region_of}
@@ -32,7 +29,7 @@ use Rattle.system_world.specs.Contents.{CanRecover, stored_state}
 use Rattle.system_world.specs.WorldTree.{WorldView, calls_of}
 use Rattle.system_world.proofs.Given.{Given}
 use Rattle.system_world.proofs.KernelMoves.{SpellsOrAfter}
-use Rattle.system_world.proofs.RegionStops.{away_at, beside_at, current_at, one_of_two, other_remainder}
+use Rattle.system_world.proofs.RegionStops.{away_at, current_at}
 use Rattle.system_world.proofs.Seats.{seat_beside, seat_there}
 use Rattle.system_world.proofs.SpelledParts.{spelled_parts}
 use Rattle.system_world.proofs.Still.{IsStill, client_part_is}

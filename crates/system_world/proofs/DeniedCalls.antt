@@ -2,7 +2,7 @@
 use Rattle.std.proofs.Common.{◌≡◌, inr, ℕ, ◌-◌, true, Some, refl, subst, sym, ap, ◌∙◌}
 use Rattle.std.specs.Prelude.{slice_set}
 use Rattle.event_steps.specs.tier_device.declared.media.Media.{Ghosts}
-use Rattle.event_steps.specs.posix_calls.Operations.{is_client, may_give_up}
+use Rattle.event_steps.specs.posix_calls.Operations.{may_give_up}
 use Rattle.event_steps.specs.posix_calls.Run.{Run}
 use Rattle.event_steps.specs.posix_calls.declared.call.Call.{Call}
 use Rattle.event_steps.specs.posix_calls.declared.call.Reply.TheVariants.{Failed}

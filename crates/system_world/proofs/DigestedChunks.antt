@@ -1,9 +1,8 @@
 -- A chunk of a region that is away is digested, or may be: the world, its marks, and what a stop leaves of the shared medium.
-use Rattle.std.proofs.Common.{◌≡◌, ◌≢◌, ◌⊎◌, inl, inr, ℕ, ◌+◌, ◌-◌, ◌<◌, ◌≤◌, ◌==◌, cond, Bool, true, false, List, [], ◌∷◌, ◌++◌, drop, take, length, Option, Some, None, refl, ap, sym, ◌∙◌, subst, arith}
+use Rattle.std.proofs.Common.{◌≡◌, inl, inr, ℕ, ◌+◌, ◌-◌, ◌<◌, ◌≤◌, cond, Bool, true, false, List, [], ◌∷◌, ◌++◌, drop, take, length, Option, Some, refl, ap, sym, ◌∙◌, subst, arith}
 use Rattle.std.proofs.lemmas.Bool.Decides.{eqb_tells}
 use Rattle.std.proofs.lemmas.List.{length-drop, length-take-le, take-append-drop}
 use Rattle.event_steps.specs.tier_device.declared.media.Media.{Ghosts}
-use Rattle.event_steps.specs.tier_device.AfterStop.{Left}
 use Rattle.event_steps.specs.posix_calls.Operations.{is_client}
 use Rattle.event_steps.specs.posix_calls.declared.call.Call.{Call}
 use Rattle.event_steps.specs.area_image.Store.{Store, disk, graph, marks, store_of}
@@ -24,9 +23,8 @@ use Rattle.event_steps.specs.libfs.file_graph.Graph.{Graph, after_effect, after_
 use Rattle.event_steps.specs.libfs.file_graph.declared.effect.Effect.{Effect}
 use Rattle.event_steps.specs.libfs.log_record.declared.format.Record.{Record}
 use Rattle.event_steps.specs.libfs.update_log.RecordCounts.{next_generation}
-use Rattle.event_steps.specs.libfs.update_log.View.{records_of}
 use Rattle.event_steps.specs.libfs.SealedRegion.{SealedRegionView, log_of}
-use Rattle.event_steps.specs.libfs.world_invariant.KernelSteps.{CanDigest, records_digested}
+use Rattle.event_steps.specs.libfs.world_invariant.KernelSteps.{CanDigest}
 use Rattle.event_steps.specs.libfs.world_invariant.Logs.{after_records}
 use Rattle.event_steps.specs.libfs.world_invariant.World.{Client, World}
 use Rattle.event_steps.specs.Sound.{IsAwayFrom, number_of}

@@ -1,17 +1,15 @@
 -- The next records of a region that is away are digested: it is read and accepted first, and taken back behind its last record.
-use Rattle.std.proofs.Common.{◌≡◌, ◌≢◌, ◌⊎◌, inl, inr, ℕ, ◌+◌, ◌-◌, ◌%◌, ◌<◌, ◌≤◌, ◌==◌, cond, Bool, true, false, List, [], ◌∷◌, ◌++◌, drop, take, length, Option, Some, None, refl, ap, sym, ◌∙◌, subst, arith}
-use Rattle.std.specs.Prelude.{slice_set, IfErr, IfOk, OnOk, Result, Ok, Err}
+use Rattle.std.proofs.Common.{◌≡◌, ◌≢◌, inl, inr, ℕ, ◌+◌, ◌-◌, ◌%◌, ◌<◌, ◌≤◌, cond, Bool, true, false, List, [], length, Option, Some, None, refl, ap, sym, ◌∙◌, subst, arith}
+use Rattle.std.specs.Prelude.{slice_set, IfOk, Result, Ok, Err}
 use Rattle.std.proofs.lemmas.Bool.{false≢true}
 use Rattle.std.proofs.lemmas.Bool.Decides.{eqb_tells}
 use Rattle.event_steps.specs.tier_device.declared.media.Media.{Ghosts}
 use Rattle.event_steps.specs.tier_device.declared.media.Tier.TheVariants.{Fast}
-use Rattle.event_steps.specs.tier_device.AfterStop.{Left}
 use Rattle.event_steps.specs.posix_calls.Operations.{is_client}
-use Rattle.event_steps.specs.posix_calls.declared.call.Call.{Call}
 use Rattle.event_steps.specs.area_image.Store.{disk, graph, marks, store_of}
 use Rattle.event_steps.specs.area_image.batch_journal.View.{JournalView}
 use Rattle.event_steps.specs.kernel_fs.Book.{Accounts, IsBookOf}
-use Rattle.event_steps.specs.kernel_fs.KernelAnswers.{Answers, kernel_answer}
+use Rattle.event_steps.specs.kernel_fs.KernelAnswers.{kernel_answer}
 use Rattle.event_steps.specs.kernel_fs.KernelView.{KernelView}
 use Rattle.event_steps.specs.kernel_fs.MachineState.{IsKernelOf}
 use Rattle.event_steps.specs.kernel_fs.declared.chunk_digest.Digestion.{Digestion}
@@ -27,7 +25,7 @@ use Rattle.event_steps.specs.kernel_fs.layout.declared.marks.Marks.{Marks}
 use Rattle.event_steps.specs.kernel_fs.layout.declared.places.TheConstants.{MARKS_BLOCK}
 use Rattle.event_steps.specs.libfs.file_graph.Graph.{Graph, is_among}
 use Rattle.event_steps.specs.libfs.log_record.declared.format.Record.{Record}
-use Rattle.event_steps.specs.libfs.update_log.View.{HasSize, RegionView, records_of}
+use Rattle.event_steps.specs.libfs.update_log.View.{RegionView, records_of}
 use Rattle.event_steps.specs.libfs.client_log.HasTurn.{region_at}
 use Rattle.event_steps.specs.libfs.client_log.Turns.{place_of}
 use Rattle.event_steps.specs.call_effects.Knowledge.{Knowledge}
@@ -50,7 +48,7 @@ use Rattle.event_steps.specs.declared.event.Event.TheVariants.{Digest}
 use Rattle.event_steps.specs.declared.outcome.Outcome.{Outcome}
 use Rattle.event_steps.proofs.world_invariant_lemmas.Digests.{digested_holds, digested_tree}
 use Rattle.event_steps.proofs.world_invariant_lemmas.Records.{either}
-use Rattle.courses.specs.Courses.{Content, MovesOnly, PARTS, Reading}
+use Rattle.courses.specs.Courses.{MovesOnly, PARTS, Reading}
 use Rattle.system_world.specs.Moves.{Stand}
 use Rattle.system_world.specs.Parts.{clocks_of, medium_of, region_of}
 use Rattle.system_world.specs.Relation.{Cut, IsClientOf, SpellsAfter, SpellsShared, StandsMarked, machine_of}
@@ -61,7 +59,7 @@ use Rattle.system_world.specs.WorldTree.{WorldView, calls_of}
 use Rattle.system_world.proofs.AcceptedRegions.{Accepted, accepted, unaccepted_then}
 use Rattle.system_world.proofs.AwayRegions.{MediumStays, all_stay, client_away, parts_stay, read_stays, same_medium, same_regions, shared_world, size_stays, unmoved_medium, with_away}
 use Rattle.system_world.proofs.ClientMoves.{StandsFor, client_moves, kernel_stands, with_part}
-use Rattle.system_world.proofs.DigestedChunks.{as_many, at_mark, can_digest, few, first, first_long, low, marks_new, mark_moves, marks_then, not_all, all_done, rest, stays_or_after, whose_log}
+use Rattle.system_world.proofs.DigestedChunks.{as_many, at_mark, can_digest, few, first, first_long, marks_new, mark_moves, marks_then, not_all, all_done, rest, stays_or_after, whose_log}
 use Rattle.system_world.proofs.Given.{Given}
 use Rattle.system_world.proofs.KernelMoves.{SpellsOrAfter}
 use Rattle.system_world.proofs.OwnSeat.{client_at, leaves_at, marked_at, number_at}

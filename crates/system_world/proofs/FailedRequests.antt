@@ -1,5 +1,5 @@
 -- A client asks a kernel of which a device failed before.
-use Rattle.std.proofs.Common.{◌≡◌, inl, inr, ℕ, ◌-◌, true, false, refl, ap, sym, ◌∙◌, subst}
+use Rattle.std.proofs.Common.{◌≡◌, inl, inr, ℕ, ◌-◌, true, refl, ap, sym, ◌∙◌, subst}
 use Rattle.std.specs.Prelude.{slice_set, Result, Ok, Err, OnErr, OnOk}
 use Rattle.std.proofs.lemmas.Bool.{false≢true}
 use Rattle.event_steps.specs.tier_device.declared.media.Media.{Ghosts}

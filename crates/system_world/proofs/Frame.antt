@@ -1,9 +1,8 @@
 -- A system of which one client's seat has moved, and its part of the world with it: what stays so.
-use Rattle.std.proofs.Common.{◌≡◌, ◌≢◌, inl, inr, ℕ, ◌-◌, ◌<◌, cond, Bool, true, false, List, ◌++◌, drop, length, Option, Some, refl, ap, sym, ◌∙◌, subst}
+use Rattle.std.proofs.Common.{◌≡◌, ◌≢◌, inl, inr, ℕ, ◌-◌, ◌<◌, cond, true, List, ◌++◌, drop, length, Option, Some, refl, ap, sym, ◌∙◌, subst}
 use Rattle.std.specs.Prelude.{slice_set}
 use Rattle.std.proofs.lemmas.Bool.Decides.{eqb_tells}
 use Rattle.event_steps.specs.tier_device.declared.media.Media.{Ghosts}
-use Rattle.event_steps.specs.tier_device.declared.media.Tier.{Tier}
 use Rattle.event_steps.specs.posix_calls.Operations.{is_client}
 use Rattle.event_steps.specs.posix_calls.declared.call.Call.{Call}
 use Rattle.event_steps.specs.posix_calls.declared.limits.TheConstants.{MAX_CLIENTS}
@@ -17,7 +16,7 @@ use Rattle.event_steps.specs.libfs.world_invariant.ClientSteps.{with_client}
 use Rattle.event_steps.specs.libfs.world_invariant.Logs.{after_records}
 use Rattle.event_steps.specs.libfs.world_invariant.Invariant.{IsCoherent}
 use Rattle.event_steps.specs.libfs.world_invariant.World.{Account, Client, Kernel, World, at}
-use Rattle.event_steps.specs.View.{HasSeat, SeatView, SystemView, seat_of}
+use Rattle.event_steps.specs.View.{SeatView, SystemView, seat_of}
 use Rattle.event_steps.proofs.world_invariant_lemmas.Moved.{at_same}
 use Rattle.courses.specs.Courses.{Content}
 use Rattle.system_world.specs.Parts.{region_of}

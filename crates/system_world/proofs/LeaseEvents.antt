@@ -1,10 +1,9 @@
 -- The leases of a client: what its pass holds is what its part of the world holds.
-use Rattle.std.proofs.Common.{◌≡◌, ◌≢◌, ◌⊎◌, inl, inr, ℕ, ◌-◌, ◌<◌, ◌≤◌, ◌==◌, ◌&&◌, ◌||◌, Bool, true, false, cond, List, length, Option, Some, None, refl, subst, sym, ap, ◌∙◌, arith}
+use Rattle.std.proofs.Common.{◌≡◌, ◌≢◌, ◌⊎◌, inl, inr, ℕ, ◌-◌, ◌≤◌, ◌==◌, ◌&&◌, ◌||◌, Bool, true, false, cond, List, length, refl, sym, ap, ◌∙◌, arith}
 use Rattle.std.specs.Prelude.{slice_index_or, slice_set, nat_le}
 use Rattle.std.proofs.lemmas.Bool.{and_parts, cases_lt, false≢true}
 use Rattle.std.proofs.lemmas.Bool.Decides.{eqb_tells, nat_tests}
 use Rattle.std.proofs.lemmas.List.{get_or-set_same, get_or-set_other, get_or_past}
-use Rattle.event_steps.specs.tier_device.declared.media.Media.{Ghosts}
 use Rattle.event_steps.specs.lease_manager.file_graph.Numbers.{is_inode}
 use Rattle.event_steps.specs.lease_manager.Parts.{AreCompatible}
 use Rattle.event_steps.specs.lease_manager.Marks.{is_lease}
@@ -13,7 +12,6 @@ use Rattle.event_steps.specs.lease_manager.PassLeases.{is_reading, is_writing, r
 use Rattle.event_steps.specs.lease_manager.Words.{HasWord, lease_place}
 use Rattle.event_steps.specs.lease_manager.declared.view.LeaseMode.{LeaseMode}
 use Rattle.event_steps.specs.lease_manager.declared.view.LeaseMode.TheVariants.{Free, Reading, Writing, Trying}
-use Rattle.event_steps.specs.libfs.world_invariant.LeaseSteps.{also, without}
 
 -- ---- the pass at one inode
 

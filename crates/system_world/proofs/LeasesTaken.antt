@@ -1,27 +1,25 @@
 -- A lease is asked for, taken, raised and given.
-use Rattle.std.proofs.Common.{◌≡◌, ◌≢◌, ◌⊎◌, inl, inr, ℕ, ◌-◌, ◌<◌, ◌==◌, ◌&&◌, ◌||◌, Bool, true, false, cond, List, Option, Some, None, refl, subst, sym, ap, ◌∙◌, arith}
+use Rattle.std.proofs.Common.{◌≡◌, ◌≢◌, ◌⊎◌, inl, inr, ℕ, ◌-◌, ◌<◌, ◌==◌, ◌&&◌, ◌||◌, Bool, true, false, cond, Option, Some, refl, subst, sym, ap, ◌∙◌, arith}
 use Rattle.std.specs.Prelude.{slice_set, IfSome}
-use Rattle.std.proofs.lemmas.Bool.{cases_lt, false≢true}
+use Rattle.std.proofs.lemmas.Bool.{cases_lt}
 use Rattle.std.proofs.lemmas.Bool.Decides.{eqb_tells}
 use Rattle.event_steps.specs.tier_device.declared.media.Media.{Ghosts}
-use Rattle.event_steps.specs.tier_device.declared.media.Tier.{Tier}
 use Rattle.event_steps.specs.posix_calls.Operations.{is_client}
 use Rattle.event_steps.specs.posix_calls.declared.call.Call.{Call}
 use Rattle.event_steps.specs.lease_manager.file_graph.Numbers.{is_inode}
 use Rattle.event_steps.specs.lease_manager.Marks.{is_lease}
 use Rattle.event_steps.specs.lease_manager.Parts.{AreCompatible}
-use Rattle.event_steps.specs.lease_manager.Passes.{PassView, lease_of, with_lease, without_lease}
+use Rattle.event_steps.specs.lease_manager.Passes.{PassView, lease_of, with_lease}
 use Rattle.event_steps.specs.lease_manager.PassLeases.{is_reading, is_writing, reads, writes}
 use Rattle.event_steps.specs.lease_manager.Words.{HasWord}
 use Rattle.event_steps.specs.lease_manager.declared.view.LeaseMode.{LeaseMode}
 use Rattle.event_steps.specs.lease_manager.declared.view.Part.{Part}
-use Rattle.event_steps.specs.lease_manager.declared.view.LeaseMode.TheVariants.{Free, Reading, Writing, Trying}
-use Rattle.event_steps.specs.libfs.world_invariant.ClientSteps.{with_client}
+use Rattle.event_steps.specs.lease_manager.declared.view.LeaseMode.TheVariants.{Free, Reading, Writing}
 use Rattle.event_steps.specs.libfs.world_invariant.Invariant.{IsCoherent}
 use Rattle.event_steps.specs.libfs.world_invariant.LeaseSteps.{IsUnheld, IsUnwritten, also, without}
-use Rattle.event_steps.specs.libfs.world_invariant.World.{Account, Client, World, world_state}
+use Rattle.event_steps.specs.libfs.world_invariant.World.{Account, Client, world_state}
 use Rattle.event_steps.specs.kernel_fs.layout.declared.marks.Mark.{Mark}
-use Rattle.event_steps.specs.View.{HasSeat, SeatView, SystemView, seat_of}
+use Rattle.event_steps.specs.View.{SeatView, SystemView, seat_of}
 use Rattle.event_steps.specs.Effects.{MakesAt}
 use Rattle.event_steps.specs.Leases.{HasPass}
 use Rattle.event_steps.specs.Turns.{CanPlay, HasTurn}

@@ -57,3 +57,4 @@ pub mod CallSteps
 pub mod RepliedWorlds
 pub mod RepliedCalls
 pub mod SteppedCalls
+pub mod IdleSystems

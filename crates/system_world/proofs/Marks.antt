@@ -31,7 +31,7 @@ all_eight bytes x e =
     let made : Marks × List ℕ = (record { clients = c.0.0; digests = d.0.0 }, d.0.1) in
     subst (λ (y : Marks × List ℕ). length y.0.clients ≡ 8) (some_is made x d.2) (as_many mark_at 8 bytes c.0 c.1)
 
-eight_in : (block : List ℕ) (v : Marks) → marks_of block ≡ Some v → length v.clients ≡ 8
+pub eight_in : (block : List ℕ) (v : Marks) → marks_of block ≡ Some v → length v.clients ≡ 8
 unfolding marks_of
 eight_in block v is =
     let long = guard_some (length block == BLOCK) _ v is in

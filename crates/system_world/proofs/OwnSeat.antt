@@ -4,7 +4,7 @@ use Rattle.event_steps.specs.tier_device.declared.media.Media.{Ghosts}
 use Rattle.event_steps.specs.posix_calls.Operations.{is_client}
 use Rattle.event_steps.specs.Sound.{number_of}
 use Rattle.event_steps.specs.Stops.{SeatLeaves}
-use Rattle.event_steps.specs.View.{HasSeat, SeatView, SystemView, seat_of}
+use Rattle.event_steps.specs.View.{HasSeat, SeatView, seat_of}
 use Rattle.system_world.specs.Leaves.{HoldRecords, HoldsRecords, SystemLeaves}
 use Rattle.system_world.specs.Relation.{IsClientOf, StandsMarked}
 use Rattle.system_world.specs.Contents.{mark_by}

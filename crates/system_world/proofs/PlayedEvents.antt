@@ -1,5 +1,5 @@
 -- An event has nothing to do and changes nothing, or was its turn and made what it makes.
-use Rattle.std.proofs.Common.{◌≡◌, ◌≢◌, ◌⊎◌, inl, inr, ℕ, refl}
+use Rattle.std.proofs.Common.{◌≡◌, ◌≢◌, ◌⊎◌, inl, inr, refl}
 use Rattle.event_steps.specs.tier_device.declared.media.Media.{Ghosts}
 use Rattle.event_steps.specs.Effects.{Carries, Plays}
 use Rattle.event_steps.specs.Turns.{CanPlay}

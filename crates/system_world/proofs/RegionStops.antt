@@ -1,5 +1,5 @@
 -- What a stop leaves of all parts within an event that moves a region of one client: the world still holds it.
-use Rattle.std.proofs.Common.{◌≡◌, ◌≢◌, ◌⊎◌, inl, inr, ℕ, ◌+◌, ◌-◌, ◌%◌, ◌==◌, ◌<◌, ◌≤◌, cond, Bool, true, false, List, [], length, Option, Some, None, refl, ap, sym, ◌∙◌, subst, arith}
+use Rattle.std.proofs.Common.{◌≡◌, ◌≢◌, ◌⊎◌, inl, inr, ℕ, ◌-◌, ◌%◌, ◌<◌, ◌≤◌, cond, Bool, true, List, [], length, Option, Some, None, refl, ap, sym, ◌∙◌, subst, arith}
 use Rattle.std.specs.Prelude.{IfSome, is_some, slice_set}
 use Rattle.std.proofs.lemmas.Bool.{false≢true}
 use Rattle.std.proofs.lemmas.Bool.Decides.{eqb_tells}
@@ -20,13 +20,13 @@ use Rattle.event_steps.specs.libfs.SealedRegion.{SealedRegionView}
 use Rattle.event_steps.specs.libfs.View.{ClientView}
 use Rattle.event_steps.specs.libfs.world_invariant.World.{World, world_state}
 use Rattle.event_steps.specs.Calls.{CountsOn}
-use Rattle.event_steps.specs.Sound.{IsAwayFrom, IsSeated}
+use Rattle.event_steps.specs.Sound.{IsSeated}
 use Rattle.event_steps.specs.Stops.{LeavesSealed, SeatLeaves}
 use Rattle.event_steps.specs.View.{HasSeat, SeatView, SystemView, seat_of}
 use Rattle.event_steps.specs.declared.event.Event.{Event}
 use Rattle.event_steps.specs.declared.outcome.Outcome.{Outcome}
 use Rattle.event_steps.proofs.world_invariant_lemmas.Records.{either}
-use Rattle.courses.specs.Courses.{Content, LeftBetween, PARTS, WorldContent, part_of}
+use Rattle.courses.specs.Courses.{Content, LeftBetween, WorldContent, part_of}
 use Rattle.system_world.specs.Leaves.{SystemLeaves}
 use Rattle.system_world.specs.Moves.{EventMoves, MovesRegion}
 use Rattle.system_world.specs.News.{news}

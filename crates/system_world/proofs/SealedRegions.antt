@@ -1,13 +1,10 @@
 -- A client hands its region over.
-use Rattle.std.proofs.Common.{◌≡◌, ◌≢◌, ◌⊎◌, inl, inr, ℕ, ◌+◌, ◌-◌, ◌%◌, ◌<◌, cond, Bool, true, false, List, [], ◌++◌, drop, length, Option, Some, None, refl, ap, sym, ◌∙◌, subst}
+use Rattle.std.proofs.Common.{◌≡◌, ◌≢◌, inl, inr, ℕ, ◌+◌, ◌-◌, ◌%◌, ◌<◌, cond, Bool, true, [], drop, length, Option, Some, None, refl, ap, sym, ◌∙◌, subst}
 use Rattle.std.specs.Prelude.{slice_set}
 use Rattle.std.proofs.lemmas.Bool.Decides.{eqb_tells}
 use Rattle.event_steps.specs.tier_device.declared.media.Media.{Ghosts}
-use Rattle.event_steps.specs.tier_device.declared.media.Tier.{Tier}
 use Rattle.event_steps.specs.posix_calls.Operations.{is_client}
 use Rattle.event_steps.specs.posix_calls.declared.call.Call.{Call}
-use Rattle.event_steps.specs.libfs.file_graph.Graph.{is_among}
-use Rattle.event_steps.specs.libfs.log_record.declared.format.Record.{Record}
 use Rattle.event_steps.specs.libfs.update_log.RecordCounts.{next_generation}
 use Rattle.event_steps.specs.libfs.update_log.View.{HasSize, RegionView}
 use Rattle.event_steps.specs.libfs.client_log.HasTurn.{HasTurn, change_in, region_at}
@@ -16,10 +13,7 @@ use Rattle.event_steps.specs.libfs.client_log.Turns.{Place, Turn, turn_of}
 use Rattle.event_steps.specs.libfs.client_log.Turns as log
 use Rattle.event_steps.specs.libfs.client_log.View.{current_records}
 use Rattle.event_steps.specs.kernel_fs.layout.declared.marks.Mark.{Mark}
-use Rattle.event_steps.specs.libfs.world_invariant.ClientParts.{Stands}
-use Rattle.event_steps.specs.libfs.world_invariant.ClientSteps.{with_client}
 use Rattle.event_steps.specs.libfs.world_invariant.Invariant.{IsCoherent}
-use Rattle.event_steps.specs.libfs.world_invariant.Logs.{is_written}
 use Rattle.event_steps.specs.libfs.world_invariant.RegionSteps.{CanSeal, is_wiped, region_sealed}
 use Rattle.event_steps.specs.libfs.world_invariant.World.{Account, Begun, Client, World, change_of, undigested_records, world_state}
 use Rattle.event_steps.specs.libfs.world_invariant.World as world
@@ -28,13 +22,13 @@ use Rattle.event_steps.specs.Effects.{MakesAt}
 use Rattle.event_steps.specs.Regions.{HasHandedOver}
 use Rattle.event_steps.specs.Sound.{IsSeated}
 use Rattle.event_steps.specs.Turns.{CanPlay}
-use Rattle.event_steps.specs.View.{SeatView, SystemView, done_of, seat_of}
+use Rattle.event_steps.specs.View.{SeatView, SystemView, done_of}
 use Rattle.event_steps.specs.declared.event.Event.TheVariants.{Seal}
 use Rattle.event_steps.specs.declared.outcome.Outcome.{Outcome}
 use Rattle.event_steps.proofs.world_invariant_lemmas.Records.{front_written, rest_written}
 use Rattle.event_steps.proofs.world_invariant_lemmas.Regions.{sealed_holds, sealed_tree}
-use Rattle.system_world.specs.Parts.{region_beside, region_of}
-use Rattle.system_world.specs.Relation.{IsClientOf, IsWorldOf, StandsMarked, accepted_of, first_generation, held_of}
+use Rattle.system_world.specs.Parts.{region_of}
+use Rattle.system_world.specs.Relation.{IsClientOf, StandsMarked, accepted_of, first_generation}
 use Rattle.system_world.specs.Contents.{mark_by}
 use Rattle.system_world.specs.Steps.{IsBegunIn, IsStep}
 use Rattle.system_world.specs.WorldTree.{WorldView, calls_of}
@@ -42,7 +36,7 @@ use Rattle.system_world.proofs.ClientMoves.{StandsFor, client_moves, kernel_stan
 use Rattle.system_world.proofs.Given.{Given}
 use Rattle.system_world.proofs.OwnSeat.{client_at, leaves_at, marked_at}
 use Rattle.system_world.proofs.RegionStops.{beside_at, current_at, one_of_two, other_at, other_remainder}
-use Rattle.system_world.proofs.Seats.{client_is, same_seat}
+use Rattle.system_world.proofs.Seats.{client_is}
 use Rattle.system_world.proofs.Seated.{same_world, seat_step}
 use Rattle.system_world.proofs.Still.{media_same, still_media}
 use Rattle.system_world.proofs.WorldMoves.{Stood, still_world}

@@ -1,8 +1,7 @@
 -- An event of a client that leaves the kernel as it was, and moves no part.
-use Rattle.std.proofs.Common.{◌≡◌, ◌≢◌, ℕ, ◌-◌, ◌<◌, Bool, true, List, length, Option, Some, refl, ap, sym, ◌∙◌, subst}
+use Rattle.std.proofs.Common.{◌≡◌, ◌≢◌, ℕ, ◌-◌, ◌<◌, true, List, length, Option, Some, refl, ap, sym, ◌∙◌, subst}
 use Rattle.std.specs.Prelude.{slice_set}
 use Rattle.event_steps.specs.tier_device.declared.media.Media.{Ghosts}
-use Rattle.event_steps.specs.tier_device.declared.media.Tier.{Tier}
 use Rattle.event_steps.specs.posix_calls.Operations.{is_client}
 use Rattle.event_steps.specs.posix_calls.Run.{Run}
 use Rattle.event_steps.specs.posix_calls.declared.call.Call.{Call}

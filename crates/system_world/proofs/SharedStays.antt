@@ -4,7 +4,7 @@ use Rattle.event_steps.specs.tier_device.declared.media.Media.{Ghosts}
 use Rattle.event_steps.specs.tier_device.declared.media.Tier.{Tier}
 use Rattle.event_steps.specs.tier_device.AfterStop.{Left}
 use Rattle.event_steps.specs.posix_calls.Run.{Run}
-use Rattle.event_steps.specs.area_image.Store.{disk, graph, marks}
+use Rattle.event_steps.specs.area_image.Store.{disk, marks}
 use Rattle.event_steps.specs.area_image.batch_journal.Course.{Unmoved}
 use Rattle.event_steps.specs.kernel_fs.layout.Places.{Sizes}
 use Rattle.event_steps.specs.kernel_fs.layout.declared.marks.Marks.{Marks}

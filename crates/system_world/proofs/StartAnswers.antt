@@ -1,20 +1,16 @@
 -- A call that is started and answered by what its client knows.
-use Rattle.std.proofs.Common.{◌≡◌, ◌⊎◌, inl, inr, ℕ, ◌-◌, ◌<◌, Bool, true, false, cond, List, [], Option, Some, None, refl, subst, sym, ap, ◌∙◌}
-use Rattle.std.specs.Prelude.{slice_set, ◌&&◌, ◌==◌, not, Ok, Err, Result, option_map}
+use Rattle.std.proofs.Common.{◌≡◌, ◌⊎◌, inl, inr, ℕ, ◌-◌, Bool, true, false, [], Option, Some, None, refl, subst, sym, ap, ◌∙◌}
+use Rattle.std.specs.Prelude.{slice_set, ◌&&◌, ◌==◌, not, Ok, Err, option_map}
 use Rattle.event_steps.specs.tier_device.declared.media.Media.{Ghosts}
 use Rattle.event_steps.specs.posix_calls.Tree.{Own}
 use Rattle.event_steps.specs.posix_calls.Query.{◌>>=◌}
 use Rattle.event_steps.specs.posix_calls.Part.{Part, Known, run_part}
 use Rattle.event_steps.specs.posix_calls.Decide.{decide}
-use Rattle.event_steps.specs.posix_calls.Operations.{is_client, makes, own_after, reply_of, Step}
+use Rattle.event_steps.specs.posix_calls.Operations.{is_client, makes, own_after, Step}
 use Rattle.event_steps.specs.posix_calls.declared.call.Call.{Call}
 use Rattle.event_steps.specs.posix_calls.declared.call.Reply.{Reply}
-use Rattle.event_steps.specs.posix_calls.declared.descriptor.Descriptor.{Descriptor}
 use Rattle.event_steps.specs.posix_calls.declared.operation.Operation.{Operation}
 use Rattle.event_steps.specs.posix_calls.declared.operation.Operation.TheVariants.{Tell, NewDir, NewFile, OpenFile, CloseFile, Write, Resize, RemoveDir, AddName, DropName, Move}
-use Rattle.event_steps.specs.posix_calls.declared.errno.Errno.{Errno}
-use Rattle.event_steps.specs.libfs.file_graph.Graph.{is_among}
-use Rattle.event_steps.specs.libfs.file_graph.declared.effect.Effect.{Effect}
 use Rattle.event_steps.specs.libfs.file_graph.declared.effect.Kind.TheVariants as kinds
 use Rattle.event_steps.specs.call_effects.Knowledge.{IsPlanned, Knowledge, knows_after, part_of}
 use Rattle.event_steps.specs.call_effects.Effects.{make_effects}
@@ -25,10 +21,7 @@ use Rattle.event_steps.specs.client_plan.Steps.{IsAnswered, IsRefused}
 use Rattle.event_steps.specs.client_plan.declared.outcome.DescriptorChange.{DescriptorChange}
 use Rattle.event_steps.specs.libfs.client_view.AfterRecord.{with_change}
 use Rattle.event_steps.specs.libfs.client_view.KnowledgeTables.{Held}
-use Rattle.event_steps.specs.libfs.CallStart.{HasAnswered}
 use Rattle.event_steps.specs.libfs.ClientHoldings.{holdings_of, known_to}
-use Rattle.event_steps.specs.libfs.View.{ClientView}
-use Rattle.event_steps.specs.libfs.world_invariant.ClientParts.{OpensPinned}
 use Rattle.event_steps.specs.libfs.world_invariant.ClientSteps.{CanAnswer, with_client}
 use Rattle.event_steps.specs.libfs.world_invariant.Invariant.{IsCoherent}
 use Rattle.event_steps.specs.libfs.world_invariant.World.{Account, Client, World, world_state}

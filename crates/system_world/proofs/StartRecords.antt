@@ -3,7 +3,7 @@ use Rattle.std.proofs.Common.{◌≡◌, ◌≢◌, inl, inr, ℕ, ◌+◌, ◌-
 use Rattle.std.specs.Prelude.{slice_set, ◌&&◌, nat_le, Ok}
 use Rattle.std.proofs.lemmas.Bool.Decides.{eqb_tells}
 use Rattle.event_steps.specs.tier_device.declared.media.Media.{Ghosts}
-use Rattle.event_steps.specs.posix_calls.Operations.{is_client, reply_of}
+use Rattle.event_steps.specs.posix_calls.Operations.{is_client}
 use Rattle.event_steps.specs.posix_calls.Part.{Known, run_part}
 use Rattle.event_steps.specs.posix_calls.Run.{Run}
 use Rattle.event_steps.specs.posix_calls.declared.call.Call.{Call}
@@ -15,21 +15,17 @@ use Rattle.event_steps.specs.client_plan.Steps.{IsReady}
 use Rattle.event_steps.specs.client_plan.declared.outcome.DescriptorChange.{DescriptorChange}
 use Rattle.event_steps.specs.lease_manager.PassLeases.{reads, writes}
 use Rattle.event_steps.specs.lease_manager.Passes.{PassView}
-use Rattle.event_steps.specs.libfs.CallStart.{HasBegun}
 use Rattle.event_steps.specs.libfs.ClientHoldings.{holdings_of, known_to}
 use Rattle.event_steps.specs.libfs.View.{ClientView}
-use Rattle.event_steps.specs.libfs.client_log.HasTurn.{HasTurn, region_at}
-use Rattle.event_steps.specs.libfs.client_log.Steps.{most_of}
+use Rattle.event_steps.specs.libfs.client_log.HasTurn.{HasTurn}
 use Rattle.event_steps.specs.libfs.client_log.Turns.{Turn, record_begun, turn_of}
-use Rattle.event_steps.specs.libfs.client_log.View.{LogView}
 use Rattle.event_steps.specs.libfs.declared.begun_record.Begun.{Begun}
-use Rattle.event_steps.specs.libfs.log_record.Grammar.{IsRecord}
 use Rattle.event_steps.specs.libfs.log_record.declared.format.Record.{Record}
 use Rattle.event_steps.specs.libfs.update_log.Frames.{end_behind}
 use Rattle.event_steps.specs.libfs.update_log.View.{RegionView, records_of}
 use Rattle.event_steps.specs.libfs.update_log.declared.format.TheConstants.{REGION_SIZE}
 use Rattle.event_steps.specs.libfs.SealedRegion.{SealedRegionView}
-use Rattle.event_steps.specs.libfs.world_invariant.ClientSteps.{CanBegin, call_begun, with_client}
+use Rattle.event_steps.specs.libfs.world_invariant.ClientSteps.{CanBegin, call_begun}
 use Rattle.event_steps.specs.libfs.world_invariant.World.{Account, Client, World, world_state}
 use Rattle.event_steps.specs.libfs.world_invariant.World as world
 use Rattle.event_steps.specs.kernel_fs.layout.declared.marks.Mark.{Mark}
@@ -41,7 +37,7 @@ use Rattle.event_steps.specs.declared.outcome.Outcome.TheVariants as outcomes
 use Rattle.event_steps.proofs.world_invariant_lemmas.Begins.{begun_holds, begun_tree}
 use Rattle.system_world.specs.News.{news, set_call, with_call}
 use Rattle.system_world.specs.Parts.{region_beside, region_of}
-use Rattle.system_world.specs.Relation.{IsBegunBy, IsClientOf, StandsMarked, status_of}
+use Rattle.system_world.specs.Relation.{IsClientOf, StandsMarked, status_of}
 use Rattle.system_world.specs.Steps.{IsBegunIn, IsStep}
 use Rattle.system_world.specs.Contents.{mark_by}
 use Rattle.system_world.specs.WorldTree.{WorldView, calls_of}

@@ -1,5 +1,5 @@
 -- A call that is started and answered at once, or needs something: what a client answers without a step of the tree.
-use Rattle.std.proofs.Common.{◌≡◌, ◌⊎◌, inl, inr, ℕ, ◌-◌, ◌<◌, ◌&&◌, not, Bool, true, false, List, Option, Some, None, refl, subst, sym, ap, ◌∙◌}
+use Rattle.std.proofs.Common.{◌≡◌, inr, ℕ, ◌-◌, ◌<◌, ◌&&◌, not, Bool, true, false, Option, Some, None, refl, subst, sym, ap, ◌∙◌}
 use Rattle.std.specs.Prelude.{slice_set, is_some, IfSome}
 use Rattle.std.proofs.lemmas.Bool.{false≢true}
 use Rattle.event_steps.specs.tier_device.declared.media.Media.{Ghosts}
@@ -9,25 +9,19 @@ use Rattle.event_steps.specs.posix_calls.declared.call.Call.{Call}
 use Rattle.event_steps.specs.posix_calls.declared.call.Reply.{Reply}
 use Rattle.event_steps.specs.posix_calls.declared.call.Reply.TheVariants as replies
 use Rattle.event_steps.specs.posix_calls.declared.errno.Errno.{Errno}
-use Rattle.event_steps.specs.posix_calls.declared.errno.Errno.TheVariants.{IoError, NoMemory}
 use Rattle.event_steps.specs.client_plan.declared.need.Need.{Need}
 use Rattle.event_steps.specs.libfs.View.{ClientView, is_pending}
 use Rattle.event_steps.specs.libfs.declared.begun_record.Begun.{Begun}
-use Rattle.event_steps.specs.libfs.declared.now.Now.{Now}
-use Rattle.event_steps.specs.libfs.declared.now.Now.TheVariants as now
 use Rattle.event_steps.specs.libfs.world_invariant.ClientSteps.{with_client}
 use Rattle.event_steps.specs.libfs.world_invariant.Invariant.{IsCoherent}
 use Rattle.event_steps.specs.libfs.world_invariant.World.{Client, World, world_state}
 use Rattle.event_steps.specs.libfs.world_invariant.World as world
 use Rattle.event_steps.specs.declared.refusals.Refusals.{Refusals}
-use Rattle.event_steps.specs.Effects.{MakesAt}
-use Rattle.event_steps.specs.Outcomes.{refused_then, start_outcome}
 use Rattle.event_steps.specs.Turns.{CanPlay, HasTurn}
 use Rattle.event_steps.specs.View.{SeatView, SystemView, seat_of}
 use Rattle.event_steps.specs.declared.event.Event.TheVariants.{Start}
 use Rattle.event_steps.specs.declared.outcome.Outcome.{Outcome}
 use Rattle.event_steps.specs.declared.outcome.Outcome.TheVariants as outcomes
-use Rattle.courses.specs.Courses.{Ledger}
 use Rattle.system_world.specs.Leaves.{HoldsRecords}
 use Rattle.system_world.specs.News.{news}
 use Rattle.system_world.specs.Parts.{region_of}
@@ -37,7 +31,7 @@ use Rattle.system_world.specs.Contents.{mark_by}
 use Rattle.system_world.specs.WorldTree.{WorldView, calls_of}
 use Rattle.system_world.proofs.Frame.{KeepsSealed}
 use Rattle.system_world.proofs.Given.{Given}
-use Rattle.system_world.proofs.Seats.{client_is, same_seat}
+use Rattle.system_world.proofs.Seats.{same_seat}
 use Rattle.system_world.proofs.Seated.{client_on, marked_on, own_mark, own_part, quiet_step, same_world, seat_step}
 
 module _ {M : Type 0} (device : Ghosts M) where

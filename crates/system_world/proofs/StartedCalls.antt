@@ -1,5 +1,5 @@
 -- A call is started: whatever comes of it is a step.
-use Rattle.std.proofs.Common.{◌≡◌, ◌⊎◌, inl, inr, ℕ, ◌-◌, Bool, true, false, List, Option, Some, refl, subst, sym, ap, ◌∙◌}
+use Rattle.std.proofs.Common.{◌≡◌, ◌⊎◌, inl, inr, ℕ, ◌-◌, Bool, true, false, Option, Some, refl, subst, sym, ap, ◌∙◌}
 use Rattle.std.specs.Prelude.{slice_set}
 use Rattle.event_steps.specs.tier_device.declared.media.Media.{Ghosts}
 use Rattle.event_steps.specs.posix_calls.Operations.{is_client}
@@ -11,10 +11,10 @@ use Rattle.event_steps.specs.client_plan.Steps.{IsAnswered, IsReady, IsRefused}
 use Rattle.event_steps.specs.client_plan.declared.outcome.DescriptorChange.{DescriptorChange}
 use Rattle.event_steps.specs.client_plan.declared.outcome.Outcome.{Outcome as CallOutcome}
 use Rattle.event_steps.specs.client_plan.declared.outcome.Outcome.TheVariants as plans
-use Rattle.event_steps.specs.libfs.CallStart.{HasAnswered, HasBegun, HasStarted, IsOutOfMemory}
+use Rattle.event_steps.specs.libfs.CallStart.{HasStarted, IsOutOfMemory}
 use Rattle.event_steps.specs.libfs.ClientHoldings.{holdings_of, known_to, outcome_for}
 use Rattle.event_steps.specs.libfs.View.{ClientView}
-use Rattle.event_steps.specs.libfs.client_log.Turns.{Turn, record_begun, turn_of}
+use Rattle.event_steps.specs.libfs.client_log.Turns.{turn_of}
 use Rattle.event_steps.specs.libfs.declared.now.Now.{Now}
 use Rattle.event_steps.specs.libfs.declared.now.Now.TheVariants as now
 use Rattle.event_steps.specs.libfs.log_record.declared.format.Record.{Record}

@@ -1,5 +1,5 @@
 -- A device call of a wipe of a client's region.
-use Rattle.std.proofs.Common.{◌≡◌, ◌≢◌, ◌⊎◌, inl, inr, ℕ, ◌+◌, ◌-◌, ◌%◌, ◌<◌, cond, Bool, true, false, List, [], ◌++◌, length, Option, Some, None, refl, ap, sym, ◌∙◌, subst, arith}
+use Rattle.std.proofs.Common.{◌≡◌, ◌≢◌, inl, inr, ℕ, ◌+◌, ◌-◌, ◌%◌, ◌<◌, true, false, List, [], Option, Some, None, refl, ap, sym, ◌∙◌, subst, arith}
 use Rattle.std.specs.Prelude.{IfSome, is_err, is_some, slice_set, Result, Ok, Err}
 use Rattle.std.proofs.lemmas.Bool.{false≢true}
 use Rattle.event_steps.specs.tier_device.declared.media.Media.{Ghosts}
@@ -9,37 +9,34 @@ use Rattle.event_steps.specs.posix_calls.Operations.{is_client}
 use Rattle.event_steps.specs.posix_calls.declared.call.Call.{Call}
 use Rattle.event_steps.specs.libfs.file_graph.Graph.{is_among}
 use Rattle.event_steps.specs.libfs.log_record.declared.format.Record.{Record}
-use Rattle.event_steps.specs.libfs.update_log.RecordCounts.{next_generation, records_in}
-use Rattle.event_steps.specs.libfs.update_log.View.{HasSize, RegionView, records_of}
+use Rattle.event_steps.specs.libfs.update_log.RecordCounts.{next_generation}
+use Rattle.event_steps.specs.libfs.update_log.View.{RegionView, records_of}
 use Rattle.event_steps.specs.libfs.update_log.declared.stage.WipeProgress.{WipeProgress}
 use Rattle.event_steps.specs.libfs.update_log.declared.stage.WipeProgress.TheVariants.{Going, Wiped}
 use Rattle.event_steps.specs.libfs.client_log.HasTurn.{HasTurn, change_in, region_at}
 use Rattle.event_steps.specs.libfs.client_log.Steps.{WipesCurrent, WipesOther, is_last}
 use Rattle.event_steps.specs.libfs.client_log.Turns.{place_of, turn_of}
-use Rattle.event_steps.specs.libfs.client_log.Turns as log
 use Rattle.event_steps.specs.libfs.client_log.declared.error.LogError.{LogError}
-use Rattle.event_steps.specs.libfs.client_log.View.{LogView, current_records}
+use Rattle.event_steps.specs.libfs.client_log.View.{LogView}
 use Rattle.event_steps.specs.kernel_fs.layout.declared.marks.Mark.{Mark}
 use Rattle.event_steps.specs.libfs.world_invariant.ClientSteps.{with_client}
 use Rattle.event_steps.specs.libfs.world_invariant.Invariant.{IsCoherent}
 use Rattle.event_steps.specs.libfs.world_invariant.Logs.{is_written}
 use Rattle.event_steps.specs.libfs.world_invariant.World.{Account, Begun, Client, World, world_state}
 use Rattle.event_steps.specs.libfs.world_invariant.World as world
-use Rattle.event_steps.specs.libfs.View.{ClientView}
 use Rattle.event_steps.specs.Calls.{CountsOn}
 use Rattle.event_steps.specs.Effects.{MakesAt}
 use Rattle.event_steps.specs.Regions.{IsWipedOn}
 use Rattle.event_steps.specs.Turns.{CanPlay, IsToBeWiped}
-use Rattle.event_steps.specs.Turns as turns
 use Rattle.event_steps.specs.Stops.{SeatLeaves}
-use Rattle.event_steps.specs.View.{SeatView, SystemView, seat_of}
+use Rattle.event_steps.specs.View.{SeatView, SystemView}
 use Rattle.event_steps.specs.declared.event.Event.TheVariants.{WipeStep}
 use Rattle.event_steps.specs.declared.outcome.Outcome.{Outcome}
 use Rattle.event_steps.proofs.world_invariant_lemmas.Begins.{turned_holds, turned_tree}
 use Rattle.event_steps.proofs.world_invariant_lemmas.Records.{either}
 use Rattle.event_steps.proofs.world_invariant_lemmas.Regions.{current_wiped_holds, current_wiped_tree, other_wiped_holds, other_wiped_tree}
 use Rattle.system_world.specs.Parts.{region_of}
-use Rattle.system_world.specs.Relation.{IsClientOf, IsWorldOf, StandsMarked, accepted_of, held_of, status_of}
+use Rattle.system_world.specs.Relation.{IsClientOf, StandsMarked, accepted_of, held_of, status_of}
 use Rattle.system_world.specs.Contents.{mark_by}
 use Rattle.system_world.specs.Steps.{IsBegunIn, IsStep}
 use Rattle.system_world.specs.WorldTree.{WorldView, calls_of}
@@ -47,8 +44,8 @@ use Rattle.system_world.proofs.ClientMoves.{StandsFor, client_moves, kernel_stan
 use Rattle.system_world.proofs.Frame.{KeepsSealed}
 use Rattle.system_world.proofs.Given.{Given}
 use Rattle.system_world.proofs.OwnSeat.{client_at, leaves_at, marked_at}
-use Rattle.system_world.proofs.RegionStops.{RegionsLeft, beside_at, beside_stays, current_at, left_as, low_remainder, none_beside, one_of_two, other_at, other_remainder, region_world, seat_during, sizes_stay}
-use Rattle.system_world.proofs.Seats.{client_is, same_seat}
+use Rattle.system_world.proofs.RegionStops.{RegionsLeft, beside_stays, current_at, left_as, low_remainder, none_beside, other_at, other_remainder, region_world, seat_during, sizes_stay}
+use Rattle.system_world.proofs.Seats.{client_is}
 use Rattle.system_world.proofs.Seated.{same_world}
 use Rattle.system_world.proofs.StopLogs.{HoldsSeat}
 use Rattle.system_world.proofs.StopsNow.{IsSized}

@@ -1,5 +1,4 @@
 -- What the laws of events rest on, by what holds of each medium.
-use Rattle.std.proofs.Common.{◌≡◌}
 use Rattle.event_steps.specs.tier_device.declared.media.Media.{Ghosts}
 use Rattle.event_steps.specs.tier_device.declared.media.Tier.{Tier}
 use Rattle.system_world.proofs.Given.{Given}

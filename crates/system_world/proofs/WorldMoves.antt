@@ -1,5 +1,5 @@
 -- Events that move no part, by the worlds before and behind them.
-use Rattle.std.proofs.Common.{◌≡◌, ℕ, List, Option, ap, sym, subst}
+use Rattle.std.proofs.Common.{◌≡◌, ℕ, List, Option, sym, subst}
 use Rattle.event_steps.specs.tier_device.declared.media.Media.{Ghosts}
 use Rattle.event_steps.specs.posix_calls.Run.{Run}
 use Rattle.event_steps.specs.posix_calls.declared.call.Call.{Call}

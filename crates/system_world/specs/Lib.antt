@@ -5,6 +5,7 @@ pub mod News
 pub mod Moves
 pub mod Leaves
 pub mod Relation
+pub mod Idle
 pub mod Steps
 -- Passed on to the crates above, which so need not list those below.
 pub use Rattle.courses.specs as courses

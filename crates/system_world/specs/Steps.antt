@@ -1,5 +1,5 @@
 -- What a world that recovers is, for whoever plays lists of events on it, and what every event keeps and makes.
-use Rattle.std.specs.Prelude.{◌≡◌, ℕ, List}
+use Rattle.std.specs.Prelude.{◌≡◌}
 use Rattle.event_steps.specs.tier_device.declared.media.Media.{Ghosts}
 use Rattle.event_steps.specs.posix_calls.Run.{Run}
 use Rattle.event_steps.specs.Effects.{Carries, Plays}

@@ -12,7 +12,8 @@ ghost use Rattle.system_world.specs.WorldTree.{WorldView};
 
 use event_steps::TierDeviceMedia as Media;
 
-/// A device call that keeps a begun record answers its call, which is one step of the tree then; the others before it leave the tree. So does one that fails, and the call stays unfinished.
+/// The device call that completes a begun record answers its call, which is one step of the tree then; those before it leave the tree as it
+/// is. One that fails does so too, and its call stays unfinished.
 pub fn stepped_call_is_a_step<M: Media>()
     ensures { (v : WorldView M) (c : ℕ) (o : Outcome) (new : SystemView M) → IsBegunIn M.Media v new → CanPlay M.Media v.system (Step c) → MakesAt M.Media v.system c (Step c) o new
         → IsStep M.Media v (Step c) o (record { system = new; calls = calls_then v.calls (Step c) o }) }

@@ -26,8 +26,11 @@ use crate::requests::{
 use crate::starts::started_call_is_a_step;
 use event_steps::TierDeviceMedia as Media;
 
-/// Every event that is played on a system that stands for a world is a step, where whoever takes a lease in it has met each other client
-/// then, and whoever fetches in it has no try for the lease.
+/// Every event that is played on a system that stands for a world is a step; one that is `Idle` is a step that changes nothing.
+///
+/// Asked for beside what `System::play` promises: what holds of the system and its clients between two events, before it and after it
+/// (`IsBegunIn`); that a client that takes or raises a lease has met each other one after it (`System::meet`); and that no failed try for
+/// the lease of a client that fetches is being taken out before it (`Client::holds`).
 pub fn played_event_is_a_step<M: Media>()
     ensures { (v : WorldView M) (e : Event) (o : Outcome) (new : SystemView M) → IsBegunIn M.Media v new → Carries (CanPlay M.Media v.system e) (Plays M.Media v.system e o new) (new ≡ v.system) o → HasMetIn e new → IsSettledIn e v.system
         → IsStep M.Media v e o (record { system = new; calls = calls_then v.calls e o }) }

@@ -1,4 +1,4 @@
-//! Leases are taken, raised, given and asked back.
+//! Leases are taken, raised, given back and asked for.
 
 ghost use Rattle.std.specs.Prelude.{ℕ};
 ghost use Rattle.event_steps.specs.client_plan.declared.need.Mode.{Mode};
@@ -13,25 +13,25 @@ ghost use Rattle.system_world.specs.WorldTree.{WorldView};
 
 use event_steps::TierDeviceMedia as Media;
 
-/// A lease that is taken, by a client that has met all others then, or refused: the tree stays.
+/// A lease is taken, by a client that has met all others after it, or refused: the tree stays.
 pub fn taken_lease_is_a_step<M: Media>()
     ensures { (v : WorldView M) (c i : ℕ) (mode : Mode) (o : Outcome) (new : SystemView M) → IsBegunIn M.Media v new → CanPlay M.Media v.system (Lease c i mode) → MakesAt M.Media v.system c (Lease c i mode) o new → HasMetAll new c
         → IsStep M.Media v (Lease c i mode) o (record { system = new; calls = v.calls }) }
 {}
 
-/// So it is where a read lease is raised.
+/// A read lease is raised to a write lease, by a client that has met all others after it, or that is refused: the tree stays.
 pub fn raised_lease_is_a_step<M: Media>()
     ensures { (v : WorldView M) (c i : ℕ) (o : Outcome) (new : SystemView M) → IsBegunIn M.Media v new → CanPlay M.Media v.system (Raise c i) → MakesAt M.Media v.system c (Raise c i) o new → HasMetAll new c
         → IsStep M.Media v (Raise c i) o (record { system = new; calls = v.calls }) }
 {}
 
-/// So it is where a lease is given, of an inode that no record of the client touches that is not digested.
+/// A lease is given back, of an inode that no undigested record of the client touches: the tree stays.
 pub fn given_lease_is_a_step<M: Media>()
     ensures { (v : WorldView M) (c i : ℕ) (o : Outcome) (new : SystemView M) → IsBegunIn M.Media v new → CanPlay M.Media v.system (Give c i) → MakesAt M.Media v.system c (Give c i) o new
         → IsStep M.Media v (Give c i) o (record { system = new; calls = v.calls }) }
 {}
 
-/// And where another client is asked for a lease.
+/// Another client is asked to give a lease back: the tree stays.
 pub fn asked_lease_is_a_step<M: Media>()
     ensures { (v : WorldView M) (c i of : ℕ) (o : Outcome) (new : SystemView M) → IsBegunIn M.Media v new → CanPlay M.Media v.system (AskBack c i of) → MakesAt M.Media v.system c (AskBack c i of) o new
         → IsStep M.Media v (AskBack c i of) o (record { system = new; calls = v.calls }) }

@@ -1,9 +1,14 @@
 //! When a running system stands for a world over plain data (`world_invariant`), and that each event keeps it so.
 //!
-//! `specs/Relation.antt` says when (`IsWorldOf`): the kernel's book, graph and marks, each client's part, where its mark stands, and what a
-//! stop leaves of the seventeen parts (`specs/Parts.antt`). The file tree that a system stands for (`world_tree`) is read off its parts and
-//! the clients' descriptors alone. A law for each kind of event says that the new system stands for a world again, what the event
-//! acknowledges, and that whatever a stop leaves on its way is recovered to the tree before it (`specs/Steps.antt`).
+//! `specs/Relation.antt` says when (`IsWorldOf`): the kernel's book, graph and marks, each client, where its mark stands, and, once a device
+//! of the kernel has failed, what is left of the shared medium. What a stop leaves of the seventeen parts (`specs/Parts.antt`) is a fact of
+//! the system itself (`specs/Leaves.antt`). The file tree that a system stands for (`world_tree`) is read off what its parts hold, up to
+//! where the records of each client's log end, and off the clients' descriptors: no copy of a node or a record in memory counts.
+//!
+//! A law for each kind of event says that the new system stands for a world again, what the event acknowledges, and that whatever a stop
+//! leaves from its beginning to its end is what a recovery takes (`CanRecover`), and stores (`stored_state`) the tree before it, settled,
+//! with some of the calls that were not answered then (`specs/Steps.antt`). Which outcome an event has is told by `System::play`, and by no
+//! law here. A system that nobody uses, as it is opened, stands for a world too (`specs/Idle.antt`).
 //!
 //! There is no code: these are laws, cited by what plays events on a world.
 #![tactic(auto)]
@@ -14,6 +19,7 @@ mod events;
 mod idle;
 mod leases;
 mod media_moves;
+mod openings;
 mod regions;
 mod requests;
 mod starts;
@@ -26,6 +32,7 @@ pub use leases::{
     asked_lease_is_a_step, given_lease_is_a_step, raised_lease_is_a_step, taken_lease_is_a_step,
 };
 pub use media_moves::{migrated_run_is_a_step, reclaimed_file_is_a_step};
+pub use openings::idle_system_stands_for_a_world;
 pub use regions::{digested_region_is_a_step, sealed_region_is_a_step, wiped_region_is_a_step};
 pub use requests::{
     dropped_pin_is_a_step, fetched_blocks_are_a_step, fetched_copy_is_a_step,

@@ -13,7 +13,8 @@ ghost use Rattle.system_world.specs.WorldTree.{WorldView};
 
 use event_steps::{TierDeviceMedia as Media, answered_start_is_a_step, begun_record_is_a_step};
 
-/// A client's call that is answered at once is one step of the tree; where its record is begun it is unfinished from then on, and where it needs something nothing changes.
+/// A call that is answered at once is one step of the tree. A call whose record is begun is unfinished from then on, and the tree stays, as
+/// it does for a call that needs something first.
 pub fn started_call_is_a_step<M: Media>()
     ensures { (v : WorldView M) (c : ℕ) (call : Call) (o : Outcome) (new : SystemView M) → IsBegunIn M.Media v new → CanPlay M.Media v.system (Start c call) → MakesAt M.Media v.system c (Start c call) o new
         → IsStep M.Media v (Start c call) o (record { system = new; calls = calls_then v.calls (Start c call) o }) }

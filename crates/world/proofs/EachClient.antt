@@ -1,9 +1,8 @@
 -- What was shown of clients one after the other.
-use Rattle.std.proofs.Common.{◌≡◌, ◌≢◌, inl, inr, ◌⊎◌, ℕ, ◌+◌, ◌<◌, ◌≤◌, true, subst, sym, arith}
+use Rattle.std.proofs.Common.{◌≡◌, ◌≢◌, inl, inr, ℕ, ◌+◌, ◌<◌, ◌≤◌, true, subst, sym, arith}
 use Rattle.std.specs.Prelude.{nat_le}
 use Rattle.std.proofs.lemmas.Bool.{and_parts}
 use Rattle.std.proofs.lemmas.Bool.Decides.{eqb_tells, nat_tests}
-use Rattle.system_world.specs.event_steps.lease_manager.Words.{IsClient}
 use Rattle.system_world.specs.event_steps.posix_calls.Operations.{is_client}
 use Rattle.system_world.specs.event_steps.View.{SystemView}
 use Rattle.system_world.specs.Leaves.{HasMetAll, HaveMet}

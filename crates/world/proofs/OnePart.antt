@@ -1,6 +1,6 @@
 -- An event moves one part at most.
-use Rattle.std.proofs.Common.{◌≡◌, ℕ, ◌<◌, ◌≤◌, arith}
-use Rattle.system_world.specs.courses.Courses.{MovesOne, MovesOnly, PARTS, Reading, part_of}
+use Rattle.std.proofs.Common.{◌≡◌, ℕ, ◌≤◌, arith}
+use Rattle.system_world.specs.courses.Courses.{MovesOne, Reading, part_of}
 use Rattle.system_world.specs.event_steps.declared.event.Event.{Event}
 use Rattle.system_world.specs.event_steps.declared.event.Event.TheVariants as event
 use Rattle.system_world.specs.Moves.{EventMoves, MovesRegion, Stand}

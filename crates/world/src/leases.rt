@@ -1,6 +1,6 @@
 //! What is known of leases before and behind an event, by the word that a client reads and its own pass.
 
-ghost use Rattle.std.specs.Prelude.{◌≡◌, ◌<◌, ◌≢◌};
+ghost use Rattle.std.specs.Prelude.{◌≡◌, ◌<◌};
 ghost use Rattle.system_world.specs.event_steps.lease_manager.Words.{IsClient};
 ghost use Rattle.system_world.specs.Leaves.{HasMetAll, HasMetIn, HaveMet, IsSettledAt, IsSettledIn};
 

@@ -1,4 +1,4 @@
-use Rattle.std.proofs.Common.{◌≡◌, ℕ, ◌<◌, ◌≤◌, arith, subst, ◌∙◌}
+use Rattle.std.proofs.Common.{ℕ, ◌<◌, ◌≤◌, arith, subst, ◌∙◌}
 use Rattle.system_world.specs.event_steps.View.{SystemView}
 use Rattle.system_world.specs.Leaves.{HaveMet}
 use Rattle.world.proofs.EachClient.{met_all, with_next}

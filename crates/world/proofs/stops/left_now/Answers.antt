@@ -1,4 +1,4 @@
-use Rattle.std.proofs.Common.{◌≡◌, ℕ, ◌<◌, ◌≤◌, arith, subst}
+use Rattle.std.proofs.Common.{◌≡◌, ℕ, ◌≤◌, arith, subst}
 use Rattle.system_world.specs.event_steps.kernel_fs.KernelView.{KernelView}
 use Rattle.system_world.specs.event_steps.Sound.{number_of}
 use Rattle.system_world.specs.event_steps.Stops.{SeatLeaves}
