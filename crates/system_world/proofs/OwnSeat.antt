@@ -1,7 +1,11 @@
 -- What holds of the seat of one client, in a system that stands for a world.
-use Rattle.std.proofs.Common.{◌≡◌, ℕ, true, Some, sym, ◌∙◌, subst}
+use Rattle.std.proofs.Common.{◌≡◌, ℕ, ◌&&◌, not, Bool, true, false, Option, Some, None, refl, sym, ◌∙◌, subst}
+use Rattle.std.specs.Prelude.{is_some}
+use Rattle.std.proofs.lemmas.Bool.{false≢true}
 use Rattle.event_steps.specs.tier_device.declared.media.Media.{Ghosts}
 use Rattle.event_steps.specs.posix_calls.Operations.{is_client}
+use Rattle.event_steps.specs.libfs.View.{ClientView, is_pending}
+use Rattle.event_steps.specs.libfs.declared.begun_record.Begun.{Begun}
 use Rattle.event_steps.specs.Sound.{number_of}
 use Rattle.event_steps.specs.Stops.{SeatLeaves}
 use Rattle.event_steps.specs.View.{HasSeat, SeatView, seat_of}
@@ -30,3 +34,17 @@ module _ {M : Type 0} (device : Ghosts M) (v : WorldView M) (c : ℕ) (s : SeatV
 
   pub holds_at : HoldRecords device v.system → HoldsRecords device s.client
   holds_at holds = of_seat (λ y. HoldsRecords device y.client) (holds c is_c)
+
+module _ {M : Type 0} (device : Ghosts M) where
+  none_begun : (begun : Option Begun) (answered : Bool) → (is_some begun && not answered) ≡ false → answered ≡ false → begun ≡ None
+  none_begun None answered pending off = refl
+  none_begun (Some b) true pending off = absurd (false≢true (sym off))
+  none_begun (Some b) false pending off = absurd (false≢true (sym pending))
+
+  -- while no call waits, a client whose region's device has not failed has begun no record
+  pub idle_client : (k : ClientView M) → HoldsRecords device k → is_pending k ≡ false → k.log.failed ≡ false → k.begun ≡ None
+  idle_client k holds pending sound = by_answer k.answered refl
+    where
+      by_answer : (answered : Bool) → k.answered ≡ answered → k.begun ≡ None
+      by_answer true is = absurd (false≢true (sym sound ∙ (holds.failed is).0))
+      by_answer false is = none_begun k.begun k.answered pending is

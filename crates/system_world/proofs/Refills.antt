@@ -1,5 +1,5 @@
 -- A client is granted units and numbers, and gives back what it has not used.
-use Rattle.std.proofs.Common.{◌≡◌, inl, inr, ℕ, ◌+◌, ◌-◌, ◌≤◌, ◌&&◌, ◌||◌, Bool, true, false, not, List, [], Option, Some, None, Ok, Err, refl, ap, sym, ◌∙◌, subst, arith}
+use Rattle.std.proofs.Common.{◌≡◌, ℕ, ◌+◌, ◌-◌, ◌≤◌, ◌&&◌, ◌||◌, Bool, true, false, not, List, [], Option, Some, None, Ok, Err, refl, ap, sym, ◌∙◌, subst, arith}
 use Rattle.std.specs.Prelude.{Result, OnOk, IfSome}
 use Rattle.event_steps.specs.tier_device.declared.media.Media.{Ghosts}
 use Rattle.event_steps.specs.posix_calls.Operations.{is_client}
@@ -27,14 +27,14 @@ use Rattle.event_steps.specs.declared.outcome.Outcome.{Outcome}
 use Rattle.event_steps.proofs.libfs_lemmas.kernel_fs_lemmas.Machines.{free_is_unbooked, room_is}
 use Rattle.system_world.specs.Leaves.{HoldsRecords}
 use Rattle.system_world.specs.Relation.{Cut, IsWorldOf, machine_of}
-use Rattle.system_world.specs.Relation as standing
 use Rattle.system_world.specs.Steps.{IsBegunIn, IsStep}
 use Rattle.system_world.specs.WorldTree.{WorldView, calls_of}
 use Rattle.system_world.proofs.Booked.{booked_step, unbooked_step}
 use Rattle.system_world.proofs.Given.{Given}
 use Rattle.system_world.proofs.GrantSets.{all_returned_holds, all_returned_tree, set_granted_holds, set_granted_tree, sums}
 use Rattle.system_world.proofs.OwnSeat.{number_at, of_seat}
-use Rattle.system_world.proofs.PinnedInodes.{idle_or_failed}
+use Rattle.system_world.proofs.OwnSeat.{idle_client as begun_none}
+use Rattle.system_world.proofs.StartReplies.{idle_world}
 use Rattle.system_world.proofs.Seated.{own_part}
 use Rattle.system_world.proofs.Seats.{client_is}
 use Rattle.system_world.proofs.Supplies.{client_with, supplied}
@@ -52,13 +52,7 @@ module _ {M : Type 0} (device : Ghosts M) (v : WorldView M) (w : World) (accepte
   pub idle_client : HasSeat v.system c (λ t. HoldsRecords device t.client) → is_pending s.client ≡ false → s.client.log.failed ≡ false → (w.clients c).begun ≡ None
   idle_client holds idle alive =
       let held = of_seat device v c s is_c there (λ y. HoldsRecords device y.client) holds in
-      elim (idle_or_failed (calls_of v c) s.client.begun s.client.answered s.client.log.failed (w.clients c).begun idle (own_part device v w accepted shared_marks cut c s is is_c there).begun held.failed) [
-        | inl none ↦ none
-        | inr failed ↦ absurd (still_alive (sym (ap standing.status_of alive) ∙ failed))
-      ]
-    where
-      still_alive : standing.status_of false ≡ standing.status_of true → ⊥
-      still_alive same = cc
+      idle_world device s (calls_of v c) (w.clients c) (own_part device v w accepted shared_marks cut c s is is_c there) (begun_none device s.client held idle alive)
 
 module _ {M : Type 0} (device : Ghosts M) where
   pub refilled : Given device → (v : WorldView M) (c units inodes : ℕ) (o : Outcome) (new : SystemView M)

@@ -1,5 +1,5 @@
 -- What a stop leaves of all parts within an event that moves a region of one client: the world still holds it.
-use Rattle.std.proofs.Common.{◌≡◌, ◌≢◌, ◌⊎◌, inl, inr, ℕ, ◌-◌, ◌%◌, ◌<◌, ◌≤◌, cond, Bool, true, List, [], length, Option, Some, None, refl, ap, sym, ◌∙◌, subst, arith}
+use Rattle.std.proofs.Common.{◌≡◌, ◌≢◌, ◌⊎◌, inl, inr, ℕ, ◌-◌, ◌%◌, ◌<◌, ◌≤◌, true, List, [], length, Option, Some, None, refl, ap, sym, ◌∙◌, subst, arith}
 use Rattle.std.specs.Prelude.{IfSome, is_some, slice_set}
 use Rattle.std.proofs.lemmas.Bool.{false≢true}
 use Rattle.std.proofs.lemmas.Bool.Decides.{eqb_tells}
@@ -36,6 +36,7 @@ use Rattle.system_world.specs.Contents.{regions_in}
 use Rattle.system_world.specs.Steps.{IsBegunIn, IsStep}
 use Rattle.system_world.specs.WorldTree.{WorldView, calls_of}
 use Rattle.system_world.proofs.Given.{Given}
+use Rattle.system_world.proofs.PartMedia.{current_region, other_region}
 use Rattle.system_world.proofs.RegionMoves.{PartMoves, left_beside, medium_at, part_low, region_moves, region_step}
 use Rattle.system_world.proofs.Seats.{at_least, seat_beside, seat_there}
 use Rattle.system_world.proofs.StopLogs.{HoldsSealed, HoldsSeat}
@@ -56,19 +57,13 @@ one_of_two g r low off = omega (arith, low, off)
 
 module _ {M : Type 0} where
   pub at_remainder : (s : SeatView M) (r : ℕ) → s.client.log.generation % 2 ≡ r → region_of s r ≡ s.client.log.current
-  at_remainder s r is = elim (eqb_tells (s.client.log.generation % 2) r) [
-    | inl same ↦ ap (λ (b : Bool). cond b s.client.log.current (region_beside s.client.log.current s.client.log.other s.away)) same.0
-    | inr off ↦ absurd (off.1 is)
-  ]
+  at_remainder s r is = ap (region_of s) (sym is) ∙ current_region s
 
   pub current_at : (s : SeatView M) → region_of s (s.client.log.generation % 2) ≡ s.client.log.current
-  current_at s = at_remainder s (s.client.log.generation % 2) refl
+  current_at s = current_region s
 
   pub beside_at : (s : SeatView M) (r : ℕ) → s.client.log.generation % 2 ≢ r → region_of s r ≡ region_beside s.client.log.current s.client.log.other s.away
-  beside_at s r off = elim (eqb_tells (s.client.log.generation % 2) r) [
-    | inl same ↦ absurd (off same.1)
-    | inr other ↦ ap (λ (b : Bool). cond b s.client.log.current (region_beside s.client.log.current s.client.log.other s.away)) other.0
-  ]
+  beside_at s r off = other_region s r (λ is. off (sym is))
 
   pub other_at : (s : SeatView M) (r : ℕ) (o : RegionView M) → s.client.log.generation % 2 ≢ r → s.client.log.other ≡ Some o → region_of s r ≡ o
   other_at s r o off is = beside_at s r off ∙ ap (λ (x : Option (RegionView M)). region_beside s.client.log.current x s.away) is

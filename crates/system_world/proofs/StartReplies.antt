@@ -1,7 +1,6 @@
 -- A call that is started and answered at once, or needs something: what a client answers without a step of the tree.
-use Rattle.std.proofs.Common.{◌≡◌, inr, ℕ, ◌-◌, ◌<◌, ◌&&◌, not, Bool, true, false, Option, Some, None, refl, subst, sym, ap, ◌∙◌}
-use Rattle.std.specs.Prelude.{slice_set, is_some, IfSome}
-use Rattle.std.proofs.lemmas.Bool.{false≢true}
+use Rattle.std.proofs.Common.{◌≡◌, inr, ℕ, ◌-◌, ◌<◌, true, false, Option, Some, None, refl, subst, sym, ap, ◌∙◌}
+use Rattle.std.specs.Prelude.{slice_set, IfSome}
 use Rattle.event_steps.specs.tier_device.declared.media.Media.{Ghosts}
 use Rattle.event_steps.specs.posix_calls.Operations.{is_client, may_give_up, Step}
 use Rattle.event_steps.specs.posix_calls.Run.{Run}
@@ -10,7 +9,6 @@ use Rattle.event_steps.specs.posix_calls.declared.call.Reply.{Reply}
 use Rattle.event_steps.specs.posix_calls.declared.call.Reply.TheVariants as replies
 use Rattle.event_steps.specs.posix_calls.declared.errno.Errno.{Errno}
 use Rattle.event_steps.specs.client_plan.declared.need.Need.{Need}
-use Rattle.event_steps.specs.libfs.View.{ClientView, is_pending}
 use Rattle.event_steps.specs.libfs.declared.begun_record.Begun.{Begun}
 use Rattle.event_steps.specs.libfs.world_invariant.ClientSteps.{with_client}
 use Rattle.event_steps.specs.libfs.world_invariant.Invariant.{IsCoherent}
@@ -31,6 +29,7 @@ use Rattle.system_world.specs.Contents.{mark_by}
 use Rattle.system_world.specs.WorldTree.{WorldView, calls_of}
 use Rattle.system_world.proofs.Frame.{KeepsSealed}
 use Rattle.system_world.proofs.Given.{Given}
+use Rattle.system_world.proofs.OwnSeat.{idle_client}
 use Rattle.system_world.proofs.Seats.{same_seat}
 use Rattle.system_world.proofs.Seated.{client_on, marked_on, own_mark, own_part, quiet_step, same_world, seat_step}
 
@@ -101,20 +100,6 @@ module _ {M : Type 0} (device : Ghosts M) where
 
   -- ---- nothing is begun
 
-  none_begun : (begun : Option Begun) (answered : Bool) → (is_some begun && not answered) ≡ false → answered ≡ false → begun ≡ None
-  none_begun None answered pending off = refl
-  none_begun (Some b) true pending off = absurd (false≢true (sym off))
-  none_begun (Some b) false pending off = absurd (false≢true (sym pending))
-
-  -- while no call waits, a client whose region's device has not failed has begun no record
-  pub idle_client : (k : ClientView M) → HoldsRecords device k → is_pending k ≡ false → k.log.failed ≡ false → k.begun ≡ None
-  idle_client k holds pending sound = by_answer k.answered refl
-    where
-      by_answer : (answered : Bool) → k.answered ≡ answered → k.begun ≡ None
-      by_answer true is = absurd (false≢true (sym sound ∙ (holds.failed is).0))
-      by_answer false is = none_begun k.begun k.answered pending is
-
-  -- so it is in the world
   idle_part : (call : Option Call) (begun : Option Begun) (p : Option world.Begun) → begun ≡ None → IsBegunAs call begun p → p ≡ None
   idle_part call begun p none is = (subst (λ (b : Option Begun). IsBegunAs call b p) none is).0
 
@@ -126,4 +111,4 @@ module _ {M : Type 0} (device : Ghosts M) where
   start_idle v new c call s begun is_c there turn sound =
       let had = begun.holds c is_c in
       let holds : HoldsRecords device s.client = subst (λ (y : SeatView M). HoldsRecords device y.client) (same_seat had.0 s (sym had.1 ∙ there)) had.2 in
-      idle_client s.client holds (subst (λ (x : Option (SeatView M)). IfSome x (λ t. HasTurn device t (Start c call))) there turn.1) sound
+      idle_client device s.client holds (subst (λ (x : Option (SeatView M)). IfSome x (λ t. HasTurn device t (Start c call))) there turn.1) sound
