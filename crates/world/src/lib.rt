@@ -6,6 +6,7 @@
 //! of a list.
 #![tactic(auto)]
 
+mod call_events;
 mod leases;
 mod list;
 mod notes;

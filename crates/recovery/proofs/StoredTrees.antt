@@ -1,0 +1,40 @@
+-- The tree that parts store, by what is found of the clients' logs.
+use Rattle.std.proofs.Common.{◌≡◌, ℕ, true, ap, sym, ◌∙◌, subst}
+use Rattle.std.specs.Prelude.{Option, Some}
+use Rattle.shared_area.specs.batch_journal.Volume.{IsVolume}
+use Rattle.shared_area.specs.area_image.Format.{IsOpenable}
+use Rattle.shared_area.specs.area_image.Store.{graph, marks, store_of}
+use Rattle.shared_area.specs.layout.declared.marks.Marks.{Marks}
+use Rattle.world.specs.system_world.Contents.{log_in, mark_by, regions_in, stored_graph, stored_state}
+use Rattle.world.specs.system_world.courses.Courses.{WorldContent}
+use Rattle.world.specs.system_world.event_steps.call_effects.ClosedGraph.{nobody, settled_graph}
+use Rattle.world.specs.system_world.event_steps.call_effects.Wholes.{IsSound, state_of}
+use Rattle.world.specs.system_world.event_steps.kernel_fs.digester.MarkMoves.{mark_of}
+use Rattle.world.specs.system_world.event_steps.kernel_fs.layout.Places.{Sizes}
+use Rattle.world.specs.system_world.event_steps.libfs.file_graph.Graph.{Graph}
+use Rattle.world.specs.system_world.event_steps.libfs.world_invariant.Logs.{LogsAreApart, after_clients, is_written}
+use Rattle.world.specs.system_world.event_steps.posix_calls.Operations.{is_client}
+use Rattle.recovery.specs.FoundLogs.{log_by}
+use Rattle.recovery.specs.Recovers.{AreThese, Regions}
+use Rattle.recovery.specs.RecoveryStops.{StoresTree}
+use Rattle.recovery.proofs.JoinedRegions.{counted_by}
+use Rattle.recovery.proofs.Recovering.{same_graph}
+use Rattle.recovery.proofs.WholeContents.{counted_alike}
+
+module _ (g : Sizes) (c : WorldContent) (these : Regions) (alike : AreThese these (regions_in c)) (v : Marks) (is : marks (store_of (c 0)) ≡ Some v) where
+  pub log_found : (d : ℕ) → is_client d ≡ true → log_in c d ≡ log_by v these d
+  log_found d is_d = ap (λ (o : Option Marks). counted_by (mark_by o d) (regions_in c d)) is ∙ counted_alike these (regions_in c) alike (mark_of v d) d is_d
+
+  graph_found : stored_graph g c ≡ after_clients (log_by v these) (graph g (store_of (c 0))) 8
+  graph_found = same_graph (log_in c) (log_by v these) log_found (graph g (store_of (c 0)))
+
+  pub state_found : stored_state g c ≡ state_of (settled_graph (after_clients (log_by v these) (graph g (store_of (c 0))) 8)) nobody
+  state_found = ap (λ (h : Graph). state_of (settled_graph h) nobody) graph_found
+
+  pub tree_is_stored : IsVolume g (c 0) → IsOpenable g (store_of (c 0)) → LogsAreApart (log_by v these) → IsSound (after_clients (log_by v these) (graph g (store_of (c 0))) 8) nobody → StoresTree g c
+  tree_is_stored volume opens apart sound = record {
+    volume = volume;
+    opens = opens;
+    apart = λ d e i is_d is_e other w. ap (is_written i) (log_found e is_e) ∙ apart d e i is_d is_e other (sym (ap (is_written i) (log_found d is_d)) ∙ w);
+    sound = subst (λ (h : Graph). IsSound h nobody) (sym graph_found) sound;
+  }

@@ -1,0 +1,118 @@
+//! The world that parts store.
+
+ghost use Rattle.std.specs.Prelude.{◌≡◌, ◌≢◌, ◌≤◌, [], false, IfErr, IfOk};
+ghost use Rattle.std.specs.Vec.{vec_capacity};
+ghost use Rattle.shared_area.specs.batch_journal.Volume.{IsVolume};
+ghost use Rattle.world.specs.system_world.Contents.{CanRecover, stored_state};
+ghost use Rattle.world.specs.system_world.News.{no_calls};
+ghost use Rattle.world.specs.system_world.Parts.{medium_of};
+ghost use Rattle.world.specs.system_world.WorldTree.{world_tree};
+ghost use Rattle.world.specs.system_world.event_steps.kernel_fs.layout.Places.{Sizes};
+ghost use Rattle.recovery.specs.declared.error.RecoveryError.TheVariants.{DeviceFault};
+ghost use Rattle.recovery.specs.Errors.{IsFaultOrMemory};
+ghost use Rattle.recovery.specs.Parts.{AreAtRest, SomeRose, contents_of, media_beneath, part_medium};
+ghost use Rattle.recovery.specs.RecoveryStops.{AreGivenBack, IsIdle, IsRecoveredWorld, StaysStored, StoresTree};
+ghost use Rattle.recovery.specs.Regions.{REGIONS};
+ghost use Rattle.recovery.specs.Settlement.{AreOpenRegions};
+
+use crate::area_open::open_area;
+use crate::assembly::assemble;
+use crate::error::RecoveryError;
+use crate::parts::Parts;
+use crate::region_list::{hand_back, reopen_regions};
+use crate::region_wipes::wipe_regions;
+use crate::settlement::settle_area;
+use shared_area::{Media, Shared};
+use std::alloc::Global;
+use update_log::Region;
+use world::World;
+
+/// The world of the tree that parts store, on which nothing may be pending: after the records that count, with the files that were open closed, and without
+/// those that have no name. Nobody uses it, and nothing is pending on its parts.
+///
+/// Of contents that a world or a recovery may have left, whatever a stop leaves meanwhile is recovered to the same tree, also where this is refused. Refused are a device that fails, want of
+/// memory, and contents that store no tree: `Damaged` where the shared medium has no sound graph, `RegionSize` where a medium has not the size of a region, `BadLog` for
+/// the first record of a client that can't be digested; never what a world or a recovery may have left. The parts are given back then, and where no device has failed
+/// nothing is pending on them.
+pub fn recover<M: Media + Drop>(
+    alloc: Global,
+    parts: Parts<M>,
+) -> Result<World<M>, (RecoveryError, Parts<M>)>
+    requires rest { AreAtRest M.Media (part_medium parts) }
+
+    ensures tree { IfOk result (λ w. world_tree M.Media w ≡ stored_state w.system.kernel.area.geometry (contents_of M.Media (part_medium parts))) }
+    ensures stores { IfOk result (λ w. StoresTree w.system.kernel.area.geometry (contents_of M.Media (part_medium parts))) }
+    ensures calls { IfOk result (λ w. w.calls ≡ no_calls) }
+    ensures recovers { IfOk result (IsRecoveredWorld M.Media (part_medium parts)) }
+    ensures idle { IfOk result (λ w. IsIdle M.Media w.system) }
+    ensures rest { IfOk result (λ w. AreAtRest M.Media (medium_of w.system)) }
+
+    ensures stop { IfOk result (λ w. StaysStored M.Media (part_medium parts) (medium_of w.system)) }
+    ensures stop_refused { IfErr result (λ e. StaysStored M.Media (part_medium parts) (part_medium e.1)) }
+
+    ensures never { IfErr result (λ e. (g : Sizes) → CanRecover g (contents_of M.Media (part_medium parts)) → IsFaultOrMemory e.0) }
+    ensures fault { IfErr result (λ e. e.0 ≡ DeviceFault → SomeRose M.Media (part_medium parts) (part_medium e.1)) }
+    ensures rest_refused { IfErr result (λ e. e.0 ≢ DeviceFault → AreAtRest M.Media (part_medium e.1)) }
+{
+    recover_parts(alloc, parts)
+}
+
+// The world of parts, as `recover` answers it.
+fn recover_parts<M: Media + Drop>(
+    alloc: Global,
+    parts: Parts<M>,
+) -> Result<World<M>, (RecoveryError, Parts<M>)>
+    requires rest { AreAtRest M.Media (part_medium parts) }
+    ensures world { IfOk result (IsRecoveredWorld M.Media (part_medium parts)) }
+    ensures back { IfErr result (λ e. AreGivenBack M.Media (part_medium parts) (part_medium e.1) e.0) }
+{
+    let (shared, media) = parts.into_media();
+    let mut media = media;
+    let area = match open_area(alloc, shared) {
+        Ok(area) => area,
+        Err((error, shared)) => return Err((error, Parts::of(shared, media))),
+    };
+    match reopen_regions(alloc, &mut media) {
+        Ok(regions) => recover_opened(alloc, area, regions, media),
+        Err(error) => {
+            area.left_now();
+            Err((error, Parts::of(area.into_medium(), media)))
+        }
+    }
+}
+
+// The world of an area and of regions that are opened; the vector has room for the media of the regions.
+fn recover_opened<M: Media + Drop>(
+    alloc: Global,
+    area: Shared<M>,
+    regions: Vec<Region<M>>,
+    media: Vec<M>,
+) -> Result<World<M>, (RecoveryError, Parts<M>)>
+    requires going { area.failed ≡ false }
+    requires volume { IsVolume area.geometry (M.seen area.media) }
+    requires regions { AreOpenRegions M.Media regions.items }
+    requires empty { media.items ≡ [] }
+    requires room { REGIONS ≤ vec_capacity media }
+    ensures world { IfOk result (IsRecoveredWorld M.Media (part_medium (media_beneath area regions.items))) }
+    ensures back { IfErr result (λ e. AreGivenBack M.Media (part_medium (media_beneath area regions.items)) (part_medium e.1) e.0) }
+{
+    let (mut area, mut regions, mut media) = (area, regions, media);
+    area.left_now();
+    let _marks = area.marks();
+    let generations = match settle_area(alloc, &mut area, &mut regions) {
+        Ok(generations) => generations,
+        Err(error) => {
+            area.left_now();
+            hand_back(&mut media, regions);
+            return Err((error, Parts::of(area.into_medium(), media)));
+        }
+    };
+    area.left_now();
+    match wipe_regions(&mut regions, &generations) {
+        Ok(()) => assemble(alloc, area, regions, media),
+        Err(error) => {
+            hand_back(&mut media, regions);
+            Err((error, Parts::of(area.into_medium(), media)))
+        }
+    }
+}

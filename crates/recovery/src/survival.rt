@@ -1,0 +1,50 @@
+//! Every answered call survives.
+
+ghost use Rattle.std.specs.Prelude.{◌≡◌, ◌≢◌, IfErr, IfOk, OnErr};
+ghost use Rattle.world.specs.system_world.Contents.{CanRecover};
+ghost use Rattle.world.specs.system_world.Steps.{recoverable};
+ghost use Rattle.world.specs.system_world.courses.Plays.{Plays};
+ghost use Rattle.world.specs.system_world.event_steps.kernel_fs.layout.Places.{Sizes};
+ghost use Rattle.recovery.specs.declared.error.RecoveryError.TheVariants.{DeviceFault};
+ghost use Rattle.recovery.specs.Errors.{IsFaultOrMemory};
+ghost use Rattle.recovery.specs.Parts.{AreAtRest, SomeRose, contents_of, part_medium};
+ghost use Rattle.recovery.specs.RecoveryStops.{IsRecoveredWorld, StaysStored};
+ghost use Rattle.recovery.specs.Survival.{Survives};
+
+use crate::error::RecoveryError;
+use crate::part_recovery::recover;
+use crate::parts::Parts;
+use shared_area::Media;
+use std::alloc::{AllocError, Global};
+use world::{Event, Outcome, World, play};
+
+/// Plays a list of events, and recovers parts: **every answered call survives**.
+///
+/// The replies of the list are those of one file tree. And where the parts hold what a stop at any moment of it may have left, the recovered world has the tree after every call that
+/// was answered by then and, of each client, at most its one unanswered call, whole or not at all; that recovery is refused for a device that fails, or for want of memory, alone.
+/// Which parts they are is the caller's to choose: what is said holds for all.
+///
+/// Refused for want of memory alone, before the first event: nothing has changed then, and the parts are given back.
+pub fn recover_after_stop<M: Media + Drop, N: Media + Drop>(
+    alloc: Global,
+    world: &mut World<M>,
+    events: &[Event],
+    stopped: Parts<N>,
+) -> Result<(Vec<Outcome>, Result<World<N>, (RecoveryError, Parts<N>)>), (AllocError, Parts<N>)>
+    requires rest { AreAtRest N.Media (part_medium stopped) }
+    ensures survives { IfOk result (λ r. Survives M.Media N.Media world.old events.now r.0.items world.new stopped r.1) }
+    // Each event is played, and the parts are recovered, as `play` and `recover` say.
+    ensures plays { IfOk result (λ r. Plays (recoverable M.Media) world.old events.now r.0.items world.new) }
+    ensures recovers { IfOk result (λ r. IfOk r.1 (IsRecoveredWorld N.Media (part_medium stopped))) }
+    ensures never { IfOk result (λ r. IfErr r.1 (λ e. (g : Sizes) → CanRecover g (contents_of N.Media (part_medium stopped)) → IsFaultOrMemory e.0)) }
+    ensures fault { IfOk result (λ r. IfErr r.1 (λ e. e.0 ≡ DeviceFault → SomeRose N.Media (part_medium stopped) (part_medium e.1))) }
+    ensures stop_refused { IfOk result (λ r. IfErr r.1 (λ e. StaysStored N.Media (part_medium stopped) (part_medium e.1))) }
+    ensures rest_refused { IfOk result (λ r. IfErr r.1 (λ e. e.0 ≢ DeviceFault → AreAtRest N.Media (part_medium e.1))) }
+    ensures same { OnErr result (world.new ≡ world.old) }
+    ensures back { IfErr result (λ e. e.1 ≡ stopped) }
+{
+    match play(alloc, world, events) {
+        Ok(outcomes) => Ok((outcomes, recover(alloc, stopped))),
+        Err(error) => Err((error, stopped)),
+    }
+}
