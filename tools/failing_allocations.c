@@ -2,7 +2,7 @@
 // ALLOC_FIRST to ALLOC_LAST, in a child each time, from the point before `main`, until a run makes fewer of them; number 0 fails none.
 // Counted are calls from the program itself. For each run it writes to file descriptor ALLOC_TO a line `NUMBER MADE STATUS OUT ERR`:
 // how many allocations were asked for, the exit status, and how many bytes of standard output and of standard error follow. Before each
-// run the file ALLOC_CLEAR is removed.
+// run the file ALLOC_CLEAR is removed, and the one of this name with `.new` behind it.
 #define _GNU_SOURCE
 #include <errno.h>
 #include <link.h>
@@ -96,7 +96,9 @@ static int run(int to) {
     int out = memfd_create("out", 0), err = memfd_create("err", 0), status = 0;
     const char *clear = getenv("ALLOC_CLEAR");
     if (clear) {
-        unlink(clear);
+        char unfinished[256];
+        snprintf(unfinished, sizeof unfinished, "%s.new", clear);
+        unlink(clear), unlink(unfinished);
     }
     lseek(0, 0, SEEK_SET);
     *made = 0;

@@ -3,7 +3,7 @@ use Rattle.std.proofs.Common.{◌≡◌, ◌≢◌, ◌≤◌, inl, inr, ◌⊎�
 use Rattle.std.proofs.lemmas.Bool.{cases_lt}
 use Rattle.area_image.specs.tier_device.declared.media.Tier.{Tier}
 use Rattle.area_image.specs.tier_device.declared.media.Tier.TheVariants.{Fast, Block, Slow}
-use Rattle.area_image.specs.tier_device.AfterStop.{LeftSince}
+use Rattle.area_image.specs.tier_device.StopsSince.{LeftSince}
 use Rattle.area_image.specs.layout.Places.{Sizes}
 use Rattle.area_image.specs.batch_journal.Course.{Since, TornFrom, OutsideRunFrom}
 use Rattle.area_image.proofs.batch_journal_lemmas.Views.{which}

@@ -4,7 +4,7 @@ use Rattle.update_log.specs.tier_device.declared.media.Media.{Ghosts}
 use Rattle.update_log.specs.tier_device.declared.media.Tier.{Tier}
 use Rattle.update_log.specs.tier_device.declared.media.Tier.TheVariants.{Fast}
 use Rattle.update_log.specs.tier_device.Media.{Keeps, Puts, Rose}
-use Rattle.update_log.specs.tier_device.AfterStop.{LeftSince}
+use Rattle.update_log.specs.tier_device.StopsSince.{LeftSince}
 use Rattle.update_log.specs.RecordCounts.{records_under}
 use Rattle.update_log.specs.Moments.{PastStays}
 use Rattle.update_log.specs.View.{RegionView, records_of}

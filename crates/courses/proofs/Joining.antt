@@ -4,7 +4,8 @@ use Rattle.std.proofs.lemmas.Option.{same_Some}
 use Rattle.world_invariant.specs.call_effects.posix_calls.Tree.{State}
 use Rattle.world_invariant.specs.call_effects.posix_calls.Run.{Run, Turn}
 use Rattle.courses.specs.Outcome.{Unfinished, IsOutcome}
-use Rattle.courses.specs.Courses.{PARTS, EachStop, IsCourse, LeftAt, Ledger, MovesOne, WorldContent, both, ledger, no_news, pace_of}
+use Rattle.courses.specs.Courses.{PARTS, IsCourse, LeftAt, Ledger, MovesOne, WorldContent, both, ledger, no_news, pace_of}
+use Rattle.courses.specs.EachStop.{EachStop}
 use Rattle.courses.specs.Plays.{IsRecovered, Leads, PastIsKept, Plays, Recovers, RecoversAlike, StopsAt, clocks}
 use Rattle.courses.specs.declared.recoverable.Recoverable.{Ghosts}
 use Rattle.courses.proofs.Joins.{after_first, course_joins, late, stops_join, up_to, within_course}

@@ -1,3 +1,4 @@
+-- Trusted: headline
 -- What a stop leaves of several media that have a clock each, the course of a list of events over them, and what is acknowledged on it.
 use Rattle.std.specs.Prelude.{◌≡◌, ◌≢◌, ℕ, ◌+◌, ◌-◌, ◌*◌, ◌≤◌, ◌<◌, min, List, [], ◌∷◌, ◌++◌, length, Some, slice_get}
 use Rattle.tier_device.specs.declared.media.Tier.{Tier}
@@ -59,14 +60,6 @@ LeftBetween left from to c = (p : ℕ) → p < PARTS → (m : ℕ) × (from p �
 -- a stop may have left the content at place k: from the beginning of event k to its end, or behind the last event
 abbrev pub LeftAt : LeftOf → ℕ → (ℕ → Reading) → ℕ → WorldContent → Type 0
 LeftAt left n course k c = LeftBetween left (course k) (course (min (k + 1) n)) c
-
--- There is a course from the first reading to the last, and whatever a stop may have left at a place of it has P of that place.
-pub record EachStop (pace : Pace) (left : LeftOf) (n : ℕ) (first last : Reading) (P : ℕ → WorldContent → Type 0) : Type 0 where
-  pub course : ℕ → Reading
-  pub from : course 0 ≡ first
-  pub to : course n ≡ last
-  pub is_course : IsCourse pace n course
-  pub each : (k : ℕ) (c : WorldContent) → k ≤ n → LeftAt left n course k c → P k c
 
 -- the pace of a list of events: the two readings are some that its event k may lead from and to
 abbrev pub pace_of : {E : Type 0} → (E → Reading → Reading → Type 0) → List E → Pace

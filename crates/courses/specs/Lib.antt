@@ -1,4 +1,5 @@
 pub mod Courses
+pub mod EachStop
 pub mod Outcome
 pub mod Plays
 -- Passed on to the crates above, which so need not list those below.

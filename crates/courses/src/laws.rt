@@ -2,7 +2,8 @@
 
 ghost use Rattle.std.specs.Prelude.{◌≡◌, ℕ, ◌≤◌, List, ◌++◌, length, take};
 ghost use Rattle.courses.specs.Outcome.{Unfinished};
-ghost use Rattle.courses.specs.Courses.{EachStop, both, ledger, pace_of};
+ghost use Rattle.courses.specs.Courses.{both, ledger, pace_of};
+ghost use Rattle.courses.specs.EachStop.{EachStop};
 ghost use Rattle.courses.specs.Plays.{Plays, StopsAt};
 
 use crate::recoverable::Recoverable;

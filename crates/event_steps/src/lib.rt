@@ -26,7 +26,8 @@ pub use system::System;
 
 // Passed on to the crates above, which so need not list those below.
 pub use libfs::{
-    AreaError, CLIENTS, Call, Client, ClientLog, Denied, Figures, INODES, Kernel, KernelError,
-    LeaseMode, Leases as LeaseManagerLeases, LogError, Media as TierDeviceMedia, Mode, Need,
-    NodeSummary, Opened, Pass, Reply, Shared, answered_start_is_a_step, begun_record_is_a_step,
+    AreaError, CLIENTS, Call, Client, ClientLog, Denied, Fetched, Figures, INODES, Kernel,
+    KernelError, LeaseMode, Leases as LeaseManagerLeases, LogError, Media as TierDeviceMedia, Mode,
+    Need, NodeSummary, Opened, Pass, Reply, Shared, Tier, answered_start_is_a_step,
+    begun_record_is_a_step,
 };

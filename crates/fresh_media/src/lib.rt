@@ -11,5 +11,8 @@ pub use laws::fresh_region_is_empty;
 pub use region::empty_region;
 
 // Passed on to the crates above, which so need not list those below.
-pub use layout::{Geometry, marks_are_read, slot_is_read, super_is_read};
-pub use update_log::{Region, RegionError};
+pub use layout::{
+    CLIENTS, FIRST_SLOT_BLOCK, Geometry, SLOTS_IN_BLOCK, Super, What, marks_are_read, slot_is_read,
+    super_is_read,
+};
+pub use update_log::{Region, RegionError, WipeProgress};

@@ -9,6 +9,10 @@ use Rattle.host_media.specs.TierHistory.{LeftAt, LeftNow}
 use Rattle.host_media.specs.PendingTiers.{pending_in}
 use Rattle.host_media.specs.HistoryLaws.{history_seen_now, history_sized}
 
+-- where in its file its bytes begin
+abbrev pub file_begin : FileMedia → ℕ
+file_begin m = m.inner.host.begin
+
 -- what a read gives of a tier, until a call has failed
 abbrev pub file_seen : FileMedia → Tier → List ℕ
 file_seen m = row m.inner.tiers
@@ -48,6 +52,14 @@ failures m = m.faults
 -- a stop now leaves what a read gives, and nothing else
 abbrev pub IsFileAtRest : FileMedia → Type 0
 IsFileAtRest m = (t : Tier) → AtRest (file_seen m) (file_left m (file_moment m)) t
+
+-- as it is once its file was opened and synced
+pub record IsOpened (m : FileMedia) : Type 0 where
+  pub at_rest : IsFileAtRest m
+  pub clock : file_moment m ≡ 0
+  pub faults : failures m ≡ 0
+  pub works : file_failed m ≡ false
+  pub synced : IsSynced m
 
 pub file_seen_now : (m : FileMedia) (t : Tier) → file_left m (file_moment m) t (file_seen m t)
 file_seen_now m t = history_seen_now m.inner.past.history (row m.inner.tiers) m.inner.shows t

@@ -8,5 +8,7 @@ pub mod PendingTiers
 pub mod Cover
 pub mod Mirror
 pub mod File
+pub mod Sizes
+pub mod DiskFile
 -- Passed on to the crates above, which so need not list those below.
 pub use Rattle.tier_device.specs as tier_device

@@ -9,13 +9,18 @@ ghost use Rattle.host_media.specs.Place.{total};
 ghost use Rattle.host_media.specs.Mirror.{mirrored_failed};
 
 use crate::mirror::Mirrored;
-use std::fs::File;
+use crate::shared_file::SharedFile;
+use std::sync::Arc;
 use tier_device::{Media, MediaError, Tier, Tiers, lies_within};
 
-/// A medium whose tiers lie in a file, the fast one first. Reads come from a mirror in memory; a write goes to the mirror and to
-/// the file, and a fence ends with the file's data synced, where anything of the tier was written since the last sync.
+/// A medium whose tiers lie in a file, from a place of it on, the fast one first. Reads come from a mirror in memory; a write goes
+/// to the mirror and to the file, and a fence ends with the file's data synced, where anything of the tier was written since the
+/// last sync.
 /// After a write or a sync that failed each call in range is a device fault, until the file is opened again: the system may
 /// have dropped what it was given.
+///
+/// Several media may lie in one file (`DiskFile`). After a sync that failed for another one it fails in the same way, at its next
+/// fence that has something to sync.
 #[derive(Debug, Drop)]
 pub struct FileMedia {
     inner: Mirrored,
@@ -25,20 +30,17 @@ pub struct FileMedia {
 }
 
 impl FileMedia {
-    ghost use Rattle.host_media.specs.File.{file_seen, file_left, file_moment, file_failed, failures, kept_by_system, IsFileAtRest, IsSynced};
+    ghost use Rattle.host_media.specs.File.{file_seen, file_left, file_moment, file_failed, failures, kept_by_system, file_begin, IsOpened};
 
-    // The medium over an open file that was synced, of which a read gives these tiers.
-    pub(crate) fn of(file: File, tiers: Tiers) -> Self
-        requires fits { total tiers < 2 ^ 63 }
+    // The medium over an open file that was synced, of which a read gives these tiers from a place of it on.
+    pub(crate) fn of(file: Arc<SharedFile>, begin: usize, tiers: Tiers) -> Self
+        requires fits { begin + total tiers < 2 ^ 63 }
         ensures tiers { result.inner.tiers ≡ tiers }
-        ensures at_rest { IsFileAtRest result }
-        ensures clock { file_moment result ≡ 0 }
-        ensures faults { failures result ≡ 0 }
-        ensures works { file_failed result ≡ false }
-        ensures synced { IsSynced result }
+        ensures begin { file_begin result ≡ begin }
+        ensures opened { IsOpened result }
     {
         FileMedia {
-            inner: Mirrored::of(file, tiers),
+            inner: Mirrored::of(file, begin, tiers),
             faults: 0,
         }
     }
@@ -65,7 +67,7 @@ impl FileMedia {
 }
 
 impl Media for FileMedia {
-    ghost use Rattle.host_media.specs.File.{file_seen, file_moment, file_left, file_seen_now, file_sized, file_failed, failures, is_pending, given_to_system};
+    ghost use Rattle.host_media.specs.File.{file_seen, file_moment, file_left, file_seen_now, file_sized, file_failed, failures, is_pending, given_to_system, file_begin};
 
     ghost seen = { file_seen };
 
@@ -94,6 +96,7 @@ impl Media for FileMedia {
         ensures past { Keeps (file_moment self.old) (file_moment self.new) (file_left self.old) (file_left self.new) }
         ensures cause { HasCause (failures self.old) (failures self.new) result }
         ensures failed { Fails (file_failed self.old) (file_failed self.new) result }
+        ensures place { file_begin self.new ≡ file_begin self.old }
         ensures pending { (t : Tier) → is_pending self.new t ≡ is_pending self.old t }
         ensures quiet { given_to_system self.new ≡ given_to_system self.old }
     {
@@ -119,6 +122,7 @@ impl Media for FileMedia {
         ensures all_left { OnOk result (TearsAll tier at (length bytes.now) (file_left self.old (file_moment self.old)) (file_left self.new (file_moment self.new))) }
         ensures cause { HasCause (failures self.old) (failures self.new) result }
         ensures failed { Fails (file_failed self.old) (file_failed self.new) result }
+        ensures place { file_begin self.new ≡ file_begin self.old }
         ensures pending { (t : Tier) → t ≢ tier → is_pending self.new t ≡ is_pending self.old t }
     {
         let size = self.bytes(tier).len();
@@ -148,6 +152,7 @@ impl Media for FileMedia {
         ensures settled { OnOk result (Settles tier (file_seen self.old) (file_left self.old (file_moment self.old)) (file_left self.new (file_moment self.new))) }
         ensures cause { HasCause (failures self.old) (failures self.new) result }
         ensures failed { Fails (file_failed self.old) (file_failed self.new) result }
+        ensures place { file_begin self.new ≡ file_begin self.old }
         ensures synced { OnOk result (is_pending self.new tier ≡ false) }
 
         // Where nothing of the tier was written since the last sync, it makes no call of the system, and succeeds.

@@ -5,28 +5,32 @@ ghost use Rattle.host_media.specs.History.{and_then, after_sync, initial_history
 ghost use Rattle.host_media.specs.Place.{begin_of};
 
 use crate::past::{Note, Past};
-use std::fs::File;
+use crate::shared_file::SharedFile;
 use std::io;
 use std::os::unix::fs::FileExt;
+use std::sync::Arc;
 use tier_device::{Tier, Tiers};
 
-/// A file of three tiers, the fast one first. Its past has each write that the system was given and each sync that it answered
-/// with success, which is a fence of all tiers. After a call that failed it is given no other.
+/// Three tiers in a file, the fast one first, from a place of it on. Their past has each write that the system was given and each
+/// sync that it answered with success, which is a fence of all tiers. After a call that failed it is given no other.
 #[derive(Debug, Drop)]
 pub(crate) struct Host {
-    file: File,
+    file: Arc<SharedFile>,
+    pub(crate) begin: usize,
     pub(crate) past: Past,
     pub(crate) failed: bool,
 }
 
 impl Host {
-    /// An open file that was synced, of which a read gives these tiers.
-    pub(crate) fn of(file: File, tiers: &Tiers) -> Self
+    /// Tiers of an open file that was synced, of which a read gives these bytes.
+    pub(crate) fn of(file: Arc<SharedFile>, begin: usize, tiers: &Tiers) -> Self
+        ensures begin { result.begin ≡ begin }
         ensures past { result.past.history ≡ initial_history tiers.now }
         ensures works { result.failed ≡ false }
     {
         Host {
             file,
+            begin,
             past: Past::of(tiers),
             failed: false,
         }
@@ -41,12 +45,13 @@ impl Host {
         offset: u64,
     ) -> io::Result<()>
         requires works { self.old.failed ≡ false }
-        requires place { offset ≡ begin_of self.old.past.history.first tier + at }
+        requires place { offset ≡ self.old.begin + begin_of self.old.past.history.first tier + at }
+        ensures begin { self.new.begin ≡ self.old.begin }
         ensures past { self.new.past.history ≡ and_then self.old.past.history (Write tier at bytes.now) }
         ensures failed { self.new.failed ≡ not (is_ok result) }
     {
         self.past = self.past.then(&Note::Write { tier, at, bytes });
-        let answer = self.file.write_all_at(bytes, offset);
+        let answer = self.file.file().write_all_at(bytes, offset);
         self.failed = !answer.is_ok();
         answer
     }
@@ -54,6 +59,7 @@ impl Host {
     /// Has the system keep all that it was given.
     pub(crate) fn sync(&mut self) -> io::Result<()>
         requires works { self.old.failed ≡ false }
+        ensures begin { self.new.begin ≡ self.old.begin }
         ensures kept { OnOk result (self.new.past.history ≡ after_sync self.old.past.history) }
         ensures lost { OnErr result (self.new.past.history ≡ self.old.past.history) }
         ensures failed { self.new.failed ≡ not (is_ok result) }

@@ -1,21 +1,27 @@
 //! Two further kinds of medium: `RamMedia`, in memory, whose past no memory holds, and `FileMedia`, over a file of the operating
-//! system.
+//! system, or over a part of one: a `DiskFile` is one file with several media.
 #![tactic(auto)]
 
+mod disk_file;
 mod error;
 mod file;
+mod file_bytes;
 mod host;
+mod locked_file;
 mod mirror;
 mod open;
 mod past;
 mod pending_tiers;
 mod ram;
+mod shared_file;
+mod sizes;
 
+pub use disk_file::DiskFile;
 pub use error::{FileError, FileProblem};
 pub use file::FileMedia;
-pub use open::Sizes;
 pub use past::Past;
 pub use ram::RamMedia;
+pub use sizes::Sizes;
 
 // Passed on to the crates above, which so need not list those below.
 pub use tier_device::{FaultMedia, Fill, Media, MediaError, MemMedia, StopMedia, Tier, Trip};

@@ -1,4 +1,4 @@
-// An open file of three tiers with its mirror in memory.
+// Three tiers of an open file with their mirror in memory.
 ghost use Rattle.std.specs.Prelude.{◌≡◌, ◌≤◌, ◌<◌, ◌+◌, ◌^◌, List, ℕ, length, IsOk, OnOk, OnErr, is_ok, not, true, false};
 ghost use Rattle.tier_device.specs.declared.media.Tier.{Tier};
 ghost use Rattle.tier_device.specs.Rows.{row};
@@ -13,11 +13,12 @@ ghost use Rattle.host_media.specs.Place.{begin_of, total};
 use crate::host::Host;
 use crate::past::{Note, Past};
 use crate::pending_tiers::Pending;
-use std::fs::File;
+use crate::shared_file::SharedFile;
 use std::io;
+use std::sync::Arc;
 use tier_device::{Tier, Tiers};
 
-/// An open file with a mirror of its tiers. `past` has the calls of the medium, and the host's the calls that the system got:
+/// Tiers of an open file with their mirror. `past` has the calls of the medium, and the host's the calls that the system got:
 /// what the file may hold after a stop by those, it may hold by these.
 #[derive(Debug, Drop)]
 pub(crate) struct Mirrored {
@@ -29,19 +30,20 @@ pub(crate) struct Mirrored {
     ghost mirrors: { (t : Tier) → row tiers t ≡ shown_now host.past.history t },
     ghost covered: { ∥ Covers host.past.history past.history ∥₁ },
     ghost settled: { (t : Tier) → pending_in pending t ≡ false → (c : List ℕ) → LeftNow host.past.history t c → c ≡ row tiers t },
-    ghost fits: { total tiers < 2 ^ 63 },
+    ghost fits: { host.begin + total tiers < 2 ^ 63 },
 }
 
 impl Mirrored {
-    // An open file that was synced, of which a read gives these tiers.
-    pub(crate) fn of(file: File, tiers: Tiers) -> Self
-        requires fits { total tiers < 2 ^ 63 }
+    // Tiers of an open file that was synced, of which a read gives these bytes.
+    pub(crate) fn of(file: Arc<SharedFile>, begin: usize, tiers: Tiers) -> Self
+        requires fits { begin + total tiers < 2 ^ 63 }
+        ensures begin { result.host.begin ≡ begin }
         ensures tiers { result.tiers ≡ tiers }
         ensures past { result.past.history ≡ initial_history tiers }
         ensures works { result.host.failed ≡ false }
         ensures synced { (t : Tier) → pending_in result.pending t ≡ false }
     {
-        let host = Host::of(file, &tiers);
+        let host = Host::of(file, begin, &tiers);
         let past = Past::of(&tiers);
         Mirrored {
             host,
@@ -62,12 +64,13 @@ impl Mirrored {
     pub(crate) fn write(&mut self, tier: Tier, at: usize, bytes: &[u8]) -> io::Result<()>
         requires fits { at + length bytes.now ≤ length (row self.old.tiers tier) }
         requires works { self.old.host.failed ≡ false }
+        ensures begin { self.new.host.begin ≡ self.old.host.begin }
         ensures written { Puts tier (overwritten (row self.old.tiers tier) at bytes.now) (row self.old.tiers) (row self.new.tiers) }
         ensures past { self.new.past.history ≡ and_then self.old.past.history (Write tier at bytes.now) }
         ensures pending { SetsPending tier self.old.pending self.new.pending }
         ensures failed { self.new.host.failed ≡ not (is_ok result) }
     {
-        let offset = offset(&self.tiers, tier, at);
+        let offset = offset(self.host.begin, &self.tiers, tier, at);
         let answer = self.host.write(tier, at, bytes, offset);
         self.tiers.overwrite(tier, at, bytes);
         self.past = self.past.then(&Note::Write { tier, at, bytes });
@@ -78,6 +81,7 @@ impl Mirrored {
     /// Has the file's data synced where anything of the tier was written since the last sync.
     pub(crate) fn fence(&mut self, tier: Tier) -> io::Result<()>
         requires works { self.old.host.failed ≡ false }
+        ensures begin { self.new.host.begin ≡ self.old.host.begin }
         ensures seen { self.new.tiers ≡ self.old.tiers }
         ensures fenced { OnOk result (self.new.past.history ≡ and_then self.old.past.history (Fence tier)) }
         ensures settled { OnOk result (pending_in self.new.pending tier ≡ false) }
@@ -93,6 +97,7 @@ impl Mirrored {
 
     fn settle(&mut self, tier: Tier) -> io::Result<()>
         requires works { self.old.host.failed ≡ false }
+        ensures begin { self.new.host.begin ≡ self.old.host.begin }
         ensures seen { self.new.tiers ≡ self.old.tiers }
         ensures past { self.new.past.history ≡ self.old.past.history }
         ensures settled { OnOk result (pending_in self.new.pending tier ≡ false) }
@@ -109,6 +114,7 @@ impl Mirrored {
     // After it nothing is pending.
     fn sync(&mut self) -> io::Result<()>
         requires works { self.old.host.failed ≡ false }
+        ensures begin { self.new.host.begin ≡ self.old.host.begin }
         ensures seen { self.new.tiers ≡ self.old.tiers }
         ensures past { self.new.past.history ≡ self.old.past.history }
         ensures kept { OnOk result ((t : Tier) → pending_in self.new.pending t ≡ false) }
@@ -124,18 +130,18 @@ impl Mirrored {
     }
 }
 
-// Where a place of a tier lies in the file.
-fn offset(tiers: &Tiers, tier: Tier, at: usize) -> u64
-    requires fits { total tiers.now < 2 ^ 63 }
+// Where a place of a tier lies in the file, of tiers that begin at a place of it.
+fn offset(begin: usize, tiers: &Tiers, tier: Tier, at: usize) -> u64
+    requires fits { begin + total tiers.now < 2 ^ 63 }
     requires within { at ≤ length (row tiers.now tier) }
-    ensures { result ≡ begin_of tiers.now tier + at }
+    ensures { result ≡ begin + begin_of tiers.now tier + at }
 {
     let fast = tiers.bytes(Tier::Fast).len();
     let block = tiers.bytes(Tier::Block).len();
-    let begin = match tier {
+    let before = match tier {
         Tier::Fast => 0,
         Tier::Block => fast,
         Tier::Slow => fast + block,
     };
-    (begin + at) as u64
+    (begin + before + at) as u64
 }

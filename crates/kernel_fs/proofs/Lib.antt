@@ -23,4 +23,5 @@ pub mod MarksGo
 pub mod SetGrants
 -- Passed on to the crates above, which so need not list those below.
 pub use Rattle.digester.proofs.area_image_lemmas
+pub use Rattle.digester.proofs as digester_lemmas
 pub use Rattle.world_invariant.proofs as world_invariant_lemmas

@@ -94,8 +94,8 @@ fn put_answer(answer: Result<(), MediaError>, out: &mut String) -> Result<(), Al
     }
 }
 
-// The bytes as numbers, or `-` where there are none.
-fn put_bytes(bytes: &[u8], out: &mut String) -> Result<(), AllocError> {
+/// Adds the bytes as numbers, or `-` where there are none.
+pub fn put_bytes(bytes: &[u8], out: &mut String) -> Result<(), AllocError> {
     if bytes.is_empty() {
         return out.push('-');
     }

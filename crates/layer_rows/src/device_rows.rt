@@ -1,7 +1,10 @@
 // A row of the table.
+use crate::device_call::first_word;
 use crate::device_failures::{COUNTERS, Failing, failure_report};
+use crate::device_files::steps_report;
 use crate::device_kinds::{KINDS, device_report, sizes_of};
 use crate::device_open::opening_report;
+use crate::device_parts::shared_report;
 use anyhow::{Result, bail};
 use host_media::Sizes;
 
@@ -49,9 +52,12 @@ fn check_row(rt: &HostRuntime, text: &str) -> Result<bool> {
         println!(rt; "no row: {text}")?;
         return Ok(false);
     };
-    match row.input.strip_prefix("open ") {
-        Some(words) => is_said(rt, row, &opening_report(rt, words)?),
-        None => is_said_by_all(rt, row),
+    let (kind, words) = first_word(row.input);
+    match kind {
+        "open" => is_said(rt, row, &opening_report(rt, words)?),
+        "share" => is_said(rt, row, &shared_report(rt, words)?),
+        "files" => is_said(rt, row, &steps_report(rt, words)?),
+        _ => is_said_by_all(rt, row),
     }
 }
 

@@ -33,14 +33,17 @@ pub fn try_programs(rt: &HostRuntime, table: &str) -> io::Result<bool> {
 struct LowPrograms;
 
 impl Programs for LowPrograms {
-    fn run(&self, row: &Row<'_>) -> Ran {
+    fn run(&self, row: &Row<'_>) -> Option<Ran> {
+        if !row.patches.is_empty() {
+            return None;
+        }
         let mut ran = Ran::new(row.alloc);
         if row.words.first().copied() == Some("errors") {
             print_errors(&mut ran.out);
         } else {
             ran.status = run_first(row.alloc, &row.words, &mut ran.out, &mut ran.err);
         }
-        ran
+        Some(ran)
     }
 }
 

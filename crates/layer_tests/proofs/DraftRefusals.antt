@@ -13,7 +13,8 @@ use Rattle.courses.specs.posix_calls.Operations.{Follows, Step, state_after}
 use Rattle.courses.specs.posix_calls.declared.call.Reply.TheVariants.{Done}
 use Rattle.courses.specs.posix_calls.declared.operation.Operation.TheVariants.{NewDir}
 use Rattle.courses.specs.Outcome.{AreSomeOf}
-use Rattle.courses.specs.Courses.{PARTS, EachStop, LeftAt, LeftBetween, Reading, WorldContent, ledger, pace_of}
+use Rattle.courses.specs.Courses.{PARTS, LeftAt, LeftBetween, Reading, WorldContent, ledger, pace_of}
+use Rattle.courses.specs.EachStop.{EachStop}
 use Rattle.courses.specs.Plays.{Recovers, StopsNow}
 use Rattle.courses.proofs.Joins.{no_clock_goes_back, within_course}
 use Rattle.layer_tests.specs.declared.gated_draft.GatedDraft.TheVariants as draft

@@ -4,36 +4,36 @@ use Rattle.std.specs.Prelude.{Result, Err, OnOk, IfErr, length}
 use Rattle.std.specs.FinMap as fin
 use Rattle.std.proofs.lemmas.Bool.{false≢true, eq-eqb}
 use Rattle.std.proofs.lemmas.Bool.Decides.{eqb_tells}
-use Rattle.shared_area.specs.tier_device.declared.media.Media.{Ghosts}
-use Rattle.shared_area.specs.tier_device.declared.media.Tier.{Tier}
-use Rattle.shared_area.specs.tier_device.AfterStop.{Left}
-use Rattle.shared_area.specs.tier_device.Media.{Rose}
-use Rattle.shared_area.specs.layout.Places.{Sizes}
-use Rattle.shared_area.specs.layout.declared.marks.Marks.{Marks}
-use Rattle.shared_area.specs.batch_journal.Course.{Unmoved}
-use Rattle.shared_area.specs.batch_journal.View.{JournalView}
-use Rattle.shared_area.specs.area_image.Store.{Store, disk, graph, marks, store_of}
-use Rattle.shared_area.specs.Ready.{OpensAs}
-use Rattle.shared_area.specs.GraphUpdate.{OpensChangedOrNot, StaysOrChanges, AppliesOrStays}
-use Rattle.digester.specs.graph_change.Change.{Change, Changes, Coalesces, changed_graph, coalesced_changes}
-use Rattle.digester.specs.change_plan.BlockDemand.{images_for, AreWritten}
-use Rattle.digester.specs.coalescer.Weight.{fits_chunk}
-use Rattle.digester.specs.coalescer.Within.{images_of}
-use Rattle.digester.specs.change_plan.Next.{nodes_for}
+use Rattle.recovery_laws.specs.shared_area.tier_device.declared.media.Media.{Ghosts}
+use Rattle.recovery_laws.specs.shared_area.tier_device.declared.media.Tier.{Tier}
+use Rattle.recovery_laws.specs.shared_area.tier_device.AfterStop.{Left}
+use Rattle.recovery_laws.specs.shared_area.tier_device.Media.{Rose}
+use Rattle.recovery_laws.specs.shared_area.layout.Places.{Sizes}
+use Rattle.recovery_laws.specs.shared_area.layout.declared.marks.Marks.{Marks}
+use Rattle.recovery_laws.specs.shared_area.batch_journal.Course.{Unmoved}
+use Rattle.recovery_laws.specs.shared_area.batch_journal.View.{JournalView}
+use Rattle.recovery_laws.specs.shared_area.area_image.Store.{Store, disk, graph, marks, store_of}
+use Rattle.recovery_laws.specs.shared_area.Ready.{OpensAs}
+use Rattle.recovery_laws.specs.shared_area.GraphUpdate.{OpensChangedOrNot, StaysOrChanges, AppliesOrStays}
+use Rattle.recovery_laws.specs.digester.graph_change.Change.{Change, Changes, Coalesces, changed_graph, coalesced_changes}
+use Rattle.recovery_laws.specs.digester.change_plan.BlockDemand.{images_for, AreWritten}
+use Rattle.recovery_laws.specs.digester.coalescer.Weight.{fits_chunk}
+use Rattle.recovery_laws.specs.digester.coalescer.Within.{images_of}
+use Rattle.recovery_laws.specs.digester.change_plan.Next.{nodes_for}
 use Rattle.std.specs.List.{sum_by}
-use Rattle.digester.proofs.Applied.{fit_images}
-use Rattle.shared_area.specs.declared.error.ApplyError.{ApplyError}
-use Rattle.shared_area.specs.declared.error.ApplyError.TheVariants as apply
-use Rattle.kernel_fs.specs.Reclaim.{OpensReclaimedOrNot, ReclaimsOrStays, StaysOrReclaims}
-use Rattle.kernel_fs.specs.declared.error.ReclaimError.{ReclaimError}
-use Rattle.kernel_fs.specs.declared.error.ReclaimError.TheVariants as reclaim
-use Rattle.kernel_fs.proofs.world_invariant_lemmas.Recoveries.{dropped_sound, dropped_state}
+use Rattle.recovery_laws.proofs.digester_lemmas.Applied.{fit_images}
+use Rattle.recovery_laws.specs.shared_area.declared.error.ApplyError.{ApplyError}
+use Rattle.recovery_laws.specs.shared_area.declared.error.ApplyError.TheVariants as apply
+use Rattle.recovery_laws.specs.kernel_fs.Reclaim.{OpensReclaimedOrNot, ReclaimsOrStays, StaysOrReclaims}
+use Rattle.recovery_laws.specs.kernel_fs.declared.error.ReclaimError.{ReclaimError}
+use Rattle.recovery_laws.specs.kernel_fs.declared.error.ReclaimError.TheVariants as reclaim
+use Rattle.recovery_laws.proofs.kernel_fs_lemmas.world_invariant_lemmas.Recoveries.{dropped_sound, dropped_state}
 use Rattle.world.specs.system_world.event_steps.posix_calls.Tree.{State}
 use Rattle.world.specs.system_world.event_steps.libfs.file_graph.Graph.{Graph, Node, Body, FileBody, DirBody, set_node, is_among}
 use Rattle.world.specs.system_world.event_steps.libfs.world_invariant.Logs.{IsNameless}
 use Rattle.world.specs.system_world.event_steps.call_effects.ClosedGraph.{nobody}
 use Rattle.world.specs.system_world.event_steps.call_effects.Wholes.{IsSound, state_of}
-use Rattle.graph_check.specs.Nameless.{is_nameless}
+use Rattle.recovery_laws.specs.graph_check.Nameless.{is_nameless}
 use Rattle.recovery.specs.GraphTests.{without_nameless}
 use Rattle.recovery.specs.Recovers.{Regions, Recovers, CountNone}
 use Rattle.recovery.specs.Phases.{StaysRecovered, AnswersFaults}

@@ -3,19 +3,19 @@ use Rattle.std.proofs.Common.{◌≡◌, ◌≢◌, inl, inr, ℕ, ◌-◌, ◌<
 use Rattle.std.specs.Prelude.{◌==◌, ◌&&◌, slice_set}
 use Rattle.std.proofs.lemmas.Bool.{and_from, and_parts, eq-eqb, eqb-true}
 use Rattle.std.proofs.lemmas.List.{get_or-set_other, get_or-set_same}
-use Rattle.shared_area.specs.tier_device.declared.media.Media.{Ghosts}
-use Rattle.shared_area.specs.tier_device.declared.media.Tier.TheVariants.{Fast}
-use Rattle.shared_area.specs.batch_journal.View.{JournalView}
-use Rattle.shared_area.specs.layout.Places.{Sizes}
-use Rattle.shared_area.specs.area_image.Store.{Store, disk, graph, marks}
-use Rattle.counted_logs.specs.Regions.{records_behind, records_of}
-use Rattle.counted_logs.specs.declared.regions.LogRest.{LogRest}
-use Rattle.digester.specs.MarkMoves.{mark_of}
-use Rattle.digester.specs.SealedLog.{SealedView, HasUndigested, StandsAt, StandsAtMark, undone}
-use Rattle.update_log.specs.Frames.{records}
-use Rattle.update_log.specs.RecordCounts.{next_generation, records_in}
-use Rattle.update_log.specs.log_record.declared.format.Record.{Record}
-use Rattle.kernel_fs.proofs.world_invariant_lemmas.Owners as owners
+use Rattle.recovery_laws.specs.shared_area.tier_device.declared.media.Media.{Ghosts}
+use Rattle.recovery_laws.specs.shared_area.tier_device.declared.media.Tier.TheVariants.{Fast}
+use Rattle.recovery_laws.specs.shared_area.batch_journal.View.{JournalView}
+use Rattle.recovery_laws.specs.shared_area.layout.Places.{Sizes}
+use Rattle.recovery_laws.specs.shared_area.area_image.Store.{Store, disk, graph, marks}
+use Rattle.recovery_laws.specs.counted_logs.Regions.{records_behind, records_of}
+use Rattle.recovery_laws.specs.counted_logs.declared.regions.LogRest.{LogRest}
+use Rattle.recovery_laws.specs.digester.MarkMoves.{mark_of}
+use Rattle.recovery_laws.specs.digester.SealedLog.{SealedView, HasUndigested, StandsAt, StandsAtMark, undone}
+use Rattle.recovery_laws.specs.update_log.Frames.{records}
+use Rattle.recovery_laws.specs.update_log.RecordCounts.{next_generation, records_in}
+use Rattle.recovery_laws.specs.update_log.log_record.declared.format.Record.{Record}
+use Rattle.recovery_laws.proofs.kernel_fs_lemmas.world_invariant_lemmas.Owners as owners
 use Rattle.world.specs.system_world.event_steps.posix_calls.Operations.{is_client}
 use Rattle.world.specs.system_world.event_steps.posix_calls.Tree.{State}
 use Rattle.world.specs.system_world.event_steps.libfs.file_graph.Graph.{Graph}
@@ -24,7 +24,8 @@ use Rattle.world.specs.system_world.event_steps.kernel_fs.layout.declared.marks.
 use Rattle.world.specs.system_world.event_steps.kernel_fs.layout.declared.marks.Marks.{Marks}
 use Rattle.world.specs.system_world.courses.Courses.{Content}
 use Rattle.recovery.specs.DigestedLogs.{DigestsAll, HaveRecords, IsLogOf, IsReadRefusal, MovesMark}
-use Rattle.recovery.specs.Errors.{IsDigestError, IsFaultOrMemory}
+use Rattle.recovery.specs.Errors.{IsDigestError}
+use Rattle.recovery.specs.FaultOrMemory.{IsFaultOrMemory}
 use Rattle.recovery.specs.FoundLogs.{HasGeneration, IsRestOf}
 use Rattle.recovery.specs.Phases.{StaysRecovered}
 use Rattle.recovery.specs.Recovers.{AreThese, Recovers, Regions}

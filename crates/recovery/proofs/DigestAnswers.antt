@@ -3,24 +3,25 @@ use Rattle.std.proofs.Common.{◌≡◌, ◌≢◌, ◌⊎◌, inl, inr, ℕ, �
 use Rattle.std.specs.Prelude.{Err, IfErr, Ok, OnOk, Result}
 use Rattle.std.proofs.lemmas.Bool.{false≢true}
 use Rattle.std.proofs.lemmas.List.{drop-drop, drop_all, length-drop, take-append-drop}
-use Rattle.shared_area.specs.tier_device.declared.media.Media.{Ghosts}
-use Rattle.shared_area.specs.tier_device.Media.{Rose}
-use Rattle.shared_area.specs.batch_journal.View.{JournalView}
-use Rattle.shared_area.specs.layout.Places.{Sizes}
-use Rattle.shared_area.specs.area_image.Store.{disk, graph, marks}
-use Rattle.digester.specs.DigestStep.{DigestsOrStays, IsDigested}
-use Rattle.digester.specs.MarkMoves.{mark_of, marks_after}
-use Rattle.digester.specs.SealedLog.{SealedView, HasUndigested, IsDoneBy, StandsAt, StandsAtMark, done_to, mark_then, undone}
-use Rattle.digester.specs.declared.error.DigestError.{DigestError}
-use Rattle.digester.specs.declared.error.DigestError.TheVariants as digests
-use Rattle.update_log.specs.log_record.declared.format.Record.{Record}
-use Rattle.kernel_fs.proofs.SealedRecords.{effects_are}
+use Rattle.recovery_laws.specs.shared_area.tier_device.declared.media.Media.{Ghosts}
+use Rattle.recovery_laws.specs.shared_area.tier_device.Media.{Rose}
+use Rattle.recovery_laws.specs.shared_area.batch_journal.View.{JournalView}
+use Rattle.recovery_laws.specs.shared_area.layout.Places.{Sizes}
+use Rattle.recovery_laws.specs.shared_area.area_image.Store.{disk, graph, marks}
+use Rattle.recovery_laws.specs.digester.DigestStep.{DigestsOrStays, IsDigested}
+use Rattle.recovery_laws.specs.digester.MarkMoves.{mark_of, marks_after}
+use Rattle.recovery_laws.specs.digester.SealedLog.{SealedView, HasUndigested, IsDoneBy, StandsAt, StandsAtMark, done_to, mark_then, undone}
+use Rattle.recovery_laws.specs.digester.declared.error.DigestError.{DigestError}
+use Rattle.recovery_laws.specs.digester.declared.error.DigestError.TheVariants as digests
+use Rattle.recovery_laws.specs.update_log.log_record.declared.format.Record.{Record}
+use Rattle.recovery_laws.proofs.kernel_fs_lemmas.SealedRecords.{effects_are}
 use Rattle.world.specs.system_world.event_steps.posix_calls.Operations.{is_client}
 use Rattle.world.specs.system_world.event_steps.libfs.file_graph.Graph.{Graph}
 use Rattle.world.specs.system_world.event_steps.libfs.world_invariant.Logs.{after_records}
 use Rattle.world.specs.system_world.event_steps.kernel_fs.layout.declared.marks.Marks.{Marks}
 use Rattle.recovery.specs.DigestedLogs.{DigestsNext, IsNoBadLog, IsRefusal}
-use Rattle.recovery.specs.Errors.{IsDigestError, IsFaultOrMemory}
+use Rattle.recovery.specs.Errors.{IsDigestError}
+use Rattle.recovery.specs.FaultOrMemory.{IsFaultOrMemory}
 use Rattle.recovery.specs.Phases.{AnswersFaults}
 use Rattle.recovery.specs.declared.error.RecoveryError.{RecoveryError}
 use Rattle.recovery.specs.declared.error.RecoveryError.TheVariants as errors
@@ -95,6 +96,7 @@ module _ {M : Type 0} (device : Ghosts M) (x : SealedView) (n : ℕ) (old : Jour
     some = d.run.some (let long = undone_long in let low = some in omega (arith, long, low));
     within = (let long = undone_long in let le = d.run.within in let low = some in omega (arith, long, le, low));
     log = done;
+    good = d.good;
     graph_after = ap (λ (g : Sizes). graph g (disk device new)) same ∙ d.graph_after ∙ effects_are (take n (undone x)) (graph old.geometry (disk device old));
     moves = record {
       after = stands.0;

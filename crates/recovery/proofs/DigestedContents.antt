@@ -5,29 +5,29 @@ use Rattle.std.specs.Prelude.{◌&&◌, nat_lt, ◌^◌}
 use Rattle.std.proofs.lemmas.Bool.{and_parts, eqb-true}
 use Rattle.std.proofs.lemmas.Bool.Decides.{eqb_tells}
 use Rattle.std.proofs.lemmas.List.{get_or-set_other, get_or-set_same, length-append, length-drop, take-append-drop, take-append-le}
-use Rattle.shared_area.specs.tier_device.declared.media.Media.{Ghosts}
-use Rattle.shared_area.specs.tier_device.declared.media.Tier.{Tier}
-use Rattle.shared_area.specs.tier_device.AfterStop.{Left}
-use Rattle.shared_area.specs.layout.Marks.{fits_mark, fits_marks}
-use Rattle.shared_area.specs.layout.Places.{Sizes}
-use Rattle.shared_area.specs.batch_journal.View.{JournalView}
-use Rattle.shared_area.specs.batch_journal.Volume.{IsVolume}
-use Rattle.shared_area.specs.area_image.Store.{disk, graph, marks, store_of}
-use Rattle.shared_area.specs.Ready.{OpensAs}
-use Rattle.digester.specs.DigestStep.{IsDigested, NamesFirstBad, OpensDigestedOrNot, StaysOrDigests}
-use Rattle.digester.specs.MarkMoves.{mark_after, mark_of, marks_after}
-use Rattle.digester.specs.Plan.{IsFirstBad}
-use Rattle.digester.specs.SealedLog.{SealedView, HasUndigested, StandsAt, mark_then, undone}
-use Rattle.digester.specs.declared.error.DigestError.{DigestError}
-use Rattle.digester.specs.declared.error.DigestError.TheVariants as digests
-use Rattle.digester.proofs.posix_calls_lemmas.Sums.{same_if, there_if}
-use Rattle.update_log.specs.RecordCounts.{counted_records, next_generation, records_in}
-use Rattle.update_log.specs.View.{HasSize}
-use Rattle.update_log.specs.log_record.Grammar.{IsRecord}
-use Rattle.update_log.specs.log_record.declared.format.Record.{Record}
-use Rattle.kernel_fs.proofs.SealedRecords.{effects_are}
-use Rattle.kernel_fs.proofs.world_invariant_lemmas.Owners as owners
-use Rattle.kernel_fs.proofs.world_invariant_lemmas.Recoveries.{recovered_same, still_recoverable}
+use Rattle.recovery_laws.specs.shared_area.tier_device.declared.media.Media.{Ghosts}
+use Rattle.recovery_laws.specs.shared_area.tier_device.declared.media.Tier.{Tier}
+use Rattle.recovery_laws.specs.shared_area.tier_device.AfterStop.{Left}
+use Rattle.recovery_laws.specs.shared_area.layout.Marks.{fits_mark, fits_marks}
+use Rattle.recovery_laws.specs.shared_area.layout.Places.{Sizes}
+use Rattle.recovery_laws.specs.shared_area.batch_journal.View.{JournalView}
+use Rattle.recovery_laws.specs.shared_area.batch_journal.Volume.{IsVolume}
+use Rattle.recovery_laws.specs.shared_area.area_image.Store.{disk, graph, marks, store_of}
+use Rattle.recovery_laws.specs.shared_area.Ready.{OpensAs}
+use Rattle.recovery_laws.specs.digester.DigestStep.{IsDigested, NamesFirstBad, OpensDigestedOrNot, StaysOrDigests}
+use Rattle.recovery_laws.specs.digester.MarkMoves.{mark_after, mark_of, marks_after}
+use Rattle.recovery_laws.specs.digester.Plan.{IsFirstBad}
+use Rattle.recovery_laws.specs.digester.SealedLog.{SealedView, HasUndigested, StandsAt, mark_then, undone}
+use Rattle.recovery_laws.specs.digester.declared.error.DigestError.{DigestError}
+use Rattle.recovery_laws.specs.digester.declared.error.DigestError.TheVariants as digests
+use Rattle.recovery_laws.proofs.digester_lemmas.posix_calls_lemmas.Sums.{same_if, there_if}
+use Rattle.recovery_laws.specs.update_log.RecordCounts.{counted_records, next_generation, records_in}
+use Rattle.recovery_laws.specs.update_log.View.{HasSize}
+use Rattle.recovery_laws.specs.update_log.log_record.Grammar.{IsRecord}
+use Rattle.recovery_laws.specs.update_log.log_record.declared.format.Record.{Record}
+use Rattle.recovery_laws.proofs.kernel_fs_lemmas.SealedRecords.{effects_are}
+use Rattle.recovery_laws.proofs.kernel_fs_lemmas.world_invariant_lemmas.Owners as owners
+use Rattle.recovery_laws.proofs.kernel_fs_lemmas.world_invariant_lemmas.Recoveries.{recovered_same, still_recoverable}
 use Rattle.recovery_laws.specs.Inodes.{HasEveryInode}
 use Rattle.recovery_laws.proofs.RecordCovers.{never}
 use Rattle.world.specs.system_world.event_steps.posix_calls.Tree.{State}

@@ -6,8 +6,8 @@ use Rattle.std.proofs.lemmas.Bool.{eq-eqb}
 use Rattle.std.proofs.lemmas.Bool.Decides.{nat_tests}
 use Rattle.std.proofs.lemmas.List.{length-append}
 use Rattle.std.proofs.lemmas.List.Folds.{list_any-append}
-use Rattle.shared_area.specs.layout.Places.{is_inode}
-use Rattle.update_log.specs.file_graph.Graph.{is_among}
+use Rattle.recovery_laws.specs.shared_area.layout.Places.{is_inode}
+use Rattle.recovery_laws.specs.update_log.file_graph.Graph.{is_among}
 use Rattle.recovery_laws.specs.Inodes.{HasEveryInode}
 
 -- the numbers from 1 to n

@@ -1,12 +1,13 @@
 -- What the refusals of the area tell of those of a phase.
 use Rattle.std.proofs.Common.{◌≡◌, ◌≢◌, ℕ, refl, sym, subst}
-use Rattle.shared_area.specs.layout.declared.error.What.{What}
-use Rattle.shared_area.specs.area_image.declared.error.AreaError.{AreaError}
-use Rattle.shared_area.specs.area_image.declared.error.AreaError.TheVariants as area
-use Rattle.shared_area.specs.area_image.Damage as areas
+use Rattle.recovery_laws.specs.shared_area.layout.declared.error.What.{What}
+use Rattle.recovery_laws.specs.shared_area.area_image.declared.error.AreaError.{AreaError}
+use Rattle.recovery_laws.specs.shared_area.area_image.declared.error.AreaError.TheVariants as area
+use Rattle.recovery_laws.specs.shared_area.area_image.Damage as areas
 use Rattle.recovery.specs.declared.error.RecoveryError.{RecoveryError}
 use Rattle.recovery.specs.declared.error.RecoveryError.TheVariants as errors
-use Rattle.recovery.specs.Errors.{OnDamage, IsOfArea, IsFaultOrMemory, IsAreaFault}
+use Rattle.recovery.specs.Errors.{OnDamage, IsOfArea, IsAreaFault}
+use Rattle.recovery.specs.FaultOrMemory.{IsFaultOrMemory}
 
 pub on_damage : (e : AreaError) (f : RecoveryError) (P : What → ℕ → Type 0) → IsAreaFault e f → areas.OnDamage e P → OnDamage f P
 on_damage area.DeviceFault f P is p = subst (λ (x : RecoveryError). OnDamage x P) (sym is) tt

@@ -2,18 +2,18 @@
 use Rattle.std.proofs.Common.{◌≡◌, ◌≢◌, inl, inr, ℕ, zero, suc, ◌%◌, ◌<◌, ◌≤◌, true, List, [], ◌∷◌, ◌++◌, length, drop, Option, Some, None, refl, ap, sym, ◌∙◌, subst, arith}
 use Rattle.std.specs.Prelude.{IfSome, min}
 use Rattle.std.proofs.lemmas.Bool.{cases_lt, cond-true, eq-eqb}
-use Rattle.std.proofs.lemmas.List.{append-nil, drop_all, length-append}
-use Rattle.counted_logs.specs.Regions.{records_behind, records_of}
-use Rattle.counted_logs.specs.declared.regions.LogRest.{LogRest}
-use Rattle.update_log.specs.Frames.{records}
-use Rattle.update_log.specs.RecordCounts.{counted_records, next_generation, records_in, records_under}
-use Rattle.update_log.specs.WipeStops.{generation}
-use Rattle.update_log.specs.log_record.declared.format.Record.{Record}
-use Rattle.shared_area.specs.tier_device.declared.media.Media.{Ghosts}
-use Rattle.shared_area.specs.batch_journal.View.{JournalView}
-use Rattle.shared_area.specs.layout.Places.{Sizes}
-use Rattle.shared_area.specs.area_image.Store.{disk, graph, marks, store_of}
-use Rattle.digester.specs.MarkMoves.{mark_of}
+use Rattle.std.proofs.lemmas.List.{append-nil, drop_all, length-append, length-drop}
+use Rattle.recovery_laws.specs.counted_logs.Regions.{records_behind, records_of}
+use Rattle.recovery_laws.specs.counted_logs.declared.regions.LogRest.{LogRest}
+use Rattle.recovery_laws.specs.update_log.Frames.{records}
+use Rattle.recovery_laws.specs.update_log.RecordCounts.{counted_records, next_generation, records_in, records_under}
+use Rattle.recovery_laws.specs.update_log.WipeStops.{generation}
+use Rattle.recovery_laws.specs.update_log.log_record.declared.format.Record.{Record}
+use Rattle.recovery_laws.specs.shared_area.tier_device.declared.media.Media.{Ghosts}
+use Rattle.recovery_laws.specs.shared_area.batch_journal.View.{JournalView}
+use Rattle.recovery_laws.specs.shared_area.layout.Places.{Sizes}
+use Rattle.recovery_laws.specs.shared_area.area_image.Store.{disk, graph, marks, store_of}
+use Rattle.recovery_laws.specs.digester.MarkMoves.{mark_of}
 use Rattle.world.specs.system_world.event_steps.posix_calls.Operations.{is_client}
 use Rattle.world.specs.system_world.event_steps.posix_calls.Tree.{State}
 use Rattle.world.specs.system_world.event_steps.libfs.file_graph.Graph.{Graph}
@@ -23,7 +23,7 @@ use Rattle.world.specs.system_world.event_steps.kernel_fs.layout.declared.marks.
 use Rattle.world.specs.system_world.courses.Courses.{Content}
 use Rattle.world.specs.system_world.Contents.{mark_by}
 use Rattle.recovery.specs.DigestedLogs.{DigestsAll, DigestsLog, StandsAtStart}
-use Rattle.recovery.specs.FoundLogs.{HasGeneration, IsFound, IsRestOf}
+use Rattle.recovery.specs.FoundLogs.{HasGeneration, HoldsFew, IsFound, IsRestOf}
 use Rattle.recovery.specs.Recovers.{AreThese, Recovers, Regions}
 use Rattle.recovery.specs.declared.log_search.FoundLog.{FoundLog}
 use Rattle.recovery.proofs.DigestAnswers.{after_more}
@@ -100,6 +100,19 @@ module _ (regions : ℕ → List ℕ) where
 
   pub found_second : (m : Mark) (log : FoundLog) → IsFound m regions log → records_of regions log.counted.second ≡ records_in regions (next_generation m.generation)
   found_second m log is = second_is m.generation m.done log.counted.first log.counted.second is.first is.second is.counted
+
+  -- where the regions hold few records, so do their parts
+  pub rest_few : HoldsFew regions → (g done : ℕ) (o : Option LogRest) → IfSome o (IsRestOf regions g done) → length (records_behind regions o) < 4294967296
+  rest_few few g done None is = omega arith
+  rest_few few g done (Some rest) is =
+      let region = is.region in
+      let low = few rest.region (omega (arith, region)) in
+      let long = length-drop rest.from (records (regions rest.region)) in
+      omega (arith, low, long)
+
+  pub region_few : HoldsFew regions → (g : ℕ) (o : Option ℕ) → IfSome o (HasGeneration regions g) → length (records_of regions o) < 4294967296
+  region_few few g None is = omega arith
+  region_few few g (Some r) is = (let region = is.0 in few r (omega (arith, region)))
 
 -- regions that are the same count the same
 module _ (these now : ℕ → List ℕ) (same : (r : ℕ) → r < 2 → now r ≡ these r) where

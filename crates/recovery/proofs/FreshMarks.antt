@@ -2,8 +2,8 @@
 use Rattle.std.proofs.Common.{◌≡◌, ℕ, zero, suc, ◌-◌, List, [], ◌∷◌, length, map, refl, ap, sym, ◌∙◌, subst, arith}
 use Rattle.std.specs.Prelude.{get_or, slice_get, slice_index, Some}
 use Rattle.std.proofs.lemmas.List.{length-map}
-use Rattle.shared_area.specs.area_image.Store.{marks, store_of}
-use Rattle.shared_area.specs.layout.declared.marks.Mark.{Mark}
+use Rattle.recovery_laws.specs.shared_area.area_image.Store.{marks, store_of}
+use Rattle.recovery_laws.specs.shared_area.layout.declared.marks.Mark.{Mark}
 use Rattle.world.specs.system_world.courses.Courses.{Content}
 use Rattle.recovery.specs.Silent.{AreMarked}
 use Rattle.recovery.specs.declared.log_search.FoundLog.{FoundLog}

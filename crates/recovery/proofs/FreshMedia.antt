@@ -4,36 +4,37 @@ use Rattle.std.specs.List.{AllByRecursion, AllZip}
 use Rattle.std.specs.Prelude.{◌==◌, slice_get, Option, Some}
 use Rattle.std.proofs.lemmas.Bool.{cases_lt, cond-false}
 use Rattle.std.proofs.lemmas.Option.{slice_get-get_or, slice_get_within}
-use Rattle.fresh_media.specs.Fresh.{fresh_fast, fresh_region, fresh_tiers, no_marks}
+use Rattle.recovery_laws.specs.fresh_media.Fresh.{fresh_fast, fresh_region, fresh_tiers, no_marks}
 use Rattle.recovery_laws.proofs.AreaBytes.{zeros_behind}
-use Rattle.fresh_media.specs.layout.Bytes.{zeros}
-use Rattle.shared_area.specs.AreaOpen.{SpellsNone}
-use Rattle.shared_area.specs.area_image.Format.{IsOpenable}
-use Rattle.shared_area.specs.area_image.Store.{disk, graph, marks, store_of}
-use Rattle.shared_area.specs.batch_journal.Blocks.{home, is_gate_open, opening_calls}
-use Rattle.shared_area.specs.batch_journal.View.{JournalView}
-use Rattle.shared_area.specs.batch_journal.Volume.{IsVolume, Spells}
-use Rattle.shared_area.specs.layout.Places.{Sizes}
-use Rattle.shared_area.specs.layout.declared.marks.Mark.{Mark}
-use Rattle.shared_area.specs.layout.declared.marks.Marks.{Marks}
-use Rattle.shared_area.specs.layout.declared.superblock.Super.{Super}
-use Rattle.shared_area.specs.file_graph.Graph.{fresh}
-use Rattle.update_log.specs.Frames.{end_behind, records}
-use Rattle.update_log.specs.Moments.{PastStays}
-use Rattle.update_log.specs.View.{HasSize, RegionView}
-use Rattle.update_log.specs.WipeStops.{generation}
-use Rattle.update_log.specs.declared.format.TheConstants.{CLOSED, HEADER, OPEN}
-use Rattle.update_log.specs.tier_device.declared.media.Media.{Ghosts}
-use Rattle.update_log.specs.tier_device.declared.media.Tier.{Tier}
-use Rattle.update_log.specs.tier_device.declared.media.Tier.TheVariants.{Fast, Block, Slow}
+use Rattle.recovery_laws.specs.fresh_media.layout.Bytes.{zeros}
+use Rattle.recovery_laws.specs.shared_area.AreaOpen.{SpellsNone}
+use Rattle.recovery_laws.specs.shared_area.area_image.Format.{IsOpenable}
+use Rattle.recovery_laws.specs.shared_area.area_image.Store.{disk, graph, marks, store_of}
+use Rattle.recovery_laws.specs.shared_area.batch_journal.Blocks.{home, is_gate_open, opening_calls}
+use Rattle.recovery_laws.specs.shared_area.batch_journal.View.{JournalView}
+use Rattle.recovery_laws.specs.shared_area.batch_journal.Volume.{IsVolume, Spells}
+use Rattle.recovery_laws.specs.shared_area.layout.Places.{Sizes}
+use Rattle.recovery_laws.specs.shared_area.layout.declared.marks.Mark.{Mark}
+use Rattle.recovery_laws.specs.shared_area.layout.declared.marks.Marks.{Marks}
+use Rattle.recovery_laws.specs.shared_area.layout.declared.superblock.Super.{Super}
+use Rattle.recovery_laws.specs.shared_area.file_graph.Graph.{fresh}
+use Rattle.recovery_laws.specs.update_log.Frames.{end_behind, records}
+use Rattle.recovery_laws.specs.update_log.Moments.{PastStays}
+use Rattle.recovery_laws.specs.update_log.View.{HasSize, RegionView}
+use Rattle.recovery_laws.specs.update_log.WipeStops.{generation}
+use Rattle.recovery_laws.specs.update_log.declared.format.TheConstants.{CLOSED, HEADER, OPEN}
+use Rattle.recovery_laws.specs.update_log.tier_device.declared.media.Media.{Ghosts}
+use Rattle.recovery_laws.specs.update_log.tier_device.declared.media.Tier.{Tier}
+use Rattle.recovery_laws.specs.update_log.tier_device.declared.media.Tier.TheVariants.{Fast, Block, Slow}
 use Rattle.world.specs.system_world.event_steps.call_effects.ClosedGraph.{nobody}
 use Rattle.world.specs.system_world.event_steps.call_effects.Wholes.{IsSound}
 use Rattle.world.specs.system_world.event_steps.kernel_fs.digester.MarkMoves.{mark_of}
-use Rattle.graph_check.proofs.call_effects_lemmas.Fresh.{fresh_sound}
+use Rattle.recovery_laws.proofs.graph_check_lemmas.call_effects_lemmas.Fresh.{fresh_sound}
 use Rattle.recovery.specs.declared.error.RecoveryError.{RecoveryError}
 use Rattle.recovery.specs.declared.error.RecoveryError.TheVariants as errors
 use Rattle.recovery.specs.Assembly.{AreReadyRegions, IsReadyArea}
-use Rattle.recovery.specs.Errors.{IsFaultOrMemory, IsOfArea, OnDamage}
+use Rattle.recovery.specs.Errors.{IsOfArea, OnDamage}
+use Rattle.recovery.specs.FaultOrMemory.{IsFaultOrMemory}
 use Rattle.recovery.specs.FreshContents.{AreFreshRegions, HoldsContent, IsLater}
 use Rattle.recovery.specs.Phases.{StaysRecovered, Whatever}
 use Rattle.recovery.specs.Recovers.{region_content}

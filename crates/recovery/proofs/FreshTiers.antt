@@ -1,14 +1,14 @@
 -- Media that hold fresh tiers.
 use Rattle.std.proofs.Common.{◌≡◌, ◌≢◌, ℕ, ◌*◌, ◌≤◌, List, [], ◌∷◌, length, refl, sym, ◌∙◌, arith}
 use Rattle.std.specs.Prelude.{Result, Ok, Err, OnOk}
-use Rattle.fresh_media.proofs.Zeros.{padded_long}
-use Rattle.fresh_media.specs.Fresh.{fresh_tiers}
-use Rattle.fresh_media.specs.layout.Places.{Sizes, tier_blocks}
+use Rattle.recovery_laws.proofs.fresh_media_lemmas.Zeros.{padded_long}
+use Rattle.recovery_laws.specs.fresh_media.Fresh.{fresh_tiers}
+use Rattle.recovery_laws.specs.fresh_media.layout.Places.{Sizes, tier_blocks}
 use Rattle.recovery_laws.proofs.AreaBytes.{fast_long}
-use Rattle.update_log.specs.View.{HasSize}
-use Rattle.update_log.specs.tier_device.declared.media.Media.{Ghosts}
-use Rattle.update_log.specs.tier_device.declared.media.Tier.{Tier}
-use Rattle.update_log.specs.tier_device.declared.media.Tier.TheVariants.{Fast, Block, Slow}
+use Rattle.recovery_laws.specs.update_log.View.{HasSize}
+use Rattle.recovery_laws.specs.update_log.tier_device.declared.media.Media.{Ghosts}
+use Rattle.recovery_laws.specs.update_log.tier_device.declared.media.Tier.{Tier}
+use Rattle.recovery_laws.specs.update_log.tier_device.declared.media.Tier.TheVariants.{Fast, Block, Slow}
 use Rattle.recovery.specs.declared.error.RecoveryError.{RecoveryError}
 use Rattle.recovery.specs.FreshContents.{HoldsContent, IsLater, TierHolds}
 use Rattle.recovery.specs.Recovers.{region_content}

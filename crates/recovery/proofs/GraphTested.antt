@@ -3,29 +3,30 @@ use Rattle.std.proofs.Common.{◌≡◌, ◌≢◌, ◌⊎◌, inl, inr, ℕ, �
 use Rattle.std.specs.Prelude.{Err}
 use Rattle.std.proofs.lemmas.Bool.{cases_Bool, false≢true}
 use Rattle.std.proofs.lemmas.Bool.Decides.{nat_tests}
-use Rattle.shared_area.specs.tier_device.declared.media.Media.{Ghosts}
-use Rattle.shared_area.specs.tier_device.Media.{Rose}
-use Rattle.shared_area.specs.layout.Places.{Sizes, is_inode}
-use Rattle.shared_area.specs.batch_journal.Course.{Unmoved}
-use Rattle.shared_area.specs.batch_journal.View.{JournalView}
-use Rattle.shared_area.specs.area_image.Looks.{Looks, call_answer}
-use Rattle.shared_area.specs.area_image.Store.{Store, graph}
-use Rattle.shared_area.specs.area_image.declared.error.AreaError.{AreaError}
-use Rattle.shared_area.specs.area_image.declared.error.AreaError.TheVariants as area
-use Rattle.shared_area.specs.NodeQuestions.{HasAsked}
-use Rattle.shared_area.specs.Parts.{IsNoDamage}
-use Rattle.shared_area.proofs.Entries.{no_view}
-use Rattle.graph_check.specs.file_graph.Graph.{Graph, Node}
-use Rattle.graph_check.specs.file_graph.declared.effect.Kind.{Kind}
-use Rattle.graph_check.specs.record_validation.call_effects.NodeView.{view_of_node}
-use Rattle.graph_check.specs.record_validation.call_effects.Wholes.{kind_of}
-use Rattle.graph_check.specs.declared.defect.GraphError.{GraphError}
-use Rattle.graph_check.specs.declared.defect.GraphError.TheVariants as why
-use Rattle.graph_check.specs.Defects.{HasDefect, HasInodesAlone, IfUnsound}
-use Rattle.graph_check.specs.Questions.{AskedUntil}
+use Rattle.recovery_laws.specs.shared_area.tier_device.declared.media.Media.{Ghosts}
+use Rattle.recovery_laws.specs.shared_area.tier_device.Media.{Rose}
+use Rattle.recovery_laws.specs.shared_area.layout.Places.{Sizes, is_inode}
+use Rattle.recovery_laws.specs.shared_area.batch_journal.Course.{Unmoved}
+use Rattle.recovery_laws.specs.shared_area.batch_journal.View.{JournalView}
+use Rattle.recovery_laws.specs.shared_area.area_image.Looks.{Looks, call_answer}
+use Rattle.recovery_laws.specs.shared_area.area_image.Store.{Store, graph}
+use Rattle.recovery_laws.specs.shared_area.area_image.declared.error.AreaError.{AreaError}
+use Rattle.recovery_laws.specs.shared_area.area_image.declared.error.AreaError.TheVariants as area
+use Rattle.recovery_laws.specs.shared_area.NodeQuestions.{HasAsked}
+use Rattle.recovery_laws.specs.shared_area.Parts.{IsNoDamage}
+use Rattle.recovery_laws.proofs.shared_area_lemmas.Entries.{no_view}
+use Rattle.recovery_laws.specs.graph_check.file_graph.Graph.{Graph, Node}
+use Rattle.recovery_laws.specs.graph_check.file_graph.declared.effect.Kind.{Kind}
+use Rattle.recovery_laws.specs.graph_check.record_validation.call_effects.NodeView.{view_of_node}
+use Rattle.recovery_laws.specs.graph_check.record_validation.call_effects.Wholes.{kind_of}
+use Rattle.recovery_laws.specs.graph_check.declared.defect.GraphError.{GraphError}
+use Rattle.recovery_laws.specs.graph_check.declared.defect.GraphError.TheVariants as why
+use Rattle.recovery_laws.specs.graph_check.Defects.{HasDefect, HasInodesAlone, IfUnsound}
+use Rattle.recovery_laws.specs.graph_check.Questions.{AskedUntil}
 use Rattle.recovery.specs.declared.error.RecoveryError.{RecoveryError}
 use Rattle.recovery.specs.declared.error.RecoveryError.TheVariants as errors
-use Rattle.recovery.specs.Errors.{OnDamage, IsOfArea, IsFaultOrMemory, IsAreaFault}
+use Rattle.recovery.specs.Errors.{OnDamage, IsOfArea, IsAreaFault}
+use Rattle.recovery.specs.FaultOrMemory.{IsFaultOrMemory}
 use Rattle.recovery.specs.GraphTests.{IsGraphDamage, IsGraphFault}
 use Rattle.recovery.specs.Phases.{AnswersFaults}
 use Rattle.recovery.proofs.Faults.{of_area, no_damage}

@@ -9,7 +9,7 @@ use Rattle.world.specs.system_world.event_steps.area_image.Store.{marks, store_o
 use Rattle.world.specs.system_world.event_steps.kernel_fs.layout.declared.marks.Mark.{Mark}
 use Rattle.world.specs.system_world.courses.Courses.{Content, part_of}
 use Rattle.world.specs.system_world.Contents.{AreInTurn, log_in, mark_by, regions_in}
-use Rattle.kernel_fs.proofs.world_invariant_lemmas.Owners.{is_low}
+use Rattle.recovery_laws.proofs.kernel_fs_lemmas.world_invariant_lemmas.Owners.{is_low}
 use Rattle.recovery.specs.Recovers.{Regions, joined, region_content}
 
 half_is : (c r : ℕ) → 1 ≤ c → r < 2 → (2 * (c - 1) + r) / 2 + 1 ≡ c

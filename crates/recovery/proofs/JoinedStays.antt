@@ -1,10 +1,11 @@
 -- One stage of a recovery behind another: first the shared medium moves alone, then both go on.
 use Rattle.std.proofs.Common.{◌≡◌, inl, inr, ℕ, zero, suc, ◌<◌, ◌≤◌, ◌∙◌, arith}
-use Rattle.update_log.specs.tier_device.declared.media.Media.{Ghosts}
+use Rattle.recovery_laws.specs.update_log.tier_device.declared.media.Media.{Ghosts}
 use Rattle.world.specs.system_world.Contents.{CanRecover, stored_state}
 use Rattle.world.specs.system_world.courses.Courses.{PARTS, LeftBetween, WorldContent}
 use Rattle.world.specs.system_world.event_steps.kernel_fs.layout.Places.{Sizes}
-use Rattle.recovery.specs.Parts.{clocks_of, contents_of, left_of}
+use Rattle.recovery.specs.Parts.{contents_of}
+use Rattle.recovery.specs.PartMedia.{clocks_of, left_of}
 use Rattle.recovery.specs.RecoveryStops.{LeftMeanwhile, StaysStored, shared_moved}
 use Rattle.recovery.proofs.RecoveredParts.{past_on}
 use Rattle.recovery.proofs.Staying.{SeenNow, split}

@@ -2,13 +2,13 @@
 use Rattle.std.proofs.Common.{◌≡◌, ℕ, zero, suc, ◌<◌, ◌≤◌, true, List, [], ◌∷◌, length, refl, ap, sym, ◌∙◌, subst, arith}
 use Rattle.std.specs.Prelude.{slice_index_or}
 use Rattle.std.specs.List.{AllByRecursion}
-use Rattle.update_log.specs.tier_device.declared.media.Media.{Ghosts}
-use Rattle.shared_area.specs.batch_journal.Volume.{IsVolume}
-use Rattle.shared_area.specs.area_image.Format.{IsOpenable}
-use Rattle.shared_area.specs.area_image.Store.{Store, graph, marks, store_of}
+use Rattle.recovery_laws.specs.update_log.tier_device.declared.media.Media.{Ghosts}
+use Rattle.recovery_laws.specs.shared_area.batch_journal.Volume.{IsVolume}
+use Rattle.recovery_laws.specs.shared_area.area_image.Format.{IsOpenable}
+use Rattle.recovery_laws.specs.shared_area.area_image.Store.{Store, graph, marks, store_of}
 use Rattle.world.specs.system_world.Contents.{log_in, mark_by, regions_in, stored_graph, stored_state}
 use Rattle.world.specs.system_world.Parts.{medium_of}
-use Rattle.world.specs.system_world.WorldTree.{WorldView}
+use Rattle.world.specs.system_world.WorldView.{WorldView}
 use Rattle.world.specs.system_world.courses.Courses.{PARTS, WorldContent}
 use Rattle.world.specs.system_world.event_steps.call_effects.ClosedGraph.{nobody, settled_graph}
 use Rattle.world.specs.system_world.event_steps.call_effects.Wholes.{IsSound, state_of}
@@ -30,7 +30,7 @@ use Rattle.recovery.proofs.WholeContents.{counted_alike}
 -- ---- contents with the same blocks and the same regions
 
 module _ (g : Sizes) (c other : WorldContent) (same : store_of (other 0) ≡ store_of (c 0)) (alike : AreThese (regions_in c) (regions_in other)) where
-  logs_same : (d : ℕ) → is_client d ≡ true → log_in other d ≡ log_in c d
+  pub logs_same : (d : ℕ) → is_client d ≡ true → log_in other d ≡ log_in c d
   logs_same d is_d = ap (λ (s : Store). counted_by (mark_by (marks s) d) (regions_in other d)) same ∙ counted_alike (regions_in c) (regions_in other) alike (mark_by (marks (store_of (c 0))) d) d is_d
 
   graph_same : stored_graph g other ≡ stored_graph g c

@@ -42,3 +42,6 @@ pub mod DigestAnswers
 pub mod DigestedClients
 pub mod ClientParts
 pub mod OpenedParts
+pub mod SharedRecords
+pub mod UndigestibleRecords
+pub mod RefusalCauses

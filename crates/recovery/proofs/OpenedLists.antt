@@ -2,15 +2,15 @@
 use Rattle.std.proofs.Common.{◌≡◌, ◌≢◌, get_or, ◌++◌, ◌∷◌, [], List, map, refl, inl, inr, ap, sym, ◌∙◌, subst, arith, append-nil, append_assoc}
 use Rattle.std.specs.List.{AllZip, AllByRecursion}
 use Rattle.std.proofs.Common.{◌≤◌}
-use Rattle.update_log.specs.Frames.{end_behind, records}
-use Rattle.update_log.specs.Stage.{IsIdle}
-use Rattle.update_log.specs.declared.format.TheConstants.{OPEN}
-use Rattle.update_log.specs.declared.stage.Stage.TheVariants as stages
-use Rattle.update_log.specs.tier_device.declared.media.Tier.TheVariants.{Fast}
-use Rattle.update_log.specs.tier_device.declared.media.Tier.{Tier}
-use Rattle.update_log.specs.tier_device.declared.media.Media.{Ghosts}
-use Rattle.update_log.specs.tier_device.Media.{Keeps, Rose}
-use Rattle.update_log.specs.View.{RegionView, HasSize}
+use Rattle.recovery_laws.specs.update_log.Frames.{end_behind, records}
+use Rattle.recovery_laws.specs.update_log.Stage.{IsIdle}
+use Rattle.recovery_laws.specs.update_log.declared.format.TheConstants.{OPEN}
+use Rattle.recovery_laws.specs.update_log.declared.stage.Stage.TheVariants as stages
+use Rattle.recovery_laws.specs.update_log.tier_device.declared.media.Tier.TheVariants.{Fast}
+use Rattle.recovery_laws.specs.update_log.tier_device.declared.media.Tier.{Tier}
+use Rattle.recovery_laws.specs.update_log.tier_device.declared.media.Media.{Ghosts}
+use Rattle.recovery_laws.specs.update_log.tier_device.Media.{Keeps, Rose}
+use Rattle.recovery_laws.specs.update_log.View.{RegionView, HasSize}
 use Rattle.recovery.specs.declared.error.RecoveryError.{RecoveryError}
 use Rattle.recovery.specs.declared.error.RecoveryError.TheVariants.{DeviceFault, RegionSize}
 use Rattle.recovery.specs.Regions.{HaveRisen, IsGivenBack, IsReopened, IsUntouched, RefusesLast, Rests, SomeZip, TakesLast}

@@ -4,11 +4,12 @@ use Rattle.std.specs.List.{AllZip}
 use Rattle.std.specs.Prelude.{slice_get, Some}
 use Rattle.std.proofs.lemmas.List.{drop_all, take_all}
 use Rattle.std.proofs.lemmas.Option.{get_or_from_slice_get, slice_get-get_or, slice_get_within}
-use Rattle.update_log.specs.tier_device.declared.media.Media.{Ghosts}
-use Rattle.update_log.specs.tier_device.Media.{Rose}
+use Rattle.recovery_laws.specs.update_log.tier_device.declared.media.Media.{Ghosts}
+use Rattle.recovery_laws.specs.update_log.tier_device.Media.{Rose}
 use Rattle.world.specs.system_world.courses.Courses.{PARTS}
 use Rattle.recovery.specs.FreshContents.{AreLater, IsLater}
-use Rattle.recovery.specs.Parts.{PartsView, SomeRose, part_medium}
+use Rattle.recovery.specs.Parts.{PartsView, part_medium}
+use Rattle.recovery.specs.PartMedia.{SomeRose}
 use Rattle.recovery.specs.Regions.{HaveRisen, SomeZip}
 use Rattle.recovery.proofs.FreshTiers.{later_on, same_later}
 

@@ -3,13 +3,13 @@ use Rattle.std.proofs.Common.{◌≡◌, ◌≢◌, ℕ, zero, suc, ◌+◌, ◌
 use Rattle.std.specs.List.{AllZip}
 use Rattle.std.specs.Prelude.{drop, slice_get, slice_index, slice_index_or, Option, Some}
 use Rattle.std.proofs.lemmas.Option.{slice_get_within}
-use Rattle.update_log.specs.Stage.{IsIdle}
-use Rattle.update_log.specs.View.{HasSize, RegionView}
-use Rattle.update_log.specs.WipeStops.{generation}
-use Rattle.update_log.specs.RecordCounts.{counted_records, next_generation, records_in, records_under}
-use Rattle.update_log.specs.tier_device.declared.media.Media.{Ghosts}
-use Rattle.update_log.specs.tier_device.declared.media.Tier.TheVariants.{Fast}
-use Rattle.update_log.proofs.Counts.{other_counts_none}
+use Rattle.recovery_laws.specs.update_log.Stage.{IsIdle}
+use Rattle.recovery_laws.specs.update_log.View.{HasSize, RegionView}
+use Rattle.recovery_laws.specs.update_log.WipeStops.{generation}
+use Rattle.recovery_laws.specs.update_log.RecordCounts.{counted_records, next_generation, records_in, records_under}
+use Rattle.recovery_laws.specs.update_log.tier_device.declared.media.Media.{Ghosts}
+use Rattle.recovery_laws.specs.update_log.tier_device.declared.media.Tier.TheVariants.{Fast}
+use Rattle.recovery_laws.proofs.update_log_lemmas.Counts.{other_counts_none}
 use Rattle.world.specs.system_world.Contents.{log_in, mark_by}
 use Rattle.world.specs.system_world.courses.Courses.{Content}
 use Rattle.world.specs.system_world.event_steps.area_image.Store.{marks, store_of}

@@ -2,17 +2,17 @@
 use Rattle.std.proofs.Common.{◌≡◌, ℕ, zero, suc, ◌%◌, ◌<◌, List, [], ◌∷◌, ◌++◌, length, drop, refl, ap, sym, ◌∙◌, arith}
 use Rattle.std.specs.Prelude.{Option, Some, None, IfSome, min, slice_index}
 use Rattle.std.proofs.lemmas.Bool.{false≢true}
-use Rattle.update_log.specs.log_record.declared.format.Record.{Record}
-use Rattle.update_log.specs.Frames.{header, records}
-use Rattle.update_log.specs.WipeStops.{generation}
-use Rattle.update_log.proofs.Counts.{header_tells}
-use Rattle.counted_logs.specs.Owners.{TouchInodes}
-use Rattle.counted_logs.specs.Regions.{AreRead, records_behind, records_of, records_that_count}
-use Rattle.counted_logs.specs.declared.regions.CountedLogs.{CountedLogs}
-use Rattle.counted_logs.specs.declared.regions.LogRest.{LogRest}
+use Rattle.recovery_laws.specs.update_log.log_record.declared.format.Record.{Record}
+use Rattle.recovery_laws.specs.update_log.Frames.{header, records}
+use Rattle.recovery_laws.specs.update_log.WipeStops.{generation}
+use Rattle.recovery_laws.proofs.update_log_lemmas.Counts.{header_tells}
+use Rattle.recovery_laws.specs.counted_logs.Owners.{TouchInodes}
+use Rattle.recovery_laws.specs.counted_logs.Regions.{AreRead, records_behind, records_of, records_that_count}
+use Rattle.recovery_laws.specs.counted_logs.declared.regions.CountedLogs.{CountedLogs}
+use Rattle.recovery_laws.specs.counted_logs.declared.regions.LogRest.{LogRest}
 use Rattle.std.specs.List.{AllZip}
-use Rattle.update_log.specs.tier_device.declared.media.Media.{Ghosts}
-use Rattle.update_log.specs.View.{RegionView}
+use Rattle.recovery_laws.specs.update_log.tier_device.declared.media.Media.{Ghosts}
+use Rattle.recovery_laws.specs.update_log.View.{RegionView}
 use Rattle.recovery.specs.Regions.{IsOnlyRead}
 use Rattle.recovery.specs.FoundLogs.{AreReadAs, HasGeneration, IsRestOf, first_part, second_part}
 

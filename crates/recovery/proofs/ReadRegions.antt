@@ -3,12 +3,12 @@ use Rattle.std.proofs.Common.{◌≡◌, inl, inr, ℕ, zero, suc, ◌+◌, ◌-
 use Rattle.std.specs.List.{AllZip}
 use Rattle.std.specs.Prelude.{slice_get, slice_index_or, slice_set, false, Result, Ok, Err}
 use Rattle.std.proofs.lemmas.Option.{slice_get-get_or}
-use Rattle.update_log.specs.tier_device.declared.media.Media.{Ghosts}
-use Rattle.update_log.specs.tier_device.declared.media.Tier.TheVariants.{Fast}
-use Rattle.update_log.specs.tier_device.Media.{Rose}
-use Rattle.update_log.specs.Stage.{IsIdle}
-use Rattle.update_log.specs.View.{RegionView}
-use Rattle.shared_area.specs.batch_journal.View.{JournalView}
+use Rattle.recovery_laws.specs.update_log.tier_device.declared.media.Media.{Ghosts}
+use Rattle.recovery_laws.specs.update_log.tier_device.declared.media.Tier.TheVariants.{Fast}
+use Rattle.recovery_laws.specs.update_log.tier_device.Media.{Rose}
+use Rattle.recovery_laws.specs.update_log.Stage.{IsIdle}
+use Rattle.recovery_laws.specs.update_log.View.{RegionView}
+use Rattle.recovery_laws.specs.shared_area.batch_journal.View.{JournalView}
 use Rattle.recovery.specs.Phases.{AnswersEither, AnswersFaults}
 use Rattle.recovery.specs.Regions.{HaveRisen, IsOnlyRead, IsUntouched, media_of, read_of, regions_read}
 use Rattle.recovery.specs.declared.error.RecoveryError.{RecoveryError}

@@ -1,17 +1,19 @@
 -- What becomes of the parts of an area and of regions that are opened, as what counts is brought into the area and the regions are wiped.
 use Rattle.std.proofs.Common.{◌≡◌, ℕ, zero, suc, ◌-◌, ◌/◌, ◌<◌, ◌≤◌, true, List, [], ◌∷◌, length, refl, ap, sym, ◌∙◌, subst, arith}
 use Rattle.std.specs.Prelude.{slice_get, slice_index, Some}
-use Rattle.update_log.specs.tier_device.declared.media.Media.{Ghosts}
-use Rattle.update_log.specs.tier_device.declared.media.Tier.{Tier}
-use Rattle.update_log.specs.tier_device.declared.media.Tier.TheVariants.{Fast, Block, Slow}
-use Rattle.update_log.specs.tier_device.AfterStop.{AtRest, LeftSince}
-use Rattle.update_log.specs.Moments.{PastStays}
-use Rattle.update_log.specs.View.{HasSize, RegionView}
-use Rattle.shared_area.specs.batch_journal.View.{JournalView}
+use Rattle.recovery_laws.specs.update_log.tier_device.declared.media.Media.{Ghosts}
+use Rattle.recovery_laws.specs.update_log.tier_device.declared.media.Tier.{Tier}
+use Rattle.recovery_laws.specs.update_log.tier_device.declared.media.Tier.TheVariants.{Fast, Block, Slow}
+use Rattle.recovery_laws.specs.update_log.tier_device.AfterStop.{AtRest}
+use Rattle.recovery_laws.specs.update_log.tier_device.StopsSince.{LeftSince}
+use Rattle.recovery_laws.specs.update_log.Moments.{PastStays}
+use Rattle.recovery_laws.specs.update_log.View.{HasSize, RegionView}
+use Rattle.recovery_laws.specs.shared_area.batch_journal.View.{JournalView}
 use Rattle.world.specs.system_world.Contents.{regions_in}
 use Rattle.world.specs.system_world.courses.Courses.{PARTS, part_of}
 use Rattle.world.specs.system_world.event_steps.posix_calls.Operations.{is_client}
-use Rattle.recovery.specs.Parts.{AreUntouched, contents_of, media_beneath, part_medium}
+use Rattle.recovery.specs.Parts.{contents_of, part_medium}
+use Rattle.recovery.specs.PartMedia.{AreUntouched, media_beneath}
 use Rattle.recovery.specs.Phases.{StaysRecovered}
 use Rattle.recovery.specs.Recovers.{AreThese, Regions}
 use Rattle.recovery.specs.RecoveryStops.{StaysStored}

@@ -3,21 +3,22 @@ use Rattle.std.proofs.Common.{◌≡◌, inl, inr, ℕ, zero, suc, ◌+◌, ◌-
 use Rattle.std.specs.Prelude.{slice_get, slice_index, Some}
 use Rattle.std.proofs.lemmas.List.{length-map}
 use Rattle.std.proofs.lemmas.Option.{slice_get_within}
-use Rattle.update_log.specs.tier_device.declared.media.Media.{Ghosts}
-use Rattle.update_log.specs.tier_device.declared.media.Tier.{Tier}
-use Rattle.update_log.specs.tier_device.AfterStop.{AtRest}
-use Rattle.update_log.specs.View.{HasSize, RegionView}
-use Rattle.shared_area.specs.batch_journal.View.{JournalView}
-use Rattle.shared_area.specs.batch_journal.Volume.{IsVolume}
-use Rattle.shared_area.specs.area_image.Format.{IsOpenable}
-use Rattle.shared_area.specs.area_image.Store.{disk, graph, marks}
-use Rattle.shared_area.specs.layout.declared.marks.Mark.{Mark}
-use Rattle.shared_area.specs.layout.declared.marks.Marks.{Marks}
-use Rattle.world.specs.system_world.Contents.{regions_in, stored_state}
+use Rattle.recovery_laws.specs.update_log.tier_device.declared.media.Media.{Ghosts}
+use Rattle.recovery_laws.specs.update_log.tier_device.declared.media.Tier.{Tier}
+use Rattle.recovery_laws.specs.update_log.tier_device.AfterStop.{AtRest}
+use Rattle.recovery_laws.specs.update_log.View.{HasSize, RegionView}
+use Rattle.recovery_laws.specs.shared_area.batch_journal.View.{JournalView}
+use Rattle.recovery_laws.specs.shared_area.batch_journal.Volume.{IsVolume}
+use Rattle.recovery_laws.specs.shared_area.area_image.Format.{IsOpenable}
+use Rattle.recovery_laws.specs.shared_area.area_image.Store.{disk, graph, marks}
+use Rattle.recovery_laws.specs.shared_area.layout.declared.marks.Mark.{Mark}
+use Rattle.recovery_laws.specs.shared_area.layout.declared.marks.Marks.{Marks}
+use Rattle.world.specs.system_world.Contents.{log_in, regions_in, stored_state}
 use Rattle.world.specs.system_world.Idle.{IsIdleSystem}
-use Rattle.world.specs.system_world.News.{no_calls}
+use Rattle.world.specs.system_world.KeptCalls.{no_calls}
 use Rattle.world.specs.system_world.Parts.{medium_of}
-use Rattle.world.specs.system_world.WorldTree.{WorldView, world_tree}
+use Rattle.world.specs.system_world.WorldTree.{world_tree}
+use Rattle.world.specs.system_world.WorldView.{WorldView}
 use Rattle.world.specs.system_world.courses.Courses.{PARTS}
 use Rattle.world.specs.system_world.event_steps.call_effects.ClosedGraph.{nobody}
 use Rattle.world.specs.system_world.event_steps.call_effects.Wholes.{state_of}
@@ -27,10 +28,13 @@ use Rattle.world.specs.system_world.event_steps.posix_calls.Operations.{is_clien
 use Rattle.recovery.specs.declared.error.RecoveryError.{RecoveryError}
 use Rattle.recovery.specs.declared.error.RecoveryError.TheVariants.{DeviceFault}
 use Rattle.recovery.specs.Assembly.{AreReadyRegions, IsReadyArea}
-use Rattle.recovery.specs.Errors.{IsFaultOrMemory}
-use Rattle.recovery.specs.Parts.{AreUntouched, SomeRose, contents_of, media_beneath, part_medium}
+use Rattle.recovery.specs.FaultOrMemory.{IsFaultOrMemory}
+use Rattle.recovery.specs.Parts.{contents_of, part_medium}
+use Rattle.recovery.specs.PartMedia.{AreUntouched, SomeRose, media_beneath}
 use Rattle.recovery.specs.RecoveryStops.{AreGivenBack, IsRecoveredWorld, StoresTree}
 use Rattle.recovery.specs.Regions.{HaveRisen, IsOnlyRead, REGIONS, media_of, regions_read}
+use Rattle.recovery.specs.FoundLogs.{log_by}
+use Rattle.recovery.specs.Refusals.{IsStoredCause}
 use Rattle.recovery.specs.Settlement.{AreOpenRegions, RefusesArea, SettlesArea}
 use Rattle.recovery.specs.Silent.{IsWiped, StaysSilent, wiped_name}
 use Rattle.recovery.proofs.ReadContents.{sizes_still}
@@ -40,7 +44,8 @@ use Rattle.recovery.proofs.RisenFaults.{regions_rose, shared_rose, some_earlier}
 use Rattle.recovery.proofs.SilentRegions.{bounds_client}
 use Rattle.recovery.proofs.Staying.{SeenNow}
 use Rattle.recovery.proofs.StoredStays.{KeepsLengths}
-use Rattle.recovery.proofs.StoredTrees.{state_found, tree_is_stored}
+use Rattle.recovery.proofs.RefusalCauses.{cause_same}
+use Rattle.recovery.proofs.StoredTrees.{log_found, state_found, tree_is_stored}
 use Rattle.recovery.proofs.WholeContents.{whole_recovers}
 use Rattle.recovery.proofs.WipedRegions.{some_at}
 
@@ -65,6 +70,11 @@ module _ {M : Type 0} (device : Ghosts M) (seen_now : SeenNow device) (lengths :
     ];
     rest = λ other p t low. settled_rests device seen_now lengths area mid opened read start refuses.keeps (rests (refuses.going other)) p t low;
   }
+
+  pub settled_cause : (e : RecoveryError) → RefusesArea device area mid opened read e → (v : Marks) → marks (disk device area) ≡ Some v → IsStoredCause area.geometry (disk device area) (log_in (contents_of device old)) e
+  settled_cause e refuses v is = cause_same (log_in (contents_of device old)) (log_by v (regions_read device opened))
+      (log_found area.geometry (contents_of device old) (regions_read device opened) (λ d r is_d low. sym (read_is device seen_now lengths area mid opened read start refuses.keeps d r is_d low)) v is)
+      area.geometry (disk device area) e (refuses.cause v is)
 
   -- ---- once it is settled
   module _ (gs : List ℕ) (settles : SettlesArea device area mid opened read gs) (rests : Rests mid) where

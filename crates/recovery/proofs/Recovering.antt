@@ -4,7 +4,7 @@ use Rattle.std.specs.Prelude.{Option}
 use Rattle.world.specs.system_world.event_steps.posix_calls.Tree.{State, sum_up_to}
 use Rattle.world.specs.system_world.event_steps.posix_calls.Operations.{is_client}
 use Rattle.world.specs.system_world.event_steps.libfs.file_graph.Graph.{Graph}
-use Rattle.shared_area.specs.file_graph.Units.{charge}
+use Rattle.recovery_laws.specs.shared_area.file_graph.Units.{charge}
 use Rattle.world.specs.system_world.event_steps.libfs.log_record.declared.format.Record.{Record}
 use Rattle.world.specs.system_world.event_steps.libfs.update_log.View.{HasSize}
 use Rattle.world.specs.system_world.event_steps.kernel_fs.layout.Places.{Sizes}
@@ -19,15 +19,15 @@ use Rattle.world.specs.system_world.event_steps.libfs.world_invariant.Logs.{afte
 use Rattle.world.specs.system_world.event_steps.libfs.world_invariant.Recovery.{IsRecoverable}
 use Rattle.world.specs.system_world.courses.Courses.{Content, part_of}
 use Rattle.world.specs.system_world.Contents.{AreInTurn, log_in, mark_by, stored_graph}
-use Rattle.kernel_fs.proofs.world_invariant_lemmas.Owners as owners
-use Rattle.kernel_fs.proofs.world_invariant_lemmas.Recoveries.{recovered_sound, settled_same}
+use Rattle.recovery_laws.proofs.kernel_fs_lemmas.world_invariant_lemmas.Owners as owners
+use Rattle.recovery_laws.proofs.kernel_fs_lemmas.world_invariant_lemmas.Recoveries.{recovered_sound, settled_same}
 use Rattle.recovery_laws.proofs.AreaLimits.{area_within}
 use Rattle.recovery.specs.Recovers.{Regions, Recovers, CountNone, joined}
 use Rattle.recovery.proofs.JoinedRegions.{TakeTurns, counted_by, log_is, part_is, turns_are, turns_of}
 
 -- ---- logs that are the same for each client
 
-same_after : (n : ℕ) (logs more : ℕ → List Record) (g : Graph) → ((d : ℕ) → 1 ≤ d → d ≤ n → logs d ≡ more d) → after_clients logs g n ≡ after_clients more g n
+pub same_after : (n : ℕ) (logs more : ℕ → List Record) (g : Graph) → ((d : ℕ) → 1 ≤ d → d ≤ n → logs d ≡ more d) → after_clients logs g n ≡ after_clients more g n
 unfolding after_clients
 same_after zero logs more g same = refl
 same_after (suc n) logs more g same =

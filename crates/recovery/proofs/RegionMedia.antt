@@ -2,9 +2,10 @@
 use Rattle.std.proofs.Common.{◌≡◌, ℕ, zero, suc, ◌≤◌, List, [], ◌∷◌, ◌++◌, length, refl, ap, ◌∙◌, subst, arith}
 use Rattle.std.specs.Prelude.{drop, slice_get, slice_index_or, take, Option, Some, None}
 use Rattle.std.specs.List.{AllZip}
-use Rattle.update_log.specs.View.{RegionView}
-use Rattle.shared_area.specs.batch_journal.View.{JournalView}
-use Rattle.recovery.specs.Parts.{media_beneath, part_medium}
+use Rattle.recovery_laws.specs.update_log.View.{RegionView}
+use Rattle.recovery_laws.specs.shared_area.batch_journal.View.{JournalView}
+use Rattle.recovery.specs.Parts.{part_medium}
+use Rattle.recovery.specs.PartMedia.{media_beneath}
 use Rattle.recovery.specs.Regions.{media_of}
 
 -- ---- lists

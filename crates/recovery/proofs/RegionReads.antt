@@ -3,11 +3,11 @@ use Rattle.std.proofs.Common.{◌≡◌, ◌⊎◌, inl, inr, ℕ, zero, suc, �
 use Rattle.std.specs.Prelude.{slice_get, slice_index_or, slice_set, Some}
 use Rattle.std.specs.List.{AllZip}
 use Rattle.std.proofs.lemmas.Option.{get_or_from_slice_get, same_Some, slice_get-get_or}
-use Rattle.update_log.specs.log_record.declared.format.Record.{Record}
-use Rattle.update_log.specs.tier_device.Media.{Rose}
-use Rattle.update_log.specs.tier_device.declared.media.Media.{Ghosts}
-use Rattle.update_log.specs.tier_device.declared.media.Tier.TheVariants.{Fast}
-use Rattle.update_log.specs.View.{RegionView}
+use Rattle.recovery_laws.specs.update_log.log_record.declared.format.Record.{Record}
+use Rattle.recovery_laws.specs.update_log.tier_device.Media.{Rose}
+use Rattle.recovery_laws.specs.update_log.tier_device.declared.media.Media.{Ghosts}
+use Rattle.recovery_laws.specs.update_log.tier_device.declared.media.Tier.TheVariants.{Fast}
+use Rattle.recovery_laws.specs.update_log.View.{RegionView}
 use Rattle.world.specs.system_world.event_steps.kernel_fs.digester.MarkMoves.{mark_of}
 use Rattle.world.specs.system_world.event_steps.kernel_fs.layout.declared.marks.Mark.{Mark}
 use Rattle.world.specs.system_world.event_steps.kernel_fs.layout.declared.marks.Marks.{Marks}

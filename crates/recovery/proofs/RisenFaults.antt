@@ -1,10 +1,11 @@
 -- The counts of failed calls of the parts.
 use Rattle.std.proofs.Common.{◌≡◌, inl, inr, ℕ, suc, ◌^◌, ◌<◌, ◌≤◌, List, [], ◌∷◌, length, arith}
 use Rattle.std.specs.Prelude.{slice_index_or}
-use Rattle.update_log.specs.tier_device.declared.media.Media.{Ghosts}
-use Rattle.update_log.specs.tier_device.Media.{Rose}
+use Rattle.recovery_laws.specs.update_log.tier_device.declared.media.Media.{Ghosts}
+use Rattle.recovery_laws.specs.update_log.tier_device.Media.{Rose}
 use Rattle.world.specs.system_world.courses.Courses.{PARTS}
-use Rattle.recovery.specs.Parts.{SomeRose, part_medium}
+use Rattle.recovery.specs.Parts.{part_medium}
+use Rattle.recovery.specs.PartMedia.{SomeRose}
 use Rattle.recovery.specs.Regions.{HaveRisen, REGIONS, SomeZip}
 
 -- the items of two lists that are related

@@ -2,16 +2,16 @@
 use Rattle.std.proofs.Common.{◌≡◌, ℕ, zero, suc, ◌-◌, ◌/◌, ◌<◌, List, [], ◌∷◌, length, map, refl, ap, sym, ◌∙◌, subst, arith}
 use Rattle.std.specs.Prelude.{get_or, slice_get, slice_index, Some}
 use Rattle.std.specs.List.{AllZip}
-use Rattle.update_log.specs.tier_device.declared.media.Media.{Ghosts}
-use Rattle.update_log.specs.tier_device.declared.media.Tier.{Tier}
-use Rattle.update_log.specs.tier_device.declared.media.Tier.TheVariants.{Fast}
-use Rattle.update_log.specs.tier_device.AfterStop.{AtRest}
-use Rattle.update_log.specs.Stage.{IsIdle}
-use Rattle.update_log.specs.View.{RegionView}
-use Rattle.update_log.specs.WipeStops.{generation}
-use Rattle.shared_area.specs.batch_journal.View.{JournalView}
-use Rattle.shared_area.specs.area_image.Store.{disk, marks, store_of}
-use Rattle.shared_area.specs.layout.declared.marks.Mark.{Mark}
+use Rattle.recovery_laws.specs.update_log.tier_device.declared.media.Media.{Ghosts}
+use Rattle.recovery_laws.specs.update_log.tier_device.declared.media.Tier.{Tier}
+use Rattle.recovery_laws.specs.update_log.tier_device.declared.media.Tier.TheVariants.{Fast}
+use Rattle.recovery_laws.specs.update_log.tier_device.AfterStop.{AtRest}
+use Rattle.recovery_laws.specs.update_log.Stage.{IsIdle}
+use Rattle.recovery_laws.specs.update_log.View.{RegionView}
+use Rattle.recovery_laws.specs.update_log.WipeStops.{generation}
+use Rattle.recovery_laws.specs.shared_area.batch_journal.View.{JournalView}
+use Rattle.recovery_laws.specs.shared_area.area_image.Store.{disk, marks, store_of}
+use Rattle.recovery_laws.specs.shared_area.layout.declared.marks.Mark.{Mark}
 use Rattle.world.specs.system_world.courses.Courses.{Content}
 use Rattle.world.specs.system_world.event_steps.kernel_fs.layout.Places.{Sizes}
 use Rattle.world.specs.system_world.event_steps.posix_calls.Tree.{State}

@@ -2,13 +2,13 @@
 use Rattle.std.proofs.Common.{◌≡◌, ◌⊎◌, inl, inr, ℕ, ◌≤◌, true, List, refl, ap, sym, ◌∙◌, subst, arith}
 use Rattle.std.specs.Prelude.{Some, Result, Ok, Err, IfErr, IfOk, IsErrAnd}
 use Rattle.std.specs.List.{AllZip}
-use Rattle.update_log.specs.tier_device.declared.media.Media.{Ghosts}
-use Rattle.update_log.specs.tier_device.declared.media.Tier.{Tier}
-use Rattle.update_log.specs.tier_device.AfterStop.{AtRest}
-use Rattle.update_log.specs.View.{RegionView}
-use Rattle.shared_area.specs.batch_journal.View.{JournalView}
-use Rattle.shared_area.specs.area_image.Store.{marks, store_of}
-use Rattle.shared_area.specs.layout.declared.marks.Marks.{Marks}
+use Rattle.recovery_laws.specs.update_log.tier_device.declared.media.Media.{Ghosts}
+use Rattle.recovery_laws.specs.update_log.tier_device.declared.media.Tier.{Tier}
+use Rattle.recovery_laws.specs.update_log.tier_device.AfterStop.{AtRest}
+use Rattle.recovery_laws.specs.update_log.View.{RegionView}
+use Rattle.recovery_laws.specs.shared_area.batch_journal.View.{JournalView}
+use Rattle.recovery_laws.specs.shared_area.area_image.Store.{marks, store_of}
+use Rattle.recovery_laws.specs.shared_area.layout.declared.marks.Marks.{Marks}
 use Rattle.world.specs.system_world.Contents.{log_in}
 use Rattle.world.specs.system_world.courses.Courses.{Content}
 use Rattle.world.specs.system_world.event_steps.libfs.world_invariant.Logs.{LogsAreApart, is_written}
@@ -17,7 +17,7 @@ use Rattle.world.specs.system_world.event_steps.kernel_fs.layout.Places.{Sizes}
 use Rattle.world.specs.system_world.event_steps.posix_calls.Tree.{State}
 use Rattle.recovery.specs.declared.error.RecoveryError.{RecoveryError}
 use Rattle.recovery.specs.declared.error.RecoveryError.TheVariants.{BadLog, DeviceFault, Memory}
-use Rattle.recovery.specs.Errors.{IsFaultOrMemory}
+use Rattle.recovery.specs.FaultOrMemory.{IsFaultOrMemory}
 use Rattle.recovery.specs.FoundLogs.{log_by}
 use Rattle.recovery.specs.Phases.{StaysRecovered, Whatever}
 use Rattle.recovery.specs.Recovers.{AreThese, Recovers, Regions, joined}

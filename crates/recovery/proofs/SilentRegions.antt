@@ -2,10 +2,10 @@
 use Rattle.std.proofs.Common.{◌≡◌, inr, ℕ, zero, suc, ◌+◌, ◌-◌, ◌%◌, ◌<◌, ◌≤◌, List, [], ◌++◌, true, refl, ap, sym, ◌∙◌, subst, arith}
 use Rattle.std.proofs.lemmas.Bool.Decides.{nat_tests}
 use Rattle.std.specs.Prelude.{slice_index}
-use Rattle.update_log.specs.tier_device.declared.media.Tier.TheVariants.{Fast}
-use Rattle.update_log.specs.log_record.declared.format.Record.{Record}
-use Rattle.update_log.specs.RecordCounts.{counted_records, next_generation, records_in, records_under}
-use Rattle.update_log.specs.View.{HasSize}
+use Rattle.recovery_laws.specs.update_log.tier_device.declared.media.Tier.TheVariants.{Fast}
+use Rattle.recovery_laws.specs.update_log.log_record.declared.format.Record.{Record}
+use Rattle.recovery_laws.specs.update_log.RecordCounts.{counted_records, next_generation, records_in, records_under}
+use Rattle.recovery_laws.specs.update_log.View.{HasSize}
 use Rattle.world.specs.system_world.Contents.{AreInTurn, log_in, mark_by, mark_in, regions_in}
 use Rattle.world.specs.system_world.courses.Courses.{Content, part_of}
 use Rattle.world.specs.system_world.event_steps.area_image.Store.{graph, store_of}

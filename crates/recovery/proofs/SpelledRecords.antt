@@ -3,12 +3,12 @@ use Rattle.std.proofs.Common.{◌≡◌, inl, inr, ℕ, zero, suc, ◌+◌, ◌�
 use Rattle.std.specs.Prelude.{◌&&◌, ◌==◌}
 use Rattle.std.specs.List.{AllByRecursion, cons_option}
 use Rattle.std.proofs.lemmas.Bool.{cases_Bool, cond-false, cond-true, leb-true}
-use Rattle.update_log.specs.Frames.{is_whole, payload_length, payload_of, payloads, payloads_from, records, spelled_records}
-use Rattle.update_log.specs.file_graph.declared.effect.Effect.{Effect}
-use Rattle.update_log.specs.log_record.Grammar.{◌>>=◌, Fits, byte_at, effect_at, effects_at, fields_at, fits, header_at, number_at, record_at, record_of}
-use Rattle.update_log.specs.log_record.declared.format.Record.{Record}
-use Rattle.kernel_fs.proofs.world_invariant_lemmas.call_effects_lemmas.log_record_lemmas.Effects.{Fits-from_fits, and_parts}
-use Rattle.kernel_fs.proofs.world_invariant_lemmas.call_effects_lemmas.log_record_lemmas.Fields.{bind_some, some_is, test_some}
+use Rattle.recovery_laws.specs.update_log.Frames.{is_whole, payload_length, payload_of, payloads, payloads_from, records, spelled_records}
+use Rattle.recovery_laws.specs.update_log.file_graph.declared.effect.Effect.{Effect}
+use Rattle.recovery_laws.specs.update_log.log_record.Grammar.{◌>>=◌, Fits, byte_at, effect_at, effects_at, fields_at, fits, header_at, number_at, record_at, record_of}
+use Rattle.recovery_laws.specs.update_log.log_record.declared.format.Record.{Record}
+use Rattle.recovery_laws.proofs.kernel_fs_lemmas.world_invariant_lemmas.call_effects_lemmas.log_record_lemmas.Effects.{Fits-from_fits, and_parts}
+use Rattle.recovery_laws.proofs.kernel_fs_lemmas.world_invariant_lemmas.call_effects_lemmas.log_record_lemmas.Fields.{bind_some, some_is, test_some}
 use Rattle.recovery.specs.SpelledRecords.{HasSpelledEffects}
 
 -- ---- what is read

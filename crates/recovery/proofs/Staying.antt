@@ -3,17 +3,17 @@ use Rattle.std.proofs.Common.{◌≡◌, ◌≢◌, ◌⊎◌, inl, inr, ℕ, �
 use Rattle.std.specs.Prelude.{nat_le, length}
 use Rattle.std.proofs.lemmas.Bool.{cases_Bool}
 use Rattle.std.proofs.lemmas.Bool.Decides.{nat_tests}
-use Rattle.shared_area.specs.tier_device.declared.media.Media.{Ghosts}
-use Rattle.shared_area.specs.tier_device.declared.media.Tier.{Tier}
-use Rattle.shared_area.specs.tier_device.declared.media.Tier.TheVariants.{Fast, Block, Slow}
-use Rattle.shared_area.specs.tier_device.AfterStop.{AtRest, Left}
-use Rattle.shared_area.specs.layout.Places.{Sizes}
-use Rattle.shared_area.specs.batch_journal.Blocks.{home}
-use Rattle.shared_area.specs.batch_journal.Course.{Since}
-use Rattle.shared_area.specs.batch_journal.Volume.{IsVolume, SameJournal, HasSizes}
-use Rattle.shared_area.specs.area_image.Format.{IsOpenable}
-use Rattle.shared_area.specs.area_image.Store.{content_blocks, graph, marks, store_of}
-use Rattle.shared_area.proofs.batch_journal_lemmas.Openings.{spells_one}
+use Rattle.recovery_laws.specs.shared_area.tier_device.declared.media.Media.{Ghosts}
+use Rattle.recovery_laws.specs.shared_area.tier_device.declared.media.Tier.{Tier}
+use Rattle.recovery_laws.specs.shared_area.tier_device.declared.media.Tier.TheVariants.{Fast, Block, Slow}
+use Rattle.recovery_laws.specs.shared_area.tier_device.AfterStop.{AtRest, Left}
+use Rattle.recovery_laws.specs.shared_area.layout.Places.{Sizes}
+use Rattle.recovery_laws.specs.shared_area.batch_journal.Blocks.{home}
+use Rattle.recovery_laws.specs.shared_area.batch_journal.Course.{Since}
+use Rattle.recovery_laws.specs.shared_area.batch_journal.Volume.{IsVolume, SameJournal, HasSizes}
+use Rattle.recovery_laws.specs.shared_area.area_image.Format.{IsOpenable}
+use Rattle.recovery_laws.specs.shared_area.area_image.Store.{content_blocks, graph, marks, store_of}
+use Rattle.recovery_laws.proofs.shared_area_lemmas.batch_journal_lemmas.Openings.{spells_one}
 use Rattle.world.specs.system_world.event_steps.posix_calls.Tree.{State}
 use Rattle.recovery.specs.Recovers.{Regions, Recovers}
 use Rattle.recovery.specs.Phases.{StaysRecovered, Whatever}

@@ -1,18 +1,20 @@
 -- Whatever a stop leaves of the parts meanwhile is recovered to the same state: while the shared medium moves alone, and while regions are wiped.
 use Rattle.std.proofs.Common.{◌≡◌, inl, inr, ℕ, zero, suc, ◌-◌, ◌<◌, ◌≤◌, true, List, refl, ap, sym, ◌∙◌, subst, arith}
 use Rattle.std.specs.Prelude.{length, slice_index}
-use Rattle.update_log.specs.tier_device.declared.media.Media.{Ghosts}
-use Rattle.update_log.specs.tier_device.declared.media.Tier.{Tier}
-use Rattle.update_log.specs.tier_device.declared.media.Tier.TheVariants.{Fast, Block, Slow}
-use Rattle.update_log.specs.tier_device.AfterStop.{AtRest, Left, LeftSince}
-use Rattle.update_log.specs.Moments.{PastStays}
-use Rattle.update_log.specs.View.{HasSize}
+use Rattle.recovery_laws.specs.update_log.tier_device.declared.media.Media.{Ghosts}
+use Rattle.recovery_laws.specs.update_log.tier_device.declared.media.Tier.{Tier}
+use Rattle.recovery_laws.specs.update_log.tier_device.declared.media.Tier.TheVariants.{Fast, Block, Slow}
+use Rattle.recovery_laws.specs.update_log.tier_device.AfterStop.{AtRest, Left}
+use Rattle.recovery_laws.specs.update_log.tier_device.StopsSince.{LeftSince}
+use Rattle.recovery_laws.specs.update_log.Moments.{PastStays}
+use Rattle.recovery_laws.specs.update_log.View.{HasSize}
 use Rattle.world.specs.system_world.Contents.{CanRecover, regions_in, stored_state}
 use Rattle.world.specs.system_world.courses.Courses.{PARTS, Content, LeftBetween, Reading, WorldContent, part_of}
 use Rattle.world.specs.system_world.event_steps.kernel_fs.layout.Places.{Sizes}
 use Rattle.world.specs.system_world.event_steps.posix_calls.Operations.{is_client}
 use Rattle.world.specs.system_world.event_steps.posix_calls.Tree.{State}
-use Rattle.recovery.specs.Parts.{clocks_of, contents_of, left_of}
+use Rattle.recovery.specs.Parts.{contents_of}
+use Rattle.recovery.specs.PartMedia.{clocks_of, left_of}
 use Rattle.recovery.specs.Phases.{StaysRecovered}
 use Rattle.recovery.specs.Recovers.{AreThese, Recovers, Regions}
 use Rattle.recovery.specs.RecoveryStops.{StaysStored, shared_moved}

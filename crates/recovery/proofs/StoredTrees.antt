@@ -1,10 +1,10 @@
 -- The tree that parts store, by what is found of the clients' logs.
 use Rattle.std.proofs.Common.{◌≡◌, ℕ, true, ap, sym, ◌∙◌, subst}
 use Rattle.std.specs.Prelude.{Option, Some}
-use Rattle.shared_area.specs.batch_journal.Volume.{IsVolume}
-use Rattle.shared_area.specs.area_image.Format.{IsOpenable}
-use Rattle.shared_area.specs.area_image.Store.{graph, marks, store_of}
-use Rattle.shared_area.specs.layout.declared.marks.Marks.{Marks}
+use Rattle.recovery_laws.specs.shared_area.batch_journal.Volume.{IsVolume}
+use Rattle.recovery_laws.specs.shared_area.area_image.Format.{IsOpenable}
+use Rattle.recovery_laws.specs.shared_area.area_image.Store.{graph, marks, store_of}
+use Rattle.recovery_laws.specs.shared_area.layout.declared.marks.Marks.{Marks}
 use Rattle.world.specs.system_world.Contents.{log_in, mark_by, regions_in, stored_graph, stored_state}
 use Rattle.world.specs.system_world.courses.Courses.{WorldContent}
 use Rattle.world.specs.system_world.event_steps.call_effects.ClosedGraph.{nobody, settled_graph}

@@ -1,11 +1,12 @@
 -- What is played and what is recovered meet in the contents: what a list leaves is what a recovery takes, and it stores the tree that the recovery gives.
 use Rattle.std.proofs.Common.{◌≡◌, ◌+◌, List, ap, sym, ◌∙◌, subst}
 use Rattle.std.specs.Prelude.{take, Result, Ok, Err, IfOk, IfErr}
-use Rattle.update_log.specs.tier_device.declared.media.Media.{Ghosts}
+use Rattle.recovery_laws.specs.update_log.tier_device.declared.media.Media.{Ghosts}
 use Rattle.world.specs.system_world.Contents.{CanRecover, stored_state}
 use Rattle.world.specs.system_world.News.{news}
 use Rattle.world.specs.system_world.Steps.{recoverable}
-use Rattle.world.specs.system_world.WorldTree.{WorldView, calls_of, world_tree}
+use Rattle.world.specs.system_world.WorldTree.{world_tree}
+use Rattle.world.specs.system_world.WorldView.{WorldView, calls_of}
 use Rattle.world.specs.system_world.courses.Courses.{AreMade, Ledger, WorldContent, ledger}
 use Rattle.world.specs.system_world.courses.Plays.{Leads, Plays}
 use Rattle.world.specs.system_world.event_steps.declared.event.Event.{Event}
@@ -14,7 +15,7 @@ use Rattle.world.specs.system_world.event_steps.kernel_fs.layout.Places.{Sizes}
 use Rattle.world.specs.system_world.event_steps.posix_calls.Outcome.{IsOutcome}
 use Rattle.world.specs.system_world.event_steps.posix_calls.Tree.{State}
 use Rattle.recovery.specs.declared.error.RecoveryError.{RecoveryError}
-use Rattle.recovery.specs.Errors.{IsFaultOrMemory}
+use Rattle.recovery.specs.FaultOrMemory.{IsFaultOrMemory}
 use Rattle.recovery.specs.Parts.{PartsView, contents_of, part_medium}
 use Rattle.recovery.specs.RecoveryStops.{StoresTree}
 use Rattle.recovery.specs.Survival.{Answers, SurvivesAs, Survives}

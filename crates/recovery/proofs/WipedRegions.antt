@@ -5,25 +5,25 @@ use Rattle.std.proofs.lemmas.Option.{slice_get_cases}
 use Rattle.std.proofs.lemmas.Bool.{cases_Bool, cond-false, cond-true}
 use Rattle.byteorder.specs.Endian.{little_bytes}
 use Rattle.byteorder.specs.Numbers.{little_number-reads_back}
-use Rattle.update_log.specs.tier_device.declared.media.Media.{Ghosts}
-use Rattle.update_log.specs.tier_device.declared.media.Tier.{Tier}
-use Rattle.update_log.specs.tier_device.declared.media.Tier.TheVariants.{Fast, Block, Slow}
-use Rattle.update_log.specs.tier_device.Media.{Keeps, Puts}
-use Rattle.update_log.specs.log_record.declared.format.Record.{Record}
-use Rattle.update_log.specs.declared.format.TheConstants.{CLOSED}
-use Rattle.update_log.specs.declared.stage.Stage.{Stage}
-use Rattle.update_log.specs.declared.stage.Stage.TheVariants as stages
-use Rattle.update_log.specs.Frames.{header, records}
-use Rattle.update_log.specs.RecordCounts.{next_generation, records_under}
-use Rattle.update_log.specs.View.{HasSize, RegionView, header_of}
-use Rattle.update_log.specs.Wipe.{CanWipe, LeftInCall, first_stage, header_wiped, seen_wiped, wipe_next, wipe_progress}
-use Rattle.update_log.specs.WipeStops.{generation}
-use Rattle.update_log.proofs.Counts.{other_counts_none, wiped_counts_none}
-use Rattle.update_log.specs.Moments.{PastStays}
-use Rattle.update_log.specs.Stage.{IsIdle}
-use Rattle.update_log.specs.Wipe.{IsWiping}
-use Rattle.update_log.proofs.Counts.{header_tells}
-use Rattle.update_log.proofs.Views.{since_more}
+use Rattle.recovery_laws.specs.update_log.tier_device.declared.media.Media.{Ghosts}
+use Rattle.recovery_laws.specs.update_log.tier_device.declared.media.Tier.{Tier}
+use Rattle.recovery_laws.specs.update_log.tier_device.declared.media.Tier.TheVariants.{Fast, Block, Slow}
+use Rattle.recovery_laws.specs.update_log.tier_device.Media.{Keeps, Puts}
+use Rattle.recovery_laws.specs.update_log.log_record.declared.format.Record.{Record}
+use Rattle.recovery_laws.specs.update_log.declared.format.TheConstants.{CLOSED}
+use Rattle.recovery_laws.specs.update_log.declared.stage.Stage.{Stage}
+use Rattle.recovery_laws.specs.update_log.declared.stage.Stage.TheVariants as stages
+use Rattle.recovery_laws.specs.update_log.Frames.{header, records}
+use Rattle.recovery_laws.specs.update_log.RecordCounts.{next_generation, records_under}
+use Rattle.recovery_laws.specs.update_log.View.{HasSize, RegionView, header_of}
+use Rattle.recovery_laws.specs.update_log.Wipe.{CanWipe, LeftInCall, first_stage, header_wiped, seen_wiped, wipe_next, wipe_progress}
+use Rattle.recovery_laws.specs.update_log.WipeStops.{generation}
+use Rattle.recovery_laws.proofs.update_log_lemmas.Counts.{other_counts_none, wiped_counts_none}
+use Rattle.recovery_laws.specs.update_log.Moments.{PastStays}
+use Rattle.recovery_laws.specs.update_log.Stage.{IsIdle}
+use Rattle.recovery_laws.specs.update_log.Wipe.{IsWiping}
+use Rattle.recovery_laws.proofs.update_log_lemmas.Counts.{header_tells}
+use Rattle.recovery_laws.proofs.update_log_lemmas.Views.{since_more}
 use Rattle.recovery.specs.Silent.{GoesOn, IsSilent, IsWipingTo, AreLeftOf, AreSilent, LeftOfRegion, MayBeWiped, StaysSilent, calls_ahead}
 use Rattle.std.specs.Prelude.{slice_get, slice_index, Some}
 use Rattle.std.proofs.Common.{◌-◌, ◌/◌}

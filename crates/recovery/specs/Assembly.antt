@@ -2,23 +2,23 @@
 use Rattle.std.specs.Prelude.{◌≡◌, ◌⊎◌, ℕ, ◌+◌, ◌++◌, ◌/◌, ◌%◌, true, false, List, [], ◌∷◌, length, slice_get, Some, None}
 use Rattle.std.specs.List.{AllZip}
 use Rattle.atomic_table.specs.Seated.{TableId}
-use Rattle.update_log.specs.tier_device.declared.media.Media.{Ghosts}
-use Rattle.update_log.specs.tier_device.Media.{Rose}
-use Rattle.update_log.specs.View.{HasSize, RegionView}
-use Rattle.shared_area.specs.batch_journal.View.{JournalView}
-use Rattle.shared_area.specs.layout.declared.marks.Marks.{Marks}
-use Rattle.shared_area.specs.area_image.Store.{disk, graph, marks}
+use Rattle.recovery_laws.specs.update_log.tier_device.declared.media.Media.{Ghosts}
+use Rattle.recovery_laws.specs.update_log.tier_device.Media.{Rose}
+use Rattle.recovery_laws.specs.update_log.View.{HasSize, RegionView}
+use Rattle.recovery_laws.specs.shared_area.batch_journal.View.{JournalView}
+use Rattle.recovery_laws.specs.shared_area.layout.declared.marks.Marks.{Marks}
+use Rattle.recovery_laws.specs.shared_area.area_image.Store.{disk, graph, marks}
 use Rattle.world.specs.system_world.event_steps.call_effects.ClosedGraph.{nobody}
 use Rattle.world.specs.system_world.event_steps.call_effects.Wholes.{IsSound}
 use Rattle.world.specs.system_world.event_steps.kernel_fs.digester.MarkMoves.{mark_of}
 use Rattle.world.specs.system_world.event_steps.posix_calls.Operations.{is_client}
-use Rattle.event_steps.specs.lease_manager.Passes.{PassView, fresh}
-use Rattle.event_steps.specs.libfs.client_log.Steps.{IsOpened}
-use Rattle.event_steps.specs.libfs.NewClient.{IsBlank, IsNew}
-use Rattle.event_steps.specs.View.{SeatView}
+use Rattle.world.specs.system_world.event_steps.lease_manager.Passes.{PassView, fresh}
+use Rattle.world.specs.system_world.event_steps.libfs.client_log.Steps.{IsOpened}
+use Rattle.world.specs.system_world.event_steps.libfs.NewClient.{IsBlank, IsNew}
+use Rattle.world.specs.system_world.event_steps.View.{SeatView}
 use Rattle.recovery.specs.declared.error.RecoveryError.{RecoveryError}
 use Rattle.recovery.specs.declared.error.RecoveryError.TheVariants.{DeviceFault}
-use Rattle.recovery.specs.Errors.{IsFaultOrMemory}
+use Rattle.recovery.specs.FaultOrMemory.{IsFaultOrMemory}
 use Rattle.recovery.specs.Regions.{REGIONS, IsUntouched}
 use Rattle.recovery.specs.Silent.{IsWiped, wiped_name}
 

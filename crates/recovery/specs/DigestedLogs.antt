@@ -1,22 +1,25 @@
 -- What digests of clients' logs make of the shared area.
-use Rattle.std.specs.Prelude.{◌≡◌, ◌≢◌, ◌⊎◌, ℕ, ◌+◌, ◌^◌, ◌≤◌, List, [], length, take, true, Some}
-use Rattle.shared_area.specs.tier_device.declared.media.Media.{Ghosts}
-use Rattle.shared_area.specs.batch_journal.View.{JournalView}
-use Rattle.shared_area.specs.layout.Places.{Sizes}
-use Rattle.shared_area.specs.area_image.Store.{Store, disk, graph, marks, store_of}
-use Rattle.digester.specs.MarkMoves.{mark_of}
-use Rattle.digester.specs.SealedLog.{SealedView, done_to, mark_then, undone}
-use Rattle.digester.specs.declared.error.DigestError.{DigestError}
-use Rattle.digester.specs.declared.error.DigestError.TheVariants as digests
-use Rattle.update_log.specs.RecordCounts.{counted_records, records_in}
-use Rattle.update_log.specs.log_record.declared.format.Record.{Record}
+use Rattle.std.specs.Prelude.{◌≡◌, ◌≢◌, ◌⊎◌, ℕ, ◌+◌, ◌^◌, ◌<◌, ◌≤◌, List, [], length, take, true, Some}
+use Rattle.recovery_laws.specs.shared_area.tier_device.declared.media.Media.{Ghosts}
+use Rattle.recovery_laws.specs.shared_area.batch_journal.View.{JournalView}
+use Rattle.recovery_laws.specs.shared_area.layout.Places.{Sizes}
+use Rattle.recovery_laws.specs.shared_area.area_image.Store.{Store, disk, graph, marks, store_of}
+use Rattle.recovery_laws.specs.digester.MarkMoves.{mark_of}
+use Rattle.recovery_laws.specs.digester.Plan.{AreGood, IsFirstBad}
+use Rattle.recovery_laws.specs.digester.SealedLog.{SealedView, done_to, mark_then, undone}
+use Rattle.recovery_laws.specs.digester.declared.error.DigestError.{DigestError}
+use Rattle.recovery_laws.specs.digester.declared.error.DigestError.TheVariants as digests
+use Rattle.recovery_laws.specs.update_log.RecordCounts.{counted_records, records_in}
+use Rattle.recovery_laws.specs.update_log.log_record.declared.format.Record.{Record}
 use Rattle.world.specs.system_world.event_steps.kernel_fs.layout.declared.marks.Mark.{Mark}
 use Rattle.world.specs.system_world.event_steps.kernel_fs.layout.declared.marks.Marks.{Marks}
+use Rattle.world.specs.system_world.event_steps.libfs.file_graph.Graph.{Graph}
 use Rattle.world.specs.system_world.event_steps.libfs.world_invariant.Logs.{after_records}
 use Rattle.world.specs.system_world.event_steps.posix_calls.Operations.{is_client}
 use Rattle.world.specs.system_world.event_steps.posix_calls.Tree.{State}
 use Rattle.world.specs.system_world.courses.Courses.{Content}
 use Rattle.recovery_laws.specs.Inodes.{HasEveryInode}
+use Rattle.recovery.specs.Errors.{OnBadLog}
 use Rattle.recovery.specs.FoundLogs.{log_by}
 use Rattle.recovery.specs.Recovers.{AreThese, Recovers, Regions}
 use Rattle.recovery.specs.declared.error.RecoveryError.{RecoveryError}
@@ -62,6 +65,26 @@ IsRefusal client digests.Memory f = f ≡ errors.Memory
 abbrev pub IsReadRefusal : ℕ → List Record → RecoveryError → Type 0
 IsReadRefusal client rs e = (e ≡ errors.DeviceFault) ⊎ (e ≡ errors.Memory) ⊎ (k : ℕ) × (e ≡ errors.BadLog client k) × (2 ^ 32 ≤ length rs)
 
+-- ---- records that can't be digested
+
+-- each of the records can be digested by one who holds every inode, into the graph as those before it leave it
+abbrev pub CanDigest : ℕ → Graph → List Record → Type 0
+CanDigest capacity g rs = (held : List ℕ) → HasEveryInode held → AreGood held capacity g rs
+
+-- the record at this place can't, and those before it can
+abbrev pub IsFirstRefused : ℕ → Graph → List Record → ℕ → Type 0
+IsFirstRefused capacity g rs place = (held : List ℕ) → HasEveryInode held → IsFirstBad held capacity g rs place
+
+-- a refusal for a record names the first of these that can't be digested, which are that client's, behind so many others of it
+abbrev pub NamesRefused : ℕ → ℕ → ℕ → Graph → List Record → RecoveryError → Type 0
+NamesRefused client before capacity g rs e = OnBadLog e (λ c place. (c ≡ client) × (k : ℕ) × (before + k < 18446744073709551616 → place ≡ before + k) × IsFirstRefused capacity g rs k)
+
+-- so does that of the next digest of a sealed log, by its place in the region
+abbrev pub NamesBad : Sizes → Store → SealedView → DigestError → Type 0
+NamesBad g s x digests.DeviceFault = Unit {0}
+NamesBad g s x (digests.BadLog place) = (k : ℕ) × (place ≡ x.done + k) × IsFirstBad x.held g.units (graph g s) (undone x) k
+NamesBad g s x digests.Memory = Unit {0}
+
 -- A sealed log of a client: these records of a generation, so many of them digested, and every inode held for writing.
 pub record IsLogOf (client generation done : ℕ) (rs : List Record) (x : SealedView) : Type 0 where
   pub is : x ≡ record { client = client; generation = generation; done = done; held = x.held; records = rs }
@@ -74,6 +97,7 @@ module _ {M : Type 0} (device : Ghosts M) where
     pub some : 1 ≤ count
     pub within : x.done + count ≤ length x.records
     pub log : y ≡ done_to (x.done + count) x
+    pub good : AreGood x.held old.geometry.units (graph old.geometry (disk device old)) (take count (undone x))
     pub graph_after : graph new.geometry (disk device new) ≡ after_records (graph old.geometry (disk device old)) (take count (undone x))
     pub moves : MovesMark x.client (mark_then x count) (disk device old) (disk device new)
 

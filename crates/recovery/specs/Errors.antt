@@ -1,8 +1,8 @@
 -- Which refusals of the phases come of which of the area.
 use Rattle.std.specs.Prelude.{◌≡◌, ℕ}
-use Rattle.shared_area.specs.layout.declared.error.What.{What}
-use Rattle.shared_area.specs.area_image.declared.error.AreaError.{AreaError}
-use Rattle.shared_area.specs.area_image.declared.error.AreaError.TheVariants as area
+use Rattle.recovery_laws.specs.shared_area.layout.declared.error.What.{What}
+use Rattle.recovery_laws.specs.shared_area.area_image.declared.error.AreaError.{AreaError}
+use Rattle.recovery_laws.specs.shared_area.area_image.declared.error.AreaError.TheVariants as area
 use Rattle.recovery.specs.declared.error.RecoveryError.{RecoveryError}
 use Rattle.recovery.specs.declared.error.RecoveryError.TheVariants as errors
 
@@ -11,18 +11,17 @@ abbrev pub OnDamage : RecoveryError → (What → ℕ → Type 0) → Type 0
 OnDamage (errors.Damaged structure block) P = P structure block
 OnDamage _ P = Unit {0}
 
+-- a fact on the client and the place that a refusal names, if it is for a record
+abbrev pub OnBadLog : RecoveryError → (ℕ → ℕ → Type 0) → Type 0
+OnBadLog (errors.BadLog client place) P = P client place
+OnBadLog _ P = Unit {0}
+
 -- a refusal is one of the shared medium: for a device fault, damage or memory
 abbrev pub IsOfArea : RecoveryError → Type 0
 IsOfArea errors.DeviceFault = Unit {0}
 IsOfArea (errors.Damaged structure block) = Unit {0}
 IsOfArea errors.Memory = Unit {0}
 IsOfArea _ = ⊥
-
--- a refusal is for a device fault or for memory
-abbrev pub IsFaultOrMemory : RecoveryError → Type 0
-IsFaultOrMemory errors.DeviceFault = Unit {0}
-IsFaultOrMemory errors.Memory = Unit {0}
-IsFaultOrMemory _ = ⊥
 
 -- what the area was refused for
 abbrev pub IsAreaFault : AreaError → RecoveryError → Type 0

@@ -1,16 +1,19 @@
 -- What is found of the clients' logs.
-use Rattle.std.specs.Prelude.{◌≡◌, ℕ, zero, suc, ◌%◌, ◌-◌, true, List, [], drop, length, min, slice_get, Option, Some, None, IfSome}
-use Rattle.counted_logs.specs.Regions.{AreStale, records_that_count}
-use Rattle.update_log.specs.Frames.{records}
-use Rattle.update_log.specs.WipeStops.{generation}
-use Rattle.counted_logs.specs.declared.regions.LogRest.{LogRest}
-use Rattle.update_log.specs.RecordCounts.{counted_records, next_generation}
-use Rattle.update_log.specs.log_record.declared.format.Record.{Record}
+use Rattle.std.specs.Prelude.{◌≡◌, ℕ, zero, suc, ◌%◌, ◌+◌, ◌-◌, ◌<◌, true, List, [], drop, length, min, slice_get, take, Option, Some, None, IfSome}
+use Rattle.recovery_laws.specs.counted_logs.Owners.{IsClear}
+use Rattle.recovery_laws.specs.counted_logs.Regions.{AreStale, records_that_count}
+use Rattle.recovery_laws.specs.update_log.Frames.{records}
+use Rattle.recovery_laws.specs.update_log.WipeStops.{generation}
+use Rattle.recovery_laws.specs.counted_logs.declared.regions.LogRest.{LogRest}
+use Rattle.recovery_laws.specs.update_log.RecordCounts.{counted_records, next_generation}
+use Rattle.recovery_laws.specs.update_log.log_record.declared.format.Record.{Record}
 use Rattle.world.specs.system_world.event_steps.kernel_fs.digester.MarkMoves.{mark_of}
 use Rattle.world.specs.system_world.event_steps.kernel_fs.layout.declared.marks.Mark.{Mark}
 use Rattle.world.specs.system_world.event_steps.kernel_fs.layout.declared.marks.Marks.{Marks}
 use Rattle.world.specs.system_world.event_steps.posix_calls.Operations.{is_client}
+use Rattle.recovery.specs.Errors.{OnBadLog}
 use Rattle.recovery.specs.Recovers.{Regions}
+use Rattle.recovery.specs.declared.error.RecoveryError.{RecoveryError}
 use Rattle.recovery.specs.declared.log_search.FoundLog.{FoundLog}
 
 -- the records of a client that count, by the marks and what stands in the regions
@@ -60,3 +63,22 @@ first_part even odd (Some rest) = drop rest.from (second_part even odd (Some res
 -- so it is of each client
 abbrev pub AreFound : Marks → Regions → List FoundLog → Type 0
 AreFound marks regions logs = (client : ℕ) (log : FoundLog) → is_client client ≡ true → slice_get logs (client - 1) ≡ Some log → IsFound (mark_of marks client) (regions client) log
+
+-- ---- records that touch what those of another client do
+
+-- The record at this place touches an inode that another client's do, and none before it does.
+pub record IsFirstForeign (own : ℕ → Option ℕ) (client : ℕ) (rs : List Record) (place : ℕ) : Type 0 where
+  pub clear : IsClear own client (take place rs)
+  pub touches : IsClear own client (take (place + 1) rs) → ⊥
+
+-- a refusal for a record names the first such of these, which are that client's
+abbrev pub NamesForeign : (ℕ → Option ℕ) → ℕ → List Record → RecoveryError → Type 0
+NamesForeign own client rs e = OnBadLog e (λ c place. (c ≡ client) × IsFirstForeign own client rs place)
+
+-- each of a client's regions has fewer records than a number has values
+abbrev pub HoldsFew : (ℕ → List ℕ) → Type 0
+HoldsFew regions = (r : ℕ) → r < 2 → length (records (regions r)) < 4294967296
+
+-- so it is of each client
+abbrev pub HoldFew : Regions → Type 0
+HoldFew these = (client : ℕ) → is_client client ≡ true → HoldsFew (these client)

@@ -1,13 +1,13 @@
 -- What a format writes on parts, and which it refuses.
 use Rattle.std.specs.Prelude.{◌≡◌, ℕ, zero, suc, ◌≤◌, ◌<◌, ◌%◌, List, length, slice_get, Some}
 use Rattle.std.specs.List.{AllByRecursion}
-use Rattle.fresh_media.specs.Fresh.{fresh_region, fresh_tiers}
-use Rattle.shared_area.specs.batch_journal.Volume.{HasSizes}
-use Rattle.update_log.specs.Moments.{PastStays}
-use Rattle.update_log.specs.View.{HasSize}
-use Rattle.update_log.specs.tier_device.declared.media.Media.{Ghosts}
-use Rattle.update_log.specs.tier_device.declared.media.Tier.{Tier}
-use Rattle.update_log.specs.tier_device.AfterStop.{AtRest}
+use Rattle.recovery_laws.specs.fresh_media.Fresh.{fresh_region, fresh_tiers}
+use Rattle.recovery_laws.specs.shared_area.batch_journal.Volume.{HasSizes}
+use Rattle.recovery_laws.specs.update_log.Moments.{PastStays}
+use Rattle.recovery_laws.specs.update_log.View.{HasSize}
+use Rattle.recovery_laws.specs.update_log.tier_device.declared.media.Media.{Ghosts}
+use Rattle.recovery_laws.specs.update_log.tier_device.declared.media.Tier.{Tier}
+use Rattle.recovery_laws.specs.update_log.tier_device.AfterStop.{AtRest}
 use Rattle.world.specs.system_world.courses.Courses.{Content, PARTS, WorldContent}
 use Rattle.world.specs.system_world.event_steps.kernel_fs.layout.Places.{Sizes}
 use Rattle.recovery.specs.declared.error.RecoveryError.{RecoveryError}

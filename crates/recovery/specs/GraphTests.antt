@@ -1,15 +1,15 @@
 -- What a graph that has been tested is, and what it is without its files that have no name.
 use Rattle.std.specs.Prelude.{◌≡◌, ℕ, ◌&&◌, List, None, if◌then◌else◌}
-use Rattle.shared_area.specs.layout.declared.error.What.{What}
-use Rattle.shared_area.specs.layout.declared.error.What.TheVariants.{Slot}
-use Rattle.shared_area.specs.layout.Places.{slot_block}
-use Rattle.graph_check.specs.file_graph.Graph.{Graph, is_among}
-use Rattle.graph_check.specs.declared.defect.Defect.{Defect}
-use Rattle.graph_check.specs.Defects.{HasDefect}
-use Rattle.graph_check.specs.declared.defect.GraphError.{GraphError}
-use Rattle.graph_check.specs.declared.defect.GraphError.TheVariants as why
-use Rattle.graph_check.specs.Nameless.{is_nameless}
-use Rattle.shared_area.specs.area_image.declared.error.AreaError.{AreaError}
+use Rattle.recovery_laws.specs.shared_area.layout.declared.error.What.{What}
+use Rattle.recovery_laws.specs.shared_area.layout.declared.error.What.TheVariants.{Slot}
+use Rattle.recovery_laws.specs.shared_area.layout.Places.{slot_block}
+use Rattle.recovery_laws.specs.graph_check.file_graph.Graph.{Graph, is_among}
+use Rattle.recovery_laws.specs.graph_check.declared.defect.Defect.{Defect}
+use Rattle.recovery_laws.specs.graph_check.Defects.{HasDefect}
+use Rattle.recovery_laws.specs.graph_check.declared.defect.GraphError.{GraphError}
+use Rattle.recovery_laws.specs.graph_check.declared.defect.GraphError.TheVariants as why
+use Rattle.recovery_laws.specs.graph_check.Nameless.{is_nameless}
+use Rattle.recovery_laws.specs.shared_area.area_image.declared.error.AreaError.{AreaError}
 use Rattle.recovery.specs.declared.error.RecoveryError.{RecoveryError}
 use Rattle.recovery.specs.declared.error.RecoveryError.TheVariants as errors
 use Rattle.recovery.specs.Errors.{IsAreaFault}

@@ -1,16 +1,16 @@
 -- What a phase of a recovery leaves of the shared medium at each of its moments, and how it stands to a device fault.
 use Rattle.std.specs.Prelude.{◌≡◌, ◌≢◌, ◌≤◌, ◌+◌, ◌⊎◌, ℕ, List, true, false, Result, OnOk, IfErr}
-use Rattle.shared_area.specs.tier_device.declared.media.Media.{Ghosts}
-use Rattle.shared_area.specs.tier_device.declared.media.Tier.{Tier}
-use Rattle.shared_area.specs.tier_device.Media.{Rose}
-use Rattle.shared_area.specs.batch_journal.View.{JournalView}
-use Rattle.shared_area.specs.layout.Places.{Sizes}
+use Rattle.recovery_laws.specs.shared_area.tier_device.declared.media.Media.{Ghosts}
+use Rattle.recovery_laws.specs.shared_area.tier_device.declared.media.Tier.{Tier}
+use Rattle.recovery_laws.specs.shared_area.tier_device.Media.{Rose}
+use Rattle.recovery_laws.specs.shared_area.batch_journal.View.{JournalView}
+use Rattle.recovery_laws.specs.shared_area.layout.Places.{Sizes}
 use Rattle.world.specs.system_world.event_steps.posix_calls.Tree.{State}
 use Rattle.recovery.specs.declared.error.RecoveryError.{RecoveryError}
 use Rattle.recovery.specs.declared.error.RecoveryError.TheVariants.{DeviceFault}
 use Rattle.recovery.specs.Recovers.{Regions, Recovers, RecoversThrough}
 use Rattle.recovery.specs.Regions.{HaveRisen, media_of}
-use Rattle.update_log.specs.View.{RegionView}
+use Rattle.recovery_laws.specs.update_log.View.{RegionView}
 
 -- whatever stands in the regions
 abbrev pub Whatever : Regions → Type 0

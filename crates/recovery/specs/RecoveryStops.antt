@@ -1,7 +1,7 @@
 -- What a recovery leaves of the parts at each of its moments, and what it makes of their contents.
 use Rattle.std.specs.Prelude.{◌≡◌, ◌≢◌, ◌⊎◌, ℕ, zero, suc, ◌<◌}
-use Rattle.update_log.specs.tier_device.declared.media.Media.{Ghosts}
-use Rattle.update_log.specs.Moments.{PastStays}
+use Rattle.recovery_laws.specs.update_log.tier_device.declared.media.Media.{Ghosts}
+use Rattle.recovery_laws.specs.update_log.Moments.{PastStays}
 use Rattle.world.specs.system_world.event_steps.area_image.batch_journal.Volume.{IsVolume}
 use Rattle.world.specs.system_world.event_steps.area_image.Format.{IsOpenable}
 use Rattle.world.specs.system_world.event_steps.area_image.Store.{store_of}
@@ -14,13 +14,15 @@ use Rattle.world.specs.system_world.Contents.{CanRecover, log_in, stored_graph, 
 use Rattle.world.specs.system_world.event_steps.View.{SystemView}
 use Rattle.world.specs.system_world.event_steps.kernel_fs.layout.declared.marks.Marks.{Marks}
 use Rattle.world.specs.system_world.Idle.{IsIdleSystem}
-use Rattle.world.specs.system_world.News.{no_calls}
+use Rattle.world.specs.system_world.KeptCalls.{no_calls}
 use Rattle.world.specs.system_world.Parts.{medium_of}
-use Rattle.world.specs.system_world.WorldTree.{WorldView, world_tree}
+use Rattle.world.specs.system_world.WorldTree.{world_tree}
+use Rattle.world.specs.system_world.WorldView.{WorldView}
 use Rattle.recovery.specs.declared.error.RecoveryError.{RecoveryError}
 use Rattle.recovery.specs.declared.error.RecoveryError.TheVariants.{DeviceFault}
-use Rattle.recovery.specs.Errors.{IsFaultOrMemory}
-use Rattle.recovery.specs.Parts.{AreAtRest, SomeRose, clocks_of, contents_of, left_of}
+use Rattle.recovery.specs.FaultOrMemory.{IsFaultOrMemory}
+use Rattle.recovery.specs.Parts.{AreAtRest, contents_of}
+use Rattle.recovery.specs.PartMedia.{SomeRose, clocks_of, left_of}
 
 -- the readings once the shared medium has moved, and no region has
 abbrev pub shared_moved : Reading → Reading → Reading

@@ -1,16 +1,16 @@
 -- Regions that are opened one after the other, and what is read of them.
 use Rattle.std.specs.Prelude.{◌≡◌, ◌≢◌, ℕ, ◌≤◌, ◌+◌, ◌-◌, ◌*◌, ◌⊎◌, List, [], ◌∷◌, ◌++◌, get_or, map, slice_get, Option, Some, None}
-use Rattle.update_log.specs.tier_device.declared.media.Media.{Ghosts}
-use Rattle.update_log.specs.tier_device.declared.media.Tier.{Tier}
-use Rattle.update_log.specs.tier_device.declared.media.Tier.TheVariants.{Fast}
-use Rattle.update_log.specs.tier_device.AfterStop.{AtRest}
-use Rattle.update_log.specs.tier_device.Media.{Rose}
-use Rattle.update_log.specs.Frames.{end_behind, records}
-use Rattle.update_log.specs.Moments.{PastStays}
-use Rattle.update_log.specs.Stage.{IsIdle}
-use Rattle.update_log.specs.declared.format.TheConstants.{OPEN}
-use Rattle.update_log.specs.declared.stage.Stage.TheVariants as stages
-use Rattle.update_log.specs.View.{HasSize, RegionView}
+use Rattle.recovery_laws.specs.update_log.tier_device.declared.media.Media.{Ghosts}
+use Rattle.recovery_laws.specs.update_log.tier_device.declared.media.Tier.{Tier}
+use Rattle.recovery_laws.specs.update_log.tier_device.declared.media.Tier.TheVariants.{Fast}
+use Rattle.recovery_laws.specs.update_log.tier_device.AfterStop.{AtRest}
+use Rattle.recovery_laws.specs.update_log.tier_device.Media.{Rose}
+use Rattle.recovery_laws.specs.update_log.Frames.{end_behind, records}
+use Rattle.recovery_laws.specs.update_log.Moments.{PastStays}
+use Rattle.recovery_laws.specs.update_log.Stage.{IsIdle}
+use Rattle.recovery_laws.specs.update_log.declared.format.TheConstants.{OPEN}
+use Rattle.recovery_laws.specs.update_log.declared.stage.Stage.TheVariants as stages
+use Rattle.recovery_laws.specs.update_log.View.{HasSize, RegionView}
 use Rattle.recovery.specs.declared.error.RecoveryError.{RecoveryError}
 use Rattle.recovery.specs.declared.error.RecoveryError.TheVariants.{DeviceFault, RegionSize, Memory}
 use Rattle.recovery.specs.Recovers.{Regions}

@@ -1,13 +1,13 @@
 -- What counts is brought into the area.
 use Rattle.std.specs.Prelude.{◌≡◌, ◌≢◌, ◌⊎◌, ℕ, ◌≤◌, ◌/◌, false, List, length, slice_get, slice_index, Some}
 use Rattle.std.specs.List.{AllZip}
-use Rattle.update_log.specs.tier_device.declared.media.Media.{Ghosts}
-use Rattle.update_log.specs.tier_device.Media.{Rose}
-use Rattle.update_log.specs.Stage.{IsIdle}
-use Rattle.update_log.specs.View.{HasSize, RegionView}
-use Rattle.shared_area.specs.batch_journal.View.{JournalView}
-use Rattle.shared_area.specs.layout.declared.marks.Marks.{Marks}
-use Rattle.shared_area.specs.area_image.Store.{disk, graph, marks}
+use Rattle.recovery_laws.specs.update_log.tier_device.declared.media.Media.{Ghosts}
+use Rattle.recovery_laws.specs.update_log.tier_device.Media.{Rose}
+use Rattle.recovery_laws.specs.update_log.Stage.{IsIdle}
+use Rattle.recovery_laws.specs.update_log.View.{HasSize, RegionView}
+use Rattle.recovery_laws.specs.shared_area.batch_journal.View.{JournalView}
+use Rattle.recovery_laws.specs.shared_area.layout.declared.marks.Marks.{Marks}
+use Rattle.recovery_laws.specs.shared_area.area_image.Store.{disk, graph, marks}
 use Rattle.world.specs.system_world.event_steps.call_effects.ClosedGraph.{nobody, settled_graph}
 use Rattle.world.specs.system_world.event_steps.call_effects.Wholes.{IsSound, state_of}
 use Rattle.world.specs.system_world.event_steps.kernel_fs.layout.Places.{Sizes}
@@ -16,10 +16,11 @@ use Rattle.world.specs.system_world.event_steps.posix_calls.Tree.{State}
 use Rattle.world.specs.system_world.event_steps.posix_calls.declared.limits.TheConstants.{MAX_CLIENTS}
 use Rattle.recovery.specs.declared.error.RecoveryError.{RecoveryError}
 use Rattle.recovery.specs.declared.error.RecoveryError.TheVariants.{DeviceFault}
-use Rattle.recovery.specs.Errors.{IsFaultOrMemory}
+use Rattle.recovery.specs.FaultOrMemory.{IsFaultOrMemory}
 use Rattle.recovery.specs.FoundLogs.{log_by}
 use Rattle.recovery.specs.Phases.{StaysRecovered}
 use Rattle.recovery.specs.Recovers.{AreThese, Recovers, Regions}
+use Rattle.recovery.specs.Refusals.{IsStoredCause}
 use Rattle.recovery.specs.Regions.{HaveRisen, IsOnlyRead, REGIONS, Rests, media_of, regions_read}
 use Rattle.recovery.specs.Silent.{AreMarked, AreSilent, MayBeWiped}
 
@@ -52,9 +53,10 @@ module _ {M : Type 0} (device : Ghosts M) where
       pub silent : AreSilent generations (regions_read device before)
       pub wipe : (k : ℕ) (v : RegionView M) → slice_get after k ≡ Some v → MayBeWiped device (slice_index generations (k / 2)) v
 
-    -- It is refused for this cause: never for what is recovered but for a device fault or memory.
+    -- It is refused for this cause: never for what is recovered but for a device fault or memory, and else for what is stored.
     pub record RefusesArea (e : RecoveryError) : Type 0 where
       pub keeps : KeepsStored
       pub never : (g : Sizes) (now : Regions) (state : State) → AreThese (regions_read device before) now → Recovers g now state (device.seen old.media) → IsFaultOrMemory e
       pub fault : e ≡ DeviceFault → Rose (device.faults old.media) (device.faults new.media) ⊎ HaveRisen device (media_of before) (media_of after)
       pub going : e ≢ DeviceFault → new.failed ≡ false
+      pub cause : (v : Marks) → marks (disk device old) ≡ Some v → IsStoredCause old.geometry (disk device old) (log_by v (regions_read device before)) e

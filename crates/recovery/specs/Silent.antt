@@ -1,26 +1,27 @@
 -- Regions in which nothing counts.
 use Rattle.std.specs.Prelude.{◌≡◌, ℕ, ◌<◌, ◌≤◌, ◌-◌, ◌%◌, ◌==◌, ◌≢◌, true, List, [], length, slice_get, slice_index, Some, if◌then◌else◌}
-use Rattle.update_log.specs.tier_device.declared.media.Media.{Ghosts}
-use Rattle.update_log.specs.tier_device.declared.media.Tier.TheVariants.{Fast}
-use Rattle.update_log.specs.tier_device.AfterStop.{AtRest, LeftSince}
-use Rattle.update_log.specs.Frames.{records}
-use Rattle.update_log.specs.RecordCounts.{next_generation, records_under}
-use Rattle.update_log.specs.WipeStops.{generation}
-use Rattle.update_log.specs.View.{HasSize, RegionView, header_of}
-use Rattle.update_log.specs.Wipe.{CanWipe, IsWiping}
-use Rattle.update_log.specs.declared.stage.WipeProgress.{WipeProgress}
-use Rattle.update_log.specs.declared.stage.WipeProgress.TheVariants.{Going, Wiped}
-use Rattle.update_log.specs.declared.format.TheConstants.{REGION_SIZE}
-use Rattle.update_log.specs.declared.stage.Stage.{Stage}
-use Rattle.update_log.specs.declared.stage.Stage.TheVariants as stages
+use Rattle.recovery_laws.specs.update_log.tier_device.declared.media.Media.{Ghosts}
+use Rattle.recovery_laws.specs.update_log.tier_device.declared.media.Tier.TheVariants.{Fast}
+use Rattle.recovery_laws.specs.update_log.tier_device.AfterStop.{AtRest}
+use Rattle.recovery_laws.specs.update_log.tier_device.StopsSince.{LeftSince}
+use Rattle.recovery_laws.specs.update_log.Frames.{records}
+use Rattle.recovery_laws.specs.update_log.RecordCounts.{next_generation, records_under}
+use Rattle.recovery_laws.specs.update_log.WipeStops.{generation}
+use Rattle.recovery_laws.specs.update_log.View.{HasSize, RegionView, header_of}
+use Rattle.recovery_laws.specs.update_log.Wipe.{CanWipe, IsWiping}
+use Rattle.recovery_laws.specs.update_log.declared.stage.WipeProgress.{WipeProgress}
+use Rattle.recovery_laws.specs.update_log.declared.stage.WipeProgress.TheVariants.{Going, Wiped}
+use Rattle.recovery_laws.specs.update_log.declared.format.TheConstants.{REGION_SIZE}
+use Rattle.recovery_laws.specs.update_log.declared.stage.Stage.{Stage}
+use Rattle.recovery_laws.specs.update_log.declared.stage.Stage.TheVariants as stages
 use Rattle.world.specs.system_world.event_steps.area_image.Store.{marks, store_of}
 use Rattle.world.specs.system_world.event_steps.kernel_fs.digester.MarkMoves.{mark_of}
 use Rattle.world.specs.system_world.event_steps.kernel_fs.layout.declared.marks.Marks.{Marks}
 use Rattle.world.specs.system_world.event_steps.posix_calls.Operations.{is_client}
 use Rattle.world.specs.system_world.courses.Courses.{Content}
 use Rattle.recovery.specs.Recovers.{Regions}
-use Rattle.update_log.specs.Stage.{IsIdle}
-use Rattle.update_log.specs.Moments.{PastStays}
+use Rattle.recovery_laws.specs.update_log.Stage.{IsIdle}
+use Rattle.recovery_laws.specs.update_log.Moments.{PastStays}
 use Rattle.recovery.specs.Regions.{place_of}
 
 -- A region has its length, and no record of it counts under this generation or the next.

@@ -1,9 +1,9 @@
 -- Records whose effects have a spelling.
 use Rattle.std.specs.Prelude.{◌≤◌, length}
 use Rattle.std.specs.List.{AllByRecursion}
-use Rattle.update_log.specs.log_record.Grammar.{Fits}
-use Rattle.update_log.specs.log_record.declared.format.Record.{Record}
-use Rattle.update_log.specs.log_record.declared.format.TheConstants.{MAX_EFFECTS}
+use Rattle.recovery_laws.specs.update_log.log_record.Grammar.{Fits}
+use Rattle.recovery_laws.specs.update_log.log_record.declared.format.Record.{Record}
+use Rattle.recovery_laws.specs.update_log.log_record.declared.format.TheConstants.{MAX_EFFECTS}
 
 -- A record has 1 to 8 effects, and each keeps the limits.
 pub record HasSpelledEffects (r : Record) : Type 0 where

@@ -3,7 +3,7 @@
 ghost use Rattle.recovery.specs.Errors.{IsAreaFault};
 
 use crate::error::RecoveryError;
-use shared_area::AreaError;
+use recovery_laws::AreaError;
 
 /// What the area was refused for.
 pub fn area_fault(error: AreaError) -> RecoveryError

@@ -1,27 +1,28 @@
 //! The shared medium is opened.
 
 ghost use Rattle.std.specs.Prelude.{◌≡◌, ◌≢◌, ◌≤◌, ◌+◌, false, Some, IfOk, IfErr};
-ghost use Rattle.shared_area.specs.tier_device.declared.media.Tier.{Tier};
-ghost use Rattle.shared_area.specs.tier_device.declared.media.Tier.TheVariants.{Fast};
-ghost use Rattle.shared_area.specs.tier_device.Media.{Rose};
-ghost use Rattle.shared_area.specs.tier_device.AfterStop.{AtRest};
-ghost use Rattle.shared_area.specs.layout.Places.{Sizes};
-ghost use Rattle.shared_area.specs.batch_journal.Blocks.{opening_calls};
-ghost use Rattle.shared_area.specs.batch_journal.Course.{Unmoved};
-ghost use Rattle.shared_area.specs.batch_journal.Damage.{AwaitsReplay};
-ghost use Rattle.shared_area.specs.batch_journal.Volume.{IsVolume};
-ghost use Rattle.shared_area.specs.area_image.Store.{disk, store_of};
-ghost use Rattle.shared_area.specs.area_image.Format.{IsOpenable};
-ghost use Rattle.shared_area.specs.AreaOpen.{SpellsNone, IsMediumDamage, TakesMemory};
+ghost use Rattle.recovery_laws.specs.shared_area.tier_device.declared.media.Tier.{Tier};
+ghost use Rattle.recovery_laws.specs.shared_area.tier_device.declared.media.Tier.TheVariants.{Fast};
+ghost use Rattle.recovery_laws.specs.shared_area.tier_device.Media.{Rose};
+ghost use Rattle.recovery_laws.specs.shared_area.tier_device.AfterStop.{AtRest};
+ghost use Rattle.recovery_laws.specs.shared_area.layout.Places.{Sizes};
+ghost use Rattle.recovery_laws.specs.shared_area.batch_journal.Blocks.{opening_calls};
+ghost use Rattle.recovery_laws.specs.shared_area.batch_journal.Course.{Unmoved};
+ghost use Rattle.recovery_laws.specs.shared_area.batch_journal.Damage.{AwaitsReplay};
+ghost use Rattle.recovery_laws.specs.shared_area.batch_journal.Volume.{IsVolume};
+ghost use Rattle.recovery_laws.specs.shared_area.area_image.Store.{disk, store_of};
+ghost use Rattle.recovery_laws.specs.shared_area.area_image.Format.{IsOpenable};
+ghost use Rattle.recovery_laws.specs.shared_area.AreaOpen.{SpellsNone, IsMediumDamage, TakesMemory};
 ghost use Rattle.world.specs.system_world.event_steps.posix_calls.Tree.{State};
 ghost use Rattle.recovery.specs.declared.error.RecoveryError.TheVariants.{DeviceFault, Memory};
-ghost use Rattle.recovery.specs.Errors.{OnDamage, IsOfArea, IsFaultOrMemory};
+ghost use Rattle.recovery.specs.Errors.{OnDamage, IsOfArea};
+ghost use Rattle.recovery.specs.FaultOrMemory.{IsFaultOrMemory};
 ghost use Rattle.recovery.specs.Recovers.{Regions, Recovers};
 ghost use Rattle.recovery.specs.Phases.{StaysRecovered, Whatever};
 
 use crate::area_faults::area_fault;
 use crate::error::RecoveryError;
-use shared_area::{Media, Shared};
+use recovery_laws::{Media, Shared};
 use std::alloc::Global;
 
 /// Opens the shared medium, at rest, as `Shared::reopen` does. Whatever a stop leaves meanwhile is recovered as what was read, with any regions.

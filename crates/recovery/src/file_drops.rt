@@ -1,17 +1,16 @@
 //! Files without names are dropped.
 
 ghost use Rattle.std.specs.Prelude.{◌≡◌, false, [], ◌∷◌, OnOk, IfErr};
-ghost use Rattle.shared_area.specs.area_image.Store.{disk, graph, marks as marks_of};
-ghost use Rattle.graph_check.specs.record_validation.call_effects.ClosedGraph.{nobody};
-ghost use Rattle.graph_check.specs.record_validation.call_effects.Wholes.{IsSound, state_of};
-ghost use Rattle.recovery.specs.Errors.{IsFaultOrMemory};
+ghost use Rattle.recovery_laws.specs.shared_area.area_image.Store.{disk, graph, marks as marks_of};
+ghost use Rattle.recovery_laws.specs.graph_check.record_validation.call_effects.ClosedGraph.{nobody};
+ghost use Rattle.recovery_laws.specs.graph_check.record_validation.call_effects.Wholes.{IsSound, state_of};
+ghost use Rattle.recovery.specs.FaultOrMemory.{IsFaultOrMemory};
 ghost use Rattle.recovery.specs.GraphTests.{without_nameless};
 ghost use Rattle.recovery.specs.Recovers.{CountNone};
 ghost use Rattle.recovery.specs.Phases.{StaysRecovered, AnswersFaults};
 
 use crate::error::RecoveryError;
-use kernel_fs::{ReclaimError, drop_nameless};
-use shared_area::{Media, Shared};
+use recovery_laws::{Media, ReclaimError, Shared, drop_nameless};
 use std::alloc::Global;
 
 // Drops the file at an inode, if one without a name stands there.

@@ -1,17 +1,18 @@
 //! The empty world.
 
 ghost use Rattle.std.specs.Prelude.{◌≡◌, ◌<◌, ℕ, length, IfErr, IfOk, OnOk};
-ghost use Rattle.fresh_media.specs.Fresh.{fresh_tiers};
-ghost use Rattle.update_log.specs.tier_device.declared.media.Tier.{Tier};
-ghost use Rattle.world.specs.system_world.News.{no_calls};
+ghost use Rattle.recovery_laws.specs.fresh_media.Fresh.{fresh_tiers};
+ghost use Rattle.recovery_laws.specs.update_log.tier_device.declared.media.Tier.{Tier};
+ghost use Rattle.world.specs.system_world.KeptCalls.{no_calls};
 ghost use Rattle.world.specs.system_world.Parts.{medium_of};
 ghost use Rattle.world.specs.system_world.WorldTree.{world_tree};
 ghost use Rattle.world.specs.system_world.courses.Courses.{PARTS};
 ghost use Rattle.world.specs.system_world.event_steps.posix_calls.EmptyTree.{empty_state};
 ghost use Rattle.recovery.specs.declared.error.RecoveryError.TheVariants.{DeviceFault};
-ghost use Rattle.recovery.specs.Errors.{IsFaultOrMemory};
+ghost use Rattle.recovery.specs.FaultOrMemory.{IsFaultOrMemory};
 ghost use Rattle.recovery.specs.FreshContents.{AreFreshRegions, AreLater, HaveSizes, HoldsContent, IsFormatError, IsSizeError, SizesAtRefusal, fresh_contents};
-ghost use Rattle.recovery.specs.Parts.{AreAtRest, SomeRose, part_medium};
+ghost use Rattle.recovery.specs.Parts.{AreAtRest, part_medium};
+ghost use Rattle.recovery.specs.PartMedia.{SomeRose};
 ghost use Rattle.recovery.specs.Regions.{REGIONS};
 
 use crate::area_open::open_area;
@@ -21,9 +22,7 @@ use crate::fresh_writes::write_parts;
 use crate::parts::Parts;
 use crate::region_list::reopen_regions;
 use crate::size_check::check_sizes;
-use fresh_media::fresh_region_is_empty;
-use recovery_laws::fresh_area_opens;
-use shared_area::{Geometry, Media};
+use recovery_laws::{Geometry, Media, fresh_area_opens, fresh_region_is_empty};
 use std::alloc::Global;
 use world::World;
 

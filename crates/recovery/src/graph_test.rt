@@ -1,23 +1,24 @@
 //! The graph of the area is tested.
 
 ghost use Rattle.std.specs.Prelude.{◌≡◌, false, OnOk, IfOk, IfErr};
-ghost use Rattle.shared_area.specs.area_image.Store.{disk, graph, marks as marks_of};
-ghost use Rattle.shared_area.specs.batch_journal.Course.{Unmoved};
-ghost use Rattle.shared_area.specs.layout.Places.{Sizes, slot_block};
+ghost use Rattle.recovery_laws.specs.shared_area.area_image.Store.{disk, graph, marks as marks_of};
+ghost use Rattle.recovery_laws.specs.shared_area.batch_journal.Course.{Unmoved};
+ghost use Rattle.recovery_laws.specs.shared_area.layout.Places.{Sizes, slot_block};
 ghost use Rattle.world.specs.system_world.event_steps.posix_calls.Tree.{State};
-ghost use Rattle.graph_check.specs.Nameless.{AreNameless};
-ghost use Rattle.graph_check.specs.record_validation.call_effects.Wholes.{IsSound};
-ghost use Rattle.graph_check.specs.record_validation.call_effects.ClosedGraph.{nobody};
-ghost use Rattle.recovery.specs.Errors.{OnDamage, IsOfArea, IsFaultOrMemory};
+ghost use Rattle.recovery_laws.specs.graph_check.Nameless.{AreNameless};
+ghost use Rattle.recovery_laws.specs.graph_check.record_validation.call_effects.Wholes.{IsSound};
+ghost use Rattle.recovery_laws.specs.graph_check.record_validation.call_effects.ClosedGraph.{nobody};
+ghost use Rattle.recovery.specs.Errors.{OnDamage, IsOfArea};
+ghost use Rattle.recovery.specs.FaultOrMemory.{IsFaultOrMemory};
 ghost use Rattle.recovery.specs.Recovers.{Regions, Recovers, CountNone};
 ghost use Rattle.recovery.specs.GraphTests.{IsGraphDamage, IsGraphFault};
 ghost use Rattle.recovery.specs.Phases.{StaysRecovered, AnswersFaults, Whatever};
 
 use crate::area_faults::area_fault;
 use crate::error::RecoveryError;
-use graph_check::{GraphError, check_graph};
-use layout::{FIRST_SLOT_BLOCK, SLOTS_IN_BLOCK};
-use shared_area::{AreaError, Media, Shared, What};
+use recovery_laws::{
+    AreaError, FIRST_SLOT_BLOCK, GraphError, Media, SLOTS_IN_BLOCK, Shared, What, check_graph,
+};
 use std::alloc::Global;
 
 // The block of an inode's slot.

@@ -2,30 +2,30 @@
 
 ghost use Rattle.std.specs.Prelude.{◌≡◌, ℕ, true, false, length, slice_get, Some, IfErr, OnOk};
 ghost use Rattle.std.specs.List.{AllZip};
-ghost use Rattle.digester.specs.MarkMoves.{mark_of};
-ghost use Rattle.update_log.specs.Stage.{IsIdle};
-ghost use Rattle.update_log.specs.View.{RegionView};
-ghost use Rattle.shared_area.specs.layout.declared.marks.Marks.{Marks};
-ghost use Rattle.shared_area.specs.area_image.Store.{disk, graph, marks as marks_of};
+ghost use Rattle.recovery_laws.specs.digester.MarkMoves.{mark_of};
+ghost use Rattle.recovery_laws.specs.update_log.Stage.{IsIdle};
+ghost use Rattle.recovery_laws.specs.update_log.View.{RegionView};
+ghost use Rattle.recovery_laws.specs.shared_area.layout.declared.marks.Marks.{Marks};
+ghost use Rattle.recovery_laws.specs.shared_area.area_image.Store.{disk, graph, marks as marks_of};
 ghost use Rattle.world.specs.system_world.event_steps.kernel_fs.layout.Places.{Sizes};
 ghost use Rattle.world.specs.system_world.event_steps.libfs.world_invariant.Logs.{after_clients};
 ghost use Rattle.world.specs.system_world.event_steps.posix_calls.Operations.{is_client};
 ghost use Rattle.world.specs.system_world.event_steps.posix_calls.Tree.{State};
 ghost use Rattle.world.specs.system_world.event_steps.posix_calls.declared.limits.TheConstants.{MAX_CLIENTS};
-ghost use Rattle.recovery.specs.Errors.{IsDigestError, IsFaultOrMemory};
-ghost use Rattle.recovery.specs.DigestedLogs.{DigestsLog};
-ghost use Rattle.recovery.specs.FoundLogs.{AreFound, IsFound, log_by};
+ghost use Rattle.recovery.specs.Errors.{IsDigestError, OnBadLog};
+ghost use Rattle.recovery.specs.FaultOrMemory.{IsFaultOrMemory};
+ghost use Rattle.recovery.specs.DigestedLogs.{CanDigest, DigestsLog, IsFirstRefused};
+ghost use Rattle.recovery.specs.FoundLogs.{AreFound, HoldFew, HoldsFew, IsFound, log_by};
 ghost use Rattle.recovery.specs.Phases.{AnswersEither, StaysRecovered};
 ghost use Rattle.recovery.specs.Recovers.{AreThese, CountNone, Recovers, Regions};
+ghost use Rattle.recovery.specs.Refusals.{IsFirstUndigestible};
 ghost use Rattle.recovery.specs.Regions.{IsOnlyRead, REGIONS, Rests, regions_read};
 
 use crate::error::RecoveryError;
 use crate::log_parts::{LogPart, digest_first, digest_second};
 use crate::log_search::FoundLog;
-use digester::{mark_of, moved_mark_leaves_the_rest};
-use shared_area::{CLIENTS, Media, Shared};
+use recovery_laws::{CLIENTS, Media, Region, Shared, mark_of, moved_mark_leaves_the_rest};
 use std::alloc::Global;
-use update_log::Region;
 
 /// Digests the records that count of each client's log, as `find_logs` found them: client after client, the region of the mark's generation and then the next one's, chunk by
 /// chunk. With the regions as they are read, whatever a stop leaves meanwhile is recovered as what was read. The regions are only read.
@@ -48,6 +48,7 @@ pub fn digest_logs<M: Media>(
         → graph area.new.geometry (disk M.Media area.new) ≡ after_clients (log_by v (regions_read M.Media regions.old)) (graph area.old.geometry (disk M.Media area.old)) MAX_CLIENTS) }
     ensures none { OnOk result ((g : Sizes) (now : Regions) (state : State) → AreThese (regions_read M.Media regions.old) now → Recovers g now state (M.seen area.old.media)
         → CountNone now (marks_of (disk M.Media area.new))) }
+    ensures bad { IfErr result (λ e. (v : Marks) → marks_of (disk M.Media area.old) ≡ Some v → HoldFew (regions_read M.Media regions.old) → OnBadLog e (IsFirstUndigestible area.old.geometry.units (graph area.old.geometry (disk M.Media area.old)) (log_by v (regions_read M.Media regions.old)))) }
     ensures never { IfErr result (λ e. (g : Sizes) (now : Regions) (state : State) → AreThese (regions_read M.Media regions.old) now → Recovers g now state (M.seen area.old.media) → IsFaultOrMemory e) }
     ensures only { IfErr result IsDigestError }
     ensures answers { AnswersEither M.Media area.old area.new regions.old regions.new result }
@@ -75,6 +76,8 @@ fn digest_log<M: Media>(
     ensures any_moment { StaysRecovered M.Media (AreThese (regions_read M.Media regions.old)) area.old.media area.new.media }
     ensures same { AllZip (IsOnlyRead M.Media) regions.old regions.new }
     ensures digested { OnOk result ((v : Marks) → marks_of (disk M.Media area.old) ≡ Some v → DigestsLog M.Media client (regions_read M.Media regions.old) v area.old area.new) }
+    ensures good { OnOk result ((v : Marks) → marks_of (disk M.Media area.old) ≡ Some v → CanDigest area.old.geometry.units (graph area.old.geometry (disk M.Media area.old)) (log_by v (regions_read M.Media regions.old) client)) }
+    ensures bad { IfErr result (λ e. (v : Marks) → marks_of (disk M.Media area.old) ≡ Some v → HoldsFew (regions_read M.Media regions.old client) → OnBadLog e (λ c place. (c ≡ client) × IsFirstRefused area.old.geometry.units (graph area.old.geometry (disk M.Media area.old)) (log_by v (regions_read M.Media regions.old) client) place)) }
     ensures never { IfErr result (λ e. (g : Sizes) (now : Regions) (state : State) → AreThese (regions_read M.Media regions.old) now → Recovers g now state (M.seen area.old.media) → IsFaultOrMemory e) }
     ensures only { IfErr result IsDigestError }
     ensures answers { AnswersEither M.Media area.old area.new regions.old regions.new result }

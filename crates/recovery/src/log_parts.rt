@@ -1,20 +1,21 @@
 // The records of one generation of a client's log are digested.
-ghost use Rattle.std.specs.Prelude.{◌≡◌, ◌≢◌, ◌<◌, ◌^◌, ℕ, [], drop, false, length, slice_get, Some, IfErr, IfSome, OnOk, true};
+ghost use Rattle.std.specs.Prelude.{◌≡◌, ◌≢◌, ◌<◌, ◌^◌, ℕ, [], drop, false, length, slice_get, Some, IfErr, IfOk, IfSome, OnOk, true};
 ghost use Rattle.std.specs.List.{AllByRecursion, AllZip};
-ghost use Rattle.counted_logs.specs.Regions.{records_behind, records_of};
-ghost use Rattle.digester.specs.MarkMoves.{mark_of};
-ghost use Rattle.update_log.specs.RecordCounts.{next_generation};
-ghost use Rattle.update_log.specs.Stage.{IsIdle};
-ghost use Rattle.update_log.specs.log_record.Grammar.{IsRecord};
-ghost use Rattle.update_log.specs.View.{RegionView};
-ghost use Rattle.shared_area.specs.layout.declared.marks.Marks.{Marks};
-ghost use Rattle.shared_area.specs.area_image.Store.{disk, graph, marks as marks_of};
+ghost use Rattle.recovery_laws.specs.counted_logs.Regions.{records_behind, records_of};
+ghost use Rattle.recovery_laws.specs.digester.MarkMoves.{mark_of};
+ghost use Rattle.recovery_laws.specs.update_log.RecordCounts.{next_generation};
+ghost use Rattle.recovery_laws.specs.update_log.Stage.{IsIdle};
+ghost use Rattle.recovery_laws.specs.update_log.log_record.Grammar.{IsRecord};
+ghost use Rattle.recovery_laws.specs.update_log.View.{RegionView};
+ghost use Rattle.recovery_laws.specs.shared_area.layout.declared.marks.Marks.{Marks};
+ghost use Rattle.recovery_laws.specs.shared_area.area_image.Store.{disk, graph, marks as marks_of};
 ghost use Rattle.world.specs.system_world.event_steps.kernel_fs.layout.Places.{Sizes};
 ghost use Rattle.world.specs.system_world.event_steps.posix_calls.Operations.{is_client};
 ghost use Rattle.world.specs.system_world.event_steps.posix_calls.Tree.{State};
-ghost use Rattle.recovery.specs.DigestedLogs.{DigestsAll, HoldAll, HoldRecords, MovesMark, StandsAtStart};
-ghost use Rattle.recovery.specs.Errors.{IsDigestError, IsFaultOrMemory};
-ghost use Rattle.recovery.specs.FoundLogs.{HasGeneration, IsRestOf};
+ghost use Rattle.recovery.specs.DigestedLogs.{CanDigest, DigestsAll, HoldAll, HoldRecords, MovesMark, NamesRefused, StandsAtStart};
+ghost use Rattle.recovery.specs.Errors.{IsDigestError};
+ghost use Rattle.recovery.specs.FaultOrMemory.{IsFaultOrMemory};
+ghost use Rattle.recovery.specs.FoundLogs.{HasGeneration, HoldsFew, IsRestOf};
 ghost use Rattle.recovery.specs.Phases.{AnswersEither, AnswersFaults, StaysRecovered};
 ghost use Rattle.recovery.specs.Recovers.{AreThese, Recovers, Regions};
 ghost use Rattle.recovery.specs.Regions.{IsOnlyRead, REGIONS, regions_read};
@@ -23,11 +24,10 @@ use crate::error::RecoveryError;
 use crate::mark_moves::set_marks;
 use crate::record_digest::{digest_records, resume_log};
 use crate::record_reads::read_region_records;
-use counted_logs::LogRest;
-use digester::{client_index, mark_of, marks_can_be_written};
-use shared_area::{Mark, Media, Shared};
+use recovery_laws::{
+    LogRest, Mark, Media, Record, Region, Shared, client_index, mark_of, marks_can_be_written,
+};
 use std::alloc::Global;
-use update_log::{Record, Region};
 
 /// Records of a client's log: of which generation they are, how many of them are passed over, and how many that count stand before them.
 #[derive(Clone, Copy)]
@@ -52,6 +52,9 @@ fn digest_part<M: Media>(
     requires at_mark { part.from < length records.items → (v : Marks) → marks_of (disk M.Media area.old) ≡ Some v → mark_of v part.client ≡ record { generation = part.generation; done = part.from } }
     ensures any_moment { StaysRecovered M.Media (HoldRecords part.client part.generation records.items) area.old.media area.new.media }
     ensures digested { OnOk result (DigestsAll M.Media part.client (record { generation = next_generation part.generation; done = 0 }) (drop part.from records.items) area.old area.new) }
+    ensures good { OnOk result (CanDigest area.old.geometry.units (graph area.old.geometry (disk M.Media area.old)) (drop part.from records.items)) }
+    ensures bad { IfErr result (NamesRefused part.client part.before area.old.geometry.units (graph area.old.geometry (disk M.Media area.old)) (drop part.from records.items)) }
+    ensures count { IfOk result (λ n. n ≡ length (drop part.from records.items)) }
     ensures never { IfErr result (λ e. (g : Sizes) (regions : Regions) (state : State) → HoldRecords part.client part.generation records.items regions → Recovers g regions state (M.seen area.old.media) → IsFaultOrMemory e) }
     ensures only { IfErr result IsDigestError }
     ensures answers { AnswersFaults M.Media area.old area.new result }
@@ -81,6 +84,8 @@ fn digest_next_part<M: Media>(
     requires few { length records.items < 2 ^ 32 }
     ensures any_moment { (these : Regions) → HoldAll these part.client part.generation records.items → (records.items ≢ [] → StandsAtStart (AreThese these) part.client part.generation (M.seen area.old.media)) → StaysRecovered M.Media (AreThese these) area.old.media area.new.media }
     ensures digested { OnOk result (DigestsAll M.Media part.client (record { generation = next_generation part.generation; done = 0 }) records.items area.old area.new) }
+    ensures good { OnOk result (CanDigest area.old.geometry.units (graph area.old.geometry (disk M.Media area.old)) records.items) }
+    ensures bad { IfErr result (NamesRefused part.client part.before area.old.geometry.units (graph area.old.geometry (disk M.Media area.old)) records.items) }
     ensures never { IfErr result (λ e. (these : Regions) → HoldAll these part.client part.generation records.items → (records.items ≢ [] → StandsAtStart (AreThese these) part.client part.generation (M.seen area.old.media))
         → (g : Sizes) (now : Regions) (state : State) → AreThese these now → Recovers g now state (M.seen area.old.media) → IsFaultOrMemory e) }
     ensures only { IfErr result IsDigestError }
@@ -111,6 +116,9 @@ pub(crate) fn digest_first<M: Media>(
     ensures same { AllZip (IsOnlyRead M.Media) regions.old regions.new }
     ensures digested { OnOk result ((v : Marks) → marks_of (disk M.Media area.old) ≡ Some v
         → DigestsAll M.Media client (record { generation = next_generation (mark_of v client).generation; done = 0 }) (records_behind (regions_read M.Media regions.old client) rest) area.old area.new) }
+    ensures good { OnOk result (CanDigest area.old.geometry.units (graph area.old.geometry (disk M.Media area.old)) (records_behind (regions_read M.Media regions.old client) rest)) }
+    ensures bad { IfErr result (λ e. HoldsFew (regions_read M.Media regions.old client) → NamesRefused client 0 area.old.geometry.units (graph area.old.geometry (disk M.Media area.old)) (records_behind (regions_read M.Media regions.old client) rest) e) }
+    ensures count { IfOk result (λ n. n ≡ length (records_behind (regions_read M.Media regions.old client) rest)) }
     ensures never { IfErr result (λ e. (g : Sizes) (now : Regions) (state : State) → AreThese (regions_read M.Media regions.old) now → Recovers g now state (M.seen area.old.media) → IsFaultOrMemory e) }
     ensures only { IfErr result IsDigestError }
     ensures answers { AnswersEither M.Media area.old area.new regions.old regions.new result }
@@ -148,6 +156,8 @@ pub(crate) fn digest_second<M: Media>(
     ensures any_moment { StaysRecovered M.Media (AreThese (regions_read M.Media regions.old)) area.old.media area.new.media }
     ensures same { AllZip (IsOnlyRead M.Media) regions.old regions.new }
     ensures digested { OnOk result (DigestsAll M.Media part.client (record { generation = next_generation part.generation; done = 0 }) (records_of (regions_read M.Media regions.old part.client) region) area.old area.new) }
+    ensures good { OnOk result (CanDigest area.old.geometry.units (graph area.old.geometry (disk M.Media area.old)) (records_of (regions_read M.Media regions.old part.client) region)) }
+    ensures bad { IfErr result (λ e. HoldsFew (regions_read M.Media regions.old part.client) → NamesRefused part.client part.before area.old.geometry.units (graph area.old.geometry (disk M.Media area.old)) (records_of (regions_read M.Media regions.old part.client) region) e) }
     ensures never { IfErr result (λ e. (g : Sizes) (now : Regions) (state : State) → AreThese (regions_read M.Media regions.old) now → Recovers g now state (M.seen area.old.media) → IsFaultOrMemory e) }
     ensures only { IfErr result IsDigestError }
     ensures answers { AnswersEither M.Media area.old area.new regions.old regions.new result }

@@ -1,28 +1,29 @@
 // The clients' logs that regions hold.
-ghost use Rattle.std.specs.Prelude.{◌≡◌, ◌⊎◌, ◌≤◌, ◌<◌, ◌+◌, ◌++◌, ℕ, List, [], length, slice_get, Some, None, IfOk, IfErr, OnErr, OnOk};
+ghost use Rattle.std.specs.Prelude.{◌≡◌, ◌⊎◌, ◌≤◌, ◌<◌, ◌+◌, ◌^◌, ◌++◌, ℕ, List, [], length, slice_get, take, true, false, Some, None, IfOk, IfErr, OnErr, OnOk};
 ghost use Rattle.std.specs.List.{AllZip};
-ghost use Rattle.update_log.specs.Stage.{IsIdle};
-ghost use Rattle.update_log.specs.View.{RegionView};
-ghost use Rattle.update_log.specs.WipeStops.{generation};
-ghost use Rattle.update_log.specs.Frames.{records};
-ghost use Rattle.update_log.specs.tier_device.Media.{Rose};
-ghost use Rattle.update_log.specs.tier_device.declared.media.Tier.TheVariants.{Fast};
-ghost use Rattle.counted_logs.specs.Owners.{AreAdded, IsClear, TouchInodes, owner};
-ghost use Rattle.update_log.specs.RecordCounts.{counted_records};
-ghost use Rattle.counted_logs.specs.world_invariant.Logs.{LogsAreApart};
+ghost use Rattle.recovery_laws.specs.update_log.Stage.{IsIdle};
+ghost use Rattle.recovery_laws.specs.update_log.View.{RegionView};
+ghost use Rattle.recovery_laws.specs.update_log.WipeStops.{generation};
+ghost use Rattle.recovery_laws.specs.update_log.Frames.{records};
+ghost use Rattle.recovery_laws.specs.update_log.tier_device.Media.{Rose};
+ghost use Rattle.recovery_laws.specs.update_log.tier_device.declared.media.Tier.TheVariants.{Fast};
+ghost use Rattle.recovery_laws.specs.counted_logs.Owners.{AreAdded, IsClear, TouchInodes, owner};
+ghost use Rattle.recovery_laws.specs.update_log.RecordCounts.{counted_records};
+ghost use Rattle.recovery_laws.specs.counted_logs.world_invariant.Logs.{LogsAreApart, is_touched, is_written};
 ghost use Rattle.world.specs.system_world.event_steps.kernel_fs.digester.MarkMoves.{mark_of};
 ghost use Rattle.recovery.specs.declared.error.RecoveryError.TheVariants.{BadLog, DeviceFault, Memory};
-ghost use Rattle.recovery.specs.FoundLogs.{AreFound, AreReadAs, IsFound, IsReadAs, first_part, log_by, second_part};
+ghost use Rattle.recovery.specs.Errors.{OnBadLog};
+ghost use Rattle.recovery.specs.FoundLogs.{AreFound, AreReadAs, HoldFew, HoldsFew, IsFirstForeign, IsFound, IsReadAs, NamesForeign, first_part, log_by, second_part};
+ghost use Rattle.recovery.specs.Refusals.{IsFirstSharing};
 ghost use Rattle.recovery.specs.Regions.{HaveRisen, IsOnlyRead, REGIONS, Rests, media_of, read_of, regions_read};
 
 use crate::error::RecoveryError;
-use counted_logs::{
-    CountedLogs, LogRest, Owners, counted_records_touch_inodes, logs_that_count,
-    next_free_generation, owners_decide_whether_logs_are_apart,
+use recovery_laws::{
+    CLIENTS, CountedLogs, LogRest, Mark, Marks, Media, Owners, Record, Region, RegionError,
+    counted_records_touch_inodes, logs_that_count, next_free_generation,
+    owners_decide_whether_logs_are_apart,
 };
-use layout::{CLIENTS, Mark, Marks};
 use std::alloc::Global;
-use update_log::{Media, Record, Region, RegionError};
 
 /// What is found of a client's log.
 #[derive(Clone, Copy, Debug, PartialEq, Eq)]
@@ -52,6 +53,7 @@ pub fn find_logs<M: Media>(
     // Exactly where no inode is in two clients' records it is not refused for that.
     ensures apart { OnOk result (LogsAreApart (log_by marks.now (regions_read M.Media regions.old))) }
     ensures bad { IfErr result (λ e. (client place : ℕ) → e ≡ BadLog client place → LogsAreApart (log_by marks.now (regions_read M.Media regions.old)) → ⊥) }
+    ensures first { IfErr result (λ e. HoldFew (regions_read M.Media regions.old) → OnBadLog e (IsFirstSharing (log_by marks.now (regions_read M.Media regions.old)))) }
     ensures fault { IfErr result (λ e. e ≡ DeviceFault → HaveRisen M.Media (media_of regions.old) (media_of regions.new)) }
     ensures only { IfErr result (λ e. (e ≡ DeviceFault) ⊎ (e ≡ Memory) ⊎ (client : ℕ) × (place : ℕ) × (e ≡ BadLog client place)) }
 {
@@ -85,6 +87,7 @@ fn find_next<M: Media>(
     ensures clear { OnOk result (IsClear (owner owners.old) (before + 1) (log_by marks.now (regions_read M.Media regions.old) (before + 1))) }
     ensures added { OnOk result (AreAdded (owner owners.old) (owner owners.new) (before + 1) (log_by marks.now (regions_read M.Media regions.old) (before + 1))) }
     ensures bad { IfErr result (λ e. (client place : ℕ) → e ≡ BadLog client place → IsClear (owner owners.old) (before + 1) (log_by marks.now (regions_read M.Media regions.old) (before + 1)) → ⊥) }
+    ensures first { IfErr result (λ e. HoldsFew (regions_read M.Media regions.old (before + 1)) → NamesForeign (owner owners.old) (before + 1) (log_by marks.now (regions_read M.Media regions.old) (before + 1)) e) }
     ensures fault { IfErr result (λ e. e ≡ DeviceFault → HaveRisen M.Media (media_of regions.old) (media_of regions.new)) }
     ensures only { IfErr result (λ e. (e ≡ DeviceFault) ⊎ (e ≡ Memory) ⊎ (client : ℕ) × (place : ℕ) × (e ≡ BadLog client place)) }
 {
@@ -150,6 +153,8 @@ fn find_log(
         → AreAdded (owner owners.old) (owner owners.new) client (counted_records mark.generation mark.done regions)) }
     ensures refused { OnErr result ((regions : ℕ → List ℕ) → AreReadAs regions even.now.name odd.now.name even.now.records.items odd.now.records.items
         → IsClear (owner owners.old) client (counted_records mark.generation mark.done regions) → ⊥) }
+    ensures first { IfErr result (λ e. (regions : ℕ → List ℕ) → AreReadAs regions even.now.name odd.now.name even.now.records.items odd.now.records.items → HoldsFew regions
+        → NamesForeign (owner owners.old) client (counted_records mark.generation mark.done regions) e) }
     ensures only { IfErr result (λ e. (place : ℕ) × (e ≡ BadLog client place)) }
 {
     let names = [even.name, odd.name];
@@ -174,6 +179,8 @@ fn own_log(
     ensures clear { OnOk result (IsClear (owner owners.old) client (first_part even.now odd.now counted.first ++ second_part even.now odd.now counted.second)) }
     ensures added { OnOk result (AreAdded (owner owners.old) (owner owners.new) client (first_part even.now odd.now counted.first ++ second_part even.now odd.now counted.second)) }
     ensures refused { OnErr result (IsClear (owner owners.old) client (first_part even.now odd.now counted.first ++ second_part even.now odd.now counted.second) → ⊥) }
+    ensures first { IfErr result (λ e. length even.now < 2 ^ 32 → length odd.now < 2 ^ 32
+        → NamesForeign (owner owners.old) client (first_part even.now odd.now counted.first ++ second_part even.now odd.now counted.second) e) }
     ensures only { IfErr result (λ e. (place : ℕ) × (e ≡ BadLog client place)) }
 {
     owners_decide_whether_logs_are_apart();
@@ -220,6 +227,7 @@ fn own_part(
     ensures clear { OnOk result (IsClear (owner owners.old) client part.now) }
     ensures added { OnOk result (AreAdded (owner owners.old) (owner owners.new) client part.now) }
     ensures refused { OnErr result (IsClear (owner owners.old) client part.now → ⊥) }
+    ensures first { IfErr result (λ e. (k : ℕ) × (before + k < 2 ^ 64 → e ≡ BadLog client (before + k)) × IsFirstForeign (owner owners.old) client part.now k) }
     ensures only { IfErr result (λ e. (place : ℕ) × (e ≡ BadLog client place)) }
 {
     match owners.add_records(client, part) {
@@ -233,19 +241,27 @@ fn own_part(
 
 // The place of the first record that touches an inode; their number where none does.
 fn place_of(part: &[Record], inode: u32) -> usize
-    ensures { result ≤ length part.now }
+    ensures within { result ≤ length part.now }
+    ensures none_before { is_written inode (take result part.now) ≡ false }
+    ensures there { is_written inode part.now ≡ true → is_written inode (take (result + 1) part.now) ≡ true }
 {
     for (place, logged) in part.iter().enumerate() {
-        if logged
-            .effects
-            .as_slice()
-            .iter()
-            .any(|effect| effect.subject() == inode)
-        {
+        if touches_inode(logged, inode) {
             return place;
         }
     }
     part.len()
+}
+
+// Whether a record touches an inode.
+fn touches_inode(logged: &Record, inode: u32) -> bool
+    ensures { result ≡ is_touched inode logged.now }
+{
+    logged
+        .effects
+        .as_slice()
+        .iter()
+        .any(|effect| effect.subject() == inode)
 }
 
 // The generation that a region's header names.

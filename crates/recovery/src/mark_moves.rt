@@ -1,19 +1,19 @@
 //! All marks are set.
 
 ghost use Rattle.std.specs.Prelude.{◌≡◌, ◌≢◌, false, Some, OnOk, IfErr};
-ghost use Rattle.shared_area.specs.layout.declared.marks.Marks.{Marks};
-ghost use Rattle.shared_area.specs.area_image.Store.{disk, graph, marks as marks_of};
-ghost use Rattle.shared_area.specs.batch_journal.Course.{Unmoved};
+ghost use Rattle.recovery_laws.specs.shared_area.layout.declared.marks.Marks.{Marks};
+ghost use Rattle.recovery_laws.specs.shared_area.area_image.Store.{disk, graph, marks as marks_of};
+ghost use Rattle.recovery_laws.specs.shared_area.batch_journal.Course.{Unmoved};
 ghost use Rattle.recovery.specs.declared.error.RecoveryError.TheVariants.{DeviceFault};
-ghost use Rattle.recovery.specs.Errors.{IsFaultOrMemory};
+ghost use Rattle.recovery.specs.FaultOrMemory.{IsFaultOrMemory};
 ghost use Rattle.recovery.specs.Recovers.{CountNone, marks_by};
 ghost use Rattle.recovery.specs.Phases.{StaysRecovered, AnswersFaults};
 
 use crate::error::RecoveryError;
-use digester::{
-    GraphChange, changes_are_the_effects, changes_keep_to_the_limits, marks_can_be_written,
+use recovery_laws::{
+    ApplyError, CLIENTS, GraphChange, Mark, Marks, Media, Shared, changes_are_the_effects,
+    changes_keep_to_the_limits, marks_can_be_written,
 };
-use shared_area::{ApplyError, CLIENTS, Mark, Marks, Media, Shared};
 use std::alloc::Global;
 
 /// Sets the marks of all clients, in one batch. The graph stays, and so does the number of digests. Where no record counts under the marks from before nor under the new ones, whatever a stop leaves meanwhile is

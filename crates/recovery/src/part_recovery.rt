@@ -1,17 +1,21 @@
 //! The world that parts store.
 
-ghost use Rattle.std.specs.Prelude.{◌≡◌, ◌≢◌, ◌≤◌, [], false, IfErr, IfOk};
+ghost use Rattle.std.specs.Prelude.{◌≡◌, ◌≢◌, ◌≤◌, [], false, IfErr, IfOk, OnOk};
 ghost use Rattle.std.specs.Vec.{vec_capacity};
-ghost use Rattle.shared_area.specs.batch_journal.Volume.{IsVolume};
-ghost use Rattle.world.specs.system_world.Contents.{CanRecover, stored_state};
-ghost use Rattle.world.specs.system_world.News.{no_calls};
+ghost use Rattle.recovery_laws.specs.shared_area.area_image.Store.{disk};
+ghost use Rattle.recovery_laws.specs.shared_area.batch_journal.Volume.{IsVolume};
+ghost use Rattle.world.specs.system_world.Contents.{CanRecover, log_in, stored_state};
+ghost use Rattle.world.specs.system_world.KeptCalls.{no_calls};
 ghost use Rattle.world.specs.system_world.Parts.{medium_of};
 ghost use Rattle.world.specs.system_world.WorldTree.{world_tree};
 ghost use Rattle.world.specs.system_world.event_steps.kernel_fs.layout.Places.{Sizes};
-ghost use Rattle.recovery.specs.declared.error.RecoveryError.TheVariants.{DeviceFault};
-ghost use Rattle.recovery.specs.Errors.{IsFaultOrMemory};
-ghost use Rattle.recovery.specs.Parts.{AreAtRest, SomeRose, contents_of, media_beneath, part_medium};
+ghost use Rattle.recovery.specs.declared.error.RecoveryError.TheVariants.{AreaSize, DeviceFault, RegionSize};
+ghost use Rattle.recovery.specs.Errors.{OnBadLog, OnDamage};
+ghost use Rattle.recovery.specs.FaultOrMemory.{IsFaultOrMemory};
+ghost use Rattle.recovery.specs.Parts.{AreAtRest, contents_of, part_medium};
+ghost use Rattle.recovery.specs.PartMedia.{SomeRose, media_beneath};
 ghost use Rattle.recovery.specs.RecoveryStops.{AreGivenBack, IsIdle, IsRecoveredWorld, StaysStored, StoresTree};
+ghost use Rattle.recovery.specs.Refusals.{HaveRegionSizes, IsCause, IsStoredCause, StoresBadLog, StoresDamage};
 ghost use Rattle.recovery.specs.Regions.{REGIONS};
 ghost use Rattle.recovery.specs.Settlement.{AreOpenRegions};
 
@@ -22,17 +26,17 @@ use crate::parts::Parts;
 use crate::region_list::{hand_back, reopen_regions};
 use crate::region_wipes::wipe_regions;
 use crate::settlement::settle_area;
-use shared_area::{Media, Shared};
+use recovery_laws::{Media, Region, Shared};
 use std::alloc::Global;
-use update_log::Region;
 use world::World;
 
 /// The world of the tree that parts store, on which nothing may be pending: after the records that count, with the files that were open closed, and without
 /// those that have no name. Nobody uses it, and nothing is pending on its parts.
 ///
 /// Of contents that a world or a recovery may have left, whatever a stop leaves meanwhile is recovered to the same tree, also where this is refused. Refused are a device that fails, want of
-/// memory, and contents that store no tree: `Damaged` where the shared medium has no sound graph, `RegionSize` where a medium has not the size of a region, `BadLog` for
-/// the first record of a client that can't be digested; never what a world or a recovery may have left. The parts are given back then, and where no device has failed
+/// memory, and contents that store no tree, which each refusal names (`specs/Refusals.antt`): `Damaged` a structure of the shared medium, or the slot of an inode that has a defect in the
+/// graph after all records that count; `RegionSize` where a medium has not the size of a region; `BadLog` the first record of the first client that touches an inode which an earlier
+/// client's records do, or, where there is none, that can't be digested. Never what a world or a recovery may have left. The parts are given back then, and where no device has failed
 /// nothing is pending on them.
 pub fn recover<M: Media + Drop>(
     alloc: Global,
@@ -51,6 +55,11 @@ pub fn recover<M: Media + Drop>(
     ensures stop_refused { IfErr result (λ e. StaysStored M.Media (part_medium parts) (part_medium e.1)) }
 
     ensures never { IfErr result (λ e. (g : Sizes) → CanRecover g (contents_of M.Media (part_medium parts)) → IsFaultOrMemory e.0) }
+    ensures only { IfErr result (λ e. e.0 ≢ AreaSize) }
+    ensures size { IfErr result (λ e. e.0 ≡ RegionSize → HaveRegionSizes (contents_of M.Media (part_medium parts)) → ⊥) }
+    ensures sizes { OnOk result (HaveRegionSizes (contents_of M.Media (part_medium parts))) }
+    ensures damaged { IfErr result (λ e. OnDamage e.0 (StoresDamage (contents_of M.Media (part_medium parts)))) }
+    ensures bad_log { IfErr result (λ e. OnBadLog e.0 (StoresBadLog (contents_of M.Media (part_medium parts)))) }
     ensures fault { IfErr result (λ e. e.0 ≡ DeviceFault → SomeRose M.Media (part_medium parts) (part_medium e.1)) }
     ensures rest_refused { IfErr result (λ e. e.0 ≢ DeviceFault → AreAtRest M.Media (part_medium e.1)) }
 {
@@ -65,6 +74,8 @@ fn recover_parts<M: Media + Drop>(
     requires rest { AreAtRest M.Media (part_medium parts) }
     ensures world { IfOk result (IsRecoveredWorld M.Media (part_medium parts)) }
     ensures back { IfErr result (λ e. AreGivenBack M.Media (part_medium parts) (part_medium e.1) e.0) }
+    ensures cause { IfErr result (λ e. IsCause (contents_of M.Media (part_medium parts)) e.0) }
+    ensures sizes { OnOk result (HaveRegionSizes (contents_of M.Media (part_medium parts))) }
 {
     let (shared, media) = parts.into_media();
     let mut media = media;
@@ -95,6 +106,7 @@ fn recover_opened<M: Media + Drop>(
     requires room { REGIONS ≤ vec_capacity media }
     ensures world { IfOk result (IsRecoveredWorld M.Media (part_medium (media_beneath area regions.items))) }
     ensures back { IfErr result (λ e. AreGivenBack M.Media (part_medium (media_beneath area regions.items)) (part_medium e.1) e.0) }
+    ensures cause { IfErr result (λ e. IsStoredCause area.geometry (disk M.Media area) (log_in (contents_of M.Media (part_medium (media_beneath area regions.items)))) e.0) }
 {
     let (mut area, mut regions, mut media) = (area, regions, media);
     area.left_now();

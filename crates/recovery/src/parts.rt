@@ -3,7 +3,7 @@
 ghost use Rattle.std.specs.Prelude.{◌≡◌, ◌≢◌, IfErr, IfOk, length, OnErr, OnOk};
 ghost use Rattle.recovery.specs.Regions.{REGIONS};
 
-use shared_area::Media;
+use recovery_laws::Media;
 use std::marker::Model;
 
 /// How many regions a world has: two for each of its eight clients.

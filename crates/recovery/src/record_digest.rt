@@ -1,30 +1,30 @@
 // The records of a sealed log are digested.
-ghost use Rattle.std.specs.Prelude.{◌≡◌, ◌≤◌, ◌<◌, ◌^◌, ℕ, length, true, false, IfErr, IfOk, OnOk};
+ghost use Rattle.std.specs.Prelude.{◌≡◌, ◌≤◌, ◌<◌, ◌+◌, ◌^◌, ℕ, length, true, false, IfErr, IfOk, OnOk};
 ghost use Rattle.std.specs.List.{AllByRecursion};
 ghost use Rattle.std.specs.List.Sorted.{IsStrictlyIncreasing};
-ghost use Rattle.digester.specs.DigestStep.{DigestsOrStays};
-ghost use Rattle.digester.specs.SealedLog.{HasUndigested, StandsAtMark, undone};
-ghost use Rattle.shared_area.specs.area_image.Store.{disk};
-ghost use Rattle.update_log.specs.RecordCounts.{next_generation};
-ghost use Rattle.update_log.specs.log_record.Grammar.{IsRecord};
+ghost use Rattle.recovery_laws.specs.digester.DigestStep.{DigestsOrStays};
+ghost use Rattle.recovery_laws.specs.digester.SealedLog.{HasUndigested, StandsAtMark, undone};
+ghost use Rattle.recovery_laws.specs.digester.declared.error.DigestError.TheVariants as digests;
+ghost use Rattle.recovery_laws.specs.shared_area.area_image.Store.{disk, graph};
+ghost use Rattle.recovery_laws.specs.update_log.RecordCounts.{next_generation};
+ghost use Rattle.recovery_laws.specs.update_log.log_record.Grammar.{IsRecord};
 ghost use Rattle.world.specs.system_world.event_steps.kernel_fs.layout.Places.{Sizes};
 ghost use Rattle.world.specs.system_world.event_steps.posix_calls.Operations.{is_client};
 ghost use Rattle.world.specs.system_world.event_steps.posix_calls.Tree.{State};
 ghost use Rattle.recovery_laws.specs.Inodes.{HasEveryInode};
-ghost use Rattle.recovery.specs.declared.error.RecoveryError.TheVariants.{Memory};
-ghost use Rattle.recovery.specs.DigestedLogs.{DigestsAll, DigestsNext, HaveRecords, IsLogOf, IsNoBadLog, IsRefusal};
-ghost use Rattle.recovery.specs.Errors.{IsDigestError, IsFaultOrMemory};
+ghost use Rattle.recovery.specs.declared.error.RecoveryError.TheVariants.{BadLog, Memory};
+ghost use Rattle.recovery.specs.DigestedLogs.{CanDigest, DigestsAll, DigestsNext, HaveRecords, IsLogOf, IsNoBadLog, IsRefusal, NamesBad, NamesRefused};
+ghost use Rattle.recovery.specs.Errors.{IsDigestError};
+ghost use Rattle.recovery.specs.FaultOrMemory.{IsFaultOrMemory};
 ghost use Rattle.recovery.specs.Phases.{AnswersFaults, StaysRecovered};
 ghost use Rattle.recovery.specs.Recovers.{Recovers, Regions};
 
 use crate::error::RecoveryError;
-use digester::{
-    DigestError, MAX_INODE, SealedLog, digest_chunk, marks_can_be_written,
+use recovery_laws::{
+    DigestError, MAX_INODE, Media, Record, SealedLog, Shared, digest_chunk, marks_can_be_written,
     moved_mark_leaves_the_rest, prepare,
 };
-use shared_area::{Media, Shared};
 use std::alloc::{AllocError, Global};
-use update_log::Record;
 
 // The number of every inode, rising.
 fn every_inode(alloc: Global) -> Result<Vec<u32>, AllocError>
@@ -71,6 +71,7 @@ fn digest_next<M: Media>(
     ensures any_moment { StaysRecovered M.Media (HaveRecords log.old) area.old.media area.new.media }
     ensures digested { OnOk result (DigestsNext M.Media log.old area.old log.new area.new) }
     ensures at_mark { OnOk result (StandsAtMark log.new (disk M.Media area.new)) }
+    ensures bad { IfErr result (NamesBad area.old.geometry (disk M.Media area.old) log.old) }
     ensures never { IfErr result (λ e. HasEveryInode log.old.held → (g : Sizes) (regions : Regions) (state : State) → HaveRecords log.old regions → Recovers g regions state (M.seen area.old.media) → IsNoBadLog e) }
     ensures answers { DigestsOrStays M.Media area.old area.new result }
 {
@@ -86,7 +87,8 @@ fn digest_next<M: Media>(
 
 // Why a recovery is refused where a digest is of a client's log whose first `from` records are none that count; `before` that count stand in another region.
 fn refusal(error: DigestError, client: u32, from: usize, before: usize) -> RecoveryError
-    ensures { IsRefusal client error result }
+    ensures kind { IsRefusal client error result }
+    ensures place { (k : ℕ) → error ≡ digests.BadLog (from + k) → before + k < 2 ^ 64 → result ≡ BadLog client (before + k) }
 {
     match error {
         DigestError::DeviceFault => RecoveryError::DeviceFault,
@@ -114,17 +116,20 @@ pub(crate) fn digest_records<M: Media>(
     requires at_mark { StandsAtMark log (disk M.Media area.old) }
     ensures any_moment { StaysRecovered M.Media (HaveRecords log) area.old.media area.new.media }
     ensures digested { OnOk result (DigestsAll M.Media log.client (record { generation = next_generation log.generation; done = 0 }) (undone log) area.old area.new) }
+    ensures good { OnOk result (CanDigest area.old.geometry.units (graph area.old.geometry (disk M.Media area.old)) (undone log)) }
+    ensures bad { IfErr result (NamesRefused log.client before area.old.geometry.units (graph area.old.geometry (disk M.Media area.old)) (undone log)) }
     ensures never { IfErr result (λ e. (g : Sizes) (regions : Regions) (state : State) → HaveRecords log regions → Recovers g regions state (M.seen area.old.media) → IsFaultOrMemory e) }
     ensures only { IfErr result IsDigestError }
     ensures answers { AnswersFaults M.Media area.old area.new result }
 {
     area.left_now();
     let mut log = log;
+    let client = log.client();
     let from = log.digested_count() as usize;
     'chunks: while !log.is_digested() {
         match digest_next(alloc, area, &mut log) {
             Ok(()) => {}
-            Err(error) => return Err(refusal(error, log.client(), from, before)),
+            Err(error) => return Err(refusal(error, client, from, before)),
         }
     }
     Ok(())

@@ -1,12 +1,12 @@
 // The records of a client's region are read.
 ghost use Rattle.std.specs.Prelude.{◌≡◌, ◌≢◌, ◌≤◌, ◌<◌, ◌+◌, ◌^◌, ◌⊎◌, ℕ, length, slice_get, Some, IfOk, IfErr, true};
 ghost use Rattle.std.specs.List.{AllByRecursion, AllZip};
-ghost use Rattle.update_log.specs.Frames.{records};
-ghost use Rattle.update_log.specs.Stage.{IsIdle};
-ghost use Rattle.update_log.specs.View.{RegionView};
-ghost use Rattle.update_log.specs.log_record.Grammar.{IsRecord};
-ghost use Rattle.update_log.specs.tier_device.Media.{Rose};
-ghost use Rattle.update_log.specs.tier_device.declared.media.Tier.TheVariants.{Fast};
+ghost use Rattle.recovery_laws.specs.update_log.Frames.{records};
+ghost use Rattle.recovery_laws.specs.update_log.Stage.{IsIdle};
+ghost use Rattle.recovery_laws.specs.update_log.View.{RegionView};
+ghost use Rattle.recovery_laws.specs.update_log.log_record.Grammar.{IsRecord};
+ghost use Rattle.recovery_laws.specs.update_log.tier_device.Media.{Rose};
+ghost use Rattle.recovery_laws.specs.update_log.tier_device.declared.media.Tier.TheVariants.{Fast};
 ghost use Rattle.world.specs.system_world.event_steps.posix_calls.Operations.{is_client};
 ghost use Rattle.recovery.specs.declared.error.RecoveryError.TheVariants.{DeviceFault, Memory};
 ghost use Rattle.recovery.specs.DigestedLogs.{IsReadRefusal};
@@ -14,9 +14,8 @@ ghost use Rattle.recovery.specs.Regions.{HaveRisen, IsOnlyRead, REGIONS, media_o
 ghost use Rattle.recovery.specs.SpelledRecords.{HasSpelledEffects};
 
 use crate::error::RecoveryError;
-use digester::client_index;
+use recovery_laws::{Media, Record, Region, RegionError, client_index};
 use std::alloc::Global;
-use update_log::{Media, Record, Region, RegionError};
 
 // A record has a spelling, where its effects have one.
 fn record_is_spelled(logged: &Record)

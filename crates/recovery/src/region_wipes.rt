@@ -1,11 +1,11 @@
 // Regions that are wiped.
 ghost use Rattle.std.specs.Prelude.{◌≡◌, ◌≤◌, ◌%◌, ◌/◌, ℕ, List, length, slice_index, Some, IfErr, IfOk, OnErr, OnOk};
 ghost use Rattle.std.specs.Prelude.{slice_get};
-ghost use Rattle.update_log.specs.tier_device.Media.{Keeps};
-ghost use Rattle.update_log.specs.View.{RegionView};
-ghost use Rattle.update_log.specs.Wipe.{wipe_next};
-ghost use Rattle.update_log.specs.Moments.{PastStays};
-ghost use Rattle.update_log.specs.tier_device.Media.{Rose};
+ghost use Rattle.recovery_laws.specs.update_log.tier_device.Media.{Keeps};
+ghost use Rattle.recovery_laws.specs.update_log.View.{RegionView};
+ghost use Rattle.recovery_laws.specs.update_log.Wipe.{wipe_next};
+ghost use Rattle.recovery_laws.specs.update_log.Moments.{PastStays};
+ghost use Rattle.recovery_laws.specs.update_log.tier_device.Media.{Rose};
 ghost use Rattle.world.specs.system_world.courses.Courses.{Content};
 ghost use Rattle.world.specs.system_world.event_steps.kernel_fs.layout.Places.{Sizes};
 ghost use Rattle.world.specs.system_world.event_steps.posix_calls.Tree.{State};
@@ -15,7 +15,7 @@ ghost use Rattle.recovery.specs.Regions.{HaveRisen, REGIONS, media_of};
 ghost use Rattle.recovery.specs.Silent.{AreLeftOf, AreMarked, AreSilent, GoesOn, IsSilent, IsWiped, IsWipingTo, LeftOfRegion, MayBeWiped, StaysSilent, wiped_name};
 
 use crate::error::RecoveryError;
-use update_log::{Media, Region, RegionError, WipeProgress};
+use recovery_laws::{Media, Region, RegionError, WipeProgress};
 
 /// Wipes the sixteen regions, in their order: those of a client to its generation and the next one. Of each client, neither region has a record that
 /// counts under its generation or the next.

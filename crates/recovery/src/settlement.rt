@@ -10,9 +10,8 @@ use crate::graph_test::test_graph;
 use crate::log_digest::digest_logs;
 use crate::log_search::{FoundLog, find_logs};
 use crate::mark_moves::set_marks;
-use shared_area::{CLIENTS, Mark, Media, Shared};
+use recovery_laws::{CLIENTS, Mark, Media, Region, Shared};
 use std::alloc::Global;
-use update_log::Region;
 
 /// Brings all that counts into the area: it digests the records, tests the graph, drops the files without names, and sets each mark to a generation that no
 /// region names. It answers these generations.

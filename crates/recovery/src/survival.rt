@@ -6,15 +6,16 @@ ghost use Rattle.world.specs.system_world.Steps.{recoverable};
 ghost use Rattle.world.specs.system_world.courses.Plays.{Plays};
 ghost use Rattle.world.specs.system_world.event_steps.kernel_fs.layout.Places.{Sizes};
 ghost use Rattle.recovery.specs.declared.error.RecoveryError.TheVariants.{DeviceFault};
-ghost use Rattle.recovery.specs.Errors.{IsFaultOrMemory};
-ghost use Rattle.recovery.specs.Parts.{AreAtRest, SomeRose, contents_of, part_medium};
+ghost use Rattle.recovery.specs.FaultOrMemory.{IsFaultOrMemory};
+ghost use Rattle.recovery.specs.Parts.{AreAtRest, contents_of, part_medium};
+ghost use Rattle.recovery.specs.PartMedia.{SomeRose};
 ghost use Rattle.recovery.specs.RecoveryStops.{IsRecoveredWorld, StaysStored};
 ghost use Rattle.recovery.specs.Survival.{Survives};
 
 use crate::error::RecoveryError;
 use crate::part_recovery::recover;
 use crate::parts::Parts;
-use shared_area::Media;
+use recovery_laws::Media;
 use std::alloc::{AllocError, Global};
 use world::{Event, Outcome, World, play};
 

@@ -1,7 +1,7 @@
 -- What stands where in the fast tier of a fresh area.
 use Rattle.std.proofs.Common.{◌≡◌, ℕ, ◌+◌, ◌-◌, ◌*◌, ◌≤◌, List, ◌++◌, length, refl, ap, ◌∙◌, arith}
 use Rattle.std.proofs.lemmas.List.{length-append}
-use Rattle.digester.specs.batch_journal.Images.{slice}
+use Rattle.kernel_fs.specs.digester.batch_journal.Images.{slice}
 use Rattle.fresh_media.specs.layout.Bytes.{zeros, padded_text}
 use Rattle.fresh_media.specs.layout.Marks.{marks_spelling, marks_text}
 use Rattle.fresh_media.specs.layout.Places.{Sizes, tier_blocks}

@@ -10,7 +10,7 @@ use Rattle.fresh_media.specs.layout.posix_calls.Tree.{sum_up_to}
 use Rattle.fresh_media.proofs.layout_lemmas.posix_calls_lemmas.Sums.{one_changes, all_zero}
 use Rattle.fresh_media.proofs.layout_lemmas.posix_calls_lemmas.Counts.{order}
 use Rattle.fresh_media.specs.layout.file_graph.declared.effect.Kind.{Kind}
-use Rattle.digester.specs.area_image.extent_tree.Places.{place_of}
+use Rattle.kernel_fs.specs.area_image.extent_tree.Places.{place_of}
 use Rattle.fresh_media.specs.layout.tier_device.declared.media.Tier.{Tier}
 use Rattle.fresh_media.specs.layout.tier_device.declared.media.Tier.TheVariants.{Fast, Block, Slow}
 use Rattle.fresh_media.specs.layout.Bytes.{u32, u64, zeros, padded_text, are_zero}
@@ -22,13 +22,13 @@ use Rattle.fresh_media.specs.layout.declared.slot.Slot.TheVariants as slots
 use Rattle.fresh_media.specs.layout.Slot.{fits_slot, slot_spelling, slot_of}
 use Rattle.fresh_media.specs.layout.declared.superblock.Super.{Super}
 use Rattle.fresh_media.specs.layout.Super.{fits_super, super_spelling, super_of}
-use Rattle.digester.specs.MarkMoves.{mark_of}
-use Rattle.digester.specs.batch_journal.Images.{slice}
-use Rattle.digester.specs.batch_journal.Blocks.{home, block_of, is_home, is_gate_open}
-use Rattle.digester.specs.batch_journal.Volume.{Spells, IsJournal, HasSizes, IsVolume}
-use Rattle.digester.specs.area_image.tree_blocks.Inode.{IsConsistent, inode_of, node_of}
-use Rattle.digester.specs.area_image.Store.{Store, store_of, slot_bytes, slot_read, slot, root_of, extents_read, place, logical_block, inode, graph, marks}
-use Rattle.digester.specs.area_image.Format.{SpellsInode, used_block, IsSpelled, IsOpenable}
+use Rattle.kernel_fs.specs.digester.MarkMoves.{mark_of}
+use Rattle.kernel_fs.specs.digester.batch_journal.Images.{slice}
+use Rattle.kernel_fs.specs.digester.batch_journal.Blocks.{home, block_of, is_home, is_gate_open}
+use Rattle.kernel_fs.specs.digester.batch_journal.Volume.{Spells, IsJournal, HasSizes, IsVolume}
+use Rattle.kernel_fs.specs.area_image.tree_blocks.Inode.{IsConsistent, inode_of, node_of}
+use Rattle.kernel_fs.specs.area_image.Store.{Store, store_of, slot_bytes, slot_read, slot, root_of, extents_read, place, logical_block, inode, graph, marks}
+use Rattle.kernel_fs.specs.area_image.Format.{SpellsInode, used_block, IsSpelled, IsOpenable}
 use Rattle.fresh_media.specs.Fresh.{bare_root, no_marks, fresh_fast, fresh_tiers}
 use Rattle.fresh_media.proofs.Zeros.{padded_long}
 use Rattle.recovery_laws.proofs.Slices.{slice_slice}

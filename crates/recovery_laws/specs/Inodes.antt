@@ -1,7 +1,7 @@
 -- What a recovery holds for writing.
 use Rattle.std.specs.Prelude.{◌≡◌, ℕ, List, true}
-use Rattle.digester.specs.file_graph.Graph.{is_among}
-use Rattle.digester.specs.layout.Places.{is_inode}
+use Rattle.kernel_fs.specs.digester.file_graph.Graph.{is_among}
+use Rattle.kernel_fs.specs.layout.Places.{is_inode}
 
 -- every inode number is in the list
 abbrev pub HasEveryInode : List ℕ → Type 0

@@ -1,10 +1,10 @@
 //! What the bytes of a fresh area stand for.
 
 ghost use Rattle.std.specs.Prelude.{◌≡◌, ℕ, Some};
-ghost use Rattle.digester.specs.area_image.Format.{IsOpenable};
-ghost use Rattle.digester.specs.area_image.Store.{store_of, graph, marks};
-ghost use Rattle.digester.specs.batch_journal.Volume.{IsVolume};
-ghost use Rattle.digester.specs.MarkMoves.{mark_of};
+ghost use Rattle.kernel_fs.specs.area_image.Format.{IsOpenable};
+ghost use Rattle.kernel_fs.specs.area_image.Store.{store_of, graph, marks};
+ghost use Rattle.kernel_fs.specs.digester.batch_journal.Volume.{IsVolume};
+ghost use Rattle.kernel_fs.specs.digester.MarkMoves.{mark_of};
 ghost use Rattle.fresh_media.specs.Fresh.{no_marks, fresh_tiers};
 ghost use Rattle.fresh_media.specs.layout.Places.{Sizes, IsAllowed};
 ghost use Rattle.fresh_media.specs.layout.file_graph.Graph.{fresh};

@@ -3,4 +3,5 @@ pub mod Numbers
 pub mod Parts
 pub mod Paths
 pub mod RunLaws
+pub mod FillLaws
 mod LineLemmas

@@ -5,7 +5,7 @@ use Rattle.std.specs.List.{position, position_or_len}
 use Rattle.std.proofs.lemmas.List.Splits.{slice_split_first, slice_split_none}
 use Rattle.std.proofs.lemmas.List.Sums.{fails_before_first}
 use Rattle.std.specs.Prelude.{option_map}
-use Rattle.script.specs.Script.{parts, one, three, four}
+use Rattle.script.specs.Script.{parts, one, two, three, four}
 use Rattle.script.specs.SystemLines.{asks, asks_either, event}
 
 -- where the first is found, as a number below the length
@@ -32,6 +32,11 @@ parts_last byte text none = slice_split_none (λ b. b == byte) text (none_passes
 pub one-parts : (a : List ℕ) (byte : ℕ) (text : List ℕ) → one (a ∷ parts byte text) ≡ None
 one-parts a byte [] = refl
 one-parts a byte (b ∷ bs) = grind (arith, common_steps)
+
+-- nor are two before them the only ones
+pub two-parts : (a b : List ℕ) (byte : ℕ) (text : List ℕ) → two (a ∷ b ∷ parts byte text) ≡ None
+two-parts a b byte [] = refl
+two-parts a b byte (c ∷ cs) = grind (arith, common_steps)
 
 -- four words are one and three behind it
 pub four-first : (a : List ℕ) (ws : List (List ℕ)) → four (a ∷ ws) ≡ option_map (λ w. (a, w.0, w.1, w.2)) (three ws)

@@ -3,6 +3,7 @@ pub mod Runs
 pub mod Script
 pub mod LineValues
 pub mod SystemLines
+pub mod Fills
 pub mod Parts
 pub mod PrintRuns
 pub mod LineReads

@@ -12,7 +12,7 @@ use Rattle.script.specs.declared.call_text.Line.{Line}
 use Rattle.script.specs.declared.call_text.Line.TheVariants as line
 use Rattle.script.specs.declared.system_line.SystemLine.{SystemLine}
 use Rattle.script.specs.declared.system_line.SystemLine.TheVariants as system
-use Rattle.script.specs.SystemLines.{Asked, Calls, Steps, Digests, Wipes, Moves, Places, Books}
+use Rattle.script.specs.SystemLines.{Asked, Calls, Steps, Digests, Wipes, Moves, Places, Books, Stops, Halts, Fails, Recovers}
 
 -- the value, or no bytes
 abbrev pub or_empty : Option (List ℕ) → List ℕ
@@ -57,3 +57,7 @@ system_line_seen (system.Wipe c) = Some (Wipes c)
 system_line_seen (system.Migrate path first count to) = Some (Moves (path_of path) first count to)
 system_line_seen (system.Where path block) = Some (Places (path_of path) block)
 system_line_seen system.Book = Some Books
+system_line_seen (system.Stop call fill) = Some (Stops call fill)
+system_line_seen (system.Halt fills) = Some (Halts fills)
+system_line_seen (system.Fail call medium) = Some (Fails call medium)
+system_line_seen system.Recover = Some Recovers

@@ -17,6 +17,11 @@ None >>= f = None
 abbrev pub parts : ℕ → List ℕ → List (List ℕ)
 parts byte text = slice_split (λ b. b == byte) text
 
+-- the words of a text, where there is one
+abbrev pub words_in : Option (List ℕ) → List (List ℕ)
+words_in None = []
+words_in (Some text) = parts 32 text
+
 -- the only word
 abbrev pub one : List (List ℕ) → Option (List ℕ)
 one (a ∷ []) = Some a
@@ -70,6 +75,10 @@ number_from n bs = if list_all is_digit bs && nat_lt (value_from n bs) (2 ^ 64) 
 abbrev pub number : List ℕ → Option ℕ
 number [] = None
 number (b ∷ bs) = number_from 0 (b ∷ bs)
+
+-- a number from 1 on
+abbrev pub ordinal : List ℕ → Option ℕ
+ordinal word = number word >>= λ n. if nat_le 1 n then Some n else None
 
 -- a client, from 1 on
 abbrev pub client : List ℕ → Option ℕ

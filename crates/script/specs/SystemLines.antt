@@ -1,8 +1,11 @@
 -- What a line of a script asks of a running system.
 use Rattle.std.specs.Prelude.{ℕ, ◌==◌, List, [], ◌∷◌, Option, Some, None, if◌then◌else◌, option_map, codes}
+use Rattle.std.specs.Option.{option_or}
 use Rattle.std.specs.Str.{bytes_eq}
 use Rattle.update_log.specs.posix_calls.declared.call.Call.{Call}
-use Rattle.script.specs.Script.{◌>>=◌, parts, one, two, four, number, client, path_bytes}
+use Rattle.update_log.specs.tier_device.declared.fill.Fill.{Fill}
+use Rattle.script.specs.Script.{◌>>=◌, parts, one, two, four, number, ordinal, client, path_bytes}
+use Rattle.script.specs.Fills.{fill, medium, all_fills}
 use Rattle.script.specs.Lines.{verb, call_for}
 use Rattle.script.specs.declared.system_line.Manner.{Manner}
 use Rattle.script.specs.declared.system_line.Manner.TheVariants as manners
@@ -11,7 +14,7 @@ use Rattle.script.specs.declared.system_line.LowerTier.TheVariants as tiers
 use Rattle.script.specs.declared.system_line.EventWord.{EventWord}
 use Rattle.script.specs.declared.system_line.EventWord.TheVariants as events
 
--- what is asked: a client's call, in a manner; an event of a client; a move of so many blocks, from one on, to a tier; the tier of a block; how the units stand
+-- what is asked: a client's call, in a manner; an event of a client; a move of so many blocks, from one on, to a tier; the tier of a block; how the units stand; a stop within a write or fence, and its fill; a stop between two, and the fill of each medium; the failure of a medium's write or fence; a recovery
 pub data Asked : Type 0 where
   Calls : (client : ℕ) (manner : Manner) (call : Call) → Asked
   Steps : (client : ℕ) → Asked
@@ -20,6 +23,10 @@ pub data Asked : Type 0 where
   Moves : (path : List ℕ) (first count : ℕ) (to : LowerTier) → Asked
   Places : (path : List ℕ) (block : ℕ) → Asked
   Books : Asked
+  Stops : (call : ℕ) (fill : Fill) → Asked
+  Halts : (fills : List Fill) → Asked
+  Fails : (call medium : ℕ) → Asked
+  Recovers : Asked
 
 -- ---- words
 
@@ -27,14 +34,25 @@ pub data Asked : Type 0 where
 abbrev pub manner : List ℕ → Option Manner
 manner w = if bytes_eq w (codes "try") then Some manners.Tried else if bytes_eq w (codes "begin") then Some manners.Begun else None
 
--- the event that a word names
-abbrev pub event : List ℕ → Option EventWord
-event w =
+-- the event that stops a world, or fails one of its media, by its word
+abbrev pub stop_event : List ℕ → Option EventWord
+stop_event w =
+    if bytes_eq w (codes "stop") then Some events.Stop else
+    if bytes_eq w (codes "halt") then Some events.Halt else
+    if bytes_eq w (codes "fail") then Some events.Fail else None
+
+-- the event of a running world that a word names
+abbrev pub running_event : List ℕ → Option EventWord
+running_event w =
     if bytes_eq w (codes "step") then Some events.Step else
     if bytes_eq w (codes "digest") then Some events.Digest else
     if bytes_eq w (codes "wipe") then Some events.Wipe else
     if bytes_eq w (codes "migrate") then Some events.Migrate else
     if bytes_eq w (codes "where") then Some events.Where else None
+
+-- the event of either kind
+abbrev pub event : List ℕ → Option EventWord
+event w = option_or (running_event w) (stop_event w)
 
 -- the tier that a word names
 abbrev pub lower_tier : List ℕ → Option LowerTier
@@ -64,6 +82,9 @@ asks_event events.Digest words = one words >>= λ w. option_map Digests (client 
 asks_event events.Wipe words = one words >>= λ w. option_map Wipes (client w)
 asks_event events.Migrate words = four words >>= λ w. path_bytes w.0 >>= λ path. number w.1 >>= λ first. number w.2 >>= λ count. option_map (Moves path first count) (lower_tier w.3)
 asks_event events.Where words = two words >>= λ w. path_bytes w.0 >>= λ path. option_map (Places path) (number w.1)
+asks_event events.Stop words = two words >>= λ w. ordinal w.0 >>= λ k. option_map (Stops k) (fill w.1)
+asks_event events.Halt words = option_map Halts (all_fills words)
+asks_event events.Fail words = two words >>= λ w. ordinal w.0 >>= λ k. option_map (Fails k) (medium w.1)
 
 -- the call of the client that the first word numbers
 abbrev pub asks_numbered : List ℕ → List (List ℕ) → Option Asked
@@ -74,9 +95,16 @@ abbrev pub asks_either : Option EventWord → List ℕ → List (List ℕ) → O
 asks_either (Some e) w words = asks_event e words
 asks_either None w words = asks_numbered w words
 
+-- what one word asks
+abbrev pub asks_alone : List ℕ → Option Asked
+asks_alone w =
+    if bytes_eq w (codes "book") then Some Books else
+    if bytes_eq w (codes "halt") then option_map Halts (all_fills []) else
+    if bytes_eq w (codes "recover") then Some Recovers else None
+
 abbrev pub asks : List (List ℕ) → Option Asked
 asks [] = None
-asks (w ∷ []) = if bytes_eq w (codes "book") then Some Books else None
+asks (w ∷ []) = asks_alone w
 asks (w ∷ x ∷ words) = asks_either (event w) w (x ∷ words)
 
 -- what a line asks: nothing where it is empty or begins with `#` (35); no value where it can't be read

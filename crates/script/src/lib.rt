@@ -12,11 +12,13 @@
 mod call_text;
 mod data_text;
 mod difference;
+mod fills;
 mod flags;
 mod hex;
 mod laws;
 mod lines;
 mod number;
+mod patch;
 mod path_text;
 mod print_runs;
 mod program;
@@ -34,9 +36,11 @@ mod words;
 
 pub use call_text::{CallText, Line, read_line};
 pub use data_text::DataText;
+pub use fills::MEDIA;
 pub use hex::hex_byte;
 pub use laws::cut_data_are_answered_alike;
 pub use lines::{write_data, write_name};
+pub use patch::Patch;
 pub use path_text::PathText;
 pub use print_runs::{is_plain, run_len};
 pub use program::run_program;

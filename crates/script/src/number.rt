@@ -1,6 +1,6 @@
 // Numbers in decimal digits.
 ghost use Rattle.std.specs.Prelude.{◌≡◌, option_map, min};
-ghost use Rattle.script.specs.Script.{digit, number, client, descriptor};
+ghost use Rattle.script.specs.Script.{digit, number, ordinal, client, descriptor};
 
 use update_log::MAX_CLIENTS;
 
@@ -26,6 +26,17 @@ fn digit_of(byte: u8) -> Option<u64>
         b'0'..=b'9' => Some(u64::from(byte - b'0')),
         _ => None,
     }
+}
+
+/// A number from 1 on.
+pub fn ordinal_of(word: &[u8]) -> Option<u64>
+    ensures { result ≡ ordinal word.now }
+{
+    let number = number_of(word)?;
+    if number < 1 {
+        return None;
+    }
+    Some(number)
 }
 
 /// A client's number, 1 to 8.

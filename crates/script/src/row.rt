@@ -1,4 +1,5 @@
 // A row of a table of scripts.
+use crate::patch::Patch;
 use crate::table_text::Spelled;
 use std::alloc::Global;
 
@@ -10,6 +11,8 @@ pub struct Row<'a> {
     pub name: &'a str,
     /// The words of the command line, with the program's name in front.
     pub words: Vec<&'a str>,
+    /// What is put into the image of the world before the run, in this order.
+    pub patches: Vec<Patch>,
     pub script: Spelled,
     /// What standard output is to have.
     pub printed: Spelled,
@@ -27,6 +30,7 @@ impl<'a> Row<'a> {
             alloc,
             name: "",
             words: Vec::new(alloc),
+            patches: Vec::new(alloc),
             script: Spelled::new(alloc),
             printed: Spelled::new(alloc),
             status: 0,
@@ -53,6 +57,7 @@ impl<'a> Row<'a> {
             "$" => self.add_words(rest),
             "!" => self.set_end(rest),
             "@" => self.add_many(rest),
+            "&" => self.add_patch(rest),
             _ => self.add_call(line, 0),
         }
     }
@@ -83,12 +88,27 @@ impl<'a> Row<'a> {
         }
     }
 
-    // A line for each number of a range, `FIRST..END LINE`.
+    // Bytes for the image, `AT DATA`.
+    fn add_patch(&mut self, text: &str) {
+        let is_added = match Patch::read(self.alloc, text) {
+            Some(patch) => self.patches.push(patch).is_ok(),
+            None => false,
+        };
+        self.is_bad |= !is_added;
+    }
+
+    // Lines for each number of a range, `FIRST..END LINE | LINE ..`.
     fn add_many(&mut self, many: &str) {
-        let (range, line) = many.split_once(' ').unwrap_or((many, ""));
+        let (range, lines) = many.split_once(' ').unwrap_or((many, ""));
         let (first, end) = range.split_once("..").unwrap_or((range, ""));
         let first = self.number(first);
         for number in first..self.number(end) {
+            self.add_calls(lines, number);
+        }
+    }
+
+    fn add_calls(&mut self, lines: &str, number: u64) {
+        for line in lines.split(" | ") {
             self.add_call(line, number);
         }
     }

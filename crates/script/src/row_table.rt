@@ -25,8 +25,8 @@ impl Ran {
 
 /// Who runs the programs that rows name.
 pub trait Programs {
-    /// Runs the program that a row's words name, over the row's script.
-    fn run(&self, row: &Row<'_>) -> Ran;
+    /// Runs the program that a row's words name, over the row's script. None where the row has patches, and that program begins from no image.
+    fn run(&self, row: &Row<'_>) -> Option<Ran>;
 }
 
 /// Runs each row of a table, a row from a line `== NAME` to the next one, and writes of each that does not hold what differs, then how
@@ -59,7 +59,13 @@ fn try_row<P: Programs>(alloc: Global, text: &str, programs: &P, report: &mut Re
         report.say(row.name, &": this row can't be read\n");
         return false;
     }
-    let ran = programs.run(&row);
+    let Some(ran) = programs.run(&row) else {
+        report.say(
+            row.name,
+            &": no image of this row's program can be patched\n",
+        );
+        return false;
+    };
     let is_printed = are_same(row.name, &ran.out, &row.printed.bytes, report);
     let is_ended = ends_so(&row, &ran, report);
     is_printed && is_ended

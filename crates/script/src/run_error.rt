@@ -11,6 +11,8 @@ pub enum RunError {
     Damaged,
     /// A record does not fit its region.
     RegionFull,
+    /// A record of a client's log can't be digested.
+    BadLog,
     /// There was no memory.
     Memory,
 }
@@ -22,6 +24,7 @@ impl RunError {
             RunError::Device => "fault 2",
             RunError::Damaged => "fault 3",
             RunError::RegionFull => "fault 7",
+            RunError::BadLog => "fault 9",
             RunError::Memory => "fault 15",
         }
     }

@@ -1,14 +1,16 @@
 // What a line asks of a running system.
 ghost use Rattle.std.specs.Prelude.{◌≡◌, [], ◌∷◌, Some, option_map};
 ghost use Rattle.script.specs.Script.{parts};
-ghost use Rattle.script.specs.SystemLines.{manner, event, lower_tier, asks, asks_event, asks_call, asks_in, asks_numbered, system_line};
+ghost use Rattle.script.specs.SystemLines.{manner, event, running_event, stop_event, lower_tier, asks, asks_event, asks_call, asks_in, asks_numbered, system_line};
 ghost use Rattle.script.specs.LineValues.{system_line_seen};
 ghost use Rattle.script.specs.declared.system_line.EventWord.TheVariants as events;
 
 use crate::call_text::{CallText, call_of, verb_of};
-use crate::number::{client_of, number_of};
+use crate::fills::{MEDIA, fill_of, fills_of, medium_of};
+use crate::number::{client_of, number_of, ordinal_of};
 use crate::path_text::PathText;
 use crate::words::{cut, four_words, one_word, two_words};
+use update_log::Fill;
 
 /// How a client's call is asked.
 #[derive(Clone, Copy)]
@@ -65,6 +67,25 @@ pub enum SystemLine<'a> {
     },
     /// What the tree costs is told, what the clients were given, and how many units there are.
     Book,
+    /// The world stops within the write or fence of this number, counted over all media from here on, the first being 1. The fill
+    /// is what every byte holds then that was written and not fenced.
+    Stop {
+        call: u64,
+        fill: Fill,
+    },
+    /// The world stops between two calls of its media. The fill of the shared medium stands at 0, that of a client's regions at the
+    /// client's number.
+    Halt {
+        fills: [Fill; MEDIA],
+    },
+    /// The write or fence of this number fails, counted over one medium from here on, the first being 1. The medium is 0 for the
+    /// shared one, else that of the client of this number.
+    Fail {
+        call: u64,
+        medium: u32,
+    },
+    /// The world is recovered.
+    Recover,
 }
 
 /// The word that names an event which is no call.
@@ -75,6 +96,9 @@ pub enum EventWord {
     Wipe,
     Migrate,
     Where,
+    Stop,
+    Halt,
+    Fail,
 }
 
 /// What a line is; none where it can't be read.
@@ -92,7 +116,7 @@ fn read_asked(line: &[u8]) -> Option<SystemLine<'_>>
     ensures { option_map system_line_seen result ≡ option_map Some (asks (parts 32 line.now)) }
 {
     let Some((word, words)) = cut(line, b' ') else {
-        return book_of(line);
+        return single_of(line);
     };
     match event_of(word) {
         Some(event) => asked_event(event, words),
@@ -108,11 +132,16 @@ fn call_line<'a>(word: &[u8], words: &'a [u8]) -> Option<SystemLine<'a>>
     asked_call(client, words)
 }
 
-fn book_of(word: &[u8]) -> Option<SystemLine<'_>>
+// What a line of one word asks.
+fn single_of(word: &[u8]) -> Option<SystemLine<'_>>
     ensures { option_map system_line_seen result ≡ option_map Some (asks (word.now ∷ [])) }
 {
     match word {
         b"book" => Some(SystemLine::Book),
+        b"halt" => Some(SystemLine::Halt {
+            fills: [Fill::New; MEDIA],
+        }),
+        b"recover" => Some(SystemLine::Recover),
         _ => None,
     }
 }
@@ -120,12 +149,29 @@ fn book_of(word: &[u8]) -> Option<SystemLine<'_>>
 fn event_of(word: &[u8]) -> Option<EventWord>
     ensures { result ≡ event word.now }
 {
+    running_event_of(word).or(stop_event_of(word))
+}
+
+fn running_event_of(word: &[u8]) -> Option<EventWord>
+    ensures { result ≡ running_event word.now }
+{
     match word {
         b"step" => Some(EventWord::Step),
         b"digest" => Some(EventWord::Digest),
         b"wipe" => Some(EventWord::Wipe),
         b"migrate" => Some(EventWord::Migrate),
         b"where" => Some(EventWord::Where),
+        _ => None,
+    }
+}
+
+fn stop_event_of(word: &[u8]) -> Option<EventWord>
+    ensures { result ≡ stop_event word.now }
+{
+    match word {
+        b"stop" => Some(EventWord::Stop),
+        b"halt" => Some(EventWord::Halt),
+        b"fail" => Some(EventWord::Fail),
         _ => None,
     }
 }
@@ -145,6 +191,9 @@ fn asked_event(event: EventWord, words: &[u8]) -> Option<SystemLine<'_>>
         }),
         EventWord::Migrate => migrate_of(words),
         EventWord::Where => where_of(words),
+        EventWord::Stop => stop_of(words),
+        EventWord::Halt => halt_of(words),
+        EventWord::Fail => fail_of(words),
     }
 }
 
@@ -181,6 +230,31 @@ fn where_of(words: &[u8]) -> Option<SystemLine<'_>>
     let path = PathText::read(path)?;
     let block = number_of(block)?;
     Some(SystemLine::Where { path, block })
+}
+
+fn stop_of(words: &[u8]) -> Option<SystemLine<'_>>
+    ensures { option_map system_line_seen result ≡ option_map Some (asks_event events.Stop (parts 32 words.now)) }
+{
+    let (call, fill) = two_words(words)?;
+    let call = ordinal_of(call)?;
+    let fill = fill_of(fill)?;
+    Some(SystemLine::Stop { call, fill })
+}
+
+fn halt_of(words: &[u8]) -> Option<SystemLine<'_>>
+    ensures { option_map system_line_seen result ≡ option_map Some (asks_event events.Halt (parts 32 words.now)) }
+{
+    let fills = fills_of(words)?;
+    Some(SystemLine::Halt { fills })
+}
+
+fn fail_of(words: &[u8]) -> Option<SystemLine<'_>>
+    ensures { option_map system_line_seen result ≡ option_map Some (asks_event events.Fail (parts 32 words.now)) }
+{
+    let (call, medium) = two_words(words)?;
+    let call = ordinal_of(call)?;
+    let medium = medium_of(medium)?;
+    Some(SystemLine::Fail { call, medium })
 }
 
 // A client's call, with the manner before it, if one is told.

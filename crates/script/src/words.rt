@@ -37,8 +37,18 @@ pub fn one_word(text: &[u8]) -> Option<&[u8]>
 pub fn two_words(text: &[u8]) -> Option<(&[u8], &[u8])>
     ensures { option_map (λ w. (w.0.now, w.1.now)) result ≡ two (parts SPACE text.now) }
 {
-    let (first, rest) = cut(text, SPACE)?;
-    Some((first, one_word(rest)?))
+    two_parts(text, SPACE)
+}
+
+/// What stands before the only one of these bytes and what behind it, where there is one.
+pub fn two_parts(text: &[u8], byte: u8) -> Option<(&[u8], &[u8])>
+    ensures { option_map (λ w. (w.0.now, w.1.now)) result ≡ two (parts byte text.now) }
+{
+    let (first, rest) = cut(text, byte)?;
+    if cut(rest, byte).is_some() {
+        return None;
+    }
+    Some((first, rest))
 }
 
 /// All words, where there are three.

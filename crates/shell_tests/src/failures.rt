@@ -1,11 +1,11 @@
 ghost use Rattle.std.specs.Prelude.{◌≤◌};
 
-use std::alloc::{AllocError, Global};
+use std::alloc::Global;
 use std::io::{self, ErrorKind};
 use std::test::Fail;
 use workload_cli::{
-    Events, FaultMedia, Geometry, MediaMaker, RamMedia, Running, Trip, answer_line, open_fresh,
-    read_system_line, write_answer,
+    FaultMedia, Geometry, Parts, REGION_SIZE, REGIONS, RamMedia, Trip, World, answer_line, format,
+    read_system_line, tier_lens, write_answer,
 };
 
 // Two clients hand over, and what they logged is digested, wiped and moved down.
@@ -29,23 +29,31 @@ const LINES: [&str; 14] = [
 // More than there are writes and fences.
 const MANY: u64 = 1_000;
 
-// Media that all count by one trip.
-#[derive(Drop)]
-struct Failing {
-    trip: Trip,
+// A medium of zeros that counts by a trip, with tiers of these lengths.
+fn zero_medium(alloc: Global, trip: &Trip, lens: [usize; 3]) -> io::Result<FaultMedia<RamMedia>> {
+    let [fast, block, slow] = lens;
+    let fast = vec![in alloc; 0u8; fast]?;
+    let block = vec![in alloc; 0u8; block]?;
+    let slow = vec![in alloc; 0u8; slow]?;
+    let mut medium = FaultMedia::new(RamMedia::of_bytes(fast, block, slow));
+    medium.fail_with(trip.share()?);
+    Ok(medium)
 }
 
-impl MediaMaker<FaultMedia<RamMedia>> for Failing {
-    fn make(
-        &mut self,
-        fast: Vec<u8>,
-        block: Vec<u8>,
-        slow: Vec<u8>,
-    ) -> Result<FaultMedia<RamMedia>, AllocError> {
-        let trip = self.trip.share()?;
-        let mut media = FaultMedia::new(RamMedia::of_bytes(fast, block, slow));
-        media.fail_with(trip);
-        Ok(media)
+// Media that all count by one trip.
+fn zero_parts(
+    alloc: Global,
+    geometry: &Geometry,
+    trip: &Trip,
+) -> io::Result<Parts<FaultMedia<RamMedia>>> {
+    let shared = zero_medium(alloc, trip, tier_lens(geometry))?;
+    let mut regions = Vec::new(alloc);
+    for _ in 0..REGIONS {
+        regions.push(zero_medium(alloc, trip, [REGION_SIZE, 0, 0])?)?;
+    }
+    match Parts::new(shared, regions) {
+        Ok(parts) => Ok(parts),
+        Err(_) => Err(ErrorKind::Other.into()),
     }
 }
 
@@ -54,26 +62,23 @@ fn printed_lines(alloc: Global, call: u64) -> io::Result<Vec<u8>>
     requires { 1 ≤ call }
 {
     let trip = Trip::new(alloc)?;
-    let mut maker = Failing {
-        trip: trip.share()?,
-    };
     let Some(geometry) = Geometry::new(40, 8, 540, 8) else {
         return Err(ErrorKind::InvalidInput.into());
     };
-    match open_fresh(alloc, &mut maker, &geometry) {
-        Ok(mut system) => {
+    match format(alloc, &geometry, zero_parts(alloc, &geometry, &trip)?) {
+        Ok(mut world) => {
             trip.arm(call);
-            answer_all(alloc, &mut system)
+            answer_all(alloc, &mut world)
         }
         Err(_) => Err(ErrorKind::Other.into()),
     }
 }
 
-fn answer_all<S: Events + Running>(alloc: Global, system: &mut S) -> io::Result<Vec<u8>> {
+fn answer_all(alloc: Global, world: &mut World<FaultMedia<RamMedia>>) -> io::Result<Vec<u8>> {
     let mut out = Vec::new(alloc);
     for line in &LINES {
         if let Some(line) = read_system_line(line.as_bytes()) {
-            write_answer(&mut out, &answer_line(alloc, system, line))?;
+            write_answer(&mut out, &answer_line(alloc, world, line))?;
         }
     }
     Ok(out)

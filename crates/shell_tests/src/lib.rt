@@ -12,6 +12,8 @@ mod draws;
 #[cfg(test)]
 mod failures;
 #[cfg(test)]
+mod recoveries;
+#[cfg(test)]
 mod script_runs;
 #[cfg(test)]
 mod streams;

@@ -46,9 +46,10 @@ const ROWS: [Row; 5] = [
 const COUNT: u64 = 500;
 
 // Runs a script, and tells how its calls were answered. The tree is not asked the call of line `lost`.
-fn tell_run(alloc: Global, start: u64, words: &'static str, lost: u64, report: &mut String) {
+fn tell_run(rt: &HostRuntime, start: u64, words: &'static str, lost: u64, report: &mut String) {
+    let alloc = rt.alloc();
     let script = drawn_script(alloc, start, COUNT);
-    match run(alloc, words, &script) {
+    match run(rt, words, &script) {
         Some(out) => compare(alloc, lost, &script, &out, report),
         None => say(report, "the run did not end well"),
     }
@@ -59,10 +60,11 @@ fn say(report: &mut String, text: &str) {
 }
 
 // What a run prints over a script; none where it did not end with status 0.
-fn run(alloc: Global, words: &'static str, script: &str) -> Option<String> {
+fn run(rt: &HostRuntime, words: &'static str, script: &str) -> Option<String> {
+    let alloc = rt.alloc();
     let words = words.split(' ').collect::<Vec<&str>>(alloc).ok()?;
     let (mut out, mut err) = (Vec::new(alloc), Vec::new(alloc));
-    match run_sh(alloc, &words, script.as_bytes(), &mut out, &mut err) {
+    match run_sh(rt, &words, script.as_bytes(), &mut out, &mut err) {
         0 => String::from_utf8(out).ok(),
         _ => None,
     }
@@ -91,7 +93,7 @@ fn drawn_calls_are_answered_as_a_plain_tree_answers_them(rt: HostRuntime) -> Res
     let alloc = rt.alloc();
     for (number, row) in ROWS.iter().enumerate() {
         let mut report = String::new(alloc);
-        tell_run(alloc, row.start, row.words, 0, &mut report);
+        tell_run(&rt, row.start, row.words, 0, &mut report);
         assert_eq!(rt; report.as_str(), row.told, "row {number}");
     }
     Ok(())
@@ -103,7 +105,7 @@ fn a_call_that_the_tree_is_not_asked_is_seen(rt: HostRuntime) -> Result<(), Fail
     let alloc = rt.alloc();
     let mut report = String::new(alloc);
     let words = "strata_sh --units 40 --fast 8 --block 540 --slow 8";
-    tell_run(alloc, 1, words, 44, &mut report);
+    tell_run(&rt, 1, words, 44, &mut report);
     let told = "line 60 is 4 pwrite 0 3 62x4096, and prints wrote 4096";
     assert_eq!(rt; report.as_str(), told);
     Ok(())

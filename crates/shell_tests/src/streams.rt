@@ -86,17 +86,31 @@ fn make_slow(at_a_time: usize, before: Option<usize>, kind: ErrorKind) -> Slow {
     }
 }
 
+// A run over the least media that are allowed.
+const WORDS: [&str; 9] = [
+    "strata_sh",
+    "--units",
+    "40",
+    "--fast",
+    "8",
+    "--block",
+    "540",
+    "--slow",
+    "8",
+];
+
 // Whether a run over what a reader gives ends so: with this status, these errors and this output.
 fn ends(
-    alloc: Global,
+    rt: &HostRuntime,
     reader: Slow,
     out: &mut Narrow,
     status: u8,
     told: &[u8],
 ) -> io::Result<bool> {
+    let alloc = rt.alloc();
     let mut err = Vec::new(alloc);
     let reader = BufReader::new(alloc, reader)?;
-    let ended = run_sh(alloc, &["strata_sh"], reader, out, &mut err);
+    let ended = run_sh(rt, &WORDS, reader, out, &mut err);
     Ok(ended == status && err.as_slice() == told)
 }
 
@@ -107,7 +121,7 @@ fn a_read_that_fails_is_a_fault(rt: HostRuntime) -> Result<(), Fail> {
     for before in 11..=24 {
         let mut out = make_narrow(alloc, 4096, true);
         let reader = make_slow(1, Some(before), ErrorKind::Other);
-        assert!(rt; ends(alloc, reader, &mut out, 3, b"fault 2\n")?, "{before}");
+        assert!(rt; ends(&rt, reader, &mut out, 3, b"fault 2\n")?, "{before}");
         assert_eq!(rt; out.taken.as_slice(), &b"ok\n"[..], "{before}");
     }
     Ok(())
@@ -120,7 +134,7 @@ fn an_interrupted_read_is_tried_again(rt: HostRuntime) -> Result<(), Fail> {
     for before in 0..=SCRIPT.len() {
         let mut out = make_narrow(alloc, 4096, true);
         let reader = make_slow(1, Some(before), ErrorKind::Interrupted);
-        assert!(rt; ends(alloc, reader, &mut out, 0, b"")?, "{before}");
+        assert!(rt; ends(&rt, reader, &mut out, 0, b"")?, "{before}");
         assert_eq!(rt; out.taken.as_slice(), PRINTED, "{before}");
     }
     Ok(())
@@ -132,7 +146,7 @@ fn an_output_that_fails_is_a_fault(rt: HostRuntime) -> Result<(), Fail> {
     for room in 0..PRINTED.len() {
         let mut out = make_narrow(alloc, room, true);
         let reader = make_slow(4096, None, ErrorKind::Other);
-        assert!(rt; ends(alloc, reader, &mut out, 3, b"fault 2\n")?, "{room}");
+        assert!(rt; ends(&rt, reader, &mut out, 3, b"fault 2\n")?, "{room}");
         assert_eq!(rt; out.taken.as_slice(), &PRINTED[..room], "{room}");
     }
     Ok(())
@@ -141,11 +155,11 @@ fn an_output_that_fails_is_a_fault(rt: HostRuntime) -> Result<(), Fail> {
 #[test]
 fn a_flush_that_fails_is_a_fault(rt: HostRuntime) -> Result<(), Fail> {
     let alloc = rt.alloc();
-    let words: [&[&str]; 2] = [&["strata_sh"], &["strata_sh", "--help"]];
+    let words: [&[&str]; 2] = [&WORDS, &["strata_sh", "--help"]];
     for words in words {
         let mut out = make_narrow(alloc, 4096, false);
         let mut err = Vec::new(alloc);
-        let status = run_sh(alloc, words, SCRIPT, &mut out, &mut err);
+        let status = run_sh(&rt, words, SCRIPT, &mut out, &mut err);
         assert_eq!(rt; err.as_slice(), &b"fault 2\n"[..]);
         assert!(rt; status == 3);
     }
@@ -158,7 +172,7 @@ fn what_was_printed_is_flushed_before_it_waits(rt: HostRuntime) -> Result<(), Fa
     let alloc = rt.alloc();
     let mut out = make_narrow(alloc, 4096, true);
     let reader = make_slow(30, None, ErrorKind::Other);
-    assert!(rt; ends(alloc, reader, &mut out, 0, b"")?);
+    assert!(rt; ends(&rt, reader, &mut out, 0, b"")?);
     // 30 bytes are two lines and a part, 60 four lines and a part; the end is read once more.
     assert_eq!(rt; out.flushed.as_slice(), &[0, 8, 29, 39, 39][..]);
     Ok(())
@@ -171,7 +185,7 @@ fn an_unreadable_line_flushes(rt: HostRuntime) -> Result<(), Fail> {
     let mut out = make_narrow(alloc, 4096, true);
     let mut err = Vec::new(alloc);
     let script = b"1 list /\n1 fly /a\n";
-    let status = run_sh(alloc, &["strata_sh"], &script[..], &mut out, &mut err);
+    let status = run_sh(&rt, &WORDS, &script[..], &mut out, &mut err);
     assert!(rt; status == 2 && out.flushed.last() == Some(&6));
     Ok(())
 }

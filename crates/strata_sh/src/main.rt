@@ -10,6 +10,6 @@ fn main(rt: HostRuntime) -> ExitCode {
     run_program(&rt, &mut rt.stderr(), |words| {
         let reader = BufReader::new(alloc, rt.stdin())?;
         let mut out = BufWriter::new(alloc, rt.stdout())?;
-        Ok(run_sh(alloc, words, reader, &mut out, &mut rt.stderr()))
+        Ok(run_sh(&rt, words, reader, &mut out, &mut rt.stderr()))
     })
 }

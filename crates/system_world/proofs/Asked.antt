@@ -22,11 +22,13 @@ use Rattle.event_steps.specs.declared.outcome.Outcome.{Outcome}
 use Rattle.courses.specs.Courses.{Content, PARTS, no_news}
 use Rattle.system_world.specs.Moves.{EventMoves, Stand}
 use Rattle.system_world.specs.News.{news}
-use Rattle.system_world.specs.Parts.{clocks_of, left_of, medium_of, region_medium, region_of}
+use Rattle.system_world.specs.Parts.{medium_of, region_medium, region_of}
+use Rattle.system_world.specs.Clocks.{clocks_of, left_of}
 use Rattle.system_world.specs.Relation.{Cut, IsClientOf, IsWorldOf, SpellsAfter, SpellsShared, StandsMarked, machine_of}
 use Rattle.system_world.specs.Steps.{IsBegunIn, IsStep}
 use Rattle.system_world.specs.Contents.{mark_by}
-use Rattle.system_world.specs.WorldTree.{WorldView, calls_of, world_tree}
+use Rattle.system_world.specs.WorldTree.{world_tree}
+use Rattle.system_world.specs.WorldView.{WorldView, calls_of}
 use Rattle.system_world.proofs.Frame.{at_else, at_there}
 use Rattle.system_world.proofs.Given.{Given}
 use Rattle.system_world.proofs.Seats.{held_by_each, seat_beside, seat_there}

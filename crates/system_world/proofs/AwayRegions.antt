@@ -22,11 +22,12 @@ use Rattle.event_steps.specs.declared.outcome.Outcome.{Outcome}
 use Rattle.courses.specs.Courses.{Content, MovesOnly, PARTS}
 use Rattle.system_world.specs.Moves.{EventMoves}
 use Rattle.system_world.specs.News.{news}
-use Rattle.system_world.specs.Parts.{clocks_of, left_of, medium_of, region_medium, region_of}
+use Rattle.system_world.specs.Parts.{medium_of, region_medium, region_of}
+use Rattle.system_world.specs.Clocks.{clocks_of, left_of}
 use Rattle.system_world.specs.Relation.{Cut, IsClientOf}
 use Rattle.system_world.specs.Steps.{IsBegunIn, IsStep}
 use Rattle.system_world.specs.Contents.{CanRecover, stored_state}
-use Rattle.system_world.specs.WorldTree.{WorldView, calls_of}
+use Rattle.system_world.specs.WorldView.{WorldView, calls_of}
 use Rattle.system_world.proofs.Given.{Given}
 use Rattle.system_world.proofs.KernelMoves.{SpellsOrAfter}
 use Rattle.system_world.proofs.RegionStops.{away_at, current_at}

@@ -18,11 +18,11 @@ use Rattle.event_steps.specs.declared.outcome.Outcome.{Outcome}
 use Rattle.courses.specs.Courses.{no_news}
 use Rattle.system_world.specs.Moves.{EventMoves, Stand}
 use Rattle.system_world.specs.News.{news}
-use Rattle.system_world.specs.Parts.{clocks_of}
+use Rattle.system_world.specs.Clocks.{clocks_of}
 use Rattle.system_world.specs.Relation.{machine_of}
 use Rattle.system_world.specs.Relation as cuts
 use Rattle.system_world.specs.Steps.{IsBegunIn, IsStep}
-use Rattle.system_world.specs.WorldTree.{WorldView, calls_of}
+use Rattle.system_world.specs.WorldView.{WorldView, calls_of}
 use Rattle.system_world.proofs.Asked.{not_read}
 use Rattle.system_world.proofs.FailedKernel.{refused_step}
 use Rattle.system_world.proofs.Given.{Given}

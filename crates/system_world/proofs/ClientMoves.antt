@@ -27,7 +27,7 @@ use Rattle.system_world.specs.Parts.{region_of}
 use Rattle.system_world.specs.Relation.{Cut, IsClientOf, IsWorldOf, SpellsAfter, SpellsShared, StandsMarked, machine_of, marks_digested}
 use Rattle.system_world.specs.Relation as cuts
 use Rattle.system_world.specs.Contents.{mark_by}
-use Rattle.system_world.specs.WorldTree.{WorldView, calls_of}
+use Rattle.system_world.specs.WorldView.{WorldView, calls_of}
 use Rattle.system_world.proofs.Frame.{KeepsSealed, at_else, at_there, same_kernel}
 use Rattle.system_world.proofs.Seats.{held_by_each, seat_beside, seat_there}
 use Rattle.system_world.proofs.StopLogs.{front_none}

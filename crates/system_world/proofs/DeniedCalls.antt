@@ -23,7 +23,7 @@ use Rattle.system_world.specs.News.{news}
 use Rattle.system_world.specs.Relation.{IsClientOf, StandsMarked}
 use Rattle.system_world.specs.Steps.{IsBegunIn, IsStep}
 use Rattle.system_world.specs.Contents.{mark_by}
-use Rattle.system_world.specs.WorldTree.{WorldView, calls_of}
+use Rattle.system_world.specs.WorldView.{WorldView, calls_of}
 use Rattle.system_world.proofs.Given.{Given}
 use Rattle.system_world.proofs.Seats.{client_is, same_seat}
 use Rattle.system_world.proofs.Seated.{client_on, marked_on, same_world, seat_step}

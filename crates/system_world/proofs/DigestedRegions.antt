@@ -50,12 +50,13 @@ use Rattle.event_steps.proofs.world_invariant_lemmas.Digests.{digested_holds, di
 use Rattle.event_steps.proofs.world_invariant_lemmas.Records.{either}
 use Rattle.courses.specs.Courses.{MovesOnly, PARTS, Reading}
 use Rattle.system_world.specs.Moves.{Stand}
-use Rattle.system_world.specs.Parts.{clocks_of, medium_of, region_of}
+use Rattle.system_world.specs.Parts.{medium_of, region_of}
+use Rattle.system_world.specs.Clocks.{clocks_of}
 use Rattle.system_world.specs.Relation.{Cut, IsClientOf, SpellsAfter, SpellsShared, StandsMarked, machine_of}
 use Rattle.system_world.specs.Relation as cuts
 use Rattle.system_world.specs.Contents.{mark_by}
 use Rattle.system_world.specs.Steps.{IsBegunIn, IsStep}
-use Rattle.system_world.specs.WorldTree.{WorldView, calls_of}
+use Rattle.system_world.specs.WorldView.{WorldView, calls_of}
 use Rattle.system_world.proofs.AcceptedRegions.{Accepted, accepted, unaccepted_then}
 use Rattle.system_world.proofs.AwayRegions.{MediumStays, all_stay, client_away, parts_stay, read_stays, same_medium, same_regions, shared_world, size_stays, unmoved_medium, with_away}
 use Rattle.system_world.proofs.ClientMoves.{StandsFor, client_moves, kernel_stands, with_part}

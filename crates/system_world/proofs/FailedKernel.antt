@@ -17,12 +17,14 @@ use Rattle.event_steps.specs.declared.outcome.Outcome.TheVariants as outcomes
 use Rattle.event_steps.specs.declared.refusals.Refusals.{Refusals}
 use Rattle.courses.specs.Courses.{Ledger, MovesOnly, Reading, no_news}
 use Rattle.system_world.specs.Moves.{EventMoves, MovesRegion, Stand}
-use Rattle.system_world.specs.News.{calls_then, news}
-use Rattle.system_world.specs.Parts.{clocks_of}
+use Rattle.system_world.specs.News.{news}
+use Rattle.system_world.specs.KeptCalls.{calls_then}
+use Rattle.system_world.specs.Clocks.{clocks_of}
 use Rattle.system_world.specs.Relation.{IsClientOf, StandsMarked}
 use Rattle.system_world.specs.Steps.{IsBegunIn, IsStep}
 use Rattle.system_world.specs.Contents.{mark_by}
-use Rattle.system_world.specs.WorldTree.{WorldView, calls_of, world_tree}
+use Rattle.system_world.specs.WorldTree.{world_tree}
+use Rattle.system_world.specs.WorldView.{WorldView, calls_of}
 use Rattle.system_world.proofs.Given.{Given}
 use Rattle.system_world.proofs.Seats.{same_seat}
 use Rattle.system_world.proofs.Seated.{client_on, marked_on, same_world, seat_step}

@@ -17,10 +17,11 @@ use Rattle.event_steps.specs.declared.outcome.Outcome.{Outcome}
 use Rattle.event_steps.specs.declared.refusals.Refusals.{Refusals}
 use Rattle.courses.specs.Courses.{Reading, no_news}
 use Rattle.system_world.specs.Moves.{EventMoves, Stand}
-use Rattle.system_world.specs.News.{calls_then, news}
-use Rattle.system_world.specs.Parts.{clocks_of}
+use Rattle.system_world.specs.News.{news}
+use Rattle.system_world.specs.KeptCalls.{calls_then}
+use Rattle.system_world.specs.Clocks.{clocks_of}
 use Rattle.system_world.specs.Steps.{IsBegunIn, IsStep}
-use Rattle.system_world.specs.WorldTree.{WorldView, calls_of}
+use Rattle.system_world.specs.WorldView.{WorldView, calls_of}
 use Rattle.system_world.proofs.FailedKernel.{refused_step}
 use Rattle.system_world.proofs.Given.{Given}
 use Rattle.system_world.proofs.Seats.{client_is}

@@ -33,7 +33,7 @@ use Rattle.event_steps.proofs.world_invariant_lemmas.Bytes.{same_call, same_effe
 use Rattle.event_steps.proofs.world_invariant_lemmas.Fetches.{view_is}
 use Rattle.system_world.specs.Leaves.{IsSettledAt}
 use Rattle.system_world.specs.Steps.{IsBegunIn, IsStep}
-use Rattle.system_world.specs.WorldTree.{WorldView}
+use Rattle.system_world.specs.WorldView.{WorldView}
 use Rattle.system_world.proofs.FailedKernel.{refused_step}
 use Rattle.system_world.proofs.FailedRequests.{OfBlocks, failed_request}
 use Rattle.system_world.proofs.FetchedCopies.{behind_its_mark, known_holds, known_tree, leased_is}

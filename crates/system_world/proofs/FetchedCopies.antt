@@ -53,7 +53,8 @@ use Rattle.system_world.specs.Leaves.{IsSettledAt}
 use Rattle.system_world.specs.Relation.{Cut, IsBegunAs, IsClientOf, IsWorldOf, StandsMarked}
 use Rattle.system_world.specs.Steps.{IsBegunIn, IsStep}
 use Rattle.system_world.specs.Contents.{mark_by}
-use Rattle.system_world.specs.WorldTree.{WorldView, away_records, calls_of}
+use Rattle.system_world.specs.WorldTree.{away_records}
+use Rattle.system_world.specs.WorldView.{WorldView, calls_of}
 use Rattle.system_world.proofs.FailedKernel.{refused_step}
 use Rattle.system_world.proofs.FailedRequests.{OfCopy, failed_request}
 use Rattle.system_world.proofs.Given.{Given}

@@ -23,7 +23,7 @@ use Rattle.system_world.specs.Parts.{region_of}
 use Rattle.system_world.specs.Relation.{Cut, IsClientOf, IsWorldOf, SpellsAfter, SpellsShared, StandsMarked, marks_digested}
 use Rattle.system_world.specs.Relation as cuts
 use Rattle.system_world.specs.Contents.{mark_by}
-use Rattle.system_world.specs.WorldTree.{WorldView, calls_of}
+use Rattle.system_world.specs.WorldView.{WorldView, calls_of}
 use Rattle.system_world.proofs.Seats.{held_by_each}
 
 -- the kernel of the world with another part of a client is what it was

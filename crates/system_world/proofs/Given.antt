@@ -6,10 +6,11 @@ use Rattle.event_steps.specs.libfs.world_invariant.World.{World, world_state}
 use Rattle.courses.specs.Courses.{LeftBetween, WorldContent}
 use Rattle.courses.specs.Plays.{StopsNow}
 use Rattle.system_world.specs.Leaves.{SystemLeaves}
-use Rattle.system_world.specs.Parts.{clocks_of, left_of}
+use Rattle.system_world.specs.Clocks.{clocks_of, left_of}
 use Rattle.system_world.specs.Relation.{Cut, IsWorld, IsWorldOf}
 use Rattle.system_world.specs.Steps.{recoverable}
-use Rattle.system_world.specs.WorldTree.{WorldView, world_tree}
+use Rattle.system_world.specs.WorldTree.{world_tree}
+use Rattle.system_world.specs.WorldView.{WorldView}
 
 pub record Given {M : Type 0} (device : Ghosts M) : Type 0 where
   pub tree_is : (v : WorldView M) (w : World) (accepted : ℕ → ℕ) (marks : Marks) (cut : Cut) → IsWorldOf device v w accepted marks cut → SystemLeaves device v.system → world_tree device v ≡ world_state w

@@ -36,11 +36,11 @@ use Rattle.event_steps.proofs.world_invariant_lemmas.Owners.{is_high, is_low}
 use Rattle.event_steps.proofs.world_invariant_lemmas.call_effects_lemmas.file_graph_lemmas.Fields.{some_is}
 use Rattle.system_world.specs.Contents.{mark_by}
 use Rattle.system_world.specs.Idle.{IsIdleSeat, IsIdleSystem}
-use Rattle.system_world.specs.News.{no_calls}
+use Rattle.system_world.specs.KeptCalls.{no_calls}
 use Rattle.system_world.specs.Parts.{region_beside, region_of}
 use Rattle.system_world.specs.Relation.{IsBegunAs, IsClientOf, IsWorld, IsWorldOf, StandsMarked, accepted_of, first_generation, held_of, status_of}
 use Rattle.system_world.specs.Relation as cuts
-use Rattle.system_world.specs.WorldTree.{calls_of}
+use Rattle.system_world.specs.WorldView.{calls_of}
 
 -- an inode's number has a lease word
 word_of : (i : ℕ) → is_inode i ≡ true → HasWord i

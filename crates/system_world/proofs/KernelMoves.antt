@@ -24,11 +24,13 @@ use Rattle.courses.specs.Plays.{StopsNow}
 use Rattle.system_world.specs.Leaves.{SystemLeaves}
 use Rattle.system_world.specs.Moves.{EventMoves}
 use Rattle.system_world.specs.News.{news}
-use Rattle.system_world.specs.Parts.{clocks_of, left_of, medium_of, region_medium}
+use Rattle.system_world.specs.Parts.{medium_of, region_medium}
+use Rattle.system_world.specs.Clocks.{clocks_of, left_of}
 use Rattle.system_world.specs.Relation.{Cut, IsWorld, IsWorldOf, SpellsAfter, SpellsShared, machine_of}
 use Rattle.system_world.specs.Steps.{IsStep, recoverable}
 use Rattle.system_world.specs.Contents.{CanRecover, stored_state}
-use Rattle.system_world.specs.WorldTree.{WorldView, calls_of, world_tree}
+use Rattle.system_world.specs.WorldTree.{world_tree}
+use Rattle.system_world.specs.WorldView.{WorldView, calls_of}
 use Rattle.system_world.proofs.Still.{client_part_is}
 
 -- the world with another shared graph

@@ -27,7 +27,7 @@ use Rattle.event_steps.specs.declared.outcome.Outcome.{Outcome}
 use Rattle.event_steps.proofs.world_invariant_lemmas.Leases.{given_holds, given_tree}
 use Rattle.system_world.specs.News.{news}
 use Rattle.system_world.specs.Steps.{IsBegunIn, IsStep}
-use Rattle.system_world.specs.WorldTree.{WorldView, calls_of}
+use Rattle.system_world.specs.WorldView.{WorldView, calls_of}
 use Rattle.system_world.proofs.Given.{Given}
 use Rattle.system_world.proofs.LeaseEvents.{freed, said_with}
 use Rattle.system_world.proofs.Refills.{idle_client}

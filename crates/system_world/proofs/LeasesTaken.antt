@@ -35,9 +35,9 @@ use Rattle.courses.specs.Courses.{no_news}
 use Rattle.system_world.specs.Leaves.{HasMetAll}
 use Rattle.system_world.specs.Moves.{EventMoves, Stand}
 use Rattle.system_world.specs.News.{news}
-use Rattle.system_world.specs.Parts.{clocks_of}
+use Rattle.system_world.specs.Clocks.{clocks_of}
 use Rattle.system_world.specs.Steps.{IsBegunIn, IsStep}
-use Rattle.system_world.specs.WorldTree.{WorldView, calls_of}
+use Rattle.system_world.specs.WorldView.{WorldView, calls_of}
 use Rattle.system_world.proofs.Given.{Given}
 use Rattle.system_world.proofs.Seated.{own_mark, own_part, quiet_step, same_world}
 use Rattle.system_world.specs.Relation.{IsClientOf, StandsMarked}

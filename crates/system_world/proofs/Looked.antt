@@ -25,11 +25,11 @@ use Rattle.event_steps.proofs.libfs_lemmas.kernel_fs_lemmas.MediaSteps.{unmoved_
 use Rattle.system_world.specs.Leaves.{KernelLeaves}
 use Rattle.system_world.specs.Moves.{EventMoves, Stand}
 use Rattle.system_world.specs.News.{news}
-use Rattle.system_world.specs.Parts.{clocks_of}
+use Rattle.system_world.specs.Clocks.{clocks_of}
 use Rattle.system_world.specs.Relation.{Cut, IsWorldOf, SpellsShared, machine_of}
 use Rattle.system_world.specs.Relation as cuts
 use Rattle.system_world.specs.Steps.{IsBegunIn, IsStep}
-use Rattle.system_world.specs.WorldTree.{WorldView, calls_of}
+use Rattle.system_world.specs.WorldView.{WorldView, calls_of}
 use Rattle.system_world.proofs.Asked.{IsKernelThen}
 use Rattle.system_world.proofs.Frame.{same_kernel}
 use Rattle.system_world.proofs.Given.{Given}

@@ -11,9 +11,9 @@ use Rattle.event_steps.specs.Turns.{CanPlay}
 use Rattle.event_steps.specs.View.{SystemView}
 use Rattle.event_steps.specs.declared.event.Event.TheVariants.{Migrate}
 use Rattle.event_steps.specs.declared.outcome.Outcome.{Outcome}
-use Rattle.system_world.specs.News.{calls_then}
+use Rattle.system_world.specs.KeptCalls.{calls_then}
 use Rattle.system_world.specs.Steps.{IsBegunIn, IsStep}
-use Rattle.system_world.specs.WorldTree.{WorldView}
+use Rattle.system_world.specs.WorldView.{WorldView}
 use Rattle.system_world.proofs.FailedKernel.{unchanged_step}
 use Rattle.system_world.proofs.Given.{Given}
 use Rattle.system_world.proofs.SharedStays.{SeenNow, stays_as_well, stays_step}

@@ -12,7 +12,7 @@ use Rattle.event_steps.specs.View.{HasSeat, SeatView, seat_of}
 use Rattle.system_world.specs.Leaves.{HoldRecords, HoldsRecords, SystemLeaves}
 use Rattle.system_world.specs.Relation.{IsClientOf, StandsMarked}
 use Rattle.system_world.specs.Contents.{mark_by}
-use Rattle.system_world.specs.WorldTree.{WorldView, calls_of}
+use Rattle.system_world.specs.WorldView.{WorldView, calls_of}
 use Rattle.system_world.proofs.Seats.{same_seat}
 use Rattle.system_world.proofs.WorldMoves.{StandsAs, Stood}
 

@@ -7,7 +7,8 @@ use Rattle.event_steps.specs.posix_calls.Operations.{is_client}
 use Rattle.event_steps.specs.View.{SeatView, SystemView, seat_of}
 use Rattle.event_steps.proofs.world_invariant_lemmas.Owners.{is_low, is_high}
 use Rattle.courses.specs.Courses.{Content, LeftBetween, PARTS, WorldContent, part_of}
-use Rattle.system_world.specs.Parts.{clocks_of, left_of, medium_of, region_beside, region_medium, region_of}
+use Rattle.system_world.specs.Parts.{medium_of, region_beside, region_medium, region_of}
+use Rattle.system_world.specs.Clocks.{clocks_of, left_of}
 
 -- ---- a client's region, by the remainder
 

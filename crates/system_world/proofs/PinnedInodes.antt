@@ -35,7 +35,7 @@ use Rattle.event_steps.proofs.world_invariant_lemmas.call_effects_lemmas.posix_c
 use Rattle.system_world.specs.Leaves.{HoldsRecords}
 use Rattle.system_world.specs.Relation.{Cut, IsBegunAs, IsWorldOf, machine_of, status_of}
 use Rattle.system_world.specs.Steps.{IsBegunIn, IsStep}
-use Rattle.system_world.specs.WorldTree.{WorldView, calls_of}
+use Rattle.system_world.specs.WorldView.{WorldView, calls_of}
 use Rattle.system_world.proofs.Booked.{booked_step, unbooked_step}
 use Rattle.system_world.proofs.Given.{Given}
 use Rattle.system_world.proofs.OwnSeat.{holds_at, number_at}

@@ -8,9 +8,9 @@ use Rattle.event_steps.specs.declared.event.Event.{Event}
 use Rattle.event_steps.specs.declared.outcome.Outcome.{Outcome}
 use Rattle.event_steps.specs.declared.outcome.Outcome.TheVariants as outcomes
 use Rattle.system_world.specs.Leaves.{HasMetIn, IsSettledIn}
-use Rattle.system_world.specs.News.{calls_then}
+use Rattle.system_world.specs.KeptCalls.{calls_then}
 use Rattle.system_world.specs.Steps.{IsBegunIn, IsStep}
-use Rattle.system_world.specs.WorldTree.{WorldView}
+use Rattle.system_world.specs.WorldView.{WorldView}
 
 was_done : {Turn Made Same : Type 0} (o : Outcome) → Carries Turn Made Same o → o ≢ outcomes.Idle → ((o ≡ outcomes.Idle) × Same) ⊎ (Turn × Made)
 was_done o carries other = inr (carries.turn other, carries.made (carries.turn other))

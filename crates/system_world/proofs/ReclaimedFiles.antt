@@ -33,11 +33,11 @@ use Rattle.event_steps.specs.declared.event.Event.TheVariants.{Reclaim}
 use Rattle.event_steps.specs.declared.outcome.Outcome.{Outcome}
 use Rattle.event_steps.specs.shared_area.Ready.{OpensAs}
 use Rattle.system_world.specs.Leaves.{KernelLeaves}
-use Rattle.system_world.specs.News.{calls_then}
+use Rattle.system_world.specs.KeptCalls.{calls_then}
 use Rattle.system_world.specs.Relation.{Cut, IsWorldOf, SpellsShared, machine_of}
 use Rattle.system_world.specs.Relation as cuts
 use Rattle.system_world.specs.Steps.{IsBegunIn, IsStep}
-use Rattle.system_world.specs.WorldTree.{WorldView}
+use Rattle.system_world.specs.WorldView.{WorldView}
 use Rattle.system_world.proofs.FailedKernel.{unchanged_step}
 use Rattle.system_world.proofs.Given.{Given}
 use Rattle.system_world.proofs.KernelMoves.{SpellsOrAfter, beside_stay, kernel_moves, shared_step}

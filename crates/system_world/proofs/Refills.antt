@@ -28,7 +28,7 @@ use Rattle.event_steps.proofs.libfs_lemmas.kernel_fs_lemmas.Machines.{free_is_un
 use Rattle.system_world.specs.Leaves.{HoldsRecords}
 use Rattle.system_world.specs.Relation.{Cut, IsWorldOf, machine_of}
 use Rattle.system_world.specs.Steps.{IsBegunIn, IsStep}
-use Rattle.system_world.specs.WorldTree.{WorldView, calls_of}
+use Rattle.system_world.specs.WorldView.{WorldView, calls_of}
 use Rattle.system_world.proofs.Booked.{booked_step, unbooked_step}
 use Rattle.system_world.proofs.Given.{Given}
 use Rattle.system_world.proofs.GrantSets.{all_returned_holds, all_returned_tree, set_granted_holds, set_granted_tree, sums}

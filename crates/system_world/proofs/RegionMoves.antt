@@ -4,7 +4,8 @@ use Rattle.std.specs.Prelude.{slice_set}
 use Rattle.std.proofs.lemmas.Bool.Decides.{eqb_tells, nat_tests}
 use Rattle.event_steps.specs.tier_device.declared.media.Media.{Ghosts}
 use Rattle.event_steps.specs.tier_device.declared.media.Tier.{Tier}
-use Rattle.event_steps.specs.tier_device.AfterStop.{Left, LeftSince}
+use Rattle.event_steps.specs.tier_device.AfterStop.{Left}
+use Rattle.event_steps.specs.tier_device.StopsSince.{LeftSince}
 use Rattle.event_steps.specs.tier_device.Media.{Keeps}
 use Rattle.event_steps.specs.posix_calls.Operations.{is_client}
 use Rattle.event_steps.specs.posix_calls.Run.{Run}
@@ -16,11 +17,13 @@ use Rattle.courses.specs.Courses.{Content, LeftBetween, MovesOnly, PARTS, WorldC
 use Rattle.courses.specs.Plays.{StopsNow}
 use Rattle.system_world.specs.Moves.{EventMoves, MovesRegion}
 use Rattle.system_world.specs.News.{news}
-use Rattle.system_world.specs.Parts.{clocks_of, left_of, medium_of, region_medium, region_of}
+use Rattle.system_world.specs.Parts.{medium_of, region_medium, region_of}
+use Rattle.system_world.specs.Clocks.{clocks_of, left_of}
 use Rattle.system_world.specs.Relation.{IsWorld}
 use Rattle.system_world.specs.Contents.{CanRecover, stored_state}
 use Rattle.system_world.specs.Steps.{IsStep, recoverable}
-use Rattle.system_world.specs.WorldTree.{WorldView, calls_of, world_tree}
+use Rattle.system_world.specs.WorldTree.{world_tree}
+use Rattle.system_world.specs.WorldView.{WorldView, calls_of}
 use Rattle.system_world.proofs.Seats.{at_least, seat_beside, seat_there}
 use Rattle.system_world.proofs.Still.{client_part_is}
 

@@ -6,7 +6,8 @@ use Rattle.std.proofs.lemmas.Bool.Decides.{eqb_tells}
 use Rattle.event_steps.specs.tier_device.declared.media.Media.{Ghosts}
 use Rattle.event_steps.specs.tier_device.declared.media.Tier.{Tier}
 use Rattle.event_steps.specs.tier_device.declared.media.Tier.TheVariants.{Fast, Block, Slow}
-use Rattle.event_steps.specs.tier_device.AfterStop.{Left, LeftSince}
+use Rattle.event_steps.specs.tier_device.AfterStop.{Left}
+use Rattle.event_steps.specs.tier_device.StopsSince.{LeftSince}
 use Rattle.event_steps.specs.tier_device.Media.{Keeps}
 use Rattle.event_steps.specs.posix_calls.Operations.{is_client}
 use Rattle.event_steps.specs.posix_calls.Run.{Run}
@@ -30,11 +31,12 @@ use Rattle.courses.specs.Courses.{Content, LeftBetween, WorldContent, part_of}
 use Rattle.system_world.specs.Leaves.{SystemLeaves}
 use Rattle.system_world.specs.Moves.{EventMoves, MovesRegion}
 use Rattle.system_world.specs.News.{news}
-use Rattle.system_world.specs.Parts.{clocks_of, left_of, medium_of, region_beside, region_of}
+use Rattle.system_world.specs.Parts.{medium_of, region_beside, region_of}
+use Rattle.system_world.specs.Clocks.{clocks_of, left_of}
 use Rattle.system_world.specs.Relation.{Cut, IsWorldOf, SpellsAfter, SpellsShared}
 use Rattle.system_world.specs.Contents.{regions_in}
 use Rattle.system_world.specs.Steps.{IsBegunIn, IsStep}
-use Rattle.system_world.specs.WorldTree.{WorldView, calls_of}
+use Rattle.system_world.specs.WorldView.{WorldView, calls_of}
 use Rattle.system_world.proofs.Given.{Given}
 use Rattle.system_world.proofs.PartMedia.{current_region, other_region}
 use Rattle.system_world.proofs.RegionMoves.{PartMoves, left_beside, medium_at, part_low, region_moves, region_step}

@@ -40,10 +40,11 @@ use Rattle.event_steps.specs.declared.outcome.Outcome.{Outcome}
 use Rattle.event_steps.specs.declared.outcome.Outcome.TheVariants as outcomes
 use Rattle.event_steps.proofs.world_invariant_lemmas.Replies.{replied_step}
 use Rattle.courses.specs.Courses.{Ledger}
-use Rattle.system_world.specs.News.{after_step, answered, calls_then, news, set_call}
+use Rattle.system_world.specs.News.{after_step, answered, news}
+use Rattle.system_world.specs.KeptCalls.{calls_then, set_call}
 use Rattle.system_world.specs.Relation.{IsBegunAs, IsBegunBy, IsClientOf, status_of}
 use Rattle.system_world.specs.Steps.{IsBegunIn, IsStep}
-use Rattle.system_world.specs.WorldTree.{WorldView, calls_of}
+use Rattle.system_world.specs.WorldView.{WorldView, calls_of}
 use Rattle.system_world.proofs.CallSteps.{is_c, own, step_of}
 use Rattle.system_world.proofs.Given.{Given}
 use Rattle.system_world.proofs.RepliedWorlds.{answered_holds, answered_tree, kept_by, replied_part}

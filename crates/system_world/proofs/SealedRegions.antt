@@ -31,7 +31,7 @@ use Rattle.system_world.specs.Parts.{region_of}
 use Rattle.system_world.specs.Relation.{IsClientOf, StandsMarked, accepted_of, first_generation}
 use Rattle.system_world.specs.Contents.{mark_by}
 use Rattle.system_world.specs.Steps.{IsBegunIn, IsStep}
-use Rattle.system_world.specs.WorldTree.{WorldView, calls_of}
+use Rattle.system_world.specs.WorldView.{WorldView, calls_of}
 use Rattle.system_world.proofs.ClientMoves.{StandsFor, client_moves, kernel_stands, with_part}
 use Rattle.system_world.proofs.Given.{Given}
 use Rattle.system_world.proofs.OwnSeat.{client_at, leaves_at, marked_at}

@@ -20,11 +20,13 @@ use Rattle.courses.specs.Courses.{Ledger, no_news}
 use Rattle.event_steps.proofs.world_invariant_lemmas.Moved.{at_same}
 use Rattle.system_world.specs.Moves.{EventMoves, Stand}
 use Rattle.system_world.specs.News.{news}
-use Rattle.system_world.specs.Parts.{clocks_of, region_of}
+use Rattle.system_world.specs.Parts.{region_of}
+use Rattle.system_world.specs.Clocks.{clocks_of}
 use Rattle.system_world.specs.Relation.{Cut, IsClientOf, IsWorldOf, StandsMarked}
 use Rattle.system_world.specs.Steps.{IsBegunIn, IsStep}
 use Rattle.system_world.specs.Contents.{mark_by}
-use Rattle.system_world.specs.WorldTree.{WorldView, calls_of, world_tree}
+use Rattle.system_world.specs.WorldTree.{world_tree}
+use Rattle.system_world.specs.WorldView.{WorldView, calls_of}
 use Rattle.system_world.proofs.Frame.{KeepsSealed, one_seat, same_kernel}
 use Rattle.system_world.proofs.Given.{Given}
 use Rattle.system_world.proofs.Seats.{same_seat}

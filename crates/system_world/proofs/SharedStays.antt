@@ -21,11 +21,12 @@ use Rattle.courses.specs.Courses.{Content, Ledger, MovesOnly, no_news}
 use Rattle.system_world.specs.Leaves.{KernelLeaves}
 use Rattle.system_world.specs.Moves.{EventMoves}
 use Rattle.system_world.specs.News.{news}
-use Rattle.system_world.specs.Parts.{clocks_of}
+use Rattle.system_world.specs.Clocks.{clocks_of}
 use Rattle.system_world.specs.Relation.{Cut, IsWorldOf, SpellsShared, machine_of}
 use Rattle.system_world.specs.Relation as cuts
 use Rattle.system_world.specs.Steps.{IsBegunIn, IsStep}
-use Rattle.system_world.specs.WorldTree.{WorldView, calls_of, world_tree}
+use Rattle.system_world.specs.WorldTree.{world_tree}
+use Rattle.system_world.specs.WorldView.{WorldView, calls_of}
 use Rattle.system_world.proofs.Given.{Given}
 use Rattle.system_world.proofs.KernelMoves.{Spelled, SpellsOrAfter, beside_stay, kernel_moves, shared_step}
 

@@ -24,7 +24,7 @@ use Rattle.system_world.specs.Leaves.{SystemLeaves}
 use Rattle.system_world.specs.Relation.{Cut, IsClientOf, IsWorldOf, SpellsAfter, SpellsShared, marks_digested}
 use Rattle.system_world.specs.Relation as cuts
 use Rattle.system_world.specs.Contents.{mark_by}
-use Rattle.system_world.specs.WorldTree.{WorldView, calls_of}
+use Rattle.system_world.specs.WorldView.{WorldView, calls_of}
 use Rattle.system_world.proofs.Marks.{eight_before, eight_marks, moved_mark, other_mark}
 use Rattle.system_world.proofs.Seats.{same_seat}
 use Rattle.system_world.proofs.MarkPlaces.{IsMarkBy, mark_now, mark_then}

@@ -35,7 +35,7 @@ use Rattle.event_steps.proofs.world_invariant_lemmas.Replies.{answered_holds, an
 use Rattle.system_world.specs.Relation.{IsClientOf, StandsMarked, status_of}
 use Rattle.system_world.specs.Steps.{IsBegunIn, IsStep}
 use Rattle.system_world.specs.Contents.{mark_by}
-use Rattle.system_world.specs.WorldTree.{WorldView, calls_of}
+use Rattle.system_world.specs.WorldView.{WorldView, calls_of}
 use Rattle.system_world.proofs.Given.{Given}
 use Rattle.system_world.proofs.Seated.{own_mark, own_part, same_world}
 use Rattle.system_world.proofs.StartReplies.{idle_world, reply_step}

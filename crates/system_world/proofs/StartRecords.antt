@@ -35,12 +35,13 @@ use Rattle.event_steps.specs.declared.event.Event.TheVariants.{Start}
 use Rattle.event_steps.specs.declared.outcome.Outcome.{Outcome}
 use Rattle.event_steps.specs.declared.outcome.Outcome.TheVariants as outcomes
 use Rattle.event_steps.proofs.world_invariant_lemmas.Begins.{begun_holds, begun_tree}
-use Rattle.system_world.specs.News.{news, set_call, with_call}
+use Rattle.system_world.specs.News.{news, with_call}
+use Rattle.system_world.specs.KeptCalls.{set_call}
 use Rattle.system_world.specs.Parts.{region_beside, region_of}
 use Rattle.system_world.specs.Relation.{IsClientOf, StandsMarked, status_of}
 use Rattle.system_world.specs.Steps.{IsBegunIn, IsStep}
 use Rattle.system_world.specs.Contents.{mark_by}
-use Rattle.system_world.specs.WorldTree.{WorldView, calls_of}
+use Rattle.system_world.specs.WorldView.{WorldView, calls_of}
 use Rattle.system_world.proofs.Given.{Given}
 use Rattle.system_world.proofs.Seated.{own_mark, own_part, seat_step}
 use Rattle.system_world.proofs.StartReplies.{idle_world}

@@ -26,7 +26,7 @@ use Rattle.system_world.specs.Parts.{region_of}
 use Rattle.system_world.specs.Relation.{IsBegunAs, IsClientOf, StandsMarked}
 use Rattle.system_world.specs.Steps.{IsBegunIn, IsStep}
 use Rattle.system_world.specs.Contents.{mark_by}
-use Rattle.system_world.specs.WorldTree.{WorldView, calls_of}
+use Rattle.system_world.specs.WorldView.{WorldView, calls_of}
 use Rattle.system_world.proofs.Frame.{KeepsSealed}
 use Rattle.system_world.proofs.Given.{Given}
 use Rattle.system_world.proofs.OwnSeat.{idle_client}

@@ -20,9 +20,9 @@ use Rattle.event_steps.specs.Turns.{CanPlay}
 use Rattle.event_steps.specs.View.{SeatView, SystemView}
 use Rattle.event_steps.specs.declared.event.Event.TheVariants.{Step}
 use Rattle.event_steps.specs.declared.outcome.Outcome.{Outcome}
-use Rattle.system_world.specs.News.{calls_then}
+use Rattle.system_world.specs.KeptCalls.{calls_then}
 use Rattle.system_world.specs.Steps.{IsBegunIn, IsStep}
-use Rattle.system_world.specs.WorldTree.{WorldView}
+use Rattle.system_world.specs.WorldView.{WorldView}
 use Rattle.system_world.proofs.CallSteps.{failed, going}
 use Rattle.system_world.proofs.Given.{Given}
 use Rattle.system_world.proofs.RepliedCalls.{replied}

@@ -14,11 +14,13 @@ use Rattle.courses.specs.Courses.{Content, LeftBetween, PARTS, WorldContent}
 use Rattle.courses.specs.Plays.{StopsNow}
 use Rattle.system_world.specs.Moves.{EventMoves, Stand}
 use Rattle.system_world.specs.News.{news}
-use Rattle.system_world.specs.Parts.{clocks_of, left_of, medium_of, region_medium, region_of}
+use Rattle.system_world.specs.Parts.{medium_of, region_medium, region_of}
+use Rattle.system_world.specs.Clocks.{clocks_of, left_of}
 use Rattle.system_world.specs.Relation.{IsWorld}
 use Rattle.system_world.specs.Contents.{CanRecover, stored_state}
 use Rattle.system_world.specs.Steps.{IsStep, recoverable}
-use Rattle.system_world.specs.WorldTree.{WorldView, calls_of, world_tree}
+use Rattle.system_world.specs.WorldTree.{world_tree}
+use Rattle.system_world.specs.WorldView.{WorldView, calls_of}
 use Rattle.system_world.proofs.Seats.{seat_beside, seat_there}
 
 pub client_part_is : (k : ℕ) → suc k < PARTS → is_client (k / 2 + 1) ≡ true

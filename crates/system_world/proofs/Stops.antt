@@ -42,7 +42,7 @@ use Rattle.courses.specs.Courses.{WorldContent, part_of}
 use Rattle.system_world.specs.Relation.{Cut, IsBegunAs, IsClientOf, IsWorldOf, SpellsAfter, SpellsShared, StandsMarked, first_generation, marks_digested}
 use Rattle.system_world.specs.Relation as cuts
 use Rattle.system_world.specs.Contents.{CanRecover, log_in, mark_by, mark_in, regions_in, stored_state}
-use Rattle.system_world.specs.WorldTree.{WorldView, calls_of}
+use Rattle.system_world.specs.WorldView.{WorldView, calls_of}
 use Rattle.system_world.proofs.Seats.{same_seat}
 use Rattle.system_world.proofs.StopLogs.{CountsAt, HoldsSeat, counts_at_mark, counts_behind}
 use Rattle.system_world.proofs.StopMarks.{mark_moved, mark_stays, moved}

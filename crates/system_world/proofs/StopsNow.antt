@@ -22,11 +22,13 @@ use Rattle.event_steps.specs.View.{HasSeat, SeatView, SystemView}
 use Rattle.courses.specs.Courses.{Content, LeftBetween, WorldContent, part_of}
 use Rattle.courses.specs.Plays.{StopsNow}
 use Rattle.system_world.specs.Leaves.{SystemLeaves}
-use Rattle.system_world.specs.Parts.{clocks_of, left_of, region_beside, region_of}
+use Rattle.system_world.specs.Parts.{region_beside, region_of}
+use Rattle.system_world.specs.Clocks.{clocks_of, left_of}
 use Rattle.system_world.specs.Relation.{Cut, IsWorld, IsWorldOf, SpellsAfter, SpellsShared}
 use Rattle.system_world.specs.Steps.{recoverable}
 use Rattle.system_world.specs.Contents.{regions_in, stored_state}
-use Rattle.system_world.specs.WorldTree.{WorldView, calls_of, world_tree}
+use Rattle.system_world.specs.WorldTree.{world_tree}
+use Rattle.system_world.specs.WorldView.{WorldView, calls_of}
 use Rattle.system_world.proofs.PartMedia.{IsLeftNow, current_region, each_left, other_region, part_is, region_left}
 use Rattle.system_world.proofs.StopLogs.{HoldsSealed, HoldsSeat}
 use Rattle.system_world.proofs.Stops.{Holds, can_recover, is_outcome}

@@ -15,10 +15,10 @@ use Rattle.event_steps.specs.declared.refusals.Refusals.{Refusals}
 use Rattle.courses.specs.Courses.{no_news}
 use Rattle.system_world.specs.Moves.{EventMoves, Stand}
 use Rattle.system_world.specs.News.{news}
-use Rattle.system_world.specs.Parts.{clocks_of}
+use Rattle.system_world.specs.Clocks.{clocks_of}
 use Rattle.system_world.specs.Relation.{Cut}
 use Rattle.system_world.specs.Steps.{IsBegunIn, IsStep}
-use Rattle.system_world.specs.WorldTree.{WorldView, calls_of}
+use Rattle.system_world.specs.WorldView.{WorldView, calls_of}
 use Rattle.system_world.proofs.Asked.{IsKernelThen, IsOnlyRead, asked_step}
 use Rattle.system_world.proofs.Given.{Given}
 use Rattle.system_world.proofs.Seated.{own_mark, own_part}

@@ -18,7 +18,8 @@ use Rattle.event_steps.proofs.world_invariant_lemmas.Owners.{client_is}
 use Rattle.system_world.specs.Leaves.{SystemLeaves}
 use Rattle.system_world.specs.Relation.{Cut, IsWorldOf}
 use Rattle.system_world.specs.Contents.{mark_by}
-use Rattle.system_world.specs.WorldTree.{WorldView, calls_of, log_by, opened_by, opened_in, world_tree}
+use Rattle.system_world.specs.WorldTree.{log_by, opened_by, opened_in, world_tree}
+use Rattle.system_world.specs.WorldView.{WorldView, calls_of}
 use Rattle.system_world.proofs.MarkPlaces.{behind_mark}
 use Rattle.system_world.proofs.SpelledWorlds.{IsSpelled, spelled_left, spelled_now}
 

@@ -9,8 +9,8 @@ use Rattle.event_steps.specs.posix_calls.Outcome.{without_call}
 use Rattle.event_steps.specs.posix_calls.declared.call.Call.{Call}
 use Rattle.event_steps.specs.posix_calls.declared.limits.TheConstants.{MAX_CLIENTS}
 use Rattle.event_steps.specs.View.{SystemView}
-use Rattle.system_world.specs.News.{set_call}
-use Rattle.system_world.specs.WorldTree.{calls_of}
+use Rattle.system_world.specs.KeptCalls.{set_call}
+use Rattle.system_world.specs.WorldView.{calls_of}
 use Rattle.system_world.proofs.Seats.{at_least}
 
 at_most : (c : ℕ) → is_client c ≡ true → c ≤ 8

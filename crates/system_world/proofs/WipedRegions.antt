@@ -39,7 +39,7 @@ use Rattle.system_world.specs.Parts.{region_of}
 use Rattle.system_world.specs.Relation.{IsClientOf, StandsMarked, accepted_of, held_of, status_of}
 use Rattle.system_world.specs.Contents.{mark_by}
 use Rattle.system_world.specs.Steps.{IsBegunIn, IsStep}
-use Rattle.system_world.specs.WorldTree.{WorldView, calls_of}
+use Rattle.system_world.specs.WorldView.{WorldView, calls_of}
 use Rattle.system_world.proofs.ClientMoves.{StandsFor, client_moves, kernel_stands, with_part}
 use Rattle.system_world.proofs.Frame.{KeepsSealed}
 use Rattle.system_world.proofs.Given.{Given}

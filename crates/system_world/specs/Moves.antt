@@ -1,3 +1,4 @@
+-- Trusted: headline
 -- Which clocks an event moves.
 use Rattle.std.specs.Prelude.{◌≡◌, ℕ, ◌+◌, ◌≤◌, ◌<◌}
 use Rattle.event_steps.specs.declared.event.Event.{Event}

@@ -1,11 +1,8 @@
 -- The parts of a running system: part 0 is the shared medium, and part 2c - 1 + r the region of client c whose generations have the remainder r by two.
 use Rattle.std.specs.Prelude.{ℕ, zero, suc, ◌+◌, ◌/◌, ◌%◌, ◌==◌, Option, Some, None, if◌then◌else◌}
-use Rattle.event_steps.specs.tier_device.declared.media.Media.{Ghosts}
-use Rattle.event_steps.specs.tier_device.AfterStop.{Left}
 use Rattle.event_steps.specs.libfs.update_log.View.{RegionView}
 use Rattle.event_steps.specs.libfs.SealedRegion.{SealedRegionView}
 use Rattle.event_steps.specs.View.{SeatView, SystemView, seat_of}
-use Rattle.courses.specs.Courses.{LeftOf, Reading, WorldContent}
 
 -- the region that a client does not write: it is here, or handed over
 abbrev pub region_beside : {M : Type 0} → RegionView M → Option (RegionView M) → Option (SealedRegionView M) → RegionView M
@@ -26,16 +23,3 @@ region_medium shared (Some s) r = (region_of s r).media
 abbrev pub medium_of : {M : Type 0} → SystemView M → ℕ → M
 medium_of w zero = w.kernel.area.media
 medium_of w (suc k) = region_medium w.kernel.area.media (seat_of w (k / 2 + 1)) (k % 2)
-
-module _ {M : Type 0} (device : Ghosts M) where
-  -- what reads give of each part
-  abbrev pub contents_of : SystemView M → WorldContent
-  contents_of w p = device.seen (medium_of w p)
-
-  -- the clocks of all parts
-  abbrev pub clocks_of : SystemView M → Reading
-  clocks_of w p = device.moment (medium_of w p)
-
-  -- what a stop at a moment of a part's clock may have left of that part
-  abbrev pub left_of : SystemView M → LeftOf
-  left_of w p m content = Left (device.left (medium_of w p)) m content

@@ -34,7 +34,7 @@ use Rattle.event_steps.specs.View.{HasSeat, SeatView, done_of}
 use Rattle.courses.specs.Courses.{Content}
 use Rattle.system_world.specs.Parts.{region_of}
 use Rattle.system_world.specs.Contents.{mark_by}
-use Rattle.system_world.specs.WorldTree.{WorldView, calls_of}
+use Rattle.system_world.specs.WorldView.{WorldView, calls_of}
 
 -- ---- a client
 

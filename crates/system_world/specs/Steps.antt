@@ -13,10 +13,11 @@ use Rattle.courses.specs.declared.recoverable.Recoverable.{Ghosts as Recoverable
 use Rattle.system_world.specs.Leaves.{HoldRecords, SystemLeaves}
 use Rattle.system_world.specs.Moves.{EventMoves}
 use Rattle.system_world.specs.News.{news}
-use Rattle.system_world.specs.Parts.{clocks_of, left_of}
+use Rattle.system_world.specs.Clocks.{clocks_of, left_of}
 use Rattle.system_world.specs.Relation.{IsWorld}
 use Rattle.system_world.specs.Contents.{CanRecover, stored_state}
-use Rattle.system_world.specs.WorldTree.{WorldView, calls_of, world_tree}
+use Rattle.system_world.specs.WorldTree.{world_tree}
+use Rattle.system_world.specs.WorldView.{WorldView, calls_of}
 
 module _ {M : Type 0} (device : Ghosts M) where
   -- an event has nothing to do and changes nothing, or makes what it is to make

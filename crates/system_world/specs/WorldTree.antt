@@ -19,14 +19,7 @@ use Rattle.event_steps.specs.libfs.ClientHoldings.{known_to}
 use Rattle.event_steps.specs.libfs.SealedRegion.{SealedRegionView}
 use Rattle.event_steps.specs.View.{SeatView, SystemView, seat_of}
 use Rattle.system_world.specs.Contents.{mark_by}
-
--- a running system, and the call of each client that is started and not answered, or was answered by a fault of its region
-pub record WorldView (M : Type 0) : Type 0 where
-  pub system : SystemView M
-  pub calls : List (Option Call)
-
-abbrev pub calls_of : {M : Type 0} → WorldView M → Unfinished
-calls_of w c = if is_client c then get_or w.calls (c - 1) None else None
+use Rattle.system_world.specs.WorldView.{WorldView}
 
 -- what a client has open at a number
 abbrev pub opened_by : {M : Type 0} → Option (SeatView M) → ℕ → Option Descriptor

@@ -6,9 +6,9 @@ ghost use Rattle.event_steps.specs.Turns.{CanPlay};
 ghost use Rattle.event_steps.specs.View.{SystemView};
 ghost use Rattle.event_steps.specs.declared.event.Event.TheVariants.{Step};
 ghost use Rattle.event_steps.specs.declared.outcome.Outcome.{Outcome};
-ghost use Rattle.system_world.specs.News.{calls_then};
+ghost use Rattle.system_world.specs.KeptCalls.{calls_then};
 ghost use Rattle.system_world.specs.Steps.{IsBegunIn, IsStep};
-ghost use Rattle.system_world.specs.WorldTree.{WorldView};
+ghost use Rattle.system_world.specs.WorldView.{WorldView};
 
 use event_steps::TierDeviceMedia as Media;
 

@@ -7,9 +7,9 @@ ghost use Rattle.event_steps.specs.View.{SystemView};
 ghost use Rattle.event_steps.specs.declared.event.Event.{Event};
 ghost use Rattle.event_steps.specs.declared.outcome.Outcome.{Outcome};
 ghost use Rattle.system_world.specs.Leaves.{HasMetIn, IsSettledIn};
-ghost use Rattle.system_world.specs.News.{calls_then};
+ghost use Rattle.system_world.specs.KeptCalls.{calls_then};
 ghost use Rattle.system_world.specs.Steps.{IsBegunIn, IsStep};
-ghost use Rattle.system_world.specs.WorldTree.{WorldView};
+ghost use Rattle.system_world.specs.WorldView.{WorldView};
 
 use crate::denials::denied_call_is_a_step;
 use crate::device_calls::stepped_call_is_a_step;

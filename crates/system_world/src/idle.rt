@@ -6,10 +6,10 @@ ghost use Rattle.event_steps.specs.declared.event.Event.{Event};
 ghost use Rattle.event_steps.specs.declared.outcome.Outcome.TheVariants.{Idle};
 ghost use Rattle.courses.specs.Plays.{IsRecovered};
 ghost use Rattle.system_world.specs.Leaves.{SystemLeaves};
-ghost use Rattle.system_world.specs.News.{calls_then};
+ghost use Rattle.system_world.specs.KeptCalls.{calls_then};
 ghost use Rattle.system_world.specs.Relation.{IsWorld};
 ghost use Rattle.system_world.specs.Steps.{IsBegunIn, IsStep, recoverable};
-ghost use Rattle.system_world.specs.WorldTree.{WorldView};
+ghost use Rattle.system_world.specs.WorldView.{WorldView};
 
 use event_steps::TierDeviceMedia as Media;
 

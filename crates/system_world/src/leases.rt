@@ -9,7 +9,7 @@ ghost use Rattle.event_steps.specs.declared.event.Event.TheVariants.{AskBack, Gi
 ghost use Rattle.event_steps.specs.declared.outcome.Outcome.{Outcome};
 ghost use Rattle.system_world.specs.Leaves.{HasMetAll};
 ghost use Rattle.system_world.specs.Steps.{IsBegunIn, IsStep};
-ghost use Rattle.system_world.specs.WorldTree.{WorldView};
+ghost use Rattle.system_world.specs.WorldView.{WorldView};
 
 use event_steps::TierDeviceMedia as Media;
 

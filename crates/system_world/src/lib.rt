@@ -42,4 +42,8 @@ pub use starts::started_call_is_a_step;
 
 // Passed on to the crates above, which so need not list those below.
 pub use courses::{Recoverable, Steps, play_all};
-pub use event_steps::{Client, Event, Kernel, Outcome, System, TierDeviceMedia};
+pub use event_steps::{
+    AreaError, Client, ClientLog, ClientSlot, Event, Fetched, Figures, Kernel, KernelError,
+    LeaseManagerLeases, LeaseMode, Mode, Need, NodeSummary, Opened, Outcome, Pass, Refusal, System,
+    Tier, TierDeviceMedia,
+};

@@ -3,7 +3,7 @@
 ghost use Rattle.event_steps.specs.kernel_fs.layout.declared.marks.Marks.{Marks};
 ghost use Rattle.event_steps.specs.View.{SystemView};
 ghost use Rattle.system_world.specs.Idle.{IsIdleSystem};
-ghost use Rattle.system_world.specs.News.{no_calls};
+ghost use Rattle.system_world.specs.KeptCalls.{no_calls};
 ghost use Rattle.system_world.specs.Relation.{IsWorld};
 
 use event_steps::TierDeviceMedia as Media;

@@ -7,9 +7,9 @@ ghost use Rattle.event_steps.specs.Turns.{CanPlay};
 ghost use Rattle.event_steps.specs.View.{SystemView};
 ghost use Rattle.event_steps.specs.declared.event.Event.TheVariants.{Start};
 ghost use Rattle.event_steps.specs.declared.outcome.Outcome.{Outcome};
-ghost use Rattle.system_world.specs.News.{calls_then};
+ghost use Rattle.system_world.specs.KeptCalls.{calls_then};
 ghost use Rattle.system_world.specs.Steps.{IsBegunIn, IsStep};
-ghost use Rattle.system_world.specs.WorldTree.{WorldView};
+ghost use Rattle.system_world.specs.WorldView.{WorldView};
 
 use event_steps::{TierDeviceMedia as Media, answered_start_is_a_step, begun_record_is_a_step};
 

@@ -1,5 +1,6 @@
 pub mod Media
 pub mod AfterStop
+pub mod StopsSince
 pub mod MediaLaws
 pub mod Rows
 pub mod DeviceCall

@@ -88,6 +88,18 @@ impl StopMedia {
         }
     }
 
+    /// Has what was written and not fenced hold something else after the stop, be that past or to come.
+    pub fn set_fill(&mut self, fill: Fill)
+        ensures inner { medium_of self.new ≡ medium_of self.old }
+        ensures count { count_of self.new ≡ count_of self.old }
+        ensures fill { next_fill self.new ≡ fill }
+        ensures runs { stop_fill self.old ≡ None → stop_fill self.new ≡ None }
+        ensures stopped { IfSome (stop_fill self.old) (λ _. stop_fill self.new ≡ Some fill) }
+        ensures faults { failures self.new ≡ failures self.old }
+    {
+        self.fill = fill;
+    }
+
     /// Whether it has stopped.
     pub fn is_stopped(&self) -> bool
         ensures { result ≡ is_some (stop_fill self.now) }

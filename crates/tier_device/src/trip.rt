@@ -56,6 +56,11 @@ impl Trip {
         self.word.store(call.min(GONE - 1), SeqCst);
     }
 
+    /// Whether it ran out for good: a medium that counts by it has stopped, and it was not armed again since.
+    pub fn has_run_out(&self) -> bool {
+        self.word.load(SeqCst) == GONE
+    }
+
     // Counts one call. Where it runs out it is over for all that count by it, or may be armed anew.
     pub(crate) fn count(&self, for_good: bool) -> Turn {
         let last = if for_good { GONE } else { 0 };

@@ -12,7 +12,7 @@ use Rattle.log_record.specs.Grammar.{record_of}
 use Rattle.tier_device.specs.declared.media.Tier.{Tier}
 use Rattle.tier_device.specs.declared.media.Tier.TheVariants.{Fast}
 use Rattle.tier_device.specs.Media.{Keeps}
-use Rattle.tier_device.specs.AfterStop.{LeftSince}
+use Rattle.tier_device.specs.StopsSince.{LeftSince}
 use Rattle.update_log.specs.declared.stage.Stage.{Stage}
 use Rattle.update_log.specs.declared.stage.Stage.TheVariants as stages
 use Rattle.update_log.specs.Frames.{payloads, records, header, before_gate, spelled_records, with_record, behind_gate, is_payload}

@@ -4,7 +4,7 @@ ghost use Rattle.byteorder.specs.Endian.{little_bytes};
 ghost use Rattle.tier_device.specs.declared.media.Tier.{Tier};
 ghost use Rattle.tier_device.specs.declared.media.Tier.TheVariants.{Fast};
 ghost use Rattle.tier_device.specs.Media.{Keeps, Puts, Rose};
-ghost use Rattle.tier_device.specs.AfterStop.{LeftSince};
+ghost use Rattle.tier_device.specs.StopsSince.{LeftSince};
 ghost use Rattle.update_log.specs.declared.format.TheConstants.{GENERATION_SIZE, HEADER, REGION_SIZE};
 ghost use Rattle.update_log.specs.Frames.{header};
 ghost use Rattle.update_log.specs.Stage.{IsUnwiped};

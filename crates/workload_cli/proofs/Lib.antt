@@ -1,3 +1,5 @@
 pub mod Lines
 pub mod Looked
 pub mod Walks
+pub mod RestingMedia
+pub mod KeptMedia

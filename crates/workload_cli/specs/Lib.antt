@@ -4,3 +4,6 @@ pub mod OfSystem
 pub mod AnswerText
 pub mod LineResults
 pub mod Script
+pub mod Rests
+pub mod Stops
+pub mod Sessions

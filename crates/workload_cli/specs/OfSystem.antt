@@ -3,19 +3,19 @@ use Rattle.std.specs.Prelude.{◌≡◌, ℕ, List, Option, Some, None, if◌the
 use Rattle.script.specs.tier_device.declared.media.Media.{Ghosts}
 use Rattle.script.specs.tier_device.declared.media.Tier.{Tier}
 use Rattle.script.specs.posix_calls.Tree.{Tree}
-use Rattle.fresh_system.specs.call_effects.Wholes.{tree_of}
+use Rattle.recovery.specs.call_effects.Wholes.{tree_of}
 use Rattle.script.specs.file_graph.Units.{charge}
-use Rattle.fresh_system.specs.shared_area.Parts.{IsTierOf}
-use Rattle.fresh_system.specs.area_image.Store.{graph, disk}
-use Rattle.fresh_system.specs.kernel_fs.Book.{out_of}
-use Rattle.fresh_system.specs.kernel_fs.KernelView.{KernelView}
-use Rattle.fresh_system.specs.kernel_fs.declared.kernel.Figures.{Figures}
-use Rattle.fresh_system.specs.kernel_fs.declared.error.KernelError.{KernelError}
-use Rattle.fresh_system.specs.kernel_fs.declared.error.KernelError.TheVariants as why
-use Rattle.fresh_system.specs.area_image.declared.error.AreaError.{AreaError}
-use Rattle.fresh_system.specs.area_image.declared.error.AreaError.TheVariants as errors
-use Rattle.fresh_system.specs.event_steps.View.{SystemView}
-use Rattle.fresh_system.specs.event_steps.declared.outcome.Refusal.TheVariants as refusals
+use Rattle.recovery.specs.shared_area.Parts.{IsTierOf}
+use Rattle.recovery.specs.area_image.Store.{graph, disk}
+use Rattle.recovery.specs.kernel_fs.Book.{out_of}
+use Rattle.recovery.specs.kernel_fs.KernelView.{KernelView}
+use Rattle.recovery.specs.kernel_fs.declared.kernel.Figures.{Figures}
+use Rattle.recovery.specs.kernel_fs.declared.error.KernelError.{KernelError}
+use Rattle.recovery.specs.kernel_fs.declared.error.KernelError.TheVariants as why
+use Rattle.recovery.specs.area_image.declared.error.AreaError.{AreaError}
+use Rattle.recovery.specs.area_image.declared.error.AreaError.TheVariants as errors
+use Rattle.recovery.specs.event_steps.View.{SystemView}
+use Rattle.recovery.specs.event_steps.declared.outcome.Refusal.TheVariants as refusals
 use Rattle.workload_cli.specs.declared.answer.Answer.{Answer}
 use Rattle.workload_cli.specs.declared.answer.Answer.TheVariants as answers
 

@@ -1,5 +1,5 @@
 -- The lines of a script, answered one after the other.
-use Rattle.std.specs.Prelude.{◌≡◌, ◌⊎◌, ℕ, zero, suc, List, Option, Some, None, Result, Ok, Err}
+use Rattle.std.specs.Prelude.{◌≡◌, ◌⊎◌, ℕ, zero, suc, Bool, false, List, Option, Some, None, Result, Ok, Err}
 use Rattle.std.specs.Io.KnownBytes.{IsAtEnd}
 use Rattle.script.specs.SystemLines.{Asked, system_line}
 use Rattle.script.specs.LineReads.{BeginsTooLong, LosesLine}
@@ -25,12 +25,17 @@ AreAnswered {S = S} answers (suc n) before old after new = (between : Option (Li
 abbrev pub IsAnsweredTo : {S : Type 0} → (S → Option Asked → Answer → S → Type 0) → Option (List ℕ) → S → Option (List ℕ) → S → Type 0
 IsAnsweredTo answers before old after new = (n : ℕ) × AreAnswered answers n before old after new
 
--- No line stands there that can be read.
-abbrev pub IsUnreadable : Option (List ℕ) → Type 0
-IsUnreadable behind = ((line : List ℕ) × (after : Option (List ℕ)) × LosesLine behind after line × (system_line line ≡ None)) ⊎ BeginsTooLong behind
+-- a line is none, or one that may not stand in the script
+abbrev pub IsNotTaken : (Option Asked → Bool) → Option (Option Asked) → Type 0
+IsNotTaken takes None = Unit {0}
+IsNotTaken takes (Some asks) = takes asks ≡ false
+
+-- No line stands there that can be read, or none that may stand in the script.
+abbrev pub IsUnreadable : (Option Asked → Bool) → Option (List ℕ) → Type 0
+IsUnreadable takes behind = ((line : List ℕ) × (after : Option (List ℕ)) × LosesLine behind after line × IsNotTaken takes (system_line line)) ⊎ BeginsTooLong behind
 
 -- A run ends at the end of its script, at a line that is unreadable, or in a fault.
-abbrev pub EndsAt : Result (Unit {0}) ScriptError → Option (List ℕ) → Type 0
-EndsAt (Ok x) behind = IsAtEnd behind
-EndsAt (Err (stops.Unreadable number)) behind = IsUnreadable behind
-EndsAt (Err (stops.Run fault)) behind = Unit {0}
+abbrev pub EndsAt : (Option Asked → Bool) → Result (Unit {0}) ScriptError → Option (List ℕ) → Type 0
+EndsAt takes (Ok x) behind = IsAtEnd behind
+EndsAt takes (Err (stops.Unreadable number)) behind = IsUnreadable takes behind
+EndsAt takes (Err (stops.Run fault)) behind = Unit {0}

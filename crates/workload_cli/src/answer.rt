@@ -2,7 +2,8 @@
 ghost use Rattle.std.specs.Prelude.{◌≡◌};
 ghost use Rattle.workload_cli.specs.AnswerText.{failure_answer};
 
-use fresh_system::{Figures, Refusal};
+use crate::faults::recovery_fault;
+use recovery::{Figures, RecoveryError, Refusal};
 use script::{Errno, Reply, Tier, write_reply};
 use std::io::{self, Write};
 
@@ -32,6 +33,13 @@ pub enum Answer {
     Lies(Option<Tier>),
     Book(Figures),
     Refused(Refusal),
+    /// A stop or a failure is armed.
+    Armed,
+    /// The world has stopped.
+    Stopped,
+    Recovered,
+    /// Nothing was recovered.
+    Fault(RecoveryError),
 }
 
 /// Prints an answer: nothing, or a line.
@@ -43,6 +51,7 @@ pub fn write_answer<W: Write>(out: &mut W, answer: &Answer) -> io::Result<()> {
         Answer::Moved(count) => writeln!(out, "moved {count}"),
         Answer::Book(figures) => write_book(out, *figures),
         Answer::Refused(refusal) => writeln!(out, "refused {}", refusal.number()),
+        Answer::Fault(error) => writeln!(out, "{}", recovery_fault(*error).text()),
         answer => writeln!(out, "{}", word_of(answer)),
     }
 }
@@ -54,6 +63,9 @@ fn word_of(answer: &Answer) -> &'static str {
         Answer::Blocked => "blocked",
         Answer::Stepped => "step",
         Answer::Idle => "idle",
+        Answer::Armed => "armed",
+        Answer::Stopped => "stopped",
+        Answer::Recovered => "recovered",
         Answer::Wiped => "wiped",
         Answer::Clean => "clean",
         Answer::Lies(Some(Tier::Fast)) => "fast",

@@ -1,9 +1,9 @@
-// A system in memory tells of its shared area.
+// A world tells of its shared area.
 ghost use Rattle.std.specs.Prelude.{◌≡◌, ◌⊎◌, Ok, Err, IfErr, IfOk, OnOk, false};
-ghost use Rattle.fresh_system.specs.call_effects.NodeView.{view_at};
-ghost use Rattle.fresh_system.specs.kernel_fs.KernelAnswers.{OnRefusal};
-ghost use Rattle.fresh_system.specs.shared_area.Parts.{IsNoDamage};
-ghost use Rattle.fresh_system.specs.area_image.Store.{graph, disk};
+ghost use Rattle.recovery.specs.call_effects.NodeView.{view_at};
+ghost use Rattle.recovery.specs.kernel_fs.KernelAnswers.{OnRefusal};
+ghost use Rattle.recovery.specs.shared_area.Parts.{IsNoDamage};
+ghost use Rattle.recovery.specs.area_image.Store.{graph, disk};
 ghost use Rattle.script.specs.posix_calls.Path.{path_names};
 ghost use Rattle.script.specs.posix_calls.Resolve as resolve;
 ghost use Rattle.script.specs.posix_calls.declared.errno.Errno.{Errno};
@@ -14,22 +14,22 @@ ghost use Rattle.workload_cli.specs.AnswerText.{IsNoFile, IsUnread, failure_answ
 
 use crate::answer::{Answer, failure_answer};
 use crate::system_queries::Running;
-use fresh_system::{AreaError, Figures, KernelError, NodeSummary, Refusal, System};
+use recovery::{AreaError, Figures, KernelError, NodeSummary, Refusal, World};
 use script::{Errno, Media, Path, PathText, ROOT, Tier};
 use std::alloc::Global;
 
-impl<M: Media + Drop> Running for System<M> {
+impl<M: Media + Drop> Running for World<M> {
     ghost use Rattle.workload_cli.specs.OfSystem.{HasLooked, LiesIn, figures_of, tree_in};
 
-    ghost area_failed = { λ w. w.kernel.area.failed };
+    ghost area_failed = { λ w. w.system.kernel.area.failed };
 
-    ghost tree = { λ w. tree_in M.Media w.kernel };
+    ghost tree = { λ w. tree_in M.Media w.system.kernel };
 
-    ghost tier_in = { λ w. LiesIn M.Media w.kernel };
+    ghost tier_in = { λ w. LiesIn M.Media w.system.kernel };
 
-    ghost figures_now = { λ w. figures_of M.Media w.kernel };
+    ghost figures_now = { λ w. figures_of M.Media w.system.kernel };
 
-    ghost only_reads = { HasLooked M.Media };
+    ghost only_reads = { λ v w. HasLooked M.Media v.system w.system };
 
     fn file_at(&mut self, alloc: Global, path: &PathText<'_>) -> Result<u32, Answer> {
         match read_path(alloc, path) {
@@ -45,14 +45,14 @@ impl<M: Media + Drop> Running for System<M> {
         block: u64,
     ) -> Result<Option<Tier>, Answer> {
         let inode = self.file_at(alloc, path)?;
-        match System::tier_of(self, inode, block) {
+        match World::tier_of(self, inode, block) {
             Ok(tier) => Ok(tier),
             Err(error) => Err(area_fault(error)),
         }
     }
 
     fn figures(&self) -> Result<Figures, Answer> {
-        match self.kernel().book() {
+        match self.system().kernel().book() {
             Ok(figures) => Ok(figures),
             Err(_) => Err(Answer::Refused(Refusal::KernelFailed)),
         }
@@ -71,22 +71,22 @@ fn read_path(alloc: Global, path: &PathText<'_>) -> Result<Path, Errno>
 }
 
 // The file that the names of a path lead to from the root.
-fn file_along<M: Media + Drop>(system: &mut System<M>, path: &Path) -> Result<u32, Answer>
-    ensures file { IfOk result (λ i. file_along (tree_in M.Media system.old.kernel) path.now ≡ Ok i) }
-    ensures none { IfErr result (IsNoFile (file_along (tree_in M.Media system.old.kernel) path.now) system.old.kernel.area.failed system.new.kernel.area.failed) }
-    ensures going { OnOk result ((system.old.kernel.area.failed ≡ false) × (system.new.kernel.area.failed ≡ false)) }
-    ensures looks { HasLooked M.Media system.old system.new }
+fn file_along<M: Media + Drop>(system: &mut World<M>, path: &Path) -> Result<u32, Answer>
+    ensures file { IfOk result (λ i. file_along (tree_in M.Media system.old.system.kernel) path.now ≡ Ok i) }
+    ensures none { IfErr result (IsNoFile (file_along (tree_in M.Media system.old.system.kernel) path.now) system.old.system.kernel.area.failed system.new.system.kernel.area.failed) }
+    ensures going { OnOk result ((system.old.system.kernel.area.failed ≡ false) × (system.new.system.kernel.area.failed ≡ false)) }
+    ensures looks { HasLooked M.Media system.old.system system.new.system }
 {
     let inode = walk(system, path)?;
     file_itself(system, inode)
 }
 
 // The inode that the names lead to.
-fn walk<M: Media + Drop>(system: &mut System<M>, path: &Path) -> Result<u32, Answer>
-    ensures inode { IfOk result (λ i. resolve.resolve (tree_in M.Media system.old.kernel) path.now ≡ Ok i) }
-    ensures none { IfErr result (IsNoFile (resolve.resolve (tree_in M.Media system.old.kernel) path.now) system.old.kernel.area.failed system.new.kernel.area.failed) }
-    ensures going { OnOk result (system.new.kernel.area.failed ≡ system.old.kernel.area.failed) }
-    ensures looks { HasLooked M.Media system.old system.new }
+fn walk<M: Media + Drop>(system: &mut World<M>, path: &Path) -> Result<u32, Answer>
+    ensures inode { IfOk result (λ i. resolve.resolve (tree_in M.Media system.old.system.kernel) path.now ≡ Ok i) }
+    ensures none { IfErr result (IsNoFile (resolve.resolve (tree_in M.Media system.old.system.kernel) path.now) system.old.system.kernel.area.failed system.new.system.kernel.area.failed) }
+    ensures going { OnOk result (system.new.system.kernel.area.failed ≡ system.old.system.kernel.area.failed) }
+    ensures looks { HasLooked M.Media system.old.system system.new.system }
 {
     let mut inode = ROOT;
     for name in path.names() {
@@ -96,11 +96,11 @@ fn walk<M: Media + Drop>(system: &mut System<M>, path: &Path) -> Result<u32, Ans
 }
 
 // An inode, unless a directory stands there.
-fn file_itself<M: Media + Drop>(system: &mut System<M>, inode: u32) -> Result<u32, Answer>
-    ensures file { IfOk result (λ i. unless_directory (tree_in M.Media system.old.kernel inode) inode ≡ Ok i) }
-    ensures none { IfErr result (IsNoFile (unless_directory (tree_in M.Media system.old.kernel inode) inode) system.old.kernel.area.failed system.new.kernel.area.failed) }
-    ensures going { OnOk result ((system.old.kernel.area.failed ≡ false) × (system.new.kernel.area.failed ≡ false)) }
-    ensures looks { HasLooked M.Media system.old system.new }
+fn file_itself<M: Media + Drop>(system: &mut World<M>, inode: u32) -> Result<u32, Answer>
+    ensures file { IfOk result (λ i. unless_directory (tree_in M.Media system.old.system.kernel inode) inode ≡ Ok i) }
+    ensures none { IfErr result (IsNoFile (unless_directory (tree_in M.Media system.old.system.kernel inode) inode) system.old.system.kernel.area.failed system.new.system.kernel.area.failed) }
+    ensures going { OnOk result ((system.old.system.kernel.area.failed ≡ false) × (system.new.system.kernel.area.failed ≡ false)) }
+    ensures looks { HasLooked M.Media system.old.system system.new.system }
 {
     match node_at(system, inode)? {
         Some(node) if node.is_dir() => Err(failure_answer(Errno::IsDirectory)),
@@ -109,11 +109,11 @@ fn file_itself<M: Media + Drop>(system: &mut System<M>, inode: u32) -> Result<u3
 }
 
 // What a directory has under a name.
-fn child<M: Media + Drop>(system: &mut System<M>, inode: u32, name: &[u8]) -> Result<u32, Answer>
-    ensures child { IfOk result (λ i. resolve.child (tree_in M.Media system.old.kernel inode) name.now ≡ Ok i) }
-    ensures none { IfErr result (IsNoFile (resolve.child (tree_in M.Media system.old.kernel inode) name.now) system.old.kernel.area.failed system.new.kernel.area.failed) }
-    ensures going { OnOk result ((system.old.kernel.area.failed ≡ false) × (system.new.kernel.area.failed ≡ false)) }
-    ensures looks { HasLooked M.Media system.old system.new }
+fn child<M: Media + Drop>(system: &mut World<M>, inode: u32, name: &[u8]) -> Result<u32, Answer>
+    ensures child { IfOk result (λ i. resolve.child (tree_in M.Media system.old.system.kernel inode) name.now ≡ Ok i) }
+    ensures none { IfErr result (IsNoFile (resolve.child (tree_in M.Media system.old.system.kernel inode) name.now) system.old.system.kernel.area.failed system.new.system.kernel.area.failed) }
+    ensures going { OnOk result ((system.old.system.kernel.area.failed ≡ false) × (system.new.system.kernel.area.failed ≡ false)) }
+    ensures looks { HasLooked M.Media system.old.system system.new.system }
 {
     match node_at(system, inode)? {
         Some(node) => child_of(&node, name),
@@ -136,13 +136,13 @@ fn child_of(node: &NodeSummary, name: &[u8]) -> Result<u32, Answer>
 
 // What stands at an inode.
 fn node_at<M: Media + Drop>(
-    system: &mut System<M>,
+    system: &mut World<M>,
     inode: u32,
 ) -> Result<Option<NodeSummary>, Answer>
-    ensures node { IfOk result (λ node. node ≡ view_at (graph system.old.kernel.area.geometry (disk M.Media system.old.kernel.area)) inode) }
-    ensures going { OnOk result ((system.old.kernel.area.failed ≡ false) × (system.new.kernel.area.failed ≡ false)) }
-    ensures unread { IfErr result (IsUnread system.old.kernel.area.failed system.new.kernel.area.failed) }
-    ensures looks { HasLooked M.Media system.old system.new }
+    ensures node { IfOk result (λ node. node ≡ view_at (graph system.old.system.kernel.area.geometry (disk M.Media system.old.system.kernel.area)) inode) }
+    ensures going { OnOk result ((system.old.system.kernel.area.failed ≡ false) × (system.new.system.kernel.area.failed ≡ false)) }
+    ensures unread { IfErr result (IsUnread system.old.system.kernel.area.failed system.new.system.kernel.area.failed) }
+    ensures looks { HasLooked M.Media system.old.system system.new.system }
 {
     match system.look(inode) {
         Ok(found) => Ok(found.node),

@@ -1,6 +1,5 @@
 // A running system that notes what its calls need.
-use call_driver::Events;
-use fresh_system::{Event, LeaseMode, Mode, Need, Outcome};
+use recovery::{Event, Events, LeaseMode, Mode, Need, Outcome};
 use std::alloc::Global;
 use std::io::Write;
 

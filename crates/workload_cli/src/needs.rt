@@ -1,22 +1,19 @@
 // What the calls of a script need.
 use crate::answer::write_answer;
+use crate::fresh_parts::ram_world;
 use crate::need_notes::Noting;
 use crate::shell::answer_line;
 use crate::system_queries::Running;
-use call_driver::{CallResult, Events, serve_call};
-use fresh_system::{Geometry, RamMaker, open_fresh};
+use recovery::{CallResult, Events, serve_call};
 use script::{Call, SystemLine, read_system_line, write_reply};
 use std::alloc::Global;
 use std::io::Write;
 
 /// Answers a script over a fresh system. Before what a call is answered stands what it needed, need by need. It answers status 3 where there is no system.
 pub fn run_needs(alloc: Global, script: &[u8], out: &mut Vec<u8>) -> u8 {
-    let Some(geometry) = Geometry::new(1_024, 512, 1_024, 1_024) else {
-        return 3;
-    };
-    match open_fresh(alloc, &mut RamMaker, &geometry) {
-        Ok(system) => {
-            answer_each(alloc, &mut Noting::new(alloc, system), script, out);
+    match ram_world(alloc) {
+        Ok(world) => {
+            answer_each(alloc, &mut Noting::new(alloc, world), script, out);
             0
         }
         Err(_) => 3,

@@ -1,6 +1,6 @@
 // The words of `strata_sh`.
 use clap::{Arg, ArgAction, ArgMatches, Command, Error, value_parser};
-use script::WordsError;
+use script::{Patch, WordsError};
 use std::alloc::{AllocError, Global};
 
 /// The language of scripts, as `strata_sh --help` teaches it.
@@ -24,6 +24,14 @@ Other lines, where C is a client:
   migrate PATH FIRST COUNT block      moved COUNT: or slow, for block
   where PATH BLOCK                    fast, block, slow or hole
   book                                charge X out Y of Z: in units
+  stop K FILL                         armed: the K-th write or fence stops all
+  halt M:FILL M:FILL ...              stopped: all, between two of these
+  fail K M                            armed: the K-th write or fence on M fails
+  recover                             recovered, or fault N
+M is a client, for its log, or S, for what clients share. FILL is what is then
+held by bytes that were written and not fenced: old, new, or a byte, as a5; new
+on an M that halt does not name. What has stopped prints stopped until recover.
+With --disk there is none of stop, halt and fail.
 
 PATH begins with /; in it, %hh is the byte of two hexadecimal digits, as %20.
 FLAGS are some of rwcxt, so ordered: read, write, create, exclusive, truncate.
@@ -45,10 +53,32 @@ pub struct Sizes {
     pub slow: u32,
 }
 
+/// The sizes of a world of which the words say nothing.
+pub const DEFAULT_SIZES: Sizes = Sizes {
+    units: 1_024,
+    fast: 512,
+    block: 1_024,
+    slow: 1_024,
+};
+
+/// Where the world is kept.
+#[derive(Clone, Copy)]
+pub enum Home<'a> {
+    /// Nowhere: it is gone at the end.
+    Nowhere,
+    /// Nowhere, too; it begins from the image of the world with the empty tree, with these bytes put in.
+    Patched(&'a [Patch]),
+    /// In a file that is read at first, and written at the end.
+    Image(&'a str),
+    /// In a file, which has what was answered as soon as it is.
+    Disk(&'a str),
+}
+
 /// What the words ask for.
 #[derive(Clone, Copy)]
-pub struct Options {
+pub struct Options<'a> {
     pub sizes: Sizes,
+    pub home: Home<'a>,
     /// Whether standard input is a table of scripts, each with what it prints.
     pub is_table: bool,
     /// Whether each line of a script is printed before its answer.
@@ -56,10 +86,11 @@ pub struct Options {
 }
 
 /// What the words ask for. The first word is the program's name.
-pub fn read_options<'a>(alloc: Global, words: &'a [&'a str]) -> Result<Options, WordsError> {
+pub fn read_options<'a>(alloc: Global, words: &'a [&'a str]) -> Result<Options<'a>, WordsError> {
     let matches = command(alloc)?.try_get_matches_from(words)?;
     Ok(Options {
         sizes: sizes_of(&matches),
+        home: home_of(&matches)?,
         is_table: matches.get_flag("rows"),
         echoes: matches.get_flag("echo"),
     })
@@ -67,10 +98,19 @@ pub fn read_options<'a>(alloc: Global, words: &'a [&'a str]) -> Result<Options, 
 
 fn sizes_of(matches: &ArgMatches<'_>) -> Sizes {
     Sizes {
-        units: number(matches, "units", 1_024),
-        fast: number(matches, "fast", 512),
-        block: number(matches, "block", 1_024),
-        slow: number(matches, "slow", 1_024),
+        units: number(matches, "units", DEFAULT_SIZES.units),
+        fast: number(matches, "fast", DEFAULT_SIZES.fast),
+        block: number(matches, "block", DEFAULT_SIZES.block),
+        slow: number(matches, "slow", DEFAULT_SIZES.slow),
+    }
+}
+
+fn home_of<'a>(matches: &ArgMatches<'a>) -> Result<Home<'a>, WordsError> {
+    match (matches.get_str("image"), matches.get_str("disk")) {
+        (None, None) => Ok(Home::Nowhere),
+        (Some(path), None) => Ok(Home::Image(path)),
+        (None, Some(path)) => Ok(Home::Disk(path)),
+        _ => Err(WordsError::Value("--image and --disk do not go together")),
     }
 }
 
@@ -82,7 +122,7 @@ fn command<'a>(alloc: Global) -> Result<Command<'a>, AllocError> {
     Command::new(alloc, "strata_sh")
         .about("Answers a script of file system calls, read from standard input line by line")
         .override_usage(
-            "strata_sh [--units N] [--fast N] [--block N] [--slow N] [--echo] [--rows] < SCRIPT",
+            "strata_sh [--units N] [--fast N] [--block N] [--slow N] [--image FILE | --disk FILE] [--echo] [--rows] < SCRIPT",
         )
         .after_help(LANGUAGE)
         .arg(size(
@@ -109,6 +149,16 @@ fn command<'a>(alloc: Global) -> Result<Command<'a>, AllocError> {
             0,
             "Data blocks of the slow tier; 1024 if left out",
         ))?
+        .arg(file(
+            alloc,
+            "image",
+            "Reads the world from FILE, where there is one, and keeps it there at the end",
+        ))?
+        .arg(file(
+            alloc,
+            "disk",
+            "Keeps the world in FILE, each answer once it is printed",
+        ))?
         .arg(flag(alloc, "echo", "Prints each line before its answer"))?
         .arg(flag(
             alloc,
@@ -125,6 +175,15 @@ fn size<'a>(alloc: Global, name: &'a str, least: i64, help: &'a str) -> Arg<'a> 
         .help(help)
         .action(ArgAction::Set)
         .value_parser(value_parser!(u32).range(least..65_537))
+}
+
+// An option with a file's path.
+fn file<'a>(alloc: Global, name: &'a str, help: &'a str) -> Arg<'a> {
+    Arg::new(alloc, name)
+        .long(name)
+        .value_name("FILE")
+        .help(help)
+        .action(ArgAction::Set)
 }
 
 // An option that is there or not.

@@ -1,16 +1,18 @@
 // A run of `strata_sh`.
-ghost use Rattle.std.specs.Prelude.{ℕ, List, Option};
-ghost use Rattle.workload_cli.specs.LineResults.{IsAnswerTo};
-ghost use Rattle.workload_cli.specs.Script.{EndsAt, IsAnsweredTo};
+ghost use Rattle.std.specs.Prelude.{◌≡◌, ℕ, List, Option, Some, IfNone, IfSome};
+ghost use Rattle.script.specs.LineValues.{system_line_seen};
+ghost use Rattle.script.specs.SystemLines.{system_line};
+ghost use Rattle.workload_cli.specs.Script.{EndsAt, IsAnsweredTo, IsNotTaken};
 
 use crate::answer::{Answer, write_answer};
-use crate::options::{Options, read_options};
+use crate::disk::open_disk;
+use crate::fresh_parts::format_world;
+use crate::image_file::{open_image, save_image};
+use crate::options::{Home, Options, read_options};
+use crate::patched_world::patched_world;
 use crate::rows::run_table;
-use crate::shell::answer_line;
-use crate::system_open::open_system;
-use crate::system_queries::Running;
-use call_driver::Events;
-use script::{RunError, ScriptError, ScriptLines, read_system_line, tell, tell_fault};
+use crate::session::Session;
+use script::{RunError, ScriptError, ScriptLines, SystemLine, read_system_line, tell, tell_fault};
 use std::alloc::Global;
 use std::io::{BufRead, Write};
 
@@ -27,41 +29,28 @@ use std::io::{BufRead, Write};
 /// Answers the exit status: 0 at the end, 1 where a row of a table does not hold, 2 where the words or a line can't be read, 3 after a fault; the last two with a line on `err`. Sizes that no media have are
 /// `fault 3`. All that was printed is flushed before.
 pub fn run_sh<'a, R: BufRead + Drop, O: Write, E: Write>(
-    alloc: Global,
+    rt: &HostRuntime,
     words: &'a [&'a str],
     mut reader: R,
     out: &mut O,
     err: &mut E,
 ) -> u8 {
-    match read_options(alloc, words) {
-        Ok(options) if options.is_table => end_table(run_table(alloc, &mut reader, out), out, err),
-        Ok(options) => run_script(alloc, &options, reader, out, err),
+    match read_options(rt.alloc(), words) {
+        Ok(options) if options.is_table => end_table(run_table(rt, &mut reader, out), out, err),
+        Ok(options) => run_script(rt, &options, reader, out, err),
         Err(error) => tell(error, out, err),
     }
 }
 
-/// Runs a script by the words of a command line, as `run_sh` does, but no table.
-pub fn run_words<'a, R: BufRead + Drop, O: Write, E: Write>(
-    alloc: Global,
-    words: &'a [&'a str],
+/// Runs a script by the options of a command line, and answers the exit status.
+pub fn run_script<R: BufRead + Drop, O: Write, E: Write>(
+    rt: &HostRuntime,
+    options: &Options<'_>,
     reader: R,
     out: &mut O,
     err: &mut E,
 ) -> u8 {
-    match read_options(alloc, words) {
-        Ok(options) => run_script(alloc, &options, reader, out, err),
-        Err(error) => tell(error, out, err),
-    }
-}
-
-fn run_script<R: BufRead + Drop, O: Write, E: Write>(
-    alloc: Global,
-    options: &Options,
-    reader: R,
-    out: &mut O,
-    err: &mut E,
-) -> u8 {
-    let end = run(alloc, options, reader, out);
+    let end = run(rt, options, reader, out);
     tell_end(flush_output(end, out), err)
 }
 
@@ -101,37 +90,72 @@ fn flush_output<O: Write>(end: Result<(), ScriptError>, out: &mut O) -> Result<(
 }
 
 fn run<R: BufRead + Drop, O: Write>(
-    alloc: Global,
-    options: &Options,
+    rt: &HostRuntime,
+    options: &Options<'_>,
     reader: R,
     out: &mut O,
 ) -> Result<(), ScriptError> {
-    let mut system = open_system(alloc, options.sizes)?;
+    let alloc = rt.alloc();
     let mut lines = ScriptLines::new(alloc, reader)?;
-    answer_all(alloc, &mut system, &mut lines, options.echoes, out)
+    match options.home {
+        Home::Nowhere => {
+            let mut session = format_world(alloc, options.sizes)?;
+            answer_all(alloc, &mut session, &mut lines, options.echoes, out)
+        }
+        Home::Patched(patches) => {
+            let mut session = patched_world(alloc, options.sizes, patches)?;
+            answer_all(alloc, &mut session, &mut lines, options.echoes, out)
+        }
+        Home::Image(path) => {
+            let mut session = open_image(rt, path, options.sizes)?;
+            answer_all(alloc, &mut session, &mut lines, options.echoes, out)?;
+            Ok(save_image(rt, path, session)?)
+        }
+        Home::Disk(path) => {
+            let mut session = open_disk(rt, path, options.sizes)?;
+            answer_all(alloc, &mut session, &mut lines, options.echoes, out)
+        }
+    }
 }
 
 // Answers the lines in their order, each once, up to the end of the script or a fault.
-fn answer_all<S: Events + Running, R: BufRead + Drop, O: Write>(
+fn answer_all<S: Session, R: BufRead + Drop, O: Write>(
     alloc: Global,
-    system: &mut S,
+    session: &mut S,
     lines: &mut ScriptLines<R>,
     echoes: bool,
     out: &mut O,
 ) -> Result<(), ScriptError>
-    ensures { (behind : Option (List ℕ)) × IsAnsweredTo (IsAnswerTo S.Events S.Running) lines.old.left system.old behind system.new × EndsAt result behind }
+    ensures { (behind : Option (List ℕ)) × IsAnsweredTo S.answers lines.old.left session.old behind session.new × EndsAt (S.takes session.new) result behind }
 {
     for _ in 0..u64::MAX {
         if !lines.read_next(out)? {
             return Ok(());
         }
         let text = lines.line();
-        match read_system_line(text) {
-            Some(line) => print_answer(out, echoes, text, &answer_line(alloc, system, line))?,
+        match taken_line(session, text) {
+            Some(line) => print_answer(out, echoes, text, &session.answer(alloc, line))?,
             None => return Err(lines.unreadable_line()),
         }
     }
     Err(ScriptError::Run(RunError::Device))
+}
+
+// What a line asks; none where it can't be read, or may not stand in a script here.
+fn taken_line<'a, S: Session>(session: &S, text: &'a [u8]) -> Option<SystemLine<'a>>
+    ensures some { IfSome result (λ line. system_line text.now ≡ Some (system_line_seen line)) }
+    ensures none { IfNone result (IsNotTaken (S.takes session.now) (system_line text.now)) }
+{
+    match read_system_line(text) {
+        Some(line) => {
+            if session.takes(&line) {
+                Some(line)
+            } else {
+                None
+            }
+        }
+        None => None,
+    }
 }
 
 // Prints an answer, behind its line where lines are printed too.

@@ -8,11 +8,11 @@ use crate::answer::Answer;
 use crate::calls::{answer_call, answer_step};
 use crate::system_queries::Running;
 use crate::tiers::{answer_migrate, answer_where};
-use call_driver::{Events, clear_client, wipe_all};
+use recovery::{Events, clear_client, wipe_all};
 use script::SystemLine;
 use std::alloc::Global;
 
-/// What a line is answered. Where there is no memory to build its call or its path, no event is played.
+/// What a line is answered. Where there is no memory to build its call or its path, no event is played. A line that stops, fails or recovers a world asks nothing of a running system.
 pub fn answer_line<S: Events + Running>(
     alloc: Global,
     system: &mut S,
@@ -38,6 +38,10 @@ pub fn answer_line<S: Events + Running>(
         SystemLine::Digest { client } => answer_digest(system, client),
         SystemLine::Wipe { client } => answer_wipe(system, client),
         SystemLine::Book => answer_book(system),
+        SystemLine::Stop { .. }
+        | SystemLine::Halt { .. }
+        | SystemLine::Fail { .. }
+        | SystemLine::Recover => Answer::Silent,
     }
 }
 

@@ -1,15 +1,14 @@
 // Where the blocks of files lie.
 ghost use Rattle.std.specs.Prelude.{◌≡◌, ◌-◌, ◌^◌, min};
-ghost use Rattle.fresh_system.specs.event_steps.declared.event.Event.TheVariants as kinds;
-ghost use Rattle.fresh_system.specs.event_steps.declared.outcome.Outcome.{Outcome};
+ghost use Rattle.recovery.specs.event_steps.declared.event.Event.TheVariants as kinds;
+ghost use Rattle.recovery.specs.event_steps.declared.outcome.Outcome.{Outcome};
 ghost use Rattle.script.specs.LineValues.{path_of};
 ghost use Rattle.workload_cli.specs.LineResults.{IsMoveAnswered, IsPlaceAnswered};
 ghost use Rattle.workload_cli.specs.AnswerText.{tier_below, move_answer};
 
 use crate::answer::Answer;
 use crate::system_queries::Running;
-use call_driver::Events;
-use fresh_system::{Event, Outcome};
+use recovery::{Event, Events, Outcome};
 use script::{LowerTier, PathText, Tier};
 use std::alloc::Global;
 

@@ -1,6 +1,6 @@
 -- What was shown of clients one after the other.
-use Rattle.std.proofs.Common.{◌≡◌, ◌≢◌, inl, inr, ℕ, ◌+◌, ◌<◌, ◌≤◌, true, subst, sym, arith}
-use Rattle.std.specs.Prelude.{nat_le}
+use Rattle.std.proofs.Common.{◌≡◌, ◌≢◌, inl, inr, ℕ, ◌+◌, ◌-◌, ◌<◌, ◌≤◌, true, [], ◌∷◌, Some, refl, subst, sym, arith}
+use Rattle.std.specs.Prelude.{nat_le, slice_get}
 use Rattle.std.proofs.lemmas.Bool.{and_parts}
 use Rattle.std.proofs.lemmas.Bool.Decides.{eqb_tells, nat_tests}
 use Rattle.system_world.specs.event_steps.posix_calls.Operations.{is_client}
@@ -40,3 +40,13 @@ each_below P n nine below d is = below d (at_least d is) (beyond (at_most d is))
   where
     beyond : d < 9 → d < n
     beyond most = omega (arith, nine, most)
+
+-- eight values, one for each client, are those at their numbers
+pub each_of_eight : {A : Type 0} (f : ℕ → A) (c : ℕ) → is_client c ≡ true → slice_get (f 1 ∷ f 2 ∷ f 3 ∷ f 4 ∷ f 5 ∷ f 6 ∷ f 7 ∷ f 8 ∷ []) (c - 1) ≡ Some (f c)
+each_of_eight f c is = each_below IsThere 9 (omega arith) (with_next IsThere 8 (with_next IsThere 7 (with_next IsThere 6 (with_next IsThere 5 (with_next IsThere 4 (with_next IsThere 3 (with_next IsThere 2 (with_next IsThere 1 nobody refl) refl) refl) refl) refl) refl) refl) refl) c is
+  where
+    IsThere : ℕ → Type 0
+    IsThere d = slice_get (f 1 ∷ f 2 ∷ f 3 ∷ f 4 ∷ f 5 ∷ f 6 ∷ f 7 ∷ f 8 ∷ []) (d - 1) ≡ Some (f d)
+
+    nobody : (d : ℕ) → 1 ≤ d → d < 1 → IsThere d
+    nobody d low high = absurd (omega (arith, low, high))

@@ -1,3 +1,4 @@
 mod EachClient
+mod LookedWorlds
 mod OneEvent
 mod OnePart

@@ -9,10 +9,10 @@ use Rattle.system_world.specs.event_steps.declared.event.Event.{Event}
 use Rattle.system_world.specs.event_steps.declared.outcome.Outcome.{Outcome}
 use Rattle.system_world.specs.event_steps.declared.outcome.Outcome.TheVariants as outcomes
 use Rattle.system_world.specs.Leaves.{HasMetIn, HoldRecords, IsSettledIn, SystemLeaves}
-use Rattle.system_world.specs.News.{calls_then}
+use Rattle.system_world.specs.KeptCalls.{calls_then}
 use Rattle.system_world.specs.Relation.{IsWorld}
 use Rattle.system_world.specs.Steps.{IsBegunIn, IsStep, MakesOrStays}
-use Rattle.system_world.specs.WorldTree.{WorldView}
+use Rattle.system_world.specs.WorldView.{WorldView}
 
 module _ {M : Type 0} (device : Ghosts M) where
   -- every event that is played is a step

@@ -9,7 +9,9 @@
 mod call_events;
 mod leases;
 mod list;
+mod look_laws;
 mod notes;
+mod queries;
 mod steps;
 mod stops;
 mod world;
@@ -18,4 +20,11 @@ pub use list::play;
 pub use world::World;
 
 // Passed on to the crates above, which so need not list those below.
-pub use system_world::{Event, Outcome, System, TierDeviceMedia};
+pub use call_driver::{
+    CallResult, Events, begin_call, clear_client, digest_all, serve_call, step_call, wipe_all,
+};
+pub use system_world::{
+    AreaError, Client, ClientLog, ClientSlot, Event, Fetched, Figures, Kernel, KernelError,
+    LeaseManagerLeases, LeaseMode, Mode, Need, NodeSummary, Opened, Outcome, Pass, Refusal, System,
+    Tier, TierDeviceMedia, idle_system_stands_for_a_world,
+};

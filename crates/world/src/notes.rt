@@ -3,7 +3,7 @@
 ghost use Rattle.std.specs.Borrow.{ftrue};
 ghost use Rattle.std.specs.Prelude.{◌≡◌, List, Option};
 ghost use Rattle.system_world.specs.event_steps.posix_calls.declared.call.Call.{Call};
-ghost use Rattle.system_world.specs.News.{calls_then, no_calls};
+ghost use Rattle.system_world.specs.KeptCalls.{calls_then, no_calls};
 
 use std::marker::Model;
 use system_world::{Event, Outcome};

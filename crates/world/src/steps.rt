@@ -2,10 +2,11 @@
 
 ghost use Rattle.system_world.specs.News.{news};
 ghost use Rattle.system_world.specs.Moves.{EventMoves};
-ghost use Rattle.system_world.specs.Parts.{clocks_of, left_of};
+ghost use Rattle.system_world.specs.Clocks.{clocks_of, left_of};
 ghost use Rattle.system_world.specs.Steps.{MakesOrStays};
 ghost use Rattle.system_world.specs.Contents.{CanRecover, stored_state};
-ghost use Rattle.system_world.specs.WorldTree.{calls_of, world_tree};
+ghost use Rattle.system_world.specs.WorldTree.{world_tree};
+ghost use Rattle.system_world.specs.WorldView.{calls_of};
 
 use crate::leases::{meet_in_event, settle_in_event};
 use crate::notes::Notes;

@@ -1,5 +1,5 @@
 ghost use Rattle.std.specs.Prelude.{◌≡◌};
-ghost use Rattle.system_world.specs.News.{no_calls};
+ghost use Rattle.system_world.specs.KeptCalls.{no_calls};
 ghost use Rattle.system_world.specs.Relation.{IsWorld};
 
 use crate::notes::Notes;
@@ -21,7 +21,7 @@ impl<M: Media> Model for World<M> {
     ghost use Rattle.system_world.specs.event_steps.libfs.contracts.begun_record.Begun as begun_call;
     ghost use Rattle.system_world.specs.event_steps.posix_calls.contracts.call.Call as call;
     ghost use Rattle.system_world.specs.Relation.{IsWorld};
-    ghost use Rattle.system_world.specs.WorldTree.{WorldView};
+    ghost use Rattle.system_world.specs.WorldView.{WorldView};
 
     ghost Value = { WorldView M };
 

@@ -1,4 +1,4 @@
-use Rattle.shared_area.specs.AreaOpen.{SpellsNone, IsMediumDamage}
+use Rattle.recovery_laws.specs.shared_area.AreaOpen.{SpellsNone, IsMediumDamage}
 use Rattle.recovery.proofs.Faults.{of_area, no_damage, of_fault, of_memory, of_other, on_damage}
 use Rattle.recovery.proofs.Staying.{opened_stays, opened_volume}
 use Rattle.recovery.proofs.area_open.open_area.Goals as goal

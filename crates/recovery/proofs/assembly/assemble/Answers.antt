@@ -1,15 +1,16 @@
 use Rattle.std.proofs.Common.{ap, sym, subst, ◌∙◌, inl, inr}
 use Rattle.std.proofs.lemmas.Bool.{false≢true}
-use Rattle.event_steps.specs.View.{SystemView}
-use Rattle.shared_area.specs.area_image.Looks.{call_answer}
-use Rattle.shared_area.specs.batch_journal.View.{JournalView}
-use Rattle.shared_area.specs.layout.declared.marks.Marks.{Marks}
+use Rattle.world.specs.system_world.event_steps.View.{SystemView}
+use Rattle.recovery_laws.specs.shared_area.area_image.Looks.{call_answer}
+use Rattle.recovery_laws.specs.shared_area.batch_journal.View.{JournalView}
+use Rattle.recovery_laws.specs.shared_area.layout.declared.marks.Marks.{Marks}
 use Rattle.world.specs.system_world.Idle.{IsIdleSystem}
 use Rattle.world.specs.system_world.Parts.{medium_of}
 use Rattle.world.specs.system_world.event_steps.call_effects.ClosedGraph.{nobody}
 use Rattle.world.specs.system_world.event_steps.call_effects.Wholes.{state_of}
-use Rattle.event_steps.specs.libfs.file_graph.Graph.{Graph}
-use Rattle.recovery.specs.Parts.{AreUntouched, media_beneath, part_medium}
+use Rattle.world.specs.system_world.event_steps.libfs.file_graph.Graph.{Graph}
+use Rattle.recovery.specs.Parts.{part_medium}
+use Rattle.recovery.specs.PartMedia.{AreUntouched, media_beneath}
 use Rattle.recovery.specs.Regions.{media_of}
 use Rattle.recovery.proofs.Faults.{no_damage, of_fault}
 use Rattle.recovery.proofs.IdleWorlds.{idle_assembled, idle_tree, looked_untouched, same_graph_read, same_mark}

@@ -1,6 +1,6 @@
 use Rattle.std.proofs.Common.{subst, sym}
-use Rattle.event_steps.specs.View.{SystemView}
-use Rattle.world.specs.system_world.News.{no_calls}
+use Rattle.world.specs.system_world.event_steps.View.{SystemView}
+use Rattle.world.specs.system_world.KeptCalls.{no_calls}
 use Rattle.world.specs.system_world.Relation.{IsWorld}
 use Rattle.recovery.proofs.IdleWorlds.{same_system}
 use Rattle.recovery.proofs.assembly.world_of.Goals as goal

@@ -1,7 +1,7 @@
 use Rattle.std.proofs.Common.{Err, ap, ◌∙◌}
-use Rattle.shared_area.specs.layout.Places.{Sizes}
-use Rattle.shared_area.specs.area_image.Store.{Store, disk, graph, store_of}
-use Rattle.shared_area.proofs.batch_journal_lemmas.Courses.{tiers_same}
+use Rattle.recovery_laws.specs.shared_area.layout.Places.{Sizes}
+use Rattle.recovery_laws.specs.shared_area.area_image.Store.{Store, disk, graph, store_of}
+use Rattle.recovery_laws.proofs.shared_area_lemmas.batch_journal_lemmas.Courses.{tiers_same}
 use Rattle.recovery.proofs.Changing.{drop_stays, dropped_one, kept_one, reclaim_answers}
 use Rattle.recovery.proofs.file_drops.drop_file.Goals as goal
 

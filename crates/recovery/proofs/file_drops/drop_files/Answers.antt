@@ -2,10 +2,10 @@ use Rattle.std.proofs.Common.{◌≡◌, ℕ, ◌+◌, [], ◌∷◌, ◌++◌, 
 use Rattle.std.proofs.Math.Seq.{take-suc}
 use Rattle.std.proofs.lemmas.List.{take_all}
 use Rattle.std.proofs.lemmas.Result.{err_from_is_err_and}
-use Rattle.shared_area.specs.area_image.Store.{disk, graph, marks}
-use Rattle.graph_check.specs.file_graph.Graph.{Graph}
-use Rattle.graph_check.specs.record_validation.call_effects.ClosedGraph.{nobody}
-use Rattle.graph_check.specs.record_validation.call_effects.Wholes.{IsSound, state_of}
+use Rattle.recovery_laws.specs.shared_area.area_image.Store.{disk, graph, marks}
+use Rattle.recovery_laws.specs.graph_check.file_graph.Graph.{Graph}
+use Rattle.recovery_laws.specs.graph_check.record_validation.call_effects.ClosedGraph.{nobody}
+use Rattle.recovery_laws.specs.graph_check.record_validation.call_effects.Wholes.{IsSound, state_of}
 use Rattle.recovery.specs.GraphTests.{without_nameless}
 use Rattle.recovery.specs.Recovers.{CountNone}
 use Rattle.recovery.proofs.Staying.{stays_on}

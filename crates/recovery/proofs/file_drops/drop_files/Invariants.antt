@@ -1,5 +1,5 @@
 use Rattle.std.proofs.Common.{◌≡◌, false, take}
-use Rattle.shared_area.specs.area_image.Store.{disk, graph, marks}
+use Rattle.recovery_laws.specs.shared_area.area_image.Store.{disk, graph, marks}
 use Rattle.recovery.specs.GraphTests.{without_nameless}
 use Rattle.recovery.specs.Recovers.{CountNone}
 use Rattle.recovery.specs.Phases.{StaysRecovered}

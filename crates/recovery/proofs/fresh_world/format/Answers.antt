@@ -3,7 +3,8 @@ use Rattle.std.proofs.lemmas.Result.{IfErr-weaker, IfOk-weaker}
 use Rattle.world.specs.system_world.Parts.{medium_of}
 use Rattle.recovery.specs.declared.error.RecoveryError.TheVariants.{DeviceFault}
 use Rattle.recovery.specs.FreshContents.{AreFreshRegions, AreLater}
-use Rattle.recovery.specs.Parts.{PartsView, SomeRose, part_medium}
+use Rattle.recovery.specs.Parts.{PartsView, part_medium}
+use Rattle.recovery.specs.PartMedia.{SomeRose}
 use Rattle.recovery.proofs.PartRows.{after, all_later_on, earlier_rises, slice_left, written_later, written_rose}
 use Rattle.recovery.proofs.fresh_world.format.Goals as goal
 

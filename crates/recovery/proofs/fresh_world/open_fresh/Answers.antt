@@ -1,10 +1,10 @@
 use Rattle.std.proofs.Common.{◌≡◌, ◌<◌, ℕ, ap, sym, ◌∙◌, subst, arith}
 use Rattle.std.specs.List.{AllByRecursion}
 use Rattle.std.proofs.lemmas.Result.{IfErr-weaker, IfOk-weaker}
-use Rattle.graph_check.proofs.call_effects_lemmas.Fresh.{fresh_state}
-use Rattle.shared_area.specs.AreaOpen.{SpellsNone}
-use Rattle.shared_area.specs.area_image.Store.{disk, graph}
-use Rattle.update_log.specs.View.{HasSize}
+use Rattle.recovery_laws.proofs.graph_check_lemmas.call_effects_lemmas.Fresh.{fresh_state}
+use Rattle.recovery_laws.specs.shared_area.AreaOpen.{SpellsNone}
+use Rattle.recovery_laws.specs.shared_area.area_image.Store.{disk, graph}
+use Rattle.recovery_laws.specs.update_log.View.{HasSize}
 use Rattle.world.specs.system_world.Parts.{medium_of}
 use Rattle.world.specs.system_world.WorldTree.{world_tree}
 use Rattle.world.specs.system_world.courses.Courses.{PARTS}
@@ -13,7 +13,8 @@ use Rattle.world.specs.system_world.event_steps.call_effects.Wholes.{state_of}
 use Rattle.world.specs.system_world.event_steps.posix_calls.EmptyTree.{empty_state}
 use Rattle.recovery.specs.declared.error.RecoveryError.TheVariants.{DeviceFault}
 use Rattle.recovery.specs.FreshContents.{AreLater, HoldsContent, IsLater, fresh_contents}
-use Rattle.recovery.specs.Parts.{AreUntouched, PartsView, SomeRose, media_beneath, part_medium}
+use Rattle.recovery.specs.Parts.{PartsView, part_medium}
+use Rattle.recovery.specs.PartMedia.{AreUntouched, SomeRose, media_beneath}
 use Rattle.recovery.specs.Regions.{IsGivenBack}
 use Rattle.recovery.proofs.FreshMedia.{all_rest, all_sized, area_holds, area_ready, geometry_is, graph_is, later_by_recovery, marks_are, no_damage_there, no_size_there, opens_not, regions_ready}
 use Rattle.recovery.proofs.FreshWorlds.{beneath_later, given_later, parts_hold, parts_later}

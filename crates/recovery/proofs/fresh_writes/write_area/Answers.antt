@@ -1,6 +1,6 @@
 use Rattle.std.proofs.Common.{arith}
-use Rattle.fresh_media.specs.Fresh.{fresh_tiers}
-use Rattle.update_log.specs.tier_device.declared.media.Tier.TheVariants.{Fast}
+use Rattle.recovery_laws.specs.fresh_media.Fresh.{fresh_tiers}
+use Rattle.recovery_laws.specs.update_log.tier_device.declared.media.Tier.TheVariants.{Fast}
 use Rattle.recovery.proofs.FreshTiers.{holds_with}
 use Rattle.recovery.proofs.fresh_writes.write_area.Goals as goal
 

@@ -2,8 +2,8 @@ use Rattle.std.proofs.Common.{◌<◌, ◌%◌, ◌∙◌, length, arith}
 use Rattle.std.proofs.lemmas.List.{length-set}
 use Rattle.std.proofs.lemmas.Option.{slice_get_within}
 use Rattle.std.proofs.lemmas.Result.{err_from_is_err_and}
-use Rattle.fresh_media.specs.Fresh.{fresh_region}
-use Rattle.update_log.specs.tier_device.Media.{Rose}
+use Rattle.recovery_laws.specs.fresh_media.Fresh.{fresh_region}
+use Rattle.recovery_laws.specs.update_log.tier_device.Media.{Rose}
 use Rattle.recovery.specs.FreshContents.{HoldsContent, IsLater}
 use Rattle.recovery.specs.Recovers.{region_content}
 use Rattle.recovery.proofs.ChangedRows.{below_more, each_more, put, rest_more, some_at_place, there}

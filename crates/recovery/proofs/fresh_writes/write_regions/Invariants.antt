@@ -1,6 +1,6 @@
 use Rattle.std.proofs.Common.{◌≡◌, ◌≤◌, ◌<◌, ◌%◌, ℕ, length}
 use Rattle.std.specs.Prelude.{slice_get, Some}
-use Rattle.fresh_media.specs.Fresh.{fresh_region}
+use Rattle.recovery_laws.specs.fresh_media.Fresh.{fresh_region}
 use Rattle.recovery.specs.FreshContents.{HoldsContent, IsLater}
 use Rattle.recovery.specs.Recovers.{region_content}
 use Rattle.recovery.proofs.fresh_writes.write_regions.Given as goal

@@ -1,6 +1,6 @@
-use Rattle.shared_area.specs.area_image.Store.{disk, graph}
-use Rattle.graph_check.specs.record_validation.call_effects.ClosedGraph.{nobody}
-use Rattle.graph_check.specs.record_validation.call_effects.Wholes.{IsSound}
+use Rattle.recovery_laws.specs.shared_area.area_image.Store.{disk, graph}
+use Rattle.recovery_laws.specs.graph_check.record_validation.call_effects.ClosedGraph.{nobody}
+use Rattle.recovery_laws.specs.graph_check.record_validation.call_effects.Wholes.{IsSound}
 use Rattle.recovery.proofs.GraphTested.{inodes_alone, looked_for, looked_unmoved, tested_answers, tested_damage, tested_never, tested_of_area, tested_unsound}
 use Rattle.recovery.proofs.Changing.{sound_by, unmoved_stays}
 use Rattle.recovery.specs.Phases.{Whatever}

@@ -2,19 +2,23 @@ use Rattle.std.proofs.Common.{◌≡◌, ◌≢◌, ℕ, [], Option, Ok, Err, So
 use Rattle.std.specs.Prelude.{IfSome}
 use Rattle.std.proofs.lemmas.List.Elements.{length_all_zip}
 use Rattle.std.proofs.lemmas.Result.{err_from_is_err_and}
-use Rattle.counted_logs.specs.Regions.{records_of}
-use Rattle.digester.specs.MarkMoves.{mark_of}
-use Rattle.shared_area.specs.area_image.Store.{disk, marks}
-use Rattle.shared_area.specs.layout.declared.marks.Mark.{Mark}
-use Rattle.shared_area.specs.layout.declared.marks.Marks.{Marks}
-use Rattle.update_log.specs.RecordCounts.{next_generation}
-use Rattle.recovery.specs.DigestedLogs.{DigestsAll, StandsAtStart}
-use Rattle.recovery.specs.FoundLogs.{HasGeneration}
+use Rattle.recovery_laws.specs.counted_logs.Regions.{records_behind, records_of}
+use Rattle.recovery_laws.specs.digester.MarkMoves.{mark_of}
+use Rattle.recovery_laws.specs.shared_area.area_image.Store.{disk, graph, marks}
+use Rattle.recovery_laws.specs.shared_area.layout.declared.marks.Mark.{Mark}
+use Rattle.recovery_laws.specs.shared_area.layout.declared.marks.Marks.{Marks}
+use Rattle.recovery_laws.specs.update_log.RecordCounts.{next_generation}
+use Rattle.recovery.specs.DigestedLogs.{CanDigest, DigestsAll, NamesRefused, StandsAtStart}
+use Rattle.recovery.specs.FoundLogs.{HasGeneration, HoldsFew, log_by}
 use Rattle.recovery.specs.Recovers.{AreThese, Regions}
 use Rattle.recovery.specs.Regions.{IsOnlyRead, regions_read}
-use Rattle.recovery.proofs.FoundParts.{at_second, log_digested}
+use Rattle.recovery.proofs.FoundParts.{at_second, log_digested, region_few, rest_few}
 use Rattle.recovery.proofs.ReadRegions.{all_read_on, either_on, idle_still, other_answer, regions_still, same_denial}
 use Rattle.recovery.proofs.Staying.{recovered_now, stays_on}
+use Rattle.recovery_laws.specs.shared_area.layout.Places.{Sizes}
+use Rattle.world.specs.system_world.event_steps.libfs.file_graph.Graph.{Graph}
+use Rattle.recovery.proofs.SettlementPhases.{passed_on}
+use Rattle.recovery.proofs.UndigestibleRecords.{behind_named, front_named, parts_digest}
 use Rattle.recovery.proofs.log_digest.digest_log.Goals as goal
 
 one_of : (o : Option Marks) (a b : Marks) → o ≡ Some a → o ≡ Some b → a ≡ b
@@ -174,3 +178,73 @@ returns-clause-answers g c =
     let first = c.in_ok-before.ensures in
     either_on m (Ok tt) c.args.area.now c.digest_first.new.area c.digest_second.new.area c.args.regions.now c.digest_first.new.regions c.digest_second.new.regions first.answers.geometry first.answers.more_faults first.same
     (other_answer m c.in_ok-digest_second.field-0 tt c.digest_first.new.area c.digest_second.new.area c.digest_first.new.regions c.digest_second.new.regions c.in_ok-digest_second.ensures.answers)
+
+pub returns-in_err-before-clause-good : goal.returns-in_err-before-clause-good
+returns-in_err-before-clause-good g c =
+    let p = err_from_is_err_and c.from_residual.result c.from_residual.ensures.1 in
+    rw p.1 tt
+
+pub returns-in_err-before-clause-bad : goal.returns-in_err-before-clause-bad
+returns-in_err-before-clause-bad g c =
+    let m = g.M.Media in
+    let client = c.args.client in
+    let these = regions_read m c.args.regions.now in
+    let old = c.args.area.now in
+    let u = old.geometry.units in
+    let h = graph old.geometry (disk m old) in
+    let xs = records_behind (these client) c.args.log.counted.first in
+    let ys = records_of (these client) c.args.log.counted.second in
+    passed_on c.from_residual.result _ _ c.from_residual.ensures.1 (λ v are few.
+    let found = c.requires.found v are in
+    front_named client u h xs ys (log_by v these client) found.counted (rest_few (these client) few (mark_of v client).generation (mark_of v client).done c.args.log.counted.first found.first) c.in_err-before.field-0.0 (c.in_err-before.ensures.bad few))
+
+pub returns-in_err-digest_second-clause-good : goal.returns-in_err-digest_second-clause-good
+returns-in_err-digest_second-clause-good g c =
+    let p = err_from_is_err_and c.from_residual-in_err-digest_second.result c.from_residual-in_err-digest_second.ensures.1 in
+    rw p.1 tt
+
+pub returns-in_err-digest_second-clause-bad : goal.returns-in_err-digest_second-clause-bad
+returns-in_err-digest_second-clause-bad g c =
+    let m = g.M.Media in
+    let client = c.args.client in
+    let these = regions_read m c.args.regions.now in
+    let old = c.args.area.now in
+    let u = old.geometry.units in
+    let h = graph old.geometry (disk m old) in
+    let xs = records_behind (these client) c.args.log.counted.first in
+    let ys = records_of (these client) c.args.log.counted.second in
+    let mid = c.digest_first.new.area in
+    let still = regions_still m c.args.regions.now c.digest_first.new.regions c.in_ok-before.ensures.same in
+    let units : mid.geometry.units ≡ u = ap (λ (z : Sizes). z.units) c.in_ok-before.ensures.answers.geometry in
+    let e = c.in_err-digest_second.field-0.0 in
+    passed_on c.from_residual-in_err-digest_second.result _ _ c.from_residual-in_err-digest_second.ensures.1 (λ v are few.
+    let found = c.requires.found v are in
+    let first = c.in_ok-before.ensures.digested v are in
+    behind_named client u h xs ys (log_by v these client) found.counted c.in_ok-before.before c.in_ok-before.ensures.count
+    (rest_few (these client) few (mark_of v client).generation (mark_of v client).done c.args.log.counted.first found.first)
+    (region_few (these client) few (next_generation (mark_of v client).generation) c.args.log.counted.second found.second)
+    c.in_ok-before.ensures.good e
+    (subst (λ (k : Graph). NamesRefused client c.in_ok-before.before u k ys e) first.graph_after
+    (subst (λ (n : ℕ). NamesRefused client c.in_ok-before.before n (graph mid.geometry (disk m mid)) ys e) units
+    (subst (λ (t : Regions). HoldsFew (t client) → NamesRefused client c.in_ok-before.before mid.geometry.units (graph mid.geometry (disk m mid)) (records_of (t client) c.args.log.counted.second) e) still c.in_err-digest_second.ensures.bad few))))
+
+pub returns-clause-good : goal.returns-clause-good
+returns-clause-good g c =
+    let m = g.M.Media in
+    let client = c.args.client in
+    let these = regions_read m c.args.regions.now in
+    let old = c.args.area.now in
+    let u = old.geometry.units in
+    let h = graph old.geometry (disk m old) in
+    let xs = records_behind (these client) c.args.log.counted.first in
+    let ys = records_of (these client) c.args.log.counted.second in
+    let mid = c.digest_first.new.area in
+    let still = regions_still m c.args.regions.now c.digest_first.new.regions c.in_ok-before.ensures.same in
+    let units : mid.geometry.units ≡ u = ap (λ (z : Sizes). z.units) c.in_ok-before.ensures.answers.geometry in
+    λ v are.
+    let found = c.requires.found v are in
+    let first = c.in_ok-before.ensures.digested v are in
+    parts_digest client u h xs ys (log_by v these client) found.counted c.in_ok-before.ensures.good
+    (subst (λ (k : Graph). CanDigest u k ys) first.graph_after
+    (subst (λ (n : ℕ). CanDigest n (graph mid.geometry (disk m mid)) ys) units
+    (subst (λ (t : Regions). CanDigest mid.geometry.units (graph mid.geometry (disk m mid)) (records_of (t client) c.args.log.counted.second)) still c.in_ok-digest_second.ensures.good)))

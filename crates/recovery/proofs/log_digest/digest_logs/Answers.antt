@@ -2,23 +2,25 @@ use Rattle.std.proofs.Common.{◌≡◌, ◌<◌, ◌+◌, ℕ, true, length, ge
 use Rattle.std.proofs.lemmas.List.Elements.{length_all_zip}
 use Rattle.std.proofs.lemmas.Option.{slice_get-get_or}
 use Rattle.std.specs.Prelude.{slice_get}
-use Rattle.digester.specs.MarkMoves.{mark_of}
-use Rattle.shared_area.specs.layout.declared.marks.Marks.{Marks}
+use Rattle.recovery_laws.specs.digester.MarkMoves.{mark_of}
+use Rattle.recovery_laws.specs.shared_area.layout.declared.marks.Marks.{Marks}
 use Rattle.recovery.specs.declared.log_search.FoundLog.{FoundLog}
 use Rattle.std.proofs.lemmas.Result.{err_from_is_err_and}
-use Rattle.kernel_fs.proofs.world_invariant_lemmas.Owners as owners
-use Rattle.shared_area.specs.area_image.Store.{disk, marks}
-use Rattle.shared_area.specs.layout.declared.marks.Mark.{Mark}
+use Rattle.recovery_laws.proofs.kernel_fs_lemmas.world_invariant_lemmas.Owners as owners
+use Rattle.recovery_laws.specs.shared_area.area_image.Store.{disk, graph, marks}
+use Rattle.recovery_laws.specs.shared_area.layout.declared.marks.Mark.{Mark}
 use Rattle.world.specs.system_world.event_steps.posix_calls.Operations.{is_client}
-use Rattle.recovery.specs.DigestedLogs.{DigestsLog}
-use Rattle.recovery.specs.FoundLogs.{IsFound}
+use Rattle.recovery.specs.DigestedLogs.{CanDigest, DigestsLog, IsFirstRefused}
+use Rattle.recovery.specs.FoundLogs.{HoldsFew, IsFound, log_by}
 use Rattle.recovery.specs.Recovers.{AreThese, Regions}
 use Rattle.recovery.specs.Regions.{IsOnlyRead, regions_read}
 use Rattle.recovery.proofs.Changing.{still_stays}
-use Rattle.recovery.proofs.DigestedClients.{AreDigestedTo, all_graph, all_none, found_at, none_digested, one_more_digested}
+use Rattle.recovery.proofs.DigestedClients.{AreDigestedTo, all_graph, all_none, found_at, next_undigestible, none_digested, one_more_digested}
 use Rattle.recovery.proofs.ReadLogs.{all_only_read}
 use Rattle.recovery.proofs.ReadRegions.{all_read_on, either_on, idle_still, regions_still}
 use Rattle.recovery.proofs.Staying.{recovered_now, stays_on}
+use Rattle.recovery.specs.Errors.{OnBadLog}
+use Rattle.recovery.proofs.SettlementPhases.{passed_on}
 use Rattle.recovery.proofs.log_digest.digest_logs.Goals as goal
 
 one_of : (o : Option Marks) (a b : Marks) → o ≡ Some a → o ≡ Some b → a ≡ b
@@ -77,6 +79,7 @@ loop-before-preserved g c =
       stays = stays_on m g.met.M.Media.seen_now (AreThese these) (AreThese (regions_read m c.loop-before.regions)) old.media mid.media new.media (λ now are. subst (λ (t : Regions). AreThese t now) (sym still) are) i.stays e.any_moment;
       read = all_read_on m c.args.regions.now c.loop-before.regions c.digest_log.new.regions i.read e.same;
       digested = one_more_digested m these n old mid new is i.digested (λ v are. subst (λ (t : Regions). DigestsLog m (n + 1) t v mid new) still (e.digested v are))
+          i.geometry (λ v are. subst (λ (t : Regions). CanDigest mid.geometry.units (graph mid.geometry (disk m mid)) (log_by v t (n + 1))) still (e.good v are))
           (λ sizes now state same r. recovered_now m g.met.M.Media.seen_now (AreThese these) old.media mid.media i.stays sizes now state same r);
       geometry = e.answers.geometry ∙ i.geometry;
       faults = (let before = i.faults in let more = e.answers.more_faults in omega (arith, before, more));
@@ -148,3 +151,17 @@ pub returns-clause-answers : goal.returns-clause-answers
 returns-clause-answers g c =
     let i = c.loop-before.invariant in
     record { geometry = i.geometry; more_faults = i.faults; quiet = i.going; quiet_refused = tt; fault = tt }
+
+pub returns-in_err-digest_log-clause-bad : goal.returns-in_err-digest_log-clause-bad
+returns-in_err-digest_log-clause-bad g c =
+    let m = g.M.Media in
+    let i = c.loop-before.invariant in
+    let n = c.loop-before.before in
+    let mid = c.loop-before.area in
+    let these = regions_read m c.args.regions.now in
+    let still = regions_still m c.args.regions.now c.loop-before.regions i.read in
+    let is : is_client (n + 1) ≡ true = owners.client_is (n + 1) (omega arith) (omega (arith, c.loop-before-test.true)) in
+    let e = c.in_err-digest_log.field-0.0 in
+    passed_on c.from_residual.result _ _ c.from_residual.ensures.1 (λ v are few.
+    next_undigestible m these n c.args.area.now mid is i.digested i.geometry v are e (λ w its.
+    subst (λ (t : Regions). HoldsFew (t (n + 1)) → OnBadLog e (λ c place. (c ≡ n + 1) × IsFirstRefused mid.geometry.units (graph mid.geometry (disk m mid)) (log_by w t (n + 1)) place)) still (c.in_err-digest_log.ensures.bad w its) (few (n + 1) is)))

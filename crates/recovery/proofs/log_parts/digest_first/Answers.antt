@@ -1,17 +1,17 @@
-use Rattle.std.proofs.Common.{◌≡◌, ℕ, List, drop, Option, Some, ap, sym, ◌∙◌, subst, arith}
+use Rattle.std.proofs.Common.{◌≡◌, ℕ, List, drop, length, Option, Some, ap, sym, ◌∙◌, subst, arith}
 use Rattle.std.proofs.lemmas.Result.{err_from_is_err_and}
-use Rattle.counted_logs.specs.Regions.{records_behind}
-use Rattle.digester.specs.MarkMoves.{mark_of}
-use Rattle.shared_area.specs.area_image.Store.{disk, marks}
-use Rattle.shared_area.specs.layout.declared.marks.Mark.{Mark}
-use Rattle.shared_area.specs.layout.declared.marks.Marks.{Marks}
-use Rattle.update_log.specs.Frames.{records}
-use Rattle.update_log.specs.RecordCounts.{next_generation}
-use Rattle.update_log.specs.log_record.declared.format.Record.{Record}
+use Rattle.recovery_laws.specs.counted_logs.Regions.{records_behind}
+use Rattle.recovery_laws.specs.digester.MarkMoves.{mark_of}
+use Rattle.recovery_laws.specs.shared_area.area_image.Store.{disk, graph, marks}
+use Rattle.recovery_laws.specs.shared_area.layout.declared.marks.Mark.{Mark}
+use Rattle.recovery_laws.specs.shared_area.layout.declared.marks.Marks.{Marks}
+use Rattle.recovery_laws.specs.update_log.Frames.{records}
+use Rattle.recovery_laws.specs.update_log.RecordCounts.{next_generation}
+use Rattle.recovery_laws.specs.update_log.log_record.declared.format.Record.{Record}
 use Rattle.std.specs.Prelude.{IfSome}
-use Rattle.counted_logs.specs.declared.regions.LogRest.{LogRest}
+use Rattle.recovery_laws.specs.counted_logs.declared.regions.LogRest.{LogRest}
 use Rattle.recovery.specs.FoundLogs.{HasGeneration, IsRestOf}
-use Rattle.recovery.specs.DigestedLogs.{DigestsAll, HoldRecords}
+use Rattle.recovery.specs.DigestedLogs.{CanDigest, DigestsAll, HoldRecords, NamesRefused}
 use Rattle.recovery.specs.Recovers.{AreThese}
 use Rattle.recovery.specs.Regions.{regions_read}
 use Rattle.recovery.proofs.Changing.{still_stays}
@@ -19,6 +19,8 @@ use Rattle.recovery.proofs.ClientParts.{no_rest, none_digested, part_has, read_n
 use Rattle.recovery.proofs.DigestAnswers.{each_err, each_ok}
 use Rattle.recovery.proofs.ReadLogs.{all_only_read}
 use Rattle.recovery.proofs.ReadRegions.{area_answers, read_answers, still_answers}
+use Rattle.recovery.proofs.SettlementPhases.{of_ok, passed_on}
+use Rattle.recovery.proofs.UndigestibleRecords.{nothing_to_digest, read_named}
 use Rattle.recovery.proofs.log_parts.digest_first.Goals as goal
 
 one_of : (o : Option Marks) (a b : Marks) → o ≡ Some a → o ≡ Some b → a ≡ b
@@ -167,3 +169,58 @@ returns-clause-only g c = c.digest_part.ensures.only
 
 pub returns-clause-answers : goal.returns-clause-answers
 returns-clause-answers g c = area_answers g.M.Media c.digest_part.result c.args.area.now c.digest_part.new.area c.args.regions.now c.read_region_records.new.regions c.digest_part.ensures.answers
+
+pub returns-in_default-clause-good : goal.returns-in_default-clause-good
+returns-in_default-clause-good g c =
+    let old = c.args.area.now in
+    nothing_to_digest old.geometry.units (graph old.geometry (disk g.M.Media old)) (records_behind (regions_read g.M.Media c.args.regions.now c.args.client) c.args.rest) (no_rest (regions_read g.M.Media c.args.regions.now c.args.client) c.args.rest c.in_default.is)
+
+pub returns-in_default-clause-count : goal.returns-in_default-clause-count
+returns-in_default-clause-count g c = sym (ap length (no_rest (regions_read g.M.Media c.args.regions.now c.args.client) c.args.rest c.in_default.is))
+
+pub returns-in_err-records-clause-good : goal.returns-in_err-records-clause-good
+returns-in_err-records-clause-good g c =
+    let p = err_from_is_err_and c.from_residual.result c.from_residual.ensures.1 in
+    rw p.1 tt
+
+pub returns-in_err-records-clause-count : goal.returns-in_err-records-clause-count
+returns-in_err-records-clause-count g c =
+    let p = err_from_is_err_and c.from_residual.result c.from_residual.ensures.1 in
+    rw p.1 tt
+
+pub returns-in_err-records-clause-bad : goal.returns-in_err-records-clause-bad
+returns-in_err-records-clause-bad g c =
+    let m = g.M.Media in
+    let old = c.args.area.now in
+    let these = regions_read m c.args.regions.now c.args.client in
+    let region = (subst (λ (o : Option LogRest). IfSome o (IsRestOf these (mark_of c.marks.result c.args.client).generation (mark_of c.marks.result c.args.client).done)) c.in-Some.is (c.requires.found c.marks.result (c.marks.ensures c.requires.going))).region in
+    passed_on c.from_residual.result _ _ c.from_residual.ensures.1
+    (λ few. read_named c.args.client 0 old.geometry.units (graph old.geometry (disk m old)) (records_behind these c.args.rest) (records (these c.in-Some.rest.region)) c.in_err-records.field-0.0 c.in_err-records.ensures.only (few c.in-Some.rest.region (omega (arith, region))))
+
+pub returns-clause-good : goal.returns-clause-good
+returns-clause-good g c =
+    let m = g.M.Media in
+    let old = c.args.area.now in
+    let these = regions_read m c.args.regions.now c.args.client in
+    let rest = c.in-Some.rest in
+    let items = c.in_ok-records.records.items in
+    let behind : drop rest.from items ≡ records_behind these c.args.rest = ap (drop rest.from) c.in_ok-records.ensures.found ∙ sym (ap (records_behind these) c.in-Some.is) in
+    each_ok c.digest_part.result c.digest_part.ensures.good (λ good. subst (CanDigest old.geometry.units (graph old.geometry (disk m old))) behind good)
+
+pub returns-clause-bad : goal.returns-clause-bad
+returns-clause-bad g c =
+    let m = g.M.Media in
+    let old = c.args.area.now in
+    let these = regions_read m c.args.regions.now c.args.client in
+    let rest = c.in-Some.rest in
+    let items = c.in_ok-records.records.items in
+    let behind : drop rest.from items ≡ records_behind these c.args.rest = ap (drop rest.from) c.in_ok-records.ensures.found ∙ sym (ap (records_behind these) c.in-Some.is) in
+    each_err _ _ c.digest_part.result c.digest_part.ensures.bad (λ e bad few. subst (λ (rs : List Record). NamesRefused c.args.client 0 old.geometry.units (graph old.geometry (disk m old)) rs e) behind bad)
+
+pub returns-clause-count : goal.returns-clause-count
+returns-clause-count g c =
+    let these = regions_read g.M.Media c.args.regions.now c.args.client in
+    let rest = c.in-Some.rest in
+    let items = c.in_ok-records.records.items in
+    let behind : drop rest.from items ≡ records_behind these c.args.rest = ap (drop rest.from) c.in_ok-records.ensures.found ∙ sym (ap (records_behind these) c.in-Some.is) in
+    of_ok c.digest_part.result _ (λ n is. is ∙ ap length behind) c.digest_part.ensures.count

@@ -2,17 +2,21 @@ use Rattle.std.proofs.Common.{◌≡◌, ◌≢◌, ℕ, [], drop, Option, Some,
 use Rattle.std.proofs.lemmas.Bool.{eqb-true}
 use Rattle.std.proofs.lemmas.List.{nil_from_length}
 use Rattle.std.proofs.lemmas.Result.{err_from_is_err_and}
-use Rattle.digester.specs.MarkMoves.{mark_of}
-use Rattle.shared_area.specs.area_image.Store.{disk, marks}
-use Rattle.shared_area.specs.layout.declared.marks.Mark.{Mark}
-use Rattle.shared_area.specs.layout.declared.marks.Marks.{Marks}
-use Rattle.update_log.specs.RecordCounts.{next_generation}
-use Rattle.recovery.specs.DigestedLogs.{DigestsAll, HoldRecords}
+use Rattle.recovery_laws.specs.digester.MarkMoves.{mark_of}
+use Rattle.recovery_laws.specs.shared_area.area_image.Store.{disk, graph, marks}
+use Rattle.recovery_laws.specs.shared_area.layout.declared.marks.Mark.{Mark}
+use Rattle.recovery_laws.specs.shared_area.layout.declared.marks.Marks.{Marks}
+use Rattle.recovery_laws.specs.update_log.RecordCounts.{next_generation}
+use Rattle.recovery.specs.DigestedLogs.{CanDigest, DigestsAll, HoldRecords, NamesRefused}
 use Rattle.recovery.specs.Recovers.{AreThese}
 use Rattle.recovery.proofs.Changing.{answers_on, still_stays}
 use Rattle.recovery.proofs.ClientParts.{memory_digest, moved_before, none_digested}
 use Rattle.recovery.proofs.DigestAnswers.{each_err, each_ok, same_refusal, still_faults}
 use Rattle.recovery.proofs.Staying.{recovered_now, stays_on}
+use Rattle.recovery_laws.specs.shared_area.layout.Places.{Sizes}
+use Rattle.world.specs.system_world.event_steps.libfs.file_graph.Graph.{Graph}
+use Rattle.recovery.proofs.SettlementPhases.{passed_on}
+use Rattle.recovery.proofs.UndigestibleRecords.{fault_named, nothing_to_digest}
 use Rattle.recovery.proofs.log_parts.digest_next_part.Goals as goal
 
 one_of : (o : Option Marks) (a b : Marks) → o ≡ Some a → o ≡ Some b → a ≡ b
@@ -109,3 +113,41 @@ pub returns-clause-answers : goal.returns-clause-answers
 returns-clause-answers g c =
     let a = c.in_ok-move_mark.ensures.answers in
     answers_on g.M.Media c.args.area.now c.move_mark.new.area c.digest_part.new.area c.digest_part.result a.geometry a.quiet.0 c.digest_part.ensures.answers
+
+pub returns-then-is_empty-clause-good : goal.returns-then-is_empty-clause-good
+returns-then-is_empty-clause-good g c =
+    let zero_long : c.args.records.len ≡ 0 = eqb-true c.args.records.len 0 (sym c.is_empty.ensures ∙ c.if-is_empty.true) in
+    let none : c.args.records.items ≡ [] = nil_from_length c.args.records.items (omega (arith, zero_long, c.args.records.ok.0)) in
+    let old = c.args.area.now in
+    nothing_to_digest old.geometry.units (graph old.geometry (disk g.M.Media old)) c.args.records.items none
+
+pub returns-in_err-move_mark-clause-good : goal.returns-in_err-move_mark-clause-good
+returns-in_err-move_mark-clause-good g c =
+    let p = err_from_is_err_and c.from_residual.result c.from_residual.ensures.1 in
+    rw p.1 tt
+
+pub returns-in_err-move_mark-clause-bad : goal.returns-in_err-move_mark-clause-bad
+returns-in_err-move_mark-clause-bad g c =
+    let old = c.args.area.now in
+    passed_on c.from_residual.result _ _ c.from_residual.ensures.1
+    (fault_named c.args.part.client c.args.part.before old.geometry.units (graph old.geometry (disk g.M.Media old)) c.args.records.items c.in_err-move_mark.field-0.0 c.in_err-move_mark.ensures.only)
+
+pub returns-clause-good : goal.returns-clause-good
+returns-clause-good g c =
+    let m = g.M.Media in
+    let old = c.args.area.now in
+    let mid = c.move_mark.new.area in
+    let units : mid.geometry.units ≡ old.geometry.units = ap (λ (z : Sizes). z.units) c.in_ok-move_mark.ensures.answers.geometry in
+    each_ok c.digest_part.result c.digest_part.ensures.good (λ good. subst (λ (h : Graph). CanDigest old.geometry.units h c.args.records.items) c.in_ok-move_mark.ensures.graph
+    (subst (λ (n : ℕ). CanDigest n (graph mid.geometry (disk m mid)) c.args.records.items) units (subst (λ (k : ℕ). CanDigest mid.geometry.units (graph mid.geometry (disk m mid)) (drop k c.args.records.items)) c.requires.all good)))
+
+pub returns-clause-bad : goal.returns-clause-bad
+returns-clause-bad g c =
+    let m = g.M.Media in
+    let old = c.args.area.now in
+    let mid = c.move_mark.new.area in
+    let part = c.args.part in
+    let units : mid.geometry.units ≡ old.geometry.units = ap (λ (z : Sizes). z.units) c.in_ok-move_mark.ensures.answers.geometry in
+    each_err _ _ c.digest_part.result c.digest_part.ensures.bad (λ e bad. subst (λ (h : Graph). NamesRefused part.client part.before old.geometry.units h c.args.records.items e) c.in_ok-move_mark.ensures.graph
+    (subst (λ (n : ℕ). NamesRefused part.client part.before n (graph mid.geometry (disk m mid)) c.args.records.items e) units
+    (subst (λ (k : ℕ). NamesRefused part.client part.before mid.geometry.units (graph mid.geometry (disk m mid)) (drop k c.args.records.items) e) c.requires.all bad)))

@@ -1,12 +1,16 @@
-use Rattle.std.proofs.Common.{◌<◌, ◌≤◌, length, drop, arith}
-use Rattle.std.proofs.lemmas.List.{drop_all}
+use Rattle.std.proofs.Common.{◌<◌, ◌≤◌, length, drop, ap, sym, subst, arith}
+use Rattle.std.proofs.lemmas.List.{drop_all, length-drop}
 use Rattle.std.proofs.lemmas.Result.{err_from_is_err_and}
-use Rattle.shared_area.specs.area_image.Store.{disk}
-use Rattle.update_log.specs.RecordCounts.{next_generation}
+use Rattle.recovery_laws.specs.shared_area.area_image.Store.{disk, graph}
+use Rattle.recovery_laws.specs.update_log.RecordCounts.{next_generation}
 use Rattle.recovery.specs.DigestedLogs.{HaveRecords, HoldRecords}
 use Rattle.recovery.proofs.Changing.{still_stays}
-use Rattle.recovery.proofs.ClientParts.{log_all, log_has, log_some, log_stands, memory_digest, none_digested, read_memory, stays_for}
+use Rattle.recovery.proofs.ClientParts.{log_all, log_has, log_some, log_stands, log_undone, memory_digest, none_digested, read_memory, stays_for}
 use Rattle.recovery.proofs.DigestAnswers.{memory_faults, other_value, same_refusal, still_faults}
+use Rattle.recovery_laws.specs.digester.SealedLog.{SealedView, undone}
+use Rattle.recovery.specs.DigestedLogs.{CanDigest, NamesRefused}
+use Rattle.recovery.proofs.SettlementPhases.{passed_on}
+use Rattle.recovery.proofs.UndigestibleRecords.{fault_named, nothing_to_digest}
 use Rattle.recovery.proofs.log_parts.digest_part.Goals as goal
 
 pub returns-then-left-eq0-clause-any_moment : goal.returns-then-left-eq0-clause-any_moment
@@ -108,3 +112,55 @@ returns-clause-digested g c =
 
 pub returns-clause-answers : goal.returns-clause-answers
 returns-clause-answers g c = other_value g.M.Media c.args.area.now c.digest_records.new.area tt c.saturating_sub-left.result c.in_ok-digest_records.ensures.answers
+
+pub returns-then-left-eq0-clause-good : goal.returns-then-left-eq0-clause-good
+returns-then-left-eq0-clause-good g c =
+    let all : length c.args.records.items ≤ c.args.part.from = omega (arith, c.if-left-eq0.true, c.saturating_sub-left.ensures, c.len.ensures) in
+    let old = c.args.area.now in
+    nothing_to_digest old.geometry.units (graph old.geometry (disk g.M.Media old)) (drop c.args.part.from c.args.records.items) (drop_all c.args.part.from c.args.records.items all)
+
+pub returns-then-left-eq0-clause-count : goal.returns-then-left-eq0-clause-count
+returns-then-left-eq0-clause-count g c =
+    let all : length c.args.records.items ≤ c.args.part.from = omega (arith, c.if-left-eq0.true, c.saturating_sub-left.ensures, c.len.ensures) in
+    sym (ap length (drop_all c.args.part.from c.args.records.items all))
+
+pub returns-in_err-log-clause-good : goal.returns-in_err-log-clause-good
+returns-in_err-log-clause-good g c =
+    let p = err_from_is_err_and c.from_residual.result c.from_residual.ensures.1 in
+    rw p.1 tt
+
+pub returns-in_err-log-clause-count : goal.returns-in_err-log-clause-count
+returns-in_err-log-clause-count g c =
+    let p = err_from_is_err_and c.from_residual.result c.from_residual.ensures.1 in
+    rw p.1 tt
+
+pub returns-in_err-log-clause-bad : goal.returns-in_err-log-clause-bad
+returns-in_err-log-clause-bad g c =
+    let old = c.args.area.now in
+    passed_on c.from_residual.result _ _ c.from_residual.ensures.1
+    (fault_named c.args.part.client c.args.part.before old.geometry.units (graph old.geometry (disk g.M.Media old)) (drop c.args.part.from c.args.records.items) c.in_err-log.field-0.0 (read_memory c.in_err-log.field-0.0 c.in_err-log.ensures.only))
+
+pub returns-in_err-digest_records-clause-good : goal.returns-in_err-digest_records-clause-good
+returns-in_err-digest_records-clause-good g c =
+    let p = err_from_is_err_and c.from_residual-in_err-digest_records.result c.from_residual-in_err-digest_records.ensures.1 in
+    rw p.1 tt
+
+pub returns-in_err-digest_records-clause-count : goal.returns-in_err-digest_records-clause-count
+returns-in_err-digest_records-clause-count g c =
+    let p = err_from_is_err_and c.from_residual-in_err-digest_records.result c.from_residual-in_err-digest_records.ensures.1 in
+    rw p.1 tt
+
+pub returns-in_err-digest_records-clause-bad : goal.returns-in_err-digest_records-clause-bad
+returns-in_err-digest_records-clause-bad g c =
+    let old = c.args.area.now in
+    let part = c.args.part in
+    passed_on c.from_residual-in_err-digest_records.result _ _ c.from_residual-in_err-digest_records.ensures.1
+    (subst (λ (z : SealedView). NamesRefused z.client part.before old.geometry.units (graph old.geometry (disk g.M.Media old)) (undone z) c.in_err-digest_records.field-0.0) c.in_ok-log.ensures.log.is c.in_err-digest_records.ensures.bad)
+
+pub returns-clause-good : goal.returns-clause-good
+returns-clause-good g c =
+    let old = c.args.area.now in
+    subst (CanDigest old.geometry.units (graph old.geometry (disk g.M.Media old))) (log_undone c.args.part.client c.args.part.generation c.args.part.from c.args.records.items c.in_ok-log.log c.in_ok-log.ensures.log) c.in_ok-digest_records.ensures.good
+
+pub returns-clause-count : goal.returns-clause-count
+returns-clause-count g c = omega (arith, c.saturating_sub-left.ensures, c.len.ensures, length-drop c.args.part.from c.args.records.items)

@@ -1,13 +1,14 @@
 use Rattle.std.proofs.Common.{◌≡◌, ◌≢◌, ℕ, List, [], Option, Some, ap, sym, ◌∙◌, subst, arith}
 use Rattle.std.proofs.lemmas.Result.{err_from_is_err_and}
-use Rattle.counted_logs.specs.Regions.{records_of}
-use Rattle.shared_area.specs.layout.declared.marks.Marks.{Marks}
-use Rattle.update_log.specs.Frames.{records}
-use Rattle.update_log.specs.RecordCounts.{next_generation}
-use Rattle.update_log.specs.log_record.declared.format.Record.{Record}
+use Rattle.recovery_laws.specs.counted_logs.Regions.{records_of}
+use Rattle.recovery_laws.specs.shared_area.area_image.Store.{disk, graph}
+use Rattle.recovery_laws.specs.shared_area.layout.declared.marks.Marks.{Marks}
+use Rattle.recovery_laws.specs.update_log.Frames.{records}
+use Rattle.recovery_laws.specs.update_log.RecordCounts.{next_generation}
+use Rattle.recovery_laws.specs.update_log.log_record.declared.format.Record.{Record}
 use Rattle.std.specs.Prelude.{IfSome}
 use Rattle.recovery.specs.FoundLogs.{HasGeneration}
-use Rattle.recovery.specs.DigestedLogs.{DigestsAll, StandsAtStart}
+use Rattle.recovery.specs.DigestedLogs.{CanDigest, DigestsAll, NamesRefused, StandsAtStart}
 use Rattle.recovery.specs.Recovers.{AreThese}
 use Rattle.recovery.specs.Regions.{regions_read}
 use Rattle.recovery.proofs.Changing.{still_stays}
@@ -15,6 +16,8 @@ use Rattle.recovery.proofs.ClientParts.{no_region, none_digested, part_has, read
 use Rattle.recovery.proofs.DigestAnswers.{each_err, each_ok}
 use Rattle.recovery.proofs.ReadLogs.{all_only_read}
 use Rattle.recovery.proofs.ReadRegions.{area_answers, read_answers, still_answers}
+use Rattle.recovery.proofs.SettlementPhases.{passed_on}
+use Rattle.recovery.proofs.UndigestibleRecords.{nothing_to_digest, read_named}
 use Rattle.recovery.proofs.log_parts.digest_second.Goals as goal
 
 one_of : (o : Option Marks) (a b : Marks) → o ≡ Some a → o ≡ Some b → a ≡ b
@@ -139,3 +142,40 @@ returns-clause-only g c = c.digest_next_part.ensures.only
 
 pub returns-clause-answers : goal.returns-clause-answers
 returns-clause-answers g c = area_answers g.M.Media c.digest_next_part.result c.args.area.now c.digest_next_part.new.area c.args.regions.now c.read_region_records.new.regions c.digest_next_part.ensures.answers
+
+pub returns-in_default-clause-good : goal.returns-in_default-clause-good
+returns-in_default-clause-good g c =
+    let old = c.args.area.now in
+    nothing_to_digest old.geometry.units (graph old.geometry (disk g.M.Media old)) (records_of (regions_read g.M.Media c.args.regions.now c.args.part.client) c.args.region) (no_region (regions_read g.M.Media c.args.regions.now c.args.part.client) c.args.region c.in_default.is)
+
+pub returns-in_err-records-clause-good : goal.returns-in_err-records-clause-good
+returns-in_err-records-clause-good g c =
+    let p = err_from_is_err_and c.from_residual.result c.from_residual.ensures.1 in
+    rw p.1 tt
+
+pub returns-in_err-records-clause-bad : goal.returns-in_err-records-clause-bad
+returns-in_err-records-clause-bad g c =
+    let m = g.M.Media in
+    let old = c.args.area.now in
+    let these = regions_read m c.args.regions.now c.args.part.client in
+    let part : HasGeneration these c.args.part.generation c.in-Some.region = subst (λ (o : Option ℕ). IfSome o (HasGeneration these c.args.part.generation)) c.in-Some.is c.requires.found in
+    let region = part.0 in
+    passed_on c.from_residual.result _ _ c.from_residual.ensures.1
+    (λ few. read_named c.args.part.client c.args.part.before old.geometry.units (graph old.geometry (disk m old)) (records_of these c.args.region) (records (these c.in-Some.region)) c.in_err-records.field-0.0 c.in_err-records.ensures.only (few c.in-Some.region (omega (arith, region))))
+
+pub returns-clause-good : goal.returns-clause-good
+returns-clause-good g c =
+    let m = g.M.Media in
+    let old = c.args.area.now in
+    let these = regions_read m c.args.regions.now c.args.part.client in
+    let all_of : c.in_ok-records.records.items ≡ records_of these c.args.region = c.in_ok-records.ensures.found ∙ sym (ap (records_of these) c.in-Some.is) in
+    each_ok c.digest_next_part.result c.digest_next_part.ensures.good (λ good. subst (CanDigest old.geometry.units (graph old.geometry (disk m old))) all_of good)
+
+pub returns-clause-bad : goal.returns-clause-bad
+returns-clause-bad g c =
+    let m = g.M.Media in
+    let old = c.args.area.now in
+    let part = c.args.part in
+    let these = regions_read m c.args.regions.now part.client in
+    let all_of : c.in_ok-records.records.items ≡ records_of these c.args.region = c.in_ok-records.ensures.found ∙ sym (ap (records_of these) c.in-Some.is) in
+    each_err _ _ c.digest_next_part.result c.digest_next_part.ensures.bad (λ e bad few. subst (λ (rs : List Record). NamesRefused part.client part.before old.geometry.units (graph old.geometry (disk m old)) rs e) all_of bad)

@@ -1,8 +1,8 @@
 use Rattle.std.proofs.Common.{ℕ, Some, ap, sym, ◌∙◌}
 use Rattle.std.specs.Prelude.{slice_set}
 use Rattle.std.proofs.lemmas.Bool.{false≢true}
-use Rattle.shared_area.specs.area_image.Store.{disk}
-use Rattle.shared_area.specs.layout.declared.marks.Mark.{Mark}
+use Rattle.recovery_laws.specs.shared_area.area_image.Store.{disk}
+use Rattle.recovery_laws.specs.shared_area.layout.declared.marks.Mark.{Mark}
 use Rattle.recovery.specs.Recovers.{AreThese}
 use Rattle.recovery.proofs.Changing.{still_stays}
 use Rattle.recovery.proofs.ClientParts.{lost_stays, mark_set, mark_stands, same_start, start_is}

@@ -1,15 +1,19 @@
 use Rattle.std.proofs.Common.{rules, ◌≡◌, ◌∙◌, ◌+◌, ◌-◌, ℕ, List, length, sym, subst, arith, below_more}
 use Rattle.std.proofs.lemmas.Option.{slice_get_within}
 use Rattle.std.proofs.lemmas.Result.{err_from_is_err_and}
-use Rattle.update_log.specs.Stage.{IsIdle}
-use Rattle.update_log.specs.log_record.declared.format.Record.{Record}
-use Rattle.counted_logs.specs.Owners.{AreAdded, IsClear, owner}
+use Rattle.recovery_laws.specs.update_log.Stage.{IsIdle}
+use Rattle.recovery_laws.specs.update_log.log_record.declared.format.Record.{Record}
+use Rattle.recovery_laws.specs.counted_logs.Owners.{AreAdded, IsClear, owner}
 use Rattle.world.specs.system_world.event_steps.kernel_fs.digester.MarkMoves.{mark_of}
 use Rattle.recovery.specs.FoundLogs.{AreFound, IsFound, log_by}
 use Rattle.recovery.specs.Recovers.{Regions}
 use Rattle.recovery.specs.Regions.{regions_read}
 use Rattle.recovery.proofs.ReadLogs.{all_only_read}
 use Rattle.recovery.proofs.RegionReads.{each_still, found_more, more_read, regions_still, risen_before}
+use Rattle.recovery_laws.proofs.kernel_fs_lemmas.world_invariant_lemmas.Owners as owners
+use Rattle.recovery.specs.FoundLogs.{HoldsFew, NamesForeign}
+use Rattle.recovery.proofs.SettlementPhases.{passed_on}
+use Rattle.recovery.proofs.SharedRecords.{sharing_named}
 use Rattle.recovery.proofs.log_search.find_logs.Goals as goal
 
 pub loop-client-init : goal.loop-client-init
@@ -83,3 +87,16 @@ returns-in_err-owners-clause-same g c = all_only_read g.M.Media c.args.regions.n
 
 pub returns-in_err-reserve-clause-same : goal.returns-in_err-reserve-clause-same
 returns-in_err-reserve-clause-same g c = all_only_read g.M.Media c.args.regions.now
+
+pub returns-in_err-found-clause-first : goal.returns-in_err-found-clause-first
+returns-in_err-found-clause-first g c =
+    let i = c.loop-client.invariant in
+    let n = c.loop-client.client in
+    let logs : ℕ → List Record = log_by c.args.marks.now (regions_read g.M.Media c.args.regions.now) in
+    let m = mark_of c.args.marks.now (n + 1) in
+    let still = regions_still g.M.Media c.args.regions.now c.loop-client.regions i.same in
+    let was = regions_read g.M.Media c.args.regions.now in
+    let first = subst (λ (regions : Regions). HoldsFew (regions (n + 1)) → NamesForeign (owner c.loop-client.owners) (n + 1) (log_by c.args.marks.now regions (n + 1)) c.in_err-found.field-0.0) still c.in_err-found.ensures.first in
+    passed_on c.from_residual-in_err-found.result _ _ c.from_residual-in_err-found.ensures.1 (λ few.
+    sharing_named logs n (owner c.loop-client.owners) c.loop-client-test.true i.owners i.clear (c.counted_records_touch_inodes.ensures.counted m.generation m.done (was (n + 1))) _
+    (first (few (n + 1) (owners.client_is (n + 1) (omega arith) (omega (arith, c.loop-client-test.true))))))

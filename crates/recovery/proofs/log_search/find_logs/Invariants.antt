@@ -2,7 +2,7 @@ use Rattle.std.proofs.Common.{◌≡◌, ◌≤◌, ◌<◌, ◌+◌, ◌-◌, �
 use Rattle.std.specs.List.{AllZip}
 use Rattle.std.specs.Prelude.{slice_get, Some}
 use Rattle.std.specs.Vec.{vec_capacity}
-use Rattle.counted_logs.specs.Owners.{AreOwners, IsClear, owner, owner_among}
+use Rattle.recovery_laws.specs.counted_logs.Owners.{AreOwners, IsClear, owner, owner_among}
 use Rattle.world.specs.system_world.event_steps.kernel_fs.digester.MarkMoves.{mark_of}
 use Rattle.world.specs.system_world.event_steps.posix_calls.Operations.{is_client}
 use Rattle.recovery.specs.FoundLogs.{IsFound, log_by}

@@ -1,12 +1,15 @@
 use Rattle.std.proofs.Common.{rules, ◌≡◌, ◌+◌, ◌<◌, length, subst, sym, ◌∙◌, arith}
 use Rattle.std.proofs.lemmas.Result.{IfErr-weaker, IfOk-weaker, err_from_is_err_and, on_ok_weaker}
-use Rattle.update_log.specs.Stage.{IsIdle}
+use Rattle.recovery_laws.specs.update_log.Stage.{IsIdle}
 use Rattle.world.specs.system_world.event_steps.kernel_fs.layout.declared.marks.Mark.{Mark}
-use Rattle.counted_logs.specs.Owners.{AreAdded, IsClear, owner}
-use Rattle.update_log.specs.RecordCounts.{counted_records}
+use Rattle.recovery_laws.specs.counted_logs.Owners.{AreAdded, IsClear, owner}
+use Rattle.recovery_laws.specs.update_log.RecordCounts.{counted_records}
 use Rattle.recovery.specs.FoundLogs.{IsFound}
 use Rattle.recovery.specs.Regions.{regions_read}
 use Rattle.recovery.proofs.RegionReads.{each_still, mark_at, more_read, risen_before, two_read}
+use Rattle.recovery.specs.FoundLogs.{NamesForeign}
+use Rattle.recovery.proofs.SettlementPhases.{of_err, passed_on}
+use Rattle.recovery.proofs.SharedRecords.{none_named}
 use Rattle.recovery.proofs.log_search.find_next.Goals as goal
 
 pub read_at-requires-2-clause-idle : goal.read_at-requires-2-clause-idle
@@ -64,3 +67,19 @@ returns-clause-bad g c =
     let read = two_read g.M.Media c.args.regions.now c.read_at.new.regions n _ _ _ _ c.read_at.ensures.same c.in_ok-even.ensures.read c.in_ok-odd.ensures.read in
     IfErr-weaker c.find_log.result _ _ (λ e refused client place is clear. refused regions read
     (subst (λ (m : Mark). IsClear (owner c.args.owners.now) (n + 1) (counted_records m.generation m.done regions)) (sym (mark_at v n _ within)) clear)) c.find_log.ensures.refused
+
+pub returns-in_err-even-clause-first : goal.returns-in_err-even-clause-first
+returns-in_err-even-clause-first g c = passed_on c.from_residual.result _ _ c.from_residual.ensures.1 (λ few. none_named _ _ c.in_err-even.ensures.only)
+
+pub returns-in_err-odd-clause-first : goal.returns-in_err-odd-clause-first
+returns-in_err-odd-clause-first g c = passed_on c.from_residual-in_err-odd.result _ _ c.from_residual-in_err-odd.ensures.1 (λ few. none_named _ _ c.in_err-odd.ensures.only)
+
+pub returns-clause-first : goal.returns-clause-first
+returns-clause-first g c =
+    let v = c.args.marks.now in
+    let n = c.args.before in
+    let regions = regions_read g.M.Media c.args.regions.now (n + 1) in
+    let eight : length v.clients ≡ 8 = search rules in
+    let within : n < length v.clients = omega (arith, c.requires.client, eight) in
+    let read = two_read g.M.Media c.args.regions.now c.read_at.new.regions n _ _ _ _ c.read_at.ensures.same c.in_ok-even.ensures.read c.in_ok-odd.ensures.read in
+    of_err c.find_log.result _ (λ e first few. subst (λ (m : Mark). NamesForeign (owner c.args.owners.now) (n + 1) (counted_records m.generation m.done regions) e) (mark_at v n _ within) (first regions read few)) c.find_log.ensures.first

@@ -1,7 +1,7 @@
 use Rattle.std.proofs.Common.{◌∙◌, ap, sym}
-use Rattle.update_log.specs.tier_device.declared.media.Tier.TheVariants.{Fast}
-use Rattle.update_log.specs.WipeStops.{generation}
-use Rattle.update_log.proofs.Counts.{header_tells}
+use Rattle.recovery_laws.specs.update_log.tier_device.declared.media.Tier.TheVariants.{Fast}
+use Rattle.recovery_laws.specs.update_log.WipeStops.{generation}
+use Rattle.recovery_laws.proofs.update_log_lemmas.Counts.{header_tells}
 use Rattle.recovery.proofs.WipedRegions.{idle_not_wiping}
 use Rattle.recovery.proofs.log_search.generation_of.Goals as goal
 

@@ -1,11 +1,11 @@
 use Rattle.std.proofs.Common.{◌≤◌, [], Err, ap, sym, ◌∙◌, subst}
-use Rattle.shared_area.specs.file_graph.Units.{charge}
-use Rattle.shared_area.specs.layout.Places.{Sizes}
-use Rattle.shared_area.specs.area_image.Store.{disk, graph}
-use Rattle.digester.specs.graph_change.Bounds.{AreBounded}
-use Rattle.digester.specs.graph_change.Change.{Coalesces}
-use Rattle.digester.specs.graph_change.View.{changes_of}
-use Rattle.digester.specs.file_graph.Graph.{Graph}
+use Rattle.recovery_laws.specs.shared_area.file_graph.Units.{charge}
+use Rattle.recovery_laws.specs.shared_area.layout.Places.{Sizes}
+use Rattle.recovery_laws.specs.shared_area.area_image.Store.{disk, graph}
+use Rattle.recovery_laws.specs.digester.graph_change.Bounds.{AreBounded}
+use Rattle.recovery_laws.specs.digester.graph_change.Change.{Coalesces}
+use Rattle.recovery_laws.specs.digester.graph_change.View.{changes_of}
+use Rattle.recovery_laws.specs.digester.file_graph.Graph.{Graph}
 use Rattle.recovery.proofs.Changing.{fault_answers, memory_answers, nothing_few, nothing_has, nothing_written, set_stays}
 use Rattle.recovery.proofs.mark_moves.set_marks.Goals as goal
 

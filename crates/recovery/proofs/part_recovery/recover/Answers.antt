@@ -1,4 +1,6 @@
 use Rattle.recovery.proofs.SettlementPhases.{of_err, of_ok}
+use Rattle.recovery.specs.Parts.{contents_of, part_medium}
+use Rattle.recovery.proofs.RefusalCauses.{cause_bad_log, cause_damaged, cause_only, cause_size}
 use Rattle.recovery.proofs.part_recovery.recover.Goals as goal
 
 pub returns-clause-tree : goal.returns-clause-tree
@@ -30,3 +32,15 @@ returns-clause-idle g c = of_ok c.recover_parts.result _ (λ w is. is.idle) c.re
 
 pub returns-clause-rest : goal.returns-clause-rest
 returns-clause-rest g c = of_ok c.recover_parts.result _ (λ w is. is.rest) c.recover_parts.ensures.world
+
+pub returns-clause-only : goal.returns-clause-only
+returns-clause-only g c = of_err c.recover_parts.result _ (λ e is. cause_only (contents_of g.M.Media (part_medium c.args.parts)) e.0 is) c.recover_parts.ensures.cause
+
+pub returns-clause-size : goal.returns-clause-size
+returns-clause-size g c = of_err c.recover_parts.result _ (λ e is. cause_size (contents_of g.M.Media (part_medium c.args.parts)) e.0 is) c.recover_parts.ensures.cause
+
+pub returns-clause-damaged : goal.returns-clause-damaged
+returns-clause-damaged g c = of_err c.recover_parts.result _ (λ e is. cause_damaged (contents_of g.M.Media (part_medium c.args.parts)) e.0 is) c.recover_parts.ensures.cause
+
+pub returns-clause-bad_log : goal.returns-clause-bad_log
+returns-clause-bad_log g c = of_err c.recover_parts.result _ (λ e is. cause_bad_log (contents_of g.M.Media (part_medium c.args.parts)) e.0 is) c.recover_parts.ensures.cause

@@ -1,16 +1,21 @@
 use Rattle.std.proofs.Common.{rules, ◌≡◌, ℕ, ◌/◌, List, ◌++◌, length, ap, sym, ◌∙◌, subst}
 use Rattle.std.specs.Prelude.{drop, slice_get, slice_index, take, Some}
-use Rattle.update_log.specs.View.{RegionView}
+use Rattle.recovery_laws.specs.update_log.View.{RegionView}
 use Rattle.recovery.specs.Assembly.{AreReadyRegions}
-use Rattle.recovery.specs.Parts.{AreUntouched, PartsView, SomeRose, media_beneath, part_medium}
+use Rattle.recovery_laws.specs.shared_area.area_image.Store.{disk}
+use Rattle.world.specs.system_world.Contents.{log_in}
+use Rattle.recovery.specs.Parts.{PartsView, contents_of, part_medium}
+use Rattle.recovery.specs.PartMedia.{AreUntouched, SomeRose, media_beneath}
 use Rattle.recovery.specs.RecoveryStops.{AreGivenBack}
 use Rattle.recovery.specs.Regions.{HaveRisen, IsOnlyRead, media_of}
 use Rattle.world.specs.system_world.Parts.{medium_of}
 use Rattle.recovery.specs.Settlement.{RefusesArea, SettlesArea}
 use Rattle.recovery.specs.Silent.{MayBeWiped, StaysSilent}
-use Rattle.recovery.proofs.RecoveredWorlds.{area_ready, assembled_back, recovered_world, regions_ready, settled_back, wiped_back}
+use Rattle.recovery.proofs.RecoveredWorlds.{area_ready, assembled_back, recovered_world, regions_ready, settled_back, settled_cause, wiped_back}
 use Rattle.recovery.proofs.RegionMedia.{slice_back, zip_length}
-use Rattle.recovery.proofs.SettlementPhases.{all_err, all_ok}
+use Rattle.recovery.proofs.SettlementPhases.{all_err, all_ok, of_err}
+use Rattle.recovery.specs.FaultOrMemory.{IsFaultOrMemory}
+use Rattle.recovery.proofs.RefusalCauses.{memory_cause}
 use Rattle.recovery.proofs.part_recovery.recover_opened.Goals as goal
 
 pub returns-in-Err-clause-back : goal.returns-in-Err-clause-back
@@ -172,3 +177,18 @@ returns-in-Err-wipe_regions-clause-back g c =
     let risen = subst (λ (rs : List (RegionView _)). HaveRisen m (media_of rs) (media_of wiped)) (c.deref_mut-2.ensures.value ∙ back) (c.in-Err-wipe_regions.ensures.fault is) in
     subst (λ (p : PartsView _). AreGivenBack m (part_medium (media_beneath area opened)) (part_medium p) e) (sym parts)
     (wiped_back m seen_now sized area mid opened read c.requires.regions gs settles rests wiped all each e is risen)
+
+pub returns-in-Err-clause-cause : goal.returns-in-Err-clause-cause
+returns-in-Err-clause-cause g c =
+    let m = g.M.Media in
+    let area = c.args.area in
+    let opened = c.args.regions.items in
+    let e = c.in-Err.error in
+    let refuses = subst (λ (rs : List (RegionView _)). RefusesArea m area c.settle_area.new.area rs c.settle_area.new.regions e) c.deref_mut.ensures.value c.in-Err.ensures.refused in
+    settled_cause m g.met.M.Media.seen_now g.met.M.Media.sized area c.settle_area.new.area opened c.settle_area.new.regions c.requires.regions e refuses c.marks-marks.result (c.marks-marks.ensures c.requires.going)
+
+pub returns-in-Ok-wipe_regions-clause-cause : goal.returns-in-Ok-wipe_regions-clause-cause
+returns-in-Ok-wipe_regions-clause-cause g c = of_err c.assemble.result _ (λ e only. memory_cause c.args.area.geometry (disk g.M.Media c.args.area) (log_in (contents_of g.M.Media (part_medium (media_beneath c.args.area c.args.regions.items)))) e.0 only) c.assemble.ensures.only
+
+pub returns-in-Err-wipe_regions-clause-cause : goal.returns-in-Err-wipe_regions-clause-cause
+returns-in-Err-wipe_regions-clause-cause g c = memory_cause c.args.area.geometry (disk g.M.Media c.args.area) (log_in (contents_of g.M.Media (part_medium (media_beneath c.args.area c.args.regions.items)))) c.in-Err-wipe_regions.error (subst IsFaultOrMemory (sym c.in-Err-wipe_regions.ensures.only) tt)

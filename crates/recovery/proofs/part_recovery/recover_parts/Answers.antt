@@ -1,15 +1,19 @@
 use Rattle.std.proofs.Common.{◌≡◌, inl, inr, ℕ, suc, ◌<◌, ◌≤◌, sym, ◌∙◌, subst, arith}
-use Rattle.world.specs.system_world.Contents.{regions_in, stored_state}
+use Rattle.world.specs.system_world.Contents.{log_in, regions_in, stored_state}
 use Rattle.world.specs.system_world.courses.Courses.{PARTS}
-use Rattle.recovery.specs.Parts.{AreAtRest, PartsView, contents_of, media_beneath, part_medium}
+use Rattle.recovery.specs.Parts.{AreAtRest, PartsView, contents_of, part_medium}
+use Rattle.recovery.specs.PartMedia.{media_beneath}
 use Rattle.recovery.specs.RecoveryStops.{AreGivenBack, IsRecoveredWorld}
 use Rattle.recovery.specs.Regions.{IsGivenBack, media_of}
-use Rattle.update_log.specs.tier_device.declared.media.Tier.TheVariants.{Fast}
-use Rattle.recovery.proofs.JoinedWorlds.{joined_back, joined_world}
+use Rattle.recovery_laws.specs.update_log.tier_device.declared.media.Tier.TheVariants.{Fast}
+use Rattle.recovery.proofs.JoinedWorlds.{joined_back, joined_world, logs_same}
 use Rattle.recovery.proofs.OpenedParts.{all_given, all_reopened, all_same, denied_never, faults_then, open_regions, opened_back, opened_store, region_same, regions_alike, rests_each}
 use Rattle.recovery.proofs.RegionMedia.{zip_length}
 use Rattle.recovery.proofs.SettlementPhases.{of_err, of_ok}
 use Rattle.recovery.proofs.WholeContents.{whole_recovers}
+use Rattle.world.specs.system_world.event_steps.area_image.Store.{Store, store_of}
+use Rattle.recovery.specs.Refusals.{HaveRegionSizes, IsCause, IsStoredCause}
+use Rattle.recovery.proofs.RefusalCauses.{cause_same, denied_cause, on_each, opened_cause, opened_sizes, stored_cause}
 use Rattle.recovery.proofs.part_recovery.recover_parts.Goals as goal
 
 pub open_area-requires : goal.open_area-requires
@@ -129,3 +133,57 @@ returns-in-Err-reopen_regions-clause-back g c =
     (subst (λ (q : PartsView _). AreGivenBack m (part_medium given) (part_medium q) e) (sym last)
     (opened_back m seen_now sized shared area.media media after all c.in-Ok.ensures.any_moment (all_given m media after c.in-Err-reopen_regions.ensures.back) rest e
     (denied_never m shared media all e c.in-Err-reopen_regions.ensures.only c.in-Err-reopen_regions.ensures.size) (λ is. inr (c.in-Err-reopen_regions.ensures.fault is)) (λ other. c.left_now.ensures.rests c.in-Ok.ensures.unfailed)))
+
+pub returns-in-Err-clause-cause : goal.returns-in-Err-clause-cause
+returns-in-Err-clause-cause g c =
+    let m = g.M.Media in
+    let shared = c.into_media-shared.result.0 in
+    let media = c.into_media-shared.result.1.items in
+    let given : PartsView _ = record { shared = shared; regions = media } in
+    let parts : given ≡ c.args.parts = λ i. record { shared = c.into_media-shared.ensures.shared i; regions = c.into_media-shared.ensures.regions i } in
+    subst (λ (p : PartsView _). IsCause (contents_of m (part_medium p)) c.in-Err.error) parts
+    (opened_cause (contents_of m (part_medium given)) c.in-Err.error c.in-Err.ensures.only c.in-Err.ensures.damaged c.in-Err.ensures.named)
+
+pub returns-in-Err-reopen_regions-clause-cause : goal.returns-in-Err-reopen_regions-clause-cause
+returns-in-Err-reopen_regions-clause-cause g c =
+    let m = g.M.Media in
+    let shared = c.into_media-shared.result.0 in
+    let media = c.into_media-shared.result.1.items in
+    let given : PartsView _ = record { shared = shared; regions = media } in
+    let parts : given ≡ c.args.parts = λ i. record { shared = c.into_media-shared.ensures.shared i; regions = c.into_media-shared.ensures.regions i } in
+    subst (λ (p : PartsView _). IsCause (contents_of m (part_medium p)) c.in-Err-reopen_regions.error) parts
+    (denied_cause m shared media c.into_media-shared.ensures.sixteen c.in-Err-reopen_regions.error c.in-Err-reopen_regions.ensures.only c.in-Err-reopen_regions.ensures.size)
+
+pub returns-in-Ok-reopen_regions-clause-cause : goal.returns-in-Ok-reopen_regions-clause-cause
+returns-in-Ok-reopen_regions-clause-cause g c =
+    let m = g.M.Media in
+    let shared = c.into_media-shared.result.0 in
+    let media = c.into_media-shared.result.1.items in
+    let given : PartsView _ = record { shared = shared; regions = media } in
+    let parts : given ≡ c.args.parts = λ i. record { shared = c.into_media-shared.ensures.shared i; regions = c.into_media-shared.ensures.regions i } in
+    let seen_now = g.met.M.Media.seen_now in
+    let sized = g.met.M.Media.sized in
+    let rest : AreAtRest m (part_medium given) = subst (λ (p : PartsView _). AreAtRest m (part_medium p)) (sym parts) c.requires.rest in
+    let all = c.into_media-shared.ensures.sixteen in
+    let area = c.in-Ok.area in
+    let regions = c.in-Ok-reopen_regions.regions.items in
+    let same = all_reopened m media regions c.in-Ok-reopen_regions.ensures.reopened in
+    let stays = c.in-Ok.ensures.any_moment in
+    let old = contents_of m (part_medium given) in
+    let mid = contents_of m (part_medium (media_beneath area regions)) in
+    let alike = regions_alike m seen_now sized shared area.media media (media_of regions) all stays same rest in
+    of_err c.recover_opened.result _ (λ e is. subst (λ (p : PartsView _). IsCause (contents_of m (part_medium p)) e.0) parts
+    (stored_cause old area.geometry c.in-Ok.ensures.volume c.in-Ok.ensures.opens e.0
+    (cause_same (log_in old) (log_in mid) (λ d is_d. sym (logs_same area.geometry old mid c.in-Ok.ensures.blocks alike d is_d)) area.geometry (store_of (old 0)) e.0
+    (subst (λ (s : Store). IsStoredCause area.geometry s (log_in mid) e.0) c.in-Ok.ensures.blocks is))))
+    c.recover_opened.ensures.cause
+
+pub returns-in-Ok-reopen_regions-clause-sizes : goal.returns-in-Ok-reopen_regions-clause-sizes
+returns-in-Ok-reopen_regions-clause-sizes g c =
+    let m = g.M.Media in
+    let shared = c.into_media-shared.result.0 in
+    let media = c.into_media-shared.result.1.items in
+    let given : PartsView _ = record { shared = shared; regions = media } in
+    let parts : given ≡ c.args.parts = λ i. record { shared = c.into_media-shared.ensures.shared i; regions = c.into_media-shared.ensures.regions i } in
+    on_each c.recover_opened.result (subst (λ (p : PartsView _). HaveRegionSizes (contents_of m (part_medium p))) parts
+    (opened_sizes m shared media c.in-Ok-reopen_regions.regions.items c.into_media-shared.ensures.sixteen c.in-Ok-reopen_regions.ensures.reopened))

@@ -1,9 +1,11 @@
-use Rattle.digester.specs.DigestStep.{NamesFirstBad}
-use Rattle.shared_area.specs.area_image.Store.{disk}
+use Rattle.std.proofs.Common.{sym, subst}
+use Rattle.recovery_laws.specs.digester.DigestStep.{NamesFirstBad}
+use Rattle.recovery_laws.specs.shared_area.area_image.Store.{disk}
 use Rattle.recovery.proofs.DigestAnswers.{each_err, memory_answers, next_digested, three_ok}
 use Rattle.recovery.proofs.DigestedContents.{digest_stays, none_named}
-use Rattle.recovery.specs.DigestedLogs.{HaveRecords}
+use Rattle.recovery.specs.DigestedLogs.{HaveRecords, NamesBad}
 use Rattle.recovery.proofs.Changing.{still_stays}
+use Rattle.recovery.proofs.UndigestibleRecords.{first_named}
 use Rattle.recovery.proofs.record_digest.digest_next.Goals as goal
 
 pub returns-in-Ok-clause-any_moment : goal.returns-in-Ok-clause-any_moment
@@ -30,3 +32,12 @@ returns-in-Err-clause-any_moment g c = still_stays g.M.Media g.met.M.Media.seen_
 
 pub returns-in-Err-clause-answers : goal.returns-in-Err-clause-answers
 returns-in-Err-clause-answers g c = memory_answers g.M.Media c.args.area.now c.in-Err.error c.requires.going c.in-Err.ensures.only
+
+pub returns-in-Ok-clause-bad : goal.returns-in-Ok-clause-bad
+returns-in-Ok-clause-bad g c =
+    let old = c.args.area.now in
+    each_err (NamesFirstBad old.geometry (disk g.M.Media old) c.args.log.now c.in-Ok.chunk.count) _ c.digest_chunk.result c.digest_chunk.ensures.bad
+    (λ e bad. first_named old.geometry (disk g.M.Media old) c.args.log.now c.in-Ok.chunk.count e bad)
+
+pub returns-in-Err-clause-bad : goal.returns-in-Err-clause-bad
+returns-in-Err-clause-bad g c = subst (NamesBad c.args.area.now.geometry (disk g.M.Media c.args.area.now) c.args.log.now) (sym c.in-Err.ensures.only) tt

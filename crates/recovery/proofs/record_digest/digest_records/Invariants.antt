@@ -1,8 +1,9 @@
-use Rattle.std.proofs.Common.{◌≡◌, ◌≢◌, ◌≤◌, ◌-◌, ℕ, false, true, length, Some}
-use Rattle.digester.specs.MarkMoves.{mark_of}
-use Rattle.digester.specs.SealedLog.{StandsAtMark, done_to, undone}
-use Rattle.shared_area.specs.area_image.Store.{disk, graph, marks}
-use Rattle.shared_area.specs.layout.declared.marks.Marks.{Marks}
+use Rattle.std.proofs.Common.{◌≡◌, ◌≢◌, ◌≤◌, ◌+◌, ◌-◌, ℕ, false, true, length, Some}
+use Rattle.recovery_laws.specs.digester.MarkMoves.{mark_of}
+use Rattle.recovery_laws.specs.digester.Plan.{AreGood, IsFirstBad}
+use Rattle.recovery_laws.specs.digester.SealedLog.{StandsAtMark, done_to, undone}
+use Rattle.recovery_laws.specs.shared_area.area_image.Store.{disk, graph, marks}
+use Rattle.recovery_laws.specs.shared_area.layout.declared.marks.Marks.{Marks}
 use Rattle.world.specs.system_world.event_steps.posix_calls.Operations.{is_client}
 use Rattle.world.specs.system_world.event_steps.libfs.world_invariant.Logs.{after_records}
 use Rattle.recovery.specs.DigestedLogs.{HaveRecords}
@@ -21,6 +22,10 @@ invariant-chunks g l =
       rest : after_records (graph l.area.geometry (disk m l.area)) (undone l.log) ≡ after_records (graph l.fn.area.geometry (disk m l.fn.area)) (undone l.fn.log);
       others : (v w : Marks) (d : ℕ) → marks (disk m l.fn.area) ≡ Some v → marks (disk m l.area) ≡ Some w → is_client d ≡ true → d ≢ l.fn.log.client → mark_of w d ≡ mark_of v d;
       geometry : l.area.geometry ≡ l.fn.area.geometry;
+      risen : l.fn.log.done ≤ l.log.done;
+      goods : AreGood l.fn.log.held l.fn.area.geometry.units (graph l.area.geometry (disk m l.area)) (undone l.log) → AreGood l.fn.log.held l.fn.area.geometry.units (graph l.fn.area.geometry (disk m l.fn.area)) (undone l.fn.log);
+      bads : (k : ℕ) → IsFirstBad l.fn.log.held l.fn.area.geometry.units (graph l.area.geometry (disk m l.area)) (undone l.log) k
+          → IsFirstBad l.fn.log.held l.fn.area.geometry.units (graph l.fn.area.geometry (disk m l.fn.area)) (undone l.fn.log) (l.log.done - l.fn.log.done + k);
       quiet : m.faults l.area.media ≡ m.faults l.fn.area.media;
     }
 

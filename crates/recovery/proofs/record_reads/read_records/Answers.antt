@@ -1,6 +1,6 @@
 use Rattle.std.proofs.Common.{sym, subst, ◌∙◌}
 use Rattle.std.specs.List.{AllByRecursion}
-use Rattle.update_log.specs.tier_device.declared.media.Tier.TheVariants.{Fast}
+use Rattle.recovery_laws.specs.update_log.tier_device.declared.media.Tier.TheVariants.{Fast}
 use Rattle.recovery.specs.SpelledRecords.{HasSpelledEffects}
 use Rattle.recovery.proofs.SpelledRecords.{region_spelled}
 use Rattle.recovery.proofs.record_reads.read_records.Goals as goal

@@ -1,7 +1,7 @@
 use Rattle.std.proofs.Common.{◌≡◌, ◌<◌, ◌≤◌, ◌+◌, ◌*◌, ◌-◌, ◌^◌, inr, ℕ, List, length, refl, ap, ◌∙◌, subst, arith}
 use Rattle.std.proofs.lemmas.Result.{err_from_is_err_and}
-use Rattle.update_log.specs.Frames.{records}
-use Rattle.update_log.specs.log_record.declared.format.Record.{Record}
+use Rattle.recovery_laws.specs.update_log.Frames.{records}
+use Rattle.recovery_laws.specs.update_log.log_record.declared.format.Record.{Record}
 use Rattle.recovery.proofs.ReadRegions.{one_read, one_risen, read_at}
 use Rattle.recovery.proofs.record_reads.read_region_records.Goals as goal
 

@@ -1,6 +1,6 @@
 use Rattle.std.proofs.Common.{take}
 use Rattle.std.specs.List.{AllByRecursion}
-use Rattle.update_log.specs.log_record.Grammar.{IsRecord}
+use Rattle.recovery_laws.specs.update_log.log_record.Grammar.{IsRecord}
 use Rattle.recovery.proofs.record_reads.records_are_spelled.Given as goal
 
 abbrev pub invariant-loop-logged : goal.invariant-loop-logged

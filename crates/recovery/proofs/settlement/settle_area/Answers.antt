@@ -1,20 +1,23 @@
 use Rattle.std.proofs.Common.{◌≡◌, inl, inr, map, ap, sym, ◌∙◌, subst}
 use Rattle.std.specs.Prelude.{Some}
-use Rattle.shared_area.specs.area_image.Store.{disk, graph, marks}
-use Rattle.shared_area.specs.layout.declared.marks.Marks.{Marks}
-use Rattle.kernel_fs.proofs.world_invariant_lemmas.Recoveries.{settled_same}
+use Rattle.recovery_laws.specs.shared_area.area_image.Store.{disk, graph, marks}
+use Rattle.recovery_laws.specs.shared_area.layout.declared.marks.Marks.{Marks}
+use Rattle.recovery_laws.proofs.kernel_fs_lemmas.world_invariant_lemmas.Recoveries.{settled_same}
 use Rattle.world.specs.system_world.event_steps.call_effects.ClosedGraph.{nobody, settled_graph}
 use Rattle.world.specs.system_world.event_steps.call_effects.Wholes.{IsSound, state_of}
 use Rattle.world.specs.system_world.event_steps.kernel_fs.layout.Places.{Sizes}
 use Rattle.world.specs.system_world.event_steps.libfs.file_graph.Graph.{Graph}
 use Rattle.world.specs.system_world.event_steps.libfs.world_invariant.Logs.{LogsAreApart, after_clients}
 use Rattle.world.specs.system_world.event_steps.posix_calls.Tree.{State}
-use Rattle.recovery.specs.FoundLogs.{AreFound, log_by}
+use Rattle.recovery.specs.Errors.{OnBadLog}
+use Rattle.recovery.specs.FoundLogs.{AreFound, HoldFew, log_by}
 use Rattle.recovery.specs.Recovers.{AreThese, CountNone, Recovers, Regions, marks_by}
+use Rattle.recovery.specs.Refusals.{IsFirstUndigestible, IsStoredCause}
 use Rattle.recovery.specs.Regions.{regions_read}
 use Rattle.recovery.specs.Settlement.{RefusesArea}
 use Rattle.recovery.proofs.FreshMarks.{are_eight, are_fresh, are_generations, fresh_marked}
 use Rattle.recovery.proofs.ReadContents.{found_still, idle_still, may_be_wiped, read_silent, these_count_none}
+use Rattle.recovery.proofs.RefusalCauses.{digest_cause, few_records, found_cause, memory_cause, tested_cause}
 use Rattle.recovery.proofs.RegionMedia.{some_is}
 use Rattle.recovery.proofs.RegionReads.{more_read, regions_still}
 use Rattle.recovery.proofs.RisenFaults.{rose_earlier}
@@ -35,6 +38,8 @@ returns-in_err-logs-clause-refused g c =
           (apart_found m c.args.regions.now sizes state (m.seen area.media) now c.marks.result is these r);
       fault = λ fault. inr (e.fault fault);
       going = λ other. c.requires.going;
+      cause = λ v its. subst (λ w. IsStoredCause area.geometry (disk m area) (log_by w (regions_read m c.args.regions.now)) c.in_err-logs.field-0.0) (some_is (sym is ∙ its))
+          (found_cause area.geometry (disk m area) (log_by c.marks.result (regions_read m c.args.regions.now)) _ e.only (e.first (few_records m c.args.regions.now c.requires.regions)));
     })
 
 pub digest_logs-requires-clause-idle : goal.digest_logs-requires-clause-idle
@@ -60,6 +65,11 @@ returns-in_err-digest_logs-clause-refused g c =
       never = λ sizes now state these r. e.never sizes now state (these_since m before mid c.find_logs.ensures.same now these) r;
       fault = λ fault. later_risen m before mid after _ c.find_logs.ensures.same (e.answers.fault fault);
       going = e.answers.quiet_refused;
+      cause = λ v is.
+          let apart = subst (λ w. LogsAreApart (log_by w (regions_read m before))) (some_is (sym (c.marks.ensures c.requires.going) ∙ is)) c.in_ok-logs.ensures.apart in
+          let still : regions_read m mid ≡ regions_read m before = regions_still m before mid c.find_logs.ensures.same in
+          digest_cause area.geometry (disk m area) (log_by v (regions_read m before)) apart _ e.only
+          (subst (λ (rs : Regions). HoldFew rs → OnBadLog c.in_err-digest_logs.field-0.0 (IsFirstUndigestible area.geometry.units (graph area.geometry (disk m area)) (log_by v rs))) still (e.bad v is) (few_records m before c.requires.regions));
     })
 
 pub returns-in_err-nameless-clause-refused : goal.returns-in_err-nameless-clause-refused
@@ -79,6 +89,10 @@ returns-in_err-nameless-clause-refused g c =
           (recovered_now m g.met.M.Media.seen_now (AreThese (regions_read m before)) area.media mid.media kept.any_moment sizes now state these r);
       fault = λ fault. inl (rose_earlier (m.faults area.media) (m.faults mid.media) (m.faults new.media) kept.faults (e.answers.fault fault).1);
       going = λ other. (e.answers.quiet_refused other).1;
+      cause = λ v is.
+          let apart = subst (λ w. LogsAreApart (log_by w (regions_read m before))) (some_is (sym (c.marks.ensures c.requires.going) ∙ is)) c.in_ok-logs.ensures.apart in
+          let still : regions_read m c.find_logs.new.regions ≡ regions_read m before = regions_still m before c.find_logs.new.regions c.find_logs.ensures.same in
+          tested_cause area.geometry (disk m area) (log_by v (regions_read m before)) apart (graph mid.geometry (disk m mid)) (d.digested v is ∙ ap (λ (rs : Regions). after_clients (log_by v rs) (graph area.geometry (disk m area)) 8) still) _ e.only e.damaged;
     })
 
 pub returns-in_err-drop_files-clause-refused : goal.returns-in_err-drop_files-clause-refused
@@ -102,6 +116,7 @@ returns-in_err-drop_files-clause-refused g c =
     passed_on c.from_residual-in_err-drop_files.result (RefusesArea m area new before after) _ c.from_residual-in_err-drop_files.ensures.1 (record {
       keeps = kept_on m seen_now area tested new before after kept e.answers.geometry e.answers.more_faults (λ now. CountNone now (marks (disk m tested))) none e.any_moment;
       never = λ sizes now state these r. e.only;
+      cause = λ v is. memory_cause area.geometry (disk m area) (log_by v (regions_read m before)) _ e.only;
       fault = λ fault. inl (rose_earlier (m.faults area.media) (m.faults tested.media) (m.faults new.media) kept.faults (e.answers.fault fault).1);
       going = λ other. (e.answers.quiet_refused other).1;
     })
@@ -142,6 +157,7 @@ returns-in_err-set_marks-clause-refused g c =
     passed_on c.from_residual-in_err-set_marks.result (RefusesArea m area new before after) _ c.from_residual-in_err-set_marks.ensures.1 (record {
       keeps = kept_on m seen_now area dropped new before after kept_dropped e.answers.geometry e.answers.more_faults (λ now. CountNone now (marks (disk m dropped)) × CountNone now (marks_by clients)) both e.any_moment;
       never = λ sizes now state these r. e.only;
+      cause = λ v is. memory_cause area.geometry (disk m area) (log_by v (regions_read m before)) _ e.only;
       fault = λ fault. inl (rose_earlier (m.faults area.media) (m.faults dropped.media) (m.faults new.media) kept_dropped.faults (e.answers.fault fault).1);
       going = λ other. (e.answers.quiet_refused other).1;
     })

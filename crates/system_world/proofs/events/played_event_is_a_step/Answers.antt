@@ -2,7 +2,7 @@ use Rattle.std.proofs.Common.{inl, inr, subst, sym}
 use Rattle.event_steps.specs.declared.event.Event.{Event}
 use Rattle.event_steps.specs.declared.event.Event.TheVariants as event
 use Rattle.event_steps.specs.declared.outcome.Outcome.{Outcome}
-use Rattle.system_world.specs.News.{calls_then}
+use Rattle.system_world.specs.KeptCalls.{calls_then}
 use Rattle.system_world.specs.Steps.{IsStep}
 use Rattle.system_world.proofs.PlayedEvents.{IsAStep, idle_or_done}
 use Rattle.system_world.proofs.events.played_event_is_a_step.Goals as goal

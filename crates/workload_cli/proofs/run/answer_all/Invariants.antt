@@ -1,7 +1,6 @@
-use Rattle.workload_cli.specs.LineResults.{IsAnswerTo}
 use Rattle.workload_cli.specs.Script.{IsAnsweredTo}
 use Rattle.workload_cli.proofs.run.answer_all.Given as goal
 
 -- the lines so far were answered in their order
 abbrev pub invariant-loop : goal.invariant-loop
-invariant-loop g l = IsAnsweredTo (IsAnswerTo g.S.Events g.S.Running) l.fn.lines.left l.fn.system l.lines.left l.system
+invariant-loop g l = IsAnsweredTo g.S.Session.answers l.fn.lines.left l.fn.session l.lines.left l.session

@@ -1,4 +1,4 @@
-use Rattle.std.proofs.Common.{sym, ◌∙◌, ap}
+use Rattle.std.proofs.Common.{sym, ◌∙◌, ap, arith}
 use Rattle.std.proofs.Math.Logic.{∥∥₁_map}
 use Rattle.host_media.specs.History.{History}
 use Rattle.host_media.specs.TierHistory.{shown_now}
@@ -16,7 +16,7 @@ invariant_of-self c =
       mirrors = λ t. m.mirrors t ∙ sym (synced_shows f g is t);
       covered = ∣ cover_sync f g m.past.history is (λ t. sym (m.mirrors t) ∙ m.shows t) ∣₁;
       settled = λ t _ d left. synced_left f g is t d left ∙ sym (m.mirrors t);
-      fits = m.fits;
+      fits = omega (arith, c.sync.ensures.begin, m.fits);
     }
 
 pub invariant_of-self-in-Err-1 : goal.invariant_of-self-in-Err-1
@@ -30,5 +30,5 @@ invariant_of-self-in-Err-1 c =
       mirrors = λ t. m.mirrors t ∙ sym (ap (λ (x : History). shown_now x t) is);
       covered = ∥∥₁_map m.covered (λ covers t d left. covers t d (same_left f g is t d left));
       settled = λ t clean d left. m.settled t clean d (same_left f g is t d left);
-      fits = m.fits;
+      fits = omega (arith, c.sync.ensures.begin, m.fits);
     }

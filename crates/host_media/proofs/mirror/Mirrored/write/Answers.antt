@@ -9,7 +9,7 @@ use Rattle.host_media.proofs.mirror.Mirrored.write.Goals as goal
 pub write-answer-requires-clause-place : goal.write-answer-requires-clause-place
 write-answer-requires-clause-place c =
     let m = c.args.self.now in
-    c.offset-offset.ensures ∙ ap (λ n. n + c.args.at) (same_place m.host.past.history m.tiers m.mirrors c.args.tier)
+    c.offset-offset.ensures ∙ ap (λ n. m.host.begin + n + c.args.at) (same_place m.host.past.history m.tiers m.mirrors c.args.tier)
 
 pub invariant_of-self : goal.invariant_of-self
 invariant_of-self c =
@@ -31,5 +31,5 @@ invariant_of-self c =
       mirrors = write_kept f g t c.args.at v file file_fits old new m.mirrors c.overwrite.ensures;
       covered = ∥∥₁_map m.covered (cover_write f g h k t c.args.at v file media file_fits media_fits);
       settled = settled_write f g h k t c.args.at v file media file_fits media_fits old new _ c.overwrite.ensures m.pending c.with-self.result c.with-self.ensures m.settled;
-      fits = let same = same_total m.tiers c.overwrite.new.self t c.args.at v c.requires.fits c.overwrite.ensures in omega (arith, same, m.fits);
+      fits = let same = same_total m.tiers c.overwrite.new.self t c.args.at v c.requires.fits c.overwrite.ensures in omega (arith, same, c.write-answer.ensures.begin, m.fits);
     }

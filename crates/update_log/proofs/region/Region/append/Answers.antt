@@ -1,6 +1,6 @@
 use Rattle.std.proofs.Common.{◌≡◌, take, sym, subst}
 use Rattle.tier_device.specs.declared.media.Tier.TheVariants.{Fast}
-use Rattle.tier_device.specs.AfterStop.{LeftSince}
+use Rattle.tier_device.specs.StopsSince.{LeftSince}
 use Rattle.update_log.specs.Frames.{header, spelled_records, before_gate}
 use Rattle.update_log.specs.View.{header_of, records_of}
 use Rattle.update_log.proofs.Views.{same_either}

@@ -1,6 +1,6 @@
 use Rattle.std.proofs.Common.{◌≡◌, ◌+◌, List, ℕ}
 use Rattle.tier_device.specs.declared.media.Tier.TheVariants.{Fast}
-use Rattle.tier_device.specs.AfterStop.{LeftSince}
+use Rattle.tier_device.specs.StopsSince.{LeftSince}
 use Rattle.update_log.specs.Stage.{IsAppending, calls_left}
 use Rattle.update_log.specs.View.{WithOrWithout, header_of, records_of, begun_of}
 use Rattle.update_log.specs.Moments.{PastStays}

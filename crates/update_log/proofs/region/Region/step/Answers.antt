@@ -1,7 +1,7 @@
 use Rattle.std.proofs.Common.{◌≡◌, ◌≢◌, ◌∙◌, List, ℕ, ◌∷◌, [], ◌++◌, take, sym, ap, subst}
 use Rattle.tier_device.specs.declared.media.Tier.TheVariants.{Fast}
 use Rattle.tier_device.specs.Media.{Puts}
-use Rattle.tier_device.specs.AfterStop.{LeftSince}
+use Rattle.tier_device.specs.StopsSince.{LeftSince}
 use Rattle.update_log.specs.declared.stage.Stage.TheVariants as stages
 use Rattle.update_log.specs.Frames.{before_gate, spelled_records, with_record, behind_gate}
 use Rattle.update_log.specs.Stage.{IsAppending, next, payload_in, BeforeOrAfter}

@@ -1,7 +1,7 @@
 use Rattle.std.proofs.Common.{◌≡◌, ◌∙◌, List, ℕ, take, get_or, sym, ap, subst, arith}
 use Rattle.std.proofs.lemmas.List.{take-take}
 use Rattle.tier_device.specs.declared.media.Tier.TheVariants.{Fast}
-use Rattle.tier_device.specs.AfterStop.{LeftSince}
+use Rattle.tier_device.specs.StopsSince.{LeftSince}
 use Rattle.update_log.specs.Frames.{header}
 use Rattle.update_log.specs.View.{RegionView, header_of}
 use Rattle.update_log.specs.Wipe.{CanWipe, LeftInCall, wipe_next, header_wiped}

@@ -26,7 +26,7 @@ use denote.Triple.Entry.{alive}
 use denote.Triple.Spec.{Meets, triple_of}
 use denote.Triple.Table.{entered}
 use denote.Triple.Walked.{says, Stays, stay_dropped, walk_of, ends_at, walk_Meets, Goes-dropped}
-use Rattle.system_world.specs.News.{calls_then}
+use Rattle.system_world.specs.KeptCalls.{calls_then}
 use Rattle.system_world.specs.event_steps.contracts.event.Event as Event
 use Rattle.system_world.specs.event_steps.contracts.outcome.Outcome as Outcome
 use Rattle.world.specs.contracts.notes.Notes as Noted

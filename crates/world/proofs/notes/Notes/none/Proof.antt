@@ -24,7 +24,7 @@ use denote.Triple.Entry.{alive}
 use denote.Triple.Spec.{Meets, triple_of}
 use denote.Triple.Table.{entered}
 use denote.Triple.Walked.{says, Stays, walk_of, ends_at, walk_Meets}
-use Rattle.system_world.specs.News.{no_calls}
+use Rattle.system_world.specs.KeptCalls.{no_calls}
 use Rattle.world.specs.contracts.notes.Notes as Noted
 use Rattle.world.specs.contracts.notes.Notes.none as F
 use Rattle.world.specs.contracts.notes.Notes.none.Key.{name as #self}

@@ -1,7 +1,7 @@
 use Rattle.std.proofs.Common.{subst}
 use Rattle.system_world.specs.courses.Plays.{IsRecovered}
 use Rattle.system_world.specs.Steps.{recoverable}
-use Rattle.system_world.specs.WorldTree.{WorldView}
+use Rattle.system_world.specs.WorldView.{WorldView}
 use Rattle.world.proofs.steps.WorldStepsEventOutcome.left_now.Goals as goal
 
 pub returns : goal.returns

@@ -1,4 +1,4 @@
-use Rattle.system_world.specs.Parts.{clocks_of}
+use Rattle.system_world.specs.Clocks.{clocks_of}
 use Rattle.world.proofs.OneEvent.{one_event}
 use Rattle.world.proofs.OnePart.{one_moves}
 use Rattle.world.proofs.steps.WorldStepsEventOutcome.play_event.Goals as goal

@@ -1,0 +1,319 @@
+// A file in which media lie one behind the other.
+ghost use Rattle.std.specs.Prelude.{◌≡◌, ◌≢◌, ◌≤◌, ◌<◌, ◌+◌, ◌^◌, [], ◌∷◌, ◌++◌, All, map, sum_by, length, true, false, IfOk, OnOk, IsErrOf};
+ghost use Rattle.host_media.specs.declared.error.FileProblem.TheVariants.{Length, TooLarge};
+ghost use Rattle.host_media.specs.File.{file_begin, IsOpened};
+ghost use Rattle.host_media.specs.Sizes.{byte_count};
+
+use crate::error::{FileError, FileProblem};
+use crate::file::FileMedia;
+use crate::file_bytes::{fill_file, read_tiers};
+use crate::locked_file::{make_locked, open_locked, sync_folder};
+use crate::shared_file::SharedFile;
+use crate::sizes::{MAX_BYTES, Sizes, zeros};
+use std::alloc::{AllocError, Global};
+use std::fs::{self, File, Files};
+use std::io;
+use std::os::unix::fs::FileExt;
+use std::sync::Arc;
+use tier_device::lies_within;
+
+/// A file in which media lie one behind the other, without a gap. It is open and locked: no other process has it, as long as it
+/// or one of its media is there.
+///
+/// Media of one file share its syncs: a fence of one has the system keep what all of them wrote, and after a sync that failed,
+/// whichever medium asked for it, no other one succeeds, until the file is opened again.
+#[derive(Debug, Drop)]
+pub struct DiskFile {
+    pub(crate) shared: Arc<SharedFile>,
+    len: usize,
+    is_blank: bool,
+    ghost short: { len < 2 ^ 63 },
+}
+
+impl DiskFile {
+    ghost use Rattle.host_media.specs.DiskFile.{disk_len, is_blank, file_sizes, places_from, IsZero};
+
+    /// Opens a file, and has the system keep all that it was given of it, so that nothing is pending.
+    ///
+    /// Refused, with the file as it was, are: no file, a directory and all that is no regular file, one that may not be read
+    /// and written, one that another process has open, and a want of memory.
+    pub fn open<'a, R: Files<File = File>>(
+        files: &R,
+        alloc: Global,
+        path: &'a str,
+    ) -> Result<DiskFile, FileError<'a>>
+        ensures bytes { IfOk result (λ disk. is_blank disk ≡ false) }
+    {
+        match open_disk(files, alloc, path) {
+            Ok(disk) => Ok(disk),
+            Err(problem) => Err(FileError { path, problem }),
+        }
+    }
+
+    /// Makes a file of `len` zero bytes, kept on its device with its name.
+    ///
+    /// Refused are a file that is there already, one that may not be made, 2^63 bytes and more, a full device, and a want of
+    /// memory. A file that was made is then taken away again.
+    pub fn create<'a, R: Files<File = File>>(
+        files: &R,
+        alloc: Global,
+        path: &'a str,
+        len: usize,
+    ) -> Result<DiskFile, FileError<'a>>
+        ensures len { IfOk result (λ disk. disk_len disk ≡ len) }
+        ensures blank { IfOk result (λ disk. is_blank disk ≡ true) }
+    {
+        match create_disk(files, alloc, path, len) {
+            Ok(disk) => Ok(disk),
+            Err(problem) => Err(FileError { path, problem }),
+        }
+    }
+
+    /// How many bytes it has.
+    pub fn len(&self) -> usize
+        ensures { result ≡ disk_len self.now }
+    {
+        self.len
+    }
+
+    /// Reads the bytes from a place on. Refused are a range that goes past the end of the file (`Length`), with `out` as it was, and
+    /// a read that fails, which may have changed `out`.
+    pub fn read(&self, at: usize, out: &mut [u8]) -> Result<(), FileProblem>
+        ensures within { OnOk result (at + length out.old ≤ disk_len self.now) }
+        ensures same { disk_len self.now < at + length out.old → out.new ≡ out.old }
+        ensures past { let end = at + length out.old in disk_len self.now < end → end < 2 ^ 64 → IsErrOf result (Length (disk_len self.now) end) }
+    {
+        if !lies_within(at, out.len(), self.len) {
+            let wanted = at.saturating_add(out.len());
+            return Err(length_problem(self.len, wanted));
+        }
+        self.shared.file().read_exact_at(out, at as u64)?;
+        Ok(())
+    }
+
+    /// Parts the file into media of these sizes, one behind the other: so no byte belongs to two of them, and each to one. All
+    /// are read into memory, those of a file that was made are zeros.
+    ///
+    /// Refused are sizes that come to another length than the file has (`Length`) or to 2^63 bytes and more (`TooLarge`), a read
+    /// that fails, and a want of memory. The file is then closed, with its bytes as they were.
+    pub fn into_media(self, alloc: Global, sizes: &[Sizes]) -> Result<Vec<FileMedia>, FileProblem>
+        ensures sizes { IfOk result (λ media. map file_sizes media.items ≡ sizes.now) }
+        ensures places { IfOk result (λ media. map file_begin media.items ≡ places_from 0 sizes.now) }
+        ensures opened { IfOk result (λ media. All IsOpened media.items) }
+        ensures zeros { is_blank self ≡ true → IfOk result (λ media. All IsZero media.items) }
+        ensures length { let total = sum_by byte_count sizes.now in total < 2 ^ 63 → total ≢ disk_len self → IsErrOf result (Length (disk_len self) total) }
+        ensures large { 2 ^ 63 ≤ sum_by byte_count sizes.now → IsErrOf result TooLarge }
+    {
+        let Some(total) = Sizes::total_len(sizes) else {
+            return Err(FileProblem::TooLarge);
+        };
+        if total != self.len {
+            return Err(length_problem(self.len, total));
+        }
+        let mut media = Vec::new(alloc);
+        self.push_media(alloc, sizes, &mut media)?;
+        Ok(media)
+    }
+
+    fn push_media(
+        &self,
+        alloc: Global,
+        sizes: &[Sizes],
+        media: &mut Vec<FileMedia>,
+    ) -> Result<(), FileProblem>
+        requires fits { sum_by byte_count sizes.now ≡ disk_len self.now }
+        requires empty { length media.old.items ≡ 0 }
+        ensures sizes { OnOk result (map file_sizes media.new.items ≡ sizes.now) }
+        ensures places { OnOk result (map file_begin media.new.items ≡ places_from 0 sizes.now) }
+        ensures opened { OnOk result (All IsOpened media.new.items) }
+        ensures zeros { is_blank self.now ≡ true → OnOk result (All IsZero media.new.items) }
+    {
+        let mut begin = 0usize;
+        for one in sizes {
+            push(media, self.medium(alloc, begin, *one)?)?;
+            begin += one.fast + one.block + one.slow;
+        }
+        Ok(())
+    }
+
+    // The only medium of the file.
+    pub(crate) fn into_medium(
+        self,
+        alloc: Global,
+        sizes: Sizes,
+        len: usize,
+    ) -> Result<FileMedia, FileProblem>
+        requires { byte_count sizes ≡ len }
+        ensures sizes { IfOk result (λ m. file_sizes m ≡ sizes) }
+        ensures opened { IfOk result IsOpened }
+    {
+        if len != self.len {
+            return Err(length_problem(self.len, len));
+        }
+        self.medium(alloc, 0, sizes)
+    }
+
+    // The medium of these sizes whose bytes begin at a place of the file.
+    fn medium(&self, alloc: Global, begin: usize, sizes: Sizes) -> Result<FileMedia, FileProblem>
+        requires fits { begin + byte_count sizes ≤ disk_len self.now }
+        ensures sizes { IfOk result (λ m. file_sizes m ≡ sizes) }
+        ensures place { IfOk result (λ m. file_begin m ≡ begin) }
+        ensures opened { IfOk result IsOpened }
+        ensures zeros { is_blank self.now ≡ true → IfOk result IsZero }
+    {
+        let tiers = if self.is_blank {
+            zeros(alloc, sizes)?
+        } else {
+            read_tiers(alloc, self.shared.file(), begin, sizes)?
+        };
+        let shared = Arc::try_clone(&self.shared)?;
+        Ok(FileMedia::of(shared, begin, tiers))
+    }
+
+    /// Gives a file another name in its folder, kept on its device. Its media may be in use.
+    ///
+    /// Refused are a name that is there already, no file, and a name that may not be given. Where the folder can't be synced the
+    /// file has its new name, and may have the old one again after a stop.
+    pub fn rename<'a, R: Files<File = File>>(
+        files: &R,
+        path: &'a str,
+        name: &'a str,
+    ) -> Result<(), FileError<'a>> {
+        if let Err(problem) = check_absence(files, name) {
+            return Err(FileError {
+                path: name,
+                problem,
+            });
+        }
+        if let Err(error) = fs::rename(files, path, name) {
+            let problem = FileProblem::from(error);
+            return Err(FileError { path, problem });
+        }
+        match sync_folder(files, name) {
+            Ok(()) => Ok(()),
+            Err(error) => Err(FileError {
+                path: name,
+                problem: FileProblem::from(error),
+            }),
+        }
+    }
+
+    /// Takes away a file that no process has open, as one that a process which ended left unfinished. Where there is none nothing
+    /// is done.
+    ///
+    /// Refused, with the file as it was, are: a directory and all that is no regular file, one that may not be read and written,
+    /// one that a process has open, and a folder that may not be changed.
+    pub fn remove_unused<'a, R: Files<File = File>>(
+        files: &R,
+        path: &'a str,
+    ) -> Result<(), FileError<'a>> {
+        match remove_locked(files, path) {
+            Ok(()) => Ok(()),
+            Err(problem) => Err(FileError { path, problem }),
+        }
+    }
+}
+
+fn length_problem(found: usize, wanted: usize) -> FileProblem
+    ensures { result ≡ Length found wanted }
+{
+    FileProblem::Length {
+        found: found as u64,
+        wanted: wanted as u64,
+    }
+}
+
+pub(crate) fn open_disk<R: Files<File = File>>(
+    files: &R,
+    alloc: Global,
+    path: &str,
+) -> Result<DiskFile, FileProblem>
+    ensures { IfOk result (λ disk. disk.is_blank ≡ false) }
+{
+    let file = open_locked(files, path)?;
+    let len = file.metadata()?.len();
+    if len > MAX_BYTES as u64 {
+        return Err(FileProblem::TooLarge);
+    }
+    file.sync_all()?;
+    Ok(DiskFile {
+        shared: share_file(alloc, file)?,
+        len: len as usize,
+        is_blank: false,
+    })
+}
+
+pub(crate) fn create_disk<R: Files<File = File>>(
+    files: &R,
+    alloc: Global,
+    path: &str,
+    len: usize,
+) -> Result<DiskFile, FileProblem>
+    ensures len { IfOk result (λ disk. disk.len ≡ len) }
+    ensures blank { IfOk result (λ disk. disk.is_blank ≡ true) }
+{
+    if MAX_BYTES < len {
+        return Err(FileProblem::TooLarge);
+    }
+    let file = make_locked(files, path)?;
+    match Arc::new(alloc, SharedFile::of(file)) {
+        Ok(shared) => blank_disk(files, alloc, path, shared, len),
+        Err(_locked) => {
+            let _ = fs::remove_file(files, path);
+            Err(FileProblem::Memory)
+        }
+    }
+}
+
+fn share_file(alloc: Global, file: File) -> Result<Arc<SharedFile>, AllocError> {
+    Ok(Arc::new(alloc, SharedFile::of(file))?)
+}
+
+fn push(media: &mut Vec<FileMedia>, one: FileMedia) -> Result<(), AllocError>
+    ensures { OnOk result (media.new.items ≡ media.old.items ++ one ∷ []) }
+{
+    media.push(one)?;
+    Ok(())
+}
+
+// The empty file, which is filled with zeros, or else is taken away.
+fn blank_disk<R: Files<File = File>>(
+    files: &R,
+    alloc: Global,
+    path: &str,
+    shared: Arc<SharedFile>,
+    len: usize,
+) -> Result<DiskFile, FileProblem>
+    requires { len < 2 ^ 63 }
+    ensures len { IfOk result (λ disk. disk.len ≡ len) }
+    ensures blank { IfOk result (λ disk. disk.is_blank ≡ true) }
+{
+    match fill_file(files, alloc, path, shared.file(), len) {
+        Ok(()) => Ok(DiskFile {
+            shared,
+            len,
+            is_blank: true,
+        }),
+        Err(problem) => {
+            let _ = fs::remove_file(files, path);
+            Err(problem)
+        }
+    }
+}
+
+// Nothing, not even a link that leads nowhere, has the name.
+fn check_absence<R: Files<File = File>>(files: &R, path: &str) -> Result<(), FileProblem> {
+    match fs::symlink_metadata(files, path) {
+        Ok(_) => Err(FileProblem::Exists),
+        Err(error) if error.kind() == io::ErrorKind::NotFound => Ok(()),
+        Err(error) => Err(FileProblem::from(error)),
+    }
+}
+
+fn remove_locked<R: Files<File = File>>(files: &R, path: &str) -> Result<(), FileProblem> {
+    match open_locked(files, path) {
+        Ok(_locked) => Ok(fs::remove_file(files, path)?),
+        Err(FileProblem::Missing) => Ok(()),
+        Err(problem) => Err(problem),
+    }
+}

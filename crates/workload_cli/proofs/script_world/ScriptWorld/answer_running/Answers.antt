@@ -1,0 +1,13 @@
+use Rattle.std.proofs.Common.{inl, inr, refl}
+use Rattle.workload_cli.proofs.KeptMedia.{running_answered}
+use Rattle.workload_cli.proofs.script_world.ScriptWorld.answer_running.Goals as goal
+
+pub returns-then-have_stopped : goal.returns-then-have_stopped
+returns-then-have_stopped g c =
+    running_answered _ _ c.args.self.now c.in-Some.world _ _ _ c.if-self.false c.in-Some.is
+    (record { then_world = c.answer_line-answer.new.system; is = refl; found = c.answer_line-answer.result; answered = c.answer_line-answer.ensures; came = inr (refl, refl) })
+
+pub returns : goal.returns
+returns g c =
+    running_answered _ _ c.args.self.now c.in-Some.world _ _ _ c.if-self.false c.in-Some.is
+    (record { then_world = c.answer_line-answer.new.system; is = refl; found = c.answer_line-answer.result; answered = c.answer_line-answer.ensures; came = inl (refl, c.if-self.false) })

@@ -1,0 +1,31 @@
+//! How a medium comes to rest that is fenced.
+
+ghost use Rattle.std.specs.Prelude.{◌≡◌, ℕ, List, OnErr, OnOk};
+ghost use Rattle.script.specs.tier_device.AfterStop.{AtRest};
+ghost use Rattle.script.specs.tier_device.Media.{Settles};
+ghost use Rattle.script.specs.tier_device.declared.media.Tier.{Tier};
+ghost use Rattle.workload_cli.specs.Rests.{IsRestOf, LeavesNoMore};
+
+use recovery::RecoveryError;
+use script::{Media, Tier};
+
+/// Fences all tiers of a medium, so that a stop leaves what a read gives. Refused where a device fails: a stop then leaves nothing that it might not have left before.
+pub fn fence_all<M: Media>(medium: &mut M) -> Result<(), RecoveryError>
+    ensures rest { OnOk result (IsRestOf M.Media medium.old medium.new) }
+    ensures refused { OnErr result (LeavesNoMore M.Media medium.old medium.new) }
+{
+    fence_tier(medium, Tier::Fast)?;
+    fence_tier(medium, Tier::Block)?;
+    fence_tier(medium, Tier::Slow)
+}
+
+fn fence_tier<M: Media>(medium: &mut M, tier: Tier) -> Result<(), RecoveryError>
+    ensures seen { OnOk result ((t : Tier) → M.seen medium.new t ≡ M.seen medium.old t) }
+    ensures settled { OnOk result (Settles tier (M.seen medium.old) (M.left medium.old (M.moment medium.old)) (M.left medium.new (M.moment medium.new))) }
+    ensures no_more { LeavesNoMore M.Media medium.old medium.new }
+{
+    match medium.fence(tier) {
+        Ok(()) => Ok(()),
+        Err(_) => Err(RecoveryError::DeviceFault),
+    }
+}

@@ -1,0 +1,25 @@
+//! Media that come to rest behind a stop.
+
+ghost use Rattle.std.specs.Prelude.{OnErr, OnOk};
+ghost use Rattle.workload_cli.specs.Rests.{IsRestOf, LeavesNoMore};
+
+use crate::script_media::Trips;
+use recovery::RecoveryError;
+use script::{Fill, Media};
+use std::alloc::Global;
+
+/// A medium that comes to rest behind a stop, so that what it holds can be recovered.
+pub trait Resting: Media {
+    /// Brings it to rest with something that a stop may leave of it now: with what the fill says, where it chooses. From then on it counts by the trips of its name, if it counts.
+    ///
+    /// Refused where memory is wanting or a device fails; a stop then leaves nothing that it might not have left before, and it may be asked again.
+    fn rest_medium(
+        &mut self,
+        alloc: Global,
+        fill: Fill,
+        trips: &Trips,
+        name: usize,
+    ) -> Result<(), RecoveryError>
+        ensures rest { OnOk result (IsRestOf Self.Media self.old self.new) }
+        ensures refused { OnErr result (LeavesNoMore Self.Media self.old self.new) };
+}
