@@ -2,13 +2,12 @@
 """Runs the programs with each of their allocations failing in turn, and tells which runs did not end as they should:
 tools/failing_allocations.py [--quick] [--rows N] [PROGRAM..].
 
-They are those that read scripts, records, blocks and media: `strata_sh` over its tour and over the scripts of its table, `strata_first`
-with and without stops, `file_log` over files with and without records, and torn and damaged ones, and `layer_rows` row by row over the
-sections `formats`, `media`, `areas` and `devices` of its table, where damaged images and worlds are read; rows that must not hold are
-left out. Where it is named, also the test functions of `area_tests`, each by itself. A run ends as it should where it tells the want of
-memory by its name, or says what it says with all memory there. It does not where it answers anything else: damage, no such entry, or
-fewer bytes. Nor does a row that tells a want of memory while no allocation failed. How each program tells it stands at its function
-below.
+They are those that read scripts, records, blocks and media: `strata_sh` over its tour, over the scripts of its table, and over files
+that keep a world, a new one or none; `strata_first` with and without stops; and `layer_rows` row by row over the sections `formats`,
+`media`, `areas` and `devices` of its table, where damaged images and worlds are read; rows that must not hold are left out. Where it is
+named, also the test functions of `area_tests`, each by itself. A run ends as it should where it tells the want of memory by its name, or
+says what it says with all memory there. It does not where it answers anything else: damage, no such entry, or fewer bytes. Nor does a
+row that tells a want of memory while no allocation failed. How each program tells it stands at its function below.
 
 The programs are built by `rt run`, the tests by `rt test`; `tools/failing_allocations.c` makes their allocations fail. It takes four
 minutes without the tests, and those that a build takes; the gate does not run it. A test function takes up to ten seconds, and allocates
@@ -20,6 +19,7 @@ import argparse
 import concurrent.futures
 import os
 import re
+import shutil
 import subprocess
 import sys
 import tempfile
@@ -232,9 +232,7 @@ def run_first(words):
     return tally(f"strata_first {' '.join(words)}", whole, runs, lambda it: has_stopped(it, whole) or it.status == 3 and it.err == "fault 15\n" and whole.out.startswith(it.out))
 
 
-# file_log prints the number of each record once it is answered. Want of memory ends it with an error that names it, and what was
-# answered is in its file, with at most one record more.
-
+# How layer_rows ends where it can't tell of a row.
 OUT_OF_MEMORY = re.compile(r"^Error: (?:.*: )?(?:out of memory|memory allocation failed|Kind\(OutOfMemory\))\n$")
 
 
@@ -242,50 +240,84 @@ def ends_by_name(run):
     return run.status == 1 and bool(OUT_OF_MEMORY.match(run.err))
 
 
-def read_log(path, what):
-    """Reads a file, which stays as it is."""
-    whole, runs = all_of("file_log", words=("read", path))
-    return tally(f"file_log read {what}", whole, runs, lambda it: ends_by_name(it) and whole.out.startswith(it.out))
+# Over a file strata_sh ends with `fault 15` and status 3 too, and the file then keeps all directories that were there. A line that meets
+# the want of memory is answered ENOMEM or `refused 15`: then the file has each directory whose line was answered `ok`, and no other one.
+
+DISK = ("--units", "200", "--fast", "8", "--block", "700", "--slow", "8", "--disk")
+WANTING = ("ENOMEM", "refused 15")
 
 
-def append_to_log(before):
-    """Appends three records to a file of some, which is made anew for each run."""
-    path, found, told, number = f"{ROOM.name}/append-{before}", [], 0, 0
+def directories(first, end):
+    return "".join(f"1 mkdir /d{number}\n" for number in range(first, end))
+
+
+def over_disk(path, text, number=0):
+    """The run of strata_sh over a file, with this allocation failing."""
+    [run] = sweep("strata_sh", text, (*DISK, path), numbers=(number, number, 1))
+    return run
+
+
+def kept_in(path):
+    """The directories that a file keeps."""
+    return set(over_disk(path, "1 list /\n").out.split()[1:]) if os.path.exists(path) else set()
+
+
+def has_kept(run, before, kept):
+    """Whether a run over a file of so many directories, which makes three more, ended as it should, and so is what the file keeps."""
+    there, lines = {f"d{at}" for at in range(before)}, run.out.splitlines()
+    answered = there | {f"d{before + at}" for at, line in enumerate(lines) if line == "ok"}
+    if run.status == 3:
+        return run.err == "fault 15\n" and kept == answered and set(lines) <= {"ok"}
+    return (run.status, run.err) == (0, "") and kept == answered and len(lines) == 3 and set(lines) <= {"ok", *WANTING}
+
+
+def serve_disk(before, base):
+    """Makes three directories more in a file that has some, which is copied anew for each run; without a file to copy it is made."""
+    path, found, told, number = f"{ROOM.name}/served-{before}", [], 0, 0
+    step = STEP
     while True:
-        if os.path.exists(path):
-            os.remove(path)
-        if before:
-            sweep("file_log", words=("append", str(before), path), numbers=(0, 0, 1))
-        [run] = sweep("file_log", words=("append", "3", path), numbers=(number, number, 1))
-        kept = sweep("file_log", words=("read", path), numbers=(0, 0, 1))[0].out.split() if os.path.exists(path) else []
-        answered = [str(it) for it in range(before)] + run.out.split()
-        all_told = [str(it) for it in range(before + 3)]
-        is_kept = kept[: len(answered)] == answered == all_told[: len(answered)] and kept in (answered, all_told[: len(answered) + 1])
+        for name in (path, f"{path}.strata-draft"):
+            if os.path.exists(name):
+                os.remove(name)
+        if base:
+            shutil.copy(base, path)
+        run = over_disk(path, directories(before, before + 3), number)
         if number and not run.failed():
-            return Tally(sum(it > 0 for it, _ in found), told, [it for _, it in found if it])
-        is_whole = run.status == 0 and answered == all_told
-        told += not is_whole
-        if not is_kept or not (is_whole or ends_by_name(run)):
-            found.append((number, f"file_log append to {before}, allocation {number}: status {run.status}, {run.out!r}, {run.err!r}, kept {kept}"))
+            return Tally(len(found), told, [it for it in found if it])
+        if not number:
+            if run.out != "ok\n" * 3:
+                return Tally(0, 0, [f"strata_sh over {before} directories itself: {run.out!r}, {run.err!r}"])
+            step = max(STEP, -(-run.made // MOST)) | 1
         else:
-            found.append((number, None))
-        number += STEP if number else 1
+            kept = kept_in(path)
+            told += run.out != "ok\n" * 3
+            is_well = has_kept(run, before, kept)
+            found.append(None if is_well else f"strata_sh over {before} directories, allocation {number}: status {run.status}, {run.out!r}, {run.err!r}, kept {sorted(kept)}")
+        number += step if number else 1
 
 
-def log_jobs():
+def open_disk(path, what):
+    """Opens a file in which no world is to be found: it says so, or tells the want of memory, and leaves the file as it was."""
+    with open(path, "rb") as file:
+        before = file.read()
+    whole, runs = all_of("strata_sh", "1 list /\n", (*DISK, path))
+    with open(path, "rb") as file:
+        if file.read() != before or whole.status != 3:
+            return Tally(0, 0, [f"strata_sh over a {what} file itself: status {whole.status}, {whole.err!r}"])
+    return tally(f"strata_sh over a {what} file", whole, runs, lambda it: (it.status, it.out, it.err) == (3, "", "fault 15\n"))
+
+
+def disk_jobs():
     """The runs over files, as jobs."""
-    files = {}
-    for name, count in (("none", 0), ("some", 5)):
-        files[name] = f"{ROOM.name}/{name}"
-        sweep("file_log", words=("append", str(count), files[name]), numbers=(0, 0, 1))
-    with open(files["some"], "rb") as file:
-        some = file.read()
-    cut = some.rstrip(b"\0")[:-5].ljust(len(some), b"\0")
-    for name, made in (("short", some[:-1]), ("foreign", some[:40] + b"\x3c" * 8 + some[48:]), ("torn", cut)):
+    some, files = f"{ROOM.name}/some", {}
+    over_disk(some, directories(0, 4))
+    with open(some, "rb") as file:
+        made = file.read()
+    for name, changed in (("short", made[:-1]), ("foreign", b"\x3c" * 8 + made[8:]), ("damaged", made[:4_096] + b"\x3c" * 8 + made[4_104:])):
         files[name] = f"{ROOM.name}/{name}"
         with open(files[name], "wb") as file:
-            file.write(made)
-    return [(read_log, (path, name)) for name, path in files.items()] + [(append_to_log, (before,)) for before in (0, 4)]
+            file.write(changed)
+    return [(open_disk, (path, name)) for name, path in files.items()] + [(serve_disk, (0, None)), (serve_disk, (4, some))]
 
 
 # A row of a section of layer_rows. The line that names the section comes first. What is said in place of the row's answer stands
@@ -429,18 +461,16 @@ def jobs_of(program):
     if program in TESTS:
         return [(run_test, (program, it)) for it in tests_of(program)[:ROWS]]
     if program == "strata_sh":
-        return [(run_tour, ()), *script_jobs()]
+        return [(run_tour, ()), *script_jobs(), *disk_jobs()]
     if program == "strata_first":
         stops = [("--stop", str(call), "--fill", fill) for call in range(1, 9) for fill in ("00", "a5", "ff")]
         return [(run_first, (words,)) for words in [(), *stops]]
-    if program == "file_log":
-        return log_jobs()
     devices = [(run_device_row, (it,)) for it in rows_of("devices")]
     return devices + [(run_row, (section, it)) for section in ("formats", "media", "areas") for it in rows_of(section)]
 
 
 TESTS = ("area_tests",)
-PROGRAMS = ("strata_sh", "strata_first", "file_log", "layer_rows")
+PROGRAMS = ("strata_sh", "strata_first", "layer_rows")
 
 
 def main():

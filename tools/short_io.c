@@ -1,10 +1,13 @@
-// Makes reads and writes at an offset short: loaded before the C library (LD_PRELOAD), it moves at most seven bytes a call.
+// Makes reads and writes at an offset short: loaded before the C library (LD_PRELOAD), it moves at most MOST bytes a call, seven where it is built
+// without -DMOST=N.
 #define _GNU_SOURCE
 #include <sys/syscall.h>
 #include <sys/types.h>
 #include <unistd.h>
 
-enum { MOST = 7 };
+#ifndef MOST
+#define MOST 7
+#endif
 
 static size_t part(size_t size) { return size < MOST ? size : MOST; }
 

@@ -13,7 +13,7 @@ use Rattle.migrator.proofs.call_effects_lemmas.NodeViews.{viewed_after}
 use Rattle.migrator.specs.record_validation.KnownNodes.{Known, known_after}
 use Rattle.script.specs.log_record.declared.format.Record.{Record}
 use Rattle.script.specs.log_record.Grammar.{IsRecord}
-use Rattle.test_media.proofs.digester_lemmas.PlanRuns.{after_more}
+use Rattle.digester.proofs.PlanRuns.{after_more}
 
 pub next_done : (g : Graph) (es : List Effect) (k : ℕ) (e : Effect) → k < length es → e ≡ get_or es k e → after_effects g (take (k + 1) es) ≡ after_effect (after_effects g (take k es)) e
 next_done g es k e inside is =

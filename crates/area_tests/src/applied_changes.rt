@@ -2,10 +2,11 @@
 ghost use Rattle.std.specs.Prelude.{◌≡◌, true};
 ghost use Rattle.migrator.specs.layout.Marks.{fits_marks};
 
+use crate::step_plan::plan_steps;
+use crate::steps::Step;
 use migrator::{ApplyError, AreaError, CLIENTS, Mark, Marks, Shared};
 use script::Media;
 use std::alloc::Global;
-use test_media::{Step, plan_steps};
 
 // The marks of digest so many: of one client so many records of its generation 7 are done.
 fn digest_marks(number: u32) -> Marks

@@ -3,10 +3,10 @@ ghost use Rattle.script.specs.tier_device.declared.media.Tier.{Tier};
 ghost use Rattle.script.specs.tier_device.AfterStop.{AtRest};
 ghost use Rattle.script.specs.tier_device.Memory.{IsAtRest};
 
+use crate::area_open::open_medium;
 use migrator::{AreaError, BLOCK, DirEntries, NodeCounts, SLOT_SIZE, Shared};
 use script::{DIRECTORY_KIND, Media, MemMedia, Text, Tier, u32_of};
 use std::alloc::Global;
-use test_media::open_medium;
 
 /// A line for each inode from 1 to 6, one of the whole, and one of the entries.
 pub type Lines = [&'static str; 8];

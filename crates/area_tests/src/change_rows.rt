@@ -1,7 +1,7 @@
 // The world, and changes of it.
 use crate::apply_answers::Lines;
+use crate::steps::Step::{self, Bytes, Drop, Enter, Leave, Make, Names, Size};
 use script::Kind::{Directory, File};
-use test_media::Step::{self, Bytes, Drop, Enter, Leave, Make, Names, Size};
 
 /// What makes the world over a bare medium: a directory, and three files, one with a hole and two names.
 pub const MAKING: &[Step<'static>] = &[

@@ -1,12 +1,12 @@
 // What an area tells, and what it answers to a digest.
 ghost use Rattle.std.specs.Prelude.{◌≡◌, false, IsTrue};
 ghost use Rattle.migrator.specs.area_image.Store.{disk};
-ghost use Rattle.test_media.specs.digester.SealedLog.{StandsAtMark};
+ghost use Rattle.digester.specs.SealedLog.{StandsAtMark};
 
+use digester::{DigestError, SealedLog, digest_chunk, prepare};
 use migrator::{AreaError, Mark, NodeCounts, Shared};
 use script::{Media, Tier};
 use std::alloc::{AllocError, Global};
-use test_media::{DigestError, SealedLog, digest_chunk, prepare};
 
 // The names of a node, and its entries or bytes.
 fn numbers_of(counts: NodeCounts) -> [u64; 2] {

@@ -2,15 +2,17 @@
 ghost use Rattle.script.specs.tier_device.declared.media.Tier.{Tier};
 ghost use Rattle.script.specs.tier_device.AfterStop.{AtRest};
 
+use crate::area_open::open_medium;
 use crate::digest_answers::{digest_next, is_area_as, mark_in, reads};
 use crate::digest_rows::{ROWS, Row, row_of};
 use crate::digested_logs::sealed_log;
+use crate::empty_world::bare_media;
 use crate::row_logs::{first_log, second_log};
+use digester::SealedLog;
 use migrator::{AreaError, Shared};
 use script::{Fill, Media, Record};
 use std::alloc::Global;
 use std::test::Fail;
-use test_media::{SealedLog, bare_media, open_medium};
 
 // Whether the next chunk is digested, and this is told then.
 fn digests<M: Media>(

@@ -3,12 +3,13 @@ ghost use Rattle.std.specs.Prelude.{IsTrue};
 ghost use Rattle.std.specs.List.Sorted.{IsStrictlyIncreasing};
 
 use crate::made_logs::{BLOCK, make_record, mkdir, one};
+use crate::steps::Step::{Bytes, Enter};
+use crate::steps::{Step, are_spelled};
+use digester::SealedLog;
 use migrator::Mark;
 use script::Kind::File;
 use script::Record;
 use std::alloc::{AllocError, Global};
-use test_media::Step::{Bytes, Enter};
-use test_media::{SealedLog, Step, are_spelled};
 
 /// So many calls of `mkdir`, which make the inodes from 2 on.
 pub fn directories(alloc: Global, count: u32) -> Result<Vec<Record>, AllocError> {

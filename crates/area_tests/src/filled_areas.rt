@@ -1,12 +1,13 @@
 // A change that wants more blocks than the format spares.
+use crate::comparison::same_bytes;
+use crate::empty_world::bare_media;
 use crate::made_changes::{Answered, change_of};
+use crate::steps::Step::{self, Bytes, Make};
 use migrator::{ApplyError, AreaError};
 use script::Kind::File;
 use script::{Fill, MemMedia};
 use std::alloc::{AllocError, Global};
 use std::test::Fail;
-use test_media::Step::{self, Bytes, Make};
-use test_media::{bare_media, same_bytes};
 
 const MAKING: &[Step<'static>] = &[Make(2, File), Make(3, File), Make(4, File)];
 

@@ -2,17 +2,21 @@
 ghost use Rattle.script.specs.tier_device.declared.media.Tier.{Tier};
 ghost use Rattle.script.specs.tier_device.AfterStop.{AtRest};
 
+use crate::area_open::open_medium;
+use crate::comparison::same_bytes;
 use crate::digest_answers::{digest_all, digest_next, is_area_as, mark_in};
 use crate::digest_rows::{BARE, SIZES};
 use crate::digested_logs::{directories, entries, long_name_of, sealed_log};
+use crate::empty_world::bare_media;
 use crate::made_logs::{file, mkdir, one};
+use crate::steps::Step::{Bytes, Enter, Leave, Make, Names, Size};
+use crate::steps::{Step, record_of};
+use digester::{DigestError, SealedLog};
 use migrator::{AreaError, Shared};
 use script::Kind::{Directory, File};
 use script::{Fill, Media, Record};
 use std::alloc::{AllocError, Global};
 use std::test::Fail;
-use test_media::Step::{Bytes, Enter, Leave, Make, Names, Size};
-use test_media::{DigestError, SealedLog, Step, bare_media, open_medium, record_of, same_bytes};
 
 // What stands before forged logs, as it is told with inode 2, and the numbers of these logs.
 #[derive(Clone, Copy)]

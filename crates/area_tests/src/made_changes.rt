@@ -6,12 +6,14 @@ ghost use Rattle.script.specs.tier_device.Memory.{IsAtRest};
 
 use crate::applied_changes::answer_to;
 use crate::apply_answers::{Lines, area_lines, has_lines, put_area};
+use crate::area_open::open_medium;
 use crate::change_rows::{MAKING, ROWS, Row, SIZES, WORLD, change_at};
+use crate::empty_world::bare_media;
+use crate::steps::Step;
 use migrator::{ApplyError, AreaError, Shared};
 use script::{Fill, Media, MemMedia, Text};
 use std::alloc::Global;
 use std::test::Fail;
-use test_media::{Step, bare_media, open_medium};
 
 /// What is answered to a change, what the area tells behind it, and the medium beneath. No answer where the steps come to no change.
 #[derive(Drop)]

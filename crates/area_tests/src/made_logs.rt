@@ -1,11 +1,11 @@
 // Records, in a few words.
 ghost use Rattle.std.specs.Prelude.{◌≤◌};
 
+use crate::steps::Step::{Bytes, Enter, Leave, Make, Names};
+use crate::steps::{Step, record_of};
 use script::Kind::{self, Directory, File};
 use script::Record;
 use std::alloc::{AllocError, Global};
-use test_media::Step::{Bytes, Enter, Leave, Make, Names};
-use test_media::{Step, record_of};
 
 /// Bytes in a block.
 pub const BLOCK: u64 = 4_096;

@@ -2,12 +2,14 @@
 ghost use Rattle.script.specs.tier_device.declared.media.Tier.{Tier};
 ghost use Rattle.script.specs.tier_device.AfterStop.{AtRest};
 
+use crate::area_open::open_medium;
+use crate::comparison::same_bytes;
 use crate::migration_answers::{migrate_run, read_files, tiers};
+use crate::world::World;
 use migrator::{AreaError, FileRun, RelocateError, Run, Shared, pick};
 use script::{Fill, Media, Tier};
 use std::alloc::Global;
 use std::test::Fail;
-use test_media::{World, open_medium, same_bytes};
 
 const fn file(inode: u32, first: u32, count: u32) -> FileRun {
     FileRun {

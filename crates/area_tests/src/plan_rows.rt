@@ -1,15 +1,12 @@
 //! Rows of records, with what is planned of them.
 
-ghost use Rattle.std.specs.Prelude.{IsTrue};
-ghost use Rattle.std.specs.List.{AllByRecursion};
-ghost use Rattle.std.specs.List.Sorted.{IsNonDecreasing};
-ghost use Rattle.script.specs.log_record.Grammar.{IsRecord};
-
 use crate::replayed_plans::Replayed;
+use crate::step_plan::are_rising;
+use crate::steps::are_spelled;
+use digester::{Found, next_run, test_records};
 use script::{Effect, Effects, Kind, Name, Record, SharedBytes};
 use std::alloc::{AllocError, Global};
 use std::test::Fail;
-use test_media::{Found, next_run, test_records};
 
 fn name_of(alloc: Global, number: u32) -> Result<Name, AllocError> {
     let mut text = Vec::new(alloc);
@@ -64,25 +61,6 @@ fn write(alloc: Global, at: u64, units: u32) -> Result<Record, AllocError> {
         units,
         effects: Effects::from_vec(effects),
     })
-}
-
-// Whether inodes are listed rising.
-fn are_rising(inodes: &[u32]) -> bool
-    ensures { IsTrue result → IsNonDecreasing inodes.now }
-{
-    inodes.is_sorted()
-}
-
-// Whether a log can hold the records.
-fn are_spelled(records: &[Record]) -> bool
-    ensures { IsTrue result → AllByRecursion IsRecord records.now }
-{
-    for next in records {
-        if !next.has_spelling() {
-            return false;
-        }
-    }
-    true
 }
 
 // What is planned: how many records, of how many inodes, with which charge; or the place of a bad one, over inodes 1 to 99.

@@ -4,11 +4,13 @@ ghost use Rattle.script.specs.tier_device.declared.media.Tier.{Tier};
 ghost use Rattle.script.specs.tier_device.AfterStop.{AtRest};
 ghost use Rattle.script.specs.tier_device.Memory.{IsAtRest};
 
+use crate::area_open::open_medium;
+use crate::comparison::{has_small_root, same_bytes};
+use crate::world::{LONG_SIZE, SIZE, World};
 use migrator::{AreaError, BLOCK, NodeCounts, RelocateError, Shared};
 use script::{Fill, Media, MemMedia, Tier};
 use std::alloc::{AllocError, Global};
 use std::test::Fail;
-use test_media::{LONG_SIZE, SIZE, World, has_small_root, open_medium, same_bytes};
 
 const FAST: Option<Tier> = Some(Tier::Fast);
 

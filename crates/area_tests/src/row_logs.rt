@@ -1,10 +1,10 @@
 // The records of the logs of each row.
 use crate::digested_logs::{add_file, add_steps, directories};
 use crate::made_logs::{BLOCK, drop_record, file, mkdir};
+use crate::steps::Step::{Bytes, Enter, Names, Size};
 use script::Kind::Directory;
 use script::Record;
 use std::alloc::{AllocError, Global};
-use test_media::Step::{Bytes, Enter, Names, Size};
 
 // Counts of the names of three inodes, of which one is among the directories.
 fn most_images(alloc: Global) -> Result<Vec<Record>, AllocError> {

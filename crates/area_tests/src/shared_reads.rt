@@ -2,11 +2,13 @@
 ghost use Rattle.script.specs.tier_device.declared.media.Tier.{Tier};
 ghost use Rattle.script.specs.tier_device.AfterStop.{AtRest};
 
+use crate::area_open::open_medium;
+use crate::comparison::has_small_root;
+use crate::world::{SIZE, World, put};
 use migrator::{AreaError, NodeCounts, Shared, What};
 use script::{Media, Tier};
 use std::alloc::{AllocError, Global};
 use std::test::Fail;
-use test_media::{SIZE, World, has_small_root, open_medium, put};
 
 fn has_the_whole<M: Media>(area: &Shared<M>) -> bool {
     area.charge() == 7

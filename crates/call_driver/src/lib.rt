@@ -9,6 +9,7 @@ mod events;
 mod lease_return;
 mod needs;
 mod system;
+mod world_events;
 
 pub use call_result::{CallResult, step_call};
 pub use calls::{begin_call, serve_call};
@@ -16,4 +17,4 @@ pub use digests::{clear_client, digest_all, wipe_all};
 pub use events::Events;
 
 // Passed on to the crates above, which so need not list those below.
-pub use event_steps::LeaseMode;
+pub use world::{Event, LeaseMode, Outcome, World};

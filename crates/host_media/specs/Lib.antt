@@ -10,5 +10,6 @@ pub mod Mirror
 pub mod File
 pub mod Sizes
 pub mod DiskFile
+pub mod Images
 -- Passed on to the crates above, which so need not list those below.
 pub use Rattle.tier_device.specs as tier_device

@@ -1,12 +1,14 @@
 // A file in which media lie one behind the other.
 ghost use Rattle.std.specs.Prelude.{◌≡◌, ◌≢◌, ◌≤◌, ◌<◌, ◌+◌, ◌^◌, [], ◌∷◌, ◌++◌, All, map, sum_by, length, true, false, IfOk, OnOk, IsErrOf};
+ghost use Rattle.tier_device.specs.declared.media.Tier.TheVariants.{Fast, Block, Slow};
+ghost use Rattle.tier_device.specs.Rows.{row};
 ghost use Rattle.host_media.specs.declared.error.FileProblem.TheVariants.{Length, TooLarge};
 ghost use Rattle.host_media.specs.File.{file_begin, IsOpened};
 ghost use Rattle.host_media.specs.Sizes.{byte_count};
 
 use crate::error::{FileError, FileProblem};
 use crate::file::FileMedia;
-use crate::file_bytes::{fill_file, read_tiers};
+use crate::file_bytes::{fill_file, read_tiers, write_tiers};
 use crate::locked_file::{make_locked, open_locked, sync_folder};
 use crate::shared_file::SharedFile;
 use crate::sizes::{MAX_BYTES, Sizes, zeros};
@@ -15,7 +17,7 @@ use std::fs::{self, File, Files};
 use std::io;
 use std::os::unix::fs::FileExt;
 use std::sync::Arc;
-use tier_device::lies_within;
+use tier_device::{Tiers, lies_within};
 
 /// A file in which media lie one behind the other, without a gap. It is open and locked: no other process has it, as long as it
 /// or one of its media is there.
@@ -91,11 +93,35 @@ impl DiskFile {
         Ok(())
     }
 
+    /// Writes bytes from a place on; what is written is kept once it was synced. Refused are a range that goes past the end of the
+    /// file (`Length`), with the file as it was, and a write that fails, of which any part may be done.
+    pub fn write(&mut self, at: usize, bytes: &[u8]) -> Result<(), FileProblem>
+        ensures within { OnOk result (at + length bytes.now ≤ disk_len self.old) }
+        ensures past { let end = at + length bytes.now in disk_len self.old < end → end < 2 ^ 64 → IsErrOf result (Length (disk_len self.old) end) }
+        ensures len { disk_len self.new ≡ disk_len self.old }
+        ensures blank { OnOk result (is_blank self.new ≡ false) }
+    {
+        if !lies_within(at, bytes.len(), self.len) {
+            let wanted = at.saturating_add(bytes.len());
+            return Err(length_problem(self.len, wanted));
+        }
+        self.is_blank = false;
+        self.shared.file().write_all_at(bytes, at as u64)?;
+        Ok(())
+    }
+
+    /// Has the system keep what was written. Refused where the system fails, and from then on always, until the file is opened again.
+    pub fn sync(&self) -> Result<(), FileProblem> {
+        self.shared.sync_data()?;
+        Ok(())
+    }
+
     /// Parts the file into media of these sizes, one behind the other: so no byte belongs to two of them, and each to one. All
-    /// are read into memory, those of a file that was made are zeros.
+    /// are read into memory, those of a file that was made are zeros. What was read is written back and synced: after a sync that
+    /// failed in another process a read may give what the device does not have.
     ///
-    /// Refused are sizes that come to another length than the file has (`Length`) or to 2^63 bytes and more (`TooLarge`), a read
-    /// that fails, and a want of memory. The file is then closed, with its bytes as they were.
+    /// Refused are sizes that come to another length than the file has (`Length`) or to 2^63 bytes and more (`TooLarge`), a read,
+    /// a write or a sync that fails, and a want of memory. The file is then closed, and a read gives of it what it gave before.
     pub fn into_media(self, alloc: Global, sizes: &[Sizes]) -> Result<Vec<FileMedia>, FileProblem>
         ensures sizes { IfOk result (λ media. map file_sizes media.items ≡ sizes.now) }
         ensures places { IfOk result (λ media. map file_begin media.items ≡ places_from 0 sizes.now) }
@@ -112,7 +138,16 @@ impl DiskFile {
         }
         let mut media = Vec::new(alloc);
         self.push_media(alloc, sizes, &mut media)?;
+        self.sync_read()?;
         Ok(media)
+    }
+
+    // Has the system keep what was read of a file and written back.
+    fn sync_read(&self) -> Result<(), FileProblem> {
+        if self.is_blank {
+            return Ok(());
+        }
+        self.sync()
     }
 
     fn push_media(
@@ -150,7 +185,9 @@ impl DiskFile {
         if len != self.len {
             return Err(length_problem(self.len, len));
         }
-        self.medium(alloc, 0, sizes)
+        let medium = self.medium(alloc, 0, sizes)?;
+        self.sync_read()?;
+        Ok(medium)
     }
 
     // The medium of these sizes whose bytes begin at a place of the file.
@@ -164,10 +201,22 @@ impl DiskFile {
         let tiers = if self.is_blank {
             zeros(alloc, sizes)?
         } else {
-            read_tiers(alloc, self.shared.file(), begin, sizes)?
+            self.read_medium(alloc, begin, sizes)?
         };
         let shared = Arc::try_clone(&self.shared)?;
         Ok(FileMedia::of(shared, begin, tiers))
+    }
+
+    // The tiers of these sizes whose bytes begin at a place of the file, where they are written back.
+    fn read_medium(&self, alloc: Global, begin: usize, sizes: Sizes) -> Result<Tiers, FileProblem>
+        requires fits { begin + byte_count sizes ≤ disk_len self.now }
+        ensures fast { IfOk result (λ tiers. length (row tiers Fast) ≡ sizes.fast) }
+        ensures block { IfOk result (λ tiers. length (row tiers Block) ≡ sizes.block) }
+        ensures slow { IfOk result (λ tiers. length (row tiers Slow) ≡ sizes.slow) }
+    {
+        let tiers = read_tiers(alloc, self.shared.file(), begin, sizes)?;
+        write_tiers(self.shared.file(), begin, &tiers)?;
+        Ok(tiers)
     }
 
     /// Gives a file another name in its folder, kept on its device. Its media may be in use.
@@ -189,13 +238,24 @@ impl DiskFile {
             let problem = FileProblem::from(error);
             return Err(FileError { path, problem });
         }
-        match sync_folder(files, name) {
-            Ok(()) => Ok(()),
-            Err(error) => Err(FileError {
-                path: name,
-                problem: FileProblem::from(error),
-            }),
+        sync_name(files, name)
+    }
+
+    /// Gives a file the name of another one in its folder, in its place, kept on its device: at each moment the name is that of the
+    /// one or of the other. Its media may be in use.
+    ///
+    /// Refused are no file, and a name that may not be given. Where the folder can't be synced the file has its new name, and a stop
+    /// may bring back what was before.
+    pub fn replace<'a, R: Files<File = File>>(
+        files: &R,
+        path: &'a str,
+        name: &'a str,
+    ) -> Result<(), FileError<'a>> {
+        if let Err(error) = fs::rename(files, path, name) {
+            let problem = FileProblem::from(error);
+            return Err(FileError { path, problem });
         }
+        sync_name(files, name)
     }
 
     /// Takes away a file that no process has open, as one that a process which ended left unfinished. Where there is none nothing
@@ -211,6 +271,17 @@ impl DiskFile {
             Ok(()) => Ok(()),
             Err(problem) => Err(FileError { path, problem }),
         }
+    }
+}
+
+// Has the system keep the name of a file.
+fn sync_name<'a, R: Files<File = File>>(files: &R, path: &'a str) -> Result<(), FileError<'a>> {
+    match sync_folder(files, path) {
+        Ok(()) => Ok(()),
+        Err(error) => Err(FileError {
+            path,
+            problem: FileProblem::from(error),
+        }),
     }
 }
 

@@ -2,6 +2,7 @@
 ghost use Rattle.std.specs.Prelude.{◌≡◌, ◌<◌, ◌+◌, ◌^◌, length, IfOk};
 ghost use Rattle.tier_device.specs.declared.media.Tier.TheVariants.{Fast, Block, Slow};
 ghost use Rattle.tier_device.specs.Rows.{row};
+ghost use Rattle.host_media.specs.Place.{total};
 
 use crate::error::FileProblem;
 use crate::locked_file::sync_folder;
@@ -9,7 +10,7 @@ use crate::sizes::Sizes;
 use std::alloc::Global;
 use std::fs::{File, Files};
 use std::os::unix::fs::FileExt;
-use tier_device::Tiers;
+use tier_device::{Tier, Tiers};
 
 // How many zeros are written at once.
 const CHUNK: usize = 65536;
@@ -51,6 +52,21 @@ pub(crate) fn read_tiers(
     let block = read_tier(alloc, file, block_at, sizes.block)?;
     let slow = read_tier(alloc, file, slow_at, sizes.slow)?;
     Ok(Tiers::new(fast, block, slow))
+}
+
+/// Writes tiers to a file from a place on, the fast one first.
+pub(crate) fn write_tiers(file: &File, begin: usize, tiers: &Tiers) -> Result<(), FileProblem>
+    requires { begin + total tiers.now < 2 ^ 63 }
+{
+    let fast = tiers.bytes(Tier::Fast);
+    let block = tiers.bytes(Tier::Block);
+    file.write_all_at(fast, begin as u64)?;
+    file.write_all_at(block, (begin + fast.len()) as u64)?;
+    file.write_all_at(
+        tiers.bytes(Tier::Slow),
+        (begin + fast.len() + block.len()) as u64,
+    )?;
+    Ok(())
 }
 
 fn read_tier(alloc: Global, file: &File, at: usize, len: usize) -> Result<Vec<u8>, FileProblem>

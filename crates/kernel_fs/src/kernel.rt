@@ -74,7 +74,6 @@ pub struct Figures {
 }
 
 /// The kernel: the shared media, and what each client was given of them. Whoever has it has one client's call after the other.
-///
 /// Contracts see the shared area and the accounts. Clients are numbered from 1.
 #[derive(Debug, Drop)]
 pub struct Kernel<M: Media> {

@@ -19,7 +19,7 @@ use Rattle.world.specs.system_world.Contents.{mark_by}
 use Rattle.world.specs.system_world.event_steps.libfs.log_record.declared.format.Record.{Record}
 use Rattle.recovery.specs.declared.error.RecoveryError.{RecoveryError}
 use Rattle.recovery.specs.declared.error.RecoveryError.TheVariants as errors
-use Rattle.recovery.specs.DigestedLogs.{CanDigest, DigestsLog, IsFirstRefused}
+use Rattle.recovery.specs.DigestedLogs.{CanDigest, CanDigestAll, DigestsLog, IsFirstRefused}
 use Rattle.recovery.specs.Errors.{OnBadLog}
 use Rattle.recovery.specs.FoundLogs.{AreFound, IsFound, log_by}
 use Rattle.recovery.specs.Recovers.{AreThese, CountNone, Recovers, Regions}
@@ -139,6 +139,9 @@ module _ {M : Type 0} (device : Ghosts M) (these : Regions) where
   -- all of them are
   pub all_graph : (old new : JournalView M) → AreDigestedTo device these 8 old new → (v : Marks) → marks (disk device old) ≡ Some v → graph new.geometry (disk device new) ≡ after_clients (log_by v these) (graph old.geometry (disk device old)) 8
   all_graph old new all v are = all.graph_after ∙ ap (λ (w : Marks). after_clients (log_by w these) (graph old.geometry (disk device old)) 8) (one_of (marks (disk device old)) all.before v all.was are)
+
+  pub all_good : (old new : JournalView M) → AreDigestedTo device these 8 old new → (v : Marks) → marks (disk device old) ≡ Some v → CanDigestAll old.geometry.units (graph old.geometry (disk device old)) (log_by v these)
+  all_good old new all v are = subst (λ (w : Marks). CanDigestAll old.geometry.units (graph old.geometry (disk device old)) (log_by w these)) (one_of (marks (disk device old)) all.before v all.was are) (λ d is_d. all.good d is_d (owners.is_high d is_d))
 
   pub all_none : (old new : JournalView M) → AreDigestedTo device these 8 old new → (g : Sizes) (now : Regions) (state : State) → AreThese these now → Recovers g now state (device.seen old.media) → CountNone now (marks (disk device new))
   all_none old new all g now state same r d is_d =

@@ -22,6 +22,8 @@ use Rattle.recovery.specs.Recovers.{AreThese}
 use Rattle.recovery.specs.RecoveryStops.{AreGivenBack, IsRecoveredWorld, StaysStored, StoresTree}
 use Rattle.recovery.proofs.JoinedRegions.{counted_by}
 use Rattle.recovery.proofs.JoinedStays.{joined_store, mid_stored}
+use Rattle.recovery.specs.DigestedLogs.{CanDigestAll}
+use Rattle.recovery.proofs.DigestibleLogs.{digest_all_same}
 use Rattle.recovery.proofs.Recovering.{same_graph}
 use Rattle.recovery.proofs.RisenFaults.{some_earlier}
 use Rattle.recovery.proofs.Staying.{SeenNow, one_geometry}
@@ -44,6 +46,7 @@ module _ (g : Sizes) (c other : WorldContent) (same : store_of (other 0) ≡ sto
     volume = volume;
     opens = subst (IsOpenable g) same s.opens;
     apart = λ d e i is_d is_e off w. sym (ap (is_written i) (logs_same e is_e)) ∙ s.apart d e i is_d is_e off (ap (is_written i) (logs_same d is_d) ∙ w);
+    good = subst (λ (t : Store). CanDigestAll g.units (graph g t) (log_in c)) same (digest_all_same (log_in c) (log_in other) (λ d is_d. sym (logs_same d is_d)) g.units (graph g (store_of (other 0))) s.good);
     sound = subst (λ (h : Graph). IsSound h nobody) graph_same s.sound;
   }
 

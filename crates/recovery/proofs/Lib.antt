@@ -1,5 +1,6 @@
 pub mod JoinedRegions
 pub mod Recovering
+pub mod DigestibleLogs
 pub mod Staying
 pub mod Faults
 pub mod Changing

@@ -174,7 +174,7 @@ module _ {M : Type 0} (device : Ghosts M) (seen_now : SeenNow device) (lengths :
         tree_is = tree ∙ settles.state v is_v ∙ sym (state_found area.geometry (contents_of device old) (regions_read device opened) alike v is_v)
 
         stores_is : StoresTree area.geometry (contents_of device old)
-        stores_is = tree_is_stored area.geometry (contents_of device old) (regions_read device opened) alike v is_v volume opens (settles.apart v is_v) (settles.stored_sound v is_v)
+        stores_is = tree_is_stored area.geometry (contents_of device old) (regions_read device opened) alike v is_v volume opens (settles.apart v is_v) (settles.good v is_v) (settles.stored_sound v is_v)
 
         pub recovered_world : IsRecoveredWorld device old w
         recovered_world = record {

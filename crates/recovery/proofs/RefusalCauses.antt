@@ -24,13 +24,14 @@ use Rattle.recovery.specs.FaultOrMemory.{IsFaultOrMemory}
 use Rattle.recovery.specs.FoundLogs.{HoldFew}
 use Rattle.recovery.specs.GraphTests.{IsGraphDamage}
 use Rattle.recovery.specs.Parts.{contents_of, part_medium}
-use Rattle.recovery.specs.DigestedLogs.{CanDigest, IsFirstRefused}
+use Rattle.recovery.specs.DigestedLogs.{CanDigestAll, IsFirstRefused}
 use Rattle.recovery.specs.Refusals.{HaveRegionSizes, IsCause, IsFirstSharing, IsFirstUndigestible, IsStoredCause, ShareNone, StoresBadLog, StoresDamage}
 use Rattle.recovery.specs.Regions.{CanBeDenied, IsReopened, REGIONS, place_of, read_of, regions_read}
 use Rattle.recovery.specs.Settlement.{AreOpenRegions}
+use Rattle.recovery.proofs.DigestibleLogs.{after_same, digest_all_same, digest_same}
 use Rattle.recovery.proofs.JoinedWorlds.{all_by_place}
 use Rattle.recovery.proofs.RegionMedia.{zip_at}
-use Rattle.recovery.proofs.Recovering.{same_after, same_graph}
+use Rattle.recovery.proofs.Recovering.{same_graph}
 use Rattle.recovery.proofs.SilentRegions.{bounds_client}
 use Rattle.recovery.proofs.SpelledRecords.{records_few}
 use Rattle.recovery.proofs.WipedRegions.{some_at}
@@ -64,13 +65,13 @@ module _ (g : Sizes) (s : Store) (logs : ℕ → List Record) where
     digest_cause errors.Memory is bad = tt
 
     -- the graph was tested
-    pub tested_cause : (h : Graph) → h ≡ after_clients logs (graph g s) 8 → (e : RecoveryError) → IsOfArea e → OnDamage e (IsGraphDamage h) → IsStoredCause g s logs e
-    tested_cause h same errors.DeviceFault is damaged = tt
-    tested_cause h same (errors.Damaged structure block) is damaged = (apart, subst (λ (k : Graph). IsGraphDamage k structure block) same damaged)
-    tested_cause h same errors.AreaSize is damaged = is
-    tested_cause h same errors.RegionSize is damaged = is
-    tested_cause h same (errors.BadLog client place) is damaged = absurd is
-    tested_cause h same errors.Memory is damaged = tt
+    pub tested_cause : CanDigestAll g.units (graph g s) logs → (h : Graph) → h ≡ after_clients logs (graph g s) 8 → (e : RecoveryError) → IsOfArea e → OnDamage e (IsGraphDamage h) → IsStoredCause g s logs e
+    tested_cause good h same errors.DeviceFault is damaged = tt
+    tested_cause good h same (errors.Damaged structure block) is damaged = (apart, good, subst (λ (k : Graph). IsGraphDamage k structure block) same damaged)
+    tested_cause good h same errors.AreaSize is damaged = is
+    tested_cause good h same errors.RegionSize is damaged = is
+    tested_cause good h same (errors.BadLog client place) is damaged = absurd is
+    tested_cause good h same errors.Memory is damaged = tt
 
 -- regions of their size hold fewer records than a number has values
 pub few_records : {M : Type 0} (device : Ghosts M) (rs : List (RegionView M)) → AreOpenRegions device rs → HoldFew (regions_read device rs)
@@ -105,24 +106,19 @@ module _ (logs others : ℕ → List Record) (same : (d : ℕ) → is_client d �
         shares = λ none. is.shares (subst (λ rs. ShareNone others client (take (place + 1) rs)) own (shared_back client (take (place + 1) (logs client)) none));
       }
 
-  after_same : (n : ℕ) → n ≤ 8 → (h : Graph) → after_clients logs h n ≡ after_clients others h n
-  after_same n high h = same_after n logs others h (λ d low most. same d (owners.client_is d low (omega (arith, most, high))))
-
   undigestible_same : (capacity : ℕ) (h : Graph) (client place : ℕ) → IsFirstUndigestible capacity h others client place → IsFirstUndigestible capacity h logs client place
   undigestible_same capacity h client place is =
       let high = owners.is_high client is.client_is in
       record {
         client_is = is.client_is;
-        before = λ d is_d low.
-            let most = owners.is_high d is_d in
-            subst (λ rs. CanDigest capacity (after_clients logs h (d - 1)) rs) (sym (same d is_d)) (subst (λ k. CanDigest capacity k (others d)) (sym (after_same (d - 1) (omega (arith, most)) h)) (is.before d is_d low));
+        before = λ d is_d low. digest_same logs others same capacity h d is_d (is.before d is_d low);
         refused = subst (λ rs. IsFirstRefused capacity (after_clients logs h (client - 1)) rs place) (sym (same client is.client_is))
-            (subst (λ k. IsFirstRefused capacity k (others client) place) (sym (after_same (client - 1) (omega (arith, high)) h)) is.refused);
+            (subst (λ k. IsFirstRefused capacity k (others client) place) (sym (after_same logs others same (client - 1) (omega (arith, high)) h)) is.refused);
       }
 
   pub cause_same : (g : Sizes) (s : Store) (e : RecoveryError) → IsStoredCause g s others e → IsStoredCause g s logs e
   cause_same g s errors.DeviceFault is = tt
-  cause_same g s (errors.Damaged structure block) is = (apart_same is.0, subst (λ (k : Graph). IsGraphDamage k structure block) (sym (same_graph logs others same (graph g s))) is.1)
+  cause_same g s (errors.Damaged structure block) (apart, good, damage) = (apart_same apart, digest_all_same logs others same g.units (graph g s) good, subst (λ (k : Graph). IsGraphDamage k structure block) (sym (same_graph logs others same (graph g s))) damage)
   cause_same g s errors.AreaSize is = is
   cause_same g s errors.RegionSize is = is
   cause_same g s (errors.BadLog client place) (inl is) = inl (sharing_same client place is)
@@ -178,13 +174,13 @@ opened_sizes device shared media regions all reopened client r is_c low =
     index_of (y ∷ ys) (suc k) d x e = index_of ys k d x e
 
 -- what is stored was refused
-pub stored_cause : (c : WorldContent) (g : Sizes) → IsVolume g (c 0) → IsOpenable g (store_of (c 0)) → (e : RecoveryError) → IsStoredCause g (store_of (c 0)) (log_in c) e → IsCause c e
-stored_cause c g volume opens errors.DeviceFault is = tt
-stored_cause c g volume opens (errors.Damaged structure block) is = inr (record { geometry = g; volume = volume; opens = opens; cause = is })
-stored_cause c g volume opens errors.AreaSize is = is
-stored_cause c g volume opens errors.RegionSize is = absurd is
-stored_cause c g volume opens (errors.BadLog client place) is = record { geometry = g; volume = volume; opens = opens; cause = is }
-stored_cause c g volume opens errors.Memory is = tt
+pub stored_cause : (c : WorldContent) → HaveRegionSizes c → (g : Sizes) → IsVolume g (c 0) → IsOpenable g (store_of (c 0)) → (e : RecoveryError) → IsStoredCause g (store_of (c 0)) (log_in c) e → IsCause c e
+stored_cause c sizes g volume opens errors.DeviceFault is = tt
+stored_cause c sizes g volume opens (errors.Damaged structure block) is = inr (record { sizes = sizes; geometry = g; volume = volume; opens = opens; cause = is })
+stored_cause c sizes g volume opens errors.AreaSize is = is
+stored_cause c sizes g volume opens errors.RegionSize is = absurd is
+stored_cause c sizes g volume opens (errors.BadLog client place) is = record { sizes = sizes; geometry = g; volume = volume; opens = opens; cause = is }
+stored_cause c sizes g volume opens errors.Memory is = tt
 
 -- ---- what a cause says
 

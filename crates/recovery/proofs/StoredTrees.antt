@@ -14,9 +14,11 @@ use Rattle.world.specs.system_world.event_steps.kernel_fs.layout.Places.{Sizes}
 use Rattle.world.specs.system_world.event_steps.libfs.file_graph.Graph.{Graph}
 use Rattle.world.specs.system_world.event_steps.libfs.world_invariant.Logs.{LogsAreApart, after_clients, is_written}
 use Rattle.world.specs.system_world.event_steps.posix_calls.Operations.{is_client}
+use Rattle.recovery.specs.DigestedLogs.{CanDigestAll}
 use Rattle.recovery.specs.FoundLogs.{log_by}
 use Rattle.recovery.specs.Recovers.{AreThese, Regions}
 use Rattle.recovery.specs.RecoveryStops.{StoresTree}
+use Rattle.recovery.proofs.DigestibleLogs.{digest_all_same}
 use Rattle.recovery.proofs.JoinedRegions.{counted_by}
 use Rattle.recovery.proofs.Recovering.{same_graph}
 use Rattle.recovery.proofs.WholeContents.{counted_alike}
@@ -31,10 +33,11 @@ module _ (g : Sizes) (c : WorldContent) (these : Regions) (alike : AreThese thes
   pub state_found : stored_state g c ≡ state_of (settled_graph (after_clients (log_by v these) (graph g (store_of (c 0))) 8)) nobody
   state_found = ap (λ (h : Graph). state_of (settled_graph h) nobody) graph_found
 
-  pub tree_is_stored : IsVolume g (c 0) → IsOpenable g (store_of (c 0)) → LogsAreApart (log_by v these) → IsSound (after_clients (log_by v these) (graph g (store_of (c 0))) 8) nobody → StoresTree g c
-  tree_is_stored volume opens apart sound = record {
+  pub tree_is_stored : IsVolume g (c 0) → IsOpenable g (store_of (c 0)) → LogsAreApart (log_by v these) → CanDigestAll g.units (graph g (store_of (c 0))) (log_by v these) → IsSound (after_clients (log_by v these) (graph g (store_of (c 0))) 8) nobody → StoresTree g c
+  tree_is_stored volume opens apart good sound = record {
     volume = volume;
     opens = opens;
     apart = λ d e i is_d is_e other w. ap (is_written i) (log_found e is_e) ∙ apart d e i is_d is_e other (sym (ap (is_written i) (log_found d is_d)) ∙ w);
+    good = digest_all_same (log_in c) (log_by v these) log_found g.units (graph g (store_of (c 0))) good;
     sound = subst (λ (h : Graph). IsSound h nobody) (sym graph_found) sound;
   }

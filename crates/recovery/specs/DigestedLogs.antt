@@ -1,5 +1,5 @@
 -- What digests of clients' logs make of the shared area.
-use Rattle.std.specs.Prelude.{◌≡◌, ◌≢◌, ◌⊎◌, ℕ, ◌+◌, ◌^◌, ◌<◌, ◌≤◌, List, [], length, take, true, Some}
+use Rattle.std.specs.Prelude.{◌≡◌, ◌≢◌, ◌⊎◌, ℕ, ◌+◌, ◌-◌, ◌^◌, ◌<◌, ◌≤◌, List, [], length, take, true, Some}
 use Rattle.recovery_laws.specs.shared_area.tier_device.declared.media.Media.{Ghosts}
 use Rattle.recovery_laws.specs.shared_area.batch_journal.View.{JournalView}
 use Rattle.recovery_laws.specs.shared_area.layout.Places.{Sizes}
@@ -14,7 +14,7 @@ use Rattle.recovery_laws.specs.update_log.log_record.declared.format.Record.{Rec
 use Rattle.world.specs.system_world.event_steps.kernel_fs.layout.declared.marks.Mark.{Mark}
 use Rattle.world.specs.system_world.event_steps.kernel_fs.layout.declared.marks.Marks.{Marks}
 use Rattle.world.specs.system_world.event_steps.libfs.file_graph.Graph.{Graph}
-use Rattle.world.specs.system_world.event_steps.libfs.world_invariant.Logs.{after_records}
+use Rattle.world.specs.system_world.event_steps.libfs.world_invariant.Logs.{after_clients, after_records}
 use Rattle.world.specs.system_world.event_steps.posix_calls.Operations.{is_client}
 use Rattle.world.specs.system_world.event_steps.posix_calls.Tree.{State}
 use Rattle.world.specs.system_world.courses.Courses.{Content}
@@ -70,6 +70,10 @@ IsReadRefusal client rs e = (e ≡ errors.DeviceFault) ⊎ (e ≡ errors.Memory)
 -- each of the records can be digested by one who holds every inode, into the graph as those before it leave it
 abbrev pub CanDigest : ℕ → Graph → List Record → Type 0
 CanDigest capacity g rs = (held : List ℕ) → HasEveryInode held → AreGood held capacity g rs
+
+-- so can each of each client's, client after client
+abbrev pub CanDigestAll : ℕ → Graph → (ℕ → List Record) → Type 0
+CanDigestAll capacity g logs = (d : ℕ) → is_client d ≡ true → CanDigest capacity (after_clients logs g (d - 1)) (logs d)
 
 -- the record at this place can't, and those before it can
 abbrev pub IsFirstRefused : ℕ → Graph → List Record → ℕ → Type 0

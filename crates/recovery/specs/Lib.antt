@@ -18,7 +18,6 @@ pub mod SpelledRecords
 pub mod Refusals
 -- Passed on to the crates above, which so need not list those below.
 pub use Rattle.world.specs.system_world.event_steps.area_image
-pub use Rattle.world.specs.call_driver
 pub use Rattle.world.specs.system_world.event_steps.call_effects
 pub use Rattle.world.specs.system_world.event_steps
 pub use Rattle.world.specs.system_world.event_steps.kernel_fs

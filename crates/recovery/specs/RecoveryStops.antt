@@ -4,7 +4,7 @@ use Rattle.recovery_laws.specs.update_log.tier_device.declared.media.Media.{Ghos
 use Rattle.recovery_laws.specs.update_log.Moments.{PastStays}
 use Rattle.world.specs.system_world.event_steps.area_image.batch_journal.Volume.{IsVolume}
 use Rattle.world.specs.system_world.event_steps.area_image.Format.{IsOpenable}
-use Rattle.world.specs.system_world.event_steps.area_image.Store.{store_of}
+use Rattle.world.specs.system_world.event_steps.area_image.Store.{graph, store_of}
 use Rattle.world.specs.system_world.event_steps.call_effects.ClosedGraph.{nobody}
 use Rattle.world.specs.system_world.event_steps.call_effects.Wholes.{IsSound}
 use Rattle.world.specs.system_world.event_steps.libfs.world_invariant.Logs.{LogsAreApart}
@@ -20,6 +20,7 @@ use Rattle.world.specs.system_world.WorldTree.{world_tree}
 use Rattle.world.specs.system_world.WorldView.{WorldView}
 use Rattle.recovery.specs.declared.error.RecoveryError.{RecoveryError}
 use Rattle.recovery.specs.declared.error.RecoveryError.TheVariants.{DeviceFault}
+use Rattle.recovery.specs.DigestedLogs.{CanDigestAll}
 use Rattle.recovery.specs.FaultOrMemory.{IsFaultOrMemory}
 use Rattle.recovery.specs.Parts.{AreAtRest, contents_of}
 use Rattle.recovery.specs.PartMedia.{SomeRose, clocks_of, left_of}
@@ -41,11 +42,12 @@ module _ {M : Type 0} (device : Ghosts M) where
     pub past : (p : ℕ) → p < PARTS → PastStays (device.moment (old p)) (device.moment (new p)) (device.left (old p)) (device.left (new p))
     pub stop : (g : Sizes) (c : WorldContent) → CanRecover g (contents_of device old) → LeftMeanwhile old new c → CanRecover g c × (stored_state g c ≡ stored_state g (contents_of device old))
 
--- The contents store a tree: the shared medium opens, no inode is in the records of two clients, and the graph after all records that count is sound.
+-- The contents store a tree: the shared medium opens, no inode is in the records of two clients, each record that counts can be digested, and the graph after all of them is sound.
 pub record StoresTree (g : Sizes) (c : WorldContent) : Type 0 where
   pub volume : IsVolume g (c 0)
   pub opens : IsOpenable g (store_of (c 0))
   pub apart : LogsAreApart (log_in c)
+  pub good : CanDigestAll g.units (graph g (store_of (c 0))) (log_in c)
   pub sound : IsSound (stored_graph g c) nobody
 
 module _ {M : Type 0} (device : Ghosts M) where

@@ -16,7 +16,7 @@ use Rattle.world.specs.system_world.event_steps.posix_calls.Operations.{is_clien
 use Rattle.world.specs.system_world.event_steps.posix_calls.declared.limits.TheConstants.{MAX_CLIENTS}
 use Rattle.recovery.specs.declared.error.RecoveryError.{RecoveryError}
 use Rattle.recovery.specs.declared.error.RecoveryError.TheVariants as errors
-use Rattle.recovery.specs.DigestedLogs.{CanDigest, IsFirstRefused}
+use Rattle.recovery.specs.DigestedLogs.{CanDigest, CanDigestAll, IsFirstRefused}
 use Rattle.recovery.specs.GraphTests.{IsGraphDamage}
 
 -- each part that is a region has its size
@@ -49,14 +49,15 @@ pub record IsFirstUndigestible (capacity : ℕ) (g : Graph) (logs : ℕ → List
 -- what a refusal says of a shared medium that opens, and of the records of each client that count
 abbrev pub IsStoredCause : Sizes → Store → (ℕ → List Record) → RecoveryError → Type 0
 IsStoredCause g s logs errors.DeviceFault = Unit {0}
-IsStoredCause g s logs (errors.Damaged structure block) = LogsAreApart logs × IsGraphDamage (after_clients logs (graph g s) MAX_CLIENTS) structure block
+IsStoredCause g s logs (errors.Damaged structure block) = LogsAreApart logs × CanDigestAll g.units (graph g s) logs × IsGraphDamage (after_clients logs (graph g s) MAX_CLIENTS) structure block
 IsStoredCause g s logs errors.AreaSize = ⊥
 IsStoredCause g s logs errors.RegionSize = ⊥
 IsStoredCause g s logs (errors.BadLog client place) = IsFirstSharing logs client place ⊎ (LogsAreApart logs × IsFirstUndigestible g.units (graph g s) logs client place)
 IsStoredCause g s logs errors.Memory = Unit {0}
 
--- The shared medium opens, and what it and the regions store is refused for this cause.
+-- The regions have their size, the shared medium opens, and what they store is refused for this cause.
 pub record StoresCause (c : WorldContent) (e : RecoveryError) : Type 0 where
+  pub sizes : HaveRegionSizes c
   pub geometry : Sizes
   pub volume : IsVolume geometry (c 0)
   pub opens : IsOpenable geometry (store_of (c 0))

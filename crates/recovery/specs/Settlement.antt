@@ -17,6 +17,7 @@ use Rattle.world.specs.system_world.event_steps.posix_calls.declared.limits.TheC
 use Rattle.recovery.specs.declared.error.RecoveryError.{RecoveryError}
 use Rattle.recovery.specs.declared.error.RecoveryError.TheVariants.{DeviceFault}
 use Rattle.recovery.specs.FaultOrMemory.{IsFaultOrMemory}
+use Rattle.recovery.specs.DigestedLogs.{CanDigestAll}
 use Rattle.recovery.specs.FoundLogs.{log_by}
 use Rattle.recovery.specs.Phases.{StaysRecovered}
 use Rattle.recovery.specs.Recovers.{AreThese, Recovers, Regions}
@@ -45,6 +46,7 @@ module _ {M : Type 0} (device : Ghosts M) where
       pub going : new.failed ≡ false
       pub sound : IsSound (graph new.geometry (disk device new)) nobody
       pub apart : (v : Marks) → marks (disk device old) ≡ Some v → LogsAreApart (log_by v (regions_read device before))
+      pub good : (v : Marks) → marks (disk device old) ≡ Some v → CanDigestAll old.geometry.units (graph old.geometry (disk device old)) (log_by v (regions_read device before))
       pub stored_sound : (v : Marks) → marks (disk device old) ≡ Some v → IsSound (after_clients (log_by v (regions_read device before)) (graph old.geometry (disk device old)) MAX_CLIENTS) nobody
       pub state : (v : Marks) → marks (disk device old) ≡ Some v
           → state_of (graph new.geometry (disk device new)) nobody ≡ state_of (settled_graph (after_clients (log_by v (regions_read device before)) (graph old.geometry (disk device old)) MAX_CLIENTS)) nobody

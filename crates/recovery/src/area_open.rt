@@ -30,7 +30,7 @@ use std::alloc::Global;
 /// `Damaged` exactly where the bytes spell no graph within the units, never where they are recovered; `Memory` where there was none. An open journal that is sound was replayed then, and nothing else was written. The medium is handed back with each refusal; where no
 /// device has failed it is at rest, with the same blocks.
 pub fn open_area<M: Media>(alloc: Global, medium: M) -> Result<Shared<M>, (RecoveryError, M)>
-    requires { (t : Tier) → AtRest (M.seen medium) (M.left medium (M.moment medium)) t }
+    requires rest { (t : Tier) → AtRest (M.seen medium) (M.left medium (M.moment medium)) t }
 
     ensures any_moment { IfOk result (λ a. StaysRecovered M.Media Whatever medium a.media) }
     ensures any_moment_refused { IfErr result (λ e. StaysRecovered M.Media Whatever medium e.1) }

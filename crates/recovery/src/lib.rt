@@ -41,9 +41,8 @@ pub use parts::{Parts, REGIONS};
 pub use survival::recover_after_stop;
 
 // Passed on to the crates above, which so need not list those below.
-pub use recovery_laws::{BLOCK, CLIENTS, Geometry, Super, What};
+pub use recovery_laws::{BLOCK, CLIENTS, Geometry, REGION_SIZE, Shared, Super, What};
 pub use world::{
-    AreaError, CallResult, Event, Events, Figures, KernelError, LeaseMode, Mode, Need, NodeSummary,
-    Outcome, Refusal, World, begin_call, clear_client, digest_all, play, serve_call, step_call,
-    wipe_all,
+    AreaError, Event, Figures, KernelError, LeaseMode, Mode, Need, NodeSummary, Outcome, Refusal,
+    World, play,
 };

@@ -14,7 +14,7 @@ ghost use Rattle.world.specs.system_world.event_steps.posix_calls.Tree.{State};
 ghost use Rattle.world.specs.system_world.event_steps.posix_calls.declared.limits.TheConstants.{MAX_CLIENTS};
 ghost use Rattle.recovery.specs.Errors.{IsDigestError, OnBadLog};
 ghost use Rattle.recovery.specs.FaultOrMemory.{IsFaultOrMemory};
-ghost use Rattle.recovery.specs.DigestedLogs.{CanDigest, DigestsLog, IsFirstRefused};
+ghost use Rattle.recovery.specs.DigestedLogs.{CanDigest, CanDigestAll, DigestsLog, IsFirstRefused};
 ghost use Rattle.recovery.specs.FoundLogs.{AreFound, HoldFew, HoldsFew, IsFound, log_by};
 ghost use Rattle.recovery.specs.Phases.{AnswersEither, StaysRecovered};
 ghost use Rattle.recovery.specs.Recovers.{AreThese, CountNone, Recovers, Regions};
@@ -48,6 +48,7 @@ pub fn digest_logs<M: Media>(
         → graph area.new.geometry (disk M.Media area.new) ≡ after_clients (log_by v (regions_read M.Media regions.old)) (graph area.old.geometry (disk M.Media area.old)) MAX_CLIENTS) }
     ensures none { OnOk result ((g : Sizes) (now : Regions) (state : State) → AreThese (regions_read M.Media regions.old) now → Recovers g now state (M.seen area.old.media)
         → CountNone now (marks_of (disk M.Media area.new))) }
+    ensures good { OnOk result ((v : Marks) → marks_of (disk M.Media area.old) ≡ Some v → CanDigestAll area.old.geometry.units (graph area.old.geometry (disk M.Media area.old)) (log_by v (regions_read M.Media regions.old))) }
     ensures bad { IfErr result (λ e. (v : Marks) → marks_of (disk M.Media area.old) ≡ Some v → HoldFew (regions_read M.Media regions.old) → OnBadLog e (IsFirstUndigestible area.old.geometry.units (graph area.old.geometry (disk M.Media area.old)) (log_by v (regions_read M.Media regions.old)))) }
     ensures never { IfErr result (λ e. (g : Sizes) (now : Regions) (state : State) → AreThese (regions_read M.Media regions.old) now → Recovers g now state (M.seen area.old.media) → IsFaultOrMemory e) }
     ensures only { IfErr result IsDigestError }

@@ -20,7 +20,7 @@ pub fn reopen_regions<M: Media + Drop>(
     alloc: Global,
     media: &mut Vec<M>,
 ) -> Result<Vec<Region<M>>, RecoveryError>
-    requires { AllByRecursion (Rests M.Media) media.old.items }
+    requires rest { AllByRecursion (Rests M.Media) media.old.items }
     ensures reopened { IfOk result (λ regions. AllZip (IsReopened M.Media) media.old.items regions.items) }
     ensures taken { OnOk result (media.new.items ≡ []) }
     ensures room { OnOk result (vec_capacity media.old ≤ vec_capacity media.new) }

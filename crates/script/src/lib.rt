@@ -59,6 +59,6 @@ pub use usage::{WordsError, tell, tell_fault};
 // Passed on to the crates above, which so need not list those below.
 pub use update_log::{
     Call, DIRECTORY_KIND, Effect, Effects, Errno, FaultMedia, Fill, HEADER, Kind, Media, MemMedia,
-    Name, NameMap, Path, PlainGraph, REGION_SIZE, ROOT, Record, Region, RegionError, Reply,
-    SharedBytes, Stage, StopMedia, Tier, Trip, u32_of,
+    Name, NameMap, OPEN, Path, PlainGraph, REGION_SIZE, ROOT, Record, Region, RegionError, Reply,
+    SharedBytes, Stage, StopMedia, Tier, Trip, is_payload, u32_of,
 };

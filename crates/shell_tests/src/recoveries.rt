@@ -3,12 +3,12 @@ use std::alloc::Global;
 use std::io::{self, ErrorKind};
 use std::test::Fail;
 use workload_cli::{
-    Event, Events, Outcome, Running, ScriptWorld, Session, Sizes, answer_line, fresh_world,
+    Event, Events, Outcome, Running, ScriptWorld, Session, WorldSizes, answer_line, fresh_world,
     read_system_line, write_answer,
 };
 
 // The least media that these tests need.
-const LEAST: Sizes = Sizes {
+const LEAST: WorldSizes = WorldSizes {
     units: 40,
     fast: 8,
     block: 540,
@@ -37,7 +37,10 @@ fn play_line<S: Events + Running>(alloc: Global, system: &mut S, text: &[u8]) {
 #[test]
 fn two_generations(rt: HostRuntime) -> Result<(), Fail> {
     let alloc = rt.alloc();
-    let Ok((mut world, trips)) = fresh_world(alloc, LEAST) else {
+    let Ok(geometry) = LEAST.geometry() else {
+        return Err(Fail::from(io::Error::from(ErrorKind::InvalidInput)));
+    };
+    let Ok((mut world, trips)) = fresh_world(alloc, &geometry) else {
         return Err(Fail::from(io::Error::from(ErrorKind::OutOfMemory)));
     };
     play_line(alloc, &mut world, b"1 mkdir /a");

@@ -3,3 +3,4 @@ pub mod Looked
 pub mod Walks
 pub mod RestingMedia
 pub mod KeptMedia
+pub mod CountedParts

@@ -4,11 +4,11 @@ use Rattle.std.proofs.Math.Path.{fun_ext}
 use Rattle.std.specs.Prelude.{Option}
 use Rattle.script.specs.tier_device.declared.media.Media.{Ghosts}
 use Rattle.script.specs.tier_device.declared.media.Tier.{Tier}
-use Rattle.recovery.specs.call_effects.Wholes.{tree_of}
-use Rattle.recovery.specs.layout.Places.{Sizes}
-use Rattle.recovery.specs.shared_area.Parts.{IsTierOf}
-use Rattle.recovery.specs.area_image.Store.{graph, disk, store_of}
-use Rattle.recovery.specs.event_steps.View.{SystemView}
+use Rattle.world_files.specs.recovery.call_effects.Wholes.{tree_of}
+use Rattle.world_files.specs.recovery.layout.Places.{Sizes}
+use Rattle.world_files.specs.recovery.shared_area.Parts.{IsTierOf}
+use Rattle.world_files.specs.recovery.area_image.Store.{graph, disk, store_of}
+use Rattle.world_files.specs.recovery.event_steps.View.{SystemView}
 use Rattle.workload_cli.specs.OfSystem.{HasLooked, LiesIn, tree_in}
 
 module _ {M : Type 0} (device : Ghosts M) where

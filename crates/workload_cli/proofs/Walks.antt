@@ -10,9 +10,9 @@ use Rattle.script.specs.posix_calls.Answers.{entry_in}
 use Rattle.script.specs.posix_calls.Resolve.{child, entry_or, then_from, resolve_from}
 use Rattle.script.specs.posix_calls.Tree.{Tree}
 use Rattle.script.specs.file_graph.Graph.{Graph, Node, Body, FileBody, DirBody}
-use Rattle.recovery.specs.call_effects.NodeView.{NodeView, FileView, DirView, view_is_dir, view_of_body, view_of_node, view_at}
-use Rattle.recovery.specs.call_effects.Wholes.{tree_of, tree_node, tree_body}
-use Rattle.recovery.specs.record_validation.NodeAnswers.{seen_node}
+use Rattle.world_files.specs.recovery.call_effects.NodeView.{NodeView, FileView, DirView, view_is_dir, view_of_body, view_of_node, view_at}
+use Rattle.world_files.specs.recovery.call_effects.Wholes.{tree_of, tree_node, tree_body}
+use Rattle.world_files.specs.recovery.record_validation.NodeAnswers.{seen_node}
 use Rattle.workload_cli.specs.Paths.{child_in, unless_directory}
 use Rattle.workload_cli.specs.AnswerText.{IsNoFile, IsUnread}
 use Rattle.workload_cli.specs.declared.answer.Answer.{Answer}

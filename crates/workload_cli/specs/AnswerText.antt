@@ -7,13 +7,13 @@ use Rattle.script.specs.posix_calls.declared.errno.Errno.{Errno}
 use Rattle.script.specs.posix_calls.declared.errno.Errno.TheVariants.{NoMemory}
 use Rattle.script.specs.declared.system_line.LowerTier.{LowerTier}
 use Rattle.script.specs.declared.system_line.LowerTier.TheVariants as lower
-use Rattle.recovery.specs.kernel_fs.declared.kernel.Figures.{Figures}
-use Rattle.recovery.specs.event_steps.declared.outcome.Outcome.{Outcome}
-use Rattle.recovery.specs.event_steps.declared.outcome.Outcome.TheVariants as outcomes
-use Rattle.recovery.specs.event_steps.declared.outcome.Refusal.{Refusal}
-use Rattle.recovery.specs.event_steps.declared.outcome.Refusal.TheVariants as refusals
-use Rattle.recovery.specs.call_driver.declared.call_result.CallResult.{CallResult}
-use Rattle.recovery.specs.call_driver.declared.call_result.CallResult.TheVariants as served
+use Rattle.world_files.specs.recovery.kernel_fs.declared.kernel.Figures.{Figures}
+use Rattle.world_files.specs.recovery.event_steps.declared.outcome.Outcome.{Outcome}
+use Rattle.world_files.specs.recovery.event_steps.declared.outcome.Outcome.TheVariants as outcomes
+use Rattle.world_files.specs.recovery.event_steps.declared.outcome.Refusal.{Refusal}
+use Rattle.world_files.specs.recovery.event_steps.declared.outcome.Refusal.TheVariants as refusals
+use Rattle.call_driver.specs.declared.call_result.CallResult.{CallResult}
+use Rattle.call_driver.specs.declared.call_result.CallResult.TheVariants as served
 use Rattle.workload_cli.specs.declared.answer.Answer.{Answer}
 use Rattle.workload_cli.specs.declared.answer.Answer.TheVariants as answers
 

@@ -5,5 +5,7 @@ pub mod AnswerText
 pub mod LineResults
 pub mod Script
 pub mod Rests
+pub mod Fills
 pub mod Stops
 pub mod Sessions
+pub mod FreshWorlds

@@ -1,28 +1,24 @@
 -- What a line of a script is answered, and what it makes of a running system.
 use Rattle.std.specs.Prelude.{◌≡◌, ◌⊎◌, ◌-◌, ◌^◌, ℕ, min, Bool, true, false, List, Option, Some, None, Result, Ok}
 use Rattle.script.specs.tier_device.declared.media.Tier.{Tier}
-use Rattle.script.specs.posix_calls.Tree.{Tree}
 use Rattle.script.specs.posix_calls.declared.call.Call.{Call}
 use Rattle.script.specs.posix_calls.declared.errno.Errno.TheVariants.{NoMemory}
-use Rattle.recovery.specs.lease_manager.declared.view.LeaseMode.{LeaseMode}
 use Rattle.script.specs.SystemLines.{Asked, Calls, Steps, Digests, Wipes, Moves, Places, Books, Stops, Halts, Fails, Recovers}
 use Rattle.script.specs.declared.system_line.LowerTier.{LowerTier}
 use Rattle.script.specs.declared.system_line.Manner.{Manner}
-use Rattle.recovery.specs.kernel_fs.declared.kernel.Figures.{Figures}
-use Rattle.recovery.specs.event_steps.declared.event.Event.{Event}
-use Rattle.recovery.specs.event_steps.declared.event.Event.TheVariants as event
-use Rattle.recovery.specs.event_steps.declared.outcome.Outcome.{Outcome}
-use Rattle.recovery.specs.event_steps.declared.outcome.Refusal.{Refusal}
-use Rattle.recovery.specs.call_driver.Digests.{IsCleared, IsWiped}
-use Rattle.recovery.specs.call_driver.Calls.{IsStepOf}
-use Rattle.recovery.specs.call_driver.declared.call_result.CallResult.{CallResult}
+use Rattle.world_files.specs.recovery.event_steps.declared.event.Event.TheVariants as event
+use Rattle.world_files.specs.recovery.event_steps.declared.outcome.Outcome.{Outcome}
+use Rattle.world_files.specs.recovery.event_steps.declared.outcome.Refusal.{Refusal}
+use Rattle.call_driver.specs.Digests.{IsCleared, IsWiped}
+use Rattle.call_driver.specs.Calls.{IsStepOf}
+use Rattle.call_driver.specs.declared.call_result.CallResult.{CallResult}
 use Rattle.workload_cli.specs.Manners.{IsServedIn}
 use Rattle.workload_cli.specs.Paths.{file_in}
 use Rattle.workload_cli.specs.AnswerText.{IsNoFile, tier_below, book_answer, call_answer, digest_answer, failure_answer, move_answer, step_answer, wipe_answer}
 use Rattle.workload_cli.specs.declared.answer.Answer.{Answer}
 use Rattle.workload_cli.specs.declared.answer.Answer.TheVariants as answers
 use Rattle.workload_cli.specs.declared.system_queries.Running.{Ghosts as Looked}
-use Rattle.recovery.specs.call_driver.declared.events.Events.{Ghosts}
+use Rattle.call_driver.specs.declared.events.Events.{Ghosts}
 
 -- what a system plays, what its clients owe, hold, wait for and have broken
 module _ {S : Type 0} (system : Ghosts S) where

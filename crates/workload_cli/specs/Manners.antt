@@ -1,11 +1,11 @@
 -- How a client's call is asked.
-use Rattle.std.specs.Prelude.{ℕ, Bool, true, false}
+use Rattle.std.specs.Prelude.{ℕ, true, false}
 use Rattle.script.specs.posix_calls.declared.call.Call.{Call}
 use Rattle.script.specs.declared.system_line.Manner.{Manner}
 use Rattle.script.specs.declared.system_line.Manner.TheVariants.{Served, Tried, Begun}
-use Rattle.recovery.specs.call_driver.Calls.{IsBegunCall, IsServedCall}
-use Rattle.recovery.specs.call_driver.declared.call_result.CallResult as declared
-use Rattle.recovery.specs.call_driver.declared.events.Events.{Ghosts}
+use Rattle.call_driver.specs.Calls.{IsBegunCall, IsServedCall}
+use Rattle.call_driver.specs.declared.call_result.CallResult as declared
+use Rattle.call_driver.specs.declared.events.Events.{Ghosts}
 
 -- Other clients hand over what they hold, but for a call that is tried; one that is begun is not carried on.
 abbrev pub IsServedIn : {S : Type 0} → Ghosts S → Manner → ℕ → Call → declared.CallResult → S → S → Type 0

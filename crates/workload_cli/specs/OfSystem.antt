@@ -1,21 +1,21 @@
 -- What a system in memory tells of its shared area.
-use Rattle.std.specs.Prelude.{◌≡◌, ℕ, List, Option, Some, None, if◌then◌else◌}
+use Rattle.std.specs.Prelude.{◌≡◌, ℕ, Option, Some, None, if◌then◌else◌}
 use Rattle.script.specs.tier_device.declared.media.Media.{Ghosts}
 use Rattle.script.specs.tier_device.declared.media.Tier.{Tier}
 use Rattle.script.specs.posix_calls.Tree.{Tree}
-use Rattle.recovery.specs.call_effects.Wholes.{tree_of}
+use Rattle.world_files.specs.recovery.call_effects.Wholes.{tree_of}
 use Rattle.script.specs.file_graph.Units.{charge}
-use Rattle.recovery.specs.shared_area.Parts.{IsTierOf}
-use Rattle.recovery.specs.area_image.Store.{graph, disk}
-use Rattle.recovery.specs.kernel_fs.Book.{out_of}
-use Rattle.recovery.specs.kernel_fs.KernelView.{KernelView}
-use Rattle.recovery.specs.kernel_fs.declared.kernel.Figures.{Figures}
-use Rattle.recovery.specs.kernel_fs.declared.error.KernelError.{KernelError}
-use Rattle.recovery.specs.kernel_fs.declared.error.KernelError.TheVariants as why
-use Rattle.recovery.specs.area_image.declared.error.AreaError.{AreaError}
-use Rattle.recovery.specs.area_image.declared.error.AreaError.TheVariants as errors
-use Rattle.recovery.specs.event_steps.View.{SystemView}
-use Rattle.recovery.specs.event_steps.declared.outcome.Refusal.TheVariants as refusals
+use Rattle.world_files.specs.recovery.shared_area.Parts.{IsTierOf}
+use Rattle.world_files.specs.recovery.area_image.Store.{graph, disk}
+use Rattle.world_files.specs.recovery.kernel_fs.Book.{out_of}
+use Rattle.world_files.specs.recovery.kernel_fs.KernelView.{KernelView}
+use Rattle.world_files.specs.recovery.kernel_fs.declared.kernel.Figures.{Figures}
+use Rattle.world_files.specs.recovery.kernel_fs.declared.error.KernelError.{KernelError}
+use Rattle.world_files.specs.recovery.kernel_fs.declared.error.KernelError.TheVariants as why
+use Rattle.world_files.specs.recovery.area_image.declared.error.AreaError.{AreaError}
+use Rattle.world_files.specs.recovery.area_image.declared.error.AreaError.TheVariants as errors
+use Rattle.world_files.specs.recovery.event_steps.View.{SystemView}
+use Rattle.world_files.specs.recovery.event_steps.declared.outcome.Refusal.TheVariants as refusals
 use Rattle.workload_cli.specs.declared.answer.Answer.{Answer}
 use Rattle.workload_cli.specs.declared.answer.Answer.TheVariants as answers
 

@@ -6,8 +6,8 @@ use Rattle.script.specs.posix_calls.declared.errno.Errno.TheVariants.{IsDirector
 use Rattle.script.specs.posix_calls.Path.{path_names}
 use Rattle.script.specs.posix_calls.Resolve.{resolve, then_from, entry_or}
 use Rattle.script.specs.posix_calls.Tree.{Node, File, Dir, Tree}
-use Rattle.recovery.specs.call_effects.NodeView.{NodeView, FileView, DirView}
-use Rattle.recovery.specs.call_effects.Wholes.{without_kinds}
+use Rattle.world_files.specs.recovery.call_effects.NodeView.{NodeView, FileView, DirView}
+use Rattle.world_files.specs.recovery.call_effects.Wholes.{without_kinds}
 
 -- what a node has under a name, by what is known of the node
 abbrev pub child_in : NodeView → List ℕ → Result ℕ Errno

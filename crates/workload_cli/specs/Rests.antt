@@ -1,11 +1,19 @@
 -- Media that come to rest behind a stop.
-use Rattle.std.specs.Prelude.{◌≡◌, ℕ, ◌<◌, List, Option, Some}
+use Rattle.std.specs.Prelude.{ℕ, ◌<◌, List}
 use Rattle.script.specs.tier_device.declared.media.Media.{Ghosts}
 use Rattle.script.specs.tier_device.declared.media.Tier.{Tier}
+use Rattle.script.specs.tier_device.declared.fault.FaultMedia.{FaultMedia}
 use Rattle.script.specs.tier_device.declared.memory.MemMedia.{MemMedia}
+use Rattle.script.specs.tier_device.declared.stop.StopMedia.{StopMedia}
+use Rattle.script.specs.tier_device.Fault.{sound_of}
+use Rattle.script.specs.tier_device.Stop.{medium_of}
 use Rattle.script.specs.tier_device.Memory.{memory_left, memory_moment, memory_seen}
 use Rattle.script.specs.tier_device.AfterStop.{AtRest}
-use Rattle.recovery.specs.system_world.courses.Courses.{PARTS}
+use Rattle.world_files.specs.recovery.system_world.courses.Courses.{PARTS}
+
+-- the medium in memory beneath one that stops and fails
+abbrev pub beneath : FaultMedia StopMedia → MemMedia
+beneath m = medium_of (sound_of m)
 
 -- a medium in memory holds what a stop may leave of another one now
 abbrev pub IsLeftOf : MemMedia → MemMedia → Type 0
@@ -20,10 +28,6 @@ module _ {M : Type 0} (device : Ghosts M) where
   -- a stop now leaves nothing of a medium that it might not leave of another one
   abbrev pub LeavesNoMore : M → M → Type 0
   LeavesNoMore old new = (t : Tier) (c : List ℕ) → device.left new (device.moment new) t c → device.left old (device.moment old) t c
-
-  -- the media rest, part by part, with what a stop may leave of others now
-  abbrev pub AreRestOf : (ℕ → M) → (ℕ → M) → Type 0
-  AreRestOf old new = (p : ℕ) → p < PARTS → IsRestOf (old p) (new p)
 
   -- a stop leaves nothing of the media, part by part, that it might not leave of others
   abbrev pub LeaveNoMore : (ℕ → M) → (ℕ → M) → Type 0

@@ -1,17 +1,31 @@
 -- A script's world that stops and is recovered.
-use Rattle.std.specs.Prelude.{◌≡◌, ◌⊎◌, ◌<◌, ℕ, List, true, false, Option, Some, None, if◌then◌else◌}
+use Rattle.std.specs.Prelude.{◌≡◌, ◌⊎◌, ◌<◌, ℕ, List, replicate, true, false, Option, Some, None, if◌then◌else◌}
+use Rattle.script.specs.declared.fills.TheConstants.{MEDIA}
 use Rattle.script.specs.tier_device.declared.fill.Fill.{Fill}
+use Rattle.script.specs.tier_device.declared.fill.Fill.TheVariants.{New}
 use Rattle.script.specs.tier_device.declared.media.Media.{Ghosts}
-use Rattle.recovery.specs.Parts.{PartsView, part_medium}
-use Rattle.recovery.specs.RecoveryStops.{IsRecoveredWorld, StaysStored}
-use Rattle.recovery.specs.declared.error.RecoveryError.{RecoveryError}
-use Rattle.recovery.specs.system_world.Parts.{medium_of}
-use Rattle.recovery.specs.system_world.courses.Courses.{PARTS}
-use Rattle.recovery.specs.system_world.WorldView.{WorldView}
+use Rattle.world_files.specs.recovery.Errors.{OnBadLog, OnDamage}
+use Rattle.world_files.specs.recovery.FaultOrMemory.{IsFaultOrMemory}
+use Rattle.world_files.specs.recovery.PartMedia.{SomeRose}
+use Rattle.world_files.specs.recovery.Parts.{PartsView, contents_of, part_medium}
+use Rattle.world_files.specs.recovery.RecoveryStops.{IsRecoveredWorld, StaysStored}
+use Rattle.world_files.specs.recovery.Refusals.{StoresBadLog, StoresDamage}
+use Rattle.world_files.specs.recovery.declared.error.RecoveryError.{RecoveryError}
+use Rattle.world_files.specs.recovery.declared.error.RecoveryError.TheVariants.{DeviceFault}
+use Rattle.world_files.specs.recovery.layout.Places.{Sizes}
+use Rattle.world_files.specs.recovery.system_world.Contents.{CanRecover}
+use Rattle.world_files.specs.recovery.system_world.Parts.{medium_of}
+use Rattle.world_files.specs.recovery.system_world.courses.Courses.{PARTS}
+use Rattle.world_files.specs.recovery.system_world.WorldView.{WorldView}
 use Rattle.workload_cli.specs.declared.answer.Answer.{Answer}
 use Rattle.workload_cli.specs.declared.answer.Answer.TheVariants as answers
 use Rattle.workload_cli.specs.declared.script_world.ScriptWorld.{ScriptWorld}
-use Rattle.workload_cli.specs.Rests.{AreRestOf, LeaveNoMore}
+use Rattle.workload_cli.specs.Rests.{LeaveNoMore}
+use Rattle.workload_cli.specs.Fills.{AreRestBy}
+
+-- every medium holds this behind a stop
+abbrev pub all_by : Fill → List Fill
+all_by fill = replicate MEDIA fill
 
 module _ {M : Type 0} where
   -- the media of a world, or those that were taken out of it
@@ -23,6 +37,10 @@ module _ {M : Type 0} where
   abbrev pub media_of : ScriptWorld M → Option (ℕ → M)
   media_of s = media_in s.world s.parts
 
+  -- what the media hold behind the stop that was, or behind one now
+  abbrev pub fills_behind : ScriptWorld M → List Fill
+  fills_behind s = if s.stopped then s.fills else all_by New
+
   -- a stop is armed
   pub record IsArmed (old : ScriptWorld M) (fill : Fill) (new : ScriptWorld M) : Type 0 where
     pub world : new.world ≡ old.world
@@ -30,6 +48,7 @@ module _ {M : Type 0} where
     pub stopped : new.stopped ≡ old.stopped
     pub fills : new.fills ≡ old.fills
     pub armed : new.armed ≡ fill
+    pub stoppable : new.stoppable ≡ old.stoppable
 
   -- It has stopped, with these fills; nothing else has changed.
   pub record HasHalted (old : ScriptWorld M) (given : List Fill) (new : ScriptWorld M) : Type 0 where
@@ -38,6 +57,7 @@ module _ {M : Type 0} where
     pub stopped : new.stopped ≡ true
     pub fills : new.fills ≡ given
     pub armed : new.armed ≡ old.armed
+    pub stoppable : new.stoppable ≡ old.stoppable
 
   -- a world that has stopped stays as it is; one that runs stops with these fills
   abbrev pub StopsWith : ScriptWorld M → List Fill → ScriptWorld M → Type 0
@@ -52,16 +72,17 @@ module _ {M : Type 0} where
   AreMediaIn None parts = ⊥
   AreMediaIn (Some media) parts = (p : ℕ) → p < PARTS → part_medium parts p ≡ media p
 
+  -- It has stopped within a call, as it may, and its media hold what was armed.
+  pub record HasStopped (old new : ScriptWorld M) : Type 0 where
+    pub may : old.stoppable ≡ true
+    pub stopped : new.stopped ≡ true
+    pub fills : new.fills ≡ all_by old.armed
+
   -- a world that was recovered runs, unless its media stopped again meanwhile
-  abbrev pub IsGoingOn : ScriptWorld M → Answer → Type 0
-  IsGoingOn new answer = ((new.stopped ≡ false) × (answer ≡ answers.Recovered)) ⊎ ((new.stopped ≡ true) × (answer ≡ answers.Stopped))
+  abbrev pub IsGoingOn : ScriptWorld M → ScriptWorld M → Answer → Type 0
+  IsGoingOn old new answer = ((new.stopped ≡ false) × (answer ≡ answers.Recovered)) ⊎ (HasStopped old new × (answer ≡ answers.Stopped))
 
   module _ (device : Ghosts M) where
-    -- the media rest with something that a stop may leave of these now
-    abbrev pub AreRestIn : Option (ℕ → M) → PartsView M → Type 0
-    AreRestIn None rested = ⊥
-    AreRestIn (Some media) rested = AreRestOf device media (part_medium rested)
-
     -- There are media still, and a stop leaves no more of them than of these.
     pub record KeepsMedia (media : ℕ → M) (new : ScriptWorld M) : Type 0 where
       pub now : ℕ → M
@@ -86,20 +107,40 @@ module _ {M : Type 0} where
       pub is : new.world ≡ Some world
       pub recovered : IsRecoveredWorld device (part_medium rested) world
 
+    -- why nothing is recovered of media that rest, as a recovery says it
+    pub record IsRefusedFor (rested : PartsView M) (e : RecoveryError) (media : ℕ → M) : Type 0 where
+      pub never : (g : Sizes) → CanRecover g (contents_of device (part_medium rested)) → IsFaultOrMemory e
+      pub damaged : OnDamage e (StoresDamage (contents_of device (part_medium rested)))
+      pub bad_log : OnBadLog e (StoresBadLog (contents_of device (part_medium rested)))
+      pub fault : e ≡ DeviceFault → SomeRose device (part_medium rested) media
+
+    -- It has stopped for this cause.
+    pub record StaysRefused (rested : PartsView M) (e : RecoveryError) (new : ScriptWorld M) : Type 0 where
+      pub stays : StaysStopped rested new
+      pub refused : IsRefusedFor rested e stays.media
+
     -- how it goes on once its media rest
-    pub data GoesOn (rested : PartsView M) (answer : Answer) (new : ScriptWorld M) : Type 0 where
-      Recovered : answer ≡ answers.Recovered → RunsAgain rested new → GoesOn rested answer new
-      Stopped : answer ≡ answers.Stopped → StaysStopped rested new → GoesOn rested answer new
-      Refused : (e : RecoveryError) → answer ≡ answers.Fault e → StaysStopped rested new → GoesOn rested answer new
+    pub data GoesOn (old : ScriptWorld M) (rested : PartsView M) (answer : Answer) (new : ScriptWorld M) : Type 0 where
+      Recovered : answer ≡ answers.Recovered → RunsAgain rested new → GoesOn old rested answer new
+      Stopped : answer ≡ answers.Stopped → HasStopped old new → StaysStopped rested new → GoesOn old rested answer new
+      Refused : (e : RecoveryError) → answer ≡ answers.Fault e → StaysRefused rested e new → GoesOn old rested answer new
 
     -- The media could not be brought to rest: it has stopped, and a stop leaves no more of them than before.
     pub record HasNotRested (media : ℕ → M) (answer : Answer) (new : ScriptWorld M) : Type 0 where
       pub error : RecoveryError
+      pub cause : IsFaultOrMemory error
       pub answer_is : answer ≡ answers.Fault error
       pub stopped : new.stopped ≡ true
       pub media_then : KeepsMedia media new
 
-    -- Its media rest with something that a stop may leave of them now, and what they store is recovered, unless that is refused or stopped.
-    abbrev pub IsRecoverAnswered : Option (ℕ → M) → Answer → ScriptWorld M → Type 0
-    IsRecoverAnswered None answer new = (e : RecoveryError) × (answer ≡ answers.Fault e)
-    IsRecoverAnswered (Some media) answer new = HasNotRested media answer new ⊎ ((rested : PartsView M) × AreRestOf device media (part_medium rested) × GoesOn rested answer new)
+    module _ (holds : Fill → M → M → Type 0) where
+      -- the media rest with something that a stop may leave of these now, and that these fills say
+      abbrev pub AreRestIn : List Fill → Option (ℕ → M) → PartsView M → Type 0
+      AreRestIn fills None rested = ⊥
+      AreRestIn fills (Some media) rested = AreRestBy device holds fills media (part_medium rested)
+
+      -- Media that stopped rest with what the fills behind the stop say, and what they store is recovered, unless that is refused or stopped.
+      abbrev pub IsRecoverAnswered : ScriptWorld M → Option (ℕ → M) → Answer → ScriptWorld M → Type 0
+      IsRecoverAnswered old None answer new = (e : RecoveryError) × (answer ≡ answers.Fault e)
+      IsRecoverAnswered old (Some media) answer new =
+          HasNotRested media answer new ⊎ ((rested : PartsView M) × AreRestBy device holds (fills_behind old) media (part_medium rested) × GoesOn old rested answer new)

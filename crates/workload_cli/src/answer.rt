@@ -3,9 +3,9 @@ ghost use Rattle.std.specs.Prelude.{◌≡◌};
 ghost use Rattle.workload_cli.specs.AnswerText.{failure_answer};
 
 use crate::faults::recovery_fault;
-use recovery::{Figures, RecoveryError, Refusal};
 use script::{Errno, Reply, Tier, write_reply};
 use std::io::{self, Write};
+use world_files::{Figures, RecoveryError, Refusal};
 
 /// What a line that can be read is answered.
 #[derive(Drop)]

@@ -1,9 +1,9 @@
 // A world tells of its shared area.
 ghost use Rattle.std.specs.Prelude.{◌≡◌, ◌⊎◌, Ok, Err, IfErr, IfOk, OnOk, false};
-ghost use Rattle.recovery.specs.call_effects.NodeView.{view_at};
-ghost use Rattle.recovery.specs.kernel_fs.KernelAnswers.{OnRefusal};
-ghost use Rattle.recovery.specs.shared_area.Parts.{IsNoDamage};
-ghost use Rattle.recovery.specs.area_image.Store.{graph, disk};
+ghost use Rattle.world_files.specs.recovery.call_effects.NodeView.{view_at};
+ghost use Rattle.world_files.specs.recovery.kernel_fs.KernelAnswers.{OnRefusal};
+ghost use Rattle.world_files.specs.recovery.shared_area.Parts.{IsNoDamage};
+ghost use Rattle.world_files.specs.recovery.area_image.Store.{graph, disk};
 ghost use Rattle.script.specs.posix_calls.Path.{path_names};
 ghost use Rattle.script.specs.posix_calls.Resolve as resolve;
 ghost use Rattle.script.specs.posix_calls.declared.errno.Errno.{Errno};
@@ -14,9 +14,9 @@ ghost use Rattle.workload_cli.specs.AnswerText.{IsNoFile, IsUnread, failure_answ
 
 use crate::answer::{Answer, failure_answer};
 use crate::system_queries::Running;
-use recovery::{AreaError, Figures, KernelError, NodeSummary, Refusal, World};
 use script::{Errno, Media, Path, PathText, ROOT, Tier};
 use std::alloc::Global;
+use world_files::{AreaError, Figures, KernelError, NodeSummary, Refusal, World};
 
 impl<M: Media + Drop> Running for World<M> {
     ghost use Rattle.workload_cli.specs.OfSystem.{HasLooked, LiesIn, figures_of, tree_in};

@@ -7,7 +7,7 @@ ghost use Rattle.workload_cli.specs.AnswerText.{call_answer};
 
 use crate::answer::{Answer, failure_answer};
 use crate::system_queries::Running;
-use recovery::{CallResult, Events, begin_call, serve_call, step_call};
+use call_driver::{CallResult, Events, begin_call, serve_call, step_call};
 use script::{Call, CallText, Errno, Manner};
 use std::alloc::Global;
 

@@ -1,24 +1,26 @@
 //! How it is told why there is no world.
 
-use host_media::FileProblem;
-use recovery::RecoveryError;
 use script::RunError;
+use world_files::{FileProblem, RecoveryError, WorldFileError};
 
-/// The fault of a run whose world is refused.
+/// The fault of a run whose world can't be opened or kept.
+pub fn world_fault(error: &WorldFileError) -> RunError {
+    match error {
+        WorldFileError::Memory | WorldFileError::File(FileProblem::Memory) => RunError::Memory,
+        WorldFileError::Recovery(error) => recovery_fault(*error),
+        WorldFileError::Sizes(_) | WorldFileError::NoWorld => RunError::Damaged,
+        WorldFileError::File(_) | WorldFileError::DraftName => RunError::Device,
+    }
+}
+
+/// The fault of a run of which nothing is recovered.
 pub fn recovery_fault(error: RecoveryError) -> RunError {
     match error {
         RecoveryError::DeviceFault => RunError::Device,
         RecoveryError::BadLog { .. } => RunError::BadLog,
         RecoveryError::Memory => RunError::Memory,
-        _ => RunError::Damaged,
-    }
-}
-
-/// The fault of a run whose file is refused.
-pub fn file_fault(problem: FileProblem) -> RunError {
-    match problem {
-        FileProblem::Length { .. } => RunError::Damaged,
-        FileProblem::Memory => RunError::Memory,
-        _ => RunError::Device,
+        RecoveryError::Damaged { .. } | RecoveryError::AreaSize | RecoveryError::RegionSize => {
+            RunError::Damaged
+        }
     }
 }

@@ -1,83 +1,104 @@
-//! A world on media of which nothing is known yet.
+//! The media of a script's world, and a world on media of which nothing is known yet.
 
-use crate::faults::recovery_fault;
-use crate::geometry::{geometry_of, tier_lens};
-use crate::options::{DEFAULT_SIZES, Sizes};
+ghost use Rattle.std.specs.Prelude.{◌≡◌, [], ◌∷◌, ◌++◌, map, IfOk, OnOk};
+ghost use Rattle.world_files.specs.Worlds.{IsEmptyWorld};
+ghost use Rattle.workload_cli.specs.FreshWorlds.{IsFreshWorld};
+ghost use Rattle.workload_cli.specs.Rests.{beneath};
+
 use crate::script_media::{ScriptMedium, Trips, count_calls};
 use crate::script_world::ScriptWorld;
-use host_media::RamMedia;
-use recovery::{Geometry, Parts, REGIONS, World, format};
-use script::{MemMedia, REGION_SIZE, RunError};
+use script::{FaultMedia, Media, MemMedia, REGION_SIZE, StopMedia};
 use std::alloc::Global;
+use world_files::{Geometry, Parts, REGIONS, World, WorldFileError, WorldSizes, format, tier_lens};
 
-/// A script's world with the empty tree, over media of these sizes, which may be none that media have.
-pub fn format_world(alloc: Global, sizes: Sizes) -> Result<ScriptWorld<ScriptMedium>, RunError> {
-    let (world, trips) = fresh_world(alloc, sizes)?;
+/// A script's world with the empty tree, of these sizes, of which media may have none.
+pub fn format_world(
+    alloc: Global,
+    sizes: WorldSizes,
+) -> Result<ScriptWorld<ScriptMedium>, WorldFileError>
+    ensures { IfOk result (IsFreshWorld ⟦<FaultMedia<StopMedia> as Media>⟧ sizes) }
+{
+    let geometry = sizes.geometry()?;
+    let (world, trips) = fresh_world(alloc, &geometry)?;
     Ok(ScriptWorld::new(world, trips, true))
 }
 
-/// A world with the empty tree over media of these sizes, and what they count by.
-pub fn fresh_world(alloc: Global, sizes: Sizes) -> Result<(World<ScriptMedium>, Trips), RunError> {
-    let geometry = geometry_of(sizes)?;
+/// A world with the empty tree over media of a geometry, and what they count by.
+pub fn fresh_world(
+    alloc: Global,
+    geometry: &Geometry,
+) -> Result<(World<ScriptMedium>, Trips), WorldFileError>
+    ensures { IfOk result (λ r. IsEmptyWorld ⟦<FaultMedia<StopMedia> as Media>⟧ geometry.now r.0) }
+{
     let trips = Trips::new(alloc)?;
-    let parts = zero_parts(alloc, &geometry, &trips)?;
-    match format(alloc, &geometry, parts) {
+    let parts = count_parts(alloc, zero_parts(alloc, geometry)?, &trips)?;
+    match format(alloc, geometry, parts) {
         Ok(world) => Ok((world, trips)),
-        Err((error, _)) => Err(recovery_fault(error)),
+        Err((error, _)) => Err(WorldFileError::Recovery(error)),
     }
 }
 
-fn zero_parts(
-    alloc: Global,
-    geometry: &Geometry,
-    trips: &Trips,
-) -> Result<Parts<ScriptMedium>, RunError> {
-    let shared = zero_medium(alloc, tier_lens(geometry), trips, 0)?;
+// Media of zeros of a geometry.
+fn zero_parts(alloc: Global, geometry: &Geometry) -> Result<Parts<MemMedia>, WorldFileError> {
+    let shared = zero_medium(alloc, tier_lens(geometry))?;
     let mut regions = Vec::new(alloc);
-    for place in 0..REGIONS {
-        regions.push(zero_medium(alloc, [REGION_SIZE, 0, 0], trips, place / 2 + 1)?)?;
+    for _ in 0..REGIONS {
+        push(&mut regions, zero_medium(alloc, [REGION_SIZE, 0, 0])?)?;
     }
     match Parts::new(shared, regions) {
         Ok(parts) => Ok(parts),
-        Err(_) => Err(RunError::Damaged),
+        Err(_) => Err(WorldFileError::NoWorld),
     }
 }
 
-fn zero_medium(
+fn zero_medium(alloc: Global, lens: [usize; 3]) -> Result<MemMedia, WorldFileError> {
+    let [fast, block, slow] = lens;
+    let fast = vec![in alloc; 0u8; fast]?;
+    let block = vec![in alloc; 0u8; block]?;
+    let slow = vec![in alloc; 0u8; slow]?;
+    match MemMedia::of_bytes(alloc, fast, block, slow) {
+        Ok(medium) => Ok(medium),
+        Err(_) => Err(WorldFileError::Memory),
+    }
+}
+
+/// Media over these that stop and fail, and count by these.
+pub fn count_parts(
     alloc: Global,
-    lens: [usize; 3],
+    parts: Parts<MemMedia>,
     trips: &Trips,
-    name: usize,
-) -> Result<ScriptMedium, RunError> {
-    let [fast, block, slow] = lens;
-    let fast = vec![in alloc; 0u8; fast]?;
-    let block = vec![in alloc; 0u8; block]?;
-    let slow = vec![in alloc; 0u8; slow]?;
-    let inner = MemMedia::of_bytes(alloc, fast, block, slow)?;
-    Ok(count_calls(inner, trips.shares(name)?))
-}
-
-/// A world with the empty tree, of the default sizes, whose media never fail.
-pub fn ram_world(alloc: Global) -> Result<World<RamMedia>, RunError> {
-    let geometry = geometry_of(DEFAULT_SIZES)?;
-    let shared = ram_medium(alloc, tier_lens(&geometry))?;
-    let mut regions = Vec::new(alloc);
-    for _ in 0..REGIONS {
-        regions.push(ram_medium(alloc, [REGION_SIZE, 0, 0])?)?;
-    }
+) -> Result<Parts<ScriptMedium>, WorldFileError>
+    ensures { IfOk result (λ counted. map beneath (counted.shared ∷ counted.regions) ≡ parts.shared ∷ parts.regions) }
+{
+    let (shared, media) = parts.into_media();
+    let shared = count_calls(shared, trips.shares(0)?);
+    let regions = count_regions(alloc, media, trips)?;
     match Parts::new(shared, regions) {
-        Ok(parts) => match format(alloc, &geometry, parts) {
-            Ok(world) => Ok(world),
-            Err((error, _)) => Err(recovery_fault(error)),
-        },
-        Err(_) => Err(RunError::Damaged),
+        Ok(parts) => Ok(parts),
+        Err(_) => Err(WorldFileError::NoWorld),
     }
 }
 
-fn ram_medium(alloc: Global, lens: [usize; 3]) -> Result<RamMedia, RunError> {
-    let [fast, block, slow] = lens;
-    let fast = vec![in alloc; 0u8; fast]?;
-    let block = vec![in alloc; 0u8; block]?;
-    let slow = vec![in alloc; 0u8; slow]?;
-    Ok(RamMedia::of_bytes(fast, block, slow))
+fn count_regions(
+    alloc: Global,
+    media: Vec<MemMedia>,
+    trips: &Trips,
+) -> Result<Vec<ScriptMedium>, WorldFileError>
+    ensures { IfOk result (λ counted. map beneath counted.items ≡ media.items) }
+{
+    let mut counted = Vec::new(alloc);
+    for medium in media {
+        let name = counted.len() / 2 + 1;
+        push(&mut counted, count_calls(medium, trips.shares(name)?))?;
+    }
+    Ok(counted)
+}
+
+fn push<T: Drop>(media: &mut Vec<T>, one: T) -> Result<(), WorldFileError>
+    ensures { OnOk result (media.new.items ≡ media.old.items ++ one ∷ []) }
+{
+    match media.push(one) {
+        Ok(()) => Ok(()),
+        Err(_) => Err(WorldFileError::Memory),
+    }
 }

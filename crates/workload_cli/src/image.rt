@@ -1,100 +1,87 @@
-//! A world as bytes: the tiers of its shared medium, then the two regions of client after client.
+//! A script's world out of an image, and the image of one.
 
-use crate::geometry::{read_geometry, tier_lens};
-use crate::media_rest::recover_parts;
-use crate::script_media::{ScriptMedium, Shares, Trips, count_calls};
+ghost use Rattle.std.specs.Prelude.{◌≡◌, ◌∷◌, map, IfOk};
+ghost use Rattle.world_files.specs.Images.{AreRead};
+ghost use Rattle.workload_cli.specs.FreshWorlds.{IsImageWorld};
+
+use crate::fresh_parts::{count_parts, format_world};
+use crate::script_media::{ScriptMedium, Trips};
 use crate::script_world::ScriptWorld;
-use recovery::{Parts, REGIONS};
-use script::{Media, MemMedia, REGION_SIZE, RunError, Tier};
+use script::{FaultMedia, Media, Patch, StopMedia};
 use std::alloc::Global;
-use std::io::Write;
+use world_files::{ImageFile, Parts, WorldFileError, WorldSizes, image_bytes, read_parts, recover};
+
+/// The world that an image file holds, recovered; with the empty tree, of these sizes, where there is none.
+pub fn image_world(
+    alloc: Global,
+    file: &ImageFile,
+    sizes: WorldSizes,
+) -> Result<ScriptWorld<ScriptMedium>, WorldFileError> {
+    match file.read(alloc)? {
+        Some(image) => recover_image(alloc, image.as_slice()),
+        None => format_world(alloc, sizes),
+    }
+}
 
 /// The world that an image holds, recovered.
-pub fn recover_image(alloc: Global, image: &[u8]) -> Result<ScriptWorld<ScriptMedium>, RunError> {
+pub fn recover_image(
+    alloc: Global,
+    image: &[u8],
+) -> Result<ScriptWorld<ScriptMedium>, WorldFileError>
+    ensures { IfOk result (IsImageWorld ⟦<FaultMedia<StopMedia> as Media>⟧ image.now) }
+{
     let trips = Trips::new(alloc)?;
-    let parts = read_parts(alloc, image, &trips)?;
-    let world = recover_parts(alloc, parts, &trips)?;
-    Ok(ScriptWorld::new(world, trips, true))
-}
-
-// The media whose bytes an image has, and no more.
-fn read_parts(alloc: Global, image: &[u8], trips: &Trips) -> Result<Parts<ScriptMedium>, RunError> {
-    let lens = tier_lens(&read_geometry(image)?);
-    let mut rest = image;
-    let shared = read_medium(alloc, &mut rest, lens, trips.shares(0)?)?;
-    let mut regions = Vec::new(alloc);
-    for place in 0..REGIONS {
-        let shares = trips.shares(place / 2 + 1)?;
-        regions.push(read_medium(alloc, &mut rest, [REGION_SIZE, 0, 0], shares)?)?;
-    }
-    if !rest.is_empty() {
-        return Err(RunError::Damaged);
-    }
-    match Parts::new(shared, regions) {
-        Ok(parts) => Ok(parts),
-        Err(_) => Err(RunError::Damaged),
+    let parts = read_counted(alloc, image, &trips)?;
+    match recover(alloc, parts) {
+        Ok(world) => Ok(ScriptWorld::new(world, trips, true)),
+        Err((error, _)) => Err(WorldFileError::Recovery(error)),
     }
 }
 
-// Takes the medium whose tiers stand at the front of these bytes.
-fn read_medium(
+// The media that an image holds, which stop and fail, and count by these.
+fn read_counted(
     alloc: Global,
-    bytes: &mut &[u8],
-    lens: [usize; 3],
-    shares: Shares,
-) -> Result<ScriptMedium, RunError> {
-    let [fast, block, slow] = lens;
-    let fast = take_front(alloc, bytes, fast)?;
-    let block = take_front(alloc, bytes, block)?;
-    let slow = take_front(alloc, bytes, slow)?;
-    Ok(count_calls(MemMedia::of_bytes(alloc, fast, block, slow)?, shares))
+    image: &[u8],
+    trips: &Trips,
+) -> Result<Parts<ScriptMedium>, WorldFileError>
+    ensures { IfOk result (AreRead ⟦<FaultMedia<StopMedia> as Media>⟧ image.now) }
+{
+    count_parts(alloc, read_parts(alloc, image)?, trips)
 }
 
-// Takes so many bytes from the front.
-fn take_front(alloc: Global, bytes: &mut &[u8], len: usize) -> Result<Vec<u8>, RunError> {
-    let all = *bytes;
-    if all.len() < len {
-        return Err(RunError::Damaged);
-    }
-    let (front, rest) = all.split_at(len);
-    let mut copy = Vec::new(alloc);
-    copy.extend_from_slice(front)?;
-    *bytes = rest;
-    Ok(copy)
-}
-
-/// Writes the image that media hold.
-pub fn write_image<W: Write>(
+/// The image of what the media of a world hold.
+pub fn world_image(
     alloc: Global,
-    out: &mut W,
-    parts: Parts<ScriptMedium>,
-) -> Result<(), RunError> {
-    let (shared, regions) = parts.into_media();
-    write_medium(alloc, out, shared)?;
-    for region in regions {
-        write_medium(alloc, out, region)?;
-    }
-    Ok(())
+    session: ScriptWorld<ScriptMedium>,
+) -> Result<Vec<u8>, WorldFileError> {
+    image_bytes(alloc, session.into_parts(alloc)?)
 }
 
-fn write_medium<W: Write>(
+/// The world that is recovered from the image of the one with the empty tree, of these sizes, with these bytes put in, one after the other.
+///
+/// `NoWorld` also where bytes are put in behind the end of the image.
+pub fn patched_world(
     alloc: Global,
-    out: &mut W,
-    medium: ScriptMedium,
-) -> Result<(), RunError> {
-    let mut medium = medium;
-    for tier in [Tier::Fast, Tier::Block, Tier::Slow] {
-        let bytes = tier_bytes(alloc, &mut medium, tier)?;
-        out.write_all(bytes.as_slice())?;
+    sizes: WorldSizes,
+    patches: &[Patch],
+) -> Result<ScriptWorld<ScriptMedium>, WorldFileError> {
+    let mut image = world_image(alloc, format_world(alloc, sizes)?)?;
+    for patch in patches {
+        put_bytes(image.as_mut_slice(), patch)?;
     }
-    Ok(())
+    recover_image(alloc, image.as_slice())
 }
 
-fn tier_bytes(alloc: Global, medium: &mut ScriptMedium, tier: Tier) -> Result<Vec<u8>, RunError> {
-    let len = medium.size(tier);
-    let mut bytes = vec![in alloc; 0u8; len]?;
-    match medium.read(tier, 0, &mut bytes) {
-        Ok(()) => Ok(bytes),
-        Err(_) => Err(RunError::Device),
+fn put_bytes(image: &mut [u8], patch: &Patch) -> Result<(), WorldFileError> {
+    let bytes = patch.bytes.as_slice();
+    let Some(behind) = image.get_mut(patch.at..) else {
+        return Err(WorldFileError::NoWorld);
+    };
+    match behind.get_mut(..bytes.len()) {
+        Some(place) => {
+            place.copy_from_slice(bytes);
+            Ok(())
+        }
+        None => Err(WorldFileError::NoWorld),
     }
 }

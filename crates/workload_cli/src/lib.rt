@@ -4,19 +4,14 @@
 mod answer;
 mod area_view;
 mod calls;
-mod disk;
-mod draft;
 mod faults;
 mod fences;
 mod fresh_parts;
-mod geometry;
 mod image;
-mod image_file;
 mod media_rest;
 mod need_notes;
 mod needs;
 mod options;
-mod patched_world;
 mod resting;
 mod rows;
 mod run;
@@ -29,8 +24,6 @@ mod tiers;
 
 pub use answer::{Answer, write_answer};
 pub use fresh_parts::fresh_world;
-pub use geometry::tier_lens;
-pub use options::Sizes;
 pub use run::run_sh;
 pub use script_world::ScriptWorld;
 pub use session::Session;
@@ -38,12 +31,12 @@ pub use shell::answer_line;
 pub use system_queries::Running;
 
 // Passed on to the crates above, which so need not list those below.
-pub use host_media::RamMedia;
-pub use recovery::{
-    CallResult, Event, Events, Geometry, Outcome, Parts, REGIONS, World, format, recover,
-    serve_call,
-};
+pub use call_driver::{CallResult, Events, serve_call};
 pub use script::{
     CallText, FaultMedia, Manner, REGION_SIZE, SystemLine, Trip, read_system_line, run_program,
     write_reply,
+};
+pub use world_files::{
+    Event, Geometry, Outcome, Parts, REGIONS, RamMedia, World, WorldSizes, format, recover,
+    tier_lens,
 };

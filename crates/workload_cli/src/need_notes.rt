@@ -1,7 +1,8 @@
 // A running system that notes what its calls need.
-use recovery::{Event, Events, LeaseMode, Mode, Need, Outcome};
+use call_driver::Events;
 use std::alloc::Global;
 use std::io::Write;
+use world_files::{Event, LeaseMode, Mode, Need, Outcome};
 
 /// A running system that notes each need of a call, in a line of its own.
 #[derive(Drop)]

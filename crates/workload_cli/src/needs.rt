@@ -1,23 +1,32 @@
 // What the calls of a script need.
 use crate::answer::write_answer;
-use crate::fresh_parts::ram_world;
+use crate::fresh_parts::fresh_world;
 use crate::need_notes::Noting;
+use crate::options::DEFAULT_SIZES;
+use crate::script_media::ScriptMedium;
 use crate::shell::answer_line;
 use crate::system_queries::Running;
-use recovery::{CallResult, Events, serve_call};
+use call_driver::{CallResult, Events, serve_call};
 use script::{Call, SystemLine, read_system_line, write_reply};
 use std::alloc::Global;
 use std::io::Write;
+use world_files::{World, WorldFileError};
 
 /// Answers a script over a fresh system. Before what a call is answered stands what it needed, need by need. It answers status 3 where there is no system.
 pub fn run_needs(alloc: Global, script: &[u8], out: &mut Vec<u8>) -> u8 {
-    match ram_world(alloc) {
+    match default_world(alloc) {
         Ok(world) => {
             answer_each(alloc, &mut Noting::new(alloc, world), script, out);
             0
         }
         Err(_) => 3,
     }
+}
+
+// The world with the empty tree, of the default sizes.
+fn default_world(alloc: Global) -> Result<World<ScriptMedium>, WorldFileError> {
+    let (world, _) = fresh_world(alloc, &DEFAULT_SIZES.geometry()?)?;
+    Ok(world)
 }
 
 fn answer_each<S: Events + Running>(

@@ -2,6 +2,7 @@
 use clap::{Arg, ArgAction, ArgMatches, Command, Error, value_parser};
 use script::{Patch, WordsError};
 use std::alloc::{AllocError, Global};
+use world_files::WorldSizes;
 
 /// The language of scripts, as `strata_sh --help` teaches it.
 const LANGUAGE: &str = "\
@@ -44,17 +45,8 @@ Example, with what its lines print:
   2 stat /f            file 3 1
   digest 2             digested 0";
 
-/// How many units there are, and how many data blocks on each tier.
-#[derive(Clone, Copy)]
-pub struct Sizes {
-    pub units: u32,
-    pub fast: u32,
-    pub block: u32,
-    pub slow: u32,
-}
-
 /// The sizes of a world of which the words say nothing.
-pub const DEFAULT_SIZES: Sizes = Sizes {
+pub const DEFAULT_SIZES: WorldSizes = WorldSizes {
     units: 1_024,
     fast: 512,
     block: 1_024,
@@ -77,12 +69,14 @@ pub enum Home<'a> {
 /// What the words ask for.
 #[derive(Clone, Copy)]
 pub struct Options<'a> {
-    pub sizes: Sizes,
+    pub sizes: WorldSizes,
     pub home: Home<'a>,
     /// Whether standard input is a table of scripts, each with what it prints.
     pub is_table: bool,
     /// Whether each line of a script is printed before its answer.
     pub echoes: bool,
+    /// Whether a fault that leaves no world is explained.
+    pub explains: bool,
 }
 
 /// What the words ask for. The first word is the program's name.
@@ -93,11 +87,12 @@ pub fn read_options<'a>(alloc: Global, words: &'a [&'a str]) -> Result<Options<'
         home: home_of(&matches)?,
         is_table: matches.get_flag("rows"),
         echoes: matches.get_flag("echo"),
+        explains: matches.get_flag("explain"),
     })
 }
 
-fn sizes_of(matches: &ArgMatches<'_>) -> Sizes {
-    Sizes {
+fn sizes_of(matches: &ArgMatches<'_>) -> WorldSizes {
+    WorldSizes {
         units: number(matches, "units", DEFAULT_SIZES.units),
         fast: number(matches, "fast", DEFAULT_SIZES.fast),
         block: number(matches, "block", DEFAULT_SIZES.block),
@@ -122,7 +117,7 @@ fn command<'a>(alloc: Global) -> Result<Command<'a>, AllocError> {
     Command::new(alloc, "strata_sh")
         .about("Answers a script of file system calls, read from standard input line by line")
         .override_usage(
-            "strata_sh [--units N] [--fast N] [--block N] [--slow N] [--image FILE | --disk FILE] [--echo] [--rows] < SCRIPT",
+            "strata_sh [--units N] [--fast N] [--block N] [--slow N] [--image FILE | --disk FILE] [--echo] [--explain] [--rows] < SCRIPT",
         )
         .after_help(LANGUAGE)
         .arg(size(
@@ -160,6 +155,11 @@ fn command<'a>(alloc: Global) -> Result<Command<'a>, AllocError> {
             "Keeps the world in FILE, each answer once it is printed",
         ))?
         .arg(flag(alloc, "echo", "Prints each line before its answer"))?
+        .arg(flag(
+            alloc,
+            "explain",
+            "Tells before a fault, on another line, why there is no world",
+        ))?
         .arg(flag(
             alloc,
             "rows",

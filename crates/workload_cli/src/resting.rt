@@ -1,15 +1,20 @@
 //! Media that come to rest behind a stop.
 
-ghost use Rattle.std.specs.Prelude.{OnErr, OnOk};
+ghost use Rattle.std.specs.Prelude.{IfErr, OnErr, OnOk};
+ghost use Rattle.world_files.specs.recovery.FaultOrMemory.{IsFaultOrMemory};
+ghost use Rattle.script.specs.tier_device.declared.fill.Fill.{Fill};
 ghost use Rattle.workload_cli.specs.Rests.{IsRestOf, LeavesNoMore};
 
 use crate::script_media::Trips;
-use recovery::RecoveryError;
 use script::{Fill, Media};
 use std::alloc::Global;
+use world_files::RecoveryError;
 
 /// A medium that comes to rest behind a stop, so that what it holds can be recovered.
 pub trait Resting: Media {
+    /// What it holds once it rests, by the fill and what it was.
+    ghost holds: { Fill → Self → Self → Type 0 };
+
     /// Brings it to rest with something that a stop may leave of it now: with what the fill says, where it chooses. From then on it counts by the trips of its name, if it counts.
     ///
     /// Refused where memory is wanting or a device fails; a stop then leaves nothing that it might not have left before, and it may be asked again.
@@ -21,5 +26,7 @@ pub trait Resting: Media {
         name: usize,
     ) -> Result<(), RecoveryError>
         ensures rest { OnOk result (IsRestOf Self.Media self.old self.new) }
+        ensures held { OnOk result (holds fill self.old self.new) }
+        ensures only { IfErr result IsFaultOrMemory }
         ensures refused { OnErr result (LeavesNoMore Self.Media self.old self.new) };
 }

@@ -1,20 +1,24 @@
 // A run of `strata_sh`.
-ghost use Rattle.std.specs.Prelude.{◌≡◌, ℕ, List, Option, Some, IfNone, IfSome};
+ghost use Rattle.std.specs.Prelude.{◌≡◌, true, ℕ, List, Option, Some, IfNone, IfSome};
 ghost use Rattle.script.specs.LineValues.{system_line_seen};
 ghost use Rattle.script.specs.SystemLines.{system_line};
 ghost use Rattle.workload_cli.specs.Script.{EndsAt, IsAnsweredTo, IsNotTaken};
 
 use crate::answer::{Answer, write_answer};
-use crate::disk::open_disk;
+use crate::faults::world_fault;
 use crate::fresh_parts::format_world;
-use crate::image_file::{open_image, save_image};
+use crate::image::{image_world, patched_world, world_image};
 use crate::options::{Home, Options, read_options};
-use crate::patched_world::patched_world;
 use crate::rows::run_table;
+use crate::script_media::{ScriptMedium, Trips};
+use crate::script_world::ScriptWorld;
 use crate::session::Session;
 use script::{RunError, ScriptError, ScriptLines, SystemLine, read_system_line, tell, tell_fault};
 use std::alloc::Global;
 use std::io::{BufRead, Write};
+use world_files::{
+    FileMedia, ImageFile, RecoveryError, WorldFileError, WorldSizes, open_disk, structure_name,
+};
 
 /// Runs `strata_sh`: the lines of a script are answered one after the other, over a kernel and eight clients on fresh media. The first word is the program's name; `--units`, `--fast`, `--block` and `--slow` say
 /// how large the media are.
@@ -23,6 +27,8 @@ use std::io::{BufRead, Write};
 /// line's answer tells it and the run goes on. What was printed is flushed whenever the reader has nothing at hand, so that no answer waits for more of the script.
 ///
 /// With `--echo` each line is printed before its answer.
+///
+/// With `--explain` a fault that leaves no world is told before it, on a line of its own: the structure and its place, or the rule that the sizes break.
 ///
 /// With `--rows` the input is a table of scripts, each with what it is to print: each is run over fresh media, and what differs is printed.
 ///
@@ -50,7 +56,10 @@ pub fn run_script<R: BufRead + Drop, O: Write, E: Write>(
     out: &mut O,
     err: &mut E,
 ) -> u8 {
-    let end = run(rt, options, reader, out);
+    let end = match ScriptLines::new(rt.alloc(), reader) {
+        Ok(lines) => run(rt, options, lines, &mut Streams { out, err }),
+        Err(error) => Err(ScriptError::from(error)),
+    };
     tell_end(flush_output(end, out), err)
 }
 
@@ -89,31 +98,124 @@ fn flush_output<O: Write>(end: Result<(), ScriptError>, out: &mut O) -> Result<(
     }
 }
 
-fn run<R: BufRead + Drop, O: Write>(
+// Where answers are printed, and faults.
+#[derive(Drop)]
+struct Streams<'a, O, E> {
+    out: &'a mut O,
+    err: &'a mut E,
+}
+
+fn run<R: BufRead + Drop, O: Write, E: Write>(
     rt: &HostRuntime,
     options: &Options<'_>,
-    reader: R,
-    out: &mut O,
+    lines: ScriptLines<R>,
+    streams: &mut Streams<'_, O, E>,
 ) -> Result<(), ScriptError> {
     let alloc = rt.alloc();
-    let mut lines = ScriptLines::new(alloc, reader)?;
     match options.home {
-        Home::Nowhere => {
-            let mut session = format_world(alloc, options.sizes)?;
-            answer_all(alloc, &mut session, &mut lines, options.echoes, out)
-        }
+        Home::Nowhere => run_over(
+            alloc,
+            options,
+            lines,
+            streams,
+            format_world(alloc, options.sizes),
+        ),
         Home::Patched(patches) => {
-            let mut session = patched_world(alloc, options.sizes, patches)?;
-            answer_all(alloc, &mut session, &mut lines, options.echoes, out)
+            let opened = patched_world(alloc, options.sizes, patches);
+            run_over(alloc, options, lines, streams, opened)
         }
-        Home::Image(path) => {
-            let mut session = open_image(rt, path, options.sizes)?;
-            answer_all(alloc, &mut session, &mut lines, options.echoes, out)?;
-            Ok(save_image(rt, path, session)?)
-        }
+        Home::Image(path) => run_image(rt, path, options, lines, streams),
         Home::Disk(path) => {
-            let mut session = open_disk(rt, path, options.sizes)?;
-            answer_all(alloc, &mut session, &mut lines, options.echoes, out)
+            run_over(
+                alloc,
+                options,
+                lines,
+                streams,
+                disk_world(rt, path, options.sizes),
+            )
+        }
+    }
+}
+
+// Answers the lines over what was opened.
+fn run_over<S: Session + Drop, R: BufRead + Drop, O: Write, E: Write>(
+    alloc: Global,
+    options: &Options<'_>,
+    lines: ScriptLines<R>,
+    streams: &mut Streams<'_, O, E>,
+    opened: Result<S, WorldFileError>,
+) -> Result<(), ScriptError> {
+    let (mut lines, mut session) = (lines, or_fault(opened, options, streams.err)?);
+    answer_all(alloc, &mut session, &mut lines, options.echoes, streams.out)
+}
+
+fn run_image<R: BufRead + Drop, O: Write, E: Write>(
+    rt: &HostRuntime,
+    path: &str,
+    options: &Options<'_>,
+    lines: ScriptLines<R>,
+    streams: &mut Streams<'_, O, E>,
+) -> Result<(), ScriptError> {
+    let alloc = rt.alloc();
+    let mut lines = lines;
+    let file = or_fault(ImageFile::open(rt, alloc, path), options, streams.err)?;
+    let mut session = or_fault(
+        image_world(alloc, &file, options.sizes),
+        options,
+        streams.err,
+    )?;
+    answer_all(alloc, &mut session, &mut lines, options.echoes, streams.out)?;
+    or_fault(save_world(rt, path, file, session), options, streams.err)
+}
+
+// Keeps what the media of a world hold in its image file.
+fn save_world(
+    rt: &HostRuntime,
+    path: &str,
+    file: ImageFile,
+    session: ScriptWorld<ScriptMedium>,
+) -> Result<(), WorldFileError> {
+    let image = world_image(rt.alloc(), session)?;
+    file.replace(rt, rt.alloc(), path, image.as_slice())
+}
+
+// The session over a world that a file keeps.
+fn disk_world(
+    rt: &HostRuntime,
+    path: &str,
+    sizes: WorldSizes,
+) -> Result<ScriptWorld<FileMedia>, WorldFileError> {
+    let trips = Trips::new(rt.alloc())?;
+    Ok(ScriptWorld::new(open_disk(rt, rt.alloc(), path, sizes)?, trips, false))
+}
+
+// Tells why there is no world: what is damaged with its place, or else the error.
+fn explain<E: Write>(error: &WorldFileError, err: &mut E) {
+    let _ = match error {
+        WorldFileError::Recovery(RecoveryError::Damaged { structure, block }) => {
+            writeln!(
+                err,
+                "damaged {} in block {block}",
+                structure_name(*structure)
+            )
+        }
+        _ => writeln!(err, "{error}"),
+    };
+}
+
+// What was opened or kept, or the fault of the run, explained before it where the words ask for that.
+fn or_fault<T, E: Write>(
+    found: Result<T, WorldFileError>,
+    options: &Options<'_>,
+    err: &mut E,
+) -> Result<T, ScriptError> {
+    match found {
+        Ok(value) => Ok(value),
+        Err(error) => {
+            if options.explains {
+                explain(&error, err);
+            }
+            Err(ScriptError::Run(world_fault(&error)))
         }
     }
 }
@@ -126,7 +228,7 @@ fn answer_all<S: Session, R: BufRead + Drop, O: Write>(
     echoes: bool,
     out: &mut O,
 ) -> Result<(), ScriptError>
-    ensures { (behind : Option (List ℕ)) × IsAnsweredTo S.answers lines.old.left session.old behind session.new × EndsAt (S.takes session.new) result behind }
+    ensures { (behind : Option (List ℕ)) × IsAnsweredTo S.answers S.takes lines.old.left session.old behind session.new × EndsAt (S.takes session.new) result behind }
 {
     for _ in 0..u64::MAX {
         if !lines.read_next(out)? {
@@ -143,7 +245,7 @@ fn answer_all<S: Session, R: BufRead + Drop, O: Write>(
 
 // What a line asks; none where it can't be read, or may not stand in a script here.
 fn taken_line<'a, S: Session>(session: &S, text: &'a [u8]) -> Option<SystemLine<'a>>
-    ensures some { IfSome result (λ line. system_line text.now ≡ Some (system_line_seen line)) }
+    ensures some { IfSome result (λ line. (system_line text.now ≡ Some (system_line_seen line)) × (S.takes session.now (system_line_seen line) ≡ true)) }
     ensures none { IfNone result (IsNotTaken (S.takes session.now) (system_line text.now)) }
 {
     match read_system_line(text) {

@@ -1,16 +1,16 @@
 //! The media of a script's world in memory: all of them stop within one call, and each may fail once for each arming.
 
 ghost use Rattle.std.specs.Prelude.{◌≡◌, IfErr, IfOk};
-ghost use Rattle.script.specs.tier_device.Fault.{sound_of};
-ghost use Rattle.script.specs.tier_device.Memory.{IsAtRest};
+ghost use Rattle.script.specs.tier_device.declared.media.Tier.{Tier};
+ghost use Rattle.script.specs.tier_device.Memory.{IsAtRest, memory_held, memory_seen};
 ghost use Rattle.script.specs.tier_device.Stop.{medium_of};
-ghost use Rattle.workload_cli.specs.Rests.{IsLeftOf};
+ghost use Rattle.workload_cli.specs.Rests.{IsLeftOf, beneath};
 
 use crate::resting::Resting;
-use recovery::RecoveryError;
 use script::{FaultMedia, Fill, MEDIA, MemMedia, StopMedia, Trip};
 use std::alloc::{AllocError, Global};
 use std::mem;
+use world_files::RecoveryError;
 
 /// A medium of a script's world in memory.
 pub type ScriptMedium = FaultMedia<StopMedia>;
@@ -82,7 +82,7 @@ pub struct Shares {
 
 /// A medium over one in memory that counts by these.
 pub fn count_calls(inner: MemMedia, shares: Shares) -> ScriptMedium
-    ensures { medium_of (sound_of result) ≡ inner }
+    ensures { beneath result ≡ inner }
 {
     let mut medium = StopMedia::new(inner);
     medium.stop_with(shares.stop, Fill::New);
@@ -94,6 +94,8 @@ pub fn count_calls(inner: MemMedia, shares: Shares) -> ScriptMedium
 }
 
 impl Resting for FaultMedia<StopMedia> {
+    ghost holds = { λ fill old new. (t : Tier) → memory_seen (beneath new) t ≡ memory_held fill (beneath old) t };
+
     fn rest_medium(
         &mut self,
         alloc: Global,
@@ -119,6 +121,7 @@ impl Resting for FaultMedia<StopMedia> {
 // What a medium holds behind a stop now; where memory is wanting it is given back.
 fn rest_stopped(medium: StopMedia, fill: Fill) -> Result<MemMedia, StopMedia>
     ensures rest { IfOk result IsAtRest }
+    ensures held { IfOk result (λ m. (t : Tier) → memory_seen m t ≡ memory_held fill (medium_of medium) t) }
     ensures allowed { IfOk result (IsLeftOf (medium_of medium)) }
     ensures refused { IfErr result (λ back. medium_of back ≡ medium_of medium) }
 {

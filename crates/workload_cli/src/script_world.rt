@@ -1,10 +1,11 @@
 //! A world that a script stops and recovers.
 
-ghost use Rattle.std.specs.Prelude.{◌≡◌, ◌⊎◌, true, None, Some, IfNone, IfOk, IfSome, OnErr, OnOk};
+ghost use Rattle.std.specs.Prelude.{◌≡◌, ◌⊎◌, true, None, Some, IfErr, IfNone, IfOk, IfSome, OnErr, OnOk};
 ghost use Rattle.script.specs.LineValues.{system_line_seen};
-ghost use Rattle.recovery.specs.Parts.{AreAtRest, part_medium};
+ghost use Rattle.world_files.specs.recovery.Parts.{AreAtRest, part_medium};
 ghost use Rattle.workload_cli.specs.Sessions.{IsFailureArmed, IsRunningAnswered, IsSessionAnswer, takes_line};
-ghost use Rattle.workload_cli.specs.Stops.{AreMediaIn, AreRestIn, GoesOn, HasNoMore, IsArmed, IsGoingOn, IsRecoverAnswered, StopsWith, media_of, running_world};
+ghost use Rattle.world_files.specs.recovery.FaultOrMemory.{IsFaultOrMemory};
+ghost use Rattle.workload_cli.specs.Stops.{AreMediaIn, AreRestIn, GoesOn, HasNoMore, HasStopped, IsArmed, IsGoingOn, IsRecoverAnswered, IsRefusedFor, StopsWith, fills_behind, media_of, running_world};
 ghost use Rattle.workload_cli.specs.declared.answer.Answer.TheVariants as answers;
 
 use crate::answer::Answer;
@@ -14,9 +15,10 @@ use crate::script_media::Trips;
 use crate::session::Session;
 use crate::shell::answer_line;
 use crate::system_queries::Running;
-use recovery::{Events, Parts, RecoveryError, World, recover, take_apart};
+use call_driver::Events;
 use script::{Fill, MEDIA, SystemLine};
 use std::alloc::Global;
+use world_files::{Parts, RecoveryError, World, recover, take_apart};
 
 /// A world that a script stops, or what a stop left of it.
 #[derive(Drop)]
@@ -50,16 +52,14 @@ impl<M: Resting + Drop> ScriptWorld<M> {
         }
     }
 
-    /// The media at rest, with something that a stop may leave of them now; none where memory is wanting or a device fails.
-    pub fn into_parts(self, alloc: Global) -> Option<Parts<M>>
-        ensures { IfSome result (λ parts. AreRestIn M.Media (media_of self) parts) }
+    /// The media at rest, with what the stop that was has left of them, and of a world that runs with what reads give. Refused where memory is wanting or a device fails.
+    pub fn into_parts(self, alloc: Global) -> Result<Parts<M>, RecoveryError>
+        ensures rest { IfOk result (λ parts. AreRestIn M.Media M.holds (fills_behind self) (media_of self) parts) }
+        ensures only { IfErr result IsFaultOrMemory }
     {
         let mut session = self;
         session.halt([Fill::New; MEDIA]);
-        match session.take_rested(alloc) {
-            Ok(parts) => Some(parts),
-            Err(_) => None,
-        }
+        session.take_rested(alloc)
     }
 
     fn arm(&mut self, call: u64, fill: Fill) -> Answer
@@ -103,7 +103,7 @@ impl<M: Resting + Drop> ScriptWorld<M> {
             return Answer::Stopped;
         };
         let answer = answer_line(alloc, world, line);
-        if self.trips.have_stopped() {
+        if self.has_stopped() {
             self.stopped = true;
             self.fills = [self.armed; MEDIA];
             return Answer::Stopped;
@@ -111,8 +111,16 @@ impl<M: Resting + Drop> ScriptWorld<M> {
         answer
     }
 
+    // Whether its media stopped within a call, where a script may say so.
+    fn has_stopped(&self) -> bool
+        ensures { result ≡ true → self.now.stoppable ≡ true }
+    {
+        self.stoppable && self.trips.have_stopped()
+    }
+
     fn recover(&mut self, alloc: Global) -> Answer
-        ensures { IsRecoverAnswered M.Media (media_of self.old) result self.new }
+        ensures answer { IsRecoverAnswered M.Media M.holds self.old (media_of self.old) result self.new }
+        ensures stoppable { self.new.stoppable ≡ self.old.stoppable }
     {
         self.halt([Fill::New; MEDIA]);
         match self.take_rested(alloc) {
@@ -123,10 +131,13 @@ impl<M: Resting + Drop> ScriptWorld<M> {
 
     // Takes the media out, at rest. It is not asked of a session that has none.
     fn take_rested(&mut self, alloc: Global) -> Result<Parts<M>, RecoveryError>
-        ensures rest { IfOk result (λ rested. AreRestIn M.Media (media_of self.old) rested) }
+        ensures rest { IfOk result (λ rested. AreRestIn M.Media M.holds self.old.fills (media_of self.old) rested) }
         ensures taken { OnOk result (self.new.world ≡ None) }
+        ensures only { IfErr result IsFaultOrMemory }
         ensures refused { OnErr result (HasNoMore M.Media (media_of self.old) self.new) }
         ensures stopped { self.new.stopped ≡ self.old.stopped }
+        ensures armed { self.new.armed ≡ self.old.armed }
+        ensures stoppable { self.new.stoppable ≡ self.old.stoppable }
     {
         self.trips.renew_stop(alloc)?;
         let parts = match self.take_parts(alloc) {
@@ -148,6 +159,9 @@ impl<M: Resting + Drop> ScriptWorld<M> {
         ensures taken { IfSome result (λ _. self.new.world ≡ None) }
         ensures kept { IfNone result (media_of self.new ≡ media_of self.old) }
         ensures stopped { self.new.stopped ≡ self.old.stopped }
+        ensures fills { self.new.fills ≡ self.old.fills }
+        ensures armed { self.new.armed ≡ self.old.armed }
+        ensures stoppable { self.new.stoppable ≡ self.old.stoppable }
     {
         let Some(world) = self.world.take() else {
             return self.parts.take();
@@ -166,7 +180,8 @@ impl<M: Resting + Drop> ScriptWorld<M> {
         requires rest { AreAtRest M.Media (part_medium parts) }
         requires taken { self.old.world ≡ None }
         requires stopped { self.old.stopped ≡ true }
-        ensures { GoesOn M.Media parts result self.new }
+        ensures goes_on { GoesOn M.Media self.old parts result self.new }
+        ensures stoppable { self.new.stoppable ≡ self.old.stoppable }
     {
         match recover(alloc, parts) {
             Ok(world) => self.go_on(world),
@@ -178,10 +193,11 @@ impl<M: Resting + Drop> ScriptWorld<M> {
     fn go_on(&mut self, world: World<M>) -> Answer
         requires stopped { self.old.stopped ≡ true }
         ensures world { self.new.world ≡ Some world }
-        ensures answer { IsGoingOn self.new result }
+        ensures answer { IsGoingOn self.old self.new result }
+        ensures stoppable { self.new.stoppable ≡ self.old.stoppable }
     {
         self.world = Some(world);
-        if self.trips.have_stopped() {
+        if self.has_stopped() {
             self.fills = [self.armed; MEDIA];
             return Answer::Stopped;
         }
@@ -191,13 +207,15 @@ impl<M: Resting + Drop> ScriptWorld<M> {
 
     // Keeps the media of which nothing was recovered.
     fn stay_stopped(&mut self, error: RecoveryError, parts: Parts<M>) -> Answer
+        requires stopped { self.old.stopped ≡ true }
         ensures parts { self.new.parts ≡ Some parts }
         ensures world { self.new.world ≡ self.old.world }
         ensures stopped { self.new.stopped ≡ self.old.stopped }
-        ensures answer { (result ≡ answers.Stopped) ⊎ (result ≡ answers.Fault error) }
+        ensures answer { ((result ≡ answers.Stopped) × HasStopped self.old self.new) ⊎ (result ≡ answers.Fault error) }
+        ensures stoppable { self.new.stoppable ≡ self.old.stoppable }
     {
         self.parts = Some(parts);
-        if self.trips.have_stopped() {
+        if self.has_stopped() {
             self.fills = [self.armed; MEDIA];
             return Answer::Stopped;
         }
@@ -207,7 +225,7 @@ impl<M: Resting + Drop> ScriptWorld<M> {
 }
 
 impl<M: Resting + Drop> Session for ScriptWorld<M> {
-    ghost answers = { IsSessionAnswer ⟦<World<M> as Events>⟧ ⟦<World<M> as Running>⟧ M.Media };
+    ghost answers = { IsSessionAnswer ⟦<World<M> as Events>⟧ ⟦<World<M> as Running>⟧ M.Media M.holds };
 
     ghost takes = { λ s. takes_line s.stoppable };
 

@@ -8,7 +8,7 @@ use crate::answer::Answer;
 use crate::calls::{answer_call, answer_step};
 use crate::system_queries::Running;
 use crate::tiers::{answer_migrate, answer_where};
-use recovery::{Events, clear_client, wipe_all};
+use call_driver::{Events, clear_client, wipe_all};
 use script::SystemLine;
 use std::alloc::Global;
 

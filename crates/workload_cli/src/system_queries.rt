@@ -2,16 +2,16 @@
 ghost use Rattle.std.specs.Prelude.{◌≡◌, ℕ, Bool, false, Ok, Option, Some, None, IfErr, IfOk, OnOk};
 ghost use Rattle.script.specs.tier_device.declared.media.Tier.{Tier};
 ghost use Rattle.script.specs.posix_calls.Tree.{Tree};
-ghost use Rattle.recovery.specs.event_steps.declared.outcome.Refusal.TheVariants as refusals;
-ghost use Rattle.recovery.specs.kernel_fs.declared.kernel.Figures.{Figures};
+ghost use Rattle.world_files.specs.recovery.event_steps.declared.outcome.Refusal.TheVariants as refusals;
+ghost use Rattle.world_files.specs.recovery.kernel_fs.declared.kernel.Figures.{Figures};
 ghost use Rattle.script.specs.LineValues.{path_of};
 ghost use Rattle.workload_cli.specs.Paths.{file_in};
 ghost use Rattle.workload_cli.specs.AnswerText.{IsNoFile};
 
 use crate::answer::Answer;
-use recovery::Figures;
 use script::{PathText, Tier};
 use std::alloc::Global;
+use world_files::Figures;
 
 /// A running system that tells of its shared area. Where it can't tell, it answers why.
 pub trait Running {

@@ -1,16 +1,17 @@
 // Where the blocks of files lie.
 ghost use Rattle.std.specs.Prelude.{◌≡◌, ◌-◌, ◌^◌, min};
-ghost use Rattle.recovery.specs.event_steps.declared.event.Event.TheVariants as kinds;
-ghost use Rattle.recovery.specs.event_steps.declared.outcome.Outcome.{Outcome};
+ghost use Rattle.world_files.specs.recovery.event_steps.declared.event.Event.TheVariants as kinds;
+ghost use Rattle.world_files.specs.recovery.event_steps.declared.outcome.Outcome.{Outcome};
 ghost use Rattle.script.specs.LineValues.{path_of};
 ghost use Rattle.workload_cli.specs.LineResults.{IsMoveAnswered, IsPlaceAnswered};
 ghost use Rattle.workload_cli.specs.AnswerText.{tier_below, move_answer};
 
 use crate::answer::Answer;
 use crate::system_queries::Running;
-use recovery::{Event, Events, Outcome};
+use call_driver::Events;
 use script::{LowerTier, PathText, Tier};
 use std::alloc::Global;
+use world_files::{Event, Outcome};
 
 /// A run of a file's blocks, `run.1` of them from logical block `run.0` on, goes down to a tier.
 pub fn answer_migrate<S: Events + Running>(

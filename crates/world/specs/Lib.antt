@@ -1,3 +1,3 @@
+pub mod Leases
 -- Passed on to the crates above, which so need not list those below.
-pub use Rattle.call_driver.specs as call_driver
 pub use Rattle.system_world.specs as system_world

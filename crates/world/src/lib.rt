@@ -6,7 +6,6 @@
 //! of a list.
 #![tactic(auto)]
 
-mod call_events;
 mod leases;
 mod list;
 mod look_laws;
@@ -17,14 +16,13 @@ mod stops;
 mod world;
 
 pub use list::play;
+pub use queries::lease_in;
 pub use world::World;
 
 // Passed on to the crates above, which so need not list those below.
-pub use call_driver::{
-    CallResult, Events, begin_call, clear_client, digest_all, serve_call, step_call, wipe_all,
-};
 pub use system_world::{
-    AreaError, Client, ClientLog, ClientSlot, Event, Fetched, Figures, Kernel, KernelError,
-    LeaseManagerLeases, LeaseMode, Mode, Need, NodeSummary, Opened, Outcome, Pass, Refusal, System,
-    Tier, TierDeviceMedia, idle_system_stands_for_a_world,
+    AreaError, CLIENTS, Call, Client, ClientLog, ClientSlot, Denied, Event, Fetched, Figures,
+    INODES, Kernel, KernelError, LeaseManagerLeases, LeaseMode, Mode, Need, NodeSummary, Opened,
+    Outcome, Pass, Refusal, Reply, Steps, System, Tier, TierDeviceMedia,
+    idle_system_stands_for_a_world,
 };

@@ -1,7 +1,9 @@
 //! What is asked of a world, and changes nothing of its tree.
 
-ghost use Rattle.std.specs.Prelude.{◌≡◌, ◌-◌, ℕ, IfErr, IfOk, Some, slice_get, true};
-ghost use Rattle.call_driver.specs.OfSystem.{lease_in};
+ghost use Rattle.std.specs.Prelude.{◌≡◌, ◌-◌, ◌&&◌, if◌then◌else◌, nat_le, ℕ, IfErr, IfOk, Some, slice_get, true};
+ghost use Rattle.world.specs.Leases.{lease_in};
+ghost use Rattle.system_world.specs.event_steps.lease_manager.Passes.{lease_of};
+ghost use Rattle.system_world.specs.event_steps.lease_manager.declared.view.LeaseMode.TheVariants.{Free};
 ghost use Rattle.system_world.specs.event_steps.posix_calls.Operations.{is_client};
 ghost use Rattle.system_world.specs.event_steps.libfs.call_effects.NodeView.{view_at};
 ghost use Rattle.system_world.specs.event_steps.libfs.kernel_fs.KernelAnswers.{Answers, OnRefusal};
@@ -16,8 +18,10 @@ ghost use Rattle.system_world.specs.WorldTree.{world_tree};
 use crate::look_laws::looked_system_stands_for_a_world;
 use crate::stops::left_now;
 use crate::world::World;
-use call_driver::{Events, LeaseMode};
-use system_world::{AreaError, Fetched, KernelError, Tier, TierDeviceMedia as Media};
+use system_world::{
+    AreaError, Client, Fetched, INODES, KernelError, LeaseMode, System, Tier,
+    TierDeviceMedia as Media,
+};
 
 impl<M: Media> World<M> {
     /// What stands at an inode of the shared graph, as client 1 would fetch it. `Failed` exactly where a device of the kernel has failed; else refused as `Kernel::fetch` is, and never for damage.
@@ -63,19 +67,47 @@ impl<M: Media> World<M> {
 }
 
 impl<M: Media + Drop> World<M> {
+    // How a client stands to an inode.
+    fn lease(&self, client: u32, inode: u32) -> LeaseMode
+        ensures { result ≡ lease_in self.now.system client inode }
+    {
+        lease_in(&self.system, client, inode)
+    }
+
     /// How each client stands to an inode, client 1 first; all `Free` where there is no such inode.
     pub fn holders(&self, inode: u32) -> [LeaseMode; 8]
-        ensures { (c : ℕ) → is_client c ≡ true → slice_get result (c - 1) ≡ Some (lease_in self.now.system c inode) }
+        ensures holders { (c : ℕ) → is_client c ≡ true → slice_get result (c - 1) ≡ Some (lease_in self.now.system c inode) }
     {
         [
-            self.holds(1, inode),
-            self.holds(2, inode),
-            self.holds(3, inode),
-            self.holds(4, inode),
-            self.holds(5, inode),
-            self.holds(6, inode),
-            self.holds(7, inode),
-            self.holds(8, inode),
+            self.lease(1, inode),
+            self.lease(2, inode),
+            self.lease(3, inode),
+            self.lease(4, inode),
+            self.lease(5, inode),
+            self.lease(6, inode),
+            self.lease(7, inode),
+            self.lease(8, inode),
         ]
+    }
+}
+
+/// How a client of a system stands to an inode; `Free` where there is no such client or no such inode.
+pub fn lease_in<M: Media>(system: &System<M>, client: u32, inode: u32) -> LeaseMode
+    ensures { result ≡ lease_in system.now client inode }
+{
+    match system.client(client) {
+        Some(client) => lease_on(client, inode),
+        None => LeaseMode::Free,
+    }
+}
+
+// How a client stands to an inode; `Free` where there is no such inode.
+fn lease_on<M: Media>(client: &Client<M>, inode: u32) -> LeaseMode
+    ensures { result ≡ (if nat_le 1 inode && nat_le inode 1024 then lease_of client.now.pass inode else Free) }
+{
+    if 1 <= inode && inode <= INODES {
+        client.holds(inode)
+    } else {
+        LeaseMode::Free
     }
 }

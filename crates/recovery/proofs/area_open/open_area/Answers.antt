@@ -4,10 +4,10 @@ use Rattle.recovery.proofs.Staying.{opened_stays, opened_volume}
 use Rattle.recovery.proofs.area_open.open_area.Goals as goal
 
 pub returns-in-Ok-clause-any_moment : goal.returns-in-Ok-clause-any_moment
-returns-in-Ok-clause-any_moment g c = let m = g.M.Media in opened_stays m c.args.medium c.in-Ok.area.media c.requires c.in-Ok.ensures.any_moment
+returns-in-Ok-clause-any_moment g c = let m = g.M.Media in opened_stays m c.args.medium c.in-Ok.area.media c.requires.rest c.in-Ok.ensures.any_moment
 
 pub returns-in-Err-clause-any_moment_refused : goal.returns-in-Err-clause-any_moment_refused
-returns-in-Err-clause-any_moment_refused g c = let m = g.M.Media in opened_stays m c.args.medium c.in-Err.medium c.requires c.in-Err.ensures.any_moment_refused
+returns-in-Err-clause-any_moment_refused g c = let m = g.M.Media in opened_stays m c.args.medium c.in-Err.medium c.requires.rest c.in-Err.ensures.any_moment_refused
 
 pub returns-in-Err-clause-never : goal.returns-in-Err-clause-never
 returns-in-Err-clause-never g c = λ sizes regions state r. no_damage c.in-Err.error c.area_fault.result (SpellsNone (g.M.Media.seen c.args.medium)) c.area_fault.ensures c.in-Err.ensures.damaged (λ none. none sizes r.can.volume r.can.opens)
@@ -40,4 +40,4 @@ pub returns-in-Err-clause-untouched : goal.returns-in-Err-clause-untouched
 returns-in-Err-clause-untouched g c = λ other. c.in-Err.ensures.untouched (of_other c.in-Err.error c.area_fault.result c.area_fault.ensures other)
 
 pub returns-in-Ok-clause-volume_then : goal.returns-in-Ok-clause-volume_then
-returns-in-Ok-clause-volume_then g c = opened_volume g.M.Media c.args.medium c.in-Ok.area.media c.requires c.in-Ok.ensures.any_moment g.met.M.Media.seen_now c.in-Ok.area.geometry c.in-Ok.ensures.volume
+returns-in-Ok-clause-volume_then g c = opened_volume g.M.Media c.args.medium c.in-Ok.area.media c.requires.rest c.in-Ok.ensures.any_moment g.met.M.Media.seen_now c.in-Ok.area.geometry c.in-Ok.ensures.volume

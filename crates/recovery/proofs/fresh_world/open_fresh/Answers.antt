@@ -46,7 +46,7 @@ returns-in-Err-clause-fault g c is =
     subst (λ (v : PartsView _). SomeRose m (part_medium old) (part_medium v)) (sym (c.of.ensures)) (shared_rose m old _ (c.in-Err.ensures.fault is))
 
 pub reopen_regions-requires : goal.reopen_regions-requires
-reopen_regions-requires g c = all_rest g.M.Media c.args.media.items c.requires.regions
+reopen_regions-requires g c = record { rest = all_rest g.M.Media c.args.media.items c.requires.regions }
 
 pub assemble-requires-clause-area : goal.assemble-requires-clause-area
 assemble-requires-clause-area g c =

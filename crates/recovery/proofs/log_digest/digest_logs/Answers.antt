@@ -15,7 +15,7 @@ use Rattle.recovery.specs.FoundLogs.{HoldsFew, IsFound, log_by}
 use Rattle.recovery.specs.Recovers.{AreThese, Regions}
 use Rattle.recovery.specs.Regions.{IsOnlyRead, regions_read}
 use Rattle.recovery.proofs.Changing.{still_stays}
-use Rattle.recovery.proofs.DigestedClients.{AreDigestedTo, all_graph, all_none, found_at, next_undigestible, none_digested, one_more_digested}
+use Rattle.recovery.proofs.DigestedClients.{AreDigestedTo, all_good, all_graph, all_none, found_at, next_undigestible, none_digested, one_more_digested}
 use Rattle.recovery.proofs.ReadLogs.{all_only_read}
 use Rattle.recovery.proofs.ReadRegions.{all_read_on, either_on, idle_still, regions_still}
 use Rattle.recovery.proofs.Staying.{recovered_now, stays_on}
@@ -118,6 +118,18 @@ returns-clause-digested g c =
     let these = regions_read m c.args.regions.now in
     let eight : c.loop-before.before ≡ 8 = omega (arith, c.loop-before-test.false, c.loop-before.auto.before-end) in
     all_graph m these c.args.area.now c.loop-before.area (subst (λ (k : ℕ). AreDigestedTo m these k c.args.area.now c.loop-before.area) eight c.loop-before.invariant.digested)
+
+pub returns-clause-good : goal.returns-clause-good
+returns-clause-good g c =
+    let m = g.M.Media in
+    let these = regions_read m c.args.regions.now in
+    let eight : c.loop-before.before ≡ 8 = omega (arith, c.loop-before-test.false, c.loop-before.auto.before-end) in
+    all_good m these c.args.area.now c.loop-before.area (subst (λ (k : ℕ). AreDigestedTo m these k c.args.area.now c.loop-before.area) eight c.loop-before.invariant.digested)
+
+pub returns-in_err-digest_log-clause-good : goal.returns-in_err-digest_log-clause-good
+returns-in_err-digest_log-clause-good g c =
+    let p = err_from_is_err_and c.from_residual.result c.from_residual.ensures.1 in
+    rw p.1 tt
 
 pub returns-clause-none : goal.returns-clause-none
 returns-clause-none g c =

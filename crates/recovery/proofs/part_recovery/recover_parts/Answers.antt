@@ -17,7 +17,7 @@ use Rattle.recovery.proofs.RefusalCauses.{cause_same, denied_cause, on_each, ope
 use Rattle.recovery.proofs.part_recovery.recover_parts.Goals as goal
 
 pub open_area-requires : goal.open_area-requires
-open_area-requires g c = λ t content left.
+open_area-requires g c =
     let m = g.M.Media in
     let seen_now = g.met.M.Media.seen_now in
     let sized = g.met.M.Media.sized in
@@ -27,7 +27,7 @@ open_area-requires g c = λ t content left.
     let parts : given ≡ c.args.parts = λ i. record { shared = c.into_media-shared.ensures.shared i; regions = c.into_media-shared.ensures.regions i } in
     let rest : AreAtRest m (part_medium given) = subst (λ (p : PartsView _). AreAtRest m (part_medium p)) (sym parts) c.requires.rest in
     let all = c.into_media-shared.ensures.sixteen in
-    rest 0 t (omega arith) content left
+    record { rest = λ t content left. rest 0 t (omega arith) content left }
 
 pub returns-in-Err-clause-back : goal.returns-in-Err-clause-back
 returns-in-Err-clause-back g c =
@@ -58,7 +58,7 @@ reopen_regions-requires g c =
     let parts : given ≡ c.args.parts = λ i. record { shared = c.into_media-shared.ensures.shared i; regions = c.into_media-shared.ensures.regions i } in
     let rest : AreAtRest m (part_medium given) = subst (λ (p : PartsView _). AreAtRest m (part_medium p)) (sym parts) c.requires.rest in
     let all = c.into_media-shared.ensures.sixteen in
-    rests_each m media shared (λ k low. rest (suc k) Fast (omega (arith, low, all)))
+    record { rest = rests_each m media shared (λ k low. rest (suc k) Fast (omega (arith, low, all))) }
 
 pub recover_opened-requires-clause-regions : goal.recover_opened-requires-clause-regions
 recover_opened-requires-clause-regions g c = open_regions g.M.Media c.into_media-shared.result.1.items c.in-Ok-reopen_regions.regions.items c.into_media-shared.ensures.sixteen c.in-Ok-reopen_regions.ensures.reopened
@@ -173,7 +173,7 @@ returns-in-Ok-reopen_regions-clause-cause g c =
     let mid = contents_of m (part_medium (media_beneath area regions)) in
     let alike = regions_alike m seen_now sized shared area.media media (media_of regions) all stays same rest in
     of_err c.recover_opened.result _ (λ e is. subst (λ (p : PartsView _). IsCause (contents_of m (part_medium p)) e.0) parts
-    (stored_cause old area.geometry c.in-Ok.ensures.volume c.in-Ok.ensures.opens e.0
+    (stored_cause old (opened_sizes m shared media regions all c.in-Ok-reopen_regions.ensures.reopened) area.geometry c.in-Ok.ensures.volume c.in-Ok.ensures.opens e.0
     (cause_same (log_in old) (log_in mid) (λ d is_d. sym (logs_same area.geometry old mid c.in-Ok.ensures.blocks alike d is_d)) area.geometry (store_of (old 0)) e.0
     (subst (λ (s : Store). IsStoredCause area.geometry s (log_in mid) e.0) c.in-Ok.ensures.blocks is))))
     c.recover_opened.ensures.cause

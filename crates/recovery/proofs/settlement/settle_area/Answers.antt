@@ -9,6 +9,7 @@ use Rattle.world.specs.system_world.event_steps.kernel_fs.layout.Places.{Sizes}
 use Rattle.world.specs.system_world.event_steps.libfs.file_graph.Graph.{Graph}
 use Rattle.world.specs.system_world.event_steps.libfs.world_invariant.Logs.{LogsAreApart, after_clients}
 use Rattle.world.specs.system_world.event_steps.posix_calls.Tree.{State}
+use Rattle.recovery.specs.DigestedLogs.{CanDigestAll}
 use Rattle.recovery.specs.Errors.{OnBadLog}
 use Rattle.recovery.specs.FoundLogs.{AreFound, HoldFew, log_by}
 use Rattle.recovery.specs.Recovers.{AreThese, CountNone, Recovers, Regions, marks_by}
@@ -92,7 +93,7 @@ returns-in_err-nameless-clause-refused g c =
       cause = λ v is.
           let apart = subst (λ w. LogsAreApart (log_by w (regions_read m before))) (some_is (sym (c.marks.ensures c.requires.going) ∙ is)) c.in_ok-logs.ensures.apart in
           let still : regions_read m c.find_logs.new.regions ≡ regions_read m before = regions_still m before c.find_logs.new.regions c.find_logs.ensures.same in
-          tested_cause area.geometry (disk m area) (log_by v (regions_read m before)) apart (graph mid.geometry (disk m mid)) (d.digested v is ∙ ap (λ (rs : Regions). after_clients (log_by v rs) (graph area.geometry (disk m area)) 8) still) _ e.only e.damaged;
+          tested_cause area.geometry (disk m area) (log_by v (regions_read m before)) apart (subst (λ (rs : Regions). CanDigestAll area.geometry.units (graph area.geometry (disk m area)) (log_by v rs)) still (d.good v is)) (graph mid.geometry (disk m mid)) (d.digested v is ∙ ap (λ (rs : Regions). after_clients (log_by v rs) (graph area.geometry (disk m area)) 8) still) _ e.only e.damaged;
     })
 
 pub returns-in_err-drop_files-clause-refused : goal.returns-in_err-drop_files-clause-refused
@@ -204,6 +205,7 @@ returns-clause-settles g c =
       going = e.answers.quiet.1;
       sound = subst (λ (h : Graph). IsSound h nobody) (sym e.graph) (f.sound sound_tested);
       apart = λ v is. subst (λ w. LogsAreApart (log_by w (regions_read m before))) (some_is (sym (c.marks.ensures c.requires.going) ∙ is)) c.in_ok-logs.ensures.apart;
+      good = λ v is. subst (λ (rs : Regions). CanDigestAll area.geometry.units (graph area.geometry (disk m area)) (log_by v rs)) same_read (d.good v is);
       stored_sound = λ v is. subst (λ (h : Graph). IsSound h nobody) (stored v is) t.sound;
       state = λ v is. ap (λ (h : Graph). state_of h nobody) e.graph ∙ f.state sound_tested ∙ ap (λ (h : Graph). state_of h nobody) first
           ∙ settled_same (graph digested.geometry (disk m digested)) t.sound ∙ ap (λ (h : Graph). state_of (settled_graph h) nobody) (stored v is);

@@ -1,10 +1,11 @@
-use Rattle.std.proofs.Common.{◌≡◌, ◌<◌, ◌∙◌, ℕ, List, Some, length, refl, subst, sym, arith}
-use Rattle.std.specs.Prelude.{slice_get}
+use Rattle.std.proofs.Common.{◌≡◌, ◌+◌, ◌/◌, ◌<◌, ◌∙◌, Some, length, refl, subst, arith}
+use Rattle.std.specs.Prelude.{get_or, slice_get}
 use Rattle.std.proofs.lemmas.List.{length-set}
 use Rattle.std.proofs.lemmas.Option.{slice_get_within}
-use Rattle.recovery.proofs.ChangedRows.{below_more, each_more, rest_more, there}
-use Rattle.recovery.proofs.SettlementPhases.{passed_on}
-use Rattle.workload_cli.specs.Rests.{IsRestOf, LeavesNoMore}
+use Rattle.world_files.proofs.recovery_lemmas.ChangedRows.{below_more, each_more, rest_more, there}
+use Rattle.world_files.proofs.recovery_lemmas.SettlementPhases.{passed_on}
+use Rattle.workload_cli.specs.Rests.{LeavesNoMore}
+use Rattle.workload_cli.specs.Fills.{IsRestBy, fill_for}
 use Rattle.workload_cli.proofs.RestingMedia.{no_more_of_rest, same_item}
 use Rattle.workload_cli.proofs.media_rest.rest_regions.Goals as goal
 
@@ -31,8 +32,8 @@ loop-place-preserved g c =
     record {
       long = length-set c.loop-place.regions c.loop-place.place c.rest_medium.new.self ∙ i.long;
       each = each_more c.args.regions.now c.loop-place.regions c.loop-place.place c.index-regions-place.result c.rest_medium.new.self within i.rest (λ k. LeavesNoMore m) i.each (no_more_of_rest m _ _ c.in_ok-rest_medium.ensures.rest);
-      done = below_more c.args.regions.now c.loop-place.regions c.loop-place.place c.index-regions-place.result c.rest_medium.new.self within i.rest (λ k w. (v : _) → slice_get c.args.regions.now k ≡ Some v → IsRestOf m v w) i.done
-          (λ v is_v. subst (λ x. IsRestOf m x c.rest_medium.new.self) (same_item c.args.regions.now c.loop-place.place _ v (there c.args.regions.now c.loop-place.regions c.loop-place.place c.index-regions-place.result c.rest_medium.new.self within i.rest) is_v) c.in_ok-rest_medium.ensures.rest);
+      done = below_more c.args.regions.now c.loop-place.regions c.loop-place.place c.index-regions-place.result c.rest_medium.new.self within i.rest (λ k w. (v : _) → slice_get c.args.regions.now k ≡ Some v → IsRestBy m g.M.Resting.holds (fill_for c.args.fills.now (k / 2 + 1)) v w) i.done
+          (λ v is_v. subst (λ x. IsRestBy m g.M.Resting.holds (fill_for c.args.fills.now (c.loop-place.place / 2 + 1)) x c.rest_medium.new.self) (same_item c.args.regions.now c.loop-place.place _ v (there c.args.regions.now c.loop-place.regions c.loop-place.place c.index-regions-place.result c.rest_medium.new.self within i.rest) is_v) (record { rest = c.in_ok-rest_medium.ensures.rest; held = subst (λ f. g.M.Resting.holds f (get_or c.loop-place.regions c.loop-place.place c.index-regions-place.result) c.rest_medium.new.self) c.fill_for.ensures c.in_ok-rest_medium.ensures.held }));
       rest = rest_more c.args.regions.now c.loop-place.regions c.loop-place.place c.index-regions-place.result c.rest_medium.new.self within i.rest;
     }
 

@@ -26,8 +26,8 @@ returns-in_err-print_answer-in-Some g c =
     let behind = c.read_next.new.self.left in
     let r = c.from_residual-in_err-print_answer-in-Some in (
       behind,
-      (one_more answers c.args.lines.now.left c.args.session.now c.loop.lines.left c.loop.session behind c.answer.new.self c.read_next.new.self.line (system_line_seen c.in-Some.line) c.answer.result c.loop.invariant
-          (c.read_next.ensures.line (c.in_ok-read_next.was ∙ ap Ok c.if-not-branch.false)) (ap system_line (sym c.line-text.ensures) ∙ c.in-Some.ensures.some) c.answer.ensures),
+      (one_more answers g.S.Session.takes c.args.lines.now.left c.args.session.now c.loop.lines.left c.loop.session behind c.answer.new.self c.read_next.new.self.line (system_line_seen c.in-Some.line) c.answer.result c.loop.invariant
+          (c.read_next.ensures.line (c.in_ok-read_next.was ∙ ap Ok c.if-not-branch.false)) (ap system_line (sym c.line-text.ensures) ∙ c.in-Some.ensures.some.0) c.in-Some.ensures.some.1 c.answer.ensures),
       ends_err (g.S.Session.takes c.answer.new.self) r.result (stops.Run c.in_err-print_answer-in-Some.field-0.0) behind r.ensures.1 tt,
     )
 
@@ -43,8 +43,8 @@ pub loop-preserved : goal.loop-preserved
 loop-preserved g c =
     let answers = g.S.Session.answers in
     let behind = c.read_next.new.self.left in
-    one_more answers c.args.lines.now.left c.args.session.now c.loop.lines.left c.loop.session behind c.answer.new.self c.read_next.new.self.line (system_line_seen c.in-Some.line) c.answer.result c.loop.invariant
-    (c.read_next.ensures.line (c.in_ok-read_next.was ∙ ap Ok c.if-not-branch.false)) (ap system_line (sym c.line-text.ensures) ∙ c.in-Some.ensures.some) c.answer.ensures
+    one_more answers g.S.Session.takes c.args.lines.now.left c.args.session.now c.loop.lines.left c.loop.session behind c.answer.new.self c.read_next.new.self.line (system_line_seen c.in-Some.line) c.answer.result c.loop.invariant
+    (c.read_next.ensures.line (c.in_ok-read_next.was ∙ ap Ok c.if-not-branch.false)) (ap system_line (sym c.line-text.ensures) ∙ c.in-Some.ensures.some.0) c.in-Some.ensures.some.1 c.answer.ensures
 
 pub returns : goal.returns
 returns g c = (c.loop.lines.left, c.loop.invariant, tt)

@@ -1,0 +1,39 @@
+//! The events of calls that are served, played on a world.
+
+use crate::events::Events;
+use world::{Event, LeaseMode, Outcome, Steps, TierDeviceMedia as Media, World, lease_in};
+
+impl<M: Media + Drop> Events for World<M> {
+    ghost use Rattle.call_driver.specs.OfSystem.{failed_in, plays_in, undigested_in, waits_in};
+    ghost use Rattle.world.specs.Leases.{lease_in};
+
+    ghost plays = { λ v e o w. plays_in M.Media v.system e o w.system };
+
+    ghost leases = { λ v. lease_in v.system };
+
+    ghost pending = { λ v. waits_in v.system };
+
+    ghost failed = { λ v. failed_in v.system };
+
+    ghost undigested_count = { λ v. undigested_in M.Media v.system };
+
+    fn play(&mut self, event: &Event) -> Outcome {
+        self.play_event(event)
+    }
+
+    fn holds(&self, client: u32, inode: u32) -> LeaseMode {
+        lease_in(self.system(), client, inode)
+    }
+
+    fn is_pending(&self, client: u32) -> bool {
+        Events::is_pending(self.system(), client)
+    }
+
+    fn has_failed(&self, client: u32) -> bool {
+        Events::has_failed(self.system(), client)
+    }
+
+    fn undigested(&self, client: u32) -> usize {
+        Events::undigested(self.system(), client)
+    }
+}

@@ -1,0 +1,33 @@
+use crate::attributes::Attributes;
+use crate::tree::Usage;
+use file_graph::Bytes;
+use fuse_wire::{InitReply, Refusal};
+
+/// What a request is answered.
+#[derive(Drop)]
+pub enum Answer {
+    /// It was done, and there is nothing to tell.
+    Done,
+    /// It is refused.
+    Refused(Refusal),
+    /// The version and the limits of the mount.
+    Agreed(InitReply),
+    /// What has a name.
+    Entry(Attributes),
+    /// Nothing has the name.
+    Absence,
+    /// What is told of a node.
+    Attributes(Attributes),
+    /// A file or a directory is open, under this handle.
+    Opened(u64),
+    /// A file that was made or was there has the name, and is open.
+    Created(Attributes),
+    /// These bytes were read.
+    Data(Bytes),
+    /// So many bytes were written.
+    Count(u32),
+    /// How much there is.
+    Usage(Usage),
+    /// The entries of an open directory from a place on.
+    Entries { handle: u64, at: u64, size: u32 },
+}

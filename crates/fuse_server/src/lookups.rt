@@ -1,0 +1,206 @@
+// Names are looked up, and made.
+use crate::attributes::{Attributes, note_in, stat};
+use crate::node::Node;
+use crate::open_files::close_number;
+use crate::paths::path_below;
+use crate::server::Server;
+use crate::tree::Tree;
+use file_graph::{Bytes, Call, Description, Errno, Flags, MAX_NAME, Name, Path, Reply};
+use fuse_wire::Refusal;
+use std::alloc::Global;
+
+/// How a file is made: whether a name that is taken refuses it, and whether a file that is there loses its bytes.
+#[derive(Clone, Copy)]
+pub struct Creation {
+    pub exclusive: bool,
+    pub truncate: bool,
+}
+
+impl Server {
+    /// Looks a name of a directory up. The kernel is told of the node once more.
+    pub(crate) fn look_up<T: Tree>(
+        &mut self,
+        tree: &mut T,
+        folder: u64,
+        name: &[u8],
+    ) -> Result<Attributes, Refusal> {
+        let name = read_name(self.alloc, name)?;
+        self.tell_of(tree, folder, &name)
+    }
+
+    /// Makes a file that was not there, and closes it.
+    pub(crate) fn make_file<T: Tree>(
+        &mut self,
+        tree: &mut T,
+        folder: u64,
+        name: &[u8],
+    ) -> Result<Attributes, Refusal> {
+        let name = read_name(self.alloc, name)?;
+        let creation = Creation {
+            exclusive: true,
+            truncate: false,
+        };
+        let number = self.open_new(tree, folder, &name, creation)?;
+        close_number(tree, number);
+        self.mark_changed(folder);
+        self.tell_of(tree, folder, &name)
+    }
+
+    /// Makes a file where none is, and opens it.
+    pub(crate) fn create<T: Tree>(
+        &mut self,
+        tree: &mut T,
+        folder: u64,
+        name: &[u8],
+        creation: Creation,
+    ) -> Result<Attributes, Refusal> {
+        let name = read_name(self.alloc, name)?;
+        let number = self.open_new(tree, folder, &name, creation)?;
+        self.mark_changed(folder);
+        match self.tell_of(tree, folder, &name) {
+            Ok(attributes) => {
+                self.adopt(tree, attributes.node, number);
+                Ok(attributes)
+            }
+            Err(refusal) => {
+                close_number(tree, number);
+                Err(refusal)
+            }
+        }
+    }
+
+    // Notes that a node is open once more, under this descriptor, which is not needed where it has one.
+    fn adopt<T: Tree>(&mut self, tree: &mut T, id: u64, number: u32) {
+        match self.nodes.get_mut(id) {
+            Some(node) => {
+                node.opens = node.opens.saturating_add(1);
+                match node.descriptor {
+                    Some(_) => close_number(tree, number),
+                    None => self.give_descriptor(id, number),
+                }
+            }
+            None => close_number(tree, number),
+        }
+    }
+
+    fn open_new<T: Tree>(
+        &mut self,
+        tree: &mut T,
+        folder: u64,
+        name: &Name,
+        creation: Creation,
+    ) -> Result<u32, Refusal> {
+        let path = path_below(self.alloc, &self.nodes, folder, name.as_slice())?;
+        let flags = Flags {
+            read: true,
+            write: true,
+            create: true,
+            exclusive: creation.exclusive,
+            truncate: creation.truncate,
+        };
+        self.open_path(tree, &path, flags)
+    }
+
+    /// Makes an empty directory.
+    pub(crate) fn make_dir<T: Tree>(
+        &mut self,
+        tree: &mut T,
+        folder: u64,
+        name: &[u8],
+    ) -> Result<Attributes, Refusal> {
+        let name = read_name(self.alloc, name)?;
+        let path = path_below(self.alloc, &self.nodes, folder, name.as_slice())?;
+        check_done(tree.call(Call::Mkdir {
+            path: Bytes::from_vec(path),
+        }))?;
+        self.mark_changed(folder);
+        self.tell_of(tree, folder, &name)
+    }
+
+    // Finds the node of a name, and counts that the kernel is told of it.
+    fn tell_of<T: Tree>(
+        &mut self,
+        tree: &mut T,
+        folder: u64,
+        name: &Name,
+    ) -> Result<Attributes, Refusal> {
+        let path = path_below(self.alloc, &self.nodes, folder, name.as_slice())?;
+        let description = stat(self.alloc, tree, &path)?;
+        let id = match self.nodes.child(folder, name.as_slice()) {
+            Some(id) => id,
+            None => self.meet(tree, folder, name, &path, description)?,
+        };
+        self.note(id, description);
+        self.count_lookup(id);
+        self.attributes(id)
+    }
+
+    pub(crate) fn count_lookup(&mut self, id: u64) {
+        if let Some(node) = self.nodes.get_mut(id) {
+            node.lookups = node.lookups.saturating_add(1);
+        }
+    }
+
+    // The node of a name that was not known. It may be one that is known by another name, or was: where the file has several, or some
+    // node has names that are not known, the tree says which file it is.
+    fn meet<T: Tree>(
+        &mut self,
+        tree: &mut T,
+        folder: u64,
+        name: &Name,
+        path: &[u8],
+        description: Description,
+    ) -> Result<u64, Refusal> {
+        let inode = match description {
+            Description::File { names, .. } if names > 1 || self.nodes.lack_names() => {
+                Some(inode_at(self.alloc, tree, path)?)
+            }
+            _ => None,
+        };
+        let id = match self.node_with_inode(inode) {
+            Some(id) => id,
+            None => self.add_node(inode, description)?,
+        };
+        let end = self.nodes.enter(folder, name, id);
+        self.nodes.drop_unused(id);
+        end?;
+        Ok(id)
+    }
+
+    fn node_with_inode(&self, inode: Option<u32>) -> Option<u64> {
+        self.nodes.with_inode(inode?)
+    }
+
+    fn add_node(&mut self, inode: Option<u32>, description: Description) -> Result<u64, Refusal> {
+        let mut node = Node::new(self.alloc, self.changes);
+        node.inode = inode;
+        note_in(&mut node, description);
+        Ok(self.nodes.add(node)?)
+    }
+}
+
+// The tree's number of the file at a path.
+fn inode_at<T: Tree>(alloc: Global, tree: &mut T, path: &[u8]) -> Result<u32, Refusal> {
+    let path = Path::read(alloc, path)?;
+    Ok(tree.inode(&path)?)
+}
+
+/// The name that bytes of a request are. `NameTooLong` over 64 bytes, `Invalid` where they are none.
+pub fn read_name(alloc: Global, bytes: &[u8]) -> Result<Name, Refusal> {
+    if bytes.len() > MAX_NAME {
+        return Err(Refusal::Posix(Errno::NameTooLong));
+    }
+    match Name::from_vec(bytes.to_vec(alloc)?) {
+        Ok(name) => Ok(name),
+        Err(_) => Err(Refusal::Posix(Errno::Invalid)),
+    }
+}
+
+/// Whether a call was done that has nothing to tell.
+pub fn check_done(reply: Reply) -> Result<(), Refusal> {
+    match reply {
+        Reply::Done => Ok(()),
+        Reply::Failed { errno } => Err(Refusal::Posix(errno)),
+        _ => Err(Refusal::Posix(Errno::IoError)),
+    }
+}

@@ -1,0 +1,91 @@
+ghost use Rattle.std.specs.Prelude.{◌<◌, length, IfSome};
+
+use file_graph::{Name, NameMap};
+use std::alloc::{AllocError, Global};
+
+/// A name by which a node is known.
+#[derive(Drop)]
+pub struct NodeName {
+    /// The node of the directory that has it.
+    pub folder: u64,
+    pub name: Name,
+}
+
+/// A file or a directory that the kernel was told of, or may be.
+#[derive(Drop)]
+pub struct Node {
+    pub is_dir: bool,
+    /// A file's bytes, as they were told last.
+    pub size: u64,
+    /// How many names a file has, as was told last.
+    pub links: u32,
+    /// The change that was its last, of those of the mount.
+    pub changed: u64,
+    /// The tree's number of a file that had several names when it was met.
+    pub inode: Option<u32>,
+    /// How often the kernel was told of it, and has not said that it forgot.
+    pub lookups: u64,
+    /// How often it is open.
+    pub opens: u64,
+    /// The descriptor under which the tree has it open.
+    pub descriptor: Option<u32>,
+    /// The names that are known of it.
+    pub names: Vec<NodeName>,
+    /// The nodes that are known below a directory.
+    pub children: NameMap<u64>,
+}
+
+impl Node {
+    /// A directory of which no name is known, as a change left it.
+    pub fn new(alloc: Global, changed: u64) -> Node {
+        Node {
+            is_dir: true,
+            size: 0,
+            links: 1,
+            changed,
+            inode: None,
+            lookups: 0,
+            opens: 0,
+            descriptor: None,
+            names: Vec::new(alloc),
+            children: NameMap::new(alloc),
+        }
+    }
+
+    /// Whether something still stands on it: a name, the kernel, or who has it open.
+    pub fn is_used(&self) -> bool {
+        !self.names.is_empty() || self.lookups > 0 || self.opens > 0
+    }
+
+    /// Whether it is open and has one name that is known: without that it is reached by its descriptor alone.
+    pub fn is_held_by_name(&self) -> bool {
+        !self.is_dir && self.opens > 0 && self.names.len() == 1
+    }
+
+    /// The directory that has its first name; of the root, which has none, this node itself.
+    pub fn folder_above(&self, id: u64) -> u64 {
+        match self.names.first() {
+            Some(known) => known.folder,
+            None => id,
+        }
+    }
+
+    /// Adds a name.
+    pub fn add_name(&mut self, folder: u64, name: Name) -> Result<(), AllocError> {
+        self.names.push(NodeName { folder, name })?;
+        Ok(())
+    }
+
+    /// Takes a name away, if it has it.
+    pub fn remove_name(&mut self, folder: u64, name: &[u8]) {
+        if let Some(place) = place_of(&self.names, folder, name) {
+            self.names.remove(place);
+        }
+    }
+}
+
+fn place_of(names: &[NodeName], folder: u64, name: &[u8]) -> Option<usize>
+    ensures { IfSome result (λ place. place < length names.now) }
+{
+    names.iter().position(|known| known.folder == folder && known.name.as_slice() == name)
+}

@@ -1,0 +1,164 @@
+// What is answered, as the messages of the protocol carry it.
+ghost use Rattle.std.specs.Prelude.{OnOk};
+ghost use Rattle.fuse_server.specs.Answers.{IsReply};
+
+use crate::answer::Answer;
+use crate::attributes::Attributes;
+use crate::server::Server;
+use crate::tree::Usage;
+use file_graph::{Errno, MAX_FILE, MAX_INODE, MAX_NAME};
+use fuse_wire::{
+    Attr, Entry, Header, OpenFile, Refusal, StatFs, Time, write_absence, write_attr, write_count,
+    write_create, write_data, write_dirents, write_empty, write_entry, write_error, write_init,
+    write_open, write_statfs,
+};
+use std::alloc::AllocError;
+
+/// How long the kernel may keep what it was told: for as long as the mount lasts, since nothing else changes the tree.
+const FOR_EVER: Time = Time {
+    seconds: 1_000_000,
+    nanoseconds: 0,
+};
+
+/// The flag of an opened file by which the kernel keeps what it has of it (`FOPEN_KEEP_CACHE`).
+const KEEP_CACHE: u32 = 2;
+
+/// The modes of directories and of files: who mounts may do all, others may read, and a file may be run.
+const DIR_MODE: u32 = 0o40755;
+
+const FILE_MODE: u32 = 0o100755;
+
+/// The bytes of a unit.
+const UNIT: u32 = 4_096;
+
+impl Server {
+    /// Writes the reply that carries an answer. Whoever asks is told as the owner of all.
+    pub(crate) fn write_answer(
+        &self,
+        header: &Header,
+        answer: &Answer,
+        reply: &mut Vec<u8>,
+    ) -> Result<(), AllocError>
+        ensures { OnOk result (IsReply header.now.unique reply.new.items) }
+    {
+        let unique = header.unique;
+        match answer {
+            Answer::Done => write_empty(reply, unique),
+            Answer::Refused(refusal) => write_refusal(reply, unique, *refusal),
+            Answer::Agreed(agreed) => write_init(reply, unique, agreed),
+            Answer::Absence => write_absence(reply, unique, FOR_EVER),
+            Answer::Data(bytes) => write_bytes(reply, unique, bytes.as_slice()),
+            Answer::Count(count) => write_count(reply, unique, *count),
+            Answer::Opened(handle) => write_open(reply, unique, &open_file(*handle)),
+            Answer::Usage(usage) => write_statfs(reply, unique, &stat_fs(*usage)),
+            Answer::Entries { handle, at, size } => {
+                self.write_entries(unique, (*handle, *at, *size), reply)
+            }
+            Answer::Entry(attributes) => write_entry(
+                reply,
+                unique,
+                &self.entry(header, attributes),
+            ),
+            Answer::Attributes(attributes) => {
+                write_attr(reply, unique, FOR_EVER, &attr(header, attributes))
+            }
+            Answer::Created(attributes) => {
+                write_create(
+                    reply,
+                    unique,
+                    &self.entry(header, attributes),
+                    &open_file(0),
+                )
+            }
+        }
+    }
+
+    fn write_entries(
+        &self,
+        unique: u64,
+        asked: (u64, u64, u32),
+        reply: &mut Vec<u8>,
+    ) -> Result<(), AllocError>
+        ensures { OnOk result (IsReply unique reply.new.items) }
+    {
+        let (handle, at, size) = asked;
+        match self.entries(handle, at, size) {
+            Ok(entries) => {
+                write_dirents(reply, unique, size, &entries)?;
+                Ok(())
+            }
+            Err(refusal) => write_refusal(reply, unique, refusal),
+        }
+    }
+
+    fn entry(&self, header: &Header, attributes: &Attributes) -> Entry {
+        Entry {
+            node: attributes.node,
+            generation: self.nodes.generation(attributes.node),
+            entry_valid: FOR_EVER,
+            attr_valid: FOR_EVER,
+            attr: attr(header, attributes),
+        }
+    }
+}
+
+/// Writes the reply that refuses a request.
+pub fn write_refusal(reply: &mut Vec<u8>, unique: u64, refusal: Refusal) -> Result<(), AllocError>
+    ensures { OnOk result (IsReply unique reply.new.items) }
+{
+    write_error(reply, unique, refusal)
+}
+
+// No file has more bytes than the greatest.
+fn write_bytes(reply: &mut Vec<u8>, unique: u64, bytes: &[u8]) -> Result<(), AllocError>
+    ensures { OnOk result (IsReply unique reply.new.items) }
+{
+    if bytes.len() as u64 > MAX_FILE {
+        return write_refusal(reply, unique, Refusal::Posix(Errno::IoError));
+    }
+    write_data(reply, unique, bytes)
+}
+
+fn attr(header: &Header, attributes: &Attributes) -> Attr {
+    let time = Time {
+        seconds: attributes.changed,
+        nanoseconds: 0,
+    };
+    Attr {
+        inode: attributes.node,
+        size: attributes.size,
+        blocks: attributes.size.div_ceil(512),
+        accessed: time,
+        modified: time,
+        changed: time,
+        mode: if attributes.is_dir {
+            DIR_MODE
+        } else {
+            FILE_MODE
+        },
+        links: attributes.links,
+        uid: header.uid,
+        gid: header.gid,
+        device: 0,
+        block_size: UNIT,
+    }
+}
+
+fn open_file(handle: u64) -> OpenFile {
+    OpenFile {
+        handle,
+        flags: KEEP_CACHE,
+    }
+}
+
+fn stat_fs(usage: Usage) -> StatFs {
+    StatFs {
+        blocks: usage.units,
+        blocks_free: usage.free,
+        blocks_available: usage.free,
+        files: MAX_INODE as u64,
+        files_free: usage.free.min(MAX_INODE as u64),
+        block_size: UNIT,
+        name_len: MAX_NAME as u32,
+    }
+}

@@ -1,0 +1,123 @@
+ghost use Rattle.std.specs.Prelude.{◌≡◌, OnOk, IfErr};
+ghost use Rattle.fuse_wire.specs.Spelling.{IsWhole};
+ghost use Rattle.fuse_server.specs.Answers.{IsAnswered, IsReply, is_silent};
+ghost use Rattle.fuse_server.specs.Refusals.{IsNoAnswer};
+
+use crate::answer::Answer;
+use crate::descriptors::Descriptors;
+use crate::listings::Listing;
+use crate::node::Node;
+use crate::nodes::Nodes;
+use crate::replies::write_refusal;
+use crate::tree::Tree;
+use file_graph::Errno;
+use fuse_wire::{Header, Refusal, WireError, read_header, read_request};
+use std::alloc::{AllocError, Global};
+
+/// The messages that take no reply, by their opcodes: the kernel forgets a node or several, or interrupts a request.
+const FORGET: u32 = 2;
+
+const INTERRUPT: u32 = 36;
+
+const BATCH_FORGET: u32 = 42;
+
+/// Why a message has no answer.
+#[derive(Clone, Copy, Debug, PartialEq, Eq)]
+pub enum ServeError {
+    /// The bytes are no whole message.
+    Message(WireError),
+    /// There is no memory even for a refusal.
+    Memory,
+}
+
+/// The server of a mount: what the kernel was told of, and has open. It owns no tree: whatever it answers, the tree answered before.
+#[derive(Drop)]
+pub struct Server {
+    pub(crate) alloc: Global,
+    pub(crate) nodes: Nodes,
+    pub(crate) descriptors: Descriptors,
+    pub(crate) listings: Vec<Option<Listing>>,
+    // how often something was changed, from 1 on
+    pub(crate) changes: u64,
+}
+
+impl Server {
+    /// The server of a mount of which the kernel was told nothing yet. The tree's client has nothing open.
+    pub fn new(alloc: Global) -> Result<Server, AllocError> {
+        Ok(Server {
+            alloc,
+            nodes: Nodes::new(alloc)?,
+            descriptors: Descriptors::new(),
+            listings: Vec::new(alloc),
+            changes: 1,
+        })
+    }
+
+    /// Does what a message asks, and puts its reply into `reply`, which is empty where it takes none: one that the kernel forgets nodes
+    /// by, or interrupts a request. A message whose body can't be read is answered EINVAL, and one for whose answer memory is wanting
+    /// ENOMEM.
+    ///
+    /// Refused where the bytes are no whole message, with nothing done, and where memory is wanting for a reply of 16 bytes.
+    #[tactic(auto, unfolding(fuse_wire::specs::Spelling::header_of))]
+    pub fn answer<T: Tree>(
+        &mut self,
+        tree: &mut T,
+        message: &[u8],
+        reply: &mut Vec<u8>,
+    ) -> Result<(), ServeError>
+        ensures answered { OnOk result (IsAnswered message.now reply.new.items) }
+        ensures whole { OnOk result (IsWhole message.now) }
+        ensures refused { IfErr result (IsNoAnswer message.now) }
+    {
+        reply.clear();
+        let header = match read_header(message) {
+            Ok(header) => header,
+            Err(error) => return Err(ServeError::Message(error)),
+        };
+        let answer = match read_request(message) {
+            Ok((_, request)) => self.serve(tree, &header, &request),
+            Err(_) => Answer::Refused(Refusal::Posix(Errno::Invalid)),
+        };
+        if is_silent(header.opcode) {
+            return Ok(());
+        }
+        self.reply_to(&header, &answer, reply)
+    }
+
+    fn reply_to(
+        &self,
+        header: &Header,
+        answer: &Answer,
+        reply: &mut Vec<u8>,
+    ) -> Result<(), ServeError>
+        ensures replied { OnOk result (IsReply header.now.unique reply.new.items) }
+        ensures memory { IfErr result (λ e. e ≡ ServeError.Memory) }
+    {
+        match self.write_answer(header, answer, reply) {
+            Ok(()) => Ok(()),
+            Err(_) => refuse_memory(header.unique, reply),
+        }
+    }
+
+    /// What has a node number. `StaleNode` where nothing has it.
+    pub(crate) fn node(&self, id: u64) -> Result<&Node, Refusal> {
+        self.nodes.get(id).ok_or(Refusal::StaleNode)
+    }
+}
+
+// Refuses a request for whose answer memory was wanting.
+fn refuse_memory(unique: u64, reply: &mut Vec<u8>) -> Result<(), ServeError>
+    ensures replied { OnOk result (IsReply unique reply.new.items) }
+    ensures memory { IfErr result (λ e. e ≡ ServeError.Memory) }
+{
+    match write_refusal(reply, unique, Refusal::Posix(Errno::NoMemory)) {
+        Ok(()) => Ok(()),
+        Err(_) => Err(ServeError::Memory),
+    }
+}
+
+fn is_silent(opcode: u32) -> bool
+    ensures { result ≡ is_silent opcode }
+{
+    opcode == FORGET || opcode == INTERRUPT || opcode == BATCH_FORGET
+}

@@ -1,0 +1,183 @@
+// Messages come in, one after the other, and replies go out.
+use crate::server::{ServeError, Server};
+use crate::tree::Tree;
+use fuse_wire::{MAX_MESSAGE, WireError, message_length};
+use std::alloc::{AllocError, Global};
+use std::io::{self, ErrorKind, Read, Write};
+use thiserror::Error;
+
+/// ENODEV: the mount has ended.
+const NO_DEVICE: i32 = 19;
+
+/// Why a mount is served no more.
+#[derive(Debug, Drop, Error)]
+pub enum StreamError {
+    #[error("a message can't be read: {0}")]
+    Input(io::Error),
+    #[error("a reply can't be written: {0}")]
+    Output(io::Error),
+    #[error("{0}")]
+    Message(WireError),
+    #[error("the input ends within a message")]
+    CutOff,
+    #[error("out of memory")]
+    Memory,
+}
+
+impl From<AllocError> for StreamError {
+    fn from(_error: AllocError) -> StreamError {
+        StreamError::Memory
+    }
+}
+
+/// Bytes that came and are not served yet. Each read is offered room for the longest message, as the kernel's device wants it, which
+/// hands out one message a read; a pipe may hand out several, or parts.
+#[derive(Drop)]
+struct Inbox {
+    bytes: Vec<u8>,
+    len: usize,
+}
+
+/// Serves a mount: each message that comes is answered by one write, in their order, up to the end of the input or of the mount. Behind
+/// each reply the tree does what it would in idle time.
+///
+/// A reply for which nobody waits any more is dropped. Refused where the input ends within a message or has what is no message, where
+/// a device fails, and where memory is wanting for a refusal. What was answered is kept all the same.
+pub fn serve_stream<T: Tree, R: Read, W: Write>(
+    alloc: Global,
+    tree: &mut T,
+    input: &mut R,
+    output: &mut W,
+) -> Result<(), StreamError> {
+    let mut server = Server::new(alloc)?;
+    let mut inbox = Inbox::new(alloc)?;
+    let mut reply = Vec::with_capacity(alloc, MAX_MESSAGE)?;
+    for _ in 0..u64::MAX {
+        if !inbox.receive(input)? {
+            return inbox.end();
+        }
+        serve_inbox(&mut server, tree, &mut inbox, &mut reply, output)?;
+    }
+    Ok(())
+}
+
+// Serves each whole message that came.
+fn serve_inbox<T: Tree, W: Write>(
+    server: &mut Server,
+    tree: &mut T,
+    inbox: &mut Inbox,
+    reply: &mut Vec<u8>,
+    output: &mut W,
+) -> Result<(), StreamError> {
+    let mut at = 0;
+    for _ in 0..inbox.len {
+        let message = match next_message(inbox.bytes_from(at)) {
+            Ok(Some(message)) => message,
+            Ok(None) => break,
+            Err(error) => return Err(StreamError::Message(error)),
+        };
+        serve_message(server, tree, message, reply, output)?;
+        at = at.saturating_add(message.len());
+        tree.use_idle_time();
+    }
+    inbox.drop_front(at);
+    Ok(())
+}
+
+fn serve_message<T: Tree, W: Write>(
+    server: &mut Server,
+    tree: &mut T,
+    message: &[u8],
+    reply: &mut Vec<u8>,
+    output: &mut W,
+) -> Result<(), StreamError> {
+    match server.answer(tree, message, reply) {
+        Ok(()) => write_reply(output, reply),
+        Err(ServeError::Message(error)) => Err(StreamError::Message(error)),
+        Err(ServeError::Memory) => Err(StreamError::Memory),
+    }
+}
+
+// The first whole message of these bytes; none where its end is still to come.
+fn next_message(bytes: &[u8]) -> Result<Option<&[u8]>, WireError> {
+    match message_length(bytes)? {
+        Some(len) => Ok(bytes.get(..len)),
+        None => Ok(None),
+    }
+}
+
+// Writes a reply, if there is one, by one write; the rest of it, where a pipe takes a part.
+fn write_reply<W: Write>(output: &mut W, reply: &[u8]) -> Result<(), StreamError> {
+    let mut rest = reply;
+    for _ in 0..u64::MAX {
+        if rest.is_empty() {
+            return Ok(());
+        }
+        match output.write(rest) {
+            Ok(count) => rest = rest.get(count..).unwrap_or(&[]),
+            Err(error) => match error.kind() {
+                ErrorKind::Interrupted => {}
+                ErrorKind::NotFound => return Ok(()),
+                _ => return Err(StreamError::Output(error)),
+            },
+        }
+    }
+    Ok(())
+}
+
+impl Inbox {
+    fn new(alloc: Global) -> Result<Inbox, AllocError> {
+        Ok(Inbox {
+            bytes: vec![in alloc; 0u8; 2 * MAX_MESSAGE]?,
+            len: 0,
+        })
+    }
+
+    // What came, from an offset on.
+    fn bytes_from(&self, at: usize) -> &[u8] {
+        match self.bytes.get(..self.len) {
+            Some(bytes) => bytes.get(at..).unwrap_or(&[]),
+            None => &[],
+        }
+    }
+
+    // Where what comes next is read to.
+    fn room(&mut self) -> &mut [u8] {
+        let len = self.len.min(self.bytes.len());
+        &mut self.bytes[len..]
+    }
+
+    // Reads what comes next. It answers whether something came: nothing does at the end of the input, and of the mount.
+    fn receive<R: Read>(&mut self, input: &mut R) -> Result<bool, StreamError> {
+        for _ in 0..u64::MAX {
+            match input.read(self.room()) {
+                Ok(count) => {
+                    self.len = self.len.saturating_add(count);
+                    return Ok(count > 0);
+                }
+                Err(error) if error.raw_os_error() == Some(NO_DEVICE) => return Ok(false),
+                Err(error) => match error.kind() {
+                    ErrorKind::Interrupted | ErrorKind::NotFound | ErrorKind::WouldBlock => {}
+                    _ => return Err(StreamError::Input(error)),
+                },
+            }
+        }
+        Ok(false)
+    }
+
+    // Drops what was served, and moves what is left to the front.
+    fn drop_front(&mut self, count: usize) {
+        if count <= self.len && self.len <= self.bytes.len() {
+            self.bytes.copy_within(count..self.len, 0);
+            self.len -= count;
+        }
+    }
+
+    // The end of the input, which may not come within a message.
+    fn end(&self) -> Result<(), StreamError> {
+        if self.len > 0 {
+            return Err(StreamError::CutOff);
+        }
+        Ok(())
+    }
+}

@@ -1,0 +1,33 @@
+ghost use Rattle.file_graph.specs.posix_calls.declared.call.Call.{Call};
+ghost use Rattle.file_graph.specs.posix_calls.declared.call.Reply.{Reply};
+
+use file_graph::{Call, Errno, Path, Reply};
+
+/// How much there is of a tree, and how much of that is free.
+#[derive(Clone, Copy)]
+pub struct Usage {
+    /// Units in all, of 4,096 bytes.
+    pub units: u64,
+    /// Units that nothing has and nobody was given.
+    pub free: u64,
+}
+
+/// A file tree that answers the calls of the mount's client, one after the other. Nobody else changes it.
+pub trait Tree {
+    /// That a tree is asked a call, answers it so, and becomes another tree.
+    ghost asks: { Self → Call → Reply → Self → Type 0 };
+
+    /// Carries out a call. What it answers is kept by then.
+    fn call(&mut self, call: Call) -> Reply
+        ensures { asks self.old call result self.new };
+
+    /// The number of the file that a path leads to, by which two names of a file are known to be one; else why it can't be found out
+    /// now.
+    fn inode(&mut self, path: &Path) -> Result<u32, Errno>;
+
+    /// How much there is, and is free.
+    fn usage(&mut self) -> Usage;
+
+    /// Does what is to be done in idle time, behind a reply.
+    fn use_idle_time(&mut self);
+}

@@ -1,0 +1,9 @@
+pub mod Lengths
+pub mod ZeroBytes
+pub mod Bodies
+pub mod Messages
+pub mod DirentLengths
+pub mod ReplyParts
+pub mod Flags
+pub mod OtherOpcodes
+pub mod OneRequest

@@ -1,0 +1,44 @@
+//! The messages of the FUSE protocol, version 7.31, as `linux/fuse.h` of the Linux UAPI lays them out: what the kernel asks of the
+//! server of a mount, and what it is answered.
+//!
+//! `read_request` gives what the bytes of a message spell, or names what is wrong with them. Each `write_..` spells one reply
+//! into a buffer that is cleared first. Numbers are little-endian. Names and written data are lent from the message.
+#![tactic(auto)]
+
+mod dirents;
+mod errno;
+mod error;
+mod fields;
+mod header;
+mod header_reads;
+mod init;
+mod laws;
+mod layout;
+mod memory;
+mod names;
+mod opcode;
+mod replies;
+mod reply_writes;
+mod request;
+mod request_reads;
+
+pub use dirents::{Dirent, DirentKind, MAX_DIRENTS, write_dirents};
+pub use errno::Refusal;
+pub use error::WireError;
+pub use header::{HEADER_LEN, Header, MAX_MESSAGE, message_length};
+pub use header_reads::read_header;
+pub use init::{
+    BIG_WRITES, Init, InitReply, MAX_BACKGROUND, MAX_PAGES, MAX_READAHEAD, MAX_WRITE, OldProtocol,
+    negotiate,
+};
+pub use laws::bytes_spell_one_request;
+pub use replies::{Attr, Entry, OpenFile, StatFs, Time};
+pub use reply_writes::{
+    REPLY_ROOM, write_absence, write_attr, write_count, write_create, write_data, write_empty,
+    write_entry, write_error, write_init, write_open, write_statfs,
+};
+pub use request::{Request, SetAttr, forget_at};
+pub use request_reads::read_request;
+
+// Passed on to the crates above, which so need not list those below.
+pub use posix_calls::{Errno, MAX_PATH};

@@ -1,0 +1,169 @@
+// A world answers the calls of one client, as the tree of a mount.
+use call_driver::{CallResult, Event, Events, clear_client, digest_all, serve_call};
+use fuse_server::{Bytes, Call, Errno, MAX_INODE, Path, ROOT, Reply, Tree, Usage};
+use std::alloc::Global;
+use world_files::{FileMedia, KernelError, NodeSummary, Refusal, World};
+
+/// So many records of the client may wait for their digest between two requests.
+const RECORDS: usize = 128;
+
+/// A world that lives in a file, asked by one client.
+#[derive(Drop)]
+pub struct MountTree {
+    alloc: Global,
+    world: World<FileMedia>,
+    client: u32,
+}
+
+impl MountTree {
+    /// The tree of a client of a world, of whom no call is started.
+    pub fn new(alloc: Global, world: World<FileMedia>, client: u32) -> MountTree {
+        MountTree {
+            alloc,
+            world,
+            client,
+        }
+    }
+
+    // Serves a call once.
+    fn serve(&mut self, call: Call) -> Reply {
+        match serve_call(&mut self.world, self.client, call, true) {
+            CallResult::Reply(reply) => reply,
+            CallResult::NoMemory => failure(Errno::NoMemory),
+            _ => failure(Errno::Again),
+        }
+    }
+
+    // Serves a call that was refused for want of space once more, where files went that stood on it no longer.
+    fn serve_again(&mut self, call: Call, refusal: Reply) -> Reply {
+        match self.free_files() {
+            Ok(()) => self.serve(call),
+            Err(_) => refusal,
+        }
+    }
+
+    // Digests what the client logged, so that the shared area has all of the tree.
+    fn digest(&mut self) -> Result<(), Errno> {
+        match digest_all(&mut self.world, self.client) {
+            Ok(()) => Ok(()),
+            Err(refusal) => Err(errno_of(refusal)),
+        }
+    }
+
+    // Digests what the client logged, and lets each file go that is closed and has no name.
+    fn free_files(&mut self) -> Result<(), Errno> {
+        self.digest()?;
+        for number in 0..MAX_INODE {
+            let event = Event::Unpin {
+                client: self.client,
+                inode: number + 1,
+            };
+            let _ = self.world.play(&event);
+        }
+        match clear_client(&mut self.world, self.client) {
+            Ok(_) => Ok(()),
+            Err(refusal) => Err(errno_of(refusal)),
+        }
+    }
+
+    // What a directory of the shared area has under a name.
+    fn child(&mut self, folder: u32, name: &[u8]) -> Result<u32, Errno> {
+        match self.world.look(folder) {
+            Ok(found) => child_of(found.node, name),
+            Err(KernelError::Refused(_)) => Err(Errno::NoMemory),
+            Err(KernelError::Failed) => Err(Errno::IoError),
+        }
+    }
+}
+
+impl Tree for MountTree {
+    ghost asks = { λ _ _ _ _. Unit {0} };
+
+    fn call(&mut self, call: Call) -> Reply {
+        let again = copy_call(self.alloc, &call);
+        let reply = self.serve(call);
+        match again {
+            Some(call) if is_no_space(&reply) => self.serve_again(call, reply),
+            _ => reply,
+        }
+    }
+
+    fn inode(&mut self, path: &Path) -> Result<u32, Errno> {
+        self.digest()?;
+        let mut inode = ROOT;
+        for name in path.names() {
+            inode = self.child(inode, name.as_slice())?;
+        }
+        Ok(inode)
+    }
+
+    fn usage(&mut self) -> Usage {
+        match self.world.system().kernel().book() {
+            Ok(figures) => Usage {
+                units: figures.capacity,
+                free: figures
+                    .capacity
+                    .saturating_sub(figures.charge)
+                    .saturating_sub(figures.out),
+            },
+            Err(_) => Usage { units: 0, free: 0 },
+        }
+    }
+
+    fn use_idle_time(&mut self) {
+        if self.world.undigested(self.client) > RECORDS {
+            let _ = self.free_files();
+        }
+    }
+}
+
+fn child_of(node: Option<NodeSummary>, name: &[u8]) -> Result<u32, Errno> {
+    match node {
+        Some(node) => match node.child(name) {
+            Some(child) => Ok(child.inode()),
+            None => Err(Errno::NoEntry),
+        },
+        None => Err(Errno::NoEntry),
+    }
+}
+
+fn failure(errno: Errno) -> Reply {
+    Reply::Failed { errno }
+}
+
+fn is_no_space(reply: &Reply) -> bool {
+    match reply {
+        Reply::Failed { errno } => *errno == Errno::NoSpace,
+        _ => false,
+    }
+}
+
+fn errno_of(refusal: Refusal) -> Errno {
+    match refusal {
+        Refusal::Memory => Errno::NoMemory,
+        _ => Errno::IoError,
+    }
+}
+
+// A copy of a call that takes a number for a node, or units; none where memory is wanting for it.
+fn copy_call(alloc: Global, call: &Call) -> Option<Call> {
+    match call {
+        Call::Open { path, flags } if flags.create => Some(Call::Open {
+            path: Bytes::copy_of(alloc, path.as_slice()).ok()?,
+            flags: *flags,
+        }),
+        Call::Mkdir { path } => Some(Call::Mkdir {
+            path: Bytes::copy_of(alloc, path.as_slice()).ok()?,
+        }),
+        Call::Pwrite {
+            descriptor,
+            at,
+            bytes,
+        } => Some(Call::Pwrite {
+            descriptor: *descriptor,
+            at: *at,
+            bytes: bytes.share().ok()?,
+        }),
+        _ => None,
+    }
+}

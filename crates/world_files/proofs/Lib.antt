@@ -1,0 +1,3 @@
+pub mod PartsEach
+-- Passed on to the crates above, which so need not list those below.
+pub use Rattle.recovery.proofs as recovery_lemmas

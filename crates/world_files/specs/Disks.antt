@@ -1,0 +1,33 @@
+-- A world whose media lie in a file.
+use Rattle.std.specs.Prelude.{◌≡◌, ◌⊎◌, ◌∷◌, All, length, map, Some}
+use Rattle.host_media.specs.declared.file.FileMedia.{FileMedia}
+use Rattle.host_media.specs.tier_device.declared.media.Media.{Ghosts}
+use Rattle.host_media.specs.DiskFile.{file_sizes, places_from}
+use Rattle.host_media.specs.File.{IsOpened, file_begin}
+use Rattle.recovery.specs.Parts.{PartsView, part_medium}
+use Rattle.recovery.specs.RecoveryStops.{IsRecoveredWorld}
+use Rattle.recovery.specs.Regions.{REGIONS}
+use Rattle.recovery.specs.layout.Places.{Sizes}
+use Rattle.recovery.specs.system_world.WorldView.{WorldView}
+use Rattle.world_files.specs.declared.sizes.WorldSizes.{WorldSizes}
+use Rattle.world_files.specs.PartSizes.{part_sizes, sizes_asked}
+use Rattle.world_files.specs.Worlds.{IsEmptyWorld}
+
+-- The media of a world of this geometry lie in a file one behind the other, and are as they are when the file has been opened.
+pub record AreOnDisk (g : Sizes) (v : PartsView FileMedia) : Type 0 where
+  pub sizes : map file_sizes (v.shared ∷ v.regions) ≡ part_sizes g
+  pub places : map file_begin (v.shared ∷ v.regions) ≡ places_from 0 (part_sizes g)
+  pub opened : All IsOpened (v.shared ∷ v.regions)
+  pub sixteen : length v.regions ≡ REGIONS
+
+module _ (device : Ghosts FileMedia) where
+  -- The world of what the media in a file store.
+  pub record IsRecoveredDisk (w : WorldView FileMedia) : Type 0 where
+    pub geometry : Sizes
+    pub parts : PartsView FileMedia
+    pub lie : AreOnDisk geometry parts
+    pub recovered : IsRecoveredWorld device (part_medium parts) w
+
+  -- the world that a file keeps, or the empty one of the sizes that are asked for
+  abbrev pub IsDiskWorld : WorldSizes → WorldView FileMedia → Type 0
+  IsDiskWorld asked w = IsRecoveredDisk w ⊎ ((g : Sizes) × (sizes_asked asked ≡ Some g) × IsEmptyWorld device g w)

@@ -1,0 +1,20 @@
+-- The media of a world as one row of bytes.
+use Rattle.std.specs.Prelude.{◌≡◌, ℕ, List, ◌∷◌, map}
+use Rattle.host_media.specs.Images.{media_bytes, medium_sizes}
+use Rattle.host_media.specs.tier_device.declared.media.Media.{Ghosts}
+use Rattle.recovery.specs.Parts.{AreAtRest, PartsView, part_medium}
+use Rattle.recovery.specs.layout.Places.{Sizes}
+use Rattle.world_files.specs.PartSizes.{IsGeometryIn, part_sizes}
+
+module _ {M : Type 0} (device : Ghosts M) where
+  -- the bytes of all media: of the shared one, and then of the regions
+  abbrev pub parts_image : PartsView M → List ℕ
+  parts_image v = media_bytes device.seen (v.shared ∷ v.regions)
+
+  -- The media are at rest, and their bytes are those of an image, cut as its superblock says.
+  pub record AreRead (image : List ℕ) (v : PartsView M) : Type 0 where
+    pub geometry : Sizes
+    pub found : IsGeometryIn image geometry
+    pub sizes : map (medium_sizes device.seen) (v.shared ∷ v.regions) ≡ part_sizes geometry
+    pub bytes : parts_image v ≡ image
+    pub rest : AreAtRest device (part_medium v)

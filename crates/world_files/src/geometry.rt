@@ -1,0 +1,58 @@
+// The sizes of a world's media.
+ghost use Rattle.std.specs.Prelude.{◌≡◌, ◌*◌, [], ◌∷◌, IfOk};
+ghost use Rattle.host_media.specs.tier_device.declared.media.Tier.TheVariants.{Fast, Block, Slow};
+ghost use Rattle.recovery.specs.layout.Places.{tier_blocks};
+ghost use Rattle.recovery.specs.layout.declared.places.TheConstants.{BLOCK};
+ghost use Rattle.world_files.specs.PartSizes.{IsGeometryIn, part_sizes};
+
+use crate::error::WorldFileError;
+use host_media::{Sizes, Tier};
+use recovery::{BLOCK, Geometry, REGION_SIZE, REGIONS, Super};
+
+/// How many media a world has: the shared one, and the regions.
+pub(crate) const PARTS: usize = REGIONS + 1;
+
+/// The geometry that the superblock tells, which stands at the front of these bytes; `NoWorld` where none does.
+pub fn read_geometry(bytes: &[u8]) -> Result<Geometry, WorldFileError>
+    ensures { IfOk result (IsGeometryIn bytes.now) }
+{
+    let Some(block) = bytes.get(..BLOCK) else {
+        return Err(WorldFileError::NoWorld);
+    };
+    match Super::decode(block) {
+        Ok(found) => Ok(found.geometry),
+        Err(_) => Err(WorldFileError::NoWorld),
+    }
+}
+
+/// The lengths of the fast, block and slow tier of the shared medium, in bytes.
+pub fn tier_lens(geometry: &Geometry) -> [usize; 3]
+    ensures { result ≡ tier_blocks geometry.now Fast * BLOCK ∷ tier_blocks geometry.now Block * BLOCK ∷ tier_blocks geometry.now Slow * BLOCK ∷ [] }
+{
+    [
+        tier_len(geometry, Tier::Fast),
+        tier_len(geometry, Tier::Block),
+        tier_len(geometry, Tier::Slow),
+    ]
+}
+
+fn tier_len(geometry: &Geometry, tier: Tier) -> usize
+    ensures { result ≡ tier_blocks geometry.now tier * BLOCK }
+{
+    geometry.tier_blocks(tier) as usize * BLOCK
+}
+
+/// The lengths of the tiers of each medium, the shared one first.
+pub(crate) fn part_sizes(geometry: &Geometry) -> [Sizes; PARTS]
+    ensures { result ≡ part_sizes geometry.now }
+{
+    let [fast, block, slow] = tier_lens(geometry);
+    let region = Sizes {
+        fast: REGION_SIZE,
+        block: 0,
+        slow: 0,
+    };
+    let mut sizes = [region; PARTS];
+    sizes[0] = Sizes { fast, block, slow };
+    sizes
+}

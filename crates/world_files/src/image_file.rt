@@ -1,0 +1,66 @@
+// A file that holds a world's image.
+use crate::disk::disk_geometry;
+use crate::draft::draft_path;
+use crate::error::WorldFileError;
+use host_media::DiskFile;
+use std::alloc::Global;
+use std::fs::{self, File, Files};
+
+/// A file that holds the image of a world, or is to hold one. A file that was there is locked: no other process has it, as long as this is there.
+#[derive(Drop)]
+pub struct ImageFile {
+    held: Option<DiskFile>,
+}
+
+impl ImageFile {
+    /// Opens the file of a path, if there is one.
+    ///
+    /// Refused are one that can't be opened, and one that another process has open.
+    pub fn open<R: Files<File = File>>(
+        files: &R,
+        alloc: Global,
+        path: &str,
+    ) -> Result<ImageFile, WorldFileError> {
+        let _draft = draft_path(alloc, path)?;
+        if !fs::exists(files, path)? {
+            return Ok(ImageFile { held: None });
+        }
+        let disk = DiskFile::open(files, alloc, path)?;
+        Ok(ImageFile { held: Some(disk) })
+    }
+
+    /// The bytes of the file; none where there is none. Refused are a read that fails, and want of memory.
+    pub fn read(&self, alloc: Global) -> Result<Option<Vec<u8>>, WorldFileError> {
+        let Some(disk) = &self.held else {
+            return Ok(None);
+        };
+        let mut bytes = vec![in alloc; 0u8; disk.len()]?;
+        disk.read(0, &mut bytes)?;
+        Ok(Some(bytes))
+    }
+
+    /// Has the file of that path hold these bytes, kept on its device: they are written under another name first, which then takes the file's place. So a run that ends early leaves
+    /// what was there.
+    ///
+    /// Refused are a file of the path that was not there when this was opened, a draft that another process writes, a device that fails or is full, and want of memory. The file is then as
+    /// it was, but where its new name could not be kept.
+    pub fn replace<R: Files<File = File>>(
+        self,
+        files: &R,
+        alloc: Global,
+        path: &str,
+        bytes: &[u8],
+    ) -> Result<(), WorldFileError> {
+        let draft = draft_path(alloc, path)?;
+        DiskFile::remove_unused(files, draft.as_str())?;
+        let mut file = DiskFile::create(files, alloc, draft.as_str(), bytes.len())?;
+        file.write(0, bytes)?;
+        file.sync()?;
+        if self.held.is_some() {
+            DiskFile::replace(files, draft.as_str(), path)?;
+        } else {
+            DiskFile::rename(files, draft.as_str(), path)?;
+        }
+        Ok(())
+    }
+}

@@ -1,0 +1,32 @@
+//! Worlds that live in files. A world's seventeen media lie in a file one behind the other: the tiers of the shared medium, then the two
+//! regions of client after client.
+//!
+//! `open_disk` has a world over the media of one locked file: what it answered stands there. An `ImageFile` is read whole, and written
+//! whole under another name that then takes its place.
+#![tactic(auto)]
+
+mod disk;
+mod draft;
+mod error;
+mod geometry;
+mod image;
+mod image_file;
+mod parts;
+mod sizes;
+mod structures;
+
+pub use disk::open_disk;
+pub use error::WorldFileError;
+pub use geometry::{read_geometry, tier_lens};
+pub use image::{image_bytes, read_parts};
+pub use image_file::ImageFile;
+pub use sizes::{SizeRule, WorldSizes};
+pub use structures::structure_name;
+
+// Passed on to the crates above, which so need not list those below.
+pub use host_media::{FileMedia, FileProblem, RamMedia};
+pub use recovery::{
+    AreaError, BLOCK, CLIENTS, Event, Figures, Geometry, KernelError, LeaseMode, Mode, Need,
+    NodeSummary, Outcome, Parts, REGION_SIZE, REGIONS, RecoveryError, Refusal, Shared, Super, What,
+    World, format, play, recover, take_apart,
+};
