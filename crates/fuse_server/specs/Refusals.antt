@@ -1,5 +1,8 @@
--- Why a message has no answer.
+-- Why a message has no answer, and why a request is refused.
 use Rattle.std.specs.Prelude.{◌≡◌, List, ℕ}
+use Rattle.fuse_wire.specs.posix_calls.declared.errno.Errno.TheVariants as errno
+use Rattle.fuse_wire.specs.declared.errno.Refusal.{Refusal}
+use Rattle.fuse_wire.specs.declared.errno.Refusal.TheVariants as refusal
 use Rattle.fuse_wire.specs.Reasons.{IsWrong}
 use Rattle.fuse_server.specs.declared.server.ServeError.{ServeError}
 use Rattle.fuse_server.specs.declared.server.ServeError.TheVariants.{Message, Memory}
@@ -8,3 +11,7 @@ use Rattle.fuse_server.specs.declared.server.ServeError.TheVariants.{Message, Me
 abbrev pub IsNoAnswer : List ℕ → ServeError → Type 0
 IsNoAnswer message (Message error) = IsWrong message error
 IsNoAnswer message Memory = Unit {0}
+
+-- memory was wanting
+abbrev pub IsMemory : Refusal → Type 0
+IsMemory e = e ≡ refusal.Posix errno.NoMemory

@@ -1,6 +1,12 @@
 // What is told of a node, and what the tree tells of it.
+ghost use Rattle.std.specs.Prelude.{◌≡◌, Some, None, Ok, IfOk, IfErr};
+ghost use Rattle.file_graph.specs.posix_calls.declared.call.Call.TheVariants as call;
+ghost use Rattle.fuse_server.specs.Calls.{description_of, Answers, AtPath, MayAsk};
+ghost use Rattle.fuse_server.specs.Nodes.{attributes_of, kept_attributes, Describes};
+ghost use Rattle.fuse_server.specs.Paths.{node_at, path_of};
+
 use crate::node::Node;
-use crate::paths::path_of;
+use crate::paths::{is_unnamed, path_of};
 use crate::server::Server;
 use crate::tree::Tree;
 use file_graph::{Bytes, Call, Description, Errno, Reply};
@@ -9,33 +15,48 @@ use std::alloc::Global;
 
 /// What is told of a node.
 #[derive(Clone, Copy)]
-pub struct Attributes {
-    pub node: u64,
-    pub is_dir: bool,
+pub(crate) struct Attributes {
+    pub(crate) node: u64,
+    pub(crate) is_dir: bool,
     /// In bytes.
-    pub size: u64,
-    pub links: u32,
+    pub(crate) size: u64,
+    pub(crate) links: u32,
     /// The change that was its last, which is told as its time, in seconds.
-    pub changed: u64,
+    pub(crate) changed: u64,
 }
 
 impl Server {
     /// What is told of a node. What has a name is asked of the tree; of a file that lost its last name the server keeps it.
-    pub(crate) fn describe<T: Tree>(
+    pub(crate) fn describe<T: Tree>(&mut self, tree: &mut T, id: u64) -> Result<Attributes, Refusal>
+        ensures { Describes T.Tree self.old.nodes id result tree.old tree.new }
+    {
+        let kept = self.attributes(id)?;
+        if is_unnamed(&self.nodes, id) {
+            return Ok(kept);
+        }
+        self.describe_named(tree, id, kept.changed)
+    }
+
+    // What the tree tells of a node that has a name, and was changed last by this change.
+    fn describe_named<T: Tree>(
         &mut self,
         tree: &mut T,
         id: u64,
-    ) -> Result<Attributes, Refusal> {
-        if id == crate::nodes::ROOT_NODE || !self.node(id)?.names.is_empty() {
-            let path = path_of(self.alloc, &self.nodes, id)?;
-            let description = stat(self.alloc, tree, &path)?;
-            self.note(id, description);
-        }
-        self.attributes(id)
+        changed: u64,
+    ) -> Result<Attributes, Refusal>
+        ensures { AtPath (path_of self.old.nodes id) (λ path. MayAsk T.Tree (call.Stat path) description_of (λ d. Answers (attributes_of id changed d))) result tree.old tree.new }
+    {
+        let path = path_of(self.alloc, &self.nodes, id)?;
+        let description = stat(self.alloc, tree, &path)?;
+        self.note(id, description);
+        Ok(attributes_of(id, changed, description))
     }
 
     /// What was told last of a node.
-    pub(crate) fn attributes(&self, id: u64) -> Result<Attributes, Refusal> {
+    pub(crate) fn attributes(&self, id: u64) -> Result<Attributes, Refusal>
+        ensures known { IfOk result (λ kept. kept_attributes self.now.nodes id ≡ Some kept) }
+        ensures unknown { IfErr result (λ e. (node_at self.now.nodes id ≡ None) × (e ≡ Refusal.StaleNode)) }
+    {
         let node = self.node(id)?;
         Ok(Attributes {
             node: id,
@@ -44,6 +65,14 @@ impl Server {
             links: node.links,
             changed: node.changed,
         })
+    }
+
+    /// The change that was the last of a node; the last of all where it is not known.
+    pub(crate) fn last_change(&self, id: u64) -> u64 {
+        match self.nodes.get(id) {
+            Some(node) => node.changed,
+            None => self.changes,
+        }
     }
 
     /// Notes what the tree told of a node.
@@ -63,7 +92,7 @@ impl Server {
 }
 
 /// Notes in a node what the tree told of it.
-pub fn note_in(node: &mut Node, description: Description) {
+pub(crate) fn note_in(node: &mut Node, description: Description) {
     match description {
         Description::File { size, names } => {
             node.is_dir = false;
@@ -78,10 +107,44 @@ pub fn note_in(node: &mut Node, description: Description) {
     }
 }
 
+/// What is told of a node whose last change this is, by what the tree tells of it.
+pub(crate) fn attributes_of(id: u64, changed: u64, description: Description) -> Attributes
+    ensures { result ≡ attributes_of id changed description }
+{
+    match description {
+        Description::File { size, names } => Attributes {
+            node: id,
+            is_dir: false,
+            size,
+            links: names,
+            changed,
+        },
+        Description::Dir { .. } => Attributes {
+            node: id,
+            is_dir: true,
+            size: 0,
+            links: 1,
+            changed,
+        },
+    }
+}
+
 /// What is at a path.
-pub fn stat<T: Tree>(alloc: Global, tree: &mut T, path: &[u8]) -> Result<Description, Refusal> {
+pub(crate) fn stat<T: Tree>(
+    alloc: Global,
+    tree: &mut T,
+    path: &[u8],
+) -> Result<Description, Refusal>
+    ensures { MayAsk T.Tree (call.Stat path.now) description_of Answers result tree.old tree.new }
+{
     let path = Bytes::copy_of(alloc, path)?;
-    match tree.call(Call::Stat { path }) {
+    description_of(tree.call(Call::Stat { path }))
+}
+
+fn description_of(reply: Reply) -> Result<Description, Refusal>
+    ensures { result ≡ description_of reply }
+{
+    match reply {
         Reply::File { size, names } => Ok(Description::File { size, names }),
         Reply::Dir { entries } => Ok(Description::Dir { entries }),
         Reply::Failed { errno } => Err(Refusal::Posix(errno)),

@@ -7,7 +7,7 @@ use fuse_wire::{MAX_PATH, Refusal};
 use std::alloc::Global;
 
 /// Refuses, by `NameTooLong`, that what is at a path gets one of so many bytes, where a path below it would pass 1,024 bytes.
-pub fn check_depth<T: Tree>(
+pub(crate) fn check_depth<T: Tree>(
     alloc: Global,
     tree: &mut T,
     path: &[u8],

@@ -9,7 +9,7 @@ pub struct Descriptors {
 
 impl Descriptors {
     /// Nothing is open.
-    pub fn new() -> Descriptors {
+    pub(crate) fn new() -> Descriptors {
         Descriptors {
             owners: [None; 32],
             next: 0,
@@ -17,19 +17,19 @@ impl Descriptors {
     }
 
     /// The node that has a descriptor.
-    pub fn owner(&self, number: u32) -> Option<u64> {
+    pub(crate) fn owner(&self, number: u32) -> Option<u64> {
         self.owners.get(number as usize).copied().flatten()
     }
 
     /// Sets which node has a descriptor.
-    pub fn set_owner(&mut self, number: u32, owner: Option<u64>) {
+    pub(crate) fn set_owner(&mut self, number: u32, owner: Option<u64>) {
         if let Some(place) = self.owners.get_mut(number as usize) {
             *place = owner;
         }
     }
 
     /// The descriptor that is to be looked at next, each in its turn.
-    pub fn take_turn(&mut self) -> u32 {
+    pub(crate) fn take_turn(&mut self) -> u32 {
         let number = self.next;
         self.next = number.wrapping_add(1) % MAX_DESCRIPTORS;
         number

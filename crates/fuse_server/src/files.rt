@@ -1,4 +1,9 @@
 // Files are opened, read, written, resized and closed.
+ghost use Rattle.std.specs.Prelude.{◌≡◌};
+ghost use Rattle.file_graph.specs.posix_calls.declared.call.Call.TheVariants as call;
+ghost use Rattle.fuse_server.specs.Calls.{Answers, MayAsk, wrote_of};
+ghost use Rattle.fuse_server.specs.Files.{Writes};
+
 use crate::attributes::Attributes;
 use crate::lookups::check_done;
 use crate::paths::path_of;
@@ -72,7 +77,9 @@ impl Server {
         id: u64,
         at: u64,
         bytes: &[u8],
-    ) -> Result<u32, Refusal> {
+    ) -> Result<u32, Refusal>
+        ensures { Writes T.Tree self.old.nodes id at bytes.now result tree.old tree.new }
+    {
         let number = self.take_descriptor(tree, id)?;
         let count = write_piece(self.alloc, tree, number, at, bytes)?;
         self.mark_changed(id);
@@ -160,14 +167,21 @@ fn write_piece<T: Tree>(
     number: u32,
     at: u64,
     bytes: &[u8],
-) -> Result<u32, Refusal> {
+) -> Result<u32, Refusal>
+    ensures { MayAsk T.Tree (call.Pwrite number at bytes.now) wrote_of Answers result tree.old tree.new }
+{
     let bytes = SharedBytes::copy_of(alloc, bytes)?;
-    let call = Call::Pwrite {
+    count_of(tree.call(Call::Pwrite {
         descriptor: number,
         at,
         bytes,
-    };
-    match tree.call(call) {
+    }))
+}
+
+fn count_of(reply: Reply) -> Result<u32, Refusal>
+    ensures { result ≡ wrote_of reply }
+{
+    match reply {
         Reply::Wrote { count } => Ok(count),
         Reply::Failed { errno } => Err(Refusal::Posix(errno)),
         _ => Err(Refusal::Posix(Errno::IoError)),

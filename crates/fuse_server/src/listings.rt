@@ -124,7 +124,7 @@ fn kind_of(nodes: &Nodes, id: u64) -> DirentKind {
 }
 
 /// The names in the directory at a path.
-pub fn list<T: Tree>(alloc: Global, tree: &mut T, path: &[u8]) -> Result<Names, Refusal> {
+pub(crate) fn list<T: Tree>(alloc: Global, tree: &mut T, path: &[u8]) -> Result<Names, Refusal> {
     let path = Bytes::copy_of(alloc, path)?;
     match tree.call(Call::List { path }) {
         Reply::Listed { names } => Ok(names),

@@ -1,5 +1,12 @@
 // Names are looked up, and made.
-use crate::attributes::{Attributes, note_in, stat};
+ghost use Rattle.std.specs.Prelude.{◌≡◌, ◌⊎◌, true, false, Ok, Err, IfOk, IfErr};
+ghost use Rattle.file_graph.specs.posix_calls.Name.{is_name};
+ghost use Rattle.file_graph.specs.posix_calls.declared.call.Call.TheVariants as call;
+ghost use Rattle.fuse_server.specs.Calls.{description_of, done_of, Answers, MayAsk};
+ghost use Rattle.fuse_server.specs.Nodes.{Finds, LooksUp, MakesDir, DescribesNode};
+ghost use Rattle.fuse_server.specs.Refusals.{IsMemory};
+
+use crate::attributes::{Attributes, attributes_of, note_in, stat};
 use crate::node::Node;
 use crate::open_files::close_number;
 use crate::paths::path_below;
@@ -7,7 +14,7 @@ use crate::server::Server;
 use crate::tree::Tree;
 use file_graph::{Bytes, Call, Description, Errno, Flags, MAX_NAME, Name, Path, Reply};
 use fuse_wire::Refusal;
-use std::alloc::Global;
+use std::alloc::{AllocError, Global};
 
 /// How a file is made: whether a name that is taken refuses it, and whether a file that is there loses its bytes.
 #[derive(Clone, Copy)]
@@ -23,9 +30,12 @@ impl Server {
         tree: &mut T,
         folder: u64,
         name: &[u8],
-    ) -> Result<Attributes, Refusal> {
+    ) -> Result<Attributes, Refusal>
+        ensures { LooksUp T.Tree self.old.nodes folder name.now result tree.old tree.new }
+    {
         let name = read_name(self.alloc, name)?;
-        self.tell_of(tree, folder, &name)
+        let path = path_below(self.alloc, &self.nodes, folder, name.as_slice())?;
+        self.tell_of(tree, folder, &name, &path)
     }
 
     /// Makes a file that was not there, and closes it.
@@ -40,10 +50,11 @@ impl Server {
             exclusive: true,
             truncate: false,
         };
-        let number = self.open_new(tree, folder, &name, creation)?;
+        let path = path_below(self.alloc, &self.nodes, folder, name.as_slice())?;
+        let number = self.open_new(tree, &path, creation)?;
         close_number(tree, number);
         self.mark_changed(folder);
-        self.tell_of(tree, folder, &name)
+        self.tell_of(tree, folder, &name, &path)
     }
 
     /// Makes a file where none is, and opens it.
@@ -55,9 +66,10 @@ impl Server {
         creation: Creation,
     ) -> Result<Attributes, Refusal> {
         let name = read_name(self.alloc, name)?;
-        let number = self.open_new(tree, folder, &name, creation)?;
+        let path = path_below(self.alloc, &self.nodes, folder, name.as_slice())?;
+        let number = self.open_new(tree, &path, creation)?;
         self.mark_changed(folder);
-        match self.tell_of(tree, folder, &name) {
+        match self.tell_of(tree, folder, &name, &path) {
             Ok(attributes) => {
                 self.adopt(tree, attributes.node, number);
                 Ok(attributes)
@@ -86,11 +98,9 @@ impl Server {
     fn open_new<T: Tree>(
         &mut self,
         tree: &mut T,
-        folder: u64,
-        name: &Name,
+        path: &[u8],
         creation: Creation,
     ) -> Result<u32, Refusal> {
-        let path = path_below(self.alloc, &self.nodes, folder, name.as_slice())?;
         let flags = Flags {
             read: true,
             write: true,
@@ -98,7 +108,7 @@ impl Server {
             exclusive: creation.exclusive,
             truncate: creation.truncate,
         };
-        self.open_path(tree, &path, flags)
+        self.open_path(tree, path, flags)
     }
 
     /// Makes an empty directory.
@@ -107,32 +117,48 @@ impl Server {
         tree: &mut T,
         folder: u64,
         name: &[u8],
-    ) -> Result<Attributes, Refusal> {
+    ) -> Result<Attributes, Refusal>
+        ensures { MakesDir T.Tree self.old.nodes folder name.now result tree.old tree.new }
+    {
         let name = read_name(self.alloc, name)?;
         let path = path_below(self.alloc, &self.nodes, folder, name.as_slice())?;
-        check_done(tree.call(Call::Mkdir {
-            path: Bytes::from_vec(path),
-        }))?;
+        make_dir_at(self.alloc, tree, &path)?;
         self.mark_changed(folder);
-        self.tell_of(tree, folder, &name)
+        self.tell_of(tree, folder, &name, &path)
     }
 
-    // Finds the node of a name, and counts that the kernel is told of it.
+    // Tells of what has a name, at its path, and counts that the kernel is told.
     fn tell_of<T: Tree>(
         &mut self,
         tree: &mut T,
         folder: u64,
         name: &Name,
-    ) -> Result<Attributes, Refusal> {
-        let path = path_below(self.alloc, &self.nodes, folder, name.as_slice())?;
-        let description = stat(self.alloc, tree, &path)?;
-        let id = match self.nodes.child(folder, name.as_slice()) {
-            Some(id) => id,
-            None => self.meet(tree, folder, name, &path, description)?,
-        };
+        path: &[u8],
+    ) -> Result<Attributes, Refusal>
+        ensures { MayAsk T.Tree (call.Stat path.now) description_of (DescribesNode T.Tree path.now) result tree.old tree.new }
+    {
+        let description = stat(self.alloc, tree, path)?;
+        let id = self.find(tree, folder, name, path, description)?;
         self.note(id, description);
         self.count_lookup(id);
-        self.attributes(id)
+        Ok(attributes_of(id, self.last_change(id), description))
+    }
+
+    // The node of a name.
+    fn find<T: Tree>(
+        &mut self,
+        tree: &mut T,
+        folder: u64,
+        name: &Name,
+        path: &[u8],
+        description: Description,
+    ) -> Result<u64, Refusal>
+        ensures { Finds T.Tree path.now result tree.old tree.new }
+    {
+        match self.nodes.child(folder, name.as_slice()) {
+            Some(id) => Ok(id),
+            None => self.meet(tree, folder, name, path, description),
+        }
     }
 
     pub(crate) fn count_lookup(&mut self, id: u64) {
@@ -150,13 +176,34 @@ impl Server {
         name: &Name,
         path: &[u8],
         description: Description,
-    ) -> Result<u64, Refusal> {
-        let inode = match description {
-            Description::File { names, .. } if names > 1 || self.nodes.lack_names() => {
-                Some(inode_at(self.alloc, tree, path)?)
-            }
-            _ => None,
-        };
+    ) -> Result<u64, Refusal>
+        ensures { Finds T.Tree path.now result tree.old tree.new }
+    {
+        if !self.may_be_known(description) {
+            return self.enter_node(folder, name, None, description);
+        }
+        let inode = inode_at(self.alloc, tree, path)?;
+        self.enter_node(folder, name, Some(inode), description)
+    }
+
+    // Whether what is told so may be a node that is known, or was, by another name.
+    fn may_be_known(&self, description: Description) -> bool {
+        match description {
+            Description::File { names, .. } => names > 1 || self.nodes.lack_names(),
+            Description::Dir { .. } => false,
+        }
+    }
+
+    // Gives a name to the node of an inode, or to a new one.
+    fn enter_node(
+        &mut self,
+        folder: u64,
+        name: &Name,
+        inode: Option<u32>,
+        description: Description,
+    ) -> Result<u64, Refusal>
+        ensures { IfErr result (λ e. IsMemory e) }
+    {
         let id = match self.node_with_inode(inode) {
             Some(id) => id,
             None => self.add_node(inode, description)?,
@@ -171,22 +218,39 @@ impl Server {
         self.nodes.with_inode(inode?)
     }
 
-    fn add_node(&mut self, inode: Option<u32>, description: Description) -> Result<u64, Refusal> {
+    fn add_node(
+        &mut self,
+        inode: Option<u32>,
+        description: Description,
+    ) -> Result<u64, AllocError> {
         let mut node = Node::new(self.alloc, self.changes);
         node.inode = inode;
         note_in(&mut node, description);
-        Ok(self.nodes.add(node)?)
+        self.nodes.add(node)
     }
 }
 
 // The tree's number of the file at a path.
-fn inode_at<T: Tree>(alloc: Global, tree: &mut T, path: &[u8]) -> Result<u32, Refusal> {
+fn inode_at<T: Tree>(alloc: Global, tree: &mut T, path: &[u8]) -> Result<u32, Refusal>
+    ensures { Finds T.Tree path.now result tree.old tree.new }
+{
     let path = Path::read(alloc, path)?;
     Ok(tree.inode(&path)?)
 }
 
+// Makes an empty directory at a path.
+fn make_dir_at<T: Tree>(alloc: Global, tree: &mut T, path: &[u8]) -> Result<(), Refusal>
+    ensures { MayAsk T.Tree (call.Mkdir path.now) done_of Answers result tree.old tree.new }
+{
+    let path = Bytes::copy_of(alloc, path)?;
+    check_done(tree.call(Call::Mkdir { path }))
+}
+
 /// The name that bytes of a request are. `NameTooLong` over 64 bytes, `Invalid` where they are none.
-pub fn read_name(alloc: Global, bytes: &[u8]) -> Result<Name, Refusal> {
+pub(crate) fn read_name(alloc: Global, bytes: &[u8]) -> Result<Name, Refusal>
+    ensures name { IfOk result (λ name. (name ≡ bytes.now) × (is_name bytes.now ≡ true)) }
+    ensures refused { IfErr result (λ e. IsMemory e ⊎ (is_name bytes.now ≡ false)) }
+{
     if bytes.len() > MAX_NAME {
         return Err(Refusal::Posix(Errno::NameTooLong));
     }
@@ -197,7 +261,9 @@ pub fn read_name(alloc: Global, bytes: &[u8]) -> Result<Name, Refusal> {
 }
 
 /// Whether a call was done that has nothing to tell.
-pub fn check_done(reply: Reply) -> Result<(), Refusal> {
+pub(crate) fn check_done(reply: Reply) -> Result<(), Refusal>
+    ensures { result ≡ done_of reply }
+{
     match reply {
         Reply::Done => Ok(()),
         Reply::Failed { errno } => Err(Refusal::Posix(errno)),

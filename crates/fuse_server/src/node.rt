@@ -37,7 +37,7 @@ pub struct Node {
 
 impl Node {
     /// A directory of which no name is known, as a change left it.
-    pub fn new(alloc: Global, changed: u64) -> Node {
+    pub(crate) fn new(alloc: Global, changed: u64) -> Node {
         Node {
             is_dir: true,
             size: 0,
@@ -53,17 +53,17 @@ impl Node {
     }
 
     /// Whether something still stands on it: a name, the kernel, or who has it open.
-    pub fn is_used(&self) -> bool {
+    pub(crate) fn is_used(&self) -> bool {
         !self.names.is_empty() || self.lookups > 0 || self.opens > 0
     }
 
     /// Whether it is open and has one name that is known: without that it is reached by its descriptor alone.
-    pub fn is_held_by_name(&self) -> bool {
+    pub(crate) fn is_held_by_name(&self) -> bool {
         !self.is_dir && self.opens > 0 && self.names.len() == 1
     }
 
     /// The directory that has its first name; of the root, which has none, this node itself.
-    pub fn folder_above(&self, id: u64) -> u64 {
+    pub(crate) fn folder_above(&self, id: u64) -> u64 {
         match self.names.first() {
             Some(known) => known.folder,
             None => id,
@@ -71,13 +71,21 @@ impl Node {
     }
 
     /// Adds a name.
-    pub fn add_name(&mut self, folder: u64, name: Name) -> Result<(), AllocError> {
+    pub(crate) fn add_name(&mut self, folder: u64, name: Name) -> Result<(), AllocError> {
         self.names.push(NodeName { folder, name })?;
         Ok(())
     }
 
+    /// Notes that it has one name less. The tree gives the number of a file without names to another one.
+    pub(crate) fn lose_link(&mut self) {
+        self.links = self.links.saturating_sub(1);
+        if self.links == 0 {
+            self.inode = None;
+        }
+    }
+
     /// Takes a name away, if it has it.
-    pub fn remove_name(&mut self, folder: u64, name: &[u8]) {
+    pub(crate) fn remove_name(&mut self, folder: u64, name: &[u8]) {
         if let Some(place) = place_of(&self.names, folder, name) {
             self.names.remove(place);
         }

@@ -1,3 +1,8 @@
+ghost use Rattle.std.specs.Prelude.{◌≡◌};
+ghost use Rattle.std.specs.Option.{option_map};
+ghost use Rattle.fuse_server.specs.Paths.{node_at};
+ghost use Rattle.fuse_server.specs.Upkeep.{child_at};
+
 use crate::node::Node;
 use file_graph::Name;
 use std::alloc::{AllocError, Global};
@@ -23,7 +28,7 @@ pub struct Nodes {
 
 impl Nodes {
     /// The root alone.
-    pub fn new(alloc: Global) -> Result<Nodes, AllocError> {
+    pub(crate) fn new(alloc: Global) -> Result<Nodes, AllocError> {
         let mut slots = Vec::new(alloc);
         slots.push(Slot {
             generation: 0,
@@ -37,19 +42,21 @@ impl Nodes {
     }
 
     /// What has a number.
-    pub fn get(&self, id: u64) -> Option<&Node> {
+    pub(crate) fn get(&self, id: u64) -> Option<&Node>
+        ensures { option_map (λ node. node.now) result ≡ node_at self.now id }
+    {
         let place = id.checked_sub(1)?;
         self.slots.get(place as usize)?.node.as_ref()
     }
 
     /// What has a number, to be changed.
-    pub fn get_mut(&mut self, id: u64) -> Option<&mut Node> {
+    pub(crate) fn get_mut(&mut self, id: u64) -> Option<&mut Node> {
         let place = id.checked_sub(1)?;
         self.slots.get_mut(place as usize)?.node.as_mut()
     }
 
     /// How often a number was used before.
-    pub fn generation(&self, id: u64) -> u64 {
+    pub(crate) fn generation(&self, id: u64) -> u64 {
         match self.slots.get(id.saturating_sub(1) as usize) {
             Some(slot) => slot.generation,
             None => 0,
@@ -57,12 +64,14 @@ impl Nodes {
     }
 
     /// The node that is known under a name of a directory.
-    pub fn child(&self, folder: u64, name: &[u8]) -> Option<u64> {
+    pub(crate) fn child(&self, folder: u64, name: &[u8]) -> Option<u64>
+        ensures { result ≡ child_at self.now folder name.now }
+    {
         self.get(folder)?.children.get(name).copied()
     }
 
     /// The node of the tree's file of a number, if it is known to be one.
-    pub fn with_inode(&self, inode: u32) -> Option<u64> {
+    pub(crate) fn with_inode(&self, inode: u32) -> Option<u64> {
         for place in 0..self.slots.len() {
             let id = (place as u64).saturating_add(1);
             match self.get(id) {
@@ -74,7 +83,7 @@ impl Nodes {
     }
 
     /// Whether the tree has names of some node of which none is known.
-    pub fn lack_names(&self) -> bool {
+    pub(crate) fn lack_names(&self) -> bool {
         self.slots.iter().any(|slot| match &slot.node {
             Some(node) => !node.is_dir && node.names.is_empty() && node.links > 0,
             None => false,
@@ -82,7 +91,7 @@ impl Nodes {
     }
 
     /// Adds a node, and answers its number.
-    pub fn add(&mut self, node: Node) -> Result<u64, AllocError> {
+    pub(crate) fn add(&mut self, node: Node) -> Result<u64, AllocError> {
         if let Some(id) = self.free.pop() {
             self.reuse(id, node);
             return Ok(id);
@@ -102,7 +111,7 @@ impl Nodes {
     }
 
     /// Takes a node away on which nothing stands any more. Its number is used again, where there is memory to note that.
-    pub fn drop_unused(&mut self, id: u64) {
+    pub(crate) fn drop_unused(&mut self, id: u64) {
         if id == ROOT_NODE || self.is_used(id) {
             return;
         }
@@ -120,7 +129,7 @@ impl Nodes {
     }
 
     /// Notes that a node has a name, in place of what had it. Refused where memory is wanting; nothing is noted then.
-    pub fn enter(&mut self, folder: u64, name: &Name, id: u64) -> Result<(), AllocError> {
+    pub(crate) fn enter(&mut self, folder: u64, name: &Name, id: u64) -> Result<(), AllocError> {
         let key = name.copy(self.alloc)?;
         let own = name.copy(self.alloc)?;
         if let Some(node) = self.get_mut(id) {
@@ -134,7 +143,7 @@ impl Nodes {
     }
 
     /// Sets which node has a name of a directory.
-    pub fn put_child(&mut self, folder: u64, name: Name, id: u64) -> Result<(), AllocError> {
+    pub(crate) fn put_child(&mut self, folder: u64, name: Name, id: u64) -> Result<(), AllocError> {
         match self.get_mut(folder) {
             Some(folder) => folder.children.put(name, id),
             None => Ok(()),
@@ -142,7 +151,7 @@ impl Nodes {
     }
 
     /// Notes that a directory has a name no longer, and answers the node that had it. The node stays.
-    pub fn leave(&mut self, folder: u64, name: &[u8]) -> Option<u64> {
+    pub(crate) fn leave(&mut self, folder: u64, name: &[u8]) -> Option<u64> {
         let id = self.child(folder, name)?;
         self.remove_child(folder, name);
         self.forget_name(folder, name, id);
@@ -150,21 +159,21 @@ impl Nodes {
     }
 
     /// Notes that a directory has a name no longer; the node that had it keeps it.
-    pub fn remove_child(&mut self, folder: u64, name: &[u8]) {
+    pub(crate) fn remove_child(&mut self, folder: u64, name: &[u8]) {
         if let Some(folder) = self.get_mut(folder) {
             folder.children.remove(name);
         }
     }
 
     /// Notes that a node has a name no longer, whatever the directory has there now.
-    pub fn forget_name(&mut self, folder: u64, name: &[u8], id: u64) {
+    pub(crate) fn forget_name(&mut self, folder: u64, name: &[u8], id: u64) {
         if let Some(node) = self.get_mut(id) {
             node.remove_name(folder, name);
         }
     }
 
     /// Notes that the kernel has forgotten a node so often.
-    pub fn forget(&mut self, id: u64, count: u64) {
+    pub(crate) fn forget(&mut self, id: u64, count: u64) {
         if let Some(node) = self.get_mut(id) {
             node.lookups = node.lookups.saturating_sub(count);
         }

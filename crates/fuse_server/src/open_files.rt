@@ -1,12 +1,19 @@
 // Files are opened where a request needs a descriptor: one that is known by name gives its descriptor up where another wants one.
+ghost use Rattle.std.specs.Prelude.{◌≡◌, MatchResult};
+ghost use Rattle.file_graph.specs.posix_calls.declared.call.Call.TheVariants as call;
+ghost use Rattle.fuse_server.specs.Calls.{Answers, MayAsk, opened_of};
+ghost use Rattle.fuse_server.specs.Files.{TakesDescriptor};
+ghost use Rattle.fuse_server.specs.Upkeep.{Opens, Upkeep};
+
 use crate::paths::path_of;
 use crate::server::Server;
 use crate::tree::Tree;
 use file_graph::{Bytes, Call, Errno, Flags, MAX_DESCRIPTORS, Reply};
 use fuse_wire::Refusal;
+use std::alloc::Global;
 
 /// How a file is opened that is there.
-const READ_WRITE: Flags = Flags {
+pub(crate) const READ_WRITE: Flags = Flags {
     read: true,
     write: true,
     create: false,
@@ -16,11 +23,9 @@ const READ_WRITE: Flags = Flags {
 
 impl Server {
     /// The descriptor of a node, opened first where it has none. `Stale` where it has neither a descriptor nor a name.
-    pub(crate) fn take_descriptor<T: Tree>(
-        &mut self,
-        tree: &mut T,
-        id: u64,
-    ) -> Result<u32, Refusal> {
+    pub(crate) fn take_descriptor<T: Tree>(&mut self, tree: &mut T, id: u64) -> Result<u32, Refusal>
+        ensures { TakesDescriptor T.Tree self.old.nodes id result tree.old tree.new }
+    {
         if let Some(number) = self.node(id)?.descriptor {
             return Ok(number);
         }
@@ -44,10 +49,11 @@ impl Server {
         tree: &mut T,
         path: &[u8],
         flags: Flags,
-    ) -> Result<u32, Refusal> {
-        for _ in 0..MAX_DESCRIPTORS {
-            let path = Bytes::copy_of(self.alloc, path)?;
-            match descriptor_of(tree.call(Call::Open { path, flags })) {
+    ) -> Result<u32, Refusal>
+        ensures { Opens T.Tree path.now flags ⊥ result tree.old tree.new }
+    {
+        for attempt in 0..MAX_DESCRIPTORS {
+            match try_open(self.alloc, tree, path, flags) {
                 Err(Refusal::Posix(Errno::TooManyOpen)) => self.close_one(tree)?,
                 end => return end,
             }
@@ -56,15 +62,27 @@ impl Server {
     }
 
     // Closes the descriptor of a node that is known by name.
-    fn close_one<T: Tree>(&mut self, tree: &mut T) -> Result<(), Refusal> {
+    fn close_one<T: Tree>(&mut self, tree: &mut T) -> Result<(), Refusal>
+        ensures { MatchResult result (λ _. Upkeep T.Tree tree.old tree.new) (λ e. (e ≡ Refusal.Posix Errno.TooManyOpen) × (tree.new ≡ tree.old)) }
+    {
+        match self.next_named() {
+            Some(id) => {
+                self.close_descriptor(tree, id);
+                Ok(())
+            }
+            None => Err(Refusal::Posix(Errno::TooManyOpen)),
+        }
+    }
+
+    // The next node in turn that has a descriptor and is known by name.
+    fn next_named(&mut self) -> Option<u64> {
         for _ in 0..MAX_DESCRIPTORS {
             let number = self.descriptors.take_turn();
             if let Some(id) = self.named_owner(number) {
-                self.close_descriptor(tree, id);
-                return Ok(());
+                return Some(id);
             }
         }
-        Err(Refusal::Posix(Errno::TooManyOpen))
+        None
     }
 
     // The node that has a descriptor, where it is known by name.
@@ -77,23 +95,39 @@ impl Server {
     }
 
     /// Closes the descriptor of a node, if it has one.
-    pub(crate) fn close_descriptor<T: Tree>(&mut self, tree: &mut T, id: u64) {
-        let Some(node) = self.nodes.get_mut(id) else {
-            return;
-        };
-        if let Some(number) = node.descriptor.take() {
-            self.descriptors.set_owner(number, None);
+    pub(crate) fn close_descriptor<T: Tree>(&mut self, tree: &mut T, id: u64)
+        ensures { Upkeep T.Tree tree.old tree.new }
+    {
+        if let Some(number) = self.drop_descriptor(id) {
             close_number(tree, number);
         }
+    }
+
+    // Notes that a node has no descriptor any more, and answers the one that it had.
+    fn drop_descriptor(&mut self, id: u64) -> Option<u32> {
+        let number = self.nodes.get_mut(id)?.descriptor.take()?;
+        self.descriptors.set_owner(number, None);
+        Some(number)
     }
 }
 
 /// Closes a descriptor that no node has. That it can't be closed answers no request.
-pub fn close_number<T: Tree>(tree: &mut T, number: u32) {
+pub(crate) fn close_number<T: Tree>(tree: &mut T, number: u32)
+    ensures { Upkeep T.Tree tree.old tree.new }
+{
     let _ = tree.call(Call::Close { descriptor: number });
 }
 
-fn descriptor_of(reply: Reply) -> Result<u32, Refusal> {
+fn try_open<T: Tree>(alloc: Global, tree: &mut T, path: &[u8], flags: Flags) -> Result<u32, Refusal>
+    ensures { MayAsk T.Tree (call.Open path.now flags) opened_of Answers result tree.old tree.new }
+{
+    let path = Bytes::copy_of(alloc, path)?;
+    descriptor_of(tree.call(Call::Open { path, flags }))
+}
+
+fn descriptor_of(reply: Reply) -> Result<u32, Refusal>
+    ensures { result ≡ opened_of reply }
+{
     match reply {
         Reply::Opened { descriptor } => Ok(descriptor),
         Reply::Failed { errno } => Err(Refusal::Posix(errno)),

@@ -1,4 +1,9 @@
 // The paths of nodes.
+ghost use Rattle.std.specs.Prelude.{◌≡◌, ◌⊎◌, [], ◌∷◌, ◌++◌, Some, None, IfOk, IfErr, OnOk};
+ghost use Rattle.std.specs.Option.{option_map};
+ghost use Rattle.fuse_server.specs.Paths.{first_name, folder_path, is_unnamed, path_below, path_of};
+ghost use Rattle.fuse_server.specs.Refusals.{IsMemory};
+
 use crate::node::NodeName;
 use crate::nodes::{Nodes, ROOT_NODE};
 use file_graph::{Bytes, Errno};
@@ -6,7 +11,10 @@ use fuse_wire::{MAX_PATH, Refusal};
 use std::alloc::{AllocError, Global};
 
 /// The path of a node, by the first name that is known of it. `Stale` where none is.
-pub fn path_of(alloc: Global, nodes: &Nodes, id: u64) -> Result<Vec<u8>, Refusal> {
+pub(crate) fn path_of(alloc: Global, nodes: &Nodes, id: u64) -> Result<Vec<u8>, Refusal>
+    ensures path { IfOk result (λ path. path_of nodes.now id ≡ Some path.items) }
+    ensures unknown { IfErr result (λ e. IsMemory e ⊎ (path_of nodes.now id ≡ None)) }
+{
     if id == ROOT_NODE {
         return root_path(alloc);
     }
@@ -15,50 +23,73 @@ pub fn path_of(alloc: Global, nodes: &Nodes, id: u64) -> Result<Vec<u8>, Refusal
 }
 
 /// The path of a name in a directory.
-pub fn path_below(
+pub(crate) fn path_below(
     alloc: Global,
     nodes: &Nodes,
     folder: u64,
     name: &[u8],
-) -> Result<Vec<u8>, Refusal> {
+) -> Result<Vec<u8>, Refusal>
+    ensures path { IfOk result (λ path. path_below nodes.now folder name.now ≡ Some path.items) }
+    ensures unknown { IfErr result (λ e. IsMemory e ⊎ (path_below nodes.now folder name.now ≡ None)) }
+{
     let mut path = Vec::new(alloc);
-    push_backwards(&mut path, name)?;
-    push_folders(&mut path, nodes, folder)?;
-    path.reverse();
+    push_folder(&mut path, nodes, folder, MAX_PATH)?;
+    push_name(&mut path, name)?;
     Ok(path)
 }
 
-fn root_path(alloc: Global) -> Result<Vec<u8>, Refusal> {
+fn root_path(alloc: Global) -> Result<Vec<u8>, Refusal>
+    ensures path { IfOk result (λ path. path.items ≡ 47 ∷ []) }
+    ensures memory { IfErr result (λ e. IsMemory e) }
+{
     let mut path = Vec::new(alloc);
     path.push(b'/')?;
     Ok(path)
 }
 
-// Adds the names of a directory and of those above it, backwards, up to the root.
-fn push_folders(path: &mut Vec<u8>, nodes: &Nodes, folder: u64) -> Result<(), Refusal> {
-    let mut folder = folder;
-    for _ in 0..MAX_PATH {
-        if folder == ROOT_NODE {
-            return Ok(());
-        }
-        let known = first_name(nodes, folder)?;
-        push_backwards(path, known.name.as_slice())?;
-        folder = known.folder;
+// Adds the path of a directory that has fewer than so many directories above it, the root first.
+fn push_folder(path: &mut Vec<u8>, nodes: &Nodes, folder: u64, most: usize) -> Result<(), Refusal>
+    ensures path { IfOk result (λ _. option_map (λ p. path.old.items ++ p) (folder_path most nodes.now folder) ≡ Some path.new.items) }
+    ensures unknown { IfErr result (λ e. IsMemory e ⊎ (folder_path most nodes.now folder ≡ None)) }
+{
+    if most == 0 {
+        return Err(Refusal::Posix(Errno::NameTooLong));
     }
-    Err(Refusal::Posix(Errno::NameTooLong))
+    if folder == ROOT_NODE {
+        return Ok(());
+    }
+    let known = first_name(nodes, folder)?;
+    push_folder(path, nodes, known.folder, most - 1)?;
+    push_name(path, known.name.as_slice())?;
+    Ok(())
 }
 
-fn first_name(nodes: &Nodes, id: u64) -> Result<&NodeName, Refusal> {
+/// Whether a node has no name that is known, and is not the root.
+pub(crate) fn is_unnamed(nodes: &Nodes, id: u64) -> bool
+    ensures { result ≡ is_unnamed nodes.now id }
+{
+    match first_name(nodes, id) {
+        Ok(_) => false,
+        Err(_) => id != ROOT_NODE,
+    }
+}
+
+#[tactic(auto, unfolding(crate::specs::Paths::first_name))]
+fn first_name(nodes: &Nodes, id: u64) -> Result<&NodeName, Refusal>
+    ensures name { IfOk result (λ known. first_name nodes.now id ≡ Some known.now) }
+    ensures unknown { IfErr result (λ e. (e ≡ Refusal.StaleNode) × (first_name nodes.now id ≡ None)) }
+{
     match nodes.get(id) {
         Some(node) => node.names.first().ok_or(Refusal::StaleNode),
         None => Err(Refusal::StaleNode),
     }
 }
 
-fn push_backwards(path: &mut Vec<u8>, name: &[u8]) -> Result<(), AllocError> {
-    for byte in name.iter().rev() {
-        path.push(*byte)?;
-    }
+// Adds a slash and a name.
+fn push_name(path: &mut Vec<u8>, name: &[u8]) -> Result<(), AllocError>
+    ensures { OnOk result (path.new.items ≡ path.old.items ++ 47 ∷ name.now) }
+{
     path.push(b'/')?;
+    path.extend_from_slice(name)?;
     Ok(())
 }

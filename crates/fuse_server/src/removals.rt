@@ -1,11 +1,20 @@
 // Names go, and move.
-use crate::attributes::Attributes;
+ghost use Rattle.std.specs.Prelude.{◌≡◌, IfSome};
+ghost use Rattle.file_graph.specs.posix_calls.declared.call.Call.TheVariants as call;
+ghost use Rattle.fuse_server.specs.Calls.{Answers, MayAsk, description_of, done_of};
+ghost use Rattle.fuse_server.specs.Files.{Links, DescribesAgain, Unlinks};
+ghost use Rattle.fuse_server.specs.Nodes.{RemovesDir};
+ghost use Rattle.fuse_server.specs.Upkeep.{IsLost, KeepsUp};
+
+use crate::attributes::{Attributes, attributes_of, stat};
 use crate::lookups::{check_done, read_name};
+use crate::open_files::READ_WRITE;
 use crate::paths::{path_below, path_of};
 use crate::server::Server;
 use crate::tree::Tree;
-use file_graph::{Bytes, Call, Errno};
+use file_graph::{Bytes, Call, Errno, Name};
 use fuse_wire::Refusal;
+use std::alloc::Global;
 
 impl Server {
     /// Takes a name of a file away. One that is open stays usable: where this is its last name, its descriptor is taken before.
@@ -14,7 +23,9 @@ impl Server {
         tree: &mut T,
         folder: u64,
         name: &[u8],
-    ) -> Result<(), Refusal> {
+    ) -> Result<(), Refusal>
+        ensures { Unlinks T.Tree self.old.nodes folder name.now result tree.old tree.new }
+    {
         let path = path_below(self.alloc, &self.nodes, folder, name)?;
         let known = self.nodes.child(folder, name);
         self.hold_open(tree, known)?;
@@ -31,7 +42,9 @@ impl Server {
         tree: &mut T,
         folder: u64,
         name: &[u8],
-    ) -> Result<(), Refusal> {
+    ) -> Result<(), Refusal>
+        ensures { RemovesDir T.Tree self.old.nodes folder name.now result tree.old tree.new }
+    {
         let path = path_below(self.alloc, &self.nodes, folder, name)?;
         check_done(tree.call(Call::Rmdir {
             path: Bytes::from_vec(path),
@@ -45,15 +58,46 @@ impl Server {
         &mut self,
         tree: &mut T,
         id: Option<u64>,
-    ) -> Result<(), Refusal> {
+    ) -> Result<(), Refusal>
+        ensures { KeepsUp T.Tree (IfSome id (λ id. IsLost self.old.nodes id)) result tree.old tree.new }
+    {
         let Some(id) = id else {
             return Ok(());
         };
-        if self.node(id)?.is_held_by_name() {
-            self.take_descriptor(tree, id)?;
-            self.describe(tree, id)?;
+        if !self.node(id)?.is_held_by_name() {
+            return Ok(());
         }
+        let path = path_of(self.alloc, &self.nodes, id)?;
+        self.hold_at(tree, id, &path)
+    }
+
+    // Takes the descriptor of the file at a path, and notes its size.
+    fn hold_at<T: Tree>(&mut self, tree: &mut T, id: u64, path: &[u8]) -> Result<(), Refusal>
+        ensures { KeepsUp T.Tree ⊥ result tree.old tree.new }
+    {
+        self.note_size(tree, id, path)?;
+        if self.has_descriptor(id) {
+            return Ok(());
+        }
+        let number = self.open_path(tree, path, READ_WRITE)?;
+        self.give_descriptor(id, number);
         Ok(())
+    }
+
+    // Notes what the tree tells of the node at a path.
+    fn note_size<T: Tree>(&mut self, tree: &mut T, id: u64, path: &[u8]) -> Result<(), Refusal>
+        ensures { KeepsUp T.Tree ⊥ result tree.old tree.new }
+    {
+        let description = stat(self.alloc, tree, path)?;
+        self.note(id, description);
+        Ok(())
+    }
+
+    fn has_descriptor(&self, id: u64) -> bool {
+        match self.nodes.get(id) {
+            Some(node) => node.descriptor.is_some(),
+            None => false,
+        }
     }
 
     // Notes that a name is gone.
@@ -68,7 +112,7 @@ impl Server {
     pub(crate) fn lose_link(&mut self, id: u64) {
         self.mark_changed(id);
         if let Some(node) = self.nodes.get_mut(id) {
-            node.links = node.links.saturating_sub(1);
+            node.lose_link();
         }
         self.nodes.drop_unused(id);
     }
@@ -80,22 +124,60 @@ impl Server {
         id: u64,
         folder: u64,
         name: &[u8],
-    ) -> Result<Attributes, Refusal> {
+    ) -> Result<Attributes, Refusal>
+        ensures { Links T.Tree self.old.nodes id folder name.now result tree.old tree.new }
+    {
+        let old = path_of(self.alloc, &self.nodes, id)?;
         let name = read_name(self.alloc, name)?;
-        let old = Bytes::from_vec(path_of(self.alloc, &self.nodes, id)?);
-        let new = Bytes::from_vec(path_below(self.alloc, &self.nodes, folder, name.as_slice())?);
+        let new = path_below(self.alloc, &self.nodes, folder, name.as_slice())?;
         if self.nodes.child(folder, name.as_slice()).is_some() {
             return Err(Refusal::Posix(Errno::Exists));
         }
-        self.nodes.enter(folder, &name, id)?;
-        if let Err(refusal) = check_done(tree.call(Call::Link { old, new })) {
-            let _ = self.nodes.leave(folder, name.as_slice());
-            return Err(refusal);
-        }
+        self.enter_link(tree, (id, folder, &name), &old, &new)?;
         self.mark_changed(folder);
         self.mark_changed(id);
-        let attributes = self.describe(tree, id)?;
-        self.count_lookup(id);
-        Ok(attributes)
+        self.tell_again(tree, id, &old)
     }
+
+    // Links two paths. The name is entered before the call, so that no memory is wanted behind it.
+    fn enter_link<T: Tree>(
+        &mut self,
+        tree: &mut T,
+        names: (u64, u64, &Name),
+        old: &[u8],
+        new: &[u8],
+    ) -> Result<(), Refusal>
+        ensures { MayAsk T.Tree (call.Link old.now new.now) done_of Answers result tree.old tree.new }
+    {
+        let (id, folder, name) = names;
+        self.nodes.enter(folder, name, id)?;
+        let end = link_paths(self.alloc, tree, old, new);
+        if end.is_err() {
+            let _ = self.nodes.leave(folder, name.as_slice());
+        }
+        end
+    }
+
+    // Tells of a node that is known, at a path of it, and counts that the kernel is told.
+    fn tell_again<T: Tree>(
+        &mut self,
+        tree: &mut T,
+        id: u64,
+        path: &[u8],
+    ) -> Result<Attributes, Refusal>
+        ensures { MayAsk T.Tree (call.Stat path.now) description_of (DescribesAgain id) result tree.old tree.new }
+    {
+        let description = stat(self.alloc, tree, path)?;
+        self.note(id, description);
+        self.count_lookup(id);
+        Ok(attributes_of(id, self.last_change(id), description))
+    }
+}
+
+fn link_paths<T: Tree>(alloc: Global, tree: &mut T, old: &[u8], new: &[u8]) -> Result<(), Refusal>
+    ensures { MayAsk T.Tree (call.Link old.now new.now) done_of Answers result tree.old tree.new }
+{
+    let old = Bytes::copy_of(alloc, old)?;
+    let new = Bytes::copy_of(alloc, new)?;
+    check_done(tree.call(Call::Link { old, new }))
 }

@@ -1,6 +1,11 @@
 // What is answered, as the messages of the protocol carry it.
-ghost use Rattle.std.specs.Prelude.{OnOk};
+ghost use Rattle.std.specs.Prelude.{◌≡◌, ◌+◌, ◌<◌, ◌≤◌, length, OnOk, IsOk, vec_capacity};
+ghost use Rattle.fuse_wire.specs.posix_calls.declared.errno.Errno.TheVariants as errno;
+ghost use Rattle.fuse_wire.specs.declared.errno.Refusal.TheVariants as refusal;
+ghost use Rattle.fuse_wire.specs.Errno.{refusal_number};
+ghost use Rattle.fuse_wire.specs.Replies.{error_bytes, reply_bytes};
 ghost use Rattle.fuse_server.specs.Answers.{IsReply};
+ghost use Rattle.fuse_server.specs.Replies.{Carries, HasRoom, attr_of, entry_of};
 
 use crate::answer::Answer;
 use crate::attributes::Attributes;
@@ -39,7 +44,9 @@ impl Server {
         answer: &Answer,
         reply: &mut Vec<u8>,
     ) -> Result<(), AllocError>
-        ensures { OnOk result (IsReply header.now.unique reply.new.items) }
+        ensures reply { OnOk result (IsReply header.now.unique reply.new.items) }
+        ensures carried { OnOk result (Carries header.now answer.now reply.new.items) }
+        ensures room { HasRoom (vec_capacity reply.old) answer.now → IsOk result }
     {
         let unique = header.unique;
         match answer {
@@ -91,7 +98,9 @@ impl Server {
         }
     }
 
-    fn entry(&self, header: &Header, attributes: &Attributes) -> Entry {
+    fn entry(&self, header: &Header, attributes: &Attributes) -> Entry
+        ensures { result ≡ entry_of header.now result.generation attributes.now }
+    {
         Entry {
             node: attributes.node,
             generation: self.nodes.generation(attributes.node),
@@ -103,15 +112,24 @@ impl Server {
 }
 
 /// Writes the reply that refuses a request.
-pub fn write_refusal(reply: &mut Vec<u8>, unique: u64, refusal: Refusal) -> Result<(), AllocError>
-    ensures { OnOk result (IsReply unique reply.new.items) }
+pub(crate) fn write_refusal(
+    reply: &mut Vec<u8>,
+    unique: u64,
+    refusal: Refusal,
+) -> Result<(), AllocError>
+    ensures reply { OnOk result (IsReply unique reply.new.items) }
+    ensures refused { OnOk result (reply.new.items ≡ error_bytes unique (refusal_number refusal)) }
+    ensures room { 272 ≤ vec_capacity reply.old → IsOk result }
 {
     write_error(reply, unique, refusal)
 }
 
 // No file has more bytes than the greatest.
 fn write_bytes(reply: &mut Vec<u8>, unique: u64, bytes: &[u8]) -> Result<(), AllocError>
-    ensures { OnOk result (IsReply unique reply.new.items) }
+    ensures reply { OnOk result (IsReply unique reply.new.items) }
+    ensures bytes { length bytes.now ≤ 1048576 → OnOk result (reply.new.items ≡ reply_bytes unique bytes.now) }
+    ensures room { 272 ≤ vec_capacity reply.old → 16 + length bytes.now ≤ vec_capacity reply.old → IsOk result }
+    ensures long { 1048576 < length bytes.now → OnOk result (reply.new.items ≡ error_bytes unique (refusal_number (refusal.Posix errno.IoError))) }
 {
     if bytes.len() as u64 > MAX_FILE {
         return write_refusal(reply, unique, Refusal::Posix(Errno::IoError));
@@ -119,7 +137,9 @@ fn write_bytes(reply: &mut Vec<u8>, unique: u64, bytes: &[u8]) -> Result<(), All
     write_data(reply, unique, bytes)
 }
 
-fn attr(header: &Header, attributes: &Attributes) -> Attr {
+fn attr(header: &Header, attributes: &Attributes) -> Attr
+    ensures { result ≡ attr_of header.now attributes.now }
+{
     let time = Time {
         seconds: attributes.changed,
         nanoseconds: 0,
@@ -144,7 +164,9 @@ fn attr(header: &Header, attributes: &Attributes) -> Attr {
     }
 }
 
-fn open_file(handle: u64) -> OpenFile {
+fn open_file(handle: u64) -> OpenFile
+    ensures { result ≡ record { handle = handle; flags = 2 } }
+{
     OpenFile {
         handle,
         flags: KEEP_CACHE,

@@ -1,11 +1,15 @@
 // What each request asks of the server and of the tree.
+ghost use Rattle.std.specs.Prelude.{◌≡◌};
+ghost use Rattle.fuse_server.specs.declared.answer.Answer.TheVariants as answer;
+ghost use Rattle.fuse_server.specs.Requests.{Serves, answer_of, lookup_answer};
+
 use crate::answer::Answer;
 use crate::attributes::Attributes;
 use crate::lookups::Creation;
 use crate::renames::Place;
 use crate::server::Server;
 use crate::tree::Tree;
-use file_graph::Errno;
+use file_graph::{Bytes, Errno};
 use fuse_wire::{Header, Init, Refusal, Request, forget_at, negotiate};
 
 /// The bits of a mode that say what kind of node it is, and those of a file.
@@ -25,28 +29,35 @@ impl Server {
         tree: &mut T,
         header: &Header,
         request: &Request<'_>,
-    ) -> Answer {
+    ) -> Answer
+        ensures { Serves T.Tree self.old.nodes header.now.node request.now result tree.old tree.new }
+    {
         let node = header.node;
-        let end = match *request {
-            Request::Lookup { name } => return lookup_answer(self.look_up(tree, node, name)),
+        match *request {
+            Request::Lookup { name } => lookup_answer(self.look_up(tree, node, name)),
             Request::GetAttr { .. } => attributes_answer(self.describe(tree, node)),
-            Request::SetAttr(set) => attributes_answer(self.set_attributes(tree, node, set.size)),
-            Request::Open { .. } => open_answer(self.open(node)),
-            Request::Read { at, size, .. } => self.serve_read(tree, node, at, size),
-            Request::Write { at, bytes, .. } => self.serve_write(tree, node, at, bytes),
-            Request::Release { .. } => done_answer(self.release(tree, node)),
-            _ => self.serve_name(tree, node, request),
-        };
-        answer_of(end)
+            Request::MkDir { name, .. } => entry_answer(self.make_dir(tree, node, name)),
+            Request::RmDir { name } => done_answer(self.remove_dir(tree, node, name)),
+            Request::Unlink { name } => done_answer(self.unlink(tree, node, name)),
+            Request::Link { node: old, name } => entry_answer(self.link(tree, old, node, name)),
+            Request::Write { at, bytes, .. } => count_answer(self.write(tree, node, at, bytes)),
+            _ => self.serve_file(tree, node, request),
+        }
     }
 
-    // The requests that make, take or move a name.
-    fn serve_name<T: Tree>(
-        &mut self,
-        tree: &mut T,
-        node: u64,
-        request: &Request<'_>,
-    ) -> Result<Answer, Refusal> {
+    // The requests about files.
+    fn serve_file<T: Tree>(&mut self, tree: &mut T, node: u64, request: &Request<'_>) -> Answer {
+        match *request {
+            Request::SetAttr(set) => attributes_answer(self.set_attributes(tree, node, set.size)),
+            Request::Open { .. } => open_answer(self.open(node)),
+            Request::Read { at, size, .. } => data_answer(self.read(tree, node, at, size)),
+            Request::Release { .. } => done_answer(self.release(tree, node)),
+            _ => self.serve_name(tree, node, request),
+        }
+    }
+
+    // The requests that make, take or move a name of a file.
+    fn serve_name<T: Tree>(&mut self, tree: &mut T, node: u64, request: &Request<'_>) -> Answer {
         match *request {
             Request::Create { name, flags, .. } => create_answer(self.create(
                 tree,
@@ -54,14 +65,7 @@ impl Server {
                 name,
                 creation_of(flags),
             )),
-            Request::MkNod { name, mode } => {
-                check_file(mode)?;
-                entry_answer(self.make_file(tree, node, name))
-            }
-            Request::MkDir { name, .. } => entry_answer(self.make_dir(tree, node, name)),
-            Request::Link { node: old, name } => entry_answer(self.link(tree, old, node, name)),
-            Request::Unlink { name } => done_answer(self.unlink(tree, node, name)),
-            Request::RmDir { name } => done_answer(self.remove_dir(tree, node, name)),
+            Request::MkNod { name, mode } => entry_answer(self.make_node(tree, node, name, mode)),
             Request::Rename {
                 name,
                 new_folder,
@@ -79,8 +83,20 @@ impl Server {
                 let (old, new) = places(node, name, new_folder, new_name);
                 done_answer(self.rename(tree, old, new, flags))
             }
-            _ => self.serve_other(tree, node, request),
+            _ => answer_of(self.serve_other(tree, node, request)),
         }
+    }
+
+    // Makes a file; special files are not permitted.
+    fn make_node<T: Tree>(
+        &mut self,
+        tree: &mut T,
+        node: u64,
+        name: &[u8],
+        mode: u32,
+    ) -> Result<Attributes, Refusal> {
+        check_file(mode)?;
+        self.make_file(tree, node, name)
     }
 
     // The requests about directories and the whole mount, and those that are refused.
@@ -113,26 +129,6 @@ impl Server {
         }
     }
 
-    fn serve_read<T: Tree>(
-        &mut self,
-        tree: &mut T,
-        node: u64,
-        at: u64,
-        size: u32,
-    ) -> Result<Answer, Refusal> {
-        Ok(Answer::Data(self.read(tree, node, at, size)?))
-    }
-
-    fn serve_write<T: Tree>(
-        &mut self,
-        tree: &mut T,
-        node: u64,
-        at: u64,
-        bytes: &[u8],
-    ) -> Result<Answer, Refusal> {
-        Ok(Answer::Count(self.write(tree, node, at, bytes)?))
-    }
-
     fn forget_all(&mut self, nodes: &[u8]) {
         for place in 0..nodes.len() {
             match forget_at(nodes, place) {
@@ -151,7 +147,9 @@ fn answer_of(end: Result<Answer, Refusal>) -> Answer {
 }
 
 // A name that nothing has is told so that the kernel may keep it.
-fn lookup_answer(end: Result<Attributes, Refusal>) -> Answer {
+fn lookup_answer(end: Result<Attributes, Refusal>) -> Answer
+    ensures { result ≡ lookup_answer end }
+{
     match end {
         Ok(attributes) => Answer::Entry(attributes),
         Err(Refusal::Posix(Errno::NoEntry)) => Answer::Absence,
@@ -159,26 +157,63 @@ fn lookup_answer(end: Result<Attributes, Refusal>) -> Answer {
     }
 }
 
-fn entry_answer(end: Result<Attributes, Refusal>) -> Result<Answer, Refusal> {
-    Ok(Answer::Entry(end?))
+fn entry_answer(end: Result<Attributes, Refusal>) -> Answer
+    ensures { result ≡ answer_of answer.Entry end }
+{
+    match end {
+        Ok(attributes) => Answer::Entry(attributes),
+        Err(refusal) => Answer::Refused(refusal),
+    }
 }
 
-fn create_answer(end: Result<Attributes, Refusal>) -> Result<Answer, Refusal> {
-    Ok(Answer::Created(end?))
+fn create_answer(end: Result<Attributes, Refusal>) -> Answer {
+    match end {
+        Ok(attributes) => Answer::Created(attributes),
+        Err(refusal) => Answer::Refused(refusal),
+    }
 }
 
-fn attributes_answer(end: Result<Attributes, Refusal>) -> Result<Answer, Refusal> {
-    Ok(Answer::Attributes(end?))
+fn attributes_answer(end: Result<Attributes, Refusal>) -> Answer
+    ensures { result ≡ answer_of answer.Attributes end }
+{
+    match end {
+        Ok(attributes) => Answer::Attributes(attributes),
+        Err(refusal) => Answer::Refused(refusal),
+    }
 }
 
-fn done_answer(end: Result<(), Refusal>) -> Result<Answer, Refusal> {
-    end?;
-    Ok(Answer::Done)
+fn data_answer(end: Result<Bytes, Refusal>) -> Answer
+    ensures { result ≡ answer_of answer.Data end }
+{
+    match end {
+        Ok(bytes) => Answer::Data(bytes),
+        Err(refusal) => Answer::Refused(refusal),
+    }
 }
 
-fn open_answer(end: Result<(), Refusal>) -> Result<Answer, Refusal> {
-    end?;
-    Ok(Answer::Opened(0))
+fn count_answer(end: Result<u32, Refusal>) -> Answer
+    ensures { result ≡ answer_of answer.Count end }
+{
+    match end {
+        Ok(count) => Answer::Count(count),
+        Err(refusal) => Answer::Refused(refusal),
+    }
+}
+
+fn done_answer(end: Result<(), Refusal>) -> Answer
+    ensures { result ≡ answer_of (λ _. answer.Done) end }
+{
+    match end {
+        Ok(()) => Answer::Done,
+        Err(refusal) => Answer::Refused(refusal),
+    }
+}
+
+fn open_answer(end: Result<(), Refusal>) -> Answer {
+    match end {
+        Ok(()) => Answer::Opened(0),
+        Err(refusal) => Answer::Refused(refusal),
+    }
 }
 
 fn agree(init: &Init) -> Result<Answer, Refusal> {

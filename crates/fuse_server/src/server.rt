@@ -1,7 +1,15 @@
-ghost use Rattle.std.specs.Prelude.{◌≡◌, OnOk, IfErr};
-ghost use Rattle.fuse_wire.specs.Spelling.{IsWhole};
+ghost use Rattle.std.specs.Prelude.{◌≡◌, Some, None, Err, OnOk, IfOk, IfErr, vec_capacity};
+ghost use Rattle.fuse_wire.specs.declared.error.WireError.{WireError};
+ghost use Rattle.fuse_wire.specs.declared.errno.Refusal.TheVariants as refusal;
+ghost use Rattle.fuse_wire.specs.posix_calls.declared.errno.Errno.TheVariants as errno;
+ghost use Rattle.fuse_wire.specs.Errno.{refusal_number};
+ghost use Rattle.fuse_wire.specs.Replies.{error_bytes};
+ghost use Rattle.fuse_wire.specs.Spelling.{IsWhole, header_of};
 ghost use Rattle.fuse_server.specs.Answers.{IsAnswered, IsReply, is_silent};
+ghost use Rattle.fuse_server.specs.Replies.{IsReplyFor};
+ghost use Rattle.fuse_server.specs.Paths.{node_at};
 ghost use Rattle.fuse_server.specs.Refusals.{IsNoAnswer};
+ghost use Rattle.fuse_server.specs.Requests.{IsAnswerTo, IsServed};
 
 use crate::answer::Answer;
 use crate::descriptors::Descriptors;
@@ -67,21 +75,31 @@ impl Server {
     ) -> Result<(), ServeError>
         ensures answered { OnOk result (IsAnswered message.now reply.new.items) }
         ensures whole { OnOk result (IsWhole message.now) }
+        ensures served { OnOk result (IsServed T.Tree self.old message.now (vec_capacity reply.old) reply.new.items tree.old tree.new) }
         ensures refused { IfErr result (IsNoAnswer message.now) }
+        ensures unasked { (e : WireError) → result ≡ Err (ServeError.Message e) → tree.new ≡ tree.old }
     {
         reply.clear();
         let header = match read_header(message) {
             Ok(header) => header,
             Err(error) => return Err(ServeError::Message(error)),
         };
-        let answer = match read_request(message) {
-            Ok((_, request)) => self.serve(tree, &header, &request),
-            Err(_) => Answer::Refused(Refusal::Posix(Errno::Invalid)),
-        };
+        let answer = self.serve_message(tree, &header, message);
         if is_silent(header.opcode) {
             return Ok(());
         }
         self.reply_to(&header, &answer, reply)
+    }
+
+    // What a message with this header is answered.
+    fn serve_message<T: Tree>(&mut self, tree: &mut T, header: &Header, message: &[u8]) -> Answer
+        requires { header.now ≡ header_of message.now }
+        ensures { IsAnswerTo T.Tree self.old.nodes message.now result tree.old tree.new }
+    {
+        match read_request(message) {
+            Ok((_, request)) => self.serve(tree, header, &request),
+            Err(_) => Answer::Refused(Refusal::Posix(Errno::Invalid)),
+        }
     }
 
     fn reply_to(
@@ -91,6 +109,7 @@ impl Server {
         reply: &mut Vec<u8>,
     ) -> Result<(), ServeError>
         ensures replied { OnOk result (IsReply header.now.unique reply.new.items) }
+        ensures carried { OnOk result (IsReplyFor header.now answer.now (vec_capacity reply.old) reply.new.items) }
         ensures memory { IfErr result (λ e. e ≡ ServeError.Memory) }
     {
         match self.write_answer(header, answer, reply) {
@@ -100,7 +119,10 @@ impl Server {
     }
 
     /// What has a node number. `StaleNode` where nothing has it.
-    pub(crate) fn node(&self, id: u64) -> Result<&Node, Refusal> {
+    pub(crate) fn node(&self, id: u64) -> Result<&Node, Refusal>
+        ensures known { IfOk result (λ node. node_at self.now.nodes id ≡ Some node.now) }
+        ensures unknown { IfErr result (λ e. (node_at self.now.nodes id ≡ None) × (e ≡ Refusal.StaleNode)) }
+    {
         self.nodes.get(id).ok_or(Refusal::StaleNode)
     }
 }
@@ -108,6 +130,7 @@ impl Server {
 // Refuses a request for whose answer memory was wanting.
 fn refuse_memory(unique: u64, reply: &mut Vec<u8>) -> Result<(), ServeError>
     ensures replied { OnOk result (IsReply unique reply.new.items) }
+    ensures refused { OnOk result (reply.new.items ≡ error_bytes unique (refusal_number (refusal.Posix errno.NoMemory))) }
     ensures memory { IfErr result (λ e. e ≡ ServeError.Memory) }
 {
     match write_refusal(reply, unique, Refusal::Posix(Errno::NoMemory)) {

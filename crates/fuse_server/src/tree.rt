@@ -1,5 +1,7 @@
+ghost use Rattle.std.specs.Prelude.{List, ℕ, Result};
 ghost use Rattle.file_graph.specs.posix_calls.declared.call.Call.{Call};
 ghost use Rattle.file_graph.specs.posix_calls.declared.call.Reply.{Reply};
+ghost use Rattle.file_graph.specs.posix_calls.declared.errno.Errno.{Errno};
 
 use file_graph::{Call, Errno, Path, Reply};
 
@@ -17,13 +19,17 @@ pub trait Tree {
     /// That a tree is asked a call, answers it so, and becomes another tree.
     ghost asks: { Self → Call → Reply → Self → Type 0 };
 
+    /// That a tree is asked which file the names of a path lead to, answers it so, and becomes another tree.
+    ghost finds: { Self → List (List ℕ) → Result ℕ Errno → Self → Type 0 };
+
     /// Carries out a call. What it answers is kept by then.
     fn call(&mut self, call: Call) -> Reply
         ensures { asks self.old call result self.new };
 
     /// The number of the file that a path leads to, by which two names of a file are known to be one; else why it can't be found out
     /// now.
-    fn inode(&mut self, path: &Path) -> Result<u32, Errno>;
+    fn inode(&mut self, path: &Path) -> Result<u32, Errno>
+        ensures { finds self.old path.now result self.new };
 
     /// How much there is, and is free.
     fn usage(&mut self) -> Usage;

@@ -78,14 +78,14 @@ pub struct OldProtocol {
     pub minor: u32,
 }
 
-/// Answers the kernel's INIT by 7.31: writes of up to 65,536 bytes, reads of as many, 12 requests in the background, times by the
-/// nanosecond. Of what the kernel offers `BIG_WRITES` and `MAX_PAGES` are taken; all else, as a cache of writes that were answered
+/// Answers the kernel's INIT by 7.31: writes of up to 65,536 bytes, reads of as many, 12 requests in the background and the mount busy
+/// from 9 on, times by the nanosecond. Of what the kernel offers `BIG_WRITES` and `MAX_PAGES` are taken; all else, as a cache of writes that were answered
 /// and locks, stays with the kernel. A newer major version is answered the same: the kernel then asks again, by 7.
 ///
 /// `OldProtocol` where the kernel speaks less than 7.23.
 pub fn negotiate(init: &Init) -> Result<InitReply, OldProtocol>
     ensures version { IfOk result (λ r. (r.major ≡ 7) × (r.minor ≡ 31)) }
-    ensures sizes { IfOk result (λ r. (r.max_write ≡ 65536) × (r.max_pages ≡ 16) × (r.max_background ≡ 12) × (r.time_gran ≡ 1)) }
+    ensures sizes { IfOk result (λ r. (r.max_write ≡ 65536) × (r.max_pages ≡ 16) × (r.max_background ≡ 12) × (r.congestion ≡ 9) × (r.time_gran ≡ 1)) }
     ensures readahead { IfOk result (λ r. r.max_readahead ≡ min init.now.max_readahead 131072) }
     ensures offer { IfOk result (λ r. TakesOffer init.now.flags r.flags) }
     ensures left { IfOk result (λ r. LeavesToKernel r.flags) }

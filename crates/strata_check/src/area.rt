@@ -1,59 +1,45 @@
 // What the shared medium holds, as it stands.
 use crate::image::{Image, medium_of};
-use script::{MemMedia, RunError, Tier};
+use script::{MemMedia, Text, Tier};
 use std::alloc::Global;
-use std::io::Write;
-use world_files::{AreaError, Shared};
+use world_files::{AreaError, CLIENTS, Shared};
 
 /// Tells the charge, what is free, and the marks. A damaged medium has none of them: recovery tells then which structure it is.
-pub fn describe_area<O: Write>(
-    alloc: Global,
-    image: &Image<'_>,
-    out: &mut O,
-) -> Result<(), RunError> {
+pub fn describe_area(alloc: Global, image: &Image<'_>, text: &mut Text) {
+    match open_area(alloc, image) {
+        Ok(area) => {
+            describe_charge(&area, text);
+            describe_marks(&area, text);
+        }
+        Err(AreaError::Damaged { .. }) => {}
+        Err(AreaError::DeviceFault | AreaError::Memory) => text.cut(),
+    }
+}
+
+fn open_area(alloc: Global, image: &Image<'_>) -> Result<Shared<MemMedia>, AreaError> {
     let medium = medium_of(alloc, image.fast, image.block, image.slow)?;
     match Shared::reopen(alloc, medium) {
-        Ok(area) => {
-            describe_charge(&area, out)?;
-            describe_marks(&area, out)
-        }
-        Err((AreaError::Damaged { .. }, _medium)) => Ok(()),
-        Err((error, _medium)) => Err(area_fault(error)),
+        Ok(area) => Ok(area),
+        Err((error, _medium)) => Err(error),
     }
 }
 
-fn describe_charge<O: Write>(area: &Shared<MemMedia>, out: &mut O) -> Result<(), RunError> {
-    writeln!(
-        out,
-        "charge {} of {}",
-        area.charge(),
-        area.geometry().units()
-    )?;
-    let fast = area.free(Tier::Fast);
-    let block = area.free(Tier::Block);
-    let slow = area.free(Tier::Slow);
-    writeln!(out, "free fast {fast} block {block} slow {slow}")?;
-    Ok(())
+fn describe_charge(area: &Shared<MemMedia>, text: &mut Text) {
+    text.field("charge ", &area.charge());
+    text.field(" of ", &area.geometry().units());
+    text.field("\nfree fast ", &area.free(Tier::Fast));
+    text.field(" block ", &area.free(Tier::Block));
+    text.field(" slow ", &area.free(Tier::Slow));
+    text.put("\n");
 }
 
-fn describe_marks<O: Write>(area: &Shared<MemMedia>, out: &mut O) -> Result<(), RunError> {
+fn describe_marks(area: &Shared<MemMedia>, text: &mut Text) {
     let marks = area.marks();
-    for (place, mark) in marks.clients.iter().enumerate() {
-        let client = place.saturating_add(1);
-        writeln!(
-            out,
-            "mark {client} generation {} digested {}",
-            mark.generation, mark.done
-        )?;
-    }
-    Ok(())
-}
-
-/// Why the shared medium could not be read.
-pub fn area_fault(error: AreaError) -> RunError {
-    match error {
-        AreaError::DeviceFault => RunError::Device,
-        AreaError::Damaged { .. } => RunError::Damaged,
-        AreaError::Memory => RunError::Memory,
+    for place in 0..CLIENTS {
+        let mark = marks.clients[place];
+        text.field("mark ", &(place + 1));
+        text.field(" generation ", &mark.generation);
+        text.field(" digested ", &mark.done);
+        text.put("\n");
     }
 }

@@ -1,31 +1,34 @@
 // A run of `strata_check`.
 use crate::area::describe_area;
-use crate::damage::describe_no_superblock;
+use crate::damage::describe_damage;
 use crate::image::{cut_image, image_len};
 use crate::options::read_path;
 use crate::region_list::describe_regions;
 use crate::tree::describe_recovery;
-use script::{RunError, Tier, tell, tell_fault};
+use script::{RunError, Text, Tier, tell, tell_fault};
 use std::alloc::Global;
 use std::io::Write;
-use world_files::{FileProblem, Geometry, ImageFile, WorldFileError, read_geometry};
+use world_files::{FileProblem, Geometry, ImageFile, What, WorldFileError, read_geometry};
 
 /// Runs `strata_check`: tells on `out` what the file holds that the words name. The first word is the program's name.
 ///
 /// Answers the exit status: 0 where a world is recovered, 1 where what the file holds is damaged or none is recovered, 2 where the words can't be read, 3 after a fault of the file, of the output or of
-/// memory; the last two with a line on `err`. All that was printed is flushed before.
+/// memory; the last two with a line on `err`. All that there was memory for is printed before.
 pub fn run_check<'a, O: Write, E: Write>(
     rt: &HostRuntime,
     words: &'a [&'a str],
     out: &mut O,
     err: &mut E,
 ) -> u8 {
-    let path = match read_path(rt.alloc(), words) {
-        Ok(path) => path,
-        Err(error) => return tell(error, out, err),
-    };
+    match read_path(rt.alloc(), words) {
+        Ok(path) => check_file(rt, path, out, err),
+        Err(error) => tell(error, out, err),
+    }
+}
+
+fn check_file<O: Write, E: Write>(rt: &HostRuntime, path: &str, out: &mut O, err: &mut E) -> u8 {
     match read_file(rt, path) {
-        Ok(image) => end_check(check_image(rt.alloc(), &image, out), out, err),
+        Ok(image) => check_image(rt.alloc(), &image, out, err),
         Err(error) => {
             let _ = writeln!(err, "{path}: {error}");
             3
@@ -42,44 +45,59 @@ fn read_file(rt: &HostRuntime, path: &str) -> Result<Vec<u8>, WorldFileError> {
     }
 }
 
-// Flushes what was printed, and answers the exit status.
-fn end_check<O: Write, E: Write>(end: Result<bool, RunError>, out: &mut O, err: &mut E) -> u8 {
-    match flush_after(end, out) {
-        Ok(true) => 0,
-        Ok(false) => 1,
+// Prints what an image holds, and answers the exit status.
+fn check_image<O: Write, E: Write>(alloc: Global, bytes: &[u8], out: &mut O, err: &mut E) -> u8 {
+    let mut text = Text::new(alloc);
+    let is_recovered = describe_image(alloc, bytes, &mut text);
+    match print_text(&text, out) {
+        Ok(()) if is_recovered => 0,
+        Ok(()) => 1,
         Err(fault) => tell_fault(fault, err),
     }
 }
 
-fn flush_after<O: Write>(end: Result<bool, RunError>, out: &mut O) -> Result<bool, RunError> {
+// Prints a text, as far as there was memory for it.
+fn print_text<O: Write>(text: &Text, out: &mut O) -> Result<(), RunError> {
+    out.write_all(text.as_str().as_bytes())?;
     out.flush()?;
-    end
-}
-
-/// Tells what an image holds; whether a world is recovered from it.
-pub fn check_image<O: Write>(alloc: Global, bytes: &[u8], out: &mut O) -> Result<bool, RunError> {
-    let Ok(geometry) = read_geometry(bytes) else {
-        return describe_no_superblock(out);
-    };
-    describe_sizes(&geometry, out)?;
-    let Some(image) = cut_image(bytes, &geometry) else {
-        return describe_length(bytes.len(), image_len(&geometry), out);
-    };
-    describe_area(alloc, &image, out)?;
-    describe_regions(alloc, image.regions, out)?;
-    describe_recovery(alloc, bytes, out)
-}
-
-fn describe_sizes<O: Write>(geometry: &Geometry, out: &mut O) -> Result<(), RunError> {
-    let units = geometry.units();
-    let fast = geometry.data_blocks(Tier::Fast);
-    let block = geometry.data_blocks(Tier::Block);
-    let slow = geometry.data_blocks(Tier::Slow);
-    writeln!(out, "units {units} fast {fast} block {block} slow {slow}")?;
+    if text.is_cut() {
+        return Err(RunError::Memory);
+    }
     Ok(())
 }
 
-fn describe_length<O: Write>(len: usize, wanted: usize, out: &mut O) -> Result<bool, RunError> {
-    writeln!(out, "no world {len} of {wanted}")?;
-    Ok(false)
+// Tells what an image holds; whether a world is recovered from it.
+fn describe_image(alloc: Global, bytes: &[u8], text: &mut Text) -> bool {
+    match read_geometry(bytes) {
+        Ok(geometry) => describe_media(alloc, bytes, &geometry, text),
+        Err(_) => {
+            describe_damage(What::Super, 0, text);
+            false
+        }
+    }
+}
+
+fn describe_media(alloc: Global, bytes: &[u8], geometry: &Geometry, text: &mut Text) -> bool {
+    describe_sizes(geometry, text);
+    match cut_image(bytes, geometry) {
+        Some(image) => {
+            describe_area(alloc, &image, text);
+            describe_regions(alloc, image.regions, text);
+            describe_recovery(alloc, bytes, text)
+        }
+        None => {
+            text.field("no world ", &bytes.len());
+            text.field(" of ", &image_len(geometry));
+            text.put("\n");
+            false
+        }
+    }
+}
+
+fn describe_sizes(geometry: &Geometry, text: &mut Text) {
+    text.field("units ", &geometry.units());
+    text.field(" fast ", &geometry.data_blocks(Tier::Fast));
+    text.field(" block ", &geometry.data_blocks(Tier::Block));
+    text.field(" slow ", &geometry.data_blocks(Tier::Slow));
+    text.put("\n");
 }

@@ -1,8 +1,7 @@
 // What a region holds, as it stands.
 use crate::image::medium_of;
-use script::{HEADER, MemMedia, OPEN, REGION_SIZE, Region, RunError, Stage, is_payload};
+use script::{HEADER, MemMedia, OPEN, REGION_SIZE, Region, Stage, Text, is_payload};
 use std::alloc::Global;
-use std::io::Write;
 
 /// Whose region it is, and of which generations.
 #[derive(Clone, Copy)]
@@ -11,38 +10,58 @@ pub struct Owner {
     pub parity: &'static str,
 }
 
-/// Tells the generation of a region, its records, and what stands behind them.
-pub fn describe_region<O: Write>(
-    alloc: Global,
-    owner: Owner,
-    bytes: &[u8],
-    out: &mut O,
-) -> Result<(), RunError> {
-    let Owner { client, parity } = owner;
-    let mut region = open_region(alloc, bytes)?;
-    let generation = region.generation()?;
-    let records = region.records()?.len();
-    write!(
-        out,
-        "region {client} {parity} generation {generation} records {records} "
-    )?;
-    match gate_behind(&region) {
-        Some(gate) => {
-            writeln!(out, "bytes {}", gate.saturating_sub(HEADER))?;
-            describe_gate(owner, &region, bytes.get(gate..).unwrap_or(&[]), out)
-        }
-        None => {
-            out.write_all(b"full\n")?;
-            Ok(())
-        }
+impl Owner {
+    // Some words, and whose region it is.
+    fn put(self, words: &str, text: &mut Text) {
+        text.field(words, &self.client);
+        text.put(self.parity);
     }
 }
 
-fn open_region(alloc: Global, bytes: &[u8]) -> Result<Region<MemMedia>, RunError> {
-    let medium = medium_of(alloc, bytes, &[], &[])?;
-    match Region::reopen(alloc, medium) {
-        Ok(region) => Ok(region),
-        Err((error, _medium)) => Err(RunError::from(error)),
+/// Tells the generation of a region, its records, and what stands behind them.
+pub fn describe_region(alloc: Global, owner: Owner, bytes: &[u8], text: &mut Text) {
+    match open_region(alloc, bytes) {
+        Some(region) => {
+            let mut region = region;
+            describe_header(owner, &mut region, text);
+            describe_end(owner, &region, bytes, text);
+        }
+        None => text.cut(),
+    }
+}
+
+// The region of these bytes; none where there is no memory for it.
+fn open_region(alloc: Global, bytes: &[u8]) -> Option<Region<MemMedia>> {
+    match medium_of(alloc, bytes, &[], &[]) {
+        Ok(medium) => match Region::reopen(alloc, medium) {
+            Ok(region) => Some(region),
+            Err(_) => None,
+        },
+        Err(_) => None,
+    }
+}
+
+fn describe_header(owner: Owner, region: &mut Region<MemMedia>, text: &mut Text) {
+    owner.put("region ", text);
+    match region.generation() {
+        Ok(generation) => text.field(" generation ", &generation),
+        Err(_) => text.cut(),
+    }
+    match region.records() {
+        Ok(records) => text.field(" records ", &records.len()),
+        Err(_) => text.cut(),
+    }
+}
+
+// Tells how many bytes the records have, and what stands behind them.
+fn describe_end(owner: Owner, region: &Region<MemMedia>, bytes: &[u8], text: &mut Text) {
+    match gate_behind(region) {
+        Some(gate) => {
+            text.field(" bytes ", &gate.saturating_sub(HEADER));
+            text.put("\n");
+            describe_gate(owner, region, bytes.get(gate..).unwrap_or(&[]), text);
+        }
+        None => text.put(" full\n"),
     }
 }
 
@@ -52,19 +71,15 @@ fn gate_behind(region: &Region<MemMedia>) -> Option<usize> {
 }
 
 // Tells of an open gate behind the records, or of a record behind a closed one.
-fn describe_gate<O: Write>(
-    owner: Owner,
-    region: &Region<MemMedia>,
-    behind: &[u8],
-    out: &mut O,
-) -> Result<(), RunError> {
-    let Owner { client, parity } = owner;
+fn describe_gate(owner: Owner, region: &Region<MemMedia>, behind: &[u8], text: &mut Text) {
     if region.stage() == Stage::Foreign {
-        writeln!(out, "open {client} {parity}")?;
+        owner.put("open ", text);
+        text.put("\n");
     } else if let Some(len) = begun_len(behind) {
-        writeln!(out, "begun {client} {parity} bytes {len}")?;
+        owner.put("begun ", text);
+        text.field(" bytes ", &len);
+        text.put("\n");
     }
-    Ok(())
 }
 
 // How many bytes the record spells that stands whole behind a closed gate, with a place for the next gate behind it.

@@ -1,116 +1,122 @@
 // The tree of the world that is recovered.
-use crate::area::area_fault;
 use crate::damage::describe_refusal;
 use crate::tree_place::Place;
-use script::{MemMedia, RunError, Tier};
+use script::{MemMedia, Text, Tier};
 use std::alloc::Global;
-use std::io::Write;
-use world_files::{
-    AreaError, BLOCK, FileProblem, KernelError, NodeSummary, World, WorldFileError, read_parts,
-    recover,
-};
+use world_files::{BLOCK, NodeSummary, RecoveryError, World, read_parts, recover};
 
-/// Recovers a copy of an image, and tells its tree, or why it is not recovered; whether it is.
-pub fn describe_recovery<O: Write>(
-    alloc: Global,
-    image: &[u8],
-    out: &mut O,
-) -> Result<bool, RunError> {
-    let parts = match read_parts(alloc, image) {
-        Ok(parts) => parts,
-        Err(error) => return Err(image_fault(error)),
-    };
-    match recover(alloc, parts) {
-        Ok(mut world) => {
-            describe_charge(&world, out)?;
-            describe_tree(alloc, &mut world, out)?;
-            Ok(true)
+/// Recovers a copy of an image, whose length is that of its geometry, and tells its tree, or why it is not recovered; whether it is.
+pub fn describe_recovery(alloc: Global, image: &[u8], text: &mut Text) -> bool {
+    match recover_image(alloc, image) {
+        Ok(world) => {
+            let mut world = world;
+            describe_charge(&world, text);
+            describe_tree(alloc, &mut world, text);
+            true
         }
-        Err((error, _parts)) => describe_refusal(error, out),
+        Err(error) => {
+            describe_refusal(error, text);
+            false
+        }
     }
 }
 
-fn image_fault(error: WorldFileError) -> RunError {
-    match error {
-        WorldFileError::Memory | WorldFileError::File(FileProblem::Memory) => RunError::Memory,
-        _ => RunError::Damaged,
+fn recover_image(alloc: Global, image: &[u8]) -> Result<World<MemMedia>, RecoveryError> {
+    match read_parts(alloc, image) {
+        Ok(parts) => match recover(alloc, parts) {
+            Ok(world) => Ok(world),
+            Err((error, _parts)) => Err(error),
+        },
+        Err(_) => Err(RecoveryError::Memory),
     }
 }
 
-fn describe_charge<O: Write>(world: &World<MemMedia>, out: &mut O) -> Result<(), RunError> {
+fn describe_charge(world: &World<MemMedia>, text: &mut Text) {
     match world.system().kernel().book() {
         Ok(figures) => {
-            writeln!(out, "recovered {} of {}", figures.charge, figures.capacity)?;
-            Ok(())
+            text.field("recovered ", &figures.charge);
+            text.field(" of ", &figures.capacity);
+            text.put("\n");
         }
-        Err(_) => Err(RunError::Device),
+        Err(_) => text.cut(),
     }
 }
 
 // Tells of each path, a directory before what is in it, in the order of names.
-fn describe_tree<O: Write>(
-    alloc: Global,
-    world: &mut World<MemMedia>,
-    out: &mut O,
-) -> Result<(), RunError> {
+fn describe_tree(alloc: Global, world: &mut World<MemMedia>, text: &mut Text) {
     let mut left = Vec::new(alloc);
-    left.push(Place::root(alloc))?;
+    leave(&mut left, Place::root(alloc), text);
     for _ in 0..u64::MAX {
         match left.pop() {
-            Some(place) => describe_place(alloc, world, place, &mut left, out)?,
-            None => return Ok(()),
+            Some(place) => describe_place(alloc, world, &place, &mut left, text),
+            None => return,
         }
     }
-    Ok(())
+}
+
+// Leaves a place to be told of.
+fn leave(left: &mut Vec<Place>, place: Place, text: &mut Text) {
+    let is_cut = place.is_cut();
+    let is_left = left.push(place).is_ok();
+    if is_cut || !is_left {
+        text.cut();
+    }
 }
 
 // Tells of what stands at a place. What is in a directory is left to be told of.
-fn describe_place<O: Write>(
+fn describe_place(
     alloc: Global,
     world: &mut World<MemMedia>,
-    place: Place,
+    place: &Place,
     left: &mut Vec<Place>,
-    out: &mut O,
-) -> Result<(), RunError> {
-    let node = node_at(world, place.inode)?;
-    place.write(out)?;
-    if node.is_dir() {
-        writeln!(out, " dir {}", node.entry_count())?;
-        return push_entries(alloc, &place, &node, left);
+    text: &mut Text,
+) {
+    match node_at(world, place.inode) {
+        Some(node) => {
+            text.put(place.path());
+            if node.is_dir() {
+                text.field(" dir ", &node.entry_count());
+                text.put("\n");
+                leave_entries(alloc, place, &node, left, text);
+            } else {
+                describe_file(world, place.inode, &node, text);
+            }
+        }
+        None => text.cut(),
     }
-    write!(out, " file {} {}", node.file_size(), node.file_names())?;
-    describe_blocks(world, place.inode, node.file_size(), out)
 }
 
-fn node_at(world: &mut World<MemMedia>, inode: u32) -> Result<NodeSummary, RunError> {
+// What stands at an inode of a tree, which is none where there is no memory for it.
+fn node_at(world: &mut World<MemMedia>, inode: u32) -> Option<NodeSummary> {
     match world.look(inode) {
-        Ok(found) => match found.node {
-            Some(node) => Ok(node),
-            None => Err(RunError::Damaged),
-        },
-        Err(error) => Err(kernel_fault(error)),
+        Ok(found) => found.node,
+        Err(_) => None,
     }
 }
 
-fn kernel_fault(error: KernelError<AreaError>) -> RunError {
-    match error {
-        KernelError::Failed => RunError::Device,
-        KernelError::Refused(error) => area_fault(error),
-    }
-}
-
-// Leaves the entries of a directory to be told of, the last one first.
-fn push_entries(
+// Leaves the entries of a directory, the last one first.
+fn leave_entries(
     alloc: Global,
     place: &Place,
     node: &NodeSummary,
     left: &mut Vec<Place>,
-) -> Result<(), RunError> {
+    text: &mut Text,
+) {
     for entry in node.entries().iter().rev() {
-        let child = place.child(alloc, entry.name.as_slice(), entry.value.inode())?;
-        left.push(child)?;
+        let child = place.child(alloc, entry.name.as_slice(), entry.value.inode());
+        leave(left, child, text);
     }
-    Ok(())
+}
+
+fn describe_file(world: &mut World<MemMedia>, inode: u32, node: &NodeSummary, text: &mut Text) {
+    text.field(" file ", &node.file_size());
+    text.field(" ", &node.file_names());
+    let counts = count_blocks(world, inode, node.file_size(), text);
+    text.field(" fast ", &counts.fast);
+    text.field(" block ", &counts.block);
+    text.field(" slow ", &counts.slow);
+    text.field(" hole ", &counts.hole);
+    text.put("\n");
 }
 
 // Where the blocks of a file lie.
@@ -134,28 +140,12 @@ impl BlockCounts {
     }
 }
 
-// Tells how many blocks of a file lie on each tier.
-fn describe_blocks<O: Write>(
-    world: &mut World<MemMedia>,
-    inode: u32,
-    size: u64,
-    out: &mut O,
-) -> Result<(), RunError> {
-    let BlockCounts {
-        fast,
-        block,
-        slow,
-        hole,
-    } = count_blocks(world, inode, size)?;
-    writeln!(out, " fast {fast} block {block} slow {slow} hole {hole}")?;
-    Ok(())
-}
-
 fn count_blocks(
     world: &mut World<MemMedia>,
     inode: u32,
     size: u64,
-) -> Result<BlockCounts, RunError> {
+    text: &mut Text,
+) -> BlockCounts {
     let mut counts = BlockCounts {
         fast: 0,
         block: 0,
@@ -165,8 +155,8 @@ fn count_blocks(
     for block in 0..size.div_ceil(BLOCK as u64) {
         match world.tier_of(inode, block) {
             Ok(tier) => counts.add(tier),
-            Err(error) => return Err(kernel_fault(error)),
+            Err(_) => text.cut(),
         }
     }
-    Ok(counts)
+    counts
 }

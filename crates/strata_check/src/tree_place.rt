@@ -1,13 +1,12 @@
 // A place in the tree: a path, and the inode to which it leads.
-use script::{ROOT, RunError, is_plain};
-use std::alloc::{AllocError, Global};
-use std::io::Write;
+use script::{ROOT, Text};
+use std::alloc::Global;
 
 /// A path as scripts write it, without the `/` of the root, and the inode to which it leads.
 #[derive(Drop)]
 pub struct Place {
     pub inode: u32,
-    path: Vec<u8>,
+    path: Text,
 }
 
 impl Place {
@@ -15,37 +14,29 @@ impl Place {
     pub fn root(alloc: Global) -> Place {
         Place {
             inode: ROOT,
-            path: Vec::new(alloc),
+            path: Text::new(alloc),
         }
     }
 
     /// What this directory has under a name.
-    pub fn child(&self, alloc: Global, name: &[u8], inode: u32) -> Result<Place, RunError> {
-        let mut path = self.path.to_vec(alloc)?;
-        path.push(b'/')?;
-        for byte in name {
-            spell_byte(&mut path, *byte)?;
-        }
-        Ok(Place { inode, path })
+    pub fn child(&self, alloc: Global, name: &[u8], inode: u32) -> Place {
+        let mut path = Text::new(alloc);
+        path.put(self.path.as_str());
+        path.put("/");
+        path.name(name);
+        Place { inode, path }
     }
 
-    /// Writes the path.
-    pub fn write<O: Write>(&self, out: &mut O) -> Result<(), RunError> {
-        if self.path.is_empty() {
-            out.write_all(b"/")?;
-        } else {
-            out.write_all(&self.path)?;
+    /// The path.
+    pub fn path(&self) -> &str {
+        match self.path.as_str() {
+            "" => "/",
+            path => path,
         }
-        Ok(())
     }
-}
 
-// A byte of a name: most stand for themselves, all others as `%hh`.
-fn spell_byte(path: &mut Vec<u8>, byte: u8) -> Result<(), RunError> {
-    if is_plain(byte) {
-        path.push(byte)?;
-    } else {
-        write!(path, "%{byte:02x}")?;
+    /// Whether there was no memory for the whole path.
+    pub fn is_cut(&self) -> bool {
+        self.path.is_cut()
     }
-    Ok(())
 }

@@ -79,6 +79,8 @@ impl MountTree {
 impl Tree for MountTree {
     ghost asks = { λ _ _ _ _. Unit {0} };
 
+    ghost finds = { λ _ _ _ _. Unit {0} };
+
     fn call(&mut self, call: Call) -> Reply {
         let again = copy_call(self.alloc, &call);
         let reply = self.serve(call);
@@ -149,11 +151,23 @@ fn errno_of(refusal: Refusal) -> Errno {
 fn copy_call(alloc: Global, call: &Call) -> Option<Call> {
     match call {
         Call::Open { path, flags } if flags.create => Some(Call::Open {
-            path: Bytes::copy_of(alloc, path.as_slice()).ok()?,
+            path: copy_path(alloc, path)?,
             flags: *flags,
         }),
         Call::Mkdir { path } => Some(Call::Mkdir {
-            path: Bytes::copy_of(alloc, path.as_slice()).ok()?,
+            path: copy_path(alloc, path)?,
+        }),
+        Call::Link { old, new } => Some(Call::Link {
+            old: copy_path(alloc, old)?,
+            new: copy_path(alloc, new)?,
+        }),
+        Call::Rename { old, new } => Some(Call::Rename {
+            old: copy_path(alloc, old)?,
+            new: copy_path(alloc, new)?,
+        }),
+        Call::Truncate { path, len } => Some(Call::Truncate {
+            path: copy_path(alloc, path)?,
+            len: *len,
         }),
         Call::Pwrite {
             descriptor,
@@ -166,4 +180,8 @@ fn copy_call(alloc: Global, call: &Call) -> Option<Call> {
         }),
         _ => None,
     }
+}
+
+fn copy_path(alloc: Global, path: &Bytes) -> Option<Bytes> {
+    Bytes::copy_of(alloc, path.as_slice()).ok()
 }

@@ -113,83 +113,85 @@ fn number(matches: &ArgMatches<'_>, name: &str, default: u32) -> u32 {
     matches.get_one::<u32>(name).unwrap_or(default)
 }
 
+// What an option has behind it.
+#[derive(Clone, Copy)]
+enum Value {
+    // A number, from this one to 65,536.
+    Number(i64),
+    // A file's path.
+    File,
+    Nothing,
+}
+
+// An option's name, what it has behind it, and what it is for.
+type OptionRow = (&'static str, Value, &'static str);
+
+const OPTIONS: [OptionRow; 9] = [
+    (
+        "units",
+        Value::Number(2),
+        "How many units the tree may cost, 2 to 65536; 1024 if left out",
+    ),
+    (
+        "fast",
+        Value::Number(0),
+        "Data blocks of the fast tier, up to 65536; 512 if left out",
+    ),
+    (
+        "block",
+        Value::Number(0),
+        "Data blocks of the block tier; 1024 if left out",
+    ),
+    (
+        "slow",
+        Value::Number(0),
+        "Data blocks of the slow tier; 1024 if left out",
+    ),
+    (
+        "image",
+        Value::File,
+        "Reads the world from FILE, where there is one, and keeps it there at the end",
+    ),
+    (
+        "disk",
+        Value::File,
+        "Keeps the world in FILE, each answer once it is printed",
+    ),
+    ("echo", Value::Nothing, "Prints each line before its answer"),
+    (
+        "explain",
+        Value::Nothing,
+        "Tells before a fault, on another line, why there is no world",
+    ),
+    (
+        "rows",
+        Value::Nothing,
+        "Reads a table of scripts, each with what it is to print, and tells what differs",
+    ),
+];
+
 fn command<'a>(alloc: Global) -> Result<Command<'a>, AllocError> {
-    Command::new(alloc, "strata_sh")
+    let mut command = Command::new(alloc, "strata_sh")
         .about("Answers a script of file system calls, read from standard input line by line")
         .override_usage(
             "strata_sh [--units N] [--fast N] [--block N] [--slow N] [--image FILE | --disk FILE] [--echo] [--explain] [--rows] < SCRIPT",
         )
-        .after_help(LANGUAGE)
-        .arg(size(
-            alloc,
-            "units",
-            2,
-            "How many units the tree may cost, 2 to 65536; 1024 if left out",
-        ))?
-        .arg(size(
-            alloc,
-            "fast",
-            0,
-            "Data blocks of the fast tier, up to 65536; 512 if left out",
-        ))?
-        .arg(size(
-            alloc,
-            "block",
-            0,
-            "Data blocks of the block tier; 1024 if left out",
-        ))?
-        .arg(size(
-            alloc,
-            "slow",
-            0,
-            "Data blocks of the slow tier; 1024 if left out",
-        ))?
-        .arg(file(
-            alloc,
-            "image",
-            "Reads the world from FILE, where there is one, and keeps it there at the end",
-        ))?
-        .arg(file(
-            alloc,
-            "disk",
-            "Keeps the world in FILE, each answer once it is printed",
-        ))?
-        .arg(flag(alloc, "echo", "Prints each line before its answer"))?
-        .arg(flag(
-            alloc,
-            "explain",
-            "Tells before a fault, on another line, why there is no world",
-        ))?
-        .arg(flag(
-            alloc,
-            "rows",
-            "Reads a table of scripts, each with what it is to print, and tells what differs",
-        ))
+        .after_help(LANGUAGE);
+    for row in OPTIONS {
+        command = command.arg(argument(alloc, row))?;
+    }
+    Ok(command)
 }
 
-// An option with a number from a least one to 65,536.
-fn size<'a>(alloc: Global, name: &'a str, least: i64, help: &'a str) -> Arg<'a> {
-    Arg::new(alloc, name)
-        .long(name)
-        .value_name("N")
-        .help(help)
-        .action(ArgAction::Set)
-        .value_parser(value_parser!(u32).range(least..65_537))
-}
-
-// An option with a file's path.
-fn file<'a>(alloc: Global, name: &'a str, help: &'a str) -> Arg<'a> {
-    Arg::new(alloc, name)
-        .long(name)
-        .value_name("FILE")
-        .help(help)
-        .action(ArgAction::Set)
-}
-
-// An option that is there or not.
-fn flag<'a>(alloc: Global, name: &'a str, help: &'a str) -> Arg<'a> {
-    Arg::new(alloc, name)
-        .long(name)
-        .help(help)
-        .action(ArgAction::SetTrue)
+fn argument<'a>(alloc: Global, row: OptionRow) -> Arg<'a> {
+    let (name, value, help) = row;
+    let argument = Arg::new(alloc, name).long(name).help(help);
+    match value {
+        Value::Number(least) => argument
+            .value_name("N")
+            .action(ArgAction::Set)
+            .value_parser(value_parser!(u32).range(least..65_537)),
+        Value::File => argument.value_name("FILE").action(ArgAction::Set),
+        Value::Nothing => argument.action(ArgAction::SetTrue),
+    }
 }

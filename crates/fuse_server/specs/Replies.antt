@@ -1,0 +1,70 @@
+-- What bytes carry an answer.
+use Rattle.std.specs.Prelude.{◌≡◌, ◌⊎◌, ◌<◌, ◌≤◌, ◌+◌, ℕ, List, [], ◌++◌, length, if◌then◌else◌}
+use Rattle.std.specs.Int.{div_ceil}
+use Rattle.fuse_wire.specs.posix_calls.declared.errno.Errno.TheVariants as errno
+use Rattle.fuse_wire.specs.declared.errno.Refusal.TheVariants as refusal
+use Rattle.fuse_wire.specs.declared.header.Header.{Header}
+use Rattle.fuse_wire.specs.declared.replies.Attr.{Attr}
+use Rattle.fuse_wire.specs.declared.replies.Entry.{Entry}
+use Rattle.fuse_wire.specs.declared.replies.Time.{Time}
+use Rattle.fuse_wire.specs.Errno.{refusal_number}
+use Rattle.fuse_wire.specs.Fields.{fields_bytes}
+use Rattle.fuse_wire.specs.Replies.{absence_fields, attr_bytes, count_fields, entry_bytes, error_bytes, init_fields, open_fields, reply_bytes, valid_fields}
+use Rattle.fuse_server.specs.declared.answer.Answer.{Answer}
+use Rattle.fuse_server.specs.declared.answer.Answer.TheVariants as answer
+use Rattle.fuse_server.specs.declared.attributes.Attributes.{Attributes}
+use Rattle.fuse_server.specs.Answers.{IsReply}
+
+-- for as long as the mount lasts
+abbrev pub for_ever : Time
+for_ever = record { seconds = 1000000; nanoseconds = 0 }
+
+-- a change, told as a time
+abbrev pub time_of : ℕ → Time
+time_of change = record { seconds = change; nanoseconds = 0 }
+
+-- the attributes of a node: a directory of mode 040755 or a file of mode 0100755, owned by whoever asks
+abbrev pub attr_of : Header → Attributes → Attr
+attr_of h a = record {
+  inode = a.node;
+  size = a.size;
+  blocks = div_ceil a.size 512;
+  accessed = time_of a.changed;
+  modified = time_of a.changed;
+  changed = time_of a.changed;
+  mode = if a.is_dir then 16877 else 33261;
+  links = a.links;
+  uid = h.uid;
+  gid = h.gid;
+  device = 0;
+  block_size = 4096;
+}
+
+-- what has a name, kept by the kernel for ever
+abbrev pub entry_of : Header → ℕ → Attributes → Entry
+entry_of h generation a = record { node = a.node; generation = generation; entry_valid = for_ever; attr_valid = for_ever; attr = attr_of h a }
+
+-- The bytes of a reply carry this answer; no file has more bytes than 1,048,576.
+abbrev pub Carries : Header → Answer → List ℕ → Type 0
+Carries h answer.Done reply = reply ≡ reply_bytes h.unique []
+Carries h (answer.Refused why) reply = reply ≡ error_bytes h.unique (refusal_number why)
+Carries h (answer.Agreed agreed) reply = reply ≡ reply_bytes h.unique (fields_bytes (init_fields agreed))
+Carries h (answer.Entry a) reply = (generation : ℕ) × (reply ≡ reply_bytes h.unique (entry_bytes (entry_of h generation a)))
+Carries h answer.Absence reply = reply ≡ reply_bytes h.unique (fields_bytes (absence_fields for_ever))
+Carries h (answer.Attributes a) reply = reply ≡ reply_bytes h.unique (fields_bytes (valid_fields for_ever) ++ attr_bytes (attr_of h a))
+Carries h (answer.Data bytes) reply = (length bytes ≤ 1048576 → reply ≡ reply_bytes h.unique bytes) × (1048576 < length bytes → reply ≡ error_bytes h.unique (refusal_number (refusal.Posix errno.IoError)))
+Carries h (answer.Count count) reply = reply ≡ reply_bytes h.unique (fields_bytes (count_fields count))
+Carries h (answer.Opened handle) reply = reply ≡ reply_bytes h.unique (fields_bytes (open_fields (record { handle = handle; flags = 2 })))
+Carries h (answer.Created a) reply = (generation : ℕ) × (reply ≡ reply_bytes h.unique (entry_bytes (entry_of h generation a) ++ fields_bytes (open_fields (record { handle = 0; flags = 2 }))))
+Carries h (answer.Usage usage) reply = IsReply h.unique reply
+Carries h (answer.Entries handle at size) reply = IsReply h.unique reply
+
+-- a buffer with room for so many bytes takes the answer without asking for memory
+abbrev pub HasRoom : ℕ → Answer → Type 0
+HasRoom room (answer.Data bytes) = (272 ≤ room) × (16 + length bytes ≤ room)
+HasRoom room (answer.Entries handle at size) = ⊥
+HasRoom room a = 272 ≤ room
+
+-- The bytes carry the answer, or say that memory was wanting where there was no room for it.
+abbrev pub IsReplyFor : Header → Answer → ℕ → List ℕ → Type 0
+IsReplyFor h a room reply = Carries h a reply ⊎ ((HasRoom room a → ⊥) × (reply ≡ error_bytes h.unique (refusal_number (refusal.Posix errno.NoMemory))))

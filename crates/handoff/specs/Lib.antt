@@ -1,0 +1,4 @@
+pub mod Book
+pub mod Hands
+pub mod Line
+pub mod Ends

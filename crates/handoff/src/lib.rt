@@ -1,0 +1,13 @@
+//! A queue by which items go from thread to thread: each that was put is taken once, in the order in which they were put, or is left.
+//!
+//! A queue holds 16 items. Each of its 17 places has an end of its own (`QueueEnd`), by which it puts and takes. Contracts see of an end of which queue it is, and its hands (`specs/Ends.antt`): what its
+//! places put and took, each item with its number in the one line of all that was ever put. Of two items the one that was put first has the smaller number, and is taken first. Whoever has joined all ends learns that
+//! nothing was lost and nothing came twice (`QueueEnd::learn_line`).
+#![tactic(auto)]
+
+mod hand;
+mod queue;
+mod rule;
+
+pub use hand::Hand;
+pub use queue::{PLACES, QueueEnd};

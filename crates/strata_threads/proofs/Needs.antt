@@ -1,0 +1,62 @@
+-- A client whose need is served, or is not, keeps its call, and is never denied for its turns.
+use Rattle.std.proofs.Common.{◌≡◌, ◌≢◌, ◌⊎◌, ⊎_elim, ℕ, refl, sym, ap, ◌∙◌, subst}
+use Rattle.libfs.specs.tier_device.declared.media.Media.{Ghosts}
+use Rattle.libfs.specs.tier_device.declared.media.Tier.{Tier}
+use Rattle.libfs.specs.client_view.client_plan.declared.need.Need.{Need}
+use Rattle.libfs.specs.client_view.client_plan.declared.need.Need.TheVariants as needs
+use Rattle.libfs.specs.kernel_fs.KernelView.{KernelView}
+use Rattle.libfs.specs.NeedService.{HasServed, HasNotServed, MayBeDenied}
+use Rattle.libfs.specs.View.{ClientView}
+use Rattle.libfs.specs.declared.denial.Denied.{Denied}
+use Rattle.libfs.specs.declared.denial.Denied.TheVariants as denied
+use Rattle.strata_threads.specs.ClientCalls.{KeepsCall}
+
+-- it is another record of the same call
+keeps : {M : Type 0} → (old new other : ClientView M) → new ≡ other → KeepsCall old other → KeepsCall old new
+keeps old new other e k = subst (KeepsCall old) (sym e) k
+
+module _ {M S : Type 0} (device : Ghosts M) (shared : Ghosts S) (k after : KernelView S) (old new : ClientView M) where
+  pub served_keeps : (need : Need) → HasServed device shared k old need new after → KeepsCall old new
+  served_keeps (needs.View i) has = keeps old new _ has.rest (refl, refl, refl)
+  served_keeps (needs.Blocks i first count) has = keeps old new _ has.0.rest (refl, refl, refl)
+  served_keeps (needs.Inodes n) has = keeps old new _ has.refilled.rest (refl, refl, refl)
+  served_keeps (needs.Units n) has = keeps old new _ has.refilled.rest (refl, refl, refl)
+  served_keeps (needs.Pin i) has = keeps old new _ has.0 (refl, refl, refl)
+  served_keeps (needs.Unpin i) has = keeps old new _ has.0 (refl, refl, refl)
+  served_keeps (needs.Lease i mode) has = absurd has
+  served_keeps needs.Room has = absurd has
+
+  pub unserved_keeps : (need : Need) → HasNotServed device shared k old need new → KeepsCall old new
+  unserved_keeps (needs.View i) has = keeps old new old has (refl, refl, refl)
+  unserved_keeps (needs.Blocks i first count) has = keeps old new _ has.rest (refl, refl, refl)
+  unserved_keeps (needs.Inodes n) has = keeps old new old has (refl, refl, refl)
+  unserved_keeps (needs.Units n) has = keeps old new old has (refl, refl, refl)
+  unserved_keeps (needs.Pin i) has = keeps old new old has (refl, refl, refl)
+  unserved_keeps (needs.Unpin i) has = keeps old new old has (refl, refl, refl)
+  unserved_keeps (needs.Lease i mode) has = keeps old new old has (refl, refl, refl)
+  unserved_keeps needs.Room has = keeps old new old has (refl, refl, refl)
+
+failed : (e : Denied) → e ≡ denied.KernelFailed → e ≢ denied.Turns
+failed e is t = absurd (cc)
+
+device_failed : (e : Denied) → e ≡ denied.Device → e ≢ denied.Turns
+device_failed e is t = absurd (cc)
+
+no_memory : (e : Denied) → e ≡ denied.Memory → e ≢ denied.Turns
+no_memory e is t = absurd (cc)
+
+no_units : (e : Denied) → e ≡ denied.NoUnits → e ≢ denied.Turns
+no_units e is t = absurd (cc)
+
+no_inode : (e : Denied) → e ≡ denied.NoInode → e ≢ denied.Turns
+no_inode e is t = absurd (cc)
+
+pub is_denied_otherwise : (need : Need) (e : Denied) → MayBeDenied need e → e ≢ denied.Turns
+is_denied_otherwise (needs.View i) e may = ⊎_elim (failed e) (⊎_elim (device_failed e) (no_memory e)) may
+is_denied_otherwise (needs.Blocks i first count) e may = ⊎_elim (failed e) (⊎_elim (device_failed e) (no_memory e)) may
+is_denied_otherwise (needs.Inodes n) e may = ⊎_elim (no_memory e) (⊎_elim (failed e) (⊎_elim (no_units e) (no_inode e))) may
+is_denied_otherwise (needs.Units n) e may = ⊎_elim (no_memory e) (⊎_elim (failed e) (no_units e)) may
+is_denied_otherwise (needs.Pin i) e may = ⊎_elim (failed e) (no_memory e) may
+is_denied_otherwise (needs.Unpin i) e may = failed e may
+is_denied_otherwise (needs.Lease i mode) e may = absurd may
+is_denied_otherwise needs.Room e may = absurd may

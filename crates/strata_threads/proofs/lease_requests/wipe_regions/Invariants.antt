@@ -1,0 +1,5 @@
+use Rattle.strata_threads.specs.ClientCalls.{KeepsCall}
+use Rattle.strata_threads.proofs.lease_requests.wipe_regions.Given as goal
+
+abbrev pub invariant-loop-step : goal.invariant-loop-step
+invariant-loop-step g l = KeepsCall l.fn.client l.client

@@ -1,0 +1,3 @@
+pub mod ClientCalls
+pub mod RegionHandover
+pub mod WaitedTurns

@@ -1,0 +1,187 @@
+//! A call of one client, from its start to its answer.
+ghost use Rattle.std.specs.Prelude.{◌≡◌, ◌≢◌, ◌<◌, true, false, IfErr, IfOk, IfSome, OnErr, Result, None};
+ghost use Rattle.libfs.specs.posix_calls.declared.call.Reply.{Reply};
+ghost use Rattle.libfs.specs.View.{is_pending};
+ghost use Rattle.libfs.specs.declared.now.Now.TheVariants as now;
+ghost use Rattle.libfs.specs.declared.denial.Denied.{Denied};
+ghost use Rattle.libfs.specs.declared.denial.Denied.TheVariants as denied;
+ghost use Rattle.strata_threads.specs.ClientCalls.{IsAnswered, IsEnded, IsFinished, IsStarted, KeepsCall, owner_of};
+ghost use Rattle.strata_threads.specs.WaitedTurns.{HasWaited, IsWithinTurns, reply_of};
+
+use crate::gate_point::GatePoint;
+use crate::shared_kernel::SharedKernel;
+use crate::thread_client::ThreadClient;
+use crate::waited::Waited;
+use libfs::{Call, Client, Denied, Media, Need, Now, Reply};
+use std::sync::Wait;
+
+// A record is appended by four device calls, of which the last answers its call.
+const STEPS: u32 = 4;
+
+impl<M: Media + Drop> ThreadClient<M> {
+    /// Makes a call, and answers it.
+    pub fn posix<R: Wait, G: GatePoint>(
+        &mut self,
+        rt: &R,
+        shared: &SharedKernel<M>,
+        call: &Call,
+        turns: u64,
+        gate: &G,
+    ) -> Reply
+        ensures owner { owner_of self.new.client ≡ owner_of self.old.client }
+        ensures turns { (answer : Result Reply Denied) × (result ≡ reply_of answer) × IsWithinTurns answer self.new.waited × IfOk answer (λ reply. IsAnswered M.Media call.now reply self.new.client) }
+        ensures given { self.new.waited.turns ≡ turns }
+    {
+        match self.answer_call(rt, shared, call, turns, gate) {
+            Ok(reply) => reply,
+            Err(why) => self.client.deny(call, why),
+        }
+    }
+
+    /// Makes a call, and answers it or why it is denied.
+    pub fn answer_call<R: Wait, G: GatePoint>(
+        &mut self,
+        rt: &R,
+        shared: &SharedKernel<M>,
+        call: &Call,
+        turns: u64,
+        gate: &G,
+    ) -> Result<Reply, Denied>
+        ensures owner { owner_of self.new.client ≡ owner_of self.old.client }
+        ensures answered { IfOk result (λ reply. IsAnswered M.Media call.now reply self.new.client) }
+        ensures turns { IsWithinTurns result self.new.waited }
+        ensures given { self.new.waited.turns ≡ turns }
+    {
+        self.waited = Waited::none_of(turns);
+        self.listen(rt);
+        for turn in rt.forever() {
+            if self.waited.is_over() {
+                return Err(Denied::Turns);
+            }
+            if let Some(reply) = self.take_turn(rt, shared, call, gate)? {
+                return Ok(reply);
+            }
+        }
+        unreachable!()
+    }
+
+    // One turn: the call is started, and answered, or what it needs is served.
+    fn take_turn<R: Wait, G: GatePoint>(
+        &mut self,
+        rt: &R,
+        shared: &SharedKernel<M>,
+        call: &Call,
+        gate: &G,
+    ) -> Result<Option<Reply>, Denied>
+        requires left { self.old.waited.count < self.old.waited.turns }
+        ensures owner { owner_of self.new.client ≡ owner_of self.old.client }
+        ensures waited { HasWaited self.old.waited self.new.waited }
+        ensures answered { IfOk result (λ r. IfSome r (λ reply. IsAnswered M.Media call.now reply self.new.client)) }
+        ensures at_once { IfOk result (λ r. IfSome r (λ _. self.new.waited ≡ self.old.waited)) }
+        ensures refused { OnErr result (self.new.waited ≡ self.old.waited) }
+        ensures only { IfErr result (λ e. e ≢ denied.Turns) }
+    {
+        gate.pass();
+        match start_call(&mut self.client, call, gate) {
+            Ok(reply) => Ok(Some(reply)),
+            Err(need) => {
+                self.serve_need(rt, shared, &need, gate)?;
+                Ok(None)
+            }
+        }
+    }
+
+    fn serve_need<R: Wait, G: GatePoint>(
+        &mut self,
+        rt: &R,
+        shared: &SharedKernel<M>,
+        need: &Need,
+        gate: &G,
+    ) -> Result<(), Denied>
+        requires left { self.old.waited.count < self.old.waited.turns }
+        ensures kept { KeepsCall self.old.client self.new.client }
+        ensures waited { HasWaited self.old.waited self.new.waited }
+        ensures refused { OnErr result (self.new.waited ≡ self.old.waited) }
+        ensures only { IfErr result (λ e. e ≢ denied.Turns) }
+    {
+        match *need {
+            Need::Lease { inode, mode } => {
+                self.take_lease(rt, inode, mode);
+                Ok(())
+            }
+            Need::Room => {
+                self.make_room(rt, gate);
+                Ok(())
+            }
+            _ => self.ask_kernel(rt, shared, need),
+        }
+    }
+}
+
+// Starts a call, and makes its device calls where a record is begun; what it needs, where something is lacking.
+fn start_call<M: Media, G: GatePoint>(
+    client: &mut Client<M>,
+    call: &Call,
+    gate: &G,
+) -> Result<Reply, Need>
+    requires idle { is_pending client.old ≡ false }
+    ensures answered { IfOk result (λ reply. IsAnswered M.Media call.now reply client.new) }
+    ensures idle { is_pending client.new ≡ false }
+    ensures owner { owner_of client.new ≡ owner_of client.old }
+{
+    match begin_call(client, call) {
+        Now::Done { reply } => Ok(reply),
+        Now::Pending => Ok(finish(client, gate)),
+        Now::Need { need } => Err(need),
+    }
+}
+
+// Starts a call: it waits then, or nothing has begun.
+fn begin_call<M: Media>(client: &mut Client<M>, call: &Call) -> Now
+    requires idle { is_pending client.old ≡ false }
+    ensures started { IsStarted M.Media call.now client.old result client.new }
+    ensures owner { owner_of client.new ≡ owner_of client.old }
+    ensures pending { result ≡ now.Pending → is_pending client.new ≡ true }
+    ensures idle { (result ≡ now.Pending → ⊥) → is_pending client.new ≡ false }
+{
+    client.own_records_are_held();
+    client.start(call)
+}
+
+// Makes the device calls of a begun record, and passes the gate before each.
+fn finish<M: Media, G: GatePoint>(client: &mut Client<M>, gate: &G) -> Reply
+    requires { is_pending client.old ≡ true }
+    ensures finished { IsFinished M.Media client.old result client.new }
+    ensures idle { is_pending client.new ≡ false }
+    ensures owner { owner_of client.new ≡ owner_of client.old }
+{
+    for step in 1..STEPS {
+        gate.pass();
+        if let Some(reply) = make_step(client) {
+            return reply;
+        }
+    }
+    gate.pass();
+    end_call(client)
+}
+
+// Makes a device call of a begun record, and answers its call where that was the last.
+fn make_step<M: Media>(client: &mut Client<M>) -> Option<Reply>
+    requires pending { is_pending client.old ≡ true }
+    ensures owner { owner_of client.new ≡ owner_of client.old }
+    ensures ended { IfSome result (λ reply. IsEnded M.Media client.old reply client.new) }
+    ensures going { result ≡ None → (is_pending client.new ≡ true) × (client.new.begun ≡ client.old.begun) }
+    ensures idle { (result ≡ None → ⊥) → is_pending client.new ≡ false }
+{
+    client.step()
+}
+
+// Makes the device calls that are left of a begun record, and answers its call.
+fn end_call<M: Media>(client: &mut Client<M>) -> Reply
+    requires pending { is_pending client.old ≡ true }
+    ensures ended { IsEnded M.Media client.old result client.new }
+    ensures owner { owner_of client.new ≡ owner_of client.old }
+    ensures idle { is_pending client.new ≡ false }
+{
+    client.finish()
+}

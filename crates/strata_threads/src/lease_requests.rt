@@ -1,0 +1,111 @@
+//! Leases that a call needs, and room in the region.
+ghost use Rattle.std.specs.Prelude.{◌≡◌, ◌<◌};
+ghost use Rattle.libfs.specs.lease_manager.Words.{HasWord};
+ghost use Rattle.strata_threads.specs.ClientCalls.{KeepsCall};
+ghost use Rattle.strata_threads.specs.WaitedTurns.{HasWaited};
+
+use crate::gate_point::GatePoint;
+use crate::thread_client::ThreadClient;
+use libfs::{CLIENTS, Client, LeaseMode, Media, Mode, is_inode};
+use std::sync::Wait;
+use std::thread;
+
+// A wipe makes four device calls, and a client has two regions.
+const WIPE_STEPS: u32 = 8;
+
+// How often a client that waits lets others go in a turn, at most.
+const MOST_YIELDS: u64 = 64;
+
+impl<M: Media + Drop> ThreadClient<M> {
+    // Takes a lease; where it is busy each holder is asked for it, and the turn is waited.
+    pub(crate) fn take_lease<R: Wait>(&mut self, rt: &R, inode: u32, mode: Mode)
+        requires left { self.old.waited.count < self.old.waited.turns }
+        ensures kept { KeepsCall self.old.client self.new.client }
+        ensures waited { HasWaited self.old.waited self.new.waited }
+    {
+        if !is_inode(inode) {
+            return;
+        }
+        match request_lease(&mut self.client, inode, mode) {
+            Ok(()) => {}
+            Err(word) => {
+                ask_holders(&mut self.client, inode, word);
+                self.waited.count_busy(word);
+                self.let_go(rt);
+            }
+        }
+    }
+
+    // Makes room: the current region is handed over, and what is to be wiped of the regions is wiped. Where the other one is away the turn is waited.
+    pub(crate) fn make_room<R: Wait, G: GatePoint>(&mut self, rt: &R, gate: &G)
+        requires left { self.old.waited.count < self.old.waited.turns }
+        ensures kept { KeepsCall self.old.client self.new.client }
+        ensures waited { HasWaited self.old.waited self.new.waited }
+    {
+        if self.client.is_region_away() {
+            self.waited.count_away(&self.client);
+            self.let_go(rt);
+            return;
+        }
+        self.hand_over(rt);
+        wipe_regions(&mut self.client, gate);
+    }
+
+    // Listens in a turn that was waited, and lets other threads go. Only there: what a call was given is its own until it is answered or waits, else clients that ask for one another's leases would never hold all that they need.
+    fn let_go<R: Wait>(&mut self, rt: &R)
+        ensures kept { KeepsCall self.old.client self.new.client }
+        ensures waited { self.new.waited ≡ self.old.waited }
+    {
+        self.listen(rt);
+        pause(self.waited.count());
+    }
+}
+
+// Takes or raises a lease; the word that shows who holds it, where it is busy.
+fn request_lease<M: Media>(client: &mut Client<M>, inode: u32, mode: Mode) -> Result<(), u64>
+    requires inode { HasWord inode }
+    ensures { KeepsCall client.old client.new }
+{
+    let answer = match client.holds(inode) {
+        LeaseMode::Free => client.lease(inode, mode),
+        LeaseMode::Reading => client.raise(inode),
+        _ => return Ok(()),
+    };
+    match answer {
+        Ok(()) => Ok(()),
+        Err(busy) => Err(busy.0),
+    }
+}
+
+// Asks each other client whose mark the word shows.
+fn ask_holders<M: Media>(client: &mut Client<M>, inode: u32, word: u64)
+    requires inode { HasWord inode }
+    ensures { KeepsCall client.old client.new }
+{
+    let own = client.client();
+    for place in 0..CLIENTS {
+        if (word >> place) & 0x101 != 0 && place + 1 != own {
+            client.ask_back(inode, place + 1);
+        }
+    }
+}
+
+// Wipes what is to be wiped, and passes the gate before each device call. A device that fails then is told when the call is started again.
+fn wipe_regions<M: Media, G: GatePoint>(client: &mut Client<M>, gate: &G)
+    ensures { KeepsCall client.old client.new }
+{
+    for step in 0..WIPE_STEPS {
+        gate.pass();
+        match client.wipe_step() {
+            Ok(Some(_)) => {}
+            _ => return,
+        }
+    }
+}
+
+// Lets other threads go, the longer the more turns were waited.
+fn pause(waited: u64) {
+    for time in 0..waited.min(MOST_YIELDS) {
+        thread::yield_now();
+    }
+}

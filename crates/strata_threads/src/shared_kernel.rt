@@ -1,0 +1,27 @@
+use libfs::{Kernel, Media};
+use std::sync::{Mutex, MutexGuard, Wait};
+
+/// The kernel of all threads, under a lock. Whoever holds the lock finds it at the end of a run of its machine (`Kernel::history`).
+#[derive(Drop)]
+pub struct SharedKernel<M: Media> {
+    lock: Mutex<Kernel<M>>,
+}
+
+impl<M: Media> SharedKernel<M> {
+    /// Puts a kernel under a lock.
+    pub fn new(kernel: Kernel<M>) -> SharedKernel<M> {
+        SharedKernel {
+            lock: Mutex::new(kernel),
+        }
+    }
+
+    /// Waits until nobody else has the kernel, and lends it.
+    pub fn lock<R: Wait>(&self, rt: &R) -> MutexGuard<'_, Kernel<M>> {
+        self.lock.lock(rt)
+    }
+
+    /// The kernel, once no thread shares it any more.
+    pub fn into_kernel(self) -> Kernel<M> {
+        self.lock.into_inner()
+    }
+}

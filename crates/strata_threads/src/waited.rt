@@ -1,0 +1,65 @@
+ghost use Rattle.std.specs.Prelude.{◌≡◌, ◌==◌, ◌<◌, ◌+◌, None, false};
+
+use libfs::{Client, Media};
+use std::marker::Model;
+
+/// How many turns of a call were waited, of those that it is given. Contracts see both numbers (`specs/WaitedTurns.antt`). A turn is counted only by what was waited for.
+#[derive(Debug, Drop)]
+pub struct Waited {
+    count: u64,
+    turns: u64,
+}
+
+impl Model for Waited {
+    ghost use Rattle.std.specs.Prelude.{◌≤◌};
+    ghost use Rattle.strata_threads.specs.WaitedTurns.{WaitedView};
+
+    ghost Value = { WaitedView };
+
+    ghost view = { λ w. record { count = w.count; turns = w.turns } };
+
+    ghost invariant = { λ w. w.count ≤ w.turns };
+}
+
+impl Waited {
+    /// None of so many turns.
+    pub fn none_of(turns: u64) -> Waited
+        ensures { result ≡ record { count = 0; turns = turns } }
+    {
+        Waited { count: 0, turns }
+    }
+
+    /// How many turns were waited.
+    pub fn count(&self) -> u64
+        ensures { result ≡ self.now.count }
+    {
+        self.count
+    }
+
+    /// Whether all turns were waited.
+    pub fn is_over(&self) -> bool
+        ensures over { result ≡ (self.now.count == self.now.turns) }
+        ensures left { result ≡ false → self.now.count < self.now.turns }
+    {
+        self.count == self.turns
+    }
+
+    /// Counts a turn in which a lease was busy, by the word that showed another client.
+    pub fn count_busy(&mut self, word: u64)
+        requires left { self.old.count < self.old.turns }
+        ensures { self.new ≡ record self.old { count = self.old.count + 1 } }
+    {
+        let _ = word;
+        self.count += 1;
+    }
+
+    /// Counts a turn in which the region that a client sealed was not back.
+    pub fn count_away<M: Media>(&mut self, client: &Client<M>)
+        requires left { self.old.count < self.old.turns }
+        requires away { client.now.log.other ≡ None }
+        ensures { self.new ≡ record self.old { count = self.old.count + 1 } }
+    {
+        let _ = client;
+        self.count += 1;
+    }
+}
