@@ -1,0 +1,49 @@
+//! The media of the regions, each of which may stop within a write or fence of its own.
+use script::{Fill, MemMedia, StopMedia, Trip};
+use std::alloc::{AllocError, Global};
+
+/// A medium of a run.
+pub type RunMedium = StopMedia;
+
+/// What the media of the regions count by, each by a count of its own.
+#[derive(Drop)]
+pub struct RegionStops {
+    trips: Vec<Trip>,
+    fill: Fill,
+}
+
+impl RegionStops {
+    /// The counts of no region. Where one stops, what it has written and not fenced is as the fill says.
+    pub fn new(alloc: Global, fill: Fill) -> RegionStops {
+        RegionStops {
+            trips: Vec::new(alloc),
+            fill,
+        }
+    }
+
+    /// A region's medium over one in memory, with a count of its own, which is not armed.
+    pub fn add_region(&mut self, alloc: Global, inner: MemMedia) -> Result<RunMedium, AllocError> {
+        let trip = Trip::new(alloc)?;
+        let mut medium = StopMedia::new(inner);
+        medium.stop_with(trip.share()?, self.fill);
+        self.trips.push(trip)?;
+        Ok(medium)
+    }
+
+    /// Has each region stop within this write or fence, of those from now on on it.
+    pub fn arm(&self, call: u64) {
+        for trip in &self.trips {
+            trip.arm(call.max(1));
+        }
+    }
+
+    /// Whether a region has stopped.
+    pub fn have_stopped(&self) -> bool {
+        for trip in &self.trips {
+            if trip.has_run_out() {
+                return true;
+            }
+        }
+        false
+    }
+}
