@@ -4,18 +4,24 @@ tools/failing_allocations.py [--quick] [--rows N] [PROGRAM..].
 
 They are those that read scripts, records, blocks and media: `strata_sh` over its tour, over the scripts of its table, and over files
 that keep a world, a new one or none; `strata_first` with and without stops; and `layer_rows` row by row over the sections `formats`,
-`media`, `areas` and `devices` of its table, where damaged images and worlds are read; rows that must not hold are left out. Where it is
-named, also the test functions of `area_tests`, each by itself. A run ends as it should where it tells the want of memory by its name, or
+`media`, `areas` and `devices` of its table, where damaged images and worlds are read; rows that must not hold are left out. A run ends as it should where it tells the want of memory by its name, or
 says what it says with all memory there. It does not where it answers anything else: damage, no such entry, or fewer bytes. Nor does a
 row that tells a want of memory while no allocation failed. How each program tells it stands at its function below.
 
-The programs are built by `rt run`, the tests by `rt test`; `tools/failing_allocations.c` makes their allocations fail. It takes four
-minutes without the tests, and those that a build takes; the gate does not run it. A test function takes up to ten seconds, and allocates
-thousands of times: at most 400 of its allocations fail, spread evenly. With --quick only each seventh allocation of a run fails, and 57
-of a test function; with --rows only the first N of the rows of each table, and of the test functions. Exit status: 0 where all runs
-ended as they should, else 1.
+The programs are built by `rt run`; `tools/failing_allocations.c` makes their allocations fail. It takes four minutes, and those that a
+build takes; the gate does not run it. With --quick only each seventh allocation of a run fails; with --rows only the first N of the rows
+of each table. Exit status: 0 where all runs ended as they should, else 1.
+
+Named `growths`, it holds five rows of `strata_sh` to more: each growth of each of their lines is refused in turn. The line in which one is
+answers as before, or ENOMEM, or by the refusal or fault 15; or as where a write or fence of a medium fails, since a medium grows to note a
+call. All later lines, a halt, a recovery and what can be read of the tree then answer as if a line that was refused were not there, or as
+behind that failure; a digest that was refused may have left but to reclaim files. Only `book` may count more units as out until then, and a digest fewer records. Only before the first line may the
+run end, by `fault 15`, or by `fault 2` as media grow while they are formatted. It tells how many growths each row has, how many were
+refused, and how; status 1 also where a growth was left out. There are some 3,900, so it takes a quarter of an hour; with --quick each
+seventh is refused.
 """
 import argparse
+import collections
 import concurrent.futures
 import os
 import re
@@ -24,6 +30,8 @@ import subprocess
 import sys
 import tempfile
 import typing
+
+import shell_rows
 
 TOP = os.path.dirname(os.path.dirname(os.path.abspath(__file__)))
 CRATES = f"{TOP}/crates"
@@ -53,16 +61,15 @@ class Run(typing.NamedTuple):
 
 
 def path_of(name):
-    """Where the program stands once it is built, or the test functions of a crate of tests."""
-    return f"{CRATES}/{name}/out/{name}{'_tests' if name in TESTS else ''}"
+    """Where the program stands once it is built; STRATA_SH in the environment names another build of the shell."""
+    if name == "strata_sh" and os.environ.get("STRATA_SH"):
+        return os.path.abspath(os.environ["STRATA_SH"])
+    return f"{CRATES}/{name}/out/{name}"
 
 
 def build(name):
-    """Proves the program where it changed, and links it; of tests, runs them too."""
-    if name in TESTS:
-        ran = subprocess.run(["rt", "test", "--jobs", "1"], cwd=f"{CRATES}/{name}", stdin=subprocess.DEVNULL, capture_output=True, text=True, check=False)
-        if ran.returncode:
-            sys.exit(f"{name} was not built, or one of its tests fails: {ran.stdout[-2000:]}{ran.stderr[-2000:]}")
+    """Proves the program where it changed, and links it. Another build is taken as it is."""
+    if path_of(name) == os.path.abspath(os.environ.get("STRATA_SH") or "."):
         return
     ran = subprocess.run(["rt", "run", "--jobs", "1"], cwd=f"{CRATES}/{name}", stdin=subprocess.DEVNULL, capture_output=True, text=True, check=False)
     if f"rt: running out/{name}" not in ran.stderr:
@@ -128,10 +135,19 @@ def tally(what, whole, runs, ends_well):
 
 
 # Before the script is read, or where a line of it can't be read for want of memory, strata_sh ends with `fault 15` and status 3. A line
-# that meets it is answered ENOMEM or `refused 15`, and the calls behind it as if it were not there, but that what it was granted is not
-# there for others (ENOSPC). What the other lines tell, of records, blocks, units and who is in the way, may differ by what it has begun.
+# that meets it is answered ENOMEM or `refused 15`, a recovery `fault 15`, and the calls behind it as if it were not there, but that what it
+# was granted is not there for others (ENOSPC). What the other lines tell, of records, blocks, units and who is in the way, may differ by
+# what it has begun. A medium that can't note a call fails: what comes then is judged for `growths`, and by tools/fail_everywhere.
 
 PLAIN_CALL = re.compile(rb"[1-8] (?!try |begin )")
+
+
+def has_failed_medium(run, whole):
+    """Whether a medium could not note a call: while it was formatted, or in the first line that is answered otherwise."""
+    if run.status == 3 and not run.out:
+        return run.err == "fault 2\n"
+    pairs = zip(run.out.splitlines(), whole.out.splitlines())
+    return run.status == whole.status and next((it for it, other in pairs if it != other), None) in ("EIO", "refused 2", "fault 2")
 
 
 def run_script(lines, words, what):
@@ -147,10 +163,12 @@ def run_script(lines, words, what):
         return without[at]
 
     def ends_well(run):
+        if has_failed_medium(run, whole):
+            return True
         if run.status == 3:
             return whole.out.startswith(run.out) and run.err == "fault 15\n"
         answers = run.out.splitlines()
-        met = [at for at, line in enumerate(answers) if line in ("ENOMEM", "refused 15")]
+        met = [at for at, line in enumerate(answers) if line in ("ENOMEM", "refused 15", "fault 15")]
         if len(met) != 1 or (run.status, run.err) != (whole.status, whole.err):
             return False
         with_line, others = whole.out.splitlines(), run_without(met[0]).out.splitlines()
@@ -203,12 +221,159 @@ def script_of(row):
     return b"".join(lines).splitlines(keepends=True), words
 
 
-def script_jobs():
-    """The runs of the rows of strata_sh, as jobs, but for those that print needs: the program alone does that, as it reads its table."""
+def script_rows():
+    """The rows of strata_sh as scripts, command lines and names, but for those that print needs: the program alone does that, as it reads its table."""
     with open(f"{CRATES}/strata_sh/stdin", encoding="utf-8") as file:
         rows = [it for it in file.read().split("\n== ")[1:] if not it.startswith(NOT_TO_HOLD)]
     runs = [(*script_of(row), row.partition("\n")[0]) for row in rows]
-    return [(run_script, (lines, words[1:], name)) for lines, words, name in runs if words[0] == "strata_sh"][:ROWS]
+    return [(lines, words[1:], name) for lines, words, name in runs if words[0] == "strata_sh"]
+
+
+def script_jobs():
+    """The runs of those rows, as jobs."""
+    return [(run_script, row) for row in script_rows()[:ROWS]]
+
+
+# Of these rows each growth is judged by the line in which it is refused; with the units that they need, over media of the least sizes.
+
+GROWN = {
+    "a gap reads as zero": 5,
+    "a file that has no name is gone behind a stop, though it was open": 6,
+    "units are for what is logged, and come back once that is digested": 6,
+    "a stop at the journal's gate leaves a block on its tier, and a stopped recovery too": 5,
+    "a stop at the journal's gate that then reads as open leaves a block on the slower tier": 5,
+}
+# What a line answers where its growth is refused, by how it begins, and where a medium fails; a call of which the kernel is in the way is blocked.
+# A line with a path that no client asks may want memory for the path or for what the kernel does.
+CALL, KERNEL, RECOVER = re.compile(r"[1-8] |where |migrate "), re.compile(r"digest |migrate |where |wipe |book$"), re.compile(r"recover$")
+REFUSED = ((CALL, "ENOMEM"), (KERNEL, "refused 15"), (RECOVER, "fault 15"))
+FAILED = ((CALL, "EIO"), (CALL, "blocked"), (KERNEL, "refused 2"), (RECOVER, "fault 2"))
+# Behind so many calls in a row whose failure no line meets there is none more that one meets.
+QUIET = 8
+
+
+def answers_so(line, answer, table):
+    return any(form.match(line) and answer == given for form, given in table)
+
+
+def reads_of(lines):
+    """Lines that recover, and tell all that is left of a script's files and charge."""
+    paths = sorted({word for line in lines for word in line.split() if word.startswith("/")})
+    reads = [it for path in paths for it in (f"8 stat {path}", f"8 open {path} r", "8 pread 0 0 65536", "8 close 0", *(f"where {path} {at}" for at in range(3)))]
+    return ["halt", "recover", "book", "8 list /", *reads]
+
+
+class Grown:
+    """A row whose growths are refused, with what it answers with all memory there."""
+
+    def __init__(self, name, lines, words):
+        self.name, self.words, self.lines = name, words, lines
+        self.reads = reads_of(lines)
+        self.all = lines + self.reads
+        self.answers = self.answers_of(self.all)
+        self.before = [self.healthy(lines[:count]).made for count in range(len(lines) + 1)]
+        self.without, self.failures = {}, {}
+
+    def text(self, lines):
+        return "".join(f"{line}\n" for line in lines)
+
+    def healthy(self, lines):
+        [run] = sweep("strata_sh", self.text(lines), self.words, numbers=(0, 0, 1))
+        return run
+
+    def answers_of(self, lines):
+        run = self.healthy(lines)
+        if (run.status, run.err) != (0, ""):
+            raise RuntimeError(f"{self.name}: status {run.status}, {run.err!r}")
+        return run.out.splitlines()
+
+    def line_of(self, number):
+        """The line in which a growth is made, or -1 before the first one."""
+        return max(at for at, made in enumerate([0, *self.before[:-1]]) if made < number) - 1
+
+    def answers_without(self, at):
+        """What is answered behind a line that was refused: as where it is not there.
+
+        A digest may have left but to reclaim files: so does a call of another client, for which all that was logged is digested.
+        """
+        if at not in self.without:
+            ends = [self.answers_of(self.all[:at] + self.all[at + 1 :])[at:]]
+            if self.all[at].startswith("digest "):
+                ends.append(self.answers_of([*self.all[:at], "7 list /", *self.all[at + 1 :]])[at + 1 :])
+            self.without[at] = ends
+        return self.without[at]
+
+    def answers_failing(self, at):
+        """What is answered from a line on, for each call of a medium that fails there; that is armed where the world last runs before it."""
+        if at not in self.failures:
+            self.failures[at], runs = [], at
+            while self.answers[runs - 1 : runs] in (["stopped"], ["armed"]):
+                runs -= 1
+            for medium in sorted({"S", *(line[0] for line in self.lines if line[0].isdigit())}):
+                call, quiet = 1, 0
+                while quiet < QUIET:
+                    found = self.answers_of([*self.all[:runs], f"fail {call} {medium}", *self.all[runs:]])
+                    del found[runs]
+                    met = found[:at] == self.answers[:at] and answers_so(self.all[at], found[at], FAILED)
+                    self.failures[at] += [found[at:]] if met else []
+                    call, quiet = call + 1, 0 if met else quiet + 1
+        return self.failures[at]
+
+    def agree(self, at, found, expected):
+        """Whether the answers from a line on are these; a line that was refused may have taken units, and had others digest before."""
+        rest = [*self.lines[at:], *[None] * len(self.reads)]
+        return len(found) == len(expected) and all(self.agrees(line, *pair) for line, *pair in zip(rest[-len(found) :], found, expected))
+
+    def agrees(self, line, answer, expected):
+        if line is None:
+            return answer == expected
+        numbers, others = (list(map(int, re.findall(r"\d+", it))) for it in (answer, expected))
+        if line == "book" and answer.startswith("charge ") and expected.startswith("charge "):
+            return numbers[0] == others[0] and others[1] <= numbers[1] <= numbers[2] - numbers[0]
+        if line.startswith("digest ") and answer.startswith("digested ") and expected.startswith("digested "):
+            return numbers[0] <= others[0]
+        return answer == expected
+
+    def judge(self, run):
+        """How a run ended in which a growth was refused, or None where it is not as it should."""
+        at, found = self.line_of(run.number), run.out.splitlines()
+        if at < 0 and (run.status, run.out) == (3, "") and run.err in ("fault 15\n", "fault 2\n"):
+            return f"{run.err.rstrip()} at the start"
+        if (run.status, run.err) != (0, "") or found[: max(at, 0)] != self.answers[: max(at, 0)]:
+            return None
+        if at < 0 or found[at] == self.answers[at]:
+            return "as before" if self.agree(max(at, 0), found[max(at, 0) :], self.answers[max(at, 0) :]) else None
+        if answers_so(self.lines[at], found[at], REFUSED):
+            return found[at] if any(self.agree(at + 1, found[at + 1 :], it) for it in self.answers_without(at)) else None
+        if answers_so(self.lines[at], found[at], FAILED):
+            return found[at] if any(self.agree(at, found[at:], it) for it in self.answers_failing(at)) else None
+        return None
+
+
+def run_grown(name, lines, words):
+    """A row of which each growth is refused."""
+    row = Grown(name, [line.decode("utf-8").rstrip("\n") for line in lines], words)
+    numbers = range(1, row.before[-1] + 1, STEP)
+    runs = sweep("strata_sh", row.text(row.all), words, numbers=(1, numbers[-1], STEP))
+    left_out = sorted(set(numbers).difference(run.number for run in runs if run.failed()))
+    bad = [f"{name}: growths {left_out} were left out"] if left_out else []
+    ends = collections.Counter()
+    for run in runs:
+        end, at = row.judge(run), row.line_of(run.number)
+        ends[end or "as they should not"] += 1
+        if not end:
+            line = row.lines[at] if at >= 0 else "the start"
+            bad.append(f"{name}: growth {run.number} of {row.before[-1]}, in {at} `{line}`: status {run.status}, {run.out.splitlines()}, {run.err!r}; with memory {row.answers}")
+    in_lines = [f"{behind - before}" for before, behind in zip(row.before, row.before[1:])]
+    told = f"{row.before[-1]} growths, {row.before[0]} before the first line, and in its lines {' '.join(in_lines)}"
+    print(f"{name}: {told}\n  {len(runs)} refused: {', '.join(f'{count} {end}' for end, count in sorted(ends.items()))}", flush=True)
+    return Tally(len(runs), len(runs) - ends["as before"], bad)
+
+
+def grown_jobs():
+    """The rows whose growths are refused, as jobs."""
+    rows = {name: (lines, shell_rows.least(GROWN[name])) for lines, _, name in script_rows() if name in GROWN}
+    return [(run_grown, (name, *rows[name])) for name in [*GROWN][:ROWS]]
 
 
 # strata_first prints line by line, and ends with `fault 15` and status 3. Or a client's medium can't note a call: that client has then
@@ -435,31 +600,10 @@ def run_device_row(text):
     return tally(f"devices, {name}", whole, runs, lambda it: device_row_ends_well(it, text))
 
 
-# A test function passes all the same, or ends by an error that names the want of memory. As above, a `MemMedia` that can't keep a call
-# fails it. A failed assertion names nothing.
-
-TEST_ENDS = re.compile(r"error: (?:AllocError|Memory|DeviceFault)\nthe test failed: its result gives status 1\n")
-
-
-def run_test(program, name):
-    """Runs a test function. Loops in it allocate in step, so each time another of their allocations is to fail: an odd number of them is passed over."""
-    [whole] = sweep(program, words=(name,), numbers=(0, 0, 1))
-    if whole.status:
-        return Tally(0, 0, [f"{program}, {name} itself: status {whole.status}, {whole.err!r}"])
-    step = max(STEP, -(-whole.made // MOST)) | 1
-    runs = [it for it in sweep(program, words=(name,), numbers=(1, 1 << 40, step)) if it.failed()]
-    return tally(f"{program}, {name}", whole, runs, lambda it: it.status == 101 and bool(TEST_ENDS.fullmatch(it.err)))
-
-
-def tests_of(program):
-    listed = subprocess.run([path_of(program), "--list"], stdin=subprocess.DEVNULL, capture_output=True, text=True, check=True).stdout
-    return re.findall(r"^(\S+): test$", listed, re.M)
-
-
 def jobs_of(program):
     """What is run of a program: functions and what they take."""
-    if program in TESTS:
-        return [(run_test, (program, it)) for it in tests_of(program)[:ROWS]]
+    if program == "growths":
+        return grown_jobs()
     if program == "strata_sh":
         return [(run_tour, ()), *script_jobs(), *disk_jobs()]
     if program == "strata_first":
@@ -469,23 +613,23 @@ def jobs_of(program):
     return devices + [(run_row, (section, it)) for section in ("formats", "media", "areas") for it in rows_of(section)]
 
 
-TESTS = ("area_tests",)
 PROGRAMS = ("strata_sh", "strata_first", "layer_rows")
+MORE = ("growths",)
 
 
 def main():
     words = argparse.ArgumentParser(description=__doc__.partition("\n")[0])
-    words.add_argument("--quick", action="store_true", help="each seventh allocation alone fails, and 57 of a test function")
-    words.add_argument("--rows", type=int, metavar="N", help="only the first N rows of each table, and test functions")
+    words.add_argument("--quick", action="store_true", help="each seventh allocation alone fails")
+    words.add_argument("--rows", type=int, metavar="N", help="only the first N rows of each table")
     words.add_argument("--jobs", type=int, default=2, help="how many runs side by side (default: 2)")
-    words.add_argument("programs", nargs="*", metavar="PROGRAM", help=f"of {', '.join(PROGRAMS)} (default: all of these), and of {', '.join(TESTS)}")
+    words.add_argument("programs", nargs="*", metavar="PROGRAM", help=f"of {', '.join(PROGRAMS)} (default: all of these), and of {', '.join(MORE)}")
     asked = words.parse_args()
     global STEP, MOST, ROWS
     STEP, MOST, ROWS = (*((7, 57) if asked.quick else (1, 400)), asked.rows)
     subprocess.run([os.environ.get("CC", "cc"), "-O2", "-shared", "-fPIC", "-o", f"{ROOM.name}/allocations.so", f"{TOP}/tools/failing_allocations.c"], check=True)
     bad, tried = 0, 0
     for program in asked.programs or PROGRAMS:
-        build(program)
+        build("strata_sh" if program == "growths" else program)
         all_told = Tally(0, 0, [])
         with concurrent.futures.ThreadPoolExecutor(asked.jobs) as lanes:
             started = [lanes.submit(function, *given) for function, given in jobs_of(program)]

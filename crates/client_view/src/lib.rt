@@ -57,4 +57,4 @@ pub use client_plan::{
     logged_call_is_a_step, plain_write, plain_write_is_logged, plan_call, record_of_write,
     served_need_is_lacking_no_longer,
 };
-pub use record_validation::NodeSummary;
+pub use record_validation::{NodeCounts, NodeSummary};

@@ -1,10 +1,10 @@
-ghost use Rattle.std.specs.Prelude.{◌≡◌, ◌≤◌, length, true, None, is_some, IfErr, IfOk, OnErr, OnOk};
+ghost use Rattle.std.specs.Prelude.{◌≡◌, ◌≤◌, drop, length, true, None, is_some, IfErr, IfOk, OnErr, OnOk};
 ghost use Rattle.event_steps.specs.Sound.{fresh_seat, number_of};
 ghost use Rattle.event_steps.specs.Stops.{SeatLeaves};
 ghost use Rattle.event_steps.specs.View.{done_of, undigested_on};
 
 use crate::refusals::Refusals;
-use libfs::{Client, Media, SealedRegion};
+use libfs::{Client, Media, Record, SealedRegion};
 use std::marker::Model;
 
 /// A client, the region that it sealed and handed over, until it takes that back, and what the kernel refused it since its last reply.
@@ -73,6 +73,14 @@ impl<M: Media> ClientSlot<M> {
         ensures { result ≡ number_of self.now }
     {
         self.client.client()
+    }
+
+    /// The records of the region that is away that are not digested, in their order; none where none is away.
+    pub fn sealed_records(&self) -> &[Record]
+        ensures { result.now ≡ drop (done_of self.now.away) self.now.client.sealed }
+    {
+        let done = self.digested_count();
+        &self.client.sealed_records()[done..]
     }
 
     /// How many records of the client are not digested, of the region that it writes and of the one that is away.

@@ -1,22 +1,28 @@
-ghost use Rattle.std.specs.Prelude.{◌≡◌, ◌<◌, ◌↔◌, length, IfErr, IfNone, IfOk, IfSome, IsTrue, OnErr, OnOk, Some, slice_get, true};
+ghost use Rattle.std.specs.Prelude.{◌≡◌, ◌-◌, ◌*◌, ◌<◌, ◌↔◌, drop, length, min, IfErr, IfNone, IfOk, IfSome, IsTrue, OnErr, OnOk, Some, slice_get, true};
 ghost use Rattle.atomic_table.specs.Seated.{TableId};
 ghost use Rattle.libfs.specs.call_effects.NodeView.{view_at};
 ghost use Rattle.libfs.specs.kernel_fs.KernelAnswers.{Answers, OnRefusal};
 ghost use Rattle.libfs.specs.area_image.declared.error.AreaError.TheVariants.{Memory};
 ghost use Rattle.libfs.specs.area_image.Looks.{Looks};
 ghost use Rattle.libfs.specs.area_image.Map.{WantsMemory};
+ghost use Rattle.libfs.specs.shared_area.FileReads.{bytes_of_inode, IsReadFrom};
 ghost use Rattle.libfs.specs.shared_area.Parts.{IsNoDamage, IsTierOf};
 ghost use Rattle.libfs.specs.kernel_fs.MachineState.{IsMarkIn};
 ghost use Rattle.libfs.specs.area_image.Store.{graph, disk};
+ghost use Rattle.libfs.specs.client_log.View.{current_records};
+ghost use Rattle.libfs.specs.posix_calls.declared.limits.TheConstants.{UNIT_BYTES};
 ghost use Rattle.libfs.specs.lease_manager.Parts.{AreCompatible};
 ghost use Rattle.libfs.specs.lease_manager.Words.{IsClient};
 ghost use Rattle.event_steps.specs.Sound.{AreFrom, AreOfTable, AreSeats, number_of};
 ghost use Rattle.event_steps.specs.Stops.{SeatLeaves};
-ghost use Rattle.event_steps.specs.View.{HasSeat, SeatView, seat_of, undigested_on};
+ghost use Rattle.event_steps.specs.View.{HasSeat, SeatView, done_of, seat_of, undigested_on};
 
 use crate::client_slot::ClientSlot;
 use crate::numbers::{CLIENTS, is_client};
-use libfs::{AreaError, Client, Fetched, Kernel, KernelError, Media, Tier, client_index};
+use libfs::{
+    AreaError, Client, Fetched, FetchedBytes, Kernel, KernelError, Media, Record, Tier,
+    client_index,
+};
 use std::alloc::Global;
 use std::marker::Model;
 
@@ -69,6 +75,26 @@ impl<M: Media> System<M> {
         }
     }
 
+    /// The records of the region that a client has away that are not digested, in their order; none of a number outside 1 to 8.
+    pub fn sealed_records(&self, number: u32) -> &[Record]
+        ensures there { IsClient number → HasSeat self.now number (λ s. result.now ≡ drop (done_of s.away) s.client.sealed) }
+    {
+        match self.seat(number) {
+            Some(seat) => seat.sealed_records(),
+            None => &[],
+        }
+    }
+
+    /// The records of the region that a client writes, in their order; none of a number outside 1 to 8.
+    pub fn current_records(&self, number: u32) -> &[Record]
+        ensures there { IsClient number → HasSeat self.now number (λ s. result.now ≡ current_records M.Media s.client.log) }
+    {
+        match self.seat(number) {
+            Some(seat) => seat.client.current_records(),
+            None => &[],
+        }
+    }
+
     /// The kernel, to be asked what moves no device.
     pub fn kernel(&self) -> &Kernel<M>
         ensures { result.now ≡ self.now.kernel }
@@ -88,6 +114,25 @@ impl<M: Media> System<M> {
         ensures seats { self.new.seats ≡ self.old.seats }
     {
         self.kernel.fetch(1, inode)
+    }
+
+    /// Bytes of a file of the shared graph from a logical block on, as `Kernel::blocks` reads them for client 1: into the front of the buffer, as many as the file and the buffer have. Refused as that is, and never for damage.
+    pub fn read_file(
+        &mut self,
+        inode: u32,
+        first: u32,
+        out: &mut [u8],
+    ) -> Result<FetchedBytes, KernelError<AreaError>>
+        ensures count { IfOk result (λ x. x.count ≡ min (length out.old) (length (bytes_of_inode (graph self.old.kernel.area.geometry (disk M.Media self.old.kernel.area)) inode) - UNIT_BYTES * first)) }
+        ensures bytes { IfOk result (λ x. IsReadFrom (bytes_of_inode (graph self.old.kernel.area.geometry (disk M.Media self.old.kernel.area)) inode) (UNIT_BYTES * first) x.count out.old out.new) }
+        ensures only { IfErr result (λ e. OnRefusal e IsNoDamage) }
+        ensures memory { IfErr result (λ e. OnRefusal e (λ r. r ≡ Memory → WantsMemory self.old.kernel.area.geometry (disk M.Media self.old.kernel.area) inode)) }
+        ensures looks { Answers self.old.kernel.area.failed self.old.kernel self.new.kernel result (Looks M.Media self.old.kernel.area self.new.kernel.area) }
+        ensures book { self.new.kernel.book ≡ self.old.kernel.book }
+        ensures opening { self.new.kernel.opening ≡ self.old.kernel.opening }
+        ensures seats { self.new.seats ≡ self.old.seats }
+    {
+        self.kernel.blocks(1, inode, first, out)
     }
 
     /// The tier that has a logical block of an inode of the shared graph; `None` where no tier does, or there is no such inode. Refused as `Kernel::tier_of` is, and never for damage.

@@ -28,3 +28,8 @@ asked_err {A = A} tree call read next e s t (inr (reply, u, asked, on)) =
     let end = ended_err (read reply) e u t on in
     let Goal : Result A Refusal → Type 0 = λ r. GoesOn next r (Err e) u t in
     inr (reply, u, asked, subst Goal (sym end.0) (refl, end.1))
+
+-- what a reply says ends it
+pub ends_so : {S A : Type 0} (r : Result A Refusal) (t : S) → GoesOn Answers r r t t
+ends_so (Ok x) t = (refl, refl)
+ends_so (Err e) t = (refl, refl)

@@ -71,7 +71,7 @@ keeps_up_for tree why (Ok x) s t kept = kept
 keeps_up_for tree why (Err e) s t kept = refusal_for tree why e s t kept
 
 -- what a call that goes no further ended with
-ended_err : {S A : Type 0} (r : Result A Refusal) (e : Refusal) (u t : S) → GoesOn Answers r (Err e) u t → (r ≡ Err e) × (t ≡ u)
+pub ended_err : {S A : Type 0} (r : Result A Refusal) (e : Refusal) (u t : S) → GoesOn Answers r (Err e) u t → (r ≡ Err e) × (t ≡ u)
 ended_err (Ok x) e u t h = absurd (cc h.0)
 ended_err (Err d) e u t h = (sym h.0, h.1)
 

@@ -42,6 +42,11 @@ abbrev pub read_of : Reply → Result (List ℕ) Refusal
 read_of (reply.Read bytes) = Ok bytes
 read_of reply = Err (refusal_of reply)
 
+-- the reply to `List`
+abbrev pub listed_of : Reply → Result (List (List ℕ)) Refusal
+listed_of (reply.Listed names) = Ok names
+listed_of reply = Err (refusal_of reply)
+
 module _ {S : Type 0} where
   -- it ends with this, and the tree stays
   abbrev pub Answers : {A : Type 0} → A → Result A Refusal → S → S → Type 0

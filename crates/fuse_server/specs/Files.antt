@@ -1,7 +1,8 @@
 -- Files by their names and descriptors.
-use Rattle.std.specs.Prelude.{◌≡◌, ◌⊎◌, ℕ, List, true, false, Some, Result, Err, IsErrAnd, IfSome, IsSome, MatchResult}
+use Rattle.std.specs.Prelude.{◌≡◌, ◌⊎◌, ℕ, List, true, false, Option, Some, None, Result, Ok, Err, IsErrAnd, IfSome, IsSome, MatchResult, nat_lt, if◌then◌else◌}
 use Rattle.fuse_wire.specs.posix_calls.declared.call.Call.TheVariants as call
 use Rattle.fuse_wire.specs.posix_calls.declared.call.Flags.{Flags}
+use Rattle.fuse_wire.specs.posix_calls.declared.call.Reply.{Reply}
 use Rattle.fuse_wire.specs.posix_calls.declared.call.Reply.TheVariants as reply
 use Rattle.fuse_wire.specs.posix_calls.declared.errno.Errno.TheVariants as errno
 use Rattle.fuse_wire.specs.posix_calls.declared.operation.Description.{Description}
@@ -19,6 +20,15 @@ use Rattle.fuse_server.specs.Upkeep.{Behind, IsLost, IsRefusal, Upkeep, child_at
 -- how a file is opened that is there
 abbrev pub read_write : Flags
 read_write = record { read = true; write = true; create = false; exclusive = false; truncate = false }
+
+-- a file that is known can be opened; its handle is 0
+abbrev pub handle_of : Option Node → Result ℕ Refusal
+handle_of None = Err refusal.StaleNode
+handle_of (Some node) = if node.is_dir then Err (refusal.Posix errno.IsDirectory) else Ok 0
+
+-- the descriptor that goes with the last that has a node open
+abbrev pub last_descriptor : Node → Option ℕ
+last_descriptor node = if nat_lt 1 node.opens then None else node.descriptor
 
 module _ {S : Type 0} where
   -- a node that is known is told of once more
@@ -42,6 +52,17 @@ module _ {S : Type 0} (tree : Ghosts S) where
   -- `Pwrite` is asked of the node's descriptor, at the offset, with the bytes
   abbrev pub Writes : Nodes → ℕ → ℕ → List ℕ → Result ℕ Refusal → S → S → Type 0
   Writes nodes id at bytes = ByDescriptor nodes id (λ number. MayAsk tree (call.Pwrite number at bytes) wrote_of Answers)
+
+  -- nothing, or this descriptor, is closed; that it can't be refuses nothing
+  abbrev pub Closes : Option ℕ → S → S → Type 0
+  Closes None s t = t ≡ s
+  Closes (Some number) s t = (r : Reply) × tree.asks s (call.Close number) r t
+
+  -- with the last that has a node open its descriptor is closed
+  abbrev pub Releases : Nodes → ℕ → Result (Unit {0}) Refusal → S → S → Type 0
+  Releases nodes id result s t =
+      ((node_at nodes id ≡ None) × (result ≡ Err refusal.StaleNode) × (t ≡ s))
+      ⊎ ((node : Node) × (node_at nodes id ≡ Some node) × (result ≡ Ok tt) × Closes (last_descriptor node) s t)
 
   -- `Unlink` is asked at the path of the name; before it a file that is open and loses its last name is opened
   abbrev pub Unlinks : Nodes → ℕ → List ℕ → Result (Unit {0}) Refusal → S → S → Type 0

@@ -5,6 +5,10 @@ pub mod Calls
 pub mod Nodes
 pub mod Upkeep
 pub mod Files
+pub mod Reads
+pub mod Renames
+pub mod Creations
+pub mod Sizes
 pub mod Replies
 pub mod Requests
 -- Passed on to the crates above, which so need not list those below.

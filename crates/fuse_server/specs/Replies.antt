@@ -1,18 +1,20 @@
 -- What bytes carry an answer.
-use Rattle.std.specs.Prelude.{◌≡◌, ◌⊎◌, ◌<◌, ◌≤◌, ◌+◌, ℕ, List, [], ◌++◌, length, if◌then◌else◌}
+use Rattle.std.specs.Prelude.{◌≡◌, ◌⊎◌, ◌<◌, ◌≤◌, ◌+◌, ℕ, List, [], ◌++◌, length, min, if◌then◌else◌}
 use Rattle.std.specs.Int.{div_ceil}
 use Rattle.fuse_wire.specs.posix_calls.declared.errno.Errno.TheVariants as errno
 use Rattle.fuse_wire.specs.declared.errno.Refusal.TheVariants as refusal
 use Rattle.fuse_wire.specs.declared.header.Header.{Header}
 use Rattle.fuse_wire.specs.declared.replies.Attr.{Attr}
 use Rattle.fuse_wire.specs.declared.replies.Entry.{Entry}
+use Rattle.fuse_wire.specs.declared.replies.StatFs.{StatFs}
 use Rattle.fuse_wire.specs.declared.replies.Time.{Time}
 use Rattle.fuse_wire.specs.Errno.{refusal_number}
 use Rattle.fuse_wire.specs.Fields.{fields_bytes}
-use Rattle.fuse_wire.specs.Replies.{absence_fields, attr_bytes, count_fields, entry_bytes, error_bytes, init_fields, open_fields, reply_bytes, valid_fields}
+use Rattle.fuse_wire.specs.Replies.{absence_fields, attr_bytes, count_fields, entry_bytes, error_bytes, init_fields, open_fields, reply_bytes, statfs_fields, valid_fields}
 use Rattle.fuse_server.specs.declared.answer.Answer.{Answer}
 use Rattle.fuse_server.specs.declared.answer.Answer.TheVariants as answer
 use Rattle.fuse_server.specs.declared.attributes.Attributes.{Attributes}
+use Rattle.fuse_server.specs.declared.tree.Usage.{Usage}
 use Rattle.fuse_server.specs.Answers.{IsReply}
 
 -- for as long as the mount lasts
@@ -44,6 +46,10 @@ attr_of h a = record {
 abbrev pub entry_of : Header → ℕ → Attributes → Entry
 entry_of h generation a = record { node = a.node; generation = generation; entry_valid = for_ever; attr_valid = for_ever; attr = attr_of h a }
 
+-- how much there is, in units of 4,096 bytes, and of 1,024 files, whose names have 64 bytes at most
+abbrev pub stat_fs_of : Usage → StatFs
+stat_fs_of usage = record { blocks = usage.units; blocks_free = usage.free; blocks_available = usage.free; files = 1024; files_free = min usage.free 1024; block_size = 4096; name_len = 64 }
+
 -- The bytes of a reply carry this answer; no file has more bytes than 1,048,576.
 abbrev pub Carries : Header → Answer → List ℕ → Type 0
 Carries h answer.Done reply = reply ≡ reply_bytes h.unique []
@@ -56,7 +62,7 @@ Carries h (answer.Data bytes) reply = (length bytes ≤ 1048576 → reply ≡ re
 Carries h (answer.Count count) reply = reply ≡ reply_bytes h.unique (fields_bytes (count_fields count))
 Carries h (answer.Opened handle) reply = reply ≡ reply_bytes h.unique (fields_bytes (open_fields (record { handle = handle; flags = 2 })))
 Carries h (answer.Created a) reply = (generation : ℕ) × (reply ≡ reply_bytes h.unique (entry_bytes (entry_of h generation a) ++ fields_bytes (open_fields (record { handle = 0; flags = 2 }))))
-Carries h (answer.Usage usage) reply = IsReply h.unique reply
+Carries h (answer.Usage usage) reply = reply ≡ reply_bytes h.unique (fields_bytes (statfs_fields (stat_fs_of usage)))
 Carries h (answer.Entries handle at size) reply = IsReply h.unique reply
 
 -- a buffer with room for so many bytes takes the answer without asking for memory

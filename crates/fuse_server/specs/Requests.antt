@@ -1,12 +1,16 @@
 -- What each request asks of the tree, and how it is answered by what the tree answers.
-use Rattle.std.specs.Prelude.{◌≡◌, ◌⊎◌, ℕ, List, false, Result, Ok, Err}
+use Rattle.std.specs.Prelude.{◌≡◌, ◌⊎◌, ℕ, List, false, min, Result, Ok, Err, IfErr}
+use Rattle.fuse_wire.specs.posix_calls.declared.call.Call.TheVariants as call
 use Rattle.fuse_wire.specs.posix_calls.declared.errno.Errno.TheVariants as errno
 use Rattle.fuse_wire.specs.declared.errno.Refusal.{Refusal}
 use Rattle.fuse_wire.specs.declared.errno.Refusal.TheVariants as refusal
 use Rattle.fuse_wire.specs.declared.header.Header.{Header}
+use Rattle.fuse_wire.specs.declared.init.Init.{Init}
+use Rattle.fuse_wire.specs.declared.init.InitReply.{InitReply}
 use Rattle.fuse_wire.specs.declared.request.Request.{Request}
 use Rattle.fuse_wire.specs.declared.request.Request.TheVariants as request
 use Rattle.fuse_wire.specs.Fields.{u32_at}
+use Rattle.fuse_wire.specs.Negotiation.{IsOld, LeavesToKernel, TakesOffer}
 use Rattle.fuse_wire.specs.Spelling.{Spells, header_of}
 use Rattle.fuse_server.specs.declared.answer.Answer.{Answer}
 use Rattle.fuse_server.specs.declared.answer.Answer.TheVariants as answer
@@ -14,10 +18,18 @@ use Rattle.fuse_server.specs.declared.attributes.Attributes.{Attributes}
 use Rattle.fuse_server.specs.declared.nodes.Nodes.{Nodes}
 use Rattle.fuse_server.specs.declared.server.Server.{Server}
 use Rattle.fuse_server.specs.declared.tree.Tree.{Ghosts}
+use Rattle.fuse_server.specs.declared.tree.Usage.{Usage}
 use Rattle.fuse_server.specs.Answers.{is_silent}
-use Rattle.fuse_server.specs.Replies.{IsReplyFor}
-use Rattle.fuse_server.specs.Files.{Links, Unlinks, Writes}
+use Rattle.fuse_server.specs.Calls.{AtPath, MayAsk, listed_of}
+use Rattle.fuse_server.specs.Creations.{MakesAt, MakesNode, creation_by}
+use Rattle.fuse_server.specs.Files.{Links, Releases, Unlinks, Writes, handle_of}
 use Rattle.fuse_server.specs.Nodes.{Describes, LooksUp, MakesDir, RemovesDir}
+use Rattle.fuse_server.specs.Paths.{node_at, path_of}
+use Rattle.fuse_server.specs.Reads.{Reads}
+use Rattle.fuse_server.specs.Refusals.{IsMemory}
+use Rattle.fuse_server.specs.Renames.{Renames}
+use Rattle.fuse_server.specs.Replies.{IsReplyFor}
+use Rattle.fuse_server.specs.Sizes.{SetsAttributes}
 
 -- what came of a request is its answer, or why it is refused
 abbrev pub answer_of : {A : Type 0} → (A → Answer) → Result A Refusal → Answer
@@ -30,13 +42,63 @@ lookup_answer (Ok a) = answer.Entry a
 lookup_answer (Err (refusal.Posix errno.NoEntry)) = answer.Absence
 lookup_answer (Err e) = answer.Refused e
 
+-- by which version, sizes and flags an offer is answered
+pub record IsAgreed (init : Init) (r : InitReply) : Type 0 where
+  pub version : (r.major ≡ 7) × (r.minor ≡ 31)
+  pub sizes : (r.max_write ≡ 65536) × (r.max_pages ≡ 16) × (r.max_background ≡ 12) × (r.congestion ≡ 9) × (r.time_gran ≡ 1)
+  pub readahead : r.max_readahead ≡ min init.max_readahead 131072
+  pub offer : TakesOffer init.flags r.flags
+  pub left : LeavesToKernel r.flags
+
+-- an offer is answered so, and one by an older protocol than 7.23 refused
+abbrev pub Agrees : Init → Answer → Type 0
+Agrees init a = ((r : InitReply) × (IsOld init.major init.minor → ⊥) × IsAgreed init r × (a ≡ answer.Agreed r))
+    ⊎ (IsOld init.major init.minor × (a ≡ answer.Refused (refusal.Posix errno.Invalid)))
+
+-- the answer to a request by which something ends; others are not served
+abbrev pub end_answer : Request → Answer
+end_answer (request.ReleaseDir handle) = answer.Done
+end_answer (request.Forget count) = answer.Done
+end_answer (request.BatchForget nodes) = answer.Done
+end_answer request.Destroy = answer.Done
+end_answer r = answer.Refused refusal.NotServed
+
 module _ {S : Type 0} where
   -- it ends with something, which is the answer
   abbrev pub Ends : {A : Type 0} → (Result A Refusal → Answer) → (Result A Refusal → S → S → Type 0) → Answer → S → S → Type 0
   Ends {A = A} make does a s t = (result : Result A Refusal) × does result s t × (a ≡ make result)
 
 module _ {S : Type 0} (tree : Ghosts S) where
-  -- What a request about a node asks of the tree, and its answer; of LOOKUP, GETATTR, MKDIR, RMDIR, UNLINK, LINK and WRITE.
+  -- the list of a directory is told where it is opened; its handle is the server's
+  abbrev pub OpensDir : Nodes → ℕ → Result ℕ Refusal → S → S → Type 0
+  OpensDir nodes id = AtPath (path_of nodes id) (λ path. MayAsk tree (call.List path) listed_of (λ names result s t. (t ≡ s) × IfErr result IsMemory))
+
+  -- What a request about directories or the mount asks of the tree, and its answer: INIT, OPENDIR, READDIR, STATFS, and those that end something or are refused.
+  abbrev pub ServesOther : Nodes → ℕ → Request → Answer → S → S → Type 0
+  ServesOther nodes node (request.Init init) a s t = Agrees init a × (t ≡ s)
+  ServesOther nodes node (request.OpenDir flags) a s t = Ends (answer_of answer.Opened) (OpensDir nodes node) a s t
+  ServesOther nodes node (request.ReadDir handle at size) a s t = (a ≡ answer.Entries handle at size) × (t ≡ s)
+  ServesOther nodes node request.StatFs a s t = (usage : Usage) × tree.measures s usage t × (a ≡ answer.Usage usage)
+  ServesOther nodes node request.SymLink a s t = (a ≡ answer.Refused (refusal.Posix errno.NotPermitted)) × (t ≡ s)
+  ServesOther nodes node r a s t = (a ≡ end_answer r) × (t ≡ s)
+
+  -- What one that makes or moves a name of a file asks, and its answer: CREATE, MKNOD, RENAME, RENAME2.
+  abbrev pub ServesName : Nodes → ℕ → Request → Answer → S → S → Type 0
+  ServesName nodes node (request.Create name flags mode) a s t = Ends (answer_of answer.Created) (MakesAt tree nodes node name.now (creation_by flags)) a s t
+  ServesName nodes node (request.MkNod name mode) a s t = Ends (answer_of answer.Entry) (MakesNode tree nodes node name.now mode) a s t
+  ServesName nodes node (request.Rename name folder new) a s t = Ends (answer_of (λ _. answer.Done)) (Renames tree nodes (node, name.now) (folder, new.now) 0) a s t
+  ServesName nodes node (request.Rename2 name folder new flags) a s t = Ends (answer_of (λ _. answer.Done)) (Renames tree nodes (node, name.now) (folder, new.now) flags) a s t
+  ServesName nodes node r a s t = ServesOther nodes node r a s t
+
+  -- What one about a file asks, and its answer: SETATTR, OPEN, READ, RELEASE.
+  abbrev pub ServesFile : Nodes → ℕ → Request → Answer → S → S → Type 0
+  ServesFile nodes node (request.SetAttr set) a s t = Ends (answer_of answer.Attributes) (SetsAttributes tree nodes node set.size) a s t
+  ServesFile nodes node (request.Open flags) a s t = Ends (answer_of answer.Opened) (λ result s t. (result ≡ handle_of (node_at nodes node)) × (t ≡ s)) a s t
+  ServesFile nodes node (request.Read handle at count) a s t = Ends (answer_of answer.Data) (Reads tree nodes node at count) a s t
+  ServesFile nodes node (request.Release handle) a s t = Ends (answer_of (λ _. answer.Done)) (Releases tree nodes node) a s t
+  ServesFile nodes node r a s t = ServesName nodes node r a s t
+
+  -- What any request asks, and its answer: LOOKUP, GETATTR, MKDIR, RMDIR, UNLINK, LINK, WRITE, and those above.
   abbrev pub Serves : Nodes → ℕ → Request → Answer → S → S → Type 0
   Serves nodes node (request.Lookup name) a s t = Ends lookup_answer (LooksUp tree nodes node name.now) a s t
   Serves nodes node (request.GetAttr handle) a s t = Ends (answer_of answer.Attributes) (Describes tree nodes node) a s t
@@ -45,10 +107,10 @@ module _ {S : Type 0} (tree : Ghosts S) where
   Serves nodes node (request.Unlink name) a s t = Ends (answer_of (λ _. answer.Done)) (Unlinks tree nodes node name.now) a s t
   Serves nodes node (request.Link old name) a s t = Ends (answer_of answer.Entry) (Links tree nodes old node name.now) a s t
   Serves nodes node (request.Write handle at flags bytes) a s t = Ends (answer_of answer.Count) (Writes tree nodes node at bytes.now) a s t
-  Serves nodes node r a s t = Unit {0}
+  Serves nodes node r a s t = ServesFile nodes node r a s t
 
   -- A message that spells a request is answered so; any other is refused as invalid, and asks nothing.
-  abbrev pub IsAnswerTo : Nodes → List ℕ → Answer → S → S → Type 0
+  unfoldable pub IsAnswerTo : Nodes → List ℕ → Answer → S → S → Type 0
   IsAnswerTo nodes message a s t =
       ((r : Request) × Spells message (header_of message) r × Serves nodes (header_of message).node r a s t)
       ⊎ (((h : Header) (r : Request) → Spells message h r → ⊥) × (a ≡ answer.Refused (refusal.Posix errno.Invalid)) × (t ≡ s))

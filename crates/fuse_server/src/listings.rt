@@ -1,4 +1,10 @@
 // Directories are read as they were when they were opened.
+ghost use Rattle.std.specs.Prelude.{◌≡◌, IfErr};
+ghost use Rattle.file_graph.specs.posix_calls.declared.call.Call.TheVariants as call;
+ghost use Rattle.fuse_server.specs.Calls.{Answers, MayAsk, listed_of};
+ghost use Rattle.fuse_server.specs.Refusals.{IsMemory};
+ghost use Rattle.fuse_server.specs.Requests.{OpensDir};
+
 use crate::nodes::Nodes;
 use crate::paths::path_of;
 use crate::server::Server;
@@ -22,7 +28,9 @@ pub struct Listing {
 
 impl Server {
     /// Opens a directory, and answers its handle.
-    pub(crate) fn open_dir<T: Tree>(&mut self, tree: &mut T, id: u64) -> Result<u64, Refusal> {
+    pub(crate) fn open_dir<T: Tree>(&mut self, tree: &mut T, id: u64) -> Result<u64, Refusal>
+        ensures { OpensDir T.Tree self.old.nodes id result tree.old tree.new }
+    {
         let path = path_of(self.alloc, &self.nodes, id)?;
         let names = list(self.alloc, tree, &path)?;
         let handle = self.free_handle()?;
@@ -33,7 +41,9 @@ impl Server {
     }
 
     // The lowest handle of which no directory is open.
-    fn free_handle(&mut self) -> Result<usize, Refusal> {
+    fn free_handle(&mut self) -> Result<usize, Refusal>
+        ensures { IfErr result (λ e. IsMemory e) }
+    {
         match self.listings.iter().position(|listing| listing.is_none()) {
             Some(handle) => Ok(handle),
             None => {
@@ -124,9 +134,17 @@ fn kind_of(nodes: &Nodes, id: u64) -> DirentKind {
 }
 
 /// The names in the directory at a path.
-pub(crate) fn list<T: Tree>(alloc: Global, tree: &mut T, path: &[u8]) -> Result<Names, Refusal> {
+pub(crate) fn list<T: Tree>(alloc: Global, tree: &mut T, path: &[u8]) -> Result<Names, Refusal>
+    ensures { MayAsk T.Tree (call.List path.now) listed_of Answers result tree.old tree.new }
+{
     let path = Bytes::copy_of(alloc, path)?;
-    match tree.call(Call::List { path }) {
+    names_of(tree.call(Call::List { path }))
+}
+
+fn names_of(reply: Reply) -> Result<Names, Refusal>
+    ensures { result ≡ listed_of reply }
+{
+    match reply {
         Reply::Listed { names } => Ok(names),
         Reply::Failed { errno } => Err(Refusal::Posix(errno)),
         _ => Err(Refusal::Posix(Errno::IoError)),

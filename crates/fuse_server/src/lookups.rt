@@ -3,8 +3,10 @@ ghost use Rattle.std.specs.Prelude.{◌≡◌, ◌⊎◌, true, false, Ok, Err, 
 ghost use Rattle.file_graph.specs.posix_calls.Name.{is_name};
 ghost use Rattle.file_graph.specs.posix_calls.declared.call.Call.TheVariants as call;
 ghost use Rattle.fuse_server.specs.Calls.{description_of, done_of, Answers, MayAsk};
+ghost use Rattle.fuse_server.specs.Creations.{MakesAt, creation};
 ghost use Rattle.fuse_server.specs.Nodes.{Finds, LooksUp, MakesDir, DescribesNode};
 ghost use Rattle.fuse_server.specs.Refusals.{IsMemory};
+ghost use Rattle.fuse_server.specs.Upkeep.{Upkeep};
 
 use crate::attributes::{Attributes, attributes_of, note_in, stat};
 use crate::node::Node;
@@ -15,13 +17,6 @@ use crate::tree::Tree;
 use file_graph::{Bytes, Call, Description, Errno, Flags, MAX_NAME, Name, Path, Reply};
 use fuse_wire::Refusal;
 use std::alloc::{AllocError, Global};
-
-/// How a file is made: whether a name that is taken refuses it, and whether a file that is there loses its bytes.
-#[derive(Clone, Copy)]
-pub struct Creation {
-    pub exclusive: bool,
-    pub truncate: bool,
-}
 
 impl Server {
     /// Looks a name of a directory up. The kernel is told of the node once more.
@@ -44,14 +39,12 @@ impl Server {
         tree: &mut T,
         folder: u64,
         name: &[u8],
-    ) -> Result<Attributes, Refusal> {
+    ) -> Result<Attributes, Refusal>
+        ensures { MakesAt T.Tree self.old.nodes folder name.now (creation true false) result tree.old tree.new }
+    {
         let name = read_name(self.alloc, name)?;
-        let creation = Creation {
-            exclusive: true,
-            truncate: false,
-        };
         let path = path_below(self.alloc, &self.nodes, folder, name.as_slice())?;
-        let number = self.open_new(tree, &path, creation)?;
+        let number = self.open_path(tree, &path, creation(true, false))?;
         close_number(tree, number);
         self.mark_changed(folder);
         self.tell_of(tree, folder, &name, &path)
@@ -63,52 +56,49 @@ impl Server {
         tree: &mut T,
         folder: u64,
         name: &[u8],
-        creation: Creation,
-    ) -> Result<Attributes, Refusal> {
+        flags: Flags,
+    ) -> Result<Attributes, Refusal>
+        ensures { MakesAt T.Tree self.old.nodes folder name.now flags result tree.old tree.new }
+    {
         let name = read_name(self.alloc, name)?;
         let path = path_below(self.alloc, &self.nodes, folder, name.as_slice())?;
-        let number = self.open_new(tree, &path, creation)?;
+        let number = self.open_path(tree, &path, flags)?;
         self.mark_changed(folder);
-        match self.tell_of(tree, folder, &name, &path) {
-            Ok(attributes) => {
-                self.adopt(tree, attributes.node, number);
-                Ok(attributes)
-            }
-            Err(refusal) => {
-                close_number(tree, number);
-                Err(refusal)
-            }
+        let told = self.tell_of(tree, folder, &name, &path);
+        self.keep_open(tree, &told, number);
+        told
+    }
+
+    // Notes that the node that was told of is open once more, under this descriptor, which is closed where none was.
+    fn keep_open<T: Tree>(&mut self, tree: &mut T, told: &Result<Attributes, Refusal>, number: u32)
+        ensures { Upkeep T.Tree tree.old tree.new }
+    {
+        match told {
+            Ok(attributes) => self.adopt(tree, attributes.node, number),
+            Err(_) => close_number(tree, number),
         }
     }
 
     // Notes that a node is open once more, under this descriptor, which is not needed where it has one.
-    fn adopt<T: Tree>(&mut self, tree: &mut T, id: u64, number: u32) {
-        match self.nodes.get_mut(id) {
-            Some(node) => {
-                node.opens = node.opens.saturating_add(1);
-                match node.descriptor {
-                    Some(_) => close_number(tree, number),
-                    None => self.give_descriptor(id, number),
-                }
-            }
-            None => close_number(tree, number),
+    fn adopt<T: Tree>(&mut self, tree: &mut T, id: u64, number: u32)
+        ensures { Upkeep T.Tree tree.old tree.new }
+    {
+        if self.adds_open(id) {
+            self.give_descriptor(id, number);
+        } else {
+            close_number(tree, number);
         }
     }
 
-    fn open_new<T: Tree>(
-        &mut self,
-        tree: &mut T,
-        path: &[u8],
-        creation: Creation,
-    ) -> Result<u32, Refusal> {
-        let flags = Flags {
-            read: true,
-            write: true,
-            create: true,
-            exclusive: creation.exclusive,
-            truncate: creation.truncate,
-        };
-        self.open_path(tree, path, flags)
+    // Notes that a node is open once more, and answers whether it has no descriptor.
+    fn adds_open(&mut self, id: u64) -> bool {
+        match self.nodes.get_mut(id) {
+            Some(node) => {
+                node.opens = node.opens.saturating_add(1);
+                node.descriptor.is_none()
+            }
+            None => false,
+        }
     }
 
     /// Makes an empty directory.
@@ -227,6 +217,19 @@ impl Server {
         node.inode = inode;
         note_in(&mut node, description);
         self.nodes.add(node)
+    }
+}
+
+/// How a file is opened that is made where none is: whether a name that is taken refuses it, and a file that is there loses its bytes.
+pub(crate) fn creation(exclusive: bool, truncate: bool) -> Flags
+    ensures { result ≡ creation exclusive truncate }
+{
+    Flags {
+        read: true,
+        write: true,
+        create: true,
+        exclusive,
+        truncate,
     }
 }
 

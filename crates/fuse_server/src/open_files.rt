@@ -103,8 +103,8 @@ impl Server {
         }
     }
 
-    // Notes that a node has no descriptor any more, and answers the one that it had.
-    fn drop_descriptor(&mut self, id: u64) -> Option<u32> {
+    /// Notes that a node has no descriptor any more, and answers the one that it had.
+    pub(crate) fn drop_descriptor(&mut self, id: u64) -> Option<u32> {
         let number = self.nodes.get_mut(id)?.descriptor.take()?;
         self.descriptors.set_owner(number, None);
         Some(number)

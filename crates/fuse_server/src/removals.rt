@@ -167,9 +167,24 @@ impl Server {
     ) -> Result<Attributes, Refusal>
         ensures { MayAsk T.Tree (call.Stat path.now) description_of (DescribesAgain id) result tree.old tree.new }
     {
+        let told = self.tell_known(tree, id, path);
+        if told.is_ok() {
+            self.count_lookup(id);
+        }
+        told
+    }
+
+    /// Tells of a node that is known, at a path of it.
+    pub(crate) fn tell_known<T: Tree>(
+        &mut self,
+        tree: &mut T,
+        id: u64,
+        path: &[u8],
+    ) -> Result<Attributes, Refusal>
+        ensures { MayAsk T.Tree (call.Stat path.now) description_of (DescribesAgain id) result tree.old tree.new }
+    {
         let description = stat(self.alloc, tree, path)?;
         self.note(id, description);
-        self.count_lookup(id);
         Ok(attributes_of(id, self.last_change(id), description))
     }
 }

@@ -1,11 +1,17 @@
 // Names move.
-use crate::attributes::stat;
+ghost use Rattle.std.specs.Prelude.{◌≡◌, ◌⊎◌, false, IfSome};
+ghost use Rattle.file_graph.specs.posix_calls.Name.{is_name};
+ghost use Rattle.file_graph.specs.posix_calls.declared.call.Call.TheVariants as call;
+ghost use Rattle.fuse_server.specs.Calls.{Answers, Asks, IsUnasked, MayAsk, done_of};
+ghost use Rattle.fuse_server.specs.Renames.{IsUnmoved, Moves, Renames, absent_of};
+ghost use Rattle.fuse_server.specs.Upkeep.{Behind, IsLost};
+
 use crate::depth::check_depth;
 use crate::lookups::{check_done, read_name};
 use crate::paths::path_below;
 use crate::server::Server;
 use crate::tree::Tree;
-use file_graph::{Bytes, Call, Errno, Name};
+use file_graph::{Bytes, Call, Errno, Name, Reply};
 use fuse_wire::Refusal;
 use std::alloc::Global;
 
@@ -14,9 +20,9 @@ const NO_REPLACE: u32 = 1;
 
 /// A name of a directory's node.
 #[derive(Clone, Copy)]
-pub struct Place<'a> {
-    pub folder: u64,
-    pub name: &'a [u8],
+pub(crate) struct Place<'a> {
+    pub(crate) folder: u64,
+    pub(crate) name: &'a [u8],
 }
 
 impl Server {
@@ -28,20 +34,51 @@ impl Server {
         old: Place<'_>,
         new: Place<'_>,
         flags: u32,
-    ) -> Result<(), Refusal> {
-        let old_path = path_below(self.alloc, &self.nodes, old.folder, old.name)?;
-        let new_path = path_below(self.alloc, &self.nodes, new.folder, new.name)?;
+    ) -> Result<(), Refusal>
+        ensures { Renames T.Tree self.old.nodes (old.entry.folder, old.entry.name.now) (new.entry.folder, new.entry.name.now) flags result tree.old tree.new }
+    {
+        let from = path_below(self.alloc, &self.nodes, old.folder, old.name)?;
+        let to = path_below(self.alloc, &self.nodes, new.folder, new.name)?;
         match flags {
-            0 => {}
-            NO_REPLACE => check_absent(self.alloc, tree, &new_path)?,
-            _ => return Err(Refusal::Posix(Errno::Invalid)),
+            0 => self.move_path(tree, (old, new), from, to),
+            NO_REPLACE => self.move_beside(tree, (old, new), from, to),
+            _ => Err(Refusal::Posix(Errno::Invalid)),
         }
-        check_depth(self.alloc, tree, &old_path, new_path.len())?;
-        let call = Call::Rename {
-            old: Bytes::from_vec(old_path),
-            new: Bytes::from_vec(new_path),
-        };
-        self.move_name(tree, old, new, call)
+    }
+
+    // Moves what has a name to a path where nothing is.
+    fn move_beside<T: Tree>(
+        &mut self,
+        tree: &mut T,
+        places: (Place<'_>, Place<'_>),
+        from: Vec<u8>,
+        to: Vec<u8>,
+    ) -> Result<(), Refusal>
+        ensures { MayAsk T.Tree (call.Stat to.items) absent_of (λ _. Moves T.Tree self.old.nodes (places.entry.0.folder, places.entry.0.name.now) (places.entry.1.folder, places.entry.1.name.now) from.items to.items) result tree.old tree.new }
+    {
+        check_absent(self.alloc, tree, &to)?;
+        self.move_path(tree, places, from, to)
+    }
+
+    // Moves what has a name, from a path to another.
+    fn move_path<T: Tree>(
+        &mut self,
+        tree: &mut T,
+        places: (Place<'_>, Place<'_>),
+        from: Vec<u8>,
+        to: Vec<u8>,
+    ) -> Result<(), Refusal>
+        ensures { Moves T.Tree self.old.nodes (places.entry.0.folder, places.entry.0.name.now) (places.entry.1.folder, places.entry.1.name.now) from.items to.items result tree.old tree.new }
+    {
+        check_depth(self.alloc, tree, &from, to.len())?;
+        let from = Bytes::from_vec(from);
+        let to = Bytes::from_vec(to);
+        self.move_name(
+            tree,
+            places.0,
+            places.1,
+            Call::Rename { old: from, new: to },
+        )
     }
 
     fn move_name<T: Tree>(
@@ -50,16 +87,32 @@ impl Server {
         old: Place<'_>,
         new: Place<'_>,
         call: Call,
-    ) -> Result<(), Refusal> {
+    ) -> Result<(), Refusal>
+        ensures { Behind T.Tree (IsUnmoved self.old.nodes (old.entry.folder, old.entry.name.now) (new.entry.folder, new.entry.name.now)) (MayAsk T.Tree call done_of Answers) result tree.old tree.new }
+    {
         let replaced = self.nodes.child(new.folder, new.name);
         match self.nodes.child(old.folder, old.name) {
-            Some(moved) if replaced == Some(moved) => check_done(tree.call(call)),
-            Some(moved) => {
-                self.hold_open(tree, replaced)?;
-                self.move_known(tree, moved, (old, new), replaced, call)
-            }
+            Some(moved) => self.move_child(tree, moved, (old, new), replaced, call),
             None => Err(Refusal::StaleNode),
         }
+    }
+
+    // Moves a name of a known node, over what has the new one, which may be the same node.
+    fn move_child<T: Tree>(
+        &mut self,
+        tree: &mut T,
+        moved: u64,
+        places: (Place<'_>, Place<'_>),
+        replaced: Option<u64>,
+        call: Call,
+    ) -> Result<(), Refusal>
+        ensures { Behind T.Tree ((is_name places.entry.1.name.now ≡ false) ⊎ IfSome replaced (λ id. IsLost self.old.nodes id)) (MayAsk T.Tree call done_of Answers) result tree.old tree.new }
+    {
+        if replaced == Some(moved) {
+            return check_done(tree.call(call));
+        }
+        self.hold_open(tree, replaced)?;
+        self.move_known(tree, moved, places, replaced, call)
     }
 
     // Moves a name of a known node. It is entered before the call, so that no memory is wanted behind it.
@@ -70,7 +123,9 @@ impl Server {
         places: (Place<'_>, Place<'_>),
         replaced: Option<u64>,
         call: Call,
-    ) -> Result<(), Refusal> {
+    ) -> Result<(), Refusal>
+        ensures { IsUnasked (is_name places.entry.1.name.now ≡ false) result tree.old tree.new ⊎ Asks T.Tree call done_of Answers result tree.old tree.new }
+    {
         let (old, new) = places;
         let name = read_name(self.alloc, new.name)?;
         self.nodes.enter(new.folder, &name, moved)?;
@@ -110,10 +165,22 @@ impl Server {
 }
 
 // `Exists` where something is at a path.
-fn check_absent<T: Tree>(alloc: Global, tree: &mut T, path: &[u8]) -> Result<(), Refusal> {
-    match stat(alloc, tree, path) {
-        Ok(_) => Err(Refusal::Posix(Errno::Exists)),
-        Err(Refusal::Posix(Errno::NoEntry)) => Ok(()),
-        Err(refusal) => Err(refusal),
+fn check_absent<T: Tree>(alloc: Global, tree: &mut T, path: &[u8]) -> Result<(), Refusal>
+    ensures { MayAsk T.Tree (call.Stat path.now) absent_of Answers result tree.old tree.new }
+{
+    let path = Bytes::copy_of(alloc, path)?;
+    absent_of(tree.call(Call::Stat { path }))
+}
+
+fn absent_of(reply: Reply) -> Result<(), Refusal>
+    ensures { result ≡ absent_of reply }
+{
+    match reply {
+        Reply::Failed {
+            errno: Errno::NoEntry,
+        } => Ok(()),
+        Reply::Failed { errno } => Err(Refusal::Posix(errno)),
+        Reply::File { .. } | Reply::Dir { .. } => Err(Refusal::Posix(Errno::Exists)),
+        _ => Err(Refusal::Posix(Errno::IoError)),
     }
 }

@@ -5,7 +5,7 @@ ghost use Rattle.fuse_wire.specs.declared.errno.Refusal.TheVariants as refusal;
 ghost use Rattle.fuse_wire.specs.Errno.{refusal_number};
 ghost use Rattle.fuse_wire.specs.Replies.{error_bytes, reply_bytes};
 ghost use Rattle.fuse_server.specs.Answers.{IsReply};
-ghost use Rattle.fuse_server.specs.Replies.{Carries, HasRoom, attr_of, entry_of};
+ghost use Rattle.fuse_server.specs.Replies.{Carries, HasRoom, attr_of, entry_of, stat_fs_of};
 
 use crate::answer::Answer;
 use crate::attributes::Attributes;
@@ -173,7 +173,9 @@ fn open_file(handle: u64) -> OpenFile
     }
 }
 
-fn stat_fs(usage: Usage) -> StatFs {
+fn stat_fs(usage: Usage) -> StatFs
+    ensures { result ≡ stat_fs_of usage }
+{
     StatFs {
         blocks: usage.units,
         blocks_free: usage.free,

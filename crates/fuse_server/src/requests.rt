@@ -1,21 +1,22 @@
 // What each request asks of the server and of the tree.
 ghost use Rattle.std.specs.Prelude.{◌≡◌};
 ghost use Rattle.fuse_server.specs.declared.answer.Answer.TheVariants as answer;
-ghost use Rattle.fuse_server.specs.Requests.{Serves, answer_of, lookup_answer};
+ghost use Rattle.fuse_server.specs.Creations.{MakesNode, is_file_mode, creation_by};
+ghost use Rattle.fuse_server.specs.Requests.{Agrees, Serves, ServesFile, ServesName, ServesOther, answer_of, end_answer, lookup_answer};
 
 use crate::answer::Answer;
 use crate::attributes::Attributes;
-use crate::lookups::Creation;
+use crate::lookups::creation;
 use crate::renames::Place;
 use crate::server::Server;
 use crate::tree::Tree;
-use file_graph::{Bytes, Errno};
+use file_graph::{Bytes, Errno, Flags};
 use fuse_wire::{Header, Init, Refusal, Request, forget_at, negotiate};
 
-/// The bits of a mode that say what kind of node it is, and those of a file.
-const KIND: u32 = 0o170000;
+/// The lowest of the four bits of a mode that say what kind of node it is, and what they are of a file.
+const KIND: u32 = 0o10000;
 
-const FILE: u32 = 0o100000;
+const FILE: u32 = 8;
 
 /// The flags of open(2) by which a name that is taken refuses the call, and a file loses its bytes.
 const EXCLUSIVE: u32 = 0o200;
@@ -46,10 +47,12 @@ impl Server {
     }
 
     // The requests about files.
-    fn serve_file<T: Tree>(&mut self, tree: &mut T, node: u64, request: &Request<'_>) -> Answer {
+    fn serve_file<T: Tree>(&mut self, tree: &mut T, node: u64, request: &Request<'_>) -> Answer
+        ensures { ServesFile T.Tree self.old.nodes node request.now result tree.old tree.new }
+    {
         match *request {
             Request::SetAttr(set) => attributes_answer(self.set_attributes(tree, node, set.size)),
-            Request::Open { .. } => open_answer(self.open(node)),
+            Request::Open { .. } => opened_answer(self.open(node)),
             Request::Read { at, size, .. } => data_answer(self.read(tree, node, at, size)),
             Request::Release { .. } => done_answer(self.release(tree, node)),
             _ => self.serve_name(tree, node, request),
@@ -57,22 +60,29 @@ impl Server {
     }
 
     // The requests that make, take or move a name of a file.
-    fn serve_name<T: Tree>(&mut self, tree: &mut T, node: u64, request: &Request<'_>) -> Answer {
+    fn serve_name<T: Tree>(&mut self, tree: &mut T, node: u64, request: &Request<'_>) -> Answer
+        ensures { ServesName T.Tree self.old.nodes node request.now result tree.old tree.new }
+    {
         match *request {
-            Request::Create { name, flags, .. } => create_answer(self.create(
-                tree,
-                node,
-                name,
-                creation_of(flags),
-            )),
+            Request::Create { name, flags, .. } => {
+                create_answer(self.create(tree, node, name, creation_by(flags)))
+            }
             Request::MkNod { name, mode } => entry_answer(self.make_node(tree, node, name, mode)),
             Request::Rename {
                 name,
                 new_folder,
                 new_name,
             } => {
-                let (old, new) = places(node, name, new_folder, new_name);
-                done_answer(self.rename(tree, old, new, 0))
+                let old = Place { folder: node, name };
+                done_answer(self.rename(
+                    tree,
+                    old,
+                    Place {
+                        folder: new_folder,
+                        name: new_name,
+                    },
+                    0,
+                ))
             }
             Request::Rename2 {
                 name,
@@ -80,10 +90,18 @@ impl Server {
                 new_name,
                 flags,
             } => {
-                let (old, new) = places(node, name, new_folder, new_name);
-                done_answer(self.rename(tree, old, new, flags))
+                let old = Place { folder: node, name };
+                done_answer(self.rename(
+                    tree,
+                    old,
+                    Place {
+                        folder: new_folder,
+                        name: new_name,
+                    },
+                    flags,
+                ))
             }
-            _ => answer_of(self.serve_other(tree, node, request)),
+            _ => self.serve_other(tree, node, request),
         }
     }
 
@@ -94,38 +112,48 @@ impl Server {
         node: u64,
         name: &[u8],
         mode: u32,
-    ) -> Result<Attributes, Refusal> {
-        check_file(mode)?;
+    ) -> Result<Attributes, Refusal>
+        ensures { MakesNode T.Tree self.old.nodes node name.now mode result tree.old tree.new }
+    {
+        if !is_file_mode(mode) {
+            return Err(Refusal::Posix(Errno::NotPermitted));
+        }
         self.make_file(tree, node, name)
     }
 
     // The requests about directories and the whole mount, and those that are refused.
-    fn serve_other<T: Tree>(
-        &mut self,
-        tree: &mut T,
-        node: u64,
-        request: &Request<'_>,
-    ) -> Result<Answer, Refusal> {
+    fn serve_other<T: Tree>(&mut self, tree: &mut T, node: u64, request: &Request<'_>) -> Answer
+        ensures { ServesOther T.Tree self.old.nodes node request.now result tree.old tree.new }
+    {
         match *request {
             Request::Init(init) => agree(&init),
-            Request::OpenDir { .. } => Ok(Answer::Opened(self.open_dir(tree, node)?)),
-            Request::ReadDir { handle, at, size } => Ok(Answer::Entries { handle, at, size }),
+            Request::OpenDir { .. } => opened_answer(self.open_dir(tree, node)),
+            Request::ReadDir { handle, at, size } => Answer::Entries { handle, at, size },
+            Request::StatFs => Answer::Usage(tree.usage()),
+            Request::SymLink => Answer::Refused(Refusal::Posix(Errno::NotPermitted)),
+            _ => self.serve_end(node, request),
+        }
+    }
+
+    // The requests by which something ends, and those that are not served. They ask the tree nothing.
+    fn serve_end(&mut self, node: u64, request: &Request<'_>) -> Answer
+        ensures { result ≡ end_answer request.now }
+    {
+        match *request {
             Request::ReleaseDir { handle } => {
                 self.release_dir(handle);
-                Ok(Answer::Done)
+                Answer::Done
             }
-            Request::StatFs => Ok(Answer::Usage(tree.usage())),
             Request::Forget { count } => {
                 self.nodes.forget(node, count);
-                Ok(Answer::Done)
+                Answer::Done
             }
             Request::BatchForget { nodes } => {
                 self.forget_all(nodes);
-                Ok(Answer::Done)
+                Answer::Done
             }
-            Request::Destroy => Ok(Answer::Done),
-            Request::SymLink => Err(Refusal::Posix(Errno::NotPermitted)),
-            _ => Err(Refusal::NotServed),
+            Request::Destroy => Answer::Done,
+            _ => Answer::Refused(Refusal::NotServed),
         }
     }
 
@@ -136,13 +164,6 @@ impl Server {
                 None => return,
             }
         }
-    }
-}
-
-fn answer_of(end: Result<Answer, Refusal>) -> Answer {
-    match end {
-        Ok(answer) => answer,
-        Err(refusal) => Answer::Refused(refusal),
     }
 }
 
@@ -166,7 +187,9 @@ fn entry_answer(end: Result<Attributes, Refusal>) -> Answer
     }
 }
 
-fn create_answer(end: Result<Attributes, Refusal>) -> Answer {
+fn create_answer(end: Result<Attributes, Refusal>) -> Answer
+    ensures { result ≡ answer_of answer.Created end }
+{
     match end {
         Ok(attributes) => Answer::Created(attributes),
         Err(refusal) => Answer::Refused(refusal),
@@ -209,46 +232,33 @@ fn done_answer(end: Result<(), Refusal>) -> Answer
     }
 }
 
-fn open_answer(end: Result<(), Refusal>) -> Answer {
+fn opened_answer(end: Result<u64, Refusal>) -> Answer
+    ensures { result ≡ answer_of answer.Opened end }
+{
     match end {
-        Ok(()) => Answer::Opened(0),
+        Ok(handle) => Answer::Opened(handle),
         Err(refusal) => Answer::Refused(refusal),
     }
 }
 
-fn agree(init: &Init) -> Result<Answer, Refusal> {
+fn agree(init: &Init) -> Answer
+    ensures { Agrees init.now result }
+{
     match negotiate(init) {
-        Ok(reply) => Ok(Answer::Agreed(reply)),
-        Err(_) => Err(Refusal::Posix(Errno::Invalid)),
+        Ok(reply) => Answer::Agreed(reply),
+        Err(_) => Answer::Refused(Refusal::Posix(Errno::Invalid)),
     }
 }
 
-fn creation_of(flags: u32) -> Creation {
-    Creation {
-        exclusive: flags & EXCLUSIVE != 0,
-        truncate: flags & TRUNCATE != 0,
-    }
+fn creation_by(flags: u32) -> Flags
+    ensures { result ≡ creation_by flags }
+{
+    creation(flags / EXCLUSIVE % 2 == 1, flags / TRUNCATE % 2 == 1)
 }
 
-// Special files are not permitted.
-fn check_file(mode: u32) -> Result<(), Refusal> {
-    match mode & KIND {
-        0 | FILE => Ok(()),
-        _ => Err(Refusal::Posix(Errno::NotPermitted)),
-    }
-}
-
-fn places<'a>(
-    folder: u64,
-    name: &'a [u8],
-    new_folder: u64,
-    new_name: &'a [u8],
-) -> (Place<'a>, Place<'a>) {
-    (
-        Place { folder, name },
-        Place {
-            folder: new_folder,
-            name: new_name,
-        },
-    )
+fn is_file_mode(mode: u32) -> bool
+    ensures { result ≡ is_file_mode mode }
+{
+    let kind = mode / KIND % 16;
+    kind == 0 || kind == FILE
 }

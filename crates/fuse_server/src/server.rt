@@ -4,7 +4,10 @@ ghost use Rattle.fuse_wire.specs.declared.errno.Refusal.TheVariants as refusal;
 ghost use Rattle.fuse_wire.specs.posix_calls.declared.errno.Errno.TheVariants as errno;
 ghost use Rattle.fuse_wire.specs.Errno.{refusal_number};
 ghost use Rattle.fuse_wire.specs.Replies.{error_bytes};
-ghost use Rattle.fuse_wire.specs.Spelling.{IsWhole, header_of};
+ghost use Rattle.fuse_wire.specs.declared.header.Header.{Header};
+ghost use Rattle.fuse_wire.specs.declared.request.Request.{Request};
+ghost use Rattle.fuse_wire.specs.Spelling.{IsWhole, Spells, header_of};
+ghost use Rattle.fuse_server.specs.declared.answer.Answer.{Answer};
 ghost use Rattle.fuse_server.specs.Answers.{IsAnswered, IsReply, is_silent};
 ghost use Rattle.fuse_server.specs.Replies.{IsReplyFor};
 ghost use Rattle.fuse_server.specs.Paths.{node_at};
@@ -65,7 +68,8 @@ impl Server {
     /// by, or interrupts a request. A message whose body can't be read is answered EINVAL, and one for whose answer memory is wanting
     /// ENOMEM.
     ///
-    /// Refused where the bytes are no whole message, with nothing done, and where memory is wanting for a reply of 16 bytes.
+    /// Refused where the bytes are no whole message, with nothing done, and where memory is wanting for a reply of 16 bytes, with the request
+    /// served all the same. A message that spells no request leaves the server as it was.
     #[tactic(auto, unfolding(fuse_wire::specs::Spelling::header_of))]
     pub fn answer<T: Tree>(
         &mut self,
@@ -77,7 +81,9 @@ impl Server {
         ensures whole { OnOk result (IsWhole message.now) }
         ensures served { OnOk result (IsServed T.Tree self.old message.now (vec_capacity reply.old) reply.new.items tree.old tree.new) }
         ensures refused { IfErr result (IsNoAnswer message.now) }
-        ensures unasked { (e : WireError) → result ≡ Err (ServeError.Message e) → tree.new ≡ tree.old }
+        ensures unasked { (e : WireError) → result ≡ Err (ServeError.Message e) → (tree.new ≡ tree.old) × (self.new ≡ self.old) }
+        ensures unspelled { ((h : Header) (r : Request) → Spells message.now h r → ⊥) → self.new ≡ self.old }
+        ensures unreplied { result ≡ Err ServeError.Memory → (said : Answer) × IsAnswerTo T.Tree self.old.nodes message.now said tree.old tree.new }
     {
         reply.clear();
         let header = match read_header(message) {
@@ -92,9 +98,11 @@ impl Server {
     }
 
     // What a message with this header is answered.
+    #[tactic(auto, unfolding(crate::specs::Requests::IsAnswerTo))]
     fn serve_message<T: Tree>(&mut self, tree: &mut T, header: &Header, message: &[u8]) -> Answer
         requires { header.now ≡ header_of message.now }
-        ensures { IsAnswerTo T.Tree self.old.nodes message.now result tree.old tree.new }
+        ensures answers { IsAnswerTo T.Tree self.old.nodes message.now result tree.old tree.new }
+        ensures unspelled { ((h : Header) (r : Request) → Spells message.now h r → ⊥) → self.new ≡ self.old }
     {
         match read_request(message) {
             Ok((_, request)) => self.serve(tree, header, &request),

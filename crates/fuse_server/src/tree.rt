@@ -2,6 +2,7 @@ ghost use Rattle.std.specs.Prelude.{List, ℕ, Result};
 ghost use Rattle.file_graph.specs.posix_calls.declared.call.Call.{Call};
 ghost use Rattle.file_graph.specs.posix_calls.declared.call.Reply.{Reply};
 ghost use Rattle.file_graph.specs.posix_calls.declared.errno.Errno.{Errno};
+ghost use Rattle.fuse_server.specs.declared.tree.Usage.{Usage};
 
 use file_graph::{Call, Errno, Path, Reply};
 
@@ -22,6 +23,9 @@ pub trait Tree {
     /// That a tree is asked which file the names of a path lead to, answers it so, and becomes another tree.
     ghost finds: { Self → List (List ℕ) → Result ℕ Errno → Self → Type 0 };
 
+    /// That a tree tells how much there is of it, and becomes another tree.
+    ghost measures: { Self → Usage → Self → Type 0 };
+
     /// Carries out a call. What it answers is kept by then.
     fn call(&mut self, call: Call) -> Reply
         ensures { asks self.old call result self.new };
@@ -32,7 +36,8 @@ pub trait Tree {
         ensures { finds self.old path.now result self.new };
 
     /// How much there is, and is free.
-    fn usage(&mut self) -> Usage;
+    fn usage(&mut self) -> Usage
+        ensures { measures self.old result self.new };
 
     /// Does what is to be done in idle time, behind a reply.
     fn use_idle_time(&mut self);

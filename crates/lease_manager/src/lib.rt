@@ -36,6 +36,6 @@ pub use view::{Event, LeaseMode, Part};
 
 // Passed on to the crates above, which so need not list those below.
 pub use log_record::{
-    Call, Effect, Errno, MAX_FILE, MAX_INODE, MAX_TRANSFER, OwnDescriptors, Record, Reply,
-    SharedBytes, UNIT_BYTES,
+    Call, Child, Effect, Errno, Kind, MAX_FILE, MAX_INODE, MAX_TRANSFER, NameMap, OwnDescriptors,
+    PlainGraph, Record, Reply, SharedBytes, UNIT_BYTES,
 };

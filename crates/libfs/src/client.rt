@@ -20,7 +20,7 @@ ghost use Rattle.libfs.specs.NewClient.{IsBlank, IsNew};
 use crate::begun_record::Begun;
 use client_log::{ClientLog, Media, Region};
 use client_view::{ClientCopies, OwnRecords};
-use lease_manager::{LeaseMode, Leases, Pass};
+use lease_manager::{LeaseMode, Leases, Pass, Record};
 use std::alloc::{AllocError, Global};
 use std::marker::Model;
 
@@ -129,6 +129,20 @@ impl<M: Media> Client<M> {
         ensures { result ≡ is_some self.now.begun }
     {
         self.begun.is_some()
+    }
+
+    /// The records of the region that is away, in their order; none where none is.
+    pub fn sealed_records(&self) -> &[Record]
+        ensures { result.now ≡ self.now.sealed }
+    {
+        self.records.sealed_records()
+    }
+
+    /// The records of the current region, in their order.
+    pub fn current_records(&self) -> &[Record]
+        ensures { result.now ≡ current_records M.Media self.now.log }
+    {
+        self.records.current()
     }
 
     /// How many records of the client are not known to be digested: those of the current region, and of the one that is away.

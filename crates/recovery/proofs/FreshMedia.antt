@@ -128,6 +128,9 @@ module _ {M : Type 0} (device : Ghosts M) (seen_now : (m : M) (t : Tier) → dev
       pub graph_is : graph g (store_of (fresh_tiers g)) ≡ fresh → graph area.geometry (disk device area) ≡ fresh
       graph_is is = ap (λ (h : Sizes). graph h (disk device area)) same_sizes ∙ ap (graph g) disk_is ∙ is
 
+      pub fresh_marks : marks (store_of (fresh_tiers g)) ≡ Some no_marks → marks (disk device area) ≡ Some no_marks
+      fresh_marks is = ap marks disk_is ∙ is
+
       pub marks_are : marks (store_of (fresh_tiers g)) ≡ Some no_marks → (v : Marks) → marks (disk device area) ≡ Some v → v ≡ no_marks
       marks_are is v at = let both : Some v ≡ Some no_marks = sym at ∙ ap marks disk_is ∙ is in cc
 

@@ -17,6 +17,7 @@ use Rattle.recovery_laws.specs.update_log.WipeStops.{generation}
 use Rattle.recovery_laws.specs.update_log.tier_device.declared.media.Media.{Ghosts}
 use Rattle.recovery_laws.specs.update_log.tier_device.declared.media.Tier.TheVariants.{Fast}
 use Rattle.recovery_laws.proofs.update_log_lemmas.Counts.{header_tells}
+use Rattle.world.specs.system_world.event_steps.Refusals.{no_refusals}
 use Rattle.recovery.specs.Assembly.{IsOpenedSeat}
 use Rattle.recovery.specs.Regions.{IsUntouched}
 use Rattle.recovery.specs.Silent.{IsWiped, wiped_name}
@@ -119,10 +120,11 @@ module _ {M : Type 0} (device : Ghosts M) where
     odd_back r is = subst (λ (x : RegionView M). IsUntouched device regions.1.media x.media) (same_some back.odd r (sym back.odd_is ∙ is)) back.odd_read
 
   -- the seat of its client
-  pub opened_seat : (pass : PassView) (g : ℕ) (regions : RegionView M × RegionView M) (log : LogView M) (s : SeatView M) → IsOpened device g regions log → IsBlank device log → IsNew pass log s.client → s.away ≡ None → IsOpenedSeat device pass g regions s
-  opened_seat pass g regions log s opened blank new home = record {
+  pub opened_seat : (pass : PassView) (g : ℕ) (regions : RegionView M × RegionView M) (log : LogView M) (s : SeatView M) → IsOpened device g regions log → IsBlank device log → IsNew pass log s.client → s.away ≡ None → s.refused ≡ no_refusals → IsOpenedSeat device pass g regions s
+  opened_seat pass g regions log s opened blank new home unrefused = record {
     pass_is = new.pass_is;
     home = home;
+    unrefused = unrefused;
     new = subst (λ (p : PassView). IsNew p s.client.log s.client) (sym new.pass_is) (subst (λ (l : LogView M). IsNew pass l s.client) (sym new.log_is) new);
     blank = subst (IsBlank device) (sym new.log_is) blank;
     opened = subst (IsOpened device g regions) (sym new.log_is) opened;

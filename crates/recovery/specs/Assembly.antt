@@ -10,6 +10,7 @@ use Rattle.recovery_laws.specs.shared_area.layout.declared.marks.Marks.{Marks}
 use Rattle.recovery_laws.specs.shared_area.area_image.Store.{disk, graph, marks}
 use Rattle.world.specs.system_world.event_steps.call_effects.ClosedGraph.{nobody}
 use Rattle.world.specs.system_world.event_steps.call_effects.Wholes.{IsSound}
+use Rattle.world.specs.system_world.event_steps.Refusals.{no_refusals}
 use Rattle.world.specs.system_world.event_steps.kernel_fs.digester.MarkMoves.{mark_of}
 use Rattle.world.specs.system_world.event_steps.posix_calls.Operations.{is_client}
 use Rattle.world.specs.system_world.event_steps.lease_manager.Passes.{PassView, fresh}
@@ -56,6 +57,7 @@ module _ {M : Type 0} (device : Ghosts M) where
   pub record IsOpenedSeat (pass : PassView) (g : ℕ) (regions : RegionView M × RegionView M) (s : SeatView M) : Type 0 where
     pub pass_is : s.client.pass ≡ pass
     pub home : s.away ≡ None
+    pub unrefused : s.refused ≡ no_refusals
     pub new : IsNew s.client.pass s.client.log s.client
     pub blank : IsBlank device s.client.log
     pub opened : IsOpened device g regions s.client.log

@@ -18,6 +18,7 @@ ghost use Rattle.world.specs.system_world.WorldTree.{world_tree};
 ghost use Rattle.world.specs.system_world.event_steps.call_effects.ClosedGraph.{nobody};
 ghost use Rattle.world.specs.system_world.event_steps.call_effects.Wholes.{state_of};
 ghost use Rattle.recovery.specs.declared.error.RecoveryError.TheVariants.{DeviceFault};
+ghost use Rattle.world.specs.system_world.event_steps.Refusals.{no_refusals};
 ghost use Rattle.recovery.specs.Assembly.{AreOnlyRead, AreOpenedSeats, AreReadyRegions, AreWipedTo, IsOpenedSeat, IsReadyArea, RefusesSeat, SeatsLast};
 ghost use Rattle.recovery.specs.FaultOrMemory.{IsFaultOrMemory};
 ghost use Rattle.recovery.specs.Parts.{part_medium};
@@ -257,6 +258,7 @@ fn open_client<M: Media + Drop>(
     requires blank { IsBlank M.Media log }
     ensures new { IfOk result (λ s. IsNew pass log s.client) }
     ensures home { IfOk result (λ s. s.away ≡ None) }
+    ensures unrefused { IfOk result (λ s. s.refused ≡ no_refusals) }
     ensures back { IfErr result (λ l. l ≡ log) }
 {
     match Client::open(alloc, handle, pass, log) {

@@ -11,6 +11,7 @@ ghost use Rattle.world.specs.system_world.event_steps.posix_calls.EmptyTree.{emp
 ghost use Rattle.recovery.specs.declared.error.RecoveryError.TheVariants.{DeviceFault};
 ghost use Rattle.recovery.specs.FaultOrMemory.{IsFaultOrMemory};
 ghost use Rattle.recovery.specs.FreshContents.{AreFreshRegions, AreLater, HaveSizes, HoldsContent, IsFormatError, IsSizeError, SizesAtRefusal, fresh_contents};
+ghost use Rattle.recovery.specs.RecoveryStops.{IsIdle};
 ghost use Rattle.recovery.specs.Parts.{AreAtRest, part_medium};
 ghost use Rattle.recovery.specs.PartMedia.{SomeRose};
 ghost use Rattle.recovery.specs.Regions.{REGIONS};
@@ -38,6 +39,7 @@ pub fn format<M: Media + Drop>(
     ensures tree { IfOk result (λ w. world_tree M.Media w ≡ empty_state) }
     ensures geometry { IfOk result (λ w. w.system.kernel.area.geometry ≡ geometry.now) }
     ensures calls { IfOk result (λ w. w.calls ≡ no_calls) }
+    ensures idle { IfOk result (λ w. IsIdle M.Media w.system) }
 
     ensures contents { IfOk result (λ w. (p : ℕ) (t : Tier) → p < PARTS → M.seen (medium_of w.system p) t ≡ fresh_contents geometry.now p t) }
     ensures rest { IfOk result (λ w. AreAtRest M.Media (medium_of w.system)) }
@@ -74,6 +76,7 @@ fn open_fresh<M: Media + Drop>(
     ensures tree { IfOk result (λ w. world_tree M.Media w ≡ empty_state) }
     ensures geometry { IfOk result (λ w. w.system.kernel.area.geometry ≡ geometry.now) }
     ensures calls { IfOk result (λ w. w.calls ≡ no_calls) }
+    ensures idle { IfOk result (λ w. IsIdle M.Media w.system) }
     ensures contents { IfOk result (λ w. (p : ℕ) → p < PARTS → HoldsContent M.Media (fresh_contents geometry.now p) (medium_of w.system p)) }
     ensures later { IfOk result (λ w. AreLater M.Media (part_medium (record { shared = shared; regions = media.items })) (medium_of w.system)) }
     ensures later_refused { IfErr result (λ e. AreLater M.Media (part_medium (record { shared = shared; regions = media.items })) (part_medium e.1)) }

@@ -81,6 +81,8 @@ impl Tree for MountTree {
 
     ghost finds = { λ _ _ _ _. Unit {0} };
 
+    ghost measures = { λ _ _ _. Unit {0} };
+
     fn call(&mut self, call: Call) -> Reply {
         let again = copy_call(self.alloc, &call);
         let reply = self.serve(call);

@@ -1,8 +1,6 @@
 //! Clients, workers and a migrator in threads of their own, over one kernel: each client makes calls of its own and compares their answers with those of a plain tree; at the end the media are recovered and compared too.
 #![tactic(auto)]
 
-#[cfg(test)]
-mod call_tests;
 mod client_run;
 mod draws;
 mod file_system;
@@ -11,8 +9,6 @@ mod recovered_tree;
 mod region_stops;
 mod run;
 mod run_end;
-#[cfg(test)]
-mod test_gates;
 mod turns;
 
 use crate::run::run_threads;

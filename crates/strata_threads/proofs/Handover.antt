@@ -1,8 +1,16 @@
--- A region that was put at the end of one place of a row of ends.
-use Rattle.std.proofs.Common.{◌≡◌, ◌<◌, ℕ, List, length, refl, sym, ap, subst, slice_index_or, slice_set}
+-- A region that was put at the end of one place of a row of ends; and one that its client got.
+use Rattle.std.proofs.Common.{◌≡◌, ◌<◌, ℕ, List, Option, length, refl, inl, inr, ⊎_elim, subst, slice_index_or, slice_set}
 use Rattle.std.proofs.lemmas.Option.{slice_get_read}
 use Rattle.handoff.specs.Ends.{EndView}
-use Rattle.strata_threads.specs.RegionHandover.{HasSent, HasSentAt}
+use Rattle.libfs.specs.tier_device.declared.media.Media.{Ghosts}
+use Rattle.libfs.specs.SealedRegion.{SealedRegionView}
+use Rattle.libfs.specs.View.{ClientView}
+use Rattle.strata_threads.specs.RegionHandover.{HasComeBack, HasReceived, HasSent, HasSentAt}
 
 pub sent_at : {T : Type 0} (old : List (EndView T)) (k i : ℕ) (x : T) (before after : EndView T) → i ≡ k → i < length old → before ≡ slice_index_or old i before → HasSent before x after → HasSentAt old k x (slice_set old i after)
 sent_at old k i x before after is low at sent = subst (λ (j : ℕ). HasSentAt old j x (slice_set old i after)) is (before, after, slice_get_read old (length old) i before refl low at, sent, refl)
+
+-- of the client alone: it took the region back, or is as it was
+pub comes_back : {M : Type 0} (device : Ghosts M) (old : ClientView M) (tasks : EndView (SealedRegionView M)) (x : SealedRegionView M) (new : ClientView M) (after : EndView (SealedRegionView M)) (kept : Option (SealedRegionView M))
+    → HasReceived device old tasks x new after kept → HasComeBack device old new
+comes_back device old tasks x new after kept has = ⊎_elim (λ taken. inr (x, taken.0, taken.1)) (λ refused. inl refused.1) has

@@ -1,7 +1,7 @@
 -- A client whose need is served, or is not, keeps its call, and is never denied for its turns.
-use Rattle.std.proofs.Common.{◌≡◌, ◌≢◌, ◌⊎◌, ⊎_elim, ℕ, refl, sym, ap, ◌∙◌, subst}
+use Rattle.std.proofs.Common.{◌≡◌, ◌≢◌, ⊎_elim, Result, Ok, Err, refl, sym, subst}
+use Rattle.std.specs.Prelude.{OnOk}
 use Rattle.libfs.specs.tier_device.declared.media.Media.{Ghosts}
-use Rattle.libfs.specs.tier_device.declared.media.Tier.{Tier}
 use Rattle.libfs.specs.client_view.client_plan.declared.need.Need.{Need}
 use Rattle.libfs.specs.client_view.client_plan.declared.need.Need.TheVariants as needs
 use Rattle.libfs.specs.kernel_fs.KernelView.{KernelView}
@@ -60,3 +60,9 @@ is_denied_otherwise (needs.Pin i) e may = ⊎_elim (failed e) (no_memory e) may
 is_denied_otherwise (needs.Unpin i) e may = failed e may
 is_denied_otherwise (needs.Lease i mode) e may = absurd may
 is_denied_otherwise needs.Room e may = absurd may
+
+-- it is some kernel that served it
+pub served_by_one : {M S : Type 0} (device : Ghosts M) (shared : Ghosts S) (k : KernelView S) (old new : ClientView M) (need : Need) (r : Result (Unit {0}) Denied)
+    → OnOk r ((after : KernelView S) × HasServed device shared k old need new after) → OnOk r ((kernel : KernelView S) × (after : KernelView S) × HasServed device shared kernel old need new after)
+served_by_one device shared k old new need (Ok x) has = (k, has.0, has.1)
+served_by_one device shared k old new need (Err e) has = tt

@@ -1,10 +1,8 @@
 -- A call that is started is begun, or nothing waits; and it is the same client.
-use Rattle.std.proofs.Common.{◌≡◌, ◌≢◌, ◌⊎◌, inl, inr, ⊎_elim, Bool, true, false, ℕ, Option, Some, None, refl, sym, ap, ◌∙◌, subst}
+use Rattle.std.proofs.Common.{◌≡◌, ◌⊎◌, inl, inr, ⊎_elim, Bool, true, false, Option, Some, None, refl, sym, ap, ◌∙◌, subst}
 use Rattle.std.specs.Prelude.{IfSome, is_some, not, ◌&&◌}
 use Rattle.std.proofs.lemmas.Bool.{false≢true}
-use Rattle.atomic_table.specs.Seated.{TableId}
 use Rattle.libfs.specs.tier_device.declared.media.Media.{Ghosts}
-use Rattle.libfs.specs.tier_device.declared.media.Tier.{Tier}
 use Rattle.libfs.specs.posix_calls.declared.call.Call.{Call}
 use Rattle.libfs.specs.posix_calls.declared.call.Reply.{Reply}
 use Rattle.libfs.specs.posix_calls.declared.call.Reply.TheVariants as replies
@@ -22,6 +20,7 @@ use Rattle.libfs.specs.View.{ClientView, is_pending}
 use Rattle.libfs.specs.declared.begun_record.Begun.{Begun}
 use Rattle.libfs.specs.declared.now.Now.{Now}
 use Rattle.libfs.specs.declared.now.Now.TheVariants as now
+use Rattle.strata_threads.specs.CallDenials.{NeedsFirst}
 use Rattle.strata_threads.specs.ClientCalls.{owner_of, IsEnded, IsStarted}
 
 done_is_no_wait : (a : Now) (r : Reply) → a ≡ now.Done r → a ≡ now.Pending → ⊥
@@ -29,6 +28,20 @@ done_is_no_wait a r d p = absurd (cc)
 
 need_is_no_wait : (a : Now) (n : Need) → a ≡ now.Need n → a ≡ now.Pending → ⊥
 need_is_no_wait a n d p = absurd (cc)
+
+done_is_no_need : (a : Now) (r : Reply) (n : Need) → a ≡ now.Done r → a ≡ now.Need n → ⊥
+done_is_no_need a r n d p = absurd (cc)
+
+wait_is_no_need : (a : Now) (n : Need) → a ≡ now.Pending → a ≡ now.Need n → ⊥
+wait_is_no_need a n w p = absurd (cc)
+
+-- the need that is told, if one is
+abbrev need_in : Need → Now → Need
+need_in other (now.Need n) = n
+need_in other _ = other
+
+same_need : (n m : Need) → now.Need n ≡ now.Need m → n ≡ m
+same_need n m e = ap (need_in n) e
 
 -- it is the same client; a call waits where it is pending, and else as before
 abbrev Kept : {M : Type 0} → ClientView M → Now → ClientView M → Type 0
@@ -72,6 +85,28 @@ module _ {M : Type 0} (device : Ghosts M) (old new : ClientView M) (call : Call)
       → (old.log.failed ≡ false → HasStarted device old (outcome_for device old call) answer new ⊎ IsOutOfMemory device old call answer new)
       → Kept old answer new
   started_keeps = by_flag old.log.failed refl
+
+  -- what the call comes to, where it needs something first
+  by_need : (o : Outcome) → outcome_for device old call ≡ o → HasStarted device old o answer new → (need : Need) → answer ≡ now.Need need → (outcome_for device old call ≡ outcomes.Need need) × (new ≡ old)
+  by_need (outcomes.Reply reply change) is has need told = absurd (done_is_no_need answer reply need has.0 told)
+  by_need (outcomes.Need other) is has need told = (is ∙ ap outcomes.Need (same_need other need (sym has.0 ∙ told)), has.1)
+  by_need (outcomes.Log entry reply made change) is has need told = absurd (wait_is_no_need answer need has.0 told)
+
+  need_by_flag : (flag : Bool) → old.log.failed ≡ flag
+      → (old.log.failed ≡ true → (answer ≡ now.Done (replies.Failed IoError)) × (new ≡ old))
+      → (old.log.failed ≡ false → HasStarted device old (outcome_for device old call) answer new ⊎ IsOutOfMemory device old call answer new)
+      → (need : Need) → answer ≡ now.Need need → NeedsFirst device new call need
+  need_by_flag true is fault going need told = absurd (done_is_no_need answer (replies.Failed IoError) need (fault is).0 told)
+  need_by_flag false is fault going need told = ⊎_elim
+      (λ (has : HasStarted device old (outcome_for device old call) answer new). let come = by_need (outcome_for device old call) refl has need told in subst (λ (v : ClientView M). NeedsFirst device v call need) (sym come.1) (is, come.0))
+      (λ (out : IsOutOfMemory device old call answer new). absurd (done_is_no_need answer (replies.Failed NoMemory) need out.told told))
+      (going is)
+
+  pub needs_first :
+      (old.log.failed ≡ true → (answer ≡ now.Done (replies.Failed IoError)) × (new ≡ old))
+      → (old.log.failed ≡ false → HasStarted device old (outcome_for device old call) answer new ⊎ IsOutOfMemory device old call answer new)
+      → (need : Need) → answer ≡ now.Need need → NeedsFirst device new call need
+  needs_first = need_by_flag old.log.failed refl
 
   by_log : (flag : Bool) → old.log.failed ≡ flag
       → (old.log.failed ≡ true → (answer ≡ now.Done (replies.Failed IoError)) × (new ≡ old))

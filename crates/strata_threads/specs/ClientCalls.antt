@@ -2,7 +2,6 @@
 use Rattle.std.specs.Prelude.{◌≡◌, ◌⊎◌, ℕ, true, Some}
 use Rattle.atomic_table.specs.Seated.{TableId}
 use Rattle.libfs.specs.tier_device.declared.media.Media.{Ghosts}
-use Rattle.libfs.specs.tier_device.declared.media.Tier.{Tier}
 use Rattle.libfs.specs.posix_calls.declared.call.Call.{Call}
 use Rattle.libfs.specs.posix_calls.declared.call.Reply.{Reply}
 use Rattle.libfs.specs.posix_calls.declared.call.Reply.TheVariants as replies

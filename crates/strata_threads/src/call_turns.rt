@@ -1,10 +1,12 @@
 //! A call of one client, from its start to its answer.
 ghost use Rattle.std.specs.Prelude.{◌≡◌, ◌≢◌, ◌<◌, true, false, IfErr, IfOk, IfSome, OnErr, Result, None};
+ghost use Rattle.libfs.specs.client_view.client_plan.declared.need.Need.{Need};
 ghost use Rattle.libfs.specs.posix_calls.declared.call.Reply.{Reply};
 ghost use Rattle.libfs.specs.View.{is_pending};
 ghost use Rattle.libfs.specs.declared.now.Now.TheVariants as now;
 ghost use Rattle.libfs.specs.declared.denial.Denied.{Denied};
 ghost use Rattle.libfs.specs.declared.denial.Denied.TheVariants as denied;
+ghost use Rattle.strata_threads.specs.CallDenials.{HasUnmetNeed, IsAnsweredOrDenied, IsUnmet, NeedsFirst};
 ghost use Rattle.strata_threads.specs.ClientCalls.{IsAnswered, IsEnded, IsFinished, IsStarted, KeepsCall, owner_of};
 ghost use Rattle.strata_threads.specs.WaitedTurns.{HasWaited, IsWithinTurns, reply_of};
 
@@ -19,7 +21,10 @@ use std::sync::Wait;
 const STEPS: u32 = 4;
 
 impl<M: Media + Drop> ThreadClient<M> {
-    /// Makes a call, and answers it.
+    /// Makes a call, and answers it: as it is started, or as the device calls of its record end. Where it is denied what it needs, or all turns were waited, it is answered why, and changes nothing.
+    ///
+    /// EAGAIN exactly where all turns were waited. EIO only where a device of the client's regions failed, or one of the kernel's. ENOMEM only for want of memory. ENOSPC of its own only where the kernel's units or numbers
+    /// don't suffice, or the call needs more than any kernel has.
     pub fn posix<R: Wait, G: GatePoint>(
         &mut self,
         rt: &R,
@@ -29,7 +34,7 @@ impl<M: Media + Drop> ThreadClient<M> {
         gate: &G,
     ) -> Reply
         ensures owner { owner_of self.new.client ≡ owner_of self.old.client }
-        ensures turns { (answer : Result Reply Denied) × (result ≡ reply_of answer) × IsWithinTurns answer self.new.waited × IfOk answer (λ reply. IsAnswered M.Media call.now reply self.new.client) }
+        ensures turns { (answer : Result Reply Denied) × (result ≡ reply_of answer) × IsWithinTurns answer self.new.waited × IsAnsweredOrDenied M.Media call.now answer self.new.client }
         ensures given { self.new.waited.turns ≡ turns }
     {
         match self.answer_call(rt, shared, call, turns, gate) {
@@ -38,7 +43,7 @@ impl<M: Media + Drop> ThreadClient<M> {
         }
     }
 
-    /// Makes a call, and answers it or why it is denied.
+    /// Makes a call, and answers it or why it is denied: for its turns, or for a need that was not to be had.
     pub fn answer_call<R: Wait, G: GatePoint>(
         &mut self,
         rt: &R,
@@ -48,7 +53,7 @@ impl<M: Media + Drop> ThreadClient<M> {
         gate: &G,
     ) -> Result<Reply, Denied>
         ensures owner { owner_of self.new.client ≡ owner_of self.old.client }
-        ensures answered { IfOk result (λ reply. IsAnswered M.Media call.now reply self.new.client) }
+        ensures answered { IsAnsweredOrDenied M.Media call.now result self.new.client }
         ensures turns { IsWithinTurns result self.new.waited }
         ensures given { self.new.waited.turns ≡ turns }
     {
@@ -78,6 +83,7 @@ impl<M: Media + Drop> ThreadClient<M> {
         ensures waited { HasWaited self.old.waited self.new.waited }
         ensures answered { IfOk result (λ r. IfSome r (λ reply. IsAnswered M.Media call.now reply self.new.client)) }
         ensures at_once { IfOk result (λ r. IfSome r (λ _. self.new.waited ≡ self.old.waited)) }
+        ensures unmet { IfErr result (λ e. HasUnmetNeed M.Media call.now e self.new.client) }
         ensures refused { OnErr result (self.new.waited ≡ self.old.waited) }
         ensures only { IfErr result (λ e. e ≢ denied.Turns) }
     {
@@ -85,9 +91,33 @@ impl<M: Media + Drop> ThreadClient<M> {
         match start_call(&mut self.client, call, gate) {
             Ok(reply) => Ok(Some(reply)),
             Err(need) => {
-                self.serve_need(rt, shared, &need, gate)?;
+                self.meet_need(rt, shared, call, &need, gate)?;
                 Ok(None)
             }
+        }
+    }
+
+    // Serves a need of a call, or tells why the call is denied.
+    fn meet_need<R: Wait, G: GatePoint>(
+        &mut self,
+        rt: &R,
+        shared: &SharedKernel<M>,
+        call: &Call,
+        need: &Need,
+        gate: &G,
+    ) -> Result<(), Denied>
+        requires left { self.old.waited.count < self.old.waited.turns }
+        requires needed { NeedsFirst M.Media self.old.client call.now need.now }
+        ensures unmet { IfErr result (λ e. HasUnmetNeed M.Media call.now e self.new.client) }
+        ensures kept { KeepsCall self.old.client self.new.client }
+        ensures waited { HasWaited self.old.waited self.new.waited }
+        ensures refused { OnErr result (self.new.waited ≡ self.old.waited) }
+        ensures only { IfErr result (λ e. e ≢ denied.Turns) }
+    {
+        let _ = call;
+        match self.serve_need(rt, shared, need, gate) {
+            Ok(()) => Ok(()),
+            Err(why) => Err(why),
         }
     }
 
@@ -101,6 +131,7 @@ impl<M: Media + Drop> ThreadClient<M> {
         requires left { self.old.waited.count < self.old.waited.turns }
         ensures kept { KeepsCall self.old.client self.new.client }
         ensures waited { HasWaited self.old.waited self.new.waited }
+        ensures unmet { IfErr result (λ e. IsUnmet M.Media self.old.client need.now e self.new.client) }
         ensures refused { OnErr result (self.new.waited ≡ self.old.waited) }
         ensures only { IfErr result (λ e. e ≢ denied.Turns) }
     {
@@ -109,10 +140,7 @@ impl<M: Media + Drop> ThreadClient<M> {
                 self.take_lease(rt, inode, mode);
                 Ok(())
             }
-            Need::Room => {
-                self.make_room(rt, gate);
-                Ok(())
-            }
+            Need::Room => self.make_room(rt, gate),
             _ => self.ask_kernel(rt, shared, need),
         }
     }
@@ -126,6 +154,7 @@ fn start_call<M: Media, G: GatePoint>(
 ) -> Result<Reply, Need>
     requires idle { is_pending client.old ≡ false }
     ensures answered { IfOk result (λ reply. IsAnswered M.Media call.now reply client.new) }
+    ensures needed { IfErr result (λ need. NeedsFirst M.Media client.new call.now need) }
     ensures idle { is_pending client.new ≡ false }
     ensures owner { owner_of client.new ≡ owner_of client.old }
 {
@@ -140,6 +169,7 @@ fn start_call<M: Media, G: GatePoint>(
 fn begin_call<M: Media>(client: &mut Client<M>, call: &Call) -> Now
     requires idle { is_pending client.old ≡ false }
     ensures started { IsStarted M.Media call.now client.old result client.new }
+    ensures needed { (need : Need) → result ≡ now.Need need → NeedsFirst M.Media client.new call.now need }
     ensures owner { owner_of client.new ≡ owner_of client.old }
     ensures pending { result ≡ now.Pending → is_pending client.new ≡ true }
     ensures idle { (result ≡ now.Pending → ⊥) → is_pending client.new ≡ false }

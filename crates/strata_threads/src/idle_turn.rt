@@ -1,12 +1,16 @@
 //! What a client does between its turns: it gives what others ask for, and takes its region back.
-ghost use Rattle.std.specs.Prelude.{◌≡◌, ◌<◌, ◌++◌, true, []};
+ghost use Rattle.std.specs.Prelude.{◌≡◌, ◌<◌, ◌++◌, ◌↔◌, true, [], None, IfNone, IfSome, IsTrue, OnErr, OnOk};
+ghost use Rattle.libfs.specs.client_log.Steps.{CanBeSealed};
 ghost use Rattle.libfs.specs.client_log.View.{current_records};
 ghost use Rattle.libfs.specs.lease_manager.Words.{HasWord};
+ghost use Rattle.libfs.specs.LeaseCalls.{CanBeGiven};
 ghost use Rattle.strata_threads.specs.ClientCalls.{KeepsCall};
-ghost use Rattle.strata_threads.specs.RegionHandover.{HasSentOrKept};
+ghost use Rattle.strata_threads.specs.LeaseReturn.{HasNoneToGive, HasOnlyGiven};
+ghost use Rattle.strata_threads.specs.RegionHandover.{HandsOver, HasComeBack, HasListened, HasReceived, HasSealedOrNot, HasSentOrKept};
 
 use crate::thread_client::ThreadClient;
-use libfs::{Client, LeaseMode, Media, SealedRegion};
+use libfs::{Client, INODES, LeaseMode, Media, SealedRegion};
+use std::alloc::AllocError;
 use std::sync::Wait;
 use std::thread;
 
@@ -16,18 +20,20 @@ impl<M: Media + Drop> ThreadClient<M> {
     /// Takes the region back that a worker has digested, and gives each inode back that others ask for. Where a record that is not digested is in the way, the current region is sealed and handed over. Who has nothing else
     /// to do listens all the time, since nobody else gives what it holds.
     pub fn listen<R: Wait>(&mut self, rt: &R)
+        ensures listened { HasListened M.Media self.old.client self.new.client }
         ensures kept { KeepsCall self.old.client self.new.client }
         ensures waited { self.new.waited ≡ self.old.waited }
     {
         self.take_back(rt);
         hear(&mut self.client, &mut self.asked);
         if give_asked(&mut self.client, &mut self.asked) {
-            self.hand_over(rt);
+            let _ = self.hand_over(rt);
         }
     }
 
-    // Takes the region back that came by the queue; where it is not digested whole it goes to the workers once more.
+    // Takes the region back that came by the queue. One that the queue to the workers had no room for goes first.
     fn take_back<R: Wait>(&mut self, rt: &R)
+        ensures back { HasComeBack M.Media self.old.client self.new.client }
         ensures kept { KeepsCall self.old.client self.new.client }
         ensures waited { self.new.waited ≡ self.old.waited }
     {
@@ -35,29 +41,53 @@ impl<M: Media + Drop> ThreadClient<M> {
         if self.kept.is_some() {
             return;
         }
-        let Some(region) = self.returns.take(rt) else {
-            return;
-        };
+        match self.returns.take(rt) {
+            Some(region) => self.receive(rt, region),
+            None => {}
+        }
+    }
+
+    // Takes a region back that is digested whole; any other one goes to the workers once more.
+    fn receive<R: Wait>(&mut self, rt: &R, region: SealedRegion<M>)
+        requires free { self.old.kept ≡ None }
+        ensures received { HasReceived M.Media self.old.client self.old.tasks region self.new.client self.new.tasks self.new.kept }
+        ensures returns { self.new.returns ≡ self.old.returns }
+        ensures kept { KeepsCall self.old.client self.new.client }
+        ensures waited { self.new.waited ≡ self.old.waited }
+    {
         match self.client.take_back(region) {
             Ok(()) => {}
             Err(region) => self.send(rt, region),
         }
     }
 
-    // Seals the current region and sends it to the workers, where it has records and no other one is away. Want of memory is no matter: it is tried again.
-    pub(crate) fn hand_over<R: Wait>(&mut self, rt: &R)
+    // Seals the current region and sends it to the workers, where it has records and no other one is away. An error is want of memory, with nothing changed.
+    pub(crate) fn hand_over<R: Wait>(&mut self, rt: &R) -> Result<(), AllocError>
+        ensures handed { OnOk result (HandsOver M.Media self.old.kept self.old.client self.old.tasks self.new.client self.new.tasks self.new.kept) }
+        ensures memory { OnErr result (CanBeSealed M.Media self.old.client.log × (self.new.client ≡ self.old.client) × (self.new.tasks ≡ self.old.tasks) × (self.new.kept ≡ self.old.kept)) }
+        ensures sealed { HasSealedOrNot M.Media self.old.client self.new.client }
+        ensures returns { self.new.returns ≡ self.old.returns }
         ensures kept { KeepsCall self.old.client self.new.client }
         ensures waited { self.new.waited ≡ self.old.waited }
     {
+        if self.kept.is_some() {
+            return Ok(());
+        }
         match self.client.seal() {
-            Ok(Some(region)) => self.send(rt, region),
-            Ok(None) => {}
-            Err(_) => {}
+            Ok(Some(region)) => {
+                self.send(rt, region);
+                Ok(())
+            }
+            Ok(None) => Ok(()),
+            Err(error) => Err(error),
         }
     }
 
     // Sends the region for which the queue had no room.
     fn put_kept<R: Wait>(&mut self, rt: &R)
+        ensures sent { IfSome self.old.kept (λ region. HasSentOrKept self.old.tasks region self.new.tasks self.new.kept) }
+        ensures none { IfNone self.old.kept ((self.new.tasks ≡ self.old.tasks) × (self.new.kept ≡ None)) }
+        ensures returns { self.new.returns ≡ self.old.returns }
         ensures kept { self.new.client ≡ self.old.client }
         ensures waited { self.new.waited ≡ self.old.waited }
     {
@@ -67,9 +97,11 @@ impl<M: Media + Drop> ThreadClient<M> {
         }
     }
 
-    // Sends a region to the workers; where the queue is full it is kept.
+    // Sends a region to the workers; where the queue is full it is kept. No other one is kept, which would be lost.
     fn send<R: Wait>(&mut self, rt: &R, region: SealedRegion<M>)
+        requires free { self.old.kept ≡ None }
         ensures sent { HasSentOrKept self.old.tasks region self.new.tasks self.new.kept }
+        ensures returns { self.new.returns ≡ self.old.returns }
         ensures kept { self.new.client ≡ self.old.client }
         ensures waited { self.new.waited ≡ self.old.waited }
     {
@@ -79,45 +111,67 @@ impl<M: Media + Drop> ThreadClient<M> {
         }
     }
 
-    /// Has all that the client logged digested, in at most so many rounds, in which it listens. It answers whether all is.
+    /// Has all that the client logged digested, in at most so many rounds, in which it listens. It answers whether no record of it is left that is not known to be digested.
     pub fn clear_log<R: Wait>(&mut self, rt: &R, rounds: u64) -> bool
-        ensures cleared { result ≡ true → self.new.client.sealed ++ current_records M.Media self.new.client.log ≡ [] }
+        ensures cleared { IsTrue result ↔ (self.new.client.sealed ++ current_records M.Media self.new.client.log ≡ []) }
         ensures kept { KeepsCall self.old.client self.new.client }
         ensures waited { self.new.waited ≡ self.old.waited }
     {
         for round in 0..rounds {
             self.listen(rt);
-            if self.client.undigested() == 0 {
+            if self.is_clear() {
                 return true;
             }
-            self.hand_over(rt);
+            let _ = self.hand_over(rt);
             thread::yield_now();
         }
-        false
+        self.is_clear()
     }
 
-    /// Gives all leases back that can be given.
+    // Whether each record that the client logged is known to be digested.
+    fn is_clear(&self) -> bool
+        ensures { IsTrue result ↔ (self.now.client.sealed ++ current_records M.Media self.now.client.log ≡ []) }
+    {
+        self.client.undigested() == 0
+    }
+
+    /// Gives all leases back that can be given: of the others a record is not digested, or a device has failed.
     pub fn give_all(&mut self)
+        ensures given { HasOnlyGiven self.old.client self.new.client }
+        ensures none { HasNoneToGive self.new.client }
         ensures kept { KeepsCall self.old.client self.new.client }
         ensures waited { self.new.waited ≡ self.old.waited }
     {
-        give_rows(&mut self.client);
+        give_inodes(&mut self.client);
     }
 }
 
 // Hears what others ask for.
+#[tactic(auto, using(crate::proofs::LeaseReturn::gives_nothing, crate::proofs::LeaseReturn::gives_both))]
 fn hear<M: Media>(client: &mut Client<M>, asked: &mut [u64; 16])
-    ensures { KeepsCall client.old client.new }
+    ensures given { HasOnlyGiven client.old client.new }
+    ensures kept { KeepsCall client.old client.new }
 {
     for row in 0..ROWS {
-        let bits = client.asked_back(row);
+        let bits = hear_row(client, row);
         asked[row as usize] |= bits;
     }
 }
 
+// What others ask for of a row of inodes.
+fn hear_row<M: Media>(client: &mut Client<M>, row: u32) -> u64
+    requires row { row < 16 }
+    ensures given { HasOnlyGiven client.old client.new }
+    ensures kept { KeepsCall client.old client.new }
+{
+    client.asked_back(row)
+}
+
 // Gives what was asked for. It answers whether something is left that can't be given.
+#[tactic(auto, using(crate::proofs::LeaseReturn::gives_nothing, crate::proofs::LeaseReturn::gives_both))]
 fn give_asked<M: Media>(client: &mut Client<M>, asked: &mut [u64; 16]) -> bool
-    ensures { KeepsCall client.old client.new }
+    ensures given { HasOnlyGiven client.old client.new }
+    ensures kept { KeepsCall client.old client.new }
 {
     let mut is_left = false;
     for row in 0..ROWS {
@@ -131,18 +185,23 @@ fn give_asked<M: Media>(client: &mut Client<M>, asked: &mut [u64; 16]) -> bool
     is_left
 }
 
-fn give_rows<M: Media>(client: &mut Client<M>)
-    ensures { KeepsCall client.old client.new }
+// Gives all inodes that can be given.
+fn give_inodes<M: Media>(client: &mut Client<M>)
+    ensures given { HasOnlyGiven client.old client.new }
+    ensures none { HasNoneToGive client.new }
+    ensures kept { KeepsCall client.old client.new }
 {
-    for row in 0..ROWS {
-        let _ = give_row(client, row, u64::MAX);
+    for before in 0..INODES {
+        let _ = give(client, before + 1);
     }
 }
 
 // Gives those of a row of inodes whose bits are set. It answers which are held and can't be given.
+#[tactic(auto, using(crate::proofs::LeaseReturn::gives_nothing, crate::proofs::LeaseReturn::gives_both))]
 fn give_row<M: Media>(client: &mut Client<M>, row: u32, bits: u64) -> u64
     requires row { row < 16 }
-    ensures { KeepsCall client.old client.new }
+    ensures given { HasOnlyGiven client.old client.new }
+    ensures kept { KeepsCall client.old client.new }
 {
     let mut left = 0;
     for bit in 0..64u32 {
@@ -154,9 +213,24 @@ fn give_row<M: Media>(client: &mut Client<M>, row: u32, bits: u64) -> u64
 }
 
 // Gives an inode back, if it is held. It answers false where it can't be given.
+#[tactic(auto, using(crate::proofs::LeaseReturn::gives_nothing, crate::proofs::LeaseReturn::free_stays))]
 fn give<M: Media>(client: &mut Client<M>, inode: u32) -> bool
     requires inode { HasWord inode }
-    ensures { KeepsCall client.old client.new }
+    ensures given { HasOnlyGiven client.old client.new }
+    ensures none { CanBeGiven client.new inode → ⊥ }
+    ensures kept { KeepsCall client.old client.new }
 {
-    client.holds(inode) == LeaseMode::Free || client.give(inode)
+    if client.holds(inode) == LeaseMode::Free {
+        return true;
+    }
+    give_held(client, inode)
+}
+
+// The same, where it is held.
+fn give_held<M: Media>(client: &mut Client<M>, inode: u32) -> bool
+    ensures given { HasOnlyGiven client.old client.new }
+    ensures none { CanBeGiven client.new inode → ⊥ }
+    ensures kept { KeepsCall client.old client.new }
+{
+    client.give(inode)
 }

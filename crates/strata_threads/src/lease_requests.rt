@@ -1,12 +1,19 @@
 //! Leases that a call needs, and room in the region.
-ghost use Rattle.std.specs.Prelude.{◌≡◌, ◌<◌};
+ghost use Rattle.std.specs.Prelude.{◌≡◌, ◌≢◌, ◌<◌, IfErr, OnErr, OnOk, None};
+ghost use Rattle.libfs.specs.View.{ClientView};
+ghost use Rattle.libfs.specs.declared.denial.Denied.TheVariants as denied;
+ghost use Rattle.libfs.specs.lease_manager.Marks.{ShowsOther};
 ghost use Rattle.libfs.specs.lease_manager.Words.{HasWord};
+ghost use Rattle.libfs.specs.client_view.client_plan.declared.need.Need.TheVariants as needs;
+ghost use Rattle.strata_threads.specs.CallDenials.{IsUnmet};
 ghost use Rattle.strata_threads.specs.ClientCalls.{KeepsCall};
+ghost use Rattle.strata_threads.specs.LeaseReturn.{IsLeased};
+ghost use Rattle.strata_threads.specs.RegionHandover.{HandsOver};
 ghost use Rattle.strata_threads.specs.WaitedTurns.{HasWaited};
 
 use crate::gate_point::GatePoint;
 use crate::thread_client::ThreadClient;
-use libfs::{CLIENTS, Client, LeaseMode, Media, Mode, is_inode};
+use libfs::{CLIENTS, Client, Denied, LeaseMode, Media, Mode, is_inode};
 use std::sync::Wait;
 use std::thread;
 
@@ -22,6 +29,7 @@ impl<M: Media + Drop> ThreadClient<M> {
         requires left { self.old.waited.count < self.old.waited.turns }
         ensures kept { KeepsCall self.old.client self.new.client }
         ensures waited { HasWaited self.old.waited self.new.waited }
+        ensures got { self.new.waited ≡ self.old.waited → HasWord inode → IsLeased mode self.new.client inode }
     {
         if !is_inode(inode) {
             return;
@@ -29,26 +37,50 @@ impl<M: Media + Drop> ThreadClient<M> {
         match request_lease(&mut self.client, inode, mode) {
             Ok(()) => {}
             Err(word) => {
+                self.waited.count_busy(&self.client, word);
                 ask_holders(&mut self.client, inode, word);
-                self.waited.count_busy(word);
                 self.let_go(rt);
             }
         }
     }
 
-    // Makes room: the current region is handed over, and what is to be wiped of the regions is wiped. Where the other one is away the turn is waited.
-    pub(crate) fn make_room<R: Wait, G: GatePoint>(&mut self, rt: &R, gate: &G)
+    // Makes room: the current region is handed over, and what is to be wiped of the regions is wiped. Where the other one is away the turn is waited. Where there is no memory to seal one, that is why the call is denied.
+    pub(crate) fn make_room<R: Wait, G: GatePoint>(
+        &mut self,
+        rt: &R,
+        gate: &G,
+    ) -> Result<(), Denied>
         requires left { self.old.waited.count < self.old.waited.turns }
+        ensures handed { self.old.client.log.other ≢ None → OnOk result ((sealed : ClientView M) × HandsOver M.Media self.old.kept self.old.client self.old.tasks sealed self.new.tasks self.new.kept × (self.new.client ≡ record sealed { log = self.new.client.log })) }
+        ensures unmet { IfErr result (λ e. IsUnmet M.Media self.old.client needs.Room e self.new.client) }
+        ensures only { IfErr result (λ e. e ≡ denied.Memory) }
         ensures kept { KeepsCall self.old.client self.new.client }
         ensures waited { HasWaited self.old.waited self.new.waited }
+        ensures refused { OnErr result (self.new.waited ≡ self.old.waited) }
     {
         if self.client.is_region_away() {
             self.waited.count_away(&self.client);
             self.let_go(rt);
-            return;
+            return Ok(());
         }
-        self.hand_over(rt);
-        wipe_regions(&mut self.client, gate);
+        self.free_region(rt, gate)
+    }
+
+    // Hands the current region over, and wipes what is to be wiped of the regions.
+    fn free_region<R: Wait, G: GatePoint>(&mut self, rt: &R, gate: &G) -> Result<(), Denied>
+        ensures handed { OnOk result ((sealed : ClientView M) × HandsOver M.Media self.old.kept self.old.client self.old.tasks sealed self.new.tasks self.new.kept × (self.new.client ≡ record sealed { log = self.new.client.log })) }
+        ensures unmet { IfErr result (λ e. IsUnmet M.Media self.old.client needs.Room e self.new.client) }
+        ensures only { IfErr result (λ e. e ≡ denied.Memory) }
+        ensures kept { KeepsCall self.old.client self.new.client }
+        ensures waited { self.new.waited ≡ self.old.waited }
+    {
+        match self.hand_over(rt) {
+            Ok(()) => {
+                wipe_regions(&mut self.client, gate);
+                Ok(())
+            }
+            Err(_) => Err(Denied::Memory),
+        }
     }
 
     // Listens in a turn that was waited, and lets other threads go. Only there: what a call was given is its own until it is answered or waits, else clients that ask for one another's leases would never hold all that they need.
@@ -61,19 +93,24 @@ impl<M: Media + Drop> ThreadClient<M> {
     }
 }
 
-// Takes or raises a lease; the word that shows who holds it, where it is busy.
+// Takes or raises a lease; the word that shows which other client holds it, where it is busy.
+#[tactic(auto, using(crate::proofs::Busy::bar_is_other))]
 fn request_lease<M: Media>(client: &mut Client<M>, inode: u32, mode: Mode) -> Result<(), u64>
     requires inode { HasWord inode }
-    ensures { KeepsCall client.old client.new }
+    ensures kept { KeepsCall client.old client.new }
+    ensures got { OnOk result (IsLeased mode client.new inode) }
+    ensures busy { IfErr result (λ word. ShowsOther client.new.pass.part.place word) }
 {
-    let answer = match client.holds(inode) {
-        LeaseMode::Free => client.lease(inode, mode),
-        LeaseMode::Reading => client.raise(inode),
-        _ => return Ok(()),
-    };
-    match answer {
-        Ok(()) => Ok(()),
-        Err(busy) => Err(busy.0),
+    match client.holds(inode) {
+        LeaseMode::Free => match client.lease(inode, mode) {
+            Ok(()) => Ok(()),
+            Err(busy) => Err(busy.0),
+        },
+        LeaseMode::Reading => match client.raise(inode) {
+            Ok(()) => Ok(()),
+            Err(busy) => Err(busy.0),
+        },
+        _ => Ok(()),
     }
 }
 
@@ -92,7 +129,8 @@ fn ask_holders<M: Media>(client: &mut Client<M>, inode: u32, word: u64)
 
 // Wipes what is to be wiped, and passes the gate before each device call. A device that fails then is told when the call is started again.
 fn wipe_regions<M: Media, G: GatePoint>(client: &mut Client<M>, gate: &G)
-    ensures { KeepsCall client.old client.new }
+    ensures rest { client.new ≡ record client.old { log = client.new.log } }
+    ensures kept { KeepsCall client.old client.new }
 {
     for step in 0..WIPE_STEPS {
         gate.pass();

@@ -1,4 +1,7 @@
 //! Runs of files are moved to slower tiers.
+ghost use Rattle.std.specs.Prelude.{◌≡◌, true};
+ghost use Rattle.strata_threads.specs.RunMoves.{HasMovedRun};
+
 use crate::shared_kernel::SharedKernel;
 use crate::stop_flag::StopFlag;
 use libfs::{Kernel, Media, Tier};
@@ -14,15 +17,30 @@ pub fn migrate<M: Media, R: Wait>(rt: &R, shared: &SharedKernel<M>, to: Tier) ->
     move_next(&mut *kernel, to)
 }
 
-fn move_next<M: Media>(kernel: &mut Kernel<M>, to: Tier) -> bool {
+// Moves the run that is to be moved next to a tier, if there is one. It answers whether one was moved.
+fn move_next<M: Media>(kernel: &mut Kernel<M>, to: Tier) -> bool
+    ensures moved { result ≡ true → HasMovedRun M.Media to kernel.new }
+    ensures book { kernel.new.book ≡ kernel.old.book }
+    ensures opening { kernel.new.opening ≡ kernel.old.opening }
+{
     match kernel.pick(to) {
         Ok(Some(found)) => {
             let run = found.run;
-            kernel
-                .migrate(found.inode, run.first as u64, run.count, to)
-                .is_ok()
+            move_run(kernel, found.inode, run.first as u64, run.count, to)
         }
         _ => false,
+    }
+}
+
+// Moves a run of a file to a tier. It answers whether it was moved.
+fn move_run<M: Media>(kernel: &mut Kernel<M>, inode: u32, first: u64, count: u32, to: Tier) -> bool
+    ensures moved { result ≡ true → HasMovedRun M.Media to kernel.new }
+    ensures book { kernel.new.book ≡ kernel.old.book }
+    ensures opening { kernel.new.opening ≡ kernel.old.opening }
+{
+    match kernel.migrate(inode, first, count, to) {
+        Ok(()) => true,
+        Err(_) => false,
     }
 }
 

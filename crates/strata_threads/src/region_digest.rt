@@ -1,8 +1,9 @@
 //! A sealed region is digested.
-ghost use Rattle.std.specs.Prelude.{◌≡◌, ◌<◌, true};
+ghost use Rattle.std.specs.Prelude.{◌≡◌, ◌<◌, ◌≤◌, true};
 ghost use Rattle.libfs.specs.digester.Chunk.{IsChunkOf};
 ghost use Rattle.libfs.specs.digester.SealedLog.{HasUndigested};
 ghost use Rattle.libfs.specs.SealedRegion.{log_of};
+ghost use Rattle.strata_threads.specs.RegionHandover.{IsWorkedOn};
 
 use crate::gate_point::GatePoint;
 use crate::shared_kernel::SharedKernel;
@@ -18,13 +19,13 @@ pub fn digest_region<M: Media + Drop, R: Wait, G: GatePoint>(
     region: &mut SealedRegion<M>,
     gate: &G,
 )
-    ensures whose { (region.new.client ≡ region.old.client) × (region.new.generation ≡ region.old.generation) }
+    ensures worked { IsWorkedOn M.Media region.old region.new }
 {
     if !has_undigested(region) || !accept(rt, alloc, shared, region) {
         return;
     }
     for chunk in 0..region.count() {
-        if !has_undigested(region) || !digest_next(rt, alloc, shared, region, gate) {
+        if !digest_more(rt, alloc, shared, region, gate) {
             return;
         }
     }
@@ -45,7 +46,7 @@ fn accept<M: Media + Drop, R: Wait>(
     region: &mut SealedRegion<M>,
 ) -> bool
     requires some { HasUndigested (log_of M.Media region.old) }
-    ensures whose { (region.new.client ≡ region.old.client) × (region.new.generation ≡ region.old.generation) }
+    ensures worked { IsWorkedOn M.Media region.old region.new }
     ensures read { result ≡ true → region.new.read ≡ true }
     ensures some { HasUndigested (log_of M.Media region.new) }
 {
@@ -60,6 +61,24 @@ fn accept<M: Media + Drop, R: Wait>(
     region.accept(&mut *kernel).is_ok()
 }
 
+// Digests the next chunk of a region, if one is left. It answers whether it may go on.
+fn digest_more<M: Media + Drop, R: Wait, G: GatePoint>(
+    rt: &R,
+    alloc: Global,
+    shared: &SharedKernel<M>,
+    region: &mut SealedRegion<M>,
+    gate: &G,
+) -> bool
+    requires read { region.old.read ≡ true }
+    ensures more { region.old.done ≤ region.new.done }
+    ensures rest { region.new ≡ record region.old { done = region.new.done } }
+{
+    if !has_undigested(region) {
+        return false;
+    }
+    digest_next(rt, alloc, shared, region, gate)
+}
+
 // Prepares the next chunk of a region, and has it digested. It answers whether it may go on: a chunk that is no longer the next one is prepared again.
 fn digest_next<M: Media + Drop, R: Wait, G: GatePoint>(
     rt: &R,
@@ -70,8 +89,8 @@ fn digest_next<M: Media + Drop, R: Wait, G: GatePoint>(
 ) -> bool
     requires read { region.old.read ≡ true }
     requires some { HasUndigested (log_of M.Media region.old) }
-    ensures whose { (region.new.client ≡ region.old.client) × (region.new.generation ≡ region.old.generation) }
-    ensures read { region.new.read ≡ true }
+    ensures more { region.old.done ≤ region.new.done }
+    ensures rest { region.new ≡ record region.old { done = region.new.done } }
 {
     match region.prepare(alloc) {
         Ok(chunk) => {
@@ -91,8 +110,8 @@ fn digest_chunk<M: Media + Drop>(
     requires read { region.old.read ≡ true }
     requires some { HasUndigested (log_of M.Media region.old) }
     requires chunk { IsChunkOf (log_of M.Media region.old) chunk.now }
-    ensures whose { (region.new.client ≡ region.old.client) × (region.new.generation ≡ region.old.generation) }
-    ensures read { region.new.read ≡ true }
+    ensures more { region.old.done ≤ region.new.done }
+    ensures rest { region.new ≡ record region.old { done = region.new.done } }
 {
     match region.digest(kernel, chunk) {
         Ok(Digestion::Digested) => {

@@ -1,4 +1,4 @@
-ghost use Rattle.std.specs.Prelude.{◌≡◌, false};
+ghost use Rattle.std.specs.Prelude.{◌≡◌, false, IfSome, Some};
 ghost use Rattle.libfs.specs.View.{is_pending};
 
 use crate::waited::Waited;
@@ -43,7 +43,10 @@ impl<M: Media + Drop> ThreadClient<M> {
     }
 
     /// The client, and its region that is on the way back to it, if it is here: the one that came by the queue, or that the queue to the workers had no room for.
-    pub fn into_parts<R: Wait>(self, rt: &R) -> (Client<M>, Option<SealedRegion<M>>) {
+    pub fn into_parts<R: Wait>(self, rt: &R) -> (Client<M>, Option<SealedRegion<M>>)
+        ensures client { result.0 ≡ self.client }
+        ensures region { IfSome self.kept (λ region. result.1 ≡ Some region) }
+    {
         let ThreadClient {
             client,
             returns,

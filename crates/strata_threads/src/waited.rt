@@ -1,4 +1,5 @@
 ghost use Rattle.std.specs.Prelude.{◌≡◌, ◌==◌, ◌<◌, ◌+◌, None, false};
+ghost use Rattle.libfs.specs.lease_manager.Marks.{ShowsOther};
 
 use libfs::{Client, Media};
 use std::marker::Model;
@@ -44,17 +45,19 @@ impl Waited {
         self.count == self.turns
     }
 
-    /// Counts a turn in which a lease was busy, by the word that showed another client.
-    pub fn count_busy(&mut self, word: u64)
+    // Counts a turn in which a lease was busy, by the word that showed a mark of another client than this.
+    pub(crate) fn count_busy<M: Media>(&mut self, client: &Client<M>, word: u64)
         requires left { self.old.count < self.old.turns }
+        requires busy { ShowsOther client.now.pass.part.place word }
         ensures { self.new ≡ record self.old { count = self.old.count + 1 } }
     {
+        let _ = client;
         let _ = word;
         self.count += 1;
     }
 
-    /// Counts a turn in which the region that a client sealed was not back.
-    pub fn count_away<M: Media>(&mut self, client: &Client<M>)
+    // Counts a turn in which the region that a client sealed was not back.
+    pub(crate) fn count_away<M: Media>(&mut self, client: &Client<M>)
         requires left { self.old.count < self.old.turns }
         requires away { client.now.log.other ≡ None }
         ensures { self.new ≡ record self.old { count = self.old.count + 1 } }

@@ -48,7 +48,7 @@ impl<M: Media + Drop> Worker<M> {
         gate: &G,
     ) -> bool
         ensures none { result ≡ false → (self.new.tasks ≡ self.old.tasks) × (self.new.returns ≡ self.old.returns) }
-        ensures returned { result ≡ true → HasReturned self.old.tasks self.new.tasks self.old.returns.items self.new.returns.items }
+        ensures returned { result ≡ true → HasReturned M.Media self.old.tasks self.new.tasks self.old.returns.items self.new.returns.items }
     {
         let Some(region) = self.tasks.take(rt) else {
             return false;

@@ -18,6 +18,7 @@ use Rattle.event_steps.specs.libfs.update_log.View.{HasSize, RegionView}
 use Rattle.event_steps.specs.libfs.client_log.Steps.{IsOpened}
 use Rattle.event_steps.specs.libfs.world_invariant.Limits.{AreWithin}
 use Rattle.event_steps.specs.libfs.NewClient.{IsBlank, IsNew}
+use Rattle.event_steps.specs.Refusals.{no_refusals}
 use Rattle.event_steps.specs.View.{HasSeat, SeatView, SystemView}
 use Rattle.system_world.specs.Contents.{mark_by}
 
@@ -36,6 +37,8 @@ module _ {M : Type 0} (device : Ghosts M) where
   pub record IsIdleSeat (m : Mark) (c : ℕ) (s : SeatView M) : Type 0 where
     pub before : m.done ≡ 0
     pub home : s.away ≡ None
+    -- it was refused nothing yet
+    pub unrefused : s.refused ≡ no_refusals
     pub number : client_of s.client.pass ≡ c
     pub free : (i : ℕ) → HasWord i → lease_of s.client.pass i ≡ Free
     -- as `Client::open` leaves it

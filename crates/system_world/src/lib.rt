@@ -43,7 +43,8 @@ pub use starts::started_call_is_a_step;
 // Passed on to the crates above, which so need not list those below.
 pub use courses::{Recoverable, Steps, play_all};
 pub use event_steps::{
-    AreaError, CLIENTS, Call, Client, ClientLog, ClientSlot, Denied, Event, Fetched, Figures,
-    INODES, Kernel, KernelError, LeaseManagerLeases, LeaseMode, Mode, Need, NodeSummary, Opened,
-    Outcome, Pass, Refusal, Reply, System, Tier, TierDeviceMedia,
+    AreaError, CLIENTS, Call, Child, Client, ClientLog, ClientSlot, Denied, Effect, Event, Fetched,
+    FetchedBytes, Figures, INODES, Kernel, KernelError, Kind, LeaseManagerLeases, LeaseMode, Mode,
+    NameMap, Need, NodeCounts, NodeSummary, Opened, Outcome, Pass, PlainGraph, Record, Refusal,
+    Reply, SharedBytes, System, Tier, TierDeviceMedia,
 };

@@ -1,14 +1,17 @@
 -- What becomes of the media of a session.
-use Rattle.std.proofs.Common.{◌≡◌, ◌∙◌, inl, inr, ℕ, List, true, false, None, Some, ap, subst, sym}
+use Rattle.std.proofs.Common.{◌≡◌, ◌∙◌, inl, inr, ℕ, List, true, false, None, Some, ap, refl, subst, sym}
 use Rattle.std.specs.Prelude.{Bool, Option, if◌then◌else◌}
 use Rattle.script.specs.tier_device.declared.fill.Fill.{Fill}
 use Rattle.script.specs.tier_device.declared.fill.Fill.TheVariants.{New}
 use Rattle.script.specs.tier_device.declared.media.Media.{Ghosts}
 use Rattle.script.specs.SystemLines.{Asked, Books, Calls, Digests, Fails, Halts, Moves, Places, Recovers, Steps, Stops, Wipes}
+use Rattle.world_files.specs.recovery.FaultOrMemory.{IsFaultOrMemory}
 use Rattle.world_files.specs.recovery.Parts.{PartsView, part_medium}
+use Rattle.world_files.specs.recovery.declared.error.RecoveryError.{RecoveryError}
 use Rattle.call_driver.specs.declared.events.Events.{Ghosts as Played}
 use Rattle.world_files.specs.recovery.system_world.WorldView.{WorldView}
 use Rattle.workload_cli.specs.declared.answer.Answer.{Answer}
+use Rattle.workload_cli.specs.declared.answer.Answer.TheVariants as answers
 use Rattle.workload_cli.specs.declared.script_world.ScriptWorld.{ScriptWorld}
 use Rattle.workload_cli.specs.declared.system_queries.Running.{Ghosts as Looked}
 use Rattle.workload_cli.specs.Rests.{LeaveNoMore, LeavesNoMore}
@@ -72,6 +75,12 @@ module _ {M : Type 0} where
         → AreRestIn device holds (fills_behind old) media rested → GoesOn device old rested answer new → IsRecoverAnswered device holds old media answer new
     rested_goes_on resting old None rested answer new are goes = absurd are
     rested_goes_on resting old (Some media) rested answer new are goes = inr (rested, are, goes)
+
+    -- media that could not be brought to rest
+    pub not_rested : (holds : Fill → M → M → Type 0) (old : ScriptWorld M) (media : Option (ℕ → M)) (e : RecoveryError) (new : ScriptWorld M)
+        → IsFaultOrMemory e → new.stopped ≡ true → new.fills ≡ fills_behind old → HasNoMore device media new → IsRecoverAnswered device holds old media (answers.Fault e) new
+    not_rested holds old None e new cause stopped fills no_more = (e, refl)
+    not_rested holds old (Some media) e new cause stopped fills no_more = inl (record { error = e; cause = cause; answer_is = refl; stopped = stopped; media_then = no_more; fills = fills })
 
   module _ (system : Played (WorldView M)) (area : Looked (WorldView M)) where
     -- what a world is asked that runs

@@ -3,4 +3,5 @@ pub mod Looked
 pub mod Walks
 pub mod RestingMedia
 pub mod KeptMedia
+pub mod WorldImages
 pub mod CountedParts

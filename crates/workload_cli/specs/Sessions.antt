@@ -51,7 +51,7 @@ module _ {M : Type 0} where
     IsSessionAnswer device holds old (Some (Stops call fill)) answer new = (answer ≡ answers.Armed) × IsArmed old fill new
     IsSessionAnswer device holds old (Some (Fails call medium)) answer new = IsFailureArmed old answer × (new ≡ old)
     IsSessionAnswer device holds old (Some (Halts fills)) answer new = (answer ≡ answers.Stopped) × StopsWith old fills new
-    IsSessionAnswer device holds old (Some Recovers) answer new = IsRecoverAnswered device holds old (media_of old) answer new × (new.stoppable ≡ old.stoppable)
+    IsSessionAnswer device holds old (Some Recovers) answer new = IsRecoverAnswered device holds old (media_of old) answer new × (new.armed ≡ old.armed) × (new.stoppable ≡ old.stoppable)
     IsSessionAnswer device holds old (Some (Calls client manner call)) answer new = IsRunningAnswered old (running_world old) (Some (Calls client manner call)) answer new
     IsSessionAnswer device holds old (Some (Steps client)) answer new = IsRunningAnswered old (running_world old) (Some (Steps client)) answer new
     IsSessionAnswer device holds old (Some (Digests client)) answer new = IsRunningAnswered old (running_world old) (Some (Digests client)) answer new

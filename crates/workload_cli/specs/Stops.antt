@@ -117,6 +117,7 @@ module _ {M : Type 0} where
     -- It has stopped for this cause.
     pub record StaysRefused (rested : PartsView M) (e : RecoveryError) (new : ScriptWorld M) : Type 0 where
       pub stays : StaysStopped rested new
+      pub fills : new.fills ≡ all_by New
       pub refused : IsRefusedFor rested e stays.media
 
     -- how it goes on once its media rest
@@ -125,13 +126,14 @@ module _ {M : Type 0} where
       Stopped : answer ≡ answers.Stopped → HasStopped old new → StaysStopped rested new → GoesOn old rested answer new
       Refused : (e : RecoveryError) → answer ≡ answers.Fault e → StaysRefused rested e new → GoesOn old rested answer new
 
-    -- The media could not be brought to rest: it has stopped, and a stop leaves no more of them than before.
-    pub record HasNotRested (media : ℕ → M) (answer : Answer) (new : ScriptWorld M) : Type 0 where
+    -- The media could not be brought to rest: it has stopped, a stop leaves no more of them than before, and they are to hold what they were.
+    pub record HasNotRested (old : ScriptWorld M) (media : ℕ → M) (answer : Answer) (new : ScriptWorld M) : Type 0 where
       pub error : RecoveryError
       pub cause : IsFaultOrMemory error
       pub answer_is : answer ≡ answers.Fault error
       pub stopped : new.stopped ≡ true
       pub media_then : KeepsMedia media new
+      pub fills : new.fills ≡ fills_behind old
 
     module _ (holds : Fill → M → M → Type 0) where
       -- the media rest with something that a stop may leave of these now, and that these fills say
@@ -143,4 +145,4 @@ module _ {M : Type 0} where
       abbrev pub IsRecoverAnswered : ScriptWorld M → Option (ℕ → M) → Answer → ScriptWorld M → Type 0
       IsRecoverAnswered old None answer new = (e : RecoveryError) × (answer ≡ answers.Fault e)
       IsRecoverAnswered old (Some media) answer new =
-          HasNotRested media answer new ⊎ ((rested : PartsView M) × AreRestBy device holds (fills_behind old) media (part_medium rested) × GoesOn old rested answer new)
+          HasNotRested old media answer new ⊎ ((rested : PartsView M) × AreRestBy device holds (fills_behind old) media (part_medium rested) × GoesOn old rested answer new)

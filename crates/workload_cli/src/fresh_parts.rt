@@ -7,9 +7,9 @@ ghost use Rattle.workload_cli.specs.Rests.{beneath};
 
 use crate::script_media::{ScriptMedium, Trips, count_calls};
 use crate::script_world::ScriptWorld;
-use script::{FaultMedia, Media, MemMedia, REGION_SIZE, StopMedia};
+use script::{FaultMedia, Media, MemMedia, StopMedia};
 use std::alloc::Global;
-use world_files::{Geometry, Parts, REGIONS, World, WorldFileError, WorldSizes, format, tier_lens};
+use world_files::{Geometry, Parts, World, WorldFileError, WorldSizes, format, zero_parts};
 
 /// A script's world with the empty tree, of these sizes, of which media may have none.
 pub fn format_world(
@@ -35,30 +35,6 @@ pub fn fresh_world(
     match format(alloc, geometry, parts) {
         Ok(world) => Ok((world, trips)),
         Err((error, _)) => Err(WorldFileError::Recovery(error)),
-    }
-}
-
-// Media of zeros of a geometry.
-fn zero_parts(alloc: Global, geometry: &Geometry) -> Result<Parts<MemMedia>, WorldFileError> {
-    let shared = zero_medium(alloc, tier_lens(geometry))?;
-    let mut regions = Vec::new(alloc);
-    for _ in 0..REGIONS {
-        push(&mut regions, zero_medium(alloc, [REGION_SIZE, 0, 0])?)?;
-    }
-    match Parts::new(shared, regions) {
-        Ok(parts) => Ok(parts),
-        Err(_) => Err(WorldFileError::NoWorld),
-    }
-}
-
-fn zero_medium(alloc: Global, lens: [usize; 3]) -> Result<MemMedia, WorldFileError> {
-    let [fast, block, slow] = lens;
-    let fast = vec![in alloc; 0u8; fast]?;
-    let block = vec![in alloc; 0u8; block]?;
-    let slow = vec![in alloc; 0u8; slow]?;
-    match MemMedia::of_bytes(alloc, fast, block, slow) {
-        Ok(medium) => Ok(medium),
-        Err(_) => Err(WorldFileError::Memory),
     }
 }
 

@@ -2,9 +2,10 @@
 
 ghost use Rattle.std.specs.Prelude.{◌≡◌, ◌∷◌, map, IfOk};
 ghost use Rattle.world_files.specs.Images.{AreRead};
-ghost use Rattle.workload_cli.specs.FreshWorlds.{IsImageWorld};
+ghost use Rattle.workload_cli.specs.FreshWorlds.{IsBegunWorld, IsImageOf, IsImageWorld};
 
 use crate::fresh_parts::{count_parts, format_world};
+use crate::resting::Resting;
 use crate::script_media::{ScriptMedium, Trips};
 use crate::script_world::ScriptWorld;
 use script::{FaultMedia, Media, Patch, StopMedia};
@@ -16,7 +17,9 @@ pub fn image_world(
     alloc: Global,
     file: &ImageFile,
     sizes: WorldSizes,
-) -> Result<ScriptWorld<ScriptMedium>, WorldFileError> {
+) -> Result<ScriptWorld<ScriptMedium>, WorldFileError>
+    ensures { IfOk result (IsBegunWorld ⟦<FaultMedia<StopMedia> as Media>⟧ sizes) }
+{
     match file.read(alloc)? {
         Some(image) => recover_image(alloc, image.as_slice()),
         None => format_world(alloc, sizes),
@@ -53,7 +56,9 @@ fn read_counted(
 pub fn world_image(
     alloc: Global,
     session: ScriptWorld<ScriptMedium>,
-) -> Result<Vec<u8>, WorldFileError> {
+) -> Result<Vec<u8>, WorldFileError>
+    ensures { IfOk result (λ bytes. IsImageOf ⟦<FaultMedia<StopMedia> as Media>⟧ (⟦<FaultMedia<StopMedia> as Resting>⟧.holds) session bytes.items) }
+{
     image_bytes(alloc, session.into_parts(alloc)?)
 }
 
@@ -66,10 +71,15 @@ pub fn patched_world(
     patches: &[Patch],
 ) -> Result<ScriptWorld<ScriptMedium>, WorldFileError> {
     let mut image = world_image(alloc, format_world(alloc, sizes)?)?;
-    for patch in patches {
-        put_bytes(image.as_mut_slice(), patch)?;
-    }
+    put_patches(image.as_mut_slice(), patches)?;
     recover_image(alloc, image.as_slice())
+}
+
+fn put_patches(image: &mut [u8], patches: &[Patch]) -> Result<(), WorldFileError> {
+    for patch in patches {
+        put_bytes(image, patch)?;
+    }
+    Ok(())
 }
 
 fn put_bytes(image: &mut [u8], patch: &Patch) -> Result<(), WorldFileError> {

@@ -113,26 +113,18 @@ fn run<R: BufRead + Drop, O: Write, E: Write>(
 ) -> Result<(), ScriptError> {
     let alloc = rt.alloc();
     match options.home {
-        Home::Nowhere => run_over(
-            alloc,
-            options,
-            lines,
-            streams,
-            format_world(alloc, options.sizes),
-        ),
+        Home::Image(path) => run_image(rt, path, options, lines, streams),
+        Home::Nowhere => {
+            let opened = format_world(alloc, options.sizes);
+            run_over(alloc, options, lines, streams, opened)
+        }
         Home::Patched(patches) => {
             let opened = patched_world(alloc, options.sizes, patches);
             run_over(alloc, options, lines, streams, opened)
         }
-        Home::Image(path) => run_image(rt, path, options, lines, streams),
         Home::Disk(path) => {
-            run_over(
-                alloc,
-                options,
-                lines,
-                streams,
-                disk_world(rt, path, options.sizes),
-            )
+            let opened = disk_world(rt, path, options.sizes);
+            run_over(alloc, options, lines, streams, opened)
         }
     }
 }
@@ -145,8 +137,20 @@ fn run_over<S: Session + Drop, R: BufRead + Drop, O: Write, E: Write>(
     streams: &mut Streams<'_, O, E>,
     opened: Result<S, WorldFileError>,
 ) -> Result<(), ScriptError> {
-    let (mut lines, mut session) = (lines, or_fault(opened, options, streams.err)?);
-    answer_all(alloc, &mut session, &mut lines, options.echoes, streams.out)
+    match opened {
+        Ok(session) => {
+            let (mut lines, mut session) = (lines, session);
+            answer_all(alloc, &mut session, &mut lines, options.echoes, streams.out)
+        }
+        Err(error) => Err(explained_fault(&error, options, streams.err)),
+    }
+}
+
+// An image file and its path.
+#[derive(Drop)]
+struct Image<'a> {
+    path: &'a str,
+    file: ImageFile,
 }
 
 fn run_image<R: BufRead + Drop, O: Write, E: Write>(
@@ -156,27 +160,70 @@ fn run_image<R: BufRead + Drop, O: Write, E: Write>(
     lines: ScriptLines<R>,
     streams: &mut Streams<'_, O, E>,
 ) -> Result<(), ScriptError> {
-    let alloc = rt.alloc();
-    let mut lines = lines;
-    let file = or_fault(ImageFile::open(rt, alloc, path), options, streams.err)?;
-    let mut session = or_fault(
-        image_world(alloc, &file, options.sizes),
-        options,
-        streams.err,
-    )?;
-    answer_all(alloc, &mut session, &mut lines, options.echoes, streams.out)?;
-    or_fault(save_world(rt, path, file, session), options, streams.err)
+    match ImageFile::open(rt, rt.alloc(), path) {
+        Ok(file) => run_over_image(rt, Image { path, file }, options, lines, streams),
+        Err(error) => Err(explained_fault(&error, options, streams.err)),
+    }
+}
+
+fn run_over_image<R: BufRead + Drop, O: Write, E: Write>(
+    rt: &HostRuntime,
+    image: Image<'_>,
+    options: &Options<'_>,
+    lines: ScriptLines<R>,
+    streams: &mut Streams<'_, O, E>,
+) -> Result<(), ScriptError> {
+    match image_world(rt.alloc(), &image.file, options.sizes) {
+        Ok(session) => answer_over_image(rt, image, session, options, lines, streams),
+        Err(error) => Err(explained_fault(&error, options, streams.err)),
+    }
+}
+
+// Answers the lines, and then keeps the world.
+fn answer_over_image<R: BufRead + Drop, O: Write, E: Write>(
+    rt: &HostRuntime,
+    image: Image<'_>,
+    session: ScriptWorld<ScriptMedium>,
+    options: &Options<'_>,
+    lines: ScriptLines<R>,
+    streams: &mut Streams<'_, O, E>,
+) -> Result<(), ScriptError> {
+    let (mut lines, mut session) = (lines, session);
+    match answer_all(
+        rt.alloc(),
+        &mut session,
+        &mut lines,
+        options.echoes,
+        streams.out,
+    ) {
+        Ok(()) => keep_image(rt, image, session, options, streams.err),
+        Err(error) => Err(error),
+    }
+}
+
+fn keep_image<E: Write>(
+    rt: &HostRuntime,
+    image: Image<'_>,
+    session: ScriptWorld<ScriptMedium>,
+    options: &Options<'_>,
+    err: &mut E,
+) -> Result<(), ScriptError> {
+    match save_world(rt, image, session) {
+        Ok(()) => Ok(()),
+        Err(error) => Err(explained_fault(&error, options, err)),
+    }
 }
 
 // Keeps what the media of a world hold in its image file.
 fn save_world(
     rt: &HostRuntime,
-    path: &str,
-    file: ImageFile,
+    image: Image<'_>,
     session: ScriptWorld<ScriptMedium>,
 ) -> Result<(), WorldFileError> {
-    let image = world_image(rt.alloc(), session)?;
-    file.replace(rt, rt.alloc(), path, image.as_slice())
+    let bytes = world_image(rt.alloc(), session)?;
+    image
+        .file
+        .replace(rt, rt.alloc(), image.path, bytes.as_slice())
 }
 
 // The session over a world that a file keeps.
@@ -203,21 +250,16 @@ fn explain<E: Write>(error: &WorldFileError, err: &mut E) {
     };
 }
 
-// What was opened or kept, or the fault of the run, explained before it where the words ask for that.
-fn or_fault<T, E: Write>(
-    found: Result<T, WorldFileError>,
+// The fault of a run whose world can't be opened or kept, explained before it where the words ask for that.
+fn explained_fault<E: Write>(
+    error: &WorldFileError,
     options: &Options<'_>,
     err: &mut E,
-) -> Result<T, ScriptError> {
-    match found {
-        Ok(value) => Ok(value),
-        Err(error) => {
-            if options.explains {
-                explain(&error, err);
-            }
-            Err(ScriptError::Run(world_fault(&error)))
-        }
+) -> ScriptError {
+    if options.explains {
+        explain(error, err);
     }
+    ScriptError::Run(world_fault(error))
 }
 
 // Answers the lines in their order, each once, up to the end of the script or a fault.

@@ -5,7 +5,8 @@ ghost use Rattle.script.specs.LineValues.{system_line_seen};
 ghost use Rattle.world_files.specs.recovery.Parts.{AreAtRest, part_medium};
 ghost use Rattle.workload_cli.specs.Sessions.{IsFailureArmed, IsRunningAnswered, IsSessionAnswer, takes_line};
 ghost use Rattle.world_files.specs.recovery.FaultOrMemory.{IsFaultOrMemory};
-ghost use Rattle.workload_cli.specs.Stops.{AreMediaIn, AreRestIn, GoesOn, HasNoMore, HasStopped, IsArmed, IsGoingOn, IsRecoverAnswered, IsRefusedFor, StopsWith, fills_behind, media_of, running_world};
+ghost use Rattle.workload_cli.specs.Stops.{AreMediaIn, AreRestIn, GoesOn, HasNoMore, HasStopped, IsArmed, IsGoingOn, IsRecoverAnswered, IsRefusedFor, StopsWith, all_by, fills_behind, media_of, running_world};
+ghost use Rattle.script.specs.tier_device.declared.fill.Fill.TheVariants.{New};
 ghost use Rattle.workload_cli.specs.declared.answer.Answer.TheVariants as answers;
 
 use crate::answer::Answer;
@@ -120,6 +121,7 @@ impl<M: Resting + Drop> ScriptWorld<M> {
 
     fn recover(&mut self, alloc: Global) -> Answer
         ensures answer { IsRecoverAnswered M.Media M.holds self.old (media_of self.old) result self.new }
+        ensures armed { self.new.armed ≡ self.old.armed }
         ensures stoppable { self.new.stoppable ≡ self.old.stoppable }
     {
         self.halt([Fill::New; MEDIA]);
@@ -136,6 +138,7 @@ impl<M: Resting + Drop> ScriptWorld<M> {
         ensures only { IfErr result IsFaultOrMemory }
         ensures refused { OnErr result (HasNoMore M.Media (media_of self.old) self.new) }
         ensures stopped { self.new.stopped ≡ self.old.stopped }
+        ensures fills { self.new.fills ≡ self.old.fills }
         ensures armed { self.new.armed ≡ self.old.armed }
         ensures stoppable { self.new.stoppable ≡ self.old.stoppable }
     {
@@ -181,6 +184,7 @@ impl<M: Resting + Drop> ScriptWorld<M> {
         requires taken { self.old.world ≡ None }
         requires stopped { self.old.stopped ≡ true }
         ensures goes_on { GoesOn M.Media self.old parts result self.new }
+        ensures armed { self.new.armed ≡ self.old.armed }
         ensures stoppable { self.new.stoppable ≡ self.old.stoppable }
     {
         match recover(alloc, parts) {
@@ -194,6 +198,7 @@ impl<M: Resting + Drop> ScriptWorld<M> {
         requires stopped { self.old.stopped ≡ true }
         ensures world { self.new.world ≡ Some world }
         ensures answer { IsGoingOn self.old self.new result }
+        ensures armed { self.new.armed ≡ self.old.armed }
         ensures stoppable { self.new.stoppable ≡ self.old.stoppable }
     {
         self.world = Some(world);
@@ -211,7 +216,8 @@ impl<M: Resting + Drop> ScriptWorld<M> {
         ensures parts { self.new.parts ≡ Some parts }
         ensures world { self.new.world ≡ self.old.world }
         ensures stopped { self.new.stopped ≡ self.old.stopped }
-        ensures answer { ((result ≡ answers.Stopped) × HasStopped self.old self.new) ⊎ (result ≡ answers.Fault error) }
+        ensures answer { ((result ≡ answers.Stopped) × HasStopped self.old self.new) ⊎ ((result ≡ answers.Fault error) × (self.new.fills ≡ all_by New)) }
+        ensures armed { self.new.armed ≡ self.old.armed }
         ensures stoppable { self.new.stoppable ≡ self.old.stoppable }
     {
         self.parts = Some(parts);

@@ -2,3 +2,5 @@ mod EachClient
 mod LookedWorlds
 mod OneEvent
 mod OnePart
+mod NodePuts
+mod Snapshots

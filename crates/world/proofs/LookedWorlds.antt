@@ -31,12 +31,12 @@ use Rattle.system_world.specs.Relation as cuts
 use Rattle.system_world.specs.WorldTree.{log_by, opened_by, world_tree}
 use Rattle.system_world.specs.WorldView.{WorldView}
 
-either : (b : Bool) → (b ≡ true) ⊎ (b ≡ false)
+pub either : (b : Bool) → (b ≡ true) ⊎ (b ≡ false)
 either true = inl refl
 either false = inr refl
 
 module _ {M : Type 0} (device : Ghosts M) where
-  same_disk : (old new : KernelView M) → ((t : Tier) → device.seen new.area.media t ≡ device.seen old.area.media t) → disk device new.area ≡ disk device old.area
+  pub same_disk : (old new : KernelView M) → ((t : Tier) → device.seen new.area.media t ≡ device.seen old.area.media t) → disk device new.area ≡ disk device old.area
   same_disk old new reads = ap store_of (λ x t. reads t x)
 
   -- a kernel whose media read as they did stands for the same machine
@@ -51,7 +51,7 @@ module _ {M : Type 0} (device : Ghosts M) where
   -- ---- the tree
 
   -- the tree of a graph and marks, as a store spells them, and of these seats
-  abbrev tree_by : Sizes → Store → List (SeatView M) → State
+  abbrev pub tree_by : Sizes → Store → List (SeatView M) → State
   tree_by g s seats = state_of (after_clients (λ c. log_by device (mark_by (marks s) c) (slice_get seats (c - 1))) (graph g s) MAX_CLIENTS) (λ c n. if is_client c then opened_by (slice_get seats (c - 1)) n else None)
 
   -- what a look leaves of the area

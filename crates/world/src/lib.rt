@@ -9,8 +9,10 @@
 mod leases;
 mod list;
 mod look_laws;
+mod node_copies;
 mod notes;
 mod queries;
+mod snapshot;
 mod steps;
 mod stops;
 mod world;

@@ -1,6 +1,6 @@
 //! What is asked of a world, and changes nothing of its tree.
 
-ghost use Rattle.std.specs.Prelude.{◌≡◌, ◌-◌, ◌&&◌, if◌then◌else◌, nat_le, ℕ, IfErr, IfOk, Some, slice_get, true};
+ghost use Rattle.std.specs.Prelude.{◌≡◌, ◌-◌, ◌*◌, length, min, ◌&&◌, if◌then◌else◌, nat_le, ℕ, IfErr, IfOk, Some, slice_get, true};
 ghost use Rattle.world.specs.Leases.{lease_in};
 ghost use Rattle.system_world.specs.event_steps.lease_manager.Passes.{lease_of};
 ghost use Rattle.system_world.specs.event_steps.lease_manager.declared.view.LeaseMode.TheVariants.{Free};
@@ -12,14 +12,16 @@ ghost use Rattle.system_world.specs.event_steps.libfs.area_image.declared.error.
 ghost use Rattle.system_world.specs.event_steps.libfs.area_image.Looks.{Looks};
 ghost use Rattle.system_world.specs.event_steps.libfs.area_image.Map.{WantsMemory};
 ghost use Rattle.system_world.specs.event_steps.libfs.area_image.Store.{disk, graph};
+ghost use Rattle.system_world.specs.event_steps.libfs.shared_area.FileReads.{bytes_of_inode, IsReadFrom};
 ghost use Rattle.system_world.specs.event_steps.libfs.shared_area.Parts.{IsNoDamage, IsTierOf};
+ghost use Rattle.system_world.specs.event_steps.posix_calls.declared.limits.TheConstants.{UNIT_BYTES};
 ghost use Rattle.system_world.specs.WorldTree.{world_tree};
 
 use crate::look_laws::looked_system_stands_for_a_world;
 use crate::stops::left_now;
 use crate::world::World;
 use system_world::{
-    AreaError, Client, Fetched, INODES, KernelError, LeaseMode, System, Tier,
+    AreaError, Client, Fetched, FetchedBytes, INODES, KernelError, LeaseMode, System, Tier,
     TierDeviceMedia as Media,
 };
 
@@ -40,6 +42,30 @@ impl<M: Media> World<M> {
         left_now(&self.system);
         let found = self.system.look(inode);
         looked_system_stands_for_a_world::<M, Fetched>();
+        found
+    }
+
+    /// Bytes of a file of the shared graph from a logical block on, into the front of the buffer, as many as the file and the buffer have. Refused as `Kernel::blocks` is, and never for damage.
+    pub fn read_file(
+        &mut self,
+        inode: u32,
+        first: u32,
+        out: &mut [u8],
+    ) -> Result<FetchedBytes, KernelError<AreaError>>
+        ensures count { IfOk result (λ x. x.count ≡ min (length out.old) (length (bytes_of_inode (graph self.old.system.kernel.area.geometry (disk M.Media self.old.system.kernel.area)) inode) - UNIT_BYTES * first)) }
+        ensures bytes { IfOk result (λ x. IsReadFrom (bytes_of_inode (graph self.old.system.kernel.area.geometry (disk M.Media self.old.system.kernel.area)) inode) (UNIT_BYTES * first) x.count out.old out.new) }
+        ensures only { IfErr result (λ e. OnRefusal e IsNoDamage) }
+        ensures memory { IfErr result (λ e. OnRefusal e (λ r. r ≡ Memory → WantsMemory self.old.system.kernel.area.geometry (disk M.Media self.old.system.kernel.area) inode)) }
+        ensures looks { Answers self.old.system.kernel.area.failed self.old.system.kernel self.new.system.kernel result (Looks M.Media self.old.system.kernel.area self.new.system.kernel.area) }
+        ensures book { self.new.system.kernel.book ≡ self.old.system.kernel.book }
+        ensures opening { self.new.system.kernel.opening ≡ self.old.system.kernel.opening }
+        ensures seats { self.new.system.seats ≡ self.old.system.seats }
+        ensures calls { self.new.calls ≡ self.old.calls }
+        ensures tree { world_tree M.Media self.new ≡ world_tree M.Media self.old }
+    {
+        left_now(&self.system);
+        let found = self.system.read_file(inode, first, out);
+        looked_system_stands_for_a_world::<M, FetchedBytes>();
         found
     }
 

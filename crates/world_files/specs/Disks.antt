@@ -4,10 +4,12 @@ use Rattle.host_media.specs.declared.file.FileMedia.{FileMedia}
 use Rattle.host_media.specs.tier_device.declared.media.Media.{Ghosts}
 use Rattle.host_media.specs.DiskFile.{file_sizes, places_from}
 use Rattle.host_media.specs.File.{IsOpened, file_begin}
+use Rattle.recovery.specs.FreshContents.{AreLater}
 use Rattle.recovery.specs.Parts.{PartsView, part_medium}
 use Rattle.recovery.specs.RecoveryStops.{IsRecoveredWorld}
 use Rattle.recovery.specs.Regions.{REGIONS}
 use Rattle.recovery.specs.layout.Places.{Sizes}
+use Rattle.recovery.specs.system_world.Parts.{medium_of}
 use Rattle.recovery.specs.system_world.WorldView.{WorldView}
 use Rattle.world_files.specs.declared.sizes.WorldSizes.{WorldSizes}
 use Rattle.world_files.specs.PartSizes.{part_sizes, sizes_asked}
@@ -28,6 +30,13 @@ module _ (device : Ghosts FileMedia) where
     pub lie : AreOnDisk geometry parts
     pub recovered : IsRecoveredWorld device (part_medium parts) w
 
+  -- The world with the empty tree, over the media in a file.
+  pub record IsFormattedDisk (geometry : Sizes) (w : WorldView FileMedia) : Type 0 where
+    pub parts : PartsView FileMedia
+    pub lie : AreOnDisk geometry parts
+    pub later : AreLater device (part_medium parts) (medium_of w.system)
+    pub empty : IsEmptyWorld device geometry w
+
   -- the world that a file keeps, or the empty one of the sizes that are asked for
   abbrev pub IsDiskWorld : WorldSizes → WorldView FileMedia → Type 0
-  IsDiskWorld asked w = IsRecoveredDisk w ⊎ ((g : Sizes) × (sizes_asked asked ≡ Some g) × IsEmptyWorld device g w)
+  IsDiskWorld asked w = IsRecoveredDisk w ⊎ ((g : Sizes) × (sizes_asked asked ≡ Some g) × IsFormattedDisk g w)

@@ -1,14 +1,13 @@
 // A world that lives in a file: what was answered stands on its disk.
 ghost use Rattle.std.specs.Prelude.{◌≡◌, IfOk};
-ghost use Rattle.world_files.specs.Disks.{AreOnDisk, IsDiskWorld, IsRecoveredDisk};
-ghost use Rattle.world_files.specs.Worlds.{IsEmptyWorld};
+ghost use Rattle.world_files.specs.Disks.{AreOnDisk, IsDiskWorld, IsFormattedDisk, IsRecoveredDisk};
 
 use crate::draft::draft_path;
 use crate::error::WorldFileError;
-use crate::geometry::{part_sizes, read_geometry};
+use crate::geometry::{image_len, part_sizes, read_geometry};
 use crate::parts::parts_of;
 use crate::sizes::WorldSizes;
-use host_media::{DiskFile, FileMedia, FileProblem, Media, Sizes};
+use host_media::{DiskFile, FileMedia, FileProblem, Media};
 use recovery::{BLOCK, Geometry, Parts, World, format, recover};
 use std::alloc::Global;
 use std::fs::{self, File, Files};
@@ -16,8 +15,8 @@ use std::fs::{self, File, Files};
 /// The world that a file keeps, recovered; where there is no such file, the one with the empty tree, of these sizes, in a file that is made. No other process has the
 /// file as long as the world is there.
 ///
-/// Refused, with the file as it was, are: sizes that no media have, one that can't be opened, that another process has open, or that holds no world; a device that fails, want of memory, and contents that store no
-/// tree. A file that could not be made whole is left under its draft's name, which the next run takes away.
+/// Refused are, for a file that is made, sizes that no media have; a name that ends as a draft's; one that can't be opened, that another process has open, or that holds no world; a device that fails, want of
+/// memory, and contents that store no tree. A file that was there stores what it stored before; one that could not be made whole is left under its draft's name, which the next run takes away.
 pub fn open_disk<R: Files<File = File>>(
     files: &R,
     alloc: Global,
@@ -68,10 +67,13 @@ fn format_disk<R: Files<File = File>>(
     draft: &str,
     geometry: &Geometry,
 ) -> Result<World<FileMedia>, WorldFileError>
-    ensures { IfOk result (IsEmptyWorld ⟦<FileMedia as Media>⟧ geometry.now) }
+    ensures { IfOk result (IsFormattedDisk ⟦<FileMedia as Media>⟧ geometry.now) }
 {
     DiskFile::remove_unused(files, draft)?;
-    let disk = DiskFile::create(files, alloc, draft, disk_len(geometry)?)?;
+    let Some(len) = image_len(geometry) else {
+        return Err(WorldFileError::File(FileProblem::TooLarge));
+    };
+    let disk = DiskFile::create(files, alloc, draft, len)?;
     let parts = disk_parts(alloc, disk, geometry)?;
     match format(alloc, geometry, parts) {
         Ok(world) => {
@@ -79,14 +81,6 @@ fn format_disk<R: Files<File = File>>(
             Ok(world)
         }
         Err((error, _)) => Err(WorldFileError::Recovery(error)),
-    }
-}
-
-// How many bytes the media of a geometry have.
-fn disk_len(geometry: &Geometry) -> Result<usize, WorldFileError> {
-    match Sizes::total_len(&part_sizes(geometry)) {
-        Some(len) => Ok(len),
-        None => Err(WorldFileError::NoWorld),
     }
 }
 

@@ -17,8 +17,8 @@ mod structures;
 
 pub use disk::open_disk;
 pub use error::WorldFileError;
-pub use geometry::{read_geometry, tier_lens};
-pub use image::{image_bytes, read_parts};
+pub use geometry::{image_len, read_geometry, tier_lens};
+pub use image::{image_bytes, read_parts, zero_parts};
 pub use image_file::ImageFile;
 pub use sizes::{SizeRule, WorldSizes};
 pub use structures::structure_name;

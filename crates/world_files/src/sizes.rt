@@ -1,7 +1,8 @@
 // How large a world is made.
-ghost use Rattle.std.specs.Prelude.{◌≡◌, IfErr, IfOk, None, Some};
-ghost use Rattle.recovery.specs.layout.Places.{geometry_of};
-ghost use Rattle.world_files.specs.PartSizes.{sizes_asked};
+ghost use Rattle.std.specs.Prelude.{◌≡◌, ◌↔◌, IfErr, IsErrOf, IfOk, None, Some};
+ghost use Rattle.world_files.specs.PartSizes.{broken_rule, sizes_asked};
+ghost use Rattle.world_files.specs.declared.error.WorldFileError.TheVariants.{Sizes};
+ghost use Rattle.world_files.specs.declared.sizes.SizeRule.{SizeRule};
 
 use crate::error::WorldFileError;
 use recovery::Geometry;
@@ -31,10 +32,11 @@ pub struct WorldSizes {
 }
 
 impl WorldSizes {
-    /// The geometry of these sizes; refused, with the rule that they break, where no media have them.
+    /// The geometry of these sizes; refused, with the first rule that they break, where no media have them.
     pub fn geometry(&self) -> Result<Geometry, WorldFileError>
         ensures geometry { IfOk result (λ g. sizes_asked self.now ≡ Some g) }
         ensures none { IfErr result (λ _. sizes_asked self.now ≡ None) }
+        ensures rule { (rule : SizeRule) → IsErrOf result (Sizes rule) ↔ (broken_rule self.now ≡ Some rule) }
     {
         match Geometry::new(self.units, self.fast, self.block, self.slow) {
             Some(geometry) => Ok(geometry),
@@ -42,8 +44,11 @@ impl WorldSizes {
         }
     }
 
-    // The rule that they break.
-    fn broken_rule(&self) -> SizeRule {
+    // The first rule that they break.
+    fn broken_rule(&self) -> SizeRule
+        requires { sizes_asked self.now ≡ None }
+        ensures { broken_rule self.now ≡ Some result }
+    {
         if self.units < 2 || MOST < self.units {
             SizeRule::Units
         } else if MOST < self.fast || MOST < self.block || MOST < self.slow {

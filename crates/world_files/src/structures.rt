@@ -1,7 +1,7 @@
 // What the structures of the shared medium are called.
 use recovery::What;
 
-/// The name of a structure, as `docs/FORMAT.md` has it.
+/// What a structure of `docs/FORMAT.md` is called where it is damaged.
 pub fn structure_name(structure: What) -> &'static str {
     match structure {
         What::Super => "superblock",

@@ -1,10 +1,13 @@
-use Rattle.std.proofs.Common.{◌≡◌, ◌<◌, ℕ, ap, sym, ◌∙◌, subst, arith}
+use Rattle.std.proofs.Common.{◌≡◌, ◌<◌, ℕ, Some, ap, sym, ◌∙◌, subst, arith}
 use Rattle.std.specs.List.{AllByRecursion}
 use Rattle.std.proofs.lemmas.Result.{IfErr-weaker, IfOk-weaker}
 use Rattle.recovery_laws.proofs.graph_check_lemmas.call_effects_lemmas.Fresh.{fresh_state}
 use Rattle.recovery_laws.specs.shared_area.AreaOpen.{SpellsNone}
-use Rattle.recovery_laws.specs.shared_area.area_image.Store.{disk, graph}
+use Rattle.recovery_laws.specs.fresh_media.Fresh.{no_marks}
+use Rattle.recovery_laws.specs.shared_area.area_image.Store.{disk, graph, marks}
+use Rattle.recovery_laws.specs.shared_area.layout.declared.marks.Marks.{Marks}
 use Rattle.recovery_laws.specs.update_log.View.{HasSize}
+use Rattle.world.specs.system_world.Idle.{IsIdleSystem}
 use Rattle.world.specs.system_world.Parts.{medium_of}
 use Rattle.world.specs.system_world.WorldTree.{world_tree}
 use Rattle.world.specs.system_world.courses.Courses.{PARTS}
@@ -15,8 +18,9 @@ use Rattle.recovery.specs.declared.error.RecoveryError.TheVariants.{DeviceFault}
 use Rattle.recovery.specs.FreshContents.{AreLater, HoldsContent, IsLater, fresh_contents}
 use Rattle.recovery.specs.Parts.{PartsView, part_medium}
 use Rattle.recovery.specs.PartMedia.{AreUntouched, SomeRose, media_beneath}
+use Rattle.recovery.specs.RecoveryStops.{IsIdle}
 use Rattle.recovery.specs.Regions.{IsGivenBack}
-use Rattle.recovery.proofs.FreshMedia.{all_rest, all_sized, area_holds, area_ready, geometry_is, graph_is, later_by_recovery, marks_are, no_damage_there, no_size_there, opens_not, regions_ready}
+use Rattle.recovery.proofs.FreshMedia.{all_rest, all_sized, area_holds, area_ready, fresh_marks, geometry_is, graph_is, later_by_recovery, marks_are, no_damage_there, no_size_there, opens_not, regions_ready}
 use Rattle.recovery.proofs.FreshWorlds.{beneath_later, given_later, parts_hold, parts_later}
 use Rattle.recovery.proofs.PartRows.{earlier_rises, region_rose, shared_later, shared_rose, zip_long}
 use Rattle.recovery.proofs.fresh_world.open_fresh.Goals as goal
@@ -87,6 +91,19 @@ returns-in-Ok-reopen_regions-clause-tree g c =
     let same = geometry_is m law.seen_now law.sized sizes c.args.shared c.requires.area area (fresh.volume sizes allowed) opened.volume in
     IfOk-weaker c.assemble.result (λ w. world_tree m w ≡ state_of (graph area.geometry (disk m area)) nobody) (λ w. world_tree m w ≡ empty_state)
     (λ w is. is ∙ ap (λ h. state_of h nobody) (graph_is m law.seen_now law.sized sizes c.args.shared c.requires.area area same opened.blocks (fresh.graph sizes allowed)) ∙ fresh_state) c.assemble.ensures.tree
+
+pub returns-in-Ok-reopen_regions-clause-idle : goal.returns-in-Ok-reopen_regions-clause-idle
+returns-in-Ok-reopen_regions-clause-idle g c =
+    let m = g.M.Media in
+    let law = g.met.M.Media in
+    let sizes = c.args.geometry.now in
+    let allowed = c.units-units.ensures.allowed in
+    let fresh = c.fresh_area_opens.ensures in
+    let area = c.in-Ok.area in
+    let opened = c.in-Ok.ensures in
+    let same = geometry_is m law.seen_now law.sized sizes c.args.shared c.requires.area area (fresh.volume sizes allowed) opened.volume in
+    IfOk-weaker c.assemble.result (λ w. (v : Marks) → marks (disk m area) ≡ Some v → IsIdleSystem m w.system v) (λ w. IsIdle m w.system)
+    (λ w idle. (no_marks, idle no_marks (fresh_marks m law.seen_now law.sized sizes c.args.shared c.requires.area area same opened.blocks (fresh.marks sizes allowed)))) c.assemble.ensures.idle
 
 pub returns-in-Ok-reopen_regions-clause-geometry : goal.returns-in-Ok-reopen_regions-clause-geometry
 returns-in-Ok-reopen_regions-clause-geometry g c =

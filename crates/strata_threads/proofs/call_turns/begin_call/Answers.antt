@@ -1,5 +1,5 @@
 use Rattle.std.proofs.Common.{◌∙◌}
-use Rattle.strata_threads.proofs.Started.{is_started, started_keeps}
+use Rattle.strata_threads.proofs.Started.{is_started, needs_first, started_keeps}
 use Rattle.strata_threads.proofs.call_turns.begin_call.Goals as goal
 
 pub returns-clause-owner : goal.returns-clause-owner
@@ -13,3 +13,6 @@ returns-clause-idle g c = λ no. (started_keeps g.M.Media c.args.client.now c.st
 
 pub returns-clause-started : goal.returns-clause-started
 returns-clause-started g c = is_started g.M.Media c.args.client.now c.start.new.self c.args.call.now c.start.result c.start.ensures.failed c.start.ensures.started
+
+pub returns-clause-needed : goal.returns-clause-needed
+returns-clause-needed g c = needs_first g.M.Media c.args.client.now c.start.new.self c.args.call.now c.start.result c.start.ensures.failed c.start.ensures.started

@@ -9,7 +9,6 @@ returns-clause-returned g c = λ _. (
   c.in-Some.region,
   c.digest_region.new.region,
   subst (λ (e : EndView (SealedRegionView g.row.M.Denot)). HasTaken c.args.self.now.tasks.hands c.in-Some.region e.hands) (sym c.send_back.ensures.tasks) c.in-Some.ensures.taken,
-  c.digest_region.ensures.whose.0,
-  c.digest_region.ensures.whose.1,
+  c.digest_region.ensures.worked,
   c.send_back.ensures.sent,
 )

@@ -28,5 +28,5 @@ returns-in-Err-clause-goes_on g c =
     } in
     elim c.stay_stopped.ensures.answer [
       | inl is ↦ Stopped is.0 is.1 stays
-      | inr is ↦ Refused c.in-Err.error is (record { stays = stays; refused = record { never = e.never; damaged = e.damaged; bad_log = e.bad_log; fault = e.fault } })
+      | inr is ↦ Refused c.in-Err.error is.0 (record { stays = stays; fills = is.1; refused = record { never = e.never; damaged = e.damaged; bad_log = e.bad_log; fault = e.fault } })
     ]

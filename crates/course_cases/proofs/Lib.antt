@@ -1,0 +1,5 @@
+mod CourseCases
+mod DraftCourses
+mod DraftRefusals
+mod DraftStops
+mod FencedStops

@@ -1,5 +1,0 @@
-use Rattle.strata_threads.specs.ClientCalls.{KeepsCall}
-use Rattle.strata_threads.proofs.idle_turn.give_rows.Given as goal
-
-abbrev pub invariant-loop-row : goal.invariant-loop-row
-invariant-loop-row g l = KeepsCall l.fn.client l.client

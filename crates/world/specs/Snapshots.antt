@@ -1,0 +1,66 @@
+-- What a world's tree is read from, and what reading leaves of the world.
+use Rattle.std.specs.Prelude.{◌≡◌, ◌≤◌, ℕ, true, List, [], ◌∷◌, ◌++◌, drop, Option, Some, None, nat_le, ◌&&◌, if◌then◌else◌}
+use Rattle.system_world.specs.event_steps.tier_device.declared.media.Media.{Ghosts}
+use Rattle.system_world.specs.event_steps.tier_device.Media.{Rose}
+use Rattle.system_world.specs.event_steps.area_image.Store.{disk, graph}
+use Rattle.system_world.specs.event_steps.area_image.declared.error.AreaError.{AreaError}
+use Rattle.system_world.specs.event_steps.area_image.declared.error.AreaError.TheVariants as errors
+use Rattle.system_world.specs.event_steps.shared_area.Parts.{IsNoDamage}
+use Rattle.system_world.specs.event_steps.call_effects.NodeView.{DirView, FileView, NodeView}
+use Rattle.system_world.specs.event_steps.kernel_fs.KernelAnswers.{OnRefusal}
+use Rattle.system_world.specs.event_steps.kernel_fs.declared.error.KernelError.{KernelError}
+use Rattle.system_world.specs.event_steps.kernel_fs.declared.error.KernelError.TheVariants as why
+use Rattle.system_world.specs.event_steps.libfs.file_graph.Graph.{Graph}
+use Rattle.system_world.specs.event_steps.libfs.file_graph.declared.effect.Kind.{Kind}
+use Rattle.system_world.specs.event_steps.libfs.file_graph.declared.effect.Effect.{Effect}
+use Rattle.system_world.specs.event_steps.libfs.file_graph.declared.effect.Effect.TheVariants as effect
+use Rattle.system_world.specs.event_steps.libfs.log_record.declared.format.Record.{Record}
+use Rattle.system_world.specs.event_steps.libfs.client_log.View.{current_records}
+use Rattle.system_world.specs.event_steps.View.{SeatView, SystemView, done_of, seat_of}
+use Rattle.system_world.specs.WorldView.{WorldView}
+
+-- a graph with the nodes of another at the inodes from 1 to n
+abbrev pub with_nodes : Graph → Graph → ℕ → Graph
+with_nodes g other n i = if nat_le 1 i && nat_le i n then other i else g i
+
+-- the names of what stands at an inode, by its view
+abbrev pub names_in : NodeView → ℕ
+names_in (FileView names size) = names
+names_in (DirView names entries) = names
+
+-- the effects that enter these entries into a directory, the last one first
+abbrev pub entries_put : ℕ → List (List ℕ × (ℕ × Kind)) → List Effect
+entries_put d [] = []
+entries_put d (e ∷ es) = entries_put d es ++ effect.Enter d e.1.0 e.1.1 e.0 ∷ []
+
+module _ {M : Type 0} (device : Ghosts M) where
+  -- the graph on the shared medium
+  abbrev pub shared_graph : WorldView M → Graph
+  shared_graph v = graph v.system.kernel.area.geometry (disk device v.system.kernel.area)
+
+  -- the records that a client keeps in memory and that are not digested
+  abbrev pub kept_records : SeatView M → List Record
+  kept_records s = drop (done_of s.away) s.client.sealed ++ current_records device s.client.log
+
+  abbrev pub kept_by : Option (SeatView M) → List Record
+  kept_by None = []
+  kept_by (Some s) = kept_records s
+
+  abbrev pub kept_log : SystemView M → ℕ → List Record
+  kept_log w c = kept_by (seat_of w c)
+
+  -- The shared medium was read, and nothing else has changed.
+  pub record IsRead (old new : WorldView M) : Type 0 where
+    pub geometry : new.system.kernel.area.geometry ≡ old.system.kernel.area.geometry
+    pub reads : disk device new.system.kernel.area ≡ disk device old.system.kernel.area
+    pub book : new.system.kernel.book ≡ old.system.kernel.book
+    pub opening : new.system.kernel.opening ≡ old.system.kernel.opening
+    pub seats : new.system.seats ≡ old.system.seats
+    pub calls : new.calls ≡ old.calls
+    pub more_faults : device.faults old.system.kernel.area.media ≤ device.faults new.system.kernel.area.media
+
+  -- A reading is refused for a device of the kernel that has failed before, or fails now, or for want of memory.
+  pub record IsRefusedReading (old new : WorldView M) (e : KernelError AreaError) : Type 0 where
+    pub only : OnRefusal e IsNoDamage
+    pub failed : e ≡ why.Failed → old.system.kernel.area.failed ≡ true
+    pub fault : e ≡ why.Refused errors.DeviceFault → (new.system.kernel.area.failed ≡ true) × Rose (device.faults old.system.kernel.area.media) (device.faults new.system.kernel.area.media)
