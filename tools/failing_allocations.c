@@ -22,7 +22,7 @@ static uintptr_t first_byte, last_byte; // of the program's code
 static long failing, *made;             // the allocation that fails, and how many were asked for
 
 static int fails(void *caller) {
-    if (!made || (uintptr_t)caller < first_byte || last_byte < (uintptr_t)caller || ++*made != failing) {
+    if (!made || (uintptr_t)caller < first_byte || last_byte < (uintptr_t)caller || __atomic_add_fetch(made, 1, __ATOMIC_SEQ_CST) != failing) {
         return 0;
     }
     errno = ENOMEM;

@@ -91,7 +91,7 @@ HasTurn device s (event.Digest c) = (s.client.log.failed ≡ false) × (is_some 
 HasTurn device s (event.WipeStep c) = (s.client.log.failed ≡ false) × IsToBeWiped s.client
 HasTurn device s (event.Reclaim i) = ⊥
 HasTurn device s (event.Migrate i first count to) = ⊥
-HasTurn device s (event.Deny c call why) = (is_pending s.client ≡ false) × (has_refusal s.refused why ≡ true)
+HasTurn device s (event.Deny c call why) = (is_pending s.client ≡ false) × (s.client.log.failed ≡ false) × (has_refusal s.refused why ≡ true)
 
 -- One of the eight clients has.
 abbrev pub IsTurnOf : {M : Type 0} → Ghosts M → SystemView M → Event → Option ℕ → Type 0

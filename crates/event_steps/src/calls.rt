@@ -46,10 +46,10 @@ impl<M: Media> ClientSlot<M> {
     }
 
     pub fn deny(&mut self, call: &Call, why: Denied) -> Outcome
-        ensures carries { Carries ((is_pending self.old.client ≡ false) × (has_refusal self.old.refused why ≡ true)) (IsDenied self.old why result self.new) (self.new ≡ self.old) result }
+        ensures carries { Carries ((is_pending self.old.client ≡ false) × (self.old.client.log.failed ≡ false) × (has_refusal self.old.refused why ≡ true)) (IsDenied self.old why result self.new) (self.new ≡ self.old) result }
         ensures owner { owner_of self.new.client ≡ owner_of self.old.client }
     {
-        if self.client.is_pending() || !self.refused.has(why) {
+        if self.client.is_pending() || self.client.has_failed() || !self.refused.has(why) {
             return Outcome::Idle;
         }
         let reply = self.client.deny(call, why);

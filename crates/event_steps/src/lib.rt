@@ -27,8 +27,8 @@ pub use system::System;
 // Passed on to the crates above, which so need not list those below.
 pub use libfs::{
     AreaError, CLIENTS, Call, Child, Client, ClientLog, Denied, Effect, Fetched, FetchedBytes,
-    Figures, INODES, Kernel, KernelError, Kind, LeaseMode, Leases as LeaseManagerLeases, LogError,
-    Media as TierDeviceMedia, Mode, NameMap, Need, NodeCounts, NodeSummary, Opened, Pass,
+    Figures, FileRun, INODES, Kernel, KernelError, Kind, LeaseMode, Leases as LeaseManagerLeases,
+    LogError, Media as TierDeviceMedia, Mode, NameMap, Need, NodeCounts, NodeSummary, Opened, Pass,
     PlainGraph, Record, Reply, Shared, SharedBytes, Tier, answered_start_is_a_step,
     begun_record_is_a_step,
 };

@@ -1,4 +1,4 @@
-ghost use Rattle.std.specs.Prelude.{◌≡◌, ◌-◌, ◌*◌, ◌<◌, ◌↔◌, drop, length, min, IfErr, IfNone, IfOk, IfSome, IsTrue, OnErr, OnOk, Some, slice_get, true};
+ghost use Rattle.std.specs.Prelude.{◌≡◌, ◌-◌, ◌*◌, ◌<◌, ◌↔◌, ℕ, [], drop, length, min, IfErr, IfNone, IfOk, IfSome, IsTrue, OnErr, OnOk, Some, slice_get, true};
 ghost use Rattle.atomic_table.specs.Seated.{TableId};
 ghost use Rattle.libfs.specs.call_effects.NodeView.{view_at};
 ghost use Rattle.libfs.specs.kernel_fs.KernelAnswers.{Answers, OnRefusal};
@@ -13,6 +13,7 @@ ghost use Rattle.libfs.specs.client_log.View.{current_records};
 ghost use Rattle.libfs.specs.posix_calls.declared.limits.TheConstants.{UNIT_BYTES};
 ghost use Rattle.libfs.specs.lease_manager.Parts.{AreCompatible};
 ghost use Rattle.libfs.specs.lease_manager.Words.{IsClient};
+ghost use Rattle.libfs.specs.kernel_fs.migrator.RunChoice.{IsPicked, MayBeMoved};
 ghost use Rattle.event_steps.specs.Sound.{AreFrom, AreOfTable, AreSeats, number_of};
 ghost use Rattle.event_steps.specs.Stops.{SeatLeaves};
 ghost use Rattle.event_steps.specs.View.{HasSeat, SeatView, done_of, seat_of, undigested_on};
@@ -20,7 +21,7 @@ ghost use Rattle.event_steps.specs.View.{HasSeat, SeatView, done_of, seat_of, un
 use crate::client_slot::ClientSlot;
 use crate::numbers::{CLIENTS, is_client};
 use libfs::{
-    AreaError, Client, Fetched, FetchedBytes, Kernel, KernelError, Media, Record, Tier,
+    AreaError, Client, Fetched, FetchedBytes, FileRun, Kernel, KernelError, Media, Record, Tier,
     client_index,
 };
 use std::alloc::Global;
@@ -78,6 +79,7 @@ impl<M: Media> System<M> {
     /// The records of the region that a client has away that are not digested, in their order; none of a number outside 1 to 8.
     pub fn sealed_records(&self, number: u32) -> &[Record]
         ensures there { IsClient number → HasSeat self.now number (λ s. result.now ≡ drop (done_of s.away) s.client.sealed) }
+        ensures none { (IsClient number → ⊥) → result.now ≡ [] }
     {
         match self.seat(number) {
             Some(seat) => seat.sealed_records(),
@@ -88,6 +90,7 @@ impl<M: Media> System<M> {
     /// The records of the region that a client writes, in their order; none of a number outside 1 to 8.
     pub fn current_records(&self, number: u32) -> &[Record]
         ensures there { IsClient number → HasSeat self.now number (λ s. result.now ≡ current_records M.Media s.client.log) }
+        ensures none { (IsClient number → ⊥) → result.now ≡ [] }
     {
         match self.seat(number) {
             Some(seat) => seat.client.current_records(),
@@ -116,15 +119,17 @@ impl<M: Media> System<M> {
         self.kernel.fetch(1, inode)
     }
 
-    /// Bytes of a file of the shared graph from a logical block on, as `Kernel::blocks` reads them for client 1: into the front of the buffer, as many as the file and the buffer have. Refused as that is, and never for damage.
+    /// Bytes of a file of the shared graph from a logical block on, as `Kernel::blocks` reads them for client 1: into the front of the buffer, as many as the file and the buffer have. Refused as that is, and never for damage; the front of the buffer may have been read then.
     pub fn read_file(
         &mut self,
         inode: u32,
         first: u32,
         out: &mut [u8],
     ) -> Result<FetchedBytes, KernelError<AreaError>>
+        ensures mark { IfOk result (λ x. IsMarkIn (disk M.Media self.old.kernel.area) 1 x.mark) }
         ensures count { IfOk result (λ x. x.count ≡ min (length out.old) (length (bytes_of_inode (graph self.old.kernel.area.geometry (disk M.Media self.old.kernel.area)) inode) - UNIT_BYTES * first)) }
         ensures bytes { IfOk result (λ x. IsReadFrom (bytes_of_inode (graph self.old.kernel.area.geometry (disk M.Media self.old.kernel.area)) inode) (UNIT_BYTES * first) x.count out.old out.new) }
+        ensures refused { OnErr result ((n : ℕ) × IsReadFrom (bytes_of_inode (graph self.old.kernel.area.geometry (disk M.Media self.old.kernel.area)) inode) (UNIT_BYTES * first) n out.old out.new) }
         ensures only { IfErr result (λ e. OnRefusal e IsNoDamage) }
         ensures memory { IfErr result (λ e. OnRefusal e (λ r. r ≡ Memory → WantsMemory self.old.kernel.area.geometry (disk M.Media self.old.kernel.area) inode)) }
         ensures looks { Answers self.old.kernel.area.failed self.old.kernel self.new.kernel result (Looks M.Media self.old.kernel.area self.new.kernel.area) }
@@ -150,6 +155,20 @@ impl<M: Media> System<M> {
         ensures seats { self.new.seats ≡ self.old.seats }
     {
         self.kernel.tier_of(inode, block)
+    }
+
+    /// What is to be moved to a tier next, as `Kernel::pick` tells it; it changes nothing. Refused as that is, and never for damage.
+    pub fn pick(&mut self, to: Tier) -> Result<Option<FileRun>, KernelError<AreaError>>
+        ensures picked { IfOk result (IsPicked self.old.kernel.area.geometry (disk M.Media self.old.kernel.area) to) }
+        ensures may_be_moved { IfOk result (λ x. IfSome x (MayBeMoved self.old.kernel.area.geometry (disk M.Media self.old.kernel.area) to)) }
+        ensures only { IfErr result (λ e. OnRefusal e IsNoDamage) }
+        ensures memory { IfErr result (λ e. OnRefusal e (λ r. r ≡ Memory → (i : ℕ) × WantsMemory self.old.kernel.area.geometry (disk M.Media self.old.kernel.area) i)) }
+        ensures looks { Answers self.old.kernel.area.failed self.old.kernel self.new.kernel result (Looks M.Media self.old.kernel.area self.new.kernel.area) }
+        ensures book { self.new.kernel.book ≡ self.old.kernel.book }
+        ensures opening { self.new.kernel.opening ≡ self.old.kernel.opening }
+        ensures seats { self.new.seats ≡ self.old.seats }
+    {
+        self.kernel.pick(to)
     }
 
     /// States what a stop leaves of a client's regions now.

@@ -5,3 +5,5 @@ pub mod ReadLemmas
 pub mod ZeroLemmas
 pub mod RenameLemmas
 pub mod ServedLemmas
+pub mod ReleaseLemmas
+pub mod ListingLemmas

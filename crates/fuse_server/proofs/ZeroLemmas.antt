@@ -1,16 +1,14 @@
 -- Zeros that are written one piece behind the other.
-use Rattle.std.proofs.Common.{◌≡◌, ◌⊎◌, ◌≤◌, ◌<◌, ◌+◌, ◌-◌, ◌*◌, ◌++◌, List, [], ◌∷◌, ℕ, refl, sym, ap, subst, min, inl, inr, Result, Ok, Err, None, replicate, take, arith}
-use Rattle.std.proofs.lemmas.Bool.{cases_lt, le-ltb, lt-ltb}
+use Rattle.std.proofs.Common.{◌≡◌, ◌⊎◌, ◌≤◌, ◌<◌, ◌+◌, ◌-◌, ◌*◌, ◌++◌, List, [], ◌∷◌, ℕ, refl, sym, ap, subst, min, inl, inr, Result, Ok, Err, replicate, take, arith}
+use Rattle.std.proofs.lemmas.Bool.{cases_lt}
 use Rattle.std.proofs.lemmas.List.{take-replicate}
 use Rattle.fuse_wire.specs.posix_calls.declared.call.Call.{Call}
 use Rattle.fuse_wire.specs.posix_calls.declared.call.Call.TheVariants as call
 use Rattle.fuse_wire.specs.posix_calls.declared.call.Reply.{Reply}
 use Rattle.fuse_wire.specs.posix_calls.declared.call.Reply.TheVariants as reply
 use Rattle.fuse_wire.specs.declared.errno.Refusal.{Refusal}
-use Rattle.fuse_server.specs.declared.node.Node.{Node}
 use Rattle.fuse_server.specs.declared.tree.Tree.{Ghosts}
 use Rattle.fuse_server.specs.Calls.{Answers, MayAsk, wrote_of}
-use Rattle.fuse_server.specs.Files.{last_descriptor}
 use Rattle.fuse_server.specs.Refusals.{IsMemory}
 use Rattle.fuse_server.specs.Sizes.{AreZeros, next_zeros, zeros_len}
 use Rattle.fuse_server.proofs.UpkeepLemmas.{done_call, ended_err}
@@ -69,10 +67,3 @@ reached_zeros tree number to counts from at count left turn s t l c zeros (inr a
 -- the first zeros of those that are at hand
 pub some_zeros : (count : ℕ) → count ≤ 4096 → take {A = ℕ} count (replicate 4096 0) ≡ replicate count 0
 some_zeros count few = take-replicate count 4096 0 few
-
--- what is closed where a node is open once less
-pub kept_open : (node : Node) → 1 < node.opens → last_descriptor node ≡ None
-kept_open node more = rw (lt-ltb 1 node.opens more) refl
-
-pub closed_last : (node : Node) → node.opens ≤ 1 → last_descriptor node ≡ node.descriptor
-closed_last node last = rw (le-ltb 1 node.opens last) refl

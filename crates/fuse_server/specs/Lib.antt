@@ -5,6 +5,7 @@ pub mod Calls
 pub mod Nodes
 pub mod Upkeep
 pub mod Files
+pub mod Listings
 pub mod Reads
 pub mod Renames
 pub mod Creations

@@ -14,8 +14,9 @@ use Rattle.fuse_wire.specs.Replies.{absence_fields, attr_bytes, count_fields, en
 use Rattle.fuse_server.specs.declared.answer.Answer.{Answer}
 use Rattle.fuse_server.specs.declared.answer.Answer.TheVariants as answer
 use Rattle.fuse_server.specs.declared.attributes.Attributes.{Attributes}
+use Rattle.fuse_server.specs.declared.server.Server.{Server}
 use Rattle.fuse_server.specs.declared.tree.Usage.{Usage}
-use Rattle.fuse_server.specs.Answers.{IsReply}
+use Rattle.fuse_server.specs.Listings.{CarriesListing, listing_at}
 
 -- for as long as the mount lasts
 abbrev pub for_ever : Time
@@ -50,20 +51,20 @@ entry_of h generation a = record { node = a.node; generation = generation; entry
 abbrev pub stat_fs_of : Usage → StatFs
 stat_fs_of usage = record { blocks = usage.units; blocks_free = usage.free; blocks_available = usage.free; files = 1024; files_free = min usage.free 1024; block_size = 4096; name_len = 64 }
 
--- The bytes of a reply carry this answer; no file has more bytes than 1,048,576.
-abbrev pub Carries : Header → Answer → List ℕ → Type 0
-Carries h answer.Done reply = reply ≡ reply_bytes h.unique []
-Carries h (answer.Refused why) reply = reply ≡ error_bytes h.unique (refusal_number why)
-Carries h (answer.Agreed agreed) reply = reply ≡ reply_bytes h.unique (fields_bytes (init_fields agreed))
-Carries h (answer.Entry a) reply = (generation : ℕ) × (reply ≡ reply_bytes h.unique (entry_bytes (entry_of h generation a)))
-Carries h answer.Absence reply = reply ≡ reply_bytes h.unique (fields_bytes (absence_fields for_ever))
-Carries h (answer.Attributes a) reply = reply ≡ reply_bytes h.unique (fields_bytes (valid_fields for_ever) ++ attr_bytes (attr_of h a))
-Carries h (answer.Data bytes) reply = (length bytes ≤ 1048576 → reply ≡ reply_bytes h.unique bytes) × (1048576 < length bytes → reply ≡ error_bytes h.unique (refusal_number (refusal.Posix errno.IoError)))
-Carries h (answer.Count count) reply = reply ≡ reply_bytes h.unique (fields_bytes (count_fields count))
-Carries h (answer.Opened handle) reply = reply ≡ reply_bytes h.unique (fields_bytes (open_fields (record { handle = handle; flags = 2 })))
-Carries h (answer.Created a) reply = (generation : ℕ) × (reply ≡ reply_bytes h.unique (entry_bytes (entry_of h generation a) ++ fields_bytes (open_fields (record { handle = 0; flags = 2 }))))
-Carries h (answer.Usage usage) reply = reply ≡ reply_bytes h.unique (fields_bytes (statfs_fields (stat_fs_of usage)))
-Carries h (answer.Entries handle at size) reply = IsReply h.unique reply
+-- The bytes of a server's reply carry this answer; no file has more bytes than 1,048,576.
+abbrev pub Carries : Server → Header → Answer → List ℕ → Type 0
+Carries server h answer.Done reply = reply ≡ reply_bytes h.unique []
+Carries server h (answer.Refused why) reply = reply ≡ error_bytes h.unique (refusal_number why)
+Carries server h (answer.Agreed agreed) reply = reply ≡ reply_bytes h.unique (fields_bytes (init_fields agreed))
+Carries server h (answer.Entry a) reply = (generation : ℕ) × (reply ≡ reply_bytes h.unique (entry_bytes (entry_of h generation a)))
+Carries server h answer.Absence reply = reply ≡ reply_bytes h.unique (fields_bytes (absence_fields for_ever))
+Carries server h (answer.Attributes a) reply = reply ≡ reply_bytes h.unique (fields_bytes (valid_fields for_ever) ++ attr_bytes (attr_of h a))
+Carries server h (answer.Data bytes) reply = (length bytes ≤ 1048576 → reply ≡ reply_bytes h.unique bytes) × (1048576 < length bytes → reply ≡ error_bytes h.unique (refusal_number (refusal.Posix errno.IoError)))
+Carries server h (answer.Count count) reply = reply ≡ reply_bytes h.unique (fields_bytes (count_fields count))
+Carries server h (answer.Opened handle) reply = reply ≡ reply_bytes h.unique (fields_bytes (open_fields (record { handle = handle; flags = 2 })))
+Carries server h (answer.Created a) reply = (generation : ℕ) × (reply ≡ reply_bytes h.unique (entry_bytes (entry_of h generation a) ++ fields_bytes (open_fields (record { handle = 0; flags = 2 }))))
+Carries server h (answer.Usage usage) reply = reply ≡ reply_bytes h.unique (fields_bytes (statfs_fields (stat_fs_of usage)))
+Carries server h (answer.Entries handle at size) reply = CarriesListing server.tables.nodes (listing_at server.listings.items handle) h.unique at size reply
 
 -- a buffer with room for so many bytes takes the answer without asking for memory
 abbrev pub HasRoom : ℕ → Answer → Type 0
@@ -72,5 +73,5 @@ HasRoom room (answer.Entries handle at size) = ⊥
 HasRoom room a = 272 ≤ room
 
 -- The bytes carry the answer, or say that memory was wanting where there was no room for it.
-abbrev pub IsReplyFor : Header → Answer → ℕ → List ℕ → Type 0
-IsReplyFor h a room reply = Carries h a reply ⊎ ((HasRoom room a → ⊥) × (reply ≡ error_bytes h.unique (refusal_number (refusal.Posix errno.NoMemory))))
+abbrev pub IsReplyFor : Server → Header → Answer → ℕ → List ℕ → Type 0
+IsReplyFor server h a room reply = Carries server h a reply ⊎ ((HasRoom room a → ⊥) × (reply ≡ error_bytes h.unique (refusal_number (refusal.Posix errno.NoMemory))))

@@ -1,6 +1,5 @@
 -- What each request asks of the tree, and how it is answered by what the tree answers.
-use Rattle.std.specs.Prelude.{◌≡◌, ◌⊎◌, ℕ, List, false, min, Result, Ok, Err, IfErr}
-use Rattle.fuse_wire.specs.posix_calls.declared.call.Call.TheVariants as call
+use Rattle.std.specs.Prelude.{◌≡◌, ◌⊎◌, ℕ, List, false, min, Result, Ok, Err, OnErr}
 use Rattle.fuse_wire.specs.posix_calls.declared.errno.Errno.TheVariants as errno
 use Rattle.fuse_wire.specs.declared.errno.Refusal.{Refusal}
 use Rattle.fuse_wire.specs.declared.errno.Refusal.TheVariants as refusal
@@ -15,18 +14,17 @@ use Rattle.fuse_wire.specs.Spelling.{Spells, header_of}
 use Rattle.fuse_server.specs.declared.answer.Answer.{Answer}
 use Rattle.fuse_server.specs.declared.answer.Answer.TheVariants as answer
 use Rattle.fuse_server.specs.declared.attributes.Attributes.{Attributes}
-use Rattle.fuse_server.specs.declared.nodes.Nodes.{Nodes}
 use Rattle.fuse_server.specs.declared.server.Server.{Server}
+use Rattle.fuse_server.specs.declared.tables.Tables.{Tables}
 use Rattle.fuse_server.specs.declared.tree.Tree.{Ghosts}
 use Rattle.fuse_server.specs.declared.tree.Usage.{Usage}
 use Rattle.fuse_server.specs.Answers.{is_silent}
-use Rattle.fuse_server.specs.Calls.{AtPath, MayAsk, listed_of}
 use Rattle.fuse_server.specs.Creations.{MakesAt, MakesNode, creation_by}
 use Rattle.fuse_server.specs.Files.{Links, Releases, Unlinks, Writes, handle_of}
+use Rattle.fuse_server.specs.Listings.{ClosesListing, OpensDir}
 use Rattle.fuse_server.specs.Nodes.{Describes, LooksUp, MakesDir, RemovesDir}
-use Rattle.fuse_server.specs.Paths.{node_at, path_of}
+use Rattle.fuse_server.specs.Paths.{node_at}
 use Rattle.fuse_server.specs.Reads.{Reads}
-use Rattle.fuse_server.specs.Refusals.{IsMemory}
 use Rattle.fuse_server.specs.Renames.{Renames}
 use Rattle.fuse_server.specs.Replies.{IsReplyFor}
 use Rattle.fuse_server.specs.Sizes.{SetsAttributes}
@@ -57,7 +55,6 @@ Agrees init a = ((r : InitReply) × (IsOld init.major init.minor → ⊥) × IsA
 
 -- the answer to a request by which something ends; others are not served
 abbrev pub end_answer : Request → Answer
-end_answer (request.ReleaseDir handle) = answer.Done
 end_answer (request.Forget count) = answer.Done
 end_answer (request.BatchForget nodes) = answer.Done
 end_answer request.Destroy = answer.Done
@@ -68,55 +65,61 @@ module _ {S : Type 0} where
   abbrev pub Ends : {A : Type 0} → (Result A Refusal → Answer) → (Result A Refusal → S → S → Type 0) → Answer → S → S → Type 0
   Ends {A = A} make does a s t = (result : Result A Refusal) × does result s t × (a ≡ make result)
 
-module _ {S : Type 0} (tree : Ghosts S) where
-  -- the list of a directory is told where it is opened; its handle is the server's
-  abbrev pub OpensDir : Nodes → ℕ → Result ℕ Refusal → S → S → Type 0
-  OpensDir nodes id = AtPath (path_of nodes id) (λ path. MayAsk tree (call.List path) listed_of (λ names result s t. (t ≡ s) × IfErr result IsMemory))
+  -- so it does, and where it is refused, the nodes and the open files are as they were
+  abbrev pub OrKeeps : {A : Type 0} → Tables → Tables → (Result A Refusal → S → S → Type 0) → Result A Refusal → S → S → Type 0
+  OrKeeps old new does result s t = does result s t × OnErr result (new ≡ old)
 
-  -- What a request about directories or the mount asks of the tree, and its answer: INIT, OPENDIR, READDIR, STATFS, and those that end something or are refused.
-  abbrev pub ServesOther : Nodes → ℕ → Request → Answer → S → S → Type 0
-  ServesOther nodes node (request.Init init) a s t = Agrees init a × (t ≡ s)
-  ServesOther nodes node (request.OpenDir flags) a s t = Ends (answer_of answer.Opened) (OpensDir nodes node) a s t
-  ServesOther nodes node (request.ReadDir handle at size) a s t = (a ≡ answer.Entries handle at size) × (t ≡ s)
-  ServesOther nodes node request.StatFs a s t = (usage : Usage) × tree.measures s usage t × (a ≡ answer.Usage usage)
-  ServesOther nodes node request.SymLink a s t = (a ≡ answer.Refused (refusal.Posix errno.NotPermitted)) × (t ≡ s)
-  ServesOther nodes node r a s t = (a ≡ end_answer r) × (t ≡ s)
+module _ {S : Type 0} (tree : Ghosts S) where
+  -- What a request about the mount asks of the tree, and its answer: INIT, STATFS, and those that end something or are refused.
+  abbrev pub ServesOther : Tables → Tables → ℕ → Request → Answer → S → S → Type 0
+  ServesOther old new node (request.Init init) a s t = Agrees init a × (t ≡ s) × (new ≡ old)
+  ServesOther old new node request.StatFs a s t = (usage : Usage) × tree.measures s usage t × (a ≡ answer.Usage usage) × (new ≡ old)
+  ServesOther old new node request.SymLink a s t = (a ≡ answer.Refused (refusal.Posix errno.NotPermitted)) × (t ≡ s) × (new ≡ old)
+  ServesOther old new node r a s t = (a ≡ end_answer r) × (t ≡ s) × ((e : Refusal) → a ≡ answer.Refused e → new ≡ old)
 
   -- What one that makes or moves a name of a file asks, and its answer: CREATE, MKNOD, RENAME, RENAME2.
-  abbrev pub ServesName : Nodes → ℕ → Request → Answer → S → S → Type 0
-  ServesName nodes node (request.Create name flags mode) a s t = Ends (answer_of answer.Created) (MakesAt tree nodes node name.now (creation_by flags)) a s t
-  ServesName nodes node (request.MkNod name mode) a s t = Ends (answer_of answer.Entry) (MakesNode tree nodes node name.now mode) a s t
-  ServesName nodes node (request.Rename name folder new) a s t = Ends (answer_of (λ _. answer.Done)) (Renames tree nodes (node, name.now) (folder, new.now) 0) a s t
-  ServesName nodes node (request.Rename2 name folder new flags) a s t = Ends (answer_of (λ _. answer.Done)) (Renames tree nodes (node, name.now) (folder, new.now) flags) a s t
-  ServesName nodes node r a s t = ServesOther nodes node r a s t
+  abbrev pub ServesName : Tables → Tables → ℕ → Request → Answer → S → S → Type 0
+  ServesName old new node (request.Create name flags mode) a s t = Ends (answer_of answer.Created) (MakesAt tree old.nodes node name.now (creation_by flags)) a s t
+  ServesName old new node (request.MkNod name mode) a s t = Ends (answer_of answer.Entry) (MakesNode tree old.nodes node name.now mode) a s t
+  ServesName old new node (request.Rename name folder to) a s t = Ends (answer_of (λ _. answer.Done)) (Renames tree old.nodes (node, name.now) (folder, to.now) 0) a s t
+  ServesName old new node (request.Rename2 name folder to flags) a s t = Ends (answer_of (λ _. answer.Done)) (Renames tree old.nodes (node, name.now) (folder, to.now) flags) a s t
+  ServesName old new node r a s t = ServesOther old new node r a s t
 
   -- What one about a file asks, and its answer: SETATTR, OPEN, READ, RELEASE.
-  abbrev pub ServesFile : Nodes → ℕ → Request → Answer → S → S → Type 0
-  ServesFile nodes node (request.SetAttr set) a s t = Ends (answer_of answer.Attributes) (SetsAttributes tree nodes node set.size) a s t
-  ServesFile nodes node (request.Open flags) a s t = Ends (answer_of answer.Opened) (λ result s t. (result ≡ handle_of (node_at nodes node)) × (t ≡ s)) a s t
-  ServesFile nodes node (request.Read handle at count) a s t = Ends (answer_of answer.Data) (Reads tree nodes node at count) a s t
-  ServesFile nodes node (request.Release handle) a s t = Ends (answer_of (λ _. answer.Done)) (Releases tree nodes node) a s t
-  ServesFile nodes node r a s t = ServesName nodes node r a s t
+  abbrev pub ServesFile : Tables → Tables → ℕ → Request → Answer → S → S → Type 0
+  ServesFile old new node (request.SetAttr set) a s t = Ends (answer_of answer.Attributes) (SetsAttributes tree old.nodes node set.size) a s t
+  ServesFile old new node (request.Open flags) a s t = Ends (answer_of answer.Opened) (OrKeeps old new (λ result s t. (result ≡ handle_of (node_at old.nodes node)) × (t ≡ s))) a s t
+  ServesFile old new node (request.Read handle at count) a s t = Ends (answer_of answer.Data) (Reads tree old.nodes node at count) a s t
+  ServesFile old new node (request.Release handle) a s t = Ends (answer_of (λ _. answer.Done)) (OrKeeps old new (Releases tree old.nodes node)) a s t
+  ServesFile old new node r a s t = ServesName old new node r a s t
 
-  -- What any request asks, and its answer: LOOKUP, GETATTR, MKDIR, RMDIR, UNLINK, LINK, WRITE, and those above.
-  abbrev pub Serves : Nodes → ℕ → Request → Answer → S → S → Type 0
-  Serves nodes node (request.Lookup name) a s t = Ends lookup_answer (LooksUp tree nodes node name.now) a s t
-  Serves nodes node (request.GetAttr handle) a s t = Ends (answer_of answer.Attributes) (Describes tree nodes node) a s t
-  Serves nodes node (request.MkDir name mode) a s t = Ends (answer_of answer.Entry) (MakesDir tree nodes node name.now) a s t
-  Serves nodes node (request.RmDir name) a s t = Ends (answer_of (λ _. answer.Done)) (RemovesDir tree nodes node name.now) a s t
-  Serves nodes node (request.Unlink name) a s t = Ends (answer_of (λ _. answer.Done)) (Unlinks tree nodes node name.now) a s t
-  Serves nodes node (request.Link old name) a s t = Ends (answer_of answer.Entry) (Links tree nodes old node name.now) a s t
-  Serves nodes node (request.Write handle at flags bytes) a s t = Ends (answer_of answer.Count) (Writes tree nodes node at bytes.now) a s t
-  Serves nodes node r a s t = ServesFile nodes node r a s t
+  -- What any request that opens and closes no directory asks, and its answer: LOOKUP, GETATTR, MKDIR, RMDIR, UNLINK, LINK, WRITE, and those above.
+  abbrev pub Serves : Tables → Tables → ℕ → Request → Answer → S → S → Type 0
+  Serves old new node (request.Lookup name) a s t = Ends lookup_answer (LooksUp tree old.nodes node name.now) a s t
+  Serves old new node (request.GetAttr handle) a s t = Ends (answer_of answer.Attributes) (OrKeeps old new (Describes tree old.nodes node)) a s t
+  Serves old new node (request.MkDir name mode) a s t = Ends (answer_of answer.Entry) (MakesDir tree old.nodes node name.now) a s t
+  Serves old new node (request.RmDir name) a s t = Ends (answer_of (λ _. answer.Done)) (OrKeeps old new (RemovesDir tree old.nodes node name.now)) a s t
+  Serves old new node (request.Unlink name) a s t = Ends (answer_of (λ _. answer.Done)) (Unlinks tree old.nodes node name.now) a s t
+  Serves old new node (request.Link id name) a s t = Ends (answer_of answer.Entry) (Links tree old.nodes id node name.now) a s t
+  Serves old new node (request.Write handle at flags bytes) a s t = Ends (answer_of answer.Count) (Writes tree old.nodes node at bytes.now) a s t
+  Serves old new node r a s t = ServesFile old new node r a s t
 
-  -- A message that spells a request is answered so; any other is refused as invalid, and asks nothing.
-  unfoldable pub IsAnswerTo : Nodes → List ℕ → Answer → S → S → Type 0
-  IsAnswerTo nodes message a s t =
-      ((r : Request) × Spells message (header_of message) r × Serves nodes (header_of message).node r a s t)
-      ⊎ (((h : Header) (r : Request) → Spells message h r → ⊥) × (a ≡ answer.Refused (refusal.Posix errno.Invalid)) × (t ≡ s))
+  -- What any request asks, its answer, and which directories are open behind it: OPENDIR opens one, READDIR tells of one and changes
+  -- nothing, RELEASEDIR closes one, and all others leave each as it is.
+  abbrev pub ServesRequest : Server → Server → ℕ → Request → Answer → S → S → Type 0
+  ServesRequest old new node (request.OpenDir flags) a s t = (new.tables ≡ old.tables) × Ends (answer_of answer.Opened) (OpensDir tree old.tables.nodes node old.listings.items new.listings.items) a s t
+  ServesRequest old new node (request.ReadDir handle at size) a s t = (new ≡ old) × (a ≡ answer.Entries handle at size) × (t ≡ s)
+  ServesRequest old new node (request.ReleaseDir handle) a s t = (new.tables ≡ old.tables) × ClosesListing old.listings.items new.listings.items handle × (a ≡ answer.Done) × (t ≡ s)
+  ServesRequest old new node r a s t = (new.listings ≡ old.listings) × Serves old.tables new.tables node r a s t
+
+  -- A message that spells a request is answered so; any other is refused as invalid, and asks and changes nothing.
+  unfoldable pub IsAnswerTo : Server → Server → List ℕ → Answer → S → S → Type 0
+  IsAnswerTo old new message a s t =
+      ((r : Request) × Spells message (header_of message) r × ServesRequest old new (header_of message).node r a s t)
+      ⊎ (((h : Header) (r : Request) → Spells message h r → ⊥) × (a ≡ answer.Refused (refusal.Posix errno.Invalid)) × (t ≡ s) × (new ≡ old))
 
   -- So it is, and the reply, where its opcode takes one, carries the answer, if there is room for it.
-  pub record IsServed (server : Server) (message : List ℕ) (room : ℕ) (reply : List ℕ) (s t : S) : Type 0 where
+  pub record IsServed (old new : Server) (message : List ℕ) (room : ℕ) (reply : List ℕ) (s t : S) : Type 0 where
     pub said : Answer
-    pub answers : IsAnswerTo server.nodes message said s t
-    pub carried : is_silent (u32_at 4 message) ≡ false → IsReplyFor (header_of message) said room reply
+    pub answers : IsAnswerTo old new message said s t
+    pub carried : is_silent (u32_at 4 message) ≡ false → IsReplyFor new (header_of message) said room reply

@@ -1,5 +1,5 @@
 // What is told of a node, and what the tree tells of it.
-ghost use Rattle.std.specs.Prelude.{◌≡◌, Some, None, Ok, IfOk, IfErr};
+ghost use Rattle.std.specs.Prelude.{◌≡◌, Some, None, Ok, IfOk, IfErr, OnErr};
 ghost use Rattle.file_graph.specs.posix_calls.declared.call.Call.TheVariants as call;
 ghost use Rattle.fuse_server.specs.Calls.{description_of, Answers, AtPath, MayAsk};
 ghost use Rattle.fuse_server.specs.Nodes.{attributes_of, kept_attributes, Describes};
@@ -7,7 +7,7 @@ ghost use Rattle.fuse_server.specs.Paths.{node_at, path_of};
 
 use crate::node::Node;
 use crate::paths::{is_unnamed, path_of};
-use crate::server::Server;
+use crate::tables::Tables;
 use crate::tree::Tree;
 use file_graph::{Bytes, Call, Description, Errno, Reply};
 use fuse_wire::Refusal;
@@ -25,10 +25,12 @@ pub(crate) struct Attributes {
     pub(crate) changed: u64,
 }
 
-impl Server {
-    /// What is told of a node. What has a name is asked of the tree; of a file that lost its last name the server keeps it.
+impl Tables {
+    /// What is told of a node. What has a name is asked of the tree; of a file that lost its last name the server keeps it. Where it is
+    /// refused, nothing changes.
     pub(crate) fn describe<T: Tree>(&mut self, tree: &mut T, id: u64) -> Result<Attributes, Refusal>
-        ensures { Describes T.Tree self.old.nodes id result tree.old tree.new }
+        ensures describes { Describes T.Tree self.old.nodes id result tree.old tree.new }
+        ensures refused { OnErr result (self.new ≡ self.old) }
     {
         let kept = self.attributes(id)?;
         if is_unnamed(&self.nodes, id) {
@@ -44,7 +46,8 @@ impl Server {
         id: u64,
         changed: u64,
     ) -> Result<Attributes, Refusal>
-        ensures { AtPath (path_of self.old.nodes id) (λ path. MayAsk T.Tree (call.Stat path) description_of (λ d. Answers (attributes_of id changed d))) result tree.old tree.new }
+        ensures describes { AtPath (path_of self.old.nodes id) (λ path. MayAsk T.Tree (call.Stat path) description_of (λ d. Answers (attributes_of id changed d))) result tree.old tree.new }
+        ensures refused { OnErr result (self.new ≡ self.old) }
     {
         let path = path_of(self.alloc, &self.nodes, id)?;
         let description = stat(self.alloc, tree, &path)?;

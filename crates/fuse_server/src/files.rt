@@ -1,5 +1,5 @@
 // Files are opened, read, written, resized and closed.
-ghost use Rattle.std.specs.Prelude.{◌≡◌, ◌≤◌, ◌++◌, Some, None, IfOk, IfErr, OnOk, replicate};
+ghost use Rattle.std.specs.Prelude.{◌≡◌, ◌≤◌, ◌++◌, Some, None, IfOk, IfErr, OnOk, OnErr, replicate};
 ghost use Rattle.file_graph.specs.posix_calls.declared.call.Call.TheVariants as call;
 ghost use Rattle.fuse_server.specs.Calls.{Answers, Asks, AtPath, MayAsk, description_of, done_of, read_of, wrote_of};
 ghost use Rattle.fuse_server.specs.Files.{Closes, DescribesAgain, Releases, Writes, handle_of};
@@ -10,7 +10,7 @@ ghost use Rattle.fuse_server.specs.Sizes.{Resizes, ResizesUnnamed, SetsAttribute
 use crate::attributes::Attributes;
 use crate::lookups::check_done;
 use crate::paths::{is_unnamed, path_of};
-use crate::server::Server;
+use crate::tables::Tables;
 use crate::tree::Tree;
 use file_graph::{Bytes, Call, Errno, MAX_FILE, MAX_TRANSFER, Reply, SharedBytes};
 use fuse_wire::Refusal;
@@ -19,10 +19,11 @@ use std::alloc::{AllocError, Global};
 /// How many zeros are written at once.
 const ZEROS: u64 = 4_096;
 
-impl Server {
+impl Tables {
     /// Notes that a file is open once more, and answers its handle. Its descriptor is taken where one is needed.
     pub(crate) fn open(&mut self, id: u64) -> Result<u64, Refusal>
-        ensures { result ≡ handle_of (node_at self.old.nodes id) }
+        ensures handle { result ≡ handle_of (node_at self.old.nodes id) }
+        ensures refused { OnErr result (self.new ≡ self.old) }
     {
         if self.node(id)?.is_dir {
             return Err(Refusal::Posix(Errno::IsDirectory));
@@ -39,7 +40,8 @@ impl Server {
 
     /// Notes that a file is open once less. With the last its descriptor goes.
     pub(crate) fn release<T: Tree>(&mut self, tree: &mut T, id: u64) -> Result<(), Refusal>
-        ensures { Releases T.Tree self.old.nodes id result tree.old tree.new }
+        ensures releases { Releases T.Tree self.old.nodes id result tree.old tree.new }
+        ensures refused { OnErr result (self.new ≡ self.old) }
     {
         let node = self.node(id)?;
         let (opens, descriptor) = (node.opens, node.descriptor);

@@ -23,6 +23,7 @@ mod replies;
 mod requests;
 mod server;
 mod stream;
+mod tables;
 mod tree;
 
 pub use server::{ServeError, Server};

@@ -12,13 +12,13 @@ use crate::attributes::{Attributes, attributes_of, note_in, stat};
 use crate::node::Node;
 use crate::open_files::close_number;
 use crate::paths::path_below;
-use crate::server::Server;
+use crate::tables::Tables;
 use crate::tree::Tree;
 use file_graph::{Bytes, Call, Description, Errno, Flags, MAX_NAME, Name, Path, Reply};
 use fuse_wire::Refusal;
 use std::alloc::{AllocError, Global};
 
-impl Server {
+impl Tables {
     /// Looks a name of a directory up. The kernel is told of the node once more.
     pub(crate) fn look_up<T: Tree>(
         &mut self,

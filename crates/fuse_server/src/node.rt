@@ -62,14 +62,6 @@ impl Node {
         !self.is_dir && self.opens > 0 && self.names.len() == 1
     }
 
-    /// The directory that has its first name; of the root, which has none, this node itself.
-    pub(crate) fn folder_above(&self, id: u64) -> u64 {
-        match self.names.first() {
-            Some(known) => known.folder,
-            None => id,
-        }
-    }
-
     /// Adds a name.
     pub(crate) fn add_name(&mut self, folder: u64, name: Name) -> Result<(), AllocError> {
         self.names.push(NodeName { folder, name })?;

@@ -6,7 +6,7 @@ ghost use Rattle.fuse_server.specs.Files.{TakesDescriptor};
 ghost use Rattle.fuse_server.specs.Upkeep.{Opens, Upkeep};
 
 use crate::paths::path_of;
-use crate::server::Server;
+use crate::tables::Tables;
 use crate::tree::Tree;
 use file_graph::{Bytes, Call, Errno, Flags, MAX_DESCRIPTORS, Reply};
 use fuse_wire::Refusal;
@@ -21,7 +21,7 @@ pub(crate) const READ_WRITE: Flags = Flags {
     truncate: false,
 };
 
-impl Server {
+impl Tables {
     /// The descriptor of a node, opened first where it has none. `Stale` where it has neither a descriptor nor a name.
     pub(crate) fn take_descriptor<T: Tree>(&mut self, tree: &mut T, id: u64) -> Result<u32, Refusal>
         ensures { TakesDescriptor T.Tree self.old.nodes id result tree.old tree.new }

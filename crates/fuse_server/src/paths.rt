@@ -74,8 +74,9 @@ pub(crate) fn is_unnamed(nodes: &Nodes, id: u64) -> bool
     }
 }
 
+/// The first name that is known of a node. `Stale` where none is.
 #[tactic(auto, unfolding(crate::specs::Paths::first_name))]
-fn first_name(nodes: &Nodes, id: u64) -> Result<&NodeName, Refusal>
+pub(crate) fn first_name(nodes: &Nodes, id: u64) -> Result<&NodeName, Refusal>
     ensures name { IfOk result (λ known. first_name nodes.now id ≡ Some known.now) }
     ensures unknown { IfErr result (λ e. (e ≡ Refusal.StaleNode) × (first_name nodes.now id ≡ None)) }
 {

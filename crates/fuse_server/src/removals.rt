@@ -1,5 +1,5 @@
 // Names go, and move.
-ghost use Rattle.std.specs.Prelude.{◌≡◌, IfSome};
+ghost use Rattle.std.specs.Prelude.{◌≡◌, IfSome, OnErr};
 ghost use Rattle.file_graph.specs.posix_calls.declared.call.Call.TheVariants as call;
 ghost use Rattle.fuse_server.specs.Calls.{Answers, MayAsk, description_of, done_of};
 ghost use Rattle.fuse_server.specs.Files.{Links, DescribesAgain, Unlinks};
@@ -10,13 +10,13 @@ use crate::attributes::{Attributes, attributes_of, stat};
 use crate::lookups::{check_done, read_name};
 use crate::open_files::READ_WRITE;
 use crate::paths::{path_below, path_of};
-use crate::server::Server;
+use crate::tables::Tables;
 use crate::tree::Tree;
 use file_graph::{Bytes, Call, Errno, Name};
 use fuse_wire::Refusal;
 use std::alloc::Global;
 
-impl Server {
+impl Tables {
     /// Takes a name of a file away. One that is open stays usable: where this is its last name, its descriptor is taken before.
     pub(crate) fn unlink<T: Tree>(
         &mut self,
@@ -36,14 +36,15 @@ impl Server {
         Ok(())
     }
 
-    /// Takes an empty directory away.
+    /// Takes an empty directory away. Where it is refused, nothing changes.
     pub(crate) fn remove_dir<T: Tree>(
         &mut self,
         tree: &mut T,
         folder: u64,
         name: &[u8],
     ) -> Result<(), Refusal>
-        ensures { RemovesDir T.Tree self.old.nodes folder name.now result tree.old tree.new }
+        ensures removes { RemovesDir T.Tree self.old.nodes folder name.now result tree.old tree.new }
+        ensures refused { OnErr result (self.new ≡ self.old) }
     {
         let path = path_below(self.alloc, &self.nodes, folder, name)?;
         check_done(tree.call(Call::Rmdir {

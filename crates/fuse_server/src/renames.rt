@@ -9,7 +9,7 @@ ghost use Rattle.fuse_server.specs.Upkeep.{Behind, IsLost};
 use crate::depth::check_depth;
 use crate::lookups::{check_done, read_name};
 use crate::paths::path_below;
-use crate::server::Server;
+use crate::tables::Tables;
 use crate::tree::Tree;
 use file_graph::{Bytes, Call, Errno, Name, Reply};
 use fuse_wire::Refusal;
@@ -25,7 +25,7 @@ pub(crate) struct Place<'a> {
     pub(crate) name: &'a [u8],
 }
 
-impl Server {
+impl Tables {
     /// Moves a name, in place of what has the new one. With the flag `NO_REPLACE` what has it refuses the call; other flags are `Invalid`.
     /// `NameTooLong` where a path below a directory that moves would pass 1,024 bytes.
     pub(crate) fn rename<T: Tree>(

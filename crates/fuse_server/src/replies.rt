@@ -5,10 +5,12 @@ ghost use Rattle.fuse_wire.specs.declared.errno.Refusal.TheVariants as refusal;
 ghost use Rattle.fuse_wire.specs.Errno.{refusal_number};
 ghost use Rattle.fuse_wire.specs.Replies.{error_bytes, reply_bytes};
 ghost use Rattle.fuse_server.specs.Answers.{IsReply};
+ghost use Rattle.fuse_server.specs.Listings.{CarriesEntries, CarriesListing, entries_from, listing_at};
 ghost use Rattle.fuse_server.specs.Replies.{Carries, HasRoom, attr_of, entry_of, stat_fs_of};
 
 use crate::answer::Answer;
 use crate::attributes::Attributes;
+use crate::listings::Listing;
 use crate::server::Server;
 use crate::tree::Usage;
 use file_graph::{Errno, MAX_FILE, MAX_INODE, MAX_NAME};
@@ -45,7 +47,7 @@ impl Server {
         reply: &mut Vec<u8>,
     ) -> Result<(), AllocError>
         ensures reply { OnOk result (IsReply header.now.unique reply.new.items) }
-        ensures carried { OnOk result (Carries header.now answer.now reply.new.items) }
+        ensures carried { OnOk result (Carries self.now header.now answer.now reply.new.items) }
         ensures room { HasRoom (vec_capacity reply.old) answer.now → IsOk result }
     {
         let unique = header.unique;
@@ -86,16 +88,31 @@ impl Server {
         asked: (u64, u64, u32),
         reply: &mut Vec<u8>,
     ) -> Result<(), AllocError>
-        ensures { OnOk result (IsReply unique reply.new.items) }
+        ensures reply { OnOk result (IsReply unique reply.new.items) }
+        ensures carries { OnOk result (CarriesListing self.now.tables.nodes (listing_at self.now.listings.items asked.0) unique asked.1 asked.2 reply.new.items) }
     {
         let (handle, at, size) = asked;
-        match self.entries(handle, at, size) {
-            Ok(entries) => {
-                write_dirents(reply, unique, size, &entries)?;
-                Ok(())
-            }
-            Err(refusal) => write_refusal(reply, unique, refusal),
+        match self.listing_under(handle) {
+            Some(listing) => self.write_listing(unique, listing, (at, size), reply),
+            None => write_refusal(reply, unique, Refusal::Posix(Errno::BadDescriptor)),
         }
+    }
+
+    // The entries of a directory that is open, from a place on, as many as so many bytes hold.
+    fn write_listing(
+        &self,
+        unique: u64,
+        listing: &Listing,
+        asked: (u64, u32),
+        reply: &mut Vec<u8>,
+    ) -> Result<(), AllocError>
+        ensures reply { OnOk result (IsReply unique reply.new.items) }
+        ensures carries { OnOk result (CarriesEntries unique asked.1 (entries_from self.now.tables.nodes listing.now asked.0 asked.1) reply.new.items) }
+    {
+        let (at, size) = asked;
+        let entries = self.entries(listing, at, size)?;
+        write_dirents(reply, unique, size, &entries)?;
+        Ok(())
     }
 
     fn entry(&self, header: &Header, attributes: &Attributes) -> Entry
@@ -103,7 +120,7 @@ impl Server {
     {
         Entry {
             node: attributes.node,
-            generation: self.nodes.generation(attributes.node),
+            generation: self.tables.nodes.generation(attributes.node),
             entry_valid: FOR_EVER,
             attr_valid: FOR_EVER,
             attr: attr(header, attributes),

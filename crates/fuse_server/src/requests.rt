@@ -1,14 +1,16 @@
 // What each request asks of the server and of the tree.
 ghost use Rattle.std.specs.Prelude.{◌≡◌};
+ghost use Rattle.fuse_wire.specs.declared.errno.Refusal.{Refusal};
 ghost use Rattle.fuse_server.specs.declared.answer.Answer.TheVariants as answer;
 ghost use Rattle.fuse_server.specs.Creations.{MakesNode, is_file_mode, creation_by};
-ghost use Rattle.fuse_server.specs.Requests.{Agrees, Serves, ServesFile, ServesName, ServesOther, answer_of, end_answer, lookup_answer};
+ghost use Rattle.fuse_server.specs.Requests.{Agrees, Serves, ServesFile, ServesName, ServesOther, ServesRequest, answer_of, end_answer, lookup_answer};
 
 use crate::answer::Answer;
 use crate::attributes::Attributes;
 use crate::lookups::creation;
 use crate::renames::Place;
 use crate::server::Server;
+use crate::tables::Tables;
 use crate::tree::Tree;
 use file_graph::{Bytes, Errno, Flags};
 use fuse_wire::{Header, Init, Refusal, Request, forget_at, negotiate};
@@ -31,9 +33,26 @@ impl Server {
         header: &Header,
         request: &Request<'_>,
     ) -> Answer
-        ensures { Serves T.Tree self.old.nodes header.now.node request.now result tree.old tree.new }
+        ensures { ServesRequest T.Tree self.old self.new header.now.node request.now result tree.old tree.new }
     {
         let node = header.node;
+        match *request {
+            Request::OpenDir { .. } => opened_answer(self.open_dir(tree, node)),
+            Request::ReadDir { handle, at, size } => Answer::Entries { handle, at, size },
+            Request::ReleaseDir { handle } => {
+                self.release_dir(handle);
+                Answer::Done
+            }
+            _ => self.tables.serve(tree, node, request),
+        }
+    }
+}
+
+impl Tables {
+    // All other requests: they open and close no directory.
+    fn serve<T: Tree>(&mut self, tree: &mut T, node: u64, request: &Request<'_>) -> Answer
+        ensures { Serves T.Tree self.old self.new node request.now result tree.old tree.new }
+    {
         match *request {
             Request::Lookup { name } => lookup_answer(self.look_up(tree, node, name)),
             Request::GetAttr { .. } => attributes_answer(self.describe(tree, node)),
@@ -48,7 +67,7 @@ impl Server {
 
     // The requests about files.
     fn serve_file<T: Tree>(&mut self, tree: &mut T, node: u64, request: &Request<'_>) -> Answer
-        ensures { ServesFile T.Tree self.old.nodes node request.now result tree.old tree.new }
+        ensures { ServesFile T.Tree self.old self.new node request.now result tree.old tree.new }
     {
         match *request {
             Request::SetAttr(set) => attributes_answer(self.set_attributes(tree, node, set.size)),
@@ -61,7 +80,7 @@ impl Server {
 
     // The requests that make, take or move a name of a file.
     fn serve_name<T: Tree>(&mut self, tree: &mut T, node: u64, request: &Request<'_>) -> Answer
-        ensures { ServesName T.Tree self.old.nodes node request.now result tree.old tree.new }
+        ensures { ServesName T.Tree self.old self.new node request.now result tree.old tree.new }
     {
         match *request {
             Request::Create { name, flags, .. } => {
@@ -121,14 +140,12 @@ impl Server {
         self.make_file(tree, node, name)
     }
 
-    // The requests about directories and the whole mount, and those that are refused.
+    // The requests about the whole mount, and those that are refused.
     fn serve_other<T: Tree>(&mut self, tree: &mut T, node: u64, request: &Request<'_>) -> Answer
-        ensures { ServesOther T.Tree self.old.nodes node request.now result tree.old tree.new }
+        ensures { ServesOther T.Tree self.old self.new node request.now result tree.old tree.new }
     {
         match *request {
             Request::Init(init) => agree(&init),
-            Request::OpenDir { .. } => opened_answer(self.open_dir(tree, node)),
-            Request::ReadDir { handle, at, size } => Answer::Entries { handle, at, size },
             Request::StatFs => Answer::Usage(tree.usage()),
             Request::SymLink => Answer::Refused(Refusal::Posix(Errno::NotPermitted)),
             _ => self.serve_end(node, request),
@@ -137,13 +154,10 @@ impl Server {
 
     // The requests by which something ends, and those that are not served. They ask the tree nothing.
     fn serve_end(&mut self, node: u64, request: &Request<'_>) -> Answer
-        ensures { result ≡ end_answer request.now }
+        ensures ends { result ≡ end_answer request.now }
+        ensures refused { (e : Refusal) → result ≡ answer.Refused e → self.new ≡ self.old }
     {
         match *request {
-            Request::ReleaseDir { handle } => {
-                self.release_dir(handle);
-                Answer::Done
-            }
             Request::Forget { count } => {
                 self.nodes.forget(node, count);
                 Answer::Done

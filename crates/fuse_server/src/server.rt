@@ -1,4 +1,4 @@
-ghost use Rattle.std.specs.Prelude.{◌≡◌, Some, None, Err, OnOk, IfOk, IfErr, vec_capacity};
+ghost use Rattle.std.specs.Prelude.{◌≡◌, [], Err, OnOk, IfOk, IfErr, vec_capacity};
 ghost use Rattle.fuse_wire.specs.declared.error.WireError.{WireError};
 ghost use Rattle.fuse_wire.specs.declared.errno.Refusal.TheVariants as refusal;
 ghost use Rattle.fuse_wire.specs.posix_calls.declared.errno.Errno.TheVariants as errno;
@@ -10,16 +10,13 @@ ghost use Rattle.fuse_wire.specs.Spelling.{IsWhole, Spells, header_of};
 ghost use Rattle.fuse_server.specs.declared.answer.Answer.{Answer};
 ghost use Rattle.fuse_server.specs.Answers.{IsAnswered, IsReply, is_silent};
 ghost use Rattle.fuse_server.specs.Replies.{IsReplyFor};
-ghost use Rattle.fuse_server.specs.Paths.{node_at};
 ghost use Rattle.fuse_server.specs.Refusals.{IsNoAnswer};
 ghost use Rattle.fuse_server.specs.Requests.{IsAnswerTo, IsServed};
 
 use crate::answer::Answer;
-use crate::descriptors::Descriptors;
 use crate::listings::Listing;
-use crate::node::Node;
-use crate::nodes::Nodes;
 use crate::replies::write_refusal;
+use crate::tables::Tables;
 use crate::tree::Tree;
 use file_graph::Errno;
 use fuse_wire::{Header, Refusal, WireError, read_header, read_request};
@@ -44,23 +41,19 @@ pub enum ServeError {
 /// The server of a mount: what the kernel was told of, and has open. It owns no tree: whatever it answers, the tree answered before.
 #[derive(Drop)]
 pub struct Server {
-    pub(crate) alloc: Global,
-    pub(crate) nodes: Nodes,
-    pub(crate) descriptors: Descriptors,
+    pub(crate) tables: Tables,
+    // the directories that are open, by their handles
     pub(crate) listings: Vec<Option<Listing>>,
-    // how often something was changed, from 1 on
-    pub(crate) changes: u64,
 }
 
 impl Server {
-    /// The server of a mount of which the kernel was told nothing yet. The tree's client has nothing open.
-    pub fn new(alloc: Global) -> Result<Server, AllocError> {
+    /// The server of a mount of which the kernel was told nothing yet, with nothing open. The tree's client has nothing open.
+    pub fn new(alloc: Global) -> Result<Server, AllocError>
+        ensures { IfOk result (λ server. server.listings.items ≡ []) }
+    {
         Ok(Server {
-            alloc,
-            nodes: Nodes::new(alloc)?,
-            descriptors: Descriptors::new(),
+            tables: Tables::new(alloc)?,
             listings: Vec::new(alloc),
-            changes: 1,
         })
     }
 
@@ -79,11 +72,11 @@ impl Server {
     ) -> Result<(), ServeError>
         ensures answered { OnOk result (IsAnswered message.now reply.new.items) }
         ensures whole { OnOk result (IsWhole message.now) }
-        ensures served { OnOk result (IsServed T.Tree self.old message.now (vec_capacity reply.old) reply.new.items tree.old tree.new) }
+        ensures served { OnOk result (IsServed T.Tree self.old self.new message.now (vec_capacity reply.old) reply.new.items tree.old tree.new) }
         ensures refused { IfErr result (IsNoAnswer message.now) }
         ensures unasked { (e : WireError) → result ≡ Err (ServeError.Message e) → (tree.new ≡ tree.old) × (self.new ≡ self.old) }
         ensures unspelled { ((h : Header) (r : Request) → Spells message.now h r → ⊥) → self.new ≡ self.old }
-        ensures unreplied { result ≡ Err ServeError.Memory → (said : Answer) × IsAnswerTo T.Tree self.old.nodes message.now said tree.old tree.new }
+        ensures unreplied { result ≡ Err ServeError.Memory → (said : Answer) × IsAnswerTo T.Tree self.old self.new message.now said tree.old tree.new }
     {
         reply.clear();
         let header = match read_header(message) {
@@ -101,7 +94,7 @@ impl Server {
     #[tactic(auto, unfolding(crate::specs::Requests::IsAnswerTo))]
     fn serve_message<T: Tree>(&mut self, tree: &mut T, header: &Header, message: &[u8]) -> Answer
         requires { header.now ≡ header_of message.now }
-        ensures answers { IsAnswerTo T.Tree self.old.nodes message.now result tree.old tree.new }
+        ensures answers { IsAnswerTo T.Tree self.old self.new message.now result tree.old tree.new }
         ensures unspelled { ((h : Header) (r : Request) → Spells message.now h r → ⊥) → self.new ≡ self.old }
     {
         match read_request(message) {
@@ -117,21 +110,13 @@ impl Server {
         reply: &mut Vec<u8>,
     ) -> Result<(), ServeError>
         ensures replied { OnOk result (IsReply header.now.unique reply.new.items) }
-        ensures carried { OnOk result (IsReplyFor header.now answer.now (vec_capacity reply.old) reply.new.items) }
+        ensures carried { OnOk result (IsReplyFor self.now header.now answer.now (vec_capacity reply.old) reply.new.items) }
         ensures memory { IfErr result (λ e. e ≡ ServeError.Memory) }
     {
         match self.write_answer(header, answer, reply) {
             Ok(()) => Ok(()),
             Err(_) => refuse_memory(header.unique, reply),
         }
-    }
-
-    /// What has a node number. `StaleNode` where nothing has it.
-    pub(crate) fn node(&self, id: u64) -> Result<&Node, Refusal>
-        ensures known { IfOk result (λ node. node_at self.now.nodes id ≡ Some node.now) }
-        ensures unknown { IfErr result (λ e. (node_at self.now.nodes id ≡ None) × (e ≡ Refusal.StaleNode)) }
-    {
-        self.nodes.get(id).ok_or(Refusal::StaleNode)
     }
 }
 

@@ -1,6 +1,6 @@
 -- What a reclaim answers, by what its area answered.
 use Rattle.std.proofs.Common.{◌≡◌, ◌≢◌, ◌⊎◌, inl, inr, ℕ, ◌+◌, ◌≤◌, List, true, false, refl, ap, sym, ◌∙◌, subst, arith}
-use Rattle.std.specs.Prelude.{Result, Ok, Err}
+use Rattle.std.specs.Prelude.{Option, Result, Ok, Err}
 use Rattle.std.proofs.lemmas.Bool.{true≢false}
 use Rattle.digester.specs.tier_device.declared.media.Media.{Ghosts}
 use Rattle.digester.specs.tier_device.declared.media.Tier.{Tier}
@@ -15,6 +15,9 @@ use Rattle.digester.specs.shared_area.declared.error.ApplyError.TheVariants as a
 use Rattle.digester.specs.shared_area.GraphUpdate.{AppliesOrStays}
 use Rattle.digester.specs.area_image.Looks.{Looks}
 use Rattle.digester.specs.Errors.{IsAreaError, IsChangeError}
+use Rattle.digester.specs.file_graph.Graph.{Node}
+use Rattle.world_invariant.specs.Logs.{IsNameless}
+use Rattle.kernel_fs.specs.Nodes.{is_node}
 use Rattle.kernel_fs.specs.Reclaim.{ReclaimsOrStays}
 use Rattle.kernel_fs.specs.declared.error.ReclaimError.{ReclaimError}
 use Rattle.kernel_fs.specs.declared.error.ReclaimError.TheVariants as errors
@@ -24,6 +27,10 @@ not_fault is = cc
 
 pub in_use_no_fault : errors.InUse ≢ errors.DeviceFault
 in_use_no_fault is = cc
+
+-- what is no node is no file without a name
+pub no_file : (o : Option Node) → IsNameless o → is_node o ≡ false → ⊥
+no_file o nameless absent = true≢false (sym (ap is_node nameless.is) ∙ absent)
 
 err_is : {T : Type 0} (e f : ReclaimError) → ◌≡◌ {A = Result T ReclaimError} (Err e) (Err f) → e ≡ f
 err_is e f is = cc

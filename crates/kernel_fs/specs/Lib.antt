@@ -19,5 +19,6 @@ pub use Rattle.digester.specs.coalescer
 pub use Rattle.digester.specs as digester
 pub use Rattle.digester.specs.graph_change
 pub use Rattle.digester.specs.layout
+pub use Rattle.migrator.specs as migrator
 pub use Rattle.digester.specs.relocation
 pub use Rattle.digester.specs.shared_area

@@ -505,7 +505,7 @@ impl<M: Media> Kernel<M> {
     /// Drops the file at an inode that has no name and that nobody has pinned: its slot, its blocks and its units are free again. The marks stay, with their number of digests, which counts digests alone. At
     /// each moment a stop leaves the graph with the file or without it, and the same marks.
     ///
-    /// `InUse` exactly where there is no such file: one that has a name or a pin, a directory, or nothing at all. A pin is told before any device is asked. `Memory` where there was none: for an extent block or
+    /// `InUse` exactly where there is no such file: one that has a name or a pin, a directory, or nothing at all. A pin, and that nothing is there, is told before any device is asked. `Memory` where there was none: for an extent block or
     /// an entry of what stands there, or for the change. After these nothing has changed. `DeviceFault` where a device failed.
     pub fn reclaim(&mut self, inode: u32) -> Result<(), KernelError<ReclaimError>>
         ensures any_moment { self.old.area.failed ≡ false → StaysOrReclaims self.old.area.geometry (disk M.Media self.old.area) inode (M.moment self.old.area.media) (M.moment self.new.area.media) (M.left self.old.area.media) (M.left self.new.area.media) }
@@ -529,6 +529,9 @@ impl<M: Media> Kernel<M> {
         }
         self.area.left_now();
         if self.book.is_pinned(inode) {
+            return Err(KernelError::Refused(ReclaimError::InUse));
+        }
+        if !self.nodes.contains(inode) {
             return Err(KernelError::Refused(ReclaimError::InUse));
         }
         match drop_nameless(self.alloc, &mut self.area, inode) {

@@ -66,3 +66,4 @@ pub use digester::{
     changes_keep_to_the_limits, client_index, digest_chunk, mark_of, marks_can_be_written,
     moved_mark_leaves_the_rest, prepare,
 };
+pub use migrator::FileRun;

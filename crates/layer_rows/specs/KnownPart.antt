@@ -1,9 +1,9 @@
 -- What is known of a plain graph of which only some inodes are known.
 use Rattle.std.specs.Prelude.{ℕ, List, ◌||◌, ◌==◌, None, if◌then◌else◌}
-use Rattle.first_run.specs.call_effects.posix_calls.Part.{Part}
-use Rattle.first_run.specs.call_effects.posix_calls.declared.limits.TheConstants.{ROOT}
+use Rattle.call_effects.specs.posix_calls.Part.{Part}
+use Rattle.call_effects.specs.posix_calls.declared.limits.TheConstants.{ROOT}
 use Rattle.plain_tree.specs.file_graph.Graph.{Graph, is_among}
-use Rattle.first_run.specs.call_effects.Whole.{whole_of}
+use Rattle.call_effects.specs.Whole.{whole_of}
 
 -- the nodes at some inodes are known, of some the bytes, and of others whether they are directories; of the root that is always known
 abbrev pub known_part : Graph → List ℕ → List ℕ → List ℕ → Part

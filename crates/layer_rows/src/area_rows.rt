@@ -6,8 +6,8 @@ use crate::image_text::Image;
 use crate::input::Input;
 use crate::tree_walk::put_tree;
 use area_image::{AreaError, Journal, JournalError, Marks, OpenArea, What, open_area};
-use first_run::Text;
 use host_media::{Media, Tier};
+use script::Text;
 use std::alloc::Global;
 use std::fs;
 

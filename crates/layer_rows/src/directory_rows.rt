@@ -2,8 +2,9 @@
 use crate::byte_fill::equal_bytes;
 use crate::input::Input;
 use area_image::{BLOCK, DirBlock, DirEntry, LayoutError, MAX_IN_BLOCK};
-use first_run::{Name, Text};
+use call_effects::Name;
 use plain_tree::Kind;
+use script::Text;
 use std::alloc::{AllocError, Global};
 
 /// `whole-directory OWNER COUNT BLOCK AT SIZE`: how many blocks so many entries take, how many of these are spelled by the same

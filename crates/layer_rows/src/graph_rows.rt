@@ -1,8 +1,9 @@
 // What the effects of records do to a graph.
 use crate::input::Input;
 use crate::record_text::put_record;
-use first_run::{MAX_INODE, RecordError, Text, read_record};
+use call_effects::{MAX_INODE, RecordError, read_record};
 use plain_tree::{Effects, PlainEntry, PlainGraph};
+use script::Text;
 
 /// `graph DATA ..`: the records that the words spell, one each, and the graph after them, which begins with the root alone.
 pub fn tell_graph(input: &mut Input<'_>, out: &mut Text) {

@@ -13,8 +13,8 @@ use area_image::{
     JournalError, MAX_IMAGES,
 };
 use byteorder::{ByteOrder, LittleEndian};
-use first_run::Text;
 use host_media::{Media, MemMedia, Tier};
+use script::Text;
 use std::alloc::{AllocError, Global};
 
 // The first byte of an open gate.

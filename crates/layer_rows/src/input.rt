@@ -1,7 +1,7 @@
 // What stands in a row's input.
 use area_image::Geometry;
-use first_run::DataText;
 use host_media::Tier;
+use script::DataText;
 use std::alloc::Global;
 
 /// A row's input, which is read from its front on. What can't be read is kept: the row does not hold.

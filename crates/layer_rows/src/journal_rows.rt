@@ -8,8 +8,8 @@ use crate::input::Input;
 use crate::structure_text::put_reading;
 use crate::zeroed_media::Image;
 use area_image::{BLOCK, Journal, JournalError, Super};
-use first_run::Text;
 use host_media::{Media, Tier};
+use script::Text;
 use std::alloc::Global;
 
 /// `journal U,F,B,S LINE; LINE ..`: the superblock, and each other block of slots, of marks and of the node pool that is not

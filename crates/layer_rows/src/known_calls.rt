@@ -1,8 +1,9 @@
 // The lines of a row, by what their clients know.
 use crate::known_comparison::Beside;
 use crate::known_draws::{DESCRIPTORS, Draws, PATHS};
-use first_run::{CallText, Line, MAX_INODE, ROOT, Reply, read_line};
+use call_effects::{MAX_INODE, ROOT, Reply};
 use plain_tree::{Kind, PlainGraph};
+use script::{CallText, Line, read_line};
 
 /// Answers a line from just the nodes that its client asks for, and compares graph and tree after it. Tells the reply, the inodes by
 /// which the call was decided, those that were known once it was recorded, the units by which it might raise the graph, and the

@@ -1,9 +1,9 @@
 // A client's call by its record, beside the same call on a whole tree.
 ghost use Rattle.std.specs.Prelude.{IfOk};
-ghost use Rattle.first_run.specs.call_effects.posix_calls.Exact.{IsInRange};
+ghost use Rattle.call_effects.specs.posix_calls.Exact.{IsInRange};
 
 use crate::known_part::KnownPart;
-use first_run::{
+use call_effects::{
     Call, DecideError, MAX_CLIENTS, MAX_INODE, Missing, Operation, OwnDescriptors, ROOT, Record,
     Reply, decide, growth_of, record_of,
 };

@@ -3,7 +3,7 @@ ghost use Rattle.std.specs.Prelude.{◌≡◌};
 ghost use Rattle.plain_tree.specs.file_graph.Graph.{graph_of, is_among};
 ghost use Rattle.layer_rows.specs.KnownPart.{known_part};
 
-use first_run::{Bytes, Description, GraphAnswers, NamedInode, Names, ROOT, TreeAnswers};
+use call_effects::{Bytes, Description, GraphAnswers, NamedInode, Names, ROOT, TreeAnswers};
 use plain_tree::PlainGraph;
 use std::alloc::{AllocError, Global};
 

@@ -5,9 +5,9 @@ use area_image::{
     BLOCK, DirBlock, ExtentBlock, Geometry, Marks, SLOT_SIZE, Slot, Space, Super, slot_block,
     slot_byte,
 };
-use first_run::Text;
 use host_media::Tier;
 use plain_tree::is_inode;
+use script::Text;
 
 /// The number that a block has where a row names none.
 const NUMBER: u32 = 292;

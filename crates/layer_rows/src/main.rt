@@ -1,5 +1,5 @@
 //! Holds tables of rows against the crates below the shared area's writers, each section of standard input a table: formats, media
-//! that are opened, the trees on them, devices, clients that know a part of a tree, and programs that stand on few layers.
+//! that are opened, the trees on them, devices, clients that know a part of a tree, and the names of errors.
 //!
 //! A section begins with a line `%% NAME`, and its head tells the form of its rows. Each row that does not hold is printed with what
 //! is said in place of its answer, then how many rows of the section hold; the status is 1 where one does not.
@@ -15,6 +15,7 @@ mod device_open;
 mod device_parts;
 mod device_rows;
 mod directory_rows;
+mod error_rows;
 mod graph_rows;
 mod head_rows;
 mod image_text;
@@ -27,7 +28,6 @@ mod known_part;
 mod known_rows;
 mod layout_rows;
 mod path_rows;
-mod program_rows;
 mod record_rows;
 mod record_text;
 mod region_rows;

@@ -1,6 +1,7 @@
 // Readings of paths.
 use crate::input::Input;
-use first_run::{Path, PathText, Text};
+use call_effects::Path;
+use script::{PathText, Text};
 
 /// `path PATH`, where `%hh` is a byte.
 pub fn tell_path(input: &mut Input<'_>, out: &mut Text) {

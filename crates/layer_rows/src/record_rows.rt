@@ -1,7 +1,8 @@
 // Records: their bytes, and what their effects are.
 use crate::input::Input;
 use crate::record_text::put_record;
-use first_run::{Text, is_payload, read_payload, read_record};
+use call_effects::{is_payload, read_payload, read_record};
+use script::Text;
 
 /// `payload DATA`: the record that the bytes spell from their first to their last.
 pub fn tell_payload(input: &mut Input<'_>, out: &mut Text) {

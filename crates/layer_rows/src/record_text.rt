@@ -1,6 +1,7 @@
 // Records in words.
-use first_run::{Record, Text};
+use call_effects::Record;
 use plain_tree::Effect;
+use script::Text;
 use std::fmt::Display;
 
 /// The units and the effects of a record.

@@ -7,8 +7,9 @@ ghost use Rattle.host_media.specs.tier_device.Memory.{IsAtRest};
 use crate::byte_fill::equal_bytes;
 use crate::input::Input;
 use crate::record_text::put_record;
-use first_run::{HEADER, REGION_SIZE, Record, Region, RegionError, Stage, Text};
+use call_effects::Record;
 use host_media::{Media, MemMedia, Tier};
+use script::{HEADER, REGION_SIZE, Region, RegionError, Stage, Text};
 use std::alloc::{AllocError, Global};
 
 /// `region SIZE DATA ..`: the stage, the room and the records of a region whose medium has so many bytes, with zeros behind the

@@ -2,6 +2,7 @@
 use crate::area_rows::tell_opened;
 use crate::device_rows::try_devices;
 use crate::directory_rows::tell_directory;
+use crate::error_rows::try_errors;
 use crate::graph_rows::tell_graph;
 use crate::head_rows::tell_head;
 use crate::input::Input;
@@ -9,13 +10,12 @@ use crate::journal_rows::tell_journal;
 use crate::known_rows::try_known;
 use crate::layout_rows::{tell_geometry, tell_structure};
 use crate::path_rows::{tell_path, tell_path_data};
-use crate::program_rows::try_programs;
 use crate::record_rows::{tell_payload, tell_record};
 use crate::region_rows::tell_region;
 use crate::tables::{Teller, try_rows};
 use crate::world_rows::tell_world;
 use anyhow::{Result, bail};
-use first_run::Text;
+use script::Text;
 
 /// Tries the rows of a section, and prints those that do not hold; whether all hold.
 pub fn try_section(rt: &HostRuntime, name: &str, table: &str) -> Result<bool> {
@@ -25,7 +25,7 @@ pub fn try_section(rt: &HostRuntime, name: &str, table: &str) -> Result<bool> {
         "areas" => try_rows(rt, &Areas, table)?,
         "devices" => try_devices(rt, table)?,
         "known" => try_known(rt, table)?,
-        "programs" => try_programs(rt, table)?,
+        "errors" => try_errors(rt, table)?,
         _ => bail!("no section of rows has the name {name}"),
     })
 }

@@ -1,7 +1,7 @@
 // The structures of the shared media in words.
 use area_image::{DirBlock, ExtentBlock, Marks, Slot, Super};
-use first_run::Text;
 use host_media::Tier;
+use script::Text;
 use std::fmt::Display;
 
 /// What stands on the shared media.

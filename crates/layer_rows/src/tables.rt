@@ -1,6 +1,6 @@
 // The rows of a table.
 use crate::input::Input;
-use first_run::Text;
+use script::Text;
 use std::alloc::Global;
 use std::io;
 

@@ -4,9 +4,10 @@ ghost use Rattle.std.specs.Prelude.{◌≤◌};
 use area_image::{
     BLOCK, DirEntries, ExtentBlock, InodeExtents, InodeParts, Journal, Slot, length_of, read_inode,
 };
-use first_run::{MAX_INODE, Text};
+use call_effects::MAX_INODE;
 use host_media::{Media, Tier};
 use plain_tree::is_inode;
+use script::Text;
 use std::alloc::Global;
 
 /// The most paths that are looked at.

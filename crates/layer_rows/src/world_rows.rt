@@ -13,8 +13,9 @@ use area_image::{
     BLOCK, DirBlock, Extent, ExtentBlock, Geometry, Journal, JournalError, MARKS_BLOCK, Marks,
     SLOT_SIZE, Slot, Space, Super, slot_block, slot_byte,
 };
-use first_run::{MAX_INODE, Text};
+use call_effects::MAX_INODE;
 use host_media::{Media, Tier};
+use script::Text;
 use std::alloc::Global;
 use std::fs;
 

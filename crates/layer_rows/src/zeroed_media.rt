@@ -5,8 +5,8 @@ ghost use Rattle.host_media.specs.tier_device.Memory.{IsAtRest};
 use crate::byte_fill::{equal_bytes, overwrite};
 use crate::input::Input;
 use area_image::{BLOCK, Geometry};
-use first_run::REGION_SIZE;
 use host_media::{MemMedia, Tier};
+use script::REGION_SIZE;
 use std::alloc::{AllocError, Global};
 
 /// How many regions there are: two for each of the eight clients.

@@ -1,6 +1,6 @@
 -- Numbers that a client is granted, and gives back.
 use Rattle.std.proofs.Common.{◌≡◌, ◌≢◌, inl, inr, ℕ, ◌+◌, ◌<◌, ◌≤◌, Bool, true, false, cond, List, [], ◌∷◌, ◌++◌, length, get_or, take, refl, ap, sym, ◌∙◌, arith}
-use Rattle.std.specs.Prelude.{◌==◌, ◌||◌, ◌&&◌, nat_le}
+use Rattle.std.specs.Prelude.{◌==◌, ◌||◌, ◌&&◌, min, nat_le}
 use Rattle.std.proofs.lemmas.Bool.Decides.{eqb_tells, nat_tests}
 use Rattle.std.proofs.lemmas.List.Folds.{list_any-append, list_any_more}
 use Rattle.std.proofs.lemmas.List.{take_all}
@@ -12,7 +12,7 @@ use Rattle.client_log.specs.tier_device.declared.media.Media.{Ghosts}
 use Rattle.client_log.specs.tier_device.declared.media.Tier.{Tier}
 use Rattle.lease_manager.specs.Passes.{client_of}
 use Rattle.client_log.specs.world_invariant.Machine.{Machine}
-use Rattle.kernel_fs.specs.Book.{is_free}
+use Rattle.kernel_fs.specs.Book.{is_free, out_of, units_of}
 use Rattle.kernel_fs.specs.Free.{AreLowest}
 use Rattle.kernel_fs.specs.Nodes.{nodes_in}
 use Rattle.kernel_fs.specs.Steps.{grant, take_back}
@@ -155,10 +155,11 @@ module _ {M S : Type 0} (device : Ghosts S) (k after : KernelView S) (old : Clie
     step = step;
   }
 
-  pub given_back : ns ≡ [] → ((m : Machine) → IsKernelOf device k m → IsKernelOf device after (take_back m (client_of old.pass) old.spare (inodes_granted (known_to old)))) → HasGivenBack device k old (record old { spare = 0; copies = copies }) after
-  given_back none step = record {
+  pub given_back : ns ≡ [] → ((m : Machine) → IsKernelOf device k m → IsKernelOf device after (take_back m (client_of old.pass) old.spare (inodes_granted (known_to old)))) → out_of after.book + min old.spare (units_of k.book (client_of old.pass)) ≡ out_of k.book → HasGivenBack device k old (record old { spare = 0; copies = copies }) after
+  given_back none step out = record {
     spare = refl;
     numbers = ap (λ (h : Held). h.numbers) is ∙ none;
     rest = ap (λ (h : Held). record old { spare = 0; copies = h }) (same_but_numbers old.copies copies ns is);
     step = step;
+    out = out;
   }

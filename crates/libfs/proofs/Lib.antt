@@ -11,6 +11,7 @@ pub mod Lengths
 pub mod FetchedNodes
 pub mod Served
 mod Used
+mod OwnRecords
 -- Passed on to the crates above, which so need not list those below.
 pub use Rattle.kernel_fs.proofs.world_invariant_lemmas
 pub use Rattle.kernel_fs.proofs as kernel_fs_lemmas

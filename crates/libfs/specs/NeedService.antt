@@ -1,5 +1,5 @@
 -- What a client has once the kernel served it.
-use Rattle.std.specs.Prelude.{◌≡◌, ◌⊎◌, ℕ, ◌+◌, ◌<◌, ◌≤◌, ◌==◌, ◌&&◌, ◌||◌, ◌++◌, not, drop, take, Bool, false, List, [], ◌∷◌, Option, Some, None, Result, Ok, Err, OnErr, if◌then◌else◌}
+use Rattle.std.specs.Prelude.{◌≡◌, ◌⊎◌, ℕ, ◌+◌, ◌<◌, ◌≤◌, ◌==◌, ◌&&◌, ◌||◌, ◌++◌, not, drop, min, take, Bool, false, List, [], ◌∷◌, Option, Some, None, Result, Ok, Err, OnErr, if◌then◌else◌}
 use Rattle.std.specs.List.{filter}
 use Rattle.client_log.specs.tier_device.declared.media.Media.{Ghosts}
 use Rattle.client_log.specs.tier_device.declared.media.Tier.{Tier}
@@ -17,7 +17,7 @@ use Rattle.client_log.specs.call_effects.NodeView.{view_at}
 use Rattle.kernel_fs.specs.layout.declared.marks.Mark.{Mark}
 use Rattle.lease_manager.specs.Words.{HasWord}
 use Rattle.lease_manager.specs.Passes.{client_of}
-use Rattle.kernel_fs.specs.Book.{is_free, out_of}
+use Rattle.kernel_fs.specs.Book.{is_free, out_of, units_of}
 use Rattle.kernel_fs.specs.Free.{AreLowest}
 use Rattle.kernel_fs.specs.Inodes.{IsInode}
 use Rattle.kernel_fs.specs.Nodes.{nodes_in}
@@ -159,6 +159,7 @@ pub record HasGivenBack {M S : Type 0} (device : Ghosts S) (k : KernelView S) (o
   pub numbers : new.copies.numbers ≡ []
   pub rest : new ≡ record old { spare = new.spare; copies = record old.copies { numbers = new.copies.numbers } }
   pub step : (m : Machine) → IsKernelOf device k m → IsKernelOf device after (taken_back m (client_of old.pass) old.spare (inodes_granted (known_to old)))
+  pub out : out_of after.book + min old.spare (units_of k.book (client_of old.pass)) ≡ out_of k.book
 
 -- ---- any need
 

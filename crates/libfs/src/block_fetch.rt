@@ -113,6 +113,9 @@ impl<M: Media> Client<M> {
             Ok(found) => found,
             Err(error) => return Err(area_denied(error)),
         };
+        if !self.has_own_records(inode) {
+            return Ok(Some(found.count));
+        }
         let is_current = self.is_current(found.mark);
         let done = found.mark.done as usize;
         let count = Some(found.count);

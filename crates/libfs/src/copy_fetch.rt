@@ -1,5 +1,6 @@
 //! Copies that a client fetches of the shared graph, with its own records laid over them.
 ghost use Rattle.std.specs.Prelude.{◌≡◌, ◌⊎◌, ◌==◌, true, false, None, Err, OnOk, OnErr, IfOk, IfErr, IsErrOf};
+ghost use Rattle.lease_manager.specs.RecordCounts.{touch_count};
 ghost use Rattle.lease_manager.specs.Words.{HasWord};
 ghost use Rattle.client_log.specs.call_effects.Knowledge.{with_copy};
 ghost use Rattle.client_view.specs.KnowledgeChanges.{without_blocks};
@@ -9,12 +10,14 @@ ghost use Rattle.kernel_fs.specs.KernelAnswers.{OnRefusal};
 ghost use Rattle.libfs.specs.declared.denial.Denied.TheVariants as denied;
 ghost use Rattle.libfs.specs.ClientHoldings.{known_to};
 ghost use Rattle.libfs.specs.NeedService.{HasFetched, HasLooked, area_denied, records_behind};
+ghost use Rattle.libfs.specs.View.{own_records};
 
 use crate::client::Client;
 use crate::denial::Denied;
 use client_log::Media;
 use client_view::NodeSummary;
 use kernel_fs::{AreaError, Fetched, Kernel, KernelError, Mark};
+use lease_manager::is_inode;
 use std::alloc::AllocError;
 
 impl<M: Media> Client<M> {
@@ -67,8 +70,21 @@ impl<M: Media> Client<M> {
     ) -> Result<Option<NodeSummary>, AllocError>
         ensures { IfOk result (λ laid. laid ≡ node_laid (records_behind M.Media self.now mark) inode node) }
     {
+        if !self.has_own_records(inode) {
+            return Ok(node);
+        }
         self.records
             .node_after(self.is_current(mark), mark.done as usize, inode, node)
+    }
+
+    // Whether a record of its own that is not digested touches an inode.
+    pub(crate) fn has_own_records(&self, inode: u32) -> bool
+        ensures { result ≡ false → HasWord inode × (touch_count (own_records M.Media self.now) inode ≡ 0) }
+    {
+        if !is_inode(inode) {
+            return true;
+        }
+        self.pass.records(inode) > 0
     }
 
     // Whether a mark is in the generation of the region that is written.

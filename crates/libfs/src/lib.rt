@@ -1,7 +1,7 @@
 //! One client of the file system: what it knows, what it holds, and its log, and by these the answers to its calls.
 //!
 //! A call is started (`Client::start`): it is answered at once, or something is lacking first, or a record of it is begun in the client's log. That record is kept by four device
-//! calls, one a `Client::step`, and then the call is answered. What a call comes to is decided by `client_plan`, from what the client knows (`client_copies`) and what it holds
+//! calls, one a `Client::step`, and then the call is answered. What a call comes to is decided by `client_plan`, from what the client knows (`client_view`) and what it holds
 //! (`specs/ClientHoldings.antt`); neither `start` nor `step` nor a call on a lease waits for anyone.
 //!
 //! The records that are not digested stay in memory beside the log: those of the current region and those of the region that is away. The pass counts on each inode how many of them
@@ -42,8 +42,8 @@ pub use sealed_region::SealedRegion;
 pub use client_log::{ClientLog, LogError, Media, Region, Tier, WipeProgress};
 pub use client_view::{Mode, Need, NodeCounts, NodeSummary};
 pub use kernel_fs::{
-    AcceptError, AreaError, Chunk, DigestError, Digestion, Fetched, FetchedBytes, Figures, Kernel,
-    KernelError, ReclaimError, RelocateError, SealedLog, Shared, client_index,
+    AcceptError, AreaError, Chunk, DigestError, Digestion, Fetched, FetchedBytes, Figures, FileRun,
+    Kernel, KernelError, ReclaimError, RelocateError, SealedLog, Shared, client_index,
 };
 pub use lease_manager::{
     CLIENTS, Call, Child, Effect, INODES, Kind, LeaseMode, Leases, NameMap, Opened, Pass,

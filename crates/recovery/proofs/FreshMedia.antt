@@ -4,42 +4,42 @@ use Rattle.std.specs.List.{AllByRecursion, AllZip}
 use Rattle.std.specs.Prelude.{◌==◌, slice_get, Option, Some}
 use Rattle.std.proofs.lemmas.Bool.{cases_lt, cond-false}
 use Rattle.std.proofs.lemmas.Option.{slice_get-get_or, slice_get_within}
-use Rattle.recovery_laws.specs.fresh_media.Fresh.{fresh_fast, fresh_region, fresh_tiers, no_marks}
-use Rattle.recovery_laws.proofs.AreaBytes.{zeros_behind}
-use Rattle.recovery_laws.specs.fresh_media.layout.Bytes.{zeros}
-use Rattle.recovery_laws.specs.shared_area.AreaOpen.{SpellsNone}
-use Rattle.recovery_laws.specs.shared_area.area_image.Format.{IsOpenable}
-use Rattle.recovery_laws.specs.shared_area.area_image.Store.{disk, graph, marks, store_of}
-use Rattle.recovery_laws.specs.shared_area.batch_journal.Blocks.{home, is_gate_open, opening_calls}
-use Rattle.recovery_laws.specs.shared_area.batch_journal.View.{JournalView}
-use Rattle.recovery_laws.specs.shared_area.batch_journal.Volume.{IsVolume, Spells}
-use Rattle.recovery_laws.specs.shared_area.layout.Places.{Sizes}
-use Rattle.recovery_laws.specs.shared_area.layout.declared.marks.Mark.{Mark}
-use Rattle.recovery_laws.specs.shared_area.layout.declared.marks.Marks.{Marks}
-use Rattle.recovery_laws.specs.shared_area.layout.declared.superblock.Super.{Super}
-use Rattle.recovery_laws.specs.shared_area.file_graph.Graph.{fresh}
-use Rattle.recovery_laws.specs.update_log.Frames.{end_behind, records}
-use Rattle.recovery_laws.specs.update_log.Moments.{PastStays}
-use Rattle.recovery_laws.specs.update_log.View.{HasSize, RegionView}
-use Rattle.recovery_laws.specs.update_log.WipeStops.{generation}
-use Rattle.recovery_laws.specs.update_log.declared.format.TheConstants.{CLOSED, HEADER, OPEN}
-use Rattle.recovery_laws.specs.update_log.tier_device.declared.media.Media.{Ghosts}
-use Rattle.recovery_laws.specs.update_log.tier_device.declared.media.Tier.{Tier}
-use Rattle.recovery_laws.specs.update_log.tier_device.declared.media.Tier.TheVariants.{Fast, Block, Slow}
-use Rattle.world.specs.system_world.event_steps.call_effects.ClosedGraph.{nobody}
-use Rattle.world.specs.system_world.event_steps.call_effects.Wholes.{IsSound}
-use Rattle.world.specs.system_world.event_steps.kernel_fs.digester.MarkMoves.{mark_of}
-use Rattle.recovery_laws.proofs.graph_check_lemmas.call_effects_lemmas.Fresh.{fresh_sound}
-use Rattle.recovery.specs.declared.error.RecoveryError.{RecoveryError}
-use Rattle.recovery.specs.declared.error.RecoveryError.TheVariants as errors
+use Rattle.settlement.specs.recovery_laws.fresh_media.Fresh.{fresh_fast, fresh_region, fresh_tiers, no_marks}
+use Rattle.settlement.proofs.recovery_laws_lemmas.AreaBytes.{zeros_behind}
+use Rattle.settlement.specs.recovery_laws.fresh_media.layout.Bytes.{zeros}
+use Rattle.settlement.specs.recovery_laws.shared_area.AreaOpen.{SpellsNone}
+use Rattle.settlement.specs.recovery_laws.shared_area.area_image.Format.{IsOpenable}
+use Rattle.settlement.specs.recovery_laws.shared_area.area_image.Store.{disk, graph, marks, store_of}
+use Rattle.settlement.specs.recovery_laws.shared_area.batch_journal.Blocks.{home, is_gate_open, opening_calls}
+use Rattle.settlement.specs.recovery_laws.shared_area.batch_journal.View.{JournalView}
+use Rattle.settlement.specs.recovery_laws.shared_area.batch_journal.Volume.{IsVolume, Spells}
+use Rattle.settlement.specs.recovery_laws.shared_area.layout.Places.{Sizes}
+use Rattle.settlement.specs.recovery_laws.shared_area.layout.declared.marks.Mark.{Mark}
+use Rattle.settlement.specs.recovery_laws.shared_area.layout.declared.marks.Marks.{Marks}
+use Rattle.settlement.specs.recovery_laws.shared_area.layout.declared.superblock.Super.{Super}
+use Rattle.settlement.specs.recovery_laws.shared_area.file_graph.Graph.{fresh}
+use Rattle.settlement.specs.recovery_laws.update_log.Frames.{end_behind, records}
+use Rattle.settlement.specs.recovery_laws.update_log.Moments.{PastStays}
+use Rattle.settlement.specs.recovery_laws.update_log.View.{HasSize, RegionView}
+use Rattle.settlement.specs.recovery_laws.update_log.WipeStops.{generation}
+use Rattle.settlement.specs.recovery_laws.update_log.declared.format.TheConstants.{CLOSED, HEADER, OPEN}
+use Rattle.settlement.specs.recovery_laws.update_log.tier_device.declared.media.Media.{Ghosts}
+use Rattle.settlement.specs.recovery_laws.update_log.tier_device.declared.media.Tier.{Tier}
+use Rattle.settlement.specs.recovery_laws.update_log.tier_device.declared.media.Tier.TheVariants.{Fast, Block, Slow}
+use Rattle.settlement.specs.world.system_world.event_steps.call_effects.ClosedGraph.{nobody}
+use Rattle.settlement.specs.world.system_world.event_steps.call_effects.Wholes.{IsSound}
+use Rattle.settlement.specs.world.system_world.event_steps.kernel_fs.digester.MarkMoves.{mark_of}
+use Rattle.settlement.proofs.recovery_laws_lemmas.graph_check_lemmas.call_effects_lemmas.Fresh.{fresh_sound}
+use Rattle.settlement.specs.declared.error.RecoveryError.{RecoveryError}
+use Rattle.settlement.specs.declared.error.RecoveryError.TheVariants as errors
 use Rattle.recovery.specs.Assembly.{AreReadyRegions, IsReadyArea}
-use Rattle.recovery.specs.Errors.{IsOfArea, OnDamage}
-use Rattle.recovery.specs.FaultOrMemory.{IsFaultOrMemory}
+use Rattle.settlement.specs.Errors.{IsOfArea, OnDamage}
+use Rattle.settlement.specs.FaultOrMemory.{IsFaultOrMemory}
 use Rattle.recovery.specs.FreshContents.{AreFreshRegions, HoldsContent, IsLater}
-use Rattle.recovery.specs.Phases.{StaysRecovered, Whatever}
-use Rattle.recovery.specs.Recovers.{region_content}
-use Rattle.recovery.specs.Regions.{CanBeDenied, IsReopened, IsUntouched, Rests}
-use Rattle.recovery.specs.Silent.{IsWiped, wiped_name}
+use Rattle.settlement.specs.Phases.{StaysRecovered, Whatever}
+use Rattle.settlement.specs.Recovers.{region_content}
+use Rattle.settlement.specs.Regions.{CanBeDenied, IsReopened, IsUntouched, Rests}
+use Rattle.settlement.specs.Silent.{IsWiped, wiped_name}
 use Rattle.recovery.proofs.ChangedRows.{all_from_places}
 use Rattle.recovery.proofs.PartRows.{zip_at, zip_long}
 

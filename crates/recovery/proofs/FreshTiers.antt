@@ -1,17 +1,17 @@
 -- Media that hold fresh tiers.
 use Rattle.std.proofs.Common.{◌≡◌, ◌≢◌, ℕ, ◌*◌, ◌≤◌, List, [], ◌∷◌, length, refl, sym, ◌∙◌, arith}
 use Rattle.std.specs.Prelude.{Result, Ok, Err, OnOk}
-use Rattle.recovery_laws.proofs.fresh_media_lemmas.Zeros.{padded_long}
-use Rattle.recovery_laws.specs.fresh_media.Fresh.{fresh_tiers}
-use Rattle.recovery_laws.specs.fresh_media.layout.Places.{Sizes, tier_blocks}
-use Rattle.recovery_laws.proofs.AreaBytes.{fast_long}
-use Rattle.recovery_laws.specs.update_log.View.{HasSize}
-use Rattle.recovery_laws.specs.update_log.tier_device.declared.media.Media.{Ghosts}
-use Rattle.recovery_laws.specs.update_log.tier_device.declared.media.Tier.{Tier}
-use Rattle.recovery_laws.specs.update_log.tier_device.declared.media.Tier.TheVariants.{Fast, Block, Slow}
-use Rattle.recovery.specs.declared.error.RecoveryError.{RecoveryError}
+use Rattle.settlement.proofs.recovery_laws_lemmas.fresh_media_lemmas.Zeros.{padded_long}
+use Rattle.settlement.specs.recovery_laws.fresh_media.Fresh.{fresh_tiers}
+use Rattle.settlement.specs.recovery_laws.fresh_media.layout.Places.{Sizes, tier_blocks}
+use Rattle.settlement.proofs.recovery_laws_lemmas.AreaBytes.{fast_long}
+use Rattle.settlement.specs.recovery_laws.update_log.View.{HasSize}
+use Rattle.settlement.specs.recovery_laws.update_log.tier_device.declared.media.Media.{Ghosts}
+use Rattle.settlement.specs.recovery_laws.update_log.tier_device.declared.media.Tier.{Tier}
+use Rattle.settlement.specs.recovery_laws.update_log.tier_device.declared.media.Tier.TheVariants.{Fast, Block, Slow}
+use Rattle.settlement.specs.declared.error.RecoveryError.{RecoveryError}
 use Rattle.recovery.specs.FreshContents.{HoldsContent, IsLater, TierHolds}
-use Rattle.recovery.specs.Recovers.{region_content}
+use Rattle.settlement.specs.Recovers.{region_content}
 
 pub tier_long : (g : Sizes) (t : Tier) → length (fresh_tiers g t) ≡ 4096 * tier_blocks g t
 tier_long g Fast = fast_long g

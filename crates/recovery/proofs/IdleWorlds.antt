@@ -2,45 +2,45 @@
 use Rattle.std.proofs.Common.{◌≡◌, ◌≤◌, ℕ, ◌+◌, ◌-◌, ◌*◌, ◌==◌, ◌++◌, cond, Bool, true, false, List, [], drop, Option, Some, None, Result, refl, ap, sym, ◌∙◌, subst, arith}
 use Rattle.std.proofs.lemmas.List.{get_or-replicate}
 use Rattle.atomic_table.specs.Seated.{TableId}
-use Rattle.recovery_laws.proofs.digester_lemmas.batch_journal_lemmas.Courses.{tiers_same}
-use Rattle.world.specs.system_world.event_steps.View.{SeatView, SystemView, seat_of}
-use Rattle.world.specs.system_world.event_steps.lease_manager.Passes.{PassView, client_of, fresh, lease_of}
-use Rattle.world.specs.system_world.event_steps.lease_manager.Words.{HasWord, lease_place}
-use Rattle.world.specs.system_world.event_steps.lease_manager.declared.view.LeaseMode.TheVariants.{Free}
-use Rattle.world.specs.system_world.event_steps.libfs.SealedRegion.{SealedRegionView}
-use Rattle.world.specs.system_world.event_steps.libfs.client_log.Steps.{IsOpened}
-use Rattle.world.specs.system_world.event_steps.libfs.client_log.View.{current_records}
-use Rattle.world.specs.system_world.event_steps.libfs.file_graph.Graph.{Graph}
-use Rattle.world.specs.system_world.event_steps.libfs.log_record.declared.format.Record.{Record}
-use Rattle.world.specs.system_world.event_steps.libfs.world_invariant.Limits.{AreWithin}
-use Rattle.recovery_laws.specs.kernel_fs.KernelView.{KernelView}
-use Rattle.recovery_laws.specs.kernel_fs.MachineState.{IsKernelOf, StandBeforeRegions}
-use Rattle.recovery_laws.specs.kernel_fs.Steps.{opened_machine}
-use Rattle.recovery_laws.specs.shared_area.area_image.Format.{IsOpenable}
-use Rattle.recovery_laws.specs.shared_area.area_image.Looks.{Looks, call_answer}
-use Rattle.recovery_laws.specs.shared_area.area_image.Store.{Store, disk, graph, marks, store_of}
-use Rattle.recovery_laws.specs.shared_area.area_image.declared.error.AreaError.{AreaError}
-use Rattle.recovery_laws.specs.shared_area.batch_journal.View.{JournalView}
-use Rattle.recovery_laws.specs.shared_area.file_graph.Units.{charge}
-use Rattle.recovery_laws.specs.shared_area.layout.Places.{Sizes}
-use Rattle.recovery_laws.specs.shared_area.layout.declared.marks.Marks.{Marks}
-use Rattle.recovery_laws.specs.update_log.tier_device.declared.media.Media.{Ghosts}
-use Rattle.recovery_laws.specs.update_log.tier_device.declared.media.Tier.{Tier}
-use Rattle.recovery_laws.specs.update_log.View.{RegionView}
-use Rattle.world.specs.system_world.Contents.{mark_by}
-use Rattle.world.specs.system_world.Idle.{IsIdleKernel, IsIdleSeat, IsIdleSystem}
-use Rattle.world.specs.system_world.WorldTree.{away_records, log_by, log_of, opened_by, opened_in, records_behind, whole_graph, world_tree}
-use Rattle.world.specs.system_world.WorldView.{WorldView}
-use Rattle.world.specs.system_world.event_steps.call_effects.ClosedGraph.{nobody}
-use Rattle.world.specs.system_world.event_steps.call_effects.Wholes.{IsSound, state_of}
-use Rattle.world.specs.system_world.event_steps.kernel_fs.digester.MarkMoves.{mark_of}
-use Rattle.world.specs.system_world.event_steps.posix_calls.Operations.{is_client}
-use Rattle.world.specs.system_world.event_steps.posix_calls.Tree.{Descriptors}
-use Rattle.recovery_laws.proofs.kernel_fs_lemmas.world_invariant_lemmas.Owners.{is_high, is_low}
+use Rattle.settlement.proofs.recovery_laws_lemmas.digester_lemmas.batch_journal_lemmas.Courses.{tiers_same}
+use Rattle.settlement.specs.world.system_world.event_steps.View.{SeatView, SystemView, seat_of}
+use Rattle.settlement.specs.world.system_world.event_steps.lease_manager.Passes.{PassView, client_of, fresh, lease_of}
+use Rattle.settlement.specs.world.system_world.event_steps.lease_manager.Words.{HasWord, lease_place}
+use Rattle.settlement.specs.world.system_world.event_steps.lease_manager.declared.view.LeaseMode.TheVariants.{Free}
+use Rattle.settlement.specs.world.system_world.event_steps.libfs.SealedRegion.{SealedRegionView}
+use Rattle.settlement.specs.world.system_world.event_steps.libfs.client_log.Steps.{IsOpened}
+use Rattle.settlement.specs.world.system_world.event_steps.libfs.client_log.View.{current_records}
+use Rattle.settlement.specs.world.system_world.event_steps.libfs.file_graph.Graph.{Graph}
+use Rattle.settlement.specs.world.system_world.event_steps.libfs.log_record.declared.format.Record.{Record}
+use Rattle.settlement.specs.world.system_world.event_steps.libfs.world_invariant.Limits.{AreWithin}
+use Rattle.settlement.specs.recovery_laws.kernel_fs.KernelView.{KernelView}
+use Rattle.settlement.specs.recovery_laws.kernel_fs.MachineState.{IsKernelOf, StandBeforeRegions}
+use Rattle.settlement.specs.recovery_laws.kernel_fs.Steps.{opened_machine}
+use Rattle.settlement.specs.recovery_laws.shared_area.area_image.Format.{IsOpenable}
+use Rattle.settlement.specs.recovery_laws.shared_area.area_image.Looks.{Looks, call_answer}
+use Rattle.settlement.specs.recovery_laws.shared_area.area_image.Store.{Store, disk, graph, marks, store_of}
+use Rattle.settlement.specs.recovery_laws.shared_area.area_image.declared.error.AreaError.{AreaError}
+use Rattle.settlement.specs.recovery_laws.shared_area.batch_journal.View.{JournalView}
+use Rattle.settlement.specs.recovery_laws.shared_area.file_graph.Units.{charge}
+use Rattle.settlement.specs.recovery_laws.shared_area.layout.Places.{Sizes}
+use Rattle.settlement.specs.recovery_laws.shared_area.layout.declared.marks.Marks.{Marks}
+use Rattle.settlement.specs.recovery_laws.update_log.tier_device.declared.media.Media.{Ghosts}
+use Rattle.settlement.specs.recovery_laws.update_log.tier_device.declared.media.Tier.{Tier}
+use Rattle.settlement.specs.recovery_laws.update_log.View.{RegionView}
+use Rattle.settlement.specs.world.system_world.Contents.{mark_by}
+use Rattle.settlement.specs.world.system_world.Idle.{IsIdleKernel, IsIdleSeat, IsIdleSystem}
+use Rattle.settlement.specs.world.system_world.WorldTree.{away_records, log_by, log_of, opened_by, opened_in, records_behind, whole_graph, world_tree}
+use Rattle.settlement.specs.world.system_world.WorldView.{WorldView}
+use Rattle.settlement.specs.world.system_world.event_steps.call_effects.ClosedGraph.{nobody}
+use Rattle.settlement.specs.world.system_world.event_steps.call_effects.Wholes.{IsSound, state_of}
+use Rattle.settlement.specs.world.system_world.event_steps.kernel_fs.digester.MarkMoves.{mark_of}
+use Rattle.settlement.specs.world.system_world.event_steps.posix_calls.Operations.{is_client}
+use Rattle.settlement.specs.world.system_world.event_steps.posix_calls.Tree.{Descriptors}
+use Rattle.settlement.proofs.recovery_laws_lemmas.kernel_fs_lemmas.world_invariant_lemmas.Owners.{is_high, is_low}
 use Rattle.recovery.specs.Assembly.{AreOpenedSeats, AreReadyRegions, IsReadyArea}
-use Rattle.recovery.specs.Regions.{IsUntouched}
+use Rattle.settlement.specs.Regions.{IsUntouched}
 use Rattle.recovery.proofs.OpenedSeats.{HasOpened, as_long, opened_at}
-use Rattle.recovery.proofs.Recovering.{no_records_stay, same_graph}
+use Rattle.settlement.proofs.Recovering.{no_records_stay, same_graph}
 
 pub same_system : {M : Type 0} (w : SystemView M) (k : KernelView M) (seats : List (SeatView M)) → w.kernel ≡ k → w.seats ≡ seats → w ≡ record { kernel = k; seats = seats }
 same_system w k seats kernel_is seats_are = λ t. record { kernel = kernel_is t; seats = seats_are t }

@@ -1,26 +1,26 @@
 -- A client's log over two regions that are wiped.
 use Rattle.std.proofs.Common.{◌≡◌, ℕ, ◌%◌, ◌==◌, cond, not, Bool, true, false, List, [], take, Option, Some, None, IsSome, is_some, inl, refl, ap, sym, ◌∙◌, subst}
-use Rattle.world.specs.system_world.event_steps.libfs.NewClient.{IsBlank, IsNew}
-use Rattle.world.specs.system_world.event_steps.libfs.client_log.Calls.{IsOnlyRead}
-use Rattle.world.specs.system_world.event_steps.libfs.client_log.Regions.{AreWiped, in_turn}
-use Rattle.world.specs.system_world.event_steps.libfs.client_log.Regions as logs
-use Rattle.world.specs.system_world.event_steps.libfs.client_log.Steps.{IsOpened}
-use Rattle.world.specs.system_world.event_steps.libfs.client_log.View.{LogView}
-use Rattle.world.specs.system_world.event_steps.View.{SeatView}
-use Rattle.world.specs.system_world.event_steps.lease_manager.Passes.{PassView}
-use Rattle.recovery_laws.specs.update_log.Frames.{before_gate, records, spelled_records}
-use Rattle.recovery_laws.specs.update_log.RecordCounts.{next_generation}
-use Rattle.recovery_laws.specs.update_log.Stage.{IsIdle}
-use Rattle.recovery_laws.specs.update_log.View.{RegionView, WithOrWithout, header_of, records_of}
-use Rattle.recovery_laws.specs.update_log.Wipe.{IsWiping}
-use Rattle.recovery_laws.specs.update_log.WipeStops.{generation}
-use Rattle.recovery_laws.specs.update_log.tier_device.declared.media.Media.{Ghosts}
-use Rattle.recovery_laws.specs.update_log.tier_device.declared.media.Tier.TheVariants.{Fast}
-use Rattle.recovery_laws.proofs.update_log_lemmas.Counts.{header_tells}
-use Rattle.world.specs.system_world.event_steps.Refusals.{no_refusals}
+use Rattle.settlement.specs.world.system_world.event_steps.libfs.NewClient.{IsBlank, IsNew}
+use Rattle.settlement.specs.world.system_world.event_steps.libfs.client_log.Calls.{IsOnlyRead}
+use Rattle.settlement.specs.world.system_world.event_steps.libfs.client_log.Regions.{AreWiped, in_turn}
+use Rattle.settlement.specs.world.system_world.event_steps.libfs.client_log.Regions as logs
+use Rattle.settlement.specs.world.system_world.event_steps.libfs.client_log.Steps.{IsOpened}
+use Rattle.settlement.specs.world.system_world.event_steps.libfs.client_log.View.{LogView}
+use Rattle.settlement.specs.world.system_world.event_steps.View.{SeatView}
+use Rattle.settlement.specs.world.system_world.event_steps.lease_manager.Passes.{PassView}
+use Rattle.settlement.specs.recovery_laws.update_log.Frames.{before_gate, records, spelled_records}
+use Rattle.settlement.specs.recovery_laws.update_log.RecordCounts.{next_generation}
+use Rattle.settlement.specs.recovery_laws.update_log.Stage.{IsIdle}
+use Rattle.settlement.specs.recovery_laws.update_log.View.{RegionView, WithOrWithout, header_of, records_of}
+use Rattle.settlement.specs.recovery_laws.update_log.Wipe.{IsWiping}
+use Rattle.settlement.specs.recovery_laws.update_log.WipeStops.{generation}
+use Rattle.settlement.specs.recovery_laws.update_log.tier_device.declared.media.Media.{Ghosts}
+use Rattle.settlement.specs.recovery_laws.update_log.tier_device.declared.media.Tier.TheVariants.{Fast}
+use Rattle.settlement.proofs.recovery_laws_lemmas.update_log_lemmas.Counts.{header_tells}
+use Rattle.settlement.specs.world.system_world.event_steps.Refusals.{no_refusals}
 use Rattle.recovery.specs.Assembly.{IsOpenedSeat}
-use Rattle.recovery.specs.Regions.{IsUntouched}
-use Rattle.recovery.specs.Silent.{IsWiped, wiped_name}
+use Rattle.settlement.specs.Regions.{IsUntouched}
+use Rattle.settlement.specs.Silent.{IsWiped, wiped_name}
 use Rattle.recovery.proofs.OpenedSeats.{untouched_by_read}
 use Rattle.recovery.proofs.SystemParts.{parity}
 

@@ -2,32 +2,32 @@
 use Rattle.std.proofs.Common.{◌≡◌, ◌≢◌, ◌⊎◌, inl, inr, ℕ, zero, suc, ◌+◌, ◌/◌, ◌%◌, ◌<◌, ◌≤◌, true, List, [], ◌∷◌, length, refl, ap, sym, ◌∙◌, subst, arith}
 use Rattle.std.specs.Prelude.{slice_index_or}
 use Rattle.std.specs.List.{AllByRecursion, AllZip}
-use Rattle.recovery_laws.specs.update_log.tier_device.declared.media.Media.{Ghosts}
-use Rattle.recovery_laws.specs.update_log.tier_device.declared.media.Tier.{Tier}
-use Rattle.recovery_laws.specs.update_log.tier_device.declared.media.Tier.TheVariants.{Fast}
-use Rattle.recovery_laws.specs.update_log.tier_device.AfterStop.{AtRest}
-use Rattle.recovery_laws.specs.update_log.tier_device.Media.{Rose}
-use Rattle.recovery_laws.specs.update_log.View.{HasSize, RegionView}
-use Rattle.world.specs.system_world.Contents.{CanRecover, regions_in}
-use Rattle.world.specs.system_world.courses.Courses.{PARTS, part_of}
-use Rattle.world.specs.system_world.event_steps.kernel_fs.layout.Places.{Sizes}
-use Rattle.world.specs.system_world.event_steps.posix_calls.Operations.{is_client}
-use Rattle.recovery.specs.declared.error.RecoveryError.{RecoveryError}
-use Rattle.recovery.specs.declared.error.RecoveryError.TheVariants.{DeviceFault, RegionSize}
-use Rattle.recovery.specs.FaultOrMemory.{IsFaultOrMemory}
-use Rattle.recovery.specs.Parts.{AreAtRest, contents_of, part_medium}
-use Rattle.recovery.specs.Phases.{StaysRecovered, Whatever}
-use Rattle.recovery.specs.Recovers.{AreThese}
-use Rattle.recovery.specs.RecoveryStops.{AreGivenBack, StaysStored}
-use Rattle.recovery.specs.Regions.{CanBeDenied, HaveRisen, IsGivenBack, IsReopened, IsUntouched, REGIONS, Rests, media_of}
-use Rattle.recovery.specs.Settlement.{AreOpenRegions}
-use Rattle.recovery.proofs.JoinedWorlds.{all_by_place}
-use Rattle.recovery.proofs.ReadContents.{reopened_idle, reopened_sizes}
-use Rattle.recovery.proofs.RecoveredParts.{stays_for, untouched_rests, untouched_same}
-use Rattle.recovery.proofs.RisenFaults.{regions_rose, shared_rose}
-use Rattle.recovery.proofs.SilentRegions.{bounds_client, client_bounds}
-use Rattle.recovery.proofs.Staying.{SeenNow}
-use Rattle.recovery.proofs.StoredStays.{KeepsLengths, unmoved_regions_store}
+use Rattle.settlement.specs.recovery_laws.update_log.tier_device.declared.media.Media.{Ghosts}
+use Rattle.settlement.specs.recovery_laws.update_log.tier_device.declared.media.Tier.{Tier}
+use Rattle.settlement.specs.recovery_laws.update_log.tier_device.declared.media.Tier.TheVariants.{Fast}
+use Rattle.settlement.specs.recovery_laws.update_log.tier_device.AfterStop.{AtRest}
+use Rattle.settlement.specs.recovery_laws.update_log.tier_device.Media.{Rose}
+use Rattle.settlement.specs.recovery_laws.update_log.View.{HasSize, RegionView}
+use Rattle.settlement.specs.world.system_world.Contents.{CanRecover, regions_in}
+use Rattle.settlement.specs.world.system_world.courses.Courses.{PARTS, part_of}
+use Rattle.settlement.specs.world.system_world.event_steps.kernel_fs.layout.Places.{Sizes}
+use Rattle.settlement.specs.world.system_world.event_steps.posix_calls.Operations.{is_client}
+use Rattle.settlement.specs.declared.error.RecoveryError.{RecoveryError}
+use Rattle.settlement.specs.declared.error.RecoveryError.TheVariants.{DeviceFault, RegionSize}
+use Rattle.settlement.specs.FaultOrMemory.{IsFaultOrMemory}
+use Rattle.settlement.specs.Parts.{AreAtRest, contents_of, part_medium}
+use Rattle.settlement.specs.Phases.{StaysRecovered, Whatever}
+use Rattle.settlement.specs.Recovers.{AreThese}
+use Rattle.settlement.specs.RecoveryStops.{AreGivenBack, StaysStored}
+use Rattle.settlement.specs.Regions.{CanBeDenied, HaveRisen, IsGivenBack, IsReopened, IsUntouched, REGIONS, Rests, media_of}
+use Rattle.settlement.specs.Settlement.{AreOpenRegions}
+use Rattle.settlement.proofs.JoinedWorlds.{all_by_place}
+use Rattle.settlement.proofs.ReadContents.{reopened_idle, reopened_sizes}
+use Rattle.settlement.proofs.RecoveredParts.{stays_for, untouched_rests, untouched_same}
+use Rattle.settlement.proofs.RisenFaults.{regions_rose, shared_rose}
+use Rattle.settlement.proofs.SilentRegions.{bounds_client, client_bounds}
+use Rattle.settlement.proofs.Staying.{SeenNow}
+use Rattle.settlement.proofs.StoredStays.{KeepsLengths, unmoved_regions_store}
 
 -- two rows of media, which are as long, of which those at the same place are related
 abbrev pub AreRelated : {M : Type 0} → (M → M → Type 0) → List M → List M → Type 0

@@ -4,22 +4,22 @@ use Rattle.std.specs.Prelude.{slice_get}
 use Rattle.std.specs.List.{All, AllZip}
 use Rattle.std.proofs.lemmas.List.Elements.{All-pop}
 use Rattle.atomic_table.specs.Seated.{TableId}
-use Rattle.world.specs.system_world.event_steps.Sound.{AreFrom, AreOfTable, AreSeats}
-use Rattle.world.specs.system_world.event_steps.View.{SeatView}
-use Rattle.world.specs.system_world.event_steps.lease_manager.Passes.{PassView, client_of, fresh, places}
-use Rattle.world.specs.system_world.event_steps.libfs.client_log.Calls.{IsOnlyRead}
-use Rattle.world.specs.system_world.event_steps.libfs.client_log.Regions.{in_turn}
-use Rattle.recovery_laws.specs.update_log.tier_device.declared.media.Media.{Ghosts}
-use Rattle.recovery_laws.specs.update_log.tier_device.Media.{Rose}
-use Rattle.recovery_laws.specs.update_log.View.{RegionView}
-use Rattle.recovery_laws.specs.shared_area.layout.declared.marks.Marks.{Marks}
-use Rattle.world.specs.system_world.Parts.{region_beside, region_of}
-use Rattle.recovery.specs.declared.error.RecoveryError.{RecoveryError}
-use Rattle.recovery.specs.declared.error.RecoveryError.TheVariants.{DeviceFault}
+use Rattle.settlement.specs.world.system_world.event_steps.Sound.{AreFrom, AreOfTable, AreSeats}
+use Rattle.settlement.specs.world.system_world.event_steps.View.{SeatView}
+use Rattle.settlement.specs.world.system_world.event_steps.lease_manager.Passes.{PassView, client_of, fresh, places}
+use Rattle.settlement.specs.world.system_world.event_steps.libfs.client_log.Calls.{IsOnlyRead}
+use Rattle.settlement.specs.world.system_world.event_steps.libfs.client_log.Regions.{in_turn}
+use Rattle.settlement.specs.recovery_laws.update_log.tier_device.declared.media.Media.{Ghosts}
+use Rattle.settlement.specs.recovery_laws.update_log.tier_device.Media.{Rose}
+use Rattle.settlement.specs.recovery_laws.update_log.View.{RegionView}
+use Rattle.settlement.specs.recovery_laws.shared_area.layout.declared.marks.Marks.{Marks}
+use Rattle.settlement.specs.world.system_world.Parts.{region_beside, region_of}
+use Rattle.settlement.specs.declared.error.RecoveryError.{RecoveryError}
+use Rattle.settlement.specs.declared.error.RecoveryError.TheVariants.{DeviceFault}
 use Rattle.recovery.specs.Assembly.{AreFresh, AreOnlyRead, AreOpenedSeats, AreWipedTo, IsOpenedSeat, RefusesSeat, SeatsLast, generation_at}
-use Rattle.recovery.specs.PartMedia.{regions_of_seats}
-use Rattle.recovery.specs.Regions.{HaveRisen, IsUntouched, SomeZip, media_of}
-use Rattle.recovery.specs.Silent.{IsWiped, wiped_name}
+use Rattle.settlement.specs.PartMedia.{regions_of_seats}
+use Rattle.settlement.specs.Regions.{HaveRisen, IsUntouched, SomeZip, media_of}
+use Rattle.settlement.specs.Silent.{IsWiped, wiped_name}
 use Rattle.recovery.proofs.OpenedLists.{some_left, zip_append}
 use Rattle.recovery.proofs.SystemParts.{parity}
 

@@ -1,28 +1,21 @@
-pub mod Recovers
-pub mod Errors
-pub mod FaultOrMemory
-pub mod Phases
-pub mod GraphTests
-pub mod Regions
-pub mod FoundLogs
-pub mod Silent
-pub mod Parts
-pub mod PartMedia
-pub mod RecoveryStops
 pub mod Assembly
-pub mod Settlement
 pub mod Survival
 pub mod FreshContents
-pub mod DigestedLogs
-pub mod SpelledRecords
-pub mod Refusals
 -- Passed on to the crates above, which so need not list those below.
-pub use Rattle.world.specs.system_world.event_steps.area_image
-pub use Rattle.world.specs.system_world.event_steps.call_effects
-pub use Rattle.world.specs.system_world.event_steps
-pub use Rattle.world.specs.system_world.event_steps.kernel_fs
-pub use Rattle.recovery_laws.specs.layout
-pub use Rattle.world.specs.system_world.event_steps.lease_manager
-pub use Rattle.world.specs.system_world.event_steps.record_validation
-pub use Rattle.world.specs.system_world.event_steps.shared_area
-pub use Rattle.world.specs.system_world as system_world
+pub use Rattle.settlement.specs.Errors
+pub use Rattle.settlement.specs.FaultOrMemory
+pub use Rattle.settlement.specs.PartMedia
+pub use Rattle.settlement.specs.Parts
+pub use Rattle.settlement.specs.RecoveryStops
+pub use Rattle.settlement.specs.Refusals
+pub use Rattle.settlement.specs.Regions
+pub use Rattle.settlement.specs.world.system_world.event_steps.area_image
+pub use Rattle.settlement.specs.world.system_world.event_steps.call_effects
+pub use Rattle.settlement.specs.world.system_world.event_steps
+pub use Rattle.settlement.specs.world.system_world.event_steps.kernel_fs
+pub use Rattle.settlement.specs.recovery_laws.layout
+pub use Rattle.settlement.specs.world.system_world.event_steps.lease_manager
+pub use Rattle.settlement.specs.world.system_world.event_steps.record_validation
+pub use Rattle.settlement.specs.world.system_world.event_steps.shared_area
+pub use Rattle.settlement.specs as settlement
+pub use Rattle.settlement.specs.world.system_world as system_world

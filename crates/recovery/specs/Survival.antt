@@ -1,21 +1,21 @@
 -- Trusted: headline
 -- Every answered call survives: what holds of a list of events that is played, and of what is recovered after a stop.
 use Rattle.std.specs.Prelude.{◌≡◌, ◌↔◌, ℕ, ◌≤◌, ◌<◌, List, length, take, Result, Ok, Err}
-use Rattle.recovery_laws.specs.update_log.tier_device.declared.media.Media.{Ghosts}
-use Rattle.world.specs.system_world.courses.Courses.{PARTS, AreMade, Content, IsCourse, LeftAt, Ledger, Reading, ledger, pace_of}
-use Rattle.world.specs.system_world.event_steps.declared.event.Event.{Event}
-use Rattle.world.specs.system_world.event_steps.declared.outcome.Outcome.{Outcome}
-use Rattle.world.specs.system_world.event_steps.posix_calls.Outcome.{IsOutcome}
-use Rattle.world.specs.system_world.event_steps.posix_calls.Run.{Run}
-use Rattle.world.specs.system_world.event_steps.posix_calls.Tree.{State}
-use Rattle.world.specs.system_world.Moves.{EventMoves}
-use Rattle.world.specs.system_world.News.{news}
-use Rattle.world.specs.system_world.Clocks.{clocks_of, left_of}
-use Rattle.world.specs.system_world.WorldTree.{world_tree}
-use Rattle.world.specs.system_world.WorldView.{WorldView, calls_of}
-use Rattle.recovery.specs.declared.error.RecoveryError.{RecoveryError}
-use Rattle.recovery.specs.FaultOrMemory.{IsFaultOrMemory}
-use Rattle.recovery.specs.Parts.{PartsView, contents_of, part_medium}
+use Rattle.settlement.specs.recovery_laws.update_log.tier_device.declared.media.Media.{Ghosts}
+use Rattle.settlement.specs.world.system_world.courses.Courses.{PARTS, AreMade, Content, IsCourse, LeftAt, Ledger, Reading, ledger, pace_of}
+use Rattle.settlement.specs.world.system_world.event_steps.declared.event.Event.{Event}
+use Rattle.settlement.specs.world.system_world.event_steps.declared.outcome.Outcome.{Outcome}
+use Rattle.settlement.specs.world.system_world.event_steps.posix_calls.Outcome.{IsOutcome}
+use Rattle.settlement.specs.world.system_world.event_steps.posix_calls.Run.{Run}
+use Rattle.settlement.specs.world.system_world.event_steps.posix_calls.Tree.{State}
+use Rattle.settlement.specs.world.system_world.Moves.{EventMoves}
+use Rattle.settlement.specs.world.system_world.News.{news}
+use Rattle.settlement.specs.world.system_world.Clocks.{clocks_of, left_of}
+use Rattle.settlement.specs.world.system_world.WorldTree.{world_tree}
+use Rattle.settlement.specs.world.system_world.WorldView.{WorldView, calls_of}
+use Rattle.settlement.specs.declared.error.RecoveryError.{RecoveryError}
+use Rattle.settlement.specs.FaultOrMemory.{IsFaultOrMemory}
+use Rattle.settlement.specs.Parts.{PartsView, contents_of, part_medium}
 
 module _ {M : Type 0} (device : Ghosts M) where
   -- One event, with its outcome, leads from the one world to the other: what it acknowledges is asked of the one file tree, and of no part the past changes.

@@ -1,28 +1,26 @@
 //! The shared medium is opened.
 
 ghost use Rattle.std.specs.Prelude.{◌≡◌, ◌≢◌, ◌≤◌, ◌+◌, false, Some, IfOk, IfErr};
-ghost use Rattle.recovery_laws.specs.shared_area.tier_device.declared.media.Tier.{Tier};
-ghost use Rattle.recovery_laws.specs.shared_area.tier_device.declared.media.Tier.TheVariants.{Fast};
-ghost use Rattle.recovery_laws.specs.shared_area.tier_device.Media.{Rose};
-ghost use Rattle.recovery_laws.specs.shared_area.tier_device.AfterStop.{AtRest};
-ghost use Rattle.recovery_laws.specs.shared_area.layout.Places.{Sizes};
-ghost use Rattle.recovery_laws.specs.shared_area.batch_journal.Blocks.{opening_calls};
-ghost use Rattle.recovery_laws.specs.shared_area.batch_journal.Course.{Unmoved};
-ghost use Rattle.recovery_laws.specs.shared_area.batch_journal.Damage.{AwaitsReplay};
-ghost use Rattle.recovery_laws.specs.shared_area.batch_journal.Volume.{IsVolume};
-ghost use Rattle.recovery_laws.specs.shared_area.area_image.Store.{disk, store_of};
-ghost use Rattle.recovery_laws.specs.shared_area.area_image.Format.{IsOpenable};
-ghost use Rattle.recovery_laws.specs.shared_area.AreaOpen.{SpellsNone, IsMediumDamage, TakesMemory};
-ghost use Rattle.world.specs.system_world.event_steps.posix_calls.Tree.{State};
-ghost use Rattle.recovery.specs.declared.error.RecoveryError.TheVariants.{DeviceFault, Memory};
-ghost use Rattle.recovery.specs.Errors.{OnDamage, IsOfArea};
-ghost use Rattle.recovery.specs.FaultOrMemory.{IsFaultOrMemory};
-ghost use Rattle.recovery.specs.Recovers.{Regions, Recovers};
-ghost use Rattle.recovery.specs.Phases.{StaysRecovered, Whatever};
+ghost use Rattle.settlement.specs.recovery_laws.shared_area.tier_device.declared.media.Tier.{Tier};
+ghost use Rattle.settlement.specs.recovery_laws.shared_area.tier_device.declared.media.Tier.TheVariants.{Fast};
+ghost use Rattle.settlement.specs.recovery_laws.shared_area.tier_device.Media.{Rose};
+ghost use Rattle.settlement.specs.recovery_laws.shared_area.tier_device.AfterStop.{AtRest};
+ghost use Rattle.settlement.specs.recovery_laws.shared_area.layout.Places.{Sizes};
+ghost use Rattle.settlement.specs.recovery_laws.shared_area.batch_journal.Blocks.{opening_calls};
+ghost use Rattle.settlement.specs.recovery_laws.shared_area.batch_journal.Course.{Unmoved};
+ghost use Rattle.settlement.specs.recovery_laws.shared_area.batch_journal.Damage.{AwaitsReplay};
+ghost use Rattle.settlement.specs.recovery_laws.shared_area.batch_journal.Volume.{IsVolume};
+ghost use Rattle.settlement.specs.recovery_laws.shared_area.area_image.Store.{disk, store_of};
+ghost use Rattle.settlement.specs.recovery_laws.shared_area.area_image.Format.{IsOpenable};
+ghost use Rattle.settlement.specs.recovery_laws.shared_area.AreaOpen.{SpellsNone, IsMediumDamage, TakesMemory};
+ghost use Rattle.settlement.specs.world.system_world.event_steps.posix_calls.Tree.{State};
+ghost use Rattle.settlement.specs.declared.error.RecoveryError.TheVariants.{DeviceFault, Memory};
+ghost use Rattle.settlement.specs.Errors.{OnDamage, IsOfArea};
+ghost use Rattle.settlement.specs.FaultOrMemory.{IsFaultOrMemory};
+ghost use Rattle.settlement.specs.Recovers.{Regions, Recovers};
+ghost use Rattle.settlement.specs.Phases.{StaysRecovered, Whatever};
 
-use crate::area_faults::area_fault;
-use crate::error::RecoveryError;
-use recovery_laws::{Media, Shared};
+use settlement::{Media, RecoveryError, Shared, area_fault};
 use std::alloc::Global;
 
 /// Opens the shared medium, at rest, as `Shared::reopen` does. Whatever a stop leaves meanwhile is recovered as what was read, with any regions.

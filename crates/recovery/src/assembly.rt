@@ -3,42 +3,38 @@
 ghost use Rattle.std.specs.Prelude.{◌≡◌, ◌≤◌, ◌<◌, ◌+◌, ◌++◌, ◌⊎◌, ℕ, List, length, map, replicate, [], ◌∷◌, None, Some, IfErr, IfOk, OnErr};
 ghost use Rattle.std.specs.Vec.{vec_len, vec_capacity};
 ghost use Rattle.atomic_table.specs.Seated.{TableId};
-ghost use Rattle.recovery_laws.specs.update_log.tier_device.Media.{Rose};
-ghost use Rattle.recovery_laws.specs.update_log.View.{RegionView};
-ghost use Rattle.recovery_laws.specs.shared_area.layout.declared.marks.Marks.{Marks};
-ghost use Rattle.recovery_laws.specs.shared_area.area_image.Store.{disk, graph, marks as marks_of};
-ghost use Rattle.world.specs.system_world.event_steps.Sound.{AreSeats};
-ghost use Rattle.world.specs.system_world.event_steps.lease_manager.Passes.{fresh, places};
-ghost use Rattle.world.specs.system_world.event_steps.libfs.NewClient.{IsBlank, IsNew};
-ghost use Rattle.world.specs.system_world.event_steps.libfs.client_log.Steps.{IsOpened};
-ghost use Rattle.world.specs.system_world.Idle.{IsIdleSystem};
-ghost use Rattle.world.specs.system_world.KeptCalls.{no_calls};
-ghost use Rattle.world.specs.system_world.Parts.{medium_of};
-ghost use Rattle.world.specs.system_world.WorldTree.{world_tree};
-ghost use Rattle.world.specs.system_world.event_steps.call_effects.ClosedGraph.{nobody};
-ghost use Rattle.world.specs.system_world.event_steps.call_effects.Wholes.{state_of};
-ghost use Rattle.recovery.specs.declared.error.RecoveryError.TheVariants.{DeviceFault};
-ghost use Rattle.world.specs.system_world.event_steps.Refusals.{no_refusals};
+ghost use Rattle.settlement.specs.recovery_laws.update_log.tier_device.Media.{Rose};
+ghost use Rattle.settlement.specs.recovery_laws.update_log.View.{RegionView};
+ghost use Rattle.settlement.specs.recovery_laws.shared_area.layout.declared.marks.Marks.{Marks};
+ghost use Rattle.settlement.specs.recovery_laws.shared_area.area_image.Store.{disk, graph, marks as marks_of};
+ghost use Rattle.settlement.specs.world.system_world.event_steps.Sound.{AreSeats};
+ghost use Rattle.settlement.specs.world.system_world.event_steps.lease_manager.Passes.{fresh, places};
+ghost use Rattle.settlement.specs.world.system_world.event_steps.libfs.NewClient.{IsBlank, IsNew};
+ghost use Rattle.settlement.specs.world.system_world.event_steps.libfs.client_log.Steps.{IsOpened};
+ghost use Rattle.settlement.specs.world.system_world.Idle.{IsIdleSystem};
+ghost use Rattle.settlement.specs.world.system_world.KeptCalls.{no_calls};
+ghost use Rattle.settlement.specs.world.system_world.Parts.{medium_of};
+ghost use Rattle.settlement.specs.world.system_world.WorldTree.{world_tree};
+ghost use Rattle.settlement.specs.world.system_world.event_steps.call_effects.ClosedGraph.{nobody};
+ghost use Rattle.settlement.specs.world.system_world.event_steps.call_effects.Wholes.{state_of};
+ghost use Rattle.settlement.specs.declared.error.RecoveryError.TheVariants.{DeviceFault};
+ghost use Rattle.settlement.specs.world.system_world.event_steps.Refusals.{no_refusals};
 ghost use Rattle.recovery.specs.Assembly.{AreOnlyRead, AreOpenedSeats, AreReadyRegions, AreWipedTo, IsOpenedSeat, IsReadyArea, RefusesSeat, SeatsLast};
-ghost use Rattle.recovery.specs.FaultOrMemory.{IsFaultOrMemory};
-ghost use Rattle.recovery.specs.Parts.{part_medium};
-ghost use Rattle.recovery.specs.PartMedia.{AreUntouched, SomeRose, media_beneath};
-ghost use Rattle.recovery.specs.Regions.{REGIONS, HaveRisen, IsUntouched, media_of};
-ghost use Rattle.recovery.specs.Silent.{IsWiped, wiped_name};
+ghost use Rattle.settlement.specs.FaultOrMemory.{IsFaultOrMemory};
+ghost use Rattle.settlement.specs.Parts.{part_medium};
+ghost use Rattle.settlement.specs.PartMedia.{AreUntouched, SomeRose, media_beneath};
+ghost use Rattle.settlement.specs.Regions.{REGIONS, HaveRisen, IsUntouched, media_of};
+ghost use Rattle.settlement.specs.Silent.{IsWiped, wiped_name};
 
-use crate::area_faults::area_fault;
 use crate::disassembly::{parts_of, present, put_regions};
-use crate::error::RecoveryError;
 use crate::parts::Parts;
 use crate::region_list::{put_first, put_last};
-use recovery_laws::{
-    CLIENTS, Kernel, Marks, Media, Region, Shared, openable_area_is_within_limits,
+use settlement::{
+    CLIENTS, Client, ClientLog, ClientSlot, Kernel, LeaseManagerLeases as Leases, Marks, Media,
+    Opened, Pass, RecoveryError, Region, Shared, System, World, area_fault,
+    idle_system_stands_for_a_world, openable_area_is_within_limits,
 };
 use std::alloc::Global;
-use world::{
-    Client, ClientLog, ClientSlot, LeaseManagerLeases as Leases, Opened, Pass, System, World,
-    idle_system_stands_for_a_world,
-};
 
 /// The world of an area whose graph is sound and of regions that are wiped: nobody has a call started or a file open. The media are only read.
 ///

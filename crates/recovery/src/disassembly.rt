@@ -2,17 +2,16 @@
 
 ghost use Rattle.std.specs.Prelude.{◌≡◌, ◌≤◌, ◌<◌, ◌+◌, ◌*◌, ◌++◌, ℕ, length, [], IfErr, IfOk, IsSome, Some};
 ghost use Rattle.std.specs.Vec.{vec_len, vec_capacity};
-ghost use Rattle.world.specs.system_world.Parts.{medium_of, region_of};
-ghost use Rattle.world.specs.system_world.courses.Courses.{PARTS};
-ghost use Rattle.recovery.specs.Parts.{part_medium};
-ghost use Rattle.recovery.specs.PartMedia.{regions_of_seats};
-ghost use Rattle.recovery.specs.Regions.{REGIONS, media_of};
+ghost use Rattle.settlement.specs.world.system_world.Parts.{medium_of, region_of};
+ghost use Rattle.settlement.specs.world.system_world.courses.Courses.{PARTS};
+ghost use Rattle.settlement.specs.Parts.{part_medium};
+ghost use Rattle.settlement.specs.PartMedia.{regions_of_seats};
+ghost use Rattle.settlement.specs.Regions.{REGIONS, media_of};
 
 use crate::parts::{Parts, REGIONS};
 use crate::region_list::{hand_back, put_last};
-use recovery_laws::{Media, Region};
+use settlement::{ClientSlot, Media, Region, World};
 use std::alloc::{AllocError, Global};
-use world::{ClientSlot, World};
 
 /// The media of a world of which no event is played any more.
 ///

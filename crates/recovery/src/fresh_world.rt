@@ -1,31 +1,29 @@
 //! The empty world.
 
 ghost use Rattle.std.specs.Prelude.{◌≡◌, ◌<◌, ℕ, length, IfErr, IfOk, OnOk};
-ghost use Rattle.recovery_laws.specs.fresh_media.Fresh.{fresh_tiers};
-ghost use Rattle.recovery_laws.specs.update_log.tier_device.declared.media.Tier.{Tier};
-ghost use Rattle.world.specs.system_world.KeptCalls.{no_calls};
-ghost use Rattle.world.specs.system_world.Parts.{medium_of};
-ghost use Rattle.world.specs.system_world.WorldTree.{world_tree};
-ghost use Rattle.world.specs.system_world.courses.Courses.{PARTS};
-ghost use Rattle.world.specs.system_world.event_steps.posix_calls.EmptyTree.{empty_state};
-ghost use Rattle.recovery.specs.declared.error.RecoveryError.TheVariants.{DeviceFault};
-ghost use Rattle.recovery.specs.FaultOrMemory.{IsFaultOrMemory};
+ghost use Rattle.settlement.specs.recovery_laws.fresh_media.Fresh.{fresh_tiers};
+ghost use Rattle.settlement.specs.recovery_laws.update_log.tier_device.declared.media.Tier.{Tier};
+ghost use Rattle.settlement.specs.world.system_world.KeptCalls.{no_calls};
+ghost use Rattle.settlement.specs.world.system_world.Parts.{medium_of};
+ghost use Rattle.settlement.specs.world.system_world.WorldTree.{world_tree};
+ghost use Rattle.settlement.specs.world.system_world.courses.Courses.{PARTS};
+ghost use Rattle.settlement.specs.world.system_world.event_steps.posix_calls.EmptyTree.{empty_state};
+ghost use Rattle.settlement.specs.declared.error.RecoveryError.TheVariants.{DeviceFault};
+ghost use Rattle.settlement.specs.FaultOrMemory.{IsFaultOrMemory};
 ghost use Rattle.recovery.specs.FreshContents.{AreFreshRegions, AreLater, HaveSizes, HoldsContent, IsFormatError, IsSizeError, SizesAtRefusal, fresh_contents};
-ghost use Rattle.recovery.specs.RecoveryStops.{IsIdle};
-ghost use Rattle.recovery.specs.Parts.{AreAtRest, part_medium};
-ghost use Rattle.recovery.specs.PartMedia.{SomeRose};
-ghost use Rattle.recovery.specs.Regions.{REGIONS};
+ghost use Rattle.settlement.specs.RecoveryStops.{IsIdle};
+ghost use Rattle.settlement.specs.Parts.{AreAtRest, part_medium};
+ghost use Rattle.settlement.specs.PartMedia.{SomeRose};
+ghost use Rattle.settlement.specs.Regions.{REGIONS};
 
 use crate::area_open::open_area;
 use crate::assembly::assemble;
-use crate::error::RecoveryError;
 use crate::fresh_writes::write_parts;
 use crate::parts::Parts;
 use crate::region_list::reopen_regions;
 use crate::size_check::check_sizes;
-use recovery_laws::{Geometry, Media, fresh_area_opens, fresh_region_is_empty};
+use settlement::{Geometry, Media, RecoveryError, World, fresh_area_opens, fresh_region_is_empty};
 use std::alloc::Global;
-use world::World;
 
 /// Writes the empty tree on all parts, whatever stands there, and makes its world. Nothing is pending on them then.
 ///

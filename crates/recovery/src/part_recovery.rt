@@ -2,33 +2,30 @@
 
 ghost use Rattle.std.specs.Prelude.{◌≡◌, ◌≢◌, ◌≤◌, [], false, IfErr, IfOk, OnOk};
 ghost use Rattle.std.specs.Vec.{vec_capacity};
-ghost use Rattle.recovery_laws.specs.shared_area.area_image.Store.{disk};
-ghost use Rattle.recovery_laws.specs.shared_area.batch_journal.Volume.{IsVolume};
-ghost use Rattle.world.specs.system_world.Contents.{CanRecover, log_in, stored_state};
-ghost use Rattle.world.specs.system_world.KeptCalls.{no_calls};
-ghost use Rattle.world.specs.system_world.Parts.{medium_of};
-ghost use Rattle.world.specs.system_world.WorldTree.{world_tree};
-ghost use Rattle.world.specs.system_world.event_steps.kernel_fs.layout.Places.{Sizes};
-ghost use Rattle.recovery.specs.declared.error.RecoveryError.TheVariants.{AreaSize, DeviceFault, RegionSize};
-ghost use Rattle.recovery.specs.Errors.{OnBadLog, OnDamage};
-ghost use Rattle.recovery.specs.FaultOrMemory.{IsFaultOrMemory};
-ghost use Rattle.recovery.specs.Parts.{AreAtRest, contents_of, part_medium};
-ghost use Rattle.recovery.specs.PartMedia.{SomeRose, media_beneath};
-ghost use Rattle.recovery.specs.RecoveryStops.{AreGivenBack, IsIdle, IsRecoveredWorld, StaysStored, StoresTree};
-ghost use Rattle.recovery.specs.Refusals.{HaveRegionSizes, IsCause, IsStoredCause, StoresBadLog, StoresDamage};
-ghost use Rattle.recovery.specs.Regions.{REGIONS};
-ghost use Rattle.recovery.specs.Settlement.{AreOpenRegions};
+ghost use Rattle.settlement.specs.recovery_laws.shared_area.area_image.Store.{disk};
+ghost use Rattle.settlement.specs.recovery_laws.shared_area.batch_journal.Volume.{IsVolume};
+ghost use Rattle.settlement.specs.world.system_world.Contents.{CanRecover, log_in, stored_state};
+ghost use Rattle.settlement.specs.world.system_world.KeptCalls.{no_calls};
+ghost use Rattle.settlement.specs.world.system_world.Parts.{medium_of};
+ghost use Rattle.settlement.specs.world.system_world.WorldTree.{world_tree};
+ghost use Rattle.settlement.specs.world.system_world.event_steps.kernel_fs.layout.Places.{Sizes};
+ghost use Rattle.settlement.specs.declared.error.RecoveryError.TheVariants.{AreaSize, DeviceFault, RegionSize};
+ghost use Rattle.settlement.specs.Errors.{OnBadLog, OnDamage};
+ghost use Rattle.settlement.specs.FaultOrMemory.{IsFaultOrMemory};
+ghost use Rattle.settlement.specs.Parts.{AreAtRest, contents_of, part_medium};
+ghost use Rattle.settlement.specs.PartMedia.{SomeRose, media_beneath};
+ghost use Rattle.settlement.specs.RecoveryStops.{AreGivenBack, IsIdle, IsRecoveredWorld, StaysStored, StoresTree};
+ghost use Rattle.settlement.specs.Refusals.{HaveRegionSizes, IsCause, IsStoredCause, StoresBadLog, StoresDamage};
+ghost use Rattle.settlement.specs.Regions.{REGIONS};
+ghost use Rattle.settlement.specs.Settlement.{AreOpenRegions};
 
 use crate::area_open::open_area;
 use crate::assembly::assemble;
-use crate::error::RecoveryError;
 use crate::parts::Parts;
 use crate::region_list::{hand_back, reopen_regions};
 use crate::region_wipes::wipe_regions;
-use crate::settlement::settle_area;
-use recovery_laws::{Media, Region, Shared};
+use settlement::{Media, RecoveryError, Region, Shared, World, settle_area};
 use std::alloc::Global;
-use world::World;
 
 /// The world of the tree that parts store, on which nothing may be pending: after the records that count, with the files that were open closed, and without
 /// those that have no name. Nobody uses it, and nothing is pending on its parts.

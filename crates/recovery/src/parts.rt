@@ -1,9 +1,9 @@
 //! The media of a world.
 
 ghost use Rattle.std.specs.Prelude.{◌≡◌, ◌≢◌, IfErr, IfOk, length, OnErr, OnOk};
-ghost use Rattle.recovery.specs.Regions.{REGIONS};
+ghost use Rattle.settlement.specs.Regions.{REGIONS};
 
-use recovery_laws::Media;
+use settlement::Media;
 use std::marker::Model;
 
 /// How many regions a world has: two for each of its eight clients.
@@ -20,8 +20,8 @@ pub struct Parts<M: Media> {
 
 impl<M: Media> Model for Parts<M> {
     ghost use Rattle.std.specs.Prelude.{◌≡◌, length};
-    ghost use Rattle.recovery.specs.Parts.{PartsView};
-    ghost use Rattle.recovery.specs.Regions.{REGIONS};
+    ghost use Rattle.settlement.specs.Parts.{PartsView};
+    ghost use Rattle.settlement.specs.Regions.{REGIONS};
 
     ghost Value = { PartsView M };
 

@@ -1,21 +1,20 @@
 // Regions that are wiped.
 ghost use Rattle.std.specs.Prelude.{◌≡◌, ◌≤◌, ◌%◌, ◌/◌, ℕ, List, length, slice_index, Some, IfErr, IfOk, OnErr, OnOk};
 ghost use Rattle.std.specs.Prelude.{slice_get};
-ghost use Rattle.recovery_laws.specs.update_log.tier_device.Media.{Keeps};
-ghost use Rattle.recovery_laws.specs.update_log.View.{RegionView};
-ghost use Rattle.recovery_laws.specs.update_log.Wipe.{wipe_next};
-ghost use Rattle.recovery_laws.specs.update_log.Moments.{PastStays};
-ghost use Rattle.recovery_laws.specs.update_log.tier_device.Media.{Rose};
-ghost use Rattle.world.specs.system_world.courses.Courses.{Content};
-ghost use Rattle.world.specs.system_world.event_steps.kernel_fs.layout.Places.{Sizes};
-ghost use Rattle.world.specs.system_world.event_steps.posix_calls.Tree.{State};
-ghost use Rattle.recovery.specs.declared.error.RecoveryError.TheVariants.{DeviceFault};
-ghost use Rattle.recovery.specs.Recovers.{Recovers, Regions};
-ghost use Rattle.recovery.specs.Regions.{HaveRisen, REGIONS, media_of};
-ghost use Rattle.recovery.specs.Silent.{AreLeftOf, AreMarked, AreSilent, GoesOn, IsSilent, IsWiped, IsWipingTo, LeftOfRegion, MayBeWiped, StaysSilent, wiped_name};
+ghost use Rattle.settlement.specs.recovery_laws.update_log.tier_device.Media.{Keeps};
+ghost use Rattle.settlement.specs.recovery_laws.update_log.View.{RegionView};
+ghost use Rattle.settlement.specs.recovery_laws.update_log.Wipe.{wipe_next};
+ghost use Rattle.settlement.specs.recovery_laws.update_log.Moments.{PastStays};
+ghost use Rattle.settlement.specs.recovery_laws.update_log.tier_device.Media.{Rose};
+ghost use Rattle.settlement.specs.world.system_world.courses.Courses.{Content};
+ghost use Rattle.settlement.specs.world.system_world.event_steps.kernel_fs.layout.Places.{Sizes};
+ghost use Rattle.settlement.specs.world.system_world.event_steps.posix_calls.Tree.{State};
+ghost use Rattle.settlement.specs.declared.error.RecoveryError.TheVariants.{DeviceFault};
+ghost use Rattle.settlement.specs.Recovers.{Recovers, Regions};
+ghost use Rattle.settlement.specs.Regions.{HaveRisen, REGIONS, media_of};
+ghost use Rattle.settlement.specs.Silent.{AreLeftOf, AreMarked, AreSilent, GoesOn, IsSilent, IsWiped, IsWipingTo, LeftOfRegion, MayBeWiped, StaysSilent, wiped_name};
 
-use crate::error::RecoveryError;
-use recovery_laws::{Media, Region, RegionError, WipeProgress};
+use settlement::{Media, RecoveryError, Region, RegionError, WipeProgress};
 
 /// Wipes the sixteen regions, in their order: those of a client to its generation and the next one. Of each client, neither region has a record that
 /// counts under its generation or the next.

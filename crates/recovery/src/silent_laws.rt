@@ -1,12 +1,12 @@
 // What regions store in which nothing counts.
 ghost use Rattle.std.specs.Prelude.{◌≡◌, ℕ, List, [], true};
-ghost use Rattle.world.specs.system_world.Contents.{log_in};
-ghost use Rattle.world.specs.system_world.event_steps.kernel_fs.layout.Places.{Sizes};
-ghost use Rattle.world.specs.system_world.event_steps.posix_calls.Operations.{is_client};
-ghost use Rattle.world.specs.system_world.event_steps.posix_calls.Tree.{State};
-ghost use Rattle.world.specs.system_world.courses.Courses.{Content};
-ghost use Rattle.recovery.specs.Recovers.{Recovers, Regions, joined};
-ghost use Rattle.recovery.specs.Silent.{AreMarked, AreSilent};
+ghost use Rattle.settlement.specs.world.system_world.Contents.{log_in};
+ghost use Rattle.settlement.specs.world.system_world.event_steps.kernel_fs.layout.Places.{Sizes};
+ghost use Rattle.settlement.specs.world.system_world.event_steps.posix_calls.Operations.{is_client};
+ghost use Rattle.settlement.specs.world.system_world.event_steps.posix_calls.Tree.{State};
+ghost use Rattle.settlement.specs.world.system_world.courses.Courses.{Content};
+ghost use Rattle.settlement.specs.Recovers.{Recovers, Regions, joined};
+ghost use Rattle.settlement.specs.Silent.{AreMarked, AreSilent};
 
 /// Under marks of these generations, of which no record is done, regions in which nothing counts have no records: whatever stands in
 /// them, the same state is stored.

@@ -1,13 +1,12 @@
 // Whether parts have the sizes of a geometry.
 ghost use Rattle.std.specs.Prelude.{◌≡◌, ◌*◌, ◌↔◌, IsTrue, length, IfErr, OnOk};
-ghost use Rattle.recovery_laws.specs.shared_area.batch_journal.Volume.{HasSizes};
-ghost use Rattle.recovery_laws.specs.shared_area.layout.Places.{tier_blocks};
-ghost use Rattle.recovery_laws.specs.shared_area.layout.declared.places.TheConstants.{BLOCK};
-ghost use Rattle.recovery_laws.specs.update_log.View.{HasSize};
+ghost use Rattle.settlement.specs.recovery_laws.shared_area.batch_journal.Volume.{HasSizes};
+ghost use Rattle.settlement.specs.recovery_laws.shared_area.layout.Places.{tier_blocks};
+ghost use Rattle.settlement.specs.recovery_laws.shared_area.layout.declared.places.TheConstants.{BLOCK};
+ghost use Rattle.settlement.specs.recovery_laws.update_log.View.{HasSize};
 ghost use Rattle.recovery.specs.FreshContents.{HaveSizes, IsSizeError, SizesAtRefusal};
 
-use crate::error::RecoveryError;
-use recovery_laws::{BLOCK, Geometry, Media, REGION_SIZE, Tier};
+use settlement::{BLOCK, Geometry, Media, REGION_SIZE, RecoveryError, Tier};
 
 /// Tests the sizes of the shared medium, and then of those of regions, in their order.
 pub fn check_sizes<M: Media>(

@@ -1,23 +1,21 @@
 //! Every answered call survives.
 
 ghost use Rattle.std.specs.Prelude.{◌≡◌, ◌≢◌, IfErr, IfOk, OnErr};
-ghost use Rattle.world.specs.system_world.Contents.{CanRecover};
-ghost use Rattle.world.specs.system_world.Steps.{recoverable};
-ghost use Rattle.world.specs.system_world.courses.Plays.{Plays};
-ghost use Rattle.world.specs.system_world.event_steps.kernel_fs.layout.Places.{Sizes};
-ghost use Rattle.recovery.specs.declared.error.RecoveryError.TheVariants.{DeviceFault};
-ghost use Rattle.recovery.specs.FaultOrMemory.{IsFaultOrMemory};
-ghost use Rattle.recovery.specs.Parts.{AreAtRest, contents_of, part_medium};
-ghost use Rattle.recovery.specs.PartMedia.{SomeRose};
-ghost use Rattle.recovery.specs.RecoveryStops.{IsRecoveredWorld, StaysStored};
+ghost use Rattle.settlement.specs.world.system_world.Contents.{CanRecover};
+ghost use Rattle.settlement.specs.world.system_world.Steps.{recoverable};
+ghost use Rattle.settlement.specs.world.system_world.courses.Plays.{Plays};
+ghost use Rattle.settlement.specs.world.system_world.event_steps.kernel_fs.layout.Places.{Sizes};
+ghost use Rattle.settlement.specs.declared.error.RecoveryError.TheVariants.{DeviceFault};
+ghost use Rattle.settlement.specs.FaultOrMemory.{IsFaultOrMemory};
+ghost use Rattle.settlement.specs.Parts.{AreAtRest, contents_of, part_medium};
+ghost use Rattle.settlement.specs.PartMedia.{SomeRose};
+ghost use Rattle.settlement.specs.RecoveryStops.{IsRecoveredWorld, StaysStored};
 ghost use Rattle.recovery.specs.Survival.{Survives};
 
-use crate::error::RecoveryError;
 use crate::part_recovery::recover;
 use crate::parts::Parts;
-use recovery_laws::Media;
+use settlement::{Event, Media, Outcome, RecoveryError, World, play};
 use std::alloc::{AllocError, Global};
-use world::{Event, Outcome, World, play};
 
 /// Plays a list of events, and recovers parts: **every answered call survives**.
 ///

@@ -1,12 +1,11 @@
-//! Two clients log a call each, the run stops, and a recovery shows what was kept.
+//! Two clients make a call each in threads of their own, the run stops, and a recovery shows what was kept.
 #![tactic(auto)]
 
-use first_run::{run_first, run_program};
 use std::process::ExitCode;
+use thread_runs::{run_first, run_program};
 
 fn main(rt: HostRuntime) -> ExitCode {
-    let alloc = rt.alloc();
     run_program(&rt, &mut rt.stderr(), |words| {
-        Ok(run_first(alloc, words, &mut rt.stdout(), &mut rt.stderr()))
+        Ok(run_first(&rt, words, &mut rt.stdout(), &mut rt.stderr()))
     })
 }

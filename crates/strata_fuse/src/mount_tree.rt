@@ -1,11 +1,19 @@
 // A world answers the calls of one client, as the tree of a mount.
-use call_driver::{CallResult, Event, Events, clear_client, digest_all, serve_call};
+use call_driver::{CallResult, Event, Events, Outcome, clear_client, digest_all, serve_call};
 use fuse_server::{Bytes, Call, Errno, MAX_INODE, Path, ROOT, Reply, Tree, Usage};
+use script::Tier;
 use std::alloc::Global;
 use world_files::{FileMedia, KernelError, NodeSummary, Refusal, World};
 
 /// So many records of the client may wait for their digest between two requests.
 const RECORDS: usize = 128;
+
+/// So many data blocks of a tier are kept free, where its files can go to a slower one: for what is digested next, and for the longest
+/// run that comes down to it.
+const FREE_BLOCKS: u32 = 256;
+
+/// The most runs that are moved down to a tier between two requests.
+const MOST_MOVES: usize = 8;
 
 /// A world that lives in a file, asked by one client.
 #[derive(Drop)]
@@ -66,6 +74,41 @@ impl MountTree {
         }
     }
 
+    // Moves runs of the files that were digested least lately from a tier to the next one, while little of it is free.
+    fn move_down(&mut self, from: Tier, to: Tier) {
+        for _ in 0..MOST_MOVES {
+            if !self.is_nearly_full(from) || !self.move_next(to) {
+                return;
+            }
+        }
+    }
+
+    fn is_nearly_full(&self, tier: Tier) -> bool {
+        match self.world.system().kernel().free(tier) {
+            Ok(free) => free < FREE_BLOCKS,
+            Err(_) => false,
+        }
+    }
+
+    // Moves the run that is to be moved next to a tier, if there is one. It answers whether one was moved.
+    fn move_next(&mut self, to: Tier) -> bool {
+        match self.world.pick(to) {
+            Ok(Some(found)) => {
+                let event = Event::Migrate {
+                    inode: found.inode,
+                    first: found.run.first as u64,
+                    count: found.run.count,
+                    to,
+                };
+                match self.world.play(&event) {
+                    Outcome::Stepped => true,
+                    _ => false,
+                }
+            }
+            _ => false,
+        }
+    }
+
     // What a directory of the shared area has under a name.
     fn child(&mut self, folder: u32, name: &[u8]) -> Result<u32, Errno> {
         match self.world.look(folder) {
@@ -117,6 +160,8 @@ impl Tree for MountTree {
     fn use_idle_time(&mut self) {
         if self.world.undigested(self.client) > RECORDS {
             let _ = self.free_files();
+            self.move_down(Tier::Block, Tier::Slow);
+            self.move_down(Tier::Fast, Tier::Block);
         }
     }
 }

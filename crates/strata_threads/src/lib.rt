@@ -15,6 +15,7 @@ mod kernel_needs;
 mod lease_requests;
 mod migration;
 mod region_digest;
+mod region_refusal;
 mod shared_kernel;
 mod stop_flag;
 mod thread_client;

@@ -1,96 +1,148 @@
 //! A sealed region is digested.
-ghost use Rattle.std.specs.Prelude.{◌≡◌, ◌<◌, ◌≤◌, true};
+ghost use Rattle.std.specs.Prelude.{◌≡◌, ◌↔◌, ◌<◌, ◌≤◌, true, IfErr, IsTrue, OnErr, OnOk};
+ghost use Rattle.libfs.specs.client_log.Calls.{IsOnlyRead};
 ghost use Rattle.libfs.specs.digester.Chunk.{IsChunkOf};
 ghost use Rattle.libfs.specs.digester.SealedLog.{HasUndigested};
 ghost use Rattle.libfs.specs.SealedRegion.{log_of};
 ghost use Rattle.strata_threads.specs.RegionHandover.{IsWorkedOn};
+ghost use Rattle.strata_threads.specs.RegionRefusals.{HasRefused, RefusesLog, RefusesRead};
 
 use crate::gate_point::GatePoint;
+use crate::region_refusal::RegionRefusal;
 use crate::shared_kernel::SharedKernel;
-use libfs::{Chunk, Digestion, Kernel, Media, SealedRegion};
+use libfs::{Chunk, Digestion, Kernel, KernelError, Media, SealedRegion};
 use std::alloc::Global;
 use std::sync::Wait;
 
-/// Digests a region chunk by chunk, as far as nothing is refused. Its records are read and its chunks are prepared without the lock.
+/// Digests a region chunk by chunk. Its records are read and its chunks are prepared without the lock.
+///
+/// Ok where each record of it is digested. Refused where its records can't be read, the kernel refuses it or a chunk of it, memory is wanting, or chunks are stale as often as it has records.
 pub fn digest_region<M: Media + Drop, R: Wait, G: GatePoint>(
     rt: &R,
     alloc: Global,
     shared: &SharedKernel<M>,
     region: &mut SealedRegion<M>,
     gate: &G,
-)
+) -> Result<(), RegionRefusal>
     ensures worked { IsWorkedOn M.Media region.old region.new }
+    ensures whole { OnOk result (HasUndigested (log_of M.Media region.new) → ⊥) }
+    ensures refused { IfErr result (λ why. HasRefused M.Media region.old why region.new) }
 {
-    if !has_undigested(region) || !accept(rt, alloc, shared, region) {
-        return;
+    if !has_undigested(region) {
+        return Ok(());
     }
-    for chunk in 0..region.count() {
-        if !digest_more(rt, alloc, shared, region, gate) {
-            return;
-        }
-    }
+    accept(rt, alloc, shared, region)?;
+    digest_all(rt, alloc, shared, region, gate)
 }
 
 // Whether a record of a region is not digested.
 fn has_undigested<M: Media>(region: &SealedRegion<M>) -> bool
-    ensures { result ≡ true → HasUndigested (log_of M.Media region.now) }
+    ensures { IsTrue result ↔ HasUndigested (log_of M.Media region.now) }
 {
     (region.digested_count() as usize) < region.count()
 }
 
-// Reads the records of a region, and has the kernel accept it. It answers whether it has.
+// Reads the records of a region, and has the kernel accept it.
 fn accept<M: Media + Drop, R: Wait>(
     rt: &R,
     alloc: Global,
     shared: &SharedKernel<M>,
     region: &mut SealedRegion<M>,
-) -> bool
+) -> Result<(), RegionRefusal>
     requires some { HasUndigested (log_of M.Media region.old) }
     ensures worked { IsWorkedOn M.Media region.old region.new }
-    ensures read { result ≡ true → region.new.read ≡ true }
-    ensures some { HasUndigested (log_of M.Media region.new) }
+    ensures read { OnOk result (region.new.read ≡ true) }
+    ensures refused { IfErr result (λ why. HasRefused M.Media region.old why region.new) }
 {
     if region.is_accepted() {
-        return true;
+        return Ok(());
     }
-    match region.read_records(alloc) {
-        Ok(()) => {}
-        Err(_) => return false,
-    }
+    read_log(alloc, region)?;
     let mut kernel = shared.lock(rt);
-    region.accept(&mut *kernel).is_ok()
+    accept_log(&mut *kernel, region)
 }
 
-// Digests the next chunk of a region, if one is left. It answers whether it may go on.
-fn digest_more<M: Media + Drop, R: Wait, G: GatePoint>(
+// Reads the records of a region into memory.
+fn read_log<M: Media + Drop>(
+    alloc: Global,
+    region: &mut SealedRegion<M>,
+) -> Result<(), RegionRefusal>
+    ensures read { OnOk result (region.new.read ≡ true) }
+    ensures only_read { IsOnlyRead M.Media region.old.region region.new.region }
+    ensures rest { region.new ≡ record region.old { region = region.new.region; read = region.new.read } }
+    ensures refused { IfErr result (λ why. RefusesRead M.Media region.old why region.new) }
+{
+    match region.read_records(alloc) {
+        Ok(()) => Ok(()),
+        Err(error) => Err(RegionRefusal::Read(error)),
+    }
+}
+
+// Has the kernel accept a region.
+fn accept_log<M: Media + Drop>(
+    kernel: &mut Kernel<M>,
+    region: &mut SealedRegion<M>,
+) -> Result<(), RegionRefusal>
+    requires read { region.old.read ≡ true }
+    requires some { HasUndigested (log_of M.Media region.old) }
+    ensures accepted { OnOk result (region.new ≡ record region.old { accepted = true }) }
+    ensures same { OnErr result (region.new ≡ region.old) }
+    ensures refused { IfErr result (λ why. RefusesLog M.Media why region.new) }
+{
+    match region.accept(kernel) {
+        Ok(()) => Ok(()),
+        Err(error) => Err(RegionRefusal::Accept(error)),
+    }
+}
+
+// Digests what is left of a region, in at most as many chunks as it has records.
+fn digest_all<M: Media + Drop, R: Wait, G: GatePoint>(
     rt: &R,
     alloc: Global,
     shared: &SharedKernel<M>,
     region: &mut SealedRegion<M>,
     gate: &G,
-) -> bool
+) -> Result<(), RegionRefusal>
     requires read { region.old.read ≡ true }
     ensures more { region.old.done ≤ region.new.done }
     ensures rest { region.new ≡ record region.old { done = region.new.done } }
+    ensures whole { OnOk result (HasUndigested (log_of M.Media region.new) → ⊥) }
+    ensures refused { IfErr result (λ why. RefusesLog M.Media why region.new) }
 {
-    if !has_undigested(region) {
-        return false;
+    for chunk in 0..region.count() {
+        if !has_undigested(region) {
+            return Ok(());
+        }
+        digest_next(rt, alloc, shared, region, gate)?;
     }
-    digest_next(rt, alloc, shared, region, gate)
+    end_of(region)
 }
 
-// Prepares the next chunk of a region, and has it digested. It answers whether it may go on: a chunk that is no longer the next one is prepared again.
+// Whether each record of a region is digested.
+fn end_of<M: Media + Drop>(region: &SealedRegion<M>) -> Result<(), RegionRefusal>
+    ensures whole { OnOk result (HasUndigested (log_of M.Media region.now) → ⊥) }
+    ensures refused { IfErr result (λ why. RefusesLog M.Media why region.now) }
+{
+    if has_undigested(region) {
+        Err(RegionRefusal::NotNext)
+    } else {
+        Ok(())
+    }
+}
+
+// Prepares the next chunk of a region, and has it digested. A chunk that is no longer the next one is to be prepared again.
 fn digest_next<M: Media + Drop, R: Wait, G: GatePoint>(
     rt: &R,
     alloc: Global,
     shared: &SharedKernel<M>,
     region: &mut SealedRegion<M>,
     gate: &G,
-) -> bool
+) -> Result<(), RegionRefusal>
     requires read { region.old.read ≡ true }
     requires some { HasUndigested (log_of M.Media region.old) }
     ensures more { region.old.done ≤ region.new.done }
     ensures rest { region.new ≡ record region.old { done = region.new.done } }
+    ensures refused { IfErr result (λ why. RefusesLog M.Media why region.new) }
 {
     match region.prepare(alloc) {
         Ok(chunk) => {
@@ -98,7 +150,7 @@ fn digest_next<M: Media + Drop, R: Wait, G: GatePoint>(
             let mut kernel = shared.lock(rt);
             digest_chunk(&mut *kernel, region, &chunk)
         }
-        Err(_) => false,
+        Err(error) => Err(RegionRefusal::Digest(KernelError::Refused(error))),
     }
 }
 
@@ -106,20 +158,22 @@ fn digest_chunk<M: Media + Drop>(
     kernel: &mut Kernel<M>,
     region: &mut SealedRegion<M>,
     chunk: &Chunk,
-) -> bool
+) -> Result<(), RegionRefusal>
     requires read { region.old.read ≡ true }
     requires some { HasUndigested (log_of M.Media region.old) }
     requires chunk { IsChunkOf (log_of M.Media region.old) chunk.now }
     ensures more { region.old.done ≤ region.new.done }
     ensures rest { region.new ≡ record region.old { done = region.new.done } }
+    ensures refused { IfErr result (λ why. RefusesLog M.Media why region.new) }
 {
     match region.digest(kernel, chunk) {
         Ok(Digestion::Digested) => {
             reclaim_nameless(kernel, chunk);
-            true
+            Ok(())
         }
-        Ok(Digestion::NotNext) => true,
-        _ => false,
+        Ok(Digestion::NotNext) => Ok(()),
+        Ok(Digestion::NotAccepted) => Err(RegionRefusal::NotAccepted),
+        Err(error) => Err(RegionRefusal::Digest(error)),
     }
 }
 

@@ -54,7 +54,7 @@ impl<M: Media + Drop> Worker<M> {
             return false;
         };
         let mut region = region;
-        digest_region(rt, self.alloc, shared, &mut region, gate);
+        let _ = digest_region(rt, self.alloc, shared, &mut region, gate);
         self.send_back(rt, region);
         true
     }

@@ -44,7 +44,7 @@ pub use starts::started_call_is_a_step;
 pub use courses::{Recoverable, Steps, play_all};
 pub use event_steps::{
     AreaError, CLIENTS, Call, Child, Client, ClientLog, ClientSlot, Denied, Effect, Event, Fetched,
-    FetchedBytes, Figures, INODES, Kernel, KernelError, Kind, LeaseManagerLeases, LeaseMode, Mode,
-    NameMap, Need, NodeCounts, NodeSummary, Opened, Outcome, Pass, PlainGraph, Record, Refusal,
-    Reply, SharedBytes, System, Tier, TierDeviceMedia,
+    FetchedBytes, Figures, FileRun, INODES, Kernel, KernelError, Kind, LeaseManagerLeases,
+    LeaseMode, Mode, NameMap, Need, NodeCounts, NodeSummary, Opened, Outcome, Pass, PlainGraph,
+    Record, Refusal, Reply, SharedBytes, System, Tier, TierDeviceMedia,
 };

@@ -34,13 +34,15 @@ module _ {S T : Type 0} (upper : Ghosts S) (lower : Ghosts T) (f : S → T) (see
   over_read image v r = record {
     geometry = r.geometry;
     found = r.found;
+    long = r.long;
     sizes = sizes_same (v.shared ∷ v.regions) ∙ r.sizes;
     bytes = bytes_same (v.shared ∷ v.regions) ∙ r.bytes;
     rest = λ p t low. rests (part_medium v p) t (subst (λ x. AtRest (lower.seen x) (lower.left x (lower.moment x)) t) (part_beneath v p) (r.rest p t low));
   }
 
-  pub counted_read : {E : Type 0} (image : List ℕ) (w : PartsView T) → AreRead lower image w → (r : Result (PartsView S) E) → IfOk r (λ v. map f (v.shared ∷ v.regions) ≡ w.shared ∷ w.regions) → IfOk r (AreRead upper image)
-  counted_read image w read (Ok v) is =
-      let same : w ≡ beneath_parts v = λ i. record { shared = get_or (sym is i) 0 w.shared; regions = drop 1 (sym is i) } in
-      over_read image v (subst (λ (x : PartsView T). AreRead lower image x) same read)
-  counted_read image w read (Err e) is = tt
+  pub counted_read : {X E : Type 0} (parts : X → PartsView S) (image : List ℕ) (w : PartsView T) → AreRead lower image w → (r : Result X E) → IfOk r (λ x. map f ((parts x).shared ∷ (parts x).regions) ≡ w.shared ∷ w.regions)
+      → IfOk r (λ x. AreRead upper image (parts x))
+  counted_read parts image w read (Ok x) is =
+      let same : w ≡ beneath_parts (parts x) = λ i. record { shared = get_or (sym is i) 0 w.shared; regions = drop 1 (sym is i) } in
+      over_read image (parts x) (subst (λ (v : PartsView T). AreRead lower image v) same read)
+  counted_read parts image w read (Err e) is = tt

@@ -7,7 +7,7 @@ use Rattle.script.specs.tier_device.declared.media.Media.{Ghosts}
 use Rattle.script.specs.SystemLines.{Asked, Books, Calls, Digests, Fails, Halts, Moves, Places, Recovers, Steps, Stops, Wipes}
 use Rattle.world_files.specs.recovery.FaultOrMemory.{IsFaultOrMemory}
 use Rattle.world_files.specs.recovery.Parts.{PartsView, part_medium}
-use Rattle.world_files.specs.recovery.declared.error.RecoveryError.{RecoveryError}
+use Rattle.world_files.specs.recovery.settlement.declared.error.RecoveryError.{RecoveryError}
 use Rattle.call_driver.specs.declared.events.Events.{Ghosts as Played}
 use Rattle.world_files.specs.recovery.system_world.WorldView.{WorldView}
 use Rattle.workload_cli.specs.declared.answer.Answer.{Answer}

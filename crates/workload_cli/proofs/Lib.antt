@@ -5,3 +5,6 @@ pub mod RestingMedia
 pub mod KeptMedia
 pub mod WorldImages
 pub mod CountedParts
+pub mod ImageRefusals
+pub mod PutPatches
+pub mod Pushed

@@ -5,7 +5,11 @@ pub mod AnswerText
 pub mod LineResults
 pub mod Script
 pub mod Rests
+pub mod Shares
+pub mod Trips
 pub mod Fills
 pub mod Stops
 pub mod Sessions
+pub mod Patches
 pub mod FreshWorlds
+pub mod ImageRuns

@@ -1,5 +1,5 @@
 -- What a line of a script is answered over a world that stops and is recovered.
-use Rattle.std.specs.Prelude.{◌≡◌, ◌⊎◌, Bool, true, false, Option, Some, None}
+use Rattle.std.specs.Prelude.{◌≡◌, ◌⊎◌, ℕ, Bool, true, false, Option, Some, None}
 use Rattle.script.specs.tier_device.declared.fill.Fill.{Fill}
 use Rattle.script.specs.tier_device.declared.media.Media.{Ghosts}
 use Rattle.script.specs.SystemLines.{Asked, Books, Calls, Digests, Fails, Halts, Moves, Places, Recovers, Steps, Stops, Wipes}
@@ -11,6 +11,7 @@ use Rattle.workload_cli.specs.declared.script_world.ScriptWorld.{ScriptWorld}
 use Rattle.workload_cli.specs.declared.system_queries.Running.{Ghosts as Looked}
 use Rattle.workload_cli.specs.LineResults.{IsAnswerTo}
 use Rattle.workload_cli.specs.Stops.{HasStopped, IsArmed, IsRecoverAnswered, StopsWith, media_of, running_world}
+use Rattle.workload_cli.specs.Trips.{ArmsFailure}
 
 -- whether a line may stand in a script: those that say where a world stops, where a script may say so
 abbrev pub takes_line : Bool → Option Asked → Bool
@@ -20,9 +21,19 @@ takes_line stoppable (Some (Fails call medium)) = stoppable
 takes_line stoppable _ = true
 
 module _ {M : Type 0} where
+  -- The media of a name fail at this write or fence; nothing else has changed.
+  pub record FailsAt (old : ScriptWorld M) (name call : ℕ) (new : ScriptWorld M) : Type 0 where
+    pub trips : ArmsFailure name call old.trips new.trips
+    pub world : new.world ≡ old.world
+    pub parts : new.parts ≡ old.parts
+    pub stopped : new.stopped ≡ old.stopped
+    pub fills : new.fills ≡ old.fills
+    pub armed : new.armed ≡ old.armed
+    pub stoppable : new.stoppable ≡ old.stoppable
+
   -- A failure is armed, but of a world that has stopped.
-  abbrev pub IsFailureArmed : ScriptWorld M → Answer → Type 0
-  IsFailureArmed old answer = ((old.stopped ≡ true) × (answer ≡ answers.Stopped)) ⊎ ((old.stopped ≡ false) × (answer ≡ answers.Armed))
+  abbrev pub IsFailureArmed : ScriptWorld M → ℕ → ℕ → Answer → ScriptWorld M → Type 0
+  IsFailureArmed old name call answer new = ((old.stopped ≡ true) × (answer ≡ answers.Stopped) × (new ≡ old)) ⊎ ((old.stopped ≡ false) × (answer ≡ answers.Armed) × FailsAt old name call new)
 
   -- What was found is the answer, and it runs on.
   pub record IsFound (old : ScriptWorld M) (answer found : Answer) (new : ScriptWorld M) : Type 0 where
@@ -48,8 +59,8 @@ module _ {M : Type 0} where
 
     abbrev pub IsSessionAnswer : Ghosts M → (Fill → M → M → Type 0) → ScriptWorld M → Option Asked → Answer → ScriptWorld M → Type 0
     IsSessionAnswer device holds old None answer new = (answer ≡ answers.Silent) × (new ≡ old)
-    IsSessionAnswer device holds old (Some (Stops call fill)) answer new = (answer ≡ answers.Armed) × IsArmed old fill new
-    IsSessionAnswer device holds old (Some (Fails call medium)) answer new = IsFailureArmed old answer × (new ≡ old)
+    IsSessionAnswer device holds old (Some (Stops call fill)) answer new = (answer ≡ answers.Armed) × IsArmed old call fill new
+    IsSessionAnswer device holds old (Some (Fails call medium)) answer new = IsFailureArmed old medium call answer new
     IsSessionAnswer device holds old (Some (Halts fills)) answer new = (answer ≡ answers.Stopped) × StopsWith old fills new
     IsSessionAnswer device holds old (Some Recovers) answer new = IsRecoverAnswered device holds old (media_of old) answer new × (new.armed ≡ old.armed) × (new.stoppable ≡ old.stoppable)
     IsSessionAnswer device holds old (Some (Calls client manner call)) answer new = IsRunningAnswered old (running_world old) (Some (Calls client manner call)) answer new

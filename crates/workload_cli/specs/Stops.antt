@@ -10,8 +10,8 @@ use Rattle.world_files.specs.recovery.PartMedia.{SomeRose}
 use Rattle.world_files.specs.recovery.Parts.{PartsView, contents_of, part_medium}
 use Rattle.world_files.specs.recovery.RecoveryStops.{IsRecoveredWorld, StaysStored}
 use Rattle.world_files.specs.recovery.Refusals.{StoresBadLog, StoresDamage}
-use Rattle.world_files.specs.recovery.declared.error.RecoveryError.{RecoveryError}
-use Rattle.world_files.specs.recovery.declared.error.RecoveryError.TheVariants.{DeviceFault}
+use Rattle.world_files.specs.recovery.settlement.declared.error.RecoveryError.{RecoveryError}
+use Rattle.world_files.specs.recovery.settlement.declared.error.RecoveryError.TheVariants.{DeviceFault}
 use Rattle.world_files.specs.recovery.layout.Places.{Sizes}
 use Rattle.world_files.specs.recovery.system_world.Contents.{CanRecover}
 use Rattle.world_files.specs.recovery.system_world.Parts.{medium_of}
@@ -21,6 +21,7 @@ use Rattle.workload_cli.specs.declared.answer.Answer.{Answer}
 use Rattle.workload_cli.specs.declared.answer.Answer.TheVariants as answers
 use Rattle.workload_cli.specs.declared.script_world.ScriptWorld.{ScriptWorld}
 use Rattle.workload_cli.specs.Rests.{LeaveNoMore}
+use Rattle.workload_cli.specs.Trips.{ArmsStop}
 use Rattle.workload_cli.specs.Fills.{AreRestBy}
 
 -- every medium holds this behind a stop
@@ -41,8 +42,9 @@ module _ {M : Type 0} where
   abbrev pub fills_behind : ScriptWorld M → List Fill
   fills_behind s = if s.stopped then s.fills else all_by New
 
-  -- a stop is armed
-  pub record IsArmed (old : ScriptWorld M) (fill : Fill) (new : ScriptWorld M) : Type 0 where
+  -- a stop is armed, at this write or fence
+  pub record IsArmed (old : ScriptWorld M) (call : ℕ) (fill : Fill) (new : ScriptWorld M) : Type 0 where
+    pub trips : ArmsStop call old.trips new.trips
     pub world : new.world ≡ old.world
     pub parts : new.parts ≡ old.parts
     pub stopped : new.stopped ≡ old.stopped

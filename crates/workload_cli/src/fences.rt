@@ -41,6 +41,8 @@ fn fence_tier<M: Media>(medium: &mut M, tier: Tier) -> Result<(), RecoveryError>
 impl Resting for FileMedia {
     ghost holds = { λ _ old new. (t : Tier) → file_seen new t ≡ file_seen old t };
 
+    ghost counts = { λ _ _ _. Unit {0} };
+
     fn rest_medium(
         &mut self,
         _alloc: Global,

@@ -1,11 +1,15 @@
 //! The media of a script's world, and a world on media of which nothing is known yet.
 
-ghost use Rattle.std.specs.Prelude.{◌≡◌, [], ◌∷◌, ◌++◌, map, IfOk, OnOk};
+ghost use Rattle.std.specs.Prelude.{◌≡◌, [], ◌∷◌, ◌++◌, length, map, IfErr, IfOk, OnOk};
+ghost use Rattle.world_files.specs.FileErrors.{IsFormatRefused};
 ghost use Rattle.world_files.specs.Worlds.{IsEmptyWorld};
+ghost use Rattle.world_files.specs.declared.error.WorldFileError.TheVariants.{Memory};
+ghost use Rattle.world_files.specs.recovery.Regions.{REGIONS};
 ghost use Rattle.workload_cli.specs.FreshWorlds.{IsFreshWorld};
 ghost use Rattle.workload_cli.specs.Rests.{beneath};
+ghost use Rattle.workload_cli.specs.Trips.{PartsCount, RegionsCount};
 
-use crate::script_media::{ScriptMedium, Trips, count_calls};
+use crate::script_media::{Counting, ScriptMedium, Trips};
 use crate::script_world::ScriptWorld;
 use script::{FaultMedia, Media, MemMedia, StopMedia};
 use std::alloc::Global;
@@ -16,7 +20,8 @@ pub fn format_world(
     alloc: Global,
     sizes: WorldSizes,
 ) -> Result<ScriptWorld<ScriptMedium>, WorldFileError>
-    ensures { IfOk result (IsFreshWorld ⟦<FaultMedia<StopMedia> as Media>⟧ sizes) }
+    ensures world { IfOk result (IsFreshWorld ⟦<FaultMedia<StopMedia> as Media>⟧ sizes) }
+    ensures only { IfErr result IsFormatRefused }
 {
     let geometry = sizes.geometry()?;
     let (world, trips) = fresh_world(alloc, &geometry)?;
@@ -28,50 +33,68 @@ pub fn fresh_world(
     alloc: Global,
     geometry: &Geometry,
 ) -> Result<(World<ScriptMedium>, Trips), WorldFileError>
-    ensures { IfOk result (λ r. IsEmptyWorld ⟦<FaultMedia<StopMedia> as Media>⟧ geometry.now r.0) }
+    ensures world { IfOk result (λ r. IsEmptyWorld ⟦<FaultMedia<StopMedia> as Media>⟧ geometry.now r.0) }
+    ensures only { IfErr result IsFormatRefused }
 {
-    let trips = Trips::new(alloc)?;
-    let parts = count_parts(alloc, zero_parts(alloc, geometry)?, &trips)?;
+    let (parts, trips) = count_media(alloc, zero_parts(alloc, geometry)?)?;
     match format(alloc, geometry, parts) {
         Ok(world) => Ok((world, trips)),
         Err((error, _)) => Err(WorldFileError::Recovery(error)),
     }
 }
 
-/// Media over these that stop and fail, and count by these.
-pub fn count_parts(
+/// Media over these that stop and fail, and what they count by, of which none is armed. Refused is want of memory.
+pub fn count_media(
     alloc: Global,
     parts: Parts<MemMedia>,
-    trips: &Trips,
+) -> Result<(Parts<ScriptMedium>, Trips), WorldFileError>
+    ensures counted { IfOk result (λ r. map beneath (r.0.shared ∷ r.0.regions) ≡ parts.shared ∷ parts.regions) }
+    ensures only { IfErr result (λ e. e ≡ Memory) }
+{
+    let trips = Trips::new(alloc)?;
+    let parts = count_parts(alloc, parts, &trips)?;
+    Ok((parts, trips))
+}
+
+// Media over these that stop and fail, and count each by its name.
+fn count_parts<C: Counting>(
+    alloc: Global,
+    parts: Parts<MemMedia>,
+    counting: &C,
 ) -> Result<Parts<ScriptMedium>, WorldFileError>
-    ensures { IfOk result (λ counted. map beneath (counted.shared ∷ counted.regions) ≡ parts.shared ∷ parts.regions) }
+    ensures counted { IfOk result (λ counted. map beneath (counted.shared ∷ counted.regions) ≡ parts.shared ∷ parts.regions) }
+    ensures named { IfOk result (PartsCount (C.counts counting.now)) }
+    ensures only { IfErr result (λ e. e ≡ Memory) }
 {
     let (shared, media) = parts.into_media();
-    let shared = count_calls(shared, trips.shares(0)?);
-    let regions = count_regions(alloc, media, trips)?;
+    let shared = counting.count(shared, 0)?;
+    let regions = count_regions(alloc, media, counting)?;
     match Parts::new(shared, regions) {
         Ok(parts) => Ok(parts),
-        Err(_) => Err(WorldFileError::NoWorld),
+        Err(_) => unreachable!(),
     }
 }
 
-fn count_regions(
+fn count_regions<C: Counting>(
     alloc: Global,
     media: Vec<MemMedia>,
-    trips: &Trips,
+    counting: &C,
 ) -> Result<Vec<ScriptMedium>, WorldFileError>
-    ensures { IfOk result (λ counted. map beneath counted.items ≡ media.items) }
+    ensures counted { IfOk result (λ counted. map beneath counted.items ≡ media.items) }
+    ensures named { IfOk result (λ counted. RegionsCount (C.counts counting.now) counted.items) }
+    ensures only { IfErr result (λ e. e ≡ Memory) }
 {
     let mut counted = Vec::new(alloc);
     for medium in media {
         let name = counted.len() / 2 + 1;
-        push(&mut counted, count_calls(medium, trips.shares(name)?))?;
+        push(&mut counted, counting.count(medium, name)?)?;
     }
     Ok(counted)
 }
 
 fn push<T: Drop>(media: &mut Vec<T>, one: T) -> Result<(), WorldFileError>
-    ensures { OnOk result (media.new.items ≡ media.old.items ++ one ∷ []) }
+    ensures pushed { OnOk result (media.new.items ≡ media.old.items ++ one ∷ []) }
+    ensures only { IfErr result (λ e. e ≡ Memory) }
 {
     match media.push(one) {
         Ok(()) => Ok(()),

@@ -8,6 +8,7 @@ mod faults;
 mod fences;
 mod fresh_parts;
 mod image;
+mod image_home;
 mod media_rest;
 mod need_notes;
 mod needs;

@@ -5,6 +5,7 @@ ghost use Rattle.world_files.specs.recovery.FaultOrMemory.{IsFaultOrMemory};
 ghost use Rattle.world_files.specs.recovery.Parts.{part_medium};
 ghost use Rattle.workload_cli.specs.Rests.{LeaveNoMore, LeavesNoMore};
 ghost use Rattle.workload_cli.specs.Fills.{AreRestBy, IsRestBy, fill_for};
+ghost use Rattle.workload_cli.specs.Trips.{PartsCount, RegionsCount};
 
 use crate::resting::Resting;
 use crate::script_media::Trips;
@@ -25,6 +26,7 @@ pub fn rest_parts<M: Resting + Drop>(
     trips: &Trips,
 ) -> Result<Parts<M>, (RecoveryError, Parts<M>)>
     ensures rest { IfOk result (λ rested. AreRestBy M.Media M.holds fills.now (part_medium parts) (part_medium rested)) }
+    ensures counted { IfOk result (PartsCount (M.counts trips.now)) }
     ensures only { IfErr result (λ e. IsFaultOrMemory e.0) }
     ensures refused { IfErr result (λ e. LeaveNoMore M.Media (part_medium parts) (part_medium e.1)) }
 {
@@ -46,6 +48,8 @@ fn rest_all<M: Resting + Drop>(
 ) -> Result<(), RecoveryError>
     ensures shared { OnOk result (IsRestBy M.Media M.holds (fill_for fills.now 0) shared.old shared.new) }
     ensures regions { OnOk result ((k : ℕ) (m n : M) → slice_get regions.old k ≡ Some m → slice_get regions.new k ≡ Some n → IsRestBy M.Media M.holds (fill_for fills.now (k / 2 + 1)) m n) }
+    ensures shared_counted { OnOk result (M.counts trips.now 0 shared.new) }
+    ensures regions_counted { OnOk result (RegionsCount (M.counts trips.now) regions.new) }
     ensures len { length regions.new ≡ length regions.old }
     ensures only { IfErr result IsFaultOrMemory }
     ensures shared_refused { OnErr result (LeavesNoMore M.Media shared.old shared.new) }
@@ -62,6 +66,7 @@ fn rest_regions<M: Resting + Drop>(
     trips: &Trips,
 ) -> Result<(), RecoveryError>
     ensures rest { OnOk result ((k : ℕ) (m n : M) → slice_get regions.old k ≡ Some m → slice_get regions.new k ≡ Some n → IsRestBy M.Media M.holds (fill_for fills.now (k / 2 + 1)) m n) }
+    ensures counted { OnOk result (RegionsCount (M.counts trips.now) regions.new) }
     ensures len { length regions.new ≡ length regions.old }
     ensures only { IfErr result IsFaultOrMemory }
     ensures refused { OnErr result ((k : ℕ) (m n : M) → slice_get regions.old k ≡ Some m → slice_get regions.new k ≡ Some n → LeavesNoMore M.Media m n) }

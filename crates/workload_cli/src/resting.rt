@@ -1,9 +1,10 @@
 //! Media that come to rest behind a stop.
 
-ghost use Rattle.std.specs.Prelude.{IfErr, OnErr, OnOk};
+ghost use Rattle.std.specs.Prelude.{ℕ, IfErr, OnErr, OnOk};
 ghost use Rattle.world_files.specs.recovery.FaultOrMemory.{IsFaultOrMemory};
 ghost use Rattle.script.specs.tier_device.declared.fill.Fill.{Fill};
 ghost use Rattle.workload_cli.specs.Rests.{IsRestOf, LeavesNoMore};
+ghost use Rattle.workload_cli.specs.declared.script_media.Trips.{Trips};
 
 use crate::script_media::Trips;
 use script::{Fill, Media};
@@ -14,6 +15,9 @@ use world_files::RecoveryError;
 pub trait Resting: Media {
     /// What it holds once it rests, by the fill and what it was.
     ghost holds: { Fill → Self → Self → Type 0 };
+
+    /// It counts by the trips of a name, if it counts.
+    ghost counts: { Trips → ℕ → Self → Type 0 };
 
     /// Brings it to rest with something that a stop may leave of it now: with what the fill says, where it chooses. From then on it counts by the trips of its name, if it counts.
     ///
@@ -27,6 +31,7 @@ pub trait Resting: Media {
     ) -> Result<(), RecoveryError>
         ensures rest { OnOk result (IsRestOf Self.Media self.old self.new) }
         ensures held { OnOk result (holds fill self.old self.new) }
+        ensures counted { OnOk result (counts trips.now name self.new) }
         ensures only { IfErr result IsFaultOrMemory }
         ensures refused { OnErr result (LeavesNoMore Self.Media self.old self.new) };
 }

@@ -1,19 +1,25 @@
 // A run of `strata_sh`.
-ghost use Rattle.std.specs.Prelude.{◌≡◌, true, ℕ, List, Option, Some, IfNone, IfSome};
+ghost use Rattle.std.specs.Prelude.{◌≡◌, true, ℕ, List, Option, Some, IfNone, IfSome, OnOk};
 ghost use Rattle.script.specs.LineValues.{system_line_seen};
 ghost use Rattle.script.specs.SystemLines.{system_line};
+ghost use Rattle.workload_cli.specs.ImageRuns.{IsImageRun, IsKeptBehind, KeepsImageOf};
 ghost use Rattle.workload_cli.specs.Script.{EndsAt, IsAnsweredTo, IsNotTaken};
 
 use crate::answer::{Answer, write_answer};
 use crate::faults::world_fault;
 use crate::fresh_parts::format_world;
 use crate::image::{image_world, patched_world, world_image};
+use crate::image_home::{FileHome, ImageHome};
 use crate::options::{Home, Options, read_options};
+use crate::resting::Resting;
 use crate::rows::run_table;
 use crate::script_media::{ScriptMedium, Trips};
 use crate::script_world::ScriptWorld;
 use crate::session::Session;
-use script::{RunError, ScriptError, ScriptLines, SystemLine, read_system_line, tell, tell_fault};
+use script::{
+    FaultMedia, Media, RunError, ScriptError, ScriptLines, StopMedia, SystemLine, read_system_line,
+    tell, tell_fault,
+};
 use std::alloc::Global;
 use std::io::{BufRead, Write};
 use world_files::{
@@ -146,13 +152,6 @@ fn run_over<S: Session + Drop, R: BufRead + Drop, O: Write, E: Write>(
     }
 }
 
-// An image file and its path.
-#[derive(Drop)]
-struct Image<'a> {
-    path: &'a str,
-    file: ImageFile,
-}
-
 fn run_image<R: BufRead + Drop, O: Write, E: Write>(
     rt: &HostRuntime,
     path: &str,
@@ -161,69 +160,74 @@ fn run_image<R: BufRead + Drop, O: Write, E: Write>(
     streams: &mut Streams<'_, O, E>,
 ) -> Result<(), ScriptError> {
     match ImageFile::open(rt, rt.alloc(), path) {
-        Ok(file) => run_over_image(rt, Image { path, file }, options, lines, streams),
+        Ok(file) => {
+            let home = FileHome { rt, path, file };
+            run_over_image(rt.alloc(), &home, &home.file, options, lines, streams)
+        }
         Err(error) => Err(explained_fault(&error, options, streams.err)),
     }
 }
 
-fn run_over_image<R: BufRead + Drop, O: Write, E: Write>(
-    rt: &HostRuntime,
-    image: Image<'_>,
+// Begins with what an image file holds, answers the lines, and keeps the world where its home is.
+fn run_over_image<H: ImageHome, R: BufRead + Drop, O: Write, E: Write>(
+    alloc: Global,
+    home: &H,
+    file: &ImageFile,
     options: &Options<'_>,
     lines: ScriptLines<R>,
     streams: &mut Streams<'_, O, E>,
-) -> Result<(), ScriptError> {
-    match image_world(rt.alloc(), &image.file, options.sizes) {
-        Ok(session) => answer_over_image(rt, image, session, options, lines, streams),
+) -> Result<(), ScriptError>
+    ensures { OnOk result (IsImageRun ⟦<FaultMedia<StopMedia> as Media>⟧ (⟦<FaultMedia<StopMedia> as Resting>⟧.holds) ⟦<ScriptWorld<FaultMedia<StopMedia>> as Session>⟧ (H.keeps home.now) file.now options.now.sizes lines.left) }
+{
+    match image_world(alloc, file, options.sizes) {
+        Ok(session) => answer_over_image(alloc, home, session, options, lines, streams),
         Err(error) => Err(explained_fault(&error, options, streams.err)),
     }
 }
 
 // Answers the lines, and then keeps the world.
-fn answer_over_image<R: BufRead + Drop, O: Write, E: Write>(
-    rt: &HostRuntime,
-    image: Image<'_>,
+fn answer_over_image<H: ImageHome, R: BufRead + Drop, O: Write, E: Write>(
+    alloc: Global,
+    home: &H,
     session: ScriptWorld<ScriptMedium>,
     options: &Options<'_>,
     lines: ScriptLines<R>,
     streams: &mut Streams<'_, O, E>,
-) -> Result<(), ScriptError> {
+) -> Result<(), ScriptError>
+    ensures { OnOk result (IsKeptBehind ⟦<FaultMedia<StopMedia> as Media>⟧ (⟦<FaultMedia<StopMedia> as Resting>⟧.holds) ⟦<ScriptWorld<FaultMedia<StopMedia>> as Session>⟧ (H.keeps home.now) lines.left session) }
+{
     let (mut lines, mut session) = (lines, session);
-    match answer_all(
-        rt.alloc(),
-        &mut session,
-        &mut lines,
-        options.echoes,
-        streams.out,
-    ) {
-        Ok(()) => keep_image(rt, image, session, options, streams.err),
+    match answer_all(alloc, &mut session, &mut lines, options.echoes, streams.out) {
+        Ok(()) => keep_image(alloc, home, session, options, streams.err),
         Err(error) => Err(error),
     }
 }
 
-fn keep_image<E: Write>(
-    rt: &HostRuntime,
-    image: Image<'_>,
+fn keep_image<H: ImageHome, E: Write>(
+    alloc: Global,
+    home: &H,
     session: ScriptWorld<ScriptMedium>,
     options: &Options<'_>,
     err: &mut E,
-) -> Result<(), ScriptError> {
-    match save_world(rt, image, session) {
+) -> Result<(), ScriptError>
+    ensures { OnOk result (KeepsImageOf ⟦<FaultMedia<StopMedia> as Media>⟧ (⟦<FaultMedia<StopMedia> as Resting>⟧.holds) (H.keeps home.now) session) }
+{
+    match save_world(alloc, home, session) {
         Ok(()) => Ok(()),
         Err(error) => Err(explained_fault(&error, options, err)),
     }
 }
 
-// Keeps what the media of a world hold in its image file.
-fn save_world(
-    rt: &HostRuntime,
-    image: Image<'_>,
+// Keeps what the media of a world hold.
+fn save_world<H: ImageHome>(
+    alloc: Global,
+    home: &H,
     session: ScriptWorld<ScriptMedium>,
-) -> Result<(), WorldFileError> {
-    let bytes = world_image(rt.alloc(), session)?;
-    image
-        .file
-        .replace(rt, rt.alloc(), image.path, bytes.as_slice())
+) -> Result<(), WorldFileError>
+    ensures { OnOk result (KeepsImageOf ⟦<FaultMedia<StopMedia> as Media>⟧ (⟦<FaultMedia<StopMedia> as Resting>⟧.holds) (H.keeps home.now) session) }
+{
+    let bytes = world_image(alloc, session)?;
+    home.keep(alloc, bytes.as_slice())
 }
 
 // The session over a world that a file keeps.

@@ -1,10 +1,15 @@
 //! The media of a script's world in memory: all of them stop within one call, and each may fail once for each arming.
 
-ghost use Rattle.std.specs.Prelude.{◌≡◌, IfErr, IfOk};
+ghost use Rattle.std.specs.Prelude.{◌≡◌, ◌<◌, ℕ, is_some, length, max, true, IfErr, IfOk};
+ghost use Rattle.script.specs.declared.fills.TheConstants.{MEDIA};
+ghost use Rattle.script.specs.tier_device.declared.fault.FaultMedia.{FaultMedia};
 ghost use Rattle.script.specs.tier_device.declared.media.Tier.{Tier};
+ghost use Rattle.script.specs.tier_device.declared.stop.StopMedia.{StopMedia};
+ghost use Rattle.script.specs.tier_device.Fault.{fault_count};
 ghost use Rattle.script.specs.tier_device.Memory.{IsAtRest, memory_held, memory_seen};
 ghost use Rattle.script.specs.tier_device.Stop.{medium_of};
 ghost use Rattle.workload_cli.specs.Rests.{IsLeftOf, beneath};
+ghost use Rattle.workload_cli.specs.Shares.{SharesFailure, failure_share};
 
 use crate::resting::Resting;
 use script::{FaultMedia, Fill, MEDIA, MemMedia, StopMedia, Trip};
@@ -15,59 +20,100 @@ use world_files::RecoveryError;
 /// A medium of a script's world in memory.
 pub type ScriptMedium = FaultMedia<StopMedia>;
 
+// A count that media share, and for the proof the call that it was armed at last, of those from then on; 0 where it never was.
+#[derive(Drop)]
+struct ArmedTrip {
+    trip: Trip,
+    call: u64,
+}
+
+impl ArmedTrip {
+    fn new(alloc: Global) -> Result<Self, AllocError>
+        ensures { IfOk result (λ armed. armed.call ≡ 0) }
+    {
+        Ok(ArmedTrip {
+            trip: Trip::new(alloc)?,
+            call: 0,
+        })
+    }
+
+    // Has the count run out at this call; the next one is call 1.
+    fn arm(&mut self, call: u64)
+        ensures { self.new.call ≡ max call 1 }
+    {
+        self.call = call.max(1);
+        self.trip.arm(self.call);
+    }
+}
+
 /// The counts by which the media of a world stop, all together, and fail, each by its name: the shared medium is 0, and the two regions of a client have its number.
 #[derive(Drop)]
 pub struct Trips {
-    stop: Trip,
-    failures: Vec<Trip>,
+    stop: ArmedTrip,
+    failures: Vec<ArmedTrip>,
+    ghost each: { length failures.items ≡ MEDIA },
 }
 
 impl Trips {
+    ghost use Rattle.workload_cli.specs.Trips.{ArmsFailure, ArmsStop, failure_calls, stop_call};
+
     /// Counts of which none is armed.
-    pub fn new(alloc: Global) -> Result<Self, AllocError> {
+    pub fn new(alloc: Global) -> Result<Self, AllocError>
+        ensures { IfOk result (λ trips. stop_call trips ≡ 0) }
+    {
         let mut failures = Vec::new(alloc);
-        for _ in 0..MEDIA {
-            failures.push(Trip::new(alloc)?)?;
+        'names: for _ in 0..MEDIA {
+            failures.push(ArmedTrip::new(alloc)?)?;
         }
         Ok(Trips {
-            stop: Trip::new(alloc)?,
+            stop: ArmedTrip::new(alloc)?,
             failures,
         })
     }
 
     /// Has all media stop within this write or fence, of those from now on on any of them.
-    pub fn arm_stop(&self, call: u64) {
-        self.stop.arm(call.max(1));
+    pub fn arm_stop(&mut self, call: u64)
+        ensures { ArmsStop call self.old self.new }
+    {
+        self.stop.arm(call);
     }
 
     /// Has the media of a name fail at this write or fence, of those from now on on them.
-    pub fn arm_failure(&self, name: u32, call: u64) {
-        if let Some(trip) = self.failures.get(name as usize) {
-            trip.arm(call.max(1));
+    pub fn arm_failure(&mut self, name: u32, call: u64)
+        ensures { ArmsFailure name call self.old self.new }
+    {
+        let name = name as usize;
+        if self.failures.len() <= name {
+            return;
         }
+        self.failures[name].arm(call);
     }
 
     /// Whether the media have stopped.
     pub fn have_stopped(&self) -> bool {
-        self.stop.has_run_out()
+        self.stop.trip.has_run_out()
     }
 
     /// Has media that count by these from now on count a stop anew.
-    pub fn renew_stop(&mut self, alloc: Global) -> Result<(), AllocError> {
-        if self.stop.has_run_out() {
-            self.stop = Trip::new(alloc)?;
+    pub fn renew_stop(&mut self, alloc: Global) -> Result<(), AllocError>
+        ensures { failure_calls self.new ≡ failure_calls self.old }
+    {
+        if self.stop.trip.has_run_out() {
+            self.stop = ArmedTrip::new(alloc)?;
         }
         Ok(())
     }
 
     /// What the medium of a name counts by.
-    pub fn shares(&self, name: usize) -> Result<Shares, AllocError> {
+    pub fn shares(&self, name: usize) -> Result<Shares, AllocError>
+        ensures { IfOk result (λ shares. name < MEDIA → is_some (failure_share shares) ≡ true) }
+    {
         let failure = match self.failures.get(name) {
-            Some(trip) => Some(trip.share()?),
+            Some(failure) => Some(failure.trip.share()?),
             None => None,
         };
         Ok(Shares {
-            stop: self.stop.share()?,
+            stop: self.stop.trip.share()?,
             failure,
         })
     }
@@ -80,9 +126,29 @@ pub struct Shares {
     failure: Option<Trip>,
 }
 
-/// A medium over one in memory that counts by these.
-pub fn count_calls(inner: MemMedia, shares: Shares) -> ScriptMedium
-    ensures { beneath result ≡ inner }
+/// What media are made to count by.
+pub trait Counting {
+    /// A medium counts by what is for a name.
+    ghost counts: { Self → ℕ → FaultMedia StopMedia → Type 0 };
+
+    /// A medium over one in memory that counts by what is for this name. Refused is want of memory.
+    fn count(&self, inner: MemMedia, name: usize) -> Result<ScriptMedium, AllocError>
+        ensures beneath { IfOk result (λ medium. beneath medium ≡ inner) }
+        ensures counts { IfOk result (counts self.now name) };
+}
+
+impl Counting for Trips {
+    ghost counts = { λ _ name medium. name < MEDIA → SharesFailure medium };
+
+    fn count(&self, inner: MemMedia, name: usize) -> Result<ScriptMedium, AllocError> {
+        Ok(count_calls(inner, self.shares(name)?))
+    }
+}
+
+// A medium over one in memory that counts by these.
+fn count_calls(inner: MemMedia, shares: Shares) -> ScriptMedium
+    ensures beneath { beneath result ≡ inner }
+    ensures failure { (fault_count result).trip ≡ failure_share shares }
 {
     let mut medium = StopMedia::new(inner);
     medium.stop_with(shares.stop, Fill::New);
@@ -95,6 +161,8 @@ pub fn count_calls(inner: MemMedia, shares: Shares) -> ScriptMedium
 
 impl Resting for FaultMedia<StopMedia> {
     ghost holds = { λ fill old new. (t : Tier) → memory_seen (beneath new) t ≡ memory_held fill (beneath old) t };
+
+    ghost counts = { λ _ name medium. name < MEDIA → SharesFailure medium };
 
     fn rest_medium(
         &mut self,

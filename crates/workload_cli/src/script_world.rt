@@ -64,7 +64,7 @@ impl<M: Resting + Drop> ScriptWorld<M> {
     }
 
     fn arm(&mut self, call: u64, fill: Fill) -> Answer
-        ensures armed { IsArmed self.old fill self.new }
+        ensures armed { IsArmed self.old call fill self.new }
         ensures answer { result ≡ answers.Armed }
     {
         self.trips.arm_stop(call);
@@ -73,8 +73,7 @@ impl<M: Resting + Drop> ScriptWorld<M> {
     }
 
     fn arm_failure(&mut self, name: u32, call: u64) -> Answer
-        ensures answer { IsFailureArmed self.old result }
-        ensures same { self.new ≡ self.old }
+        ensures { IsFailureArmed self.old name call result self.new }
     {
         if self.stopped {
             return Answer::Stopped;

@@ -7,6 +7,7 @@ use Rattle.system_world.specs.event_steps.tier_device.declared.media.Media.{Ghos
 use Rattle.system_world.specs.event_steps.tier_device.Media.{Rose}
 use Rattle.system_world.specs.event_steps.posix_calls.Operations.{is_client}
 use Rattle.system_world.specs.event_steps.posix_calls.declared.limits.TheConstants.{MAX_CLIENTS}
+use Rattle.system_world.specs.event_steps.area_image.batch_journal.Course.{Unmoved}
 use Rattle.system_world.specs.event_steps.area_image.Looks.{Looks}
 use Rattle.system_world.specs.event_steps.area_image.Store.{Store, disk, graph, marks}
 use Rattle.system_world.specs.event_steps.area_image.declared.error.AreaError.{AreaError}
@@ -33,7 +34,7 @@ use Rattle.system_world.proofs.Seated.{own_mark}
 use Rattle.system_world.proofs.Seats.{same_seat}
 use Rattle.system_world.proofs.SpelledWorlds.{spelled_now}
 use Rattle.system_world.proofs.Trees.{log_is}
-use Rattle.world.specs.Snapshots.{IsRead, IsRefusedReading, kept_by, kept_log, shared_graph, with_nodes}
+use Rattle.world.specs.Snapshots.{IsQuiet, IsRead, IsRefusedReading, kept_by, kept_log, shared_graph, with_nodes}
 use Rattle.world.proofs.LookedWorlds.{either, same_disk, tree_by}
 
 -- ---- nodes put one after the other
@@ -143,13 +144,25 @@ same_logs (suc n) new old g same =
 module _ {M : Type 0} (device : Ghosts M) where
   -- ---- what reading leaves
 
+  -- what a reading leaves of a kernel's medium
+  abbrev ReadsOf : KernelView M → KernelView M → Type 0
+  ReadsOf old new = Unmoved (device.moment old.area.media) (device.moment new.area.media) (device.seen old.area.media) (device.seen new.area.media) (device.left old.area.media) (device.left new.area.media)
+
+  reads_same : (k : KernelView M) → ReadsOf k k
+  reads_same k = record { clock = refl; reads = λ t. refl; past = λ m t c low left. left; kept = λ m t c low left. left }
+
   pub read_same : (v : WorldView M) → IsRead device v v
-  read_same v = record { geometry = refl; reads = refl; book = refl; opening = refl; seats = refl; calls = refl; more_faults = omega arith }
+  read_same v = record { unmoved = reads_same v.system.kernel; geometry = refl; book = refl; opening = refl; seats = refl; calls = refl; more_faults = omega arith }
 
   pub read_then : (old mid new : WorldView M) → IsRead device old mid → IsRead device mid new → IsRead device old new
   read_then old mid new one two = record {
+    unmoved = record {
+      clock = two.unmoved.clock ∙ one.unmoved.clock;
+      reads = λ t. two.unmoved.reads t ∙ one.unmoved.reads t;
+      past = λ m t c low left. let clock = one.unmoved.clock in one.unmoved.past m t c low (two.unmoved.past m t c (omega (arith, low, clock)) left);
+      kept = λ m t c low left. let clock = one.unmoved.clock in two.unmoved.kept m t c (omega (arith, low, clock)) (one.unmoved.kept m t c low left);
+    };
     geometry = two.geometry ∙ one.geometry;
-    reads = two.reads ∙ one.reads;
     book = two.book ∙ one.book;
     opening = two.opening ∙ one.opening;
     seats = two.seats ∙ one.seats;
@@ -157,14 +170,21 @@ module _ {M : Type 0} (device : Ghosts M) where
     more_faults = let a = one.more_faults in let b = two.more_faults in omega (arith, a, b);
   }
 
+  -- one that was quiet, and another
+  pub quiet_then : (old mid new : WorldView M) → IsQuiet device old mid → IsQuiet device mid new → IsQuiet device old new
+  quiet_then old mid new one two = record { before = one.before; behind = two.behind; faults = two.faults ∙ one.faults }
+
+  pub quiet_same : (v : WorldView M) → v.system.kernel.area.failed ≡ false → IsQuiet device v v
+  quiet_same v going = record { before = going; behind = going; faults = refl }
+
   module _ {T : Type 0} (old new : WorldView M) (result : Result T (KernelError AreaError)) (answers : Answers old.system.kernel.area.failed old.system.kernel new.system.kernel result (Looks device old.system.kernel.area new.system.kernel.area)) where
     -- a look leaves all else
     pub read_of_look : new.system.kernel.book ≡ old.system.kernel.book → new.system.kernel.opening ≡ old.system.kernel.opening → new.system.seats ≡ old.system.seats → new.calls ≡ old.calls → IsRead device old new
     read_of_look book opening seats calls = elim (either old.system.kernel.area.failed) [
       | inl failed ↦
           let same = (answers.failed failed).1 in record {
+            unmoved = subst (ReadsOf old.system.kernel) (sym same) (reads_same old.system.kernel);
             geometry = ap (λ (k : KernelView M). k.area.geometry) same;
-            reads = ap (λ (k : KernelView M). disk device k.area) same;
             book = book;
             opening = opening;
             seats = seats;
@@ -173,8 +193,8 @@ module _ {M : Type 0} (device : Ghosts M) where
           }
       | inr going ↦
           let looks = (answers.going going).2 in record {
+            unmoved = looks.unmoved;
             geometry = looks.geometry;
-            reads = same_disk device old.system.kernel new.system.kernel looks.unmoved.reads;
             book = book;
             opening = opening;
             seats = seats;
@@ -184,16 +204,16 @@ module _ {M : Type 0} (device : Ghosts M) where
     ]
 
   -- one that answers was of a kernel that goes, and leaves it so
-  pub going_of_look : {T : Type 0} (old new : WorldView M) (result : Result T (KernelError AreaError)) → Answers old.system.kernel.area.failed old.system.kernel new.system.kernel result (Looks device old.system.kernel.area new.system.kernel.area)
-      → OnOk result ((old.system.kernel.area.failed ≡ false) × (new.system.kernel.area.failed ≡ false))
-  going_of_look old new (Err e) answers = tt
-  going_of_look old new (Ok x) answers = elim (either old.system.kernel.area.failed) [
+  pub quiet_of_look : {T : Type 0} (old new : WorldView M) (result : Result T (KernelError AreaError)) → Answers old.system.kernel.area.failed old.system.kernel new.system.kernel result (Looks device old.system.kernel.area new.system.kernel.area)
+      → OnOk result (IsQuiet device old new)
+  quiet_of_look old new (Err e) answers = tt
+  quiet_of_look old new (Ok x) answers = elim (either old.system.kernel.area.failed) [
     | inl failed ↦ absurd (let is = (answers.failed failed).0 in cc)
     | inr going ↦ of_answer (answers.going going).0 (answers.going going).1 (answers.going going).2
   ]
     where
-      of_answer : (r : Result _ AreaError) → Ok x ≡ kernel_answer r → Looks device old.system.kernel.area new.system.kernel.area r → (old.system.kernel.area.failed ≡ false) × (new.system.kernel.area.failed ≡ false)
-      of_answer (Ok y) is looks = looks.going
+      of_answer : (r : Result _ AreaError) → Ok x ≡ kernel_answer r → Looks device old.system.kernel.area new.system.kernel.area r → IsQuiet device old new
+      of_answer (Ok y) is looks = record { before = looks.going.0; behind = looks.going.1; faults = looks.quiet }
       of_answer (Err y) is looks = absurd cc
 
   -- why one is refused
@@ -201,7 +221,7 @@ module _ {M : Type 0} (device : Ghosts M) where
       → IfErr result (λ e. OnRefusal e IsNoDamage) → IfErr result (IsRefusedReading device old new)
   refused_of_look old new (Ok x) answers only = tt
   refused_of_look {T = T} old new (Err e) answers only = elim (either old.system.kernel.area.failed) [
-    | inl failed ↦ let is = (answers.failed failed).0 in record { only = only; failed = λ _. failed; fault = λ told. absurd cc }
+    | inl failed ↦ let is = (answers.failed failed).0 in record { only = only; failed = λ _. failed; fault = λ told. absurd cc; memory = λ told. absurd cc }
     | inr going ↦ of_answer going (answers.going going).0 (answers.going going).1 (answers.going going).2
   ]
     where
@@ -212,41 +232,46 @@ module _ {M : Type 0} (device : Ghosts M) where
             only = only;
             failed = λ told. absurd cc;
             fault = λ told. by_fault going (looks.fault cc);
+            memory = λ told. quiet (looks.quiet_refused (λ fault. absurd cc));
           }
         where
           by_fault : old.system.kernel.area.failed ≡ false → (new.system.kernel.area.failed ≡ true) × ((old.system.kernel.area.failed ≡ true) ⊎ Rose (device.faults old.system.kernel.area.media) (device.faults new.system.kernel.area.media)) → (new.system.kernel.area.failed ≡ true) × Rose (device.faults old.system.kernel.area.media) (device.faults new.system.kernel.area.media)
           by_fault going (failed, inl before) = absurd (true≢false (sym before ∙ going))
           by_fault going (failed, inr rose) = (failed, rose)
 
-  rose_from : (a b c : ℕ) → a ≤ b → Rose b c → Rose a c
-  rose_from a b c low (inl more) = inl (omega (arith, low, more))
-  rose_from a b c low (inr most) = inr most
+          quiet : (device.faults new.system.kernel.area.media ≡ device.faults old.system.kernel.area.media) × (old.system.kernel.area.failed ≡ false) × (new.system.kernel.area.failed ≡ false) → IsQuiet device old new
+          quiet (faults, before, behind) = record { before = before; behind = behind; faults = faults }
 
   -- one that comes after others is refused for the same
-  pub refused_then : (old mid new : WorldView M) (e : KernelError AreaError) → IsRead device old mid → mid.system.kernel.area.failed ≡ old.system.kernel.area.failed → IsRefusedReading device mid new e → IsRefusedReading device old new e
-  refused_then old mid new e one same two = record {
+  pub refused_then : (old mid new : WorldView M) (e : KernelError AreaError) → IsQuiet device old mid → IsRefusedReading device mid new e → IsRefusedReading device old new e
+  refused_then old mid new e one two = record {
     only = two.only;
-    failed = λ told. sym same ∙ two.failed told;
-    fault = λ told. ((two.fault told).0, rose_from _ _ _ one.more_faults (two.fault told).1);
+    failed = λ told. absurd (true≢false (sym (two.failed told) ∙ one.behind));
+    fault = λ told. ((two.fault told).0, subst (λ (n : ℕ). Rose n (device.faults new.system.kernel.area.media)) one.faults (two.fault told).1);
+    memory = λ told. quiet_then old mid new one (two.memory told);
   }
 
   -- want of memory is no fault
-  pub refused_memory : (old new : WorldView M) (e : KernelError AreaError) → e ≡ why.Refused errors.Memory → IsRefusedReading device old new e
-  refused_memory old new e is = record {
+  pub refused_memory : (old new : WorldView M) (e : KernelError AreaError) → IsQuiet device old new → e ≡ why.Refused errors.Memory → IsRefusedReading device old new e
+  refused_memory old new e quiet is = record {
     only = subst (λ (x : KernelError AreaError). OnRefusal x IsNoDamage) (sym is) tt;
     failed = λ told. absurd cc;
     fault = λ told. absurd cc;
+    memory = λ told. quiet;
   }
 
   -- a refusal of one that comes after others
-  pub refused_after : {T : Type 0} (old mid new : WorldView M) (result : Result T (KernelError AreaError)) → IsRead device old mid → mid.system.kernel.area.failed ≡ old.system.kernel.area.failed → IfErr result (IsRefusedReading device mid new) → IfErr result (IsRefusedReading device old new)
-  refused_after old mid new (Ok x) one same two = tt
-  refused_after old mid new (Err e) one same two = refused_then old mid new e one same two
+  pub refused_after : {T : Type 0} (old mid new : WorldView M) (result : Result T (KernelError AreaError)) → IsQuiet device old mid → IfErr result (IsRefusedReading device mid new) → IfErr result (IsRefusedReading device old new)
+  refused_after old mid new (Ok x) one two = tt
+  refused_after old mid new (Err e) one two = refused_then old mid new e one two
 
   -- ---- what is read is the same all the while
 
+  read_disk : (old new : WorldView M) → IsRead device old new → disk device new.system.kernel.area ≡ disk device old.system.kernel.area
+  read_disk old new read = same_disk device old.system.kernel new.system.kernel read.unmoved.reads
+
   pub same_shared : (old new : WorldView M) → IsRead device old new → shared_graph device new ≡ shared_graph device old
-  same_shared old new read = ap (λ (g : Sizes). graph g (disk device new.system.kernel.area)) read.geometry ∙ ap (graph old.system.kernel.area.geometry) read.reads
+  same_shared old new read = ap (λ (g : Sizes). graph g (disk device new.system.kernel.area)) read.geometry ∙ ap (graph old.system.kernel.area.geometry) (read_disk old new read)
 
   pub same_kept : (old new : WorldView M) → IsRead device old new → kept_log device new.system ≡ kept_log device old.system
   same_kept old new read = λ t c. ap (λ (ss : List (SeatView M)). kept_by device (slice_get ss (c - 1))) read.seats t
@@ -254,7 +279,7 @@ module _ {M : Type 0} (device : Ghosts M) where
   pub same_tree : (old new : WorldView M) → IsRead device old new → world_tree device new ≡ world_tree device old
   same_tree old new read =
       ap (λ (g : Sizes). tree_by device g (disk device new.system.kernel.area) new.system.seats) read.geometry
-      ∙ ap (λ (s : Store). tree_by device old.system.kernel.area.geometry s new.system.seats) read.reads
+      ∙ ap (λ (s : Store). tree_by device old.system.kernel.area.geometry s new.system.seats) (read_disk old new read)
       ∙ ap (tree_by device old.system.kernel.area.geometry (disk device old.system.kernel.area)) read.seats
 
   abbrev whole_by : Sizes → Store → List (SeatView M) → Graph
@@ -263,7 +288,7 @@ module _ {M : Type 0} (device : Ghosts M) where
   pub same_whole : (old new : WorldView M) → IsRead device old new → whole_graph device new.system ≡ whole_graph device old.system
   same_whole old new read =
       ap (λ (g : Sizes). whole_by g (disk device new.system.kernel.area) new.system.seats) read.geometry
-      ∙ ap (λ (s : Store). whole_by old.system.kernel.area.geometry s new.system.seats) read.reads
+      ∙ ap (λ (s : Store). whole_by old.system.kernel.area.geometry s new.system.seats) (read_disk old new read)
       ∙ ap (whole_by old.system.kernel.area.geometry (disk device old.system.kernel.area)) read.seats
 
   -- the records that a client keeps, in two parts

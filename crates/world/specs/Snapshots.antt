@@ -1,7 +1,8 @@
 -- What a world's tree is read from, and what reading leaves of the world.
-use Rattle.std.specs.Prelude.{◌≡◌, ◌≤◌, ℕ, true, List, [], ◌∷◌, ◌++◌, drop, Option, Some, None, nat_le, ◌&&◌, if◌then◌else◌}
+use Rattle.std.specs.Prelude.{◌≡◌, ◌≤◌, ℕ, true, false, List, [], ◌∷◌, ◌++◌, drop, Option, Some, None, nat_le, ◌&&◌, if◌then◌else◌}
 use Rattle.system_world.specs.event_steps.tier_device.declared.media.Media.{Ghosts}
 use Rattle.system_world.specs.event_steps.tier_device.Media.{Rose}
+use Rattle.system_world.specs.event_steps.area_image.batch_journal.Course.{Unmoved}
 use Rattle.system_world.specs.event_steps.area_image.Store.{disk, graph}
 use Rattle.system_world.specs.event_steps.area_image.declared.error.AreaError.{AreaError}
 use Rattle.system_world.specs.event_steps.area_image.declared.error.AreaError.TheVariants as errors
@@ -49,18 +50,25 @@ module _ {M : Type 0} (device : Ghosts M) where
   abbrev pub kept_log : SystemView M → ℕ → List Record
   kept_log w c = kept_by (seat_of w c)
 
-  -- The shared medium was read, and nothing else has changed.
+  -- The shared medium was read, and nothing else has changed: what a stop leaves of it is what it left.
   pub record IsRead (old new : WorldView M) : Type 0 where
+    pub unmoved : Unmoved (device.moment old.system.kernel.area.media) (device.moment new.system.kernel.area.media) (device.seen old.system.kernel.area.media) (device.seen new.system.kernel.area.media) (device.left old.system.kernel.area.media) (device.left new.system.kernel.area.media)
     pub geometry : new.system.kernel.area.geometry ≡ old.system.kernel.area.geometry
-    pub reads : disk device new.system.kernel.area ≡ disk device old.system.kernel.area
     pub book : new.system.kernel.book ≡ old.system.kernel.book
     pub opening : new.system.kernel.opening ≡ old.system.kernel.opening
     pub seats : new.system.seats ≡ old.system.seats
     pub calls : new.calls ≡ old.calls
     pub more_faults : device.faults old.system.kernel.area.media ≤ device.faults new.system.kernel.area.media
 
-  -- A reading is refused for a device of the kernel that has failed before, or fails now, or for want of memory.
+  -- No device of the kernel had failed before a reading, and none has failed in it.
+  pub record IsQuiet (old new : WorldView M) : Type 0 where
+    pub before : old.system.kernel.area.failed ≡ false
+    pub behind : new.system.kernel.area.failed ≡ false
+    pub faults : device.faults new.system.kernel.area.media ≡ device.faults old.system.kernel.area.media
+
+  -- A reading is refused for a device of the kernel that has failed before, or fails now, or for want of memory: then none fails.
   pub record IsRefusedReading (old new : WorldView M) (e : KernelError AreaError) : Type 0 where
     pub only : OnRefusal e IsNoDamage
     pub failed : e ≡ why.Failed → old.system.kernel.area.failed ≡ true
     pub fault : e ≡ why.Refused errors.DeviceFault → (new.system.kernel.area.failed ≡ true) × Rose (device.faults old.system.kernel.area.media) (device.faults new.system.kernel.area.media)
+    pub memory : e ≡ why.Refused errors.Memory → IsQuiet old new

@@ -23,8 +23,8 @@ pub use world::World;
 
 // Passed on to the crates above, which so need not list those below.
 pub use system_world::{
-    AreaError, CLIENTS, Call, Client, ClientLog, ClientSlot, Denied, Event, Fetched, Figures,
-    INODES, Kernel, KernelError, LeaseManagerLeases, LeaseMode, Mode, Need, NodeSummary, Opened,
-    Outcome, Pass, Refusal, Reply, Steps, System, Tier, TierDeviceMedia,
-    idle_system_stands_for_a_world,
+    AreaError, CLIENTS, Call, Client, ClientLog, ClientSlot, Denied, Event, Fetched, FetchedBytes,
+    Figures, FileRun, INODES, Kernel, KernelError, LeaseManagerLeases, LeaseMode, Mode, Need,
+    NodeSummary, Opened, Outcome, Pass, PlainGraph, Refusal, Reply, Steps, System, Tier,
+    TierDeviceMedia, idle_system_stands_for_a_world,
 };

@@ -1,6 +1,6 @@
 //! What is asked of a world, and changes nothing of its tree.
 
-ghost use Rattle.std.specs.Prelude.{◌≡◌, ◌-◌, ◌*◌, length, min, ◌&&◌, if◌then◌else◌, nat_le, ℕ, IfErr, IfOk, Some, slice_get, true};
+ghost use Rattle.std.specs.Prelude.{◌≡◌, ◌-◌, ◌*◌, length, min, ◌&&◌, if◌then◌else◌, nat_le, ℕ, IfErr, IfOk, IfSome, OnErr, Some, slice_get, true};
 ghost use Rattle.world.specs.Leases.{lease_in};
 ghost use Rattle.system_world.specs.event_steps.lease_manager.Passes.{lease_of};
 ghost use Rattle.system_world.specs.event_steps.lease_manager.declared.view.LeaseMode.TheVariants.{Free};
@@ -14,6 +14,7 @@ ghost use Rattle.system_world.specs.event_steps.libfs.area_image.Map.{WantsMemor
 ghost use Rattle.system_world.specs.event_steps.libfs.area_image.Store.{disk, graph};
 ghost use Rattle.system_world.specs.event_steps.libfs.shared_area.FileReads.{bytes_of_inode, IsReadFrom};
 ghost use Rattle.system_world.specs.event_steps.libfs.shared_area.Parts.{IsNoDamage, IsTierOf};
+ghost use Rattle.system_world.specs.event_steps.libfs.kernel_fs.migrator.RunChoice.{IsPicked, MayBeMoved};
 ghost use Rattle.system_world.specs.event_steps.posix_calls.declared.limits.TheConstants.{UNIT_BYTES};
 ghost use Rattle.system_world.specs.WorldTree.{world_tree};
 
@@ -21,8 +22,8 @@ use crate::look_laws::looked_system_stands_for_a_world;
 use crate::stops::left_now;
 use crate::world::World;
 use system_world::{
-    AreaError, Client, Fetched, FetchedBytes, INODES, KernelError, LeaseMode, System, Tier,
-    TierDeviceMedia as Media,
+    AreaError, Client, Fetched, FetchedBytes, FileRun, INODES, KernelError, LeaseMode, System,
+    Tier, TierDeviceMedia as Media,
 };
 
 impl<M: Media> World<M> {
@@ -52,8 +53,10 @@ impl<M: Media> World<M> {
         first: u32,
         out: &mut [u8],
     ) -> Result<FetchedBytes, KernelError<AreaError>>
+        ensures mark { IfOk result (λ x. IsMarkIn (disk M.Media self.old.system.kernel.area) 1 x.mark) }
         ensures count { IfOk result (λ x. x.count ≡ min (length out.old) (length (bytes_of_inode (graph self.old.system.kernel.area.geometry (disk M.Media self.old.system.kernel.area)) inode) - UNIT_BYTES * first)) }
         ensures bytes { IfOk result (λ x. IsReadFrom (bytes_of_inode (graph self.old.system.kernel.area.geometry (disk M.Media self.old.system.kernel.area)) inode) (UNIT_BYTES * first) x.count out.old out.new) }
+        ensures refused { OnErr result ((n : ℕ) × IsReadFrom (bytes_of_inode (graph self.old.system.kernel.area.geometry (disk M.Media self.old.system.kernel.area)) inode) (UNIT_BYTES * first) n out.old out.new) }
         ensures only { IfErr result (λ e. OnRefusal e IsNoDamage) }
         ensures memory { IfErr result (λ e. OnRefusal e (λ r. r ≡ Memory → WantsMemory self.old.system.kernel.area.geometry (disk M.Media self.old.system.kernel.area) inode)) }
         ensures looks { Answers self.old.system.kernel.area.failed self.old.system.kernel self.new.system.kernel result (Looks M.Media self.old.system.kernel.area self.new.system.kernel.area) }
@@ -88,6 +91,25 @@ impl<M: Media> World<M> {
         left_now(&self.system);
         let found = self.system.tier_of(inode, block);
         looked_system_stands_for_a_world::<M, Option<Tier>>();
+        found
+    }
+
+    /// What is to be moved to a tier next, as `Kernel::pick` tells it; it changes nothing. Refused as that is, and never for damage.
+    pub fn pick(&mut self, to: Tier) -> Result<Option<FileRun>, KernelError<AreaError>>
+        ensures picked { IfOk result (IsPicked self.old.system.kernel.area.geometry (disk M.Media self.old.system.kernel.area) to) }
+        ensures may_be_moved { IfOk result (λ x. IfSome x (MayBeMoved self.old.system.kernel.area.geometry (disk M.Media self.old.system.kernel.area) to)) }
+        ensures only { IfErr result (λ e. OnRefusal e IsNoDamage) }
+        ensures memory { IfErr result (λ e. OnRefusal e (λ r. r ≡ Memory → (i : ℕ) × WantsMemory self.old.system.kernel.area.geometry (disk M.Media self.old.system.kernel.area) i)) }
+        ensures looks { Answers self.old.system.kernel.area.failed self.old.system.kernel self.new.system.kernel result (Looks M.Media self.old.system.kernel.area self.new.system.kernel.area) }
+        ensures book { self.new.system.kernel.book ≡ self.old.system.kernel.book }
+        ensures opening { self.new.system.kernel.opening ≡ self.old.system.kernel.opening }
+        ensures seats { self.new.system.seats ≡ self.old.system.seats }
+        ensures calls { self.new.calls ≡ self.old.calls }
+        ensures tree { world_tree M.Media self.new ≡ world_tree M.Media self.old }
+    {
+        left_now(&self.system);
+        let found = self.system.pick(to);
+        looked_system_stands_for_a_world::<M, Option<FileRun>>();
         found
     }
 }

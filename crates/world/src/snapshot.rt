@@ -1,16 +1,16 @@
 //! The file tree that a world stands for, read node by node.
 
-ghost use Rattle.std.specs.Prelude.{◌≡◌, ◌≤◌, false, IfErr, IfOk, None, OnOk, Some, length};
+ghost use Rattle.std.specs.Prelude.{◌≡◌, ◌≤◌, false, true, Err, IfErr, IfOk, None, OnOk, Some, length};
 ghost use Rattle.system_world.specs.event_steps.lease_manager.Words.{IsClient};
 ghost use Rattle.system_world.specs.event_steps.call_effects.NodeView.{view_at};
 ghost use Rattle.system_world.specs.event_steps.call_effects.Wholes.{state_of};
 ghost use Rattle.system_world.specs.event_steps.libfs.file_graph.Graph.{fresh, graph_of, set_node};
 ghost use Rattle.system_world.specs.event_steps.area_image.declared.error.AreaError.TheVariants.{Memory};
-ghost use Rattle.system_world.specs.event_steps.kernel_fs.declared.error.KernelError.TheVariants.{Refused};
+ghost use Rattle.system_world.specs.event_steps.kernel_fs.declared.error.KernelError.TheVariants.{Failed, Refused};
 ghost use Rattle.system_world.specs.event_steps.libfs.shared_area.FileReads.{bytes_of_inode};
 ghost use Rattle.system_world.specs.event_steps.libfs.world_invariant.Logs.{after_clients, after_records};
 ghost use Rattle.system_world.specs.WorldTree.{opened_in, whole_graph, world_tree};
-ghost use Rattle.world.specs.Snapshots.{IsRead, IsRefusedReading, kept_log, names_in, shared_graph, with_nodes};
+ghost use Rattle.world.specs.Snapshots.{IsQuiet, IsRead, IsRefusedReading, kept_log, names_in, shared_graph, with_nodes};
 
 use crate::node_copies::{put_directory, put_file, put_records};
 use crate::stops::left_now;
@@ -24,14 +24,19 @@ use system_world::{
 impl<M: Media> World<M> {
     /// The graph of inodes that the world stands for: that on the shared medium, and over it the records of each client that are not digested. With what the clients have open it is the world's tree.
     ///
-    /// It reads each node once, and changes nothing; at most 1 MiB is wanted beside the graph. `Failed` where a device of the kernel has failed before, `DeviceFault` where one fails, `Memory` where there was none.
+    /// It reads each node once, and changes nothing; at most 1 MiB is wanted beside the graph. `Failed` exactly where a device of the kernel has failed before, `DeviceFault` where one fails, `Memory` where there was none.
     pub fn snapshot(&mut self, alloc: Global) -> Result<PlainGraph, KernelError<AreaError>>
         ensures graph { IfOk result (λ g. graph_of g ≡ whole_graph M.Media self.old.system) }
         ensures tree { IfOk result (λ g. state_of (graph_of g) (opened_in self.old.system) ≡ world_tree M.Media self.old) }
         ensures read { IsRead M.Media self.old self.new }
         ensures kept { world_tree M.Media self.new ≡ world_tree M.Media self.old }
+        ensures quiet { OnOk result (IsQuiet M.Media self.old self.new) }
+        ensures failed { self.old.system.kernel.area.failed ≡ true → (result ≡ Err Failed) × (self.new ≡ self.old) }
         ensures refused { IfErr result (IsRefusedReading M.Media self.old self.new) }
     {
+        if self.system.kernel().has_failed() {
+            return Err(KernelError::Failed);
+        }
         let mut graph = match PlainGraph::with_root(alloc) {
             Ok(graph) => graph,
             Err(_) => return Err(KernelError::Refused(AreaError::Memory)),
@@ -58,9 +63,10 @@ impl<M: Media> World<M> {
         alloc: Global,
         graph: &mut PlainGraph,
     ) -> Result<(), KernelError<AreaError>>
+        requires going { self.old.system.kernel.area.failed ≡ false }
         ensures put { OnOk result (graph_of graph.new ≡ with_nodes (graph_of graph.old) (shared_graph M.Media self.old) 1024) }
         ensures read { IsRead M.Media self.old self.new }
-        ensures going { OnOk result ((self.old.system.kernel.area.failed ≡ false) × (self.new.system.kernel.area.failed ≡ false)) }
+        ensures quiet { OnOk result (IsQuiet M.Media self.old self.new) }
         ensures refused { IfErr result (IsRefusedReading M.Media self.old self.new) }
     {
         for inode in 1..INODES + 1 {
@@ -76,9 +82,10 @@ impl<M: Media> World<M> {
         inode: u32,
         graph: &mut PlainGraph,
     ) -> Result<(), KernelError<AreaError>>
+        requires going { self.old.system.kernel.area.failed ≡ false }
         ensures put { OnOk result (graph_of graph.new ≡ set_node (graph_of graph.old) inode (shared_graph M.Media self.old inode)) }
         ensures read { IsRead M.Media self.old self.new }
-        ensures going { OnOk result ((self.old.system.kernel.area.failed ≡ false) × (self.new.system.kernel.area.failed ≡ false)) }
+        ensures quiet { OnOk result (IsQuiet M.Media self.old self.new) }
         ensures refused { IfErr result (IsRefusedReading M.Media self.old self.new) }
     {
         match self.node_at(inode)? {
@@ -99,7 +106,7 @@ impl<M: Media> World<M> {
         requires going { self.old.system.kernel.area.failed ≡ false }
         ensures put { OnOk result (graph_of graph.new ≡ set_node (graph_of graph.old) inode (shared_graph M.Media self.old inode)) }
         ensures read { IsRead M.Media self.old self.new }
-        ensures going { OnOk result (self.new.system.kernel.area.failed ≡ false) }
+        ensures quiet { OnOk result (IsQuiet M.Media self.old self.new) }
         ensures refused { IfErr result (IsRefusedReading M.Media self.old self.new) }
     {
         let put = if node.is_dir() {
@@ -116,9 +123,10 @@ impl<M: Media> World<M> {
 
     // What stands at an inode of the shared medium.
     fn node_at(&mut self, inode: u32) -> Result<Option<NodeSummary>, KernelError<AreaError>>
+        requires going { self.old.system.kernel.area.failed ≡ false }
         ensures node { IfOk result (λ n. n ≡ view_at (shared_graph M.Media self.old) inode) }
         ensures read { IsRead M.Media self.old self.new }
-        ensures going { OnOk result ((self.old.system.kernel.area.failed ≡ false) × (self.new.system.kernel.area.failed ≡ false)) }
+        ensures quiet { OnOk result (IsQuiet M.Media self.old self.new) }
         ensures refused { IfErr result (IsRefusedReading M.Media self.old self.new) }
     {
         match self.look(inode) {
@@ -138,7 +146,7 @@ impl<M: Media> World<M> {
         requires going { self.old.system.kernel.area.failed ≡ false }
         ensures bytes { IfOk result (λ v. v.items ≡ bytes_of_inode (shared_graph M.Media self.old) inode) }
         ensures read { IsRead M.Media self.old self.new }
-        ensures going { OnOk result (self.new.system.kernel.area.failed ≡ false) }
+        ensures quiet { OnOk result (IsQuiet M.Media self.old self.new) }
         ensures refused { IfErr result (IsRefusedReading M.Media self.old self.new) }
     {
         let mut bytes = match vec![in alloc; 0u8; size as usize] {

@@ -1,20 +1,25 @@
 -- What is so of each medium of a row is so of each part.
-use Rattle.std.proofs.Common.{◌≡◌, ◌<◌, ℕ, zero, suc, List, ◌∷◌, All, length, map, refl, ap, sym, ◌∙◌, subst, arith}
-use Rattle.std.specs.Prelude.{Result, Ok, Err, IfOk}
+use Rattle.std.proofs.Common.{◌≡◌, ◌<◌, ℕ, zero, suc, List, ◌∷◌, All, length, map, ap, sym, ◌∙◌, subst, arith}
+use Rattle.std.proofs.lemmas.List.{length-map}
 use Rattle.host_media.specs.DiskFile.{file_sizes, places_from}
 use Rattle.host_media.specs.File.{IsOpened, file_begin, file_left, file_moment, file_seen}
 use Rattle.host_media.specs.Images.{media_bytes, medium_sizes}
 use Rattle.host_media.specs.declared.file.FileMedia.{FileMedia}
+use Rattle.host_media.specs.declared.sizes.Sizes.{Sizes as TierSizes}
 use Rattle.host_media.specs.tier_device.AfterStop.{AtRest}
 use Rattle.host_media.specs.tier_device.declared.media.Media.{Ghosts}
 use Rattle.host_media.specs.tier_device.declared.media.Tier.{Tier}
-use Rattle.recovery.specs.Parts.{PartsView, part_medium}
+use Rattle.recovery.specs.Parts.{AreAtRest, PartsView, part_medium}
 use Rattle.recovery.specs.Regions.{REGIONS}
 use Rattle.recovery.specs.layout.Places.{Sizes}
 use Rattle.recovery.specs.system_world.courses.Courses.{PARTS}
 use Rattle.world_files.specs.Disks.{AreOnDisk}
 use Rattle.world_files.specs.Images.{AreRead}
-use Rattle.world_files.specs.PartSizes.{IsGeometryIn, part_sizes}
+use Rattle.world_files.specs.PartSizes.{IsGeometryIn, image_size, part_sizes}
+
+-- media of these sizes are as many as a world has
+pub as_many : {M : Type 0} (f : M → TierSizes) (media : List M) (g : Sizes) → map f media ≡ part_sizes g → length media ≡ PARTS
+as_many f media g is = sym (length-map media f) ∙ ap length is
 
 module _ {M : Type 0} (P : M → Type 0) (v : PartsView M) (sixteen : length v.regions ≡ REGIONS) where
   pub each_part : All P (v.shared ∷ v.regions) → (p : ℕ) → p < PARTS → P (part_medium v p)
@@ -26,33 +31,31 @@ module _ {M : Type 0} (device : Ghosts M) where
   abbrev pub RestsAll : M → Type 0
   RestsAll m = (t : Tier) → AtRest (device.seen m) (device.left m (device.moment m)) t
 
+  -- media that rest do so as parts
+  pub parts_rest : (media : List M) → All RestsAll media → (v : PartsView M) → v.shared ∷ v.regions ≡ media → length v.regions ≡ REGIONS → AreAtRest device (part_medium v)
+  parts_rest media rest v is sixteen p t low = each_part RestsAll v sixteen (subst (All RestsAll) (sym is) rest) p low t
+
   -- media that were cut from an image are its parts
-  pub parts_are_read : (image : List ℕ) (g : Sizes) (media : List M) → IsGeometryIn image g → map (medium_sizes device.seen) media ≡ part_sizes g → media_bytes device.seen media ≡ image → All RestsAll media
+  pub parts_are_read : (image : List ℕ) (g : Sizes) (media : List M) → IsGeometryIn image g → length image ≡ image_size g → map (medium_sizes device.seen) media ≡ part_sizes g → media_bytes device.seen media ≡ image → All RestsAll media
       → (v : PartsView M) → v.shared ∷ v.regions ≡ media → length v.regions ≡ REGIONS → AreRead device image v
-  parts_are_read image g media found sizes bytes rest v is sixteen = record {
+  parts_are_read image g media found long sizes bytes rest v is sixteen = record {
     geometry = g;
     found = found;
+    long = long;
     sizes = ap (map (medium_sizes device.seen)) is ∙ sizes;
     bytes = ap (media_bytes device.seen) is ∙ bytes;
-    rest = λ p t low. each_part RestsAll v sixteen (subst (All RestsAll) (sym is) rest) p low t;
+    rest = parts_rest media rest v is sixteen;
   }
 
-  -- so are those of which parts are made
-  pub read_parts_are : {E : Type 0} (image : List ℕ) (g : Sizes) (media : List M) → IsGeometryIn image g → map (medium_sizes device.seen) media ≡ part_sizes g → media_bytes device.seen media ≡ image → All RestsAll media
-      → (r : Result (PartsView M) E) → IfOk r (λ v. v.shared ∷ v.regions ≡ media) → IfOk r (λ v. length v.regions ≡ REGIONS) → IfOk r (AreRead device image)
-  read_parts_are image g media found sizes bytes rest (Ok v) is sixteen = parts_are_read image g media found sizes bytes rest v is sixteen
-  read_parts_are image g media found sizes bytes rest (Err e) is sixteen = tt
-
 -- Media of a file are those of a disk, once they are parts.
-pub parts_on_disk : {E : Type 0} (g : Sizes) (media : List FileMedia) → map file_sizes media ≡ part_sizes g → map file_begin media ≡ places_from 0 (part_sizes g) → All IsOpened media
-    → (r : Result (PartsView FileMedia) E) → IfOk r (λ v. v.shared ∷ v.regions ≡ media) → IfOk r (λ v. length v.regions ≡ REGIONS) → IfOk r (AreOnDisk g)
-parts_on_disk g media sizes places opened (Ok v) is sixteen = record {
+pub parts_on_disk : (g : Sizes) (media : List FileMedia) → map file_sizes media ≡ part_sizes g → map file_begin media ≡ places_from 0 (part_sizes g) → All IsOpened media
+    → (v : PartsView FileMedia) → v.shared ∷ v.regions ≡ media → length v.regions ≡ REGIONS → AreOnDisk g v
+parts_on_disk g media sizes places opened v is sixteen = record {
   sizes = ap (map file_sizes) is ∙ sizes;
   places = ap (map file_begin) is ∙ places;
   opened = subst (All IsOpened) (sym is) opened;
   sixteen = sixteen;
 }
-parts_on_disk g media sizes places opened (Err e) is sixteen = tt
 
 -- and nothing is pending on them
 pub disk_rests : (g : Sizes) (v : PartsView FileMedia) → AreOnDisk g v → (p : ℕ) (t : Tier) → p < PARTS → AtRest (file_seen (part_medium v p)) (file_left (part_medium v p) (file_moment (part_medium v p))) t

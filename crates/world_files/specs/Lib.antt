@@ -1,6 +1,9 @@
+pub mod FileErrors
 pub mod PartSizes
 pub mod Worlds
 pub mod Images
+pub mod ImageFiles
+pub mod Fronts
 pub mod Disks
 -- Passed on to the crates above, which so need not list those below.
 pub use Rattle.host_media.specs as host_media

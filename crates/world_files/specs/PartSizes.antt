@@ -1,5 +1,6 @@
 -- The sizes of a world's media.
-use Rattle.std.specs.Prelude.{◌≡◌, ℕ, ◌+◌, ◌*◌, Bool, ◌&&◌, nat_le, if◌then◌else◌, List, ◌∷◌, replicate, take, Option, Some, None, option_map}
+use Rattle.std.specs.Prelude.{◌≡◌, ℕ, ◌+◌, ◌*◌, Bool, ◌&&◌, nat_le, if◌then◌else◌, List, ◌∷◌, replicate, sum_by, take, Option, Some, None, option_map}
+use Rattle.host_media.specs.Sizes.{byte_count}
 use Rattle.host_media.specs.declared.sizes.Sizes.{Sizes as TierSizes}
 use Rattle.host_media.specs.tier_device.declared.media.Tier.TheVariants.{Fast, Block, Slow}
 use Rattle.recovery.specs.layout.Places.{Sizes, geometry_of, sizes, tier_blocks}
@@ -22,6 +23,10 @@ region_sizes = record { fast = REGION_SIZE; block = 0; slow = 0 }
 -- those of each medium, the shared one first
 abbrev pub part_sizes : Sizes → List TierSizes
 part_sizes g = shared_sizes g ∷ replicate REGIONS region_sizes
+
+-- how many bytes all of them have
+abbrev pub image_size : Sizes → ℕ
+image_size g = sum_by byte_count (part_sizes g)
 
 -- the geometry of sizes that are asked for, if media have them
 abbrev pub sizes_asked : WorldSizes → Option Sizes

@@ -1,7 +1,10 @@
 -- What is known of a world that was made, or recovered.
-use Rattle.std.specs.Prelude.{◌≡◌}
+use Rattle.std.specs.Prelude.{◌≡◌, ℕ}
 use Rattle.host_media.specs.tier_device.declared.media.Media.{Ghosts}
-use Rattle.recovery.specs.Parts.{AreAtRest}
+use Rattle.recovery.specs.Parts.{AreAtRest, contents_of}
+use Rattle.recovery.specs.RecoveryStops.{AreGivenBack}
+use Rattle.recovery.specs.Refusals.{IsCause}
+use Rattle.recovery.specs.settlement.declared.error.RecoveryError.{RecoveryError}
 use Rattle.recovery.specs.layout.Places.{Sizes}
 use Rattle.recovery.specs.system_world.KeptCalls.{no_calls}
 use Rattle.recovery.specs.system_world.Parts.{medium_of}
@@ -15,3 +18,9 @@ pub record IsEmptyWorld {M : Type 0} (device : Ghosts M) (g : Sizes) (w : WorldV
   pub geometry : w.system.kernel.area.geometry ≡ g
   pub calls : w.calls ≡ no_calls
   pub rest : AreAtRest device (medium_of w.system)
+
+-- No world is recovered of media: the refusal names its cause, what a stop leaves meanwhile is recovered as they are, and they are given back so.
+pub record IsUnrecovered {M : Type 0} (device : Ghosts M) (old : ℕ → M) (e : RecoveryError) : Type 0 where
+  pub cause : IsCause (contents_of device old) e
+  pub media : ℕ → M
+  pub back : AreGivenBack device old media e

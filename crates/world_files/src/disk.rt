@@ -1,14 +1,17 @@
 // A world that lives in a file: what was answered stands on its disk.
-ghost use Rattle.std.specs.Prelude.{◌≡◌, IfOk};
-ghost use Rattle.world_files.specs.Disks.{AreOnDisk, IsDiskWorld, IsFormattedDisk, IsRecoveredDisk};
+ghost use Rattle.std.specs.Prelude.{◌≡◌, true, false, IfErr, IfOk};
+ghost use Rattle.world_files.specs.Disks.{AreOnDisk, IsDiskRefused, IsDiskWorld, IsFormattedDisk, IsMadeDisk, IsPathRefused, IsRecoveredDisk};
+ghost use Rattle.world_files.specs.FileErrors.{IsOfFile};
 
 use crate::draft::draft_path;
 use crate::error::WorldFileError;
-use crate::geometry::{image_len, part_sizes, read_geometry};
+use crate::front::front_geometry;
+use crate::geometry::{image_len, part_sizes};
 use crate::parts::parts_of;
+use crate::read_at::ReadAt;
 use crate::sizes::WorldSizes;
-use host_media::{DiskFile, FileMedia, FileProblem, Media};
-use recovery::{BLOCK, Geometry, Parts, World, format, recover};
+use host_media::{DiskFile, FileMedia, Media};
+use recovery::{Geometry, Parts, World, format, recover};
 use std::alloc::Global;
 use std::fs::{self, File, Files};
 
@@ -26,10 +29,27 @@ pub fn open_disk<R: Files<File = File>>(
     ensures { IfOk result (IsDiskWorld ⟦<FileMedia as Media>⟧ sizes) }
 {
     let draft = draft_path(alloc, path)?;
-    if fs::exists(files, path)? {
+    let is_there = fs::exists(files, path)?;
+    open_path(files, alloc, path, draft.as_str(), is_there, sizes)
+}
+
+// The world of a path of which it is known whether there is a file.
+fn open_path<R: Files<File = File>>(
+    files: &R,
+    alloc: Global,
+    path: &str,
+    draft: &str,
+    is_there: bool,
+    sizes: WorldSizes,
+) -> Result<World<FileMedia>, WorldFileError>
+    ensures recovered { is_there ≡ true → IfOk result (IsRecoveredDisk ⟦<FileMedia as Media>⟧) }
+    ensures refused { is_there ≡ true → IfErr result (IsPathRefused ⟦<FileMedia as Media>⟧ ⟦<DiskFile as ReadAt>⟧) }
+    ensures made { is_there ≡ false → IfOk result (IsMadeDisk ⟦<FileMedia as Media>⟧ sizes) }
+{
+    if is_there {
         recover_disk(files, alloc, path)
     } else {
-        format_disk(files, alloc, path, draft.as_str(), &sizes.geometry()?)
+        format_disk(files, alloc, path, draft, &sizes.geometry()?)
     }
 }
 
@@ -38,10 +58,21 @@ fn recover_disk<R: Files<File = File>>(
     alloc: Global,
     path: &str,
 ) -> Result<World<FileMedia>, WorldFileError>
-    ensures { IfOk result (IsRecoveredDisk ⟦<FileMedia as Media>⟧) }
+    ensures recovered { IfOk result (IsRecoveredDisk ⟦<FileMedia as Media>⟧) }
+    ensures refused { IfErr result (IsPathRefused ⟦<FileMedia as Media>⟧ ⟦<DiskFile as ReadAt>⟧) }
 {
-    let disk = DiskFile::open(files, alloc, path)?;
-    let geometry = disk_geometry(&disk)?;
+    recover_file(alloc, DiskFile::open(files, alloc, path)?)
+}
+
+// The world of what an open file holds.
+fn recover_file(alloc: Global, disk: DiskFile) -> Result<World<FileMedia>, WorldFileError>
+    ensures recovered { IfOk result (IsRecoveredDisk ⟦<FileMedia as Media>⟧) }
+    ensures refused { IfErr result (IsDiskRefused ⟦<FileMedia as Media>⟧ ⟦<DiskFile as ReadAt>⟧ disk) }
+{
+    let geometry = front_geometry(&disk)?;
+    if disk.len() != image_len(&geometry) {
+        return Err(WorldFileError::NoWorld);
+    }
     let parts = disk_parts(alloc, disk, &geometry)?;
     match recover(alloc, parts) {
         Ok(world) => Ok(world),
@@ -49,17 +80,8 @@ fn recover_disk<R: Files<File = File>>(
     }
 }
 
-// The geometry that the superblock of a file tells.
-pub(crate) fn disk_geometry(disk: &DiskFile) -> Result<Geometry, WorldFileError> {
-    let mut block = [0u8; BLOCK];
-    match disk.read(0, &mut block) {
-        Ok(()) => read_geometry(&block),
-        Err(FileProblem::Length { .. }) => Err(WorldFileError::NoWorld),
-        Err(problem) => Err(WorldFileError::File(problem)),
-    }
-}
-
-// Makes the file under its draft's name, and gives it its own once the empty world stands in it: so a file of that name always holds a world.
+// Makes the file under its draft's name, and gives it its own once the empty world stands in it: so a file of that name always holds a world. No clause says that it was given its
+// name, since the contracts of files say nothing of names.
 fn format_disk<R: Files<File = File>>(
     files: &R,
     alloc: Global,
@@ -70,10 +92,7 @@ fn format_disk<R: Files<File = File>>(
     ensures { IfOk result (IsFormattedDisk ⟦<FileMedia as Media>⟧ geometry.now) }
 {
     DiskFile::remove_unused(files, draft)?;
-    let Some(len) = image_len(geometry) else {
-        return Err(WorldFileError::File(FileProblem::TooLarge));
-    };
-    let disk = DiskFile::create(files, alloc, draft, len)?;
+    let disk = DiskFile::create(files, alloc, draft, image_len(geometry))?;
     let parts = disk_parts(alloc, disk, geometry)?;
     match format(alloc, geometry, parts) {
         Ok(world) => {
@@ -90,11 +109,11 @@ fn disk_parts(
     disk: DiskFile,
     geometry: &Geometry,
 ) -> Result<Parts<FileMedia>, WorldFileError>
-    ensures { IfOk result (AreOnDisk geometry.now) }
+    ensures lie { IfOk result (AreOnDisk geometry.now) }
+    ensures only { IfErr result IsOfFile }
 {
     match disk.into_media(alloc, &part_sizes(geometry)) {
-        Ok(media) => parts_of(media),
-        Err(FileProblem::Length { .. }) => Err(WorldFileError::NoWorld),
+        Ok(media) => Ok(parts_of(media)),
         Err(problem) => Err(WorldFileError::File(problem)),
     }
 }

@@ -1,4 +1,8 @@
 // Why a file gives no world, or keeps none.
+ghost use Rattle.std.specs.Prelude.{◌≡◌};
+ghost use Rattle.world_files.specs.FileErrors.{IsOfFile};
+ghost use Rattle.world_files.specs.declared.error.WorldFileError.TheVariants.{File, Memory, Recovery};
+
 use crate::sizes::SizeRule;
 use host_media::{FileError, FileProblem};
 use recovery::RecoveryError;
@@ -29,30 +33,40 @@ pub enum WorldFileError {
 }
 
 impl From<AllocError> for WorldFileError {
+    ghost from_gives = { λ _ e. e ≡ Memory };
+
     fn from(_error: AllocError) -> WorldFileError {
         WorldFileError::Memory
     }
 }
 
 impl From<io::Error> for WorldFileError {
+    ghost from_gives = { λ _ e. IsOfFile e };
+
     fn from(error: io::Error) -> WorldFileError {
         WorldFileError::File(FileProblem::from(error))
     }
 }
 
 impl From<FileProblem> for WorldFileError {
+    ghost from_gives = { λ problem e. e ≡ File problem };
+
     fn from(problem: FileProblem) -> WorldFileError {
         WorldFileError::File(problem)
     }
 }
 
 impl From<FileError<'_>> for WorldFileError {
+    ghost from_gives = { λ error e. e ≡ File error.problem };
+
     fn from(error: FileError<'_>) -> WorldFileError {
         WorldFileError::File(error.problem)
     }
 }
 
 impl From<RecoveryError> for WorldFileError {
+    ghost from_gives = { λ error e. e ≡ Recovery error };
+
     fn from(error: RecoveryError) -> WorldFileError {
         WorldFileError::Recovery(error)
     }

@@ -1,10 +1,9 @@
 // The sizes of a world's media.
-ghost use Rattle.std.specs.Prelude.{◌≡◌, ◌≤◌, ◌*◌, ◌^◌, [], ◌∷◌, sum_by, IfErr, IfNone, IfOk, IfSome, None};
-ghost use Rattle.host_media.specs.Sizes.{byte_count};
+ghost use Rattle.std.specs.Prelude.{◌≡◌, ◌*◌, [], ◌∷◌, IfErr, IfOk, None};
 ghost use Rattle.host_media.specs.tier_device.declared.media.Tier.TheVariants.{Fast, Block, Slow};
 ghost use Rattle.recovery.specs.layout.Places.{tier_blocks};
 ghost use Rattle.recovery.specs.layout.declared.places.TheConstants.{BLOCK};
-ghost use Rattle.world_files.specs.PartSizes.{IsGeometryIn, geometry_in, part_sizes};
+ghost use Rattle.world_files.specs.PartSizes.{IsGeometryIn, geometry_in, image_size, part_sizes};
 ghost use Rattle.world_files.specs.declared.error.WorldFileError.TheVariants.{NoWorld};
 
 use crate::error::WorldFileError;
@@ -45,12 +44,16 @@ fn tier_len(geometry: &Geometry, tier: Tier) -> usize
     geometry.tier_blocks(tier) as usize * BLOCK
 }
 
-/// How many bytes the media have together, if a file may have so many.
-pub fn image_len(geometry: &Geometry) -> Option<usize>
-    ensures len { IfSome result (λ len. len ≡ sum_by byte_count (part_sizes geometry.now)) }
-    ensures large { IfNone result (2 ^ 63 ≤ sum_by byte_count (part_sizes geometry.now)) }
+/// How many bytes the media have together.
+pub fn image_len(geometry: &Geometry) -> usize
+    ensures { result ≡ image_size geometry.now }
 {
-    Sizes::total_len(&part_sizes(geometry))
+    // For the proof: the sizes are allowed.
+    let _units = geometry.units();
+    let fast = tier_len(geometry, Tier::Fast);
+    let block = tier_len(geometry, Tier::Block);
+    let slow = tier_len(geometry, Tier::Slow);
+    fast + block + slow + REGIONS * REGION_SIZE
 }
 
 /// The lengths of the tiers of each medium, the shared one first.

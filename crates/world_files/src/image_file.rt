@@ -1,5 +1,8 @@
 // A file that holds a world's image.
-use crate::disk::disk_geometry;
+ghost use Rattle.std.specs.Prelude.{option_map, IfErr, IfOk};
+ghost use Rattle.world_files.specs.FileErrors.{IsFileOrMemory};
+ghost use Rattle.world_files.specs.ImageFiles.{MayHold};
+
 use crate::draft::draft_path;
 use crate::error::WorldFileError;
 use host_media::DiskFile;
@@ -30,7 +33,10 @@ impl ImageFile {
     }
 
     /// The bytes of the file; none where there is none. Refused are a read that fails, and want of memory.
-    pub fn read(&self, alloc: Global) -> Result<Option<Vec<u8>>, WorldFileError> {
+    pub fn read(&self, alloc: Global) -> Result<Option<Vec<u8>>, WorldFileError>
+        ensures held { IfOk result (λ held. MayHold self.now (option_map (λ bytes. bytes.items) held)) }
+        ensures only { IfErr result IsFileOrMemory }
+    {
         let Some(disk) = &self.held else {
             return Ok(None);
         };
@@ -45,7 +51,7 @@ impl ImageFile {
     /// Refused are a file of the path that was not there when this was opened, a draft that another process writes, a device that fails or is full, and want of memory. The file is then as
     /// it was, but where its new name could not be kept.
     pub fn replace<R: Files<File = File>>(
-        self,
+        &self,
         files: &R,
         alloc: Global,
         path: &str,

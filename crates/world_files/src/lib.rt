@@ -8,10 +8,12 @@
 mod disk;
 mod draft;
 mod error;
+mod front;
 mod geometry;
 mod image;
 mod image_file;
 mod parts;
+mod read_at;
 mod sizes;
 mod structures;
 

@@ -1,30 +1,31 @@
 // The parts of a world as a row of media.
-ghost use Rattle.std.specs.Prelude.{◌≡◌, ◌∷◌, length, IfOk};
+ghost use Rattle.std.specs.Prelude.{◌≡◌, ◌∷◌, length, IfErr, IfOk};
 ghost use Rattle.recovery.specs.Regions.{REGIONS};
+ghost use Rattle.recovery.specs.system_world.courses.Courses.{PARTS};
+ghost use Rattle.world_files.specs.declared.error.WorldFileError.TheVariants.{Memory};
 
 use crate::error::WorldFileError;
 use host_media::Media;
 use recovery::Parts;
 
 /// The parts whose shared medium is the first of these media, and whose regions are the others.
-pub(crate) fn parts_of<M: Media + Drop>(media: Vec<M>) -> Result<Parts<M>, WorldFileError>
-    ensures media { IfOk result (λ parts. parts.shared ∷ parts.regions ≡ media.items) }
-    ensures sixteen { IfOk result (λ parts. length parts.regions ≡ REGIONS) }
+pub(crate) fn parts_of<M: Media + Drop>(media: Vec<M>) -> Parts<M>
+    requires { length media.items ≡ PARTS }
+    ensures media { result.shared ∷ result.regions ≡ media.items }
+    ensures sixteen { length result.regions ≡ REGIONS }
 {
     let mut media = media;
-    if media.is_empty() {
-        return Err(WorldFileError::NoWorld);
-    }
     let shared = media.remove(0);
     match Parts::new(shared, media) {
-        Ok(parts) => Ok(parts),
-        Err(_) => Err(WorldFileError::NoWorld),
+        Ok(parts) => parts,
+        Err(_) => unreachable!(),
     }
 }
 
 /// The shared medium, and behind it those of the regions. Refused is want of memory.
 pub(crate) fn media_of<M: Media + Drop>(parts: Parts<M>) -> Result<Vec<M>, WorldFileError>
-    ensures { IfOk result (λ media. media.items ≡ parts.shared ∷ parts.regions) }
+    ensures media { IfOk result (λ media. media.items ≡ parts.shared ∷ parts.regions) }
+    ensures only { IfErr result (λ e. e ≡ Memory) }
 {
     let (shared, regions) = parts.into_media();
     let mut media = regions;

@@ -1,5 +1,6 @@
 // How large a world is made.
 ghost use Rattle.std.specs.Prelude.{◌≡◌, ◌↔◌, IfErr, IsErrOf, IfOk, None, Some};
+ghost use Rattle.world_files.specs.FileErrors.{IsOfSizes};
 ghost use Rattle.world_files.specs.PartSizes.{broken_rule, sizes_asked};
 ghost use Rattle.world_files.specs.declared.error.WorldFileError.TheVariants.{Sizes};
 ghost use Rattle.world_files.specs.declared.sizes.SizeRule.{SizeRule};
@@ -36,6 +37,7 @@ impl WorldSizes {
     pub fn geometry(&self) -> Result<Geometry, WorldFileError>
         ensures geometry { IfOk result (λ g. sizes_asked self.now ≡ Some g) }
         ensures none { IfErr result (λ _. sizes_asked self.now ≡ None) }
+        ensures only { IfErr result IsOfSizes }
         ensures rule { (rule : SizeRule) → IsErrOf result (Sizes rule) ↔ (broken_rule self.now ≡ Some rule) }
     {
         match Geometry::new(self.units, self.fast, self.block, self.slow) {

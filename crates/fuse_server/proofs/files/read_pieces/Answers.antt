@@ -1,4 +1,4 @@
-use Rattle.std.proofs.Common.{◌≡◌, ◌++◌, ◌∷◌, [], length, inl, inr, refl, arith, vec_len}
+use Rattle.std.proofs.Common.{◌≡◌, ◌++◌, ◌∷◌, [], length, inl, inr, refl, arith}
 use Rattle.std.proofs.lemmas.Result.{err_from_is_err_and}
 use Rattle.fuse_server.proofs.ReadLemmas.{full_piece, is_next_read, piece_is_asked, pieces_more, refusal_is_asked}
 use Rattle.fuse_server.proofs.files.read_pieces.Goals as goal

@@ -1,6 +1,6 @@
-use Rattle.recovery_laws.specs.shared_area.AreaOpen.{SpellsNone, IsMediumDamage}
-use Rattle.recovery.proofs.Faults.{of_area, no_damage, of_fault, of_memory, of_other, on_damage}
-use Rattle.recovery.proofs.Staying.{opened_stays, opened_volume}
+use Rattle.settlement.specs.recovery_laws.shared_area.AreaOpen.{SpellsNone, IsMediumDamage}
+use Rattle.settlement.proofs.Faults.{of_area, no_damage, of_fault, of_memory, of_other, on_damage}
+use Rattle.settlement.proofs.Staying.{opened_stays, opened_volume}
 use Rattle.recovery.proofs.area_open.open_area.Goals as goal
 
 pub returns-in-Ok-clause-any_moment : goal.returns-in-Ok-clause-any_moment

@@ -1,18 +1,18 @@
 use Rattle.std.proofs.Common.{ap, sym, subst, ◌∙◌, inl, inr}
 use Rattle.std.proofs.lemmas.Bool.{false≢true}
-use Rattle.world.specs.system_world.event_steps.View.{SystemView}
-use Rattle.recovery_laws.specs.shared_area.area_image.Looks.{call_answer}
-use Rattle.recovery_laws.specs.shared_area.batch_journal.View.{JournalView}
-use Rattle.recovery_laws.specs.shared_area.layout.declared.marks.Marks.{Marks}
-use Rattle.world.specs.system_world.Idle.{IsIdleSystem}
-use Rattle.world.specs.system_world.Parts.{medium_of}
-use Rattle.world.specs.system_world.event_steps.call_effects.ClosedGraph.{nobody}
-use Rattle.world.specs.system_world.event_steps.call_effects.Wholes.{state_of}
-use Rattle.world.specs.system_world.event_steps.libfs.file_graph.Graph.{Graph}
-use Rattle.recovery.specs.Parts.{part_medium}
-use Rattle.recovery.specs.PartMedia.{AreUntouched, media_beneath}
-use Rattle.recovery.specs.Regions.{media_of}
-use Rattle.recovery.proofs.Faults.{no_damage, of_fault}
+use Rattle.settlement.specs.world.system_world.event_steps.View.{SystemView}
+use Rattle.settlement.specs.recovery_laws.shared_area.area_image.Looks.{call_answer}
+use Rattle.settlement.specs.recovery_laws.shared_area.batch_journal.View.{JournalView}
+use Rattle.settlement.specs.recovery_laws.shared_area.layout.declared.marks.Marks.{Marks}
+use Rattle.settlement.specs.world.system_world.Idle.{IsIdleSystem}
+use Rattle.settlement.specs.world.system_world.Parts.{medium_of}
+use Rattle.settlement.specs.world.system_world.event_steps.call_effects.ClosedGraph.{nobody}
+use Rattle.settlement.specs.world.system_world.event_steps.call_effects.Wholes.{state_of}
+use Rattle.settlement.specs.world.system_world.event_steps.libfs.file_graph.Graph.{Graph}
+use Rattle.settlement.specs.Parts.{part_medium}
+use Rattle.settlement.specs.PartMedia.{AreUntouched, media_beneath}
+use Rattle.settlement.specs.Regions.{media_of}
+use Rattle.settlement.proofs.Faults.{no_damage, of_fault}
 use Rattle.recovery.proofs.IdleWorlds.{idle_assembled, idle_tree, looked_untouched, same_graph_read, same_mark}
 use Rattle.recovery.proofs.OpenedSeats.{are_seats, seats_read, unread}
 use Rattle.recovery.proofs.SystemParts.{given_back, region_rose, shared_rose, system_untouched}

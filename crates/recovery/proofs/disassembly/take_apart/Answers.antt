@@ -1,12 +1,12 @@
 use Rattle.std.proofs.Common.{◌++◌, List, length, ap, ◌∙◌}
-use Rattle.world.specs.system_world.event_steps.View.{SeatView, SystemView}
-use Rattle.recovery_laws.specs.kernel_fs.KernelView.{KernelView}
-use Rattle.recovery_laws.specs.shared_area.batch_journal.View.{JournalView}
-use Rattle.recovery_laws.specs.update_log.View.{RegionView}
-use Rattle.world.specs.system_world.Parts.{medium_of}
-use Rattle.recovery.specs.Parts.{PartsView}
-use Rattle.recovery.specs.PartMedia.{regions_of_seats}
-use Rattle.recovery.specs.Regions.{media_of}
+use Rattle.settlement.specs.world.system_world.event_steps.View.{SeatView, SystemView}
+use Rattle.settlement.specs.recovery_laws.kernel_fs.KernelView.{KernelView}
+use Rattle.settlement.specs.recovery_laws.shared_area.batch_journal.View.{JournalView}
+use Rattle.settlement.specs.recovery_laws.update_log.View.{RegionView}
+use Rattle.settlement.specs.world.system_world.Parts.{medium_of}
+use Rattle.settlement.specs.Parts.{PartsView}
+use Rattle.settlement.specs.PartMedia.{regions_of_seats}
+use Rattle.settlement.specs.Regions.{media_of}
 use Rattle.recovery.proofs.SystemParts.{parts_are, sixteen_regions}
 use Rattle.recovery.proofs.disassembly.take_apart.Goals as goal
 

@@ -1,6 +1,6 @@
-use Rattle.recovery.proofs.SettlementPhases.{of_err, of_ok}
-use Rattle.recovery.specs.Parts.{contents_of, part_medium}
-use Rattle.recovery.proofs.RefusalCauses.{cause_bad_log, cause_damaged, cause_only, cause_size}
+use Rattle.settlement.proofs.SettlementPhases.{of_err, of_ok}
+use Rattle.settlement.specs.Parts.{contents_of, part_medium}
+use Rattle.settlement.proofs.RefusalCauses.{cause_bad_log, cause_damaged, cause_only, cause_size}
 use Rattle.recovery.proofs.part_recovery.recover.Goals as goal
 
 pub returns-clause-tree : goal.returns-clause-tree

@@ -1,21 +1,21 @@
 use Rattle.std.proofs.Common.{rules, ◌≡◌, ℕ, ◌/◌, List, ◌++◌, length, ap, sym, ◌∙◌, subst}
 use Rattle.std.specs.Prelude.{drop, slice_get, slice_index, take, Some}
-use Rattle.recovery_laws.specs.update_log.View.{RegionView}
+use Rattle.settlement.specs.recovery_laws.update_log.View.{RegionView}
 use Rattle.recovery.specs.Assembly.{AreReadyRegions}
-use Rattle.recovery_laws.specs.shared_area.area_image.Store.{disk}
-use Rattle.world.specs.system_world.Contents.{log_in}
-use Rattle.recovery.specs.Parts.{PartsView, contents_of, part_medium}
-use Rattle.recovery.specs.PartMedia.{AreUntouched, SomeRose, media_beneath}
-use Rattle.recovery.specs.RecoveryStops.{AreGivenBack}
-use Rattle.recovery.specs.Regions.{HaveRisen, IsOnlyRead, media_of}
-use Rattle.world.specs.system_world.Parts.{medium_of}
-use Rattle.recovery.specs.Settlement.{RefusesArea, SettlesArea}
-use Rattle.recovery.specs.Silent.{MayBeWiped, StaysSilent}
+use Rattle.settlement.specs.recovery_laws.shared_area.area_image.Store.{disk}
+use Rattle.settlement.specs.world.system_world.Contents.{log_in}
+use Rattle.settlement.specs.Parts.{PartsView, contents_of, part_medium}
+use Rattle.settlement.specs.PartMedia.{AreUntouched, SomeRose, media_beneath}
+use Rattle.settlement.specs.RecoveryStops.{AreGivenBack}
+use Rattle.settlement.specs.Regions.{HaveRisen, IsOnlyRead, media_of}
+use Rattle.settlement.specs.world.system_world.Parts.{medium_of}
+use Rattle.settlement.specs.Settlement.{RefusesArea, SettlesArea}
+use Rattle.settlement.specs.Silent.{MayBeWiped, StaysSilent}
 use Rattle.recovery.proofs.RecoveredWorlds.{area_ready, assembled_back, recovered_world, regions_ready, settled_back, settled_cause, wiped_back}
-use Rattle.recovery.proofs.RegionMedia.{slice_back, zip_length}
-use Rattle.recovery.proofs.SettlementPhases.{all_err, all_ok, of_err}
-use Rattle.recovery.specs.FaultOrMemory.{IsFaultOrMemory}
-use Rattle.recovery.proofs.RefusalCauses.{memory_cause}
+use Rattle.settlement.proofs.RegionMedia.{slice_back, zip_length}
+use Rattle.settlement.proofs.SettlementPhases.{all_err, all_ok, of_err}
+use Rattle.settlement.specs.FaultOrMemory.{IsFaultOrMemory}
+use Rattle.settlement.proofs.RefusalCauses.{memory_cause}
 use Rattle.recovery.proofs.part_recovery.recover_opened.Goals as goal
 
 pub returns-in-Err-clause-back : goal.returns-in-Err-clause-back

@@ -1,19 +1,19 @@
 use Rattle.std.proofs.Common.{◌≡◌, inl, inr, ℕ, suc, ◌<◌, ◌≤◌, sym, ◌∙◌, subst, arith}
-use Rattle.world.specs.system_world.Contents.{log_in, regions_in, stored_state}
-use Rattle.world.specs.system_world.courses.Courses.{PARTS}
-use Rattle.recovery.specs.Parts.{AreAtRest, PartsView, contents_of, part_medium}
-use Rattle.recovery.specs.PartMedia.{media_beneath}
-use Rattle.recovery.specs.RecoveryStops.{AreGivenBack, IsRecoveredWorld}
-use Rattle.recovery.specs.Regions.{IsGivenBack, media_of}
-use Rattle.recovery_laws.specs.update_log.tier_device.declared.media.Tier.TheVariants.{Fast}
-use Rattle.recovery.proofs.JoinedWorlds.{joined_back, joined_world, logs_same}
+use Rattle.settlement.specs.world.system_world.Contents.{log_in, regions_in, stored_state}
+use Rattle.settlement.specs.world.system_world.courses.Courses.{PARTS}
+use Rattle.settlement.specs.Parts.{AreAtRest, PartsView, contents_of, part_medium}
+use Rattle.settlement.specs.PartMedia.{media_beneath}
+use Rattle.settlement.specs.RecoveryStops.{AreGivenBack, IsRecoveredWorld}
+use Rattle.settlement.specs.Regions.{IsGivenBack, media_of}
+use Rattle.settlement.specs.recovery_laws.update_log.tier_device.declared.media.Tier.TheVariants.{Fast}
+use Rattle.settlement.proofs.JoinedWorlds.{joined_back, joined_world, logs_same}
 use Rattle.recovery.proofs.OpenedParts.{all_given, all_reopened, all_same, denied_never, faults_then, open_regions, opened_back, opened_store, region_same, regions_alike, rests_each}
-use Rattle.recovery.proofs.RegionMedia.{zip_length}
-use Rattle.recovery.proofs.SettlementPhases.{of_err, of_ok}
-use Rattle.recovery.proofs.WholeContents.{whole_recovers}
-use Rattle.world.specs.system_world.event_steps.area_image.Store.{Store, store_of}
-use Rattle.recovery.specs.Refusals.{HaveRegionSizes, IsCause, IsStoredCause}
-use Rattle.recovery.proofs.RefusalCauses.{cause_same, denied_cause, on_each, opened_cause, opened_sizes, stored_cause}
+use Rattle.settlement.proofs.RegionMedia.{zip_length}
+use Rattle.settlement.proofs.SettlementPhases.{of_err, of_ok}
+use Rattle.settlement.proofs.WholeContents.{whole_recovers}
+use Rattle.settlement.specs.world.system_world.event_steps.area_image.Store.{Store, store_of}
+use Rattle.settlement.specs.Refusals.{HaveRegionSizes, IsCause, IsStoredCause}
+use Rattle.settlement.proofs.RefusalCauses.{cause_same, denied_cause, on_each, opened_cause, opened_sizes, stored_cause}
 use Rattle.recovery.proofs.part_recovery.recover_parts.Goals as goal
 
 pub open_area-requires : goal.open_area-requires

@@ -4,6 +4,7 @@ use Rattle.std.specs.Prelude.{Result, Ok, Err, OnErr, OnOk, slice_get}
 use Rattle.world_files.specs.recovery.Parts.{PartsView, part_medium}
 use Rattle.workload_cli.specs.Fills.{AreRestBy}
 use Rattle.workload_cli.specs.Rests.{LeaveNoMore}
+use Rattle.workload_cli.specs.Trips.{PartsCount, RegionsCount}
 use Rattle.workload_cli.proofs.RestingMedia.{each_leaves_no_more, each_rests}
 use Rattle.workload_cli.proofs.media_rest.rest_parts.Goals as goal
 
@@ -46,3 +47,12 @@ returns-in-Ok-Err-clause-refused g c =
     (subst (λ (w : PartsView _). LeaveNoMore m (part_medium given) (part_medium w)) (sym back)
     (each_leaves_no_more m given after c.into_media-shared.ensures.sixteen long (on_err _ rested.result c.in-Ok-Err.error c.in-Ok-Err.is-1 rested.ensures.shared_refused)
     (λ k v w is_v is_w. on_err _ rested.result c.in-Ok-Err.error c.in-Ok-Err.is-1 rested.ensures.regions_refused k v w (ap (λ vs. slice_get vs k) value ∙ is_v) is_w)))
+
+pub returns-in-Ok-Ok-clause-counted : goal.returns-in-Ok-Ok-clause-counted
+returns-in-Ok-Ok-clause-counted g c =
+    let rested = c.rest_all-end in
+    let counts = g.M.Resting.counts c.args.trips.now in
+    let after : PartsView _ = record { shared = rested.new.shared; regions = rested.new.regions } in
+    let back : c.in-Ok-Ok.parts ≡ after = c.in-Ok-Ok.ensures.parts ∙ ap (λ rs. record { shared = rested.new.shared; regions = rs }) (lent_back _ rested.new.regions c.into_media-shared.result.1.items (sym (rested.ensures.len ∙ c.deref_mut.ensures.len))) in
+    let all : PartsCount counts after = (on_ok _ rested.result c.in-Ok-Ok.field-0-1 c.in-Ok-Ok.is-1 rested.ensures.shared_counted, on_ok _ rested.result c.in-Ok-Ok.field-0-1 c.in-Ok-Ok.is-1 rested.ensures.regions_counted) in
+    subst (λ (v : PartsView _). PartsCount counts v) (sym back) all

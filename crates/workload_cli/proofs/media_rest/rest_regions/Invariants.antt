@@ -11,5 +11,6 @@ invariant-loop-place g l =
       long : length l.regions ≡ length l.fn.regions;
       each : (k : ℕ) (v w : _) → slice_get l.fn.regions k ≡ Some v → slice_get l.regions k ≡ Some w → LeavesNoMore m v w;
       done : (k : ℕ) (w : _) → k < l.place → slice_get l.regions k ≡ Some w → (v : _) → slice_get l.fn.regions k ≡ Some v → IsRestBy m g.M.Resting.holds (fill_for l.fills (k / 2 + 1)) v w;
+      counted : (k : ℕ) (w : _) → k < l.place → slice_get l.regions k ≡ Some w → g.M.Resting.counts l.trips (k / 2 + 1) w;
       rest : (k : ℕ) → l.place ≤ k → slice_get l.regions k ≡ slice_get l.fn.regions k;
     }

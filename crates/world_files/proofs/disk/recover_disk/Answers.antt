@@ -1,9 +1,8 @@
-use Rattle.std.proofs.Common.{◌≡◌}
-use Rattle.world_files.proofs.PartsEach.{disk_rests}
+use Rattle.std.proofs.Common.{inl, inr, subst, sym}
+use Rattle.std.proofs.lemmas.Result.{IfErr-weaker}
+use Rattle.recovery.proofs.settlement_lemmas.SettlementPhases.{passed_on}
+use Rattle.world_files.specs.FileErrors.{IsOfFile}
 use Rattle.world_files.proofs.disk.recover_disk.Goals as goal
 
-pub recover-requires : goal.recover-requires
-recover-requires g c = record { rest = disk_rests c.in_ok-geometry.geometry c.in_ok-parts.parts c.in_ok-parts.ensures }
-
-pub returns-in-Ok : goal.returns-in-Ok
-returns-in-Ok g c = record { geometry = c.in_ok-geometry.geometry; parts = c.in_ok-parts.parts; lie = c.in_ok-parts.ensures; recovered = c.in-Ok.ensures.recovers }
+pub returns-clause-refused : goal.returns-clause-refused
+returns-clause-refused g c = IfErr-weaker c.recover_file.result _ _ (λ e is. inr (c.in_ok-open.field-0, is)) c.recover_file.ensures.refused

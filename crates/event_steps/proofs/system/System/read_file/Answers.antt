@@ -1,6 +1,7 @@
-use Rattle.std.proofs.Common.{◌≡◌, ◌-◌, ◌*◌, length, subst}
-use Rattle.std.specs.Prelude.{IfErr, IfOk, min}
+use Rattle.std.proofs.Common.{◌≡◌, ◌-◌, ◌*◌, ℕ, length, subst}
+use Rattle.std.specs.Prelude.{IfErr, IfOk, OnErr, min}
 use Rattle.libfs.specs.kernel_fs.KernelAnswers.{OnRefusal}
+use Rattle.libfs.specs.kernel_fs.MachineState.{IsMarkIn}
 use Rattle.libfs.specs.area_image.declared.error.AreaError.TheVariants.{Memory}
 use Rattle.libfs.specs.area_image.Map.{WantsMemory}
 use Rattle.libfs.specs.area_image.Store.{graph, disk}
@@ -16,6 +17,14 @@ returns-clause-count g c =
 pub returns-clause-bytes : goal.returns-clause-bytes
 returns-clause-bytes g c =
     subst (λ (v : SystemView _). IfOk c.blocks-2.result (λ x. IsReadFrom (bytes_of_inode (graph v.kernel.area.geometry (disk g.M.Media v.kernel.area)) c.args.inode) (UNIT_BYTES * c.args.first) x.count c.args.out.now c.blocks-2.new.out)) c.self.view_is c.blocks-2.ensures.bytes
+
+pub returns-clause-mark : goal.returns-clause-mark
+returns-clause-mark g c =
+    subst (λ (v : SystemView _). IfOk c.blocks-2.result (λ x. IsMarkIn (disk g.M.Media v.kernel.area) 1 x.mark)) c.self.view_is c.blocks-2.ensures.mark
+
+pub returns-clause-refused : goal.returns-clause-refused
+returns-clause-refused g c =
+    subst (λ (v : SystemView _). OnErr c.blocks-2.result ((n : ℕ) × IsReadFrom (bytes_of_inode (graph v.kernel.area.geometry (disk g.M.Media v.kernel.area)) c.args.inode) (UNIT_BYTES * c.args.first) n c.args.out.now c.blocks-2.new.out)) c.self.view_is c.blocks-2.ensures.refused
 
 pub returns-clause-memory : goal.returns-clause-memory
 returns-clause-memory g c =

@@ -8,4 +8,4 @@ returns-in-Ok-clause-unspelled g c = λ none. absurd (none _ _ c.in-Ok.ensures.s
 
 pub returns-in-Err-clause-answers : goal.returns-in-Err-clause-answers
 unfolding IsAnswerTo
-returns-in-Err-clause-answers g c = inr (λ h r spells. absurd (false≢true (c.in-Err.ensures.found h r spells)), refl, refl)
+returns-in-Err-clause-answers g c = inr (λ h r spells. absurd (false≢true (c.in-Err.ensures.found h r spells)), refl, refl, refl)

@@ -9,7 +9,7 @@ use Rattle.kernel_fs.specs.Reclaim.{IsUnused, ReclaimsOrStays, StaysOrReclaims}
 use Rattle.kernel_fs.specs.declared.error.ReclaimError.TheVariants as errors
 use Rattle.kernel_fs.proofs.Dropping.{still_open}
 use Rattle.kernel_fs.proofs.Answered.{answered}
-use Rattle.kernel_fs.proofs.Reclaimed.{in_use_no_fault, nothing_stays}
+use Rattle.kernel_fs.proofs.Reclaimed.{in_use_no_fault, no_file, nothing_stays}
 use Rattle.kernel_fs.specs.Inodes.{has}
 use Rattle.kernel_fs.specs.KernelView.{KernelView}
 use Rattle.kernel_fs.specs.MachineState.{IsKernelOf}
@@ -45,6 +45,33 @@ returns-then-is_pinned-clause-answers g c =
     let book = c.self.inside.book in
     subst (λ (v : KernelView _). Answers v.area.failed v v (kernel_answer (Err errors.InUse)) (ReclaimsOrStays m v.area v.area)) c.self.view_is
     (answered (ReclaimsOrStays m) area area book book (record { area = area; book = book; opening = c.self.inside.began.value }) refl (Err errors.InUse) going (nothing_stays m area errors.InUse in_use_no_fault going))
+
+-- ---- where nothing is there
+
+pub returns-then-not-contains-clause-any_moment : goal.returns-then-not-contains-clause-any_moment
+returns-then-not-contains-clause-any_moment g c =
+    let m = g.M.Media in
+    let going : _ = sym c.has_failed.ensures ∙ c.if-has_failed.false in
+    let area = c.self.inside.area in
+    subst (λ (v : KernelView _). v.area.failed ≡ false → StaysOrReclaims v.area.geometry (disk m v.area) c.args.inode (m.moment v.area.media) (m.moment v.area.media) (m.left v.area.media) (m.left v.area.media)) c.self.view_is
+    (λ _. still_open area.geometry (disk m area) c.args.inode (m.moment area.media) (m.left area.media) (m.moment area.media) (m.seen area.media) (m.seen area.media) (m.left area.media)
+    (record { clock = refl; reads = λ t. refl; past = λ n t x le l. l; kept = λ n t x le l. l }) (c.left_now.ensures.same going) (c.left_now.ensures.loose going))
+
+pub returns-then-not-contains-clause-answers : goal.returns-then-not-contains-clause-answers
+returns-then-not-contains-clause-answers g c =
+    let m = g.M.Media in
+    let going : _ = sym c.has_failed.ensures ∙ c.if-has_failed.false in
+    let area = c.self.inside.area in
+    let book = c.self.inside.book in
+    subst (λ (v : KernelView _). Answers v.area.failed v v (kernel_answer (Err errors.InUse)) (ReclaimsOrStays m v.area v.area)) c.self.view_is
+    (answered (ReclaimsOrStays m) area area book book (record { area = area; book = book; opening = c.self.inside.began.value }) refl (Err errors.InUse) going (nothing_stays m area errors.InUse in_use_no_fault going))
+
+pub returns-then-not-contains-clause-in_use : goal.returns-then-not-contains-clause-in_use
+returns-then-not-contains-clause-in_use g c = λ is.
+    let going : _ = sym c.has_failed.ensures ∙ c.if-has_failed.false in
+    let absent = sym c.contains.ensures ∙ c.if-not-contains.true in
+    subst (λ (v : KernelView _). IsUnused (graph v.area.geometry (disk g.M.Media v.area)) v.book c.args.inode → ⊥) c.self.view_is
+    (λ unused. no_file (graph c.self.inside.area.geometry (disk g.M.Media c.self.inside.area) c.args.inode) unused.0 (sym ((c.self.invariant going).0 c.args.inode) ∙ absent))
 
 -- ---- where it was refused
 

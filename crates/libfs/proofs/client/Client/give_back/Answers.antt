@@ -1,5 +1,6 @@
-use Rattle.std.proofs.Common.{◌≡◌, ℕ, Bool, ap, ◌∙◌, subst}
-use Rattle.std.specs.Prelude.{◌&&◌}
+use Rattle.std.proofs.Common.{◌≡◌, ◌+◌, ℕ, Bool, ap, ◌∙◌, subst}
+use Rattle.std.specs.Prelude.{◌&&◌, min}
+use Rattle.kernel_fs.specs.Book.{out_of, units_of}
 use Rattle.lease_manager.specs.file_graph.Numbers.{is_inode}
 use Rattle.kernel_fs.specs.Inodes.{has}
 use Rattle.kernel_fs.specs.Steps.{take_back}
@@ -28,4 +29,5 @@ returns-in-Ok-clause-given g c =
     (given_back shared k c.give_back.new.self v c.put_numbers.new.self c.new.result.items c.put_numbers.ensures c.new.ensures.items
     (λ m is.
     subst (λ (f : ℕ → Bool). IsKernelOf shared c.give_back.new.self (take_back m (client_of s.pass) s.spare f)) these
-    (subst (λ (n : ℕ). IsKernelOf shared c.give_back.new.self (take_back m n s.spare (has c.set_of-numbers.result))) c.client.ensures.number (c.in-Ok.ensures.step m is))))
+    (subst (λ (n : ℕ). IsKernelOf shared c.give_back.new.self (take_back m n s.spare (has c.set_of-numbers.result))) c.client.ensures.number (c.in-Ok.ensures.step m is)))
+    (subst (λ (n : ℕ). out_of c.give_back.new.self.book + min s.spare (units_of k.book n) ≡ out_of k.book) c.client.ensures.number c.in-Ok.ensures.out))

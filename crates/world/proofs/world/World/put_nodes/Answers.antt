@@ -1,7 +1,7 @@
 use Rattle.std.proofs.Common.{◌≡◌, ◌+◌, ◌-◌, ℕ, ap, sym, ◌∙◌, arith}
 use Rattle.system_world.specs.event_steps.libfs.file_graph.Graph.{Graph, graph_of, set_node}
 use Rattle.world.specs.Snapshots.{shared_graph, with_nodes}
-use Rattle.world.proofs.Snapshots.{more_nodes, read_then, same_shared}
+use Rattle.world.proofs.Snapshots.{more_nodes, quiet_then, read_then, same_shared}
 use Rattle.world.proofs.world.World.put_nodes.Goals as goal
 
 pub loop-inode-preserved : goal.loop-inode-preserved
@@ -23,8 +23,7 @@ loop-inode-preserved g c =
           ∙ more_nodes first (shared_graph m old) inode low
           ∙ sym (ap (λ (n : ℕ). with_nodes first (shared_graph m old) n) same);
       read = read_then m old mid c.put_node.new.self held.read c.put_node.ensures.read;
-      same = put.going.1 ∙ sym put.going.0 ∙ held.same;
-      going = λ _. sym held.same ∙ put.going.0;
+      quiet = quiet_then m old mid c.put_node.new.self held.quiet put.quiet;
     }
 
 pub returns-in_err-put_node-clause-read : goal.returns-in_err-put_node-clause-read

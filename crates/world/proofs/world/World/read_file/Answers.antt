@@ -1,9 +1,10 @@
-use Rattle.std.proofs.Common.{◌≡◌, ◌-◌, ◌*◌, ap, length, ◌∙◌, subst}
-use Rattle.std.specs.Prelude.{IfErr, IfOk, min}
+use Rattle.std.proofs.Common.{◌≡◌, ◌-◌, ◌*◌, ℕ, ap, length, ◌∙◌, subst}
+use Rattle.std.specs.Prelude.{IfErr, IfOk, OnErr, min}
 use Rattle.system_world.specs.event_steps.area_image.Map.{WantsMemory}
 use Rattle.system_world.specs.event_steps.area_image.Store.{disk, graph}
 use Rattle.system_world.specs.event_steps.area_image.declared.error.AreaError.TheVariants.{Memory}
 use Rattle.system_world.specs.event_steps.kernel_fs.KernelAnswers.{OnRefusal}
+use Rattle.system_world.specs.event_steps.kernel_fs.MachineState.{IsMarkIn}
 use Rattle.system_world.specs.event_steps.posix_calls.declared.limits.TheConstants.{UNIT_BYTES}
 use Rattle.system_world.specs.event_steps.shared_area.FileReads.{IsReadFrom, bytes_of_inode}
 use Rattle.system_world.specs.WorldTree.{world_tree}
@@ -21,6 +22,12 @@ returns-clause-count g c = subst (λ (w : WorldView _). IfOk c.read_file-found.r
 
 pub returns-clause-bytes : goal.returns-clause-bytes
 returns-clause-bytes g c = subst (λ (w : WorldView _). IfOk c.read_file-found.result (λ x. IsReadFrom (bytes_of_inode (graph w.system.kernel.area.geometry (disk g.M.Media w.system.kernel.area)) c.args.inode) (UNIT_BYTES * c.args.first) x.count c.args.out.now c.read_file-found.new.out)) c.self.view_is c.read_file-found.ensures.bytes
+
+pub returns-clause-mark : goal.returns-clause-mark
+returns-clause-mark g c = subst (λ (w : WorldView _). IfOk c.read_file-found.result (λ x. IsMarkIn (disk g.M.Media w.system.kernel.area) 1 x.mark)) c.self.view_is c.read_file-found.ensures.mark
+
+pub returns-clause-refused : goal.returns-clause-refused
+returns-clause-refused g c = subst (λ (w : WorldView _). OnErr c.read_file-found.result ((n : ℕ) × IsReadFrom (bytes_of_inode (graph w.system.kernel.area.geometry (disk g.M.Media w.system.kernel.area)) c.args.inode) (UNIT_BYTES * c.args.first) n c.args.out.now c.read_file-found.new.out)) c.self.view_is c.read_file-found.ensures.refused
 
 pub returns-clause-memory : goal.returns-clause-memory
 returns-clause-memory g c = subst (λ (w : WorldView _). IfErr c.read_file-found.result (λ e. OnRefusal e (λ r. r ≡ Memory → WantsMemory w.system.kernel.area.geometry (disk g.M.Media w.system.kernel.area) c.args.inode))) c.self.view_is c.read_file-found.ensures.memory

@@ -1,5 +1,0 @@
-use Rattle.script.specs.tier_device.declared.media.Tier.TheVariants.{Fast}
-use Rattle.first_run.proofs.regions.StopMediaStopping.after_stop.Goals as goal
-
-pub returns-in-Ok-clause-allowed : goal.returns-in-Ok-clause-allowed
-returns-in-Ok-clause-allowed c = c.in-Ok.ensures.allowed Fast

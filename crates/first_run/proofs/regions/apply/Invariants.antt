@@ -1,7 +1,0 @@
-use Rattle.std.proofs.Common.{◌≡◌, drop}
-use Rattle.call_effects.specs.file_graph.Graph.{graph_of, after_effects}
-use Rattle.first_run.proofs.regions.apply.Given as goal
-
--- the effects that are still to come lead where all of them do
-abbrev pub invariant-loop-effect : goal.invariant-loop-effect
-invariant-loop-effect l = after_effects (graph_of l.graph) (drop l.effect-index l.effect-items) ≡ after_effects (graph_of l.initial.graph) l.logged.effects

@@ -1,5 +1,0 @@
-use Rattle.script.specs.tier_device.declared.media.Tier.TheVariants.{Fast}
-use Rattle.first_run.proofs.regions.records_after_stop.Goals as goal
-
-pub records_on-requires : goal.records_on-requires
-records_on-requires g c = c.in_ok-media.ensures.at_rest Fast

@@ -1,7 +1,0 @@
-use Rattle.fuse_server.proofs.server.Server.serve_name.Goals as goal
-
-pub returns-in-Rename : goal.returns-in-Rename
-returns-in-Rename g c = rw c.in-Rename.is (c.rename.result, c.rename.ensures, c.done_answer.ensures)
-
-pub returns-in-Rename2 : goal.returns-in-Rename2
-returns-in-Rename2 g c = rw c.in-Rename2.is (c.rename-in-Rename2.result, c.rename-in-Rename2.ensures, c.done_answer-in-Rename2.ensures)

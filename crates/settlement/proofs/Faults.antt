@@ -1,0 +1,40 @@
+-- What the refusals of the area tell of those of a phase.
+use Rattle.std.proofs.Common.{◌≡◌, ◌≢◌, ℕ, refl, sym, subst}
+use Rattle.recovery_laws.specs.shared_area.layout.declared.error.What.{What}
+use Rattle.recovery_laws.specs.shared_area.area_image.declared.error.AreaError.{AreaError}
+use Rattle.recovery_laws.specs.shared_area.area_image.declared.error.AreaError.TheVariants as area
+use Rattle.recovery_laws.specs.shared_area.area_image.Damage as areas
+use Rattle.settlement.specs.declared.error.RecoveryError.{RecoveryError}
+use Rattle.settlement.specs.declared.error.RecoveryError.TheVariants as errors
+use Rattle.settlement.specs.Errors.{OnDamage, IsOfArea, IsAreaFault}
+use Rattle.settlement.specs.FaultOrMemory.{IsFaultOrMemory}
+
+pub on_damage : (e : AreaError) (f : RecoveryError) (P : What → ℕ → Type 0) → IsAreaFault e f → areas.OnDamage e P → OnDamage f P
+on_damage area.DeviceFault f P is p = subst (λ (x : RecoveryError). OnDamage x P) (sym is) tt
+on_damage (area.Damaged what block) f P is p = subst (λ (x : RecoveryError). OnDamage x P) (sym is) p
+on_damage area.Memory f P is p = subst (λ (x : RecoveryError). OnDamage x P) (sym is) tt
+
+pub of_area : (e : AreaError) (f : RecoveryError) → IsAreaFault e f → IsOfArea f
+of_area area.DeviceFault f is = subst IsOfArea (sym is) tt
+of_area (area.Damaged what block) f is = subst IsOfArea (sym is) tt
+of_area area.Memory f is = subst IsOfArea (sym is) tt
+
+pub no_damage : (e : AreaError) (f : RecoveryError) (P : Type 0) → IsAreaFault e f → areas.OnDamage e (λ _ _. P) → (P → ⊥) → IsFaultOrMemory f
+no_damage area.DeviceFault f P is p none = subst IsFaultOrMemory (sym is) tt
+no_damage (area.Damaged what block) f P is p none = absurd (none p)
+no_damage area.Memory f P is p none = subst IsFaultOrMemory (sym is) tt
+
+pub of_memory : (e : AreaError) (f : RecoveryError) → IsAreaFault e f → f ≡ errors.Memory → e ≡ area.Memory
+of_memory area.DeviceFault f is memory = cc
+of_memory (area.Damaged what block) f is memory = cc
+of_memory area.Memory f is memory = refl
+
+pub of_fault : (e : AreaError) (f : RecoveryError) → IsAreaFault e f → f ≡ errors.DeviceFault → e ≡ area.DeviceFault
+of_fault area.DeviceFault f is fault = refl
+of_fault (area.Damaged what block) f is fault = cc
+of_fault area.Memory f is fault = cc
+
+pub of_other : (e : AreaError) (f : RecoveryError) → IsAreaFault e f → f ≢ errors.DeviceFault → e ≢ area.DeviceFault
+of_other area.DeviceFault f is other fault = other is
+of_other (area.Damaged what block) f is other fault = cc
+of_other area.Memory f is other fault = cc

@@ -1,0 +1,33 @@
+-- What a graph that has been tested is, and what it is without its files that have no name.
+use Rattle.std.specs.Prelude.{◌≡◌, ℕ, ◌&&◌, List, None, if◌then◌else◌}
+use Rattle.recovery_laws.specs.shared_area.layout.declared.error.What.{What}
+use Rattle.recovery_laws.specs.shared_area.layout.declared.error.What.TheVariants.{Slot}
+use Rattle.recovery_laws.specs.shared_area.layout.Places.{slot_block}
+use Rattle.recovery_laws.specs.graph_check.file_graph.Graph.{Graph, is_among}
+use Rattle.recovery_laws.specs.graph_check.declared.defect.Defect.{Defect}
+use Rattle.recovery_laws.specs.graph_check.Defects.{HasDefect}
+use Rattle.recovery_laws.specs.graph_check.declared.defect.GraphError.{GraphError}
+use Rattle.recovery_laws.specs.graph_check.declared.defect.GraphError.TheVariants as why
+use Rattle.recovery_laws.specs.graph_check.Nameless.{is_nameless}
+use Rattle.recovery_laws.specs.shared_area.area_image.declared.error.AreaError.{AreaError}
+use Rattle.settlement.specs.declared.error.RecoveryError.{RecoveryError}
+use Rattle.settlement.specs.declared.error.RecoveryError.TheVariants as errors
+use Rattle.settlement.specs.Errors.{IsAreaFault}
+
+-- The damage is named by the slot of an inode that has a defect.
+pub record IsGraphDamage (g : Graph) (structure : What) (block : ℕ) : Type 0 where
+  pub is_slot : structure ≡ Slot
+  pub inode : ℕ
+  pub defect : Defect
+  pub has : HasDefect g inode defect
+  pub at : block ≡ slot_block inode
+
+-- the graph without those of these files that have no name
+abbrev pub without_nameless : List ℕ → Graph → Graph
+without_nameless inodes g i = if is_among i inodes && is_nameless (g i) then None else g i
+
+-- why the graph was not found sound
+abbrev pub IsGraphFault : GraphError AreaError → RecoveryError → Type 0
+IsGraphFault why.Memory f = f ≡ errors.Memory
+IsGraphFault (why.Nodes e) f = IsAreaFault e f
+IsGraphFault (why.Unsound inode defect) f = f ≡ errors.Damaged Slot (slot_block inode)

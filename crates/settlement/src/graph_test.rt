@@ -1,0 +1,65 @@
+//! The graph of the area is tested.
+
+ghost use Rattle.std.specs.Prelude.{◌≡◌, false, OnOk, IfOk, IfErr};
+ghost use Rattle.recovery_laws.specs.shared_area.area_image.Store.{disk, graph, marks as marks_of};
+ghost use Rattle.recovery_laws.specs.shared_area.batch_journal.Course.{Unmoved};
+ghost use Rattle.recovery_laws.specs.shared_area.layout.Places.{Sizes, slot_block};
+ghost use Rattle.world.specs.system_world.event_steps.posix_calls.Tree.{State};
+ghost use Rattle.recovery_laws.specs.graph_check.Nameless.{AreNameless};
+ghost use Rattle.recovery_laws.specs.graph_check.record_validation.call_effects.Wholes.{IsSound};
+ghost use Rattle.recovery_laws.specs.graph_check.record_validation.call_effects.ClosedGraph.{nobody};
+ghost use Rattle.settlement.specs.Errors.{OnDamage, IsOfArea};
+ghost use Rattle.settlement.specs.FaultOrMemory.{IsFaultOrMemory};
+ghost use Rattle.settlement.specs.Recovers.{Regions, Recovers, CountNone};
+ghost use Rattle.settlement.specs.GraphTests.{IsGraphDamage, IsGraphFault};
+ghost use Rattle.settlement.specs.Phases.{StaysRecovered, AnswersFaults, Whatever};
+
+use crate::area_faults::area_fault;
+use crate::error::RecoveryError;
+use recovery_laws::{
+    AreaError, FIRST_SLOT_BLOCK, GraphError, Media, SLOTS_IN_BLOCK, Shared, What, check_graph,
+};
+use std::alloc::Global;
+
+// The block of an inode's slot.
+fn slot_block_of(inode: u32) -> u32
+    ensures { result ≡ slot_block inode }
+{
+    FIRST_SLOT_BLOCK + inode.saturating_sub(1) / SLOTS_IN_BLOCK
+}
+
+// Why the graph was not found sound.
+fn graph_fault(error: GraphError<AreaError>) -> RecoveryError
+    ensures { IsGraphFault error result }
+{
+    match error {
+        GraphError::Memory => RecoveryError::Memory,
+        GraphError::Nodes(error) => area_fault(error),
+        GraphError::Unsound { inode, .. } => RecoveryError::Damaged {
+            structure: What::Slot,
+            block: slot_block_of(inode),
+        },
+    }
+}
+
+/// Tests that the graph of an area is sound where nobody has a file open, and lists its files without names, the least first. It only reads.
+///
+/// `Damaged` exactly where it is unsound, by the slot of an inode that has a defect: never where the medium is recovered and no record counts. `Memory` where there was none.
+pub fn test_graph<M: Media>(alloc: Global, area: &mut Shared<M>) -> Result<Vec<u32>, RecoveryError>
+    requires going { area.old.failed ≡ false }
+    ensures sound { OnOk result (IsSound (graph area.old.geometry (disk M.Media area.old)) nobody) }
+    ensures nameless { IfOk result (λ inodes. AreNameless (graph area.old.geometry (disk M.Media area.old)) inodes.items) }
+    ensures damaged { IfErr result (λ e. OnDamage e (IsGraphDamage (graph area.old.geometry (disk M.Media area.old)))) }
+    ensures unsound { IfErr result (λ e. OnDamage e (λ _ _. IsSound (graph area.old.geometry (disk M.Media area.old)) nobody → ⊥)) }
+    ensures only { IfErr result IsOfArea }
+    ensures never { IfErr result (λ e. (g : Sizes) (regions : Regions) (state : State) → CountNone regions (marks_of (disk M.Media area.old)) → Recovers g regions state (M.seen area.old.media) → IsFaultOrMemory e) }
+    ensures any_moment { StaysRecovered M.Media Whatever area.old.media area.new.media }
+    ensures unmoved { Unmoved (M.moment area.old.media) (M.moment area.new.media) (M.seen area.old.media) (M.seen area.new.media) (M.left area.old.media) (M.left area.new.media) }
+    ensures answers { AnswersFaults M.Media area.old area.new result }
+{
+    area.left_now();
+    match check_graph(alloc, area) {
+        Ok(inodes) => Ok(inodes),
+        Err(error) => Err(graph_fault(error)),
+    }
+}

@@ -1,0 +1,196 @@
+use crate::draws::Draws;
+use crate::options::Options;
+use crate::region_stops::{RegionStops, RunMedium};
+use crate::run_end::RunEnd;
+use crate::turns::{log_lines, turn_lines};
+use plain_tree::PlainTree;
+use script::{Call, Errno, Line, Reply, RunError, read_line, write_reply};
+use std::alloc::Global;
+use std::sync::Wait;
+use strata_threads::{OpenGate, SharedKernel, ThreadClient};
+
+// Turns that a call is given.
+const TURNS: u64 = 1_000;
+
+// How often calls are asked again within a turn.
+const RETRIES: u32 = 1_000;
+
+// In how many rounds a log is to be digested.
+const ROUNDS: u64 = 1_000_000;
+
+/// A client that makes calls, beside a plain tree that is asked the same.
+#[derive(Drop)]
+pub struct ClientRun {
+    pub alloc: Global,
+    pub number: u32,
+    pub client: ThreadClient<RunMedium>,
+    pub tree: PlainTree,
+    /// How often calls may be asked again in this turn.
+    pub retries: u32,
+    /// The turn at which the run ended before its last one, and why.
+    pub end: Option<(u64, RunEnd)>,
+    /// The line of the call that a stop left without an answer.
+    pub unanswered: Option<String>,
+}
+
+impl ClientRun {
+    /// The run of a client that has made no call.
+    pub fn new(alloc: Global, client: ThreadClient<RunMedium>) -> Result<ClientRun, RunError> {
+        Ok(ClientRun {
+            alloc,
+            number: client.client.client(),
+            client,
+            tree: PlainTree::new(alloc)?,
+            retries: RETRIES,
+            end: None,
+            unanswered: None,
+        })
+    }
+
+    /// Makes all turns; then its log is digested, and it gives all leases back. Where a region stops it ends there.
+    pub fn make_turns<R: Wait>(
+        &mut self,
+        rt: &R,
+        shared: &SharedKernel<RunMedium>,
+        stops: &RegionStops,
+        options: &Options,
+    ) {
+        let mut draws = Draws::new(options.start, self.number);
+        for turn in 0..options.turns {
+            match self.make_turn(rt, shared, stops, turn, &mut draws) {
+                Ok(()) => {}
+                Err(why) => {
+                    self.end = Some((turn, why));
+                    break;
+                }
+            }
+        }
+        if !self.has_stopped() {
+            self.leave(rt);
+        }
+    }
+
+    // Whether a stop ended it.
+    fn has_stopped(&self) -> bool {
+        matches!(self.end, Some((_, RunEnd::Stopped)))
+    }
+
+    /// Has its log digested, and gives all leases back.
+    pub fn leave<R: Wait>(&mut self, rt: &R) {
+        let _ = self.client.clear_log(rt, ROUNDS);
+        self.client.give_all();
+    }
+
+    fn make_turn<R: Wait>(
+        &mut self,
+        rt: &R,
+        shared: &SharedKernel<RunMedium>,
+        stops: &RegionStops,
+        turn: u64,
+        draws: &mut Draws,
+    ) -> Result<(), RunEnd> {
+        self.retries = RETRIES;
+        let what = draws.draw();
+        let which = draws.draw();
+        let lines = turn_lines(self.alloc, self.number, turn, what, which)?;
+        self.ask_all(rt, shared, stops, &lines)?;
+        if turn % 8 != 7 {
+            return Ok(());
+        }
+        let lines = log_lines(self.alloc, self.number, turn)?;
+        self.ask_all(rt, shared, stops, &lines)
+    }
+
+    /// Asks line after line, up to the first call that is refused.
+    pub fn ask_all<R: Wait>(
+        &mut self,
+        rt: &R,
+        shared: &SharedKernel<RunMedium>,
+        stops: &RegionStops,
+        lines: &str,
+    ) -> Result<(), RunEnd> {
+        for line in lines.split('\n') {
+            if let Reply::Failed { .. } = self.ask(rt, shared, stops, line)? {
+                return Ok(());
+            }
+        }
+        Ok(())
+    }
+
+    // Asks a line of the client and of the tree, and answers what both do. A call that a stop left without an answer is not asked of the tree.
+    fn ask<R: Wait>(
+        &mut self,
+        rt: &R,
+        shared: &SharedKernel<RunMedium>,
+        stops: &RegionStops,
+        line: &str,
+    ) -> Result<Reply, RunEnd> {
+        let call = call_of(self.alloc, line)?;
+        let found = self.answer_call(rt, shared, stops, &call);
+        if is_unanswered(&found, self.number, stops) {
+            self.unanswered = Some(String::from_str(self.alloc, line)?);
+            return Err(RunEnd::Stopped);
+        }
+        let wanted = self.tree.ask(self.number, &call);
+        if are_alike(self.alloc, &wanted, &found)? {
+            Ok(wanted)
+        } else {
+            Err(RunEnd::Differs)
+        }
+    }
+
+    // What is wanting may come: the call is asked again once the client's log is digested.
+    fn answer_call<R: Wait>(
+        &mut self,
+        rt: &R,
+        shared: &SharedKernel<RunMedium>,
+        stops: &RegionStops,
+        call: &Call,
+    ) -> Reply {
+        for _ in 0..self.retries {
+            let reply = self.client.posix(rt, shared, call, TURNS, &OpenGate);
+            if !is_wanting(&reply) || is_unanswered(&reply, self.number, stops) {
+                return reply;
+            }
+            self.retries = self.retries.saturating_sub(1);
+            let _ = self.client.clear_log(rt, ROUNDS);
+        }
+        self.client.posix(rt, shared, call, TURNS, &OpenGate)
+    }
+}
+
+/// The call of a line.
+pub fn call_of(alloc: Global, line: &str) -> Result<Call, RunError> {
+    match read_line(line.as_bytes()) {
+        Some(Line::Asks { call, .. }) => Ok(call.to_call(alloc)?),
+        _ => Err(RunError::Damaged),
+    }
+}
+
+/// Whether two replies are printed alike.
+pub fn are_alike(alloc: Global, one: &Reply, other: &Reply) -> Result<bool, RunError> {
+    Ok(text_of(alloc, one)? == text_of(alloc, other)?)
+}
+
+fn text_of(alloc: Global, reply: &Reply) -> Result<Vec<u8>, RunError> {
+    let mut text = Vec::new(alloc);
+    write_reply(&mut text, reply)?;
+    Ok(text)
+}
+
+// Whether a call was refused for want of a lease, units or a number.
+fn is_wanting(reply: &Reply) -> bool {
+    match reply {
+        Reply::Failed { errno } => *errno == Errno::Again || *errno == Errno::NoSpace,
+        _ => false,
+    }
+}
+
+// Whether a call has no answer because a region stopped: the client's own, or that of one that keeps a lease from it.
+fn is_unanswered(reply: &Reply, client: u32, stops: &RegionStops) -> bool {
+    match reply {
+        Reply::Failed { errno } if *errno == Errno::IoError => stops.has_stopped(client),
+        Reply::Failed { errno } if *errno == Errno::Again => stops.have_stopped(),
+        _ => false,
+    }
+}

@@ -1,0 +1,27 @@
+//! The programs `strata_run` and `strata_first` as functions over their words, their output and their errors: clients in threads of their own, over a fresh file system in memory.
+//!
+//! `run_threads` has clients make drawn calls beside plain trees, with workers and a migrator, and recovers the media. `run_first` is the whole path in small: two clients make a call each,
+//! the run stops, and a recovery of its own replays what both logs hold. Where a stop is asked for each region stops within a write or fence of its own.
+#![tactic(auto)]
+
+mod client_run;
+mod draws;
+mod file_system;
+mod first_calls;
+mod first_options;
+mod first_recovery;
+mod first_run;
+mod options;
+mod recovered_tree;
+mod region_stops;
+mod run;
+mod run_end;
+mod shared_graph;
+mod stop_words;
+mod turns;
+
+pub use first_run::run_first;
+pub use run::run_threads;
+
+// Passed on to the programs above, which so need not list those below.
+pub use script::run_program;
