@@ -19,6 +19,11 @@ behind that failure; a digest that was refused may have left but to reclaim file
 run end, by `fault 15`, or by `fault 2` as media grow while they are formatted. It tells how many growths each row has, how many were
 refused, and how; status 1 also where a growth was left out. There are some 3,900, so it takes a quarter of an hour; with --quick each
 seventh is refused.
+
+Named `recoveries`, it has each growth of a run over an image refused in turn, from the reading of the image over its recovery to the
+keeping of it: of the images of that table that another program made, with files that are digested, with records that are not, with an
+open journal and with a record behind a closed gate. A run may end by `fault 15`, or by `fault 2` as a medium can't note a call. Whatever it
+ends by, the image file is then as it was, or gives the row's answers; and so does the file as it was, and as a run with all memory leaves it.
 """
 import argparse
 import collections
@@ -222,9 +227,9 @@ def script_of(row):
 
 
 def script_rows():
-    """The rows of strata_sh as scripts, command lines and names, but for those that print needs: the program alone does that, as it reads its table."""
+    """The rows of strata_sh as scripts, command lines and names, but for those that print needs or change an image: the program alone does that, as it reads its table."""
     with open(f"{CRATES}/strata_sh/stdin", encoding="utf-8") as file:
-        rows = [it for it in file.read().split("\n== ")[1:] if not it.startswith(NOT_TO_HOLD)]
+        rows = [it for it in file.read().split("\n== ")[1:] if not it.startswith(NOT_TO_HOLD) and "\n& " not in it]
     runs = [(*script_of(row), row.partition("\n")[0]) for row in rows]
     return [(lines, words[1:], name) for lines, words, name in runs if words[0] == "strata_sh"]
 
@@ -472,6 +477,91 @@ def open_disk(path, what):
     return tally(f"strata_sh over a {what} file", whole, runs, lambda it: (it.status, it.out, it.err) == (3, "", "fault 15\n"))
 
 
+# Over an image strata_sh recovers what stands there at its start, and keeps what is recovered at its end.
+
+IMAGE = "an image of another program: "
+RECOVERED = (
+    "directories, and a file of two names with a hole, all digested",
+    "two clients with records that are not digested",
+    "a batch behind its open gate, partly in place",
+    "a record behind a closed gate, and another behind an open one",
+)
+
+
+def runs_of(text):
+    """The bytes that runs spell, as `hhxN+hhxN`."""
+    return b"".join(bytes.fromhex(byte) * int(count) for byte, count in (it.split("x") for it in text.split("+")))
+
+
+def over_image(path, image, text="", number=0):
+    """The run of strata_sh over a file that holds an image, with this allocation failing; and what the file holds then."""
+    for name in (path, f"{path}.strata-draft"):
+        if os.path.exists(name):
+            os.remove(name)
+    with open(path, "wb") as file:
+        file.write(image)
+    [run] = sweep("strata_sh", text, ("--image", path), numbers=(number, number, 1))
+    with open(path, "rb") as file:
+        return run, file.read()
+
+
+class Imaged:
+    """A row over an image: what stands in it, and what it answers."""
+
+    def __init__(self, name, row):
+        self.name, self.path = name, f"{ROOM.name}/image-{RECOVERED.index(name)}"
+        lines = [it for it in row.splitlines()[1:] if it]
+        words = next(it for it in lines if it.startswith("$ ")).split(" ")[2:]
+        sweep("strata_sh", "", (*words, "--image", self.path), numbers=(0, 0, 1))
+        with open(self.path, "rb") as file:
+            image = bytearray(file.read())
+        for _, at, data in (it.split(" ") for it in lines if it.startswith("& ")):
+            image[int(at) : int(at) + len(runs_of(data))] = runs_of(data)
+        self.image = bytes(image)
+        asked = [it.partition(" => ") for it in lines if it[0] not in "$&"]
+        self.text, self.out = ("".join(f"{it[part]}\n" for it in asked) for part in (0, 2))
+        self.giving = {}
+
+    def gives_tree(self, image):
+        """Whether an image gives the row's answers."""
+        if image not in self.giving:
+            run, _ = over_image(self.path, image, self.text)
+            self.giving[image] = run[2:] == (0, self.out, "")
+        return self.giving[image]
+
+    def judge(self, number):
+        """A run with this allocation failing, and what is wrong with it or None."""
+        run, kept = over_image(self.path, self.image, number=number)
+        ended_well = run[2:] == (0, "", "") or run[2:] in ((3, "", "fault 15\n"), (3, "", "fault 2\n"))
+        if ended_well and self.gives_tree(kept) and (run.status or kept != self.image):
+            return run, None
+        told = "as it was" if kept == self.image else "recovered" if self.gives_tree(kept) else "another"
+        return run, f"{self.name}, allocation {number}: status {run.status}, {run.out!r}, {run.err!r}, the image {told}"
+
+
+def run_image(name, row):
+    """A row over an image, of which each growth is refused."""
+    found = Imaged(name, row)
+    whole, wrong = found.judge(0)
+    if wrong or whole.status or not found.gives_tree(found.image):
+        return Tally(0, 0, [wrong or f"{name} itself: status {whole.status}, {whole.err!r}"])
+    bad, ends = [], collections.Counter()
+    for number in range(1, whole.made + 1, STEP):
+        run, wrong = found.judge(number)
+        ends[run.err.rstrip() or "recovered"] += run.failed()
+        bad += [wrong] if wrong else []
+    told = ", ".join(f"{count} {end}" for end, count in sorted(ends.items()))
+    print(f"{name}: {whole.made} growths\n  {sum(ends.values())} refused: {told}", flush=True)
+    return Tally(sum(ends.values()), sum(ends.values()) - ends["recovered"], bad)
+
+
+def image_jobs():
+    """The rows over images, as jobs."""
+    with open(f"{CRATES}/strata_sh/stdin", encoding="utf-8") as file:
+        rows = {row.partition("\n")[0]: row for row in file.read().split("\n== ")[1:]}
+    return [(run_image, (name, rows[IMAGE + name])) for name in RECOVERED[:ROWS]]
+
+
 def disk_jobs():
     """The runs over files, as jobs."""
     some, files = f"{ROOM.name}/some", {}
@@ -604,6 +694,8 @@ def jobs_of(program):
     """What is run of a program: functions and what they take."""
     if program == "growths":
         return grown_jobs()
+    if program == "recoveries":
+        return image_jobs()
     if program == "strata_sh":
         return [(run_tour, ()), *script_jobs(), *disk_jobs()]
     if program == "strata_first":
@@ -614,7 +706,7 @@ def jobs_of(program):
 
 
 PROGRAMS = ("strata_sh", "strata_first", "layer_rows")
-MORE = ("growths",)
+MORE = ("growths", "recoveries")
 
 
 def main():
@@ -629,7 +721,7 @@ def main():
     subprocess.run([os.environ.get("CC", "cc"), "-O2", "-shared", "-fPIC", "-o", f"{ROOM.name}/allocations.so", f"{TOP}/tools/failing_allocations.c"], check=True)
     bad, tried = 0, 0
     for program in asked.programs or PROGRAMS:
-        build("strata_sh" if program == "growths" else program)
+        build("strata_sh" if program in MORE else program)
         all_told = Tally(0, 0, [])
         with concurrent.futures.ThreadPoolExecutor(asked.jobs) as lanes:
             started = [lanes.submit(function, *given) for function, given in jobs_of(program)]

@@ -59,11 +59,7 @@ fn read_inode_parts<M: Media>(
     ensures memory { IfErr result (λ e. e ≡ Memory → WantsMemory journal.old.geometry (disk M.Media journal.old) inode) }
     ensures looks { Looks M.Media journal.old journal.new result }
 {
-    match read_slot(journal, inode) {
-        Ok(slot) => match read_all_extents(alloc, journal, inode, &slot) {
-            Ok(extents) => Ok(InodeParts { slot, extents }),
-            Err(error) => Err(error),
-        },
-        Err(error) => Err(error),
-    }
+    let slot = read_slot(journal, inode)?;
+    let extents = read_all_extents(alloc, journal, inode, &slot)?;
+    Ok(InodeParts { slot, extents })
 }

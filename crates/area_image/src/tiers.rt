@@ -35,10 +35,7 @@ pub fn read_all_extents<M: Media>(
     ensures memory { IfErr result (λ e. e ≡ Memory → HasSomeList journal.old.geometry (disk M.Media journal.old tiers.Fast) slot.now) }
     ensures looks { Looks M.Media journal.old journal.new result }
 {
-    match read_tiers(alloc, journal, inode, slot) {
-        Ok(found) => Ok(found),
-        Err(error) => Err(error),
-    }
+    read_tiers(alloc, journal, inode, slot)
 }
 
 fn read_tiers<M: Media>(
@@ -55,10 +52,8 @@ fn read_tiers<M: Media>(
     ensures memory { IfErr result (λ e. e ≡ Memory → HasSomeList journal.old.geometry (disk M.Media journal.old tiers.Fast) slot.now) }
     ensures looks { Looks M.Media journal.old journal.new result }
 {
-    match read_extents(alloc, journal, inode, slot, Tier::Fast) {
-        Ok(fast) => read_others(alloc, journal, inode, slot, fast),
-        Err(error) => Err(error),
-    }
+    let fast = read_extents(alloc, journal, inode, slot, Tier::Fast)?;
+    read_others(alloc, journal, inode, slot, fast)
 }
 
 // Those of the block and the slow tier, behind that of the fast one.
@@ -77,10 +72,8 @@ fn read_others<M: Media>(
     ensures memory { IfErr result (λ e. e ≡ Memory → HasSomeList journal.old.geometry (disk M.Media journal.old tiers.Fast) slot.now) }
     ensures looks { Looks M.Media journal.old journal.new result }
 {
-    match read_extents(alloc, journal, inode, slot, Tier::Block) {
-        Ok(block) => read_last(alloc, journal, inode, slot, fast, block),
-        Err(error) => Err(error),
-    }
+    let block = read_extents(alloc, journal, inode, slot, Tier::Block)?;
+    read_last(alloc, journal, inode, slot, fast, block)
 }
 
 // That of the slow tier, behind the others.
@@ -100,8 +93,6 @@ fn read_last<M: Media>(
     ensures memory { IfErr result (λ e. e ≡ Memory → HasSomeList journal.old.geometry (disk M.Media journal.old tiers.Fast) slot.now) }
     ensures looks { Looks M.Media journal.old journal.new result }
 {
-    match read_extents(alloc, journal, inode, slot, Tier::Slow) {
-        Ok(slow) => Ok(InodeExtents { fast, block, slow }),
-        Err(error) => Err(error),
-    }
+    let slow = read_extents(alloc, journal, inode, slot, Tier::Slow)?;
+    Ok(InodeExtents { fast, block, slow })
 }

@@ -3,6 +3,7 @@ pub mod Bytes
 pub mod Courses
 pub mod Found
 pub mod Images
+pub mod Kept
 pub mod Meaning
 pub mod Openings
 pub mod Pushing

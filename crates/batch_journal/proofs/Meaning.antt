@@ -34,7 +34,7 @@ not_home : (c : List ℕ) (k : ℕ) → is_home k ≡ false → home c k ≡ []
 unfolding home
 not_home c k away = ap (λ b. cond b (cond (is_gate_open c) (with_images (images_of (area_of c)) (block_of c) k) (block_of c k)) []) away
 
-after_home : (images : List (ℕ × List ℕ)) (blocks : Blocks) (k : ℕ) → is_home k ≡ true → after_batch images blocks k ≡ with_images images blocks k
+pub after_home : (images : List (ℕ × List ℕ)) (blocks : Blocks) (k : ℕ) → is_home k ≡ true → after_batch images blocks k ≡ with_images images blocks k
 unfolding after_batch
 after_home images blocks k at_home = ap (λ b. cond b (with_images images blocks k) []) at_home
 

@@ -4,6 +4,7 @@ pub mod Volume
 pub mod Course
 pub mod BatchReads
 pub mod View
+pub mod Kept
 pub mod Damage
 pub mod JournalOpen
 -- Passed on to the crates above, which so need not list those below.

@@ -13,9 +13,11 @@ ghost use Rattle.batch_journal.specs.declared.error.JournalError.TheVariants.{De
 ghost use Rattle.batch_journal.specs.Damage.{OnJournalDamage, NamesDamage, AwaitsReplay};
 
 use crate::Batch;
-use crate::calls::{fetch, put, settle};
+use crate::calls::{put, settle};
 use crate::error::JournalError;
 use crate::journal_open::open_medium;
+use crate::kept_blocks::KeptBlocks;
+use crate::kept_reads::fetch_kept;
 use crate::replay::write_batch;
 use layout::{BLOCK, Geometry, MAX_IMAGES, Media, Tier};
 use std::alloc::Global;
@@ -26,6 +28,9 @@ use std::marker::Model;
 /// Contracts speak of `home`: block k of the fast tier as it stands once an open journal is replayed. Blocks of data, which no
 /// batch may name, are written in place by `write` and kept by `fence`; they may be pending while a batch is committed.
 ///
+/// Blocks that a batch may write are kept as they are read and committed, up to 256 of them, and a part of one that is kept is
+/// read with no device call. The memory is taken once, at the opening; where it is refused, no block is kept.
+///
 /// A call makes no device call behind one that failed, so it meets one fault at most. It makes the journal answer `DeviceFault` to
 /// each later call, with nothing changed, until the medium is opened again.
 #[derive(Debug, Drop)]
@@ -33,19 +38,21 @@ pub struct Journal<M: Media> {
     media: M,
     geometry: Geometry,
     failed: bool,
+    kept: KeptBlocks,
 }
 
 impl<M: Media> Model for Journal<M> {
     ghost use Rattle.std.specs.Prelude.{◌≡◌, false};
     ghost use Rattle.layout.specs.tier_device.declared.media.Tier.TheVariants.{Fast};
-    ghost use Rattle.batch_journal.specs.View.{JournalView, IsShut};
+    ghost use Rattle.batch_journal.specs.View.{JournalView};
+    ghost use Rattle.batch_journal.specs.Kept.{IsGoing};
 
     ghost Value = { JournalView M };
 
     ghost view = { λ j. record { media = j.media; geometry = j.geometry; failed = j.failed } };
 
     // until a device has failed
-    ghost invariant = { λ j. j.failed ≡ false → IsShut j.geometry (M.seen j.media) (M.left j.media (M.moment j.media) Fast) };
+    ghost invariant = { λ j. j.failed ≡ false → IsGoing j.geometry (M.seen j.media) (M.left j.media (M.moment j.media) Fast) j.kept.places.items };
 }
 
 impl<M: Media> Journal<M> {
@@ -53,7 +60,7 @@ impl<M: Media> Journal<M> {
     /// the images on; home block 0 then tells the geometry.
     ///
     /// `Damaged`, with nothing written, where the medium is of no geometry that block 0 tells, or the gate's block or the head
-    /// behind an open gate is not as the format has it; it names which, and the block. Memory is wanted only for the replay of a
+    /// behind an open gate is not as the format has it; it names which, and the block. `Memory` is for the replay of a
     /// journal that is sound. The medium is handed back with each refusal, untouched but where the device failed, and then it
     /// can be opened as before.
     pub fn reopen(alloc: Global, media: M) -> Result<Self, (JournalError, M)>
@@ -91,6 +98,7 @@ impl<M: Media> Journal<M> {
                 media,
                 geometry,
                 failed: false,
+                kept: KeptBlocks::new(alloc),
             }),
             Err(error) => Err((error, media)),
         }
@@ -139,8 +147,12 @@ impl<M: Media> Journal<M> {
         if count == 0 {
             return Ok(());
         }
-        match write_batch(&mut self.media, batch.as_bytes(), count) {
-            Ok(()) => Ok(()),
+        let bytes = batch.as_bytes();
+        match write_batch(&mut self.media, bytes, count) {
+            Ok(()) => {
+                self.kept.keep_images(bytes, count);
+                Ok(())
+            }
             Err(_) => {
                 self.failed = true;
                 Err(JournalError::DeviceFault)
@@ -190,7 +202,14 @@ impl<M: Media> Journal<M> {
         if self.failed {
             return Err(JournalError::DeviceFault);
         }
-        match fetch(&mut self.media, tier, at, out) {
+        match fetch_kept(
+            &mut self.media,
+            &mut self.kept,
+            &self.geometry,
+            tier,
+            at,
+            out,
+        ) {
             Ok(()) => Ok(()),
             Err(_) => {
                 self.failed = true;

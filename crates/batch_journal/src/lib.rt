@@ -11,6 +11,8 @@ mod error;
 mod head;
 mod journal;
 mod journal_open;
+mod kept_blocks;
+mod kept_reads;
 mod laws;
 mod numbers;
 mod replay;

@@ -151,6 +151,7 @@ back_never (Some i) r e = absurd (cc)
 
 unpinned_never : (h : Holdings) (c : Call) (r : Errno) → unpin_step h c ≡ Refuses r → ⊥
 unpinned_never h (call.Open path flags) r e = absurd (cc)
+unpinned_never h (call.Pwrite number at []) r e = absurd (cc)
 unpinned_never h _ r e = back_never _ r e
 
 numbered_never : (ns : List ℕ) (m : Bool) (r : Errno) → number_step ns m ≡ Refuses r → ⊥

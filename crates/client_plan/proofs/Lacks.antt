@@ -135,6 +135,7 @@ module _ (p : Part) (h : Holdings) (call : Call) (need : Need) where
 
   unpin_lacks : (c : Call) → unpin_step h c ≡ Lacks need → Lacking need
   unpin_lacks (calls.Open path flags) e = absurd (cc)
+  unpin_lacks (calls.Pwrite number at []) e = absurd (cc)
   unpin_lacks _ e = back_lacks (first_unused h.own h.pins) refl e
 
   number_lacks : (numbers : List ℕ) (makes_node : Bool) → h.numbers ≡ numbers → number_step numbers makes_node ≡ Lacks need → Lacking need

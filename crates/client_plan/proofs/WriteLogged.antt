@@ -22,7 +22,7 @@ use Rattle.client_plan.specs.declared.outcome.Outcome.{Outcome}
 use Rattle.client_plan.specs.declared.plain_writes.PlainWrite.{PlainWrite}
 use Rattle.client_plan.specs.PlanSteps.{PlanSteps, Goes, ◌>>=◌, unless, end_of}
 use Rattle.client_plan.specs.Holdings.{Holdings, first_unused}
-use Rattle.client_plan.specs.NeedOrder.{root_alone, not_refused, given_back, found_step, look_step, number_step, is_new, write_step, roomy, is_record}
+use Rattle.client_plan.specs.NeedOrder.{root_alone, not_refused, given_back, unpin_step, found_step, look_step, number_step, is_new, write_step, roomy, is_record}
 use Rattle.client_plan.specs.PlainWrite.{IsPlainWrite, has_place, written_by, write_logged}
 use Rattle.client_plan.specs.CallPlan.{outcome, plan_outcome}
 use Rattle.client_plan.proofs.Lacks.{after_number, after_leases, after_growth, after_units, after_room, after_record, end_log}
@@ -40,6 +40,10 @@ place_goes (Some most) count place = (most, refl, leb-true (22 + count) most pla
 
 both_go : (b t : Bool) (l v : Need) → b ≡ true → t ≡ true → ◌≡◌ {A = PlanSteps (Unit {0})} ((unless b l >>= (λ _. unless t v)) >>= (λ _. Goes tt)) (Goes tt)
 both_go b t l v first second = ap (λ b. (unless b l >>= (λ _. unless t v)) >>= (λ _. Goes tt)) first ∙ ap (λ t. unless t v >>= (λ _. Goes tt)) second
+
+unpin_goes : (h : Holdings) (number at : ℕ) (bytes : List ℕ) → first_unused h.own h.pins ≡ None → unpin_step h (call.Pwrite number at bytes) ≡ Goes tt
+unpin_goes h number at [] none = refl
+unpin_goes h number at (b ∷ bs) none = ap given_back none
 
 module _ (p : Part) (h : Holdings) (number at : ℕ) (bytes : List ℕ) (w : PlainWrite) (is : IsPlainWrite p h number at (length bytes) w) where
   limits : (1 ≤ length bytes) × (length bytes ≤ MAX_TRANSFER) × (at + length bytes ≤ MAX_FILE)
@@ -80,11 +84,11 @@ module _ (p : Part) (h : Holdings) (number at : ℕ) (bytes : List ℕ) (w : Pla
   planned_goes = number_goes h.numbers (after_number p h (Write w.inode at bytes)) (write_logged w at bytes) on_goes
 
   abbrev goes_by : Query Operation → PlanSteps Outcome
-  goes_by q = not_refused (run_part root_alone q) >>= (λ _. given_back (first_unused h.own h.pins) >>= (λ _. look_step p h q >>= plan_outcome p h))
+  goes_by q = not_refused (run_part root_alone q) >>= (λ _. unpin_step h (call.Pwrite number at bytes) >>= (λ _. look_step p h q >>= plan_outcome p h))
 
   goes_on : goes_by (Gives (Write w.inode at bytes)) ≡ Goes (write_logged w at bytes)
   unfolding run_part
-  goes_on = ap (λ o. given_back o >>= (λ _. plan_outcome p h (Write w.inode at bytes))) is.writable.pins ∙ planned_goes
+  goes_on = ap (λ c. c >>= (λ _. plan_outcome p h (Write w.inode at bytes))) (unpin_goes h number at bytes is.writable.pins) ∙ planned_goes
 
   pub write_is_logged : outcome p h (call.Pwrite number at bytes) ≡ write_logged w at bytes
   unfolding run_part

@@ -37,7 +37,7 @@ not_refused (Known (Err e)) = Refuses e
 not_refused (Known (Ok x)) = Goes tt
 not_refused (Unknown what) = Goes tt
 
--- ---- 1. a pin of a file that is not open is given back, unless the call opens a file
+-- ---- 1. a pin of a file that is not open is given back, unless the call opens a file or writes no bytes
 
 abbrev pub given_back : Option ℕ → PlanSteps (Unit {0})
 given_back None = Goes tt
@@ -45,6 +45,7 @@ given_back (Some i) = Lacks (Unpin i)
 
 abbrev pub unpin_step : Holdings → Call → PlanSteps (Unit {0})
 unpin_step h (call.Open path flags) = Goes tt
+unpin_step h (call.Pwrite number at []) = Goes tt
 unpin_step h _ = given_back (first_unused h.own h.pins)
 
 -- ---- 2 and 3. what is to be known of the tree, with the errors as early as they are decided

@@ -78,7 +78,7 @@ fn course<T: TreeAnswers, S: Supplies>(
     }
 }
 
-// A pin of a file that is not open is given back first, once no error is left that the call's words decide.
+// A pin of a file that is not open is given back first, once no error is left that the call's words decide; a write of no bytes waits for nothing.
 fn unpin<S: Supplies>(alloc: Global, has: &S, call: &Call) -> Result<(), Stop>
     ensures clear { IfOk result (λ _. unpin_step (S.holdings has.now) call.now ≡ Goes tt) }
     ensures refused { (e : Errno) → result ≡ Err (Refused e) → run_part root_alone (decide (S.holdings has.now).own call.now) ≡ Known (Err e) }
@@ -99,6 +99,7 @@ fn unused_pin<S: Supplies>(has: &S, call: &Call) -> Option<u32>
 {
     match call {
         Call::Open { .. } => None,
+        Call::Pwrite { bytes, .. } if bytes.len() == 0 => None,
         _ => first_unused(has.own(), has.pins()),
     }
 }

@@ -63,6 +63,8 @@ impl<M: Media> ClientSlot<M> {
         if self.client.is_pending() || self.client.has_failed() {
             return Outcome::Idle;
         }
+        // For its contract alone: where no device has failed a record is begun only while its call waits.
+        self.client.own_records_are_held();
         let answer = self.client.give_back(kernel);
         note_answer(&mut self.refused, answer)
     }

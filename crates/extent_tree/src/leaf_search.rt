@@ -1,5 +1,5 @@
 // The way from the root to the leaf that has a block.
-ghost use Rattle.std.specs.Prelude.{◌≡◌, ◌≤◌, ◌<◌, ◌+◌, ◌*◌, ◌^◌, length};
+ghost use Rattle.std.specs.Prelude.{◌≡◌, ◌≤◌, ◌<◌, ◌+◌, ◌*◌, ◌^◌, length, IfSome, IsSome};
 ghost use Rattle.extent_tree.specs.Nodes.{flat, summaries};
 ghost use Rattle.extent_tree.specs.Normal.{IsRising};
 ghost use Rattle.extent_tree.specs.Places.{extent_with};
@@ -14,6 +14,7 @@ fn find_in_root(nodes: &[Node], block: u32) -> Found
     ensures extent { result.extent ≡ extent_with block (flat nodes.now) }
     ensures compared { result.compared ≤ length (flat nodes.now) }
     ensures some { 0 < length (flat nodes.now) → 0 < result.compared }
+    ensures each_level { IfSome result.extent (λ _. 1 ≤ result.compared) }
 {
     if nodes.is_empty() {
         return Found {
@@ -44,6 +45,7 @@ fn find_below<const N: usize>(nodes: &[Node], above: Found, block: u32) -> Found
     ensures extent { result.extent ≡ extent_with block (flat nodes.now) }
     ensures compared { result.compared ≤ above.compared + N }
     ensures more { above.compared ≤ result.compared }
+    ensures each_level { IfSome result.extent (λ _. IsSome above.extent × (above.compared < result.compared)) }
 {
     let covering = above.extent;
     match covering {
@@ -67,6 +69,7 @@ pub fn find_in<const N: usize>(nodes: &[Node], inner: &[Level], block: u32) -> F
     ensures extent { result.extent ≡ extent_with block (flat nodes.now) }
     ensures compared { result.compared ≤ N * (1 + length inner.now) }
     ensures some { 0 < length (flat nodes.now) → 0 < result.compared }
+    ensures each_level { IfSome result.extent (λ _. 1 + length inner.now ≤ result.compared) }
 {
     let mut found = find_in_root(level_nodes(nodes, inner, inner.len()), block);
     'down: for done in 0..inner.len() {

@@ -1,4 +1,4 @@
-ghost use Rattle.std.specs.Prelude.{◌≡◌, ◌≤◌, ◌<◌, ◌^◌, length, IfOk};
+ghost use Rattle.std.specs.Prelude.{◌≡◌, ◌≤◌, ◌<◌, ◌^◌, length, IfOk, IfSome};
 ghost use Rattle.extent_tree.specs.Nodes.{begin_of, last_end, summary};
 ghost use Rattle.extent_tree.specs.Normal.{IsRising};
 ghost use Rattle.extent_tree.specs.Places.{extent_with};
@@ -66,6 +66,7 @@ impl Node {
         ensures extent { result.extent ≡ extent_with block self.now }
         ensures compared { result.compared ≤ length self.now }
         ensures some { 0 < length self.now → 0 < result.compared }
+        ensures each_level { IfSome result.extent (λ _. 0 < result.compared) }
     {
         find(&self.entries, block)
     }
@@ -95,6 +96,7 @@ fn find(entries: &[Extent], block: u32) -> Found
     ensures extent { result.extent ≡ extent_with block entries.now }
     ensures compared { result.compared ≤ length entries.now }
     ensures some { 0 < length entries.now → 0 < result.compared }
+    ensures each_level { IfSome result.extent (λ _. 0 < result.compared) }
 {
     let mut low = 0;
     let mut high = entries.len();

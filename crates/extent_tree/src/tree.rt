@@ -92,6 +92,7 @@ impl<const N: usize> Extents<N> {
         ensures place { result.place ≡ place_of self.now.runs block }
         ensures compared { result.compared ≤ N * length self.now.levels }
         ensures some { 0 < length self.now.runs → 0 < result.compared }
+        ensures each_level { IfSome result.place (λ _. length self.now.levels ≤ result.compared) }
     {
         look_up::<N>(&self.leaves, &self.inner, block)
     }
@@ -169,6 +170,7 @@ fn look_up<const N: usize>(leaves: &[Node], inner: &[Level], block: u32) -> Coun
     ensures place { result.place ≡ place_of (flat leaves.now) block }
     ensures compared { result.compared ≤ N * (1 + length inner.now) }
     ensures some { 0 < length (flat leaves.now) → 0 < result.compared }
+    ensures each_level { IfSome result.place (λ _. 1 + length inner.now ≤ result.compared) }
 {
     let found = find_in::<N>(leaves, inner, block);
     Counted {

@@ -21,10 +21,8 @@ fn read_node<M: Media>(journal: &mut Journal<M>, block: u32) -> Result<[u8; BLOC
     ensures looks { Looks M.Media journal.old journal.new result }
 {
     let mut bytes = blank_block();
-    match read_block(journal, Tier::Fast, block, &mut bytes) {
-        Ok(()) => Ok(bytes),
-        Err(error) => Err(error),
-    }
+    read_block(journal, Tier::Fast, block, &mut bytes)?;
+    Ok(bytes)
 }
 
 // What stands in a root; zeros where there is none.
@@ -38,10 +36,7 @@ pub fn read_root<M: Media>(journal: &mut Journal<M>, root: u32) -> Result<[u8; B
     if root == 0 {
         return Ok(blank_block());
     }
-    match read_node(journal, root) {
-        Ok(bytes) => Ok(bytes),
-        Err(error) => Err(error),
-    }
+    read_node(journal, root)
 }
 
 // What stands in some blocks of the node pool, one device call for each.
@@ -59,10 +54,7 @@ pub fn read_places<M: Media>(
 {
     let mut held = Vec::new(alloc);
     'each: for index in 0..places.len() {
-        match push_node(journal, places[index], &mut held) {
-            Ok(()) => {}
-            Err(error) => return Err(error),
-        }
+        push_node(journal, places[index], &mut held)?;
     }
     Ok(held)
 }
@@ -79,11 +71,9 @@ fn push_node<M: Media>(
     ensures only { IfErr result (λ e. (e ≡ DeviceFault) ⊎ (e ≡ Memory)) }
     ensures looks { Looks M.Media journal.old journal.new result }
 {
-    match read_node(journal, block) {
-        Ok(bytes) => match held.push(bytes) {
-            Ok(()) => Ok(()),
-            Err(_) => Err(AreaError::Memory),
-        },
-        Err(error) => Err(error),
+    let bytes = read_node(journal, block)?;
+    match held.push(bytes) {
+        Ok(()) => Ok(()),
+        Err(_) => Err(AreaError::Memory),
     }
 }

@@ -73,10 +73,7 @@ fn read_started<M: Media>(
     ensures looks { Looks M.Media journal.old journal.new result }
 {
     match found {
-        Some(extents) => match read_logical(journal, inode, extents, number, out) {
-            Ok(()) => Ok(()),
-            Err(error) => Err(error),
-        },
+        Some(extents) => read_logical(journal, inode, extents, number, out),
         None => {
             clear(out);
             Ok(())
@@ -86,7 +83,9 @@ fn read_started<M: Media>(
 
 // Whether the bytes that a block had make a difference: not where a byte is put at each place of it, nor where the file was cut before it.
 fn needs_old(number: u64, len: NodeLength, put: Option<&BlockChange>) -> bool
-    ensures { result ≡ false → (is_cut_off (new_length len) number ≡ true) ⊎ IsWhole (put_in (option_map (λ b. b.now) put.entry)) }
+    ensures none { result ≡ false → (is_cut_off (new_length len) number ≡ true) ⊎ IsWhole (put_in (option_map (λ b. b.now) put.entry)) }
+    ensures kept { result ≡ true → is_cut_off (new_length len) number ≡ false }
+    ensures part { result ≡ true → IsWhole (put_in (option_map (λ b. b.now) put.entry)) → ⊥ }
 {
     if is_cut_off(len, number) {
         return false;
@@ -157,10 +156,7 @@ fn change_last<M: Media>(
     ensures only { IfErr result (λ e. e ≡ DeviceFault) }
     ensures looks { Looks M.Media journal.old journal.new result }
 {
-    match change_into(journal, inode, found, change, number, &mut out[at..]) {
-        Ok(()) => Ok(()),
-        Err(error) => Err(error),
-    }
+    change_into(journal, inode, found, change, number, &mut out[at..])
 }
 
 // Adds a block of a number, as the change makes it of the old one.
@@ -227,10 +223,7 @@ fn add_block<M: Media>(
             Ok(()) => Ok(()),
             Err(_) => Err(AreaError::Memory),
         },
-        None => match push_block(journal, inode, found, change, number, out) {
-            Ok(()) => Ok(()),
-            Err(error) => Err(error),
-        },
+        None => push_block(journal, inode, found, change, number, out),
     }
 }
 
@@ -293,10 +286,7 @@ pub fn read_changed<M: Media>(
     ensures looks { Looks M.Media journal.old journal.new result }
 {
     match make_room(out, numbers.len()) {
-        Ok(()) => match push_blocks(journal, inode, found, change, numbers, out) {
-            Ok(()) => Ok(()),
-            Err(error) => Err(error),
-        },
+        Ok(()) => push_blocks(journal, inode, found, change, numbers, out),
         Err(_) => Err(AreaError::Memory),
     }
 }

@@ -19,10 +19,7 @@ pub fn take_read(leases: &Leases, pass: &mut Pass, inode: u32) -> Result<(), Bus
     ensures other { IfErr result (λ e. ShowsWriter pass.old.part.place e.0) }
     ensures kept { CountsAs pass.old pass.new }
 {
-    match leases.take_read(pass, inode) {
-        Ok(()) => Ok(()),
-        Err(busy) => Err(busy),
-    }
+    leases.take_read(pass, inode)
 }
 
 /// Takes the write lease, as `Leases::take_write` does.
@@ -36,10 +33,7 @@ pub fn take_write(leases: &Leases, pass: &mut Pass, inode: u32) -> Result<(), Bu
     ensures other { IfErr result (λ e. ShowsOther pass.old.part.place e.0) }
     ensures kept { CountsAs pass.old pass.new }
 {
-    match leases.take_write(pass, inode) {
-        Ok(()) => Ok(()),
-        Err(busy) => Err(busy),
-    }
+    leases.take_write(pass, inode)
 }
 
 /// Makes a read lease the write lease, as `Leases::raise` does.
@@ -53,8 +47,5 @@ pub fn raise(leases: &Leases, pass: &mut Pass, inode: u32) -> Result<(), Busy>
     ensures other { IfErr result (λ e. ShowsOther pass.old.part.place e.0) }
     ensures kept { CountsAs pass.old pass.new }
 {
-    match leases.raise(pass, inode) {
-        Ok(()) => Ok(()),
-        Err(busy) => Err(busy),
-    }
+    leases.raise(pass, inode)
 }

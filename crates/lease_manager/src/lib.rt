@@ -22,7 +22,7 @@ mod table;
 mod view;
 
 pub use counted_leases::{raise, take_read, take_write};
-pub use inode_leases::{clean_records, note_effects};
+pub use inode_leases::{clean_effects, clean_records, note_effects};
 #[cfg(test)]
 pub use laws::{
     asked_question_waits, heard_question_is_new, only_the_asked_client_hears,

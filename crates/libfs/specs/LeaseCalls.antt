@@ -8,6 +8,7 @@ use Rattle.lease_manager.specs.Words.{HasWord}
 use Rattle.lease_manager.specs.Marks.{ShowsOther, ShowsWriter}
 use Rattle.lease_manager.specs.Passes.{PassView, lease_of, records_of, without_lease, refused_at, tried_at}
 use Rattle.client_view.specs.KnowledgeChanges.{without_inode}
+use Rattle.client_view.specs.block_cache.CacheList.{without_file}
 use Rattle.libfs.specs.View.{ClientView, is_pending}
 use Rattle.libfs.specs.ClientHoldings.{known_to}
 
@@ -34,9 +35,10 @@ pub record CanBeGiven {M : Type 0} (v : ClientView M) (i : ℕ) : Type 0 where
   pub idle : is_pending v ≡ false
   pub going : v.log.failed ≡ false
 
--- The lease is gone, and what was known of the inode with it.
+-- The lease is gone, and what was known of the inode with it; the blocks of other files stay in their order.
 pub record HasGiven {M : Type 0} (old : ClientView M) (i : ℕ) (new : ClientView M) : Type 0 where
   pub lease : new.pass ≡ without_lease old.pass i
   pub knows_then : known_to new ≡ without_inode (known_to old) i
   pub numbers : new.copies.numbers ≡ old.copies.numbers
+  pub order : new.copies.blocks ≡ without_file i old.copies.blocks
   pub rest : new ≡ record old { pass = new.pass; copies = new.copies }

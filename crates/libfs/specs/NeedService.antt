@@ -1,5 +1,5 @@
 -- What a client has once the kernel served it.
-use Rattle.std.specs.Prelude.{◌≡◌, ◌⊎◌, ℕ, ◌+◌, ◌<◌, ◌≤◌, ◌==◌, ◌&&◌, ◌||◌, ◌++◌, not, drop, min, take, Bool, false, List, [], ◌∷◌, Option, Some, None, Result, Ok, Err, OnErr, if◌then◌else◌}
+use Rattle.std.specs.Prelude.{◌≡◌, ◌≢◌, ◌⊎◌, ℕ, ◌+◌, ◌<◌, ◌≤◌, ◌==◌, ◌&&◌, ◌||◌, ◌++◌, not, drop, min, take, Bool, false, List, [], ◌∷◌, Option, Some, None, Result, Ok, Err, OnErr, if◌then◌else◌}
 use Rattle.std.specs.List.{filter}
 use Rattle.client_log.specs.tier_device.declared.media.Media.{Ghosts}
 use Rattle.client_log.specs.tier_device.declared.media.Tier.{Tier}
@@ -7,7 +7,7 @@ use Rattle.lease_manager.specs.posix_calls.Content.{with_length}
 use Rattle.lease_manager.specs.file_graph.Graph.{Graph, is_among}
 use Rattle.lease_manager.specs.file_graph.Numbers.{is_inode}
 use Rattle.lease_manager.specs.file_graph.Units.{charge}
-use Rattle.client_view.specs.block_cache.CacheList.{bytes_at as kept_bytes, put_block}
+use Rattle.client_view.specs.block_cache.CacheList.{bytes_at as kept_bytes, put_block, without_file}
 use Rattle.client_view.specs.block_cache.declared.bytes.TheConstants.{BLOCK_SIZE}
 use Rattle.client_view.specs.block_cache.declared.blocks.TheConstants.{MOST_BLOCKS}
 use Rattle.lease_manager.specs.log_record.declared.format.Record.{Record}
@@ -16,7 +16,9 @@ use Rattle.client_log.specs.call_effects.Knowledge.{Knowledge, with_copy}
 use Rattle.client_log.specs.call_effects.NodeView.{view_at}
 use Rattle.kernel_fs.specs.layout.declared.marks.Mark.{Mark}
 use Rattle.lease_manager.specs.Words.{HasWord}
-use Rattle.lease_manager.specs.Passes.{client_of}
+use Rattle.lease_manager.specs.Passes.{client_of, lease_of}
+use Rattle.lease_manager.specs.declared.view.LeaseMode.TheVariants.{Free}
+use Rattle.lease_manager.specs.posix_calls.Tree.{has_open}
 use Rattle.kernel_fs.specs.Book.{is_free, out_of, units_of}
 use Rattle.kernel_fs.specs.Free.{AreLowest}
 use Rattle.kernel_fs.specs.Inodes.{IsInode}
@@ -48,12 +50,12 @@ use Rattle.libfs.specs.ClientHoldings.{known_to}
 
 -- The kernel serves all that a client may lack but a lease, which the client takes itself, and room in its region. No call is begun meanwhile where a copy comes in the place of another.
 abbrev pub IsServable : {M : Type 0} → ClientView M → Need → Type 0
-IsServable v (needs.View i) = HasWord i × (v.begun ≡ None)
-IsServable v (needs.Blocks i first count) = first + count < 4294967296
+IsServable v (needs.View i) = HasWord i × (lease_of v.pass i ≢ Free) × (v.begun ≡ None)
+IsServable v (needs.Blocks i first count) = HasWord i × (lease_of v.pass i ≢ Free) × (first + count < 4294967296)
 IsServable v (needs.Inodes n) = Unit {0}
 IsServable v (needs.Units n) = v.spare + n < 4294967296
 IsServable v (needs.Pin i) = IsInode i
-IsServable v (needs.Unpin i) = Unit {0}
+IsServable v (needs.Unpin i) = has_open (known_to v).own i ≡ false
 IsServable v (needs.Lease i mode) = ⊥
 IsServable v needs.Room = ⊥
 
@@ -86,12 +88,13 @@ records_behind device v mark = if mark.generation == v.log.generation then drop 
 abbrev pub shared_by : {S : Type 0} → Ghosts S → KernelView S → Graph
 shared_by device k = graph k.area.geometry (disk device k.area)
 
--- It has a copy of what stands at an inode of the kernel's graph, with its own records behind its mark laid over it.
+-- It has a copy of what stands at an inode of the kernel's graph, with its own records behind its mark laid over it; the blocks of other files stay in their order.
 pub record HasFetched {M S : Type 0} (device : Ghosts M) (shared : Ghosts S) (k : KernelView S) (old : ClientView M) (i : ℕ) (new : ClientView M) : Type 0 where
   pub mark : Mark
   pub is_mark : IsMarkIn (disk shared k.area) (client_of old.pass) mark
   pub knows_then : known_to new ≡ with_copy (without_blocks (known_to old) i) i (node_laid (records_behind device old mark) i (view_at (shared_by shared k) i))
   pub numbers : new.copies.numbers ≡ old.copies.numbers
+  pub order : new.copies.blocks ≡ without_file i old.copies.blocks
   pub rest : new ≡ record old { copies = new.copies }
 
 -- a block of a file, as the client has it behind a mark: that of the kernel's graph, with its own records laid over it; none where no file stands then

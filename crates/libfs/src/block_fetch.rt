@@ -1,9 +1,11 @@
 //! Blocks of files that a client fetches of the shared graph, with its own records laid over them.
-ghost use Rattle.std.specs.Prelude.{◌≡◌, ◌⊎◌, ◌≤◌, ◌<◌, ◌+◌, ◌-◌, ◌*◌, ◌^◌, ◌↔◌, ℕ, List, length, min, take, true, false, Err, OnOk, OnErr, IfOk, IfErr, IsTrue, IsErrOf, option_map};
+ghost use Rattle.std.specs.Prelude.{◌≡◌, ◌≢◌, ◌⊎◌, ◌≤◌, ◌<◌, ◌+◌, ◌-◌, ◌*◌, ◌^◌, ◌↔◌, ℕ, List, length, min, take, true, false, Err, OnOk, OnErr, IfOk, IfErr, IsTrue, IsErrOf, option_map};
 ghost use Rattle.std.specs.Option.{ForSome};
 ghost use Rattle.lease_manager.specs.posix_calls.declared.limits.TheConstants.{UNIT_BYTES};
 ghost use Rattle.kernel_fs.specs.layout.declared.marks.Mark.{Mark};
-ghost use Rattle.lease_manager.specs.Passes.{client_of};
+ghost use Rattle.lease_manager.specs.Passes.{client_of, lease_of};
+ghost use Rattle.lease_manager.specs.Words.{HasWord};
+ghost use Rattle.lease_manager.specs.declared.view.LeaseMode.TheVariants.{Free};
 ghost use Rattle.client_view.specs.BlockPut.{IsBlockLong};
 ghost use Rattle.kernel_fs.specs.area_image.Store.{disk};
 ghost use Rattle.kernel_fs.specs.MachineState.{IsMarkIn};
@@ -20,7 +22,7 @@ use lease_manager::UNIT_BYTES;
 use std::alloc::{AllocError, Global};
 
 impl<M: Media> Client<M> {
-    /// Fetches blocks of a file, of 4,096 bytes each, with the client's own records that are not digested there laid over them. They are the ones used last then. Of a block that is not as long as
+    /// Fetches blocks of a file that it holds, of 4,096 bytes each, with the client's own records that are not digested there laid over them. They are the ones used last then. Of a block that is not as long as
     /// the client's copy of the file tells nothing is kept.
     ///
     /// Refused: `KernelFailed` exactly where a device of the kernel had failed before, with nothing changed; `Device` where one fails now, `Memory` where there was none. Blocks may have come before.
@@ -32,6 +34,8 @@ impl<M: Media> Client<M> {
         first: u32,
         count: u32,
     ) -> Result<(), Denied>
+        requires inode { HasWord inode }
+        requires held { lease_of self.old.pass inode ≢ Free }
         requires blocks { first + count < 2 ^ 32 }
         ensures fetched { HasFetchedBlocks M.Media S.Media kernel.old self.old inode first count self.new }
         ensures there { OnOk result (HasThem M.Media S.Media kernel.old self.old inode first count self.new) }

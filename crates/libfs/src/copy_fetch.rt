@@ -1,9 +1,12 @@
 //! Copies that a client fetches of the shared graph, with its own records laid over them.
-ghost use Rattle.std.specs.Prelude.{◌≡◌, ◌⊎◌, ◌==◌, true, false, None, Err, OnOk, OnErr, IfOk, IfErr, IsErrOf};
+ghost use Rattle.std.specs.Prelude.{◌≡◌, ◌≢◌, ◌⊎◌, ◌==◌, true, false, None, Err, OnOk, OnErr, IfOk, IfErr, IsErrOf};
 ghost use Rattle.lease_manager.specs.RecordCounts.{touch_count};
+ghost use Rattle.lease_manager.specs.Passes.{lease_of};
 ghost use Rattle.lease_manager.specs.Words.{HasWord};
+ghost use Rattle.lease_manager.specs.declared.view.LeaseMode.TheVariants.{Free};
 ghost use Rattle.client_log.specs.call_effects.Knowledge.{with_copy};
 ghost use Rattle.client_view.specs.KnowledgeChanges.{without_blocks};
+ghost use Rattle.client_view.specs.block_cache.CacheList.{without_file};
 ghost use Rattle.client_view.specs.After.{node_laid};
 ghost use Rattle.kernel_fs.specs.shared_area.Parts.{IsNoDamage};
 ghost use Rattle.kernel_fs.specs.KernelAnswers.{OnRefusal};
@@ -21,12 +24,13 @@ use lease_manager::is_inode;
 use std::alloc::AllocError;
 
 impl<M: Media> Client<M> {
-    /// Fetches a copy of what stands at an inode: the shared node, and over it the client's own records that are not digested there. What it knew of the inode before goes, its blocks too.
+    /// Fetches a copy of what stands at an inode that it holds: the shared node, and over it the client's own records that are not digested there. What it knew of the inode before goes, its blocks too.
     ///
     /// Refused: `KernelFailed` exactly where a device of the kernel had failed before; `Device` where one fails now; `Memory` where there was none for an extent block of the kernel's or for an entry. The
     /// client is as it was then. The kernel's device calls are reads.
     pub fn fetch<S: Media>(&mut self, kernel: &mut Kernel<S>, inode: u32) -> Result<(), Denied>
         requires inode { HasWord inode }
+        requires held { lease_of self.old.pass inode ≢ Free }
         requires idle { self.old.begun ≡ None }
         ensures fetched { OnOk result (HasFetched M.Media S.Media kernel.old self.old inode self.new) }
         ensures looks { HasLooked S.Media kernel.old kernel.new result }
@@ -47,6 +51,7 @@ impl<M: Media> Client<M> {
         requires idle { self.old.begun ≡ None }
         ensures known { OnOk result (known_to self.new ≡ with_copy (without_blocks (known_to self.old) inode) inode (node_laid (records_behind M.Media self.old found.mark) inode found.node)) }
         ensures numbers { OnOk result (self.new.copies.numbers ≡ self.old.copies.numbers) }
+        ensures order { OnOk result (self.new.copies.blocks ≡ without_file inode self.old.copies.blocks) }
         ensures rest { OnOk result (self.new ≡ record self.old { copies = self.new.copies }) }
         ensures refused { OnErr result (self.new ≡ self.old) }
         ensures only { IfErr result (λ e. e ≡ denied.Memory) }

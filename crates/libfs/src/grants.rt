@@ -1,6 +1,7 @@
 //! Units, numbers and pins, which the kernel's book has of each client.
-ghost use Rattle.std.specs.Prelude.{◌≡◌, ◌⊎◌, ◌<◌, ◌≤◌, ◌+◌, ◌^◌, ◌++◌, ◌∷◌, [], ◌||◌, ◌&&◌, ◌==◌, ℕ, true, false, OnOk, OnErr, IfOk, IfErr, IsErrOf, vec_len, vec_capacity, if◌then◌else◌};
+ghost use Rattle.std.specs.Prelude.{◌≡◌, ◌⊎◌, ◌<◌, ◌≤◌, ◌+◌, ◌^◌, ◌++◌, ◌∷◌, [], ◌||◌, ◌&&◌, ◌==◌, ℕ, None, true, false, OnOk, OnErr, IfOk, IfErr, IsErrOf, vec_len, vec_capacity, if◌then◌else◌};
 ghost use Rattle.lease_manager.specs.posix_calls.declared.limits.TheConstants.{MAX_INODE};
+ghost use Rattle.lease_manager.specs.posix_calls.Tree.{has_open};
 ghost use Rattle.lease_manager.specs.file_graph.Graph.{is_among};
 ghost use Rattle.lease_manager.specs.file_graph.Numbers.{is_inode};
 ghost use Rattle.lease_manager.specs.file_graph.Units.{charge};
@@ -12,6 +13,7 @@ ghost use Rattle.kernel_fs.specs.MachineState.{IsKernelOf};
 ghost use Rattle.client_log.specs.world_invariant.Machine.{Machine, book_pin, unbook_pin};
 ghost use Rattle.lease_manager.specs.Passes.{client_of};
 ghost use Rattle.libfs.specs.declared.denial.Denied.TheVariants as denied;
+ghost use Rattle.libfs.specs.ClientHoldings.{known_to};
 ghost use Rattle.libfs.specs.NeedService.{HasGivenBack, HasRefilled, with_pin, refill_denied, shared_by, without_pin};
 
 use crate::client::Client;
@@ -72,8 +74,9 @@ impl<M: Media> Client<M> {
         Ok(numbers)
     }
 
-    /// Gives back the units and the numbers that it has not used.
+    /// Gives back the units and the numbers that it has not used. It has begun no record: what one uses is still among them.
     pub fn give_back<S: Media>(&mut self, kernel: &mut Kernel<S>) -> Result<(), Denied>
+        requires unbegun { self.old.begun ≡ None }
         ensures given { OnOk result (HasGivenBack S.Media kernel.old self.old self.new kernel.new) }
         ensures going { OnOk result (kernel.old.area.failed ≡ false) }
         ensures failed { OnErr result (kernel.old.area.failed ≡ true) }
@@ -121,6 +124,7 @@ impl<M: Media> Client<M> {
 
     /// Drops the pin of a file that it has not open.
     pub fn unpin<S: Media>(&mut self, kernel: &mut Kernel<S>, inode: u32) -> Result<(), Denied>
+        requires closed { has_open (known_to self.old).own inode ≡ false }
         ensures unpinned { OnOk result (self.new ≡ record self.old { pins = without_pin self.old.pins inode }) }
         ensures step { OnOk result ((m : Machine) → IsKernelOf S.Media kernel.old m → IsKernelOf S.Media kernel.new (unbook_pin m (client_of self.old.pass) inode)) }
         ensures out { out_of kernel.new.book ≡ out_of kernel.old.book }

@@ -1,5 +1,8 @@
 //! What a call needs of the kernel, whichever it is.
-ghost use Rattle.std.specs.Prelude.{◌≡◌, ◌⊎◌, ◌<◌, ◌≤◌, ◌+◌, ◌^◌, ◌↔◌, true, false, OnErr, OnOk, IfErr, IsErrOf, IsTrue};
+ghost use Rattle.std.specs.Prelude.{◌≡◌, ◌≢◌, ◌⊎◌, ◌<◌, ◌≤◌, ◌+◌, ◌^◌, ◌↔◌, true, false, OnErr, OnOk, IfErr, IsErrOf, IsTrue};
+ghost use Rattle.lease_manager.specs.Passes.{lease_of};
+ghost use Rattle.lease_manager.specs.Words.{HasWord};
+ghost use Rattle.lease_manager.specs.declared.view.LeaseMode.TheVariants.{Free};
 ghost use Rattle.lease_manager.specs.file_graph.Units.{charge};
 ghost use Rattle.kernel_fs.specs.Book.{is_free, out_of};
 ghost use Rattle.kernel_fs.specs.Free.{count_of};
@@ -12,7 +15,7 @@ use crate::denial::Denied;
 use client_log::Media;
 use client_view::Need;
 use kernel_fs::Kernel;
-use lease_manager::is_inode;
+use lease_manager::{LeaseMode, is_inode};
 
 impl<M: Media> Client<M> {
     /// Has what a call needs served by the kernel: all but a lease, which a client takes by its own pass, and room in its region.
@@ -54,18 +57,31 @@ impl<M: Media> Client<M> {
         }
     }
 
-    /// Whether the kernel can serve what a call needs, as `serve` asks for: the kernel serves no lease and no room, and what is asked for is within the bounds of inodes, blocks and units.
+    /// Whether the kernel can serve what a call needs, as `serve` asks for: the kernel serves no lease and no room; copies and blocks are of an inode that the client holds, a pin that goes is of a file that it
+    /// has not open, and what is asked for is within the bounds of inodes, blocks and units.
     pub fn is_servable(&self, need: &Need) -> bool
         ensures { IsTrue result ↔ IsServable self.now need.now }
     {
         match *need {
-            Need::View { inode } => is_inode(inode) && self.begun.is_none(),
-            Need::Blocks { first, count, .. } => are_numbered(first, count),
+            Need::View { inode } => self.is_held(inode) && self.begun.is_none(),
+            Need::Blocks {
+                inode,
+                first,
+                count,
+            } => self.is_held(inode) && are_numbered(first, count),
             Need::Units { count } => self.spare.checked_add(count).is_some(),
             Need::Pin { inode } => is_inode(inode),
-            Need::Inodes { .. } | Need::Unpin { .. } => true,
+            Need::Unpin { inode } => !self.has_open(inode),
+            Need::Inodes { .. } => true,
             Need::Lease { .. } | Need::Room => false,
         }
+    }
+
+    // Whether it holds an inode, for reading or for writing.
+    fn is_held(&self, inode: u32) -> bool
+        ensures { IsTrue result ↔ (HasWord inode × (lease_of self.now.pass inode ≢ Free)) }
+    {
+        is_inode(inode) && self.holds(inode) != LeaseMode::Free
     }
 }
 

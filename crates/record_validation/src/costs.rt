@@ -44,10 +44,8 @@ pub fn record_costs(
     ensures known { IfOk result (λ c. first_unknown known.now effects.now ≡ None) }
     ensures unknown { IfErr result (λ i. first_unknown known.now effects.now ≡ Some i) }
 {
-    match tally_record(known, effects) {
-        Ok(tally) => Ok(tally.costs),
-        Err(inode) => Err(inode),
-    }
+    let tally = tally_record(known, effects)?;
+    Ok(tally.costs)
 }
 
 /// What a record costs, and whether each node that it touches keeps the limits after it.
@@ -92,10 +90,7 @@ fn tally(known: &BTreeMap<u32, Option<NodeSummary>>, effects: &[Effect]) -> Resu
     let mut place = 0;
     for effect in effects {
         place += 1;
-        let one = match tally_once(known, effects, effect, &effects[place..]) {
-            Ok(one) => one,
-            Err(inode) => return Err(inode),
-        };
+        let one = tally_once(known, effects, effect, &effects[place..])?;
         all.costs.growth += one.costs.growth;
         all.costs.before += one.costs.before;
         all.costs.after += one.costs.after;

@@ -278,28 +278,28 @@ impl<M: Media> Shared<M> {
         )
     }
 
-    /// What the graph costs, in units: one for each inode and one for each logical block, holes too.
+    /// What the graph costs, in units: one for each inode and one for each logical block, holes too. Of no meaning once a device has failed.
     pub fn charge(&self) -> u64
         ensures { self.now.failed ≡ false → result ≡ charge (graph self.now.geometry (disk M.Media self.now)) }
     {
         self.units
     }
 
-    /// How far each client's records are digested, and the number of digests.
+    /// How far each client's records are digested, and the number of digests. Of no meaning once a device has failed.
     pub fn marks(&self) -> Marks
         ensures { self.now.failed ≡ false → marks_of (disk M.Media self.now) ≡ Some result }
     {
         self.marks
     }
 
-    /// How many data blocks of a tier are free.
+    /// How many data blocks of a tier are free. Of no meaning once a device has failed.
     pub fn free(&self, tier: Tier) -> u32
         ensures { self.now.failed ≡ false → HasFree self.now.geometry (disk M.Media self.now) tier result }
     {
         self.pools.free(tier)
     }
 
-    /// How many blocks of the node pool are free.
+    /// How many blocks of the node pool are free. Of no meaning once a device has failed.
     pub fn free_nodes(&self) -> u32
         ensures { self.now.failed ≡ false → HasCount FIRST_NODE_BLOCK (node_end self.now.geometry)
             (λ k. Free self.now.geometry (disk M.Media self.now) Fast k × (k < node_end self.now.geometry)) result }

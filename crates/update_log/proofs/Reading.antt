@@ -1,7 +1,7 @@
 -- What fronts, closed gates and whole records stand for.
-use Rattle.std.proofs.Common.{◌≡◌, ◌≢◌, inl, inr, ℕ, zero, suc, ◌+◌, ◌<◌, ◌≤◌, ◌^◌, List, [], ◌∷◌, ◌++◌, length, take, drop, get_or, take-append-drop, true, false, ◌&&◌, refl, sym, ◌∙◌, ap, subst, arith, append_assoc, length-append}
+use Rattle.std.proofs.Common.{◌≡◌, ◌≢◌, inl, inr, ℕ, zero, suc, ◌+◌, ◌-◌, ◌<◌, ◌≤◌, ◌^◌, List, [], ◌∷◌, ◌++◌, length, take, drop, get_or, take-append-drop, true, false, ◌&&◌, refl, sym, ◌∙◌, ap, subst, arith, append_assoc, length-append}
 use Rattle.std.specs.Prelude.{nat_lt, ◌==◌}
-use Rattle.std.proofs.lemmas.List.{append-nil, take_at, drop_at, drop_more, drop-drop, length-take-le, length-drop}
+use Rattle.std.proofs.lemmas.List.{append-nil, take_at, drop_at, drop_more, drop-drop, drop-take, take-take, length-take-le, length-drop}
 use Rattle.std.proofs.lemmas.Bool.{cases_eq, eq-eqb, lt-ltb, ltb-true, and_parts, and_from, ne_eqb, and_left, cond-true, cond-false}
 use Rattle.byteorder.specs.Endian.{little_number, little_bytes}
 use Rattle.byteorder.specs.Numbers.{little_number-reads_back, length-bytes_low_first, little_from-append}
@@ -132,6 +132,17 @@ front_none content le =
       long = omega (arith, length-take-le 16 content le, ap framed_length alone);
       ends = λ gate rest. behind_header content le gate rest ∙ ap (λ l. l ++ payloads_from 0 (gate ∷ rest)) (sym alone);
     }
+
+-- the payloads before a gate stand behind the header
+pub payloads_behind_header : (end : ℕ) (seen : List ℕ) → 16 ≤ end → 16 ≤ length seen → before_gate (take end seen) ≡ payloads_from 0 (take (end - 16) (drop 16 seen) ++ 0 ∷ [])
+payloads_behind_header end seen le long =
+    let rest = take (end - 16) (drop 16 seen) in
+    ap (λ (l : List ℕ). payloads_from 16 (l ++ 0 ∷ [])) (sym (take-append-drop 16 (take end seen)) ∙ (λ k. take-take 16 end seen le k ++ dropped k))
+    ∙ ap (payloads_from 16) (append_assoc (take 16 seen) rest (0 ∷ []))
+    ∙ subst (λ n. payloads_from n (take 16 seen ++ (rest ++ 0 ∷ [])) ≡ payloads_from 0 (rest ++ 0 ∷ [])) (length-take-le 16 seen long) (payloads_past (take 16 seen) (rest ++ 0 ∷ []))
+  where
+    dropped : drop 16 (take end seen) ≡ take (end - 16) (drop 16 seen)
+    dropped = ap (λ n. drop 16 (take n seen)) (let e : end ≡ 16 + (end - 16) = omega (arith, le) in e) ∙ drop-take 16 (end - 16) seen
 
 -- a front of a content, and the whole record that stands behind it
 pub front_more : (content : List ℕ) (end : ℕ) → end < length content → get_or content end 0 ≡ 165 → IsFront (take end content) → is_whole (drop (end + 1) content) ≡ true → Grown (take end content) (payload_of (drop (end + 1) content)) (take (end + 5 + payload_length (drop (end + 1) content)) content)

@@ -1,16 +1,18 @@
 -- From what holds of a region that is wiped to what its callers see.
-use Rattle.std.proofs.Common.{◌≡◌, ◌≢◌, inl, inr, ℕ, ◌<◌, List, [], length, take, refl, sym, ◌∙◌, ap, subst, arith}
-use Rattle.std.proofs.lemmas.List.{take-take}
+use Rattle.std.proofs.Common.{◌≡◌, ◌≢◌, inl, inr, ℕ, ◌≤◌, ◌<◌, List, [], length, take, drop, get_or, refl, sym, ◌∙◌, ap, subst, arith}
+use Rattle.std.proofs.lemmas.Bool.{cases_eq}
+use Rattle.std.proofs.lemmas.List.{take-take, length-take-le}
 use Rattle.tier_device.specs.Media.{Torn}
 use Rattle.update_log.specs.declared.stage.Stage.{Stage}
 use Rattle.update_log.specs.declared.stage.Stage.TheVariants as stages
-use Rattle.update_log.specs.Frames.{header, before_gate, spelled_records}
+use Rattle.update_log.specs.Frames.{header, payloads, before_gate, framed_length, spelled_records}
 use Rattle.update_log.specs.Stage.{FitsItsStage, AtStage, HasRecord, IsIdle, IsShut}
 use Rattle.update_log.specs.WipeStops.{records_behind_gate, LeftInWipe}
 use Rattle.update_log.specs.Wipe.{CanWipe, IsWiping, MayWipe, IsDoneWith}
-use Rattle.update_log.proofs.Reading.{front_none, none_in_header}
+use Rattle.update_log.proofs.Moves.{stands_of}
+use Rattle.update_log.proofs.Reading.{payloads_closed, front_none, none_in_header}
 use Rattle.update_log.proofs.Views.{idle_now}
-use Rattle.update_log.proofs.Wiping.{torn_not, wiping_now, behind_open}
+use Rattle.update_log.proofs.Wiping.{split_gate, torn_not, wiping_now, behind_open}
 
 -- a front that is the header of all is the header of its own
 header_of_front : (end : ℕ) (seen : List ℕ) → take end seen ≡ header seen → header (take end seen) ≡ header seen
@@ -95,3 +97,22 @@ behind_records end stage body seen left now sound idle some =
 -- no record stands before the first gate
 pub none_before : (seen : List ℕ) → length seen ≡ 262144 → spelled_records (before_gate (take 16 seen)) ≡ []
 none_before seen size = ap spelled_records (none_in_header seen (omega (arith, size)))
+
+-- where nothing is begun all payloads stand before the next gate
+idle_payloads : (end : ℕ) (stage : Stage) (body seen : List ℕ) (left : List ℕ → Type 0) → FitsItsStage end stage body seen left → IsIdle stage → payloads seen ≡ before_gate (take end seen)
+idle_payloads end stage body seen left sound (inl is) =
+    let a = (subst (λ (st : Stage). FitsItsStage end st body seen left) is sound).at_stage in
+    payloads_closed (take end seen) seen a.stands a.shut
+idle_payloads end stage body seen left sound (inr is) = (subst (λ (st : Stage). FitsItsStage end st body seen left) is sound).at_stage.ends
+
+-- where it stands behind the first one then, the first gate is open
+pub first_is_open : (end : ℕ) (stage : Stage) (body seen : List ℕ) (left : List ℕ → Type 0) → FitsItsStage end stage body seen left → IsIdle stage → 16 < end → get_or seen 16 0 ≡ 165
+first_is_open end stage body seen left sound idle behind = elim (cases_eq (get_or seen 16 0) 165) [
+  | inl is_open ↦ is_open
+  | inr shut ↦
+      let le : 16 ≤ length seen = omega (arith, sound.size) in
+      let closed : IsShut (header seen) seen = record { gate = get_or seen 16 0; rest = drop 17 seen; shut = shut; is = split_gate seen (omega (arith, sound.size)) } in
+      let none : before_gate (take end seen) ≡ [] =
+      sym (idle_payloads end stage body seen left sound idle) ∙ payloads_closed (header seen) seen (front_none seen le) closed ∙ none_in_header seen le in
+      absurd (omega (arith, behind, (stands_of end stage body seen left sound).long, ap framed_length none, length-take-le end seen (omega (arith, sound.size, sound.within))))
+]

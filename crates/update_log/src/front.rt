@@ -1,26 +1,26 @@
-// Reading the first bytes of a region, and the generation among them.
-ghost use Rattle.std.specs.Prelude.{◌≡◌, ◌≤◌, ◌<◌, ◌+◌, ◌++◌, ◌∷◌, [], ◌⊎◌, length, take, IfOk, IfErr, IsErrOf, OnOk, OnErr};
+// Reading what stands behind the header of a region, and the generation in it.
+ghost use Rattle.std.specs.Prelude.{◌≡◌, ◌≤◌, ◌<◌, ◌+◌, ◌-◌, ◌++◌, ◌∷◌, [], ◌⊎◌, length, take, drop, IfOk, IfErr, IsErrOf, OnOk, OnErr};
 ghost use Rattle.tier_device.specs.declared.media.Tier.{Tier};
 ghost use Rattle.tier_device.specs.declared.media.Tier.TheVariants.{Fast};
 ghost use Rattle.tier_device.specs.Media.{Keeps, Rose};
-ghost use Rattle.update_log.specs.declared.format.TheConstants.{CLOSED, GENERATION_SIZE};
+ghost use Rattle.update_log.specs.declared.format.TheConstants.{CLOSED, GENERATION_SIZE, HEADER};
 ghost use Rattle.update_log.specs.WipeStops.{generation};
 ghost use Rattle.update_log.specs.declared.error.RegionError.TheVariants.{DeviceFault, Memory};
 
 use crate::error::RegionError;
-use crate::format::{CLOSED, GENERATION_SIZE};
+use crate::format::{CLOSED, GENERATION_SIZE, HEADER};
 use byteorder::{ByteOrder, LittleEndian};
 use std::alloc::Global;
 use tier_device::{Media, Tier};
 
-/// The first bytes of the fast tier.
-pub fn read_front<M: Media>(
+/// Bytes of the fast tier behind the header, which is not read.
+pub fn read_behind_header<M: Media>(
     alloc: Global,
     media: &mut M,
     len: usize,
 ) -> Result<Vec<u8>, RegionError>
-    requires { len ≤ length (M.seen media.old Fast) }
-    ensures bytes { IfOk result (λ front. front.items ≡ take len (M.seen media.old Fast)) }
+    requires { HEADER + len ≤ length (M.seen media.old Fast) }
+    ensures bytes { IfOk result (λ behind. behind.items ≡ take len (drop HEADER (M.seen media.old Fast))) }
     ensures seen { (t : Tier) → M.seen media.new t ≡ M.seen media.old t }
     ensures clock { M.moment media.new ≡ M.moment media.old }
     ensures past { Keeps (M.moment media.old) (M.moment media.new) (M.left media.old) (M.left media.new) }
@@ -31,22 +31,23 @@ pub fn read_front<M: Media>(
     ensures one_fault { M.faults media.new ≤ M.faults media.old + 1 }
 {
     match vec![in alloc; 0u8; len] {
-        Ok(mut front) => match media.read(Tier::Fast, 0, &mut front) {
-            Ok(()) => Ok(front),
+        Ok(mut behind) => match media.read(Tier::Fast, HEADER, &mut behind) {
+            Ok(()) => Ok(behind),
             Err(_) => Err(RegionError::DeviceFault),
         },
         Err(_) => Err(RegionError::Memory),
     }
 }
 
-/// The bytes before a gate, and a closed gate.
+/// The bytes between the header and a gate, and a closed gate.
 pub fn read_before_gate<M: Media>(
     alloc: Global,
     media: &mut M,
     end: usize,
 ) -> Result<Vec<u8>, RegionError>
-    requires { end < length (M.seen media.old Fast) }
-    ensures bytes { IfOk result (λ front. front.items ≡ take end (M.seen media.old Fast) ++ CLOSED ∷ []) }
+    requires behind { HEADER ≤ end }
+    requires within { end < length (M.seen media.old Fast) }
+    ensures bytes { IfOk result (λ behind. behind.items ≡ take (end - HEADER) (drop HEADER (M.seen media.old Fast)) ++ CLOSED ∷ []) }
     ensures seen { (t : Tier) → M.seen media.new t ≡ M.seen media.old t }
     ensures clock { M.moment media.new ≡ M.moment media.old }
     ensures past { Keeps (M.moment media.old) (M.moment media.new) (M.left media.old) (M.left media.new) }
@@ -56,9 +57,9 @@ pub fn read_before_gate<M: Media>(
     ensures faults { M.faults media.old ≤ M.faults media.new }
     ensures one_fault { M.faults media.new ≤ M.faults media.old + 1 }
 {
-    let mut front = read_front(alloc, media, end)?;
-    match front.push(CLOSED) {
-        Ok(()) => Ok(front),
+    let mut behind = read_behind_header(alloc, media, end - HEADER)?;
+    match behind.push(CLOSED) {
+        Ok(()) => Ok(behind),
         Err(_) => Err(RegionError::Memory),
     }
 }

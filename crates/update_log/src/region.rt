@@ -320,7 +320,9 @@ impl<M: Media> Region<M> {
         ensures sound { OnOk result (M.faults self.new.media ≡ M.faults self.old.media) }
         ensures faults { (M.faults self.old.media ≤ M.faults self.new.media) × (M.faults self.new.media ≤ M.faults self.old.media + 1) }
     {
-        match wipe_call(&mut self.media, self.stage, generation) {
+        // Behind the header then stands a record, so that the first gate is open.
+        let is_open = self.end > HEADER;
+        match wipe_call(&mut self.media, self.stage, is_open, generation) {
             Ok(to) => {
                 self.end = HEADER;
                 self.stage = to;

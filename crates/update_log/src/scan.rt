@@ -1,7 +1,7 @@
 // Where the records of a region end.
 ghost use Rattle.std.specs.Prelude.{◌≡◌, ◌≢◌, ◌⊎◌, ◌≤◌, ◌<◌, ◌+◌, [], length, take, drop, get_or, false, true, IfOk, IfSome, IfNone};
 ghost use Rattle.log_record.specs.Grammar.{record_of};
-ghost use Rattle.update_log.specs.Frames.{payloads, payloads_from, is_whole, before_gate, records, end_behind, is_payload as is_payload_of};
+ghost use Rattle.update_log.specs.Frames.{payloads, payloads_from, is_whole, before_gate, records, spelled_records, end_behind, is_payload as is_payload_of};
 ghost use Rattle.update_log.specs.Scan.{IsRecordAt, IsPayloadBehind};
 ghost use Rattle.update_log.specs.declared.stage.Stage.TheVariants.{Resting, Foreign};
 ghost use Rattle.update_log.specs.declared.format.TheConstants.{OPEN};
@@ -30,13 +30,13 @@ pub fn end_of(content: &[u8]) -> usize
     end
 }
 
-/// The records of a content.
+/// The records in what stands behind a header.
 pub fn records_in(alloc: Global, content: &[u8]) -> Result<Vec<Record>, AllocError>
-    requires { 16 < length content.now }
-    ensures { IfOk result (λ found. found.items ≡ records content.now) }
+    requires { 0 < length content.now }
+    ensures { IfOk result (λ found. found.items ≡ spelled_records (payloads_from 0 content.now)) }
 {
     let mut found = Vec::new(alloc);
-    let mut end = HEADER;
+    let mut end = 0;
     'records: while let Some(payload) = payload_at(content, end) {
         found.push(record_in(alloc, payload)?)?;
         end += 5 + payload.len();

@@ -1,13 +1,13 @@
 // The device calls of a wipe.
-ghost use Rattle.std.specs.Prelude.{◌≡◌, ◌≤◌, ◌<◌, ◌+◌, ◌⊎◌, List, ℕ, length, get_or, OnOk, OnErr, IfOk};
+ghost use Rattle.std.specs.Prelude.{◌≡◌, ◌≤◌, ◌<◌, ◌+◌, ◌⊎◌, List, ℕ, length, get_or, true, OnOk, OnErr, IfOk};
 ghost use Rattle.byteorder.specs.Endian.{little_bytes};
 ghost use Rattle.tier_device.specs.declared.media.Tier.{Tier};
 ghost use Rattle.tier_device.specs.declared.media.Tier.TheVariants.{Fast};
 ghost use Rattle.tier_device.specs.Media.{Keeps, Puts, Rose};
 ghost use Rattle.tier_device.specs.StopsSince.{LeftSince};
-ghost use Rattle.update_log.specs.declared.format.TheConstants.{GENERATION_SIZE, HEADER, REGION_SIZE};
+ghost use Rattle.update_log.specs.declared.format.TheConstants.{GENERATION_SIZE, HEADER, OPEN, REGION_SIZE};
 ghost use Rattle.update_log.specs.Frames.{header};
-ghost use Rattle.update_log.specs.Stage.{IsUnwiped};
+ghost use Rattle.update_log.specs.Stage.{IsIdle, IsUnwiped};
 ghost use Rattle.update_log.specs.WipeStops.{records_behind_gate};
 ghost use Rattle.update_log.specs.Wipe.{MayWipe, IsReadyFor, IsDoneWith, LeftInCall, first_stage, wipe_next, seen_wiped, header_wiped};
 
@@ -18,13 +18,15 @@ use tier_device::{Media, MediaError, Tier};
 
 /// Makes the next device call of a wipe to a generation, and answers the stage after it. The first gate is written closed, and is
 /// fenced; then the generation is written, and is fenced: so no stop leaves an open gate behind a generation that is not the old one.
-/// Where the first gate's byte is 0x00 already, it stays as it is: a write of it, torn, could open it.
+/// Where the first gate's byte is 0x00 already, it stays as it is: a write of it, torn, could open it. A first gate that is known to be open is not read.
 pub fn wipe_call<M: Media>(
     media: &mut M,
     stage: Stage,
+    is_open: bool,
     generation: u64,
 ) -> Result<Stage, MediaError>
     requires size { length (M.seen media.old Fast) ≡ REGION_SIZE }
+    requires open { is_open ≡ true → IsIdle stage → get_or (M.seen media.old Fast) HEADER 0 ≡ OPEN }
     requires may { MayWipe stage (M.seen media.old Fast) (M.left media.old (M.moment media.old) Fast) }
     ensures to { IfOk result (λ to. to ≡ wipe_next stage (get_or (M.seen media.old Fast) HEADER 0)) }
     ensures done { IfOk result (λ to. IsDoneWith to (M.seen media.new Fast) (M.left media.new (M.moment media.new) Fast)) }
@@ -40,14 +42,15 @@ pub fn wipe_call<M: Media>(
     ensures sound { OnOk result (M.faults media.new ≡ M.faults media.old) }
     ensures faults { (M.faults media.old ≤ M.faults media.new) × (M.faults media.new ≤ M.faults media.old + 1) }
 {
-    let to = next_stage(media, stage)?;
+    let to = next_stage(media, stage, is_open)?;
     make_call(media, to, generation)?;
     Ok(to)
 }
 
-// The stage after the next call. Of a region at rest the first gate is read.
-fn next_stage<M: Media>(media: &mut M, stage: Stage) -> Result<Stage, MediaError>
+// The stage after the next call. Of a region at rest the first gate is read, if it is not known to be open.
+fn next_stage<M: Media>(media: &mut M, stage: Stage, is_open: bool) -> Result<Stage, MediaError>
     requires size { length (M.seen media.old Fast) ≡ REGION_SIZE }
+    requires open { is_open ≡ true → IsIdle stage → get_or (M.seen media.old Fast) HEADER 0 ≡ OPEN }
     requires may { MayWipe stage (M.seen media.old Fast) (M.left media.old (M.moment media.old) Fast) }
     ensures to { IfOk result (λ to. to ≡ wipe_next stage (get_or (M.seen media.old Fast) HEADER 0)) }
     ensures ready { IfOk result (λ to. IsReadyFor to (M.seen media.new Fast) (M.left media.new (M.moment media.new) Fast)) }
@@ -62,8 +65,8 @@ fn next_stage<M: Media>(media: &mut M, stage: Stage) -> Result<Stage, MediaError
     ensures faults { (M.faults media.old ≤ M.faults media.new) × (M.faults media.new ≤ M.faults media.old + 1) }
 {
     match stage {
-        Stage::Resting => stage_from_rest(media),
-        Stage::Foreign => stage_from_rest(media),
+        Stage::Resting => stage_from_rest(media, is_open),
+        Stage::Foreign => stage_from_rest(media, is_open),
         Stage::Closing => Ok(Stage::Closed),
         Stage::Closed => Ok(Stage::Naming),
         Stage::Naming => Ok(Stage::Resting),
@@ -77,8 +80,9 @@ fn next_stage<M: Media>(media: &mut M, stage: Stage) -> Result<Stage, MediaError
 }
 
 // The same of a region at rest.
-fn stage_from_rest<M: Media>(media: &mut M) -> Result<Stage, MediaError>
+fn stage_from_rest<M: Media>(media: &mut M, is_open: bool) -> Result<Stage, MediaError>
     requires size { length (M.seen media.old Fast) ≡ REGION_SIZE }
+    requires open { is_open ≡ true → get_or (M.seen media.old Fast) HEADER 0 ≡ OPEN }
     requires rests { (c : List ℕ) → M.left media.old (M.moment media.old) Fast c → c ≡ M.seen media.old Fast }
     ensures to { IfOk result (λ to. to ≡ first_stage (get_or (M.seen media.old Fast) HEADER 0)) }
     ensures ready { IfOk result (λ to. IsReadyFor to (M.seen media.new Fast) (M.left media.new (M.moment media.new) Fast)) }
@@ -92,6 +96,9 @@ fn stage_from_rest<M: Media>(media: &mut M) -> Result<Stage, MediaError>
     ensures sound { OnOk result (M.faults media.new ≡ M.faults media.old) }
     ensures faults { (M.faults media.old ≤ M.faults media.new) × (M.faults media.new ≤ M.faults media.old + 1) }
 {
+    if is_open {
+        return Ok(Stage::Closing);
+    }
     if first_gate(media)? == CLOSED {
         Ok(Stage::Naming)
     } else {

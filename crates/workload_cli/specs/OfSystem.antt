@@ -5,6 +5,7 @@ use Rattle.script.specs.tier_device.declared.media.Tier.{Tier}
 use Rattle.script.specs.posix_calls.Tree.{Tree}
 use Rattle.world_files.specs.recovery.call_effects.Wholes.{tree_of}
 use Rattle.script.specs.file_graph.Units.{charge}
+use Rattle.world_files.specs.recovery.area_image.batch_journal.Course.{Unmoved}
 use Rattle.world_files.specs.recovery.shared_area.Parts.{IsTierOf}
 use Rattle.world_files.specs.recovery.area_image.Store.{graph, disk}
 use Rattle.world_files.specs.recovery.kernel_fs.Book.{out_of}
@@ -31,13 +32,13 @@ LiesIn device k i block tier = IsTierOf k.area.geometry (disk device k.area) i b
 abbrev pub figures_of : {M : Type 0} → Ghosts M → KernelView M → Option Figures
 figures_of device k = if k.area.failed then None else Some (record { charge = charge (graph k.area.geometry (disk device k.area)); out = out_of k.book; capacity = k.area.geometry.units })
 
--- The shared media were only read: they have what they had. A device may have failed.
+-- The shared media were only read: they have what they had, and a stop leaves of them what it did. A device may have failed.
 pub record HasLooked {M : Type 0} (device : Ghosts M) (old new : SystemView M) : Type 0 where
   pub seats : new.seats ≡ old.seats
   pub book : new.kernel.book ≡ old.kernel.book
   pub geometry : new.kernel.area.geometry ≡ old.kernel.area.geometry
-  pub clock : device.moment new.kernel.area.media ≡ device.moment old.kernel.area.media
-  pub reads : (t : Tier) → device.seen new.kernel.area.media t ≡ device.seen old.kernel.area.media t
+  pub opening : new.kernel.opening ≡ old.kernel.opening
+  pub unmoved : Unmoved (device.moment old.kernel.area.media) (device.moment new.kernel.area.media) (device.seen old.kernel.area.media) (device.seen new.kernel.area.media) (device.left old.kernel.area.media) (device.left new.kernel.area.media)
 
 -- It is told so that the shared media could not be read, which is never for damage.
 abbrev pub IsAreaFault : KernelError AreaError → Answer → Type 0

@@ -1,4 +1,4 @@
-use Rattle.std.proofs.Common.{ap}
+use Rattle.std.proofs.Common.{ap, refl}
 use Rattle.std.specs.Prelude.{Ok}
 use Rattle.libfs.specs.kernel_fs.KernelView.{KernelView}
 use Rattle.libfs.specs.kernel_fs.declared.chunk_digest.Digestion.{Digestion}
@@ -34,6 +34,7 @@ returns-in-Ok-clause-came g c =
         bad = tt;
         never_bad = λ m s place is running region stands bad. absurd (ok_is_none d (kernel.Refused (digests.BadLog place)) bad);
         answers = e.answers;
+        at_most = (c.args.chunk.now, c.requires.chunk, refl, e.at_most);
         opening = e.opening;
       },
     )

@@ -29,6 +29,7 @@ down-init g c =
       extent = c.find_in_root-found.ensures.extent ∙ ap (λ l. extent_with c.args.block (flat l)) (c.level_nodes.ensures ∙ ap (λ k. level_at k nodes inner) top);
       compared = omega (arith, c.find_in_root-found.ensures.compared, ap (λ l. length (flat l)) c.level_nodes.ensures, few, one);
       some = λ some. c.find_in_root-found.ensures.some (omega (arith, some-above g.row.N (length inner) nodes inner c.requires.tree (omega arith) some, ap (λ l. length (flat l)) c.level_nodes.ensures));
+      each_level = c.find_in_root-found.ensures.each_level;
     }
 
 pub find_below-found-requires-clause-rising : goal.find_below-found-requires-clause-rising

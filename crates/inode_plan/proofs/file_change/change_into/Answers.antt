@@ -11,7 +11,7 @@ returns-then-not-needs_old-clause-made g c =
     let old = c.args.journal.now in
     let k = c.args.number in
     made_anyway (new_length change.length) (patch_at (patches_of change.blocks) k) _ k (blocks_from c.args.found (logical_block old.geometry (disk g.M.Media old) c.args.inode) k) c.args.block.now c.change_block.new.block
-    c.change_block.ensures (put_is change.blocks k _ c.get-put.ensures.value) (c.needs_old.ensures c.if-not-needs_old.true)
+    c.change_block.ensures (put_is change.blocks k _ c.get-put.ensures.value) (c.needs_old.ensures.none c.if-not-needs_old.true)
 
 pub returns-in-Ok-clause-made : goal.returns-in-Ok-clause-made
 returns-in-Ok-clause-made g c =

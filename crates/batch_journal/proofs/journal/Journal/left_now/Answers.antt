@@ -9,4 +9,4 @@ pub returns-clause-in_place : goal.returns-clause-in_place
 returns-clause-in_place g c =
     let m = g.M.Media in
     subst (λ (v : JournalView _). v.failed ≡ false → (x : List ℕ) (k : ℕ) → m.left v.media (m.moment v.media) Fast x → is_home k ≡ true → home x k ≡ block_of x k)
-    c.self.view_is (λ going x k l at_home. home_shut x k at_home ((c.self.invariant going).closed x l))
+    c.self.view_is (λ going x k l at_home. home_shut x k at_home ((c.self.invariant going).shut.closed x l))

@@ -1,6 +1,6 @@
 use Rattle.std.proofs.Common.{◌≡◌, ℕ, List, false, refl, sym, ◌∙◌, subst, arith}
 use Rattle.layout.specs.tier_device.declared.media.Tier.TheVariants.{Fast}
-use Rattle.batch_journal.specs.Blocks.{is_gate_open}
+use Rattle.batch_journal.specs.Blocks.{home, is_gate_open}
 use Rattle.batch_journal.specs.Volume.{IsJournal}
 use Rattle.batch_journal.proofs.Courses.{on_damage}
 use Rattle.batch_journal.proofs.Opens.{no_volume}
@@ -14,9 +14,12 @@ invariant_of-result g c going =
     let opened = opens.opened in
     let same = opens.course.all (m.moment new) (m.seen new Fast) opens.course.later (omega arith) (g.met.M.Media.seen_now new Fast) in
     record {
-      sizes = λ t. opens.lengths t ∙ opened.volume.sizes t;
-      closed = λ x l. subst (λ (s : List ℕ). is_gate_open s ≡ false) (sym (opened.rests x l)) opened.closed;
-      journal = λ x l. subst (λ (s : List ℕ). IsJournal c.in-Ok.geometry s) (sym (opened.rests x l)) (same.journal c.in-Ok.geometry opened.volume.journal);
+      shut = record {
+        sizes = λ t. opens.lengths t ∙ opened.volume.sizes t;
+        closed = λ x l. subst (λ (s : List ℕ). is_gate_open s ≡ false) (sym (opened.rests x l)) opened.closed;
+        journal = λ x l. subst (λ (s : List ℕ). IsJournal c.in-Ok.geometry s) (sym (opened.rests x l)) (same.journal c.in-Ok.geometry opened.volume.journal);
+      };
+      kept = c.new.ensures c.in-Ok.geometry (home (m.seen new Fast));
     }
 
 pub returns-in-Ok : goal.returns-in-Ok

@@ -1,4 +1,5 @@
 use Rattle.std.proofs.Common.{◌≡◌, ◌∙◌, List, ℕ, take, get_or, sym, ap, subst, arith}
+use Rattle.std.proofs.lemmas.Bool.{ltb-true}
 use Rattle.std.proofs.lemmas.List.{take-take}
 use Rattle.tier_device.specs.declared.media.Tier.TheVariants.{Fast}
 use Rattle.tier_device.specs.StopsSince.{LeftSince}
@@ -8,7 +9,7 @@ use Rattle.update_log.specs.Wipe.{CanWipe, LeftInCall, wipe_next, header_wiped}
 use Rattle.update_log.specs.WipeStops.{records_behind_gate}
 use Rattle.update_log.proofs.Moves.{stands_of}
 use Rattle.update_log.proofs.Views.{header_front}
-use Rattle.update_log.proofs.WipeViews.{may_wipe, wiped_fits, none_before}
+use Rattle.update_log.proofs.WipeViews.{first_is_open, may_wipe, wiped_fits, none_before}
 use Rattle.update_log.proofs.region.Region.wipe_step.Goals as goal
 
 pub wipe_call-requires-clause-may : goal.wipe_call-requires-clause-may
@@ -16,6 +17,12 @@ wipe_call-requires-clause-may g c =
     let m = g.M.Media in
     let s = c.self.inside in
     may_wipe s.end s.stage s.body (m.seen s.media Fast) (λ d. m.left s.media (m.moment s.media) Fast d) c.self.invariant (subst (λ (v : RegionView _). CanWipe v.stage) (sym c.self.view_is) c.requires)
+
+pub wipe_call-requires-clause-open : goal.wipe_call-requires-clause-open
+wipe_call-requires-clause-open g c = λ behind idle.
+    let m = g.M.Media in
+    let s = c.self.inside in
+    first_is_open s.end s.stage s.body (m.seen s.media Fast) (λ d. m.left s.media (m.moment s.media) Fast d) c.self.invariant idle (ltb-true 16 s.end behind)
 
 pub invariant_of-self : goal.invariant_of-self
 invariant_of-self g c =
