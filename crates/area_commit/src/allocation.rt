@@ -18,7 +18,7 @@ pub struct Allocation {
     pub slow: Vec<Run>,
 }
 
-// Takes the lowest free blocks of a pool into a list that is empty.
+/// Takes the lowest free blocks of a pool into a list that is empty.
 pub fn take_runs(pool: &mut FreeRuns, count: u32, runs: &mut Vec<Run>) -> Result<(), AllocatorError>
     requires empty { runs.old.items ≡ [] }
     requires ordered { InOrder pool.old }
@@ -100,7 +100,7 @@ fn make_room(
     with_room(alloc, runs, more)
 }
 
-// Takes so many blocks of a pool more than those of runs that stand before its free blocks, and lists them with those.
+/// Takes so many blocks of a pool more than those of runs that stand before its free blocks, and lists them with those.
 pub fn take_more(
     alloc: Global,
     pool: &mut FreeRuns,
@@ -131,7 +131,7 @@ pub fn take_more(
     Ok(())
 }
 
-// Gives back runs that stand before the free blocks of a pool.
+/// Gives back runs that stand before the free blocks of a pool.
 pub fn give_runs(pool: &mut FreeRuns, runs: &[Run])
     requires { CanGive pool.old runs.now }
     ensures given { WasGiven pool.old pool.new runs.now }
@@ -142,7 +142,7 @@ pub fn give_runs(pool: &mut FreeRuns, runs: &[Run])
     }
 }
 
-// Gives back a run, none of whose blocks is free.
+/// Gives back a run, none of whose blocks is free.
 pub fn give_run(pool: &mut FreeRuns, run: Run)
     requires used { IsUsed pool.old run }
     requires room { 0 < pool.old.room }

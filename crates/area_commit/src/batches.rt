@@ -21,8 +21,8 @@ use area_image::{
 };
 use std::alloc::{AllocError, Global};
 
-/// The batch that changes the slots of some inodes, the marks, if there are new ones, and blocks of the node pool. Each block with a changed slot is read once; nothing
-/// is written. `Memory` where there was none for the images.
+/// Makes the batch that changes the slots of some inodes, the marks, if there are new ones, and blocks of the node pool. The blocks in which changed slots stand are read
+/// for it; nothing is written. `Memory` where there was none for the images.
 pub fn batch_of<M: Media>(
     alloc: Global,
     journal: &mut Journal<M>,

@@ -40,6 +40,7 @@ fn write_run<M: Media>(
     ensures went { Went M.Media journal.old journal.new result }
     ensures lengths { SameLengths (M.seen journal.old.media) (M.seen journal.new.media) }
 {
+    // For the proof: each tier is as long as its sizes say.
     journal.left_now();
     journal.write(tier, run.first, bytes)
 }
@@ -190,6 +191,7 @@ fn flush_runs<M: Media>(
 {
     write_all(journal, fast, block, slow, data)?;
     fence_all(journal, fast, block, slow)?;
+    // For the proof: each tier is as long after the fences as before.
     journal.left_now();
     Ok(())
 }

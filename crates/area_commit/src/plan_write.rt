@@ -44,6 +44,7 @@ fn write_plan<M: Media>(
     ensures at_most { M.moment journal.new.media ≤ M.moment journal.old.media + calls_for plan.now.taken + length batch.now + 7 }
     ensures went { Went M.Media journal.old journal.new result }
 {
+    // For the proof: where the batch is put the plan is carried out; and a stop now leaves what is read.
     batch_is_put();
     journal.left_now();
     write_data(journal, &plan.taken, &plan.bytes)?;
@@ -73,6 +74,7 @@ fn write_all<M: Media>(
     ensures faults { M.faults journal.old.media ≤ M.faults journal.new.media }
     ensures one_fault { M.faults journal.new.media ≤ M.faults journal.old.media + 1 }
 {
+    // For the proof: the journal has its sizes, and a stop now leaves what is read.
     journal.left_now();
     let batch = batch_of(alloc, journal, &plan.slots, plan.marks, &plan.nodes)?;
     match write_plan(journal, plan, &batch) {
@@ -82,7 +84,7 @@ fn write_all<M: Media>(
 }
 
 /// Carries out a plan: its data goes to the blocks that were taken for it, fastest tier first, and then each tier that was written is fenced, fastest first; then one batch writes slots, marks and node blocks; then
-/// what the plan gives up is free. The blocks of the slots are read once for the batch. Beside the images of the batch it takes no memory.
+/// what the plan gives up is free. The blocks of the slots are read for the batch. Beside the images of the batch it takes no memory.
 ///
 /// `Memory` where there was none for the batch, and `DeviceFault` where a device failed. After each refusal what was taken stands in the pools again; after `Memory` nothing has
 /// been written.
@@ -120,6 +122,7 @@ pub fn carry_out<M: Media>(
     ensures faults { M.faults journal.old.media ≤ M.faults journal.new.media }
     ensures one_fault { M.faults journal.new.media ≤ M.faults journal.old.media + 1 }
 {
+    // For the proof: the sizes are allowed ones; what is given up can be given back, and the pools have what is free then.
     let _units = journal.geometry().units();
     freed_blocks_return();
     pools_have_the_free_blocks();

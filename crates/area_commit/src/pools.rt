@@ -78,6 +78,7 @@ fn unmarked_nodes(
     ensures free { IfOk result (HasUnmarked used.now Fast) }
     ensures ordered { IfOk result InOrder }
 {
+    // For the proof: the end of the node pool of allowed sizes is below 2^32.
     let _end = geometry.node_end();
     let marks = used.node_marks(geometry);
     unmarked_runs(alloc, FIRST_NODE_BLOCK, marks)

@@ -54,10 +54,10 @@ fn add_inode<M: Media>(
     }
 }
 
-/// The units of the graph, where all inodes are sound and no block has two uses; marked is then what is in use, where no block was marked before. Each slot, extent
-/// block and block of a directory is read once, of a file's data the last block at most. `Damaged` names the first that is wrong by itself, or the extent block of
-/// the first inode and tier that has a block which another use has too; the marks are then of no use. `Memory` where there was none for an extent block or a block
-/// of a directory.
+/// The units of the graph, where all inodes are sound and no block has two uses; marked is then what is in use, where no block was marked before. All slots,
+/// extent blocks and blocks of directories are read, and of a file's data the last block at most; how often is a matter of cost alone. `Damaged` names the first
+/// that is wrong by itself, or the extent block of the first inode and tier that has a block which another use has too; the marks are then of no use. `Memory`
+/// where there was none for an extent block or a block of a directory.
 pub fn read_area<M: Media>(
     alloc: Global,
     journal: &mut Journal<M>,

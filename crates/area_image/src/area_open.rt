@@ -64,6 +64,7 @@ fn read_inodes<M: Media>(
     ensures damaged { IfErr result (λ e. OnDamage e (IsDamaged journal.old.geometry (disk M.Media journal.old))) }
     ensures looks { Looks M.Media journal.old journal.new result }
 {
+    // For the proof: each tier is as long as its sizes say.
     journal.left_now();
     let geometry = journal.geometry();
     let mut used = match UsedBlocks::new(alloc, &geometry) {

@@ -8,7 +8,7 @@ ghost use Rattle.area_image.specs.Checks.{IsEntries, HasFound, HasPart, IsDirect
 ghost use Rattle.area_image.specs.Looks.{Looks};
 ghost use Rattle.area_image.specs.declared.error.AreaError.TheVariants.{Memory};
 
-use crate::entries::check_part;
+use crate::entries::{DirectoryPart, check_part};
 use crate::error::AreaError;
 use crate::names::Names;
 use crate::slots::entry_blocks;
@@ -16,7 +16,7 @@ use crate::tiers::InodeExtents;
 use batch_journal::{Journal, MAX_INODE, Media};
 use std::alloc::Global;
 
-/// Whether a directory's blocks are its entries, each in its place and of a name of its own; each block is read once. `Damaged` names the slot where a block is
+/// Whether a directory's blocks are its entries, each in its place and of a name of its own. `Damaged` names the slot where a block is
 /// missing, or the block that does not hold its part of the entries or has a name of a block before it. Each name is looked for in a sorted set of those before it;
 /// `Memory` where there was none for that.
 pub fn check_directory<M: Media>(
@@ -39,7 +39,13 @@ pub fn check_directory<M: Media>(
 {
     let mut names = Names::new(alloc);
     'parts: for number in 0..entry_blocks(entries) {
-        match check_part(alloc, journal, inode, found, entries, number, &mut names) {
+        let part = DirectoryPart {
+            inode,
+            found,
+            entries,
+            number,
+        };
+        match check_part(alloc, journal, part, &mut names) {
             Ok(()) => {}
             Err(error) => return Err(error),
         }

@@ -64,40 +64,46 @@ fn add_names(alloc: Global, names: &mut Names, block: &[u8; BLOCK]) -> Result<bo
     Ok(true)
 }
 
-// Reads the next block of a directory, of which so many were read before, and adds its names to theirs.
+/// A block of a directory: the directory's inode, where its blocks lie, how many entries it has, and the block's number.
+#[derive(Clone, Copy)]
+pub struct DirectoryPart<'a> {
+    pub inode: u32,
+    pub found: &'a InodeExtents,
+    pub entries: u64,
+    pub number: u64,
+}
+
+/// Reads the next block of a directory, of which so many were read before, and adds its names to theirs.
 pub fn check_part<M: Media>(
     alloc: Global,
     journal: &mut Journal<M>,
-    inode: u32,
-    found: &InodeExtents,
-    entries: u64,
-    number: u64,
+    part: DirectoryPart<'_>,
     names: &mut Names,
 ) -> Result<(), AreaError>
-    requires low { 1 ≤ inode }
-    requires high { inode ≤ MAX_INODE }
-    requires directory { IsEntries journal.old.geometry (disk M.Media journal.old) inode entries }
-    requires found { HasFound journal.old.geometry (disk M.Media journal.old) inode found.now }
-    requires before { AreFirstParts journal.old.geometry (disk M.Media journal.old) inode entries number names.old }
-    requires more { number < blocks_for entries }
-    requires few { number < 65536 }
+    requires low { 1 ≤ part.inode }
+    requires high { part.inode ≤ MAX_INODE }
+    requires directory { IsEntries journal.old.geometry (disk M.Media journal.old) part.inode part.entries }
+    requires found { HasFound journal.old.geometry (disk M.Media journal.old) part.inode part.found.now }
+    requires before { AreFirstParts journal.old.geometry (disk M.Media journal.old) part.inode part.entries part.number names.old }
+    requires more { part.number < blocks_for part.entries }
+    requires few { part.number < 65536 }
     requires going { journal.old.failed ≡ false }
-    ensures parts { OnOk result (AreFirstParts journal.old.geometry (disk M.Media journal.old) inode entries (number + 1) names.new) }
-    ensures damaged { IfErr result (λ e. OnDamage e (IsDirectoryDamageOf journal.old.geometry (disk M.Media journal.old) inode)) }
-    ensures memory { IfErr result (λ e. e ≡ Memory → HasPart journal.old.geometry (disk M.Media journal.old) inode) }
+    ensures parts { OnOk result (AreFirstParts journal.old.geometry (disk M.Media journal.old) part.entry.inode part.entry.entries (part.entry.number + 1) names.new) }
+    ensures damaged { IfErr result (λ e. OnDamage e (IsDirectoryDamageOf journal.old.geometry (disk M.Media journal.old) part.entry.inode)) }
+    ensures memory { IfErr result (λ e. e ≡ Memory → HasPart journal.old.geometry (disk M.Media journal.old) part.entry.inode) }
     ensures looks { Looks M.Media journal.old journal.new result }
 {
     let geometry = journal.geometry();
-    let Some((tier, place)) = first_place(found, number) else {
+    let Some((tier, place)) = first_place(part.found, part.number) else {
         return Err(AreaError::Damaged {
             what: What::Slot,
-            block: slot_block(inode),
+            block: slot_block(part.inode),
         });
     };
     let at = block_number(&geometry, tier, place);
     let mut block = blank_block();
     read_block(journal, tier, at, &mut block)?;
-    if !is_part(&block, at, inode, entries, number) {
+    if !is_part(&block, at, part.inode, part.entries, part.number) {
         return Err(entries_damaged(at));
     }
     match add_names(alloc, names, &block) {

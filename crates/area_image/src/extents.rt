@@ -48,35 +48,47 @@ pub fn read_extents<M: Media>(
     let geometry = journal.geometry();
     let space = space_of(slot, tier);
     let blocks = length_of(slot);
-    match spelled_extents(alloc, &geometry, space, root, inode, blocks, &bytes) {
+    let list = ListPlace {
+        space,
+        root,
+        inode,
+        blocks,
+    };
+    match spelled_extents(alloc, &geometry, list, &bytes) {
         Ok(found) => Ok(Some(found)),
         Err(error) => Err(error),
     }
+}
+
+// Where a list of extents stands, and whose it is to be: an inode's of so many logical blocks.
+#[derive(Clone, Copy)]
+struct ListPlace {
+    space: Space,
+    root: u32,
+    inode: u32,
+    blocks: u64,
 }
 
 // The extents that a block spells, if they are the inode's and end within its blocks.
 fn spelled_extents(
     alloc: Global,
     geometry: &Geometry,
-    space: Space,
-    root: u32,
-    inode: u32,
-    blocks: u64,
+    list: ListPlace,
     bytes: &[u8],
 ) -> Result<ExtentBlock, AreaError>
-    ensures extents { IfOk result (λ x. own_extents geometry.now space inode blocks bytes.now ≡ Some x.extents) }
-    ensures own { IfOk result (IsOwnList geometry.now space inode) }
-    ensures memory { IfErr result (λ e. e ≡ Memory → IsSome (extents_of geometry.now space bytes.now)) }
+    ensures extents { IfOk result (λ x. own_extents geometry.now list.space list.inode list.blocks bytes.now ≡ Some x.extents) }
+    ensures own { IfOk result (IsOwnList geometry.now list.space list.inode) }
+    ensures memory { IfErr result (λ e. e ≡ Memory → IsSome (extents_of geometry.now list.space bytes.now)) }
     ensures device { IfErr result (λ e. e ≢ DeviceFault) }
-    ensures damaged { IfErr result (λ e. OnDamage e (λ w block. (w ≡ what.ExtentBlock) × (block ≡ root) × (own_extents geometry.now space inode blocks bytes.now ≡ None))) }
+    ensures damaged { IfErr result (λ e. OnDamage e (λ w block. (w ≡ what.ExtentBlock) × (block ≡ list.root) × (own_extents geometry.now list.space list.inode list.blocks bytes.now ≡ None))) }
 {
     let damaged = AreaError::Damaged {
         what: What::ExtentBlock,
-        block: root,
+        block: list.root,
     };
-    match ExtentBlock::decode(alloc, geometry, space, root, bytes) {
+    match ExtentBlock::decode(alloc, geometry, list.space, list.root, bytes) {
         Ok(found) => {
-            if !is_own(&found, inode, blocks) {
+            if !is_own(&found, list.inode, list.blocks) {
                 return Err(damaged);
             }
             Ok(found)

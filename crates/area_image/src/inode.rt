@@ -22,7 +22,7 @@ pub struct InodeParts {
     pub extents: InodeExtents,
 }
 
-/// The slot and the extents of an inode, each block read once. `Damaged` names the slot or an extent block, where it is none; that takes no memory. `Memory` where
+/// Reads the slot and the extents of an inode. `Damaged` names the slot or an extent block, where it is none; that takes no memory. `Memory` where
 /// there was none for what an extent block spells.
 pub fn read_parts<M: Media>(
     alloc: Global,

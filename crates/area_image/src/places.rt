@@ -21,7 +21,7 @@ fn place_among(extents: &[Extent], block: u64) -> Option<u64>
     None
 }
 
-// The place of a logical block in a tier.
+/// The place of a logical block in a tier.
 pub fn place_in(found: &Option<ExtentBlock>, block: u64) -> Option<u64>
     ensures { result ≡ place_of (extents_in found.now) block }
 {

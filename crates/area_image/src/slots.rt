@@ -64,6 +64,7 @@ pub fn length_of(slot: &Slot) -> u64
     }
 }
 
+/// How many blocks a file of `size` bytes takes.
 pub fn file_blocks(size: u64) -> u64
     ensures { result ≡ (size + (BLOCK - 1)) / BLOCK }
 {
@@ -71,6 +72,7 @@ pub fn file_blocks(size: u64) -> u64
     size / BLOCK as u64 + if rest == 0 { 0 } else { 1 }
 }
 
+/// How many blocks a directory of `entries` entries takes.
 pub fn entry_blocks(entries: u64) -> u64
     ensures { result ≡ (entries + (MAX_IN_BLOCK - 1)) / MAX_IN_BLOCK }
 {
@@ -107,6 +109,7 @@ fn slot_in(geometry: &Geometry, inode: u32, bytes: &[u8]) -> Result<Slot, AreaEr
 {
     match Slot::decode(geometry, inode, bytes) {
         Ok(slot) => {
+            // For the proof: a slot that is read fits these sizes.
             slot_is_spelled();
             Ok(slot)
         }

@@ -18,11 +18,12 @@ use crate::places::first_place;
 use crate::tiers::InodeExtents;
 use batch_journal::{BLOCK, Geometry, Journal, Media, Tier, What, are_zero};
 
-// The number of a block of a tier.
+/// The number of a block of a tier.
 pub fn block_number(geometry: &Geometry, tier: Tier, at: u64) -> u32
     requires { at < tier_blocks geometry.now tier }
     ensures { result ≡ at }
 {
+    // For the proof: no tier of allowed sizes has more blocks than a `u32` counts.
     let _units = geometry.units();
     at as u32
 }

@@ -21,7 +21,7 @@ pub struct InodeExtents {
     pub slow: Option<ExtentBlock>,
 }
 
-/// The extents of an inode in all tiers, as its slot leads to them: each extent block is read once. `Damaged` names one that spells none that are the inode's and
+/// Reads the extents of an inode in all tiers, as its slot leads to them. `Damaged` names one that spells none that are the inode's and
 /// end within its logical blocks. `Memory` where there was none for what one spells.
 pub fn read_all_extents<M: Media>(
     alloc: Global,

@@ -178,6 +178,7 @@ impl<M: Media> Journal<M> {
         ensures faults { M.faults self.old.media ≤ M.faults self.new.media }
         ensures one_fault { M.faults self.new.media ≤ M.faults self.old.media + 1 }
     {
+        // For the proof: a read opens the type, whose invariant says what a journal has.
         let _ = &self.failed;
         self.read(Tier::Fast, BLOCK * block as usize, out)
     }
@@ -297,6 +298,7 @@ impl<M: Media> Journal<M> {
         ensures journal { self.now.failed ≡ false → (c : List ℕ) → M.left self.now.media (M.moment self.now.media) Fast c → IsJournal self.now.geometry c }
         ensures in_place { self.now.failed ≡ false → (c : List ℕ) (k : ℕ) → M.left self.now.media (M.moment self.now.media) Fast c → is_home k ≡ true → home c k ≡ block_of c k }
     {
+        // For the proof: a read opens the type, whose invariant is what is said here.
         let _ = &self.failed;
     }
 

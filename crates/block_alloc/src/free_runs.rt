@@ -90,7 +90,7 @@ impl FreeRuns {
         Ok(taken)
     }
 
-    /// Makes room for so many runs to be given without memory.
+    /// Makes room for `runs` runs to be given without memory.
     pub fn reserve(&mut self, runs: usize) -> Result<(), AllocError>
         ensures room { OnOk result (runs ≤ self.new.room) }
         ensures kept { self.old.room ≤ self.new.room }

@@ -12,13 +12,14 @@ pub struct Run {
     pub count: u32,
 }
 
-// How many runs at the front a number of blocks fills, and how many blocks of the next run are left over.
+/// A cut of a list of runs: `whole` runs at the front, and `left` blocks of the next one.
 #[derive(Clone, Copy)]
 pub struct Split {
     pub whole: usize,
     pub left: u32,
 }
 
+/// Finds the cut behind the first `count` blocks of the runs, which have as many at least. Takes no memory.
 pub fn split_of(runs: &[Run], count: u32) -> Split
     requires { count ≤ length (blocks_of runs.now) }
     ensures whole { result.whole ≤ length runs.now }
@@ -40,7 +41,7 @@ pub fn split_of(runs: &[Run], count: u32) -> Split
     }
 }
 
-// The first so many blocks of the runs, as runs.
+/// Copies the blocks before a cut, as runs: `split.whole + 1` at most. Refused for want of memory alone.
 pub fn front_of(alloc: Global, runs: &[Run], split: Split) -> Result<Vec<Run>, AllocError>
     requires whole { split.whole ≤ length runs.now }
     requires part { (r : Run) → split.whole < length runs.now → split.left < (slice_index_or runs.now split.whole r).count }
@@ -63,7 +64,7 @@ pub fn front_of(alloc: Global, runs: &[Run], split: Split) -> Result<Vec<Run>, A
     Ok(front)
 }
 
-// Takes the first so many runs out.
+// Removes the first `count` runs.
 fn remove_front(runs: &mut Vec<Run>, count: usize)
     requires { count ≤ vec_len runs.old }
     ensures items { runs.new.items ≡ drop count runs.old.items }
@@ -75,7 +76,7 @@ fn remove_front(runs: &mut Vec<Run>, count: usize)
     runs.truncate(rest);
 }
 
-// Takes the first so many blocks out of the runs.
+/// Removes the blocks before a cut from the runs. Takes no memory.
 pub fn drop_front(runs: &mut Vec<Run>, split: Split)
     requires whole { split.whole ≤ vec_len runs.old }
     requires part { (r : Run) → split.whole < vec_len runs.old → split.left < (slice_index_or runs.old.items split.whole r).count }
@@ -98,7 +99,7 @@ pub fn drop_front(runs: &mut Vec<Run>, split: Split)
     remove_front(runs, split.whole);
 }
 
-// Puts the run of so many blocks that ends at a block behind the others, where it has any.
+// Puts the run of `count` blocks that ends at a block behind the others, if it has any.
 fn close_run(runs: &mut Vec<Run>, end: u32, count: u32) -> Result<(), AllocError>
     requires { count ≤ end }
     ensures blocks { OnOk result (blocks_of runs.new.items ≡ blocks_of runs.old.items ++ range_with_len (end - count) count) }
@@ -113,7 +114,8 @@ fn close_run(runs: &mut Vec<Run>, end: u32, count: u32) -> Result<(), AllocError
     Ok(())
 }
 
-// The runs of the blocks that are not marked as used, the first mark that of a block's number.
+/// Lists, as runs, the blocks that are not marked: `used[i]` is the mark of block `first + i`.
+/// Refused for want of memory alone.
 pub fn unused_runs(alloc: Global, first: u32, used: &[bool]) -> Result<Vec<Run>, AllocError>
     requires { first + length used.now < 2 ^ 32 }
     ensures blocks { IfOk result (λ v. blocks_of v.items ≡ unmarked_blocks first used.now) }
@@ -133,7 +135,7 @@ pub fn unused_runs(alloc: Global, first: u32, used: &[bool]) -> Result<Vec<Run>,
     Ok(runs)
 }
 
-// How many blocks the runs have.
+/// Counts the blocks of the runs, of which there are fewer than 2^32.
 pub fn count_of(runs: &[Run]) -> u32
     requires { length (blocks_of runs.now) < 2 ^ 32 }
     ensures { result ≡ length (blocks_of runs.now) }

@@ -36,7 +36,7 @@ in_front inode block bytes bs = record { inode = inode; block = block; bytes = b
 abbrev pub use_block : ℕ → ℕ → List Block → List Block
 use_block inode block bs = option_map_or (λ bytes. in_front inode block bytes bs) (bytes_at inode block bs) bs
 
--- so many blocks of a file from one on are used in turn, those that are there: the last of them is the first now
+-- this number of blocks of a file from one on is used in turn, those that are there: the last of them is the first now
 abbrev pub used_run : ℕ → ℕ → ℕ → List Block → List Block
 used_run inode first zero bs = bs
 used_run inode first (suc count) bs = use_block inode (first + count) (used_run inode first count bs)

@@ -70,7 +70,7 @@ impl Blocks {
         ensures put { OnOk result (self.new ≡ put_first inode block bytes.now self.old) }
         ensures refused { OnErr result (self.new ≡ self.old) }
     {
-        // That no place is kept twice is known from here.
+        // For the proof: no place is kept twice.
         let _ = self.cache.len();
         let copy = BlockBytes::copy_of(self.alloc, bytes)?;
         widen_span(&mut self.spans, inode, block);
@@ -95,7 +95,7 @@ impl Blocks {
         ensures moved { self.new ≡ use_block inode block self.old }
         ensures found { bytes_if_first inode block self.new ≡ bytes_at inode block self.old }
     {
-        // That no place is kept twice is known from here.
+        // For the proof: no place is kept twice.
         let _ = self.cache.len();
         if self.peek_if_first(inode, block).is_some() {
             return;

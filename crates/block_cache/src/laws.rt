@@ -9,7 +9,7 @@ pub fn put_block_is_found()
         → ((i ≡ inode) × (n ≡ block) × (found ≡ bytes)) ⊎ (bytes_at i n bs ≡ Some found) }
 {}
 
-/// To use a block, or so many from one on, changes nothing that is found.
+/// To use a block, or a run of blocks, changes nothing that is found.
 pub fn used_block_stays()
     ensures one { (bs : List Block) (inode block i n : ℕ) → bytes_at i n (use_block inode block bs) ≡ bytes_at i n bs }
     ensures run { (bs : List Block) (inode first count i n : ℕ) → bytes_at i n (used_run inode first count bs) ≡ bytes_at i n bs }

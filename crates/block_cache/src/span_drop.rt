@@ -22,11 +22,11 @@ pub fn drop_kept(cache: &mut LruCache<Place, BlockBytes>, spans: &[Option<Span>]
     }
 }
 
-// Whether a span has so many blocks at most.
-fn is_short(span: Span, most: usize) -> bool
-    ensures { result ≡ nat_lt (span.last - span.first) most }
+// Whether a span has `limit` blocks at most.
+fn is_short(span: Span, limit: usize) -> bool
+    ensures { result ≡ nat_lt (span.last - span.first) limit }
 {
-    (span.last.saturating_sub(span.first) as usize) < most
+    (span.last.saturating_sub(span.first) as usize) < limit
 }
 
 // Each block of the file in a span goes.
@@ -43,7 +43,7 @@ fn drop_span(cache: &mut LruCache<Place, BlockBytes>, inode: u32, span: Span)
 fn drop_block(cache: &mut LruCache<Place, BlockBytes>, inode: u32, block: u32)
     ensures { cache.new ≡ lru_cache (others_at inode block cache.old.entries) cache.old.cap }
 {
-    // That no place is kept twice is known from here.
+    // For the proof: no place is kept twice.
     let _ = cache.len();
     let _ = cache.pop(&Place { inode, block });
 }

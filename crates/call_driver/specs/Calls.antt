@@ -38,7 +38,7 @@ module _ {S : Type 0} (plays : S → Event → Outcome → S → Type 0) where
   abbrev pub IsStepOf : ℕ → Option CallResult → S → S → Type 0
   IsStepOf client x s t = (o : Outcome) × plays s (event.Step client) o t × (x ≡ after_step o)
 
-  -- so many device calls were made for the call that a client has begun, and none answered it
+  -- this number of device calls was made for the call that a client has begun, and none answered it
   abbrev pub GoesOn : ℕ → ℕ → S → S → Type 0
   GoesOn client zero s t = t ≡ s
   GoesOn client (suc n) s t = (u : S) × GoesOn client n s u × plays u (event.Step client) outcome.Stepped t
@@ -51,12 +51,12 @@ module _ {S : Type 0} (plays : S → Event → Outcome → S → Type 0) where
     pub end : ((count ≡ STEPS) × (x ≡ served.Pending) × (t ≡ last)) ⊎ ((o : Outcome) × plays last (event.Step client) o t × IsLastStep o x)
 
 module _ {S : Type 0} (system : Ghosts S) where
-  -- A call was started so many times, lacked something each time, and got it.
+  -- A call was started this number of times, lacked something each time, and got it.
   abbrev pub Turns : Bool → ℕ → Call → ℕ → S → S → Type 0
   Turns hands client call zero s t = t ≡ s
   Turns hands client call (suc n) s t = (u : S) × (v : S) × (need : Need) × Turns hands client call n s u × system.plays u (event.Start client call) (outcome.Need need) v × IsServed system hands client need turns.Again v t
 
-  -- the last start told this
+  -- the last start answered this
   abbrev pub IsReadyAtOnce : ℕ → Call → Result CallResult Denied → S → S → Type 0
   IsReadyAtOnce client call r s t = (x : CallResult) × (o : Outcome) × system.plays s (event.Start client call) o t × (after_start o ≡ Ok x) × (r ≡ Ok x)
 
@@ -64,14 +64,14 @@ module _ {S : Type 0} (system : Ghosts S) where
   abbrev pub IsEndedByNeed : Bool → ℕ → Call → Result CallResult Denied → S → S → Type 0
   IsEndedByNeed hands client call r s t = (need : Need) × (u : S) × (turn : NeedResult) × system.plays s (event.Start client call) (outcome.Need need) u × IsServed system hands client need turn u t × IsEndedBy turn r
 
-  -- A call was started until it lacked nothing, or what it lacked was not to be had, or so many times in vain as no call has needs.
+  -- A call was started until it lacked nothing, or what it lacked was not to be had, or as many times in vain as no call has needs.
   pub record IsReadyCall (hands : Bool) (client : ℕ) (call : Call) (r : Result CallResult Denied) (s t : S) : Type 0 where
     pub count : ℕ
     pub last : S
     pub turns : Turns hands client call count s last
     pub end : ((count ≡ TURNS) × (r ≡ Ok served.Blocked) × (t ≡ last)) ⊎ (IsReadyAtOnce client call r last t ⊎ IsEndedByNeed hands client call r last t)
 
-  -- what the kernel refused it is told by a denial
+  -- what the kernel refused it is answered by a denial
   pub record IsDenied (hands : Bool) (client : ℕ) (call : Call) (x : CallResult) (s t : S) : Type 0 where
     pub why : Denied
     pub last : S

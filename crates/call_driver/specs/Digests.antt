@@ -13,12 +13,12 @@ use Rattle.call_driver.specs.declared.event_result.EventResult.{EventResult}
 use Rattle.call_driver.specs.declared.event_result.EventResult.TheVariants as did
 use Rattle.call_driver.specs.declared.events.Events.{Ghosts}
 
--- An event was done so many times, one after the other.
+-- An event was done this number of times, one after the other.
 abbrev pub Times : {S : Type 0} → (S → Event → Outcome → S → Type 0) → Event → ℕ → S → S → Type 0
 Times plays e zero s t = t ≡ s
 Times {S = S} plays e (suc n) s t = (u : S) × Times plays e n s u × CameTo plays e did.Done u t
 
--- It was done until there was nothing more to do, or so many times.
+-- It was done `count` times, until there was nothing more to do or `most` were reached.
 pub record IsDoneUpTo {S : Type 0} (plays : S → Event → Outcome → S → Type 0) (e : Event) (most count : ℕ) (s t : S) : Type 0 where
   pub last : S
   pub times : Times plays e count s last
@@ -61,7 +61,7 @@ abbrev pub AreReclaimed : {S : Type 0} → (S → Event → Outcome → S → Ty
 AreReclaimed plays (Ok x) s t = Reclaims plays INODES s t
 AreReclaimed plays (Err why) s t = IsRefusedIn plays IsReclaim why s t
 
--- All that a client logged is digested, so many records, and then each file was dropped that may go.
+-- All that a client logged is digested, `count` records, and then each file was dropped that may go.
 pub record HasCleared {S : Type 0} (system : Ghosts S) (client count : ℕ) (s t : S) : Type 0 where
   pub between : S
   pub digested : HasDigested system client s between

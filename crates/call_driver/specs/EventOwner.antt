@@ -40,7 +40,7 @@ IsClearing client e = IsDigesting client e ⊎ IsReclaim e
 abbrev pub IsAsking : ℕ → Call → Event → Type 0
 IsAsking client call e = (e ≡ event.Start client call) ⊎ ((why : Denied) × (e ≡ event.Deny client call why))
 
--- what a step of a call that waits comes to; none where there is nothing to do
+-- the outcome of a step of a call that waits; none where there is nothing to do
 abbrev pub after_step : Outcome → Option CallResult
 after_step (outcome.Reply reply) = Some (served.Reply reply)
 after_step outcome.Stepped = Some served.Pending
@@ -49,7 +49,7 @@ after_step (outcome.Need need) = None
 after_step (outcome.Refused refusal) = None
 after_step outcome.Idle = None
 
--- what the start of a call comes to: it is answered, begun, in vain, or lacks something
+-- the outcome of the start of a call: it is answered, begun, in vain, or lacks something
 abbrev pub after_start : Outcome → Result CallResult Need
 after_start (outcome.Reply reply) = Ok (served.Reply reply)
 after_start outcome.Pending = Ok served.Pending
@@ -58,7 +58,7 @@ after_start outcome.Stepped = Ok served.Blocked
 after_start (outcome.Refused refusal) = Ok served.Blocked
 after_start outcome.Idle = Ok served.Blocked
 
--- what it comes to that a call is given up
+-- the outcome of giving a call up
 abbrev pub after_deny : Outcome → CallResult
 after_deny (outcome.Reply reply) = served.Reply reply
 after_deny outcome.Pending = served.Blocked

@@ -61,7 +61,7 @@ pub fn begin_call<E: Events>(
     }
 }
 
-// Starts a call until it lacks nothing. Where the kernel refuses what it needs, that is told.
+// Starts a call until it lacks nothing. If the kernel refuses what it needs, that is the answer.
 fn start_until_ready<E: Events>(
     events: &mut E,
     client: u32,

@@ -7,7 +7,7 @@ use world::{Event, LeaseMode, Outcome};
 
 /// A running system, one event after the other. Clients are numbered from 1 to 8.
 pub trait Events {
-    /// What an event comes to in a system, and the system after it.
+    /// The outcome of an event in a system, and the system after it.
     ghost plays: { Self → Event → Outcome → Self → Type 0 };
 
     /// Whether a call of a client waits for its answer.

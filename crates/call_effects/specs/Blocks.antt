@@ -26,7 +26,7 @@ abbrev pub joined_bytes : Option (List ℕ) → Option (List ℕ) → Option (Li
 joined_bytes None rest = None
 joined_bytes (Some bytes) rest = option_map (λ more. bytes ++ more) rest
 
--- so many blocks from a first one on, put one behind the other, where all of them are known
+-- this number of blocks from a first one on, put one behind the other, where all of them are known
 abbrev pub blocks_joined : (ℕ → Option (List ℕ)) → ℕ → ℕ → Option (List ℕ)
 blocks_joined blocks first zero = Some []
 blocks_joined blocks first (suc count) = joined_bytes (blocks first) (blocks_joined blocks (first + 1) count)

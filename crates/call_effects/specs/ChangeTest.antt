@@ -3,7 +3,7 @@ use Rattle.std.specs.Prelude.{Bool, true, false}
 use Rattle.log_record.specs.posix_calls.declared.operation.Operation.{Operation}
 use Rattle.log_record.specs.posix_calls.declared.operation.Operation.TheVariants.{Tell, OpenFile, CloseFile}
 
--- whether an operation has effects; to tell, to open a file as it is and to close one have none
+-- whether an operation has effects; to answer, to open a file as it is and to close one have none
 abbrev pub changes : Operation → Bool
 changes (Tell answer) = false
 changes (OpenFile i empties number reads writes) = empties

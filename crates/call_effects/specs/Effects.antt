@@ -25,7 +25,7 @@ kind_if false = kind.File
 abbrev pub make_effects : ℕ → Kind → Location → List Effect
 make_effects new k at = effect.Make new k ∷ effect.Enter at.parent new k at.name ∷ effect.Names new 1 ∷ []
 
--- one name fewer of a file that has so many
+-- one name fewer of a file that has `names` names
 abbrev pub drop_effects : Location → ℕ → ℕ → List Effect
 drop_effects at i names = effect.Leave at.parent at.name ∷ effect.Names i (names - 1) ∷ []
 
@@ -33,7 +33,7 @@ drop_effects at i names = effect.Leave at.parent at.name ∷ effect.Names i (nam
 abbrev pub remove_effects : Location → ℕ → List Effect
 remove_effects at i = effect.Leave at.parent at.name ∷ effect.Drop i ∷ []
 
--- what a rename puts out of its place; a file has so many names
+-- what a rename puts out of its place; a file has `names` names
 abbrev pub clear_effects : ℕ → Location → Replaced → List Effect
 clear_effects names at Nothing = []
 clear_effects names at (OldFile j) = drop_effects at j names
@@ -52,7 +52,7 @@ recounted_file (DropName at i) = Some i
 recounted_file (Move from to i is_dir replaced) = replaced_file replaced
 recounted_file _ = None
 
--- the effects of an operation, where a new node has the number new, and the file that gets another number of names has so many
+-- the effects of an operation, where a new node has the number new, and the file that gets another number of names has `names`
 abbrev pub effects_by : ℕ → ℕ → Operation → List Effect
 effects_by names new (Tell answer) = []
 effects_by names new (NewDir at) = make_effects new kind.Directory at

@@ -1,4 +1,4 @@
--- When an operation is one that a call may come to over a graph and descriptors.
+-- When an operation is one that a call may have over a graph and descriptors.
 use Rattle.std.specs.Prelude.{◌≡◌, ◌≢◌, ℕ, ◌<◌, ◌≤◌, List, false, ◌&&◌, not, ◌==◌, Some, None, Ok}
 use Rattle.std.specs.FinMap as fin
 use Rattle.log_record.specs.posix_calls.Content.{Entries}

@@ -83,11 +83,11 @@ with_copy k i copy = record k { copies = λ j. if j == i then Some copy else k.c
 abbrev pub with_granted : Knowledge → ℕ → Knowledge
 with_granted k i = record k { granted = λ j. j == i || k.granted j }
 
--- what a client knows with so many more blocks of a file
+-- what a client knows with `count` more blocks of a file
 abbrev pub with_blocks : Knowledge → ℕ → ℕ → ℕ → (ℕ → List ℕ) → Knowledge
 with_blocks k i first count block = record k { blocks = λ j b. if j == i && in_run first count b then Some (block b) else k.blocks j b }
 
--- ---- what entries tell of the inodes that they name
+-- ---- what entries say of the inodes that they name
 
 -- whether two kinds are the same
 abbrev pub same_kind : Kind → Kind → Bool
@@ -118,7 +118,7 @@ is_listed k i what = any_up_to MAX_INODE (λ d. lists_as i what (copy_of k d))
 
 -- ---- what the client answers
 
--- whether an inode is a directory: by its copy, or else by the kind that an entry tells
+-- whether an inode is a directory: by its copy, or else by the kind that an entry names
 abbrev pub is_dir_by : Option (Option NodeView) → Bool → Bool → Option (Option Bool)
 is_dir_by (Some copy) dir file = Some (option_map view_is_dir copy)
 is_dir_by None true file = Some (Some true)
@@ -129,7 +129,7 @@ is_dir_by None false false = None
 abbrev pub known_dir : Knowledge → ℕ → Option (Option Bool)
 known_dir k i = if i == ROOT then Some (Some true) else is_dir_by (k.copies i) (is_listed k i kind.Directory) (is_listed k i kind.File)
 
--- the part of the whole that a client answers: its copies, what they tell of kinds, and its blocks
+-- the part of the whole that a client answers: its copies, what they say of kinds, and its blocks
 abbrev pub part_of : Knowledge → Part
 part_of k = record {
   is_dir = known_dir k;
@@ -177,7 +177,7 @@ pub record AreBlocksMissing (k : Knowledge) (i first count : ℕ) : Type 0 where
 
 -- ---- a planned call
 
--- by what the client knows a call comes to this operation, with these effects, and a new node gets a number that was granted
+-- by what the client knows a call has this operation, with these effects, and a new node gets a number that was granted
 pub record IsPlanned (k : Knowledge) (call : Call) (new : ℕ) (operation : Operation) (es : List Effect) : Type 0 where
   pub comes : run_part (part_of k) (decide k.own call) ≡ Known (Ok operation)
   pub effects : run_part (part_of k) (effects_asked new operation) ≡ Known (Ok es)

@@ -15,7 +15,7 @@ pub data NodeView : Type 0 where
   FileView : (names size : ℕ) → NodeView
   DirView : (names : ℕ) → (entries : Entries (ℕ × Kind)) → NodeView
 
--- the view of a body with so many names
+-- the view of a body with `names` names
 abbrev pub view_of_body : ℕ → Body → NodeView
 view_of_body names (FileBody bytes) = FileView names (length bytes)
 view_of_body names (DirBody entries) = DirView names entries

@@ -1,4 +1,4 @@
--- What is told by a record that was made, or by an operation that was handed back.
+-- What holds of a record that was made, or of an operation that was handed back.
 use Rattle.std.specs.Prelude.{ℕ, List, [], ◌∷◌, Option, Some, None, Result, Ok, Err}
 use Rattle.log_record.specs.posix_calls.declared.operation.Location.{Location}
 use Rattle.log_record.specs.posix_calls.declared.operation.Operation.{Operation}

@@ -16,7 +16,7 @@ use Rattle.call_effects.specs.Effects.{stored_count}
 
 -- ---- a graph as a file tree
 
--- the entries without the kinds that they tell
+-- the entries without the kinds that they name
 abbrev pub without_kinds : Entries (ℕ × Kind) → Entries ℕ
 without_kinds es = fin.from_entries (map (λ e. (e.0, e.1.0)) (fin.entries es))
 
@@ -83,9 +83,9 @@ abbrev pub one_if : Bool → ℕ
 one_if true = 1
 one_if false = 0
 
--- what entries and descriptors tell of nodes is so
+-- what entries and descriptors say of nodes is so
 pub record IsTyped (g : Graph) (held : Descriptors) : Type 0 where
-  -- an entry names a node of the kind that it tells
+  -- an entry leads to a node of the kind that it names
   pub kinds : (p n : ℕ) (es : Entries (ℕ × Kind)) (name : List ℕ) (e : ℕ × Kind) → g p ≡ Some (record { names = n; body = DirBody es }) → fin.get es name ≡ Some e → kind_of (g e.0) ≡ Some e.1
   -- nodes have inode numbers, and the root is a directory
   pub numbers : (i : ℕ) (k : Kind) → kind_of (g i) ≡ Some k → (ROOT ≤ i) × (i ≤ MAX_INODE)

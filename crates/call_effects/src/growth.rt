@@ -111,7 +111,7 @@ fn file_rise(old: u128, new: u128) -> u64
     file_units(new).saturating_sub(file_units(old))
 }
 
-// The rise of a file that so many bytes are put into at an offset.
+// The rise of a file that `count` bytes are put into at an offset.
 fn write_rise<T: TreeAnswers>(
     tree: &T,
     inode: u32,

@@ -30,7 +30,7 @@ ghost use Rattle.call_effects.specs.Wholes.{IsSound, state_of, graph_view, reach
 ghost use Rattle.call_effects.specs.Fits.{OperationFits, IsNew, IsUnusedFile};
 ghost use Rattle.call_effects.specs.Knowledge.{Knowledge, Agrees, IsPutBack, HasCopies, IsForgetful, IsLookedAtNext, IsReadNext, IsNodeMissing, AreBlocksMissing, IsPlanned, IsCopiedEntry, knows_after, knows_made, part_of, stored_view, with_blocks, with_copy, with_granted};
 
-/// No call meets a file that is gone, which is one that has no name and that nobody has open: it comes to the same over the
+/// No call meets a file that is gone, which is one that has no name and that nobody has open: its outcome is the same over the
 /// graph as it stands stored, with such files still in it, and also where such files are put back that were dropped.
 pub fn no_call_meets_a_file_that_is_gone()
     ensures stored { (g : Graph) (held : Descriptors) (client : ℕ) (call : Call) → IsSound g held → run (graph_view g held) (decide (held client) call) ≡ run (stored_view g) (decide (held client) call) }
@@ -45,13 +45,13 @@ pub fn dropping_a_gone_file_keeps_all()
     ensures agreement { (k : Knowledge) (g : Graph) (held : Descriptors) (i : ℕ) → IsUnusedFile g held i → Agrees k g held → Agrees k (set_node g i None) held }
 {}
 
-/// What a client answers by its copies and blocks, and by the kinds that entries tell, is so in every sound whole that agrees with
+/// What a client answers by its copies and blocks, and by the kinds that entries name, is so in every sound whole that agrees with
 /// what it knows, with the files put back that are gone and that it has copies of.
 pub fn part_is_of_the_whole()
     ensures { (k : Knowledge) (g : Graph) (held : Descriptors) → IsSound g held → (agrees : Agrees k g held) → IsPart (part_of k) (stored_view agrees.back) }
 {}
 
-/// What a call comes to by what a client knows, an operation or an error, it comes to over the whole; so do the effects of an operation
+/// The outcome of a call by what a client knows, an operation or an error, is its outcome over the whole; so are the effects of an operation
 /// that fits, and its growth.
 pub fn known_answer_is_of_the_whole()
     ensures call { (k : Knowledge) (g : Graph) (held : Descriptors) (call : Call) (result : Result Operation Errno) → IsSound g held → Agrees k g held → run_part (part_of k) (decide k.own call) ≡ Known result → answer_over g held k.client call ≡ result }
@@ -59,9 +59,9 @@ pub fn known_answer_is_of_the_whole()
     ensures growth { (k : Knowledge) (g : Graph) (held : Descriptors) (operation : Operation) (units : ℕ) → IsSound g held → Agrees k g held → OperationFits g held (held k.client) operation → run_part (part_of k) (growth_asked operation) ≡ Known (Ok units) → run (graph_view g held) (growth_asked operation) ≡ Ok units }
 {}
 
-/// A call that a client decides by what it knows is one step of the file tree, in every sound whole that agrees: where it
-/// comes to an operation, with the operation's effects and the client's descriptors after it, and the whole is sound again, and has grown
-/// by the units that the client counts, which a record has room for; where it comes to an error, the whole stays.
+/// A call that a client decides by what it knows is one step of the file tree, in every sound whole that agrees: if it
+/// has an operation, with the operation's effects and the client's descriptors after it, and the whole is sound again, and has grown
+/// by the units that the client counts, which a record has room for; if it is an error, the whole stays.
 pub fn known_call_is_a_step()
     ensures done { (k : Knowledge) (g : Graph) (held : Descriptors) (call : Call) (new : ℕ) (operation : Operation) (es : List Effect) → IsSound g held → Agrees k g held → IsPlanned k call new operation es → Step (state_of g held) k.client call (reply_of operation) (state_of (after_effects g es) (with_own held k.client (own_after new k.own operation))) }
     ensures sound { (k : Knowledge) (g : Graph) (held : Descriptors) (call : Call) (new : ℕ) (operation : Operation) (es : List Effect) → IsSound g held → Agrees k g held → IsPlanned k call new operation es → IsSound (after_effects g es) (with_own held k.client (own_after new k.own operation)) }
@@ -79,7 +79,7 @@ pub fn known_call_keeps_agreement()
     ensures others { (k other : Knowledge) (g : Graph) (held : Descriptors) (call : Call) (new : ℕ) (operation : Operation) (es : List Effect) → IsSound g held → Agrees k g held → IsPlanned k call new operation es → Agrees other g held → other.client ≢ k.client → ((i : ℕ) (copy : Option NodeView) → other.copies i ≡ Some copy → is_among i (touches es) ≡ false) → ((i b : ℕ) (bytes : List ℕ) → other.blocks i b ≡ Some bytes → is_among i (touches es) ≡ false) → (makes operation ≡ true → other.granted new ≡ false) → Agrees other (after_effects g es) (with_own held k.client (own_after new k.own operation)) }
 {}
 
-/// A copy of a directory tells of each inode that its entries name whether that is a directory: no copy of the inode is needed
+/// A copy of a directory says of each inode that its entries name whether that is a directory: no copy of the inode is needed
 /// for this.
 pub fn copied_entries_have_kinds()
     ensures { (k : Knowledge) (g : Graph) (held : Descriptors) (at : Location) (i : ℕ) (is_dir : Bool) → IsSound g held → Agrees k g held → IsCopiedEntry k at (i, kind_if is_dir) → (part_of k).is_dir i ≡ Some (Some is_dir) }
@@ -126,9 +126,9 @@ pub fn served_copy_agrees()
     ensures less { (k less : Knowledge) (g : Graph) (held : Descriptors) → Agrees k g held → IsForgetful k less → Agrees less g held }
 {}
 
-/// What a client fetched of a whole, and effects of its own that the whole does not have yet, tell what the whole has after them: the
+/// What a client fetched of a whole, and effects of its own that the whole does not have yet, give what the whole has after them: the
 /// view of each node is that of the fetched view after the effects, and a block is the fetched one after them, or is known from the
-/// effects alone. Lists of effects one behind the other are told one after the other.
+/// effects alone. Lists of effects one behind the other are taken one after the other.
 pub fn effects_replay_over_what_was_fetched()
     ensures view { (g : Graph) (es : List Effect) (i : ℕ) → view_at (after_effects g es) i ≡ view_after es i (view_at g i) }
     ensures block { (g : Graph) (es : List Effect) (i b : ℕ) (fetched : Option (List ℕ)) (bytes : List ℕ) → ((block : List ℕ) → fetched ≡ Some block → block_at g i b ≡ Some block) → block_after es i b fetched ≡ Some bytes → block_at (after_effects g es) i b ≡ Some bytes }

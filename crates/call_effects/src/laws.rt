@@ -40,15 +40,15 @@ pub fn operation_is_its_effects()
     ensures sound { (g : Graph) (held : Descriptors) (client new : ℕ) (operation : Operation) → 1 ≤ client → client ≤ MAX_CLIENTS → IsSound g held → (makes operation ≡ true → IsNew g new) → OperationFits g held (held client) operation → IsSound (after_effects g (effects_of g new operation)) (held_after client new held operation) }
 {}
 
-/// What a call comes to over a sound graph fits it: no operation is asked of a file that isn't there, of a name that is taken, or
+/// The outcome of a call over a sound graph fits it: no operation is asked of a file that isn't there, of a name that is taken, or
 /// of a directory that would become its own ancestor.
 pub fn answered_operation_fits()
     ensures { (g : Graph) (held : Descriptors) (client : ℕ) (call : Call) (operation : Operation) → IsSound g held → answer_over g held client call ≡ Ok operation → OperationFits g held (held client) operation }
 {}
 
-/// Every call over a sound graph is one step of the file tree that the graph and the descriptors stand for. Where it comes to
-/// an operation, the graph after the operation's effects stands for the state after the step, and is sound again; where it comes to an
-/// error, the state stays.
+/// Every call over a sound graph is one step of the file tree that the graph and the descriptors stand for. If the
+/// outcome is an operation, the graph after the operation's effects stands for the state after the step, and is sound again; if it is
+/// an error, the state stays.
 pub fn call_is_a_step()
     ensures done { (g : Graph) (held : Descriptors) (client new : ℕ) (call : Call) (operation : Operation) → IsSound g held → answer_over g held client call ≡ Ok operation → (makes operation ≡ true → IsNew g new) → Step (state_of g held) client call (reply_of operation) (state_of (after_effects g (effects_of g new operation)) (held_after client new held operation)) }
     ensures sound { (g : Graph) (held : Descriptors) (client new : ℕ) (call : Call) (operation : Operation) → IsSound g held → answer_over g held client call ≡ Ok operation → (makes operation ≡ true → IsNew g new) → IsSound (after_effects g (effects_of g new operation)) (held_after client new held operation) }

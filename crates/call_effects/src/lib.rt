@@ -3,7 +3,7 @@
 //! `specs/Wholes.antt` says which state of the file tree a graph of inodes and descriptors stand for, and when the two are sound;
 //! `specs/Effects.antt` which effects an operation has, and `specs/Knowledge.antt` what a client knows of the whole. `decide` of
 //! `posix_calls` gives a call's operation, `growth_of` the units that it may need, and `record_of` makes its record: all three ask
-//! whoever knows the tree or a part of it; `subjects` tells which inodes the record will touch. That this is right is told by the
+//! whoever knows the tree or a part of it; `subjects` lists the inodes that the record will touch. That this is right is stated by the
 //! laws: over a whole (`laws`), of effects and units (`record_laws`), for a client that knows a part (`known_laws`), and once nobody
 //! has a file open (`settling`).
 #![tactic(auto)]

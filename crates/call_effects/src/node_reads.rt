@@ -132,7 +132,7 @@ pub fn file_names(graph: &PlainGraph, inode: u32) -> u32
     }
 }
 
-/// Up to so many bytes of a file from an offset on.
+/// Up to `count` bytes of a file from an offset on.
 pub fn read(
     alloc: Global,
     graph: &PlainGraph,

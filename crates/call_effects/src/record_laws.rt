@@ -18,12 +18,12 @@ ghost use Rattle.call_effects.specs.Records.{effects_asked, growth_asked};
 ghost use Rattle.call_effects.specs.Wholes.{IsSound, state_of, graph_view};
 ghost use Rattle.call_effects.specs.Fits.{IsNew, OperationFits};
 
-/// The effects that an operation's questions come to over a whole graph are those of the operation.
+/// The effects that an operation's questions give over a whole graph are those of the operation.
 pub fn asked_effects_are_the_operations()
     ensures { (g : Graph) (held : Descriptors) (own : Own) (new : ℕ) (operation : Operation) → OperationFits g held own operation → run (graph_view g held) (effects_asked new operation) ≡ Ok (effects_of g new operation) }
 {}
 
-/// The units that an operation's questions come to over a sound graph are the growth of its effects: the rise of each inode that they
+/// The units that an operation's questions give over a sound graph are the growth of its effects: the rise of each inode that they
 /// touch, against which no other one's fall is set.
 pub fn asked_growth_is_the_effects_growth()
     ensures { (g : Graph) (held : Descriptors) (own : Own) (new : ℕ) (operation : Operation) → IsSound g held → (makes operation ≡ true → IsNew g new) → OperationFits g held own operation → run (graph_view g held) (growth_asked operation) ≡ Ok (growth g (effects_of g new operation)) }

@@ -58,7 +58,7 @@ fn count_in<M: Media>(
     }
 }
 
-/// How many data blocks a change wants: one for each block of a file that it writes. The slot of each inode in it is read, in one device call each. `Memory` where there was none for the
+/// How many data blocks a change wants: one for each block of a file that it writes. The slots of its inodes are read for that. `Memory` where there was none for the
 /// numbers of a file's blocks, and only where the change writes a block of a file that it leaves.
 pub fn count_blocks<M: Media>(
     alloc: Global,

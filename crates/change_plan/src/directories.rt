@@ -122,7 +122,7 @@ fn lost_for<M: Media>(
     }
 }
 
-// Puts a slot, and what is given up for it, behind the others of a plan.
+/// Puts a slot, and what is given up for it, behind the others of a plan.
 pub fn push_part(
     plan: &mut PartialPlan,
     inode: u32,
@@ -191,6 +191,7 @@ pub fn plan_over_spares<M: Media>(
     ensures only { IfErr result (λ e. (e ≡ DeviceFault) ⊎ (e ≡ Memory)) }
     ensures looks { Looks M.Media journal.old journal.new result }
 {
+    // For the proof: a planned directory is a part of the change.
     planned_directory_is_a_part();
     match plan_directory(alloc, changed, touch, spares, &mut plan.nodes) {
         Ok(planned) => match push_planned(alloc, journal, inode, slot, change.base, planned, plan) {

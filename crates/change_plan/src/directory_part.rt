@@ -47,6 +47,7 @@ fn directory_change<M: Media>(
     ensures only { IfErr result (λ e. (e ≡ DeviceFault) ⊎ (e ≡ Memory)) }
     ensures looks { Looks M.Media journal.old journal.new result }
 {
+    // For the proof: each entry of a bounded change leads to an inode.
     bounded_entries_lead_to_inodes();
     match start_directory(alloc, journal, inode, *slot, change.base) {
         Ok(start) => match change_directory(start, change) {
@@ -78,6 +79,7 @@ fn plan_changed<M: Media>(
     ensures only { IfErr result (λ e. (e ≡ DeviceFault) ⊎ (e ≡ Memory)) }
     ensures looks { Looks M.Media journal.old journal.new result }
 {
+    // For the proof: the first free blocks of the node pool are spare ones for the directory.
     free_blocks_are_spare();
     let count = spares_for(changed);
     match take_spares(alloc, pools, taken, count) {

@@ -268,6 +268,7 @@ fn plan_written<M: Media>(
     ensures only { IfErr result (λ e. (e ≡ DeviceFault) ⊎ (e ≡ Memory)) }
     ensures looks { Looks M.Media journal.old journal.new result }
 {
+    // For the proof: the blocks that are taken were free, the file that is planned is a part of the change, and its extents fit a block.
     next_nodes_were_free();
     placed_file_is_planned();
     planned_file_is_a_part();

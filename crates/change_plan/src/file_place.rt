@@ -47,6 +47,7 @@ pub fn place_file(
     requires fit { PlacesFit places.now }
     ensures { (g : Sizes) (s : Store) → IsStartedFile g s (change_of change.now).base inode file → IfOk result (IsPlacedFile g s (change_of change.now) inode numbers.now places.now) }
 {
+    // For the proof: no two runs of the map lie in one place.
     runs_lie_apart();
     let StartedFile { slot, map, found } = file;
     let plan = plan_file(alloc, inode, map, change, numbers, places)?;

@@ -34,7 +34,7 @@ pub fn made_file(alloc: Global) -> StartedFile
     }
 }
 
-/// The file that an inode is, by its slot: its extents are read, in three device calls at most. `Memory` where there was none for them, or for where its blocks lie.
+/// Reads the file that an inode is, by its slot: its extents, and no byte of its content. `Memory` where there was none for them, or for where its blocks lie.
 pub fn read_file<M: Media>(
     alloc: Global,
     journal: &mut Journal<M>,

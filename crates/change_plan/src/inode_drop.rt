@@ -105,7 +105,8 @@ fn all_blocks(alloc: Global, slot: &Slot, map: &BlockMap) -> Result<FreedBlocks,
     Ok(lost)
 }
 
-// All that an inode has.
+/// Reads which blocks an inode has that has this slot: those of its content, and those that list its extents. `Memory` where there was none for what is read, or for the
+/// runs.
 pub fn all_blocks_of<M: Media>(
     alloc: Global,
     journal: &mut Journal<M>,
@@ -140,8 +141,8 @@ pub fn push_lost(lost: &mut FreedBlocks, its: &FreedBlocks) -> Result<(), AllocE
     Ok(())
 }
 
-/// Gives up all blocks that an inode has, by its slot: those of its content and those that list its extents, behind what was given up; a free slot has none. It makes three device
-/// calls at most. `Memory` where there was none for what is read, or for the runs: some of them may stand there then.
+/// Gives up all blocks that an inode has, by its slot: those of its content and those that list its extents, behind what was given up; a free slot has none. Its
+/// extents are read for that. `Memory` where there was none for what is read, or for the runs: some of them may stand there then.
 pub fn give_all<M: Media>(
     alloc: Global,
     journal: &mut Journal<M>,
@@ -184,6 +185,7 @@ pub fn plan_gone_part<M: Media>(
     ensures only { IfErr result (λ e. (e ≡ DeviceFault) ⊎ (e ≡ Memory)) }
     ensures looks { Looks M.Media journal.old journal.new result }
 {
+    // For the proof: an inode of which all is given up is a part of the change.
     gone_inode_is_a_part();
     match give_all(alloc, journal, inode, slot, &mut plan.lost) {
         Ok(()) => match push_slot(&mut plan.slots, inode, Slot::Free) {
@@ -194,7 +196,7 @@ pub fn plan_gone_part<M: Media>(
     }
 }
 
-// Puts the slot of an inode behind the others.
+/// Puts the slot of an inode behind the others.
 pub fn push_slot(slots: &mut Vec<ChangedSlot>, inode: u32, slot: Slot) -> Result<(), AllocError>
     ensures { OnOk result (slots.new.items ≡ slots.old.items ++ (record { inode = inode; slot = slot } ∷ [])) }
 {

@@ -65,7 +65,7 @@ pub fn plan_inode<M: Media>(
     }
 }
 
-/// Plans the inode behind those that are planned: its slot is read, in one device call, and then it is planned by that.
+/// Plans the inode behind those that are planned: its slot is read, and then it is planned by that.
 pub fn plan_next<M: Media>(
     alloc: Global,
     journal: &mut Journal<M>,

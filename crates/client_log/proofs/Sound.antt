@@ -8,7 +8,7 @@ use Rattle.update_log.specs.tier_device.declared.media.Tier.TheVariants.{Fast}
 use Rattle.update_log.specs.tier_device.StopsSince.{LeftSince}
 use Rattle.update_log.specs.log_record.declared.format.Record.{Record}
 use Rattle.update_log.specs.RecordCounts.{next_generation, records_under}
-use Rattle.update_log.specs.Frames.{end_behind, with_record}
+use Rattle.update_log.specs.Frames.{end_behind, header, records, with_record}
 use Rattle.update_log.specs.declared.format.TheConstants.{REGION_SIZE}
 use Rattle.update_log.specs.Stage.{IsAppending}
 use Rattle.update_log.specs.View.{RegionView, WithOrWithout, header_of, records_of}
@@ -154,6 +154,19 @@ module _ {M : Type 0} (device : Ghosts M) where
       → ((IsWiping v.current.stage → ⊥) → (c : List ℕ) → device.left v.current.media (device.moment v.current.media) Fast c → WithOrWithout (header_of device v.current) (records_of device v.current) v.current.begun c)
       → (regions : ℕ → List ℕ) → AreLeft device v v regions → CountOf v.generation (is_some v.other) (current_records device v) v.current.begun regions
   now_counts v s either = call_counts v v s.small (λ c l. own_now v s either c (still_left v.current c l)) (beside_stays v s v.other refl)
+
+  -- and until the gate of the begun record is opened, without that record
+  pub unopened_counts : (v : LogView M) → IsSoundLog device v
+      → ((c : List ℕ) → device.left v.current.media (device.moment v.current.media) Fast c → (header c ≡ header_of device v.current) × (records c ≡ records_of device v.current))
+      → (regions : ℕ → List ℕ) → AreLeft device v v regions → CountOf v.generation (is_some v.other) (current_records device v) None regions
+  unopened_counts v s shut regions are =
+      let unbegun : LogView M = record v { current = record v.current { begun = None } } in
+      call_counts unbegun unbegun s.small
+      (λ c l. chosen v.ready (records_of device v.current) None (records_under v.generation c)
+      (λ e. let shown = shut c (still_left v.current c l) in
+      with_counts v.generation (header_of device v.current) (records_of device v.current) None c (s.written e).names (record { header_is = shown.0; records_are = inl shown.1 }))
+      (λ e. inl ((s.stale e).none c (still_left v.current c l))))
+      (beside_stays v s v.other refl) regions (record { current = are.current; other = λ o n. are.other o n })
 
   -- within a call of the region that is written: what it leaves counts with the begun record or without
   pub append_counts : (old new : LogView M) → IsSoundLog device old → old.ready ≡ true → new.other ≡ old.other

@@ -37,7 +37,7 @@ pub record IsMovedOnce {M T : Type 0} (device : Ghosts M) (old new : RegionView 
   pub faults_rise : device.faults old.media ≤ device.faults new.media
   pub one_fault : device.faults new.media ≤ device.faults old.media + 1
 
--- A region that was moved by so many writes and fences, one after the other, which are counted where all of them succeeded. Where the device fails one, no further one is made.
+-- A region that was moved by `calls` writes and fences, one after the other, which are counted where all of them succeeded. Where the device fails one, no further one is made.
 pub record IsMoved {M T : Type 0} (device : Ghosts M) (calls : ℕ) (old new : RegionView M) (result : Result T LogError) : Type 0 where
   pub all_calls : OnOk result (device.moment new.media ≡ device.moment old.media + calls)
   pub at_most : device.moment new.media ≤ device.moment old.media + calls

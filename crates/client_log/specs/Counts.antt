@@ -20,7 +20,7 @@ pub record AreLeft {M : Type 0} (device : Ghosts M) (old new : LogView M) (regio
   pub current : LeftSince (device.left new.current.media) (device.moment new.current.media) (device.moment old.current.media) Fast (regions (old.generation % 2))
   pub other : (o n : RegionView M) → old.other ≡ Some o → new.other ≡ Some n → LeftSince (device.left n.media) (device.moment n.media) (device.moment o.media) Fast (regions (next_generation old.generation % 2))
 
--- Of the contents of two regions these records count, in the current generation g, with the begun one or without. `here` tells that the other region is not away.
+-- Of the contents of two regions these records count, in the current generation g, with the begun one or without. `here` says that the other region is not away.
 pub record CountOf (g : ℕ) (here : Bool) (rs : List Record) (begun : Option Record) (regions : ℕ → List ℕ) : Type 0 where
   -- under a mark that has passed each generation before g; a region that is away names the one before
   pub passed : (here ≡ false → next_generation (generation (regions (next_generation g % 2))) ≡ g) → AreWithOrWithout rs begun (counted_records g 0 regions)

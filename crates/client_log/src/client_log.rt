@@ -5,7 +5,7 @@ ghost use Rattle.update_log.specs.log_record.Grammar.{IsRecord, record_bytes};
 ghost use Rattle.update_log.specs.Calls.{ShowsCall};
 ghost use Rattle.update_log.specs.RecordCounts.{next_generation};
 ghost use Rattle.update_log.specs.Frames.{end_behind};
-ghost use Rattle.update_log.specs.Stage.{calls_left, next, progress};
+ghost use Rattle.update_log.specs.Stage.{IsUnopened, calls_left, next, progress};
 ghost use Rattle.update_log.specs.View.{RegionView, records_of};
 ghost use Rattle.update_log.specs.declared.format.TheConstants.{REGION_SIZE};
 ghost use Rattle.update_log.specs.declared.stage.Progress.TheVariants as appends;
@@ -89,11 +89,12 @@ impl<M: Media> ClientLog<M> {
         }
     }
 
-    /// Whether the current region is wiped to its generation and has room for a record. It tells nothing of whether a device has failed.
+    /// Whether the current region is wiped to its generation and has room for a record. It says nothing of whether a device has failed.
     pub fn room(&self, logged: &Record) -> bool
         requires { IsRecord logged.now }
         ensures { IsTrue result ↔ HasRoom M.Media self.now logged.now }
     {
+        // For the proof: the next gate stands behind the records.
         self.current.left_now();
         match self.current.room() {
             Some(most) => self.ready && logged.spelled_len() <= most,
@@ -102,10 +103,11 @@ impl<M: Media> ClientLog<M> {
     }
 
     /// How many bytes the spelling of the next record may have at most; `None` where the current region is not wiped to its generation, or no record fits behind those
-    /// that it has. It tells nothing of whether a device has failed.
+    /// that it has. It says nothing of whether a device has failed.
     pub fn record_limit(&self) -> Option<usize>
         ensures { result ≡ most_of M.Media self.now }
     {
+        // For the proof: the next gate stands behind the records.
         self.current.left_now();
         if !self.ready {
             return None;
@@ -172,6 +174,7 @@ impl<M: Media> ClientLog<M> {
         ensures only { IfErr result (λ e. e ≡ DeviceFault) }
         ensures stays_failed { self.old.failed ≡ true → (result ≡ Err DeviceFault) × (self.new ≡ self.old) }
     {
+        // For the proof: what a stop leaves before the device call, and behind it.
         self.current.left_now();
         if self.failed {
             return Err(LogError::DeviceFault);
@@ -207,6 +210,7 @@ impl<M: Media> ClientLog<M> {
         ensures only { IfErr result (λ e. e ≡ DeviceFault) }
         ensures stays_failed { self.old.failed ≡ true → (result ≡ Err DeviceFault) × (self.new ≡ self.old) }
     {
+        // For the proof: what a stop leaves before the device calls, and behind them.
         self.current.left_now();
         if self.failed {
             return Err(LogError::DeviceFault);
@@ -314,6 +318,7 @@ impl<M: Media> ClientLog<M> {
         ensures only { IfErr result (λ e. e ≡ DeviceFault) }
         ensures stays_failed { self.old.failed ≡ true → (result ≡ Err DeviceFault) × (self.new ≡ self.old) }
     {
+        // For the proof: what a stop leaves before the device call.
         self.current.left_now();
         if self.failed {
             return Err(LogError::DeviceFault);
@@ -412,6 +417,8 @@ impl<M: Media> ClientLog<M> {
         ensures beside { IfSome self.now.other (CountsNothing M.Media (next_generation self.now.generation)) }
 
         ensures counts { (regions : ℕ → List ℕ) → AreLeft M.Media self.now self.now regions → CountOf self.now.generation (is_some self.now.other) (current_records M.Media self.now) self.now.current.begun regions }
+        // Until the call that opens its gate, the begun record does not count.
+        ensures unopened { IsUnopened self.now.current.stage → (regions : ℕ → List ℕ) → AreLeft M.Media self.now self.now regions → CountOf self.now.generation (is_some self.now.other) (current_records M.Media self.now) None regions }
     {
         self.current.left_now();
     }
@@ -444,7 +451,7 @@ impl<M: Media> ClientLog<M> {
         self.failed
     }
 
-    /// The regions that are here, that of even generations and that of odd ones, as `open` takes them: the current one stands where its generation tells, and the
+    /// The regions that are here, that of even generations and that of odd ones, as `open` takes them: the current one stands where its generation says, and the
     /// other one beside it, where it is not away.
     pub fn into_regions(self) -> (Option<Region<M>>, Option<Region<M>>)
         ensures by_parity { result ≡ in_turn self.generation (Some self.current, self.other) }

@@ -45,6 +45,7 @@ pub fn is_pending(stage: Stage) -> bool
 pub fn is_empty<M: Media>(region: &Region<M>) -> bool
     ensures { IsTrue result ↔ (records_of M.Media region.now ≡ []) }
 {
+    // For the proof: the next gate stands behind the records.
     region.left_now();
     match region.room() {
         Some(most) => most == REGION_SIZE - HEADER - 6,
@@ -61,6 +62,7 @@ pub fn is_wiped<M: Media>(region: &mut Region<M>, generation: u64) -> Result<boo
     ensures fault { OnErr result (Rose (M.faults region.old.media) (M.faults region.new.media)) }
     ensures quiet { OnOk result (M.faults region.new.media ≡ M.faults region.old.media) }
 {
+    // For the proof: what a stop leaves of the region, before the read and behind it.
     region.left_now();
     if region.stage() != Stage::Resting || !is_empty(region) {
         return Ok(false);
@@ -88,6 +90,7 @@ pub fn wipe_call<M: Media>(
 {
     match region.wipe_step(generation) {
         Ok(progress) => {
+            // For the proof: what a stop leaves behind the device call.
             region.left_now();
             Ok(progress)
         }

@@ -27,6 +27,7 @@ pub fn read_sealed<M: Media>(
     ensures fault { IsErrOf result DeviceFault → Rose (M.faults region.old.media) (M.faults region.new.media) }
     ensures quiet { IsErrOf result DeviceFault ⊎ (M.faults region.new.media ≡ M.faults region.old.media) }
 {
+    // For the proof: it stands in the contract alone, as the name of the region.
     let _ = generation;
     match region.records() {
         Ok(found) => Ok(found),
@@ -43,6 +44,7 @@ pub fn left_of_sealed<M: Media>(region: &Region<M>, generation: u64)
     ensures records { (c : List ℕ) → M.left region.now.media (M.moment region.now.media) Fast c → records c ≡ records_of M.Media region.now }
     ensures names { (c : List ℕ) → M.left region.now.media (M.moment region.now.media) Fast c → named_in c ≡ generation }
 {
+    // For the proof: the region is at rest under this name, and a stop leaves what is read.
     let _ = generation;
     region.left_now();
 }

@@ -177,8 +177,8 @@ module _ (p : Part) (h : Holdings) (call : Call) (need : Need) where
   ]
 
   module _ (new : ℕ) (operation : Operation) (comes : run_part p (decide h.own call) ≡ Known (Ok operation)) (number : HasNumber h operation new) where
-    fitting_lacks : (units most : ℕ) (made : Record) → run_part p (units_asked operation) ≡ Known (Ok units) → h.room ≡ Some most → record_of_plan p h new operation units ≡ Goes made → room_step most made ≡ Lacks need → Lacking need
-    fitting_lacks units most made grows room was e =
+    fitting_lacks : (units most : ℕ) (made : Record) → changes operation ≡ true → run_part p (units_asked operation) ≡ Known (Ok units) → h.room ≡ Some most → record_of_plan p h new operation units ≡ Goes made → room_step most made ≡ Lacks need → Lacking need
+    fitting_lacks units most made changed grows room was e =
         let why = unless_lacks (is_record made && nat_le (length (record_bytes made)) most) Room need e in
         let es = goes_where (look_step p h (effects_asked new operation)) (λ es. Goes (record { units = units; effects = es })) made was in
         let was_made : ◌≡◌ {A = PlanSteps Record} (Goes (record { units = units; effects = es.0 })) (Goes made) = es.2 in
@@ -186,6 +186,7 @@ module _ (p : Part) (h : Holdings) (call : Call) (need : Need) where
         subst Lacking why.1 (inr (record {
           operation = operation;
           comes = comes;
+          changed = changed;
           new = new;
           number = number;
           change = made;
@@ -196,28 +197,28 @@ module _ (p : Part) (h : Holdings) (call : Call) (need : Need) where
           long = why.0;
         }))
 
-    logged_lacks : (units : ℕ) → run_part p (units_asked operation) ≡ Known (Ok units) → log_outcome p h new operation units ≡ Lacks need → Lacking need
-    logged_lacks units grows e = elim (lacks_where (roomy h.room) (after_room p h new operation units) need e) [
+    logged_lacks : (units : ℕ) → changes operation ≡ true → run_part p (units_asked operation) ≡ Known (Ok units) → log_outcome p h new operation units ≡ Lacks need → Lacking need
+    logged_lacks units changed grows e = elim (lacks_where (roomy h.room) (after_room p h new operation units) need e) [
       | inl at ↦ room_lacks h.room refl at
       | inr on ↦ elim (lacks_where (record_of_plan p h new operation units) (after_record p h new operation on.0) need on.2) [
         | inl at ↦ recorded_lacks new operation units at
         | inr made ↦ elim (lacks_where (room_step on.0 made.0) (end_log p h new operation made.0) need made.2) [
-          | inl at ↦ fitting_lacks units on.0 made.0 grows (room_goes h.room on.0 on.1) made.1 at
+          | inl at ↦ fitting_lacks units on.0 made.0 changed grows (room_goes h.room on.0 on.1) made.1 at
           | inr last ↦ absurd (let clash : ◌≡◌ {A = PlanSteps Outcome} (end_log p h new operation made.0 last.0) (Lacks need) = last.2 in cc)
         ]
       ]
     ]
 
-    settled_lacks : (units : ℕ) (b : Bool) → run_part p (units_asked operation) ≡ Known (Ok units) → cond b (log_outcome p h new operation units) (Goes (answer_outcome new operation)) ≡ Lacks need → Lacking need
-    settled_lacks units true grows e = logged_lacks units grows e
-    settled_lacks units false grows e = absurd (cc)
+    settled_lacks : (units : ℕ) (b : Bool) → changes operation ≡ b → run_part p (units_asked operation) ≡ Known (Ok units) → cond b (log_outcome p h new operation units) (Goes (answer_outcome new operation)) ≡ Lacks need → Lacking need
+    settled_lacks units true changed grows e = logged_lacks units changed grows e
+    settled_lacks units false changed grows e = absurd (cc)
 
     growth_lacks : (units : ℕ) → run_part p (units_asked operation) ≡ Known (Ok units) → after_growth p h new operation units ≡ Lacks need → Lacking need
     growth_lacks units grows e = elim (lacks_where (unit_step h.spare units) (after_units p h new operation units) need e) [
       | inl at ↦ paid_lacks operation units comes grows at
       | inr on ↦ elim (lacks_where (pin_step h.pins (opens new operation)) (after_pin p h new operation units) need on.2) [
         | inl at ↦ pin_lacks (opens new operation) at
-        | inr last ↦ settled_lacks units (changes operation) grows last.2
+        | inr last ↦ settled_lacks units (changes operation) refl grows last.2
       ]
     ]
 

@@ -4,6 +4,8 @@ pub mod Ends
 pub mod Lacks
 pub mod Outcomes
 pub mod WriteLogged
+pub mod RecordLengths
+pub mod Room
 pub mod RootAlone
 pub mod Serving
 pub mod Spelled

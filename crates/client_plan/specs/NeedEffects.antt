@@ -5,11 +5,13 @@ use Rattle.call_effects.specs.posix_calls.Part.{Part, Known, blocks_missing, run
 use Rattle.call_effects.specs.posix_calls.Decide.{decide}
 use Rattle.call_effects.specs.posix_calls.Operations.{makes}
 use Rattle.call_effects.specs.posix_calls.declared.call.Call.{Call}
+use Rattle.call_effects.specs.posix_calls.declared.limits.TheConstants.{MAX_TRANSFER}
 use Rattle.call_effects.specs.posix_calls.declared.operation.Missing.TheVariants as missing
 use Rattle.call_effects.specs.posix_calls.declared.operation.Operation.{Operation}
 use Rattle.call_effects.specs.file_graph.Graph.{is_among}
 use Rattle.call_effects.specs.log_record.Grammar.{record_bytes}
 use Rattle.call_effects.specs.log_record.declared.format.Record.{Record}
+use Rattle.call_effects.specs.ChangeTest.{changes}
 use Rattle.call_effects.specs.Records.{effects_asked, units_asked}
 use Rattle.client_plan.specs.declared.need.Need.{Need}
 use Rattle.client_plan.specs.declared.need.Need.TheVariants.{Unpin, Lease, View, Blocks, Inodes, Units, Pin, Room}
@@ -40,10 +42,16 @@ pub record IsShort (p : Part) (h : Holdings) (call : Call) (n : ℕ) : Type 0 wh
 abbrev pub HasNumber : Holdings → Operation → ℕ → Type 0
 HasNumber h operation new = makes operation ≡ true → is_among new h.numbers ≡ true
 
--- the call's record has no spelling of so few bytes
+-- the most bytes that spell the record of a call: those of the longest write, behind 22 others (4 of units, 1 of the count of effects,
+-- and of the write 1 of its tag, 4 of its inode, 8 of its offset and 4 of its count of bytes)
+abbrev pub longest_record : ℕ
+longest_record = 22 + MAX_TRANSFER
+
+-- the call changes something, and its record has no spelling of so few bytes
 pub record IsTooLong (p : Part) (h : Holdings) (call : Call) : Type 0 where
   pub operation : Operation
   pub comes : run_part p (decide h.own call) ≡ Known (Ok operation)
+  pub changed : changes operation ≡ true
   pub new : ℕ
   pub number : HasNumber h operation new
   pub change : Record

@@ -1,20 +1,27 @@
 //! What holds of every client and every call.
 
-ghost use Rattle.std.specs.Prelude.{◌≡◌, ◌≢◌, ◌⊎◌, ◌<◌, ◌≤◌, ℕ, List, Option, Some, length};
-ghost use Rattle.call_effects.specs.posix_calls.Tree.{Descriptors, with_own};
-ghost use Rattle.call_effects.specs.posix_calls.Part.{Part};
+ghost use Rattle.std.specs.Prelude.{◌≡◌, ◌≢◌, ◌⊎◌, ◌<◌, ◌≤◌, ℕ, List, [], ◌∷◌, Option, Some, Ok, length};
+ghost use Rattle.call_effects.specs.posix_calls.Tree.{Descriptors, Own, with_own};
+ghost use Rattle.call_effects.specs.posix_calls.Part.{Known, Part, run_part};
+ghost use Rattle.call_effects.specs.posix_calls.Decide.{decide};
 ghost use Rattle.call_effects.specs.posix_calls.Operations.{Step};
+ghost use Rattle.call_effects.specs.posix_calls.WellFormed.{IsWithinLimits};
+ghost use Rattle.call_effects.specs.posix_calls.declared.limits.TheConstants.{MAX_TRANSFER};
+ghost use Rattle.call_effects.specs.posix_calls.declared.operation.Operation.{Operation};
 ghost use Rattle.call_effects.specs.posix_calls.declared.call.Call.{Call};
 ghost use Rattle.call_effects.specs.posix_calls.declared.call.Call.TheVariants as calls;
 ghost use Rattle.call_effects.specs.posix_calls.declared.call.Reply.{Reply};
 ghost use Rattle.call_effects.specs.file_graph.Graph.{Graph, after_effects};
 ghost use Rattle.call_effects.specs.file_graph.Units.{growth};
+ghost use Rattle.call_effects.specs.file_graph.declared.effect.Effect.TheVariants.{Bytes};
+ghost use Rattle.call_effects.specs.log_record.Grammar.{record_bytes};
 ghost use Rattle.call_effects.specs.log_record.declared.format.Record.{Record};
+ghost use Rattle.call_effects.specs.Records.{effects_asked};
 ghost use Rattle.call_effects.specs.Knowledge.{Knowledge, Agrees, part_of, with_copy, with_blocks};
 ghost use Rattle.call_effects.specs.NodeView.{NodeView};
 ghost use Rattle.call_effects.specs.Wholes.{IsSound, state_of};
 ghost use Rattle.client_plan.specs.declared.need.Need.{Need};
-ghost use Rattle.client_plan.specs.declared.need.Need.TheVariants.{Unpin, Lease, View, Blocks, Inodes, Units, Pin};
+ghost use Rattle.client_plan.specs.declared.need.Need.TheVariants.{Unpin, Lease, View, Blocks, Inodes, Units, Pin, Room};
 ghost use Rattle.client_plan.specs.declared.need.Mode.{Mode};
 ghost use Rattle.client_plan.specs.declared.outcome.DescriptorChange.{DescriptorChange};
 ghost use Rattle.client_plan.specs.declared.outcome.Outcome.TheVariants as outcomes;
@@ -22,7 +29,7 @@ ghost use Rattle.client_plan.specs.declared.plain_writes.PlainWrite.{PlainWrite}
 ghost use Rattle.client_plan.specs.Holdings.{Holdings};
 ghost use Rattle.client_plan.specs.PlainWrite.{IsPlainWrite, write_logged};
 ghost use Rattle.client_plan.specs.CallPlan.{outcome, own_changed};
-ghost use Rattle.client_plan.specs.NeedEffects.{IsLacking, without_pin, with_pin, with_lease, with_number, with_units};
+ghost use Rattle.client_plan.specs.NeedEffects.{IsLacking, IsTooLong, longest_record, without_pin, with_pin, with_lease, with_number, with_units, with_room};
 ghost use Rattle.client_plan.specs.Steps.{IsAnswered, IsOf, IsReady, IsRefused};
 
 /// What a call is told to need the client lacks. So once it is served, the same call needs it no longer: not a pin that was given back, a lease
@@ -36,6 +43,17 @@ pub fn served_need_is_lacking_no_longer()
     ensures inodes { (p : Part) (h : Holdings) (call : Call) (new n : ℕ) → outcome p (with_number h new) call ≢ outcomes.Need (Inodes n) }
     ensures units { (p : Part) (h : Holdings) (call : Call) (n more : ℕ) → outcome p h call ≡ outcomes.Need (Units n) → outcome p (with_units h n) call ≢ outcomes.Need (Units more) }
     ensures pin { (p : Part) (h : Holdings) (call : Call) (i : ℕ) → outcome p (with_pin h i) call ≢ outcomes.Need (Pin i) }
+{}
+
+/// Bounds the record of a call, in bytes: 65,558 at most, the 65,536 of the longest write behind 22 others. So it is for every call, whatever is known of the
+/// tree, whatever is open and whichever number a new node gets; and the record of the longest write has just as many. A client that has room for these
+/// needs no room, in every sound whole within its limits that agrees with what it knows: the record has a spelling there, and is not too long.
+pub fn room_for_the_longest_record_is_enough()
+    ensures bound { (p : Part) (own : Own) (call : Call) (operation : Operation) (new : ℕ) (change : Record) → run_part p (decide own call) ≡ Known (Ok operation) → run_part p (effects_asked new operation) ≡ Known (Ok change.effects) → length (record_bytes change) ≤ longest_record }
+    ensures write { (units i at : ℕ) (bytes : List ℕ) → length bytes ≡ MAX_TRANSFER → length (record_bytes (record { units = units; effects = Bytes i at bytes ∷ [] })) ≡ longest_record }
+    ensures log { (p : Part) (h : Holdings) (call : Call) (change : Record) (reply : Reply) (made : Option ℕ) (descriptor : Option DescriptorChange) → outcome p h call ≡ outcomes.Log change reply made descriptor → length (record_bytes change) ≤ longest_record }
+    ensures fits { (k : Knowledge) (g : Graph) (held : Descriptors) (h : Holdings) (call : Call) (most : ℕ) → IsSound g held → IsWithinLimits (state_of g held).tree → Agrees k g held → IsOf k h → h.room ≡ Some most → longest_record ≤ most → ¬ (IsTooLong (part_of k) h call) }
+    ensures room { (k : Knowledge) (g : Graph) (held : Descriptors) (h : Holdings) (call : Call) (most : ℕ) → IsSound g held → IsWithinLimits (state_of g held).tree → Agrees k g held → IsOf k h → longest_record ≤ most → outcome (part_of k) (with_room h most) call ≢ outcomes.Need Room }
 {}
 
 /// A write for which nothing is lacking comes to its record, and is answered with the number of its bytes.

@@ -17,7 +17,7 @@ mod words;
 pub use call_plan::plan_call;
 pub use laws::{
     answered_call_is_a_step, logged_call_is_a_step, plain_write_is_logged,
-    served_need_is_lacking_no_longer,
+    room_for_the_longest_record_is_enough, served_need_is_lacking_no_longer,
 };
 pub use need::{Mode, Need};
 pub use outcome::{DescriptorChange, Outcome};

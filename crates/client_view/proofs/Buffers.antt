@@ -14,7 +14,7 @@ filled buffer len end more within =
     let long : length (take len buffer ++ replicate (end - len) 0) ≡ end = length-append (take len buffer) (replicate (end - len) 0) ∙ omega (arith, more, within, length-take-le len buffer, length-replicate {A = ℕ} (end - len) 0) in
     ap (λ n. take n (take len buffer ++ replicate (end - len) 0 ++ drop end buffer)) most ∙ take_at (take len buffer ++ replicate (end - len) 0) (drop end buffer) end long
 
-none_more : (m n : ℕ) → m ≤ n → (xs : List ℕ) → xs ++ replicate (m - n) 0 ≡ xs
+pub none_more : (m n : ℕ) → m ≤ n → (xs : List ℕ) → xs ++ replicate (m - n) 0 ≡ xs
 none_more m n less xs = let none : m - n ≡ 0 = omega (arith, less) in ap (λ k. xs ++ replicate k 0) none ∙ append-nil xs
 
 pub unfilled : (buffer : List ℕ) (len end : ℕ) → end ≤ len → take (max len end) buffer ≡ take len buffer ++ replicate (end - len) 0
@@ -87,7 +87,7 @@ grown_front m off xs short more =
     ∙ ap (λ ys. xs ++ ys) (take-replicate (m - length xs) (off - length xs) 0 fewer)
     ∙ ap (λ ys. ys ++ replicate (m - length xs) 0) (sym (take_all m xs short))
 
-behind_all : (m off : ℕ) (new old : List ℕ) → length old ≤ m → m ≤ off → take m (with_bytes off new old) ≡ with_length m old
+pub behind_all : (m off : ℕ) (new old : List ℕ) → length old ≤ m → m ≤ off → take m (with_bytes off new old) ≡ with_length m old
 behind_all m off new old short more =
     let long : m ≤ length (with_length off old) = omega (arith, more, resized_length off old) in
     ap (take m) (append_assoc (with_length off old) new (drop (off + length new) old))

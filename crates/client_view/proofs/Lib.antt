@@ -2,6 +2,7 @@ pub mod Agreement
 pub mod Alone
 pub mod Copied
 pub mod Forgetting
+pub mod ForgottenBlocks
 pub mod Inodes
 pub mod Joined
 pub mod Known
@@ -9,6 +10,7 @@ pub mod CopiedNodes
 pub mod Numbers
 pub mod Preparable
 pub mod Put
+pub mod Reached
 pub mod Room
 pub mod Stays
 pub mod Tables
@@ -19,4 +21,5 @@ pub mod Agreeing
 pub mod Behind
 pub mod Buffers
 pub mod Laid
+pub mod LeftBlocks
 pub mod Steps

@@ -7,6 +7,8 @@ use Rattle.world_invariant.specs.call_effects.NodeView.{NodeView}
 use Rattle.client_plan.specs.declared.outcome.DescriptorChange.{DescriptorChange}
 use Rattle.client_plan.specs.CallPlan.{own_changed}
 use Rattle.record_validation.specs.KnownNodes.{known_after}
+use Rattle.std.specs.List.{filter}
+use Rattle.block_cache.specs.CacheList.{Block}
 use Rattle.client_view.specs.KnowledgeChanges.{without_blocks}
 
 -- whether it is the number of the node that is made
@@ -38,3 +40,13 @@ knows_logged k es made change = with_effects (with_change (with_made k made) cha
 abbrev pub put_over : Knowledge → ℕ → Option (Option NodeView) → Knowledge
 put_over k i None = k
 put_over k i (Some copy) = with_copy (without_blocks k i) i copy
+
+-- ---- the blocks that stay in the cache, in their order
+
+-- those that are not of the node that is made
+abbrev pub without_made : List Block → Option ℕ → List Block
+without_made bs made = filter (λ b. not (is_made made b.inode)) bs
+
+-- those of what effects do not touch
+abbrev pub without_touched : List Block → List Effect → List Block
+without_touched bs es = filter (λ b. not (is_among b.inode (touches es))) bs

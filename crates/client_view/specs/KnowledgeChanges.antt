@@ -1,12 +1,18 @@
 -- What a client knows once it has forgotten some of it, used a number, or opened or closed a file.
-use Rattle.std.specs.Prelude.{ℕ, ◌==◌, ◌&&◌, not, Option, None, if◌then◌else◌}
+use Rattle.std.specs.Prelude.{ℕ, ◌==◌, ◌&&◌, not, List, Option, None, if◌then◌else◌}
 use Rattle.client_plan.specs.posix_calls.Tree.{set_own}
 use Rattle.client_plan.specs.posix_calls.declared.descriptor.Descriptor.{Descriptor}
+use Rattle.client_plan.specs.file_graph.Graph.{is_among, touches}
+use Rattle.client_plan.specs.file_graph.declared.effect.Effect.{Effect}
 use Rattle.world_invariant.specs.call_effects.Knowledge.{Knowledge}
 
 -- no block of an inode
 abbrev pub without_blocks : Knowledge → ℕ → Knowledge
 without_blocks k i = record k { blocks = λ j b. if j == i then None else k.blocks j b }
+
+-- no block of what effects touch
+abbrev pub without_blocks_at : Knowledge → List Effect → Knowledge
+without_blocks_at k es = record k { blocks = λ i b. if is_among i (touches es) then None else k.blocks i b }
 
 -- no copy of an inode, and no block of it
 abbrev pub without_inode : Knowledge → ℕ → Knowledge

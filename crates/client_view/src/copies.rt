@@ -11,11 +11,12 @@ ghost use Rattle.client_plan.specs.posix_calls.Own.{own_of};
 ghost use Rattle.client_plan.specs.posix_calls.Tree.{set_own};
 ghost use Rattle.client_view.specs.KnowledgeTables.{copy_at, knows, size_known};
 ghost use Rattle.client_view.specs.BlockPut.{IsBlockLong};
-ghost use Rattle.client_view.specs.KnowledgeChanges.{with_descriptor, without_blocks, without_inode, without_granted};
+ghost use Rattle.client_view.specs.KnowledgeChanges.{with_descriptor, without_blocks, without_blocks_at, without_inode, without_granted};
+ghost use Rattle.client_view.specs.AfterRecord.{without_touched};
 
 use crate::slots::{Slot, forget_slot, size_at, unknown_slots};
 use block_cache::{BLOCK_SIZE, Blocks};
-use client_plan::{Bytes, Descriptor, OwnDescriptors};
+use client_plan::{Bytes, Descriptor, Effect, OwnDescriptors};
 use record_validation::NodeSummary;
 use std::alloc::{AllocError, Global};
 use std::marker::Model;
@@ -119,6 +120,17 @@ impl ClientCopies {
         ensures rest { self.new ≡ record self.old { blocks = without_file inode self.old.blocks } }
     {
         self.blocks.drop_file(inode)
+    }
+
+    /// The blocks of what effects touch go, and the copies stay. It takes no memory.
+    pub fn forget_touched(&mut self, effects: &[Effect])
+        ensures known { knows self.new ≡ without_blocks_at (knows self.old) effects.now }
+        ensures order { self.new.blocks ≡ without_touched self.old.blocks effects.now }
+        ensures rest { self.new ≡ record self.old { blocks = self.new.blocks } }
+    {
+        for effect in effects {
+            self.forget_blocks(effect.subject());
+        }
     }
 
     /// These numbers are granted, in place of those that were. It takes no memory.

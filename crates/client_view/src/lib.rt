@@ -14,7 +14,7 @@
 //! enters no name, as a write has, nothing has to be made beside, since no memory is wanted: the commit changes the copy in its place.
 //!
 //! The kernel tells a client what stands in the shared graph, and the mark up to which the client's records are digested there. What the client logged behind the mark is not
-//! in it: before what was fetched goes into the copies, those records are laid over it, over a node (`node_after`) or over a block of a file (`block_after`). What that comes to is
+//! in it: before what was fetched goes into the copies, those records are laid over it, over a node (`node_after`) or over a block of a file (`OwnRecords::block_after`, which looks only at the effects of records that may change it). What that comes to is
 //! what the graph has after the records (`specs/After.antt`), so that the copies agree with the whole again, as the laws tell. A client can't read the region that it handed over
 //! while it is away, so it keeps its records in memory too (`OwnRecords`): those of that region, until all of them are digested, and those of the region that it writes.
 //!
@@ -35,9 +35,9 @@ mod own_change;
 mod own_record_laws;
 mod own_records;
 mod record_commit;
+mod record_reach;
 mod slots;
 
-pub use blocks::block_after;
 pub use copies::ClientCopies;
 pub use laws::{
     committed_change_adds_no_more_than_the_effects, forgetting_leaves_no_more,
@@ -55,6 +55,6 @@ pub use own_records::OwnRecords;
 pub use client_plan::{
     DescriptorChange, Mode, Need, Outcome, PlainWrite, Supplies, answered_call_is_a_step,
     logged_call_is_a_step, plain_write, plain_write_is_logged, plan_call, record_of_write,
-    served_need_is_lacking_no_longer,
+    room_for_the_longest_record_is_enough, served_need_is_lacking_no_longer,
 };
 pub use record_validation::{NodeCounts, NodeSummary};

@@ -1,4 +1,4 @@
-ghost use Rattle.std.specs.Prelude.{◌≡◌, [], ◌∷◌, ◌++◌, ◌+◌, ◌^◌, ◌<◌, ◌≤◌, true, false, IfOk, OnErr, OnOk, option_map, take, drop, length};
+ghost use Rattle.std.specs.Prelude.{◌≡◌, [], ◌∷◌, ◌++◌, ◌+◌, ◌^◌, ◌<◌, ◌≤◌, true, false, IfOk, OnErr, OnOk, option_map, take, drop, length, vec_capacity};
 ghost use Rattle.std.specs.List.{AllByRecursion};
 ghost use Rattle.std.specs.Option.{ForSome};
 ghost use Rattle.client_plan.specs.posix_calls.declared.limits.TheConstants.{UNIT_BYTES};
@@ -8,6 +8,7 @@ ghost use Rattle.client_view.specs.RecordLists.{IsEmptied, beyond};
 
 use crate::blocks::block_after;
 use crate::nodes::node_after;
+use crate::record_reach::RecordReach;
 use client_plan::{Effect, Effects, Record};
 use record_validation::NodeSummary;
 use std::alloc::{AllocError, Global};
@@ -20,21 +21,25 @@ pub struct OwnRecords {
     alloc: Global,
     away: Vec<Record>,
     current: Vec<Record>,
+    // what each of them reaches
+    away_reaches: Vec<RecordReach>,
+    current_reaches: Vec<RecordReach>,
     // records that were digested last: their lists of effects are empty, and keep their memory for the records to come
     emptied: Vec<Record>,
 }
 
 impl Model for OwnRecords {
-    ghost use Rattle.std.specs.Prelude.{nat_lt, length, vec_capacity};
+    ghost use Rattle.std.specs.Prelude.{◌&&◌, nat_lt, length, vec_capacity};
     ghost use Rattle.std.specs.List.{AllByRecursion};
     ghost use Rattle.client_plan.specs.log_record.Grammar.{IsRecord};
     ghost use Rattle.client_view.specs.RecordLists.{IsEmptied, Kept};
+    ghost use Rattle.client_view.specs.RecordReach.{AreReaches};
 
     ghost Value = { Kept };
 
-    ghost view = { λ o. record { away = o.away.items; current = o.current.items; has_room = nat_lt (length o.current.items) (vec_capacity o.current) } };
+    ghost view = { λ o. record { away = o.away.items; current = o.current.items; has_room = nat_lt (length o.current.items) (vec_capacity o.current) && nat_lt (length o.current_reaches.items) (vec_capacity o.current_reaches) } };
 
-    ghost invariant = { λ o. AllByRecursion IsRecord o.away.items × AllByRecursion IsRecord o.current.items × AllByRecursion IsEmptied o.emptied.items };
+    ghost invariant = { λ o. AllByRecursion IsRecord o.away.items × AllByRecursion IsRecord o.current.items × AllByRecursion IsEmptied o.emptied.items × AreReaches o.away_reaches.items o.away.items × AreReaches o.current_reaches.items o.current.items };
 }
 
 impl OwnRecords {
@@ -47,6 +52,8 @@ impl OwnRecords {
             alloc,
             away: Vec::new(alloc),
             current: Vec::new(alloc),
+            away_reaches: Vec::new(alloc),
+            current_reaches: Vec::new(alloc),
             emptied: Vec::new(alloc),
         }
     }
@@ -75,7 +82,8 @@ impl OwnRecords {
         ensures refused { OnErr result (self.old.has_room ≡ false) }
         ensures few { length self.old.away + length self.old.current + 1 < 2 ^ 64 }
     {
-        self.current.reserve(1)
+        self.current.reserve(1)?;
+        self.current_reaches.reserve(1)
     }
 
     /// A record is in the client's log. It takes no memory.
@@ -85,10 +93,9 @@ impl OwnRecords {
         ensures pushed { self.new.current ≡ self.old.current ++ logged ∷ [] }
         ensures rest { self.new.away ≡ self.old.away }
     {
-        match self.current.push(logged) {
-            Ok(()) => {}
-            Err(_) => unreachable!(),
-        }
+        let reach = RecordReach::of(logged.effects.as_slice());
+        push_within(&mut self.current_reaches, reach);
+        push_within(&mut self.current, logged);
     }
 
     /// The region that is written is handed over, and the client goes on in the other one, of which all records are digested. It takes no memory.
@@ -97,7 +104,9 @@ impl OwnRecords {
         ensures current { self.new.current ≡ [] }
     {
         mem::swap(&mut self.away, &mut self.current);
+        mem::swap(&mut self.away_reaches, &mut self.current_reaches);
         self.current.clear();
+        self.current_reaches.clear();
     }
 
     /// The region that was handed over is back, and all its records are digested. Their lists of effects are kept, emptied, and those that were kept before are freed. It takes
@@ -107,6 +116,7 @@ impl OwnRecords {
     {
         mem::swap(&mut self.emptied, &mut self.away);
         self.away.clear();
+        self.away_reaches.clear();
         empty_lists(self.alloc, &mut self.emptied);
     }
 
@@ -156,10 +166,48 @@ impl OwnRecords {
         ensures within { ForSome result (λ n. n ≤ UNIT_BYTES) }
     {
         if is_current {
-            return block_after(records_from(&self.current, done), inode, block, buffer, len);
+            return self.after_current(done, inode, block, buffer, len);
         }
-        let before = block_after(records_from(&self.away, done), inode, block, buffer, len);
-        block_after(&self.current, inode, block, buffer, before)
+        let before = self.after_away(done, inode, block, buffer, len);
+        self.after_current(0, inode, block, buffer, before)
+    }
+
+    // A block after the records behind so many of the region that was handed over.
+    fn after_away(
+        &self,
+        done: usize,
+        inode: u32,
+        block: u32,
+        buffer: &mut [u8],
+        len: Option<usize>,
+    ) -> Option<usize>
+        requires whole { length buffer.old ≡ UNIT_BYTES }
+        requires within { ForSome len (λ n. n ≤ UNIT_BYTES) }
+        ensures laid { option_map (λ n. take n buffer.new) result ≡ block_laid (drop done self.now.away) inode block (option_map (λ n. take n buffer.old) len) }
+        ensures within { ForSome result (λ n. n ≤ UNIT_BYTES) }
+    {
+        let records = records_from(&self.away, done);
+        let reaches = reaches_from(&self.away_reaches, done);
+        block_after(records, reaches, inode, block, buffer, len)
+    }
+
+    // A block after the records behind so many of the region that is written.
+    fn after_current(
+        &self,
+        done: usize,
+        inode: u32,
+        block: u32,
+        buffer: &mut [u8],
+        len: Option<usize>,
+    ) -> Option<usize>
+        requires whole { length buffer.old ≡ UNIT_BYTES }
+        requires within { ForSome len (λ n. n ≤ UNIT_BYTES) }
+        ensures laid { option_map (λ n. take n buffer.new) result ≡ block_laid (drop done self.now.current) inode block (option_map (λ n. take n buffer.old) len) }
+        ensures within { ForSome result (λ n. n ≤ UNIT_BYTES) }
+    {
+        let records = records_from(&self.current, done);
+        let reaches = reaches_from(&self.current_reaches, done);
+        block_after(records, reaches, inode, block, buffer, len)
     }
 }
 
@@ -179,6 +227,24 @@ fn empty_list(alloc: Global, effects: &mut Effects)
     let mut list = mem::replace(effects, none).into_vec();
     list.clear();
     *effects = Effects::from_vec(list);
+}
+
+// Puts something behind a list that has room for it.
+fn push_within<T: Drop>(list: &mut Vec<T>, item: T)
+    requires { length list.old.items < vec_capacity list.old }
+    ensures { list.new.items ≡ list.old.items ++ item ∷ [] }
+{
+    match list.push(item) {
+        Ok(()) => {}
+        Err(_) => unreachable!(),
+    }
+}
+
+// What the records behind so many reach.
+fn reaches_from(reaches: &[RecordReach], done: usize) -> &[RecordReach]
+    ensures { result.now ≡ drop done reaches.now }
+{
+    &reaches[done.min(reaches.len())..]
 }
 
 // The records behind so many.

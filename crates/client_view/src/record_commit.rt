@@ -1,5 +1,5 @@
 //! What a client knows after a record of its own.
-ghost use Rattle.std.specs.Prelude.{◌≡◌, ◌==◌, ◌∷◌, [], ℕ, true, false, None, IfOk, OnErr, if◌then◌else◌};
+ghost use Rattle.std.specs.Prelude.{◌≡◌, ◌==◌, ◌⊎◌, ◌∷◌, [], ℕ, true, false, None, IfOk, OnErr, if◌then◌else◌};
 ghost use Rattle.std.specs.Option.{ForSome};
 ghost use Rattle.std.specs.List.{AllByRecursion};
 ghost use Rattle.std.specs.Ordering.{nat_cmp};
@@ -9,7 +9,8 @@ ghost use Rattle.client_plan.specs.log_record.Grammar.{Fits, IsRecord};
 ghost use Rattle.client_plan.specs.CallPlan.{OpensInRange};
 ghost use Rattle.record_validation.specs.Memory.{is_enter};
 ghost use Rattle.client_view.specs.KnowledgeTables.{knows};
-ghost use Rattle.client_view.specs.AfterRecord.{knows_logged, put_over, with_change, with_effects, with_made};
+ghost use Rattle.block_cache.specs.CacheList.{without_file};
+ghost use Rattle.client_view.specs.AfterRecord.{knows_logged, put_over, with_change, with_effects, with_made, without_made, without_touched};
 ghost use Rattle.client_view.specs.Preparation.{AreReady, IsPreparedFor, acts_in_place, any_known, nodes_after};
 
 use crate::copies::ClientCopies;
@@ -53,12 +54,13 @@ impl ClientCopies {
         })
     }
 
-    /// The record of a change is in the client's log: the client knows what it left. It takes no memory, and cannot fail. The change stays where it is, with its record, which
+    /// The record of a change is in the client's log: the client knows what it left, and the blocks of what it did not touch stay in their order. It takes no memory, and cannot fail. The change stays where it is, with its record, which
     /// is the caller's to take; what was ready for its commit is used.
     #[inline(always)]
     pub fn commit(&mut self, change: &mut OwnChange)
         requires { IsPreparedFor (knows self.old) change.old }
         ensures known { knows self.new ≡ knows_logged (knows self.old) change.old.logged.effects change.old.made change.old.descriptor }
+        ensures order { self.new.blocks ≡ without_touched (without_made self.old.blocks change.old.made) change.old.logged.effects }
         ensures entry { change.new.logged ≡ change.old.logged }
     {
         let nodes = mem::replace(&mut change.nodes, NodeCopies::InPlace);
@@ -70,11 +72,15 @@ impl ClientCopies {
     // The number of a node that is made is used, and nothing stands there yet.
     fn use_made(&mut self, made: Option<u32>)
         requires { ForSome made (λ n. is_inode n ≡ true) }
-        ensures { knows self.new ≡ with_made (knows self.old) made }
+        ensures known { knows self.new ≡ with_made (knows self.old) made }
+        ensures order { self.new.blocks ≡ without_made self.old.blocks made }
     {
-        if let Some(number) = made {
-            self.put_view(number, None);
-            self.use_number(number);
+        match made {
+            Some(number) => {
+                self.put_view(number, None);
+                self.use_number(number);
+            }
+            None => {}
         }
     }
 
@@ -93,7 +99,8 @@ impl ClientCopies {
     fn put_nodes(&mut self, effects: &[Effect], nodes: NodeCopies)
         requires fit { AllByRecursion Fits effects.now }
         requires ready { AreReady nodes effects.now (knows self.old).copies }
-        ensures { knows self.new ≡ with_effects (knows self.old) effects.now }
+        ensures known { knows self.new ≡ with_effects (knows self.old) effects.now }
+        ensures order { self.new.blocks ≡ without_touched self.old.blocks effects.now }
     {
         match nodes {
             NodeCopies::InPlace => self.act_alone(effects),
@@ -105,7 +112,8 @@ impl ClientCopies {
     fn act_alone(&mut self, effects: &[Effect])
         requires fit { AllByRecursion Fits effects.now }
         requires alone { acts_in_place effects.now ≡ true }
-        ensures { knows self.new ≡ with_effects (knows self.old) effects.now }
+        ensures known { knows self.new ≡ with_effects (knows self.old) effects.now }
+        ensures order { self.new.blocks ≡ without_touched self.old.blocks effects.now }
     {
         match effects {
             [effect] => self.act_in_place(effect),
@@ -117,18 +125,30 @@ impl ClientCopies {
     fn act_in_place(&mut self, effect: &Effect)
         requires fits { Fits effect.now }
         requires room { is_enter effect.now ≡ false }
-        ensures { knows self.new ≡ with_effects (knows self.old) (effect.now ∷ []) }
+        ensures known { knows self.new ≡ with_effects (knows self.old) (effect.now ∷ []) }
+        ensures order { self.new.blocks ≡ without_touched self.old.blocks (effect.now ∷ []) }
     {
         let inode = effect.subject();
         act_on(self.alloc, &mut self.copies[inode as usize], effect);
         self.blocks.drop_file(inode);
     }
 
-    // The copies of what effects touch are put in the place of those before them.
-    fn put_several(&mut self, effects: &[Effect], mut nodes: BTreeMap<u32, Option<NodeSummary>>)
+    // The copies of what effects touch are put in the place of those before them, and no block of it stays.
+    fn put_several(&mut self, effects: &[Effect], nodes: BTreeMap<u32, Option<NodeSummary>>)
         requires fit { AllByRecursion Fits effects.now }
         requires nodes { (i : ℕ) → get nat_cmp nodes i ≡ nodes_after effects.now (knows self.old).copies i }
-        ensures { knows self.new ≡ with_effects (knows self.old) effects.now }
+        ensures known { knows self.new ≡ with_effects (knows self.old) effects.now }
+        ensures order { self.new.blocks ≡ without_touched self.old.blocks effects.now }
+    {
+        self.put_each(effects, nodes);
+        self.forget_touched(effects);
+    }
+
+    fn put_each(&mut self, effects: &[Effect], mut nodes: BTreeMap<u32, Option<NodeSummary>>)
+        requires fit { AllByRecursion Fits effects.now }
+        requires nodes { (i : ℕ) → get nat_cmp nodes i ≡ nodes_after effects.now (knows self.old).copies i }
+        ensures known { knows self.new ≡ with_effects (knows self.old) effects.now }
+        ensures order { without_touched self.new.blocks effects.now ≡ without_touched self.old.blocks effects.now }
     {
         for effect in effects {
             let inode = effect.subject();
@@ -139,7 +159,8 @@ impl ClientCopies {
 
     fn put_over(&mut self, inode: u32, node: Option<Option<NodeSummary>>)
         requires { is_inode inode ≡ true }
-        ensures { knows self.new ≡ put_over (knows self.old) inode node }
+        ensures known { knows self.new ≡ put_over (knows self.old) inode node }
+        ensures order { (self.new.blocks ≡ self.old.blocks) ⊎ (self.new.blocks ≡ without_file inode self.old.blocks) }
     {
         if let Some(node) = node {
             self.put_view(inode, node);

@@ -1,4 +1,4 @@
-//! What records weigh at most, told without a set of their blocks.
+//! What records weigh at most, computed without a set of their blocks.
 
 ghost use Rattle.std.specs.Prelude.{◌≡◌, ◌<◌, ◌++◌, ◌∷◌, List, [], true, IsTrue, IfErr, IfOk, OnErr, OnOk, length};
 ghost use Rattle.std.specs.List.{range_with_len};
@@ -18,7 +18,7 @@ use std::collections::BTreeSet;
 #[derive(Drop)]
 pub struct Estimate {
     inodes: BTreeSet<u32>,
-    // Counted up to `CHUNK_IMAGES`: so many never fit.
+    // Counted up to `CHUNK_IMAGES`: as many never fit.
     entries: usize,
     blocks: u64,
 }
@@ -74,7 +74,7 @@ fn blocks_of(effect: &Effect) -> u64
     }
 }
 
-// How many blocks so many bytes from an offset on lie in.
+// How many blocks `count` bytes from an offset on lie in.
 fn blocks_in(at: u64, count: u64) -> u64
     ensures { result ≡ length (span at count) }
 {

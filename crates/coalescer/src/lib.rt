@@ -1,10 +1,10 @@
 //! From the records of a log to one change of many inodes.
 //!
-//! `coalesce` makes of a list of records the change that their effects come to, in which each inode and each block of a file stands at most
+//! `coalesce` makes of a list of records the change that sums up their effects, in which each inode and each block of a file stands at most
 //! once, so that what was overwritten never reaches the shared media. What it makes of a graph, also of one that is no tree of files,
 //! is what the records make of it, one after the other.
 //!
-//! A batch of the shared media takes so many records of a list at once: `longest_run` counts them by their weight, which is a matter of the
+//! `longest_run` counts how many records of a list a batch of the shared media takes at once, by their weight, which is a matter of the
 //! records alone (`specs/Weight.antt`).
 //!
 //! A record costs by its bytes and its effects, and by the logarithm of what the records before it touch, however many they are; an entry

@@ -7,7 +7,7 @@ use graph_change::GraphChange;
 use log_record::Record;
 use std::alloc::{AllocError, Global};
 
-/// What the effects of these records come to, one after the other: a change that makes of every graph what they make of it, of the inodes
+/// Sums up the effects of these records, one after the other: a change that makes of every graph what they make of it, of the inodes
 /// that they are on and no others, and of no block of a file that they leave alone. Each inode stands in it once, and so does each block.
 /// An error is want of memory: no memory is asked for where no record has an effect. A write that would end past all numbers finds none;
 /// a record that has a spelling holds no such write.

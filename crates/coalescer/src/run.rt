@@ -21,7 +21,7 @@ pub fn longest_run(alloc: Global, records: &[Record]) -> Result<usize, AllocErro
     counted_run(alloc, records)
 }
 
-// The same, where each block has to be told from the others.
+// The same, where each block has to be distinguished from the others.
 fn counted_run(alloc: Global, records: &[Record]) -> Result<usize, AllocError>
     ensures exact { IfOk result (IsLongestRun records.now) }
     ensures memory { IfErr result (λ _. 0 < length (effects_in records.now)) }

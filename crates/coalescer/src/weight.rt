@@ -23,7 +23,7 @@ pub const CHUNK_BLOCKS: usize = 512;
 #[derive(Drop)]
 pub struct Weight {
     inodes: BTreeSet<u32>,
-    // Counted up to `CHUNK_IMAGES`: so many never fit.
+    // Counted up to `CHUNK_IMAGES`: as many never fit.
     entries: usize,
     blocks: BTreeSet<(u32, u64)>,
 }
@@ -67,7 +67,7 @@ impl Weight {
     }
 }
 
-// One more, if it is one.
+/// Adds 1 to a count of entries if `is_one`; from `CHUNK_IMAGES` on the count stays.
 pub fn with_one_more(entries: usize, is_one: bool) -> usize
     ensures { result ≡ (if is_one && nat_lt entries CHUNK_IMAGES then entries + 1 else entries) }
 {
@@ -78,6 +78,8 @@ pub fn with_one_more(entries: usize, is_one: bool) -> usize
     }
 }
 
+/// Answers whether 4 images an inode, 2 an entry and one mark are at most `CHUNK_IMAGES`, and the blocks at most
+/// `CHUNK_BLOCKS`.
 pub fn are_few(inodes: usize, entries: usize, blocks: usize) -> bool
     ensures { result ≡ (nat_le (4 * inodes + 2 * entries + 1) CHUNK_IMAGES && nat_le blocks CHUNK_BLOCKS) }
 {
@@ -87,6 +89,7 @@ pub fn are_few(inodes: usize, entries: usize, blocks: usize) -> bool
         && blocks <= CHUNK_BLOCKS
 }
 
+/// Answers whether the effect adds or removes an entry of a directory.
 pub fn is_entry(effect: &Effect) -> bool
     ensures { result ≡ is_entry effect.now }
 {
@@ -114,7 +117,7 @@ fn add_last(blocks: &mut BTreeSet<(u32, u64)>, inode: u32, size: u64) -> Result<
     Ok(())
 }
 
-// Adds the blocks that so many bytes from an offset on lie in. No sum passes all numbers, also where the bytes would end past them.
+// Adds the blocks that `count` bytes from an offset on lie in. No sum passes all numbers, also where the bytes would end past them.
 fn add_span(
     blocks: &mut BTreeSet<(u32, u64)>,
     inode: u32,
@@ -130,7 +133,7 @@ fn add_span(
     add_blocks(blocks, inode, first, last_of(at, count - 1) + 1)
 }
 
-// The block that lies so many bytes behind an offset.
+/// Returns the number of the block in which byte `at + behind` of a file lies, also if that sum is past all `u64`.
 pub fn last_of(at: u64, behind: u64) -> u64
     ensures is { result ≡ (at + behind) / UNIT_BYTES }
     ensures small { result < 2 ^ 63 }

@@ -3,7 +3,7 @@ use Rattle.std.specs.Prelude.{◌≡◌, ℕ, ◌+◌, ◌%◌, ◌^◌, ◌<◌
 use Rattle.std.specs.List.{list_all}
 use Rattle.update_log.specs.RecordCounts.{next_generation}
 
--- the generation so many after this one: they are counted modulo 2^64
+-- the generation n after generation g: they are counted modulo 2^64
 abbrev pub later : ℕ → ℕ → ℕ
 later n g = (g + n) % 2 ^ 64
 

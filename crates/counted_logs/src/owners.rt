@@ -65,7 +65,7 @@ impl Owners {
     }
 }
 
-// A table of so many numbers, of which no client's records touch one.
+// A table of `entries` numbers, of which no client's records touch one.
 fn empty_table(alloc: Global, entries: usize) -> Result<Vec<Option<u32>>, AllocError>
     ensures none { IfOk result (λ clients. (i : ℕ) → owner clients.items i ≡ None) }
     ensures len { IfOk result (λ clients. length clients.items ≡ entries) }
@@ -110,8 +110,8 @@ fn first_shared_by(clients: &[Option<u32>], client: u32, effects: &[Effect]) -> 
 fn first_shared(clients: &[Option<u32>], client: u32, records: &[Record]) -> Option<SharedInode>
     ensures { IsFirstShared (owner clients.now) client (touched_inodes records.now) result }
 {
-    for entry in records {
-        if let Some(shared) = first_shared_by(clients, client, entry.effects.as_slice()) {
+    for logged in records {
+        if let Some(shared) = first_shared_by(clients, client, logged.effects.as_slice()) {
             return Some(shared);
         }
     }
@@ -143,7 +143,7 @@ fn own_records(clients: &mut [Option<u32>], client: u32, records: &[Record])
     requires { length clients.old ≡ MAX_INODE + 1 }
     ensures { AreAdded (owner clients.old) (owner clients.new) client records.now }
 {
-    for entry in records {
-        own_effects(clients, client, entry.effects.as_slice());
+    for logged in records {
+        own_effects(clients, client, logged.effects.as_slice());
     }
 }

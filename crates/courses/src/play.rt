@@ -17,9 +17,11 @@ pub fn play_all<E, O: Drop, S: Steps<E, O>>(
     let mut outcomes = Vec::new(alloc);
     // All room is taken first: once events are played, their outcomes are not lost.
     outcomes.reserve(events.len())?;
+    // For the proof: what a stop before the first event leaves is recovered.
     steps.left_now();
     for event in events {
         let outcome = steps.play_event(event);
+        // For the proof: what a stop behind the event leaves is recovered.
         steps.left_now();
         match outcomes.push(outcome) {
             Ok(()) => {}

@@ -57,6 +57,7 @@ fn end_of(sealed: &SealedLog, chunk: &Chunk) -> usize
     ensures end { result ≡ sealed.now.done + chunk.now.count }
     ensures within { result ≤ length sealed.now.records }
 {
+    // For the proof: no more are digested than it has.
     sealed.invariant();
     sealed.digested_count() as usize + chunk.count
 }
@@ -81,6 +82,7 @@ fn digest_next<M: Media>(
     ensures digests { DigestsOrStays M.Media area.old area.new result }
     ensures at_most { MakesFewCalls area.old.geometry (disk M.Media area.old) (changes_of chunk.now.change) (M.moment area.old.media) (M.moment area.new.media) (M.left area.old.media) (M.left area.new.media) }
 {
+    // For the proof: a stop leaves what opens as before, and what holds of a sealed log.
     area.left_now();
     sealed.invariant();
     let done = sealed.digested_count() as usize;

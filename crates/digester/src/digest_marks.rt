@@ -85,6 +85,7 @@ pub fn moved_mark_leaves_the_rest()
     ensures { (g done n : ℕ) (regions : ℕ → List ℕ) → 0 < n → done + n ≤ length (records_in regions g)
         → counted_records (mark_after g (done + n) (length (records_in regions g))).generation (mark_after g (done + n) (length (records_in regions g))).done regions ≡ drop n (counted_records g done regions) }
 {
+    // For the proof: two laws of what counts, from which this one follows.
     digest_counts_fewer();
     wipe_counts_nothing();
 }

@@ -135,6 +135,7 @@ impl SealedLog {
     pub fn stands_at(&self, marks: &Marks) -> bool
         ensures exact { (result ≡ true) ↔ StandsAt self.now marks.now }
     {
+        // For the proof: no more are digested than it has.
         self.invariant();
         let wanted = mark_after(self.generation(), self.digested_count(), self.count());
         is_mark(mark_of(marks, self.client()), wanted)

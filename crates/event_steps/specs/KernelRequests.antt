@@ -17,7 +17,7 @@ use Rattle.event_steps.specs.declared.outcome.Outcome.{Outcome}
 use Rattle.event_steps.specs.Outcomes.{noted_refusals, request_outcome}
 use Rattle.event_steps.specs.View.{SeatView}
 
--- The client was told what the kernel answered, and a refusal is kept until its next reply.
+-- The client got what the kernel answered, and a refusal is kept until its next reply.
 pub record HasAsked {M : Type 0} (old : SeatView M) (answer : Result (Unit {0}) Denied) (o : Outcome) (new : SeatView M) : Type 0 where
   pub told : o ≡ request_outcome answer
   pub rest : new ≡ record old { client = new.client; refused = noted_refusals answer old.refused }

@@ -48,7 +48,7 @@ pub record IsReclaimedIn {M : Type 0} (device : Ghosts M) (k : KernelView M) (i 
   pub in_use : IsErrOf answer (kernel.Refused reclaims.InUse) → IsUnused (graph k.area.geometry (disk device k.area)) k.book i → ⊥
   -- what is no such file is not touched, whatever fails
   pub untouched : (IsUnused (graph k.area.geometry (disk device k.area)) k.book i → ⊥) → Unmoved (device.moment k.area.media) (device.moment after.area.media) (device.seen k.area.media) (device.seen after.area.media) (device.left k.area.media) (device.left after.area.media)
-  -- a pin is told before any device is asked
+  -- a pin is reported before any device is asked
   pub pinned : k.area.failed ≡ false → is_pinned k.book i ≡ true → IsErrOf answer (kernel.Refused reclaims.InUse) × (after ≡ k)
   pub memory : IsErrOf answer (kernel.Refused reclaims.Memory) → WantsMemory k.area.geometry (disk device k.area) i ⊎ IsNameless (graph k.area.geometry (disk device k.area) i)
   pub book : after.book ≡ k.book

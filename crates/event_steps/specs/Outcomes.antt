@@ -1,4 +1,4 @@
--- How what came of an event is told.
+-- The outcomes of events.
 use Rattle.std.specs.Prelude.{ℕ, Option, Some, None, Result, Ok, Err}
 use Rattle.libfs.specs.posix_calls.declared.call.Reply.{Reply}
 use Rattle.libfs.specs.declared.denial.Denied.{Denied}

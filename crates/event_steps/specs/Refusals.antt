@@ -26,7 +26,7 @@ has_refusal r denied.KernelFailed = r.failed
 has_refusal r denied.Memory = r.memory
 has_refusal r denied.Turns = false
 
--- how what a client was denied is told
+-- the refusal for what a client was denied
 abbrev pub refusal_of : Denied → Refusal
 refusal_of denied.NoUnits = refusals.NoUnits
 refusal_of denied.NoInode = refusals.NoInode

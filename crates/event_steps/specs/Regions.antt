@@ -125,7 +125,7 @@ refusal_to_read logs.DeviceFault = refusals.DeviceFault
 refusal_to_read logs.NotWiped = refusals.DeviceFault
 refusal_to_read logs.RegionFull = refusals.DeviceFault
 
--- how the kernel's answer to a region that it does not accept is told
+-- the outcome for the kernel's answer to a region that it does not accept
 abbrev pub refusal_to_accept : KernelError AcceptError → Refusal
 refusal_to_accept kernel.Failed = refusals.KernelFailed
 refusal_to_accept (kernel.Refused e) = refusals.BadLog
@@ -154,7 +154,7 @@ pub record DigestsNext {M : Type 0} (device : Ghosts M) (k : KernelView M) (x : 
   pub law : answer ≡ Ok digestion.Digested → units_in (undone x) ≤ units_of k.book x.client → charge (shared_by device k) + out_of k.book ≤ k.area.geometry.units → charge (shared_by device after) + out_of after.book ≤ after.area.geometry.units
   pub stays : answer ≢ Ok digestion.Digested → (y ≡ x) × (after.book ≡ k.book)
   pub unasked : IfOk answer (λ d. d ≢ digestion.Digested → after ≡ k)
-  -- a log that does not stand at the mark, or is not accepted, is told as such, and as nothing else
+  -- a log that does not stand at the mark, or is not accepted, is reported as such, and as nothing else
   pub not_next : answer ≡ Ok digestion.NotNext → StandsAtMark x (disk device k.area) → ⊥
   pub not_accepted : answer ≡ Ok digestion.NotAccepted → StandsAtMark x (disk device k.area) × (HasAsManyWaiting k.book x → ⊥)
   pub only_next : IfErr answer (λ e. OnRefusal e (λ _. StandsAtMark x (disk device k.area) × HasAsManyWaiting k.book x))

@@ -12,6 +12,8 @@ use crate::refusals::Refusals;
 use libfs::{Call, Denied, Media, Now};
 
 impl<M: Media> ClientSlot<M> {
+    /// Starts a call: it is answered, or needs something, or its record is begun. `Idle`, with nothing changed, while an
+    /// earlier call of the client is pending.
     pub fn start(&mut self, call: &Call) -> Outcome
         ensures carries { Carries (is_pending self.old.client ≡ false) (IsStarted M.Media self.old call.now result self.new) (self.new ≡ self.old) result }
         ensures owner { owner_of self.new.client ≡ owner_of self.old.client }
@@ -29,6 +31,8 @@ impl<M: Media> ClientSlot<M> {
         }
     }
 
+    /// Makes one device call for the pending call. The fourth that succeeds answers it, and so does one that fails.
+    /// `Idle`, with nothing changed, if no call is pending.
     pub fn step(&mut self) -> Outcome
         ensures carries { Carries (is_pending self.old.client ≡ true) (IsStepped M.Media self.old result self.new) (self.new ≡ self.old) result }
         ensures owner { owner_of self.new.client ≡ owner_of self.old.client }
@@ -45,6 +49,8 @@ impl<M: Media> ClientSlot<M> {
         }
     }
 
+    /// Answers a call by the error for `why`, which the kernel has refused since the client's last reply. `Idle`, with
+    /// nothing changed, if it has refused no such thing, if a call is pending, and after a device of the client failed.
     pub fn deny(&mut self, call: &Call, why: Denied) -> Outcome
         ensures carries { Carries ((is_pending self.old.client ≡ false) × (self.old.client.log.failed ≡ false) × (has_refusal self.old.refused why ≡ true)) (IsDenied self.old why result self.new) (self.new ≡ self.old) result }
         ensures owner { owner_of self.new.client ≡ owner_of self.old.client }

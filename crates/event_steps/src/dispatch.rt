@@ -17,7 +17,7 @@ use std::alloc::Global;
 impl<M: Media + Drop> System<M> {
     /// Carries out one event.
     ///
-    /// `Idle`, with nothing changed, exactly where it has nothing to do (`specs/Turns.antt`); else what it makes of kernel, client and region away is told event by event (`specs/Effects.antt`). An event of a
+    /// `Idle`, with nothing changed, exactly where it has nothing to do (`specs/Turns.antt`); else what it makes of kernel, client and region away is stated event by event (`specs/Effects.antt`). An event of a
     /// client leaves all other clients as they were. Devices are moved by these alone: a step or a wipe step makes one device call at most, on a region of its client; a digest, a reclaim and a migration move the
     /// shared media.
     pub fn play(&mut self, event: &Event) -> Outcome

@@ -16,7 +16,9 @@ use crate::refusals::Refusals;
 use libfs::{Denied, Kernel, LeaseMode, Media, is_inode};
 
 impl<M: Media> ClientSlot<M> {
-    // A client that has begun a record has all that it needs, and gets no copy meanwhile.
+    /// Fetches a copy of what stands at an inode. `Idle`, with nothing changed, if the client holds no lease of the inode.
+    /// `Stepped`, with nothing changed, while a record is begun: its call has all that it needs. Refused with the copies as
+    /// they were: a device of the kernel failed before or fails now, or memory is wanting.
     pub fn fetch(&mut self, kernel: &mut Kernel<M>, inode: u32) -> Outcome
         ensures carries { Carries (IsHeld self.old.client inode) (IsFetched M.Media kernel.old self.old inode result self.new kernel.new) ((self.new ≡ self.old) × (kernel.new ≡ kernel.old)) result }
         ensures owner { owner_of self.new.client ≡ owner_of self.old.client }
@@ -31,6 +33,9 @@ impl<M: Media> ClientSlot<M> {
         note_answer(&mut self.refused, answer)
     }
 
+    /// Fetches `count` blocks of a file from block `first` on. `Idle`, with nothing changed, if the client holds no lease of
+    /// the inode. `Stepped`, with nothing changed, if `first + count` is 2^32 or more. Refused, with the blocks that came
+    /// before kept: a device of the kernel failed before or fails now, or memory is wanting.
     pub fn blocks(&mut self, kernel: &mut Kernel<M>, inode: u32, first: u32, count: u32) -> Outcome
         ensures carries { Carries (IsHeld self.old.client inode) (AreFetched M.Media kernel.old self.old inode first count result self.new kernel.new) ((self.new ≡ self.old) × (kernel.new ≡ kernel.old)) result }
         ensures owner { owner_of self.new.client ≡ owner_of self.old.client }
@@ -45,6 +50,9 @@ impl<M: Media> ClientSlot<M> {
         note_answer(&mut self.refused, answer)
     }
 
+    /// Has the kernel grant `units` units and `inodes` numbers for new nodes. Refused with nothing granted, in this order:
+    /// want of memory, a kernel that has failed, `NoUnits`, `NoInode`. More units than 32 bits count are refused before
+    /// memory is asked for: `NoUnits`, or of a failed kernel `KernelFailed`.
     pub fn refill(&mut self, kernel: &mut Kernel<M>, units: u32, inodes: u32) -> Outcome
         ensures carries { Carries ⊤ (IsRefilled M.Media kernel.old self.old units inodes result self.new kernel.new) ((self.new ≡ self.old) × (kernel.new ≡ kernel.old)) result }
         ensures owner { owner_of self.new.client ≡ owner_of self.old.client }
@@ -56,6 +64,9 @@ impl<M: Media> ClientSlot<M> {
         note_answer(&mut self.refused, answer)
     }
 
+    /// Gives back the units and numbers that the client has not used. `Idle`, with nothing changed, while a call is
+    /// pending and after a device of the client failed. Refused, with nothing given back, after a device of the kernel
+    /// failed.
     pub fn give_back(&mut self, kernel: &mut Kernel<M>) -> Outcome
         ensures carries { Carries ((is_pending self.old.client ≡ false) × (self.old.client.log.failed ≡ false)) (IsGivenBack M.Media kernel.old self.old result self.new kernel.new) ((self.new ≡ self.old) × (kernel.new ≡ kernel.old)) result }
         ensures owner { owner_of self.new.client ≡ owner_of self.old.client }
@@ -63,12 +74,14 @@ impl<M: Media> ClientSlot<M> {
         if self.client.is_pending() || self.client.has_failed() {
             return Outcome::Idle;
         }
-        // For its contract alone: where no device has failed a record is begun only while its call waits.
+        // For the proof: unless a device has failed, a record is begun only while its call is pending.
         self.client.own_records_are_held();
         let answer = self.client.give_back(kernel);
         note_answer(&mut self.refused, answer)
     }
 
+    /// Pins an inode. `Idle`, with nothing changed, for a number that is no inode's. Refused, with the pins as they
+    /// were: a kernel that has failed, want of memory.
     pub fn pin(&mut self, kernel: &mut Kernel<M>, inode: u32) -> Outcome
         ensures carries { Carries (HasWord inode) (IsPinned M.Media kernel.old self.old inode result self.new kernel.new) ((self.new ≡ self.old) × (kernel.new ≡ kernel.old)) result }
         ensures owner { owner_of self.new.client ≡ owner_of self.old.client }
@@ -80,6 +93,8 @@ impl<M: Media> ClientSlot<M> {
         note_answer(&mut self.refused, answer)
     }
 
+    /// Drops the client's pin of a file. `Idle`, with nothing changed, while a call is pending, if the client has no such
+    /// pin, and if it has the file open. Refused, with the pin kept, after a device of the kernel failed.
     pub fn unpin(&mut self, kernel: &mut Kernel<M>, inode: u32) -> Outcome
         ensures carries { Carries (CanBeUnpinned self.old.client inode) (IsUnpinned M.Media kernel.old self.old inode result self.new kernel.new) ((self.new ≡ self.old) × (kernel.new ≡ kernel.old)) result }
         ensures owner { owner_of self.new.client ≡ owner_of self.old.client }

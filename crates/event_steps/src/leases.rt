@@ -14,6 +14,8 @@ use crate::outcome::{Outcome, Refusal};
 use libfs::{LeaseMode, Media, Mode, is_inode};
 
 impl<M: Media> ClientSlot<M> {
+    /// Takes a lease of an inode, once. `Idle`, with nothing changed, if the client holds one, and for a number that is no
+    /// inode's. Refused as `Busy` if the lease word shows another client.
     pub fn lease(&mut self, inode: u32, mode: Mode) -> Outcome
         ensures carries { Carries (HasWord inode × (lease_of self.old.client.pass inode ≡ Free)) (IsLeased self.old inode mode result self.new) (self.new ≡ self.old) result }
         ensures owner { owner_of self.new.client ≡ owner_of self.old.client }
@@ -29,6 +31,8 @@ impl<M: Media> ClientSlot<M> {
         }
     }
 
+    /// Makes the client's read lease of an inode the write lease. `Idle`, with nothing changed, if it holds no read lease,
+    /// and for a number that is no inode's. Refused as `Busy` if the lease word shows another client.
     pub fn raise(&mut self, inode: u32) -> Outcome
         ensures carries { Carries (HasWord inode × (lease_of self.old.client.pass inode ≡ Reading)) (IsRaised self.old inode result self.new) (self.new ≡ self.old) result }
         ensures owner { owner_of self.new.client ≡ owner_of self.old.client }
@@ -44,6 +48,8 @@ impl<M: Media> ClientSlot<M> {
         }
     }
 
+    /// Gives the client's lease of an inode back. `Idle`, with nothing changed, if it holds none, if a record that is not
+    /// digested touches the inode, while a call is pending, and after a device of the client failed.
     pub fn give(&mut self, inode: u32) -> Outcome
         ensures carries { Carries (CanBeGiven self.old.client inode) (IsGiven self.old inode result self.new) (self.new ≡ self.old) result }
         ensures owner { owner_of self.new.client ≡ owner_of self.old.client }
@@ -55,6 +61,8 @@ impl<M: Media> ClientSlot<M> {
         }
     }
 
+    /// Asks client `of` for its lease of an inode. `Idle`, with nothing changed, for a number that is no inode's or no
+    /// client's.
     pub fn ask_back(&mut self, inode: u32, of: u32) -> Outcome
         ensures carries { Carries (HasWord inode × IsClient of) (IsAskedBack self.old inode of result self.new) (self.new ≡ self.old) result }
         ensures owner { owner_of self.new.client ≡ owner_of self.old.client }

@@ -6,6 +6,7 @@ ghost use Rattle.event_steps.specs.Media.{IsMovedIn, IsReclaimedIn};
 use crate::outcome::{Outcome, Refusal};
 use libfs::{Kernel, KernelError, Media, ReclaimError, RelocateError, Tier};
 
+/// Deletes a file that has no name and no pin. Refused: `KernelFailed`, `InUse`, `Memory`, `DeviceFault`.
 pub fn reclaim<M: Media>(kernel: &mut Kernel<M>, inode: u32) -> Outcome
     ensures { IsReclaimedIn M.Media kernel.old inode result kernel.new }
 {
@@ -20,6 +21,8 @@ pub fn reclaim<M: Media>(kernel: &mut Kernel<M>, inode: u32) -> Outcome
     }
 }
 
+/// Moves `count` blocks of a file, from its block `first` on, down to tier `to`. Refused: `KernelFailed`, `NotMapped`,
+/// `NoBlock`, `Memory`, `DeviceFault`.
 pub fn migrate<M: Media>(
     kernel: &mut Kernel<M>,
     inode: u32,

@@ -11,6 +11,8 @@ use crate::outcome::{Outcome, Refusal};
 use libfs::{LogError, Media, WipeProgress};
 
 impl<M: Media + Drop> ClientSlot<M> {
+    /// Seals the client's current region and keeps it to be digested. `Idle`, with nothing changed, if it can't be sealed
+    /// now. Refused as `Memory`, with nothing changed.
     #[tactic(auto, using(crate::proofs::Handing::sealed_from))]
     pub fn seal(&mut self) -> Outcome
         ensures carries { Carries (CanBeSealed M.Media self.old.client.log) (IsHandedOver M.Media self.old result self.new) (self.new ≡ self.old) result }
@@ -18,6 +20,7 @@ impl<M: Media + Drop> ClientSlot<M> {
     {
         match self.client.seal() {
             Ok(Some(region)) => {
+                // For the proof: what a stop leaves of the sealed region.
                 region.left_now();
                 self.away = Some(region);
                 Outcome::Stepped
@@ -31,6 +34,8 @@ impl<M: Media + Drop> ClientSlot<M> {
 }
 
 impl<M: Media> ClientSlot<M> {
+    /// Makes one device call to wipe what is to be wiped of the client's regions. `Idle`, with nothing changed, if that is
+    /// nothing, and after a device of the client failed. Refused as `DeviceFault`.
     pub fn wipe_step(&mut self) -> Outcome
         ensures carries { Carries ((self.old.client.log.failed ≡ false) × IsToBeWiped self.old.client) (IsWipedOn M.Media self.old result self.new) (self.new ≡ self.old) result }
         ensures owner { owner_of self.new.client ≡ owner_of self.old.client }

@@ -157,7 +157,7 @@ impl<M: Media> System<M> {
         self.kernel.tier_of(inode, block)
     }
 
-    /// What is to be moved to a tier next, as `Kernel::pick` tells it; it changes nothing. Refused as that is, and never for damage.
+    /// Picks the run that is to be moved to a tier next, as `Kernel::pick` does; it changes nothing. Refused as that is, and never for damage.
     pub fn pick(&mut self, to: Tier) -> Result<Option<FileRun>, KernelError<AreaError>>
         ensures picked { IfOk result (IsPicked self.old.kernel.area.geometry (disk M.Media self.old.kernel.area) to) }
         ensures may_be_moved { IfOk result (λ x. IfSome x (MayBeMoved self.old.kernel.area.geometry (disk M.Media self.old.kernel.area) to)) }

@@ -27,11 +27,11 @@ lies_at m t k = place_of (runs_in m t) k
 abbrev pub LieOnce : TierRuns → Type 0
 LieOnce m = (t u : Tier) (k : ℕ) → IsSome (lies_at m t k) → IsSome (lies_at m u k) → t ≡ u
 
--- Each logical block that lies anywhere is one of the first so many.
+-- Each logical block that lies anywhere is one of the first n.
 abbrev pub LieBelow : ℕ → TierRuns → Type 0
 LieBelow n m = (t : Tier) (k : ℕ) → IsSome (lies_at m t k) → k < n
 
--- so many blocks from a first one on lie in a tier from a place on and in no other tier; all others lie where they did
+-- `count` blocks from a first one on lie in a tier from a place on and in no other tier; all others lie where they did
 pub record ArePut (first count : ℕ) (tier : Tier) (place : ℕ) (old new : TierRuns) : Type 0 where
   pub there : (k : ℕ) → lies_at new tier k ≡ after first count (Some place) (runs_in old tier) k
   pub others : (t : Tier) → t ≢ tier → (k : ℕ) → lies_at new t k ≡ after first count None (runs_in old t) k
@@ -45,7 +45,7 @@ abbrev pub place_list : Option ℕ → List ℕ
 place_list None = []
 place_list (Some p) = p ∷ []
 
--- the places of so many blocks from a first one on, of those that some runs map
+-- the places of `count` blocks from a first one on, of those that some runs map
 abbrev pub places_of : List Extent → ℕ → ℕ → List ℕ
 places_of es first count = flat_map (λ k. place_list (place_of es k)) (range_with_len first count)
 

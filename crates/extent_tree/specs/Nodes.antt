@@ -28,7 +28,7 @@ abbrev pub summaries : ℕ → List (List Extent) → List Extent
 summaries number [] = []
 summaries number (n ∷ ns) = summary number n ∷ summaries (number + 1) ns
 
--- each node has so many entries at least and at most
+-- each node has `least` entries at least, and `most` at most
 abbrev pub HaveFrom : ℕ → ℕ → List (List Extent) → Type 0
 HaveFrom least most ns = AllByRecursion (λ n. (least ≤ length n) × (length n ≤ most)) ns
 

@@ -10,7 +10,7 @@ use block_alloc::Run;
 use layout::MAX_EXTENTS;
 use std::alloc::AllocError;
 
-// Adds the places of so many blocks from a first one on.
+/// Adds to `out`, as runs, the place of each mapped block of a run of a file's blocks. Refused for want of memory alone.
 #[tactic(auto, using(crate::proofs::GivenUp::none_left))]
 pub fn push_places(
     tree: &Extents<MAX_EXTENTS>,

@@ -86,7 +86,7 @@ fn new_leaves(
     change(alloc, &entries, run.first, run.count, place)
 }
 
-// Whether some of the leaves make nodes that are full enough with so many entries, or are all that there are.
+// Whether some of the leaves make nodes that are full enough with `entries` entries, or are all that there are.
 fn is_enough(width: usize, span: Span, leaves: usize, entries: usize) -> bool
     requires order { span.from ≤ span.to }
     requires within { span.to ≤ leaves }

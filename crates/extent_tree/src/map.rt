@@ -50,7 +50,7 @@ impl BlockMap {
         }
     }
 
-    /// The blocks lie where the extents of each tier tell. Those of a tier rise, no two have a block in common, and all their numbers fit into 32 bits.
+    /// The blocks lie where the extents of each tier say. Those of a tier rise, no two have a block in common, and all their numbers fit into 32 bits.
     pub fn from_extents(
         alloc: Global,
         fast: &[Extent],

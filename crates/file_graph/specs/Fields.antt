@@ -29,10 +29,10 @@ abbrev pub byte_at : Field ℕ
 byte_at [] = None
 byte_at (b ∷ rest) = Some (b, rest)
 
--- so many bytes
+-- n bytes
 abbrev pub run_at : ℕ → Field (List ℕ)
 run_at n bytes = if nat_le n (length bytes) then Some (take n bytes, drop n bytes) else None
 
--- a number of so many bytes, the lowest first
+-- a number of n bytes, the lowest first
 abbrev pub number_at : ℕ → Field ℕ
 number_at n bytes = if nat_le n (length bytes) then Some (little_number n (take n bytes), drop n bytes) else None

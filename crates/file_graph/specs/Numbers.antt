@@ -6,6 +6,6 @@ use Rattle.posix_calls.specs.declared.limits.TheConstants.{MAX_INODE}
 abbrev pub is_inode : ℕ → Bool
 is_inode i = nat_le 1 i && nat_le i MAX_INODE
 
--- whether a number is one of so many from a first one on
+-- whether a number k is one of the `count` numbers from a first one on
 abbrev pub in_run : ℕ → ℕ → ℕ → Bool
 in_run first count k = nat_le first k && nat_lt k (first + count)

@@ -14,7 +14,7 @@ pub fn byte_of(bytes: &[u8]) -> Option<(u8, &[u8])>
     }
 }
 
-/// So many bytes.
+/// Splits off the first `count` bytes; `None` if there are fewer.
 pub fn run_of(count: usize, bytes: &[u8]) -> Option<(&[u8], &[u8])>
     ensures { option_map (λ x. (x.0.now, x.1.now)) result ≡ run_at count bytes.now }
 {

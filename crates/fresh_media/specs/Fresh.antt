@@ -27,7 +27,7 @@ abbrev pub fresh_fast : Sizes → List ℕ
 fresh_fast g =
     padded_text (BLOCK * tier_blocks g Fast) (padded_text (BLOCK * MARKS_BLOCK) (super_spelling (record { geometry = g }) ++ slot_spelling bare_root) ++ marks_spelling no_marks)
 
--- so many blocks of zeros
+-- `blocks` blocks of zeros
 abbrev pub fresh_tier : ℕ → List ℕ
 fresh_tier blocks = padded_text (BLOCK * blocks) []
 

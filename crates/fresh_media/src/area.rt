@@ -69,7 +69,7 @@ fn add_marks(bytes: &mut Vec<u8>) -> Result<(), AllocError>
     bytes.extend_from_slice(&block)
 }
 
-/// A tier of so many blocks, all of them zero.
+/// A tier of `blocks` blocks, all of them zero.
 pub fn empty_tier(alloc: Global, blocks: u32) -> Result<Vec<u8>, AllocError>
     ensures { IfOk result (λ bytes. bytes.items ≡ fresh_tier blocks) }
 {

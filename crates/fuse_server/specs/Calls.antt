@@ -16,7 +16,7 @@ abbrev pub refusal_of : Reply → Refusal
 refusal_of (reply.Failed errno) = refusal.Posix errno
 refusal_of reply = refusal.Posix errno.IoError
 
--- the reply to a call that tells nothing
+-- the reply to a call that has nothing to answer
 abbrev pub done_of : Reply → Result (Unit {0}) Refusal
 done_of reply.Done = Ok tt
 done_of reply = Err (refusal_of reply)

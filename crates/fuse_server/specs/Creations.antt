@@ -22,12 +22,12 @@ creation exclusive truncate = record { read = true; write = true; create = true;
 abbrev pub creation_by : ℕ → Flags
 creation_by flags = creation (flags / 128 % 2 == 1) (flags / 512 % 2 == 1)
 
--- whether the four bits of a mode that tell the kind of node are none, or those of a file
+-- whether the four bits of a mode that give the kind of node are none, or those of a file
 abbrev pub is_file_mode : ℕ → Bool
 is_file_mode mode = (mode / 4096 % 16 == 0) || (mode / 4096 % 16 == 8)
 
 module _ {S : Type 0} (tree : Ghosts S) where
-  -- the path is opened, and what is there is told by `Stat`; descriptors may be closed
+  -- the path is opened, and what is there is described by `Stat`; descriptors may be closed
   pub record Makes (path : List ℕ) (flags : Flags) (result : Result Attributes Refusal) (s t : S) : Type 0 where
     pub before : S
     pub first : Upkeep tree s before
@@ -36,9 +36,9 @@ module _ {S : Type 0} (tree : Ghosts S) where
     pub opens : tree.asks before (call.Open path flags) (reply.Opened number) opened
     pub asked : S
     pub next : Upkeep tree opened asked
-    pub told : S
-    pub tells : MayAsk tree (call.Stat path) description_of (DescribesNode tree path) result asked told
-    pub rest : Upkeep tree told t
+    pub described : S
+    pub describes : MayAsk tree (call.Stat path) description_of (DescribesNode tree path) result asked described
+    pub rest : Upkeep tree described t
 
   -- so it is at the path of the name, or it can't be opened
   abbrev pub MakesAt : Nodes → ℕ → List ℕ → Flags → Result Attributes Refusal → S → S → Type 0

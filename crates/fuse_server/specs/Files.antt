@@ -31,7 +31,7 @@ abbrev pub last_descriptor : Node → Option ℕ
 last_descriptor node = if nat_lt 1 node.opens then None else node.descriptor
 
 module _ {S : Type 0} where
-  -- a node that is known is told of once more
+  -- a node that is known is described once more
   abbrev pub DescribesAgain : ℕ → Description → Result Attributes Refusal → S → S → Type 0
   DescribesAgain id d result s t = (changed : ℕ) × Answers (attributes_of id changed d) result s t
 
@@ -69,7 +69,7 @@ module _ {S : Type 0} (tree : Ghosts S) where
   Unlinks nodes folder name =
       AtPath (path_below nodes folder name) (λ path. Behind tree (IfSome (child_at nodes folder name) (λ id. IsLost nodes id)) (Asks tree (call.Unlink path) done_of (λ _. Answers tt)))
 
-  -- `Link` is asked at the node's path and that of the name, then `Stat`, which is told; a name that is known is taken
+  -- `Link` is asked at the node's path and that of the name, then `Stat`, whose answer is given; a name that is known is taken
   abbrev pub Links : Nodes → ℕ → ℕ → List ℕ → Result Attributes Refusal → S → S → Type 0
   Links nodes id folder name =
       AtPath (path_of nodes id) (λ old. AtPath (name_path nodes folder name) (λ new result s t.

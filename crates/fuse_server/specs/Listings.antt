@@ -1,4 +1,4 @@
--- Directories that are open, and the entries that are told of them.
+-- Directories that are open, and the entries that replies list of them.
 use Rattle.std.specs.Prelude.{◌≡◌, ◌≢◌, ◌<◌, ◌+◌, ◌/◌, ℕ, List, [], ◌∷◌, Option, Some, None, Result, IsSome, OnErr, MatchResult, codes, drop, map, min, slice_index_or, take, if◌then◌else◌}
 use Rattle.std.specs.Option.{option_map_or}
 use Rattle.fuse_wire.specs.posix_calls.declared.call.Call.TheVariants as call
@@ -20,7 +20,7 @@ use Rattle.fuse_server.specs.Upkeep.{child_at}
 
 -- ---- entries
 
--- an entry: the number that is told of its node, the place behind it, its kind and its name
+-- an entry: the number for its node, the place behind it, its kind and its name
 pub record DirEntry : Type 0 where
   pub inode : ℕ
   pub next : ℕ
@@ -67,7 +67,7 @@ all_entries nodes listing =
 abbrev pub entries_from : Nodes → Listing → ℕ → ℕ → List DirEntry
 entries_from nodes listing at size = take (size / 32) (drop at (all_entries nodes listing))
 
--- the reply carries of these entries as many from the first on as have room in so many bytes, and in 65,536
+-- the reply carries of these entries as many from the first on as have room in `size` bytes, and in 65,536
 abbrev pub CarriesEntries : ℕ → ℕ → List DirEntry → List ℕ → Type 0
 CarriesEntries unique size entries reply =
     (ds : List Dirent) × (map dir_entry ds ≡ entries) × (count : ℕ) × FitsMost (min size 65536) count ds × (reply ≡ reply_bytes unique (dirents_bytes (take count ds)))
@@ -104,12 +104,12 @@ pub record ClosesListing (old new : List (Option Listing)) (handle : ℕ) : Type
   pub others : SameBeside old new handle
 
 module _ {S : Type 0} where
-  -- the directory is open with these names, under the handle that is told, unless memory is wanting
+  -- the directory is open with these names, under the handle that is answered, unless memory is wanting
   abbrev pub Lists : ℕ → List (Option Listing) → List (Option Listing) → List (List ℕ) → Result ℕ Refusal → S → S → Type 0
   Lists id old new names result s t = (t ≡ s) × MatchResult result (λ handle. OpensListing old new handle (listing_of id names)) IsMemory
 
 module _ {S : Type 0} (tree : Ghosts S) where
-  -- `List` is asked at the node's path, and the directory is open with the names that are told; where it is refused, all are as before
+  -- `List` is asked at the node's path, and the directory is open with the names that are answered; where it is refused, all are as before
   abbrev pub OpensDir : Nodes → ℕ → List (Option Listing) → List (Option Listing) → Result ℕ Refusal → S → S → Type 0
   OpensDir nodes id old new result s t =
       AtPath (path_of nodes id) (λ path. MayAsk tree (call.List path) listed_of (Lists id old new)) result s t × OnErr result (new ≡ old)

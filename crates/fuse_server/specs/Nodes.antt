@@ -1,4 +1,4 @@
--- What is told of nodes.
+-- The attributes of nodes.
 use Rattle.std.specs.Prelude.{◌≡◌, ◌⊎◌, ℕ, List, true, false, Option, Some, None, Result, Ok, Err, IfErr}
 use Rattle.std.specs.Option.{option_map}
 use Rattle.fuse_wire.specs.posix_calls.declared.call.Call.TheVariants as call
@@ -15,22 +15,22 @@ use Rattle.fuse_server.specs.Calls.{description_of, done_of, Answers, AtPath, As
 use Rattle.fuse_server.specs.Paths.{node_at, is_unnamed, name_path, path_below, path_of}
 use Rattle.fuse_server.specs.Refusals.{IsMemory}
 
--- what is told of a node whose last change this is, by what the tree tells of it
+-- the attributes of a node whose last change this is, by what the tree answers of it
 abbrev pub attributes_of : ℕ → ℕ → Description → Attributes
 attributes_of id changed (description.File size names) = record { node = id; is_dir = false; size = size; links = names; changed = changed }
 attributes_of id changed (description.Dir entries) = record { node = id; is_dir = true; size = 0; links = 1; changed = changed }
 
--- what was told last of a node
+-- the attributes that were last answered of a node
 abbrev pub kept_attributes : Nodes → ℕ → Option Attributes
 kept_attributes nodes id = option_map (λ node. record { node = id; is_dir = node.is_dir; size = node.size; links = node.links; changed = node.changed }) (node_at nodes id)
 
--- it is told of a node that was found, and of none that was not
+-- the attributes are those of a node that was found, and there are none if none was
 abbrev pub IsDescribedAs : Description → Result ℕ Refusal → Result Attributes Refusal → Type 0
 IsDescribedAs d (Ok id) result = (changed : ℕ) × (result ≡ Ok (attributes_of id changed d))
 IsDescribedAs d (Err e) result = result ≡ Err e
 
 module _ {S : Type 0} (tree : Ghosts S) where
-  -- The attributes of a node that is known are those that `Stat` tells at its path; of one without a name they are those that were told last.
+  -- The attributes of a node that is known are those that `Stat` answers at its path; of one without a name they are those that were answered last.
   abbrev pub Describes : Nodes → ℕ → Result Attributes Refusal → S → S → Type 0
   Describes nodes id result s t =
       ((node_at nodes id ≡ None) × (result ≡ Err refusal.StaleNode) × (t ≡ s))
@@ -38,20 +38,20 @@ module _ {S : Type 0} (tree : Ghosts S) where
       × (((is_unnamed nodes id ≡ true) × Answers kept result s t)
       ⊎ ((is_unnamed nodes id ≡ false) × AtPath (path_of nodes id) (λ path. MayAsk tree (call.Stat path) description_of (λ d. Answers (attributes_of id kept.changed d))) result s t)))
 
-  -- The node of a path is found; the tree may be asked for it which file is there. That it can't tell refuses it, as want of memory does.
+  -- The node of a path is found; the tree may be asked for it which file is there. That it can't answer refuses it, as want of memory does.
   abbrev pub Finds : List ℕ → Result ℕ Refusal → S → S → Type 0
   Finds path id s t = ((t ≡ s) × IfErr id (λ e. IsMemory e ⊎ ((why : Errno) × (path_names path ≡ Err why) × (e ≡ refusal.Posix why))))
       ⊎ ((names : List (List ℕ)) × (found : Result ℕ Errno) × (path_names path ≡ Ok names) × tree.finds s names found t × IfErr id (λ e. IsMemory e ⊎ ((why : Errno) × (found ≡ Err why) × (e ≡ refusal.Posix why))))
 
-  -- what is at a path, as the tree tells of it, is told of its node
+  -- what is at a path, as the tree answers of it, is answered of its node
   abbrev pub DescribesNode : List ℕ → Description → Result Attributes Refusal → S → S → Type 0
   DescribesNode path d result s t = (id : Result ℕ Refusal) × Finds path id s t × IsDescribedAs d id result
 
-  -- `Stat` is asked at the path of the name, and told
+  -- `Stat` is asked at the path of the name, and its answer given
   abbrev pub LooksUp : Nodes → ℕ → List ℕ → Result Attributes Refusal → S → S → Type 0
   LooksUp nodes folder name = AtPath (name_path nodes folder name) (λ path. MayAsk tree (call.Stat path) description_of (DescribesNode path))
 
-  -- `Mkdir` is asked at the path of the name, then `Stat`, which is told
+  -- `Mkdir` is asked at the path of the name, then `Stat`, whose answer is given
   abbrev pub MakesDir : Nodes → ℕ → List ℕ → Result Attributes Refusal → S → S → Type 0
   MakesDir nodes folder name =
       AtPath (name_path nodes folder name) (λ path. MayAsk tree (call.Mkdir path) done_of (λ _. MayAsk tree (call.Stat path) description_of (DescribesNode path)))

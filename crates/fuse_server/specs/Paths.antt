@@ -15,7 +15,7 @@ node_at nodes (suc n) = option_and_then (λ slot. slot.node) (slice_get nodes.sl
 unfoldable pub first_name : Nodes → ℕ → Option NodeName
 first_name nodes id = option_and_then (λ node. slice_get node.names.items 0) (node_at nodes id)
 
--- the path of a directory that has so many directories above it at most, without a slash at its end; that of node 1, the root, is empty
+-- the path of a directory that has fewer directories above it than this number, without a slash at its end; that of node 1, the root, is empty
 unfoldable pub folder_path : ℕ → Nodes → ℕ → Option (List ℕ)
 folder_path zero nodes id = None
 folder_path (suc n) nodes id =

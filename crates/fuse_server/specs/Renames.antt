@@ -24,7 +24,7 @@ absent_of (reply.File size names) = Err (refusal.Posix errno.Exists)
 absent_of (reply.Dir entries) = Err (refusal.Posix errno.Exists)
 absent_of reply = Err (refusal_of reply)
 
--- some name makes the path, grown by so many bytes, longer than 1,024
+-- some name makes the path, grown by `growth` bytes, longer than 1,024
 abbrev pub HasTooLong : List ℕ → List (List ℕ) → ℕ → Refusal → Type 0
 HasTooLong path names growth e = (name : List ℕ) × Contains names name × (1024 < length path + 1 + length name + growth) × (e ≡ refusal.Posix errno.NameTooLong)
 

@@ -22,7 +22,7 @@ use Rattle.fuse_server.specs.Listings.{CarriesListing, listing_at}
 abbrev pub for_ever : Time
 for_ever = record { seconds = 1000000; nanoseconds = 0 }
 
--- a change, told as a time
+-- a change, reported as a time
 abbrev pub time_of : ℕ → Time
 time_of change = record { seconds = change; nanoseconds = 0 }
 
@@ -66,7 +66,7 @@ Carries server h (answer.Created a) reply = (generation : ℕ) × (reply ≡ rep
 Carries server h (answer.Usage usage) reply = reply ≡ reply_bytes h.unique (fields_bytes (statfs_fields (stat_fs_of usage)))
 Carries server h (answer.Entries handle at size) reply = CarriesListing server.tables.nodes (listing_at server.listings.items handle) h.unique at size reply
 
--- a buffer with room for so many bytes takes the answer without asking for memory
+-- a buffer with room for `room` bytes takes the answer without asking for memory
 abbrev pub HasRoom : ℕ → Answer → Type 0
 HasRoom room (answer.Data bytes) = (272 ≤ room) × (16 + length bytes ≤ room)
 HasRoom room (answer.Entries handle at size) = ⊥

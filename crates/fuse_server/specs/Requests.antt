@@ -34,7 +34,7 @@ abbrev pub answer_of : {A : Type 0} → (A → Answer) → Result A Refusal → 
 answer_of make (Ok x) = make x
 answer_of make (Err e) = answer.Refused e
 
--- a name that nothing has is told as an absence
+-- a name that nothing has is answered as an absence
 abbrev pub lookup_answer : Result Attributes Refusal → Answer
 lookup_answer (Ok a) = answer.Entry a
 lookup_answer (Err (refusal.Posix errno.NoEntry)) = answer.Absence
@@ -62,8 +62,8 @@ end_answer r = answer.Refused refusal.NotServed
 
 module _ {S : Type 0} where
   -- it ends with something, which is the answer
-  abbrev pub Ends : {A : Type 0} → (Result A Refusal → Answer) → (Result A Refusal → S → S → Type 0) → Answer → S → S → Type 0
-  Ends {A = A} make does a s t = (result : Result A Refusal) × does result s t × (a ≡ make result)
+  abbrev pub AnswersResult : {A : Type 0} → (Result A Refusal → Answer) → (Result A Refusal → S → S → Type 0) → Answer → S → S → Type 0
+  AnswersResult {A = A} make does a s t = (result : Result A Refusal) × does result s t × (a ≡ make result)
 
   -- so it does, and where it is refused, the nodes and the open files are as they were
   abbrev pub OrKeeps : {A : Type 0} → Tables → Tables → (Result A Refusal → S → S → Type 0) → Result A Refusal → S → S → Type 0
@@ -79,35 +79,35 @@ module _ {S : Type 0} (tree : Ghosts S) where
 
   -- What one that makes or moves a name of a file asks, and its answer: CREATE, MKNOD, RENAME, RENAME2.
   abbrev pub ServesName : Tables → Tables → ℕ → Request → Answer → S → S → Type 0
-  ServesName old new node (request.Create name flags mode) a s t = Ends (answer_of answer.Created) (MakesAt tree old.nodes node name.now (creation_by flags)) a s t
-  ServesName old new node (request.MkNod name mode) a s t = Ends (answer_of answer.Entry) (MakesNode tree old.nodes node name.now mode) a s t
-  ServesName old new node (request.Rename name folder to) a s t = Ends (answer_of (λ _. answer.Done)) (Renames tree old.nodes (node, name.now) (folder, to.now) 0) a s t
-  ServesName old new node (request.Rename2 name folder to flags) a s t = Ends (answer_of (λ _. answer.Done)) (Renames tree old.nodes (node, name.now) (folder, to.now) flags) a s t
+  ServesName old new node (request.Create name flags mode) a s t = AnswersResult (answer_of answer.Created) (MakesAt tree old.nodes node name.now (creation_by flags)) a s t
+  ServesName old new node (request.MkNod name mode) a s t = AnswersResult (answer_of answer.Entry) (MakesNode tree old.nodes node name.now mode) a s t
+  ServesName old new node (request.Rename name folder to) a s t = AnswersResult (answer_of (λ _. answer.Done)) (Renames tree old.nodes (node, name.now) (folder, to.now) 0) a s t
+  ServesName old new node (request.Rename2 name folder to flags) a s t = AnswersResult (answer_of (λ _. answer.Done)) (Renames tree old.nodes (node, name.now) (folder, to.now) flags) a s t
   ServesName old new node r a s t = ServesOther old new node r a s t
 
   -- What one about a file asks, and its answer: SETATTR, OPEN, READ, RELEASE.
   abbrev pub ServesFile : Tables → Tables → ℕ → Request → Answer → S → S → Type 0
-  ServesFile old new node (request.SetAttr set) a s t = Ends (answer_of answer.Attributes) (SetsAttributes tree old.nodes node set.size) a s t
-  ServesFile old new node (request.Open flags) a s t = Ends (answer_of answer.Opened) (OrKeeps old new (λ result s t. (result ≡ handle_of (node_at old.nodes node)) × (t ≡ s))) a s t
-  ServesFile old new node (request.Read handle at count) a s t = Ends (answer_of answer.Data) (Reads tree old.nodes node at count) a s t
-  ServesFile old new node (request.Release handle) a s t = Ends (answer_of (λ _. answer.Done)) (OrKeeps old new (Releases tree old.nodes node)) a s t
+  ServesFile old new node (request.SetAttr set) a s t = AnswersResult (answer_of answer.Attributes) (SetsAttributes tree old.nodes node set.size) a s t
+  ServesFile old new node (request.Open flags) a s t = AnswersResult (answer_of answer.Opened) (OrKeeps old new (λ result s t. (result ≡ handle_of (node_at old.nodes node)) × (t ≡ s))) a s t
+  ServesFile old new node (request.Read handle at count) a s t = AnswersResult (answer_of answer.Data) (Reads tree old.nodes node at count) a s t
+  ServesFile old new node (request.Release handle) a s t = AnswersResult (answer_of (λ _. answer.Done)) (OrKeeps old new (Releases tree old.nodes node)) a s t
   ServesFile old new node r a s t = ServesName old new node r a s t
 
   -- What any request that opens and closes no directory asks, and its answer: LOOKUP, GETATTR, MKDIR, RMDIR, UNLINK, LINK, WRITE, and those above.
   abbrev pub Serves : Tables → Tables → ℕ → Request → Answer → S → S → Type 0
-  Serves old new node (request.Lookup name) a s t = Ends lookup_answer (LooksUp tree old.nodes node name.now) a s t
-  Serves old new node (request.GetAttr handle) a s t = Ends (answer_of answer.Attributes) (OrKeeps old new (Describes tree old.nodes node)) a s t
-  Serves old new node (request.MkDir name mode) a s t = Ends (answer_of answer.Entry) (MakesDir tree old.nodes node name.now) a s t
-  Serves old new node (request.RmDir name) a s t = Ends (answer_of (λ _. answer.Done)) (OrKeeps old new (RemovesDir tree old.nodes node name.now)) a s t
-  Serves old new node (request.Unlink name) a s t = Ends (answer_of (λ _. answer.Done)) (Unlinks tree old.nodes node name.now) a s t
-  Serves old new node (request.Link id name) a s t = Ends (answer_of answer.Entry) (Links tree old.nodes id node name.now) a s t
-  Serves old new node (request.Write handle at flags bytes) a s t = Ends (answer_of answer.Count) (Writes tree old.nodes node at bytes.now) a s t
+  Serves old new node (request.Lookup name) a s t = AnswersResult lookup_answer (LooksUp tree old.nodes node name.now) a s t
+  Serves old new node (request.GetAttr handle) a s t = AnswersResult (answer_of answer.Attributes) (OrKeeps old new (Describes tree old.nodes node)) a s t
+  Serves old new node (request.MkDir name mode) a s t = AnswersResult (answer_of answer.Entry) (MakesDir tree old.nodes node name.now) a s t
+  Serves old new node (request.RmDir name) a s t = AnswersResult (answer_of (λ _. answer.Done)) (OrKeeps old new (RemovesDir tree old.nodes node name.now)) a s t
+  Serves old new node (request.Unlink name) a s t = AnswersResult (answer_of (λ _. answer.Done)) (Unlinks tree old.nodes node name.now) a s t
+  Serves old new node (request.Link id name) a s t = AnswersResult (answer_of answer.Entry) (Links tree old.nodes id node name.now) a s t
+  Serves old new node (request.Write handle at flags bytes) a s t = AnswersResult (answer_of answer.Count) (Writes tree old.nodes node at bytes.now) a s t
   Serves old new node r a s t = ServesFile old new node r a s t
 
-  -- What any request asks, its answer, and which directories are open behind it: OPENDIR opens one, READDIR tells of one and changes
+  -- What any request asks, its answer, and which directories are open behind it: OPENDIR opens one, READDIR lists one and changes
   -- nothing, RELEASEDIR closes one, and all others leave each as it is.
   abbrev pub ServesRequest : Server → Server → ℕ → Request → Answer → S → S → Type 0
-  ServesRequest old new node (request.OpenDir flags) a s t = (new.tables ≡ old.tables) × Ends (answer_of answer.Opened) (OpensDir tree old.tables.nodes node old.listings.items new.listings.items) a s t
+  ServesRequest old new node (request.OpenDir flags) a s t = (new.tables ≡ old.tables) × AnswersResult (answer_of answer.Opened) (OpensDir tree old.tables.nodes node old.listings.items new.listings.items) a s t
   ServesRequest old new node (request.ReadDir handle at size) a s t = (new ≡ old) × (a ≡ answer.Entries handle at size) × (t ≡ s)
   ServesRequest old new node (request.ReleaseDir handle) a s t = (new.tables ≡ old.tables) × ClosesListing old.listings.items new.listings.items handle × (a ≡ answer.Done) × (t ≡ s)
   ServesRequest old new node r a s t = (new.listings ≡ old.listings) × Serves old.tables new.tables node r a s t

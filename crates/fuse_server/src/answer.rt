@@ -6,7 +6,7 @@ use fuse_wire::{InitReply, Refusal};
 /// What a request is answered.
 #[derive(Drop)]
 pub enum Answer {
-    /// It was done, and there is nothing to tell.
+    /// It was done, and the reply has no more.
     Done,
     /// It is refused.
     Refused(Refusal),
@@ -16,7 +16,7 @@ pub enum Answer {
     Entry(Attributes),
     /// Nothing has the name.
     Absence,
-    /// What is told of a node.
+    /// The attributes of a node.
     Attributes(Attributes),
     /// A file or a directory is open, under this handle.
     Opened(u64),
@@ -24,7 +24,7 @@ pub enum Answer {
     Created(Attributes),
     /// These bytes were read.
     Data(Bytes),
-    /// So many bytes were written.
+    /// This many bytes were written.
     Count(u32),
     /// How much there is.
     Usage(Usage),

@@ -1,4 +1,4 @@
-// What is told of a node, and what the tree tells of it.
+// The attributes of a node, and what the tree answers of it.
 ghost use Rattle.std.specs.Prelude.{◌≡◌, Some, None, Ok, IfOk, IfErr, OnErr};
 ghost use Rattle.file_graph.specs.posix_calls.declared.call.Call.TheVariants as call;
 ghost use Rattle.fuse_server.specs.Calls.{description_of, Answers, AtPath, MayAsk};
@@ -13,7 +13,7 @@ use file_graph::{Bytes, Call, Description, Errno, Reply};
 use fuse_wire::Refusal;
 use std::alloc::Global;
 
-/// What is told of a node.
+/// The attributes of a node.
 #[derive(Clone, Copy)]
 pub(crate) struct Attributes {
     pub(crate) node: u64,
@@ -21,12 +21,12 @@ pub(crate) struct Attributes {
     /// In bytes.
     pub(crate) size: u64,
     pub(crate) links: u32,
-    /// The change that was its last, which is told as its time, in seconds.
+    /// The number of its last change, which is reported as its time, in seconds.
     pub(crate) changed: u64,
 }
 
 impl Tables {
-    /// What is told of a node. What has a name is asked of the tree; of a file that lost its last name the server keeps it. Where it is
+    /// Returns the attributes of a node. What has a name is asked of the tree; of a file that lost its last name the server keeps it. Where it is
     /// refused, nothing changes.
     pub(crate) fn describe<T: Tree>(&mut self, tree: &mut T, id: u64) -> Result<Attributes, Refusal>
         ensures describes { Describes T.Tree self.old.nodes id result tree.old tree.new }
@@ -39,7 +39,7 @@ impl Tables {
         self.describe_named(tree, id, kept.changed)
     }
 
-    // What the tree tells of a node that has a name, and was changed last by this change.
+    // What the tree answers of a node that has a name, and was changed last by this change.
     fn describe_named<T: Tree>(
         &mut self,
         tree: &mut T,
@@ -55,7 +55,7 @@ impl Tables {
         Ok(attributes_of(id, changed, description))
     }
 
-    /// What was told last of a node.
+    /// The attributes that a reply had last of a node.
     pub(crate) fn attributes(&self, id: u64) -> Result<Attributes, Refusal>
         ensures known { IfOk result (λ kept. kept_attributes self.now.nodes id ≡ Some kept) }
         ensures unknown { IfErr result (λ e. (node_at self.now.nodes id ≡ None) × (e ≡ Refusal.StaleNode)) }
@@ -78,7 +78,7 @@ impl Tables {
         }
     }
 
-    /// Notes what the tree told of a node.
+    /// Notes what the tree answered of a node.
     pub(crate) fn note(&mut self, id: u64, description: Description) {
         if let Some(node) = self.nodes.get_mut(id) {
             note_in(node, description);
@@ -94,7 +94,7 @@ impl Tables {
     }
 }
 
-/// Notes in a node what the tree told of it.
+/// Notes in a node what the tree answered of it.
 pub(crate) fn note_in(node: &mut Node, description: Description) {
     match description {
         Description::File { size, names } => {
@@ -110,7 +110,7 @@ pub(crate) fn note_in(node: &mut Node, description: Description) {
     }
 }
 
-/// What is told of a node whose last change this is, by what the tree tells of it.
+/// The attributes of a node whose last change this is, by what the tree answers of it.
 pub(crate) fn attributes_of(id: u64, changed: u64, description: Description) -> Attributes
     ensures { result ≡ attributes_of id changed description }
 {

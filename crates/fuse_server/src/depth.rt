@@ -12,7 +12,7 @@ use file_graph::{Description, Errno, Name};
 use fuse_wire::{MAX_PATH, Refusal};
 use std::alloc::Global;
 
-/// Refuses, by `NameTooLong`, that what is at a path gets one of so many bytes, where a path below it would pass 1,024 bytes.
+/// Refuses, by `NameTooLong`, that what is at a path gets one of `len` bytes, where a path below it would pass 1,024 bytes.
 pub(crate) fn check_depth<T: Tree>(
     alloc: Global,
     tree: &mut T,
@@ -49,7 +49,7 @@ fn check_below<T: Tree>(
     Ok(())
 }
 
-// Adds the paths right below what may be a directory, each of which is to grow by so many bytes.
+// Adds the paths right below what may be a directory, each of which is to grow by `growth` bytes.
 fn add_below<T: Tree>(
     alloc: Global,
     tree: &mut T,
@@ -95,7 +95,7 @@ fn add_names(
     Ok(())
 }
 
-// The path of a name of a directory, which is to grow by so many bytes.
+// The path of a name of a directory, which is to grow by `growth` bytes.
 fn path_under(alloc: Global, path: &[u8], name: &Name, growth: usize) -> Result<Vec<u8>, Refusal>
     ensures { IfErr result (λ e. IsMemory e ⊎ ((1024 < length path.now + 1 + length name.now + growth) × (e ≡ refusal.Posix errno.NameTooLong))) }
 {

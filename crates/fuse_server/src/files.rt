@@ -122,7 +122,7 @@ impl Tables {
         }
     }
 
-    /// Sets what may be set of a node, which is a file's size, and tells of it. Modes, owners and times stay.
+    /// Sets what may be set of a node, which is a file's size, and returns its attributes. Modes, owners and times stay.
     pub(crate) fn set_attributes<T: Tree>(
         &mut self,
         tree: &mut T,

@@ -13,7 +13,7 @@ use file_graph::{Bytes, Call, Errno, Name, Names, Reply};
 use fuse_wire::{Dirent, DirentKind, Refusal};
 use std::alloc::{AllocError, Global};
 
-/// The number that is told of an entry whose node is not known.
+/// The number in an entry whose node is not known.
 const UNKNOWN_NODE: u64 = 0xFFFF_FFFF;
 
 /// The least bytes that an entry takes in a reply.
@@ -72,7 +72,7 @@ impl Server {
         close_listing(&mut self.listings, handle as usize);
     }
 
-    /// The entries of an open directory from a place on, as many as a reply of so many bytes may hold: itself and the directory above
+    /// The entries of an open directory from a place on, as many as a reply of `size` bytes may hold: itself and the directory above
     /// it first.
     pub(crate) fn entries<'a>(
         &'a self,

@@ -19,7 +19,7 @@ use fuse_wire::Refusal;
 use std::alloc::{AllocError, Global};
 
 impl Tables {
-    /// Looks a name of a directory up. The kernel is told of the node once more.
+    /// Looks a name of a directory up, and counts one more lookup of the node.
     pub(crate) fn look_up<T: Tree>(
         &mut self,
         tree: &mut T,
@@ -64,16 +64,16 @@ impl Tables {
         let path = path_below(self.alloc, &self.nodes, folder, name.as_slice())?;
         let number = self.open_path(tree, &path, flags)?;
         self.mark_changed(folder);
-        let told = self.tell_of(tree, folder, &name, &path);
-        self.keep_open(tree, &told, number);
-        told
+        let found = self.tell_of(tree, folder, &name, &path);
+        self.keep_open(tree, &found, number);
+        found
     }
 
-    // Notes that the node that was told of is open once more, under this descriptor, which is closed where none was.
-    fn keep_open<T: Tree>(&mut self, tree: &mut T, told: &Result<Attributes, Refusal>, number: u32)
+    // Notes that the node that was looked up is open once more, under this descriptor, which is closed where none was.
+    fn keep_open<T: Tree>(&mut self, tree: &mut T, found: &Result<Attributes, Refusal>, number: u32)
         ensures { Upkeep T.Tree tree.old tree.new }
     {
-        match told {
+        match found {
             Ok(attributes) => self.adopt(tree, attributes.node, number),
             Err(_) => close_number(tree, number),
         }
@@ -117,7 +117,7 @@ impl Tables {
         self.tell_of(tree, folder, &name, &path)
     }
 
-    // Tells of what has a name, at its path, and counts that the kernel is told.
+    // Returns the attributes of what has a name, at its path, and counts the lookup.
     fn tell_of<T: Tree>(
         &mut self,
         tree: &mut T,
@@ -151,6 +151,7 @@ impl Tables {
         }
     }
 
+    // Counts one more lookup of a node that is known; the count stays at the greatest number once it is there.
     pub(crate) fn count_lookup(&mut self, id: u64) {
         if let Some(node) = self.nodes.get_mut(id) {
             node.lookups = node.lookups.saturating_add(1);
@@ -176,7 +177,7 @@ impl Tables {
         self.enter_node(folder, name, Some(inode), description)
     }
 
-    // Whether what is told so may be a node that is known, or was, by another name.
+    // Whether what has these attributes may be a node that is known, or was, by another name.
     fn may_be_known(&self, description: Description) -> bool {
         match description {
             Description::File { names, .. } => names > 1 || self.nodes.lack_names(),
@@ -263,7 +264,7 @@ pub(crate) fn read_name(alloc: Global, bytes: &[u8]) -> Result<Name, Refusal>
     }
 }
 
-/// Whether a call was done that has nothing to tell.
+/// Answers whether a call was done whose reply has no more.
 pub(crate) fn check_done(reply: Reply) -> Result<(), Refusal>
     ensures { result ≡ done_of reply }
 {

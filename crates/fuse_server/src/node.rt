@@ -11,19 +11,19 @@ pub struct NodeName {
     pub name: Name,
 }
 
-/// A file or a directory that the kernel was told of, or may be.
+/// A file or a directory that the kernel knows, or may come to know.
 #[derive(Drop)]
 pub struct Node {
     pub is_dir: bool,
-    /// A file's bytes, as they were told last.
+    /// A file's size in bytes, as the last reply had it.
     pub size: u64,
-    /// How many names a file has, as was told last.
+    /// How many names a file has, as the last reply had it.
     pub links: u32,
     /// The change that was its last, of those of the mount.
     pub changed: u64,
     /// The tree's number of a file that had several names when it was met.
     pub inode: Option<u32>,
-    /// How often the kernel was told of it, and has not said that it forgot.
+    /// How many lookups of it the kernel has not forgotten.
     pub lookups: u64,
     /// How often it is open.
     pub opens: u64,

@@ -47,19 +47,19 @@ fn root_path(alloc: Global) -> Result<Vec<u8>, Refusal>
     Ok(path)
 }
 
-// Adds the path of a directory that has fewer than so many directories above it, the root first.
-fn push_folder(path: &mut Vec<u8>, nodes: &Nodes, folder: u64, most: usize) -> Result<(), Refusal>
-    ensures path { IfOk result (λ _. option_map (λ p. path.old.items ++ p) (folder_path most nodes.now folder) ≡ Some path.new.items) }
-    ensures unknown { IfErr result (λ e. IsMemory e ⊎ (folder_path most nodes.now folder ≡ None)) }
+// Adds the path of a directory that has fewer than `limit` directories above it, the root first.
+fn push_folder(path: &mut Vec<u8>, nodes: &Nodes, folder: u64, limit: usize) -> Result<(), Refusal>
+    ensures path { IfOk result (λ _. option_map (λ p. path.old.items ++ p) (folder_path limit nodes.now folder) ≡ Some path.new.items) }
+    ensures unknown { IfErr result (λ e. IsMemory e ⊎ (folder_path limit nodes.now folder ≡ None)) }
 {
-    if most == 0 {
+    if limit == 0 {
         return Err(Refusal::Posix(Errno::NameTooLong));
     }
     if folder == ROOT_NODE {
         return Ok(());
     }
     let known = first_name(nodes, folder)?;
-    push_folder(path, nodes, known.folder, most - 1)?;
+    push_folder(path, nodes, known.folder, limit - 1)?;
     push_name(path, known.name.as_slice())?;
     Ok(())
 }

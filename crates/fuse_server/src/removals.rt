@@ -85,7 +85,7 @@ impl Tables {
         Ok(())
     }
 
-    // Notes what the tree tells of the node at a path.
+    // Notes what the tree answers of the node at a path.
     fn note_size<T: Tree>(&mut self, tree: &mut T, id: u64, path: &[u8]) -> Result<(), Refusal>
         ensures { KeepsUp T.Tree ⊥ result tree.old tree.new }
     {
@@ -118,7 +118,7 @@ impl Tables {
         self.nodes.drop_unused(id);
     }
 
-    /// Gives a file a further name. The kernel is told of the node once more.
+    /// Gives a file a further name, and counts one more lookup of the node.
     pub(crate) fn link<T: Tree>(
         &mut self,
         tree: &mut T,
@@ -159,7 +159,7 @@ impl Tables {
         end
     }
 
-    // Tells of a node that is known, at a path of it, and counts that the kernel is told.
+    // Returns the attributes of a known node, at a path of it, and counts the lookup.
     fn tell_again<T: Tree>(
         &mut self,
         tree: &mut T,
@@ -168,14 +168,14 @@ impl Tables {
     ) -> Result<Attributes, Refusal>
         ensures { MayAsk T.Tree (call.Stat path.now) description_of (DescribesAgain id) result tree.old tree.new }
     {
-        let told = self.tell_known(tree, id, path);
-        if told.is_ok() {
+        let found = self.tell_known(tree, id, path);
+        if found.is_ok() {
             self.count_lookup(id);
         }
-        told
+        found
     }
 
-    /// Tells of a node that is known, at a path of it.
+    /// Returns the attributes of a node that is known, at a path of it.
     pub(crate) fn tell_known<T: Tree>(
         &mut self,
         tree: &mut T,

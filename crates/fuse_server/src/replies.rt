@@ -13,7 +13,7 @@ use crate::attributes::Attributes;
 use crate::listings::Listing;
 use crate::server::Server;
 use crate::tree::Usage;
-use file_graph::{Errno, MAX_FILE, MAX_INODE, MAX_NAME};
+use file_graph::{Errno, MAX_FILE, MAX_INODE, MAX_NAME, UNIT_BYTES};
 use fuse_wire::{
     Attr, Entry, Header, OpenFile, Refusal, StatFs, Time, write_absence, write_attr, write_count,
     write_create, write_data, write_dirents, write_empty, write_entry, write_error, write_init,
@@ -21,7 +21,7 @@ use fuse_wire::{
 };
 use std::alloc::AllocError;
 
-/// How long the kernel may keep what it was told: for as long as the mount lasts, since nothing else changes the tree.
+/// How long the kernel may keep a reply: for as long as the mount lasts, since nothing else changes the tree.
 const FOR_EVER: Time = Time {
     seconds: 1_000_000,
     nanoseconds: 0,
@@ -36,10 +36,10 @@ const DIR_MODE: u32 = 0o40755;
 const FILE_MODE: u32 = 0o100755;
 
 /// The bytes of a unit.
-const UNIT: u32 = 4_096;
+const UNIT: u32 = UNIT_BYTES;
 
 impl Server {
-    /// Writes the reply that carries an answer. Whoever asks is told as the owner of all.
+    /// Writes the reply that carries an answer. Whoever asks is reported as the owner of all.
     pub(crate) fn write_answer(
         &self,
         header: &Header,
@@ -98,7 +98,7 @@ impl Server {
         }
     }
 
-    // The entries of a directory that is open, from a place on, as many as so many bytes hold.
+    // The entries of a directory that is open, from a place on, as many as `size` bytes hold.
     fn write_listing(
         &self,
         unique: u64,

@@ -181,7 +181,7 @@ impl Tables {
     }
 }
 
-// A name that nothing has is told so that the kernel may keep it.
+// The reply for a name that nothing has lets the kernel keep that.
 fn lookup_answer(end: Result<Attributes, Refusal>) -> Answer
     ensures { result ≡ lookup_answer end }
 {

@@ -38,7 +38,7 @@ pub enum ServeError {
     Memory,
 }
 
-/// The server of a mount: what the kernel was told of, and has open. It owns no tree: whatever it answers, the tree answered before.
+/// The server of a mount: the nodes that the kernel knows, and what it has open. It owns no tree: whatever it answers, the tree answered before.
 #[derive(Drop)]
 pub struct Server {
     pub(crate) tables: Tables,
@@ -47,7 +47,7 @@ pub struct Server {
 }
 
 impl Server {
-    /// The server of a mount of which the kernel was told nothing yet, with nothing open. The tree's client has nothing open.
+    /// The server of a mount of which the kernel knows nothing yet, with nothing open. The tree's client has nothing open.
     pub fn new(alloc: Global) -> Result<Server, AllocError>
         ensures { IfOk result (λ server. server.listings.items ≡ []) }
     {

@@ -7,7 +7,7 @@ use crate::nodes::Nodes;
 use fuse_wire::Refusal;
 use std::alloc::{AllocError, Global};
 
-/// The nodes that the kernel was told of, and the files that it has open.
+/// The nodes that the kernel knows, and the files that it has open.
 #[derive(Drop)]
 pub struct Tables {
     pub(crate) alloc: Global,

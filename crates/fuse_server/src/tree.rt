@@ -23,7 +23,7 @@ pub trait Tree {
     /// That a tree is asked which file the names of a path lead to, answers it so, and becomes another tree.
     ghost finds: { Self → List (List ℕ) → Result ℕ Errno → Self → Type 0 };
 
-    /// That a tree tells how much there is of it, and becomes another tree.
+    /// That a tree answers how much there is of it, and becomes another tree.
     ghost measures: { Self → Usage → Self → Type 0 };
 
     /// Carries out a call. What it answers is kept by then.

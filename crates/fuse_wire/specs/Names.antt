@@ -14,7 +14,7 @@ abbrev pub behind_next : Option (List ℕ) → Option (List ℕ)
 behind_next None = None
 behind_next (Some bytes) = behind_name bytes
 
--- what is behind so many names
+-- what is behind this number of names
 abbrev pub behind_names : ℕ → List ℕ → Option (List ℕ)
 behind_names zero bytes = Some bytes
 behind_names (suc n) bytes = behind_next (behind_names n bytes)

@@ -137,7 +137,7 @@ dirent_bytes d = fields_bytes (dirent_fields d) ++ (d.name.now ++ replicate (pad
 abbrev pub dirents_bytes : List Dirent → List ℕ
 dirents_bytes ds = flat_map dirent_bytes ds
 
--- of the entries as many from the first on as have room in so many bytes
+-- `count` of the entries are as many from the first on as have room in `size` bytes
 pub record FitsMost (size count : ℕ) (ds : List Dirent) : Type 0 where
   pub some : count ≤ length ds
   pub fits : length (dirents_bytes (take count ds)) ≤ size

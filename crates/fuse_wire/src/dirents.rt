@@ -9,7 +9,7 @@ use std::alloc::AllocError;
 /// The most bytes of entries in one reply.
 pub const MAX_DIRENTS: usize = 65_536;
 
-/// What an entry of a folder is, as far as the folder tells.
+/// What an entry of a folder is, as far as the folder says.
 #[derive(Clone, Copy, Debug, PartialEq, Eq)]
 pub enum DirentKind {
     /// DT_UNKNOWN: the kernel asks when it needs to know.
@@ -51,7 +51,7 @@ pub fn write_dirents(
     Ok(count)
 }
 
-// How many entries from the first on have room in so many bytes, and how many bytes they take.
+// How many entries from the first on have room in `size` bytes, and how many bytes they take.
 fn count_fitting(size: usize, entries: &[Dirent<'_>]) -> (usize, usize)
     ensures most { FitsMost size result.0 entries.now }
     ensures len { result.1 ≡ length (dirents_bytes (take result.0 entries.now)) }

@@ -11,7 +11,7 @@ pub enum Refusal {
     Posix(Errno),
     /// ENOSYS: the request is not served. For FLUSH, FSYNC, FSYNCDIR and ACCESS the kernel takes it for success, and asks no more.
     NotServed,
-    /// ESTALE: the node is none that the server has told of.
+    /// ESTALE: the server has no such node, or it has no name left.
     StaleNode,
 }
 

@@ -13,7 +13,7 @@ pub enum Field {
     Eight(u64),
 }
 
-// The four bytes from a place on, as a number.
+/// Reads a number of four bytes, the lowest first, at `place`.
 #[tactic(auto, unfolding(crate::specs::Fields::u32_at))]
 pub fn u32_at(bytes: &[u8], place: usize) -> u32
     requires { place + 4 ≤ length bytes.now }
@@ -22,7 +22,7 @@ pub fn u32_at(bytes: &[u8], place: usize) -> u32
     LittleEndian::read_u32(&bytes[place..])
 }
 
-// The eight bytes from a place on, as a number.
+/// Reads a number of eight bytes, the lowest first, at `place`.
 #[tactic(auto, unfolding(crate::specs::Fields::u64_at))]
 pub fn u64_at(bytes: &[u8], place: usize) -> u64
     requires { place + 8 ≤ length bytes.now }
@@ -31,7 +31,7 @@ pub fn u64_at(bytes: &[u8], place: usize) -> u64
     LittleEndian::read_u64(&bytes[place..])
 }
 
-// Whether a bit is set; the lowest is bit 0.
+/// Answers whether a bit is set; the lowest is bit 0, the highest bit 31.
 pub fn has_bit(bit: u32, flags: u32) -> bool
     requires { bit < 32 }
     ensures { result ≡ has_bit bit flags }
@@ -39,7 +39,7 @@ pub fn has_bit(bit: u32, flags: u32) -> bool
     flags >> bit & 1 == 1
 }
 
-// How many bytes the fields have.
+/// Counts the bytes of up to 32 fields: eight a field at most.
 pub fn fields_len(fields: &[Field]) -> usize
     requires { length fields.now ≤ 32 }
     ensures len { result ≡ length (fields_bytes fields.now) }
@@ -64,7 +64,7 @@ fn field_len(field: Field) -> usize
     }
 }
 
-// Puts the bytes of the fields behind what stands in `out`, which has room for 8 bytes each.
+/// Appends the bytes of the fields. `out` has room for eight bytes a field, so this takes no memory.
 pub fn push_fields(out: &mut Vec<u8>, fields: &[Field])
     requires { vec_len out.old + 8 * length fields.now ≤ vec_capacity out.old }
     ensures written { out.new.items ≡ out.old.items ++ fields_bytes fields.now }
@@ -101,6 +101,7 @@ fn push_u16(out: &mut Vec<u8>, number: u16)
     push_bytes(out, &bytes);
 }
 
+/// Appends a number as four bytes, the lowest first. `out` has room for them, so this takes no memory.
 #[tactic(auto, unfolding(crate::specs::Fields::u32))]
 pub fn push_u32(out: &mut Vec<u8>, number: u32)
     requires { vec_len out.old + 4 ≤ vec_capacity out.old }
@@ -113,6 +114,7 @@ pub fn push_u32(out: &mut Vec<u8>, number: u32)
     push_bytes(out, &bytes);
 }
 
+/// Appends a number as eight bytes, the lowest first. `out` has room for them, so this takes no memory.
 #[tactic(auto, unfolding(crate::specs::Fields::u64))]
 pub fn push_u64(out: &mut Vec<u8>, number: u64)
     requires { vec_len out.old + 8 ≤ vec_capacity out.old }
@@ -125,7 +127,7 @@ pub fn push_u64(out: &mut Vec<u8>, number: u64)
     push_bytes(out, &bytes);
 }
 
-// Puts bytes behind what stands in `out`, which has room for them, so that no memory is asked for.
+/// Appends bytes. `out` has room for them, so this takes no memory.
 pub fn push_bytes(out: &mut Vec<u8>, bytes: &[u8])
     requires { vec_len out.old + length bytes.now ≤ vec_capacity out.old }
     ensures written { out.new.items ≡ out.old.items ++ bytes.now }

@@ -11,24 +11,24 @@ use crate::opcode::Opcode;
 /// What the body of a request consists of.
 #[derive(Clone, Copy, Debug, PartialEq, Eq)]
 pub enum Body {
-    /// So many bytes of fields, and behind them so many names, each with a zero byte.
+    /// `fields` bytes of fields, and behind them `names` names, each with a zero byte.
     Named {
         fields: usize,
         names: u32,
     },
-    /// So many bytes of fields, with a count at a place of them, and so many bytes for each that it counts.
+    /// `fields` bytes of fields, with a count at byte `place` of them, and `each` bytes for each that it counts.
     Counted {
         fields: usize,
         place: usize,
         each: u32,
     },
-    /// So many bytes of fields, and whatever is behind them.
+    /// `fields` bytes of fields, and whatever is behind them.
     Longer {
         fields: usize,
     },
 }
 
-// The body of an opcode.
+/// Returns the layout of the body of a request with this opcode.
 pub fn body_of(opcode: Opcode) -> Body
     ensures body { result ≡ body_of opcode }
     ensures sound { IsSound result }
@@ -76,7 +76,7 @@ fn body_with_count(fields: usize, place: usize, each: u32) -> Body
     }
 }
 
-// That the bytes are a body of this layout.
+/// Checks that the bytes are a body of this layout. Refused with the reason, where they are not.
 pub fn check_body(body: Body, bytes: &[u8]) -> Result<(), WireError>
     requires { IsSound body }
     ensures right { OnOk result (IsLaidOut body bytes.now) }

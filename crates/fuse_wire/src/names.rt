@@ -15,7 +15,7 @@ fn split_name(bytes: &[u8]) -> Option<(&[u8], &[u8])>
     }
 }
 
-// What is behind so many names; `None` where there are fewer.
+/// Returns what is behind the first `names` names, each ended by a zero byte; `None` if there are fewer.
 pub fn behind_names(names: u32, bytes: &[u8]) -> Option<&[u8]>
     ensures { option_map (λ x. x.now) result ≡ behind_names names bytes.now }
 {
@@ -37,7 +37,7 @@ fn trim_name(bytes: &[u8]) -> &[u8]
     &bytes[..bytes.len() - 1]
 }
 
-// The name that a body has from a place on.
+/// Returns the one name that a body has from byte `place` to its end, without its zero byte.
 pub fn name_at(place: usize, body: &[u8]) -> &[u8]
     requires within { place ≤ length body.now }
     requires name { behind_names 1 (drop place body.now) ≡ Some [] }
@@ -46,7 +46,7 @@ pub fn name_at(place: usize, body: &[u8]) -> &[u8]
     trim_name(&body[place..])
 }
 
-// The two names that a body has from a place on.
+/// Returns the two names that a body has from byte `place` to its end, without their zero bytes.
 pub fn names_at(place: usize, body: &[u8]) -> (&[u8], &[u8])
     requires within { place ≤ length body.now }
     requires names { behind_names 2 (drop place body.now) ≡ Some [] }

@@ -36,7 +36,7 @@ pub enum Opcode {
     Other(u32),
 }
 
-// The opcode of a number.
+/// Returns the opcode of a number of the protocol; `Other` for one that has none here.
 pub fn opcode_of(number: u32) -> Opcode
     ensures { result ≡ opcode_of number }
 {

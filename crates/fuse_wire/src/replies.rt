@@ -74,6 +74,7 @@ pub struct StatFs {
     pub name_len: u32,
 }
 
+/// Lists the fields of attributes, 88 bytes.
 pub fn attr_fields(attr: &Attr) -> [Field; 16]
     ensures { result ≡ attr_fields attr.now }
 {
@@ -97,7 +98,7 @@ pub fn attr_fields(attr: &Attr) -> [Field; 16]
     ]
 }
 
-// What stands before the attributes of an entry.
+/// Lists the fields of an entry before its attributes, 40 bytes.
 pub fn entry_fields(entry: &Entry) -> [Field; 6]
     ensures { result ≡ entry_fields entry.now }
 {
@@ -111,7 +112,8 @@ pub fn entry_fields(entry: &Entry) -> [Field; 6]
     ]
 }
 
-// An entry of node 0, which is none; all else of it is 0.
+/// Lists the fields of an entry of node 0, which says that there is no such name: 128 bytes, all zero but how long
+/// that is valid.
 pub fn absence_fields(valid: Time) -> [Field; 17]
     ensures { result ≡ absence_fields valid }
 {
@@ -136,7 +138,7 @@ pub fn absence_fields(valid: Time) -> [Field; 17]
     ]
 }
 
-// What stands before the attributes in the reply to GETATTR and SETATTR.
+/// Lists the fields before the attributes in the reply to GETATTR and SETATTR, 16 bytes.
 pub fn valid_fields(valid: Time) -> [Field; 3]
     ensures { result ≡ valid_fields valid }
 {
@@ -147,6 +149,7 @@ pub fn valid_fields(valid: Time) -> [Field; 3]
     ]
 }
 
+/// Lists the fields of the reply to OPEN, OPENDIR and, behind those of the entry, CREATE: 16 bytes.
 pub fn open_fields(file: &OpenFile) -> [Field; 3]
     ensures { result ≡ open_fields file.now }
 {
@@ -157,6 +160,7 @@ pub fn open_fields(file: &OpenFile) -> [Field; 3]
     ]
 }
 
+/// Lists the fields of the reply to STATFS, 80 bytes.
 pub fn statfs_fields(stat: &StatFs) -> [Field; 15]
     ensures { result ≡ statfs_fields stat.now }
 {
@@ -179,6 +183,7 @@ pub fn statfs_fields(stat: &StatFs) -> [Field; 15]
     ]
 }
 
+/// Lists the fields of the reply to INIT, 64 bytes.
 pub fn init_fields(reply: &InitReply) -> [Field; 18]
     ensures { result ≡ init_fields reply.now }
 {

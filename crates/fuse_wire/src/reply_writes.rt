@@ -14,7 +14,7 @@ use crate::replies::{
 };
 use std::alloc::AllocError;
 
-/// A buffer with room for so many bytes takes each reply but those of READ and READDIR without asking for memory.
+/// A buffer with room for this many bytes takes each reply but those of READ and READDIR without asking for memory.
 pub const REPLY_ROOM: usize = 272;
 
 /// The reply that refuses a request.
@@ -174,7 +174,8 @@ fn write_parts(
     Ok(())
 }
 
-// Clears the buffer and writes the header of a reply whose body has `len` bytes, with room for `room` more bytes.
+/// Clears the buffer and writes the header of a reply, 16 bytes, whose body has `len` bytes, with room for `room` more
+/// bytes. Refused for want of memory alone, the buffer then empty; never where it has that room already.
 pub fn begin_reply(
     out: &mut Vec<u8>,
     len: usize,

@@ -13,7 +13,7 @@ pub enum Request<'a> {
     Lookup {
         name: &'a [u8],
     },
-    /// The kernel forgets the node: so many of its lookups. It takes no reply.
+    /// The kernel forgets `count` lookups of the node. It takes no reply.
     Forget {
         count: u64,
     },

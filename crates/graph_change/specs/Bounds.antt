@@ -1,4 +1,4 @@
--- Numbers that keep to the limits, in effects and in what they come to.
+-- Numbers that keep to the limits, in effects and in their sum.
 use Rattle.std.specs.Prelude.{◌≡◌, ℕ, ◌+◌, ◌≤◌, nat_le, Bool, true, ◌&&◌, List, length, Option, IfSome}
 use Rattle.std.specs.List.{AllByRecursion}
 use Rattle.std.specs.FinMap as fin
@@ -10,7 +10,7 @@ use Rattle.graph_change.specs.Bytes.{end}
 use Rattle.graph_change.specs.Net.{Child}
 use Rattle.graph_change.specs.Change.{Change, Changes, change_at}
 
--- whether an effect is on an inode and tells no number past its limit: an entry leads to an inode, a node has no more names and a file no more bytes than it may
+-- whether an effect is on an inode and names no number past its limit: an entry leads to an inode, a node has no more names and a file no more bytes than it may
 abbrev pub is_bounded : Effect → Bool
 is_bounded (effect.Make i kind) = is_inode i
 is_bounded (effect.Enter d i kind name) = is_inode d && is_inode i
@@ -24,13 +24,13 @@ is_bounded (effect.Drop i) = is_inode i
 abbrev pub LeadsToInode : List ℕ × Option Child → Type 0
 LeadsToInode e = IfSome e.1 (λ child. is_inode child.0 ≡ true)
 
--- the change of one inode tells no number past its limit
+-- the change of one inode names no number past its limit
 pub record IsBounded (c : Change) : Type 0 where
   pub names : IfSome c.names (λ n. n ≤ MAX_NAMES)
   pub length : end c.length ≤ MAX_FILE
   pub entries : AllByRecursion LeadsToInode (fin.entries c.entries)
 
--- a change of many is one of inodes, and none of them tells such a number
+-- a change of many is one of inodes, and none of them names such a number
 pub record AreBounded (cs : Changes) : Type 0 where
   pub inodes : (i : ℕ) → fin.contains_key cs i ≡ true → is_inode i ≡ true
   pub changes : (i : ℕ) → IsBounded (change_at cs i)

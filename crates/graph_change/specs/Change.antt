@@ -33,7 +33,7 @@ patch_at ps b = unwrap_or (fin.get ps b) blank
 abbrev pub new_in : Patches → ℕ → Option ℕ
 new_in ps i = patch_at ps (i / UNIT_BYTES) (i % UNIT_BYTES)
 
--- the blocks that so many bytes from an offset on lie in
+-- the blocks that `count` bytes from an offset on lie in
 abbrev pub span : ℕ → ℕ → List ℕ
 span at count = if count == 0 then [] else range_with_len (at / UNIT_BYTES) ((at + count - 1) / UNIT_BYTES + 1 - at / UNIT_BYTES)
 
@@ -138,7 +138,7 @@ abbrev pub with_effects : Changes → List Effect → Changes
 with_effects cs [] = cs
 with_effects cs (e ∷ es) = with_effects (with_effect e cs) es
 
--- what effects come to
+-- the change that effects sum up to
 abbrev pub coalesced_changes : List Effect → Changes
 coalesced_changes = with_effects fin.empty
 

@@ -16,11 +16,11 @@ bytes_in slots = take UNIT_BYTES slots
 abbrev pub kept_marks : List ℕ → List Bool
 kept_marks slots = map is_set (drop UNIT_BYTES slots)
 
--- the mark of each byte of a block, where so many are put: all are alike where none is or all are; else they are the kept ones
+-- the mark of each byte of a block, where `count` are put: all are alike where none is or all are; else they are the kept ones
 abbrev pub marks_in : ℕ → List Bool → List Bool
 marks_in count kept = if count == 0 then replicate UNIT_BYTES false else (if count == UNIT_BYTES then replicate UNIT_BYTES true else kept)
 
--- There is room for a block's bytes and marks; so many bytes are marked; and there are bytes where some are.
+-- There is room for a block's bytes and marks; `count` bytes are marked; and there are bytes where some are.
 pub record IsKept (slots : Vec ℕ) (count : ℕ) : Type 0 where
   pub room : 2 * UNIT_BYTES ≤ vec_capacity slots
   pub long : length (marks_in count (kept_marks slots.items)) ≡ UNIT_BYTES

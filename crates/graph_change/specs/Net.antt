@@ -1,4 +1,4 @@
--- What effects come to at one inode, whatever stood there before.
+-- The sum of effects at one inode, whatever stood there before.
 use Rattle.std.specs.Prelude.{ℕ, List, [], ◌∷◌, Option, Some, None, option_map}
 use Rattle.std.specs.FinMap as fin
 use Rattle.file_graph.specs.posix_calls.Content.{Entries}

@@ -1,4 +1,4 @@
--- What holds of every change that effects come to, whatever stood there before.
+-- What holds of every change that effects sum up to, whatever stood there before.
 use Rattle.std.specs.Prelude.{◌≡◌, ℕ, ◌*◌, ◌<◌, true}
 use Rattle.file_graph.specs.posix_calls.declared.limits.TheConstants.{UNIT_BYTES}
 use Rattle.graph_change.specs.Bytes.{IsTidy, end}

@@ -13,7 +13,8 @@ use file_graph::{SharedBytes, UNIT_BYTES};
 use std::alloc::{AllocError, Global};
 use std::collections::BTreeMap;
 
-// What the blocks from the first number to the end become, in their order, when bytes that lie in each of them are put at an offset of their file.
+/// Computes, in their order, the changes of blocks `first..end` of a file when bytes that lie in each of them are
+/// put at offset `at`. Refused for want of memory alone.
 pub fn changed_blocks(
     alloc: Global,
     blocks: &BTreeMap<u64, BlockChange>,
@@ -60,7 +61,7 @@ fn changed_block(
     }
 }
 
-// Sets the blocks from a number on, which are there.
+/// Sets the blocks from number `first` on, each of which the map has. Takes no memory.
 pub fn set_blocks(
     blocks: &mut BTreeMap<u64, BlockChange>,
     first: u64,

@@ -21,7 +21,7 @@ pub fn changes_are_the_effects()
     ensures { (es : List Effect) → Coalesces es (coalesced_changes es) }
 {}
 
-/// What effects come to is tidy: at the end that a file is left with, or behind it, no byte is put and no block begins that is written. It makes no difference what else is
+/// The sum of effects is tidy: at the end that a file is left with, or behind it, no byte is put and no block begins that is written. It makes no difference what else is
 /// said of a node that goes.
 pub fn changes_are_tidy()
     ensures new { (base : Base) → IsTidyChange (new_change base) }
@@ -30,7 +30,7 @@ pub fn changes_are_tidy()
     ensures gone { (c : Change) (old : Option Node) → c.base ≡ Gone → node_after (net_of c) old ≡ None }
 {}
 
-/// Effects on inodes that tell no number past its limit come to a change of inodes that tells none: of names, of the bytes of a file, and of the inodes that entries lead to.
+/// Effects on inodes that name no number past its limit sum up to a change of inodes that names none: of names, of the bytes of a file, and of the inodes that entries lead to.
 pub fn changes_keep_to_the_limits()
     ensures kept { (e : Effect) (cs : Changes) → is_bounded e ≡ true → AreBounded cs → AreBounded (with_effect e cs) }
     ensures coalesced { (es : List Effect) → AllByRecursion (λ e. is_bounded e ≡ true) es → AreBounded (coalesced_changes es) }

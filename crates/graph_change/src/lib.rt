@@ -1,4 +1,4 @@
-//! A change of many inodes at once: what a list of effects comes to.
+//! A change of many inodes at once: the sum of a list of effects.
 //!
 //! A `GraphChange` says of each inode that it touches what becomes of the node there, of its names, of a file's length and of the
 //! bytes in each of its blocks, and of a directory's entries, each one time, however often the effects changed it. Whoever

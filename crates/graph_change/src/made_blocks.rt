@@ -11,7 +11,8 @@ use crate::block_change::BlockChange;
 use std::alloc::{AllocError, Global};
 use std::collections::BTreeMap;
 
-// Makes those blocks from the first number to the end that are not there yet, and puts nothing into them. Where there is no memory for one of them, none is made.
+/// Adds an empty change for each block of `first..end` that the map has not. Refused for want of memory alone, with
+/// the map as it was; never if it has all of them.
 pub fn make_blocks(
     alloc: Global,
     blocks: &mut BTreeMap<u64, BlockChange>,

@@ -113,7 +113,7 @@ fn put_all(slots: &mut Vec<u8>, part: &[u8]) -> usize
     part.len()
 }
 
-// Puts bytes at a place, where so many are put, and answers how many are then.
+// Puts bytes at a place, where `count` are put, and answers how many are then.
 fn put_into(slots: &mut Vec<u8>, count: usize, at: usize, part: &[u8]) -> usize
     requires kept { IsKept slots.old count }
     requires within { at + length part.now ≤ UNIT_BYTES }
@@ -137,7 +137,7 @@ fn put_part(slots: &mut Vec<u8>, count: usize, at: usize, part: &[u8]) -> usize
     count + put_marking(slots, at, part)
 }
 
-// Takes out what is put from a place on, where so many bytes are put, and answers how many are then.
+// Takes out what is put from a place on, where `count` bytes are put, and answers how many are then.
 fn cut_from(slots: &mut Vec<u8>, count: usize, place: usize) -> usize
     requires kept { IsKept slots.old count }
     requires within { place ≤ UNIT_BYTES }
@@ -245,7 +245,7 @@ fn overwrite(block: &mut [u8], at: usize, bytes: &[u8])
     block[at..at + bytes.len()].copy_from_slice(bytes);
 }
 
-// Sets so many marks, and answers how many of them were not set.
+// Sets `count` marks, and answers how many of them were not set.
 fn mark_more(marks: &mut [u8], at: usize, count: usize) -> usize
     requires { at + count ≤ length marks.old }
     ensures marks { marks.new ≡ take at marks.old ++ replicate count 1 ++ drop (at + count) marks.old }

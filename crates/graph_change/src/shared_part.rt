@@ -24,7 +24,7 @@ impl Model for SharedPart {
 }
 
 impl SharedPart {
-    /// So many of the bytes, from a place of them on: a share of them, and no copy.
+    /// Shares `count` of the bytes, from byte `from` on, without a copy. Refused if they can't be shared once more.
     pub fn of(bytes: &SharedBytes, from: usize, count: usize) -> Result<Self, AllocError>
         requires { from + count ≤ length bytes.now }
         ensures { IfOk result (λ part. part ≡ take count (drop from bytes.now)) }
@@ -50,10 +50,10 @@ impl SharedPart {
         self.count
     }
 
-    /// Leaves no more than so many of the first bytes.
-    pub fn truncate(&mut self, most: usize)
-        ensures { self.new ≡ take most self.old }
+    /// Leaves the first `len` bytes, or all if there are fewer.
+    pub fn truncate(&mut self, len: usize)
+        ensures { self.new ≡ take len self.old }
     {
-        self.count = self.count.min(most);
+        self.count = self.count.min(len);
     }
 }

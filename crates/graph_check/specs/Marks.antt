@@ -29,7 +29,7 @@ is_marked marks i = slice_index_or marks i false
 abbrev pub HasMarkedParent : Graph → List Bool → ℕ → Type 0
 HasMarkedParent g marks i = (p : ℕ) × (parent g i ≡ Some p) × (is_marked marks p ≡ true)
 
--- so many steps from a directory to its parent lead from i to the root
+-- this number of steps from a directory to its parent leads from i to the root
 abbrev pub Climbs : Graph → ℕ → ℕ → Type 0
 Climbs g zero i = i ≡ ROOT
 Climbs g (suc n) i = (p : ℕ) × (parent g i ≡ Some p) × Climbs g n p

@@ -54,7 +54,7 @@ name_count g n k i = record {
   last = last_up_to n (λ d. nat_lt 0 (named_by k i (view_at g d)));
 }
 
--- so many more entries of an inode
+-- the count of names with more entries of an inode, in directory d
 abbrev pub more_named : ℕ → ℕ → NameCount → NameCount
 more_named d more old = record { count = old.count + more; last = if nat_lt 0 more then d else old.last }
 

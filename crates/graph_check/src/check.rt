@@ -25,7 +25,7 @@ use std::alloc::Global;
 /// the directories have in them. No question can find a node at another number.
 ///
 /// Refusals: `Memory`, before the first question, or for the list, where the graph is sound; `Nodes`, where a question
-/// was refused, which is then the last one; `Unsound`, exactly where the graph is: of several defects it names one.
+/// was refused, which is then the last one; `Unsound`, exactly where the graph is: it names one defect.
 pub fn check_graph<N: Nodes>(alloc: Global, nodes: &mut N) -> Result<Vec<u32>, GraphError<N::Error>>
     ensures stays { N.graph nodes.new ≡ N.graph nodes.old }
     ensures sound { OnOk result (IsFoundSound (N.graph nodes.old)) }

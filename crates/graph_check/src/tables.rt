@@ -50,7 +50,7 @@ pub fn place_count() -> usize
 }
 
 impl Tables {
-    /// Makes tables of so many places, before any node has been read.
+    /// Makes tables of `places` places, before any node has been read.
     pub fn new(alloc: Global, places: usize) -> Result<Self, AllocError>
         ensures read { places ≡ MAX_INODE + 1 → IfOk result (λ t. (g : Graph) → IsRead g 0 t) }
         ensures places { places ≡ MAX_INODE + 1 → IfOk result HasPlaces }
@@ -76,21 +76,21 @@ impl Tables {
     }
 }
 
-// Makes so many places without a node.
+// Makes `places` places without a node.
 fn new_heads(alloc: Global, places: usize) -> Result<Vec<Option<NodeHead>>, AllocError>
     ensures { IfOk result (λ heads. heads.items ≡ replicate places None) }
 {
     vec![in alloc; None; places]
 }
 
-// Makes so many places that no entry names.
+// Makes `places` places that no entry names.
 fn new_name_counts(alloc: Global, places: usize) -> Result<Vec<NameCount>, AllocError>
     ensures { IfOk result (λ counts. counts.items ≡ replicate places (record { count = 0; last = 0 })) }
 {
     vec![in alloc; NameCount { count: 0, last: 0 }; places]
 }
 
-/// Makes marks of so many places, none of which is marked.
+/// Makes marks of `places` places, none of which is marked.
 pub fn new_marks(alloc: Global, places: usize) -> Result<Vec<bool>, AllocError>
     ensures length { IfOk result (λ marks. length marks.items ≡ places) }
     ensures none { IfOk result (λ marks. (i : ℕ) → is_marked marks.items i ≡ false) }

@@ -97,7 +97,7 @@ impl<T: Drop> QueueEnd<T> {
         self.queue.absorb::<Together>(&mut self.pass, other.pass);
     }
 
-    /// What the hands of an end tell of the line: what one of them took one put, at that number; no number was put twice or taken twice; and where the hands of all places are among them, what was put at a number was
+    /// What the hands of an end show of the line: what one of them took one put, at that number; no number was put twice or taken twice; and where the hands of all places are among them, what was put at a number was
     /// taken at that number, or is what the queue holds. It changes nothing.
     pub fn learn_line(&mut self)
         ensures same { self.new ≡ self.old }

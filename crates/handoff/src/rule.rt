@@ -1,4 +1,4 @@
-// The rule of the line, and what each kind of step tells. These types have no values.
+// The rule of the line, and what each kind of step ensures. These types have no values.
 use crate::hand::Hand;
 use crossbeam_queue::protocol::{Join, Lesson, Outcome, Protocol, Split};
 use std::collections::LinkedList;
@@ -48,7 +48,7 @@ impl<T> Lesson<T, View<T>> for Takes {
     ghost fact = { λ v items. EndsLine v items };
 }
 
-/// What the line is, as far as the hands of a pass tell it.
+/// What the line is, as far as the hands of a pass show it.
 pub struct Line;
 
 impl<T> Lesson<T, View<T>> for Line {

@@ -1,4 +1,4 @@
--- What is told of an open file with its mirror.
+-- What holds of an open file with its mirror.
 use Rattle.std.specs.Prelude.{Bool}
 use Rattle.host_media.specs.declared.mirror.Mirrored.{Mirrored}
 

@@ -1,4 +1,4 @@
--- The call that a note tells of.
+-- The call that a note names.
 use Rattle.tier_device.specs.DeviceCall.{DeviceCall, Write, Fence}
 use Rattle.host_media.specs.History.{History, and_then}
 use Rattle.host_media.specs.declared.past.Note.{Note}

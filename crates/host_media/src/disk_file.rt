@@ -120,7 +120,7 @@ impl DiskFile {
     /// are read into memory, those of a file that was made are zeros. What was read is written back and synced: after a sync that
     /// failed in another process a read may give what the device does not have.
     ///
-    /// Refused are sizes that come to another length than the file has (`Length`) or to 2^63 bytes and more (`TooLarge`), a read,
+    /// Refused are sizes whose sum is another length than the file has (`Length`) or 2^63 bytes and more (`TooLarge`), a read,
     /// a write or a sync that fails, and a want of memory. The file is then closed, and a read gives of it what it gave before.
     pub fn into_media(self, alloc: Global, sizes: &[Sizes]) -> Result<Vec<FileMedia>, FileProblem>
         ensures sizes { IfOk result (λ media. map file_sizes media.items ≡ sizes.now) }
@@ -294,6 +294,7 @@ fn length_problem(found: usize, wanted: usize) -> FileProblem
     }
 }
 
+// Opens a file that is there, and locks it. Refused: one of more than `MAX_BYTES` bytes (`TooLarge`), and what the system refuses.
 pub(crate) fn open_disk<R: Files<File = File>>(
     files: &R,
     alloc: Global,
@@ -314,6 +315,7 @@ pub(crate) fn open_disk<R: Files<File = File>>(
     })
 }
 
+// Makes a file of `len` zero bytes, and locks it. Refused: more than `MAX_BYTES` bytes (`TooLarge`), want of memory, and what the system refuses.
 pub(crate) fn create_disk<R: Files<File = File>>(
     files: &R,
     alloc: Global,

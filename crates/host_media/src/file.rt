@@ -25,7 +25,7 @@ use tier_device::{Media, MediaError, Tier, Tiers, lies_within};
 pub struct FileMedia {
     inner: Mirrored,
     faults: u64,
-    ghost told: { mirrored_failed inner ≡ true → 0 < faults },
+    ghost counted: { mirrored_failed inner ≡ true → 0 < faults },
     ghost few: { faults < 2 ^ 64 },
 }
 

@@ -15,7 +15,7 @@ use tier_device::{Tier, Tiers};
 // How many zeros are written at once.
 const CHUNK: usize = 65536;
 
-/// Writes so many zeros to a file, and has the system keep them and the file's name.
+/// Writes `len` zeros to a file, and has the system keep them and the file's name.
 pub(crate) fn fill_file<R: Files<File = File>>(
     files: &R,
     alloc: Global,

@@ -13,7 +13,7 @@ use tier_device::{Media, MemMedia, Tier};
 
 /// Media in memory, at rest, of these sizes, whose tiers are the bytes of an image one behind the other.
 ///
-/// Refused are sizes that come to more or fewer bytes (`Length`), and want of memory.
+/// Refused are sizes whose sum is more or fewer bytes (`Length`), and want of memory.
 pub fn read_image(
     alloc: Global,
     image: &[u8],
@@ -72,7 +72,7 @@ fn take_medium(alloc: Global, bytes: &mut &[u8], sizes: Sizes) -> Result<MemMedi
     }
 }
 
-// Takes so many bytes from the front.
+// Takes `len` bytes from the front.
 fn take_bytes(alloc: Global, bytes: &mut &[u8], len: usize) -> Result<Vec<u8>, FileProblem>
     ensures bytes { IfOk result (λ front. front.items ++ bytes.new.now ≡ bytes.old.now) }
     ensures len { IfOk result (λ front. length front.items ≡ len) }

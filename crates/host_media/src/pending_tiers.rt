@@ -14,6 +14,7 @@ pub(crate) struct Pending {
 }
 
 impl Pending {
+    // With no tier pending.
     pub(crate) fn none() -> Self
         ensures { (t : Tier) → pending_in result t ≡ false }
     {
@@ -24,6 +25,7 @@ impl Pending {
         }
     }
 
+    // Whether the tier was written since the last sync.
     pub(crate) fn is_pending(&self, tier: Tier) -> bool
         ensures { result ≡ pending_in self.now tier }
     {
@@ -34,6 +36,7 @@ impl Pending {
         }
     }
 
+    // With this tier pending too.
     pub(crate) fn with(self, tier: Tier) -> Self
         ensures { SetsPending tier self result }
     {

@@ -13,7 +13,7 @@ const FAILED: u64 = 2;
 
 /// An open, locked file, which the media whose bytes lie in it share, in threads too.
 ///
-/// The system tells of a sync that failed once for each opening of a file: the next sync may succeed though what was written
+/// The system reports a sync that failed once for each opening of a file: the next sync may succeed though what was written
 /// before is lost. So one sync is under way at a time, and after one that failed none succeeds.
 #[derive(Drop)]
 pub(crate) struct SharedFile {
@@ -36,6 +36,7 @@ impl SharedFile {
         }
     }
 
+    // The open file.
     pub(crate) fn file(&self) -> &File {
         &self.file
     }

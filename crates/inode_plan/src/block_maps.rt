@@ -34,6 +34,7 @@ pub fn map_of(
     ensures places { IfOk result (HasPlaces found.now) }
     ensures within { (i : ℕ) (slot : Slot) → AreOwnLists geometry.now i slot found.now → IfOk result (λ m. (t : Tier) → LiesWithin geometry.now (space_of slot t) (runs_in m t)) }
 {
+    // For the proof: the sizes are allowed ones, and extents that fit them are a map.
     let _units = geometry.units();
     block_spells_a_map();
     let fast = block_extents(&found.fast);

@@ -25,7 +25,7 @@ fn read_node<M: Media>(journal: &mut Journal<M>, block: u32) -> Result<[u8; BLOC
     Ok(bytes)
 }
 
-// What stands in a root; zeros where there is none.
+/// Reads what stands in a root; zeros where there is none.
 pub fn read_root<M: Media>(journal: &mut Journal<M>, root: u32) -> Result<[u8; BLOCK], AreaError>
     requires root { is_root_block journal.old.geometry root ≡ true }
     requires going { journal.old.failed ≡ false }
@@ -39,7 +39,7 @@ pub fn read_root<M: Media>(journal: &mut Journal<M>, root: u32) -> Result<[u8; B
     read_node(journal, root)
 }
 
-// What stands in some blocks of the node pool, one device call for each.
+/// Reads what stands in some blocks of the node pool. `Memory` where there was none for it.
 pub fn read_places<M: Media>(
     alloc: Global,
     journal: &mut Journal<M>,

@@ -87,7 +87,8 @@ fn directory_of(
     }
 }
 
-/// The directory that an inode is, from its slot and its extents: each of its blocks is read once more. `Memory` where there was none for them.
+/// Reads the directory that an inode is into memory, from its slot and its extents: the block that lists where its blocks lie, and all of these. `Memory` where
+/// there was none for them.
 pub fn read_directory<M: Media>(
     alloc: Global,
     journal: &mut Journal<M>,

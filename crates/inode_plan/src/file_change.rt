@@ -265,9 +265,11 @@ fn make_room(out: &mut Vec<u8>, blocks: usize) -> Result<(), AllocError>
     }
 }
 
-/// Adds the blocks of a file of these numbers to bytes, one behind the other, as a change makes them of the old ones: of those of the inode, or of none where the file is made. It makes one device call
-/// at most for each block that a tier maps, and none for one that is put whole or begins behind a cut. `Memory` where there was none for the bytes of a block. What was there
-/// stays in front, also after a refusal, when more bytes may stand behind it.
+/// Adds the blocks of a file of these numbers to bytes, one behind the other, as a change makes them of the old ones:
+/// of those of the inode, or of none where the file is made. An old block is read only where its bytes make a
+/// difference: not where the new one is put whole, nor where it begins behind a cut; that is a matter of cost alone.
+/// `Memory` where there was none for the bytes of a block. What was there stays in front, also after a refusal, when
+/// more bytes may stand behind it.
 pub fn read_changed<M: Media>(
     journal: &mut Journal<M>,
     inode: u32,

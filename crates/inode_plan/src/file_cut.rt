@@ -10,7 +10,7 @@ ghost use Rattle.inode_plan.specs.MapChange.{IsCutBy};
 use area_commit::{BLOCK, BlockMap, NodeLength};
 use std::alloc::AllocError;
 
-// How many blocks a file has at most.
+/// How many blocks a file has at most.
 pub const FILE_BLOCKS: u32 = 256;
 
 // How many blocks begin before an end.
@@ -26,7 +26,7 @@ fn blocks_before(end: u64) -> u64
     }
 }
 
-// Whether a block begins where a file is cut off, or behind.
+/// Whether a block begins where a file is cut off, or behind.
 pub fn is_cut_off(len: NodeLength, number: u64) -> bool
     ensures { result ≡ is_cut_off (new_length len) number }
 {
@@ -36,7 +36,7 @@ pub fn is_cut_off(len: NodeLength, number: u64) -> bool
     }
 }
 
-// The first block that is cut off; the one behind all that a file may have where none is.
+/// The first block that is cut off; the one behind all that a file may have where none is.
 pub fn first_cut(len: NodeLength) -> u32
     requires ordered { IsOrdered (new_length len) }
     requires bounded { end (new_length len) ≤ MAX_FILE }
@@ -49,7 +49,7 @@ pub fn first_cut(len: NodeLength) -> u32
     }
 }
 
-// Takes the blocks out of the map of a file that a change cuts off. After want of memory nothing is said of the map.
+/// Takes the blocks out of the map of a file that a change cuts off. After want of memory nothing is said of the map.
 pub fn cut_map(map: &mut BlockMap, len: NodeLength) -> Result<(), AllocError>
     requires ordered { IsOrdered (new_length len) }
     requires bounded { end (new_length len) ≤ MAX_FILE }

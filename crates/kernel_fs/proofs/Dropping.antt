@@ -15,7 +15,10 @@ use Rattle.digester.specs.layout.declared.marks.Marks.{Marks}
 use Rattle.digester.specs.layout.Places.{Sizes, is_inode}
 use Rattle.digester.specs.log_record.Grammar.{IsInode}
 use Rattle.digester.specs.batch_journal.Course.{Unmoved}
-use Rattle.world_invariant.specs.call_effects.NodeView.{FileView, view_at, view_of_body, view_of_node}
+use Rattle.world_invariant.specs.call_effects.NodeView.{view_at, view_of_body, view_of_node}
+use Rattle.digester.specs.record_validation.Counts.{counts_of}
+use Rattle.digester.specs.record_validation.declared.node_counts.NodeCounts.{NodeCounts}
+use Rattle.digester.specs.record_validation.declared.node_counts.NodeCounts.TheVariants as counts
 use Rattle.digester.specs.area_image.Store.{Store, store_of, graph, inode, marks}
 use Rattle.digester.specs.area_image.Reads.{Loose}
 use Rattle.digester.specs.shared_area.Ready.{OpensAs}
@@ -31,22 +34,22 @@ use Rattle.digester.proofs.shared_area_lemmas.Entries.{no_view}
 use Rattle.world_invariant.specs.Logs.{IsNameless}
 use Rattle.world_invariant.proofs.Reclaims.{charge_less}
 use Rattle.world_invariant.proofs.Records.{either}
-use Rattle.kernel_fs.specs.Reclaim.{IsNamelessView, IsReclaimed, StaysOrReclaims}
+use Rattle.kernel_fs.specs.Reclaim.{AreNameless, IsReclaimed, StaysOrReclaims}
 
--- ---- a file without a name, by its view
+-- ---- a file without a name, by its numbers
 
-nameless_body : (names size : ℕ) (b : Body) → ◌≡◌ {A = Option _} (Some (view_of_body names b)) (Some (FileView 0 size)) → IsNameless (Some (record { names = names; body = b }))
+nameless_body : (names size : ℕ) (b : Body) → ◌≡◌ {A = Option NodeCounts} (Some (counts_of (view_of_body names b))) (Some (counts.File 0 size)) → IsNameless (Some (record { names = names; body = b }))
 nameless_body names size (FileBody bytes) is =
     let none : names ≡ 0 = cc in
     record { bytes = bytes; is = ap (λ (k : ℕ). Some (record { names = k; body = FileBody bytes })) none }
 nameless_body names size (DirBody entries) is = absurd (cc)
 
-pub nameless_by : (o : Option Node) → IsNamelessView (option_map view_of_node o) → IsNameless o
-nameless_by None view = absurd (cc (view.1))
-nameless_by (Some n) view = nameless_body n.names view.0 n.body view.1
+pub nameless_by : (o : Option Node) → AreNameless (option_map counts_of (option_map view_of_node o)) → IsNameless o
+nameless_by None found = absurd (cc (found.1))
+nameless_by (Some n) found = nameless_body n.names found.0 n.body found.1
 
-pub view_nameless : (o : Option Node) → IsNameless o → IsNamelessView (option_map view_of_node o)
-view_nameless o is = (length is.bytes, ap (option_map view_of_node) is.is)
+pub counts_nameless : (o : Option Node) → IsNameless o → AreNameless (option_map counts_of (option_map view_of_node o))
+counts_nameless o is = (length is.bytes, ap (λ (n : Option Node). option_map counts_of (option_map view_of_node n)) is.is)
 
 -- it stands at an inode
 pub its_inode : (g : Sizes) (s : Store) (i : ℕ) → IsNameless (graph g s i) → IsInode i

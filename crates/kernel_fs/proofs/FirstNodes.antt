@@ -1,11 +1,12 @@
 -- Which inodes are nodes, one after the other.
 use Rattle.std.proofs.Common.{◌≡◌, ◌≢◌, inl, inr, ℕ, ◌+◌, ◌<◌, ◌≤◌, ◌==◌, ◌||◌, Bool, true, false, Option, Some, None, refl, ap, sym, ◌∙◌, arith}
-use Rattle.std.specs.Prelude.{option_map}
+use Rattle.std.specs.Prelude.{is_some, option_map}
 use Rattle.std.proofs.Math.Decide.{dec_le}
 use Rattle.std.proofs.lemmas.Bool.Decides.{eqb_tells, nat_tests}
 use Rattle.digester.specs.file_graph.Graph.{Graph, Node}
 use Rattle.digester.specs.layout.Places.{Sizes, is_inode}
-use Rattle.world_invariant.specs.call_effects.NodeView.{NodeView, view_of_node}
+use Rattle.world_invariant.specs.call_effects.NodeView.{view_of_node}
+use Rattle.digester.specs.record_validation.Counts.{counts_of}
 use Rattle.digester.specs.area_image.Store.{Store, graph}
 use Rattle.digester.proofs.shared_area_lemmas.Entries.{no_view}
 use Rattle.world_invariant.specs.LeaseSteps.{also}
@@ -16,9 +17,10 @@ pub no_node : (o : Option Node) → None ≡ option_map view_of_node o → is_no
 no_node None view = refl
 no_node (Some n) view = absurd (cc view)
 
-pub a_node : (o : Option Node) (v : NodeView) → Some v ≡ option_map view_of_node o → is_node o ≡ true
-a_node None v view = absurd (cc view)
-a_node (Some n) v view = refl
+-- where a node stands, it has numbers
+pub counted_node : (o : Option Node) → is_some (option_map counts_of (option_map view_of_node o)) ≡ is_node o
+counted_node None = refl
+counted_node (Some n) = refl
 
 module _ (g : Sizes) (s : Store) where
   outside : (i : ℕ) → is_inode i ≡ false → is_node (graph g s i) ≡ false

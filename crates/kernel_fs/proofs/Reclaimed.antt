@@ -14,7 +14,7 @@ use Rattle.digester.specs.shared_area.declared.error.ApplyError.{ApplyError}
 use Rattle.digester.specs.shared_area.declared.error.ApplyError.TheVariants as apply
 use Rattle.digester.specs.shared_area.GraphUpdate.{AppliesOrStays}
 use Rattle.digester.specs.area_image.Looks.{Looks}
-use Rattle.digester.specs.Errors.{IsAreaError, IsChangeError}
+use Rattle.digester.specs.Errors.{IsChangeError}
 use Rattle.digester.specs.file_graph.Graph.{Node}
 use Rattle.world_invariant.specs.Logs.{IsNameless}
 use Rattle.kernel_fs.specs.Nodes.{is_node}
@@ -80,26 +80,16 @@ module _ {M : Type 0} (device : Ghosts M) (old new : JournalView M) where
     fault = λ is. absurd (other (err_is {T = Unit {0}} r errors.DeviceFault is));
   }
 
-  pub node_stays : {T : Type 0} (e : AreaError) (r : ReclaimError) → IsAreaError errors.DeviceFault errors.Memory e r → old.failed ≡ false → Looks {T = T} device old new (Err e) → ReclaimsOrStays device old new (Err r)
-  node_stays area.DeviceFault r told going a = subst (λ (x : ReclaimError). ReclaimsOrStays device old new (Err x)) (sym told) (record {
+  pub fault_looked : {T : Type 0} (e : AreaError) → e ≡ area.DeviceFault → old.failed ≡ false → Looks {T = T} device old new (Err e) → ReclaimsOrStays device old new (Err errors.DeviceFault)
+  fault_looked e is going a = record {
     unmoved = λ _. a.unmoved;
     geometry = a.geometry;
     more_faults = a.more_faults;
     one_fault = a.one_fault;
     quiet = tt;
     quiet_refused = λ other. absurd (other refl);
-    fault = λ _. (let f = a.fault refl in (f.0, elim (f.1) [ inl was ↦ absurd (true≢false (sym was ∙ going)) | inr rose ↦ rose ]));
-  })
-  node_stays (area.Damaged what block) r told going a = absurd told
-  node_stays area.Memory r told going a = subst (λ (x : ReclaimError). ReclaimsOrStays device old new (Err x)) (sym told) (record {
-    unmoved = λ _. a.unmoved;
-    geometry = a.geometry;
-    more_faults = a.more_faults;
-    one_fault = a.one_fault;
-    quiet = tt;
-    quiet_refused = λ _. (let q = a.quiet_refused (λ is. cc) in (q.0, q.2));
-    fault = λ is. absurd (not_fault (err_is {T = Unit {0}} errors.Memory errors.DeviceFault is));
-  })
+    fault = λ _. (let f = a.fault is in (f.0, elim (f.1) [ inl was ↦ absurd (true≢false (sym was ∙ going)) | inr rose ↦ rose ]));
+  }
 
 -- a change behind a look
 module _ {M : Type 0} (device : Ghosts M) (old mid new : JournalView M) where
@@ -137,17 +127,6 @@ module _ {M : Type 0} (device : Ghosts M) (old : JournalView M) where
   }
 
 -- a fault and want of memory are told as such
-pub told_no_use : (e : AreaError) (r : ReclaimError) → IsAreaError errors.DeviceFault errors.Memory e r → ◌≡◌ {A = Result (Unit {0}) ReclaimError} (Err r) (Err errors.InUse) → ⊥
-told_no_use area.DeviceFault r told is = cc (told, is)
-told_no_use (area.Damaged what block) r told is = told
-told_no_use area.Memory r told is = cc (told, is)
-
--- memory is told to be wanted where the area told so
-pub told_memory : (e : AreaError) (r : ReclaimError) → IsAreaError errors.DeviceFault errors.Memory e r → ◌≡◌ {A = Result (Unit {0}) ReclaimError} (Err r) (Err errors.Memory) → e ≡ area.Memory
-told_memory area.DeviceFault r told is = absurd (cc (told, is))
-told_memory (area.Damaged what block) r told is = absurd told
-told_memory area.Memory r told is = refl
-
 pub change_no_use : (e : ApplyError) (r : ReclaimError) → IsChangeError errors.DeviceFault errors.Memory e r → ◌≡◌ {A = Result (Unit {0}) ReclaimError} (Err r) (Err errors.InUse) → ⊥
 change_no_use apply.DeviceFault r told is = cc (told, is)
 change_no_use apply.NoBlock r told is = told

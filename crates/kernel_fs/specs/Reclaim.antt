@@ -13,7 +13,8 @@ use Rattle.digester.specs.area_image.Store.{Store, store_of, slot, place, graph,
 use Rattle.digester.specs.area_image.Reads.{Loose}
 use Rattle.digester.specs.area_image.Format.{IsOpenable}
 use Rattle.digester.specs.shared_area.Ready.{OpensAs}
-use Rattle.world_invariant.specs.call_effects.NodeView.{NodeView, FileView}
+use Rattle.digester.specs.record_validation.declared.node_counts.NodeCounts.{NodeCounts}
+use Rattle.digester.specs.record_validation.declared.node_counts.NodeCounts.TheVariants as counts
 use Rattle.world_invariant.specs.Logs.{IsNameless}
 use Rattle.kernel_fs.specs.Book.{Accounts, is_pinned}
 use Rattle.kernel_fs.specs.declared.error.ReclaimError.{ReclaimError}
@@ -55,6 +56,6 @@ pub record ReclaimsOrStays {M : Type 0} (device : Ghosts M) (old new : JournalVi
 
 -- ---- how it is found out
 
--- The view is that of a file that has no name.
-abbrev pub IsNamelessView : Option NodeView → Type 0
-IsNamelessView v = (size : ℕ) × (v ≡ Some (FileView 0 size))
+-- These are the numbers of a file that has no name.
+abbrev pub AreNameless : Option NodeCounts → Type 0
+AreNameless x = (size : ℕ) × (x ≡ Some (counts.File 0 size))

@@ -86,6 +86,7 @@ pub fn digest_at_mark<M: Media>(
     let first = log.digested_count() as usize;
     match digest_chunk(alloc, area, log, chunk) {
         Ok(()) => {
+            // For the proof: the records within which the digested ones end.
             log.invariant();
             let end = log.digested_count() as usize;
             follow(book, nodes, log.client(), &log.records()[first..end]);

@@ -11,41 +11,26 @@ ghost use Rattle.digester.specs.batch_journal.Course.{Unmoved};
 ghost use Rattle.digester.specs.shared_area.declared.error.ApplyError.TheVariants.{NoBlock};
 ghost use Rattle.digester.specs.shared_area.ChangeApply.{MakesFewCalls};
 ghost use Rattle.digester.specs.area_image.Map.{WantsMemory};
-ghost use Rattle.digester.specs.shared_area.Parts.{IsNoDamage};
-ghost use Rattle.digester.specs.Errors.{IsAreaError, IsChangeError};
+ghost use Rattle.digester.specs.Errors.{IsChangeError};
 ghost use Rattle.world_invariant.specs.Logs.{IsNameless};
-ghost use Rattle.kernel_fs.specs.Reclaim.{IsNamelessView, IsReclaimed, StaysOrReclaims, ReclaimsOrStays};
+ghost use Rattle.kernel_fs.specs.Reclaim.{AreNameless, IsReclaimed, StaysOrReclaims, ReclaimsOrStays};
 ghost use Rattle.kernel_fs.specs.declared.error.ReclaimError.TheVariants.{DeviceFault, InUse, Memory};
 
 use crate::error::ReclaimError;
 use digester::{
-    ApplyError, AreaError, Effect, GraphChange, Media, NodeCounts, NodeSummary, Shared,
-    changes_are_the_effects, changes_keep_to_the_limits, marks_can_be_written,
+    ApplyError, Effect, GraphChange, Media, NodeCounts, Shared, changes_are_the_effects,
+    changes_keep_to_the_limits, marks_can_be_written,
 };
 use std::alloc::Global;
 
 // Whether what stands at an inode is a file that has no name.
-fn is_nameless(found: &Option<NodeSummary>) -> bool
-    ensures { IsTrue result ↔ IsNamelessView found.now }
+fn is_nameless(found: Option<NodeCounts>) -> bool
+    ensures { IsTrue result ↔ AreNameless found }
 {
     match found {
-        Some(node) => match node.counts() {
-            NodeCounts::File { names, .. } => names == 0,
-            NodeCounts::Directory { .. } => false,
-        },
+        Some(NodeCounts::File { names, .. }) => names == 0,
+        Some(NodeCounts::Directory { .. }) => false,
         None => false,
-    }
-}
-
-// Why the inode could not be looked at; no damage is found on media that are opened.
-fn node_error(error: AreaError) -> ReclaimError
-    requires { IsNoDamage error }
-    ensures { IsAreaError DeviceFault Memory error result }
-{
-    match error {
-        AreaError::DeviceFault => ReclaimError::DeviceFault,
-        AreaError::Damaged { .. } => unreachable!(),
-        AreaError::Memory => ReclaimError::Memory,
     }
 }
 
@@ -90,11 +75,13 @@ fn drop_node<M: Media>(
     ensures stays { ReclaimsOrStays M.Media area.old area.new result }
     ensures at_most { MakesFewCalls area.old.geometry (disk M.Media area.old) (coalesced_changes (effect.Drop inode ∷ [])) (M.moment area.old.media) (M.moment area.new.media) (M.left area.old.media) (M.left area.new.media) }
 {
+    // For the proof: the area opens, and the change is the effect and keeps to the limits.
     area.left_now();
     changes_are_the_effects();
     changes_keep_to_the_limits();
     // a file that is dropped is no digest
     let marks = area.marks();
+    // For the proof: they fit the format.
     marks_can_be_written(marks);
     match area.apply(change, marks) {
         Ok(()) => Ok(()),
@@ -112,6 +99,7 @@ fn drop_file<M: Media>(alloc: Global, area: &mut Shared<M>, inode: u32) -> Resul
     ensures stays { ReclaimsOrStays M.Media area.old area.new result }
     ensures at_most { MakesFewCalls area.old.geometry (disk M.Media area.old) (coalesced_changes (effect.Drop inode ∷ [])) (M.moment area.old.media) (M.moment area.new.media) (M.left area.old.media) (M.left area.new.media) }
 {
+    // For the proof: a stop leaves what opens as before.
     area.left_now();
     match drop_change(alloc, inode) {
         Ok(change) => drop_node(area, inode, &change),
@@ -136,14 +124,15 @@ pub fn drop_nameless<M: Media>(
     ensures stays { ReclaimsOrStays M.Media area.old area.new result }
     ensures at_most { MakesFewCalls area.old.geometry (disk M.Media area.old) (coalesced_changes (effect.Drop inode ∷ [])) (M.moment area.old.media) (M.moment area.new.media) (M.left area.old.media) (M.left area.new.media) }
 {
+    // For the proof: a stop leaves what opens as before.
     area.left_now();
-    match area.node(inode) {
+    match area.node_counts(inode) {
         Ok(found) => {
-            if !is_nameless(&found) {
+            if !is_nameless(found) {
                 return Err(ReclaimError::InUse);
             }
             drop_file(alloc, area, inode)
         }
-        Err(error) => Err(node_error(error)),
+        Err(_) => Err(ReclaimError::DeviceFault),
     }
 }

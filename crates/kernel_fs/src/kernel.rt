@@ -104,10 +104,8 @@ impl<M: Media> Model for Kernel<M> {
 }
 
 impl<M: Media> Kernel<M> {
-    /// The kernel over shared media that are opened: nothing is granted, pinned or accepted. It reads each inode once. Where each mark stands before a region, the kernel stands for the machine that was just
-    /// opened over the graph, whatever it has of the records that were digested before.
-    ///
-    /// The area is given back with a refusal: `DeviceFault` where a device has failed or fails, `Memory` where there was none for an extent block or an entry of some inode.
+    /// The kernel over shared media that are opened: nothing is granted, pinned or accepted. It reads the slot of each inode once. Where each mark stands before a region, the kernel stands for the machine that
+    /// was just opened over the graph, whatever it has of the records that were digested before. The area is given back with its one refusal, `DeviceFault`, where a device has failed or fails.
     pub fn open(alloc: Global, area: Shared<M>) -> Result<Self, (AreaError, Shared<M>)>
         ensures opens { IfOk result (λ k. (marks : ℕ → ℕ) → StandBeforeRegions (disk M.Media k.area) → IsKernelOf M.Media k (opened_machine (graph k.area.geometry (disk M.Media k.area)) k.area.geometry.units marks)) }
         ensures out { IfOk result (λ k. out_of k.book ≡ 0) }
@@ -120,6 +118,7 @@ impl<M: Media> Kernel<M> {
         let mut area = area;
         match nodes_of(&mut area) {
             Ok(nodes) => {
+                // For the proof: there are marks.
                 let _marks = area.marks();
                 let began = OpenedFrom::of(&area);
                 Ok(Kernel {
@@ -163,6 +162,7 @@ impl<M: Media> Kernel<M> {
     pub fn history(&self)
         ensures { self.now.area.failed ≡ false → EndsRun M.Media self.now }
     {
+        // For the proof: the invariant of a kernel is at hand.
         let _failed = self.area.has_failed();
     }
 
@@ -194,8 +194,7 @@ impl<M: Media> Kernel<M> {
     /// Bytes of a file from a logical block on, of 4,096 bytes each, into the front of the buffer, as many as the file and the buffer have; holes as zeros. It answers how many bytes: none behind the end, or where
     /// there is no file. Beside it the mark of the client that asks.
     ///
-    /// Its device calls are reads. `DeviceFault` where a device failed, `Memory` where there was none for an extent block.
-    /// After a refusal the front of the buffer may have been read.
+    /// Its device calls are reads. `DeviceFault` where a device failed, `Memory` where there was none for an extent block. After a refusal the front of the buffer may have been read.
     pub fn blocks(
         &mut self,
         client: u32,
@@ -281,8 +280,7 @@ impl<M: Media> Kernel<M> {
 
     /// Grants a client units and the lowest inode numbers that are free: those from 2 on that are no node of the shared graph and in no account. It makes no device call.
     ///
-    /// `NoUnits` exactly where what is charged, what is out and what is asked for pass the capacity; `NoInode` exactly where they don't, but fewer numbers are free than asked. After each refusal nothing has
-    /// changed.
+    /// `NoUnits` exactly where what is charged, what is out and what is asked for pass the capacity; `NoInode` exactly where they don't, but fewer numbers are free than asked. Nothing has changed then.
     pub fn refill(
         &mut self,
         client: u32,
@@ -399,8 +397,7 @@ impl<M: Media> Kernel<M> {
 
     /// Accepts a region that a client sealed, before any of its records is digested. It makes no device call.
     ///
-    /// `NotAtMark` exactly where it does not stand at its client's mark; `AlreadyAccepted` exactly where it does, but records of that client are waiting, which were accepted from that same region. After each refusal
-    /// nothing has changed.
+    /// `NotAtMark` exactly where it does not stand at its client's mark; `AlreadyAccepted` exactly where it does, but records of that client are waiting, which were accepted from it. Nothing has changed then.
     pub fn accept(&mut self, log: &SealedLog) -> Result<(), KernelError<AcceptError>>
         requires some { HasUndigested log.now }
         ensures accepted { OnOk result (HasAsManyWaiting self.new.book log.now) }
@@ -421,6 +418,7 @@ impl<M: Media> Kernel<M> {
         if !log.stands_at(&self.area.marks()) {
             return Err(KernelError::Refused(AcceptError::NotAtMark));
         }
+        // For the proof: its client is one of the book's.
         log.invariant();
         let client = log.client();
         if self.book.account(client).waiting != 0 {
@@ -446,7 +444,6 @@ impl<M: Media> Kernel<M> {
     ) -> Result<Digestion, KernelError<DigestError>>
         requires some { HasUndigested log.old }
         requires chunk { IsChunkOf log.old chunk.now }
-
         ensures any_moment { self.old.area.failed ≡ false → BeginsAtMark log.old chunk.now (disk M.Media self.old.area) → HasAsManyWaiting self.old.book log.old → StaysOrDigests self.old.area.geometry (disk M.Media self.old.area) log.old chunk.now.count (M.moment self.old.area.media) (M.moment self.new.area.media) (M.left self.old.area.media) (M.left self.new.area.media) }
 
         // What is answered, and what has changed then.
@@ -479,6 +476,7 @@ impl<M: Media> Kernel<M> {
         if self.area.has_failed() {
             return Err(KernelError::Failed);
         }
+        // For the proof: its client is one of the book's.
         log.invariant();
         if !begins_at_mark(&self.area, log, chunk) {
             return Ok(Digestion::NotNext);
@@ -505,8 +503,8 @@ impl<M: Media> Kernel<M> {
     /// Drops the file at an inode that has no name and that nobody has pinned: its slot, its blocks and its units are free again. The marks stay, with their number of digests, which counts digests alone. At
     /// each moment a stop leaves the graph with the file or without it, and the same marks.
     ///
-    /// `InUse` exactly where there is no such file: one that has a name or a pin, a directory, or nothing at all. A pin, and that nothing is there, is told before any device is asked. `Memory` where there was none: for an extent block or
-    /// an entry of what stands there, or for the change. After these nothing has changed. `DeviceFault` where a device failed.
+    /// `InUse` exactly where there is no such file: one that has a name or a pin, a directory, or nothing at all. A pin, and that nothing is there, is answered before any device is asked. `Memory` where
+    /// there was none for the change. After these nothing has changed. `DeviceFault` where a device failed.
     pub fn reclaim(&mut self, inode: u32) -> Result<(), KernelError<ReclaimError>>
         ensures any_moment { self.old.area.failed ≡ false → StaysOrReclaims self.old.area.geometry (disk M.Media self.old.area) inode (M.moment self.old.area.media) (M.moment self.new.area.media) (M.left self.old.area.media) (M.left self.new.area.media) }
         ensures unused { OnOk result (IsUnused (graph self.old.area.geometry (disk M.Media self.old.area)) self.old.book inode) }
@@ -527,6 +525,7 @@ impl<M: Media> Kernel<M> {
         if self.area.has_failed() {
             return Err(KernelError::Failed);
         }
+        // For the proof: a stop leaves what opens as before.
         self.area.left_now();
         if self.book.is_pinned(inode) {
             return Err(KernelError::Refused(ReclaimError::InUse));
@@ -544,7 +543,6 @@ impl<M: Media> Kernel<M> {
 
     /// What is to be moved to a tier next: of the files that have a block in the tier next above it the one with the least touch number, of several the one with the least inode, with its first run there, of 256
     /// blocks at most. `None` where no file has a block there, and for the fast tier. It changes nothing.
-    ///
     /// It reads the slot and the extents of each inode. `DeviceFault` where a device failed, `Memory` where there was none for an extent block.
     pub fn pick(&mut self, to: Tier) -> Result<Option<FileRun>, KernelError<AreaError>>
         ensures picked { IfOk result (IsPicked self.old.area.geometry (disk M.Media self.old.area) to) }
@@ -569,9 +567,8 @@ impl<M: Media> Kernel<M> {
     /// lay, or all of it moved.
     ///
     /// The refusals, in this order: `NotMapped` exactly where there is no file at the inode, the run has no block or more than 256, or some block of it lies in no tier that is faster than `to`; `NoBlock` exactly
-    /// where fewer data blocks of `to` are free than the run has. After these nothing has changed, nor after `Memory`. `DeviceFault` where a device failed.
-    ///
-    /// Of writes and fences there are at most one for each block of the run and 13 more.
+    /// where fewer data blocks of `to` are free than the run has. After these nothing has changed, nor after `Memory`. `DeviceFault` where a device failed. Of writes and fences there are at most one for each block of
+    /// the run and 13 more.
     pub fn migrate(
         &mut self,
         inode: u32,

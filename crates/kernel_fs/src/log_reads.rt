@@ -11,6 +11,7 @@ use digester::SealedLog;
 pub fn undigested_count(log: &SealedLog) -> u32
     ensures { result ≡ length (undone log.now) }
 {
+    // For the proof: no more are digested than it has.
     log.invariant();
     log.count() - log.digested_count()
 }
@@ -19,6 +20,7 @@ pub fn undigested_count(log: &SealedLog) -> u32
 pub fn has_as_many_waiting(book: &Book, log: &SealedLog) -> bool
     ensures { IsTrue result ↔ HasAsManyWaiting book.now log.now }
 {
+    // For the proof: its client is one of the book's.
     log.invariant();
     book.account(log.client()).waiting == undigested_count(log)
 }

@@ -2,10 +2,8 @@
 
 ghost use Rattle.std.specs.Prelude.{◌≡◌, ◌≤◌, ◌<◌, ◌+◌, ℕ, false, IfOk, IfErr};
 ghost use Rattle.digester.specs.area_image.Store.{disk, graph};
-ghost use Rattle.digester.specs.area_image.declared.error.AreaError.TheVariants.{Memory};
+ghost use Rattle.digester.specs.area_image.declared.error.AreaError.TheVariants.{DeviceFault};
 ghost use Rattle.digester.specs.area_image.Looks.{Looks};
-ghost use Rattle.digester.specs.area_image.Map.{WantsMemory};
-ghost use Rattle.digester.specs.shared_area.Parts.{IsNoDamage};
 ghost use Rattle.kernel_fs.specs.Inodes.{IsInode, has};
 ghost use Rattle.kernel_fs.specs.Nodes.{AreNodes, is_node};
 ghost use Rattle.kernel_fs.specs.NodeScan.{AreNodesBelow};
@@ -13,16 +11,14 @@ ghost use Rattle.kernel_fs.specs.NodeScan.{AreNodesBelow};
 use crate::InodeSet;
 use digester::{AreaError, MAX_INODE, Media, Shared};
 
-// Whether an inode is a node.
+// Whether an inode is a node, as its slot tells.
 fn is_there<M: Media>(area: &mut Shared<M>, inode: u32) -> Result<bool, AreaError>
     ensures answer { IfOk result (λ b. b ≡ is_node (graph area.old.geometry (disk M.Media area.old) inode)) }
-    ensures only { IfErr result IsNoDamage }
-    ensures memory { IfErr result (λ e. e ≡ Memory → WantsMemory area.old.geometry (disk M.Media area.old) inode) }
+    ensures only { IfErr result (λ e. e ≡ DeviceFault) }
     ensures looks { Looks M.Media area.old area.new result }
 {
-    match area.node(inode) {
-        Ok(Some(_)) => Ok(true),
-        Ok(None) => Ok(false),
+    match area.node_counts(inode) {
+        Ok(found) => Ok(found.is_some()),
         Err(error) => Err(error),
     }
 }
@@ -36,8 +32,7 @@ fn add_node<M: Media>(
     requires inode { IsInode inode }
     requires below { AreNodesBelow (graph area.old.geometry (disk M.Media area.old)) inode (has nodes.old) }
     ensures below { IfOk result (λ _. AreNodesBelow (graph area.old.geometry (disk M.Media area.old)) (inode + 1) (has nodes.new)) }
-    ensures only { IfErr result IsNoDamage }
-    ensures memory { IfErr result (λ e. e ≡ Memory → WantsMemory area.old.geometry (disk M.Media area.old) inode) }
+    ensures only { IfErr result (λ e. e ≡ DeviceFault) }
     ensures looks { Looks M.Media area.old area.new result }
 {
     match is_there(area, inode) {
@@ -50,11 +45,10 @@ fn add_node<M: Media>(
     }
 }
 
-/// The inodes that are nodes of the graph that the area spells.
+/// The inodes that are nodes of the graph that the area spells. It reads the slot of each, and takes no memory.
 pub fn nodes_of<M: Media>(area: &mut Shared<M>) -> Result<InodeSet, AreaError>
     ensures nodes { IfOk result (λ nodes. AreNodes (graph area.old.geometry (disk M.Media area.old)) (has nodes)) }
-    ensures only { IfErr result IsNoDamage }
-    ensures memory { IfErr result (λ e. e ≡ Memory → (i : ℕ) × WantsMemory area.old.geometry (disk M.Media area.old) i) }
+    ensures only { IfErr result (λ e. e ≡ DeviceFault) }
     ensures looks { Looks M.Media area.old area.new result }
 {
     if area.has_failed() {

@@ -1,4 +1,4 @@
-// Media that are opened: what they tell, or what is damaged.
+// Media that are opened: what they hold, or what is damaged.
 ghost use Rattle.host_media.specs.tier_device.declared.media.Tier.{Tier};
 ghost use Rattle.host_media.specs.tier_device.AfterStop.{AtRest};
 
@@ -11,7 +11,7 @@ use script::Text;
 use std::alloc::Global;
 use std::fs;
 
-/// `U,F,B,S FILE`, and changes of it each behind a `;`: what the media of this file tell once they are opened.
+/// `U,F,B,S FILE`, and changes of it each behind a `;`: what the media of this file hold once they are opened.
 pub fn tell_opened(rt: &HostRuntime, input: &mut Input<'_>, out: &mut Text) {
     let alloc = input.alloc();
     if let Some(geometry) = input.geometry() {

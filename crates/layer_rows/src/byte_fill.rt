@@ -1,7 +1,7 @@
 // Bytes that are made, and bytes that are put over others.
 use std::alloc::{AllocError, Global};
 
-/// So many equal bytes.
+/// `size` equal bytes.
 pub fn equal_bytes(alloc: Global, byte: u8, size: usize) -> Result<Vec<u8>, AllocError> {
     Ok(vec![in alloc; byte; size]?)
 }

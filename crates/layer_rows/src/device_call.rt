@@ -65,7 +65,7 @@ fn make_write<M: Media>(
     Ok(put_answer(media.write(tier, at, &bytes), out)?)
 }
 
-// Reads so many bytes. After a refusal the buffer has to be as it was.
+// Reads `size` bytes. After a refusal the buffer has to be as it was.
 fn read<M: Media>(
     alloc: Global,
     media: &mut M,

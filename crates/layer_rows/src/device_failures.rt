@@ -14,6 +14,7 @@ pub enum Counter {
     Own,
 }
 
+/// What media count by, in the order in which rows try them.
 pub const COUNTERS: [Counter; 2] = [Counter::Trip, Counter::Own];
 
 /// The write or fence within which a medium stops, the first being 1, and what unfenced bytes hold after it.

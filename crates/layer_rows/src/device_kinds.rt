@@ -13,13 +13,14 @@ pub enum Kind {
     File,
 }
 
+/// The kinds of medium, in the order in which rows try them.
 pub const KINDS: [Kind; 3] = [Kind::Memory, Kind::Ram, Kind::File];
 
 /// The file of a medium, which is taken away after each row.
 pub const PATH: &str = "medium";
 
-/// What a medium of this kind answers to these calls, and what it then holds: its tiers have so many bytes, all zero before the
-/// first call. A file tells what it holds once it was closed and opened again.
+/// What a medium of this kind answers to these calls, and what it then holds: its tiers have these sizes, all zero before the
+/// first call. A file is closed and opened again before what it holds is read.
 pub fn device_report(rt: &HostRuntime, kind: Kind, sizes: Sizes, calls: &str) -> Result<String> {
     match kind {
         Kind::Memory => by_memory(rt.alloc(), sizes, calls),
@@ -44,7 +45,7 @@ fn by_memory(alloc: Global, sizes: Sizes, calls: &str) -> Result<String> {
     media_report(alloc, media, calls)
 }
 
-/// A medium in memory whose tiers have so many bytes, all zero.
+/// A medium in memory whose tiers have these sizes, all zero.
 pub fn memory(alloc: Global, sizes: Sizes) -> Result<MemMedia, AllocError> {
     let (fast, block, slow) = zeros(alloc, sizes)?;
     Ok(MemMedia::of_bytes(alloc, fast, block, slow)?)

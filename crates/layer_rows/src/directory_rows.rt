@@ -7,7 +7,7 @@ use plain_tree::Kind;
 use script::Text;
 use std::alloc::{AllocError, Global};
 
-/// `whole-directory OWNER COUNT BLOCK AT SIZE`: how many blocks so many entries take, how many of these are spelled by the same
+/// `whole-directory OWNER COUNT BLOCK AT SIZE`: how many blocks `COUNT` entries take, how many of these are spelled by the same
 /// bytes once they were read, how many are read as the entries that they were made of, and some bytes of one block.
 pub fn tell_directory(input: &mut Input<'_>, out: &mut Text) {
     let mut walk = Walk {

@@ -42,7 +42,7 @@ fn put_head(images: usize, is_same: bool, out: &mut Text) {
     });
 }
 
-// What there is to tell of a journal's head.
+// The text of a journal's head.
 #[derive(Clone, Copy)]
 enum Spelled {
     Shut,

@@ -43,7 +43,7 @@ impl Image {
         }
     }
 
-    /// `set TIER BLOCK BYTE DATA` puts bytes over those of a block from one on, `noise TIER BLOCK COUNT SEED` others over so many bytes from the start of a block on.
+    /// `set TIER BLOCK BYTE DATA` puts bytes over those of a block from one on, `noise TIER BLOCK COUNT SEED` `COUNT` others over those from the start of a block on.
     pub fn change(&mut self, words: &mut Input<'_>) {
         let kind = words.word();
         let word = words.word();
@@ -113,7 +113,7 @@ fn overwrite(bytes: &mut [u8], at: usize, text: &[u8]) -> bool {
     true
 }
 
-// So many bytes that a seed leads to.
+// `count` bytes that a seed leads to.
 fn noise(alloc: Global, count: u32, seed: u32) -> Result<Vec<u8>, AllocError> {
     let mut bytes = Vec::new(alloc);
     let mut state = seed;

@@ -13,6 +13,7 @@ pub struct Input<'a> {
 }
 
 impl<'a> Input<'a> {
+    /// Makes the input of a row of this text, from its first byte on.
     pub fn new(alloc: Global, text: &'a str) -> Self {
         Input {
             alloc,
@@ -21,6 +22,7 @@ impl<'a> Input<'a> {
         }
     }
 
+    /// Returns the allocator for what is read.
     pub fn alloc(&self) -> Global {
         self.alloc
     }
@@ -30,7 +32,7 @@ impl<'a> Input<'a> {
         self.is_bad
     }
 
-    /// Tells that something can't be read.
+    /// Notes that something can't be read.
     pub fn fail(&mut self) {
         self.is_bad = true;
     }
@@ -42,6 +44,7 @@ impl<'a> Input<'a> {
         part
     }
 
+    /// Reads to the next space, or to the end.
     pub fn word(&mut self) -> &'a str {
         self.part(' ')
     }
@@ -53,6 +56,7 @@ impl<'a> Input<'a> {
         rest
     }
 
+    /// Reads a decimal number to the next space, or to the end. 0, and the input is bad from then on, where none stands there.
     pub fn number(&mut self) -> u32 {
         self.number_before(' ')
     }

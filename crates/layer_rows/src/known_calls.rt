@@ -5,9 +5,9 @@ use call_effects::{MAX_INODE, ROOT, Reply};
 use plain_tree::{Kind, PlainGraph};
 use script::{CallText, Line, read_line};
 
-/// Answers a line from just the nodes that its client asks for, and compares graph and tree after it. Tells the reply, the inodes by
+/// Answers a line from just the nodes that its client asks for, and compares graph and tree after it. Prints the reply, the inodes by
 /// which the call was decided, those that were known once it was recorded, the units by which it might raise the graph, and the
-/// blocks that it asked for. The line `draw N` asks N calls that are drawn, and tells how many of them were not refused.
+/// blocks that it asked for. The line `draw N` asks N calls that are drawn, and prints how many of them were not refused.
 pub fn tell_line(beside: &mut Beside, line: &str, out: &mut String) {
     match line.strip_prefix("draw ") {
         Some(count) => tell_draws(beside, count.parse::<u64>().unwrap_or(0), out),
@@ -72,7 +72,7 @@ fn is_done(beside: &Beside) -> bool {
     }
 }
 
-// The graph and the tree tell the same of each path and of each file that is open, and each entry tells what its node is.
+// The graph and the tree answer the same for each path and for each file that is open, and each entry names its node's kind.
 fn look_at_all(beside: &mut Beside) {
     for path in &PATHS {
         look(beside, "1 stat ", path, "");
@@ -96,7 +96,7 @@ fn look(beside: &mut Beside, call: &str, what: &str, behind: &str) {
     }
 }
 
-// Whether each entry of a directory tells what its node is.
+// Whether each entry of a directory names its node's kind.
 fn are_kinds(graph: &PlainGraph, inode: u32) -> bool {
     let mut are = true;
     for entry in graph.entries(inode).unwrap_or(&[]) {

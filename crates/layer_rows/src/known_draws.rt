@@ -32,6 +32,7 @@ pub struct Draws {
 }
 
 impl Draws {
+    /// Begins the row of numbers anew.
     pub fn new() -> Self {
         Draws { state: 1 }
     }

@@ -4,7 +4,7 @@ use crate::known_comparison::Beside;
 use std::alloc::Global;
 use std::io;
 
-/// Tries the rows of clients that know a part of a tree. Prints each line that is told otherwise, and then how many rows hold; whether all
+/// Tries the rows of clients that know a part of a tree. Prints each line that reads otherwise, and then how many rows hold; whether all
 /// do.
 pub fn try_known(rt: &HostRuntime, table: &str) -> io::Result<bool> {
     let mut rows = Rows::new(rt.alloc());
@@ -13,7 +13,7 @@ pub fn try_known(rt: &HostRuntime, table: &str) -> io::Result<bool> {
     Ok(rows.held == rows.count)
 }
 
-// How many rows hold, and what is told of the others. A piece for which there is no memory is left out.
+// How many rows hold, and the report of the others. A piece for which there is no memory is left out.
 #[derive(Drop)]
 struct Rows {
     alloc: Global,

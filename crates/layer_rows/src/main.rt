@@ -1,7 +1,7 @@
 //! Holds tables of rows against the crates below the shared area's writers, each section of standard input a table: formats, media
 //! that are opened, the trees on them, devices, clients that know a part of a tree, and the names of errors.
 //!
-//! A section begins with a line `%% NAME`, and its head tells the form of its rows. Each row that does not hold is printed with what
+//! A section begins with a line `%% NAME`, and its head says what form its rows have. Each row that does not hold is printed with what
 //! is said in place of its answer, then how many rows of the section hold; the status is 1 where one does not.
 #![tactic(auto)]
 

@@ -12,7 +12,7 @@ use host_media::{Media, MemMedia, Tier};
 use script::{HEADER, REGION_SIZE, Region, RegionError, Stage, Text};
 use std::alloc::{AllocError, Global};
 
-/// `region SIZE DATA ..`: the stage, the room and the records of a region whose medium has so many bytes, with zeros behind the
+/// `region SIZE DATA ..`: the stage, the room and the records of a region whose medium has `SIZE` bytes, with zeros behind the
 /// data.
 pub fn tell_region(input: &mut Input<'_>, out: &mut Text) {
     let size = input.number() as usize;

@@ -6,12 +6,12 @@ use std::io;
 
 /// Who is asked by the rows of a table.
 pub trait Teller {
-    /// Tells what there is to tell of a row's input, and notes there what can't be read.
+    /// Writes the text for a row's input, and notes there what can't be read.
     fn tell(&self, rt: &HostRuntime, input: &mut Input<'_>, out: &mut Text);
 }
 
 /// Tries the rows of a table. Prints each row that does not hold, with what is said in place of its answer, and then how many rows
-/// hold. Whether all hold, and there was memory to tell it.
+/// hold. Whether all hold, and there was memory to say so.
 pub fn try_rows<T: Teller>(rt: &HostRuntime, teller: &T, table: &str) -> io::Result<bool> {
     let mut rows = Rows::new(rt.alloc());
     rows.try_table(rt, teller, table);
@@ -19,7 +19,7 @@ pub fn try_rows<T: Teller>(rt: &HostRuntime, teller: &T, table: &str) -> io::Res
     Ok(rows.hold())
 }
 
-// How many rows hold, and what is told of the others.
+// How many rows hold, and the report of the others.
 #[derive(Drop)]
 struct Rows {
     held: u64,

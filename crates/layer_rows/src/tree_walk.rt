@@ -42,7 +42,7 @@ struct Path {
     text: Text,
 }
 
-// What is told of the paths that were looked at, the paths that are left, and whether there was no memory for some of them.
+// The report of the paths that were looked at, the paths that are left, and whether there was no memory for some of them.
 #[derive(Drop)]
 struct Walk<M: Media + Drop> {
     alloc: Global,

@@ -131,7 +131,7 @@ impl<M: Media + Drop> Walk<M> {
         }
     }
 
-    // Reads a block, and tells its number.
+    // Reads a block, and prints its number.
     fn put_number(&mut self, number: u32, out: &mut Text) {
         self.read(number);
         out.field("; ", &number);

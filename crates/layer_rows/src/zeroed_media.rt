@@ -31,7 +31,7 @@ impl Image {
         }
     }
 
-    /// Puts what the lines tell, each up to this character, over what is there. Empty lines and comments say nothing.
+    /// Puts what the lines say, each up to this character, over what is there. Empty lines and comments say nothing.
     pub fn put(&mut self, input: &mut Input<'_>, end: char) {
         for line in input.remaining_text().split(end) {
             let line = line.trim();
@@ -82,7 +82,7 @@ impl Image {
         self.part(region_start(&self.geometry, index), REGION_SIZE)
     }
 
-    // So many bytes from a place on.
+    // `size` bytes from byte `at` on.
     fn part(&self, at: usize, size: usize) -> &[u8] {
         self.bytes.get(at..at.saturating_add(size)).unwrap_or(&[])
     }

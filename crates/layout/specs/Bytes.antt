@@ -5,11 +5,11 @@ pub use Rattle.file_graph.specs.Fields.{◌>>=◌, AreBytes, Field, byte_at, run
 unfoldable pub use Rattle.file_graph.specs.Fields.{u32, u64}
 use Rattle.tier_device.specs.Media as media
 
--- so many zero bytes
+-- n zero bytes
 unfoldable pub zeros : ℕ → List ℕ
 zeros n = replicate n 0
 
--- a text and zero bytes behind it, so many bytes in all
+-- a text and zero bytes behind it, n bytes in all
 unfoldable pub padded_text : ℕ → List ℕ → List ℕ
 padded_text n text = text ++ zeros (n - length text)
 
@@ -17,7 +17,7 @@ padded_text n text = text ++ zeros (n - length text)
 abbrev pub with_text : ℕ → List ℕ → List ℕ → List ℕ
 with_text at text bytes = media.overwritten bytes at text
 
--- so many fields of one kind, one after the other
+-- this number of fields of one kind, one after the other
 unfoldable pub items_at : {A : Type 0} → Field A → ℕ → Field (List A)
 items_at field zero bytes = Some ([], bytes)
 items_at field (suc n) bytes = do
@@ -35,7 +35,7 @@ text_at (t ∷ text) (b ∷ bytes) = if b == t then text_at text bytes else None
 abbrev pub are_zero : List ℕ → Bool
 are_zero bytes = list_all (λ b. b == 0) bytes
 
--- the value of a field in so many bytes, where those behind it are zero
+-- the value of a field in n bytes, where those behind it are zero
 abbrev pub within : {A : Type 0} → ℕ → Field A → List ℕ → Option A
 within n field bytes = if length bytes == n then (field bytes >>= λ x. if are_zero x.1 then Some x.0 else None) else None
 

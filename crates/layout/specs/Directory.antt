@@ -46,11 +46,11 @@ are_distinct es = all_pairs differ es
 abbrev pub fits_entries : EntryList → Bool
 fits_entries v = is_inode v.owner && nat_le (length v.entries) MAX_IN_BLOCK && list_all fits_entry v.entries && are_distinct v.entries
 
--- the text of so many bytes at the front of a field that is zero behind it
+-- the text of n bytes at the front of a field that is zero behind it
 abbrev pub front_of : ℕ → List ℕ → Option (List ℕ)
 front_of n field = if nat_le n (length field) && are_zero (drop n field) then Some (take n field) else None
 
--- the fields of an entry, whatever inode and name they tell
+-- the fields of an entry, whatever inode and name they give
 unfoldable pub fields_at : Field DirEntry
 fields_at bytes = do
   inode ← number_at 4 bytes
@@ -98,7 +98,7 @@ pub record IsEntryList (bytes : List ℕ) : Type 0 where
   pub few : length (block_entries bytes).entries ≤ MAX_IN_BLOCK
   pub long : length bytes ≡ BLOCK
 
--- a block of entries, no two of one name, and what its head tells
+-- a block of entries, no two of one name, and what its head says
 pub record IsRead (owner count : ℕ) (bytes : List ℕ) : Type 0 where
   pub list : IsEntryList bytes
   pub distinct : are_distinct (block_entries bytes).entries ≡ true

@@ -1,4 +1,4 @@
--- Values whose bytes a law tells.
+-- Values whose bytes a law states.
 use Rattle.std.specs.Prelude.{ℕ, [], ◌∷◌}
 use Rattle.file_graph.specs.declared.effect.Kind.TheVariants as kind
 use Rattle.layout.specs.declared.superblock.Super.{Super}

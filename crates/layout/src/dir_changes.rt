@@ -106,7 +106,7 @@ fn count_in(block: &[u8]) -> usize
     }
 }
 
-// Writes the last of so many entries over the one at a place.
+// Writes the last of `count` entries over the one at a place.
 fn copy_last(block: &mut [u8], count: usize, index: usize)
     requires entries { AreEntries block.old }
     requires count { count ≡ length (block_entries block.old).entries }
@@ -121,7 +121,7 @@ fn copy_last(block: &mut [u8], count: usize, index: usize)
     put(block, FIRST_ENTRY_AT + ENTRY_SIZE * index, &text);
 }
 
-// Takes the last of so many entries out.
+// Removes the last of `count` entries.
 fn drop_last(block: &mut [u8], count: usize)
     requires long { length block.old ≡ BLOCK }
     requires some { 0 < count }

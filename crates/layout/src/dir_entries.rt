@@ -130,6 +130,8 @@ fn head_of_list(block: &[u8]) -> Option<(u32, usize)>
     Some((owner, count as usize))
 }
 
+/// Reads the head of a directory's block: its owner and how many entries it has, and what is behind the head. `None` if
+/// the owner is no inode, if there are more than `MAX_IN_BLOCK` entries, or if the bytes are no head.
 #[tactic(auto, unfolding(crate::specs::Directory::head_at))]
 pub fn head_of(bytes: &[u8]) -> Option<((u32, u32), &[u8])>
     ensures { option_map (λ x. (x.0, x.1.now)) result ≡ head_at bytes.now }
@@ -152,7 +154,7 @@ fn gap_of(bytes: &[u8]) -> Option<&[u8]>
     text_of(&gap, bytes)
 }
 
-// What is behind so many entries.
+// What is behind `count` entries.
 fn behind_list(count: u32, bytes: &[u8]) -> Option<&[u8]>
     ensures { option_map (λ x. x.now) result ≡ option_map (λ x. x.1) (items_at entry_at count bytes.now) }
 {
@@ -193,6 +195,7 @@ fn differs_from(block: &[u8], first: usize, count: usize, name: &[u8]) -> bool
     true
 }
 
+/// Finds the first of the `count` entries of a block that has this name: its index from 0. `None` if none has.
 pub fn place_of(block: &[u8], count: usize, name: &[u8]) -> Option<usize>
     requires listed { IsEntryList block.now }
     requires count { count ≡ length (block_entries block.now).entries }

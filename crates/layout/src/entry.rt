@@ -38,6 +38,7 @@ impl<'a> EntryRef<'a> {
     }
 }
 
+/// Writes an entry at byte `at` of a block: 72 bytes.
 pub fn put_entry(block: &mut [u8], at: usize, entry: EntryRef<'_>)
     requires within { at + 72 ≤ length block.old }
     requires short { length entry.name.now ≤ MAX_NAME }
@@ -77,7 +78,7 @@ fn put_zeros(block: &mut [u8], at: usize)
     put(block, at, &text);
 }
 
-// The text of so many bytes at the front of a field that is zero behind it.
+// The text of `count` bytes at the front of a field that is zero behind it.
 fn front_of(count: usize, field: &[u8]) -> Option<&[u8]>
     ensures { option_map (λ x. x.now) result ≡ front_of count field.now }
 {
@@ -91,6 +92,8 @@ fn front_of(count: usize, field: &[u8]) -> Option<&[u8]>
     Some(name)
 }
 
+/// Reads the fields of an entry, whatever inode and name they give, and what is behind them. `None` if the bytes are no
+/// entry's.
 #[tactic(auto, unfolding(crate::specs::Directory::fields_at))]
 pub fn fields_of(bytes: &[u8]) -> Option<(EntryRef<'_>, &[u8])>
     ensures { option_map (λ x. (owned_entry x.0, x.1.now)) result ≡ fields_at bytes.now }
@@ -104,7 +107,7 @@ pub fn fields_of(bytes: &[u8]) -> Option<(EntryRef<'_>, &[u8])>
     Some((EntryRef { inode, kind, name }, rest))
 }
 
-// What is behind an entry, where there is one.
+/// Returns what is behind an entry; `None` if the bytes are no entry's, or its inode or its name is out of range.
 #[tactic(auto, unfolding(crate::specs::Directory::entry_at))]
 pub fn behind_entry(bytes: &[u8]) -> Option<&[u8]>
     ensures { option_map (λ x. x.now) result ≡ option_map (λ x. x.1) (entry_at bytes.now) }

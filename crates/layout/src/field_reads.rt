@@ -2,7 +2,7 @@
 ghost use Rattle.std.specs.Prelude.{◌≡◌, option_map};
 ghost use Rattle.layout.specs.Bytes.{text_at, are_zero};
 
-// What is behind a text.
+/// Returns what is behind `text`; `None` if the bytes begin otherwise.
 pub fn text_of<'a>(text: &[u8], bytes: &'a [u8]) -> Option<&'a [u8]>
     ensures { option_map (λ x. x.now) result ≡ text_at text.now bytes.now }
 {

@@ -55,7 +55,7 @@ impl Model for Geometry {
 }
 
 impl Geometry {
-    /// The geometry of so many units and data blocks; none where these keep not the limits.
+    /// The geometry of these units and data blocks; `None` if they do not keep the limits.
     pub fn new(units: u32, fast: u32, block: u32, slow: u32) -> Option<Self>
         ensures { result ≡ geometry_of (sizes units fast block slow) }
     {

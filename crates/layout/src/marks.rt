@@ -9,10 +9,10 @@ use crate::field_reads::are_zero;
 use crate::field_writes::{clear, put_u32, put_u64};
 use crate::image::Image;
 use crate::places::{BLOCK, MARKS_BLOCK};
-use file_graph::{u32_of, u64_of};
+use file_graph::{MAX_CLIENTS, u32_of, u64_of};
 
 /// How many clients have a mark.
-pub const CLIENTS: usize = 8;
+pub const CLIENTS: usize = MAX_CLIENTS as usize;
 
 /// The bytes of a mark.
 pub const MARK_SIZE: usize = 16;

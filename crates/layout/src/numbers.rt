@@ -1,4 +1,4 @@
-//! The numbers of the format, each told once as a number.
+//! The numbers of the format, each stated once as a number.
 
 ghost use Rattle.std.specs.Prelude.{◌≡◌, ◌++◌, ◌∷◌, [], ℕ, List, true, false, Some, None};
 ghost use Rattle.file_graph.specs.declared.effect.Kind.TheVariants as kind;

@@ -10,7 +10,7 @@ use crate::places::{SLOT_SIZE, slot_block};
 use crate::slot_fields::SlotFields;
 use file_graph::{DIRECTORY_KIND, FILE_KIND, MAX_ENTRIES, MAX_FILE, MAX_INODE, MAX_NAMES};
 
-/// What the slot of an inode tells. A root is the extent block that maps a tier's blocks, or 0 where there is none.
+/// What the slot of an inode holds. A root is the extent block that maps a tier's blocks, or 0 where there is none.
 #[derive(Clone, Copy, Debug, PartialEq, Eq)]
 pub enum Slot {
     /// No node.

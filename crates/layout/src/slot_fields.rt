@@ -8,6 +8,7 @@ use crate::field_writes::{clear, put_u32, put_u64};
 use crate::places::SLOT_SIZE;
 use file_graph::{u32_of, u64_of};
 
+/// The numbers of an inode slot, in their order on the medium, not yet checked for what they mean.
 #[derive(Clone, Copy)]
 pub struct SlotFields {
     pub kind: u32,
@@ -20,6 +21,7 @@ pub struct SlotFields {
 }
 
 impl SlotFields {
+    /// Writes the numbers into the bytes of a slot, `SLOT_SIZE` of them, and zeros behind them.
     pub fn write(&self, bytes: &mut [u8])
         requires { length bytes.old ≡ SLOT_SIZE }
         ensures { bytes.new ≡ padded_text SLOT_SIZE (slot_text self.now) }
@@ -34,6 +36,7 @@ impl SlotFields {
         put_u32(bytes, 32, self.slow);
     }
 
+    /// Reads the numbers of a slot. `None` if there are not `SLOT_SIZE` bytes, or one behind the numbers is not zero.
     pub fn read(bytes: &[u8]) -> Option<SlotFields>
         ensures { result ≡ within SLOT_SIZE slot_at bytes.now }
     {
@@ -47,7 +50,7 @@ impl SlotFields {
         Some(found)
     }
 
-    // Whether all of them are zero.
+    /// Answers whether all numbers are zero.
     pub fn is_blank(&self) -> bool
         ensures { result ≡ is_blank self.now }
     {

@@ -18,7 +18,7 @@ pub const VERSION: u32 = 1;
 // What a superblock begins with.
 const MAGIC: &[u8] = b"STRATAFS";
 
-/// The superblock, which tells the geometry.
+/// The superblock, which gives the geometry.
 #[derive(Clone, Copy, Debug, PartialEq, Eq)]
 pub struct Super {
     pub geometry: Geometry,

@@ -51,7 +51,7 @@ refused_at p ino found = with_event p (Refused (lease_place ino) found)
 abbrev pub tried_at : PassView → ℕ → ℕ → PassView
 tried_at p ino found = with_event (refused_at p ino found) (Gave (lease_place ino))
 
--- the pass, which counts so many records on the inode
+-- the pass, which counts `count` records on the inode
 abbrev pub with_records : PassView → ℕ → ℕ → PassView
 with_records p ino count = record p { records = slice_set p.records (lease_place ino) count }
 

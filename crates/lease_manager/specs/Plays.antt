@@ -1,4 +1,4 @@
--- What each kind of step tells: the seat after it, from the seat before it and the number that it found.
+-- What each kind of step ensures: the seat after it, from the seat before it and the number that it found.
 use Rattle.std.specs.Prelude.{◌≡◌, ℕ, ◌<◌, ◌≤◌, ◌==◌, List, [], ◌∷◌, MatchBool}
 use Rattle.atomic_table.specs.Table.{Step}
 use Rattle.lease_manager.specs.declared.view.LeaseMode.TheVariants.{Reading, Writing, Trying}

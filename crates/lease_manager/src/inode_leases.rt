@@ -53,8 +53,8 @@ pub fn clean_records(leases: &Leases, pass: &mut Pass, records: &[Record])
     requires there { (i : ℕ) → HasWord i → touch_count records.now i ≤ records_of pass.old i }
     ensures { HasCleaned pass.old records.now pass.new }
 {
-    for entry in records {
-        clean_effects(leases, pass, entry.effects.as_slice());
+    for logged in records {
+        clean_effects(leases, pass, logged.effects.as_slice());
     }
 }
 

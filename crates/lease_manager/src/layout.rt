@@ -2,11 +2,13 @@
 ghost use Rattle.std.specs.Prelude.{◌≡◌, ◌+◌, ◌-◌, ◌*◌, ◌/◌, ◌^◌, ◌<◌};
 ghost use Rattle.lease_manager.specs.Words.{HasWord, IsClient, asked_word, asked_bit, both_marks};
 
+use log_record::{MAX_CLIENTS, MAX_INODE};
+
 /// Inodes are numbered from 1 to this.
-pub const INODES: u32 = 1024;
+pub const INODES: u32 = MAX_INODE;
 
 /// Clients are numbered from 1 to this.
-pub const CLIENTS: u32 = 8;
+pub const CLIENTS: u32 = MAX_CLIENTS;
 
 /// A client is asked by rows of 64 inodes, from 0 on.
 pub const ROWS: u32 = 16;

@@ -1,7 +1,7 @@
 //! Leases of inodes, kept in words that all clients share: one writer alone or any readers, in any schedule of threads.
 //!
 //! Each client has a pass. A call changes one word in one atomic step, or in two, and what the pass knows with it.
-//! No call waits, and only `Leases::open` takes memory. What the asked words keep is told by `laws`.
+//! No call waits, and only `Leases::open` takes memory. What the asked words keep is stated by `laws`.
 //!
 //! A pass counts on each inode how many of its client's records that are not digested touch it, each record once (`note_effects`, `clean_records`): no write lease is
 //! given back while one of them does.
@@ -23,7 +23,6 @@ mod view;
 
 pub use counted_leases::{raise, take_read, take_write};
 pub use inode_leases::{clean_effects, clean_records, note_effects};
-#[cfg(test)]
 pub use laws::{
     asked_question_waits, heard_question_is_new, only_the_asked_client_hears,
     waiting_question_was_asked,

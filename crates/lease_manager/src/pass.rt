@@ -75,10 +75,11 @@ impl Pass {
         self.modes[(ino - 1) as usize]
     }
 
-    /// The pass counts records only on inodes that it holds for writing. It tells this, and does nothing.
+    /// The pass counts records only on inodes that it holds for writing. It states this, and does nothing.
     pub fn counts_held(&self)
         ensures { CountsHeld self.now }
     {
+        // For the proof: the invariant of the type.
         let _ = &self.counts;
     }
 

@@ -1,4 +1,4 @@
-// The table's rule, and what each kind of step tells. These types have no values.
+// The table's rule, and what each kind of step ensures. These types have no values.
 use crate::view::View;
 use atomic_table::{Join, Play, Split, TableRule};
 

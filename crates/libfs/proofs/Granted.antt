@@ -1,19 +1,22 @@
 -- Numbers that a client is granted, and gives back.
-use Rattle.std.proofs.Common.{◌≡◌, ◌≢◌, inl, inr, ℕ, ◌+◌, ◌<◌, ◌≤◌, Bool, true, false, cond, List, [], ◌∷◌, ◌++◌, length, get_or, take, refl, ap, sym, ◌∙◌, arith}
-use Rattle.std.specs.Prelude.{◌==◌, ◌||◌, ◌&&◌, min, nat_le}
-use Rattle.std.proofs.lemmas.Bool.Decides.{eqb_tells, nat_tests}
+use Rattle.std.proofs.Common.{◌≡◌, ◌≢◌, inl, inr, ℕ, zero, suc, ◌+◌, ◌<◌, ◌≤◌, Bool, true, false, cond, List, [], ◌∷◌, ◌++◌, length, get_or, take, refl, ap, sym, ◌∙◌, arith}
+use Rattle.std.specs.Prelude.{◌==◌, ◌||◌, ◌&&◌, min, if◌then◌else◌}
+use Rattle.std.proofs.lemmas.Bool.Decides.{eqb_tells}
 use Rattle.std.proofs.lemmas.List.Folds.{list_any-append, list_any_more}
 use Rattle.std.proofs.lemmas.List.{take_all}
 use Rattle.lease_manager.specs.file_graph.Graph.{is_among}
-use Rattle.kernel_fs.specs.Inodes.{is_inode, has}
+use Rattle.lease_manager.specs.posix_calls.Tree.{sum_up_to}
+use Rattle.kernel_fs.specs.Inodes.{IsInode, is_inode, has}
+use Rattle.kernel_fs.proofs.Choosing.{count_more}
 use Rattle.kernel_fs.proofs.Rows.{has_none, inode_tells}
 use Rattle.client_view.specs.KnowledgeTables.{Held, knows}
 use Rattle.client_log.specs.tier_device.declared.media.Media.{Ghosts}
 use Rattle.client_log.specs.tier_device.declared.media.Tier.{Tier}
 use Rattle.lease_manager.specs.Passes.{client_of}
+use Rattle.client_log.specs.world_invariant.LeaseSteps.{without}
 use Rattle.client_log.specs.world_invariant.Machine.{Machine}
 use Rattle.kernel_fs.specs.Book.{is_free, out_of, units_of}
-use Rattle.kernel_fs.specs.Free.{AreLowest}
+use Rattle.kernel_fs.specs.Free.{AreLowest, count_of}
 use Rattle.kernel_fs.specs.Nodes.{nodes_in}
 use Rattle.kernel_fs.specs.Steps.{grant, take_back}
 use Rattle.kernel_fs.specs.KernelView.{KernelView}
@@ -30,64 +33,6 @@ and_nothing : (b : Bool) → (b && false) ≡ false
 and_nothing true = refl
 and_nothing false = refl
 
--- a number more, if a test passes
-one_more : (b : Bool) (xs : List ℕ) (n i : ℕ) → is_among i (cond b (xs ++ n ∷ []) xs) ≡ (is_among i xs || (b && (n == i)))
-one_more true xs n i = list_any-append (λ j. j == i) xs (n ∷ []) ∙ ap (λ t. is_among i xs || t) (or_nothing (n == i))
-one_more false xs n i = sym (or_nothing (is_among i xs))
-
-at_it : (o h : Bool) → ((o || (h && false)) || (h && true)) ≡ (o || (h && true))
-at_it true h = refl
-at_it false true = refl
-at_it false false = refl
-
-off_it : (o h : Bool) → (o || (h && false)) ≡ o
-off_it true h = refl
-off_it false h = and_nothing h
-
--- ---- those of a set, up to a number
-
-pub none_yet : (rows : List ℕ) (i : ℕ) (o : Bool) → o ≡ (o || (has rows i && nat_le i 0))
-none_yet rows i o = elim (inode_tells i) [
-  | inl is ↦
-      let past : nat_le i 0 ≡ false = grind (arith, nat_tests, is.0) in
-      sym (ap (λ t. o || (has rows i && t)) past ∙ off_it o (has rows i))
-  | inr out ↦ sym (ap (λ t. o || (t && nat_le i 0)) (has_none rows i out) ∙ or_nothing o)
-]
-
-pub next_one : (rows xs ys : List ℕ) (n i : ℕ) (o : Bool) → ys ≡ cond (has rows (n + 1)) (xs ++ (n + 1) ∷ []) xs → is_among i xs ≡ (o || (has rows i && nat_le i n)) → is_among i ys ≡ (o || (has rows i && nat_le i (n + 1)))
-next_one rows xs ys n i o put so_far = ap (is_among i) put ∙ one_more (has rows (n + 1)) xs (n + 1) i ∙ elim (eqb_tells (n + 1) i) [
-  | inl same ↦
-      let past : nat_le i n ≡ false = grind (arith, nat_tests, same.1) in
-      let within : nat_le i (n + 1) ≡ true = grind (arith, nat_tests, same.1) in
-      ap (λ t. is_among i xs || (has rows (n + 1) && t)) same.0
-      ∙ ap (λ t. t || (has rows (n + 1) && true)) (so_far ∙ ap (λ t. o || (has rows i && t)) past)
-      ∙ ap (λ t. (o || (has rows i && false)) || (has rows t && true)) same.1
-      ∙ at_it o (has rows i)
-      ∙ ap (λ t. o || (has rows i && t)) (sym within)
-  | inr off ↦
-      let other : n + 1 ≢ i = off.1 in
-      let as_before : nat_le i n ≡ nat_le i (n + 1) = grind (arith, nat_tests, other) in
-      ap (λ t. is_among i xs || (has rows (n + 1) && t)) off.0
-      ∙ off_it (is_among i xs) (has rows (n + 1))
-      ∙ so_far
-      ∙ ap (λ t. o || (has rows i && t)) as_before
-]
-
-pub all_of_them : (rows xs : List ℕ) (n i : ℕ) (o : Bool) → 1024 ≤ n → is_among i xs ≡ (o || (has rows i && nat_le i n)) → is_among i xs ≡ (o || has rows i)
-all_of_them rows xs n i o done is = is ∙ elim (inode_tells i) [
-  | inl inode ↦
-      let low : i ≤ 1024 = inode.1 in
-      let within : nat_le i n ≡ true = grind (arith, nat_tests, low, done) in
-      ap (λ t. o || (has rows i && t)) within ∙ ap (λ t. o || t) (and_true (has rows i))
-  | inr out ↦ ap (λ t. o || (t && nat_le i n)) (has_none rows i out) ∙ ap (λ t. o || t) (sym (has_none rows i out))
-]
-  where
-    and_true : (b : Bool) → (b && true) ≡ b
-    and_true true = refl
-    and_true false = refl
-
--- ---- the inodes among numbers
-
 same_test : (i n : ℕ) → (i == n) ≡ (n == i)
 same_test i n = elim (eqb_tells n i) [
   | inl same ↦ elim (eqb_tells i n) [
@@ -99,6 +44,79 @@ same_test i n = elim (eqb_tells n i) [
     | inr off' ↦ off'.0 ∙ sym off.0
   ]
 ]
+
+-- ---- those of a set, one after the other
+
+put_behind : (xs : List ℕ) (n i : ℕ) → is_among i (xs ++ n ∷ []) ≡ (is_among i xs || (n == i))
+put_behind xs n i = list_any-append (λ j. j == i) xs (n ∷ []) ∙ ap (λ t. is_among i xs || t) (or_nothing (n == i))
+
+stays_in : (o h : Bool) → ((o || true) || h) ≡ (o || true)
+stays_in true h = refl
+stays_in false h = refl
+
+-- one goes from those that are left to behind the others
+pub next_one : (left next xs : List ℕ) (n i : ℕ) (all : Bool) → has left n ≡ true → has next i ≡ without (has left) n i → (is_among i xs || has left i) ≡ all → (is_among i (xs ++ n ∷ []) || has next i) ≡ all
+next_one left next xs n i all here gone so_far = ap (λ t. t || has next i) (put_behind xs n i) ∙ elim (eqb_tells n i) [
+  | inl same ↦
+      ap (λ t. (is_among i xs || t) || has next i) same.0
+      ∙ stays_in (is_among i xs) (has next i)
+      ∙ ap (λ t. is_among i xs || t) (sym (ap (has left) (sym same.1) ∙ here))
+      ∙ so_far
+  | inr off ↦
+      ap (λ t. (is_among i xs || t) || has next i) off.0
+      ∙ ap (λ t. t || has next i) (or_nothing (is_among i xs))
+      ∙ ap (λ t. is_among i xs || t) (gone ∙ ap (λ t. cond t false (has left i)) (same_test i n ∙ off.0))
+      ∙ so_far
+]
+
+-- one fewer is left then
+pub one_fewer : (left next : ℕ → Bool) (n : ℕ) → IsInode n → left n ≡ true → ((i : ℕ) → next i ≡ without left n i) → count_of left ≡ count_of next + 1
+one_fewer left next n is here gone = count_more next left n is (gone n ∙ away) here (λ j off. sym (gone j ∙ other j off))
+  where
+    away : without left n n ≡ false
+    away = elim (eqb_tells n n) [
+      | inl same ↦ ap (λ t. cond t false (left n)) same.0
+      | inr off ↦ absurd (off.1 refl)
+    ]
+
+    other : (j : ℕ) → j ≢ n → without left n j ≡ left j
+    other j off = elim (eqb_tells j n) [
+      | inl same ↦ absurd (off same.1)
+      | inr different ↦ ap (λ t. cond t false (left j)) different.0
+    ]
+
+in_none : (left : ℕ → Bool) (i : ℕ) (b : Bool) → IsInode i → count_of left ≡ 0 → left i ≡ b → b ≡ false
+in_none left i false is none e = refl
+in_none left i true is none e =
+    let fewer : count_of left ≡ count_of (without left i) + 1 = one_fewer left (without left i) i is e (λ j. refl) in
+    absurd (omega (arith, fewer, none))
+
+-- where none is left, all are behind the others
+pub all_of_them : (left xs : List ℕ) (i : ℕ) (all : Bool) → count_of (has left) ≡ 0 → (is_among i xs || has left i) ≡ all → is_among i xs ≡ all
+all_of_them left xs i all none is =
+    let out : has left i ≡ false = elim (inode_tells i) [
+      | inl inode ↦ in_none (has left) i (has left i) inode none refl
+      | inr off ↦ has_none left i off
+    ] in
+    sym (ap (λ t. is_among i xs || t) out ∙ or_nothing (is_among i xs)) ∙ is
+
+few : (n : ℕ) (p : ℕ → Bool) → sum_up_to n (λ i. if p i then 1 else 0) ≤ n
+unfolding sum_up_to
+few zero p = omega arith
+few (suc n) p =
+    let rest : sum_up_to n (λ i. if p i then 1 else 0) ≤ n = few n p in
+    let first : (if p (suc n) then 1 else 0) ≤ 1 = one (p (suc n)) in
+    omega (arith, rest, first)
+  where
+    one : (b : Bool) → (if b then 1 else 0) ≤ 1
+    one true = omega arith
+    one false = omega arith
+
+-- there are 1,024 inodes
+pub few_inodes : (p : ℕ → Bool) → count_of p ≤ 1024
+few_inodes p = few 1024 p
+
+-- ---- the inodes among numbers
 
 turned_or : (a b : Bool) → (a || b) ≡ (b || a)
 turned_or true true = refl

@@ -23,7 +23,7 @@ use Rattle.client_view.specs.AfterRecord.{with_change}
 use Rattle.libfs.specs.declared.begun_record.Begun.{Begun}
 use Rattle.libfs.specs.declared.now.Now.{Now}
 use Rattle.libfs.specs.declared.now.Now.TheVariants as now
-use Rattle.libfs.specs.View.{ClientView}
+use Rattle.libfs.specs.View.{ClientView, pass_answered}
 use Rattle.lease_manager.specs.RecordCounts.{HasNoted, is_touched}
 use Rattle.lease_manager.specs.PassLeases.{writes}
 use Rattle.libfs.specs.ClientHoldings.{holdings_of, known_to, outcome_for}
@@ -49,7 +49,7 @@ MayGoOn device v (outcomes.Log entry reply made change) = IsReadyToBegin device 
 pub record HasAnswered {M : Type 0} (old : ClientView M) (change : Option DescriptorChange) (new : ClientView M) : Type 0 where
   pub knows_then : known_to new ≡ with_change (known_to old) change
   pub numbers : new.copies.numbers ≡ old.copies.numbers
-  pub rest : new ≡ record old { copies = new.copies }
+  pub rest : new ≡ record old { pass = pass_answered old.pass; copies = new.copies }
 
 -- Its record is begun: the log has begun it, the pass counts it on each inode that it touches, and its units are spare no longer.
 pub record HasBegun {M : Type 0} (device : Ghosts M) (old : ClientView M) (entry : Record) (reply : Reply) (made : Option ℕ) (change : Option DescriptorChange) (new : ClientView M) : Type 0 where

@@ -1,9 +1,8 @@
 -- What becomes of a client as its region is handed over and taken back.
-use Rattle.std.specs.Prelude.{◌≡◌, ℕ, Bool, false, List, [], length, Some, None, if◌then◌else◌}
-use Rattle.std.specs.List.{list_any}
+use Rattle.std.specs.Prelude.{◌≡◌, ℕ, Bool, false, not, List, [], length, Some, None, if◌then◌else◌}
+use Rattle.std.specs.List.{filter, list_any}
 use Rattle.client_log.specs.tier_device.declared.media.Media.{Ghosts}
 use Rattle.client_log.specs.tier_device.declared.media.Tier.{Tier}
-use Rattle.lease_manager.specs.file_graph.declared.effect.Effect.{Effect}
 use Rattle.lease_manager.specs.log_record.declared.format.Record.{Record}
 use Rattle.client_log.specs.update_log.RecordCounts.{next_generation}
 use Rattle.client_log.specs.update_log.View.{RegionView, records_of}
@@ -11,6 +10,7 @@ use Rattle.client_log.specs.call_effects.Knowledge.{Knowledge}
 use Rattle.client_log.specs.Steps.{sealed_view}
 use Rattle.client_log.specs.Turns.{turn_of, CanSeal, sealed_turn}
 use Rattle.client_log.specs.View.{current_records}
+use Rattle.client_view.specs.block_cache.CacheList.{Block}
 use Rattle.libfs.specs.SealedRegion.{SealedRegionView}
 use Rattle.libfs.specs.View.{ClientView}
 use Rattle.lease_manager.specs.RecordCounts.{HasCleaned, is_touched}
@@ -21,13 +21,13 @@ use Rattle.libfs.specs.ClientHoldings.{known_to}
 abbrev pub is_named : List Record → ℕ → Bool
 is_named rs i = list_any (λ r. is_touched r.effects i) rs
 
--- no block of what these effects touch
-abbrev pub without_blocks_at : Knowledge → List Effect → Knowledge
-without_blocks_at k es = record k { blocks = λ i b. if is_touched es i then None else k.blocks i b }
-
 -- no block of what these records touch
 abbrev pub without_blocks_of : Knowledge → List Record → Knowledge
 without_blocks_of k rs = record k { blocks = λ i b. if is_named rs i then None else k.blocks i b }
+
+-- the blocks that stay in the cache then, in their order
+abbrev pub without_named : List Block → List Record → List Block
+without_named bs rs = filter (λ b. not (is_named rs b.inode)) bs
 
 -- The current region was handed over, and the client goes on in the other one.
 pub record HasSealed {M : Type 0} (device : Ghosts M) (old : ClientView M) (away : SealedRegionView M) (new : ClientView M) : Type 0 where
@@ -49,11 +49,12 @@ pub record MayTakeBack {M : Type 0} (device : Ghosts M) (v : ClientView M) (away
   pub before : next_generation away.generation ≡ v.log.generation
   pub digested : away.done ≡ length (records_of device away.region)
 
--- The region that was away is back, and no record of it is counted any more.
+-- The region that was away is back, and no record of it is counted any more; the blocks of what its records do not touch stay in their order.
 pub record HasTakenBack {M : Type 0} (device : Ghosts M) (old : ClientView M) (away : SealedRegionView M) (new : ClientView M) : Type 0 where
   pub log : new.log ≡ record old.log { other = Some away.region; clean = false }
   pub cleaned : HasCleaned old.pass old.sealed new.pass
   pub knows_then : known_to new ≡ without_blocks_of (known_to old) old.sealed
   pub numbers : new.copies.numbers ≡ old.copies.numbers
+  pub order : new.copies.blocks ≡ without_named old.copies.blocks old.sealed
   pub none : new.sealed ≡ []
   pub rest : new ≡ record old { pass = new.pass; log = new.log; copies = new.copies; sealed = new.sealed }

@@ -24,6 +24,10 @@ pub record ClientView (M : Type 0) : Type 0 where
   -- the records of the region that is away
   pub sealed : List Record
 
+-- what an answer leaves of the pass: all of it, since a pass counts no answers
+abbrev pub pass_answered : PassView → PassView
+pass_answered pass = pass
+
 -- whether a call waits for its answer
 abbrev pub is_pending : {M : Type 0} → ClientView M → Bool
 is_pending v = is_some v.begun && not v.answered

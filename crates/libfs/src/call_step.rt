@@ -10,7 +10,7 @@ ghost use Rattle.client_log.specs.Calls.{IsMoved, IsMovedOnce};
 ghost use Rattle.client_log.specs.Counts.{AreLeft, CountOf};
 ghost use Rattle.client_log.specs.View.{current_records};
 ghost use Rattle.client_view.specs.KnowledgeTables.{knows};
-ghost use Rattle.client_view.specs.AfterRecord.{knows_logged};
+ghost use Rattle.client_view.specs.AfterRecord.{knows_logged, without_made, without_touched};
 ghost use Rattle.client_view.specs.Preparation.{IsPreparedFor};
 ghost use Rattle.libfs.specs.View.{is_pending};
 ghost use Rattle.libfs.specs.CallStep.{IsGoing, HasReplied, HasFailed, call_answer};
@@ -97,6 +97,7 @@ fn keep_record(
     ensures none { begun.new ≡ None }
     ensures reply { IfSome begun.old (λ b. result ≡ b.reply) }
     ensures known { IfSome begun.old (λ b. knows copies.new ≡ knows_logged (knows copies.old) b.change.logged.effects b.change.made b.change.descriptor) }
+    ensures order { IfSome begun.old (λ b. copies.new.blocks ≡ without_touched (without_made copies.old.blocks b.change.made) b.change.logged.effects) }
     ensures pushed { IfSome begun.old (λ b. records.new.current ≡ records.old.current ++ b.change.logged ∷ []) }
     ensures away { records.new.away ≡ records.old.away }
 {

@@ -1,5 +1,5 @@
 //! Units, numbers and pins, which the kernel's book has of each client.
-ghost use Rattle.std.specs.Prelude.{◌≡◌, ◌⊎◌, ◌<◌, ◌≤◌, ◌+◌, ◌^◌, ◌++◌, ◌∷◌, [], ◌||◌, ◌&&◌, ◌==◌, ℕ, None, true, false, OnOk, OnErr, IfOk, IfErr, IsErrOf, vec_len, vec_capacity, if◌then◌else◌};
+ghost use Rattle.std.specs.Prelude.{◌≡◌, ◌⊎◌, ◌<◌, ◌≤◌, ◌+◌, ◌^◌, ◌||◌, ◌&&◌, ◌==◌, ℕ, None, true, false, OnOk, OnErr, IfOk, IfErr, IsErrOf, vec_len, vec_capacity};
 ghost use Rattle.lease_manager.specs.posix_calls.declared.limits.TheConstants.{MAX_INODE};
 ghost use Rattle.lease_manager.specs.posix_calls.Tree.{has_open};
 ghost use Rattle.lease_manager.specs.file_graph.Graph.{is_among};
@@ -48,13 +48,13 @@ impl<M: Media> Client<M> {
         ensures area { kernel.new.area ≡ kernel.old.area }
         ensures opening { kernel.new.opening ≡ kernel.old.opening }
     {
-        let mut numbers = match self.numbers_with_room() {
+        let mut numbers = match self.numbers_with_room(inodes) {
             Ok(numbers) => numbers,
             Err(_) => return Err(Denied::Memory),
         };
         match kernel.refill(self.pass.client(), units as u64, inodes) {
             Ok(more) => {
-                add_all(&mut numbers, &more);
+                add_all(&mut numbers, more, inodes);
                 self.copies.put_numbers(numbers);
                 self.spare += units;
                 Ok(())
@@ -63,13 +63,14 @@ impl<M: Media> Client<M> {
         }
     }
 
-    // The numbers that the client was granted, with room for all that there are.
-    fn numbers_with_room(&self) -> Result<Vec<u32>, AllocError>
+    // The numbers that the client was granted, with room for so many more, and for no more than there are.
+    fn numbers_with_room(&self, count: u32) -> Result<Vec<u32>, AllocError>
         ensures same { IfOk result (λ numbers. numbers.items ≡ self.now.copies.numbers) }
-        ensures room { IfOk result (λ numbers. vec_len numbers + MAX_INODE ≤ vec_capacity numbers) }
+        ensures room { IfOk result (λ numbers. count ≤ MAX_INODE → vec_len numbers + count ≤ vec_capacity numbers) }
     {
         let held = self.copies.numbers();
-        let mut numbers = Vec::with_capacity(self.alloc, held.len() + MAX_INODE as usize)?;
+        let room = count.min(MAX_INODE) as usize;
+        let mut numbers = Vec::with_capacity(self.alloc, held.len() + room)?;
         numbers.extend_from_slice(held)?;
         Ok(numbers)
     }
@@ -161,24 +162,21 @@ fn drop_pin(pins: &mut Vec<u32>, inode: u32)
     pins.retain(|pin| *pin != inode);
 }
 
-// The numbers of a set, behind others, for which there is room.
-fn add_all(numbers: &mut Vec<u32>, more: &InodeSet)
-    requires { vec_len numbers.old + MAX_INODE ≤ vec_capacity numbers.old }
-    ensures { (i : ℕ) → is_among i numbers.new.items ≡ (is_among i numbers.old.items || has more.now i) }
+// The numbers of a set, so many, behind others; there is room for them.
+fn add_all(numbers: &mut Vec<u32>, more: InodeSet, count: u32)
+    requires count { count_of (has more) ≡ count }
+    requires room { vec_len numbers.old + count ≤ vec_capacity numbers.old }
+    ensures { (i : ℕ) → is_among i numbers.new.items ≡ (is_among i numbers.old.items || has more i) }
 {
-    for before in 0..MAX_INODE {
-        add_if_in(numbers, more, before + 1);
-    }
-}
-
-fn add_if_in(numbers: &mut Vec<u32>, more: &InodeSet, number: u32)
-    requires { vec_len numbers.old < vec_capacity numbers.old }
-    ensures added { numbers.new.items ≡ (if has more.now number then numbers.old.items ++ number ∷ [] else numbers.old.items) }
-    ensures bound { vec_len numbers.new ≤ vec_len numbers.old + 1 }
-    ensures room { vec_capacity numbers.new ≡ vec_capacity numbers.old }
-{
-    if more.contains(number) {
-        numbers.push_reserved(number);
+    let mut left = more;
+    'numbers: for _ in 0..count {
+        match left.first() {
+            Some(number) => {
+                left.remove(number);
+                numbers.push_reserved(number);
+            }
+            None => return,
+        }
     }
 }
 

@@ -1,33 +1,43 @@
 //! What holds of every client and every call.
-ghost use Rattle.std.specs.Prelude.{◌≡◌, ◌≢◌, ◌⊎◌, ◌<◌, ◌≤◌, ℕ, Option};
+ghost use Rattle.std.specs.Prelude.{◌≡◌, ◌≢◌, ◌⊎◌, ◌<◌, ◌≤◌, ℕ, List, [], Option, Some, true};
 ghost use Rattle.lease_manager.specs.posix_calls.Tree.{Descriptors, with_own};
 ghost use Rattle.lease_manager.specs.posix_calls.Operations.{Step};
+ghost use Rattle.lease_manager.specs.posix_calls.WellFormed.{IsWithinLimits};
 ghost use Rattle.lease_manager.specs.posix_calls.declared.call.Call.{Call};
 ghost use Rattle.lease_manager.specs.posix_calls.declared.call.Reply.{Reply};
-ghost use Rattle.lease_manager.specs.file_graph.Graph.{Graph, after_effects};
+ghost use Rattle.lease_manager.specs.file_graph.Graph.{Graph, after_effects, file_bytes};
 ghost use Rattle.lease_manager.specs.file_graph.Units.{growth};
 ghost use Rattle.lease_manager.specs.log_record.declared.format.Record.{Record};
 ghost use Rattle.client_log.specs.call_effects.Knowledge.{Agrees};
+ghost use Rattle.client_log.specs.call_effects.NodeView.{FileView};
 ghost use Rattle.client_log.specs.call_effects.Wholes.{IsSound, state_of};
+ghost use Rattle.client_log.specs.world_invariant.Logs.{after_records};
 ghost use Rattle.client_view.specs.client_plan.declared.need.Mode.{Mode};
 ghost use Rattle.client_view.specs.client_plan.declared.need.Need.TheVariants as needs;
 ghost use Rattle.client_view.specs.client_plan.declared.outcome.DescriptorChange.{DescriptorChange};
 ghost use Rattle.client_view.specs.client_plan.declared.outcome.Outcome.TheVariants as outcomes;
 ghost use Rattle.client_view.specs.client_plan.CallPlan.{own_changed};
+ghost use Rattle.client_view.specs.client_plan.NeedEffects.{longest_record};
 ghost use Rattle.client_view.specs.client_plan.Steps.{IsAnswered, IsOf, IsReady, IsRefused};
 ghost use Rattle.client_view.specs.block_cache.declared.blocks.TheConstants.{MOST_BLOCKS};
 ghost use Rattle.client_view.specs.AfterRecord.{knows_logged, with_change};
+ghost use Rattle.client_log.specs.Steps.{most_of};
+ghost use Rattle.client_log.specs.update_log.View.{records_of};
+ghost use Rattle.kernel_fs.specs.area_image.Store.{disk};
 ghost use Rattle.kernel_fs.specs.KernelView.{KernelView};
-ghost use Rattle.lease_manager.specs.Passes.{lease_of};
+ghost use Rattle.kernel_fs.specs.MachineState.{IsMarkIn};
+ghost use Rattle.kernel_fs.specs.layout.declared.marks.Mark.{Mark};
+ghost use Rattle.lease_manager.specs.Passes.{client_of, lease_of};
 ghost use Rattle.lease_manager.specs.Words.{HasWord};
 ghost use Rattle.libfs.specs.LeaseCalls.{mode_of};
 ghost use Rattle.libfs.specs.View.{ClientView};
 ghost use Rattle.libfs.specs.ClientHoldings.{holdings_of, known_to, outcome_for};
-ghost use Rattle.libfs.specs.NeedService.{AreAsLong, HasFetched, HasRefilled, HasThem, with_pin, without_pin};
+ghost use Rattle.libfs.specs.NeedService.{AreAsLong, HasFetched, HasRefilled, HasThem, records_behind, shared_by, with_pin, without_pin};
 
 use client_log::Media;
 use client_view::{
-    answered_call_is_a_step, logged_call_is_a_step, logged_call_keeps_agreement,
+    answered_call_is_a_step, laid_block_agrees, logged_call_is_a_step, logged_call_keeps_agreement,
+    records_are_laid_as_the_graph_has_them, room_for_the_longest_record_is_enough,
     served_need_is_lacking_no_longer,
 };
 
@@ -81,4 +91,26 @@ pub fn served_client_needs_it_no_longer<M: Media, S: Media>()
     ensures unpin { (old new : ClientView M) (call : Call) (i : ℕ) → new ≡ record old { pins = without_pin old.pins i } → outcome_for M.Media new call ≢ outcomes.Need (needs.Unpin i) }
 {
     served_need_is_lacking_no_longer();
+}
+
+/// A client needs no room where its region is wiped to its generation and has 65,558 bytes left for the next record, the most that spell the record of a call: whatever it calls, in every sound whole
+/// within its limits that agrees with what it knows. Such is a region without a record, which takes one of 262,122 bytes.
+pub fn wiped_region_has_room<M: Media>()
+    ensures most { (v : ClientView M) → v.log.ready ≡ true → records_of M.Media v.log.current ≡ [] → most_of M.Media v.log ≡ Some 262122 }
+    ensures enough { (v : ClientView M) (g : Graph) (held : Descriptors) (call : Call) (most : ℕ) → IsSound g held → IsWithinLimits (state_of g held).tree → Agrees (known_to v) g held → most_of M.Media v.log ≡ Some most → longest_record ≤ most
+        → outcome_for M.Media v call ≢ outcomes.Need needs.Room }
+    ensures room { (v : ClientView M) (g : Graph) (held : Descriptors) (call : Call) → IsSound g held → IsWithinLimits (state_of g held).tree → Agrees (known_to v) g held → v.log.ready ≡ true → records_of M.Media v.log.current ≡ []
+        → outcome_for M.Media v call ≢ outcomes.Need needs.Room }
+{
+    room_for_the_longest_record_is_enough();
+}
+
+/// The blocks of a file are as long as the client's copy of it tells, as `served_client_needs_it_no_longer` asks of them: where what the client knows agrees with a whole that has at the inode what the client's records
+/// behind its mark make of the shared graph there.
+pub fn blocks_are_as_long_as_their_copy<M: Media, S: Media>()
+    ensures { (k : KernelView S) (v : ClientView M) (mark : Mark) (whole : Graph) (held : Descriptors) (i first count names size : ℕ) (bytes : List ℕ) → IsMarkIn (disk S.Media k.area) (client_of v.pass) mark → Agrees (known_to v) whole held
+        → whole i ≡ after_records (shared_by S.Media k) (records_behind M.Media v mark) i → file_bytes (whole i) ≡ Some bytes → (known_to v).copies i ≡ Some (Some (FileView names size)) → AreAsLong M.Media S.Media k v i first count }
+{
+    records_are_laid_as_the_graph_has_them();
+    laid_block_agrees();
 }

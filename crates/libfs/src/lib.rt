@@ -33,7 +33,8 @@ pub use begun_record::Begun;
 pub use client::{Client, Detached};
 pub use denial::Denied;
 pub use laws::{
-    answered_start_is_a_step, begun_record_is_a_step, served_client_needs_it_no_longer,
+    answered_start_is_a_step, begun_record_is_a_step, blocks_are_as_long_as_their_copy,
+    served_client_needs_it_no_longer, wiped_region_has_room,
 };
 pub use now::Now;
 pub use sealed_region::SealedRegion;

@@ -9,14 +9,14 @@ ghost use Rattle.client_log.specs.View.{current_records};
 ghost use Rattle.lease_manager.specs.Passes.{client_of};
 ghost use Rattle.client_view.specs.KnowledgeTables.{knows};
 ghost use Rattle.lease_manager.specs.PassLeases.{AreWritten};
-ghost use Rattle.libfs.specs.RegionSeal.{HasSealed, HasTakenBack, MayTakeBack, without_blocks_at, without_blocks_of};
+ghost use Rattle.libfs.specs.RegionSeal.{HasSealed, HasTakenBack, MayTakeBack, without_blocks_of, without_named};
 ghost use Rattle.libfs.specs.SealedRegion.{IsUntouched};
 
 use crate::client::Client;
 use crate::sealed_region::SealedRegion;
 use client_log::{LogError, Media, WipeProgress, next_generation};
 use client_view::ClientCopies;
-use lease_manager::{Effect, Record, clean_records, written_inodes};
+use lease_manager::{Record, clean_records, written_inodes};
 use std::alloc::AllocError;
 
 impl<M: Media> Client<M> {
@@ -129,18 +129,10 @@ impl<M: Media> Client<M> {
 // The blocks of what these records touch go.
 fn forget_blocks_of(copies: &mut ClientCopies, records: &[Record])
     ensures known { knows copies.new ≡ without_blocks_of (knows copies.old) records.now }
+    ensures order { copies.new.blocks ≡ without_named copies.old.blocks records.now }
     ensures rest { copies.new ≡ record copies.old { blocks = copies.new.blocks } }
 {
     for entry in records {
-        forget_blocks_at(copies, entry.effects.as_slice());
-    }
-}
-
-fn forget_blocks_at(copies: &mut ClientCopies, effects: &[Effect])
-    ensures known { knows copies.new ≡ without_blocks_at (knows copies.old) effects.now }
-    ensures rest { copies.new ≡ record copies.old { blocks = copies.new.blocks } }
-{
-    for effect in effects {
-        copies.forget_blocks(effect.subject());
+        copies.forget_touched(entry.effects.as_slice());
     }
 }

@@ -135,7 +135,7 @@ effect_at bytes = do
   e ← fields_at bytes
   if fits e.0 then Some e else None
 
--- so many effects
+-- this number of effects
 unfoldable pub effects_at : ℕ → Field (List Effect)
 effects_at zero bytes = Some ([], bytes)
 effects_at (suc n) bytes = do

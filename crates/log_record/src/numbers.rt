@@ -1,4 +1,4 @@
-//! The numbers of a record's bytes, each told once as a number.
+//! The numbers of a record's bytes, each stated once as a number.
 
 ghost use Rattle.std.specs.Prelude.{◌≡◌, ◌∷◌, []};
 ghost use Rattle.file_graph.specs.declared.effect.Kind.TheVariants as kind;

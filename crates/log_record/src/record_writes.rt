@@ -16,6 +16,7 @@ impl Record {
     pub fn has_spelling(&self) -> bool
         ensures { IsTrue result ↔ IsRecord self.now }
     {
+        // For the proof: `units` is a `u32`, as the format wants it.
         let _units = self.units;
         let effects = self.effects.as_slice();
         if effects.is_empty() || effects.len() > MAX_EFFECTS as usize {

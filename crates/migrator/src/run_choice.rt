@@ -22,8 +22,8 @@ pub struct FileRun {
 }
 
 /// What is to be moved to a tier next: of the files that have a block in the tier next above it the one with the least touch number, of several the one with the least inode,
-/// with its first run there, of 256 blocks at most: a run that may be moved to the tier. `None` where no file has a block there, and for the fast tier. It changes nothing, and
-/// reads the slot and the extents of each inode. `Memory` where there was none for an extent block.
+/// with its first run there, of 256 blocks at most: a run that may be moved to the tier. `None` where no file has a block there, and for the fast tier. It changes nothing;
+/// the slots and the extents of inodes are read. `Memory` where there was none for an extent block.
 pub fn pick<M: Media>(area: &mut Shared<M>, to: Tier) -> Result<Option<FileRun>, AreaError>
     ensures picked { IfOk result (IsPicked area.old.geometry (disk M.Media area.old) to) }
     ensures may_be_moved { IfOk result (λ x. IfSome x (MayBeMoved area.old.geometry (disk M.Media area.old) to)) }

@@ -132,7 +132,7 @@ IsPlaced t (Move from to i is_dir replaced) = IsHeld t from × IsHeld t to × Is
 abbrev pub HasFewNames : Tree → Type 0
 HasFewNames t = (i : ℕ) → names_of t i ≤ MAX_NAMES
 
--- an operation that a call can come to
+-- an operation that a call can have
 abbrev pub IsDoable : Tree → Operation → Type 0
 IsDoable t operation = IsInRange operation × HasFewNames t × IsPlaced t operation
 

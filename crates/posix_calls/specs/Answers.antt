@@ -56,12 +56,12 @@ place_at names to walked = record { location = record { parent = to.parent; name
 abbrev pub landing : Option ℕ → List (List ℕ) → Query Landing
 landing watched names = prefix names >>= (λ place. Gives (landing_of watched place))
 
--- a landing as the walk's questions give it, without what an entry told beside
+-- a landing as the walk's questions give it, without what an entry said beside
 abbrev pub without_kind : Result Landing DecideError → Result Landing DecideError
 without_kind (Err e) = Err e
 without_kind (Ok to) = Ok (record { parent = to.parent; inode = to.inode; entries = to.entries; passed = to.passed; is_dir = None })
 
--- what an entry told beside is so
+-- what an entry said beside is so
 abbrev pub HasKnownKind : Part → Landing → Type 0
 HasKnownKind p to = (i : ℕ) (is_dir : Bool) → to.inode ≡ Some i → to.is_dir ≡ Some is_dir → p.is_dir i ≡ Some (Some is_dir)
 
@@ -96,7 +96,7 @@ abbrev pub decide_error : Errno → DecideError
 decide_error NoMemory = Memory
 decide_error e = Refused e
 
--- by what is known, a result is what the questions come to, an error too, and what is missing is what they miss; want of memory says nothing
+-- by what is known, a result is what the questions give, an error too, and what is missing is what they miss; want of memory says nothing
 pub record IsAnswer {A : Type 0} (p : Part) (q : Query A) (result : Result A DecideError) : Type 0 where
   pub gives : (x : A) → result ≡ Ok x → run_part p q ≡ Known (Ok x)
   pub refuses : (e : Errno) → result ≡ Err (Refused e) → run_part p q ≡ Known (Err e)

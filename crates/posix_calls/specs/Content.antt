@@ -13,7 +13,7 @@ with_length size bytes = take size bytes ++ replicate (size - length bytes) 0
 abbrev pub with_bytes : ℕ → List ℕ → List ℕ → List ℕ
 with_bytes at new old = with_length at old ++ new ++ drop (at + length new) old
 
--- so many bytes from an offset on, or those that there are
+-- `count` bytes from an offset on, or those that there are
 abbrev pub range : ℕ → ℕ → List ℕ → List ℕ
 range at count bytes = take count (drop at bytes)
 

@@ -1,5 +1,5 @@
 -- Trusted: headline
--- Each call's errors in their order, and the operation that it comes to if none holds.
+-- Each call's errors in their order, and its operation if none holds.
 use Rattle.std.specs.Prelude.{ℕ, zero, suc, ◌+◌, ◌-◌, List, [], ◌∷◌, map, length, min, Bool, true, false, ◌&&◌, ◌||◌, not, ◌==◌, nat_lt, nat_le, Option, Some, None, if◌then◌else◌}
 use Rattle.std.specs.FinMap as fin
 use Rattle.std.specs.List.{list_any}
@@ -26,7 +26,7 @@ abbrev pub open_inode : (Descriptor → Bool) → Option Descriptor → Query �
 open_inode test None = Refuses errno.BadDescriptor
 open_inode test (Some d) = if test d then Gives d.inode else Refuses errno.BadDescriptor
 
--- the lowest of so many numbers from n on at which nothing is open
+-- the lowest of this number of numbers from n on at which nothing is open
 abbrev pub lowest_free : Own → ℕ → ℕ → Option ℕ
 lowest_free own n zero = None
 lowest_free own n (suc many) = elim (own n) [ None ↦ Some n | Some d ↦ lowest_free own (n + 1) many ]
@@ -80,7 +80,7 @@ close own number = do
   i ← open_inode (λ d. true) (own number)
   Gives (CloseFile i number)
 
--- so many bytes of a file that there are; none are asked for where there are none
+-- this number of bytes of a file from at on, which are there; none are asked for where there are none
 abbrev pub bytes_from : ℕ → ℕ → ℕ → Query (List ℕ)
 bytes_from i at zero = Gives []
 bytes_from i at (suc count) = Range i at (suc count) (λ bytes. Gives bytes)
@@ -262,7 +262,7 @@ stat path = do
   i ← there place.inode
   Look i node_description
 
--- what a call of a client with these descriptors asks, and comes to
+-- what a call of a client with these descriptors asks, and its outcome
 abbrev pub decide : Own → Call → Query Operation
 decide own (call.Open path flags) = open_path own path flags
 decide own (call.Close number) = close own number

@@ -23,6 +23,6 @@ abbrev pub name_first : List ℕ → Bool
 name_first [] = false
 name_first (b ∷ bytes) = (b == 47) && name_behind bytes
 
--- whether reading a path comes to a name: it is not too long, and begins with one
+-- whether reading a path reaches a name: it is not too long, and begins with one
 abbrev pub comes_to_name : List ℕ → Bool
 comes_to_name bytes = not (nat_lt MAX_PATH (length bytes)) && name_first bytes

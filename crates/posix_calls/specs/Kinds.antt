@@ -6,7 +6,7 @@ use Rattle.posix_calls.specs.declared.operation.Operation.TheVariants.{Tell, New
 use Rattle.posix_calls.specs.declared.call.Call.{Call}
 use Rattle.posix_calls.specs.declared.call.Call.TheVariants as call
 
--- whether an operation does no more than tell
+-- whether an operation does no more than answer
 abbrev pub is_query : Operation → Bool
 is_query (Tell answer) = true
 is_query _ = false

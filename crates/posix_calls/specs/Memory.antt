@@ -23,7 +23,7 @@ abbrev pub has_bytes : Part → ℕ → ℕ → ℕ → Option (Option Seen) →
 has_bytes p i at count None = false
 has_bytes p i at count (Some s) = nat_lt 0 (min count (size_seen s - at)) && is_some (p.bytes i at (min count (size_seen s - at)))
 
--- whether a read comes to bytes
+-- whether a read has bytes to return
 abbrev pub reads_bytes : Part → Option Descriptor → ℕ → ℕ → Bool
 reads_bytes p None at count = false
 reads_bytes p (Some d) at count = d.reads && nat_le count MAX_TRANSFER && has_bytes p d.inode at count (p.node d.inode)
@@ -33,12 +33,12 @@ abbrev pub lists_root : Part → Result (List (List ℕ)) Errno → Bool
 lists_root p (Err e) = false
 lists_root p (Ok names) = is_root names && has_names (p.node ROOT)
 
--- whether a write comes to bytes
+-- whether a write has bytes to put
 abbrev pub writes_bytes : Option Descriptor → ℕ → List ℕ → Bool
 writes_bytes None at bytes = false
 writes_bytes (Some d) at bytes = d.writes && nat_lt 0 (length bytes) && nat_le (length bytes) MAX_TRANSFER && nat_le (at + length bytes) MAX_FILE
 
--- whether the paths of a call on two of them come to a name
+-- whether the paths of a call on two of them reach a name
 abbrev pub come_to_names : List ℕ → List ℕ → Bool
 come_to_names old new = comes_to_name old || (is_ok (path_names old) && comes_to_name new)
 

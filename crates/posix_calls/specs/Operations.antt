@@ -91,7 +91,7 @@ pub record IsFree (t : Tree) (i : ℕ) : Type 0 where
 abbrev pub is_client : ℕ → Bool
 is_client client = nat_le 1 client && nat_le client MAX_CLIENTS
 
--- what a call comes to; who is no client is refused before all else
+-- the outcome of a call; who is no client is refused before all else
 abbrev pub answer : State → ℕ → Call → Result Operation Errno
 answer old client call = if is_client client then run (view_of old.tree) (decide (old.descriptors client) call) else Err errno.Invalid
 

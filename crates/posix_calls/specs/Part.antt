@@ -29,16 +29,16 @@ abbrev pub blocks_touched : ℕ → ℕ → ℕ
 blocks_touched at zero = 0
 blocks_touched at (suc count) = 1 + (at + count) / UNIT_BYTES - at / UNIT_BYTES
 
--- what has to be known to tell a range of the bytes of a file: the blocks that it touches
+-- what has to be known to answer a range of the bytes of a file: the blocks that it touches
 abbrev pub blocks_missing : ℕ → ℕ → ℕ → Missing
 blocks_missing i at count = missing.Blocks i (at / UNIT_BYTES) (blocks_touched at count)
 
--- what a part comes to, or the first thing that it would have to know beside
+-- what a part answers, or the first thing that it would have to know beside
 pub data Found (A : Type 0) : Type 0 where
   Known : (result : Result A Errno) → Found A
   Unknown : (what : Missing) → Found A
 
--- what the questions come to by a part
+-- what the questions give by a part
 unfoldable pub run_part : {A : Type 0} → Part → Query A → Found A
 run_part p (Gives x) = Known (Ok x)
 run_part p (Refuses e) = Known (Err e)

@@ -19,7 +19,7 @@ pub data Query (A : Type 0) : Type 0 where
   IsDir : (i : ℕ) → (next : Option Bool → Query A) → Query A
   -- the node at an inode, if there is one
   Look : (i : ℕ) → (next : Option Seen → Query A) → Query A
-  -- so many bytes of the file at an inode from an offset on, or those that there are
+  -- `count` bytes of the file at an inode from an offset on, or those that there are
   Range : (i at count : ℕ) → (next : List ℕ → Query A) → Query A
 
 -- first these questions, then those that their result leads to
@@ -39,7 +39,7 @@ pub record View : Type 0 where
   pub node : ℕ → Option Seen
   pub bytes : ℕ → ℕ → ℕ → List ℕ
 
--- what the questions come to
+-- what the questions give
 unfoldable pub run : {A : Type 0} → View → Query A → Result A Errno
 run v (Gives x) = Ok x
 run v (Refuses e) = Err e
@@ -52,7 +52,7 @@ abbrev pub dir_test : tree.Node → Bool
 dir_test (tree.File bytes) = false
 dir_test (tree.Dir entries) = true
 
--- a node of so many names as it is seen
+-- a node of `names` names as it is seen
 abbrev pub seen_node : ℕ → tree.Node → Seen
 seen_node names (tree.File bytes) = File names (length bytes)
 seen_node names (tree.Dir entries) = Dir entries

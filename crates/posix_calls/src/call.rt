@@ -83,19 +83,19 @@ pub enum Call {
 /// What a call is answered.
 #[derive(Debug, Drop)]
 pub enum Reply {
-    /// The call was done, and there is nothing to tell.
+    /// The call was done; its answer has no more.
     Done,
     /// The file is open under this descriptor.
     Opened { descriptor: u32 },
     /// These bytes were read; none at or past the end of the file.
     Read { bytes: Bytes },
-    /// So many bytes were written.
+    /// `count` bytes were written.
     Wrote { count: u32 },
     /// The directory has these names, in the order of their bytes.
     Listed { names: Names },
-    /// It is a file of so many bytes, which has so many names.
+    /// It is a file of `size` bytes, which has `names` names.
     File { size: u64, names: u32 },
-    /// It is a directory with so many entries.
+    /// It is a directory with `entries` entries.
     Dir { entries: u32 },
     /// The call was refused, for this reason.
     Failed { errno: Errno },

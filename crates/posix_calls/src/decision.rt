@@ -17,7 +17,7 @@ use crate::tree_answers::TreeAnswers;
 use crate::two_path_calls::{link, rename};
 use std::alloc::Global;
 
-/// What a call comes to, for a client with these descriptors: the operation, or else the first error of the call in the order of
+/// Decides a call of a client with these descriptors: the operation, or else the first error of the call in the order of
 /// its profile. Nothing is changed; who decides carries the operation out.
 ///
 /// The tree may be known in part. What the call needs is asked for in the order of its errors, and the first thing that has to be

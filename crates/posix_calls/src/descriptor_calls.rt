@@ -1,4 +1,4 @@
-// What the calls that take or give a descriptor come to: open, close, pread, pwrite.
+// The calls that take or give a descriptor: open, close, pread, pwrite.
 ghost use Rattle.std.specs.Prelude.{◌≡◌, ◌≢◌, ◌<◌, ◌≤◌, ◌&&◌, ◌+◌, ◌^◌, nat_lt, is_some, true, false, Some, Err, IfOk};
 ghost use Rattle.posix_calls.specs.FirstName.{comes_to_name};
 ghost use Rattle.posix_calls.specs.Memory.{reads_bytes, writes_bytes};
@@ -66,6 +66,7 @@ fn empties<T: TreeAnswers>(tree: &T, truncate: bool, inode: u32) -> Result<bool,
     Ok(size > 0)
 }
 
+// Decides `open`: the errors in their order, then the operation.
 pub(crate) fn open<T: TreeAnswers>(
     alloc: Global,
     tree: &T,
@@ -161,6 +162,7 @@ fn writable_inode(own: &OwnDescriptors, number: u32) -> Result<u32, DecideError>
     Ok(descriptor.inode)
 }
 
+// Decides `close`. Takes no memory.
 pub(crate) fn close(own: &OwnDescriptors, number: u32) -> Result<Operation, DecideError>
     ensures answer { (p : Part) → IsAnswer p (close (own_of own.now) number) result }
     ensures memory { result ≢ Err Memory }
@@ -172,6 +174,7 @@ pub(crate) fn close(own: &OwnDescriptors, number: u32) -> Result<Operation, Deci
     })
 }
 
+// Decides `pread`, and reads the bytes. Takes memory only where there are bytes to read.
 pub(crate) fn pread<T: TreeAnswers>(
     alloc: Global,
     tree: &T,
@@ -192,7 +195,7 @@ pub(crate) fn pread<T: TreeAnswers>(
     })
 }
 
-// So many bytes of a file that there are.
+// `count` bytes of a file from byte `at` on, all of which there are.
 fn bytes_from<T: TreeAnswers>(
     alloc: Global,
     tree: &T,
@@ -228,6 +231,7 @@ fn blocks_missing(inode: u32, at: u64, count: u64) -> Missing
     }
 }
 
+// Decides `pwrite`. Takes memory only where there are bytes to write.
 pub(crate) fn pwrite(
     own: &OwnDescriptors,
     number: u32,
@@ -250,7 +254,7 @@ pub(crate) fn pwrite(
     Ok(Operation::Write { inode, at, bytes })
 }
 
-// Whether so many bytes from an offset on end behind the greatest size of a file.
+// Whether `count` bytes from an offset on end behind the greatest size of a file.
 fn ends_behind(at: u64, count: usize) -> bool
     ensures { result ≡ nat_lt MAX_FILE (at + count) }
 {

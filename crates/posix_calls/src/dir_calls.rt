@@ -1,4 +1,4 @@
-// What the calls that make and take away a directory come to: mkdir, rmdir.
+// The calls that make and remove a directory: mkdir, rmdir.
 ghost use Rattle.std.specs.Prelude.{◌≡◌, Err, true, false};
 ghost use Rattle.posix_calls.specs.FirstName.{comes_to_name};
 ghost use Rattle.posix_calls.specs.Walk.{is_root};
@@ -13,6 +13,7 @@ use crate::tree_answers::TreeAnswers;
 use crate::walk::{location, prefix, reach, read_path, refuse_entries, refuse_if, refuse_root};
 use std::alloc::Global;
 
+// Decides `mkdir`: the errors in their order, then the operation.
 pub(crate) fn mkdir<T: TreeAnswers>(
     alloc: Global,
     tree: &T,
@@ -29,6 +30,7 @@ pub(crate) fn mkdir<T: TreeAnswers>(
     Ok(Operation::NewDir { at })
 }
 
+// Decides `rmdir`: the errors in their order, then the operation.
 pub(crate) fn rmdir<T: TreeAnswers>(
     alloc: Global,
     tree: &T,

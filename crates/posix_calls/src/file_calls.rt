@@ -1,4 +1,4 @@
-// What the calls that cut a file and take a name of it away come to: truncate, unlink.
+// The calls that cut a file and remove a name of it: truncate, unlink.
 ghost use Rattle.std.specs.Prelude.{◌≡◌, Err, true, false};
 ghost use Rattle.posix_calls.specs.FirstName.{comes_to_name};
 ghost use Rattle.posix_calls.specs.Walk.{is_root};
@@ -15,6 +15,7 @@ use crate::tree_answers::{TreeAnswers, known_or_missing};
 use crate::walk::{location, reach, read_path, refuse_if, refuse_root};
 use std::alloc::Global;
 
+// Decides `truncate`; a file that has this length already is left as it is.
 pub(crate) fn truncate<T: TreeAnswers>(
     alloc: Global,
     tree: &T,
@@ -36,6 +37,7 @@ pub(crate) fn truncate<T: TreeAnswers>(
     Ok(Operation::Resize { inode, len })
 }
 
+// Decides `unlink`: the errors in their order, then the operation.
 pub(crate) fn unlink<T: TreeAnswers>(
     alloc: Global,
     tree: &T,

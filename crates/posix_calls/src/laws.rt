@@ -42,14 +42,14 @@ pub fn runs_split_anywhere()
     ensures joined { (first rest : List Turn) (old mid last : State) → Run old first mid → Run mid rest last → Run old (first ++ rest) last }
 {}
 
-/// What a part of a tree can tell of a call is what the whole tells; where something is missing, it is asked for next.
+/// What a part of a tree answers of a call is what the whole answers; where something is missing, it is asked for next.
 pub fn part_answers_as_the_whole()
     ensures known { (p : Part) (v : View) → IsPart p v → (q : Query Operation) (r : Result Operation Errno) → run_part p q ≡ Known r → run v q ≡ r }
     ensures missing { (p : Part) (q : Query Operation) (what : Missing) → run_part p q ≡ Unknown what → IsLeft p what q }
 {}
 
 /// Bytes of a file are asked for by `pread` alone: no question of any other call is for bytes, whatever was answered before, and
-/// so what is told to be missing of it, by whatever is known, is never blocks.
+/// so what is reported missing of it, by whatever is known, is never blocks.
 pub fn bytes_are_for_pread_alone()
     ensures asked { (own : Own) (call : Call) → is_pread call ≡ false → AsksNoBytes (decide own call) }
     ensures missing { (p : Part) (own : Own) (call : Call) (i first many : ℕ) → run_part p (decide own call) ≡ Unknown (Blocks i first many) → is_pread call ≡ true }

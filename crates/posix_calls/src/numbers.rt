@@ -1,4 +1,4 @@
-//! The limits of the profile, each told once as a number.
+//! The limits of the profile, each stated once as a number.
 
 ghost use Rattle.std.specs.Prelude.{◌≡◌};
 

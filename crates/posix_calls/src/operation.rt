@@ -96,7 +96,7 @@ pub enum Operation {
 }
 
 impl Operation {
-    /// What the call is answered; of an operation that does no more than tell, `None`: `into_reply` moves its answer out.
+    /// The answer to the call; `None` for an operation that does no more than answer: `into_reply` moves its answer out.
     pub fn reply(&self) -> Option<Reply>
         requires { IsInRange self.now }
         ensures { result ≡ (if is_query self.now then None else Some (reply_of self.now)) }
@@ -175,7 +175,7 @@ impl Operation {
     }
 }
 
-/// Why a call comes to no operation.
+/// Why a call has no operation.
 #[derive(Clone, Copy)]
 pub enum DecideError {
     /// The call is answered by this error.
@@ -198,8 +198,8 @@ pub enum Missing {
 /// What there is to say of what stands at an inode.
 #[derive(Clone, Copy)]
 pub enum Description {
-    /// A file of so many bytes, which has so many names.
+    /// A file of `size` bytes, which has `names` names.
     File { size: u64, names: u32 },
-    /// A directory with so many entries.
+    /// A directory with `entries` entries.
     Dir { entries: u32 },
 }

@@ -1,4 +1,4 @@
-// What the calls that only tell come to: list, stat.
+// The calls that only answer: list, stat.
 ghost use Rattle.std.specs.Prelude.{◌≡◌, ◌||◌, Err, true};
 ghost use Rattle.posix_calls.specs.Path.{path_names};
 ghost use Rattle.posix_calls.specs.FirstName.{comes_to_name};
@@ -17,6 +17,7 @@ use crate::tree_answers::{TreeAnswers, known_or_missing};
 use crate::walk::{prefix, reach, read_path, there};
 use std::alloc::Global;
 
+// Decides `list`, and lists the entries.
 pub(crate) fn list<T: TreeAnswers>(
     alloc: Global,
     tree: &T,
@@ -42,6 +43,7 @@ fn list_at<T: TreeAnswers>(alloc: Global, tree: &T, path: &Path) -> Result<Opera
     })
 }
 
+// Decides `stat`.
 pub(crate) fn stat<T: TreeAnswers>(
     alloc: Global,
     tree: &T,

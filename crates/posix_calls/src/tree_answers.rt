@@ -31,7 +31,7 @@ pub trait TreeAnswers {
     fn is_dir(&self, inode: u32) -> Option<Option<bool>>
         ensures { result ≡ (part self.now).is_dir inode };
 
-    /// What a directory has under a name; `Some(None)` where it has no such name. Whether that is a directory is told beside it
+    /// What a directory has under a name; `Some(None)` where it has no such name. Whether that is a directory is answered beside it
     /// where it is at hand, so that it need not be looked up.
     fn entry(&self, dir: u32, name: &[u8]) -> Option<Option<NamedInode>>
         ensures inode { option_map (option_map (λ e. e.inode)) result ≡ option_map (entry_in name.now) ((part self.now).node dir) }

@@ -1,4 +1,4 @@
-// What the calls on two paths come to: link, rename.
+// The calls on two paths: link, rename.
 ghost use Rattle.std.specs.Prelude.{◌≡◌, ◌≢◌, ◌==◌, ◌&&◌, not, ℕ, List, [], Err, true, false};
 ghost use Rattle.posix_calls.specs.Memory.{come_to_names};
 ghost use Rattle.posix_calls.specs.declared.operation.DecideError.TheVariants.{Memory};
@@ -18,6 +18,7 @@ use crate::walk::{
 };
 use std::alloc::Global;
 
+// Decides `link`: the errors in their order, then the operation.
 pub(crate) fn link<T: TreeAnswers>(
     alloc: Global,
     tree: &T,
@@ -84,6 +85,7 @@ fn find_replaced<T: TreeAnswers>(
     Ok(Replaced::OldDir { inode })
 }
 
+// Decides `rename`: the errors in their order, then the operation.
 pub(crate) fn rename<T: TreeAnswers>(
     alloc: Global,
     tree: &T,

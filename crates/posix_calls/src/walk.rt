@@ -18,8 +18,9 @@ use crate::path::Path;
 use crate::tree_answers::{NamedInode, TreeAnswers, known_or_missing};
 use std::alloc::Global;
 
-// Where a path leads: the directory of its last name, the inode there, and how many entries that directory has; whether the walk
-// went through the inode that it was to watch for; and whether a directory is there, where the entry told it.
+/// Where a path leads: the directory of its last name, the inode there, and how many entries that directory has;
+/// whether the walk passed through the inode that it watches for; and whether the inode there is a directory, if its
+/// entry said so.
 #[derive(Clone, Copy)]
 pub struct Landing {
     pub parent: u32,
@@ -29,7 +30,7 @@ pub struct Landing {
     pub is_dir: Option<bool>,
 }
 
-// What a path leads to: the directory of its last name, and the inode there.
+/// What a path leads to: the directory of its last name, and the inode there.
 #[derive(Clone, Copy)]
 pub struct Target {
     pub parent: u32,
@@ -104,17 +105,17 @@ pub(crate) fn there(inode: Option<u32>) -> Result<u32, DecideError>
     }
 }
 
-// Whether an inode is a directory, by what an entry told or else by what is known of it.
+// Whether an inode is a directory, by what an entry says or else by what is known of it.
 fn kind_of<T: TreeAnswers>(
     tree: &T,
     inode: u32,
-    told: Option<bool>,
+    by_entry: Option<bool>,
 ) -> Result<Option<bool>, DecideError>
-    requires { (is_dir : Bool) → told ≡ Some is_dir → (T.part tree.now).is_dir inode ≡ Some (Some is_dir) }
+    requires { (is_dir : Bool) → by_entry ≡ Some is_dir → (T.part tree.now).is_dir inode ≡ Some (Some is_dir) }
     ensures known { IfOk result (λ o. (T.part tree.now).is_dir inode ≡ Some o) }
     ensures missing { IfErr result (λ error. (error ≡ why.Missing (missing.Node inode)) × ((T.part tree.now).is_dir inode ≡ None)) }
 {
-    match told {
+    match by_entry {
         Some(is_dir) => Ok(Some(is_dir)),
         None => known_or_missing(tree.is_dir(inode), Missing::Node { inode }),
     }

@@ -58,6 +58,7 @@ pub fn assemble<M: Media + Drop>(
     ensures only { IfErr result (λ e. IsFaultOrMemory e.0) }
     ensures fault { IfErr result (λ e. e.0 ≡ DeviceFault → SomeRose M.Media (part_medium (media_beneath area regions.items)) (part_medium e.1)) }
 {
+    // For the proof: the area can be opened as it stands, so its graph is within the limits.
     area.left_now();
     openable_area_is_within_limits();
     let marks = area.marks();
@@ -89,6 +90,7 @@ fn world_of<M: Media + Drop>(
     ensures system { result.system ≡ record { kernel = kernel; seats = seats.items } }
     ensures calls { result.calls ≡ no_calls }
 {
+    // For the proof: the new system stands for a world of which no call is started.
     idle_system_stands_for_a_world::<M>();
     match System::new(alloc, kernel, seats) {
         Ok(system) => World::of_system(system),
@@ -234,6 +236,7 @@ fn open_log<M: Media + Drop>(
     ensures odd_back { IfErr result (λ e. IsUntouched M.Media regions.1.media e.1.media) }
     ensures fault { IfErr result (λ e. Rose (M.faults regions.0.media) (M.faults e.0.media) ⊎ Rose (M.faults regions.1.media) (M.faults e.1.media)) }
 {
+    // For the proof: what a stop leaves now of both regions.
     regions.0.left_now();
     regions.1.left_now();
     match ClientLog::open(alloc, regions, generation) {

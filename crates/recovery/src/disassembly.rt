@@ -75,6 +75,7 @@ fn regions_of_seat<M: Media + Drop>(seat: ClientSlot<M>) -> (Region<M>, Region<M
     ensures even { result.0 ≡ region_of seat 0 }
     ensures odd { result.1 ≡ region_of seat 1 }
 {
+    // For the proof: a region that is not in the log is away.
     seat.left_now();
     let (client, away) = seat.into_parts();
     let (even, odd) = client.detach().regions;

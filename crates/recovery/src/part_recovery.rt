@@ -83,6 +83,7 @@ fn recover_parts<M: Media + Drop>(
     match reopen_regions(alloc, &mut media) {
         Ok(regions) => recover_opened(alloc, area, regions, media),
         Err(error) => {
+            // For the proof: a stop leaves what is read, so the medium beneath may be opened again.
             area.left_now();
             Err((error, Parts::of(area.into_medium(), media)))
         }
@@ -106,16 +107,19 @@ fn recover_opened<M: Media + Drop>(
     ensures cause { IfErr result (λ e. IsStoredCause area.geometry (disk M.Media area) (log_in (contents_of M.Media (part_medium (media_beneath area regions.items)))) e.0) }
 {
     let (mut area, mut regions, mut media) = (area, regions, media);
+    // For the proof: the area can be opened as it stands, with these marks.
     area.left_now();
     let _marks = area.marks();
     let generations = match settle_area(alloc, &mut area, &mut regions) {
         Ok(generations) => generations,
         Err(error) => {
+            // For the proof: unless a device failed, a stop leaves what is read, so the medium beneath may be opened again.
             area.left_now();
             hand_back(&mut media, regions);
             return Err((error, Parts::of(area.into_medium(), media)));
         }
     };
+    // For the proof: a stop leaves what is read, also while the regions are wiped.
     area.left_now();
     match wipe_regions(&mut regions, &generations) {
         Ok(()) => assemble(alloc, area, regions, media),

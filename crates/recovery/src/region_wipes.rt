@@ -74,6 +74,7 @@ fn wipe_region<M: Media>(
     ensures only { IfErr result (λ e. e ≡ DeviceFault) }
     ensures fault { OnErr result (Rose (M.faults region.old.media) (M.faults region.new.media)) }
 {
+    // For the proof: what a stop leaves before the first device call.
     region.left_now();
     let mut progress = wipe_once(region, generation, name)?;
     'calls: while progress == WipeProgress::Going {

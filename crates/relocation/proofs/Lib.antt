@@ -1,7 +1,6 @@
 pub mod MovableRuns
 pub mod ListRuns
 pub mod Basics
-pub mod Imaging
 pub mod Fitting
 pub mod Using
 pub mod Losing

@@ -1,5 +1,5 @@
 -- What a file is once a run of it is moved, in memory.
-use Rattle.std.specs.Prelude.{◌≡◌, ◌≢◌, ◌≤◌, ◌*◌, ◌⊎◌, ◌==◌, if◌then◌else◌, ℕ, List, [], ◌∷◌, length, Option, None, Some, IsSome, true}
+use Rattle.std.specs.Prelude.{◌≡◌, ◌≢◌, ◌≤◌, ◌*◌, ◌⊎◌, ◌==◌, if◌then◌else◌, ℕ, List, [], ◌∷◌, length, None, Some, IsSome, true}
 use Rattle.std.specs.List.{AllByRecursion}
 use Rattle.inode_plan.specs.tier_device.declared.media.Tier.{Tier}
 use Rattle.inode_plan.specs.layout.declared.places.TheConstants.{BLOCK}
@@ -16,7 +16,7 @@ use Rattle.inode_plan.specs.area_image.Store.{Store, root_of, logical_block}
 use Rattle.inode_plan.specs.area_image.Map.{in_tier}
 use Rattle.inode_plan.specs.area_image.declared.tiers.InodeExtents.{InodeExtents}
 use Rattle.inode_plan.specs.area_commit.InodeMove.{with_roots}
-use Rattle.inode_plan.specs.area_commit.Batches.{PutsImage}
+use Rattle.inode_plan.specs.area_commit.Lists.{HaveOwnRoots}
 use Rattle.inode_plan.specs.area_commit.declared.slots.ChangedSlot.{ChangedSlot}
 use Rattle.inode_plan.specs.area_commit.declared.allocation.Allocation.{Allocation}
 use Rattle.inode_plan.specs.area_commit.Allocations.{runs_of, WereTaken, CanRelease}
@@ -55,14 +55,9 @@ pub record IsTakenFor (g : Sizes) (s : Store) (f : MovableRun) (to : Tier) (take
 
 -- ---- what is made
 
--- The image of some extents is put, if there are any.
-abbrev pub PutsList : ℕ → Option ExtentList → List (ℕ × List ℕ) → List (ℕ × List ℕ) → Type 0
-PutsList root None old new = new ≡ old
-PutsList root (Some v) old new = PutsImage root (extents_spelling v) old new
-
 -- Each tier's extents have an image, for the block that the slot names, where no two of them name one block; and there is no other image.
 pub record HasImages (x : Slot) (lists : InodeExtents) (images : List (ℕ × List ℕ)) : Type 0 where
-  pub each : ((t u : Tier) → IsSome (in_tier lists t) → IsSome (in_tier lists u) → root_of x t ≡ root_of x u → t ≡ u) → (t : Tier) (v : ExtentList) → in_tier lists t ≡ Some v → image_for (root_of x t) images ≡ Some (extents_spelling v)
+  pub each : HaveOwnRoots x lists → (t : Tier) (v : ExtentList) → in_tier lists t ≡ Some v → image_for (root_of x t) images ≡ Some (extents_spelling v)
   pub only : (k : ℕ) → IsSome (image_for k images) → (t : Tier) × IsSome (in_tier lists t) × (root_of x t ≡ k)
   pub few : length images ≤ 3
 

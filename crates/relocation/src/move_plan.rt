@@ -11,6 +11,16 @@ use crate::new_inode::{NewInode, moved_inode};
 use inode_plan::{Allocation, FreedBlocks, Rewrite, Tier};
 use std::alloc::Global;
 
+/// A run of the file at an inode that goes to a tier, with the run's bytes, which are read, and the places that it leaves.
+#[derive(Drop)]
+pub struct ReadMove {
+    pub inode: u32,
+    pub to: Tier,
+    pub file: MovableRun,
+    pub bytes: Vec<u8>,
+    pub lost: FreedBlocks,
+}
+
 // What is made of a file, together with its data and what it gives up.
 fn rewrite_of(new: NewInode, bytes: Vec<u8>, lost: FreedBlocks, taken: Allocation) -> Rewrite
     ensures slots { result.slots.items ≡ new.slots.items }
@@ -38,22 +48,21 @@ fn rewrite_of(new: NewInode, bytes: Vec<u8>, lost: FreedBlocks, taken: Allocatio
 
 /// The plan of a move: the run's bytes go into the blocks that were taken, and its places are given up, with the blocks of the node pool that list no extents any more. Where
 /// there is no memory for it, what was taken is handed back.
-pub fn plan_move(
-    alloc: Global,
-    inode: u32,
-    to: Tier,
-    file: MovableRun,
-    bytes: Vec<u8>,
-    lost: FreedBlocks,
-    taken: Allocation,
-) -> Result<Rewrite, Allocation>
-    requires { (g : Sizes) × (s : Store) × IsAllowed g × IsReadyMove g s inode to file bytes.items lost taken }
-    ensures plan { IfOk result (λ plan. (g : Sizes) (s : Store) → IsReadyMove g s inode to file bytes.items lost taken → IsPlanOfMove g s inode file.run.first file.run.count to plan) }
+pub fn plan_move(alloc: Global, moved: ReadMove, taken: Allocation) -> Result<Rewrite, Allocation>
+    requires { (g : Sizes) × (s : Store) × IsAllowed g × IsReadyMove g s moved.inode moved.to moved.file moved.bytes.items moved.lost taken }
+    ensures plan { IfOk result (λ plan. (g : Sizes) (s : Store) → IsReadyMove g s moved.inode moved.to moved.file moved.bytes.items moved.lost taken → IsPlanOfMove g s moved.inode moved.file.run.first moved.file.run.count moved.to plan) }
     ensures taken { IfOk result (λ plan. plan.taken ≡ taken) }
-    ensures lost { IfOk result (λ plan. (t : Tier) → lost_in plan.lost t ≡ lost_in lost t) }
+    ensures lost { IfOk result (λ plan. (t : Tier) → lost_in plan.lost t ≡ lost_in moved.lost t) }
     ensures few { IfOk result (λ plan. length plan.lost.nodes.items ≤ 3) }
     ensures refused { IfErr result (λ back. back ≡ taken) }
 {
+    let ReadMove {
+        inode,
+        to,
+        file,
+        bytes,
+        lost,
+    } = moved;
     let mut file = file;
     match moved_inode(alloc, inode, &mut file, to, &taken) {
         Ok(new) => Ok(rewrite_of(new, bytes, lost, taken)),

@@ -62,6 +62,7 @@ pub fn moved_inode(
     ensures same_slot { file.new.slot ≡ file.old.slot }
     ensures same_run { file.new.run ≡ file.old.run }
 {
+    // For the proof: the extents of a file fit one block.
     few_blocks_are_few_runs();
     put_runs(&mut file.map, file.run.first, to, runs_of(taken, to))?;
     let lists = extents_of(&file.map, inode)?;

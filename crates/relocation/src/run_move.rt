@@ -16,13 +16,21 @@ ghost use Rattle.relocation.specs.RunMove.{IsSettled, Ends};
 
 use crate::freed_places::lost_places;
 use crate::laws::{carried_out_move_moves, move_is_planned};
-use crate::move_plan::plan_move;
+use crate::move_plan::{ReadMove, plan_move};
 use crate::target_blocks::take_blocks;
 use crate::{MovableRun, RelocateError, read_run, relocate_error};
 use inode_plan::{
-    Allocation, FreedBlocks, Journal, Media, Pools, Rewrite, Tier, carry_out, nodes_never_run_out,
+    Allocation, Journal, Media, Pools, Rewrite, Tier, carry_out, nodes_never_run_out,
 };
 use std::alloc::Global;
+
+/// A run of the file at an inode that may be moved, and the tier that it goes to.
+#[derive(Drop)]
+pub struct FileMove {
+    pub inode: u32,
+    pub to: Tier,
+    pub file: MovableRun,
+}
 
 // Carries out the plan of a move.
 fn write_move<M: Media>(
@@ -40,6 +48,7 @@ fn write_move<M: Media>(
     ensures undone { OnErr result (WasReleased pools.old pools.new plan.taken) }
     ensures only { IfErr result (λ e. (e ≡ DeviceFault) ⊎ (e ≡ Memory)) }
 {
+    // For the proof: a stop now leaves what is read, the sizes are allowed ones, and the plan of a move can be carried out and moves the run.
     journal.left_now();
     let _units = journal.geometry().units();
     move_is_planned();
@@ -55,25 +64,22 @@ fn carry<M: Media>(
     alloc: Global,
     journal: &mut Journal<M>,
     pools: &mut Pools,
-    inode: u32,
-    to: Tier,
-    file: MovableRun,
-    bytes: Vec<u8>,
-    lost: FreedBlocks,
+    moved: ReadMove,
     taken: Allocation,
 ) -> Result<(), RelocateError>
     requires going { journal.old.failed ≡ false }
     requires opens { IsOpenable journal.old.geometry (disk M.Media journal.old) }
     requires rests { (t : Tier) → AtRest (M.seen journal.old.media) (M.left journal.old.media (M.moment journal.old.media)) t }
-    requires ready { IsReadyMove journal.old.geometry (disk M.Media journal.old) inode to file bytes.items lost taken }
-    requires pools { AreReadyToMove journal.old.geometry (disk M.Media journal.old) pools.old taken lost }
-    ensures ends { Ends M.Media inode file.run.first file.run.count to journal.old journal.new pools.new result }
+    requires ready { IsReadyMove journal.old.geometry (disk M.Media journal.old) moved.inode moved.to moved.file moved.bytes.items moved.lost taken }
+    requires pools { AreReadyToMove journal.old.geometry (disk M.Media journal.old) pools.old taken moved.lost }
+    ensures ends { Ends M.Media moved.inode moved.file.run.first moved.file.run.count moved.to journal.old journal.new pools.new result }
     ensures undone { OnErr result (WasReleased pools.old pools.new taken) }
     ensures only { IfErr result (λ e. (e ≡ DeviceFault) ⊎ (e ≡ Memory)) }
 {
+    // For the proof: a stop now leaves what is read, and the sizes are allowed ones.
     journal.left_now();
     let _units = journal.geometry().units();
-    match plan_move(alloc, inode, to, file, bytes, lost, taken) {
+    match plan_move(alloc, moved, taken) {
         Ok(plan) => write_move(alloc, journal, pools, plan),
         Err(back) => {
             pools.release(back);
@@ -87,26 +93,23 @@ fn allocate_run<M: Media>(
     alloc: Global,
     journal: &mut Journal<M>,
     pools: &mut Pools,
-    inode: u32,
-    to: Tier,
-    file: MovableRun,
-    bytes: Vec<u8>,
-    lost: FreedBlocks,
+    moved: ReadMove,
 ) -> Result<(), RelocateError>
     requires going { journal.old.failed ≡ false }
     requires settled { IsSettled journal.old.geometry (M.seen journal.old.media) (M.left journal.old.media (M.moment journal.old.media)) pools.old }
-    requires run { IsReadRun journal.old.geometry (disk M.Media journal.old) inode to file bytes.items lost }
-    requires room { HasRoomFor pools.old lost }
-    ensures ends { Ends M.Media inode file.run.first file.run.count to journal.old journal.new pools.new result }
+    requires run { IsReadRun journal.old.geometry (disk M.Media journal.old) moved.inode moved.to moved.file moved.bytes.items moved.lost }
+    requires room { HasRoomFor pools.old moved.lost }
+    ensures ends { Ends M.Media moved.inode moved.file.run.first moved.file.run.count moved.to journal.old journal.new pools.new result }
     ensures same { OnErr result (SameFree pools.old pools.new) }
-    ensures enough { OnOk result (file.run.count ≤ length (data_pool pools.old to).free) }
-    ensures few { IsErrOf result NoBlock → length (data_pool pools.old to).free < file.run.count }
+    ensures enough { OnOk result (moved.file.run.count ≤ length (data_pool pools.old moved.to).free) }
+    ensures few { IsErrOf result NoBlock → length (data_pool pools.old moved.to).free < moved.file.run.count }
     ensures mapped { IfErr result (λ e. e ≢ NotMapped) }
 {
+    // For the proof: a stop now leaves what is read, and a block of the node pool is always free.
     journal.left_now();
     nodes_never_run_out();
-    match take_blocks(pools, &file, to) {
-        Ok(taken) => carry(alloc, journal, pools, inode, to, file, bytes, lost, taken),
+    match take_blocks(pools, &moved.file, moved.to) {
+        Ok(taken) => carry(alloc, journal, pools, moved, taken),
         Err(error) => Err(RelocateError::from(error)),
     }
 }
@@ -116,54 +119,62 @@ fn move_bytes<M: Media>(
     alloc: Global,
     journal: &mut Journal<M>,
     pools: &mut Pools,
-    inode: u32,
-    to: Tier,
-    file: MovableRun,
+    moved: FileMove,
     bytes: Vec<u8>,
 ) -> Result<(), RelocateError>
     requires going { journal.old.failed ≡ false }
     requires settled { IsSettled journal.old.geometry (M.seen journal.old.media) (M.left journal.old.media (M.moment journal.old.media)) pools.old }
-    requires file { IsMovableRun journal.old.geometry (disk M.Media journal.old) inode file.run.first file.run.count to file }
-    requires holds { HoldsRun (logical_block journal.old.geometry (disk M.Media journal.old) inode) file.run.first file.run.count bytes.items }
-    requires size { length bytes.items ≡ BLOCK * file.run.count }
-    ensures ends { Ends M.Media inode file.run.first file.run.count to journal.old journal.new pools.new result }
+    requires file { IsMovableRun journal.old.geometry (disk M.Media journal.old) moved.inode moved.file.run.first moved.file.run.count moved.to moved.file }
+    requires holds { HoldsRun (logical_block journal.old.geometry (disk M.Media journal.old) moved.inode) moved.file.run.first moved.file.run.count bytes.items }
+    requires size { length bytes.items ≡ BLOCK * moved.file.run.count }
+    ensures ends { Ends M.Media moved.inode moved.file.run.first moved.file.run.count moved.to journal.old journal.new pools.new result }
     ensures same { OnErr result (SameFree pools.old pools.new) }
-    ensures enough { OnOk result (file.run.count ≤ length (data_pool pools.old to).free) }
-    ensures few { IsErrOf result NoBlock → length (data_pool pools.old to).free < file.run.count }
+    ensures enough { OnOk result (moved.file.run.count ≤ length (data_pool pools.old moved.to).free) }
+    ensures few { IsErrOf result NoBlock → length (data_pool pools.old moved.to).free < moved.file.run.count }
     ensures mapped { IfErr result (λ e. e ≢ NotMapped) }
 {
+    // For the proof: a stop now leaves what is read.
     journal.left_now();
-    match lost_places(alloc, pools, &file.map, file.run) {
-        Ok(lost) => allocate_run(alloc, journal, pools, inode, to, file, bytes, lost),
+    match lost_places(alloc, pools, &moved.file.map, moved.file.run) {
+        Ok(lost) => {
+            let FileMove { inode, to, file } = moved;
+            let moved = ReadMove {
+                inode,
+                to,
+                file,
+                bytes,
+                lost,
+            };
+            allocate_run(alloc, journal, pools, moved)
+        }
         Err(_) => Err(RelocateError::Memory),
     }
 }
 
-/// Moves a run that may be moved. The free blocks are counted first, so that no byte is read for a tier that has too few; then its bytes are read.
+/// Moves a run that may be moved. The free blocks are counted first, so that no byte is read for a tier that has too few.
 pub fn move_run<M: Media>(
     alloc: Global,
     journal: &mut Journal<M>,
     pools: &mut Pools,
-    inode: u32,
-    to: Tier,
-    file: MovableRun,
+    moved: FileMove,
 ) -> Result<(), RelocateError>
     requires going { journal.old.failed ≡ false }
     requires settled { IsSettled journal.old.geometry (M.seen journal.old.media) (M.left journal.old.media (M.moment journal.old.media)) pools.old }
-    requires file { IsMovableRun journal.old.geometry (disk M.Media journal.old) inode file.run.first file.run.count to file }
-    ensures ends { Ends M.Media inode file.run.first file.run.count to journal.old journal.new pools.new result }
+    requires file { IsMovableRun journal.old.geometry (disk M.Media journal.old) moved.inode moved.file.run.first moved.file.run.count moved.to moved.file }
+    ensures ends { Ends M.Media moved.inode moved.file.run.first moved.file.run.count moved.to journal.old journal.new pools.new result }
     ensures same { OnErr result (SameFree pools.old pools.new) }
-    ensures enough { OnOk result (file.run.count ≤ length (data_pool pools.old to).free) }
-    ensures few { IsErrOf result NoBlock → length (data_pool pools.old to).free < file.run.count }
+    ensures enough { OnOk result (moved.file.run.count ≤ length (data_pool pools.old moved.to).free) }
+    ensures few { IsErrOf result NoBlock → length (data_pool pools.old moved.to).free < moved.file.run.count }
     ensures mapped { IfErr result (λ e. e ≢ NotMapped) }
 {
+    // For the proof: a stop now leaves what is read.
     journal.left_now();
-    let free = pools.free(to);
-    if free < file.run.count {
+    let free = pools.free(moved.to);
+    if free < moved.file.run.count {
         return Err(RelocateError::NoBlock);
     }
-    match read_run(alloc, journal, inode, &file.map, file.run) {
-        Ok(bytes) => move_bytes(alloc, journal, pools, inode, to, file, bytes),
+    match read_run(alloc, journal, moved.inode, &moved.file.map, moved.file.run) {
+        Ok(bytes) => move_bytes(alloc, journal, pools, moved, bytes),
         Err(error) => Err(relocate_error(error)),
     }
 }

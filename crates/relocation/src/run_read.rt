@@ -1,5 +1,5 @@
 // The bytes of a run.
-ghost use Rattle.std.specs.Prelude.{◌≡◌, ◌≤◌, ◌<◌, ◌+◌, ◌*◌, ◌^◌, ◌⊎◌, ℕ, false, length, replicate, OnOk, OnErr, IfOk, IfErr};
+ghost use Rattle.std.specs.Prelude.{◌≡◌, ◌≤◌, ◌<◌, ◌+◌, ◌*◌, ◌^◌, ◌⊎◌, ℕ, false, length, OnOk, OnErr, IfOk, IfErr};
 ghost use Rattle.inode_plan.specs.layout.declared.places.TheConstants.{BLOCK};
 ghost use Rattle.inode_plan.specs.batch_journal.Images.{slice};
 ghost use Rattle.inode_plan.specs.area_image.Store.{disk, logical_block};
@@ -9,7 +9,7 @@ ghost use Rattle.inode_plan.specs.area_image.declared.error.AreaError.TheVariant
 ghost use Rattle.inode_plan.specs.Lists.{LiesSomewhere, HoldsRun, LieAsIn};
 
 use inode_plan::{AreaError, BLOCK, BlockMap, Journal, Media, Run, read_block};
-use std::alloc::{AllocError, Global};
+use std::alloc::Global;
 
 // A logical block that lies somewhere.
 fn read_logical<M: Media>(
@@ -35,14 +35,6 @@ fn read_logical<M: Media>(
         },
         None => unreachable!(),
     }
-}
-
-// So many zero bytes.
-fn zeros(alloc: Global, size: usize) -> Result<Vec<u8>, AllocError>
-    ensures { IfOk result (λ v. v.items ≡ replicate size 0) }
-{
-    let bytes = vec![in alloc; 0u8; size]?;
-    Ok(bytes)
 }
 
 // The blocks of a run, one after the other, into a buffer of their size.
@@ -75,7 +67,7 @@ fn read_into<M: Media>(
     Ok(())
 }
 
-/// The bytes of a run of logical blocks, each of which lies somewhere: one device call for each. `Memory` where there was none for them.
+/// Reads the bytes of a run of logical blocks, each of which lies somewhere. `Memory` where there was none for them.
 pub fn read_run<M: Media>(
     alloc: Global,
     journal: &mut Journal<M>,
@@ -94,12 +86,10 @@ pub fn read_run<M: Media>(
     ensures looks { Looks M.Media journal.old journal.new result }
 {
     let size = BLOCK * run.count as usize;
-    let mut bytes = match zeros(alloc, size) {
+    let mut bytes = match vec![in alloc; 0u8; size] {
         Ok(bytes) => bytes,
         Err(_) => return Err(AreaError::Memory),
     };
-    match read_into(journal, inode, map, run, &mut bytes) {
-        Ok(()) => Ok(bytes),
-        Err(error) => Err(error),
-    }
+    read_into(journal, inode, map, run, &mut bytes)?;
+    Ok(bytes)
 }

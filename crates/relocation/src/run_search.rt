@@ -23,6 +23,15 @@ use inode_plan::{
 };
 use std::alloc::Global;
 
+/// A run of logical blocks of a file that is asked for: `count` of them, from block `first` on. What stands at the inode, and whether it has these blocks, is
+/// not known yet.
+#[derive(Clone, Copy)]
+pub struct RunRequest {
+    pub inode: u32,
+    pub first: u64,
+    pub count: u32,
+}
+
 /// A file of which a run is to be moved: its slot, where its blocks lie, and the run.
 #[derive(Drop)]
 pub struct MovableRun {
@@ -55,7 +64,7 @@ fn run_of(slot: &Slot, first: u64, count: u32) -> Option<Run>
     }
 }
 
-/// Where the blocks of an inode lie that has this slot: each of its extent blocks is read once. A damage names one that spells none that are the inode's; `Memory` where
+/// Reads where the blocks of an inode lie that has this slot. A damage names one that spells none that are the inode's; `Memory` where
 /// there was none for what one spells, or for the runs.
 pub fn read_map<M: Media>(
     alloc: Global,
@@ -111,32 +120,31 @@ fn find_in<M: Media>(
     }
 }
 
-/// A run of a file, if it may be moved to a tier: `None` where the inode is no file, the run has no block or more than 256, or some block of it lies in no faster tier. It
-/// makes four device calls at most. `Memory` where there was none for an extent block, or for where the file's blocks lie: only where there is a file that the run lies within.
+/// Finds a run of a file that may be moved to a tier: `None` where the inode is no file, the run has no block or more than 256, or some block of it lies in no
+/// faster tier. The slot is read, and the extents of a file that the run lies within. `Memory` where there was none for an extent block, or for where the file's blocks lie: only
+/// where there is a file that the run lies within.
 pub fn find_run<M: Media>(
     alloc: Global,
     journal: &mut Journal<M>,
-    inode: u32,
-    first: u64,
-    count: u32,
+    run: RunRequest,
     to: Tier,
 ) -> Result<Option<MovableRun>, AreaError>
     requires { journal.old.failed ≡ false → IsOpenable journal.old.geometry (disk M.Media journal.old) }
-    ensures found { IfOk result (λ x. IfSome x (IsMovableRun journal.old.geometry (disk M.Media journal.old) inode first count to)) }
-    ensures none { IfOk result (λ x. x ≡ None → CanMove journal.old.geometry (disk M.Media journal.old) inode first count to → ⊥) }
+    ensures found { IfOk result (λ x. IfSome x (IsMovableRun journal.old.geometry (disk M.Media journal.old) run.inode run.first run.count to)) }
+    ensures none { IfOk result (λ x. x ≡ None → CanMove journal.old.geometry (disk M.Media journal.old) run.inode run.first run.count to → ⊥) }
     ensures only { IfErr result (λ e. OnDamage e (λ _ _. ⊥)) }
-    ensures memory { IfErr result (λ e. e ≡ Memory → HasFileRun journal.old.geometry (disk M.Media journal.old) inode first count) }
+    ensures memory { IfErr result (λ e. e ≡ Memory → HasFileRun journal.old.geometry (disk M.Media journal.old) run.inode run.first run.count) }
     ensures looks { Looks M.Media journal.old journal.new result }
 {
     if journal.has_failed() {
         return Err(AreaError::DeviceFault);
     }
-    if !is_inode(inode) {
+    if !is_inode(run.inode) {
         return Ok(None);
     }
-    match read_slot(journal, inode) {
-        Ok(slot) => match run_of(&slot, first, count) {
-            Some(run) => match find_in(alloc, journal, inode, slot, run, to) {
+    match read_slot(journal, run.inode) {
+        Ok(slot) => match run_of(&slot, run.first, run.count) {
+            Some(its) => match find_in(alloc, journal, run.inode, slot, its, to) {
                 Ok(found) => Ok(found),
                 Err(error) => Err(error),
             },

@@ -33,6 +33,7 @@ pub fn take_blocks(
     ensures err { OnErr result (SameFree pools.old pools.new) }
     ensures order { AreInOrder pools.old }
 {
+    // For the proof: what is taken of the pools was free, and the pools are in order.
     taken_blocks_were_free();
     let _free = pools.free(to);
     pools.take_in(spare_count(&file.slot, to), to, file.run.count)

@@ -9,8 +9,8 @@ ghost use Rattle.relocation.specs.TierMove.{CanMove};
 ghost use Rattle.relocation.specs.declared.error.RelocateError.TheVariants.{DeviceFault, NotMapped, NoBlock, Memory};
 ghost use Rattle.relocation.specs.RunMove.{IsSettled, IsMovedStore, Moves, MovesInFewCalls, StaysStill, Ends};
 
-use crate::run_move::move_run;
-use crate::{RelocateError, find_run, relocate_error};
+use crate::run_move::{FileMove, move_run};
+use crate::{RelocateError, RunRequest, find_run, relocate_error};
 use inode_plan::{Journal, Media, Pools, Tier};
 use std::alloc::Global;
 
@@ -19,58 +19,58 @@ fn move_found<M: Media>(
     alloc: Global,
     journal: &mut Journal<M>,
     pools: &mut Pools,
-    inode: u32,
-    first: u64,
-    count: u32,
+    run: RunRequest,
     to: Tier,
 ) -> Result<(), RelocateError>
     requires going { journal.old.failed ≡ false }
     requires settled { IsSettled journal.old.geometry (M.seen journal.old.media) (M.left journal.old.media (M.moment journal.old.media)) pools.old }
-    ensures ends { Ends M.Media inode first count to journal.old journal.new pools.new result }
+    ensures ends { Ends M.Media run.inode run.first run.count to journal.old journal.new pools.new result }
     ensures same { OnErr result (SameFree pools.old pools.new) }
-    ensures can { OnOk result (CanMove journal.old.geometry (disk M.Media journal.old) inode first count to × (count ≤ length (data_pool pools.old to).free)) }
-    ensures not_mapped { IsErrOf result NotMapped → CanMove journal.old.geometry (disk M.Media journal.old) inode first count to → ⊥ }
-    ensures no_block { IsErrOf result NoBlock → CanMove journal.old.geometry (disk M.Media journal.old) inode first count to × (length (data_pool pools.old to).free < count) }
-    ensures memory { IsErrOf result Memory → HasFileRun journal.old.geometry (disk M.Media journal.old) inode first count }
+    ensures can { OnOk result (CanMove journal.old.geometry (disk M.Media journal.old) run.inode run.first run.count to × (run.count ≤ length (data_pool pools.old to).free)) }
+    ensures not_mapped { IsErrOf result NotMapped → CanMove journal.old.geometry (disk M.Media journal.old) run.inode run.first run.count to → ⊥ }
+    ensures no_block { IsErrOf result NoBlock → CanMove journal.old.geometry (disk M.Media journal.old) run.inode run.first run.count to × (length (data_pool pools.old to).free < run.count) }
+    ensures memory { IsErrOf result Memory → HasFileRun journal.old.geometry (disk M.Media journal.old) run.inode run.first run.count }
 {
+    // For the proof: a stop now leaves what is read.
     journal.left_now();
-    match find_run(alloc, journal, inode, first, count, to) {
-        Ok(Some(file)) => move_run(alloc, journal, pools, inode, to, file),
+    match find_run(alloc, journal, run, to) {
+        Ok(Some(file)) => {
+            let inode = run.inode;
+            move_run(alloc, journal, pools, FileMove { inode, to, file })
+        }
         Ok(None) => Err(RelocateError::NotMapped),
         Err(error) => Err(relocate_error(error)),
     }
 }
 
-/// Moves a run of logical blocks of a file, `count` of them from block `first` on, to a tier that is slower than those in which they lie: into the lowest blocks that are free
+/// Moves a run of logical blocks of a file to a tier that is slower than those in which they lie: into the lowest blocks that are free
 /// there. The bytes go to their new places and are fenced first; then one batch writes what the file is; then the old places are free. So a stop at any moment leaves the run
-/// where it lay, or all of it moved, and in both cases the same files with the same bytes. The cost is one read for each block of the run, and a few calls besides; the free blocks
-/// are counted before the first of these reads.
+/// where it lay, or all of it moved, and in both cases the same files with the same bytes. The bytes of the run are read, once the free blocks
+/// are counted; how many reads that takes is a matter of cost alone.
 ///
 /// The refusals, in this order: `DeviceFault` where a device has failed before, and nothing is touched then; `NotMapped` where there is no file, the run has no block or more
-/// than 256, or some block of it lies in no faster tier; `NoBlock` where fewer than `count` blocks are free in the tier. After these two, and after `Memory`, which
+/// than 256, or some block of it lies in no faster tier; `NoBlock` where fewer blocks are free in the tier than the run has. After these two, and after `Memory`, which
 /// comes only where there is a file that the run lies within, the media and the free blocks are as before. `DeviceFault` also where a device fails in the call; the journal answers
 /// nothing else then until it is opened again.
 pub fn relocate<M: Media>(
     alloc: Global,
     journal: &mut Journal<M>,
     pools: &mut Pools,
-    inode: u32,
-    first: u64,
-    count: u32,
+    run: RunRequest,
     to: Tier,
 ) -> Result<(), RelocateError>
     // The media spell a graph with nothing pending, and the pools have their free blocks.
     requires { journal.old.failed ≡ false → IsSettled journal.old.geometry (M.seen journal.old.media) (M.left journal.old.media (M.moment journal.old.media)) pools.old }
 
     // At each moment a stop leaves the run where it lay, or moved, and the same graph and marks.
-    ensures any_moment { journal.old.failed ≡ false → Moves journal.old.geometry (disk M.Media journal.old) inode first count to (M.moment journal.old.media) (M.moment journal.new.media) (M.left journal.old.media) (M.left journal.new.media) }
-    ensures moved { OnOk result (IsMovedStore journal.old.geometry (disk M.Media journal.old) inode first count to (disk M.Media journal.new)) }
-    ensures can { OnOk result (CanMove journal.old.geometry (disk M.Media journal.old) inode first count to × (count ≤ length (data_pool pools.old to).free)) }
+    ensures any_moment { journal.old.failed ≡ false → Moves journal.old.geometry (disk M.Media journal.old) run.inode run.first run.count to (M.moment journal.old.media) (M.moment journal.new.media) (M.left journal.old.media) (M.left journal.new.media) }
+    ensures moved { OnOk result (IsMovedStore journal.old.geometry (disk M.Media journal.old) run.inode run.first run.count to (disk M.Media journal.new)) }
+    ensures can { OnOk result (CanMove journal.old.geometry (disk M.Media journal.old) run.inode run.first run.count to × (run.count ≤ length (data_pool pools.old to).free)) }
     ensures settled { journal.new.failed ≡ false → IsSettled journal.new.geometry (M.seen journal.new.media) (M.left journal.new.media (M.moment journal.new.media)) pools.new }
 
-    ensures not_mapped { IsErrOf result NotMapped → CanMove journal.old.geometry (disk M.Media journal.old) inode first count to → ⊥ }
-    ensures no_block { IsErrOf result NoBlock → CanMove journal.old.geometry (disk M.Media journal.old) inode first count to × (length (data_pool pools.old to).free < count) }
-    ensures memory { IsErrOf result Memory → HasFileRun journal.old.geometry (disk M.Media journal.old) inode first count }
+    ensures not_mapped { IsErrOf result NotMapped → CanMove journal.old.geometry (disk M.Media journal.old) run.inode run.first run.count to → ⊥ }
+    ensures no_block { IsErrOf result NoBlock → CanMove journal.old.geometry (disk M.Media journal.old) run.inode run.first run.count to × (length (data_pool pools.old to).free < run.count) }
+    ensures memory { IsErrOf result Memory → HasFileRun journal.old.geometry (disk M.Media journal.old) run.inode run.first run.count }
     ensures unmoved { IfErr result (λ e. e ≢ DeviceFault → StaysStill M.Media journal.old journal.new) }
     ensures same { OnErr result (SameFree pools.old pools.new) }
     ensures fault { IsErrOf result DeviceFault → (journal.new.failed ≡ true) × ((journal.old.failed ≡ true) ⊎ Rose (M.faults journal.old.media) (M.faults journal.new.media)) }
@@ -81,11 +81,11 @@ pub fn relocate<M: Media>(
     ensures faults { M.faults journal.old.media ≤ M.faults journal.new.media }
     ensures one_fault { M.faults journal.new.media ≤ M.faults journal.old.media + 1 }
     // A write for each run of the blocks that it goes to, which are the lowest that are free in the tier, a fence, and the batch; what is read is not counted.
-    ensures few { MovesInFewCalls journal.old.geometry (disk M.Media journal.old) to count (M.moment journal.old.media) (M.moment journal.new.media) }
-    ensures at_most { M.moment journal.new.media ≤ M.moment journal.old.media + count + 13 }
+    ensures few { MovesInFewCalls journal.old.geometry (disk M.Media journal.old) to run.count (M.moment journal.old.media) (M.moment journal.new.media) }
+    ensures at_most { M.moment journal.new.media ≤ M.moment journal.old.media + run.count + 13 }
 {
     if journal.has_failed() {
         return Err(RelocateError::DeviceFault);
     }
-    move_found(alloc, journal, pools, inode, first, count, to)
+    move_found(alloc, journal, pools, run, to)
 }

@@ -45,7 +45,7 @@ one_fill (f ∷ g ∷ fs) = None
 abbrev pub medium_fill : List (List ℕ) → ℕ → Option Fill
 medium_fill words m = media_with_fills words >>= λ ns. one_fill (fills_of m ns)
 
--- the fills that they give to so many media, from one on
+-- the fills that they give to this number of media, from medium m on
 abbrev pub fills_from : List (List ℕ) → ℕ → ℕ → Option (List Fill)
 fills_from words m zero = Some []
 fills_from words m (suc n) = medium_fill words m >>= λ f. option_map (λ fs. f ∷ fs) (fills_from words (m + 1) n)

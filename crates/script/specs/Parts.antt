@@ -7,7 +7,7 @@ use Rattle.script.specs.declared.script.part.TheConstants.{MAX_LINE}
 use Rattle.script.specs.declared.script.part.End.{End}
 use Rattle.script.specs.declared.script.part.End.TheVariants.{Open, Newline, Input, TooLong}
 
--- a part without a newline moves to the line; the newline behind it, the end of the input and what is too long are told
+-- a part without a newline moves to the line; the newline behind it, the end of the input and what is too long are reported
 abbrev pub Adds : Option (List ℕ) → Option (List ℕ) → List ℕ → List ℕ → End → Type 0
 Adds old new before after Open = (part : List ℕ) × (after ≡ before ++ part) × IsWithinLine part × Consumes old new part
 Adds old new before after (Newline more) = (part : List ℕ) × (after ≡ before ++ part) × IsWithinLine part × Consumes old new (part ++ 10 ∷ [])

@@ -14,7 +14,7 @@ use Rattle.script.specs.declared.system_line.LowerTier.TheVariants as tiers
 use Rattle.script.specs.declared.system_line.EventWord.{EventWord}
 use Rattle.script.specs.declared.system_line.EventWord.TheVariants as events
 
--- what is asked: a client's call, in a manner; an event of a client; a move of so many blocks, from one on, to a tier; the tier of a block; how the units stand; a stop within a write or fence, and its fill; a stop between two, and the fill of each medium; the failure of a medium's write or fence; a recovery
+-- what is asked: a client's call, in a manner; an event of a client; a move of some blocks, from one on, to a tier; the tier of a block; how the units stand; a stop within a write or fence, and its fill; a stop between two, and the fill of each medium; the failure of a medium's write or fence; a recovery
 pub data Asked : Type 0 where
   Calls : (client : ℕ) (manner : Manner) (call : Call) → Asked
   Steps : (client : ℕ) → Asked

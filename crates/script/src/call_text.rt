@@ -105,6 +105,7 @@ pub fn read_line(line: &[u8]) -> Option<Line<'_>>
     }
 }
 
+/// Returns the verb that a word is; `None` if it is none.
 pub fn verb_of(word: &[u8]) -> Option<Verb>
     ensures { result ≡ verb word.now }
 {
@@ -125,6 +126,7 @@ pub fn verb_of(word: &[u8]) -> Option<Verb>
     }
 }
 
+/// Reads the words of a call behind its verb. `None` if they are not such a call's. Takes no memory.
 pub fn call_of(verb: Verb, words: &[u8]) -> Option<CallText<'_>>
     ensures { option_map asked_call result ≡ call_for verb (parts 32 words.now) }
 {
@@ -266,7 +268,7 @@ impl CallText<'_> {
         }
     }
 
-    // The same of a call that makes or takes away a name, or tells of a node.
+    // The same of a call that makes or removes a name, or describes a node.
     fn to_name_call(&self, alloc: Global) -> Result<Call, AllocError>
         ensures { IfOk result (λ call. call ≡ asked_call self.now) }
     {

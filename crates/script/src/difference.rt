@@ -1,7 +1,7 @@
 // Where two texts differ.
 use crate::report::Report;
 
-/// Whether both texts are the same. Tells of a row the first line that differs: its number from 1 on, and what stands there in both
+/// Answers whether both texts are the same. Reports the first line of a row that differs: its number from 1 on, and what stands there in both
 /// texts, if anything does.
 pub fn are_same(row: &str, found: &[u8], wanted: &[u8], report: &mut Report) -> bool {
     let mut found = found.split(is_newline);

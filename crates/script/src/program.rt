@@ -8,7 +8,7 @@ use std::process::ExitCode;
 use std::rt::Env;
 
 /// Runs a program over the words of the command line, and ends with the status that its run answers. A word that is no text is
-/// told on `err`, with status 2. So is what the run answers in place of a status, with status 3: nothing but memory is asked for
+/// printed on `err`, with status 2. So is what the run answers in place of a status, with status 3: nothing but memory is asked for
 /// before a run begins.
 pub fn run_program<R: Env + AllocGlobal, E: Write, F: FnOnce(&[&str]) -> io::Result<u8>>(
     rt: &R,

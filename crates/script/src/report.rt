@@ -1,4 +1,4 @@
-// What is told of the rows that do not hold.
+// The report of the rows that do not hold.
 use std::alloc::Global;
 use std::fmt::Display;
 
@@ -10,6 +10,7 @@ pub struct Report {
 }
 
 impl Report {
+    /// Begins an empty text.
     pub fn new(alloc: Global) -> Self {
         Report {
             alloc,
@@ -17,6 +18,7 @@ impl Report {
         }
     }
 
+    /// Lends the text.
     pub fn as_str(&self) -> &str {
         &self.text
     }

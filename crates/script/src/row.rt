@@ -71,7 +71,7 @@ impl<'a> Row<'a> {
         }
     }
 
-    // The exit status, and what is told on standard error.
+    // The exit status, and what is written to standard error.
     fn set_end(&mut self, end: &'a str) {
         let (status, error) = end.split_once(' ').unwrap_or((end, ""));
         self.status = self.number(status);

@@ -18,7 +18,7 @@ pub enum RunError {
 }
 
 impl RunError {
-    /// How it is told.
+    /// How it is printed.
     pub fn text(self) -> &'static str {
         match self {
             RunError::Device => "fault 2",

@@ -53,19 +53,19 @@ pub enum SystemLine<'a> {
     Wipe {
         client: u32,
     },
-    /// So many blocks of a file, from a logical block on, go down to a tier.
+    /// `count` blocks of a file, from logical block `first` on, go down to a tier.
     Migrate {
         path: PathText<'a>,
         first: u64,
         count: u64,
         to: LowerTier,
     },
-    /// The tier of a logical block of a file is told.
+    /// Prints the tier of a logical block of a file.
     Where {
         path: PathText<'a>,
         block: u64,
     },
-    /// What the tree costs is told, what the clients were given, and how many units there are.
+    /// Prints what the tree costs, what the clients were given, and how many units there are.
     Book,
     /// The world stops within the write or fence of this number, counted over all media from here on, the first being 1. The fill
     /// is what every byte holds then that was written and not fenced.
@@ -257,7 +257,7 @@ fn fail_of(words: &[u8]) -> Option<SystemLine<'_>>
     Some(SystemLine::Fail { call, medium })
 }
 
-// A client's call, with the manner before it, if one is told.
+// A client's call, with the manner before it, if one is given.
 fn asked_call(client: u32, words: &[u8]) -> Option<SystemLine<'_>>
     ensures { option_map system_line_seen result ≡ option_map Some (asks_call client (parts 32 words.now)) }
 {

@@ -12,6 +12,7 @@ pub struct Spelled {
 }
 
 impl Spelled {
+    /// Begins with no bytes.
     pub fn new(alloc: Global) -> Self {
         Spelled {
             bytes: Vec::new(alloc),

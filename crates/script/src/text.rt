@@ -1,4 +1,4 @@
-// What is told of a row.
+// The text of a row.
 ghost use Rattle.std.specs.Prelude.{◌<◌, IfSome, length};
 
 use crate::{is_plain, run_len};
@@ -14,6 +14,7 @@ pub struct Text {
 }
 
 impl Text {
+    /// Begins an empty text.
     pub fn new(alloc: Global) -> Self {
         Text {
             text: String::new(alloc),
@@ -21,7 +22,7 @@ impl Text {
         }
     }
 
-    /// Whether a piece was left out, or there was no memory for what it should tell.
+    /// Whether a piece was left out, or there was no memory for what it should say.
     pub fn is_cut(&self) -> bool {
         self.is_cut
     }
@@ -31,19 +32,23 @@ impl Text {
         self.is_cut = true;
     }
 
+    /// Lends the text.
     pub fn as_str(&self) -> &str {
         &self.text
     }
 
+    /// Returns the text.
     pub fn into_string(self) -> String {
         self.text
     }
 
+    /// Empties the text, which is then not cut.
     pub fn clear(&mut self) {
         self.text.clear();
         self.is_cut = false;
     }
 
+    /// Appends a piece. If there is no memory for it, the text is cut.
     pub fn put(&mut self, piece: &str) {
         let is_put = self.text.push_str(piece).is_ok();
         self.is_cut |= !is_put;

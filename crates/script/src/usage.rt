@@ -1,4 +1,4 @@
-// What is told of the words of a command line.
+// What is printed about the words of a command line.
 use crate::run_error::RunError;
 use clap::Error;
 use clap::error::ErrorKind;
@@ -30,7 +30,7 @@ impl From<Error> for WordsError {
     }
 }
 
-/// Tells what is wrong with the words, or their help, and answers the exit status: 0 for the help, 2 for words that can't be read,
+/// Prints what is wrong with the words, or their help, and answers the exit status: 0 for the help, 2 for words that can't be read,
 /// and 3 after a fault.
 pub fn tell<O: Write, E: Write>(error: WordsError, out: &mut O, err: &mut E) -> u8 {
     match error {
@@ -42,7 +42,7 @@ pub fn tell<O: Write, E: Write>(error: WordsError, out: &mut O, err: &mut E) -> 
     }
 }
 
-/// Tells what is wrong with the words, and answers the exit status.
+/// Prints what is wrong with the words, and answers the exit status.
 pub fn tell_words<E: Write>(error: WordsError, err: &mut E) -> u8 {
     match error {
         WordsError::Usage(error) => {
@@ -63,7 +63,7 @@ fn print_help<O: Write>(help: Error, out: &mut O) -> Result<(), RunError> {
     Ok(())
 }
 
-/// Tells what ended a run before its end, and answers the exit status 3.
+/// Prints what ended a run before its end, and answers the exit status 3.
 pub fn tell_fault<E: Write>(fault: RunError, err: &mut E) -> u8 {
     let _ = writeln!(err, "{}", fault.text());
     3

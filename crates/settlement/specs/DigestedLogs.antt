@@ -79,7 +79,7 @@ CanDigestAll capacity g logs = (d : ℕ) → is_client d ≡ true → CanDigest 
 abbrev pub IsFirstRefused : ℕ → Graph → List Record → ℕ → Type 0
 IsFirstRefused capacity g rs place = (held : List ℕ) → HasEveryInode held → IsFirstBad held capacity g rs place
 
--- a refusal for a record names the first of these that can't be digested, which are that client's, behind so many others of it
+-- a refusal for a record names the first of these that can't be digested, which are that client's, behind `before` others of it
 abbrev pub NamesRefused : ℕ → ℕ → ℕ → Graph → List Record → RecoveryError → Type 0
 NamesRefused client before capacity g rs e = OnBadLog e (λ c place. (c ≡ client) × (k : ℕ) × (before + k < 18446744073709551616 → place ≡ before + k) × IsFirstRefused capacity g rs k)
 
@@ -89,7 +89,7 @@ NamesBad g s x digests.DeviceFault = Unit {0}
 NamesBad g s x (digests.BadLog place) = (k : ℕ) × (place ≡ x.done + k) × IsFirstBad x.held g.units (graph g s) (undone x) k
 NamesBad g s x digests.Memory = Unit {0}
 
--- A sealed log of a client: these records of a generation, so many of them digested, and every inode held for writing.
+-- A sealed log of a client: these records of a generation, the first `done` of them digested, and every inode held for writing.
 pub record IsLogOf (client generation done : ℕ) (rs : List Record) (x : SealedView) : Type 0 where
   pub is : x ≡ record { client = client; generation = generation; done = done; held = x.held; records = rs }
   pub every : HasEveryInode x.held

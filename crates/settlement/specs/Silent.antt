@@ -75,7 +75,7 @@ pub record IsWipingTo {M : Type 0} (device : Ghosts M) (g name : ℕ) (r : Regio
   pub not_next : r.stage ≢ stages.Naming → generation (header_of device r) ≢ next_generation g
   pub named : r.stage ≡ stages.Naming → generation (device.seen r.media Fast) ≡ name
 
--- what a call of the wipe has come to: it goes on, or the region is wiped
+-- how far a call has brought the wipe: it goes on, or the region is wiped
 abbrev pub GoesOn : {M : Type 0} → Ghosts M → ℕ → ℕ → RegionView M → WipeProgress → Type 0
 GoesOn device g name r Going = IsWipingTo device g name r × IsWiping r.stage
 GoesOn device g name r Wiped = IsWiped device name r

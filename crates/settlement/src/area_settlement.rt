@@ -27,6 +27,7 @@ pub fn settle_area<M: Media>(
     ensures settles { IfOk result (SettlesArea M.Media area.old area.new regions.old regions.new) }
     ensures refused { IfErr result (RefusesArea M.Media area.old area.new regions.old regions.new) }
 {
+    // For the proof: while the logs are read a stop leaves what is read.
     area.left_now();
     let logs = find_logs(alloc, regions, &area.marks())?;
     digest_logs(alloc, area, regions, &logs)?;

@@ -22,6 +22,7 @@ fn drop_file<M: Media>(alloc: Global, area: &mut Shared<M>, inode: u32) -> Resul
     ensures only { IfErr result IsFaultOrMemory }
     ensures answers { AnswersFaults M.Media area.old area.new result }
 {
+    // For the proof: until the first device call a stop leaves what opens as what is read.
     area.left_now();
     match drop_nameless(alloc, area, inode) {
         Ok(()) => Ok(()),
@@ -48,6 +49,7 @@ pub fn drop_files<M: Media>(
     ensures only { IfErr result IsFaultOrMemory }
     ensures answers { AnswersFaults M.Media area.old area.new result }
 {
+    // For the proof: if there is no inode, a stop leaves what opens as what is read.
     area.left_now();
     for inode in inodes {
         drop_file(alloc, area, *inode)?;

@@ -57,6 +57,7 @@ pub fn test_graph<M: Media>(alloc: Global, area: &mut Shared<M>) -> Result<Vec<u
     ensures unmoved { Unmoved (M.moment area.old.media) (M.moment area.new.media) (M.seen area.old.media) (M.seen area.new.media) (M.left area.old.media) (M.left area.new.media) }
     ensures answers { AnswersFaults M.Media area.old area.new result }
 {
+    // For the proof: while the graph is read a stop leaves what opens as what is read.
     area.left_now();
     match check_graph(alloc, area) {
         Ok(inodes) => Ok(inodes),

@@ -54,6 +54,7 @@ pub fn digest_logs<M: Media>(
     ensures only { IfErr result IsDigestError }
     ensures answers { AnswersEither M.Media area.old area.new regions.old regions.new result }
 {
+    // For the proof: the area can be opened as it stands, and a stop leaves what opens as that.
     area.left_now();
     for before in 0..CLIENTS {
         digest_log(alloc, area, regions, before as u32 + 1, logs[before])?;
@@ -83,6 +84,7 @@ fn digest_log<M: Media>(
     ensures only { IfErr result IsDigestError }
     ensures answers { AnswersEither M.Media area.old area.new regions.old regions.new result }
 {
+    // For the proof: a stop leaves what opens as what is read, and a mark that moves leaves the records behind it to count.
     area.left_now();
     moved_mark_leaves_the_rest();
     let generation = mark_of(&area.marks(), client).generation;

@@ -59,6 +59,7 @@ fn digest_part<M: Media>(
     ensures only { IfErr result IsDigestError }
     ensures answers { AnswersFaults M.Media area.old area.new result }
 {
+    // For the proof: until the first device call a stop leaves what opens as what is read, with these marks.
     area.left_now();
     let _marks = area.marks();
     let left = records.len().saturating_sub(part.from);
@@ -91,6 +92,7 @@ fn digest_next_part<M: Media>(
     ensures only { IfErr result IsDigestError }
     ensures answers { AnswersFaults M.Media area.old area.new result }
 {
+    // For the proof: until the first device call a stop leaves what opens as what is read.
     area.left_now();
     if records.is_empty() {
         return Ok(0);
@@ -123,6 +125,7 @@ pub(crate) fn digest_first<M: Media>(
     ensures only { IfErr result IsDigestError }
     ensures answers { AnswersEither M.Media area.old area.new regions.old regions.new result }
 {
+    // For the proof: until the first device call a stop leaves what opens as what is read.
     area.left_now();
     let Some(rest) = rest else {
         return Ok(0);
@@ -162,6 +165,7 @@ pub(crate) fn digest_second<M: Media>(
     ensures only { IfErr result IsDigestError }
     ensures answers { AnswersEither M.Media area.old area.new regions.old regions.new result }
 {
+    // For the proof: until the first device call a stop leaves what opens as what is read.
     area.left_now();
     let Some(region) = region else {
         return Ok(0);
@@ -185,8 +189,10 @@ fn move_mark<M: Media>(
     ensures only { IfErr result IsFaultOrMemory }
     ensures answers { AnswersFaults M.Media area.old area.new result }
 {
+    // For the proof: until the first device call a stop leaves what opens as what is read.
     area.left_now();
     let marks = area.marks();
+    // For the proof: the marks fit their fields.
     marks_can_be_written(marks);
     let start = Mark {
         generation,

@@ -57,6 +57,7 @@ pub fn find_logs<M: Media>(
     ensures fault { IfErr result (λ e. e ≡ DeviceFault → HaveRisen M.Media (media_of regions.old) (media_of regions.new)) }
     ensures only { IfErr result (λ e. (e ≡ DeviceFault) ⊎ (e ≡ Memory) ⊎ (client : ℕ) × (place : ℕ) × (e ≡ BadLog client place)) }
 {
+    // For the proof: the table of owners decides whether two logs touch one inode, since records touch no number but inodes'.
     owners_decide_whether_logs_are_apart();
     counted_records_touch_inodes();
     let mut owners = Owners::new(alloc)?;
@@ -72,7 +73,7 @@ pub fn find_logs<M: Media>(
     Ok(logs)
 }
 
-// The log of the client after so many; its records are added to those of the clients before.
+// The log of the client after `before` others; its records are added to those of the clients before.
 fn find_next<M: Media>(
     regions: &mut [Region<M>],
     marks: &Marks,
@@ -131,6 +132,7 @@ fn read_region<M: Media>(region: &mut Region<M>) -> Result<ReadRegion, RecoveryE
     ensures only { IfErr result (λ e. (e ≡ DeviceFault) ⊎ (e ≡ Memory)) }
     ensures fault { IfErr result (λ e. e ≡ DeviceFault → Rose (M.faults region.old.media) (M.faults region.new.media)) }
 {
+    // For the proof: records of a region touch no number but inodes'.
     counted_records_touch_inodes();
     let name = generation_of(region)?;
     let records = records_in(region)?;
@@ -183,6 +185,7 @@ fn own_log(
         → NamesForeign (owner owners.old) client (first_part even.now odd.now counted.first ++ second_part even.now odd.now counted.second) e) }
     ensures only { IfErr result (λ e. (place : ℕ) × (e ≡ BadLog client place)) }
 {
+    // For the proof: the table of owners decides whether two logs touch one inode.
     owners_decide_whether_logs_are_apart();
     let first = records_from(even, odd, counted.first);
     own_part(owners, client, 0, first)?;
@@ -272,6 +275,7 @@ fn generation_of<M: Media>(region: &mut Region<M>) -> Result<u64, RecoveryError>
     ensures only { IfErr result (λ e. e ≡ DeviceFault) }
     ensures fault { OnErr result (Rose (M.faults region.old.media) (M.faults region.new.media)) }
 {
+    // For the proof: what a stop leaves of the region now.
     region.left_now();
     match region.generation() {
         Ok(generation) => Ok(generation),
@@ -287,6 +291,7 @@ fn records_in<M: Media>(region: &mut Region<M>) -> Result<Vec<Record>, RecoveryE
     ensures only { IfErr result (λ e. (e ≡ DeviceFault) ⊎ (e ≡ Memory)) }
     ensures fault { IfErr result (λ e. e ≡ DeviceFault → Rose (M.faults region.old.media) (M.faults region.new.media)) }
 {
+    // For the proof: what a stop leaves of the region now.
     region.left_now();
     match region.records() {
         Ok(found) => Ok(found),

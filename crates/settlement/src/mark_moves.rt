@@ -34,6 +34,7 @@ pub fn set_marks<M: Media>(
     ensures unmoved { IfErr result (λ e. e ≢ DeviceFault → Unmoved (M.moment area.old.media) (M.moment area.new.media) (M.seen area.old.media) (M.seen area.new.media) (M.left area.old.media) (M.left area.new.media)) }
     ensures answers { AnswersFaults M.Media area.old area.new result }
 {
+    // For the proof: a stop leaves what opens as what is read, and a change without effects keeps the graph and the limits.
     area.left_now();
     changes_are_the_effects();
     changes_keep_to_the_limits();
@@ -41,6 +42,7 @@ pub fn set_marks<M: Media>(
         clients,
         digests: area.marks().digests,
     };
+    // For the proof: the marks fit their fields.
     marks_can_be_written(marks);
     let change = GraphChange::new(alloc);
     match area.apply(&change, marks) {

@@ -38,7 +38,7 @@ fn every_inode(alloc: Global) -> Result<Vec<u32>, AllocError>
     Ok(held)
 }
 
-/// The log of a client's records of a generation, of which so many are digested, as one who holds every inode has it.
+/// The log of a client's records of a generation, of which the first `done` are digested, as one who holds every inode has it.
 ///
 /// The error is want of memory.
 pub(crate) fn resume_log(
@@ -75,6 +75,8 @@ fn digest_next<M: Media>(
     ensures never { IfErr result (λ e. HasEveryInode log.old.held → (g : Sizes) (regions : Regions) (state : State) → HaveRecords log.old regions → Recovers g regions state (M.seen area.old.media) → IsNoBadLog e) }
     ensures answers { DigestsOrStays M.Media area.old area.new result }
 {
+    // For the proof: a stop leaves what opens as what is read, the log's records are spelled, marks fit their fields, and a mark that moves
+    // leaves the records behind it to count.
     area.left_now();
     log.invariant();
     marks_can_be_written(area.marks());
@@ -122,6 +124,7 @@ pub(crate) fn digest_records<M: Media>(
     ensures only { IfErr result IsDigestError }
     ensures answers { AnswersFaults M.Media area.old area.new result }
 {
+    // For the proof: until the first device call a stop leaves what opens as what is read.
     area.left_now();
     let mut log = log;
     let client = log.client();

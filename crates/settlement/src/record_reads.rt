@@ -22,6 +22,7 @@ fn record_is_spelled(logged: &Record)
     requires { HasSpelledEffects logged.now }
     ensures { IsRecord logged.now }
 {
+    // For the proof: `units` is a `u32`, as the format wants it.
     let _units = logged.units;
 }
 
@@ -44,6 +45,7 @@ fn read_records<M: Media>(region: &mut Region<M>) -> Result<Vec<Record>, Recover
     ensures only { IfErr result (λ e. (e ≡ DeviceFault) ⊎ (e ≡ Memory)) }
     ensures fault { IfErr result (λ e. e ≡ DeviceFault → Rose (M.faults region.old.media) (M.faults region.new.media)) }
 {
+    // For the proof: what a read gives is what the region's records are read from.
     region.left_now();
     match region.records() {
         Ok(found) => {

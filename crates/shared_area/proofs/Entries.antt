@@ -1,25 +1,31 @@
 -- The entries of a directory, block by block.
-use Rattle.std.proofs.Common.{◌≡◌, ◌<◌, ◌+◌, ◌*◌, ◌/◌, ◌%◌, ◌∙◌, ℕ, List, length, get_or, false, refl, sym, ap, arith, Some, None, inr}
+use Rattle.std.proofs.Common.{◌≡◌, ◌<◌, ◌+◌, ◌*◌, ◌/◌, ◌%◌, ◌∙◌, ℕ, List, length, get_or, false, refl, sym, ap, subst, arith, Option, Some, None, inr}
 use Rattle.std.specs.Prelude.{min, slice_get, option_map}
 use Rattle.std.specs.FinMap as fin
 use Rattle.std.proofs.lemmas.List.{ext_get_or}
 use Rattle.std.proofs.lemmas.List.FromFn.{length-map-range_with_len}
 use Rattle.std.proofs.lemmas.Option.{get_or_from_slice_get}
 use Rattle.record_validation.specs.call_effects.NodeView.{FileView, view_at, view_of_node}
+use Rattle.record_validation.specs.Counts.{counts_of}
+use Rattle.record_validation.specs.declared.node_counts.NodeCounts.{NodeCounts}
+use Rattle.record_validation.specs.declared.node_counts.NodeCounts.TheVariants as counts
 use Rattle.change_plan.specs.layout.declared.directory.DirEntry.{DirEntry}
 use Rattle.change_plan.specs.layout.declared.slot.Slot.{Slot}
 use Rattle.change_plan.specs.layout.declared.slot.Slot.TheVariants as slots
 use Rattle.change_plan.specs.layout.Places.{Sizes, is_inode}
 use Rattle.change_plan.specs.layout.Directory.{EntryList, AreEntries, block_entries, entry_of, no_entry}
 use Rattle.change_plan.proofs.layout_lemmas.DirChanges.{listed_now}
-use Rattle.change_plan.specs.tree_blocks.Inode.{LogicalBlocks, Entry, plain, entry_at, entries_in, blocks_for, named_entries, byte_of, AreDistinct, AreDirectoryBlocks, inode_of, node_of}
+use Rattle.change_plan.specs.tree_blocks.Inode.{LogicalBlocks, Entry, plain, entry_at, entries_in, blocks_for, named_entries, byte_of, AreDistinct, AreDirectoryBlocks, IsConsistent, inode_of, node_of}
 use Rattle.change_plan.specs.tree_blocks.After.{IsEntered}
+use Rattle.change_plan.proofs.tree_blocks_lemmas.Directories.{len_named}
 use Rattle.change_plan.proofs.tree_blocks_lemmas.Entering.{named_entered}
 use Rattle.change_plan.proofs.tree_blocks_lemmas.Held.{entry_is}
 use Rattle.change_plan.specs.area_image.Store.{Store, slot_read, logical_block, graph}
+use Rattle.change_plan.specs.area_image.Format.{SpellsInode}
 use Rattle.change_plan.proofs.area_image_lemmas.Parts.{slot_as}
 use Rattle.shared_area.specs.DirectoryReads.{AreNext}
 use Rattle.shared_area.specs.FileReads.{ShowsBytes}
+use Rattle.shared_area.specs.Parts.{slot_counts}
 use Rattle.shared_area.proofs.Sound.{no_slot}
 
 -- ---- a block
@@ -95,3 +101,19 @@ module _ (g : Sizes) (s : Store) (i : ℕ) where
 
   pub no_view : is_inode i ≡ false → None ≡ view_at (graph g s) i
   no_view none = sym (ap (λ (x : Slot). option_map view_of_node (node_of (inode_of x (logical_block g s i)))) (no_slot g s i none))
+
+-- ---- its numbers
+
+same_counts : (names m n : ℕ) → m ≡ n → ◌≡◌ {A = Option NodeCounts} (Some (counts.Directory names n)) (Some (counts.Directory names m))
+same_counts names m n is = ap (λ (k : ℕ). Some (counts.Directory names k)) (sym is)
+
+counts_by : (i : ℕ) (x : Slot) (blocks : LogicalBlocks) → IsConsistent i (inode_of x blocks) → slot_counts x ≡ option_map counts_of (option_map view_of_node (node_of (inode_of x blocks)))
+counts_by i slots.Free blocks is = refl
+counts_by i (slots.File names size touch fast block slow) blocks is = ap (λ (n : ℕ). Some (counts.File names n)) (sym (length-map-range_with_len (byte_of blocks) 0 size))
+counts_by i (slots.Directory names entries touch root) blocks is = same_counts names (fin.len (named_entries (entry_at blocks) entries)) entries (len_named (entry_at blocks) entries is.distinct)
+
+-- a slot has the numbers of the node that it tells of
+pub counts_are : (g : Sizes) (s : Store) (i : ℕ) (x : Slot) → slot_read g s i ≡ Some x → SpellsInode g s i → slot_counts x ≡ option_map counts_of (view_at (graph g s) i)
+counts_are g s i x read spells =
+    counts_by i x (logical_block g s i) (subst (λ (y : Slot). IsConsistent i (inode_of y (logical_block g s i))) (slot_as g s i x read) spells.consistent)
+    ∙ sym (ap (option_map counts_of) (view_by g s i x read))

@@ -2,6 +2,10 @@
 use Rattle.std.specs.Prelude.{◌≡◌, ◌↔◌, ℕ, true, false, Option, Some, None, IsSome}
 use Rattle.change_plan.specs.tier_device.declared.media.Tier.{Tier}
 use Rattle.change_plan.specs.layout.Places.{Sizes, is_inode}
+use Rattle.record_validation.specs.declared.node_counts.NodeCounts.{NodeCounts}
+use Rattle.record_validation.specs.declared.node_counts.NodeCounts.TheVariants as counts
+use Rattle.change_plan.specs.layout.declared.slot.Slot.{Slot}
+use Rattle.change_plan.specs.layout.declared.slot.Slot.TheVariants as slots
 use Rattle.change_plan.specs.layout.Slot.{fits_slot}
 use Rattle.change_plan.specs.area_image.declared.error.AreaError.{AreaError}
 use Rattle.change_plan.specs.area_image.declared.inode.InodeParts.{InodeParts}
@@ -28,3 +32,9 @@ pub record HasParts (g : Sizes) (s : Store) (i : ℕ) (x : InodeParts) : Type 0 
 abbrev pub FindsParts : Sizes → Store → ℕ → Option InodeParts → Type 0
 FindsParts g s i None = is_inode i ≡ false
 FindsParts g s i (Some x) = HasParts g s i x
+
+-- the numbers of a node that a slot has
+abbrev pub slot_counts : Slot → Option NodeCounts
+slot_counts slots.Free = None
+slot_counts (slots.File names size touch fast block slow) = Some (counts.File names size)
+slot_counts (slots.Directory names entries touch root) = Some (counts.Directory names entries)

@@ -1,4 +1,4 @@
-ghost use Rattle.std.specs.Prelude.{◌≡◌, ◌≢◌, ◌≤◌, ◌<◌, ◌+◌, ◌-◌, ℕ, List, min, length, true, false, Some, OnOk, OnErr, IfOk, IfErr, IsErrOf};
+ghost use Rattle.std.specs.Prelude.{◌≡◌, ◌≢◌, ◌≤◌, ◌<◌, ◌+◌, ◌-◌, ℕ, List, min, length, true, false, Some, OnOk, OnErr, IfOk, IfErr, IsErrOf, option_map};
 ghost use Rattle.std.specs.FinMap as fin;
 ghost use Rattle.change_plan.specs.tier_device.declared.media.Tier.{Tier};
 ghost use Rattle.change_plan.specs.tier_device.declared.media.Tier.TheVariants.{Fast};
@@ -14,6 +14,7 @@ ghost use Rattle.change_plan.specs.graph_change.Change.{changed_graph};
 ghost use Rattle.change_plan.specs.graph_change.Tidy.{AreTidyChanges};
 ghost use Rattle.change_plan.specs.graph_change.View.{changes_of};
 ghost use Rattle.record_validation.specs.call_effects.NodeView.{view_at};
+ghost use Rattle.record_validation.specs.Counts.{counts_of};
 ghost use Rattle.change_plan.specs.layout.declared.places.TheConstants.{FIRST_NODE_BLOCK, SPARE_BLOCKS};
 ghost use Rattle.change_plan.specs.layout.Marks.{fits_marks};
 ghost use Rattle.change_plan.specs.layout.Places.{node_end};
@@ -48,9 +49,10 @@ use crate::graph_update::make_change;
 use crate::media_contents::{journal_fault, read_contents};
 use crate::node::find_node;
 use crate::run_search::find_first_run;
+use crate::slot_counts::find_counts;
 use change_plan::{AreaError, Geometry, GraphChange, Journal, Marks, Media, Pools, Run, Tier};
-use record_validation::NodeSummary;
-use relocation::{RelocateError, relocate};
+use record_validation::{NodeCounts, NodeSummary};
+use relocation::{RelocateError, RunRequest, relocate};
 use std::alloc::Global;
 use std::marker::Model;
 
@@ -132,8 +134,8 @@ impl<M: Media> Shared<M> {
         }
     }
 
-    /// What stands at an inode: a file with its size and how many names it has, a directory with its entries by name; `None` where nothing does. It makes four device calls at
-    /// most, and one more for each block of a directory. `Memory` where there was none for an extent block or for an entry.
+    /// What stands at an inode: a file with its size and how many names it has, a directory with its entries by name; `None` where nothing does. Its slot and its
+    /// extents are read, and all blocks of a directory. `Memory` where there was none for an extent block or for an entry.
     pub fn node(&mut self, inode: u32) -> Result<Option<NodeSummary>, AreaError>
         ensures node { IfOk result (λ x. x ≡ view_at (graph self.old.geometry (disk M.Media self.old)) inode) }
         ensures only { IfErr result IsNoDamage }
@@ -144,8 +146,19 @@ impl<M: Media> Shared<M> {
         find_node(alloc, &mut self.journal, inode)
     }
 
+    /// What stands at an inode by its numbers: a file with its size, a directory with how many entries it has, each with how many names it has; `None` where nothing does. It
+    /// reads the slot alone, and takes no memory: `DeviceFault` is its one refusal.
+    pub fn node_counts(&mut self, inode: u32) -> Result<Option<NodeCounts>, AreaError>
+        ensures counts { IfOk result (λ x. x ≡ option_map counts_of (view_at (graph self.old.geometry (disk M.Media self.old)) inode)) }
+        ensures only { IfErr result (λ e. e ≡ DeviceFault) }
+        ensures looks { Looks M.Media self.old self.new result }
+    {
+        find_counts(&mut self.journal, inode)
+    }
+
     /// Bytes of a file from a byte on, into the front of the buffer, as many as the file and the buffer have; holes as zeros. It answers how many: none behind the end, or where
-    /// there is no file. It makes one device call for each block that it reads, and four at most to find them. `Memory` where there was none for an extent block.
+    /// there is no file. The file's slot and extents are read, and the blocks of the range; how many reads that takes is a matter of cost alone. `Memory` where there was none
+    /// for an extent block.
     ///
     /// After a refusal the front of the buffer may have been read.
     pub fn read_range(&mut self, inode: u32, at: u64, out: &mut [u8]) -> Result<usize, AreaError>
@@ -195,7 +208,7 @@ impl<M: Media> Shared<M> {
     }
 
     /// Moves a run of a file's logical blocks, `count` of them from block `first` on, to a tier that is slower than those in which they lie, into its lowest data blocks that are
-    /// free. Graph and marks stay: a stop at any moment leaves the run where it lay, or all of it moved. The cost is one read for each block of the run, and a few calls besides;
+    /// free. Graph and marks stay: a stop at any moment leaves the run where it lay, or all of it moved. How many reads that takes is a matter of cost alone;
     /// of writes and fences there are at most one for each run of the blocks that it goes to and 13 more.
     ///
     /// `NotMapped` exactly where there is no file at the inode, the run has no block or more than 256, or some block of it lies in no tier that is faster than `to`; `NoBlock`
@@ -227,14 +240,17 @@ impl<M: Media> Shared<M> {
         ensures at_most { M.moment self.new.media ≤ M.moment self.old.media + count + 13 }
     {
         let alloc = self.alloc;
+        // For the proof: the free blocks of the pools are in order.
         let _free = self.pools.free(to);
         relocate(
             alloc,
             &mut self.journal,
             &mut self.pools,
-            inode,
-            first,
-            count,
+            RunRequest {
+                inode,
+                first,
+                count,
+            },
             to,
         )
     }
@@ -304,6 +320,7 @@ impl<M: Media> Shared<M> {
         ensures { self.now.failed ≡ false → HasCount FIRST_NODE_BLOCK (node_end self.now.geometry)
             (λ k. Free self.now.geometry (disk M.Media self.now) Fast k × (k < node_end self.now.geometry)) result }
     {
+        // For the proof: the free blocks of the pools are in order.
         let _data = self.pools.free(Tier::Fast);
         self.pools.free_nodes()
     }
@@ -329,6 +346,7 @@ impl<M: Media> Shared<M> {
         ensures loose { self.now.failed ≡ false → (content : Tier → List ℕ) → Left (M.left self.now.media) (M.moment self.now.media) content → Loose self.now.geometry (disk M.Media self.now) (store_of content) }
         ensures same { self.now.failed ≡ false → (content : Tier → List ℕ) → Left (M.left self.now.media) (M.moment self.now.media) content → OpensAs self.now.geometry (disk M.Media self.now) content }
     {
+        // For the proof: a stop now leaves what the journal reads.
         self.journal.left_now();
     }
 

@@ -32,7 +32,8 @@ fn sound_parts<M: Media>(
     }
 }
 
-// Slot and extents of an inode; `None` for a number that is no inode's.
+/// Reads slot and extents of an inode; `None` for a number that is no inode's. `DeviceFault` where a device has failed before or fails now; `Memory` where there was none
+/// for an extent block.
 pub fn find_parts<M: Media>(
     alloc: Global,
     journal: &mut Journal<M>,
@@ -50,10 +51,8 @@ pub fn find_parts<M: Media>(
     if !is_inode(inode) {
         return Ok(None);
     }
-    match sound_parts(alloc, journal, inode) {
-        Ok(parts) => Ok(Some(parts)),
-        Err(error) => Err(error),
-    }
+    let parts = sound_parts(alloc, journal, inode)?;
+    Ok(Some(parts))
 }
 
 // The tier that maps a logical block.

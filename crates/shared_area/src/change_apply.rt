@@ -95,6 +95,7 @@ fn plan_change<M: Media>(
     ensures same { (before : PoolsView) → AreInOrder before → WereTaken before pools.old taken → OnErr result (SameFree before pools.new) }
     ensures only { IfErr result IsForced }
 {
+    // For the proof: a stop now leaves what is read, and the sizes are allowed ones.
     journal.left_now();
     let _units = journal.geometry().units();
     let mut taken = taken;
@@ -138,6 +139,7 @@ fn place_blocks<M: Media>(
     ensures same { (before : PoolsView) → AreInOrder before → WereTaken before pools.old taken → OnErr result (SameFree before pools.new) }
     ensures only { IfErr result IsForced }
 {
+    // For the proof: a stop now leaves what is read, and the sizes are allowed ones.
     journal.left_now();
     let _units = journal.geometry().units();
     match start_plan(alloc, &taken) {
@@ -168,6 +170,7 @@ fn allocate_blocks<M: Media>(
     ensures same { OnErr result (SameFree pools.old pools.new) }
     ensures few { IsErrOf result NoBlock → length (free_data pools.old) < count }
 {
+    // For the proof: a stop now leaves what is read, the sizes are allowed ones, the node pool has blocks enough for a change, and the pools are in order.
     journal.left_now();
     let _units = journal.geometry().units();
     nodes_never_run_out();
@@ -197,6 +200,7 @@ fn apply_counted<M: Media>(
     ensures same { OnErr result (SameFree pools.old pools.new) }
     ensures few { IsErrOf result NoBlock → (n : ℕ) × WantsBlocks journal.old.geometry (disk M.Media journal.old) (changes_of change.now) n × (length (free_data pools.old) < n) }
 {
+    // For the proof: a stop now leaves what is read.
     journal.left_now();
     match count_blocks(alloc, journal, change) {
         Ok(count) => allocate_blocks(alloc, journal, pools, change, marks, count),
@@ -250,6 +254,7 @@ pub fn apply<M: Media>(
     if journal.has_failed() {
         return Err(ApplyError::DeviceFault);
     }
+    // For the proof: the blocks that are wanted are those that the change writes.
     wanted_blocks_are_written();
     apply_counted(alloc, journal, pools, change, marks)
 }

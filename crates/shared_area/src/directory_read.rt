@@ -98,7 +98,7 @@ fn add_part<M: Media>(
     }
 }
 
-/// The entries of a directory by name; so many blocks are read, each once.
+/// Reads the entries of a directory by name.
 pub fn read_entries<M: Media>(
     alloc: Global,
     journal: &mut Journal<M>,

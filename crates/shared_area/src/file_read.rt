@@ -47,7 +47,7 @@ fn clear(out: &mut [u8])
     out.fill(0);
 }
 
-// Bytes of one logical block, from a byte of the inode on: zeros where no tier maps it.
+/// Bytes of one logical block, from a byte of the inode on: zeros where no tier maps it.
 pub fn read_within<M: Media>(
     journal: &mut Journal<M>,
     inode: u32,

@@ -44,6 +44,7 @@ fn change_from<M: Media>(
     ensures kept { OnErr result (units.new ≡ units.old) }
     ensures no_block { IsErrOf result NoBlock → (bs : List (ℕ × ℕ)) × AreWritten journal.old.geometry (disk M.Media journal.old) (changes_of change.now) bs × (length (free_data pools.old) < length bs) }
 {
+    // For the proof: the sizes are allowed ones, and the charge changes as the inodes of the change do.
     let _units = journal.geometry().units();
     charge_follows_the_change();
     match apply(alloc, journal, pools, change, marks) {
@@ -76,6 +77,7 @@ fn apply_running<M: Media>(
     ensures kept { OnErr result (units.new ≡ units.old) }
     ensures no_block { IsErrOf result NoBlock → (bs : List (ℕ × ℕ)) × AreWritten journal.old.geometry (disk M.Media journal.old) (changes_of change.now) bs × (length (free_data pools.old) < length bs) }
 {
+    // For the proof: a stop now leaves what is read.
     journal.left_now();
     match units_of_change(journal, change) {
         Ok(before) => change_from(alloc, journal, pools, units, before, change, marks),
@@ -111,6 +113,7 @@ pub fn make_change<M: Media>(
     if journal.has_failed() {
         return Err(ApplyError::DeviceFault);
     }
+    // For the proof: the pools are in order, and a small change finds the data blocks that it wants.
     let _free = pools.free(Tier::Fast);
     small_changes_find_blocks();
     match apply_running(alloc, journal, pools, units, change, marks) {

@@ -27,13 +27,11 @@ fn inode_units<M: Media>(journal: &mut Journal<M>, inode: u32) -> Result<u64, Ar
     ensures only { IfErr result (λ e. e ≡ DeviceFault) }
     ensures looks { Looks M.Media journal.old journal.new result }
 {
-    match read_slot(journal, inode) {
-        Ok(slot) => Ok(units_of(&slot)),
-        Err(error) => Err(error),
-    }
+    let slot = read_slot(journal, inode)?;
+    Ok(units_of(&slot))
 }
 
-/// What the inodes of a change cost, in units, as their slots tell it: no more than the graph. It makes one device call for each, and takes no memory.
+/// What the inodes of a change cost, in units, as their slots tell it: no more than the graph. It takes no memory.
 pub fn units_of_change<M: Media>(
     journal: &mut Journal<M>,
     change: &GraphChange,
@@ -47,6 +45,7 @@ pub fn units_of_change<M: Media>(
     ensures only { IfErr result (λ e. e ≡ DeviceFault) }
     ensures looks { Looks M.Media journal.old journal.new result }
 {
+    // For the proof: the sizes are allowed ones, and the inodes of a change cost no more than the graph.
     let _units = journal.geometry().units();
     charge_after_change();
     let mut units = 0;

@@ -21,6 +21,7 @@ mod node;
 mod node_questions;
 mod plan_write;
 mod run_search;
+mod slot_counts;
 
 pub use apply_laws::carried_out_change_is_made;
 pub use area::Shared;

@@ -45,6 +45,7 @@ fn write_change<M: Media>(
     ensures same { (before : PoolsView) → AreInOrder before → WereTaken before pools.old taken → OnErr result (SameFree before pools.new) }
     ensures only { IfErr result IsForced }
 {
+    // For the proof: a stop now leaves what is read, the sizes are allowed ones, and the whole plan can be carried out, which makes the change.
     journal.left_now();
     let _units = journal.geometry().units();
     whole_change_can_be_carried_out();
@@ -77,6 +78,7 @@ pub fn reserve_blocks<M: Media>(
     ensures same { (before : PoolsView) → AreInOrder before → WereTaken before pools.old taken → OnErr result (SameFree before pools.new) }
     ensures only { IfErr result IsForced }
 {
+    // For the proof: a stop now leaves what is read.
     journal.left_now();
     let nodes = plan.lost.nodes.len();
     let fast = plan.lost.fast.len();

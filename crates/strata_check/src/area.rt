@@ -4,7 +4,7 @@ use script::{MemMedia, Text, Tier};
 use std::alloc::Global;
 use world_files::{AreaError, CLIENTS, Shared};
 
-/// Tells the charge, what is free, and the marks. A damaged medium has none of them: recovery tells then which structure it is.
+/// Prints the charge, what is free, and the marks. A damaged medium has none of them: recovery then names the structure.
 pub fn describe_area(alloc: Global, image: &Image<'_>, text: &mut Text) {
     match open_area(alloc, image) {
         Ok(area) => {

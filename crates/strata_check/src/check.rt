@@ -10,7 +10,7 @@ use std::alloc::Global;
 use std::io::Write;
 use world_files::{FileProblem, Geometry, ImageFile, What, WorldFileError, read_geometry};
 
-/// Runs `strata_check`: tells on `out` what the file holds that the words name. The first word is the program's name.
+/// Runs `strata_check`: prints on `out` what the file holds that the words name. The first word is the program's name.
 ///
 /// Answers the exit status: 0 where a world is recovered, 1 where what the file holds is damaged or none is recovered, 2 where the words can't be read, 3 after a fault of the file, of the output or of
 /// memory; the last two with a line on `err`. All that there was memory for is printed before.
@@ -66,7 +66,7 @@ fn print_text<O: Write>(text: &Text, out: &mut O) -> Result<(), RunError> {
     Ok(())
 }
 
-// Tells what an image holds; whether a world is recovered from it.
+// Prints what an image holds, and answers whether a world is recovered from it.
 fn describe_image(alloc: Global, bytes: &[u8], text: &mut Text) -> bool {
     match read_geometry(bytes) {
         Ok(geometry) => describe_media(alloc, bytes, &geometry, text),

@@ -2,7 +2,7 @@
 use script::Text;
 use world_files::{RecoveryError, What, structure_name};
 
-/// Tells why nothing is recovered. Media in memory whose lengths are those of their geometry fail for want of memory alone.
+/// Prints why nothing is recovered. Media in memory whose lengths are those of their geometry fail for want of memory alone.
 pub fn describe_refusal(error: RecoveryError, text: &mut Text) {
     match error {
         RecoveryError::Damaged { structure, block } => describe_damage(structure, block, text),
@@ -18,7 +18,7 @@ pub fn describe_refusal(error: RecoveryError, text: &mut Text) {
     }
 }
 
-/// Tells of a structure, and of its block.
+/// Prints a structure, and its block.
 pub fn describe_damage(structure: What, block: u32, text: &mut Text) {
     text.put("damaged ");
     text.put(structure_name(structure));

@@ -41,7 +41,7 @@ pub fn cut_image<'a>(bytes: &'a [u8], geometry: &Geometry) -> Option<Image<'a>> 
     })
 }
 
-/// So many bytes in front, and those behind them; none where there are fewer.
+/// The first `len` bytes, and those behind them; `None` if there are fewer.
 pub fn cut_front(bytes: &[u8], len: usize) -> Option<(&[u8], &[u8])> {
     Some((bytes.get(..len)?, bytes.get(len..)?))
 }

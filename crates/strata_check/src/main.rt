@@ -1,6 +1,6 @@
-//! Tells what a file that keeps a world holds, and where it is damaged, without changing a byte of it. `strata_check --help` says what its lines mean.
+//! Prints what a file that keeps a world holds, and where it is damaged, without changing a byte of it. `strata_check --help` says what its lines mean.
 //!
-//! The file is read whole. Its shared medium and its regions are opened in memory, as they stand (`area`, `region_list`); then a second copy is recovered, whose tree is told (`tree`).
+//! The file is read whole. Its shared medium and its regions are opened in memory, as they stand (`area`, `region_list`); then a second copy is recovered, whose tree is printed (`tree`).
 #![tactic(auto)]
 
 mod area;

@@ -18,7 +18,7 @@ impl Owner {
     }
 }
 
-/// Tells the generation of a region, its records, and what stands behind them.
+/// Prints the generation of a region, its records, and what stands behind them.
 pub fn describe_region(alloc: Global, owner: Owner, bytes: &[u8], text: &mut Text) {
     match open_region(alloc, bytes) {
         Some(region) => {
@@ -53,7 +53,7 @@ fn describe_header(owner: Owner, region: &mut Region<MemMedia>, text: &mut Text)
     }
 }
 
-// Tells how many bytes the records have, and what stands behind them.
+// Prints how many bytes the records have, and what stands behind them.
 fn describe_end(owner: Owner, region: &Region<MemMedia>, bytes: &[u8], text: &mut Text) {
     match gate_behind(region) {
         Some(gate) => {
@@ -70,7 +70,7 @@ fn gate_behind(region: &Region<MemMedia>) -> Option<usize> {
     Some(REGION_SIZE.saturating_sub(6).saturating_sub(region.room()?))
 }
 
-// Tells of an open gate behind the records, or of a record behind a closed one.
+// Prints an open gate behind the records, or of a record behind a closed one.
 fn describe_gate(owner: Owner, region: &Region<MemMedia>, behind: &[u8], text: &mut Text) {
     if region.stage() == Stage::Foreign {
         owner.put("open ", text);

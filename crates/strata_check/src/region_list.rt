@@ -4,7 +4,7 @@ use crate::region::{Owner, describe_region};
 use script::{REGION_SIZE, Text};
 use std::alloc::Global;
 
-/// Tells of each region of client after client, the one of even generations first.
+/// Prints each region of client after client, the one of even generations first.
 pub fn describe_regions(alloc: Global, bytes: &[u8], text: &mut Text) {
     let mut left = bytes;
     for client in 1u32..9 {
@@ -17,7 +17,7 @@ fn owner(client: u32, parity: &'static str) -> Owner {
     Owner { client, parity }
 }
 
-// Tells of the region in front, and answers the bytes behind it.
+// Prints the region in front, and answers the bytes behind it.
 fn describe_next<'a>(alloc: Global, owner: Owner, bytes: &'a [u8], text: &mut Text) -> &'a [u8] {
     match cut_front(bytes, REGION_SIZE) {
         Some((region, behind)) => {

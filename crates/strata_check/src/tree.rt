@@ -5,7 +5,7 @@ use script::{MemMedia, Text, Tier};
 use std::alloc::Global;
 use world_files::{BLOCK, NodeSummary, RecoveryError, World, read_parts, recover};
 
-/// Recovers a copy of an image, whose length is that of its geometry, and tells its tree, or why it is not recovered; whether it is.
+/// Recovers a copy of an image, whose length is that of its geometry, and prints its tree, or why it is not recovered. Answers whether it is.
 pub fn describe_recovery(alloc: Global, image: &[u8], text: &mut Text) -> bool {
     match recover_image(alloc, image) {
         Ok(world) => {
@@ -42,7 +42,7 @@ fn describe_charge(world: &World<MemMedia>, text: &mut Text) {
     }
 }
 
-// Tells of each path, a directory before what is in it, in the order of names.
+// Prints each path, a directory before what is in it, in the order of names.
 fn describe_tree(alloc: Global, world: &mut World<MemMedia>, text: &mut Text) {
     let mut left = Vec::new(alloc);
     leave(&mut left, Place::root(alloc), text);
@@ -54,7 +54,7 @@ fn describe_tree(alloc: Global, world: &mut World<MemMedia>, text: &mut Text) {
     }
 }
 
-// Leaves a place to be told of.
+// Leaves a place to be printed.
 fn leave(left: &mut Vec<Place>, place: Place, text: &mut Text) {
     let is_cut = place.is_cut();
     let is_left = left.push(place).is_ok();
@@ -63,7 +63,7 @@ fn leave(left: &mut Vec<Place>, place: Place, text: &mut Text) {
     }
 }
 
-// Tells of what stands at a place. What is in a directory is left to be told of.
+// Prints what stands at a place. What is in a directory is left to be printed.
 fn describe_place(
     alloc: Global,
     world: &mut World<MemMedia>,

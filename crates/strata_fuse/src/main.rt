@@ -1,5 +1,5 @@
 //! Serves a mount: the messages of the FUSE protocol come on standard input, and each reply goes out by one write. The world lives in a
-//! file. `tools/strata_mount` mounts a folder, and starts it; `strata_fuse --help` tells the options.
+//! file. `tools/strata_mount` mounts a folder, and starts it; `strata_fuse --help` lists the options.
 #![tactic(auto)]
 
 mod mount_tree;

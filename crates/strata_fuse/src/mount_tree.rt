@@ -5,10 +5,10 @@ use script::Tier;
 use std::alloc::Global;
 use world_files::{FileMedia, KernelError, NodeSummary, Refusal, World};
 
-/// So many records of the client may wait for their digest between two requests.
+/// The most records of the client that may wait for their digest between two requests.
 const RECORDS: usize = 128;
 
-/// So many data blocks of a tier are kept free, where its files can go to a slower one: for what is digested next, and for the longest
+/// The data blocks of a tier that are kept free, where its files can go to a slower one: for what is digested next, and for the longest
 /// run that comes down to it.
 const FREE_BLOCKS: u32 = 256;
 

@@ -4,7 +4,7 @@ use script::WordsError;
 use std::alloc::{AllocError, Global};
 use world_files::WorldSizes;
 
-/// What is told behind the options.
+/// The text behind the options.
 const HELP: &str = "\
 tools/strata_mount mounts a folder and starts this program: see its --help.
 Each message of the FUSE protocol, version 7.31, that comes on standard input

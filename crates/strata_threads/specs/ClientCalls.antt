@@ -24,7 +24,7 @@ abbrev pub KeepsCall : {M : Type 0} → ClientView M → ClientView M → Type 0
 KeepsCall old new = (owner_of new ≡ owner_of old) × (new.begun ≡ old.begun) × (new.answered ≡ old.answered)
 
 module _ {M : Type 0} (device : Ghosts M) where
-  -- A call is started: its log has failed, it is what the call comes to, or memory is wanting.
+  -- A call is started: its client's log has failed, the answer is the call's outcome, or memory is wanting.
   abbrev pub IsStarted : Call → ClientView M → Now → ClientView M → Type 0
   IsStarted call old answer new = ((old.log.failed ≡ true) × (answer ≡ now.Done (replies.Failed IoError)) × (new ≡ old))
       ⊎ (HasStarted device old (outcome_for device old call) answer new ⊎ IsOutOfMemory device old call answer new)

@@ -97,7 +97,7 @@ impl<M: Media + Drop> ThreadClient<M> {
         }
     }
 
-    // Serves a need of a call, or tells why the call is denied.
+    // Serves a need of a call, or answers why the call is denied.
     fn meet_need<R: Wait, G: GatePoint>(
         &mut self,
         rt: &R,
@@ -114,6 +114,7 @@ impl<M: Media + Drop> ThreadClient<M> {
         ensures refused { OnErr result (self.new.waited ≡ self.old.waited) }
         ensures only { IfErr result (λ e. e ≢ denied.Turns) }
     {
+        // For the proof: `call` stands in the contract alone: it is the one that lacks the need.
         let _ = call;
         match self.serve_need(rt, shared, need, gate) {
             Ok(()) => Ok(()),
@@ -174,6 +175,7 @@ fn begin_call<M: Media>(client: &mut Client<M>, call: &Call) -> Now
     ensures pending { result ≡ now.Pending → is_pending client.new ≡ true }
     ensures idle { (result ≡ now.Pending → ⊥) → is_pending client.new ≡ false }
 {
+    // For the proof: a record stays begun behind its answer only if a device has failed.
     client.own_records_are_held();
     client.start(call)
 }

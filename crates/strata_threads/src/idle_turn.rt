@@ -111,7 +111,7 @@ impl<M: Media + Drop> ThreadClient<M> {
         }
     }
 
-    /// Has all that the client logged digested, in at most so many rounds, in which it listens. It answers whether no record of it is left that is not known to be digested.
+    /// Has all that the client logged digested, in at most `rounds` rounds, in which it listens. It answers whether no record of it is left that is not known to be digested.
     pub fn clear_log<R: Wait>(&mut self, rt: &R, rounds: u64) -> bool
         ensures cleared { IsTrue result ↔ (self.new.client.sealed ++ current_records M.Media self.new.client.log ≡ []) }
         ensures kept { KeepsCall self.old.client self.new.client }

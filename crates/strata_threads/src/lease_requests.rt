@@ -127,7 +127,7 @@ fn ask_holders<M: Media>(client: &mut Client<M>, inode: u32, word: u64)
     }
 }
 
-// Wipes what is to be wiped, and passes the gate before each device call. A device that fails then is told when the call is started again.
+// Wipes what is to be wiped, and passes the gate before each device call. A device that fails then is reported when the call is started again.
 fn wipe_regions<M: Media, G: GatePoint>(client: &mut Client<M>, gate: &G)
     ensures rest { client.new ≡ record client.old { log = client.new.log } }
     ensures kept { KeepsCall client.old client.new }

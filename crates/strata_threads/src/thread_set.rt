@@ -53,7 +53,7 @@ struct Ends<M: Media + Drop> {
 }
 
 impl<M: Media + Drop> ThreadSet<M> {
-    /// Shares a kernel and clients out, the clients 1, 2 and so on in their order, 8 at most, with so many workers, 8 at most. A region that is away stays so.
+    /// Shares a kernel and clients out, the clients 1, 2 and so on in their order, 8 at most, with `workers` workers, 8 at most. A region that is away stays so.
     ///
     /// Refused with `Clients` exactly where they are not these, or a call of one waits for its answer; else only with `Memory`. Kernel and clients are given back then.
     pub fn open(
@@ -140,7 +140,7 @@ fn is_idle_as<M: Media>(client: &Client<M>, number: usize) -> bool
 }
 
 impl<M: Media + Drop> Ends<M> {
-    // The ends for so many clients, 8 at most, and workers.
+    // The ends for `clients` clients, 8 at most, and workers.
     fn open(alloc: Global, clients: usize, workers: usize) -> Result<Self, ShareError>
         requires few { clients ≤ 8 }
         ensures enough { IfOk result (λ ends. clients ≤ length ends.pairs.items) }
@@ -161,7 +161,7 @@ impl<M: Media + Drop> Ends<M> {
     }
 }
 
-// No clients, with room for so many.
+// No clients, with room for `clients`.
 fn room_for<M: Media + Drop>(
     alloc: Global,
     clients: usize,
@@ -208,7 +208,7 @@ fn pop_of<M: Media + Drop>(returns: &mut Vec<Vec<End<M>>>, number: u32) -> Optio
     returns.get_mut(number as usize - 1)?.pop()
 }
 
-// So many workers.
+// Opens `count` workers.
 fn open_workers<M: Media + Drop>(
     alloc: Global,
     count: usize,

@@ -23,7 +23,7 @@ impl Model for Waited {
 }
 
 impl Waited {
-    /// None of so many turns.
+    /// None of `turns` turns.
     pub fn none_of(turns: u64) -> Waited
         ensures { result ≡ record { count = 0; turns = turns } }
     {
@@ -51,6 +51,7 @@ impl Waited {
         requires busy { ShowsOther client.now.pass.part.place word }
         ensures { self.new ≡ record self.old { count = self.old.count + 1 } }
     {
+        // For the proof: both stand in the contract alone: the word showed another client, so a turn counts only if a lease was busy.
         let _ = client;
         let _ = word;
         self.count += 1;
@@ -62,6 +63,7 @@ impl Waited {
         requires away { client.now.log.other ≡ None }
         ensures { self.new ≡ record self.old { count = self.old.count + 1 } }
     {
+        // For the proof: it stands in the contract alone: a turn counts only if the client's other region was away.
         let _ = client;
         self.count += 1;
     }

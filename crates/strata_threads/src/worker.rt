@@ -64,6 +64,7 @@ impl<M: Media + Drop> Worker<M> {
         ensures tasks { self.new.tasks ≡ self.old.tasks }
         ensures sent { HasSentAt self.old.returns.items (region.client - 1) region self.new.returns.items }
     {
+        // For the proof: its client is one of 1 to 8.
         region.left_now();
         let index = client_index(region.client());
         send(rt, &mut self.returns[index], region);

@@ -16,7 +16,7 @@ use Rattle.courses.specs.Courses.{Ledger, News, no_news}
 abbrev pub with_call : Unfinished → ℕ → Call → Unfinished
 with_call calls client call c = if c == client then Some call else calls c
 
--- A call is acknowledged, and so many are unfinished then. What a client has unfinished since its region's device failed stays so, whatever it is answered later.
+-- A call is acknowledged, and these are unfinished then. What a client has unfinished since its region's device failed stays so, whatever it is answered later.
 abbrev pub answered : Unfinished → ℕ → Call → Reply → Ledger
 answered calls client call reply = record { turns = record { client = client; call = call; reply = reply } ∷ []; calls = calls }
 

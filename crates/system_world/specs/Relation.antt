@@ -42,7 +42,7 @@ abbrev pub status_of : Bool → Status
 status_of false = world.Alive
 status_of true = world.Failed
 
--- The call whose record is begun, with the operation that it comes to, and the number of a node that it makes.
+-- The call whose record is begun, with its operation, and the number of a node that it makes.
 pub record IsBegunBy (call : Option Call) (b : Begun) (x : world.Begun) : Type 0 where
   pub call_is : call ≡ Some x.call
   pub change : b.change.logged ≡ x.change
@@ -106,7 +106,7 @@ pub data Cut : Type 0 where
   Digest : (client : ℕ) → (first rest : List Record) → Cut
   Reclaim : (inode : ℕ) → Cut
 
--- the marks once so many more records of a client's sealed region are digested
+-- the marks once n more records of a client's sealed region are digested
 abbrev pub marks_digested : Marks → ℕ → ℕ → List Record → Marks
 marks_digested v c n sealed = marks_after v c (mark_after (mark_of v c).generation ((mark_of v c).done + n) (length sealed))
 
@@ -121,7 +121,7 @@ SpellsAfter g w v (Reclaim i) content = CanReclaim w.kernel i × SpellsShared g 
 abbrev pub machine_of : World → (ℕ → ℕ) → Machine
 machine_of w accepted = record { kernel = w.kernel; accepted = accepted }
 
--- The system stands for the world, of which so many records were accepted, with these marks on the shared medium, and this cut once a device of the kernel has failed. What a stop leaves of the parts beside that is a fact of the system itself (`System::left_now`).
+-- The system stands for the world, of which the accepted records are counted, with these marks on the shared medium, and this cut once a device of the kernel has failed. What a stop leaves of the parts beside that is a fact of the system itself (`System::left_now`).
 pub record IsWorldOf {M : Type 0} (device : Ghosts M) (v : WorldView M) (w : World) (accepted : ℕ → ℕ) (shared_marks : Marks) (cut : Cut) : Type 0 where
   pub coherent : IsCoherent w
   pub eight : length v.calls ≡ MAX_CLIENTS

@@ -7,7 +7,7 @@
 //!
 //! A law for each kind of event says that the new system stands for a world again, what the event acknowledges, and that whatever a stop
 //! leaves from its beginning to its end is what a recovery takes (`CanRecover`), and stores (`stored_state`) the tree before it, settled,
-//! with some of the calls that were not answered then (`specs/Steps.antt`). Which outcome an event has is told by `System::play`, and by no
+//! with some of the calls that were not answered then (`specs/Steps.antt`). Which outcome an event has is stated by `System::play`, and by no
 //! law here. A system that nobody uses, as it is opened, stands for a world too (`specs/Idle.antt`).
 //!
 //! There is no code: these are laws, cited by what plays events on a world.

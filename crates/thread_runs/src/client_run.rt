@@ -1,9 +1,9 @@
+use crate::client_tree::ClientTree;
 use crate::draws::Draws;
 use crate::options::Options;
 use crate::region_stops::{RegionStops, RunMedium};
 use crate::run_end::RunEnd;
 use crate::turns::{log_lines, turn_lines};
-use plain_tree::PlainTree;
 use script::{Call, Errno, Line, Reply, RunError, read_line, write_reply};
 use std::alloc::Global;
 use std::sync::Wait;
@@ -18,35 +18,33 @@ const RETRIES: u32 = 1_000;
 // In how many rounds a log is to be digested.
 const ROUNDS: u64 = 1_000_000;
 
-/// A client that makes calls, beside a plain tree that is asked the same.
+/// A client that makes calls, beside a plain tree that is asked the same. Both are lent, so that what a run owns is given up in one place.
 #[derive(Drop)]
-pub struct ClientRun {
-    pub alloc: Global,
-    pub number: u32,
-    pub client: ThreadClient<RunMedium>,
-    pub tree: PlainTree,
-    /// How often calls may be asked again in this turn.
-    pub retries: u32,
-    /// The turn at which the run ended before its last one, and why.
-    pub end: Option<(u64, RunEnd)>,
-    /// The line of the call that a stop left without an answer.
-    pub unanswered: Option<String>,
+pub struct ClientRun<'a> {
+    pub client: &'a mut ThreadClient<RunMedium>,
+    pub tree: &'a mut ClientTree,
+    // How often calls may be asked again in this turn.
+    retries: u32,
 }
 
-impl ClientRun {
-    /// The run of a client that has made no call.
-    pub fn new(alloc: Global, client: ThreadClient<RunMedium>) -> Result<ClientRun, RunError> {
-        Ok(ClientRun {
-            alloc,
-            number: client.client.client(),
+/// The runs of these clients, each beside its tree.
+pub fn runs_of<'a>(
+    alloc: Global,
+    clients: &'a mut [ThreadClient<RunMedium>],
+    trees: &'a mut [ClientTree],
+) -> Result<Vec<ClientRun<'a>>, RunError> {
+    let mut runs = Vec::new(alloc);
+    for (client, tree) in clients.iter_mut().zip(trees.iter_mut()) {
+        runs.push(ClientRun {
             client,
-            tree: PlainTree::new(alloc)?,
+            tree,
             retries: RETRIES,
-            end: None,
-            unanswered: None,
-        })
+        })?;
     }
+    Ok(runs)
+}
 
+impl ClientRun<'_> {
     /// Makes all turns; then its log is digested, and it gives all leases back. Where a region stops it ends there.
     pub fn make_turns<R: Wait>(
         &mut self,
@@ -55,24 +53,19 @@ impl ClientRun {
         stops: &RegionStops,
         options: &Options,
     ) {
-        let mut draws = Draws::new(options.start, self.number);
+        let mut draws = Draws::new(options.start, self.tree.number);
         for turn in 0..options.turns {
             match self.make_turn(rt, shared, stops, turn, &mut draws) {
                 Ok(()) => {}
                 Err(why) => {
-                    self.end = Some((turn, why));
+                    self.tree.end = Some((turn, why));
                     break;
                 }
             }
         }
-        if !self.has_stopped() {
+        if !self.tree.has_stopped() {
             self.leave(rt);
         }
-    }
-
-    // Whether a stop ended it.
-    fn has_stopped(&self) -> bool {
-        matches!(self.end, Some((_, RunEnd::Stopped)))
     }
 
     /// Has its log digested, and gives all leases back.
@@ -92,12 +85,12 @@ impl ClientRun {
         self.retries = RETRIES;
         let what = draws.draw();
         let which = draws.draw();
-        let lines = turn_lines(self.alloc, self.number, turn, what, which)?;
+        let lines = turn_lines(self.tree.alloc, self.tree.number, turn, what, which)?;
         self.ask_all(rt, shared, stops, &lines)?;
         if turn % 8 != 7 {
             return Ok(());
         }
-        let lines = log_lines(self.alloc, self.number, turn)?;
+        let lines = log_lines(self.tree.alloc, self.tree.number, turn)?;
         self.ask_all(rt, shared, stops, &lines)
     }
 
@@ -110,33 +103,27 @@ impl ClientRun {
         lines: &str,
     ) -> Result<(), RunEnd> {
         for line in lines.split('\n') {
-            if let Reply::Failed { .. } = self.ask(rt, shared, stops, line)? {
+            if self.ask(rt, shared, stops, line)? {
                 return Ok(());
             }
         }
         Ok(())
     }
 
-    // Asks a line of the client and of the tree, and answers what both do. A call that a stop left without an answer is not asked of the tree.
+    // Asks a line of the client and of the tree, and answers whether it is refused.
     fn ask<R: Wait>(
         &mut self,
         rt: &R,
         shared: &SharedKernel<RunMedium>,
         stops: &RegionStops,
         line: &str,
-    ) -> Result<Reply, RunEnd> {
-        let call = call_of(self.alloc, line)?;
+    ) -> Result<bool, RunEnd> {
+        let call = call_of(self.tree.alloc, line)?;
         let found = self.answer_call(rt, shared, stops, &call);
-        if is_unanswered(&found, self.number, stops) {
-            self.unanswered = Some(String::from_str(self.alloc, line)?);
-            return Err(RunEnd::Stopped);
+        if is_unanswered(&found, self.tree.number, stops) {
+            return self.tree.stop_at(line);
         }
-        let wanted = self.tree.ask(self.number, &call);
-        if are_alike(self.alloc, &wanted, &found)? {
-            Ok(wanted)
-        } else {
-            Err(RunEnd::Differs)
-        }
+        self.tree.judge(&call, &found)
     }
 
     // What is wanting may come: the call is asked again once the client's log is digested.
@@ -149,13 +136,34 @@ impl ClientRun {
     ) -> Reply {
         for _ in 0..self.retries {
             let reply = self.client.posix(rt, shared, call, TURNS, &OpenGate);
-            if !is_wanting(&reply) || is_unanswered(&reply, self.number, stops) {
+            if !is_wanting(&reply) || is_unanswered(&reply, self.tree.number, stops) {
                 return reply;
             }
             self.retries = self.retries.saturating_sub(1);
             let _ = self.client.clear_log(rt, ROUNDS);
         }
         self.client.posix(rt, shared, call, TURNS, &OpenGate)
+    }
+}
+
+impl ClientTree {
+    // The call that a stop left without an answer is not asked of the tree.
+    fn stop_at(&mut self, line: &str) -> Result<bool, RunEnd> {
+        self.unanswered = Some(String::from_str(self.alloc, line)?);
+        Err(RunEnd::Stopped)
+    }
+
+    // Asks the tree what the client was asked, and answers whether it refuses; both have to do the same.
+    fn judge(&mut self, call: &Call, found: &Reply) -> Result<bool, RunEnd> {
+        let wanted = self.tree.ask(self.number, call);
+        if wants_memory(&wanted) || wants_memory(found) {
+            return Err(RunEnd::Fault(RunError::Memory));
+        }
+        if are_alike(self.alloc, &wanted, found)? {
+            Ok(matches!(found, Reply::Failed { .. }))
+        } else {
+            Err(RunEnd::Differs)
+        }
     }
 }
 
@@ -169,13 +177,25 @@ pub fn call_of(alloc: Global, line: &str) -> Result<Call, RunError> {
 
 /// Whether two replies are printed alike.
 pub fn are_alike(alloc: Global, one: &Reply, other: &Reply) -> Result<bool, RunError> {
-    Ok(text_of(alloc, one)? == text_of(alloc, other)?)
+    let text = text_of(alloc, one)?;
+    is_text_of(alloc, &text, other)
+}
+
+fn is_text_of(alloc: Global, text: &[u8], reply: &Reply) -> Result<bool, RunError> {
+    Ok(text == text_of(alloc, reply)?.as_slice())
 }
 
 fn text_of(alloc: Global, reply: &Reply) -> Result<Vec<u8>, RunError> {
     let mut text = Vec::new(alloc);
     write_reply(&mut text, reply)?;
     Ok(text)
+}
+
+fn wants_memory(reply: &Reply) -> bool {
+    match reply {
+        Reply::Failed { errno } => *errno == Errno::NoMemory,
+        _ => false,
+    }
 }
 
 // Whether a call was refused for want of a lease, units or a number.

@@ -6,45 +6,48 @@ ghost use Rattle.thread_runs.specs.FirstPath.{MayBeLeft};
 ghost use Rattle.world_files.specs.recovery.Parts.{AreAtRest, part_medium};
 
 use crate::region_stops::{RegionStops, RunMedium};
-use crate::stop_words::RegionStop;
 use script::{Media, MemMedia, Region, RunError, StopMedia};
 use std::alloc::Global;
 use std::sync::Wait;
-use strata_threads::{Client, Kernel, SealedRegion, ThreadClient, ThreadSet};
+use strata_threads::{Client, SealedRegion, ThreadClient, ThreadSet};
 use world_files::{
-    Geometry, Parts, REGION_SIZE, REGIONS, World, WorldSizes, format, recover, tier_lens,
+    CLIENTS, Geometry, Parts, REGION_SIZE, REGIONS, RecoveryError, World, WorldSizes, format,
+    recover, tier_lens,
 };
 
 // Data blocks of the three tiers.
 const BLOCKS: [u32; 3] = [512, 1_024, 1_024];
 
-/// The empty file system over media in memory, for eight clients and so many workers, and what its regions stop by, once they are armed for this stop.
+/// The empty file system over media in memory, for eight clients and `workers` workers. The counts of its regions are added to `stops`, not armed.
 pub fn fresh_set(
     alloc: Global,
     units: u32,
     workers: usize,
-    stop: Option<RegionStop>,
-) -> Result<(ThreadSet<RunMedium>, RegionStops), RunError> {
-    let mut stops = RegionStops::new(alloc, stop);
-    let world = fresh_world(alloc, units, &mut stops)?;
-    let (kernel, clients) = take_apart(alloc, world)?;
-    match ThreadSet::open(alloc, kernel, clients, workers) {
-        Ok(set) => Ok((set, stops)),
-        Err(_) => Err(RunError::Memory),
-    }
+    stops: &mut RegionStops,
+) -> Result<ThreadSet<RunMedium>, RunError> {
+    let mut room = Vec::new(alloc);
+    room.reserve(CLIENTS)?;
+    share_out(alloc, fresh_world(alloc, units, stops)?, room, workers)
 }
 
-fn take_apart(
+// Shares out a world's kernel and its clients, which go into `room`: it has room for them.
+fn share_out(
     alloc: Global,
     world: World<RunMedium>,
-) -> Result<(Kernel<RunMedium>, Vec<Client<RunMedium>>), RunError> {
+    room: Vec<Client<RunMedium>>,
+    workers: usize,
+) -> Result<ThreadSet<RunMedium>, RunError> {
     let (kernel, slots) = world.into_system().into_parts();
-    let mut clients = Vec::new(alloc);
+    let mut clients = room;
     for slot in slots {
         let (client, _) = slot.into_parts();
-        clients.push(client)?;
+        // a client that found no room would be missed by what follows
+        let _ = clients.push(client);
     }
-    Ok((kernel, clients))
+    match ThreadSet::open(alloc, kernel, clients, workers) {
+        Ok(set) => Ok(set),
+        Err(_) => Err(RunError::Memory),
+    }
 }
 
 fn fresh_world(
@@ -52,6 +55,24 @@ fn fresh_world(
     units: u32,
     stops: &mut RegionStops,
 ) -> Result<World<RunMedium>, RunError> {
+    let geometry = geometry_of(units)?;
+    match format(alloc, &geometry, zero_media(alloc, &geometry, stops)?) {
+        Ok(world) => Ok(world),
+        Err((error, _)) => Err(recovery_fault(error)),
+    }
+}
+
+// The fault of a run whose media are not formatted, or not recovered.
+fn recovery_fault(error: RecoveryError) -> RunError {
+    match error {
+        RecoveryError::Memory => RunError::Memory,
+        RecoveryError::DeviceFault => RunError::Device,
+        RecoveryError::BadLog { .. } => RunError::BadLog,
+        _ => RunError::Damaged,
+    }
+}
+
+fn geometry_of(units: u32) -> Result<Geometry, RunError> {
     let [fast, block, slow] = BLOCKS;
     let sizes = WorldSizes {
         units,
@@ -59,30 +80,39 @@ fn fresh_world(
         block,
         slow,
     };
-    let Ok(geometry) = sizes.geometry() else {
-        return Err(RunError::Damaged);
-    };
-    match format(alloc, &geometry, zero_parts(alloc, &geometry, stops)?) {
-        Ok(world) => Ok(world),
-        Err(_) => Err(RunError::Memory),
+    match sizes.geometry() {
+        Ok(geometry) => Ok(geometry),
+        Err(_) => Err(RunError::Damaged),
     }
 }
 
-fn zero_parts(
+// Media in memory, all of whose bytes are zero, of which those of the regions may stop.
+fn zero_media(
     alloc: Global,
     geometry: &Geometry,
     stops: &mut RegionStops,
 ) -> Result<Parts<RunMedium>, RunError> {
-    let shared = StopMedia::new(zero_medium(alloc, tier_lens(geometry))?);
+    let regions = stopping_regions(alloc, stops)?;
+    let shared = zero_medium(alloc, tier_lens(geometry))?;
+    parts_of(StopMedia::new(shared), regions)
+}
+
+fn stopping_regions(alloc: Global, stops: &mut RegionStops) -> Result<Vec<RunMedium>, RunError> {
     let mut regions = Vec::new(alloc);
     for _ in 0..REGIONS {
-        let region = zero_medium(alloc, [REGION_SIZE, 0, 0])?;
-        regions.push(stops.add_region(alloc, region)?)?;
+        add_region(alloc, &mut regions, stops)?;
     }
-    match Parts::new(shared, regions) {
-        Ok(parts) => Ok(parts),
-        Err(_) => Err(RunError::Damaged),
-    }
+    Ok(regions)
+}
+
+fn add_region(
+    alloc: Global,
+    regions: &mut Vec<RunMedium>,
+    stops: &mut RegionStops,
+) -> Result<(), RunError> {
+    let medium = zero_medium(alloc, [REGION_SIZE, 0, 0])?;
+    regions.push(stops.add_region(alloc, medium)?)?;
+    Ok(())
 }
 
 fn zero_medium(alloc: Global, lens: [usize; 3]) -> Result<MemMedia, RunError> {
@@ -96,8 +126,41 @@ fn zero_medium(alloc: Global, lens: [usize; 3]) -> Result<MemMedia, RunError> {
     }
 }
 
-/// Adds the media of a client's two regions, the even one first. One may be on its way back to it.
-pub fn add_regions<R: Wait>(
+fn parts_of(shared: RunMedium, regions: Vec<RunMedium>) -> Result<Parts<RunMedium>, RunError> {
+    match Parts::new(shared, regions) {
+        Ok(parts) => Ok(parts),
+        Err(_) => Err(RunError::Damaged),
+    }
+}
+
+/// The world that is recovered from what the media of a set hold behind a stop.
+pub fn recover_set<R: Wait + AllocGlobal>(
+    rt: &R,
+    set: ThreadSet<RunMedium>,
+) -> Result<World<MemMedia>, RunError> {
+    let ThreadSet {
+        shared,
+        clients,
+        ..
+    } = set;
+    let shared = shared.into_kernel().into_area().into_medium();
+    recover_media(rt.alloc(), shared, region_media(rt, clients)?)
+}
+
+/// The media of all clients' regions, client by client and the even one first.
+pub fn region_media<R: Wait + AllocGlobal>(
+    rt: &R,
+    clients: Vec<ThreadClient<RunMedium>>,
+) -> Result<Vec<RunMedium>, RunError> {
+    let mut media = Vec::new(rt.alloc());
+    for client in clients {
+        add_regions(rt, &mut media, client)?;
+    }
+    Ok(media)
+}
+
+// Adds the media of a client's two regions, the even one first. One may be on its way back to it.
+fn add_regions<R: Wait>(
     rt: &R,
     media: &mut Vec<RunMedium>,
     client: ThreadClient<RunMedium>,
@@ -124,15 +187,13 @@ fn medium_of(
     }
 }
 
-/// The world that is recovered from what the media of a kernel and of the regions hold behind a stop.
-pub fn recover_media(
+fn recover_media(
     alloc: Global,
-    kernel: Kernel<RunMedium>,
+    shared: RunMedium,
     regions: Vec<RunMedium>,
 ) -> Result<World<MemMedia>, RunError> {
-    let shared = medium_at_rest(kernel.into_area().into_medium())?;
-    let regions = rest_regions(alloc, regions)?;
-    recover_parts(alloc, shared, regions)
+    let shared = medium_at_rest(shared)?;
+    recover_parts(alloc, shared, rest_regions(alloc, regions)?)
 }
 
 fn recover_parts(
@@ -145,7 +206,7 @@ fn recover_parts(
     let parts = parts_at_rest(shared, regions)?;
     match recover(alloc, parts) {
         Ok(world) => Ok(world),
-        Err(_) => Err(RunError::Damaged),
+        Err((error, _)) => Err(recovery_fault(error)),
     }
 }
 

@@ -1,6 +1,6 @@
 // The two calls of `strata_first`, each in a thread of its own, over a fresh file system.
 use crate::client_run::call_of;
-use crate::file_system::{add_regions, fresh_set};
+use crate::file_system::{fresh_set, region_media};
 use crate::region_stops::{RegionStops, RunMedium};
 use crate::run::work;
 use crate::shared_graph::{apply_answered, first_graph};
@@ -54,8 +54,8 @@ pub fn make_both_calls<R: Threads + Wait + AllocGlobal + Sync>(
     rt: &R,
     stop: Option<RegionStop>,
 ) -> Result<CallEnd, RunError> {
-    let (set, stops) = fresh_set(rt.alloc(), UNITS, 1, stop)?;
-    let mut set = set;
+    let mut stops = RegionStops::new(rt.alloc(), stop);
+    let mut set = fresh_set(rt.alloc(), UNITS, 1, &mut stops)?;
     let answers = ask_both(rt, &mut set, &stops, stop)?;
     let ThreadSet { clients, .. } = set;
     end_calls(rt, clients, answers)
@@ -190,10 +190,7 @@ fn take_regions<R: Wait + AllocGlobal>(
     rt: &R,
     clients: Vec<ThreadClient<RunMedium>>,
 ) -> Result<(RunMedium, RunMedium), RunError> {
-    let mut regions = Vec::new(rt.alloc());
-    for client in clients {
-        add_regions(rt, &mut regions, client)?;
-    }
+    let mut regions = region_media(rt, clients)?;
     if regions.len() <= SECOND_REGION {
         return Err(RunError::Damaged);
     }

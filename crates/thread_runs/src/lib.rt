@@ -5,6 +5,7 @@
 #![tactic(auto)]
 
 mod client_run;
+mod client_tree;
 mod draws;
 mod file_system;
 mod first_calls;

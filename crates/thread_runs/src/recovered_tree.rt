@@ -1,20 +1,10 @@
 //! What was recovered is compared with the clients' plain trees.
 use crate::client_run::{are_alike, call_of};
+use crate::client_tree::ClientTree;
 use crate::turns::{log_line, tree_lines};
 use call_driver::{CallResult, World, serve_call};
-use plain_tree::PlainTree;
 use script::{MemMedia, Reply, RunError};
 use std::alloc::Global;
-
-/// A client's tree, by which what was recovered is judged.
-#[derive(Drop)]
-pub struct ClientTree {
-    pub alloc: Global,
-    pub number: u32,
-    pub tree: PlainTree,
-    /// The line of the call that a stop left without an answer.
-    pub unanswered: Option<String>,
-}
 
 impl ClientTree {
     /// Whether a recovered world has what the tree has, without the call that has no answer or with it.
@@ -25,8 +15,15 @@ impl ClientTree {
         let Some(line) = self.unanswered.take() else {
             return Ok(false);
         };
-        let _ = self.tree.ask(self.number, &call_of(self.alloc, &line)?);
+        self.follow(self.number, &line)?;
         self.is_in_now(world)
+    }
+
+    /// Asks the tree a line as a client does.
+    pub fn follow(&mut self, client: u32, line: &str) -> Result<(), RunError> {
+        let call = call_of(self.alloc, line)?;
+        let _ = self.tree.ask(client, &call);
+        Ok(())
     }
 
     // Both are asked the same, to the end, which leaves both as they were.
@@ -34,8 +31,7 @@ impl ClientTree {
         let lines = tree_lines(self.alloc, self.number)?;
         let mut is_same = true;
         for line in lines.split('\n') {
-            let (wanted, found) = self.ask_both(world, line)?;
-            let is_alike = are_alike(self.alloc, &wanted, &found)?;
+            let is_alike = self.agrees(world, line, true)?;
             is_same = is_same && is_alike;
         }
         let has_log = self.has_log(world)?;
@@ -45,27 +41,47 @@ impl ClientTree {
     // A client that wrote nothing to the file of all clients knows nothing of it: others may have made it longer.
     fn has_log(&mut self, world: &mut World<MemMedia>) -> Result<bool, RunError> {
         let line = log_line(self.alloc, self.number)?;
-        let open = self.ask_both(world, "1 open /s/log r")?;
-        let (wanted, found) = self.ask_both(world, &line)?;
-        let close = self.ask_both(world, "1 close 0")?;
-        let is_known = match &wanted {
-            Reply::Read { bytes } => bytes.len() != 0,
-            _ => true,
-        };
-        Ok(!is_known || are_alike(self.alloc, &wanted, &found)?)
+        let _ = self.agrees(world, "1 open /s/log r", true)?;
+        let has_place = self.agrees(world, &line, false)?;
+        let _ = self.agrees(world, "1 close 0", true)?;
+        Ok(has_place)
     }
 
-    // What the tree and the world answer to a line. The tree is asked for a client that has no file open in it.
-    fn ask_both(
+    // Whether the tree and the world answer a line alike; also where the tree reads no byte, unless that has to agree too. The tree is asked for a client that has no file open in it.
+    fn agrees(
         &mut self,
         world: &mut World<MemMedia>,
         line: &str,
-    ) -> Result<(Reply, Reply), RunError> {
+        with_none: bool,
+    ) -> Result<bool, RunError> {
         let asker = if self.number == 1 { 2 } else { 1 };
-        let wanted = self.tree.ask(asker, &call_of(self.alloc, line)?);
-        match serve_call(world, 1, call_of(self.alloc, line)?, true) {
-            CallResult::Reply(found) => Ok((wanted, found)),
-            _ => Err(RunError::Damaged),
-        }
+        let wanted = self.answer(asker, line)?;
+        let is_alike = is_answer(self.alloc, world, line, &wanted)?;
+        Ok(is_alike || !with_none && reads_nothing(&wanted))
+    }
+
+    fn answer(&mut self, client: u32, line: &str) -> Result<Reply, RunError> {
+        let call = call_of(self.alloc, line)?;
+        Ok(self.tree.ask(client, &call))
+    }
+}
+
+fn reads_nothing(reply: &Reply) -> bool {
+    match reply {
+        Reply::Read { bytes } => bytes.len() == 0,
+        _ => false,
+    }
+}
+
+// Whether the world answers a line of client 1 so.
+fn is_answer(
+    alloc: Global,
+    world: &mut World<MemMedia>,
+    line: &str,
+    wanted: &Reply,
+) -> Result<bool, RunError> {
+    match serve_call(world, 1, call_of(alloc, line)?, true) {
+        CallResult::Reply(found) => are_alike(alloc, wanted, &found),
+        _ => Err(RunError::Damaged),
     }
 }

@@ -28,11 +28,18 @@ impl RegionStops {
 
     /// A region's medium over one in memory, with a count of its own, which is not armed.
     pub fn add_region(&mut self, alloc: Global, inner: MemMedia) -> Result<RunMedium, AllocError> {
-        let trip = Trip::new(alloc)?;
+        let trip = self.add_trip(alloc)?;
         let mut medium = StopMedia::new(inner);
-        medium.stop_with(trip.share()?, self.fill);
-        self.trips.push(trip)?;
+        medium.stop_with(trip, self.fill);
         Ok(medium)
+    }
+
+    // Shares one more count, which is not armed.
+    fn add_trip(&mut self, alloc: Global) -> Result<Trip, AllocError> {
+        let trip = Trip::new(alloc)?;
+        let share = trip.share()?;
+        self.trips.push(trip)?;
+        Ok(share)
     }
 
     /// Has each region stop within the write or fence that is asked for, of those from now on on it, if one is.

@@ -1,21 +1,18 @@
 //! A run of `strata_run`.
-use crate::client_run::ClientRun;
-use crate::file_system::{add_regions, fresh_set, recover_media};
+use crate::client_run::{ClientRun, runs_of};
+use crate::client_tree::{ClientTree, new_trees};
+use crate::file_system::{fresh_set, recover_set};
 use crate::options::{Options, read_options};
-use crate::recovered_tree::ClientTree;
 use crate::region_stops::{RegionStops, RunMedium};
 use crate::run_end::RunEnd;
 use crate::turns::opening_lines;
 use call_driver::World;
 use script::{MemMedia, RunError, tell, tell_fault};
-use std::alloc::Global;
 use std::io::Write;
 use std::sync::Wait;
 use std::thread;
 use std::thread::Threads;
-use strata_threads::{
-    Client, OpenGate, SharedKernel, StopFlag, ThreadClient, ThreadSet, Worker, run_migrator,
-};
+use strata_threads::{OpenGate, SharedKernel, StopFlag, ThreadSet, Worker, run_migrator};
 
 /// A difference, by its client and its turn.
 #[derive(Clone, Copy)]
@@ -47,100 +44,142 @@ pub fn run_threads<'a, R: Threads + Wait + AllocGlobal + Sync, O: Write, E: Writ
     }
 }
 
-// Prints a line for what was run, one for the replies and one for what was recovered, up to the first difference.
+// Makes the trees that are asked beside the clients, and runs.
 fn run<R: Threads + Wait + AllocGlobal + Sync, O: Write>(
     rt: &R,
     options: &Options,
     out: &mut O,
 ) -> Result<Option<Difference>, RunError> {
-    let Options { clients, turns, .. } = *options;
-    let end = make_all_calls(rt, options)?;
-    writeln!(out, "clients {clients} turns {turns}")?;
-    if let Some(difference) = first_difference(&end.runs)? {
-        return Ok(Some(difference));
+    let mut trees = new_trees(rt.alloc())?;
+    run_beside(rt, options, &mut trees, out)
+}
+
+// Prints a line for what was run, one for the replies and one for what was recovered, up to the first difference.
+fn run_beside<R: Threads + Wait + AllocGlobal + Sync, O: Write>(
+    rt: &R,
+    options: &Options,
+    trees: &mut [ClientTree],
+    out: &mut O,
+) -> Result<Option<Difference>, RunError> {
+    let set = make_all_calls(rt, options, trees)?;
+    match report_replies(options, trees, out) {
+        Ok(None) => report_recovery(rt, set, trees, options, out),
+        difference => difference,
     }
-    writeln!(out, "replies ok")?;
-    let difference = recover_all(rt, end, options)?;
+}
+
+fn report_replies<O: Write>(
+    options: &Options,
+    trees: &[ClientTree],
+    out: &mut O,
+) -> Result<Option<Difference>, RunError> {
+    let Options { clients, turns, .. } = *options;
+    writeln!(out, "clients {clients} turns {turns}")?;
+    let difference = first_difference(trees)?;
+    if difference.is_none() {
+        writeln!(out, "replies ok")?;
+    }
+    Ok(difference)
+}
+
+// The media are recovered, and each client's tree is compared.
+fn report_recovery<R: Wait + AllocGlobal, O: Write>(
+    rt: &R,
+    set: ThreadSet<RunMedium>,
+    trees: &mut [ClientTree],
+    options: &Options,
+    out: &mut O,
+) -> Result<Option<Difference>, RunError> {
+    let mut world = recover_set(rt, set)?;
+    report_trees(&mut world, trees, options, out)
+}
+
+fn report_trees<O: Write>(
+    world: &mut World<MemMedia>,
+    trees: &mut [ClientTree],
+    options: &Options,
+    out: &mut O,
+) -> Result<Option<Difference>, RunError> {
+    let difference = compare_trees(world, trees, options)?;
     if difference.is_none() {
         writeln!(out, "recovered ok")?;
     }
     Ok(difference)
 }
 
-// What is left of a run whose threads have ended.
-#[derive(Drop)]
-struct ThreadEnd {
-    shared: SharedKernel<RunMedium>,
-    runs: Vec<ClientRun>,
-}
-
 // Makes the file system and all calls. It prints nothing, so that it is the same whatever is printed to.
 fn make_all_calls<R: Threads + Wait + AllocGlobal + Sync>(
     rt: &R,
     options: &Options,
-) -> Result<ThreadEnd, RunError> {
-    let alloc = rt.alloc();
-    let (set, stops) = fresh_set(alloc, options.units, options.workers as usize, options.stop)?;
-    let ThreadSet {
-        shared,
-        clients,
-        workers,
-    } = set;
-    let (mut workers, mut runs) = (workers, runs_of(alloc, clients)?);
-    open_tree(
-        rt,
-        &shared,
-        &stops,
-        &mut runs,
-        &mut workers,
-        options.clients,
+    trees: &mut [ClientTree],
+) -> Result<ThreadSet<RunMedium>, RunError> {
+    let mut stops = RegionStops::new(rt.alloc(), options.stop);
+    let mut set = fresh_set(
+        rt.alloc(),
+        options.units,
+        options.workers as usize,
+        &mut stops,
     )?;
+    make_calls(rt, &mut set, &stops, trees, options)?;
+    Ok(set)
+}
+
+fn make_calls<R: Threads + Wait + AllocGlobal + Sync>(
+    rt: &R,
+    set: &mut ThreadSet<RunMedium>,
+    stops: &RegionStops,
+    trees: &mut [ClientTree],
+    options: &Options,
+) -> Result<(), RunError> {
+    let mut runs = runs_of(rt.alloc(), &mut set.clients, trees)?;
+    let clients = options.clients;
+    open_tree(rt, &set.shared, stops, &mut runs, &mut set.workers, clients)?;
     stops.arm(options.stop);
-    make_all_turns(rt, &shared, &stops, &mut runs, &mut workers, options);
-    Ok(ThreadEnd { shared, runs })
+    make_all_turns(rt, &set.shared, stops, &mut runs, &mut set.workers, options);
+    Ok(())
 }
 
-pub fn runs_of(
-    alloc: Global,
-    clients: Vec<ThreadClient<RunMedium>>,
-) -> Result<Vec<ClientRun>, RunError> {
-    let mut runs = Vec::new(alloc);
-    for client in clients {
-        runs.push(ClientRun::new(alloc, client)?)?;
-    }
-    Ok(runs)
-}
-
-// Client 1 makes what the clients work in, has it digested, and gives its leases back.
+/// Client 1 makes what the clients work in, has it digested, and gives its leases back.
 pub fn open_tree<R: Threads + Wait + AllocGlobal + Sync>(
     rt: &R,
     shared: &SharedKernel<RunMedium>,
     stops: &RegionStops,
-    runs: &mut Vec<ClientRun>,
-    workers: &mut Vec<Worker<RunMedium>>,
+    runs: &mut [ClientRun<'_>],
+    workers: &mut [Worker<RunMedium>],
     clients: u32,
 ) -> Result<(), RunError> {
     let lines = opening_lines(rt.alloc(), clients)?;
-    let stop = StopFlag::new();
-    let flag = &stop;
     let Some((one, rest)) = runs.split_first_mut() else {
         return Err(RunError::Damaged);
     };
-    let text = lines.as_str();
-    let all = &mut workers[..];
+    ask_opening(rt, shared, stops, one, workers, &lines)?;
+    for run in rest {
+        follow(run, &lines)?;
+    }
+    Ok(())
+}
+
+// Has a client make the calls of these lines, beside workers.
+fn ask_opening<R: Threads + Wait + Sync>(
+    rt: &R,
+    shared: &SharedKernel<RunMedium>,
+    stops: &RegionStops,
+    run: &mut ClientRun<'_>,
+    workers: &mut [Worker<RunMedium>],
+    lines: &str,
+) -> Result<(), RunError> {
+    let stop = StopFlag::new();
+    let flag = &stop;
     let (end, _) = thread::join(
         rt,
         || {
-            let end = one.ask_all(rt, shared, stops, text);
-            one.leave(rt);
+            let end = run.ask_all(rt, shared, stops, lines);
+            run.leave(rt);
             flag.set();
             end
         },
-        || work(rt, shared, all, flag),
+        || work(rt, shared, workers, flag),
     );
-    for run in rest {
-        follow(run, text)?;
-    }
     match end {
         Ok(()) => Ok(()),
         Err(RunEnd::Differs | RunEnd::Stopped) => Err(RunError::Damaged),
@@ -149,10 +188,9 @@ pub fn open_tree<R: Threads + Wait + AllocGlobal + Sync>(
 }
 
 // A client's tree is made as client 1 made the file system.
-fn follow(run: &mut ClientRun, lines: &str) -> Result<(), RunError> {
+fn follow(run: &mut ClientRun<'_>, lines: &str) -> Result<(), RunError> {
     for line in lines.split('\n') {
-        let call = crate::client_run::call_of(run.alloc, line)?;
-        let _ = run.tree.ask(1, &call);
+        run.tree.follow(1, line)?;
     }
     Ok(())
 }
@@ -172,7 +210,7 @@ fn make_all_turns<R: Threads + Wait + Sync>(
     rt: &R,
     shared: &SharedKernel<RunMedium>,
     stops: &RegionStops,
-    runs: &mut [ClientRun],
+    runs: &mut [ClientRun<'_>],
     workers: &mut [Worker<RunMedium>],
     options: &Options,
 ) {
@@ -196,11 +234,11 @@ fn make_turns<R: Threads + Wait + Sync>(
     rt: &R,
     shared: &SharedKernel<RunMedium>,
     stops: &RegionStops,
-    runs: &mut [ClientRun],
+    runs: &mut [ClientRun<'_>],
     options: &Options,
 ) {
-    let go = |_: usize, run: &mut ClientRun| {
-        if run.number <= options.clients {
+    let go = |_: usize, run: &mut ClientRun<'_>| {
+        if run.tree.number <= options.clients {
             run.make_turns(rt, shared, stops, options)
         }
     };
@@ -208,12 +246,12 @@ fn make_turns<R: Threads + Wait + Sync>(
 }
 
 // The first client whose run ended before its last turn.
-fn first_difference(runs: &[ClientRun]) -> Result<Option<Difference>, RunError> {
-    for run in runs {
-        match run.end {
+fn first_difference(trees: &[ClientTree]) -> Result<Option<Difference>, RunError> {
+    for tree in trees {
+        match tree.end {
             Some((turn, RunEnd::Differs)) => {
                 return Ok(Some(Difference {
-                    client: run.number,
+                    client: tree.number,
                     turn,
                 }));
             }
@@ -224,26 +262,9 @@ fn first_difference(runs: &[ClientRun]) -> Result<Option<Difference>, RunError> 
     Ok(None)
 }
 
-// The media are recovered, and each client's tree is compared.
-fn recover_all<R: Wait + AllocGlobal>(
-    rt: &R,
-    end: ThreadEnd,
-    options: &Options,
-) -> Result<Option<Difference>, RunError> {
-    let alloc = rt.alloc();
-    let ThreadEnd { shared, runs } = end;
-    let mut regions = Vec::new(alloc);
-    let mut trees = Vec::new(alloc);
-    for run in runs {
-        trees.push(take_apart(rt, &mut regions, run)?)?;
-    }
-    let mut world = recover_media(alloc, shared.into_kernel(), regions)?;
-    compare_trees(&mut world, &mut trees, options)
-}
-
 fn compare_trees(
     world: &mut World<MemMedia>,
-    trees: &mut Vec<ClientTree>,
+    trees: &mut [ClientTree],
     options: &Options,
 ) -> Result<Option<Difference>, RunError> {
     for tree in trees {
@@ -255,27 +276,4 @@ fn compare_trees(
         }
     }
     Ok(None)
-}
-
-// Adds the media of a client's regions, and answers its tree.
-fn take_apart<R: Wait>(
-    rt: &R,
-    regions: &mut Vec<RunMedium>,
-    run: ClientRun,
-) -> Result<ClientTree, RunError> {
-    let ClientRun {
-        alloc,
-        number,
-        client,
-        tree,
-        unanswered,
-        ..
-    } = run;
-    add_regions(rt, regions, client)?;
-    Ok(ClientTree {
-        alloc,
-        number,
-        tree,
-        unanswered,
-    })
 }

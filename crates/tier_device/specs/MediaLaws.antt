@@ -1,4 +1,4 @@
--- That the count of failed calls rose is told over several calls.
+-- That the count of failed calls rose holds over several calls.
 use Rattle.std.specs.Prelude.{◌<◌, ◌≤◌, ◌^◌, ℕ}
 use Rattle.std.proofs.Common.{inl, inr, arith}
 use Rattle.tier_device.specs.Media.{Rose}

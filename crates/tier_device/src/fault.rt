@@ -24,7 +24,7 @@ impl<M: Media> FaultMedia<M> {
     ghost use Rattle.tier_device.specs.Count.{IsAlone};
     ghost use Rattle.tier_device.specs.Fault.{sound_of, fault_count, fails_after, failures};
 
-    /// A medium that fails for nothing until it is told to.
+    /// A medium that fails no call until `fail_at` or `fail_with` says which.
     pub fn new(inner: M) -> Self
         ensures inner { sound_of result ≡ inner }
         ensures sound { fails_after result ≡ None }

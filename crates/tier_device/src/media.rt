@@ -87,7 +87,7 @@ pub trait Media {
     ghost sized: { (media : Self) (m : ℕ) (t : Tier) (c : List ℕ) → m ≤ moment media → left media m t c → length c ≡ length (seen media t) };
 }
 
-/// Whether so many bytes from an offset on lie within a tier of this size.
+/// Whether `count` bytes from an offset on lie within a tier of this size.
 pub fn lies_within(at: usize, count: usize, size: usize) -> bool
     ensures { IsTrue result ↔ (at + count ≤ size) }
 {

@@ -79,7 +79,7 @@ impl Row {
         self.last.put(bytes)
     }
 
-    // Takes a new piece with a place for so many bytes.
+    // Takes a new piece with a place for `len` bytes.
     fn begin_piece(&mut self, len: usize) -> Result<(), AllocError>
         ensures { self.new ≡ self.old }
     {

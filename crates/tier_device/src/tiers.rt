@@ -76,6 +76,7 @@ impl Tiers {
     }
 }
 
+// Writes bytes over those from `at` on, all of which are there.
 pub(crate) fn overwrite(bytes: &mut Vec<u8>, at: usize, new: &[u8])
     requires { at + length new.now ≤ length bytes.old.items }
     ensures { bytes.new.items ≡ overwritten bytes.old.items at new.now }

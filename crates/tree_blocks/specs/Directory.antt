@@ -28,7 +28,7 @@ pub record IsHeld (d : EntryBlocks) : Type 0 where
   pub long : length d.blocks ≡ blocks_for d.count
   pub directory : AreDirectoryBlocks d.owner d.count (numbered_blocks d.blocks)
 
--- blocks are those of a directory of so many entries, and no more
+-- blocks are those of a directory of `count` entries, and no more
 pub record AreHeld (owner count : ℕ) (blocks : List (List ℕ)) : Type 0 where
   pub long : length blocks ≡ blocks_for count
   pub directory : AreDirectoryBlocks owner count (numbered_blocks blocks)
@@ -50,7 +50,7 @@ coming_count (c ∷ cs) = next_count (coming_count cs) false (is_some c.1)
 
 -- ---- blocks as they change
 
--- the blocks of a directory of so many entries with one more behind them
+-- the blocks of a directory of `count` entries with one more behind them
 pub record HaveOneMore (owner count : ℕ) (e : Entry) (old new : List (List ℕ)) : Type 0 where
   pub long : length new ≡ blocks_for (count + 1)
   pub directory : AreDirectoryBlocks owner (count + 1) (numbered_blocks new)

@@ -38,7 +38,7 @@ abbrev pub is_cut_off : Length → ℕ → Bool
 is_cut_off (Grown to) k = false
 is_cut_off (Cut least to) k = nat_le least (BLOCK * k)
 
--- the blocks that are to be written read as the change makes them, those behind a cut as zero, and all others as they did; whether a tier holds them is not told
+-- the blocks that are to be written read as the change makes them, those behind a cut as zero, and all others as they did; whether a tier holds them is not said
 pub record AreWritten (c : Change) (old new : LogicalBlocks) : Type 0 where
   pub written : (k : ℕ) → writes_block c k ≡ true → ReadsAfter c.length (patch_at c.patches k) k (old k) (new k)
   pub gone : (k p : ℕ) → writes_block c k ≡ false → is_cut_off c.length k ≡ true → p < BLOCK → get_or (new k) p 0 ≡ 0

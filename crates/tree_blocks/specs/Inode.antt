@@ -45,23 +45,23 @@ plain e = (e.name, (e.inode, e.kind))
 unfoldable pub entry_at : LogicalBlocks → ℕ → Entry
 entry_at blocks e = plain (entry_of (block_entries (blocks (e / MAX_IN_BLOCK))) (e % MAX_IN_BLOCK))
 
--- entries by their numbers, the first so many, as a map by name
+-- entries by their numbers, the first n, as a map by name
 abbrev pub named_entries : (ℕ → Entry) → ℕ → Entries (ℕ × Kind)
 named_entries entry n = fin.from_entries (map entry (range_with_len 0 n))
 
--- no two of the first so many entries have one name
+-- no two of the first n entries have one name
 abbrev pub AreDistinct : (ℕ → Entry) → ℕ → Type 0
 AreDistinct entry n = (i j : ℕ) → i < n → j < n → (entry i).0 ≡ (entry j).0 → i ≡ j
 
--- none of the first so many entries has that name
+-- none of the first n entries has that name
 abbrev pub IsAbsent : List ℕ → (ℕ → Entry) → ℕ → Type 0
 IsAbsent name entry n = (i : ℕ) → i < n → (entry i).0 ≢ name
 
--- how many blocks so many entries stand in
+-- how many blocks n entries stand in
 abbrev pub blocks_for : ℕ → ℕ
 blocks_for n = (n + (MAX_IN_BLOCK - 1)) / MAX_IN_BLOCK
 
--- how many of so many entries stand in a block: all blocks but the last are full
+-- how many of n entries stand in block k: all blocks but the last are full
 abbrev pub entries_in : ℕ → ℕ → ℕ
 entries_in n k = min MAX_IN_BLOCK (n - MAX_IN_BLOCK * k)
 
@@ -78,7 +78,7 @@ pub record AreDirectoryBlocks (owner n : ℕ) (blocks : LogicalBlocks) : Type 0 
 
 -- ---- an inode
 
--- what its slot tells of it: the kind, how many names it has, and its size (bytes of a file, entries of a directory); and its
+-- what its slot holds of it: the kind, how many names it has, and its size (bytes of a file, entries of a directory); and its
 -- logical blocks
 pub record Inode : Type 0 where
   pub kind : Option Kind
@@ -130,7 +130,7 @@ ReadAlike None size old new = Unit {0}
 ReadAlike (Some kind.File) size old new = (at : ℕ) → byte_of new at ≡ byte_of old at
 ReadAlike (Some kind.Directory) size old new = (k : ℕ) → k < blocks_for size → new k ≡ old k
 
--- the slots tell the same, and so do the blocks as far as they are read
+-- the slots say the same, and so do the blocks as far as they are read
 pub record AreAlike (old new : Inode) : Type 0 where
   pub kind : new.kind ≡ old.kind
   pub names : new.names ≡ old.names

@@ -9,12 +9,12 @@ use Rattle.tree_blocks.specs.After.{IsDirectoryAfter}
 use Rattle.tree_blocks.specs.Directory.{EntryBlocks, numbered_blocks}
 use Rattle.tree_blocks.specs.FileBlock.{AreWritten}
 
--- the slot of an inode keeps its kind, and tells how many names there are then
+-- the slot of an inode keeps its kind, and holds how many names there are then
 pub record HasNames (c : Change) (old new : Inode) : Type 0 where
   pub kind : new.kind ≡ old.kind
   pub names : new.names ≡ names_after c.names old.names
 
--- a file: its slot tells the new size, and its blocks are written
+-- a file: its slot holds the new size, and its blocks are written
 pub record IsFileRewritten (c : Change) (old new : Inode) : Type 0 where
   pub is_file : old.kind ≡ Some kind.File
   pub slot : HasNames c old new
@@ -26,7 +26,7 @@ pub record AreHeldOf (d : EntryBlocks) (x : Inode) : Type 0 where
   pub count : x.size ≡ d.count
   pub blocks : (k : ℕ) → k < blocks_for d.count → x.blocks k ≡ numbered_blocks d.blocks k
 
--- a directory: its slot tells the new count of entries, and its blocks are those of the changed directory in memory
+-- a directory: its slot holds the new count of entries, and its blocks are those of the changed directory in memory
 pub record IsDirectoryRewritten (number : ℕ) (c : Change) (before after : EntryBlocks) (old new : Inode) : Type 0 where
   pub is_directory : old.kind ≡ Some kind.Directory
   pub slot : HasNames c old new

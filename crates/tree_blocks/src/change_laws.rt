@@ -1,4 +1,4 @@
-//! What changed blocks come to.
+//! What changed blocks spell.
 
 ghost use Rattle.std.specs.Prelude.{◌≡◌, ◌<◌, ℕ, List};
 ghost use Rattle.std.specs.FinMap as fin;

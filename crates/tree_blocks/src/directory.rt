@@ -53,7 +53,7 @@ impl Directory {
         }
     }
 
-    /// The directory of so many entries that these blocks are.
+    /// The directory of `count` entries that these blocks are.
     pub fn from_blocks(alloc: Global, owner: u32, count: usize, blocks: Vec<[u8; BLOCK]>) -> Self
         requires { IsHeld (record { owner = owner; count = count; blocks = blocks.items }) }
         ensures { result ≡ record { owner = owner; count = count; blocks = blocks.items } }

@@ -14,7 +14,7 @@ use layout::{
 };
 use std::alloc::{AllocError, Global};
 
-// The number of the entry of a name.
+/// Finds the entry of a name: its number, `MAX_IN_BLOCK` a block. `None` if no block has one.
 pub fn find_in(blocks: &[[u8; BLOCK]], name: &[u8]) -> Option<usize>
     requires entries { (k : ℕ) → k < length blocks.now → AreEntries (numbered_blocks blocks.now k) }
     ensures found { IfSome result (λ e. (e / MAX_IN_BLOCK < length blocks.now) × (e % MAX_IN_BLOCK < length (block_entries (numbered_blocks blocks.now (e / MAX_IN_BLOCK))).entries) × ((entry_of (block_entries (numbered_blocks blocks.now (e / MAX_IN_BLOCK))) (e % MAX_IN_BLOCK)).name ≡ name.now)) }
@@ -28,7 +28,7 @@ pub fn find_in(blocks: &[[u8; BLOCK]], name: &[u8]) -> Option<usize>
     None
 }
 
-// A block of one entry.
+/// Makes a block with one entry, the first of directory `owner`.
 pub fn first_of(alloc: Global, owner: u32, entry: EntryRef<'_>) -> [u8; BLOCK]
     requires owner { is_inode owner ≡ true }
     requires fits { fits_entry (owned_entry entry) ≡ true }
@@ -51,7 +51,7 @@ fn blank_of(alloc: Global, owner: u32) -> [u8; BLOCK]
     block
 }
 
-// Writes the last entry of one block over an entry of another before it, and takes it out of its own.
+/// Writes the last entry of block `from` over entry `index` of block `to`, which is before it, and removes it from `from`.
 pub fn move_last(blocks: &mut [[u8; BLOCK]], to: usize, index: usize, from: usize)
     requires order { to < from }
     requires room { from < length blocks.old }
@@ -74,7 +74,8 @@ pub fn move_last(blocks: &mut [[u8; BLOCK]], to: usize, index: usize, from: usiz
     remove_last(&mut blocks[from]);
 }
 
-// Puts an entry behind so many others.
+/// Adds an entry behind the `count` that a directory has. Refused for want of memory alone, with the blocks as they were,
+/// and only if the last block is full and the vector has no room for another.
 pub fn add_to(
     alloc: Global,
     blocks: &mut Vec<[u8; BLOCK]>,
@@ -100,7 +101,7 @@ pub fn add_to(
     Ok(())
 }
 
-// Puts an entry behind the others into the last block.
+/// Adds an entry behind the others of the last block, which has room. Takes no memory.
 pub fn fill_block(blocks: &mut [[u8; BLOCK]], count: usize, entry: EntryRef<'_>)
     requires fits { fits_entry (owned_entry entry) ≡ true }
     requires long { length blocks.old ≡ blocks_for count }
@@ -112,7 +113,7 @@ pub fn fill_block(blocks: &mut [[u8; BLOCK]], count: usize, entry: EntryRef<'_>)
     add_entry(&mut blocks[count / MAX_IN_BLOCK], entry);
 }
 
-// Puts the last entry at the place of another, which may be itself, and nothing at its own.
+/// Writes entry `last`, the last one, over entry `number`, which may be the same, and removes it from its place.
 pub fn put_last_at(blocks: &mut [[u8; BLOCK]], number: usize, last: usize)
     requires inside { number ≤ last }
     requires long { length blocks.old ≡ blocks_for (last + 1) }
@@ -130,7 +131,7 @@ pub fn put_last_at(blocks: &mut [[u8; BLOCK]], number: usize, last: usize)
     }
 }
 
-// Takes an entry out, in whose place the last one stands then, and the block that has none any more.
+/// Removes entry `number`: entry `last`, the last one, takes its place, and a block that then has none is dropped.
 pub fn take_from(blocks: &mut Vec<[u8; BLOCK]>, number: usize, last: usize)
     requires inside { number ≤ last }
     requires long { length blocks.old.items ≡ blocks_for (last + 1) }

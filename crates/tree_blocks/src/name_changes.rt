@@ -107,7 +107,8 @@ fn change_name(
     }
 }
 
-// Changes what stands under each of these names, from the last to the first, and marks the blocks that it writes. It answers how many entries there are then.
+/// Changes what stands under each of these names, from the last to the first, and marks the blocks that it writes.
+/// Returns how many entries the directory then has. The vector has room for all blocks, so no change is refused.
 pub fn change_names(
     alloc: Global,
     blocks: &mut Vec<[u8; BLOCK]>,
@@ -136,7 +137,7 @@ pub fn change_names(
     after
 }
 
-// Whether there would be more entries after a change than a directory may have.
+/// Answers whether a directory of `count` entries would have more than `MAX_ENTRIES` after these changes.
 pub fn are_too_many(
     blocks: &[[u8; BLOCK]],
     count: usize,
@@ -153,7 +154,7 @@ pub fn are_too_many(
     count_after(blocks, count, changes) > MAX_ENTRIES as usize
 }
 
-// How many of these names are to stand there afterwards.
+/// Counts the names that are to have an entry after these changes.
 pub fn coming_count(changes: &[NamedEntry<Option<(u32, Kind)>>]) -> usize
     ensures count { result ≡ coming_count (pairs changes.now) }
     ensures few { result ≤ length changes.now }

@@ -1,4 +1,4 @@
-//! What the blocks of an inode tell of its node.
+//! What the blocks of an inode say of its node.
 
 ghost use Rattle.std.specs.Prelude.{◌≡◌, ◌<◌, ◌≤◌, ℕ, List, get_or, length, Some, None};
 ghost use Rattle.std.specs.FinMap as fin;

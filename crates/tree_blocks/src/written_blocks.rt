@@ -6,7 +6,7 @@ ghost use Rattle.tree_blocks.specs.BlockMarks.{numbers_from};
 
 use std::marker::Model;
 
-// The most blocks that a directory has: 3,584 entries, 56 in each.
+/// The most blocks that a directory has: 3,584 entries, 56 in each.
 pub const MOST_BLOCKS: usize = 64;
 
 /// The numbers of the blocks of a directory that a change has written, rising, each once. It takes no memory.
@@ -35,7 +35,7 @@ impl WrittenBlocks {
         &self.numbers[..self.len]
     }
 
-    // The numbers of the marks that are set.
+    /// Lists the numbers of the marks that are set, of `MOST_BLOCKS` marks at most.
     pub fn from_marks(marks: &[bool]) -> Self
         requires { length marks.now ≤ MOST_BLOCKS }
         ensures { result ≡ numbers_from 0 marks.now }
@@ -52,7 +52,7 @@ impl WrittenBlocks {
     }
 }
 
-// Marks a block; one behind all that a directory may have in the end needs no mark.
+/// Sets the mark of a block; a number without a mark changes nothing.
 pub fn mark(marks: &mut [bool], number: usize)
     ensures { marks.new ≡ slice_set marks.old number true }
 {

@@ -7,7 +7,7 @@ use Rattle.tier_device.specs.Media.{overwritten, Torn}
 use Rattle.update_log.specs.declared.stage.Stage.{Stage}
 use Rattle.update_log.specs.declared.stage.Stage.TheVariants as stages
 use Rattle.update_log.specs.Frames.{header, before_gate, behind_gate}
-use Rattle.update_log.specs.Stage.{IsFront, IsStaged, BeforeOrAfter, IsResting, IsBegun, IsKept, IsWhole, FitsItsStage, IsAppending, AtStage, HasRecord, payload_in}
+use Rattle.update_log.specs.Stage.{IsFront, IsStaged, BeforeOrAfter, IsResting, IsBegun, IsWhole, FitsItsStage, IsAppending, AtStage, HasRecord, payload_in}
 use Rattle.update_log.specs.Calls.{HasMoved, HasFailed}
 use Rattle.update_log.proofs.Reading.{is_before, is_either, front_push, front_none}
 use Rattle.update_log.proofs.Writes.{torn_shut, written_staged, torn_gate, written_gate}
@@ -23,7 +23,7 @@ stands_of end stages.Foreign body seen left sound = sound.at_stage.stands
 stands_of end stages.Begun body seen left sound = sound.at_stage.stands
 stands_of end stages.Written body seen left sound = sound.at_stage.begun.stands
 stands_of end stages.Kept body seen left sound = sound.at_stage.stands
-stands_of end stages.Opened body seen left sound = sound.at_stage.kept.stands
+stands_of end stages.Opened body seen left sound = sound.at_stage.stands
 stands_of end stages.Failed body seen left sound = sound.at_stage.stands
 stands_of end stages.Closing body seen left sound = stands_header end seen sound.size sound.at_stage.is_header
 stands_of end stages.Closed body seen left sound = stands_header end seen sound.size sound.at_stage.is_header
@@ -56,10 +56,10 @@ module _ (end : ℕ) (body seen : List ℕ) (left : List ℕ → Type 0) where
   either stages.Written begun sound c l = is_before front payload c sound.at_stage.begun.stands (sound.at_stage.begun.shut c l)
   either stages.Kept begun sound c l =
       let s = sound.at_stage.staged c l in
-      either_of sound.at_stage.stands sound.record_begun s.0 sound.at_stage.rest c s.1
+      either_of sound.at_stage.stands sound.record_begun s.0 sound.at_stage.rest c s.2
   either stages.Opened begun sound c l =
-      let s = sound.at_stage.kept.staged c l in
-      either_of sound.at_stage.kept.stands sound.record_begun s.0 sound.at_stage.kept.rest c s.1
+      let s = sound.at_stage.staged c l in
+      either_of sound.at_stage.stands sound.record_begun s.0 sound.at_stage.rest c s.1
   either stages.Failed begun sound c l = absurd begun
   either stages.Closing begun sound c l = absurd begun
   either stages.Closed begun sound c l = absurd begun
@@ -135,7 +135,7 @@ module _ (end : ℕ) (body seen : List ℕ) (left : List ℕ → Type 0) where
           let same = ap (take end) (only seen' now') in
           record {
             sound = moves stages.Kept stages.Written sound size2
-                (record { stands = sound.at_stage.begun.stands; rest = s.rest; staged = λ c l. (s.gate, only c l ∙ s.is) })
+                (record { stands = sound.at_stage.begun.stands; rest = s.rest; staged = λ c l. (s.gate, s.shut, only c l ∙ s.is) })
                 sound.record_begun same;
             same_header = ap header same;
             payloads_are = ap before_gate same;
@@ -146,28 +146,23 @@ module _ (end : ℕ) (body seen : List ℕ) (left : List ℕ → Type 0) where
       pub size3 : length seen' ≡ length seen
       size3 = let t = tears seen' now' in t.2.same_length ∙ sized t.0 t.1
 
-      kept3 : IsKept front body left'
-      kept3 = record {
-        stands = sound.at_stage.stands;
-        rest = sound.at_stage.rest;
-        staged = λ c l.
-            let t = tears c l in
-            let s = sound.at_stage.staged t.0 t.1 in
-            torn_gate front end (long sound.within sound.size) s.0 (body ++ sound.at_stage.rest) t.0 c s.1 t.2;
-      }
+      torn3 : (c : List ℕ) → left' c → (gate : ℕ) × (c ≡ front ++ gate ∷ (body ++ sound.at_stage.rest))
+      torn3 c l =
+          let t = tears c l in
+          let s = sound.at_stage.staged t.0 t.1 in
+          torn_gate front end (long sound.within sound.size) s.0 (body ++ sound.at_stage.rest) t.0 c s.2 t.2
 
       pub either3 : (c : List ℕ) → left' c → BeforeOrAfter front payload c
-      either3 c l = let s = kept3.staged c l in either_of kept3.stands sound.record_begun s.0 kept3.rest c s.1
+      either3 c l = let s = torn3 c l in either_of sound.at_stage.stands sound.record_begun s.0 sound.at_stage.rest c s.1
 
       pub opened : seen' ≡ overwritten seen end (165 ∷ []) → HasMoved end stages.Kept body seen seen' left'
-      unfolding kept3
       opened is =
           let l3 = long sound.within sound.size in
           let s = sound.at_stage.staged seen now in
-          let open_gate = is ∙ written_gate front end l3 s.0 (body ++ sound.at_stage.rest) seen s.1 in
-          let same = same_front l3 (165 ∷ (body ++ kept3.rest)) open_gate in
+          let open_gate = is ∙ written_gate front end l3 s.0 (body ++ sound.at_stage.rest) seen s.2 in
+          let same = same_front l3 (165 ∷ (body ++ sound.at_stage.rest)) open_gate in
           record {
-            sound = moves stages.Opened stages.Kept sound size3 (record { kept = kept3; opened = open_gate }) sound.record_begun same;
+            sound = moves stages.Opened stages.Kept sound size3 (record { stands = sound.at_stage.stands; rest = sound.at_stage.rest; staged = torn3; opened = open_gate }) sound.record_begun same;
             same_header = ap header same;
             payloads_are = ap before_gate same;
           }
@@ -179,7 +174,7 @@ module _ (end : ℕ) (body seen : List ℕ) (left : List ℕ → Type 0) where
 
       pub appended : ((c : List ℕ) → left' c → c ≡ seen) → seen' ≡ seen → HasMoved end stages.Opened body seen seen' left'
       appended only same =
-          let was = sound.at_stage.kept in
+          let was = sound.at_stage in
           let whole = sound.record_begun in
           let small = short whole in
           let more = little_bytes 4 (length payload) ++ payload in

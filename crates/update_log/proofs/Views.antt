@@ -16,10 +16,10 @@ use Rattle.tier_device.specs.StopsSince.{LeftSince}
 use Rattle.update_log.specs.declared.stage.Stage.{Stage}
 use Rattle.update_log.specs.declared.stage.Stage.TheVariants as stages
 use Rattle.update_log.specs.Frames.{payloads, records, header, before_gate, spelled_records, with_record, behind_gate, is_payload}
-use Rattle.update_log.specs.Stage.{IsFront, IsShut, IsWhole, HasRecord, BeforeOrAfter, IsResting, FitsItsStage, AtStage, IsAppending, IsIdle, payload_in, next}
+use Rattle.update_log.specs.Stage.{IsFront, IsShut, IsWhole, HasRecord, BeforeOrAfter, IsResting, FitsItsStage, AtStage, IsAppending, IsIdle, IsUnopened, payload_in, next}
 use Rattle.update_log.specs.Wipe.{IsWiping}
 use Rattle.update_log.specs.View.{begun_in, WithOrWithout}
-use Rattle.update_log.proofs.Reading.{payloads_closed}
+use Rattle.update_log.proofs.Reading.{is_before, payloads_closed}
 use Rattle.update_log.specs.Calls.{payloads_after}
 use Rattle.update_log.proofs.Moves.{length-body, either, stands_of}
 
@@ -115,7 +115,7 @@ sound_kept end stage body seen seen' left left' same fewer sound =
     fewer_at stages.Begun a = record { stands = a.stands; shut = λ c l. a.shut c (fewer c l) }
     fewer_at stages.Written a = record { begun = record { stands = a.begun.stands; shut = λ c l. a.begun.shut c (fewer c l) }; staged = a.staged }
     fewer_at stages.Kept a = record { stands = a.stands; rest = a.rest; staged = λ c l. a.staged c (fewer c l) }
-    fewer_at stages.Opened a = record { kept = record { stands = a.kept.stands; rest = a.kept.rest; staged = λ c l. a.kept.staged c (fewer c l) }; opened = a.opened }
+    fewer_at stages.Opened a = record { stands = a.stands; rest = a.rest; staged = λ c l. a.staged c (fewer c l); opened = a.opened }
     fewer_at stages.Failed a = record { stands = a.stands; either = λ c l. a.either c (fewer c l) }
     fewer_at stages.Closing a = record { is_header = a.is_header; shut = a.shut; torn = λ c l. a.torn c (fewer c l) }
     fewer_at stages.Closed a = record { is_header = a.is_header; shut = a.shut; rest = λ c l. a.rest c (fewer c l) }
@@ -218,6 +218,31 @@ either_now end stages.Closing body seen left sound still c l = absurd (still tt)
 either_now end stages.Closed body seen left sound still c l = absurd (still tt)
 either_now end stages.Naming body seen left sound still c l = absurd (still tt)
 either_now end stages.WipeFailed body seen left sound still c l = absurd (still tt)
+
+-- until the gate of a begun record is opened, a stop leaves a closed one behind the front
+shut_now : (end : ℕ) (stage : Stage) (body seen : List ℕ) (left : List ℕ → Type 0) → FitsItsStage end stage body seen left → IsUnopened stage → (c : List ℕ) → left c → IsShut (take end seen) c
+shut_now end stages.Resting body seen left sound closed c l = absurd closed
+shut_now end stages.Foreign body seen left sound closed c l = absurd closed
+shut_now end stages.Begun body seen left sound closed c l = sound.at_stage.shut c l
+shut_now end stages.Written body seen left sound closed c l = sound.at_stage.begun.shut c l
+shut_now end stages.Kept body seen left sound closed c l =
+    let s = sound.at_stage.staged c l in
+    record { gate = s.0; rest = body ++ sound.at_stage.rest; shut = s.1; is = s.2 }
+shut_now end stages.Opened body seen left sound closed c l = absurd closed
+shut_now end stages.Failed body seen left sound closed c l = absurd closed
+shut_now end stages.Closing body seen left sound closed c l = absurd closed
+shut_now end stages.Closed body seen left sound closed c l = absurd closed
+shut_now end stages.Naming body seen left sound closed c l = absurd closed
+shut_now end stages.WipeFailed body seen left sound closed c l = absurd closed
+
+-- and so the header and the records from before
+pub unopened_now : (end : ℕ) (stage : Stage) (body seen : List ℕ) (left : List ℕ → Type 0) → FitsItsStage end stage body seen left → IsUnopened stage → (c : List ℕ) → left c
+    → (header c ≡ header (take end seen)) × (records c ≡ spelled_records (before_gate (take end seen)))
+unopened_now end stage body seen left sound closed c l =
+    let front = take end seen in
+    let stands = stands_of end stage body seen left sound in
+    let shut = shut_now end stage body seen left sound closed c l in
+    ((with_or_without front (payload_in body) c stands (is_before front (payload_in body) c stands shut)).header_is, ap spelled_records (payloads_closed front c stands shut))
 
 -- the stages that an append passes through, and its end
 pub next_resting : (stage : Stage) → IsAppending stage → next stage ≡ stages.Resting → stage ≡ stages.Opened

@@ -6,7 +6,7 @@ use Rattle.log_record.specs.declared.format.Record.{Record}
 use Rattle.log_record.specs.Grammar.{record_of, record_bytes}
 use Rattle.update_log.specs.declared.format.TheConstants.{HEADER, OPEN, CLOSED}
 
--- the length that the four bytes behind a gate tell
+-- the length that the four bytes behind a gate give
 abbrev pub payload_length : List ℕ → ℕ
 payload_length behind = little_number 4 behind
 
@@ -22,7 +22,7 @@ is_payload payload = is_some (record_of payload)
 abbrev pub is_whole : List ℕ → Bool
 is_whole behind = nat_lt (4 + payload_length behind) (length behind) && is_payload (payload_of behind)
 
--- the payloads behind open gates, up to the first gate that is closed or has no whole record behind it; so many bytes are passed over first
+-- the payloads behind open gates, up to the first gate that is closed or has no whole record behind it; `skip` bytes are passed over first
 abbrev pub payloads_from : ℕ → List ℕ → List (List ℕ)
 payloads_from skip [] = []
 payloads_from (suc skip) (byte ∷ rest) = payloads_from skip rest

@@ -55,16 +55,18 @@ pub record IsWritten (front body seen : List ℕ) (left : List ℕ → Type 0) :
   pub begun : IsBegun front left
   pub staged : IsStaged front body seen
 
--- Its bytes are kept, behind some gate.
+-- Its bytes are kept, behind a gate that is not open.
 pub record IsKept (front body : List ℕ) (left : List ℕ → Type 0) : Type 0 where
   pub stands : IsFront front
   pub rest : List ℕ
-  pub staged : (c : List ℕ) → left c → (gate : ℕ) × (c ≡ front ++ gate ∷ (body ++ rest))
+  pub staged : (c : List ℕ) → left c → (gate : ℕ) × (gate ≢ OPEN) × (c ≡ front ++ gate ∷ (body ++ rest))
 
--- And the gate is opened.
+-- And the gate is opened: a stop may leave any gate there.
 pub record IsOpened (front body seen : List ℕ) (left : List ℕ → Type 0) : Type 0 where
-  pub kept : IsKept front body left
-  pub opened : seen ≡ front ++ OPEN ∷ (body ++ kept.rest)
+  pub stands : IsFront front
+  pub rest : List ℕ
+  pub staged : (c : List ℕ) → left c → (gate : ℕ) × (c ≡ front ++ gate ∷ (body ++ rest))
+  pub opened : seen ≡ front ++ OPEN ∷ (body ++ rest)
 
 -- A device call failed: the record may stand there or not.
 pub record IsFailed (front payload : List ℕ) (left : List ℕ → Type 0) : Type 0 where
@@ -151,7 +153,7 @@ next stages.Closed = stages.Closed
 next stages.Naming = stages.Naming
 next stages.WipeFailed = stages.WipeFailed
 
--- what a device call that succeeds has come to: the fourth is the last
+-- how far a device call that succeeds has brought the append: the fourth is the last
 abbrev pub progress : Stage → Progress
 progress stages.Resting = Going
 progress stages.Foreign = Going
@@ -178,6 +180,20 @@ IsAppending stages.Closing = ⊥
 IsAppending stages.Closed = ⊥
 IsAppending stages.Naming = ⊥
 IsAppending stages.WipeFailed = ⊥
+
+-- a record is begun, and no call has been made that opens its gate
+abbrev pub IsUnopened : Stage → Type 0
+IsUnopened stages.Resting = ⊥
+IsUnopened stages.Foreign = ⊥
+IsUnopened stages.Begun = Unit {0}
+IsUnopened stages.Written = Unit {0}
+IsUnopened stages.Kept = Unit {0}
+IsUnopened stages.Opened = ⊥
+IsUnopened stages.Failed = ⊥
+IsUnopened stages.Closing = ⊥
+IsUnopened stages.Closed = ⊥
+IsUnopened stages.Naming = ⊥
+IsUnopened stages.WipeFailed = ⊥
 
 -- how many device calls of the append are still to be made
 abbrev pub calls_left : Stage → ℕ

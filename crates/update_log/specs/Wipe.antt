@@ -58,7 +58,7 @@ wipe_next stages.Closed gate = stages.Naming
 wipe_next stages.Naming gate = stages.Resting
 wipe_next stages.WipeFailed gate = stages.WipeFailed
 
--- what the call that leads to a stage has come to
+-- how far the call that leads to a stage has brought the wipe
 abbrev pub wipe_progress : Stage → WipeProgress
 wipe_progress stages.Resting = Wiped
 wipe_progress _ = Going

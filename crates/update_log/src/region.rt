@@ -9,7 +9,7 @@ ghost use Rattle.update_log.specs.declared.error.RegionError.TheVariants.{Device
 ghost use Rattle.update_log.specs.declared.format.TheConstants.{HEADER, REGION_SIZE, OPEN};
 ghost use Rattle.update_log.specs.declared.stage.Stage.TheVariants as stages;
 ghost use Rattle.update_log.specs.Frames.{records, header, with_record, end_behind};
-ghost use Rattle.update_log.specs.Stage.{IsAppending, IsIdle, calls_left, next, progress};
+ghost use Rattle.update_log.specs.Stage.{IsAppending, IsIdle, IsUnopened, calls_left, next, progress};
 ghost use Rattle.update_log.specs.View.{HasSize};
 
 use crate::append::{device_call, end_after};
@@ -163,6 +163,7 @@ impl<M: Media> Region<M> {
         ensures only { IfErr result (λ e. e ≡ RegionFull) }
         ensures refused { OnErr result (self.new ≡ self.old) }
     {
+        // For the proof: the record is read as it is written.
         written_is_read();
         let len = logged.spelled_len();
         let left = REGION_SIZE - self.end();
@@ -252,6 +253,7 @@ impl<M: Media> Region<M> {
         ensures sound { OnOk result (M.faults self.new.media ≡ M.faults self.old.media) }
         ensures faults { (M.faults self.old.media ≤ M.faults self.new.media) × (M.faults self.new.media ≤ M.faults self.old.media + 1) }
     {
+        // For the proof: what a stop leaves before the first device call.
         self.left_now();
         self.begin(logged)?;
         self.finish()
@@ -280,6 +282,7 @@ impl<M: Media> Region<M> {
         ensures sound { OnOk result (M.faults self.new.media ≡ M.faults self.old.media) }
         ensures faults { (M.faults self.old.media ≤ M.faults self.new.media) × (M.faults self.new.media ≤ M.faults self.old.media + 1) }
     {
+        // For the proof: what a stop leaves before the next device call.
         self.left_now();
         'calls: while self.step()? == Progress::Going {}
         Ok(())
@@ -379,6 +382,10 @@ impl<M: Media> Region<M> {
         ensures either { (IsWiping self.now.stage → ⊥) → (c : List ℕ) → M.left self.now.media (M.moment self.now.media) Fast c
             → WithOrWithout (header_of M.Media self.now) (records_of M.Media self.now) (begun_of self.now) c }
 
+        // Until the call that opens its gate, it leaves no begun record: the header, and the records that are appended.
+        ensures unopened { IsUnopened self.now.stage → (c : List ℕ) → M.left self.now.media (M.moment self.now.media) Fast c
+            → (header c ≡ header_of M.Media self.now) × (records c ≡ records_of M.Media self.now) }
+
         // Between two calls of a wipe it leaves the header and the records behind the first gate, or no record.
         ensures wiping { IsWiping self.now.stage → (c : List ℕ) → M.left self.now.media (M.moment self.now.media) Fast c
             → LeftInWipe (header_of M.Media self.now) (records_behind_gate (M.seen self.now.media Fast)) c }
@@ -394,6 +401,7 @@ impl<M: Media> Region<M> {
         // The next gate stands behind the records.
         ensures end { self.now.end ≡ end_behind (records_of M.Media self.now) }
     {
+        // For the proof: records take as many bytes as their spellings, and the invariant of the type.
         records_are_as_long();
         let _ = &self.end;
     }
@@ -404,6 +412,7 @@ impl<M: Media> Region<M> {
         ensures behind { result ≡ end_behind (records_of M.Media self.now) }
         ensures within { result < REGION_SIZE }
     {
+        // For the proof: the next gate stands behind the records.
         self.left_now();
         self.end
     }

@@ -22,6 +22,7 @@ pub fn end_of(content: &[u8]) -> usize
     ensures records { payloads content.now ≡ before_gate (take result content.now) }
     ensures behind { result ≡ end_behind (records content.now) }
 {
+    // For the proof: records take as many bytes as their spellings.
     records_are_as_long();
     let mut end = HEADER;
     'records: while let Some(payload) = payload_at(content, end) {

@@ -27,7 +27,7 @@ pub enum Stage {
     WipeFailed,
 }
 
-/// What one device call of an append has come to.
+/// How far one device call has brought an append.
 #[derive(Clone, Copy, Debug, PartialEq, Eq)]
 pub enum Progress {
     /// Further calls are needed.
@@ -36,7 +36,7 @@ pub enum Progress {
     Appended,
 }
 
-/// What one device call of a wipe has come to.
+/// How far one device call has brought a wipe.
 #[derive(Clone, Copy, Debug, PartialEq, Eq)]
 pub enum WipeProgress {
     /// Further calls are needed.
@@ -68,7 +68,7 @@ impl Stage {
         }
     }
 
-    // What a device call that succeeds has come to.
+    // How far a device call that succeeds and leads to this stage has brought the append.
     pub(crate) fn progress(self) -> Progress
         ensures { result ≡ progress self }
     {
@@ -78,7 +78,7 @@ impl Stage {
         }
     }
 
-    // What the device call of a wipe that leads to this stage has come to.
+    // How far the device call of a wipe that leads to this stage has brought it.
     pub(crate) fn wipe_progress(self) -> WipeProgress
         ensures { result ≡ wipe_progress self }
     {

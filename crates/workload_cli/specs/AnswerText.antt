@@ -1,4 +1,4 @@
--- How it is told what became of a line.
+-- The text that says what became of a line.
 use Rattle.std.specs.Prelude.{◌≡◌, ◌⊎◌, ℕ, Bool, true, false, Option, Some, None, Result, Ok, Err}
 use Rattle.script.specs.tier_device.declared.media.Tier.{Tier}
 use Rattle.script.specs.tier_device.declared.media.Tier.TheVariants as tiers
@@ -47,7 +47,7 @@ wipe_answer (Ok true) = answers.Wiped
 wipe_answer (Ok false) = answers.Clean
 wipe_answer (Err why) = answers.Refused why
 
--- what became of a move of so many blocks
+-- what became of a move of `count` blocks
 abbrev pub move_answer : ℕ → Outcome → Answer
 move_answer count outcomes.Stepped = answers.Moved count
 move_answer count (outcomes.Refused why) = answers.Refused why
@@ -73,6 +73,6 @@ IsUnread before after answer =
     ⊎ (((answer ≡ answers.Refused refusals.DeviceFault) × (before ≡ false) × (after ≡ true))
     ⊎ ((answer ≡ answers.Refused refusals.Memory) × (before ≡ false) × (after ≡ false)))
 
--- A path leads to no file, which is told by its error, or memory is wanted to read it, or the shared area could not be read.
+-- A path leads to no file, which is answered by its error, or memory is wanted to read it, or the shared area could not be read.
 abbrev pub IsNoFile : Result ℕ Errno → Bool → Bool → Answer → Type 0
 IsNoFile file before after answer = ((e : Errno) × (answer ≡ failure_answer e) × ((e ≡ NoMemory) ⊎ (file ≡ Err e))) ⊎ IsUnread before after answer

@@ -22,7 +22,7 @@ use Rattle.call_driver.specs.declared.events.Events.{Ghosts}
 
 -- what a system plays, what its clients owe, hold, wait for and have broken
 module _ {S : Type 0} (system : Ghosts S) where
-  -- There was no memory to build the call, and nothing was played; or it was served in its manner, and is told what became of it.
+  -- There was no memory to build the call, and nothing was played; or it was served in its manner, and the answer is what became of it.
   abbrev pub IsCallAnswered : S → ℕ → Manner → Call → Answer → S → Type 0
   IsCallAnswered old client manner call answer new = ((answer ≡ failure_answer NoMemory) × (new ≡ old))
       ⊎ ((x : CallResult) × IsServedIn system manner client call x old new × (answer ≡ call_answer x))
@@ -39,7 +39,7 @@ module _ {S : Type 0} (system : Ghosts S) where
   abbrev pub IsWipeAnswered : S → ℕ → Answer → S → Type 0
   IsWipeAnswered old client answer new = (r : Result Bool Refusal) × IsWiped system.plays client r old new × (answer ≡ wipe_answer r)
 
-  -- what it tells of its shared area: whether a device of that has failed, its file tree, where blocks lie, how the units stand; and that it was only read
+  -- what it answers of its shared area: whether a device of that has failed, its file tree, where blocks lie, how the units stand; and that it was only read
   module _ (area : Looked S) where
     -- The file was looked up, and its run moved, where there is such a file.
     pub record IsMoveAnswered (old : S) (path : List ℕ) (first count : ℕ) (to : LowerTier) (answer : Answer) (new : S) : Type 0 where

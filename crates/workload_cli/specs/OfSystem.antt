@@ -1,4 +1,4 @@
--- What a system in memory tells of its shared area.
+-- What a system in memory answers of its shared area.
 use Rattle.std.specs.Prelude.{◌≡◌, ℕ, Option, Some, None, if◌then◌else◌}
 use Rattle.script.specs.tier_device.declared.media.Media.{Ghosts}
 use Rattle.script.specs.tier_device.declared.media.Tier.{Tier}
@@ -40,7 +40,7 @@ pub record HasLooked {M : Type 0} (device : Ghosts M) (old new : SystemView M) :
   pub opening : new.kernel.opening ≡ old.kernel.opening
   pub unmoved : Unmoved (device.moment old.kernel.area.media) (device.moment new.kernel.area.media) (device.seen old.kernel.area.media) (device.seen new.kernel.area.media) (device.left old.kernel.area.media) (device.left new.kernel.area.media)
 
--- It is told so that the shared media could not be read, which is never for damage.
+-- The answer that the shared media could not be read, which is never for damage.
 abbrev pub IsAreaFault : KernelError AreaError → Answer → Type 0
 IsAreaFault why.Failed answer = answer ≡ answers.Refused refusals.KernelFailed
 IsAreaFault (why.Refused errors.DeviceFault) answer = answer ≡ answers.Refused refusals.DeviceFault

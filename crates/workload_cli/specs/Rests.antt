@@ -1,4 +1,4 @@
--- Media that come to rest behind a stop.
+-- Media that are brought to rest after a stop.
 use Rattle.std.specs.Prelude.{ℕ, ◌<◌, List}
 use Rattle.script.specs.tier_device.declared.media.Media.{Ghosts}
 use Rattle.script.specs.tier_device.declared.media.Tier.{Tier}

@@ -17,7 +17,7 @@ pub record IsLineAnswered {S : Type 0} (answers : S → Option Asked → Answer 
   pub answer : Answer
   pub answered : answers old asks answer new
 
--- So many were, in their order.
+-- This number of them was, in their order.
 abbrev pub AreAnswered : {S : Type 0} → (S → Option Asked → Answer → S → Type 0) → (S → Option Asked → Bool) → ℕ → Option (List ℕ) → S → Option (List ℕ) → S → Type 0
 AreAnswered answers takes zero before old after new = (after ≡ before) × (new ≡ old)
 AreAnswered {S = S} answers takes (suc n) before old after new = (between : Option (List ℕ)) × (mid : S) × AreAnswered answers takes n before old between mid × IsLineAnswered answers takes between mid after new

@@ -1,4 +1,4 @@
-// A world tells of its shared area.
+// What a world answers of its shared area.
 ghost use Rattle.std.specs.Prelude.{◌≡◌, ◌⊎◌, Ok, Err, IfErr, IfOk, OnOk, false};
 ghost use Rattle.world_files.specs.recovery.call_effects.NodeView.{view_at};
 ghost use Rattle.world_files.specs.recovery.kernel_fs.KernelAnswers.{OnRefusal};
@@ -150,7 +150,7 @@ fn node_at<M: Media + Drop>(
     }
 }
 
-// How it is told that the shared area could not be read; no damage is found on media that are opened.
+// The answer if the shared area could not be read; no damage is found on media that are opened.
 fn area_fault(error: KernelError<AreaError>) -> Answer
     requires { OnRefusal error IsNoDamage }
     ensures { IsAreaFault error result }

@@ -1,4 +1,4 @@
-//! How it is told why there is no world.
+//! The lines that explain why there is no world.
 
 use script::RunError;
 use world_files::{FileProblem, RecoveryError, WorldFileError};

@@ -1,4 +1,4 @@
-//! How a medium comes to rest that is fenced: one that lies in a file.
+//! How a medium that is fenced, one that lies in a file, is brought to rest.
 
 ghost use Rattle.std.specs.Prelude.{◌≡◌, ℕ, List, IfErr, OnErr, OnOk};
 ghost use Rattle.world_files.specs.recovery.FaultOrMemory.{IsFaultOrMemory};

@@ -1,4 +1,4 @@
-//! How the media of a script's world come to rest behind a stop.
+//! How the media of a script's world are brought to rest after a stop.
 
 ghost use Rattle.std.specs.Prelude.{◌≡◌, ◌+◌, ◌/◌, ℕ, length, slice_get, IfErr, IfOk, OnErr, OnOk, Some};
 ghost use Rattle.world_files.specs.recovery.FaultOrMemory.{IsFaultOrMemory};

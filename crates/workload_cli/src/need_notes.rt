@@ -12,6 +12,7 @@ pub struct Noting<S> {
 }
 
 impl<S> Noting<S> {
+    /// Begins with no note.
     pub fn new(alloc: Global, system: S) -> Self {
         Noting {
             system,

@@ -1,4 +1,4 @@
-//! Media that come to rest behind a stop.
+//! Media that are brought to rest after a stop.
 
 ghost use Rattle.std.specs.Prelude.{ℕ, IfErr, OnErr, OnOk};
 ghost use Rattle.world_files.specs.recovery.FaultOrMemory.{IsFaultOrMemory};
@@ -11,7 +11,7 @@ use script::{Fill, Media};
 use std::alloc::Global;
 use world_files::RecoveryError;
 
-/// A medium that comes to rest behind a stop, so that what it holds can be recovered.
+/// A medium that is brought to rest after a stop, so that what it holds can be recovered.
 pub trait Resting: Media {
     /// What it holds once it rests, by the fill and what it was.
     ghost holds: { Fill → Self → Self → Type 0 };

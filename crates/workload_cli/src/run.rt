@@ -30,11 +30,11 @@ use world_files::{
 /// how large the media are.
 ///
 /// A line that is unreadable ends the run, with `line N: unreadable` on `err`. Only the line at hand is kept in memory, in `MAX_LINE` bytes that are taken before the first. Where memory is wanting later, the
-/// line's answer tells it and the run goes on. What was printed is flushed whenever the reader has nothing at hand, so that no answer waits for more of the script.
+/// line's answer says so and the run goes on. What was printed is flushed whenever the reader has nothing at hand, so that no answer waits for more of the script.
 ///
 /// With `--echo` each line is printed before its answer.
 ///
-/// With `--explain` a fault that leaves no world is told before it, on a line of its own: the structure and its place, or the rule that the sizes break.
+/// With `--explain` a fault that leaves no world is explained before it, on a line of its own: the structure and its place, or the rule that the sizes break.
 ///
 /// With `--rows` the input is a table of scripts, each with what it is to print: each is run over fresh media, and what differs is printed.
 ///
@@ -69,7 +69,7 @@ pub fn run_script<R: BufRead + Drop, O: Write, E: Write>(
     tell_end(flush_output(end, out), err)
 }
 
-// Tells how a table ended, and answers the exit status.
+// Prints how a table ended, and answers the exit status.
 fn end_table<O: Write, E: Write>(end: Result<bool, RunError>, out: &mut O, err: &mut E) -> u8 {
     match end {
         Ok(hold) => match tell_end(flush_output(Ok(()), out), err) {
@@ -80,7 +80,7 @@ fn end_table<O: Write, E: Write>(end: Result<bool, RunError>, out: &mut O, err: 
     }
 }
 
-// Tells why a run ended before the end of its script, and answers the exit status.
+// Prints why a run ended before the end of its script, and answers the exit status.
 fn tell_end<E: Write>(end: Result<(), ScriptError>, err: &mut E) -> u8 {
     match end {
         Ok(()) => 0,
@@ -240,7 +240,7 @@ fn disk_world(
     Ok(ScriptWorld::new(open_disk(rt, rt.alloc(), path, sizes)?, trips, false))
 }
 
-// Tells why there is no world: what is damaged with its place, or else the error.
+// Prints why there is no world: what is damaged with its place, or else the error.
 fn explain<E: Write>(error: &WorldFileError, err: &mut E) {
     let _ = match error {
         WorldFileError::Recovery(RecoveryError::Damaged { structure, block }) => {

@@ -13,7 +13,7 @@ use script::{PathText, Tier};
 use std::alloc::Global;
 use world_files::Figures;
 
-/// A running system that tells of its shared area. Where it can't tell, it answers why.
+/// A running system that answers questions on its shared area, or says why it can't.
 pub trait Running {
     /// Whether a device of the shared area has failed.
     ghost area_failed: { Self → Bool };

@@ -51,7 +51,7 @@ fn migrate<S: Events + Running>(
     }
 }
 
-// No run has as many blocks as 32 bits tell.
+// No run has more blocks than a `u32` counts.
 fn blocks_of(count: u64) -> u32
     ensures { result ≡ min count (2 ^ 32 - 1) }
 {

@@ -6,12 +6,12 @@ use Rattle.system_world.specs.event_steps.lease_manager.declared.view.LeaseMode.
 use Rattle.system_world.specs.event_steps.lease_manager.declared.view.LeaseMode.TheVariants.{Free}
 use Rattle.system_world.specs.event_steps.View.{SeatView, SystemView, seat_of}
 
--- what is told of a seat, and of none
+-- the answer for a seat, and for none
 abbrev pub slot_value : {M A : Type 0} → A → (SeatView M → A) → Option (SeatView M) → A
 slot_value none f None = none
 slot_value none f (Some s) = f s
 
--- what is told of a client's seat, and of a number that is no client's
+-- the answer for a client's seat, and for a number that is no client's
 abbrev pub at_client : {M A : Type 0} → SystemView M → ℕ → A → (SeatView M → A) → A
 at_client w client none f = if is_client client then slot_value none f (seat_of w client) else none
 

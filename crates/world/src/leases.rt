@@ -65,6 +65,7 @@ fn settle_at<M: Media>(system: &System<M>, client: u32, inode: u32)
     }
     match system.client(client) {
         Some(client) => {
+            // For the proof: between two calls no failed try for the lease is being taken out.
             let _mode = client.holds(inode);
         }
         None => {}

@@ -10,7 +10,7 @@ ghost use Rattle.world.specs.Snapshots.{entries_put};
 use std::alloc::{AllocError, Global};
 use system_world::{Effect, Kind, NodeSummary, PlainGraph, Record, SharedBytes};
 
-/// Makes an inode a file with so many names and these bytes.
+/// Makes an inode a file with `names` names and these bytes.
 pub(crate) fn put_file(
     graph: &mut PlainGraph,
     inode: u32,
@@ -28,7 +28,7 @@ pub(crate) fn put_file(
     })
 }
 
-/// Makes an inode a directory with so many names and the entries of a known one.
+/// Makes an inode a directory with `names` names and the entries of a known one.
 pub(crate) fn put_directory(
     alloc: Global,
     graph: &mut PlainGraph,
@@ -65,7 +65,7 @@ fn put_entries(
     Ok(())
 }
 
-// Makes an inode an empty node of a kind with so many names.
+// Makes an inode an empty node of a kind with `names` names.
 fn make_node(graph: &mut PlainGraph, inode: u32, kind: Kind, names: u32) -> Result<(), AllocError>
     ensures { OnOk result (graph_of graph.new ≡ set_node (graph_of graph.old) inode (Some (record { names = names; body = empty_body kind }))) }
 {

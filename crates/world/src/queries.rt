@@ -40,6 +40,7 @@ impl<M: Media> World<M> {
         ensures calls { self.new.calls ≡ self.old.calls }
         ensures tree { world_tree M.Media self.new ≡ world_tree M.Media self.old }
     {
+        // For the proof: what a stop leaves now, and that a system that was only looked at stands for the same world.
         left_now(&self.system);
         let found = self.system.look(inode);
         looked_system_stands_for_a_world::<M, Fetched>();
@@ -66,6 +67,7 @@ impl<M: Media> World<M> {
         ensures calls { self.new.calls ≡ self.old.calls }
         ensures tree { world_tree M.Media self.new ≡ world_tree M.Media self.old }
     {
+        // For the proof: what a stop leaves now, and that a system that was only looked at stands for the same world.
         left_now(&self.system);
         let found = self.system.read_file(inode, first, out);
         looked_system_stands_for_a_world::<M, FetchedBytes>();
@@ -88,13 +90,14 @@ impl<M: Media> World<M> {
         ensures calls { self.new.calls ≡ self.old.calls }
         ensures tree { world_tree M.Media self.new ≡ world_tree M.Media self.old }
     {
+        // For the proof: what a stop leaves now, and that a system that was only looked at stands for the same world.
         left_now(&self.system);
         let found = self.system.tier_of(inode, block);
         looked_system_stands_for_a_world::<M, Option<Tier>>();
         found
     }
 
-    /// What is to be moved to a tier next, as `Kernel::pick` tells it; it changes nothing. Refused as that is, and never for damage.
+    /// Picks the run that is to be moved to a tier next, as `Kernel::pick` does; it changes nothing. Refused as that is, and never for damage.
     pub fn pick(&mut self, to: Tier) -> Result<Option<FileRun>, KernelError<AreaError>>
         ensures picked { IfOk result (IsPicked self.old.system.kernel.area.geometry (disk M.Media self.old.system.kernel.area) to) }
         ensures may_be_moved { IfOk result (λ x. IfSome x (MayBeMoved self.old.system.kernel.area.geometry (disk M.Media self.old.system.kernel.area) to)) }
@@ -107,6 +110,7 @@ impl<M: Media> World<M> {
         ensures calls { self.new.calls ≡ self.old.calls }
         ensures tree { world_tree M.Media self.new ≡ world_tree M.Media self.old }
     {
+        // For the proof: what a stop leaves now, and that a system that was only looked at stands for the same world.
         left_now(&self.system);
         let found = self.system.pick(to);
         looked_system_stands_for_a_world::<M, Option<FileRun>>();

@@ -129,10 +129,7 @@ impl<M: Media> World<M> {
         ensures quiet { OnOk result (IsQuiet M.Media self.old self.new) }
         ensures refused { IfErr result (IsRefusedReading M.Media self.old self.new) }
     {
-        match self.look(inode) {
-            Ok(found) => Ok(found.node),
-            Err(error) => Err(error),
-        }
+        Ok(self.look(inode)?.node)
     }
 
     // All bytes of a file of the shared medium, whose size is known.
@@ -153,10 +150,8 @@ impl<M: Media> World<M> {
             Ok(bytes) => bytes,
             Err(_) => return Err(KernelError::Refused(AreaError::Memory)),
         };
-        match self.read_file(inode, 0, &mut bytes) {
-            Ok(_) => Ok(bytes),
-            Err(error) => Err(error),
-        }
+        self.read_file(inode, 0, &mut bytes)?;
+        Ok(bytes)
     }
 }
 

@@ -39,17 +39,21 @@ impl<M: Media> Recoverable<Event, Outcome> for World<M> {
 
 impl<M: Media + Drop> Steps<Event, Outcome> for World<M> {
     fn play_event(&mut self, event: &Event) -> Outcome {
+        // For the proof: what a stop leaves before the event, and that whoever fetches in it has no try for the lease being taken out.
         left_now(&self.system);
         settle_in_event(&self.system, event);
         let outcome = self.system.play(event);
+        // For the proof: leases exclude one another, and what a stop leaves behind the event.
         meet_in_event(&mut self.system, event);
         left_now(&self.system);
         self.notes = Notes::after(&self.notes, event, &outcome);
+        // For the proof: the event is a step of the world.
         played_event_is_a_step::<M>();
         outcome
     }
 
     fn left_now(&self) {
+        // For the proof: what a stop leaves now is recovered to the tree of now, with some of the calls that are not answered.
         left_now(&self.system);
         stop_between_events_is_recovered::<M>();
     }

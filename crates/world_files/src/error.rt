@@ -19,7 +19,7 @@ pub enum WorldFileError {
     /// No media have these sizes, by this rule.
     #[error("{0}")]
     Sizes(SizeRule),
-    /// At its front stands no superblock, or it has not the length that its superblock tells.
+    /// At its front stands no superblock, or its length is not the one that its superblock gives.
     #[error("the file holds no world")]
     NoWorld,
     /// What the file holds is no world's, or it can't be read.

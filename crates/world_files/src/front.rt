@@ -7,7 +7,7 @@ use crate::geometry::read_geometry;
 use crate::read_at::ReadAt;
 use recovery::{BLOCK, Geometry};
 
-/// The geometry that the superblock in the first block of a file tells; `NoWorld` where none stands there. Refused is a read that fails, too.
+/// Reads the geometry from the superblock in the first block of a file; `NoWorld` where none stands there. Refused is a read that fails, too.
 pub(crate) fn front_geometry<F: ReadAt>(file: &F) -> Result<Geometry, WorldFileError>
     ensures found { IfOk result (IsAtFront F.ReadAt file.now) }
     ensures refused { IfErr result (IsFrontRefused F.ReadAt file.now) }

@@ -13,7 +13,7 @@ use recovery::{BLOCK, Geometry, REGION_SIZE, REGIONS, Super};
 /// How many media a world has: the shared one, and the regions.
 pub(crate) const PARTS: usize = REGIONS + 1;
 
-/// The geometry that the superblock tells, which stands at the front of these bytes; `NoWorld` where none does.
+/// Reads the geometry from the superblock at the front of these bytes; `NoWorld` where none does.
 pub fn read_geometry(bytes: &[u8]) -> Result<Geometry, WorldFileError>
     ensures found { IfOk result (IsGeometryIn bytes.now) }
     ensures none { IfErr result (λ e. (geometry_in bytes.now ≡ None) × (e ≡ NoWorld)) }

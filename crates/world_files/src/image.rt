@@ -15,9 +15,9 @@ use host_media::{Media, MemMedia, image_of, read_image};
 use recovery::{Geometry, Parts};
 use std::alloc::Global;
 
-/// The media, at rest, whose bytes these are: first those of the shared medium, whose superblock tells the geometry, then those of the regions.
+/// The media, at rest, whose bytes these are: first those of the shared medium, whose superblock gives the geometry, then those of the regions.
 ///
-/// Refused are bytes at whose front no superblock stands, and bytes that are more or fewer than it tells (`NoWorld`, then always), and want of memory (`File`).
+/// Refused are bytes at whose front no superblock stands, and bytes that are more or fewer than it says (`NoWorld`, then always), and want of memory (`File`).
 pub fn read_parts(alloc: Global, image: &[u8]) -> Result<Parts<MemMedia>, WorldFileError>
     ensures read { IfOk result (AreRead ⟦<MemMedia as Media>⟧ image.now) }
     ensures refused { IfErr result (IsReadRefused image.now) }

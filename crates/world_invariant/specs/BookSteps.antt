@@ -10,7 +10,7 @@ use Rattle.world_invariant.specs.LeaseSteps.{also, without}
 
 -- ---- units
 
--- what is charged and out, and so many more units, fit
+-- what is charged and out, and `units` more units, fit
 abbrev pub HasRoom : Kernel → ℕ → Type 0
 HasRoom k units = charge k.shared + (sum_up_to MAX_CLIENTS (λ c. (k.accounts c).units) + units) ≤ k.capacity
 

@@ -165,7 +165,7 @@ rootless = idle_world (charge one_file) one_file
 abbrev pub with_bytes : List ℕ → Graph
 with_bytes bytes = set_node fresh 2 (Some (record { names = 0; body = FileBody bytes }))
 
--- so many zeros
+-- n zeros
 unfoldable pub zeros : ℕ → List ℕ
 zeros n = replicate n 0
 

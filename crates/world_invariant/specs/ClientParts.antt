@@ -58,7 +58,7 @@ pub record IsPinned (book pins : ℕ → Bool) (own : Own) : Type 0 where
 abbrev pub OpensPinned : (ℕ → Bool) → ℕ → Operation → Type 0
 OpensPinned pins new operation = (what : ℕ × Descriptor) → opens new operation ≡ Some what → pins what.1.inode ≡ true
 
--- by what the client knows, the begun call comes to its operation, and its record to the effects, which are not none; what it opens is
+-- by what the client knows, the begun call has its operation, and its record the effects, which are not none; what it opens is
 -- pinned, but where the client failed: that call is never answered
 pub record IsPending (status : Status) (k : Knowledge) (pins : ℕ → Bool) (b : Begun) : Type 0 where
   pub planned : IsPlanned k b.call b.new b.operation b.change.effects

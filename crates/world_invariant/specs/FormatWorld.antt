@@ -8,7 +8,7 @@ use Rattle.world_invariant.specs.World.{Client, Account, World, Wiped, Alive}
 abbrev pub knows_nothing : ℕ → Knowledge
 knows_nothing c = record { client = c; own = λ n. None; copies = λ i. None; blocks = λ i b. None; granted = λ i. false }
 
--- a client that holds nothing and has no record, after so many records
+-- a client that holds nothing and has no record, after `past` records
 abbrev pub idle_client : ℕ → ℕ → Client
 idle_client c past = record {
   knows = knows_nothing c;

@@ -8,7 +8,7 @@ use Rattle.world_invariant.specs.LeaseSteps.{also, without}
 
 -- ---- units
 
--- so many units are in the book and not the client's: they are on their way to it, or back
+-- `units` units are in the book and not the client's: they are on their way to it, or back
 pub record AreOnTheirWay (w : World) (c units : ℕ) : Type 0 where
   pub client : is_client c ≡ true
   pub booked : (w.clients c).spare + units_in (all_of w c) + units ≤ (w.kernel.accounts c).units

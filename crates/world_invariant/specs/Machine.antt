@@ -45,7 +45,7 @@ pub record IsRunning (m : Machine) : Type 0 where
   -- what is digested was accepted
   pub accepted : (c : ℕ) → is_client c ≡ true → (m.kernel.accounts c).mark ≤ m.accepted c
 
--- so many accepted records suit a client's regions: those that came before the sealed one, or also those of it, while it is away
+-- n accepted records suit a client's regions: those that came before the sealed one, or also those of it, while it is away
 abbrev pub IsAcceptedOf : ℕ → Client → Type 0
 IsAcceptedOf n p = (n ≡ p.past) ⊎ ((p.other ≡ Away) × (n ≡ p.past + length p.sealed))
 

@@ -11,7 +11,7 @@ use Rattle.call_effects.specs.Knowledge.{Knowledge}
 use Rattle.call_effects.specs.Wholes.{state_of}
 use Rattle.world_invariant.specs.Logs.{after_clients}
 
--- a call that has begun its record: the operation that it comes to, the number of a node that it makes, and the record
+-- a call that has begun its record: its operation, the number of a node that it makes, and the record
 pub record Begun : Type 0 where
   pub call : Call
   pub new : ℕ

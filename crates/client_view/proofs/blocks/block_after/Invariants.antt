@@ -4,8 +4,8 @@ use Rattle.std.specs.Option.{ForSome}
 use Rattle.client_view.specs.After.{block_laid}
 use Rattle.client_view.proofs.blocks.block_after.Given as goal
 
-abbrev pub invariant-loop-entry : goal.invariant-loop-entry
-invariant-loop-entry l = record {
-  laid : block_laid (drop l.entry-index l.records) l.inode l.block (option_map (λ n. take n l.buffer) l.laid) ≡ block_laid l.records l.inode l.block (option_map (λ n. take n l.fn.buffer) l.fn.len);
+abbrev pub invariant-loop-place : goal.invariant-loop-place
+invariant-loop-place l = record {
+  laid : block_laid (drop l.place l.records) l.inode l.block (option_map (λ n. take n l.buffer) l.laid) ≡ block_laid l.records l.inode l.block (option_map (λ n. take n l.fn.buffer) l.fn.len);
   within : ForSome l.laid (λ n. n ≤ 4096);
 }

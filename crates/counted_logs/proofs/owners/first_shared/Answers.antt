@@ -10,14 +10,14 @@ use Rattle.counted_logs.proofs.owners.first_shared.Goals as goal
 pub returns-in-Some : goal.returns-in-Some
 returns-in-Some c =
     let p = is_foreign (owner c.args.clients.now) c.args.client in (
-      hit_one (λ (r : Record). touches r.effects) c.args.records.now c.loop-entry.entry-index c.entry-item.result c.loop-entry-test.true c.entry-item.is
-          p c.in-Some.shared.inode (ap (λ (es : List Effect). find p (touches es)) (sym c.as_slice.ensures) ∙ c.in-Some.ensures.0) c.loop-entry.invariant,
+      hit_one (λ (r : Record). touches r.effects) c.args.records.now c.loop-logged.logged-index c.logged-item.result c.loop-logged-test.true c.logged-item.is
+          p c.in-Some.shared.inode (ap (λ (es : List Effect). find p (touches es)) (sym c.as_slice.ensures) ∙ c.in-Some.ensures.0) c.loop-logged.invariant,
       c.in-Some.ensures.1,
       c.in-Some.ensures.2,
     )
 
-pub loop-entry-preserved : goal.loop-entry-preserved
-loop-entry-preserved c =
+pub loop-logged-preserved : goal.loop-logged-preserved
+loop-logged-preserved c =
     let p = is_foreign (owner c.args.clients.now) c.args.client in
-    skip_one (λ (r : Record). touches r.effects) c.args.records.now c.loop-entry.entry-index c.entry-item.result c.loop-entry-test.true c.entry-item.is
-    p (ap (λ (es : List Effect). find p (touches es)) (sym c.as_slice.ensures) ∙ c.in_default.ensures) c.loop-entry.invariant
+    skip_one (λ (r : Record). touches r.effects) c.args.records.now c.loop-logged.logged-index c.logged-item.result c.loop-logged-test.true c.logged-item.is
+    p (ap (λ (es : List Effect). find p (touches es)) (sym c.as_slice.ensures) ∙ c.in_default.ensures) c.loop-logged.invariant

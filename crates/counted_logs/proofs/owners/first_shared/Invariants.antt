@@ -4,5 +4,5 @@ use Rattle.std.specs.Prelude.{find}
 use Rattle.counted_logs.specs.Owners.{is_foreign, owner, touched_inodes}
 use Rattle.counted_logs.proofs.owners.first_shared.Given as goal
 
-abbrev pub invariant-loop-entry : goal.invariant-loop-entry
-invariant-loop-entry l = find (is_foreign (owner l.clients) l.client) (touched_inodes (drop l.entry-index l.records)) ≡ find (is_foreign (owner l.clients) l.client) (touched_inodes l.records)
+abbrev pub invariant-loop-logged : goal.invariant-loop-logged
+invariant-loop-logged l = find (is_foreign (owner l.clients) l.client) (touched_inodes (drop l.logged-index l.records)) ≡ find (is_foreign (owner l.clients) l.client) (touched_inodes l.records)

@@ -4,5 +4,5 @@ use Rattle.update_log.specs.log_record.Grammar.{IsInode}
 use Rattle.counted_logs.specs.Owners.{owner, touched_inodes, with_owner}
 use Rattle.counted_logs.proofs.owners.own_records.Given as goal
 
-abbrev pub invariant-loop-entry : goal.invariant-loop-entry
-invariant-loop-entry l = (i : ℕ) → IsInode i → with_owner (owner l.clients) l.client (touched_inodes (drop l.entry-index l.records)) i ≡ with_owner (owner l.initial.clients) l.client (touched_inodes l.records) i
+abbrev pub invariant-loop-logged : goal.invariant-loop-logged
+invariant-loop-logged l = (i : ℕ) → IsInode i → with_owner (owner l.clients) l.client (touched_inodes (drop l.logged-index l.records)) i ≡ with_owner (owner l.initial.clients) l.client (touched_inodes l.records) i

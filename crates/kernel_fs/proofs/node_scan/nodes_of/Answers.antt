@@ -2,7 +2,6 @@ use Rattle.std.proofs.Common.{◌+◌, ◌∙◌, sym}
 use Rattle.digester.specs.layout.Places.{Sizes}
 use Rattle.digester.specs.area_image.Store.{Store, disk, graph}
 use Rattle.digester.specs.area_image.Looks.{call_answer}
-use Rattle.digester.specs.area_image.Map.{WantsMemory}
 use Rattle.digester.proofs.area_image_lemmas.Looked.{carried, carried_back, looks_on, looks_none}
 use Rattle.kernel_fs.specs.Inodes.{has}
 use Rattle.kernel_fs.specs.NodeScan.{AreNodesBelow}
@@ -36,8 +35,3 @@ pub returns-clause-nodes : goal.returns-clause-nodes
 returns-clause-nodes g c =
     let old = c.args.area.now in
     ends old.geometry (disk g.M.Media old) c.inodes.inode (has c.inodes.nodes) c.inodes-test.false c.inodes.invariant.below
-
-pub returns-in-Err-clause-memory : goal.returns-in-Err-clause-memory
-returns-in-Err-clause-memory g c = λ is.
-    let m = g.M.Media in
-    (c.inodes.inode, carried_back m (λ (x : Sizes) (s : Store). WantsMemory x s c.inodes.inode) c.args.area.now c.inodes.area call_answer c.inodes.invariant.looks (c.in-Err.ensures.memory is))

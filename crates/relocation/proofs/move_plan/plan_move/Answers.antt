@@ -12,13 +12,13 @@ moved_inode-requires-clause-is_file c = c.requires.3.run.file.within_file.kind_i
 pub moved_inode-requires-clause-places : goal.moved_inode-requires-clause-places
 moved_inode-requires-clause-places c =
     let g = c.requires.0 in
-    let to = c.args.to in
+    let to = c.args.moved.to in
     ends_below (data_first g to) (tier_blocks g to) (runs_of c.args.taken to) (tier_fits g to c.requires.2) (c.requires.3.took.free.apart to)
 
 pub moved_inode-requires-clause-few : goal.moved_inode-requires-clause-few
 moved_inode-requires-clause-few c =
     let file = c.requires.3.run.file in
-    let few = (slot_limits c.requires.0 c.args.file.slot file.fits).few in
+    let few = (slot_limits c.requires.0 c.args.moved.file.slot file.fits).few in
     let within = file.within_file.within in
     let many = c.requires.3.took.many in
     omega (arith, few, within, many)
@@ -26,7 +26,7 @@ moved_inode-requires-clause-few c =
 pub moved_inode-requires-clause-below : goal.moved_inode-requires-clause-below
 moved_inode-requires-clause-below c t k some =
     let file = c.requires.3.run.file in
-    let few = (slot_limits c.requires.0 c.args.file.slot file.fits).few in
+    let few = (slot_limits c.requires.0 c.args.moved.file.slot file.fits).few in
     let low = file.below t k some in
     omega (arith, few, low)
 
@@ -34,10 +34,10 @@ pub returns-in-Ok-clause-plan : goal.returns-in-Ok-clause-plan
 returns-in-Ok-clause-plan c g s ready =
     let out = c.rewrite_of.ensures in
     record {
-      file = c.args.file;
+      file = c.args.moved.file;
       slot = c.in-Ok.ensures.made.0;
       map = c.moved_inode.new.file.map;
-      is_plan = is_move_plan g s c.args.inode c.args.to c.args.file c.args.bytes.items c.args.lost c.args.taken ready c.in-Ok.ensures.made.0 c.moved_inode.new.file.map c.in-Ok.new.slots.items c.in-Ok.new.nodes c.in-Ok.new.left.items c.rewrite_of.result c.in-Ok.ensures.made.1
+      is_plan = is_move_plan g s c.args.moved.inode c.args.moved.to c.args.moved.file c.args.moved.bytes.items c.args.moved.lost c.args.taken ready c.in-Ok.ensures.made.0 c.moved_inode.new.file.map c.in-Ok.new.slots.items c.in-Ok.new.nodes c.in-Ok.new.left.items c.rewrite_of.result c.in-Ok.ensures.made.1
           out.slots out.marks out.nodes out.taken out.bytes out.left out.lost;
       first_is = refl;
       count_is = refl;

@@ -22,7 +22,7 @@ carry-requires-clause-pools g c = record {
   free = c.requires.settled.free;
   took = c.in-Ok.ensures.fronts;
   undo = c.in-Ok.ensures.undone;
-  room = room_still c.args.pools.now c.take_blocks.new.pools c.args.lost c.in-Ok.ensures.room c.requires.room;
+  room = room_still c.args.pools.now c.take_blocks.new.pools c.args.moved.lost c.in-Ok.ensures.room c.requires.room;
 }
 
 pub returns-in-Ok-clause-same : goal.returns-in-Ok-clause-same
@@ -31,7 +31,7 @@ returns-in-Ok-clause-same g c = err_with c.carry.result (same_free c.args.pools.
 pub returns-in-Ok-clause-enough : goal.returns-in-Ok-clause-enough
 returns-in-Ok-clause-enough g c =
     let old = c.args.pools.now in
-    on_ok c.carry.result (enough c.in-Ok.taken (spare_count (root_of c.args.file.slot c.args.to)) (length old.nodes.free) c.args.file.run.count (length (data_pool old c.args.to).free) c.in-Ok.ensures.few)
+    on_ok c.carry.result (enough c.in-Ok.taken (spare_count (root_of c.args.moved.file.slot c.args.moved.to)) (length old.nodes.free) c.args.moved.file.run.count (length (data_pool old c.args.moved.to).free) c.in-Ok.ensures.few)
 
 pub returns-in-Ok-clause-few : goal.returns-in-Ok-clause-few
 returns-in-Ok-clause-few g c is = absurd (forced_only c.carry.result NoBlock c.carry.ensures.only block_fault block_memory is)
@@ -43,11 +43,11 @@ pub returns-in-Err-clause-ends : goal.returns-in-Err-clause-ends
 returns-in-Err-clause-ends g c =
     let m = g.M.Media in
     let old = c.args.journal.now in
-    let f = c.args.file in
+    let f = c.args.moved.file in
     let pools = c.take_blocks.new.pools in
     let rests : Rests m old.geometry old.media = record { sizes = c.left_now.ensures.sizes c.requires.going; journal = c.left_now.ensures.journal c.requires.going; rest = c.requires.settled.rests } in
     let settled = settled_same old.geometry (m.seen old.media) (m.left old.media (m.moment old.media)) c.args.pools.now pools c.in-Err.ensures.err c.requires.settled in
-    ends_refused m g.met.M.Media.sized c.args.inode f.run.first f.run.count c.args.to old old pools c.from.result (not_fault c.in-Err.error c.from.result c.from.ensures).0 rests
+    ends_refused m g.met.M.Media.sized c.args.moved.inode f.run.first f.run.count c.args.moved.to old old pools c.from.result (not_fault c.in-Err.error c.from.result c.from.ensures).0 rests
     (still_self m g.met.M.Media.sized old) refl c.requires.going refl settled
 
 pub returns-in-Err-clause-few : goal.returns-in-Err-clause-few
@@ -56,7 +56,7 @@ returns-in-Err-clause-few g c is =
     let pools = c.args.pools.now in
     let settled = c.requires.settled in
     let some = c.nodes_never_run_out.ensures.spare old.geometry (disk g.M.Media old) pools settled.opens.spelled settled.opens.units settled.free in
-    too_few c.in-Err.error c.from.result (root_of c.args.file.slot c.args.to) (length pools.nodes.free) c.args.file.run.count (length (data_pool pools c.args.to).free) c.from.ensures c.in-Err.ensures.few some is
+    too_few c.in-Err.error c.from.result (root_of c.args.moved.file.slot c.args.moved.to) (length pools.nodes.free) c.args.moved.file.run.count (length (data_pool pools c.args.moved.to).free) c.from.ensures c.in-Err.ensures.few some is
 
 pub returns-in-Err-clause-mapped : goal.returns-in-Err-clause-mapped
 returns-in-Err-clause-mapped g c = (not_fault c.in-Err.error c.from.result c.from.ensures).1

@@ -9,7 +9,7 @@ use Rattle.relocation.proofs.run_move.move_bytes.Goals as goal
 
 pub lost_places-requires : goal.lost_places-requires
 lost_places-requires g c =
-    let few = (slot_limits c.args.journal.now.geometry c.args.file.slot c.requires.file.fits).few in
+    let few = (slot_limits c.args.journal.now.geometry c.args.moved.file.slot c.requires.file.fits).few in
     let within = c.requires.file.within_file.within in
     omega (arith, few, within)
 
@@ -29,20 +29,20 @@ pub returns-in-Ok-clause-same : goal.returns-in-Ok-clause-same
 returns-in-Ok-clause-same g c = err_with c.allocate_run.result (same_then c.args.pools.now c.lost_places.new.pools c.allocate_run.new.pools c.lost_places.ensures.same) c.allocate_run.ensures.same
 
 pub returns-in-Ok-clause-enough : goal.returns-in-Ok-clause-enough
-returns-in-Ok-clause-enough g c = subst (λ n. OnOk c.allocate_run.result (c.args.file.run.count ≤ n)) (same_count c.args.pools.now c.lost_places.new.pools c.lost_places.ensures.same c.args.to) c.allocate_run.ensures.enough
+returns-in-Ok-clause-enough g c = subst (λ n. OnOk c.allocate_run.result (c.args.moved.file.run.count ≤ n)) (same_count c.args.pools.now c.lost_places.new.pools c.lost_places.ensures.same c.args.moved.to) c.allocate_run.ensures.enough
 
 pub returns-in-Ok-clause-few : goal.returns-in-Ok-clause-few
-returns-in-Ok-clause-few g c is = subst (λ n. n < c.args.file.run.count) (same_count c.args.pools.now c.lost_places.new.pools c.lost_places.ensures.same c.args.to) (c.allocate_run.ensures.few is)
+returns-in-Ok-clause-few g c is = subst (λ n. n < c.args.moved.file.run.count) (same_count c.args.pools.now c.lost_places.new.pools c.lost_places.ensures.same c.args.moved.to) (c.allocate_run.ensures.few is)
 
 pub returns-in-Err-clause-ends : goal.returns-in-Err-clause-ends
 returns-in-Err-clause-ends g c =
     let m = g.M.Media in
     let old = c.args.journal.now in
-    let f = c.args.file in
+    let f = c.args.moved.file in
     let pools = c.lost_places.new.pools in
     let rests : Rests m old.geometry old.media = record { sizes = c.left_now.ensures.sizes c.requires.going; journal = c.left_now.ensures.journal c.requires.going; rest = c.requires.settled.rests } in
     let settled = settled_same old.geometry (m.seen old.media) (m.left old.media (m.moment old.media)) c.args.pools.now pools c.lost_places.ensures.same c.requires.settled in
-    ends_refused m g.met.M.Media.sized c.args.inode f.run.first f.run.count c.args.to old old pools Memory memory_fault rests (still_self m g.met.M.Media.sized old) refl c.requires.going refl settled
+    ends_refused m g.met.M.Media.sized c.args.moved.inode f.run.first f.run.count c.args.moved.to old old pools Memory memory_fault rests (still_self m g.met.M.Media.sized old) refl c.requires.going refl settled
 
 pub returns-in-Err-clause-few : goal.returns-in-Err-clause-few
 returns-in-Err-clause-few g c is = absurd (memory_block (err_same Memory NoBlock is))

@@ -14,37 +14,37 @@ use Rattle.relocation.proofs.run_move.move_run.Goals as goal
 
 -- ---- where too few blocks are free
 
-pub returns-then-free-file-clause-ends : goal.returns-then-free-file-clause-ends
-returns-then-free-file-clause-ends g c =
+pub returns-then-free-moved-clause-ends : goal.returns-then-free-moved-clause-ends
+returns-then-free-moved-clause-ends g c =
     let m = g.M.Media in
     let old = c.args.journal.now in
-    let f = c.args.file in
+    let f = c.args.moved.file in
     let rests : Rests m old.geometry old.media = record { sizes = c.left_now.ensures.sizes c.requires.going; journal = c.left_now.ensures.journal c.requires.going; rest = c.requires.settled.rests } in
-    ends_refused m g.met.M.Media.sized c.args.inode f.run.first f.run.count c.args.to old old c.args.pools.now NoBlock block_fault rests (still_self m g.met.M.Media.sized old) refl c.requires.going refl c.requires.settled
+    ends_refused m g.met.M.Media.sized c.args.moved.inode f.run.first f.run.count c.args.moved.to old old c.args.pools.now NoBlock block_fault rests (still_self m g.met.M.Media.sized old) refl c.requires.going refl c.requires.settled
 
-pub returns-then-free-file-clause-same : goal.returns-then-free-file-clause-same
-returns-then-free-file-clause-same g c = same_self c.args.pools.now
+pub returns-then-free-moved-clause-same : goal.returns-then-free-moved-clause-same
+returns-then-free-moved-clause-same g c = same_self c.args.pools.now
 
-pub returns-then-free-file-clause-few : goal.returns-then-free-file-clause-few
-returns-then-free-file-clause-few g c is = subst (λ (n : ℕ). n < c.args.file.run.count) c.free-free.ensures.count c.if-free-file.true
+pub returns-then-free-moved-clause-few : goal.returns-then-free-moved-clause-few
+returns-then-free-moved-clause-few g c is = subst (λ (n : ℕ). n < c.args.moved.file.run.count) c.free-free.ensures.count c.if-free-moved.true
 
-pub returns-then-free-file-clause-mapped : goal.returns-then-free-file-clause-mapped
-returns-then-free-file-clause-mapped g c = block_mapped
+pub returns-then-free-moved-clause-mapped : goal.returns-then-free-moved-clause-mapped
+returns-then-free-moved-clause-mapped g c = block_mapped
 
 -- ---- else
 
 pub read_run-requires-clause-few : goal.read_run-requires-clause-few
 read_run-requires-clause-few g c =
-    let few = (slot_limits c.args.journal.now.geometry c.args.file.slot c.requires.file.fits).few in
+    let few = (slot_limits c.args.journal.now.geometry c.args.moved.file.slot c.requires.file.fits).few in
     let within = c.requires.file.within_file.within in
     omega (arith, few, within)
 
 pub read_run-requires-clause-once : goal.read_run-requires-clause-once
-read_run-requires-clause-once g c = (c.requires.settled.opens.spelled.inodes c.args.inode c.requires.file.number).once
+read_run-requires-clause-once g c = (c.requires.settled.opens.spelled.inodes c.args.moved.inode c.requires.file.number).once
 
 pub read_run-requires-clause-lie : goal.read_run-requires-clause-lie
 read_run-requires-clause-lie g c n lt =
-    let f = c.args.file in
+    let f = c.args.moved.file in
     let a = c.requires.file.can.above (f.run.first + n) (inside f.run.first f.run.count (f.run.first + n) (omega arith) (omega (arith, lt))) in
     (a.0, subst IsSome (sym (c.requires.file.places a.0 (f.run.first + n))) a.2)
 
@@ -63,30 +63,30 @@ move_bytes-requires-clause-settled g c =
 pub move_bytes-requires-clause-file : goal.move_bytes-requires-clause-file
 move_bytes-requires-clause-file g c =
     let m = g.M.Media in
-    let f = c.args.file in
-    carried m (λ h s. IsMovableRun h s c.args.inode f.run.first f.run.count c.args.to f) c.args.journal.now c.read_run.new.journal _ c.in-Ok.ensures.looks c.requires.file
+    let f = c.args.moved.file in
+    carried m (λ h s. IsMovableRun h s c.args.moved.inode f.run.first f.run.count c.args.moved.to f) c.args.journal.now c.read_run.new.journal _ c.in-Ok.ensures.looks c.requires.file
 
 pub move_bytes-requires-clause-holds : goal.move_bytes-requires-clause-holds
 move_bytes-requires-clause-holds g c =
     let m = g.M.Media in
-    let f = c.args.file in
-    carried m (λ h s. HoldsRun (logical_block h s c.args.inode) f.run.first f.run.count c.in-Ok.bytes.items) c.args.journal.now c.read_run.new.journal _ c.in-Ok.ensures.looks c.in-Ok.ensures.bytes
+    let f = c.args.moved.file in
+    carried m (λ h s. HoldsRun (logical_block h s c.args.moved.inode) f.run.first f.run.count c.in-Ok.bytes.items) c.args.journal.now c.read_run.new.journal _ c.in-Ok.ensures.looks c.in-Ok.ensures.bytes
 
 pub returns-in-Ok-clause-ends : goal.returns-in-Ok-clause-ends
 returns-in-Ok-clause-ends g c =
     let m = g.M.Media in
-    let f = c.args.file in
+    let f = c.args.moved.file in
     let looks = c.in-Ok.ensures.looks in
-    ends_on m g.met.M.Media.sized c.args.inode f.run.first f.run.count c.args.to c.args.journal.now c.read_run.new.journal c.move_bytes.new.journal c.move_bytes.new.pools c.move_bytes.result looks.unmoved looks.geometry looks.quiet
+    ends_on m g.met.M.Media.sized c.args.moved.inode f.run.first f.run.count c.args.moved.to c.args.journal.now c.read_run.new.journal c.move_bytes.new.journal c.move_bytes.new.pools c.move_bytes.result looks.unmoved looks.geometry looks.quiet
     c.move_bytes.ensures.ends
 
 pub returns-in-Err-clause-ends : goal.returns-in-Err-clause-ends
 returns-in-Err-clause-ends g c =
     let m = g.M.Media in
     let old = c.args.journal.now in
-    let f = c.args.file in
+    let f = c.args.moved.file in
     let rests : Rests m old.geometry old.media = record { sizes = c.left_now.ensures.sizes c.requires.going; journal = c.left_now.ensures.journal c.requires.going; rest = c.requires.settled.rests } in
-    ends_told m g.met.M.Media.sized c.args.inode f.run.first f.run.count c.args.to old c.read_run.new.journal c.args.pools.now c.in-Err.error c.relocate_error.result c.relocate_error.ensures c.in-Err.ensures.looks c.requires.going rests c.requires.settled
+    ends_told m g.met.M.Media.sized c.args.moved.inode f.run.first f.run.count c.args.moved.to old c.read_run.new.journal c.args.pools.now c.in-Err.error c.relocate_error.result c.relocate_error.ensures c.in-Err.ensures.looks c.requires.going rests c.requires.settled
 
 pub returns-in-Err-clause-same : goal.returns-in-Err-clause-same
 returns-in-Err-clause-same g c = same_self c.args.pools.now

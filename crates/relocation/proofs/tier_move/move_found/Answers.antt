@@ -26,9 +26,9 @@ move_run-requires-clause-file g c =
     let old = c.args.journal.now in
     let there = c.in-Ok-Some in
     let f = there.file in
-    let is = found_run old.geometry (disk g.M.Media old) c.args.inode c.args.first c.args.count c.args.to c.in-Ok-Some.field-0 c.in-Ok-Some.file c.in-Ok-Some.field-0-is c.in-Ok-Some.ensures.found in
-    carried m (λ h s. IsMovableRun h s c.args.inode f.run.first f.run.count c.args.to f) old c.find_run.new.journal _ there.ensures.looks
-    (own_run old.geometry (disk m old) c.args.inode c.args.first c.args.count c.args.to f is)
+    let is = found_run old.geometry (disk g.M.Media old) c.args.run.inode c.args.run.first c.args.run.count c.args.to c.in-Ok-Some.field-0 c.in-Ok-Some.file c.in-Ok-Some.field-0-is c.in-Ok-Some.ensures.found in
+    carried m (λ h s. IsMovableRun h s c.args.run.inode f.run.first f.run.count c.args.to f) old c.find_run.new.journal _ there.ensures.looks
+    (own_run old.geometry (disk m old) c.args.run.inode c.args.run.first c.args.run.count c.args.to f is)
 
 pub returns-in-Ok-Some-clause-ends : goal.returns-in-Ok-Some-clause-ends
 returns-in-Ok-Some-clause-ends g c =
@@ -36,18 +36,18 @@ returns-in-Ok-Some-clause-ends g c =
     let old = c.args.journal.now in
     let new = c.move_run.new.journal in
     let f = c.in-Ok-Some.file in
-    let is = found_run old.geometry (disk g.M.Media old) c.args.inode c.args.first c.args.count c.args.to c.in-Ok-Some.field-0 c.in-Ok-Some.file c.in-Ok-Some.field-0-is c.in-Ok-Some.ensures.found in
+    let is = found_run old.geometry (disk g.M.Media old) c.args.run.inode c.args.run.first c.args.run.count c.args.to c.in-Ok-Some.field-0 c.in-Ok-Some.file c.in-Ok-Some.field-0-is c.in-Ok-Some.ensures.found in
     let looks = c.in-Ok-Some.ensures.looks in
-    let ends = ends_on m g.met.M.Media.sized c.args.inode f.run.first f.run.count c.args.to old c.find_run.new.journal new c.move_run.new.pools c.move_run.result looks.unmoved looks.geometry looks.quiet c.move_run.ensures.ends in
-    subst (λ (n : ℕ). Ends m c.args.inode c.args.first n c.args.to old new c.move_run.new.pools c.move_run.result) is.count_is (
-    subst (λ (n : ℕ). Ends m c.args.inode n f.run.count c.args.to old new c.move_run.new.pools c.move_run.result) is.first_is ends
+    let ends = ends_on m g.met.M.Media.sized c.args.run.inode f.run.first f.run.count c.args.to old c.find_run.new.journal new c.move_run.new.pools c.move_run.result looks.unmoved looks.geometry looks.quiet c.move_run.ensures.ends in
+    subst (λ (n : ℕ). Ends m c.args.run.inode c.args.run.first n c.args.to old new c.move_run.new.pools c.move_run.result) is.count_is (
+    subst (λ (n : ℕ). Ends m c.args.run.inode n f.run.count c.args.to old new c.move_run.new.pools c.move_run.result) is.first_is ends
     )
 
 pub returns-in-Ok-Some-clause-can : goal.returns-in-Ok-Some-clause-can
 returns-in-Ok-Some-clause-can g c =
     let old = c.args.journal.now in
     let free = length (data_pool c.args.pools.now c.args.to).free in
-    let is = found_run old.geometry (disk g.M.Media old) c.args.inode c.args.first c.args.count c.args.to c.in-Ok-Some.field-0 c.in-Ok-Some.file c.in-Ok-Some.field-0-is c.in-Ok-Some.ensures.found in
+    let is = found_run old.geometry (disk g.M.Media old) c.args.run.inode c.args.run.first c.args.run.count c.args.to c.in-Ok-Some.field-0 c.in-Ok-Some.file c.in-Ok-Some.field-0-is c.in-Ok-Some.ensures.found in
     ok_with c.move_run.result (λ (enough : c.in-Ok-Some.file.run.count ≤ length (data_pool c.args.pools.now c.args.to).free). (is.can, subst (λ (n : ℕ). n ≤ free) is.count_is enough)) c.move_run.ensures.enough
 
 pub returns-in-Ok-Some-clause-not_mapped : goal.returns-in-Ok-Some-clause-not_mapped
@@ -57,14 +57,14 @@ pub returns-in-Ok-Some-clause-no_block : goal.returns-in-Ok-Some-clause-no_block
 returns-in-Ok-Some-clause-no_block g c none =
     let old = c.args.journal.now in
     let free = length (data_pool c.args.pools.now c.args.to).free in
-    let is = found_run old.geometry (disk g.M.Media old) c.args.inode c.args.first c.args.count c.args.to c.in-Ok-Some.field-0 c.in-Ok-Some.file c.in-Ok-Some.field-0-is c.in-Ok-Some.ensures.found in
+    let is = found_run old.geometry (disk g.M.Media old) c.args.run.inode c.args.run.first c.args.run.count c.args.to c.in-Ok-Some.field-0 c.in-Ok-Some.file c.in-Ok-Some.field-0-is c.in-Ok-Some.ensures.found in
     (is.can, subst (λ (n : ℕ). free < n) is.count_is (c.move_run.ensures.few none))
 
 pub returns-in-Ok-Some-clause-memory : goal.returns-in-Ok-Some-clause-memory
 returns-in-Ok-Some-clause-memory g c full =
     let old = c.args.journal.now in
     let f = c.in-Ok-Some.file in
-    let is = found_run old.geometry (disk g.M.Media old) c.args.inode c.args.first c.args.count c.args.to c.in-Ok-Some.field-0 f c.in-Ok-Some.field-0-is c.in-Ok-Some.ensures.found in
+    let is = found_run old.geometry (disk g.M.Media old) c.args.run.inode c.args.run.first c.args.run.count c.args.to c.in-Ok-Some.field-0 f c.in-Ok-Some.field-0-is c.in-Ok-Some.ensures.found in
     record { file = f.slot; slot_is = is.slot_is; within = is.within_file }
 
 pub returns-in-Ok-None-clause-ends : goal.returns-in-Ok-None-clause-ends
@@ -73,7 +73,7 @@ returns-in-Ok-None-clause-ends g c =
     let old = c.args.journal.now in
     let rests : Rests m old.geometry old.media = record { sizes = c.left_now.ensures.sizes c.requires.going; journal = c.left_now.ensures.journal c.requires.going; rest = c.requires.settled.rests } in
     let looks = c.in-Ok-None.ensures.looks in
-    ends_refused m g.met.M.Media.sized c.args.inode c.args.first c.args.count c.args.to old c.find_run.new.journal c.args.pools.now NotMapped mapped_fault rests looks.unmoved looks.geometry looks.going.1 looks.quiet c.requires.settled
+    ends_refused m g.met.M.Media.sized c.args.run.inode c.args.run.first c.args.run.count c.args.to old c.find_run.new.journal c.args.pools.now NotMapped mapped_fault rests looks.unmoved looks.geometry looks.going.1 looks.quiet c.requires.settled
 
 pub returns-in-Ok-None-clause-same : goal.returns-in-Ok-None-clause-same
 returns-in-Ok-None-clause-same g c = same_self c.args.pools.now
@@ -92,7 +92,7 @@ returns-in-Err-clause-ends g c =
     let m = g.M.Media in
     let old = c.args.journal.now in
     let rests : Rests m old.geometry old.media = record { sizes = c.left_now.ensures.sizes c.requires.going; journal = c.left_now.ensures.journal c.requires.going; rest = c.requires.settled.rests } in
-    ends_told m g.met.M.Media.sized c.args.inode c.args.first c.args.count c.args.to old c.find_run.new.journal c.args.pools.now c.in-Err.error c.relocate_error.result c.relocate_error.ensures c.in-Err.ensures.looks c.requires.going rests c.requires.settled
+    ends_told m g.met.M.Media.sized c.args.run.inode c.args.run.first c.args.run.count c.args.to old c.find_run.new.journal c.args.pools.now c.in-Err.error c.relocate_error.result c.relocate_error.ensures c.in-Err.ensures.looks c.requires.going rests c.requires.settled
 
 pub returns-in-Err-clause-same : goal.returns-in-Err-clause-same
 returns-in-Err-clause-same g c = same_self c.args.pools.now

@@ -65,7 +65,7 @@ returns-clause-quiet g c = c.move_found.ensures.ends.quiet
 pub returns-clause-at_most : goal.returns-clause-at_most
 returns-clause-at_most g c =
     let old = c.args.journal.now in
-    few_calls old.geometry (disk g.M.Media old) c.args.to c.args.count (g.M.Media.moment old.media) (g.M.Media.moment c.move_found.new.journal.media) c.move_found.ensures.ends.few
+    few_calls old.geometry (disk g.M.Media old) c.args.to c.args.run.count (g.M.Media.moment old.media) (g.M.Media.moment c.move_found.new.journal.media) c.move_found.ensures.ends.few
 
 pub returns-clause-few : goal.returns-clause-few
 returns-clause-few g c = c.move_found.ensures.ends.few

@@ -16,7 +16,7 @@ returns g c =
     let same : c.as_slice.result.now ≡ c.args.name.now = c.as_slice.ensures.bytes ∙ c.in_ok-name.ensures.name.0 in
     let path = name_has_path c.args.self.now.nodes c.args.folder c.args.name.now c.as_slice.result.now _ c.in_ok-name.ensures.name.1 same c.in_ok-path.ensures.path in
     let opened = rw (c.deref.ensures.value, c.creation.ensures) at c.in_ok-number.ensures in
-    let told = rw c.deref-2.ensures.value at c.tell_of.ensures in
+    let described = rw c.deref-2.ensures.value at c.tell_of.ensures in
     inr (
       c.in_ok-path.path.items,
       path,
@@ -28,8 +28,8 @@ returns g c =
         opens = opened.2;
         asked = c.close_number.new.tree;
         next = c.close_number.ensures;
-        told = c.tell_of.new.tree;
-        tells = told;
+        described = c.tell_of.new.tree;
+        describes = described;
         rest = upkeep_none g.T.Tree _;
       }),
     )

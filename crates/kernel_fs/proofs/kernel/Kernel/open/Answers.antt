@@ -1,6 +1,7 @@
-use Rattle.std.proofs.Common.{ap}
+use Rattle.std.proofs.Common.{ap, sym, subst}
 use Rattle.digester.proofs.batch_journal_lemmas.Courses.{tiers_same}
 use Rattle.digester.specs.area_image.Store.{store_of, graph}
+use Rattle.digester.specs.shared_area.Parts.{IsNoDamage}
 use Rattle.kernel_fs.specs.Inodes.{has}
 use Rattle.kernel_fs.proofs.MediaSteps.{moved_nodes, opened_kernel}
 use Rattle.kernel_fs.proofs.Runs.{begins}
@@ -20,3 +21,9 @@ pub returns-in-Ok-clause-opens : goal.returns-in-Ok-clause-opens
 returns-in-Ok-clause-opens g c =
     let m = g.M.Media in
     opened_kernel m c.nodes_of.new.area c.new.result c.marks-marks.result (c.marks-marks.ensures c.in-Ok.ensures.looks.going.1) c.new.ensures.opens
+
+pub returns-in-Err-clause-only : goal.returns-in-Err-clause-only
+returns-in-Err-clause-only g c = subst IsNoDamage (sym c.in-Err.ensures.only) tt
+
+pub returns-in-Err-clause-memory : goal.returns-in-Err-clause-memory
+returns-in-Err-clause-memory g c = λ is. absurd (let fault = c.in-Err.ensures.only in cc (is, fault))

@@ -1,12 +1,13 @@
-use Rattle.std.proofs.Common.{ℕ, List, ap, sym, ◌∙◌, subst}
+use Rattle.std.proofs.Common.{◌≡◌, ◌≤◌, ℕ, List, ap, sym, ◌∙◌, subst, arith}
 use Rattle.std.specs.Prelude.{◌+◌, ◌||◌}
 use Rattle.lease_manager.specs.file_graph.Graph.{is_among}
+use Rattle.kernel_fs.specs.Free.{count_of}
 use Rattle.kernel_fs.specs.Inodes.{has}
 use Rattle.kernel_fs.specs.Steps.{grant}
 use Rattle.kernel_fs.specs.MachineState.{IsKernelOf}
 use Rattle.libfs.specs.NeedService.{HasRefilled}
 use Rattle.libfs.specs.View.{ClientView}
-use Rattle.libfs.proofs.Granted.{refilled}
+use Rattle.libfs.proofs.Granted.{few_inodes, refilled}
 use Rattle.libfs.proofs.Kept.{sound_numbers}
 use Rattle.libfs.proofs.client.Client.refill.Goals as goal
 
@@ -14,6 +15,15 @@ pub invariant_of-self : goal.invariant_of-self
 invariant_of-self g c =
     let s = c.self.inside in
     sound_numbers g.M.Media s.leases s.pass s.log s.copies s.begun s.answered s.records c.self.invariant c.put_numbers.new.self c.add_all.new.numbers.items c.put_numbers.ensures
+
+pub add_all-requires-clause-count : goal.add_all-requires-clause-count
+add_all-requires-clause-count g c = c.in-Ok-refill.ensures.granted.count
+
+pub add_all-requires-clause-room : goal.add_all-requires-clause-room
+add_all-requires-clause-room g c =
+    let count : count_of (has c.in-Ok-refill.more) ≡ c.args.inodes = c.in-Ok-refill.ensures.granted.count in
+    let few : count_of (has c.in-Ok-refill.more) ≤ 1024 = few_inodes (has c.in-Ok-refill.more) in
+    c.in-Ok.ensures.room (omega (arith, count, few))
 
 pub returns-in-Ok-refill-clause-refilled : goal.returns-in-Ok-refill-clause-refilled
 returns-in-Ok-refill-clause-refilled g c =

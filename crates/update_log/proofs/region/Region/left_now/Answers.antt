@@ -1,12 +1,12 @@
 use Rattle.std.proofs.Common.{◌≡◌, ◌≢◌, List, [], ℕ, subst}
 use Rattle.tier_device.specs.declared.media.Tier.TheVariants.{Fast}
-use Rattle.update_log.specs.Stage.{IsIdle}
-use Rattle.update_log.specs.Frames.{records, end_behind}
+use Rattle.update_log.specs.Stage.{IsIdle, IsUnopened}
+use Rattle.update_log.specs.Frames.{records, header, end_behind}
 use Rattle.update_log.specs.View.{RegionView, WithOrWithout, header_of, records_of, begun_of}
 use Rattle.update_log.proofs.Ends.{sound_ends}
 use Rattle.update_log.specs.Wipe.{IsWiping}
 use Rattle.update_log.specs.WipeStops.{LeftInWipe, records_behind_gate}
-use Rattle.update_log.proofs.Views.{idle_now, either_now}
+use Rattle.update_log.proofs.Views.{idle_now, either_now, unopened_now}
 use Rattle.update_log.proofs.WipeViews.{wiping_shows, behind_records}
 use Rattle.update_log.proofs.region.Region.left_now.Goals as goal
 
@@ -23,6 +23,13 @@ returns-clause-idle g c =
     let s = c.self.inside in
     subst (λ (v : RegionView _). IsIdle v.stage → (d : List ℕ) → m.left v.media (m.moment v.media) Fast d → (d ≡ m.seen v.media Fast) × (records d ≡ records_of m v))
     c.self.view_is (idle_now s.end s.stage s.body (m.seen s.media Fast) (λ d. m.left s.media (m.moment s.media) Fast d) c.self.invariant)
+
+pub returns-clause-unopened : goal.returns-clause-unopened
+returns-clause-unopened g c =
+    let m = g.M.Media in
+    let s = c.self.inside in
+    subst (λ (v : RegionView _). IsUnopened v.stage → (d : List ℕ) → m.left v.media (m.moment v.media) Fast d → (header d ≡ header_of m v) × (records d ≡ records_of m v))
+    c.self.view_is (unopened_now s.end s.stage s.body (m.seen s.media Fast) (λ d. m.left s.media (m.moment s.media) Fast d) c.self.invariant)
 
 pub returns-clause-end : goal.returns-clause-end
 returns-clause-end g c =

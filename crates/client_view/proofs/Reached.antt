@@ -1,0 +1,113 @@
+-- Which blocks of files a record changes, and which it leaves.
+use Rattle.std.proofs.Common.{◌≡◌, ◌<◌, ◌≤◌, inl, inr, ◌⊎◌, ℕ, zero, suc, ◌+◌, ◌-◌, ◌*◌, Bool, true, false, cond, List, [], ◌∷◌, ◌++◌, length, take, drop, replicate, get_or, Option, Some, refl, ap, sym, ◌∙◌, subst, arith}
+use Rattle.std.specs.Prelude.{◌==◌, ◌&&◌, ◌||◌, nat_lt}
+use Rattle.std.specs.List.{AllByRecursion}
+use Rattle.std.proofs.lemmas.List.{take_all, drop_all}
+use Rattle.std.proofs.lemmas.Bool.Decides.{nat_tests}
+use Rattle.client_plan.specs.posix_calls.Content.{with_bytes}
+use Rattle.client_plan.specs.file_graph.Graph.{is_among, subjects}
+use Rattle.client_plan.specs.file_graph.declared.effect.Effect.{Effect}
+use Rattle.client_plan.specs.file_graph.declared.effect.Effect.TheVariants as effect
+use Rattle.client_plan.specs.log_record.declared.format.Record.{Record}
+use Rattle.client_plan.specs.log_record.Grammar.{IsRecord}
+use Rattle.world_invariant.specs.call_effects.Blocks.{block_acted, block_written}
+use Rattle.record_validation.proofs.Steps.{on_one}
+use Rattle.client_view.specs.RecordReach.{AreReaches, IsReachOf}
+use Rattle.client_view.specs.declared.record_reach.RecordReach.{RecordReach}
+use Rattle.client_view.specs.declared.record_reach.RecordReach.TheVariants as reach
+use Rattle.client_view.proofs.Buffers.{behind_all, none_more}
+
+-- ---- a write that leaves a block
+
+nothing_put : (old : List ℕ) → with_bytes 0 [] old ≡ old
+nothing_put old = let none : 0 - length old ≡ 0 = omega arith in ap (λ n. ((take 0 old ++ replicate n 0) ++ []) ++ drop (0 + 0) old) none
+
+pub ends_before : (at b : ℕ) (new old : List ℕ) → length old ≤ 4096 → at + length new ≤ 4096 * b → block_written at new b old ≡ old
+ends_before at b new old short less =
+    let first : at - 4096 * b ≡ 0 = omega (arith, less) in
+    let none : drop (4096 * b - at) new ≡ [] = drop_all (4096 * b - at) new (omega (arith, less)) in
+    ap (λ n. take 4096 (with_bytes n (drop (4096 * b - at) new) old)) first
+    ∙ ap (λ xs. take 4096 (with_bytes 0 xs old)) none
+    ∙ ap (take 4096) (nothing_put old)
+    ∙ take_all 4096 old short
+
+pub begins_behind : (at b : ℕ) (new old : List ℕ) → length old ≤ 4096 → 4096 ≤ length old → 4096 * b + 4096 ≤ at → block_written at new b old ≡ old
+begins_behind at b new old short whole behind =
+    behind_all 4096 (at - 4096 * b) (drop (4096 * b - at) new) old short (omega (arith, behind))
+    ∙ none_more 4096 (length old) whole (take 4096 old)
+    ∙ take_all 4096 old short
+
+-- ---- one effect
+
+unless : (t : Bool) (x y : Option (List ℕ)) → (t ≡ true → x ≡ y) → cond t x y ≡ y
+unless true x y same = same refl
+unless false x y same = refl
+
+low : (x y : ℕ) → nat_lt x y ≡ false → y ≤ x
+low x y is = grind (arith, nat_tests, is)
+
+both_false : (a b : Bool) → (a || b) ≡ false → (a ≡ false) × (b ≡ false)
+both_false true b e = absurd (cc)
+both_false false b e = (refl, e)
+
+parts : (a b : Bool) → (a && b) ≡ false → (a ≡ false) ⊎ (b ≡ false)
+parts true b e = inr e
+parts false b e = inl refl
+
+left : (at end b n : ℕ) (t : Bool) → (t && (nat_lt (4096 * b) end && (nat_lt at (4096 * b + 4096) || nat_lt n 4096))) ≡ false → t ≡ true → (end ≤ 4096 * b) ⊎ ((4096 * b + 4096 ≤ at) × (4096 ≤ n))
+left at end b n t is yes' = elim (parts (nat_lt (4096 * b) end) (nat_lt at (4096 * b + 4096) || nat_lt n 4096) (ap (λ x. x && (nat_lt (4096 * b) end && (nat_lt at (4096 * b + 4096) || nat_lt n 4096))) (sym yes') ∙ is)) [
+  | inl less ↦ inl (low (4096 * b) end less)
+  | inr more ↦ let both = both_false (nat_lt at (4096 * b + 4096)) (nat_lt n 4096) more in inr (low at (4096 * b + 4096) both.0, low n 4096 both.1)
+]
+
+pub written_reach : (j at : ℕ) (new : List ℕ) → IsReachOf (effect.Bytes j at new ∷ []) (reach.Written j at (at + length new))
+written_reach j at new i b block short is =
+    ap (λ t. cond t (Some (block_written at new b block)) (Some block)) (on_one i j)
+    ∙ unless (j == i) (Some (block_written at new b block)) (Some block) (λ same. ap (λ xs. Some xs) (elim (left at (at + length new) b (length block) (j == i) is same) [
+      | inl less ↦ ends_before at b new block short less
+      | inr more ↦ begins_behind at b new block short more.1 more.0
+    ]))
+
+pub subject_reach : (e : Effect) (j : ℕ) → subjects e ≡ j ∷ [] → IsReachOf (e ∷ []) (reach.OneInode j)
+subject_reach e j alone i b block short is = ap (λ t. cond t (block_acted e b (Some block)) (Some block)) (ap (is_among i) alone ∙ on_one i j ∙ is)
+
+-- ---- records and their reaches
+
+pub reach_at : (ss : List RecordReach) (rs : List Record) (k : ℕ) (d : RecordReach) (r : Record) → AreReaches ss rs → k < length rs → r ≡ get_or rs k r → IsReachOf r.effects (get_or ss k d)
+reach_at [] [] k d r are inside is = absurd (omega arith)
+reach_at [] (x ∷ rs) k d r are inside is = absurd are
+reach_at (y ∷ ss) [] k d r are inside is = absurd are
+reach_at (y ∷ ss) (x ∷ rs) zero d r are inside is = subst (λ (z : Record). IsReachOf z.effects y) (sym is) are.0
+reach_at (y ∷ ss) (x ∷ rs) (suc k) d r are inside is = reach_at ss rs k d r are.1 (omega arith) is
+
+pub as_many : (ss : List RecordReach) (rs : List Record) → AreReaches ss rs → length ss ≡ length rs
+as_many [] [] are = refl
+as_many [] (x ∷ rs) are = absurd are
+as_many (y ∷ ss) [] are = absurd are
+as_many (y ∷ ss) (x ∷ rs) are = ap (λ n. suc n) (as_many ss rs are.1)
+
+pub one_more : (ss : List RecordReach) (rs : List Record) (s : RecordReach) (r : Record) → AreReaches ss rs → IsReachOf r.effects s → AreReaches (ss ++ s ∷ []) (rs ++ r ∷ [])
+one_more [] [] s r are is = (is, tt)
+one_more [] (x ∷ rs) s r are is = absurd are
+one_more (y ∷ ss) [] s r are is = absurd are
+one_more (y ∷ ss) (x ∷ rs) s r are is = (are.0, one_more ss rs s r are.1 is)
+
+pub behind_some : (n : ℕ) (ss : List RecordReach) (rs : List Record) → AreReaches ss rs → AreReaches (drop n ss) (drop n rs)
+behind_some zero ss rs are = are
+behind_some (suc n) [] [] are = are
+behind_some (suc n) [] (x ∷ rs) are = absurd are
+behind_some (suc n) (y ∷ ss) [] are = absurd are
+behind_some (suc n) (y ∷ ss) (x ∷ rs) are = behind_some n ss rs are.1
+
+pub dropped : (n : ℕ) (ss xs : List RecordReach) (rs ys : List Record) → xs ≡ drop n ss → ys ≡ drop n rs → AreReaches ss rs → AreReaches xs ys
+dropped n ss xs rs ys reaches records are = subst (λ (zs : List RecordReach). AreReaches zs ys) (sym reaches) (subst (λ (zs : List Record). AreReaches (drop n ss) zs) (sym records) (behind_some n ss rs are))
+
+pub pushed : (ss xs : List RecordReach) (rs ys : List Record) (s : RecordReach) (r : Record) → xs ≡ ss ++ s ∷ [] → ys ≡ rs ++ r ∷ [] → AreReaches ss rs → IsReachOf r.effects s → AreReaches xs ys
+pushed ss xs rs ys s r reaches records are is = subst (λ (zs : List RecordReach). AreReaches zs ys) (sym reaches) (subst (λ (zs : List Record). AreReaches (ss ++ s ∷ []) zs) (sym records) (one_more ss rs s r are is))
+
+all_and : (rs : List Record) (r : Record) → AllByRecursion IsRecord rs → IsRecord r → AllByRecursion IsRecord (rs ++ r ∷ [])
+all_and [] r all is = (is, tt)
+all_and (x ∷ rs) r all is = (all.0, all_and rs r all.1 is)
+
+pub all_pushed : (rs ys : List Record) (r : Record) → ys ≡ rs ++ r ∷ [] → AllByRecursion IsRecord rs → IsRecord r → AllByRecursion IsRecord ys
+all_pushed rs ys r records all is = subst (λ (zs : List Record). AllByRecursion IsRecord zs) (sym records) (all_and rs r all is)

@@ -1,9 +1,0 @@
-use Rattle.std.proofs.Common.{drop}
-use Rattle.std.specs.Ordering.{nat_cmp}
-use Rattle.std.specs.BTreeMap.{get}
-use Rattle.client_view.specs.KnowledgeTables.{knows}
-use Rattle.client_view.proofs.CopiedNodes.{AreLeft}
-use Rattle.client_view.proofs.copies.ClientCopies.put_several.Given as goal
-
-abbrev pub invariant-loop-effect : goal.invariant-loop-effect
-invariant-loop-effect l = AreLeft (knows l.fn.self) (get nat_cmp l.fn.nodes) (knows l.self) (get nat_cmp l.nodes) (drop l.effect-index l.effects)

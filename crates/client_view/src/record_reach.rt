@@ -1,0 +1,73 @@
+//! Which blocks of files a record may change, so that a block is laid over without looking at the effects of records that leave it as it is.
+ghost use Rattle.std.specs.Prelude.{◌≡◌, ◌+◌, ◌*◌, ◌&&◌, ◌||◌, [], ◌∷◌, nat_lt};
+ghost use Rattle.std.specs.List.{AllByRecursion};
+ghost use Rattle.client_plan.specs.posix_calls.declared.limits.TheConstants.{UNIT_BYTES};
+ghost use Rattle.client_plan.specs.log_record.Grammar.{Fits};
+ghost use Rattle.client_view.specs.RecordReach.{IsReachOf, may_change};
+
+use client_plan::{Effect, UNIT_BYTES};
+
+const UNIT: u64 = UNIT_BYTES as u64;
+
+/// Which blocks of files a record may change.
+#[derive(Clone, Copy)]
+pub enum RecordReach {
+    /// Those of any inode.
+    AnyInode,
+    /// Those of one inode.
+    OneInode { inode: u32 },
+    /// Those of one inode in which bytes from an offset on up to an end lie, and a short one before them.
+    Written { inode: u32, start: u64, end: u64 },
+}
+
+impl RecordReach {
+    /// Finds what effects reach.
+    pub fn of(effects: &[Effect]) -> Self
+        requires { AllByRecursion Fits effects.now }
+        ensures { IsReachOf effects.now result }
+    {
+        match effects {
+            [effect] => reach_of(effect),
+            _ => RecordReach::AnyInode,
+        }
+    }
+
+    /// Whether a block of a file may be changed that has so many bytes.
+    pub fn may_change(self, inode: u32, block: u32, len: usize) -> bool
+        ensures { result ≡ may_change self inode block len }
+    {
+        match self {
+            RecordReach::AnyInode => true,
+            RecordReach::OneInode { inode: subject } => subject == inode,
+            RecordReach::Written {
+                inode: subject,
+                start,
+                end,
+            } => subject == inode && reaches_block(start, end, block, len),
+        }
+    }
+}
+
+fn reach_of(effect: &Effect) -> RecordReach
+    requires { Fits effect.now }
+    ensures { IsReachOf (effect.now ∷ []) result }
+{
+    match effect {
+        Effect::Bytes { inode, at, bytes } => RecordReach::Written {
+            inode: *inode,
+            start: *at,
+            end: *at + bytes.as_slice().len() as u64,
+        },
+        _ => RecordReach::OneInode {
+            inode: effect.subject(),
+        },
+    }
+}
+
+// Whether bytes up to an end may change a block of so many bytes: one lies in it, or the gap before them.
+fn reaches_block(start: u64, end: u64, block: u32, len: usize) -> bool
+    ensures { result ≡ (nat_lt (UNIT_BYTES * block) end && (nat_lt start (UNIT_BYTES * block + UNIT_BYTES) || nat_lt len UNIT_BYTES)) }
+{
+    let first = UNIT * block as u64;
+    first < end && (start < first + UNIT || len < UNIT_BYTES as usize)
+}
