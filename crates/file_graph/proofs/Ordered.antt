@@ -1,5 +1,6 @@
 -- The place of a name among entries in order, and what an edit at that place makes of them.
 use Rattle.std.proofs.Common.{◌≡◌, ℕ, zero, suc, ◌+◌, ◌<◌, ◌≤◌, List, [], ◌∷◌, ◌++◌, length, get_or, set, take, drop, Some, None, Result, Ok, Err, refl, sym, ap, subst, ◌∙◌, Bool, true, false, T, cond, not, ◌&&◌, arith}
+use Rattle.std.proofs.lemmas.List.{length-map}
 use Rattle.std.specs.Ordering.{nat_cmp, is_eq, is_lt, ordering_reverse}
 use Rattle.std.specs.Cmp.Lexicographic.{slice_cmp, nat_list_cmp_total}
 use Rattle.std.specs.declared.cmp.Ordering.{Ordering}
@@ -214,3 +215,8 @@ no_entries {V = V} = fin.same_entries_map (as_map {V = V} []) fin.empty (fin.ent
 
 pub get_is_find : {V : Type 0} → (es : List (NamedEntry V)) (q : List ℕ) → IsInOrder es → fin.find names_cmp q (pairs es) ≡ fin.get (as_map es) q
 get_is_find es q order = sym (fin.get-from_sorted names_cmp (pairs es) q (subst T (sym order) tt))
+
+-- a map has as many entries as the list of which it was made
+pub counted : {V : Type 0} (es : List (NamedEntry V)) (m : Entries V) → IsInOrder es → as_map es ≡ m → length es ≡ fin.len m
+counted {V = V} es m order is =
+    sym (length-map es (λ (e : NamedEntry V). (e.name, e.value))) ∙ sym (ap length (entries_are es order)) ∙ sym (fin.len-entries (as_map es)) ∙ ap (λ (n : Entries V). fin.len n) is

@@ -22,7 +22,7 @@ pub use kinds::{DIRECTORY_KIND, FILE_KIND, kind_byte, kinds_have_their_bytes, re
 pub use laws::{
     apart_effects_commute, charge_rises_by_growth_at_most, effects_change_what_they_touch,
 };
-pub use name_map::{NameMap, NamedEntry};
+pub use name_map::{EntryRoom, NameMap, NamedEntry};
 pub use node::PlainEntry;
 pub use numbers::is_inode;
 pub use plain::PlainGraph;

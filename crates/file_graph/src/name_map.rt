@@ -1,9 +1,10 @@
-ghost use Rattle.std.specs.Prelude.{◌≡◌, ◌==◌, ◌≤◌, ◌<◌, ◌^◌, length, map, option_map, IfOk, IfErr, OnOk, OnErr};
+ghost use Rattle.std.specs.Prelude.{◌≡◌, ◌==◌, ◌≤◌, ◌<◌, ◌^◌, length, map, option_map, [], IfOk, IfErr, OnOk, OnErr};
 ghost use Rattle.std.specs.List.Sorted.{IsSearchInRange};
 ghost use Rattle.std.specs.Ordering.{nat_cmp};
 ghost use Rattle.std.specs.FinMap as fin;
 ghost use Rattle.std.specs.Cmp.Lexicographic.{slice_cmp};
 ghost use Rattle.std.specs.List.{insert};
+ghost use Rattle.std.specs.Vec.{vec_capacity};
 ghost use Rattle.file_graph.specs.NameOrder.{position_in, pairs, without, IsInOrder};
 
 use posix_calls::{Name, Names};
@@ -42,6 +43,34 @@ impl<V> Model for NameMap<V> {
     ghost view = { λ m. fin.from_sorted (pairs m.entries.items) };
 
     ghost invariant = { λ m. IsInOrder m.entries.items × (length m.entries.items < 2 ^ 32) };
+}
+
+/// Room for the entries of a map, taken ahead. Contracts see it as how many it holds, which a `u32` counts.
+#[derive(Drop)]
+pub struct EntryRoom<V> {
+    entries: Vec<NamedEntry<V>>,
+}
+
+impl<V> Model for EntryRoom<V> {
+    ghost use Rattle.std.specs.Prelude.{◌≡◌, ◌<◌, ◌^◌, ℕ, []};
+    ghost use Rattle.std.specs.Vec.{vec_capacity};
+
+    ghost Value = { ℕ };
+
+    ghost view = { λ r. vec_capacity r.entries };
+
+    ghost invariant = { λ r. (r.entries.items ≡ []) × (vec_capacity r.entries < 2 ^ 32) };
+}
+
+impl<V: Drop> EntryRoom<V> {
+    /// Room for so many entries. None is asked for where there are none.
+    pub fn with_room(alloc: Global, count: u32) -> Result<Self, AllocError>
+        ensures room { IfOk result (λ room. room ≡ count) }
+        ensures none { OnErr result (0 < count) }
+    {
+        let entries = Vec::with_capacity(alloc, count as usize)?;
+        Ok(EntryRoom { entries })
+    }
 }
 
 impl<V: Drop> NameMap<V> {
@@ -104,6 +133,15 @@ impl<V: Drop> NameMap<V> {
         ensures err { OnErr result (self.new ≡ self.old) }
     {
         put_entry(&mut self.entries, name, value)
+    }
+
+    /// Puts something at a name, in place of what stood there, where room was taken ahead for more entries than there are. It takes no memory: the
+    /// entries move into that room only where they fill their own.
+    pub fn put_into(&mut self, room: EntryRoom<V>, name: Name, value: V)
+        requires { fin.len self.old < room }
+        ensures { self.new ≡ fin.insert self.old name value }
+    {
+        put_within(&mut self.entries, room.entries, name, value);
     }
 
     /// Takes a name out, if it is there.
@@ -174,6 +212,61 @@ fn insert_entry<V: Drop>(
     }
     entries.insert(place, entry)?;
     Ok(())
+}
+
+// An entry is put at a name in room that was taken ahead.
+fn put_within<V: Drop>(
+    entries: &mut Vec<NamedEntry<V>>,
+    room: Vec<NamedEntry<V>>,
+    name: Name,
+    value: V,
+)
+    requires order { IsInOrder entries.old.items }
+    requires empty { room.items ≡ [] }
+    requires room { length entries.old.items < vec_capacity room }
+    ensures put { pairs entries.new.items ≡ fin.put (slice_cmp nat_cmp) name value (pairs entries.old.items) }
+    ensures few { length entries.new.items ≤ vec_capacity room }
+{
+    match place_of(entries, name.as_slice()) {
+        Ok(place) => entries[place].value = value,
+        Err(place) => insert_within(entries, room, place, NamedEntry { name, value }),
+    }
+}
+
+fn insert_within<V: Drop>(
+    entries: &mut Vec<NamedEntry<V>>,
+    room: Vec<NamedEntry<V>>,
+    place: usize,
+    entry: NamedEntry<V>,
+)
+    requires place { place ≤ length entries.old.items }
+    requires empty { room.items ≡ [] }
+    requires room { length entries.old.items < vec_capacity room }
+    ensures put { entries.new.items ≡ insert entries.old.items place entry }
+    ensures few { length entries.new.items ≤ vec_capacity room }
+{
+    make_room(entries, room);
+    match entries.insert(place, entry) {
+        Ok(()) => {}
+        Err(_) => unreachable!(),
+    }
+}
+
+// Entries that fill their own room move into another, which is then theirs.
+fn make_room<V: Drop>(entries: &mut Vec<NamedEntry<V>>, room: Vec<NamedEntry<V>>)
+    requires empty { room.items ≡ [] }
+    requires room { length entries.old.items < vec_capacity room }
+    ensures same { entries.new.items ≡ entries.old.items }
+    ensures room { length entries.new.items < vec_capacity entries.new }
+{
+    if entries.len() < entries.capacity() {
+        return;
+    }
+    let mut wider = room;
+    match wider.append(entries) {
+        Ok(()) => *entries = wider,
+        Err(_) => unreachable!(),
+    }
 }
 
 fn remove_entry<V: Drop>(entries: &mut Vec<NamedEntry<V>>, name: &[u8])
