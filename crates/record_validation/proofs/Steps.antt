@@ -13,7 +13,7 @@ use Rattle.call_effects.specs.file_graph.declared.effect.Effect.{Effect}
 use Rattle.call_effects.specs.file_graph.declared.effect.Effect.TheVariants as effect
 use Rattle.call_effects.specs.file_graph.Graph.{subjects, is_among}
 use Rattle.call_effects.specs.NodeView.{NodeView, FileView, DirView, view_acted, view_after}
-use Rattle.call_effects.proofs.NodeViews.{views_joined}
+pub use Rattle.call_effects.proofs.NodeViews.{views_joined}
 use Rattle.record_validation.specs.declared.node_counts.NodeCounts.TheVariants as counts
 use Rattle.record_validation.specs.Counts.{counts_of, counts_after, counts_acted, is_named, entry_in, entry_acted, entry_after}
 

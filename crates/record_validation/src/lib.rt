@@ -37,4 +37,6 @@ pub use record_validation::RecordCheck;
 pub use verdict::{Verdict, test_record};
 
 // Passed on to the crates above, which so need not list those below.
-pub use call_effects::{Child, Kind, MAX_INODE, NameMap, PlainEntry, ROOT, is_inode};
+pub use call_effects::{
+    Child, EntryRoom, Kind, MAX_INODE, Name, NameMap, PlainEntry, ROOT, is_inode,
+};

@@ -6,9 +6,10 @@ ghost use Rattle.call_effects.specs.NodeView.{FileView, DirView, empty_view, in_
 ghost use Rattle.record_validation.specs.Memory.{is_enter};
 ghost use Rattle.record_validation.specs.Summary.{view_of_summary};
 ghost use Rattle.record_validation.specs.Counts.{counts_of, entry_in, entry_count};
+ghost use Rattle.record_validation.specs.NodeAnswers.{entries_of};
 
 use crate::node_counts::NodeCounts;
-use call_effects::{Child, Effect, Kind, Name, NameMap};
+use call_effects::{Child, Effect, EntryRoom, Kind, Name, NameMap};
 use std::alloc::{AllocError, Global};
 use std::marker::Model;
 
@@ -94,6 +95,18 @@ impl NodeSummary {
         match &self.body {
             SummaryBody::File { .. } => None,
             SummaryBody::Directory { entries } => Some(has_entry(entries, name)),
+        }
+    }
+
+    /// Enters a name into a directory, in place of what stood at it, in room that was taken ahead for more entries than there are; a file stays
+    /// as it was. It takes no memory.
+    pub fn enter(&mut self, room: EntryRoom<Child>, name: Name, child: Child)
+        requires { fin.len (entries_of self.old) < room }
+        ensures { self.new ≡ in_entries (λ es. fin.insert es name child) self.old }
+    {
+        match &mut self.body {
+            SummaryBody::File { .. } => {}
+            SummaryBody::Directory { entries } => entries.put_into(room, name, child),
         }
     }
 
