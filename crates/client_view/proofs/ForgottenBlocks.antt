@@ -6,14 +6,13 @@ use Rattle.client_plan.specs.file_graph.Graph.{is_among, subjects, touches}
 use Rattle.client_plan.specs.file_graph.declared.effect.Effect.{Effect}
 use Rattle.world_invariant.specs.call_effects.Knowledge.{Knowledge}
 use Rattle.client_view.specs.KnowledgeChanges.{without_blocks, without_blocks_at}
-use Rattle.client_view.specs.AfterRecord.{with_effects}
 use Rattle.client_view.proofs.LeftBlocks.{taken, touched_pushed}
 
 -- what is forgotten of some inodes, and then of others, is forgotten of both
 abbrev pub without : Knowledge → (ℕ → Bool) → Knowledge
 without k gone = record k { blocks = λ i b. cond (gone i) None (k.blocks i b) }
 
-twice : {X : Type 0} (b c : Bool) (o : Option X) → cond c None (cond b None o) ≡ cond (b || c) None o
+pub twice : {X : Type 0} (b c : Bool) (o : Option X) → cond c None (cond b None o) ≡ cond (b || c) None o
 twice true true o = refl
 twice true false o = refl
 twice false c o = refl
@@ -45,17 +44,3 @@ at_next k mid new es n e j inside is alone so_far one =
 
 pub at_all : (k new : Knowledge) (es : List Effect) (n : ℕ) → length es ≤ n → new ≡ without_blocks_at k (take n es) → new ≡ without_blocks_at k es
 at_all k new es n done is = is ∙ ap (without_blocks_at k) (take_all n es done)
-
-either_way : {X : Type 0} (b : Bool) (o : Option X) → cond b None (cond b None o) ≡ cond b None o
-either_way true o = refl
-either_way false o = refl
-
--- once effects are done, no block of what they touch is known
-pub none_to_go : (k : Knowledge) (es : List Effect) → without_blocks_at (with_effects k es) es ≡ with_effects k es
-none_to_go k es = λ t. record {
-  client = k.client;
-  own = k.own;
-  copies = (with_effects k es).copies;
-  blocks = λ i b. either_way (is_among i (touches es)) (k.blocks i b) t;
-  granted = k.granted;
-}

@@ -73,7 +73,7 @@ left_all bs new es n done is = is ∙ ap (without_touched bs) (take_all n es don
 pub left_alone : (bs : List Block) (e : Effect) (j : ℕ) → subjects e ≡ j ∷ [] → without_file j bs ≡ without_touched bs (e ∷ [])
 left_alone bs e j alone = same_apart (λ i. i == j) (λ i. is_among i (touches (e ∷ []))) (λ i. sym (touched_pushed i j [] e alone)) bs
 
--- ---- those of what is touched go twice
+-- ---- what effects touch, one by one
 
 or_true : (t : Bool) → (t || true) ≡ true
 or_true true = refl
@@ -85,21 +85,6 @@ touched_at (x ∷ es) zero e j inside is alone =
     among_more j x es ∙ ap (λ t. t || is_among j (touches es)) (ap (λ (y : Effect). is_among j (subjects y)) (sym is) ∙ ap (is_among j) alone ∙ on_one j j ∙ eq-eqb j j refl)
 touched_at (x ∷ es) (suc k) e j inside is alone =
     among_more j x es ∙ ap (λ t. is_among j (subjects x) || t) (touched_at es k e j (omega arith) is alone) ∙ or_true (is_among j (subjects x))
-
-pub gone_before : (bs : List Block) (es : List Effect) (j : ℕ) → is_among j (touches es) ≡ true → without_touched (without_file j bs) es ≡ without_touched bs es
-gone_before bs es j there =
-    apart_twice (λ i. i == j) (λ i. is_among i (touches es)) bs ∙ same_apart (λ i. (i == j) || is_among i (touches es)) (λ i. is_among i (touches es)) more bs
-  where
-    more : (i : ℕ) → ((i == j) || is_among i (touches es)) ≡ is_among i (touches es)
-    more i = elim (cases_eq i j) [
-      | inl same ↦ ap (λ t. t || is_among i (touches es)) (eq-eqb i j same) ∙ sym (ap (λ n. is_among n (touches es)) same ∙ there)
-      | inr other ↦ ap (λ t. t || is_among i (touches es)) (ne_eqb i j other)
-    ]
-
--- an inode's blocks go, or none, before those of all that effects touch
-pub gone_or_not : (first now new : List Block) (es : List Effect) (k : ℕ) (e : Effect) (j : ℕ) → k < length es → e ≡ get_or es k e → subjects e ≡ j ∷ [] → (new ≡ now) ⊎ (new ≡ without_file j now) → without_touched now es ≡ without_touched first es → without_touched new es ≡ without_touched first es
-gone_or_not first now new es k e j inside is alone (inl same) so_far = ap (λ bs. without_touched bs es) same ∙ so_far
-gone_or_not first now new es k e j inside is alone (inr gone) so_far = ap (λ bs. without_touched bs es) gone ∙ gone_before now es j (touched_at es k e j inside is alone) ∙ so_far
 
 -- ---- those of a node that is made
 

@@ -4,13 +4,25 @@ use Rattle.std.specs.Prelude.{◌==◌, ◌||◌, option_map}
 use Rattle.std.proofs.lemmas.List.Concat.{flat_map-cons}
 use Rattle.std.proofs.lemmas.List.Folds.{list_any-append}
 use Rattle.client_plan.specs.file_graph.declared.effect.Effect.{Effect}
+use Rattle.client_plan.specs.file_graph.declared.effect.Effect.TheVariants as effect
+use Rattle.client_plan.specs.file_graph.Subject.{subject}
 use Rattle.client_plan.specs.file_graph.Graph.{is_among, subjects, touches}
 use Rattle.world_invariant.specs.call_effects.Blocks.{block_acted, block_after}
 use Rattle.world_invariant.specs.call_effects.NodeView.{NodeView, view_acted, view_after}
 
-neither : (a b : Bool) → (a || b) ≡ false → (a ≡ false) × (b ≡ false)
+pub neither : (a b : Bool) → (a || b) ≡ false → (a ≡ false) × (b ≡ false)
 neither true b e = absurd (cc)
 neither false b e = (refl, e)
+
+-- an effect touches its subject alone
+pub alone : (e : Effect) → subjects e ≡ subject e ∷ []
+alone (effect.Make i k) = refl
+alone (effect.Enter d i k name) = refl
+alone (effect.Leave d name) = refl
+alone (effect.Names i n) = refl
+alone (effect.Size i size) = refl
+alone (effect.Bytes i at new) = refl
+alone (effect.Drop i) = refl
 
 pub among_more : (i : ℕ) (e : Effect) (es : List Effect) → is_among i (touches (e ∷ es)) ≡ (is_among i (subjects e) || is_among i (touches es))
 among_more i e es = ap (is_among i) (flat_map-cons subjects e es) ∙ list_any-append (λ j. j == i) (subjects e) (touches es)

@@ -1,48 +1,57 @@
 -- What a client prepares before a record of its own.
-use Rattle.std.specs.Prelude.{◌≡◌, ℕ, List, [], ◌∷◌, Bool, true, false, not, Option, None, is_some, option_map, if◌then◌else◌}
+use Rattle.std.specs.Prelude.{◌≡◌, ◌+◌, ◌<◌, ◌&&◌, ⊤, ℕ, List, length, get_or, Bool, true, Option, Some, None, IsSome, is_some}
+use Rattle.std.specs.FinMap as fin
 use Rattle.std.specs.List.{list_any}
 use Rattle.std.specs.Option.{ForSome}
-use Rattle.std.specs.Ordering.{nat_cmp}
-use Rattle.std.specs.BTreeMap.{get}
-use Rattle.client_plan.specs.file_graph.Graph.{is_among, touches}
 use Rattle.client_plan.specs.file_graph.Numbers.{is_inode}
+use Rattle.client_plan.specs.file_graph.Subject.{subject}
 use Rattle.client_plan.specs.file_graph.declared.effect.Effect.{Effect}
+use Rattle.client_plan.specs.file_graph.declared.effect.Effect.TheVariants as effect
 use Rattle.client_plan.specs.log_record.Grammar.{IsRecord}
-use Rattle.world_invariant.specs.call_effects.NodeView.{NodeView, view_after}
+use Rattle.world_invariant.specs.call_effects.NodeView.{NodeView}
 use Rattle.world_invariant.specs.call_effects.Knowledge.{Knowledge}
 use Rattle.client_plan.specs.CallPlan.{OpensInRange}
 use Rattle.record_validation.specs.Memory.{is_enter}
+use Rattle.record_validation.specs.NodeAnswers.{entries_of}
 use Rattle.client_view.specs.AfterRecord.{with_made}
-use Rattle.client_view.specs.declared.node_copies.NodeCopies.{NodeCopies}
-use Rattle.client_view.specs.declared.node_copies.NodeCopies.TheVariants as held
+use Rattle.client_view.specs.declared.enter_room.EnterRoom.{EnterRoom}
 use Rattle.client_view.specs.declared.own_change.OwnChange.{OwnChange}
 
--- what is known of the inodes that effects touch
-abbrev pub touched_nodes : List Effect → (ℕ → Option (Option NodeView)) → ℕ → Option (Option NodeView)
-touched_nodes es copies i = if is_among i (touches es) then copies i else None
+-- whether an effect enters a name into an inode of which something is known
+abbrev pub enters : Effect → (ℕ → Option (Option NodeView)) → Bool
+enters e copies = is_enter e && is_some (copies (subject e))
 
--- what is known of them after the effects
-abbrev pub nodes_after : List Effect → (ℕ → Option (Option NodeView)) → ℕ → Option (Option NodeView)
-nodes_after es copies i = option_map (view_after es i) (touched_nodes es copies i)
+-- whether one of these effects does
+abbrev pub any_enters : List Effect → (ℕ → Option (Option NodeView)) → Bool
+any_enters es copies = list_any (λ e. enters e copies) es
 
--- whether something is known of one of them
-abbrev pub any_known : List Effect → (ℕ → Option (Option NodeView)) → Bool
-any_known es copies = list_any (λ i. is_some (copies i)) (touches es)
+-- how many names are known to stand in an inode
+abbrev pub names_known : Option (Option NodeView) → ℕ
+names_known None = 0
+names_known (Some None) = 0
+names_known (Some (Some v)) = fin.len (entries_of v)
 
--- whether effects are done in place: one alone, which enters no name, and so takes no memory
-abbrev pub acts_in_place : List Effect → Bool
-acts_in_place [] = false
-acts_in_place (e ∷ []) = not (is_enter e)
-acts_in_place (e ∷ f ∷ es) = false
+-- a copy of a name, and room for it behind so many
+abbrev pub IsRoomFor : List ℕ → ℕ → Option EnterRoom → Type 0
+IsRoomFor name count o = IsSome o × ForSome o (λ r. (r.name ≡ name) × (count < r.room))
 
--- what effects need over these copies is ready: nothing, where they are done in place, or else what is known after them
-abbrev pub AreReady : NodeCopies → List Effect → (ℕ → Option (Option NodeView)) → Type 0
-AreReady held.InPlace es copies = acts_in_place es ≡ true
-AreReady (held.Several nodes) es copies = (i : ℕ) → get nat_cmp nodes i ≡ nodes_after es copies i
+-- what an effect needs on an inode in which so many names stand: to enter a name, a copy of it and room
+abbrev pub IsRoomOf : Effect → ℕ → Option EnterRoom → Type 0
+IsRoomOf (effect.Make i k) count r = ⊤
+IsRoomOf (effect.Enter d i k name) count r = IsRoomFor name count r
+IsRoomOf (effect.Leave d name) count r = ⊤
+IsRoomOf (effect.Names i n) count r = ⊤
+IsRoomOf (effect.Size i size) count r = ⊤
+IsRoomOf (effect.Bytes i at new) count r = ⊤
+IsRoomOf (effect.Drop i) count r = ⊤
+
+-- what effects need over these copies is ready, for each at its place among them: those before it may each have entered a name
+abbrev pub AreReady : List (Option EnterRoom) → List Effect → (ℕ → Option (Option NodeView)) → Type 0
+AreReady rooms es copies = (n : ℕ) (e : Effect) → n < length es → e ≡ get_or es n e → IsSome (copies (subject e)) → IsRoomOf e (names_known (copies (subject e)) + n) (get_or rooms n None)
 
 -- a change that was prepared by what a client knows
 pub record IsPreparedFor (k : Knowledge) (c : OwnChange) : Type 0 where
   pub spelled : IsRecord c.logged
   pub made : ForSome c.made (λ n. is_inode n ≡ true)
   pub number : ForSome c.descriptor OpensInRange
-  pub nodes : AreReady c.nodes c.logged.effects (with_made k c.made).copies
+  pub nodes : AreReady c.rooms.items c.logged.effects (with_made k c.made).copies

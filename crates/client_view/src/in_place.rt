@@ -1,37 +1,67 @@
-//! One effect that takes no memory, done to the copy that a client has of its inode.
-ghost use Rattle.std.specs.Prelude.{◌≡◌, true, false, OnErr, OnOk, option_map};
+//! An effect that takes no memory, done to the copy that a client has of its inode.
+ghost use Rattle.std.specs.Prelude.{◌≡◌, ◌<◌, true, false, Some, IsSome, OnErr, OnOk, option_map};
+ghost use Rattle.std.specs.FinMap as fin;
 ghost use Rattle.client_plan.specs.file_graph.Plain.{is_drop};
 ghost use Rattle.client_plan.specs.log_record.Grammar.{Fits};
-ghost use Rattle.world_invariant.specs.call_effects.NodeView.{view_acted};
+ghost use Rattle.world_invariant.specs.call_effects.NodeView.{in_entries, view_acted};
 ghost use Rattle.record_validation.specs.Memory.{is_enter};
-ghost use Rattle.client_view.specs.Preparation.{acts_in_place};
+ghost use Rattle.client_view.specs.Preparation.{IsRoomOf, names_known};
 
+use crate::enter_room::EnterRoom;
 use crate::slots::Slot;
 use client_plan::Effect;
-use record_validation::NodeSummary;
+use record_validation::{Child, EntryRoom, Name, NodeSummary};
 use std::alloc::{AllocError, Global};
 
-/// Whether effects are done in place: one alone, which enters no name, and so takes no memory.
-pub fn acts_in_place(effects: &[Effect]) -> bool
-    ensures { result ≡ acts_in_place effects.now }
-{
-    match effects {
-        [effect] => !is_enter(effect),
-        _ => false,
-    }
-}
-
-/// An effect that enters no name is done to what is known of its inode, if something is. It takes no memory.
-pub fn act_on(alloc: Global, slot: &mut Slot, effect: &Effect)
+/// An effect is done to what is known of its inode, if something is, in the room that was taken ahead where it enters a name. It takes no memory.
+pub fn act_on(alloc: Global, slot: &mut Slot, effect: &Effect, room: Option<EnterRoom>)
     requires fits { Fits effect.now }
-    requires room { is_enter effect.now ≡ false }
+    requires room { IsSome slot.old → IsRoomOf effect.now (names_known slot.old) room }
     ensures { slot.new ≡ option_map (view_acted effect.now) slot.old }
 {
     if let Some(node) = slot {
-        match take_effect(alloc, node, effect) {
-            Ok(()) => {}
-            Err(_) => unreachable!(),
-        }
+        act_within(alloc, node, effect, room);
+    }
+}
+
+fn act_within(
+    alloc: Global,
+    node: &mut Option<NodeSummary>,
+    effect: &Effect,
+    room: Option<EnterRoom>,
+)
+    requires fits { Fits effect.now }
+    requires room { IsRoomOf effect.now (names_known (Some node.old)) room }
+    ensures { node.new ≡ view_acted effect.now node.old }
+{
+    match effect {
+        Effect::Enter { inode, kind, .. } => match room {
+            Some(EnterRoom { name, room }) => enter(node, room, name, Child::new(*inode, *kind)),
+            None => unreachable!(),
+        },
+        _ => act_alone(alloc, node, effect),
+    }
+}
+
+// A name is entered in room that was taken ahead.
+fn enter(node: &mut Option<NodeSummary>, room: EntryRoom<Child>, name: Name, child: Child)
+    requires { names_known (Some node.old) < room }
+    ensures { node.new ≡ option_map (in_entries (λ es. fin.insert es name child)) node.old }
+{
+    if let Some(summary) = node {
+        summary.enter(room, name, child);
+    }
+}
+
+// An effect that enters no name takes no memory.
+fn act_alone(alloc: Global, node: &mut Option<NodeSummary>, effect: &Effect)
+    requires fits { Fits effect.now }
+    requires room { is_enter effect.now ≡ false }
+    ensures { node.new ≡ view_acted effect.now node.old }
+{
+    match take_effect(alloc, node, effect) {
+        Ok(()) => {}
+        Err(_) => unreachable!(),
     }
 }
 
@@ -64,7 +94,8 @@ fn is_drop(effect: &Effect) -> bool
     matches!(effect, Effect::Drop { .. })
 }
 
-fn is_enter(effect: &Effect) -> bool
+/// Whether an effect enters a name.
+pub fn is_enter(effect: &Effect) -> bool
     ensures { result ≡ is_enter effect.now }
 {
     matches!(effect, Effect::Enter { .. })

@@ -8,28 +8,27 @@
 //! Blocks are kept by `block_cache`, each padded to its whole length; what is known of one is what lies within the size of the copy. A copy that
 //! is put in place of another takes that one's blocks with it.
 //!
-//! A record of the client's own is prepared before it is begun (`prepare`): what the client has of the inodes that the record touches is made beside, as
-//! the record leaves it, with all memory that this takes, and nothing changes. Once the record is in the log the change is committed (`commit`), which
-//! takes no memory: then the client knows what the record left (`specs/AfterRecord.antt`), and no block of what it touched. For a record of one effect that
-//! enters no name, as a write has, nothing has to be made beside, since no memory is wanted: the commit changes the copy in its place.
+//! A record of the client's own is prepared before it is begun (`prepare`): for each name that it enters into a copy there are then a copy of the name and
+//! room for it, with all memory that this takes, and nothing changes. Once the record is in the log the change is committed (`commit`), which
+//! takes no memory: the copies change in their place, a directory moves into the room only where it is full, and the client knows what the record left
+//! (`specs/AfterRecord.antt`), and no block of what it touched. So a record costs by what it touches, however many names a directory has.
 //!
 //! The kernel tells a client what stands in the shared graph, and the mark up to which the client's records are digested there. What the client logged behind the mark is not
 //! in it: before what was fetched goes into the copies, those records are laid over it, over a node (`node_after`) or over a block of a file (`OwnRecords::block_after`, which looks only at the effects of records that may change it). What that comes to is
 //! what the graph has after the records (`specs/After.antt`), so that the copies agree with the whole again, as the laws tell. A client can't read the region that it handed over
 //! while it is away, so it keeps its records in memory too (`OwnRecords`): those of that region, until all of them are digested, and those of the region that it writes.
 //!
-//! To come: a directory into which a name is entered in place, in room that was taken ahead, where today it is copied; blocks that are written over where a record
-//! writes them; and a count of the entries that tell a kind, so that the kind of an inode without a copy is not looked for in all copied directories.
+//! To come: blocks that are written over where a record writes them; and a count of the entries that tell a kind, so that the kind of an inode without a copy is not looked for in all copied directories.
 #![tactic(auto)]
 
 mod answers;
 mod blocks;
 mod copies;
+mod enter_room;
+mod enter_rooms;
 mod file_reads;
 mod in_place;
 mod laws;
-mod new_copies;
-mod node_copies;
 mod nodes;
 mod own_change;
 mod own_record_laws;

@@ -1,4 +1,4 @@
-use crate::node_copies::NodeCopies;
+use crate::enter_room::EnterRoom;
 use client_plan::{DescriptorChange, Record};
 
 /// A change that a client makes by a record of its own, with what has to be ready for its commit, for which all memory is taken.
@@ -10,5 +10,6 @@ pub struct OwnChange {
     pub made: Option<u32>,
     /// The descriptor that it changes, if it changes one.
     pub descriptor: Option<DescriptorChange>,
-    pub(crate) nodes: NodeCopies,
+    // For each of its effects what it needs, if it enters a name.
+    pub(crate) rooms: Vec<Option<EnterRoom>>,
 }

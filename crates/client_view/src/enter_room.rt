@@ -1,0 +1,9 @@
+// What entering a name takes.
+use record_validation::{Child, EntryRoom, Name};
+
+/// What a record needs ready to enter a name: a copy of the name, and room for it in the directory that it enters.
+#[derive(Drop)]
+pub struct EnterRoom {
+    pub name: Name,
+    pub room: EntryRoom<Child>,
+}
