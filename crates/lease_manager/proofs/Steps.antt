@@ -17,7 +17,7 @@ use Rattle.lease_manager.specs.Marks.{read_mark, write_mark, is_lease, Shows, Sh
 use Rattle.lease_manager.specs.Parts.{place_of, mode_at, put_mode, put_event, put_lease, put_free, Continues}
 use Rattle.lease_manager.specs.History.{steps_by, asked_after, IsAskedOf, MayFollow}
 use Rattle.lease_manager.specs.Law.{TableState, SeatState, HistoryLaw, Law, IsRuled}
-use Rattle.lease_manager.specs.Plays.{Exchanged, Tried, TookOut, Saw, DidAsk, DidHear}
+use Rattle.lease_manager.specs.Plays.{Exchanged, Tried, TookOut, Saw, DidAsk, DidHear, Listened}
 use Rattle.lease_manager.proofs.Book.{but, but_same, but_other, set_back, first_steps}
 use Rattle.lease_manager.proofs.OneWord.{same_shows, taken_word, read_word, try_word, given_word, shows_other, shows_writer}
 
@@ -220,6 +220,16 @@ hears slots id i p ps ge lt mine s r _ at fits =
       (refl, continues s r id p ps (Heard i n) at found),
     )
 
+-- a look at an asked word
+listens : (slots id i : ℕ) (p : Part) (ps : List Part) → 1024 ≤ i → i < 1152 → Allows IsRuled slots id (p ∷ ps, []) i (λ n. n) (Listened (step slots i 0 0 none) (p ∷ ps, []))
+listens slots id i p ps ge lt s r _ at fits = let n : ℕ = get_or s.words i 0 in let h = r.lawful.steps in (
+  put_event p (Looked i n) ∷ ps,
+  keeps,
+  tt,
+  adds s r id i n p ps (Looked i n) at (λ j _. unchanged s i j) tt (λ w _ _. unchanged s i w),
+  (refl, (h.history, h.legal, h.listed p.place ∙ ap (λ (u : Part). u.events) (own s r id p ps at), h.waiting i ge lt)),
+)
+
 -- the same of a seat that is known to carry its own part first
 module _ (slots id i : ℕ) (me : SeatState) (p : Part) (ps : List Part) (is : me ≡ (p ∷ ps, [])) where
   pub takes_at : (from new : ℕ) → i < 1024 → p.place < 8 → length p.modes ≡ 1024 → new ≡ 2 ^ (8 + p.place)
@@ -243,3 +253,6 @@ module _ (slots id i : ℕ) (me : SeatState) (p : Part) (ps : List Part) (is : m
 
   pub hears_at : 1024 ≤ i → i < 1152 → IsAskedOf p.place i → Allows IsRuled slots id me i (λ _. 0) (DidHear (step slots i 0 0 none) me)
   hears_at ge lt mine = subst (λ (z : SeatState). Allows IsRuled slots id z i (λ _. 0) (DidHear (step slots i 0 0 none) z)) (sym is) (hears slots id i p ps ge lt mine)
+
+  pub listens_at : 1024 ≤ i → i < 1152 → Allows IsRuled slots id me i (λ n. n) (Listened (step slots i 0 0 none) me)
+  listens_at ge lt = subst (λ (z : SeatState). Allows IsRuled slots id z i (λ n. n) (Listened (step slots i 0 0 none) z)) (sym is) (listens slots id i p ps ge lt)

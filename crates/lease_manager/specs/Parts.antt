@@ -6,7 +6,7 @@ use Rattle.lease_manager.specs.declared.view.Event.{Event}
 use Rattle.lease_manager.specs.declared.view.Event.TheVariants.{Took, Gave}
 use Rattle.lease_manager.specs.declared.view.Part.{Part}
 use Rattle.lease_manager.specs.Marks.{MayMeet}
-use Rattle.lease_manager.specs.History.{Entry, steps_by, MayFollow, IsHistory}
+use Rattle.lease_manager.specs.History.{Entry, steps_by, unheard, MayFollow, IsHistory}
 
 abbrev pub place_of : Part → ℕ
 place_of p = p.place
@@ -63,6 +63,10 @@ AreCompatible p q = (p.place ≢ q.place) × ((i : ℕ) → i < 1024 → MayMeet
 -- there is one history of all clients' steps in which the client's are these, and this step comes right after it
 abbrev pub Continues : Part → Event → Type 0
 Continues p e = (older : List Entry) × IsHistory older × (steps_by p.place older ≡ p.events) × MayFollow older p.place e
+
+-- there is one history of all clients' steps in which the client's are these, and just this was asked in that word since it was last heard
+abbrev pub FindsUnheard : Part → ℕ → ℕ → Type 0
+FindsUnheard p word found = (older : List Entry) × IsHistory older × (steps_by p.place older ≡ p.events) × (found ≡ unheard word older)
 
 -- there is one history of all clients' steps, in which each of these parts has the steps of its client
 abbrev pub ShareHistory : (Part → Type 0) → Type 0

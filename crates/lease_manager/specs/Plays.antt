@@ -6,7 +6,7 @@ use Rattle.lease_manager.specs.declared.view.Event.TheVariants.{Refused, Looked,
 use Rattle.lease_manager.specs.declared.view.Part.{Part}
 use Rattle.lease_manager.specs.Marks.{ShowsOther, ShowsWriter, ShowsOwn}
 use Rattle.lease_manager.specs.Book.{Holds}
-use Rattle.lease_manager.specs.Parts.{mode_at, put_mode, put_event, put_lease, put_free, own_part, other_parts, AreCompatible, Continues, ShareHistory}
+use Rattle.lease_manager.specs.Parts.{mode_at, put_mode, put_event, put_lease, put_free, own_part, other_parts, AreCompatible, Continues, FindsUnheard, ShareHistory}
 use Rattle.lease_manager.specs.Law.{SeatState}
 
 -- the seat with another part of its own client
@@ -40,6 +40,10 @@ DidAsk st me found me' = (me' ≡ with_own me (put_event (own_part me.0) (Asked 
 -- an asked word was emptied: the hearing comes right after a history in which the own steps are
 abbrev pub DidHear : Step (Unit {0}) → SeatState → ℕ → SeatState → Type 0
 DidHear st me found me' = (me' ≡ with_own me (put_event (own_part me.0) (Heard st.word found))) × Continues (own_part me.0) (Heard st.word found)
+
+-- an asked word was read: it has what was asked in it and is not heard, by a history in which the own steps are
+abbrev pub Listened : Step (Unit {0}) → SeatState → ℕ → SeatState → Type 0
+Listened st me found me' = (me' ≡ with_own me (put_event (own_part me.0) (Looked st.word found))) × FindsUnheard (own_part me.0) st.word found
 
 -- any two of these parts that are clients' are compatible
 abbrev pub AllCompatible : List Part → Type 0

@@ -52,6 +52,15 @@ pub(crate) fn word_of_asking(client: u32, ino: u32) -> usize
     (INODES + ROWS * (client - 1) + (ino - 1) / 64) as usize
 }
 
+// The place of the word in which the client at a place is asked for a row of inodes.
+pub(crate) fn word_of_row(place: u32, row: u32) -> usize
+    requires place { place < 8 }
+    requires row { row < 16 }
+    ensures { result ≡ asked_word (place + 1) row }
+{
+    (INODES + ROWS * place + row) as usize
+}
+
 // The bit of an inode in that word.
 pub(crate) fn bit_of_asking(ino: u32) -> u64
     requires { HasWord ino }

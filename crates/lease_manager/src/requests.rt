@@ -1,13 +1,13 @@
 // A client asks another to give an inode back.
 ghost use Rattle.std.specs.Prelude.{◌≡◌, ◌+◌, ◌-◌, ◌/◌, ◌<◌};
-ghost use Rattle.lease_manager.specs.declared.view.Event.TheVariants.{Asked, Heard};
+ghost use Rattle.lease_manager.specs.declared.view.Event.TheVariants.{Asked, Heard, Looked};
 ghost use Rattle.lease_manager.specs.Words.{HasWord, IsClient, asked_word, asked_bit};
-ghost use Rattle.lease_manager.specs.Parts.{Continues};
+ghost use Rattle.lease_manager.specs.Parts.{Continues, FindsUnheard};
 ghost use Rattle.lease_manager.specs.Passes.{steps_of, with_event, client_of};
 
-use crate::layout::{INODES, ROWS, bit_of_asking, word_of_asking};
+use crate::layout::{bit_of_asking, word_of_asking, word_of_row};
 use crate::pass::Pass;
-use crate::rule::{Asks, Hears};
+use crate::rule::{Asks, Hears, Listens};
 use crate::table::Leases;
 
 impl Leases {
@@ -35,7 +35,20 @@ impl Leases {
         ensures history { Continues pass.old.part (Heard (asked_word (client_of pass.old) row) result) }
         ensures step { steps_of pass.new ≡ steps_of pass.old + 1 }
     {
-        let word = (INODES + ROWS * pass.place + row) as usize;
+        let word = word_of_row(pass.place, row);
         self.words().swap::<Hears>(&mut pass.seat, word, 0)
+    }
+
+    /// What this client was asked for since it last heard this row of 64 inodes, 0 to 15, by one load: bit b of row r is inode
+    /// 64 r + b + 1. The row keeps it, to be heard later.
+    pub fn unheard_questions(&self, pass: &mut Pass, row: u32) -> u64
+        requires table { pass.old.table ≡ self.now }
+        requires row { row < 16 }
+        ensures found { pass.new ≡ with_event pass.old (Looked (asked_word (client_of pass.old) row) result) }
+        ensures unheard { FindsUnheard pass.old.part (asked_word (client_of pass.old) row) result }
+        ensures step { steps_of pass.new ≡ steps_of pass.old + 1 }
+    {
+        let word = word_of_row(pass.place, row);
+        self.words().load::<Listens>(&mut pass.seat, word)
     }
 }

@@ -69,6 +69,15 @@ impl Play<(), View> for Hears {
     ghost then = { DidHear };
 }
 
+/// A look at an asked word.
+pub struct Listens;
+
+impl Play<(), View> for Listens {
+    ghost use Rattle.lease_manager.specs.Plays.{Listened};
+
+    ghost then = { Listened };
+}
+
 /// A look at a moment where one seat carries several clients.
 pub struct Meets;
 

@@ -19,7 +19,7 @@ pub enum Event {
     Refused(u64, u64),
     /// The client's marks were taken out of a lease word.
     Gave(u64),
-    /// A lease word was read, and had this number.
+    /// A word was read, and had this number.
     Looked(u64, u64),
     /// These bits were put into an asked word.
     Asked(u64, u64),

@@ -10,6 +10,7 @@ swap-requires c =
     let wide = c.words.ensures.1 in
     let small = i.3 in
     let within = c.requires.row in
+    let word = c.word_of_row-word.ensures in
     let me = c.pass.inside.seat.me in (
       ap (λ (p : PassView). p.table) c.pass.view_is ∙ c.requires.table ∙ sym c.words.ensures.0,
       omega arith,
