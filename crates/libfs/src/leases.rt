@@ -1,10 +1,10 @@
 ghost use Rattle.std.specs.Prelude.{◌≡◌, ◌+◌, ◌-◌, ◌/◌, ◌<◌, ◌↔◌, [], ◌∷◌, IsTrue, IfErr, OnOk, true, false};
-ghost use Rattle.lease_manager.specs.declared.view.Event.TheVariants.{Asked, Heard};
+ghost use Rattle.lease_manager.specs.declared.view.Event.TheVariants.{Asked, Heard, Looked};
 ghost use Rattle.lease_manager.specs.declared.view.LeaseMode.TheVariants.{Free, Reading, Writing};
 ghost use Rattle.lease_manager.specs.Words.{HasWord, IsClient, asked_word, asked_bit};
 ghost use Rattle.lease_manager.specs.Marks.{ShowsOther};
 ghost use Rattle.lease_manager.specs.Book.{Holds};
-ghost use Rattle.lease_manager.specs.Parts.{AreCompatible, Continues, ShareHistory};
+ghost use Rattle.lease_manager.specs.Parts.{AreCompatible, Continues, FindsUnheard, ShareHistory};
 ghost use Rattle.lease_manager.specs.Passes.{client_of, lease_of, with_lease, refused_at, with_event};
 ghost use Rattle.lease_manager.specs.LeaseCounts.{CountsAs};
 ghost use Rattle.libfs.specs.LeaseCalls.{CanBeGiven, HasGiven, ShowsBar, mode_of, refused_pass};
@@ -93,6 +93,15 @@ impl<M: Media> Client<M> {
         ensures history { Continues self.old.pass.part (Heard (asked_word (client_of self.old.pass) row) result) }
     {
         self.leases.asked_back(&mut self.pass, row)
+    }
+
+    /// What this client was asked for since it last heard this row of 64 inodes, 0 to 15: bit b of row r is inode 64 r + b + 1. The row keeps it, to be heard later.
+    pub fn unheard_questions(&mut self, row: u32) -> u64
+        requires { row < 16 }
+        ensures found { self.new ≡ record self.old { pass = with_event self.old.pass (Looked (asked_word (client_of self.old.pass) row) result) } }
+        ensures unheard { FindsUnheard self.old.pass.part (asked_word (client_of self.old.pass) row) result }
+    {
+        self.leases.unheard_questions(&mut self.pass, row)
     }
 }
 
