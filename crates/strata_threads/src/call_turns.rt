@@ -58,7 +58,7 @@ impl<M: Media + Drop> ThreadClient<M> {
         ensures given { self.new.waited.turns ≡ turns }
     {
         self.waited = Waited::none_of(turns);
-        self.listen(rt);
+        self.listen_to(rt, self.rows);
         for turn in rt.forever() {
             if self.waited.is_over() {
                 return Err(Denied::Turns);

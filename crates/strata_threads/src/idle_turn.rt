@@ -24,19 +24,31 @@ impl<M: Media + Drop> ThreadClient<M> {
         ensures kept { KeepsCall self.old.client self.new.client }
         ensures waited { self.new.waited ≡ self.old.waited }
     {
+        self.listen_to(rt, ROWS);
+    }
+
+    // The same of the first rows of inodes.
+    pub(crate) fn listen_to<R: Wait>(&mut self, rt: &R, rows: u32)
+        ensures listened { HasListened M.Media self.old.client self.new.client }
+        ensures kept { KeepsCall self.old.client self.new.client }
+        ensures waited { self.new.waited ≡ self.old.waited }
+    {
         self.take_back(rt);
-        hear(&mut self.client, &mut self.asked);
-        if give_asked(&mut self.client, &mut self.asked) {
+        hear(&mut self.client, &mut self.asked, rows);
+        if give_asked(&mut self.client, &mut self.asked, rows) {
             let _ = self.hand_over(rt);
         }
     }
 
-    // Takes the region back that came by the queue. One that the queue to the workers had no room for goes first.
+    // Takes the region back that came by the queue, if one is away. One that the queue to the workers had no room for goes first.
     fn take_back<R: Wait>(&mut self, rt: &R)
         ensures back { HasComeBack M.Media self.old.client self.new.client }
         ensures kept { KeepsCall self.old.client self.new.client }
         ensures waited { self.new.waited ≡ self.old.waited }
     {
+        if !self.client.is_region_away() {
+            return;
+        }
         self.put_kept(rt);
         if self.kept.is_some() {
             return;
@@ -143,23 +155,67 @@ impl<M: Media + Drop> ThreadClient<M> {
         ensures waited { self.new.waited ≡ self.old.waited }
     {
         give_inodes(&mut self.client);
+        self.rows = held_rows(&self.client);
     }
 }
 
-// Hears what others ask for.
+// Hears what others ask for of the first rows of inodes.
 #[tactic(auto, using(crate::proofs::LeaseReturn::gives_nothing, crate::proofs::LeaseReturn::gives_both))]
-fn hear<M: Media>(client: &mut Client<M>, asked: &mut [u64; 16])
+fn hear<M: Media>(client: &mut Client<M>, asked: &mut [u64; 16], rows: u32)
     ensures given { HasOnlyGiven client.old client.new }
     ensures kept { KeepsCall client.old client.new }
 {
     for row in 0..ROWS {
+        if rows <= row {
+            return;
+        }
         let bits = hear_row(client, row);
         asked[row as usize] |= bits;
     }
 }
 
-// What others ask for of a row of inodes.
+// What others ask for of a row of inodes. It is emptied only where it shows something, which is seldom: a swap costs some ten times a load.
+#[tactic(auto, using(crate::proofs::LeaseReturn::gives_nothing, crate::proofs::LeaseReturn::gives_both))]
 fn hear_row<M: Media>(client: &mut Client<M>, row: u32) -> u64
+    requires row { row < 16 }
+    ensures given { HasOnlyGiven client.old client.new }
+    ensures kept { KeepsCall client.old client.new }
+{
+    if !has_questions(client, row) {
+        return 0;
+    }
+    empty_row(client, row)
+}
+
+// How many rows there are up to the last one of which it holds an inode.
+pub(crate) fn held_rows<M: Media>(client: &Client<M>) -> u32 {
+    let mut rows = 0;
+    for before in 0..INODES {
+        if client.holds(before + 1) != LeaseMode::Free {
+            rows = row_count(before + 1);
+        }
+    }
+    rows
+}
+
+// How many rows there are up to that of an inode.
+pub(crate) fn row_count(inode: u32) -> u32
+    requires { HasWord inode }
+{
+    (inode - 1) / 64 + 1
+}
+
+// Whether others ask for something of a row of inodes.
+fn has_questions<M: Media>(client: &mut Client<M>, row: u32) -> bool
+    requires row { row < 16 }
+    ensures given { HasOnlyGiven client.old client.new }
+    ensures kept { KeepsCall client.old client.new }
+{
+    client.unheard_questions(row) != 0
+}
+
+// What others ask for of it, and the row is emptied.
+fn empty_row<M: Media>(client: &mut Client<M>, row: u32) -> u64
     requires row { row < 16 }
     ensures given { HasOnlyGiven client.old client.new }
     ensures kept { KeepsCall client.old client.new }
@@ -167,14 +223,17 @@ fn hear_row<M: Media>(client: &mut Client<M>, row: u32) -> u64
     client.asked_back(row)
 }
 
-// Gives what was asked for. It answers whether something is left that can't be given.
+// Gives what was asked for of the first rows. It answers whether something is left that can't be given.
 #[tactic(auto, using(crate::proofs::LeaseReturn::gives_nothing, crate::proofs::LeaseReturn::gives_both))]
-fn give_asked<M: Media>(client: &mut Client<M>, asked: &mut [u64; 16]) -> bool
+fn give_asked<M: Media>(client: &mut Client<M>, asked: &mut [u64; 16], rows: u32) -> bool
     ensures given { HasOnlyGiven client.old client.new }
     ensures kept { KeepsCall client.old client.new }
 {
     let mut is_left = false;
     for row in 0..ROWS {
+        if rows <= row {
+            return is_left;
+        }
         let bits = asked[row as usize];
         if bits != 0 {
             let left = give_row(client, row, bits);

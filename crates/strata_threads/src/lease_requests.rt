@@ -12,6 +12,7 @@ ghost use Rattle.strata_threads.specs.RegionHandover.{HandsOver};
 ghost use Rattle.strata_threads.specs.WaitedTurns.{HasWaited};
 
 use crate::gate_point::GatePoint;
+use crate::idle_turn::row_count;
 use crate::thread_client::ThreadClient;
 use libfs::{CLIENTS, Client, Denied, LeaseMode, Media, Mode, is_inode};
 use std::sync::Wait;
@@ -34,6 +35,7 @@ impl<M: Media + Drop> ThreadClient<M> {
         if !is_inode(inode) {
             return;
         }
+        self.rows = self.rows.max(row_count(inode));
         match request_lease(&mut self.client, inode, mode) {
             Ok(()) => {}
             Err(word) => {

@@ -1,6 +1,7 @@
 ghost use Rattle.std.specs.Prelude.{◌≡◌, false, IfSome, Some};
 ghost use Rattle.libfs.specs.View.{is_pending};
 
+use crate::idle_turn::held_rows;
 use crate::waited::Waited;
 use handoff::QueueEnd;
 use libfs::{Client, Media, SealedRegion};
@@ -9,7 +10,7 @@ use std::sync::Wait;
 /// A client in a thread of its own, of which no call waits for its answer, with its ends of the two queues by which its regions go to the workers and come back.
 #[derive(Drop)]
 pub struct ThreadClient<M: Media + Drop> {
-    /// The client, which no other thread has.
+    /// The client, which no other thread has. Who takes a lease by it in place of a call has it listen (`listen`) to what others ask for.
     pub client: Client<M>,
     pub(crate) tasks: QueueEnd<SealedRegion<M>>,
     pub(crate) returns: QueueEnd<SealedRegion<M>>,
@@ -17,6 +18,8 @@ pub struct ThreadClient<M: Media + Drop> {
     pub(crate) kept: Option<SealedRegion<M>>,
     // What others asked back and is not given yet: bit b of row r is inode 64 r + b + 1
     pub(crate) asked: [u64; 16],
+    // How many rows there are up to the last one of which it may hold an inode: of the others nothing can be asked back
+    pub(crate) rows: u32,
     /// How many turns its last call has waited.
     pub waited: Waited,
     ghost idle: { is_pending client ≡ false },
@@ -32,12 +35,14 @@ impl<M: Media + Drop> ThreadClient<M> {
         requires idle { is_pending client ≡ false }
         ensures client { result.client ≡ client }
     {
+        let rows = held_rows(&client);
         ThreadClient {
             client,
             tasks,
             returns,
             kept: None,
             asked: [0; 16],
+            rows,
             waited: Waited::none_of(0),
         }
     }

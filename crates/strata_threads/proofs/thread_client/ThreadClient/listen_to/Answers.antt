@@ -1,6 +1,6 @@
 use Rattle.std.proofs.Common.{inl, refl}
 use Rattle.strata_threads.proofs.LeaseReturn.{gives_both}
-use Rattle.strata_threads.proofs.thread_client.ThreadClient.listen.Goals as goal
+use Rattle.strata_threads.proofs.thread_client.ThreadClient.listen_to.Goals as goal
 
 pub returns-then-give_asked-clause-listened : goal.returns-then-give_asked-clause-listened
 returns-then-give_asked-clause-listened g c = (
