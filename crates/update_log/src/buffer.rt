@@ -7,7 +7,7 @@ ghost use Rattle.log_record.specs.Grammar.{IsRecord, record_bytes};
 ghost use Rattle.update_log.specs.declared.format.TheConstants.{REGION_SIZE};
 ghost use Rattle.update_log.specs.Frames.{behind_gate};
 
-use crate::format::{CLOSED, REGION_SIZE};
+use crate::format::CLOSED;
 use byteorder::{ByteOrder, LittleEndian};
 use log_record::{Record, write_behind};
 use std::alloc::{AllocError, Global};
@@ -32,12 +32,13 @@ impl Model for Buffer {
 }
 
 impl Buffer {
-    /// No bytes.
-    pub fn new(alloc: Global) -> Result<Self, AllocError>
-        ensures { IfOk result (λ b. b ≡ []) }
+    /// As many zero bytes as a region has.
+    pub fn zeros(alloc: Global, size: usize) -> Result<Self, AllocError>
+        requires { size ≡ REGION_SIZE }
+        ensures { IfOk result (λ b. length b ≡ REGION_SIZE) }
     {
         Ok(Buffer {
-            bytes: Vec::with_capacity(alloc, REGION_SIZE)?,
+            bytes: vec![in alloc; 0u8; size]?,
         })
     }
 
@@ -48,9 +49,10 @@ impl Buffer {
         &self.bytes
     }
 
-    /// Reads the whole fast tier of a medium of a region's size. It fails only where the device does.
+    /// Reads the whole fast tier of a medium of a region's size over as many bytes. It fails only where the device does.
     pub fn read<M: Media>(&mut self, media: &mut M) -> Result<(), MediaError>
-        requires { length (M.seen media.old Fast) ≡ REGION_SIZE }
+        requires size { length (M.seen media.old Fast) ≡ REGION_SIZE }
+        requires long { length self.old ≡ REGION_SIZE }
         ensures bytes { OnOk result (self.new ≡ M.seen media.old Fast) }
         ensures seen { (t : Tier) → M.seen media.new t ≡ M.seen media.old t }
         ensures clock { M.moment media.new ≡ M.moment media.old }
@@ -60,11 +62,7 @@ impl Buffer {
         ensures faults { M.faults media.old ≤ M.faults media.new }
         ensures one_fault { M.faults media.new ≤ M.faults media.old + 1 }
     {
-        let size = media.size(Tier::Fast);
-        match self.bytes.resize(size, 0) {
-            Ok(()) => media.read(Tier::Fast, 0, &mut self.bytes),
-            Err(_) => unreachable!(),
-        }
+        media.read(Tier::Fast, 0, &mut self.bytes)
     }
 
     /// What stands behind a record's gate: the length of its payload, the payload, and a closed gate.
