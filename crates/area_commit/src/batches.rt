@@ -36,8 +36,8 @@ pub fn batch_of<M: Media>(
     ensures batch { IfOk result (IsBatchOf (disk M.Media journal.old) slots.now marks nodes.now) }
     ensures places { IfOk result (AreJournaled journal.old.geometry) }
     ensures superblock { IfOk result (KeepsGeometry journal.old.geometry) }
-    ensures few { IfOk result (λ batch. length batch ≤ length slots.now + 1 + length nodes.now) }
-    ensures few_blocks { IfOk result (λ batch. length batch ≤ 33 + length nodes.now) }
+    ensures few { IfOk result (λ batch. length batch ≤ length slots.now + length (marks_images marks) + length nodes.now) }
+    ensures few_blocks { IfOk result (λ batch. length batch ≤ 32 + length (marks_images marks) + length nodes.now) }
     ensures only { IfErr result (λ e. OnDamage e (λ _ _. ⊥)) }
     ensures looks { Looks M.Media journal.old journal.new result }
 {

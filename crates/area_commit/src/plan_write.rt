@@ -9,7 +9,7 @@ ghost use Rattle.area_image.specs.Store.{disk};
 ghost use Rattle.area_image.specs.Format.{IsSpelled};
 ghost use Rattle.area_image.specs.Looks.{Looks};
 ghost use Rattle.area_image.specs.declared.error.AreaError.TheVariants.{DeviceFault, Memory};
-ghost use Rattle.area_commit.specs.Batches.{IsBatchOf};
+ghost use Rattle.area_commit.specs.Batches.{IsBatchOf, marks_images};
 ghost use Rattle.area_commit.specs.Value.{HasRanges, AreFree};
 ghost use Rattle.area_commit.specs.Allocations.{WasReleased};
 ghost use Rattle.area_commit.specs.DataWrite.{Went, calls_for, TakenInTurn};
@@ -64,7 +64,7 @@ fn write_all<M: Media>(
     ensures done { OnOk result (IsCarriedOut journal.old.geometry (disk M.Media journal.old) plan.now (disk M.Media journal.new)) }
     ensures rests { OnOk result ((t : Tier) → AtRest (M.seen journal.new.media) (M.left journal.new.media (M.moment journal.new.media)) t) }
     ensures turn { TakenInTurn plan.now.taken (M.moment journal.old.media) (M.moment journal.new.media) (M.left journal.old.media) (M.left journal.new.media) }
-    ensures at_most { M.moment journal.new.media ≤ M.moment journal.old.media + calls_for plan.now.taken + min (length plan.now.slots.items) 32 + length plan.now.nodes + 8 }
+    ensures at_most { M.moment journal.new.media ≤ M.moment journal.old.media + calls_for plan.now.taken + min (length plan.now.slots.items) 32 + length (marks_images plan.now.marks) + length plan.now.nodes + 7 }
     ensures only { IfErr result (λ e. (e ≡ DeviceFault) ⊎ (e ≡ Memory)) }
     ensures memory { IsErrOf result Memory → Looks M.Media journal.old journal.new result }
     ensures fault { IsErrOf result DeviceFault → (journal.new.failed ≡ true) × Rose (M.faults journal.old.media) (M.faults journal.new.media) }
@@ -110,7 +110,7 @@ pub fn carry_out<M: Media>(
     // The data is written fastest tier first, and the tiers are fenced in the same order.
     ensures turn { TakenInTurn plan.taken (M.moment journal.old.media) (M.moment journal.new.media) (M.left journal.old.media) (M.left journal.new.media) }
     // One for each run of data and for each tier that has some, and of the batch 7 and one for each image: those of the slot blocks, of the marks and of the node blocks.
-    ensures at_most { M.moment journal.new.media ≤ M.moment journal.old.media + calls_for plan.taken + min (length plan.slots.items) 32 + length plan.nodes + 8 }
+    ensures at_most { M.moment journal.new.media ≤ M.moment journal.old.media + calls_for plan.taken + min (length plan.slots.items) 32 + length (marks_images plan.marks) + length plan.nodes + 7 }
 
     ensures undone { OnErr result (WasReleased pools.old pools.new plan.taken) }
     ensures only { IfErr result (λ e. (e ≡ DeviceFault) ⊎ (e ≡ Memory)) }

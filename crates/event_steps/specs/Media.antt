@@ -78,4 +78,4 @@ pub record IsMovedIn {M : Type 0} (device : Ghosts M) (k : KernelView M) (i firs
   pub book : after.book ≡ k.book
   pub opening : after.opening ≡ k.opening
   pub answers : Answers k.area.failed k after answer (MovesOrStays device k.area after.area)
-  pub at_most : device.moment after.area.media ≤ device.moment k.area.media + count + 13
+  pub at_most : device.moment after.area.media ≤ device.moment k.area.media + count + 12

@@ -568,7 +568,7 @@ impl<M: Media> Kernel<M> {
     ///
     /// The refusals, in this order: `NotMapped` exactly where there is no file at the inode, the run has no block or more than 256, or some block of it lies in no tier that is faster than `to`; `NoBlock` exactly
     /// where fewer data blocks of `to` are free than the run has. After these nothing has changed, nor after `Memory`. `DeviceFault` where a device failed. Of writes and fences there are at most one for each block of
-    /// the run and 13 more.
+    /// the run and 12 more.
     pub fn migrate(
         &mut self,
         inode: u32,
@@ -585,7 +585,7 @@ impl<M: Media> Kernel<M> {
         ensures memory { IsErrOf result (Refused moves.Memory) → HasFileRun self.old.area.geometry (disk M.Media self.old.area) inode first count }
         ensures book { self.new.book ≡ self.old.book }
         ensures answers { Answers self.old.area.failed self.old self.new result (MovesOrStays M.Media self.old.area self.new.area) }
-        ensures at_most { M.moment self.new.area.media ≤ M.moment self.old.area.media + count + 13 }
+        ensures at_most { M.moment self.new.area.media ≤ M.moment self.old.area.media + count + 12 }
         ensures opening { self.new.opening ≡ self.old.opening }
     {
         if self.area.has_failed() {

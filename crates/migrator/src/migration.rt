@@ -16,7 +16,7 @@ use shared_area::{Media, RelocateError, Shared, Tier};
 /// there is a file that the run lies within. `DeviceFault` where a device failed: the area answers nothing else then, until the medium is opened again. So a run that `pick`
 /// answered is refused for want of blocks, of memory or of a device alone.
 ///
-/// Of writes and fences there are at most one for each block of the run and 13 more.
+/// Of writes and fences there are at most one for each block of the run and 12 more.
 pub fn migrate<M: Media>(
     area: &mut Shared<M>,
     inode: u32,
@@ -33,7 +33,7 @@ pub fn migrate<M: Media>(
     ensures can { OnOk result (CanMove area.old.geometry (disk M.Media area.old) inode first count to × HasEnough area.old.geometry (disk M.Media area.old) to count) }
     ensures memory { IsErrOf result Memory → HasFileRun area.old.geometry (disk M.Media area.old) inode first count }
     ensures moves { MovesOrStays M.Media area.old area.new result }
-    ensures at_most { M.moment area.new.media ≤ M.moment area.old.media + count + 13 }
+    ensures at_most { M.moment area.new.media ≤ M.moment area.old.media + count + 12 }
 {
     area.relocate(inode, first, count, to)
 }

@@ -1,11 +1,12 @@
 -- The plan of a move, put together.
-use Rattle.std.proofs.Common.{◌≡◌, ◌≢◌, ◌≤◌, ◌<◌, inl, inr, ◌+◌, ◌∙◌, ℕ, List, [], ◌∷◌, None, length, sym, ap, subst, arith}
+use Rattle.std.proofs.Common.{◌≡◌, ◌≢◌, ◌≤◌, ◌<◌, inl, inr, ◌+◌, ◌∙◌, ℕ, List, [], ◌∷◌, Option, None, length, sym, ap, subst, arith}
 use Rattle.std.specs.Prelude.{◌^◌, min}
 use Rattle.std.specs.List.{AllByRecursion}
 use Rattle.std.proofs.lemmas.List.{length-append}
 use Rattle.std.proofs.lemmas.List.FromFn.{length-range_with_len}
 use Rattle.inode_plan.specs.tier_device.declared.media.Tier.{Tier}
 use Rattle.inode_plan.specs.tier_device.declared.media.Tier.TheVariants as tiers
+use Rattle.inode_plan.specs.layout.declared.marks.Marks.{Marks}
 use Rattle.inode_plan.specs.layout.declared.slot.Slot.{Slot}
 use Rattle.inode_plan.specs.layout.Places.{Sizes, IsAllowed, data_first, tier_blocks}
 use Rattle.inode_plan.specs.block_alloc.declared.runs.Run.{Run}
@@ -15,6 +16,7 @@ use Rattle.inode_plan.specs.area_image.Store.{Store, logical_block}
 use Rattle.inode_plan.specs.area_commit.declared.slots.ChangedSlot.{ChangedSlot}
 use Rattle.inode_plan.specs.area_commit.declared.allocation.Allocation.{Allocation}
 use Rattle.inode_plan.specs.area_commit.Allocations.{runs_of}
+use Rattle.inode_plan.specs.area_commit.Batches.{marks_images}
 use Rattle.inode_plan.specs.area_commit.DataWrite.{fences_of, tier_calls, calls_for}
 use Rattle.relocation.specs.declared.run_search.MovableRun.{MovableRun}
 use Rattle.inode_plan.specs.Lists.{HoldsRun}
@@ -75,14 +77,14 @@ taken_calls g s f tiers.Block taken took = omega (arith, some_in g s f tiers.Blo
 taken_calls g s f tiers.Slow taken took = omega (arith, some_in g s f tiers.Slow taken took, none_in g s f tiers.Slow taken took tiers.Fast (λ e. cc), none_in g s f tiers.Slow taken took tiers.Block (λ e. cc))
 
 -- and those that carry out the plan of a move
-pub plan_calls : (g : Sizes) (s : Store) (i first count : ℕ) (to : Tier) (plan : Rewrite) → IsPlanOfMove g s i first count to plan → (before now : ℕ) → now ≤ before + calls_for plan.taken + min (length plan.slots.items) 32 + length plan.nodes + 8 → MovesInFewCalls g s to count before now
+pub plan_calls : (g : Sizes) (s : Store) (i first count : ℕ) (to : Tier) (plan : Rewrite) → IsPlanOfMove g s i first count to plan → (before now : ℕ) → now ≤ before + calls_for plan.taken + min (length plan.slots.items) 32 + length (marks_images plan.marks) + length plan.nodes + 7 → MovesInFewCalls g s to count before now
 plan_calls g s i first count to plan p before now most = inr (record {
   runs = runs_of plan.taken to;
   lowest = subst (λ (n : ℕ). AreLowestFree g s to n (runs_of plan.taken to)) p.count_is p.is_plan.took.lowest;
-  few = (let taken = taken_calls g s p.file to plan.taken p.is_plan.took in let slots = ap length p.is_plan.made.slots_are in let images = p.is_plan.made.images.few in omega (arith, most, taken, slots, images));
+  few = (let taken = taken_calls g s p.file to plan.taken p.is_plan.took in let slots = ap length p.is_plan.made.slots_are in let images = p.is_plan.made.images.few in let marks = ap (λ (v : Option Marks). length (marks_images v)) p.is_plan.marks in omega (arith, most, taken, slots, images, marks));
 })
 
 -- a run has no more runs of places than blocks
-pub few_calls : (g : Sizes) (s : Store) (to : Tier) (count before now : ℕ) → MovesInFewCalls g s to count before now → now ≤ before + count + 13
+pub few_calls : (g : Sizes) (s : Store) (to : Tier) (count before now : ℕ) → MovesInFewCalls g s to count before now → now ≤ before + count + 12
 few_calls g s to count before now (inl none) = omega (arith, none)
 few_calls g s to count before now (inr some) = (let runs = few_runs (data_first g to) (tier_blocks g to) some.runs some.lowest.apart in let many = some.lowest.many in let few = some.few in omega (arith, runs, many, few))

@@ -58,7 +58,7 @@ pub record Moves (g : Sizes) (s : Store) (i first count : ℕ) (to : Tier) (befo
 pub record MovesInCalls (g : Sizes) (s : Store) (to : Tier) (count before now : ℕ) : Type 0 where
   pub runs : List Run
   pub lowest : AreLowestFree g s to count runs
-  pub few : now ≤ before + length runs + 13
+  pub few : now ≤ before + length runs + 12
 
 -- There are no more than these, or none.
 abbrev pub MovesInFewCalls : Sizes → Store → Tier → (count before now : ℕ) → Type 0

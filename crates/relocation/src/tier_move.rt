@@ -82,7 +82,7 @@ pub fn relocate<M: Media>(
     ensures one_fault { M.faults journal.new.media ≤ M.faults journal.old.media + 1 }
     // A write for each run of the blocks that it goes to, which are the lowest that are free in the tier, a fence, and the batch; what is read is not counted.
     ensures few { MovesInFewCalls journal.old.geometry (disk M.Media journal.old) to run.count (M.moment journal.old.media) (M.moment journal.new.media) }
-    ensures at_most { M.moment journal.new.media ≤ M.moment journal.old.media + run.count + 13 }
+    ensures at_most { M.moment journal.new.media ≤ M.moment journal.old.media + run.count + 12 }
 {
     if journal.has_failed() {
         return Err(RelocateError::DeviceFault);

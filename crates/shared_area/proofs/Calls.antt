@@ -12,6 +12,7 @@ use Rattle.change_plan.specs.FileLayout.{GetPlaces}
 use Rattle.change_plan.specs.area_commit.Value.{PoolsView}
 use Rattle.change_plan.specs.area_commit.declared.allocation.Allocation.{Allocation}
 use Rattle.change_plan.specs.area_commit.Allocations.{taken_data}
+use Rattle.change_plan.specs.area_commit.Batches.{marks_images}
 use Rattle.change_plan.specs.area_commit.DataWrite.{TakenInTurn, calls_for}
 use Rattle.change_plan.specs.declared.partial_plan.PartialPlan.{PartialPlan}
 use Rattle.change_plan.proofs.area_commit_lemmas.Returned.{were_free}
@@ -19,7 +20,7 @@ use Rattle.change_plan.proofs.area_commit_lemmas.Turns.{turn_behind, turn_read}
 use Rattle.shared_area.specs.ChangeApply.{MakesFewCalls}
 
 pub few_calls : (g : Sizes) (s : Store) (cs : Changes) (v : Marks) (plan : PartialPlan) (taken : Allocation) (left : PoolsView) (before now : ℕ) (L M : ℕ → Tier → List ℕ → Type 0) → IsWhole g s cs v.digests plan taken (Some v) → HasTaken g s left taken → (blocks : List (ℕ × ℕ)) × GetPlaces g s cs blocks (taken_data taken)
-    → now ≤ before + calls_for taken + min (length plan.slots.items) 32 + length plan.nodes + 8 → TakenInTurn taken before now L M → MakesFewCalls g s cs before now L M
+    → now ≤ before + calls_for taken + min (length plan.slots.items) 32 + length (marks_images (Some v)) + length plan.nodes + 7 → TakenInTurn taken before now L M → MakesFewCalls g s cs before now L M
 few_calls g s cs v plan taken left before now L M whole took got few turn = inr (record {
   blocks = got.0;
   places = taken_data taken;
@@ -27,7 +28,7 @@ few_calls g s cs v plan taken left before now L M whole took got few turn = inr 
   calls = calls_for taken;
   for_data = record { taken = taken; apart = (were_free g s took.before left taken took.ranges took.free took.took).apart; are = refl; many = refl };
   turn = turn;
-  few = (let images = whole.images in omega (arith, few, images));
+  few = (let images = whole.images in let one : length (marks_images (Some v)) ≡ 1 = refl in omega (arith, few, images, one));
 })
 
 module _ (g : Sizes) (s : Store) (cs : Changes) (a b c : ℕ) (L M N : ℕ → Tier → List ℕ → Type 0) where

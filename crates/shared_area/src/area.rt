@@ -209,7 +209,7 @@ impl<M: Media> Shared<M> {
 
     /// Moves a run of a file's logical blocks, `count` of them from block `first` on, to a tier that is slower than those in which they lie, into its lowest data blocks that are
     /// free. Graph and marks stay: a stop at any moment leaves the run where it lay, or all of it moved. How many reads that takes is a matter of cost alone;
-    /// of writes and fences there are at most one for each run of the blocks that it goes to and 13 more.
+    /// of writes and fences there are at most one for each run of the blocks that it goes to and 12 more.
     ///
     /// `NotMapped` exactly where there is no file at the inode, the run has no block or more than 256, or some block of it lies in no tier that is faster than `to`; `NoBlock`
     /// exactly where the run could be moved, but fewer data blocks of `to` are free than it has. `Memory` where there was none, before the first write, and only where there is
@@ -237,7 +237,7 @@ impl<M: Media> Shared<M> {
         ensures moves { MovesOrStays M.Media self.old self.new result }
         // A write for each run of the blocks that it goes to, a fence, and the batch; what is read is not counted.
         ensures few { MovesInFewCalls self.old.geometry (disk M.Media self.old) to count (M.moment self.old.media) (M.moment self.new.media) }
-        ensures at_most { M.moment self.new.media ≤ M.moment self.old.media + count + 13 }
+        ensures at_most { M.moment self.new.media ≤ M.moment self.old.media + count + 12 }
     {
         let alloc = self.alloc;
         // For the proof: the free blocks of the pools are in order.
@@ -257,7 +257,7 @@ impl<M: Media> Shared<M> {
 
     /// Changes the graph, with new marks, in one batch: what the change puts into files goes into data blocks of its own first, the first that are free, fastest tier first, with one
     /// write for each run of them and then one fence for each tier that was written, in the same order; then one batch of the journal writes all else. Data blocks that the change does
-    /// not write stay where they lie. A stop at any moment leaves the graph and the marks from before, or the graph after the change and the new marks. Each inode that is written tells the number of
+    /// not write stay where they lie, and a hole within which a file is cut stays a hole. A stop at any moment leaves the graph and the marks from before, or the graph after the change and the new marks. Each inode that is written tells the number of
     /// digests of the marks as its touch number. The change has to keep to the limits, and the graph after it to the units.
     ///
     /// `NoBlock` where fewer data blocks are free than the change writes, which is never so where it writes no more than the format spares. `Memory` where there was none, before

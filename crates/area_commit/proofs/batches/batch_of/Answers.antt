@@ -41,10 +41,10 @@ pub returns-clause-few : goal.returns-clause-few
 returns-clause-few g c =
     let nodes = c.args.nodes.now in
     let front = c.push_slot_blocks.new.batch in
-    omega (arith, ap length c.in_ok-push_all.ensures.pushed, length-append c.push_marks.new.batch nodes, ap length c.in_ok-push_marks.ensures.pushed, length-append front (marks_images c.args.marks), one_for_marks c.args.marks, c.in_ok-push_slot_blocks.ensures.few)
+    omega (arith, ap length c.in_ok-push_all.ensures.pushed, length-append c.push_marks.new.batch nodes, ap length c.in_ok-push_marks.ensures.pushed, length-append front (marks_images c.args.marks), c.in_ok-push_slot_blocks.ensures.few)
 
 pub returns-clause-few_blocks : goal.returns-clause-few_blocks
 returns-clause-few_blocks g c =
     let nodes = c.args.nodes.now in
     let front = c.push_slot_blocks.new.batch in
-    omega (arith, ap length c.in_ok-push_all.ensures.pushed, length-append c.push_marks.new.batch nodes, ap length c.in_ok-push_marks.ensures.pushed, length-append front (marks_images c.args.marks), one_for_marks c.args.marks, c.in_ok-push_slot_blocks.ensures.few_blocks)
+    omega (arith, ap length c.in_ok-push_all.ensures.pushed, length-append c.push_marks.new.batch nodes, ap length c.in_ok-push_marks.ensures.pushed, length-append front (marks_images c.args.marks), c.in_ok-push_slot_blocks.ensures.few_blocks)

@@ -1,10 +1,11 @@
-use Rattle.std.proofs.Common.{◌≡◌, ◌≤◌, ◌∙◌, ℕ, List, sym, subst, arith}
+use Rattle.std.proofs.Common.{◌≡◌, ◌≤◌, ◌∙◌, ℕ, List, length, sym, ap, subst, arith}
 use Rattle.area_image.specs.layout.Places.{Sizes}
 use Rattle.area_image.proofs.batch_journal_lemmas.Courses.{left_before}
 use Rattle.area_image.specs.Store.{Store, disk}
 use Rattle.area_image.proofs.Looked.{carried}
 use Rattle.area_commit.specs.declared.slots.ChangedSlot.{ChangedSlot}
 use Rattle.area_commit.specs.Slots.{RiseIn}
+use Rattle.area_commit.proofs.Images.{one_for_marks}
 use Rattle.area_commit.proofs.Turns.{no_turn, turn_behind}
 use Rattle.area_commit.specs.Plan.{IsPlan}
 use Rattle.area_commit.proofs.Read.{while_read, then_written, then_done}
@@ -18,6 +19,12 @@ batch_of-requires-clause-nodes g c = c.requires.plan.2.nodes
 
 pub batch_of-requires-clause-few : goal.batch_of-requires-clause-few
 batch_of-requires-clause-few g c = let few = c.requires.plan.2.few in omega (arith, few)
+
+pub write_plan-requires-clause-few : goal.write_plan-requires-clause-few
+write_plan-requires-clause-few g c =
+    let few = c.requires.plan.2.few in
+    let one = one_for_marks c.args.plan.now.marks in
+    omega (arith, few, one, c.in_ok-batch.ensures.few, c.in_ok-batch.ensures.few_blocks, ap length c.deref.ensures.value)
 
 pub write_plan-requires-clause-rests : goal.write_plan-requires-clause-rests
 write_plan-requires-clause-rests g c = λ t x l. (let un = c.batch_of.ensures.looks.unmoved in c.requires.rests t x (left_before un t x l) ∙ sym (un.reads t))

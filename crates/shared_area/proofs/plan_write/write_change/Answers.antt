@@ -5,6 +5,7 @@ use Rattle.change_plan.specs.graph_change.View.{changes_of}
 use Rattle.change_plan.specs.area_image.Store.{Store, disk}
 use Rattle.change_plan.specs.area_commit.Value.{PoolsView}
 use Rattle.change_plan.specs.area_commit.Allocations.{WasReleased}
+use Rattle.change_plan.specs.area_commit.Batches.{marks_images}
 use Rattle.change_plan.specs.area_commit.DataWrite.{TakenInTurn, calls_for}
 use Rattle.change_plan.specs.area_commit.declared.plan.Rewrite.{Rewrite}
 use Rattle.change_plan.specs.area_commit.Plan.{IsPlan}
@@ -49,7 +50,7 @@ returns-in-Ok-clause-ends g c =
     let done : (x : Store) → IsCarriedOut old.geometry s c.whole_plan.result x → IsAppliedStore old.geometry s cs v x =
     λ x out. c.carried_out_change_is_made.ensures old.geometry s cs c.args.plan c.args.taken v x allowed c.requires.opens.spelled c.requires.can c.requires.whole c.requires.first (subst (λ (r : Rewrite). IsCarriedOut old.geometry s r x) c.whole_plan.ensures out) in
     let got = c.whole_change_lies_in_its_places.ensures.got old.geometry s cs v.digests c.args.plan c.args.taken (Some v) c.requires.whole c.requires.first in
-    let few = few_calls old.geometry s cs v c.args.plan c.args.taken c.args.pools.now (m.moment old.media) (m.moment new.media) (m.left old.media) (m.left new.media) c.requires.whole c.requires.took got (subst (λ (r : Rewrite). m.moment new.media ≤ m.moment old.media + calls_for r.taken + min (length r.slots.items) 32 + length r.nodes + 8) c.whole_plan.ensures c.carry_out.ensures.at_most)
+    let few = few_calls old.geometry s cs v c.args.plan c.args.taken c.args.pools.now (m.moment old.media) (m.moment new.media) (m.left old.media) (m.left new.media) c.requires.whole c.requires.took got (subst (λ (r : Rewrite). m.moment new.media ≤ m.moment old.media + calls_for r.taken + min (length r.slots.items) 32 + length (marks_images r.marks) + length r.nodes + 7) c.whole_plan.ensures c.carry_out.ensures.at_most)
     (subst (λ (r : Rewrite). TakenInTurn r.taken (m.moment old.media) (m.moment new.media) (m.left old.media) (m.left new.media)) c.whole_plan.ensures c.carry_out.ensures.turn) in
     let settled : IsSettled old.geometry (m.seen new.media) (m.left new.media (m.moment new.media)) pools = record {
       opens = (done (disk m new) c.in-Ok.ensures.done).opens;
@@ -73,7 +74,7 @@ returns-in-Err-clause-ends g c =
     let done : (x : Store) → IsCarriedOut old.geometry s c.whole_plan.result x → IsAppliedStore old.geometry s cs v x =
     λ x out. c.carried_out_change_is_made.ensures old.geometry s cs c.args.plan c.args.taken v x allowed c.requires.opens.spelled c.requires.can c.requires.whole c.requires.first (subst (λ (r : Rewrite). IsCarriedOut old.geometry s r x) c.whole_plan.ensures out) in
     let got = c.whole_change_lies_in_its_places.ensures.got old.geometry s cs v.digests c.args.plan c.args.taken (Some v) c.requires.whole c.requires.first in
-    let few = few_calls old.geometry s cs v c.args.plan c.args.taken c.args.pools.now (m.moment old.media) (m.moment new.media) (m.left old.media) (m.left new.media) c.requires.whole c.requires.took got (subst (λ (r : Rewrite). m.moment new.media ≤ m.moment old.media + calls_for r.taken + min (length r.slots.items) 32 + length r.nodes + 8) c.whole_plan.ensures c.carry_out.ensures.at_most)
+    let few = few_calls old.geometry s cs v c.args.plan c.args.taken c.args.pools.now (m.moment old.media) (m.moment new.media) (m.left old.media) (m.left new.media) c.requires.whole c.requires.took got (subst (λ (r : Rewrite). m.moment new.media ≤ m.moment old.media + calls_for r.taken + min (length r.slots.items) 32 + length (marks_images r.marks) + length r.nodes + 7) c.whole_plan.ensures c.carry_out.ensures.at_most)
     (subst (λ (r : Rewrite). TakenInTurn r.taken (m.moment old.media) (m.moment new.media) (m.left old.media) (m.left new.media)) c.whole_plan.ensures c.carry_out.ensures.turn) in
     let rests : Rests m old.geometry old.media = record { sizes = c.left_now.ensures.sizes c.requires.going; journal = c.left_now.ensures.journal c.requires.going; rest = c.requires.rests } in
     let took = c.requires.took in
