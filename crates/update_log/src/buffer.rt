@@ -1,5 +1,5 @@
 // The bytes that an append writes behind a gate.
-ghost use Rattle.std.specs.Prelude.{◌≡◌, ◌≤◌, ◌+◌, [], length, IfOk, IsOk, OnOk, OnErr, vec_len, vec_capacity};
+ghost use Rattle.std.specs.Prelude.{◌≡◌, ◌≤◌, ◌+◌, ◌++◌, [], take, drop, length, IfOk, IsOk, OnOk, OnErr, vec_len, vec_capacity};
 ghost use Rattle.tier_device.specs.declared.media.Tier.{Tier};
 ghost use Rattle.tier_device.specs.declared.media.Tier.TheVariants.{Fast};
 ghost use Rattle.tier_device.specs.Media.{Keeps, Rose};
@@ -7,7 +7,7 @@ ghost use Rattle.log_record.specs.Grammar.{IsRecord, record_bytes};
 ghost use Rattle.update_log.specs.declared.format.TheConstants.{REGION_SIZE};
 ghost use Rattle.update_log.specs.Frames.{behind_gate};
 
-use crate::format::CLOSED;
+use crate::format::{CLOSED, REGION_SIZE};
 use byteorder::{ByteOrder, LittleEndian};
 use log_record::{Record, write_behind};
 use std::alloc::{AllocError, Global};
@@ -31,14 +31,22 @@ impl Model for Buffer {
     ghost invariant = { λ b. REGION_SIZE ≤ vec_capacity b.bytes };
 }
 
+// The bytes that are read at once, few enough for the nearest memory.
+const PIECE: usize = 4_096;
+
+const PIECES: usize = 64;
+
+fn empty_piece() -> [u8; PIECE] {
+    [0; PIECE]
+}
+
 impl Buffer {
-    /// As many zero bytes as a region has.
-    pub fn zeros(alloc: Global, size: usize) -> Result<Self, AllocError>
-        requires { size ≡ REGION_SIZE }
-        ensures { IfOk result (λ b. length b ≡ REGION_SIZE) }
+    /// No bytes.
+    pub fn new(alloc: Global) -> Result<Self, AllocError>
+        ensures { IfOk result (λ b. b ≡ []) }
     {
         Ok(Buffer {
-            bytes: vec![in alloc; 0u8; size]?,
+            bytes: Vec::with_capacity(alloc, REGION_SIZE)?,
         })
     }
 
@@ -49,10 +57,9 @@ impl Buffer {
         &self.bytes
     }
 
-    /// Reads the whole fast tier of a medium of a region's size over as many bytes. It fails only where the device does.
+    /// Reads the whole fast tier of a medium of a region's size, piece by piece, so that no memory is filled before it is read over. It fails only where the device does.
     pub fn read<M: Media>(&mut self, media: &mut M) -> Result<(), MediaError>
         requires size { length (M.seen media.old Fast) ≡ REGION_SIZE }
-        requires long { length self.old ≡ REGION_SIZE }
         ensures bytes { OnOk result (self.new ≡ M.seen media.old Fast) }
         ensures seen { (t : Tier) → M.seen media.new t ≡ M.seen media.old t }
         ensures clock { M.moment media.new ≡ M.moment media.old }
@@ -62,7 +69,37 @@ impl Buffer {
         ensures faults { M.faults media.old ≤ M.faults media.new }
         ensures one_fault { M.faults media.new ≤ M.faults media.old + 1 }
     {
-        media.read(Tier::Fast, 0, &mut self.bytes)
+        self.bytes.clear();
+        let mut piece = empty_piece();
+        for place in 0..PIECES {
+            self.read_piece(media, place * PIECE, &mut piece)?;
+        }
+        Ok(())
+    }
+
+    // Reads as many bytes as a piece has, from a place on, behind those that it has.
+    fn read_piece<M: Media>(
+        &mut self,
+        media: &mut M,
+        at: usize,
+        piece: &mut [u8],
+    ) -> Result<(), MediaError>
+        requires within { at + length piece.old ≤ length (M.seen media.old Fast) }
+        requires room { length self.old + length piece.old ≤ REGION_SIZE }
+        ensures bytes { OnOk result (self.new ≡ self.old ++ take (length piece.old) (drop at (M.seen media.old Fast))) }
+        ensures seen { (t : Tier) → M.seen media.new t ≡ M.seen media.old t }
+        ensures clock { M.moment media.new ≡ M.moment media.old }
+        ensures past { Keeps (M.moment media.old) (M.moment media.new) (M.left media.old) (M.left media.new) }
+        ensures fault { OnErr result (Rose (M.faults media.old) (M.faults media.new)) }
+        ensures quiet { OnOk result (M.faults media.new ≡ M.faults media.old) }
+        ensures faults { M.faults media.old ≤ M.faults media.new }
+        ensures one_fault { M.faults media.new ≤ M.faults media.old + 1 }
+    {
+        media.read(Tier::Fast, at, piece)?;
+        match self.bytes.extend_from_slice(piece) {
+            Ok(()) => Ok(()),
+            Err(_) => unreachable!(),
+        }
     }
 
     /// What stands behind a record's gate: the length of its payload, the payload, and a closed gate.

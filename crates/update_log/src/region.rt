@@ -98,7 +98,7 @@ impl<M: Media> Region<M> {
         if !has_size(&media) {
             return Err((RegionError::Damaged, media));
         }
-        match Buffer::zeros(alloc, media.size(Tier::Fast)) {
+        match Buffer::new(alloc) {
             Ok(buffer) => Region::read(alloc, media, buffer),
             Err(_) => Err((RegionError::Memory, media)),
         }
@@ -108,7 +108,6 @@ impl<M: Media> Region<M> {
     fn read(alloc: Global, media: M, buffer: Buffer) -> Result<Self, (RegionError, M)>
         requires rests { AtRest (M.seen media) (M.left media (M.moment media)) Fast }
         requires size { length (M.seen media Fast) ≡ REGION_SIZE }
-        requires buffer { length buffer ≡ REGION_SIZE }
         ensures header { IfOk result (λ r. header_of M.Media r ≡ header (M.seen media Fast)) }
         ensures records { IfOk result (λ r. records_of M.Media r ≡ records (M.seen media Fast)) }
         ensures end { IfOk result (λ r. r.end ≡ end_behind (records (M.seen media Fast))) }
