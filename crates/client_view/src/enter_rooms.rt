@@ -78,7 +78,7 @@ fn room_for(alloc: Global, effect: &Effect, count: u64) -> Result<Option<EnterRo
     }
 }
 
-// A copy of a name, and room for it behind so many. A directory that is full moves into twice the room, so that few of its entries move for each that is entered.
+// A copy of a name, and room for it behind so many. A directory that is full moves into twice the room, so that few move.
 fn room_for_name(alloc: Global, name: &Name, count: u64) -> Result<EnterRoom, AllocError>
     ensures { IfOk result (λ room. IsRoomFor name.now count (Some room)) }
 {

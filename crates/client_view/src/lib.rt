@@ -11,7 +11,7 @@
 //! A record of the client's own is prepared before it is begun (`prepare`): for each name that it enters into a copy there are then a copy of the name and
 //! room for it, with all memory that this takes, and nothing changes. Once the record is in the log the change is committed (`commit`), which
 //! takes no memory: the copies change in their place, a directory moves into the room only where it is full, and the client knows what the record left
-//! (`specs/AfterRecord.antt`), and no block of what it touched. So a record costs by what it touches, however many names a directory has.
+//! (`specs/AfterRecord.antt`), and no block of what it touched. So no record copies a directory; a name that is entered moves those behind it.
 //!
 //! The kernel tells a client what stands in the shared graph, and the mark up to which the client's records are digested there. What the client logged behind the mark is not
 //! in it: before what was fetched goes into the copies, those records are laid over it, over a node (`node_after`) or over a block of a file (`OwnRecords::block_after`, which looks only at the effects of records that may change it). What that comes to is

@@ -20,8 +20,8 @@ use std::alloc::AllocError;
 
 impl ClientCopies {
     /// Prepares a change of the client's own by what it knows: its record, the number of the node that it makes, and the descriptor
-    /// that it changes, as `plan_call` tells them. All memory is taken that what it knows after the record needs, and nothing changes. None is
-    /// asked for but to enter a name into what is known.
+    /// that it changes, as `plan_call` tells them. All memory is taken that what it knows after the record needs, and nothing changes. It
+    /// is wanting only where a name is entered into what is known.
     // A client's write is put together of this and `commit`: so neither moves the record or what is ready from call to call.
     #[inline(always)]
     pub fn prepare(

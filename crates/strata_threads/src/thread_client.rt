@@ -10,7 +10,7 @@ use std::sync::Wait;
 /// A client in a thread of its own, of which no call waits for its answer, with its ends of the two queues by which its regions go to the workers and come back.
 #[derive(Drop)]
 pub struct ThreadClient<M: Media + Drop> {
-    /// The client, which no other thread has. Who takes a lease by it in place of a call has it listen (`listen`) to what others ask for.
+    /// The client, which no other thread has. Who takes a lease by it, in place of a call, has it listen (`listen`) as long as it holds that: a call need not hear what is asked of it.
     pub client: Client<M>,
     pub(crate) tasks: QueueEnd<SealedRegion<M>>,
     pub(crate) returns: QueueEnd<SealedRegion<M>>,
