@@ -1,12 +1,14 @@
 //! What a refusal of the shared area is to a recovery.
 
+ghost use Rattle.recovery_laws.specs.shared_area.area_image.Refusals.{IsReadRefusal};
 ghost use Rattle.settlement.specs.Errors.{IsAreaFault};
 
 use crate::error::RecoveryError;
 use recovery_laws::AreaError;
 
-/// What the area was refused for.
+/// What the area was refused for. A recovery reads it, and changes what writes no block of data.
 pub fn area_fault(error: AreaError) -> RecoveryError
+    requires { IsReadRefusal error }
     ensures { IsAreaFault error result }
 {
     match error {
@@ -15,6 +17,7 @@ pub fn area_fault(error: AreaError) -> RecoveryError
             structure: what,
             block,
         },
+        AreaError::NoBlock | AreaError::NotMapped => unreachable!(),
         AreaError::Memory => RecoveryError::Memory,
     }
 }
