@@ -27,9 +27,9 @@ use Rattle.settlement.specs.declared.error.RecoveryError.{RecoveryError}
 use Rattle.settlement.specs.declared.error.RecoveryError.TheVariants as errors
 use Rattle.settlement.specs.Errors.{OnDamage, IsOfArea, IsAreaFault}
 use Rattle.settlement.specs.FaultOrMemory.{IsFaultOrMemory}
-use Rattle.settlement.specs.GraphTests.{AreRead, IsGraphDamage, IsGraphFault}
+use Rattle.settlement.specs.GraphTests.{FindsNoDamage, IsGraphDamage, IsGraphFault}
 use Rattle.settlement.specs.Phases.{AnswersFaults}
-use Rattle.settlement.proofs.Faults.{of_area, of_reader, no_damage}
+use Rattle.settlement.proofs.Faults.{of_area, no_damage}
 use Rattle.std.specs.Prelude.{option_map}
 
 -- ---- nodes stand at inode numbers alone
@@ -71,10 +71,10 @@ module _ {M : Type 0} (device : Ghosts M) (old new : JournalView M) where
   looked_for (why.Nodes e) going led = led.led going
   looked_for (why.Unsound inode defect) going led = (led going).0
 
-  pub are_read : (e : GraphError AreaError) → LookedFor e → AreRead e
-  are_read why.Memory looks = tt
-  are_read (why.Nodes e) looks = of_reader e looks.1
-  are_read (why.Unsound inode defect) looks = tt
+  pub finds_no_damage : (e : GraphError AreaError) → LookedFor e → FindsNoDamage e
+  finds_no_damage why.Memory looks = tt
+  finds_no_damage (why.Nodes e) looks = looks.1
+  finds_no_damage (why.Unsound inode defect) looks = tt
 
   -- a refusal that is no device fault
   quiet_answers : {T : Type 0} (f : RecoveryError) → f ≢ errors.DeviceFault → Looks device old new call_answer → AnswersFaults {T = T} device old new (Err f)

@@ -1,7 +1,7 @@
 use Rattle.recovery_laws.specs.shared_area.area_image.Store.{disk, graph}
 use Rattle.recovery_laws.specs.graph_check.record_validation.call_effects.ClosedGraph.{nobody}
 use Rattle.recovery_laws.specs.graph_check.record_validation.call_effects.Wholes.{IsSound}
-use Rattle.settlement.proofs.GraphTested.{are_read, inodes_alone, looked_for, looked_unmoved, tested_answers, tested_damage, tested_never, tested_of_area, tested_unsound}
+use Rattle.settlement.proofs.GraphTested.{finds_no_damage, inodes_alone, looked_for, looked_unmoved, tested_answers, tested_damage, tested_never, tested_of_area, tested_unsound}
 use Rattle.settlement.proofs.Changing.{sound_by, unmoved_stays}
 use Rattle.settlement.specs.Phases.{Whatever}
 use Rattle.settlement.proofs.graph_test.test_graph.Goals as goal
@@ -14,7 +14,7 @@ graph_fault-requires g c =
     let m = g.M.Media in
     let old = c.args.area.now in
     let new = c.check_graph.new.nodes in
-    are_read m old new c.in-Err.error (looked_for m old new c.in-Err.error c.requires.going c.in-Err.ensures.asked)
+    finds_no_damage m old new c.in-Err.error (looked_for m old new c.in-Err.error c.requires.going c.in-Err.ensures.asked)
 
 pub returns-in-Err-clause-answers : goal.returns-in-Err-clause-answers
 returns-in-Err-clause-answers g c =
