@@ -5,7 +5,8 @@ use Rattle.shared_area.specs.area_image.declared.error.AreaError.TheVariants as 
 use Rattle.digester.specs.declared.error.DigestError.{DigestError}
 use Rattle.digester.specs.declared.error.DigestError.TheVariants as errors
 
--- A refusal of the shared area is told as one of these: for a fault, and for want of memory. It is for no damage, and for nothing that a change or a move alone is refused for.
+-- A refusal of the shared area is told as one of these: for a fault, and for want of memory. It is for no damage, and for nothing that a
+-- change or a move alone is refused for.
 abbrev pub IsAreaError : {E : Type 0} → E → E → AreaError → E → Type 0
 IsAreaError fault memory area.DeviceFault e = e ≡ fault
 IsAreaError fault memory (area.Damaged what block) e = ⊥

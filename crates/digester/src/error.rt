@@ -16,8 +16,8 @@ pub enum DigestError {
     Memory,
 }
 
-/// Why no records were digested, where the shared area was not read or not changed: no damage is found on media that are opened, and the blocks that a run of records writes are always
-/// there.
+/// Why no records were digested, where the shared area was not read or not changed: no damage is found on media that are opened, and the
+/// blocks that a run of records writes are always there.
 pub fn digest_error(error: AreaError) -> DigestError
     requires { IsNoDamage error }
     ensures { IsDigestError error result }
