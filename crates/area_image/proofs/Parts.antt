@@ -18,6 +18,8 @@ use Rattle.area_image.specs.Map.{in_tier, extents_in, HasAllExtents, IsPartDamag
 pub on_damage : {P Q : What → ℕ → Type 0} (e : AreaError) → ((w : What) (block : ℕ) → P w block → Q w block) → OnDamage e P → OnDamage e Q
 on_damage errors.DeviceFault f p = tt
 on_damage (errors.Damaged w block) f p = f w block p
+on_damage errors.NoBlock f p = p
+on_damage errors.NotMapped f p = p
 on_damage errors.Memory f p = tt
 
 module _ (g : Sizes) (s : Store) (i : ℕ) where

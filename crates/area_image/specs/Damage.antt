@@ -131,8 +131,11 @@ IsDamaged g s part block =
     IsSlotDamage g s part block ⊎ IsExtentDamage g s part block ⊎ IsEntryDamage g s part block ⊎ IsTailDamage g s part block ⊎ IsMarksDamage s part block
     ⊎ IsOverUnits g s part block ⊎ IsShareDamage g s part block
 
--- a fact on the structure and the block that a refusal names, if it is for damage
+-- a fact on the structure and the block that a reader's refusal names, if it is for damage; a reader takes no blocks and moves none, so it
+-- refuses for neither
 abbrev pub OnDamage : AreaError → (What → ℕ → Type 0) → Type 0
 OnDamage errors.DeviceFault P = Unit {0}
 OnDamage (errors.Damaged part block) P = P part block
+OnDamage errors.NoBlock P = ⊥
+OnDamage errors.NotMapped P = ⊥
 OnDamage errors.Memory P = Unit {0}

@@ -4,6 +4,7 @@ pub mod Format
 pub mod Damage
 pub mod Map
 pub mod Looks
+pub mod Refusals
 pub mod Rewrites
 pub mod Checks
 pub mod BlockMarks

@@ -1,11 +1,13 @@
 ghost use Rattle.std.specs.Prelude.{◌≡◌};
 ghost use Rattle.area_image.specs.declared.error.AreaError.TheVariants.{Memory};
+ghost use Rattle.area_image.specs.Refusals.{area_error};
 
 use batch_journal::What;
+use extent_tree::AllocatorError;
 use std::alloc::AllocError;
 use thiserror::Error;
 
-/// Why the shared media were not read.
+/// Why a call of the shared area was refused: the contract of each says which of these can come.
 #[derive(Clone, Copy, Debug, PartialEq, Eq, Error)]
 pub enum AreaError {
     #[error("the device failed")]
@@ -14,6 +16,12 @@ pub enum AreaError {
     /// in the fast one.
     #[error("block {block} is damaged")]
     Damaged { what: What, block: u32 },
+    /// Fewer blocks are free than a change writes, or than a run has that is to be moved.
+    #[error("too few blocks are free")]
+    NoBlock,
+    /// There is no file, the run has no block or more than 256, or some block of it lies in no tier that is faster than the one asked for.
+    #[error("the run does not lie in faster tiers")]
+    NotMapped,
     #[error("out of memory")]
     Memory,
 }
@@ -23,5 +31,16 @@ impl From<AllocError> for AreaError {
 
     fn from(_e: AllocError) -> AreaError {
         AreaError::Memory
+    }
+}
+
+impl From<AllocatorError> for AreaError {
+    ghost from_gives = { λ old new. new ≡ area_error old };
+
+    fn from(error: AllocatorError) -> AreaError {
+        match error {
+            AllocatorError::NoBlock => AreaError::NoBlock,
+            AllocatorError::Memory => AreaError::Memory,
+        }
     }
 }

@@ -83,6 +83,8 @@ extents_here g s i x t is = ap (λ (y : Slot). extents_by g (s tiers.Fast) i y t
 pub no_damage : (g : Sizes) (s : Store) (i : ℕ) (x : Slot) (e : AreaError) → slot_read g s i ≡ Some x → SpellsInode g s i → OnDamage e (HasNoExtents g (s tiers.Fast) i x) → (e ≡ errors.DeviceFault) ⊎ (e ≡ errors.Memory)
 no_damage g s i x errors.DeviceFault is spells damage = inl refl
 no_damage g s i x (errors.Damaged w block) is spells damage = absurd (false≢true (subst IsSome (extents_here g s i x damage.tier is ∙ damage.none) (spells.extents damage.tier)))
+no_damage g s i x errors.NoBlock is spells damage = absurd damage
+no_damage g s i x errors.NotMapped is spells damage = absurd damage
 no_damage g s i x errors.Memory is spells damage = inr refl
 
 -- ---- a file that is made

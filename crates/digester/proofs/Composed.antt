@@ -31,8 +31,6 @@ use Rattle.shared_area.specs.area_image.declared.error.AreaError.{AreaError}
 use Rattle.shared_area.specs.area_image.declared.error.AreaError.TheVariants as area
 use Rattle.shared_area.specs.ChangeApply.{IsAppliedStore, MakesFewCalls}
 use Rattle.shared_area.proofs.Calls.{few_behind}
-use Rattle.shared_area.specs.declared.error.ApplyError.{ApplyError}
-use Rattle.shared_area.specs.declared.error.ApplyError.TheVariants as apply
 use Rattle.update_log.specs.log_record.Grammar.{IsRecord}
 use Rattle.update_log.specs.log_record.declared.format.Record.{Record}
 use Rattle.coalescer.specs.Records.{effects_in}
@@ -43,7 +41,7 @@ use Rattle.digester.specs.declared.record_test.Found.{Found}
 use Rattle.digester.proofs.PlanRuns.{place as bad_place}
 use Rattle.digester.specs.Chunk.{IsChunkOf, is_next}
 use Rattle.digester.specs.DigestStep.{IsGoodRun, IsDigested, NamesFirstBad, StaysOrDigests, DigestsOrStays}
-use Rattle.digester.specs.Errors.{IsApplyError, IsTestError}
+use Rattle.digester.specs.Errors.{IsDigestError}
 use Rattle.digester.specs.MarkMoves.{mark_after, marks_after}
 use Rattle.digester.specs.SealedLog.{SealedView, HasUndigested, IsSealed, StandsAt, StandsAtMark, done_to, undone, mark_then}
 use Rattle.digester.specs.declared.chunk.Chunk.{Chunk}
@@ -125,15 +123,12 @@ module _ (x : SealedView) (c : Chunk) (sealed : IsSealed x) (some : HasUndigeste
 
 module _ (x : SealedView) (g : Sizes) (s : Store) (n : ℕ) where
   -- no other refusal is
-  pub test_not_bad : (e : AreaError) (r : DigestError) → IsTestError e r → NamesFirstBad g s x n r
-  test_not_bad area.DeviceFault r told = subst (NamesFirstBad g s x n) (sym told) tt
-  test_not_bad (area.Damaged what block) r told = absurd told
-  test_not_bad area.Memory r told = subst (NamesFirstBad g s x n) (sym told) tt
-
-  pub apply_not_bad : (e : ApplyError) (r : DigestError) → IsApplyError e r → NamesFirstBad g s x n r
-  apply_not_bad apply.DeviceFault r told = subst (NamesFirstBad g s x n) (sym told) tt
-  apply_not_bad apply.NoBlock r told = absurd told
-  apply_not_bad apply.Memory r told = subst (NamesFirstBad g s x n) (sym told) tt
+  pub area_not_bad : (e : AreaError) (r : DigestError) → IsDigestError e r → NamesFirstBad g s x n r
+  area_not_bad area.DeviceFault r told = subst (NamesFirstBad g s x n) (sym told) tt
+  area_not_bad (area.Damaged what block) r told = absurd told
+  area_not_bad area.NoBlock r told = absurd told
+  area_not_bad area.NotMapped r told = absurd told
+  area_not_bad area.Memory r told = subst (NamesFirstBad g s x n) (sym told) tt
 
 -- ---- the mark
 
@@ -198,25 +193,19 @@ module _ (x : SealedView) (g : Sizes) (s : Store) (n : ℕ) (before : ℕ) (old 
 
 -- ---- what is answered
 
-test_fault : (e : AreaError) (r : DigestError) → IsTestError e r → r ≡ errors.DeviceFault → e ≡ area.DeviceFault
-test_fault area.DeviceFault r told is = refl
-test_fault (area.Damaged what block) r told is = absurd told
-test_fault area.Memory r told is = cc
+told_fault : (e : AreaError) (r : DigestError) → IsDigestError e r → r ≡ errors.DeviceFault → e ≡ area.DeviceFault
+told_fault area.DeviceFault r told is = refl
+told_fault (area.Damaged what block) r told is = absurd told
+told_fault area.NoBlock r told is = absurd told
+told_fault area.NotMapped r told is = absurd told
+told_fault area.Memory r told is = cc
 
-test_other : (e : AreaError) (r : DigestError) → IsTestError e r → r ≢ errors.DeviceFault → e ≢ area.DeviceFault
-test_other area.DeviceFault r told other is = other told
-test_other (area.Damaged what block) r told other is = told
-test_other area.Memory r told other is = cc
-
-apply_fault : (e : ApplyError) (r : DigestError) → IsApplyError e r → r ≡ errors.DeviceFault → e ≡ apply.DeviceFault
-apply_fault apply.DeviceFault r told is = refl
-apply_fault apply.NoBlock r told is = absurd told
-apply_fault apply.Memory r told is = cc
-
-apply_other : (e : ApplyError) (r : DigestError) → IsApplyError e r → r ≢ errors.DeviceFault → e ≢ apply.DeviceFault
-apply_other apply.DeviceFault r told other is = other told
-apply_other apply.NoBlock r told other is = told
-apply_other apply.Memory r told other is = cc
+told_other : (e : AreaError) (r : DigestError) → IsDigestError e r → r ≢ errors.DeviceFault → e ≢ area.DeviceFault
+told_other area.DeviceFault r told other is = other told
+told_other (area.Damaged what block) r told other is = told
+told_other area.NoBlock r told other is = told
+told_other area.NotMapped r told other is = told
+told_other area.Memory r told other is = cc
 
 err_is : {T : Type 0} (r : Result T DigestError) (e f : DigestError) → r ≡ Err e → r ≡ Err f → e ≡ f
 err_is r e f one two = cc
@@ -224,10 +213,12 @@ err_is r e f one two = cc
 area_err_is : {T : Type 0} (r : Result T AreaError) (e f : AreaError) → r ≡ Err e → r ≡ Err f → e ≡ f
 area_err_is r e f one two = cc
 
-test_is_fault : (e : AreaError) (r : DigestError) → IsTestError e r → e ≡ area.DeviceFault → r ≡ errors.DeviceFault
-test_is_fault area.DeviceFault r told is = told
-test_is_fault (area.Damaged what block) r told is = absurd told
-test_is_fault area.Memory r told is = cc
+fault_told : (e : AreaError) (r : DigestError) → IsDigestError e r → e ≡ area.DeviceFault → r ≡ errors.DeviceFault
+fault_told area.DeviceFault r told is = told
+fault_told (area.Damaged what block) r told is = absurd told
+fault_told area.NoBlock r told is = absurd told
+fault_told area.NotMapped r told is = absurd told
+fault_told area.Memory r told is = cc
 
 module _ {M : Type 0} (device : Ghosts M) where
   -- the change behind a test, with the mark behind it
@@ -275,7 +266,7 @@ module _ {M : Type 0} (device : Ghosts M) where
         (carried_back device (λ h t. StaysOrChanges h t (changes_of c.change) (marks_after v x.client m) (device.moment mid.media) now (device.left mid.media) new) old mid (Ok p) looks changes.2)
 
   -- the test was refused
-  pub test_refused : {P T : Type 0} (old new : JournalView M) (e : AreaError) (r : DigestError) → Looks {T = P} device old new (Err e) → IsTestError e r → DigestsOrStays {T = T} device old new (Err r)
+  pub test_refused : {P T : Type 0} (old new : JournalView M) (e : AreaError) (r : DigestError) → Looks {T = P} device old new (Err e) → IsDigestError e r → DigestsOrStays {T = T} device old new (Err r)
   test_refused {P = P} {T = T} old new e r looks told = record {
     unmoved = λ other. looks.unmoved;
     geometry = looks.geometry;
@@ -283,9 +274,9 @@ module _ {M : Type 0} (device : Ghosts M) where
     one_fault = looks.one_fault;
     quiet = tt;
     going = tt;
-    quiet_refused = λ other. looks.quiet_refused (test_other e r told other);
-    stays_failed = λ was. (let s = looks.stays_failed was in (ap Err (test_is_fault e r told (area_err_is {T = P} (Err e) e area.DeviceFault refl s.0)), s.1));
-    fault = λ is. looks.fault (test_fault e r told (err_is {T = T} (Err r) r errors.DeviceFault refl is));
+    quiet_refused = λ other. looks.quiet_refused (told_other e r told other);
+    stays_failed = λ was. (let s = looks.stays_failed was in (ap Err (fault_told e r told (area_err_is {T = P} (Err e) e area.DeviceFault refl s.0)), s.1));
+    fault = λ is. looks.fault (told_fault e r told (err_is {T = T} (Err r) r errors.DeviceFault refl is));
   }
 
   -- a record is bad
@@ -317,18 +308,18 @@ module _ {M : Type 0} (device : Ghosts M) where
   }
 
   -- it was refused
-  pub change_refused : {P T : Type 0} (old mid new : JournalView M) (plan : P) (e : ApplyError) (r : DigestError) → Looks device old mid (Ok plan) → AppliesOrStays device mid new (Err e) → IsApplyError e r
+  pub change_refused : {P T : Type 0} (old mid new : JournalView M) (plan : P) (e : AreaError) (r : DigestError) → Looks device old mid (Ok plan) → AppliesOrStays device mid new (Err e) → IsDigestError e r
       → DigestsOrStays {T = T} device old new (Err r)
   change_refused {T = T} old mid new plan e r looks applies told = record {
-    unmoved = λ other. unmoved_on looks.unmoved (applies.unmoved (apply_other e r told other));
+    unmoved = λ other. unmoved_on looks.unmoved (applies.unmoved (told_other e r told other));
     geometry = applies.geometry ∙ looks.geometry;
     more_faults = (let a = looks.more_faults in let b = applies.more_faults in omega (arith, a, b));
     one_fault = (let a = looks.quiet in let b = applies.one_fault in omega (arith, a, b));
     quiet = tt;
     going = tt;
-    quiet_refused = λ other. (let q = applies.quiet_refused (apply_other e r told other) in (q.0 ∙ looks.quiet, looks.going.0, q.2));
+    quiet_refused = λ other. (let q = applies.quiet_refused (told_other e r told other) in (q.0 ∙ looks.quiet, looks.going.0, q.2));
     stays_failed = λ was. absurd (true≢false (sym was ∙ looks.going.0));
-    fault = λ is. (let f = applies.fault (ap Err (apply_fault e r told (err_is {T = T} (Err r) r errors.DeviceFault refl is))) in
+    fault = λ is. (let f = applies.fault (ap Err (told_fault e r told (err_is {T = T} (Err r) r errors.DeviceFault refl is))) in
         (f.0, elim (f.1) [ inl was ↦ absurd (true≢false (sym was ∙ looks.going.1)) | inr rose ↦ inr (subst (λ (k : ℕ). Rose k (device.faults new.media)) looks.quiet rose) ]));
   }
 

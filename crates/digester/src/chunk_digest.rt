@@ -1,6 +1,6 @@
 //! A chunk of a sealed log reaches the shared area in one batch, with the mark behind it.
 
-ghost use Rattle.std.specs.Prelude.{◌≡◌, ◌<◌, ◌≤◌, ◌+◌, ℕ, List, true, false, length, Some, IfErr, IfOk, OnOk, OnErr, IsErrOf};
+ghost use Rattle.std.specs.Prelude.{◌≡◌, ◌<◌, ◌≤◌, ◌+◌, ℕ, List, true, false, length, Some, IfErr, IfOk, OnOk, OnErr};
 ghost use Rattle.coalescer.specs.graph_change.View.{changes_of};
 ghost use Rattle.update_log.specs.log_record.declared.format.Record.{Record};
 ghost use Rattle.shared_area.specs.layout.Marks.{fits_marks};
@@ -8,8 +8,8 @@ ghost use Rattle.shared_area.specs.layout.declared.marks.Marks.{Marks};
 ghost use Rattle.update_log.specs.posix_calls.Operations.{is_client};
 ghost use Rattle.shared_area.specs.area_image.Store.{disk, graph, marks as marks_of};
 ghost use Rattle.shared_area.specs.ChangeApply.{IsAppliedStore, MakesFewCalls};
-ghost use Rattle.shared_area.specs.declared.error.ApplyError.TheVariants.{NoBlock};
 ghost use Rattle.shared_area.specs.GraphUpdate.{StaysOrChanges, AppliesOrStays};
+ghost use Rattle.shared_area.specs.Parts.{IsNoDamage};
 ghost use Rattle.digester.specs.Chunk.{IsChunkOf, is_next};
 ghost use Rattle.digester.specs.DigestStep.{IsGoodRun, IsDigested, NamesFirstBad, StaysOrDigests, DigestsOrStays};
 ghost use Rattle.digester.specs.MarkMoves.{marks_after};
@@ -18,11 +18,11 @@ ghost use Rattle.digester.specs.SealedLog.{HasUndigested, IsDoneBy, StandsAtMark
 use crate::Found;
 use crate::chunk::Chunk;
 use crate::digest_marks::{mark_after, marks_after};
-use crate::error::{DigestError, apply_error, test_error};
+use crate::error::{DigestError, digest_error};
 use crate::run_test::test_run;
 use crate::sealed_log::SealedLog;
 use coalescer::GraphChange;
-use shared_area::{ApplyError, Mark, Shared};
+use shared_area::{AreaError, Mark, Shared};
 use std::alloc::Global;
 use update_log::Media;
 
@@ -32,7 +32,7 @@ fn apply_run<M: Media>(
     client: u32,
     mark: Mark,
     change: &GraphChange,
-) -> Result<(), ApplyError>
+) -> Result<(), AreaError>
     requires client { is_client client ≡ true }
     requires going { area.old.failed ≡ false }
     requires run { (held : List ℕ) × (rs : List Record) × IsGoodRun held area.old.geometry.units (graph area.old.geometry (disk M.Media area.old)) rs (changes_of change.now) }
@@ -41,7 +41,8 @@ fn apply_run<M: Media>(
     ensures applied { OnOk result ((v : Marks) × (marks_of (disk M.Media area.old) ≡ Some v)
         × IsAppliedStore area.old.geometry (disk M.Media area.old) (changes_of change.now) (marks_after v client mark) (disk M.Media area.new)) }
     ensures fits { (v : Marks) × (marks_of (disk M.Media area.old) ≡ Some v) × (fits_marks (marks_after v client mark) ≡ true) }
-    ensures never { IsErrOf result NoBlock → ⊥ }
+    // The blocks that the records write are always there.
+    ensures only { IfErr result IsNoDamage }
     ensures applies { AppliesOrStays M.Media area.old area.new result }
     ensures at_most { MakesFewCalls area.old.geometry (disk M.Media area.old) (changes_of change.now) (M.moment area.old.media) (M.moment area.new.media) (M.left area.old.media) (M.left area.new.media) }
 {
@@ -97,13 +98,13 @@ fn digest_next<M: Media>(
             let mark = mark_after(sealed.generation(), end as u32, sealed.count());
             match apply_run(area, sealed.client(), mark, &chunk.change) {
                 Ok(()) => Ok(end as u32),
-                Err(error) => Err(apply_error(error)),
+                Err(error) => Err(digest_error(error)),
             }
         }
         Ok(Found::FirstBad { place }) => Err(DigestError::BadLog {
             place: done + place,
         }),
-        Err(error) => Err(test_error(error)),
+        Err(error) => Err(digest_error(error)),
     }
 }
 

@@ -1,9 +1,7 @@
-ghost use Rattle.std.specs.Prelude.{◌≢◌};
-ghost use Rattle.shared_area.specs.declared.error.ApplyError.TheVariants.{NoBlock};
 ghost use Rattle.shared_area.specs.Parts.{IsNoDamage};
-ghost use Rattle.digester.specs.Errors.{IsApplyError, IsTestError};
+ghost use Rattle.digester.specs.Errors.{IsDigestError};
 
-use shared_area::{ApplyError, AreaError};
+use shared_area::AreaError;
 use thiserror::Error;
 
 /// Why the next records of a log are not digested.
@@ -18,26 +16,15 @@ pub enum DigestError {
     Memory,
 }
 
-/// Why no records were digested, where the shared area could not be asked; no damage is found on media that are opened.
-pub fn test_error(error: AreaError) -> DigestError
+/// Why no records were digested, where the shared area was not read or not changed: no damage is found on media that are opened, and the
+/// blocks that a run of records writes are always there.
+pub fn digest_error(error: AreaError) -> DigestError
     requires { IsNoDamage error }
-    ensures { IsTestError error result }
+    ensures { IsDigestError error result }
 {
     match error {
         AreaError::DeviceFault => DigestError::DeviceFault,
-        AreaError::Damaged { .. } => unreachable!(),
+        AreaError::Damaged { .. } | AreaError::NoBlock | AreaError::NotMapped => unreachable!(),
         AreaError::Memory => DigestError::Memory,
-    }
-}
-
-/// Why no records were digested, where the change was not made; the blocks that a run of records writes are always there.
-pub fn apply_error(error: ApplyError) -> DigestError
-    requires { error ≢ NoBlock }
-    ensures { IsApplyError error result }
-{
-    match error {
-        ApplyError::DeviceFault => DigestError::DeviceFault,
-        ApplyError::NoBlock => unreachable!(),
-        ApplyError::Memory => DigestError::Memory,
     }
 }

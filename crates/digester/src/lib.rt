@@ -43,8 +43,8 @@ pub use sealed_log::SealedLog;
 // Passed on to the crates above, which so need not list those below.
 pub use coalescer::{GraphChange, changes_are_the_effects, changes_keep_to_the_limits, coalesce};
 pub use shared_area::{
-    ApplyError, AreaError, BLOCK, DirBlock, DirEntry, Extent, ExtentBlock, Geometry, MARKS_BLOCK,
-    Mark, Marks, NodeCounts, NodeSummary, RelocateError, SLOT_SIZE, Shared, Slot, Super,
+    AreaError, BLOCK, DirBlock, DirEntry, Extent, ExtentBlock, Geometry, MARKS_BLOCK, Mark, Marks,
+    NodeCounts, NodeSummary, SLOT_SIZE, Shared, Slot, Super,
 };
 pub use update_log::{
     Effect, Effects, FaultMedia, Fill, Kind, MAX_CLIENTS, MAX_INODE, Media, MemMedia, Name, ROOT,

@@ -1,5 +1,5 @@
 -- What an event makes of the shared media that is of no client.
-use Rattle.std.specs.Prelude.{◌≡◌, ◌⊎◌, ◌≤◌, ◌+◌, ℕ, List, [], ◌∷◌, true, false, Result, Ok, Err, OnOk, IsErrOf}
+use Rattle.std.specs.Prelude.{◌≡◌, ◌⊎◌, ◌≤◌, ◌+◌, ℕ, List, [], ◌∷◌, true, false, Result, Ok, Err, OnOk, IfErr, IsErrOf}
 use Rattle.libfs.specs.tier_device.declared.media.Media.{Ghosts}
 use Rattle.libfs.specs.tier_device.declared.media.Tier.{Tier}
 use Rattle.libfs.specs.file_graph.declared.effect.Effect.TheVariants as effect
@@ -7,17 +7,18 @@ use Rattle.libfs.specs.graph_change.Change.{coalesced_changes}
 use Rattle.libfs.specs.shared_area.ChangeApply.{MakesFewCalls}
 use Rattle.libfs.specs.relocation.MovableFile.{HasFileRun}
 use Rattle.libfs.specs.area_image.Map.{WantsMemory}
+use Rattle.libfs.specs.area_image.Refusals.{IsMoveRefusal}
 use Rattle.libfs.specs.area_image.batch_journal.Course.{Unmoved}
 use Rattle.libfs.specs.shared_area.TierMoves.{HasTooFew, HasEnough, StaysOpen, MovesOrStays}
-use Rattle.libfs.specs.relocation.declared.error.RelocateError.{RelocateError}
-use Rattle.libfs.specs.relocation.declared.error.RelocateError.TheVariants as moves
+use Rattle.libfs.specs.area_image.declared.error.AreaError.{AreaError}
+use Rattle.libfs.specs.area_image.declared.error.AreaError.TheVariants as moves
 use Rattle.libfs.specs.relocation.TierMove.{CanMove, IsMoved}
 use Rattle.libfs.specs.area_image.Store.{disk, graph}
 use Rattle.libfs.specs.kernel_fs.Book.{is_pinned}
 use Rattle.libfs.specs.world_invariant.KernelSteps.{CanReclaim}
 use Rattle.libfs.specs.world_invariant.Logs.{IsNameless}
 use Rattle.libfs.specs.world_invariant.Machine.{Machine, reclaim as reclaimed}
-use Rattle.libfs.specs.kernel_fs.KernelAnswers.{Answers}
+use Rattle.libfs.specs.kernel_fs.KernelAnswers.{Answers, OnRefusal}
 use Rattle.libfs.specs.kernel_fs.KernelView.{KernelView}
 use Rattle.libfs.specs.kernel_fs.Reclaim.{IsReclaimed, IsUnused, ReclaimsOrStays, StaysOrReclaims}
 use Rattle.libfs.specs.kernel_fs.MachineState.{IsKernelOf}
@@ -56,17 +57,18 @@ pub record IsReclaimedIn {M : Type 0} (device : Ghosts M) (k : KernelView M) (i 
   pub answers : Answers k.area.failed k after answer (ReclaimsOrStays device k.area after.area)
   pub at_most : MakesFewCalls k.area.geometry (disk device k.area) (coalesced_changes (effect.Drop i ∷ [])) (device.moment k.area.media) (device.moment after.area.media) (device.left k.area.media) (device.left after.area.media)
 
-abbrev pub move_outcome : Result (Unit {0}) (KernelError RelocateError) → Outcome
+abbrev pub move_outcome : Result (Unit {0}) (KernelError AreaError) → Outcome
 move_outcome (Ok x) = outcomes.Stepped
 move_outcome (Err kernel.Failed) = outcomes.Refused refusals.KernelFailed
 move_outcome (Err (kernel.Refused moves.DeviceFault)) = outcomes.Refused refusals.DeviceFault
+move_outcome (Err (kernel.Refused (moves.Damaged what block))) = outcomes.Refused refusals.DeviceFault
 move_outcome (Err (kernel.Refused moves.NotMapped)) = outcomes.Refused refusals.NotMapped
 move_outcome (Err (kernel.Refused moves.NoBlock)) = outcomes.Refused refusals.NoBlock
 move_outcome (Err (kernel.Refused moves.Memory)) = outcomes.Refused refusals.Memory
 
 -- A run of a file's blocks went down to a slower tier, or could not; graph and marks stay.
 pub record IsMovedIn {M : Type 0} (device : Ghosts M) (k : KernelView M) (i first count : ℕ) (to : Tier) (o : Outcome) (after : KernelView M) : Type 0 where
-  pub answer : Result (Unit {0}) (KernelError RelocateError)
+  pub answer : Result (Unit {0}) (KernelError AreaError)
   pub told : o ≡ move_outcome answer
   pub any_moment : k.area.failed ≡ false → StaysOpen k.area.geometry (disk device k.area) i first count to (device.moment k.area.media) (device.moment after.area.media) (device.left k.area.media) (device.left after.area.media)
   pub moved : OnOk answer (IsMoved k.area.geometry (disk device k.area) (disk device after.area) i first count to)
@@ -75,6 +77,7 @@ pub record IsMovedIn {M : Type 0} (device : Ghosts M) (k : KernelView M) (i firs
   pub no_block : IsErrOf answer (kernel.Refused moves.NoBlock) → CanMove k.area.geometry (disk device k.area) i first count to × HasTooFew k.area.geometry (disk device k.area) to count
   pub can : OnOk answer (CanMove k.area.geometry (disk device k.area) i first count to × HasEnough k.area.geometry (disk device k.area) to count)
   pub memory : IsErrOf answer (kernel.Refused moves.Memory) → HasFileRun k.area.geometry (disk device k.area) i first count
+  pub only : IfErr answer (λ e. OnRefusal e IsMoveRefusal)
   pub book : after.book ≡ k.book
   pub opening : after.opening ≡ k.opening
   pub answers : Answers k.area.failed k after answer (MovesOrStays device k.area after.area)

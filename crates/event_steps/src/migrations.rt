@@ -4,7 +4,7 @@ ghost use Rattle.event_steps.specs.declared.outcome.Outcome.TheVariants as outco
 ghost use Rattle.event_steps.specs.Media.{IsMovedIn, IsReclaimedIn};
 
 use crate::outcome::{Outcome, Refusal};
-use libfs::{Kernel, KernelError, Media, ReclaimError, RelocateError, Tier};
+use libfs::{AreaError, Kernel, KernelError, Media, ReclaimError, Tier};
 
 /// Deletes a file that has no name and no pin. Refused: `KernelFailed`, `InUse`, `Memory`, `DeviceFault`.
 pub fn reclaim<M: Media>(kernel: &mut Kernel<M>, inode: u32) -> Outcome
@@ -35,12 +35,11 @@ pub fn migrate<M: Media>(
     match kernel.migrate(inode, first, count, to) {
         Ok(()) => Outcome::Stepped,
         Err(KernelError::Failed) => refusal_outcome(Refusal::KernelFailed),
-        Err(KernelError::Refused(RelocateError::NotMapped)) => refusal_outcome(Refusal::NotMapped),
-        Err(KernelError::Refused(RelocateError::NoBlock)) => refusal_outcome(Refusal::NoBlock),
-        Err(KernelError::Refused(RelocateError::Memory)) => refusal_outcome(Refusal::Memory),
-        Err(KernelError::Refused(RelocateError::DeviceFault)) => {
-            refusal_outcome(Refusal::DeviceFault)
-        }
+        Err(KernelError::Refused(AreaError::NotMapped)) => refusal_outcome(Refusal::NotMapped),
+        Err(KernelError::Refused(AreaError::NoBlock)) => refusal_outcome(Refusal::NoBlock),
+        Err(KernelError::Refused(AreaError::Memory)) => refusal_outcome(Refusal::Memory),
+        Err(KernelError::Refused(AreaError::DeviceFault)) => refusal_outcome(Refusal::DeviceFault),
+        Err(KernelError::Refused(AreaError::Damaged { .. })) => unreachable!(),
     }
 }
 

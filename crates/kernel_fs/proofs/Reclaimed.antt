@@ -10,11 +10,9 @@ use Rattle.digester.specs.batch_journal.Course.{Unmoved}
 use Rattle.digester.proofs.batch_journal_lemmas.Courses.{unmoved_on}
 use Rattle.digester.specs.area_image.declared.error.AreaError.{AreaError}
 use Rattle.digester.specs.area_image.declared.error.AreaError.TheVariants as area
-use Rattle.digester.specs.shared_area.declared.error.ApplyError.{ApplyError}
-use Rattle.digester.specs.shared_area.declared.error.ApplyError.TheVariants as apply
 use Rattle.digester.specs.shared_area.GraphUpdate.{AppliesOrStays}
 use Rattle.digester.specs.area_image.Looks.{Looks}
-use Rattle.digester.specs.Errors.{IsChangeError}
+use Rattle.digester.specs.Errors.{IsAreaError}
 use Rattle.digester.specs.file_graph.Graph.{Node}
 use Rattle.world_invariant.specs.Logs.{IsNameless}
 use Rattle.kernel_fs.specs.Nodes.{is_node}
@@ -40,7 +38,7 @@ module _ {M : Type 0} (device : Ghosts M) (old new : JournalView M) where
   applied_stays a = record { unmoved = tt; geometry = a.geometry; more_faults = a.more_faults; one_fault = a.one_fault; quiet = (a.quiet, a.going.1); quiet_refused = tt; fault = λ is. absurd (cc is) }
 
   -- no memory
-  pub memory_stays : (e : ApplyError) → e ≢ apply.DeviceFault → AppliesOrStays device old new (Err e) → ReclaimsOrStays device old new (Err errors.Memory)
+  pub memory_stays : (e : AreaError) → e ≢ area.DeviceFault → AppliesOrStays device old new (Err e) → ReclaimsOrStays device old new (Err errors.Memory)
   memory_stays e other a = record {
     unmoved = λ _. a.unmoved other;
     geometry = a.geometry;
@@ -51,7 +49,7 @@ module _ {M : Type 0} (device : Ghosts M) (old new : JournalView M) where
     fault = λ is. absurd (not_fault (err_is {T = Unit {0}} errors.Memory errors.DeviceFault is));
   }
 
-  pub fault_stays : old.failed ≡ false → AppliesOrStays device old new (Err apply.DeviceFault) → ReclaimsOrStays device old new (Err errors.DeviceFault)
+  pub fault_stays : old.failed ≡ false → AppliesOrStays device old new (Err area.DeviceFault) → ReclaimsOrStays device old new (Err errors.DeviceFault)
   fault_stays going a = record {
     unmoved = λ other. absurd (other refl);
     geometry = a.geometry;
@@ -62,10 +60,12 @@ module _ {M : Type 0} (device : Ghosts M) (old new : JournalView M) where
     fault = λ _. (let f = a.fault refl in (f.0, elim (f.1) [ inl was ↦ absurd (true≢false (sym was ∙ going)) | inr rose ↦ rose ]));
   }
 
-  pub apply_stays : (e : ApplyError) (r : ReclaimError) → IsChangeError errors.DeviceFault errors.Memory e r → old.failed ≡ false → AppliesOrStays device old new (Err e) → ReclaimsOrStays device old new (Err r)
-  apply_stays apply.DeviceFault r told going a = subst (λ (x : ReclaimError). ReclaimsOrStays device old new (Err x)) (sym told) (fault_stays going a)
-  apply_stays apply.NoBlock r told going a = absurd told
-  apply_stays apply.Memory r told going a = subst (λ (x : ReclaimError). ReclaimsOrStays device old new (Err x)) (sym told) (memory_stays apply.Memory (λ is. cc) a)
+  pub apply_stays : (e : AreaError) (r : ReclaimError) → IsAreaError errors.DeviceFault errors.Memory e r → old.failed ≡ false → AppliesOrStays device old new (Err e) → ReclaimsOrStays device old new (Err r)
+  apply_stays area.DeviceFault r told going a = subst (λ (x : ReclaimError). ReclaimsOrStays device old new (Err x)) (sym told) (fault_stays going a)
+  apply_stays (area.Damaged what block) r told going a = absurd told
+  apply_stays area.NoBlock r told going a = absurd told
+  apply_stays area.NotMapped r told going a = absurd told
+  apply_stays area.Memory r told going a = subst (λ (x : ReclaimError). ReclaimsOrStays device old new (Err x)) (sym told) (memory_stays area.Memory (λ is. cc) a)
 
   -- ---- where it was only looked at
 
@@ -127,7 +127,9 @@ module _ {M : Type 0} (device : Ghosts M) (old : JournalView M) where
   }
 
 -- a fault and want of memory are told as such
-pub change_no_use : (e : ApplyError) (r : ReclaimError) → IsChangeError errors.DeviceFault errors.Memory e r → ◌≡◌ {A = Result (Unit {0}) ReclaimError} (Err r) (Err errors.InUse) → ⊥
-change_no_use apply.DeviceFault r told is = cc (told, is)
-change_no_use apply.NoBlock r told is = told
-change_no_use apply.Memory r told is = cc (told, is)
+pub change_no_use : (e : AreaError) (r : ReclaimError) → IsAreaError errors.DeviceFault errors.Memory e r → ◌≡◌ {A = Result (Unit {0}) ReclaimError} (Err r) (Err errors.InUse) → ⊥
+change_no_use area.DeviceFault r told is = cc (told, is)
+change_no_use (area.Damaged what block) r told is = told
+change_no_use area.NoBlock r told is = told
+change_no_use area.NotMapped r told is = told
+change_no_use area.Memory r told is = cc (told, is)

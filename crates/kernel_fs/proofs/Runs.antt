@@ -14,8 +14,8 @@ use Rattle.digester.specs.batch_journal.View.{JournalView}
 use Rattle.digester.proofs.batch_journal_lemmas.Courses.{tiers_same}
 use Rattle.digester.specs.area_image.Store.{Store, disk, store_of, graph, marks}
 use Rattle.digester.specs.shared_area.TierMoves.{MovesOrStays}
-use Rattle.digester.specs.relocation.declared.error.RelocateError.{RelocateError}
-use Rattle.digester.specs.relocation.declared.error.RelocateError.TheVariants as moves
+use Rattle.digester.specs.area_image.declared.error.AreaError.{AreaError}
+use Rattle.digester.specs.area_image.declared.error.AreaError.TheVariants as moves
 use Rattle.digester.specs.DigestStep.{DigestsOrStays, IsDigested}
 use Rattle.digester.specs.SealedLog.{SealedView, HasUndigested, IsSealed, StandsAtMark, undone}
 use Rattle.digester.specs.declared.error.DigestError.{DigestError}
@@ -80,8 +80,9 @@ module _ {M : Type 0} (device : Ghosts M) (opening : JournalView M) (nodes : ℕ
     digest_refused (digests.BadLog place) d going inside = unmoved_inside d.geometry (d.unmoved (λ is. cc)).reads inside
     digest_refused digests.Memory d going inside = unmoved_inside d.geometry (d.unmoved (λ is. cc)).reads inside
 
-    pub move_refused : (e : RelocateError) → MovesOrStays device old new (Err e) → new.failed ≡ false → Inside old → Inside new
+    pub move_refused : (e : AreaError) → MovesOrStays device old new (Err e) → new.failed ≡ false → Inside old → Inside new
     move_refused moves.DeviceFault d going inside = absurd (true≢false (sym (d.fault refl).0 ∙ going))
+    move_refused (moves.Damaged what block) d going inside = unmoved_inside d.geometry (d.unmoved (λ is. cc)).reads inside
     move_refused moves.NotMapped d going inside = unmoved_inside d.geometry (d.unmoved (λ is. cc)).reads inside
     move_refused moves.NoBlock d going inside = unmoved_inside d.geometry (d.unmoved (λ is. cc)).reads inside
     move_refused moves.Memory d going inside = unmoved_inside d.geometry (d.unmoved (λ is. cc)).reads inside

@@ -1,6 +1,6 @@
 //! A file that nobody uses is dropped.
 
-ghost use Rattle.std.specs.Prelude.{◌≡◌, ◌≢◌, ◌↔◌, ◌⊎◌, ℕ, List, [], ◌∷◌, true, false, IfOk, IfErr, OnOk, IsTrue, IsErrOf};
+ghost use Rattle.std.specs.Prelude.{◌≡◌, ◌↔◌, ◌⊎◌, ℕ, List, [], ◌∷◌, true, false, IfOk, IfErr, OnOk, IsTrue, IsErrOf};
 ghost use Rattle.digester.specs.file_graph.declared.effect.Effect.TheVariants as effect;
 ghost use Rattle.digester.specs.graph_change.Change.{coalesced_changes};
 ghost use Rattle.digester.specs.graph_change.Tidy.{AreTidyChanges};
@@ -8,17 +8,17 @@ ghost use Rattle.digester.specs.graph_change.View.{changes_of};
 ghost use Rattle.digester.specs.log_record.Grammar.{IsInode};
 ghost use Rattle.digester.specs.area_image.Store.{disk, graph};
 ghost use Rattle.digester.specs.batch_journal.Course.{Unmoved};
-ghost use Rattle.digester.specs.shared_area.declared.error.ApplyError.TheVariants.{NoBlock};
+ghost use Rattle.digester.specs.shared_area.Parts.{IsNoDamage};
 ghost use Rattle.digester.specs.shared_area.ChangeApply.{MakesFewCalls};
 ghost use Rattle.digester.specs.area_image.Map.{WantsMemory};
-ghost use Rattle.digester.specs.Errors.{IsChangeError};
+ghost use Rattle.digester.specs.Errors.{IsAreaError};
 ghost use Rattle.world_invariant.specs.Logs.{IsNameless};
 ghost use Rattle.kernel_fs.specs.Reclaim.{AreNameless, IsReclaimed, StaysOrReclaims, ReclaimsOrStays};
 ghost use Rattle.kernel_fs.specs.declared.error.ReclaimError.TheVariants.{DeviceFault, InUse, Memory};
 
 use crate::error::ReclaimError;
 use digester::{
-    ApplyError, Effect, GraphChange, Media, NodeCounts, Shared, changes_are_the_effects,
+    AreaError, Effect, GraphChange, Media, NodeCounts, Shared, changes_are_the_effects,
     changes_keep_to_the_limits, marks_can_be_written,
 };
 use std::alloc::Global;
@@ -35,14 +35,14 @@ fn is_nameless(found: Option<NodeCounts>) -> bool
 }
 
 // Why the change was not made; it writes no block of data, so it always finds those that it writes.
-fn apply_error(error: ApplyError) -> ReclaimError
-    requires { error ≢ NoBlock }
-    ensures { IsChangeError DeviceFault Memory error result }
+fn reclaim_error(error: AreaError) -> ReclaimError
+    requires { IsNoDamage error }
+    ensures { IsAreaError DeviceFault Memory error result }
 {
     match error {
-        ApplyError::DeviceFault => ReclaimError::DeviceFault,
-        ApplyError::NoBlock => unreachable!(),
-        ApplyError::Memory => ReclaimError::Memory,
+        AreaError::DeviceFault => ReclaimError::DeviceFault,
+        AreaError::Damaged { .. } | AreaError::NoBlock | AreaError::NotMapped => unreachable!(),
+        AreaError::Memory => ReclaimError::Memory,
     }
 }
 
@@ -85,7 +85,7 @@ fn drop_node<M: Media>(
     marks_can_be_written(marks);
     match area.apply(change, marks) {
         Ok(()) => Ok(()),
-        Err(error) => Err(apply_error(error)),
+        Err(error) => Err(reclaim_error(error)),
     }
 }
 

@@ -15,13 +15,13 @@ ghost use Rattle.digester.specs.area_image.Store.{disk, graph};
 ghost use Rattle.digester.specs.area_image.Looks.{Looks, call_answer};
 ghost use Rattle.digester.specs.shared_area.ChangeApply.{MakesFewCalls};
 ghost use Rattle.digester.specs.area_image.Map.{WantsMemory};
-ghost use Rattle.digester.specs.area_image.declared.error.AreaError.TheVariants.{Memory};
+ghost use Rattle.digester.specs.area_image.Refusals.{IsMoveRefusal};
+ghost use Rattle.digester.specs.area_image.declared.error.AreaError.TheVariants.{NoBlock, NotMapped, Memory};
 ghost use Rattle.digester.specs.shared_area.Parts.{IsNoDamage, IsTierOf};
 ghost use Rattle.digester.specs.shared_area.Ready.{HasFree, OpensAs};
 ghost use Rattle.digester.specs.shared_area.FileReads.{bytes_of_inode, IsReadFrom};
 ghost use Rattle.digester.specs.relocation.TierMove.{CanMove, IsMoved};
 ghost use Rattle.digester.specs.relocation.MovableFile.{HasFileRun};
-ghost use Rattle.digester.specs.relocation.declared.error.RelocateError.TheVariants as moves;
 ghost use Rattle.digester.specs.shared_area.TierMoves.{HasTooFew, HasEnough, StaysOpen, MovesOrStays};
 ghost use Rattle.digester.specs.Chunk.{IsChunkOf, is_next};
 ghost use Rattle.digester.specs.DigestStep.{IsDigested, NamesFirstBad, StaysOrDigests, DigestsOrStays};
@@ -55,9 +55,7 @@ use crate::initial_value::OpenedFrom;
 use crate::log_reads::{has_as_many_waiting, undigested_count};
 use crate::node_scan::nodes_of;
 use crate::{Book, InodeSet, RefillError};
-use digester::{
-    AreaError, Chunk, DigestError, Media, RelocateError, SealedLog, Shared, Tier, capacity_of,
-};
+use digester::{AreaError, Chunk, DigestError, Media, SealedLog, Shared, Tier, capacity_of};
 use migrator::{FileRun, migrate, pick};
 use std::alloc::Global;
 use std::marker::Model;
@@ -575,14 +573,15 @@ impl<M: Media> Kernel<M> {
         first: u64,
         count: u32,
         to: Tier,
-    ) -> Result<(), KernelError<RelocateError>>
+    ) -> Result<(), KernelError<AreaError>>
         ensures any_moment { self.old.area.failed ≡ false → StaysOpen self.old.area.geometry (disk M.Media self.old.area) inode first count to (M.moment self.old.area.media) (M.moment self.new.area.media) (M.left self.old.area.media) (M.left self.new.area.media) }
         ensures moved { OnOk result (IsMoved self.old.area.geometry (disk M.Media self.old.area) (disk M.Media self.new.area) inode first count to) }
         ensures step { OnOk result ((m : Machine) → IsKernelOf M.Media self.old m → IsKernelOf M.Media self.new m) }
-        ensures not_mapped { IsErrOf result (Refused moves.NotMapped) → CanMove self.old.area.geometry (disk M.Media self.old.area) inode first count to → ⊥ }
-        ensures no_block { IsErrOf result (Refused moves.NoBlock) → CanMove self.old.area.geometry (disk M.Media self.old.area) inode first count to × HasTooFew self.old.area.geometry (disk M.Media self.old.area) to count }
+        ensures not_mapped { IsErrOf result (Refused NotMapped) → CanMove self.old.area.geometry (disk M.Media self.old.area) inode first count to → ⊥ }
+        ensures no_block { IsErrOf result (Refused NoBlock) → CanMove self.old.area.geometry (disk M.Media self.old.area) inode first count to × HasTooFew self.old.area.geometry (disk M.Media self.old.area) to count }
         ensures can { OnOk result (CanMove self.old.area.geometry (disk M.Media self.old.area) inode first count to × HasEnough self.old.area.geometry (disk M.Media self.old.area) to count) }
-        ensures memory { IsErrOf result (Refused moves.Memory) → HasFileRun self.old.area.geometry (disk M.Media self.old.area) inode first count }
+        ensures memory { IsErrOf result (Refused Memory) → HasFileRun self.old.area.geometry (disk M.Media self.old.area) inode first count }
+        ensures only { IfErr result (λ e. OnRefusal e IsMoveRefusal) }
         ensures book { self.new.book ≡ self.old.book }
         ensures answers { Answers self.old.area.failed self.old self.new result (MovesOrStays M.Media self.old.area self.new.area) }
         ensures at_most { M.moment self.new.area.media ≤ M.moment self.old.area.media + count + 12 }

@@ -61,9 +61,8 @@ pub use laws::{
 
 // Passed on to the crates above, which so need not list those below.
 pub use digester::{
-    ApplyError, AreaError, BLOCK, Chunk, DigestError, Geometry, GraphChange, MAX_INODE, Mark,
-    Marks, Media, RelocateError, SealedLog, Shared, Tier, changes_are_the_effects,
-    changes_keep_to_the_limits, client_index, digest_chunk, mark_of, marks_can_be_written,
-    moved_mark_leaves_the_rest, prepare,
+    AreaError, BLOCK, Chunk, DigestError, Geometry, GraphChange, MAX_INODE, Mark, Marks, Media,
+    SealedLog, Shared, Tier, changes_are_the_effects, changes_keep_to_the_limits, client_index,
+    digest_chunk, mark_of, marks_can_be_written, moved_mark_leaves_the_rest, prepare,
 };
 pub use migrator::FileRun;

@@ -71,6 +71,8 @@ area_denied kernel.Failed = denied.KernelFailed
 area_denied (kernel.Refused area.DeviceFault) = denied.Device
 area_denied (kernel.Refused area.Memory) = denied.Memory
 area_denied (kernel.Refused (area.Damaged tier block)) = denied.Device
+area_denied (kernel.Refused area.NoBlock) = denied.Device
+area_denied (kernel.Refused area.NotMapped) = denied.Device
 
 -- The kernel's area was looked at, if no device of it had failed before, and nothing else has changed of the kernel.
 pub record HasLooked {T S : Type 0} (device : Ghosts S) (old new : KernelView S) (result : Result T Denied) : Type 0 where

@@ -109,6 +109,8 @@ pub(crate) fn area_denied(error: KernelError<AreaError>) -> Denied
         KernelError::Failed => Denied::KernelFailed,
         KernelError::Refused(AreaError::DeviceFault) => Denied::Device,
         KernelError::Refused(AreaError::Memory) => Denied::Memory,
-        KernelError::Refused(AreaError::Damaged { .. }) => unreachable!(),
+        KernelError::Refused(
+            AreaError::Damaged { .. } | AreaError::NoBlock | AreaError::NotMapped,
+        ) => unreachable!(),
     }
 }

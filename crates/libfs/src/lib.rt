@@ -44,7 +44,7 @@ pub use client_log::{ClientLog, LogError, Media, Region, Tier, WipeProgress};
 pub use client_view::{Mode, Need, NodeCounts, NodeSummary};
 pub use kernel_fs::{
     AcceptError, AreaError, Chunk, DigestError, Digestion, Fetched, FetchedBytes, Figures, FileRun,
-    Kernel, KernelError, ReclaimError, RelocateError, SealedLog, Shared, client_index,
+    Kernel, KernelError, ReclaimError, SealedLog, Shared, client_index,
 };
 pub use lease_manager::{
     CLIENTS, Call, Child, Effect, INODES, Kind, LeaseMode, Leases, NameMap, Opened, Pass,

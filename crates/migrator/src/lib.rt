@@ -9,6 +9,6 @@ pub use run_choice::{FileRun, MOST_BLOCKS, pick};
 
 // Passed on to the crates above, which so need not list those below.
 pub use shared_area::{
-    ApplyError, AreaError, BLOCK, CLIENTS, DirEntries, Mark, Marks, NodeCounts, NodeSummary, Nodes,
-    RecordCheck, RelocateError, Run, SLOT_SIZE, Shared, What, take_effects,
+    AreaError, BLOCK, CLIENTS, DirEntries, Mark, Marks, NodeCounts, NodeSummary, Nodes,
+    RecordCheck, Run, SLOT_SIZE, Shared, What, take_effects,
 };

@@ -1,12 +1,13 @@
 // A run is moved down.
-ghost use Rattle.std.specs.Prelude.{◌≡◌, ◌≤◌, ◌+◌, false, OnOk, IsErrOf};
+ghost use Rattle.std.specs.Prelude.{◌≡◌, ◌≤◌, ◌+◌, false, OnOk, IfErr, IsErrOf};
 ghost use Rattle.shared_area.specs.area_image.Store.{disk, graph, marks};
+ghost use Rattle.shared_area.specs.area_image.Refusals.{IsMoveRefusal};
 ghost use Rattle.shared_area.specs.relocation.TierMove.{CanMove, IsMoved};
 ghost use Rattle.shared_area.specs.relocation.MovableFile.{HasFileRun};
-ghost use Rattle.shared_area.specs.relocation.declared.error.RelocateError.TheVariants.{NotMapped, NoBlock, Memory};
+ghost use Rattle.shared_area.specs.area_image.declared.error.AreaError.TheVariants.{NotMapped, NoBlock, Memory};
 ghost use Rattle.shared_area.specs.TierMoves.{HasTooFew, HasEnough, StaysOpen, MovesOrStays};
 
-use shared_area::{Media, RelocateError, Shared, Tier};
+use shared_area::{AreaError, Media, Shared, Tier};
 
 /// Moves a run of a file's logical blocks, `count` of them from block `first` on, to a tier that is slower than those in which they lie. The graph stays: a stop at any moment
 /// leaves the run where it lay, or all of it moved.
@@ -23,7 +24,7 @@ pub fn migrate<M: Media>(
     first: u64,
     count: u32,
     to: Tier,
-) -> Result<(), RelocateError>
+) -> Result<(), AreaError>
     ensures any_moment { area.old.failed ≡ false → StaysOpen area.old.geometry (disk M.Media area.old) inode first count to (M.moment area.old.media) (M.moment area.new.media) (M.left area.old.media) (M.left area.new.media) }
     ensures moved { OnOk result (IsMoved area.old.geometry (disk M.Media area.old) (disk M.Media area.new) inode first count to) }
     ensures same_graph { OnOk result (graph area.old.geometry (disk M.Media area.new) ≡ graph area.old.geometry (disk M.Media area.old)) }
@@ -32,6 +33,7 @@ pub fn migrate<M: Media>(
     ensures no_block { IsErrOf result NoBlock → CanMove area.old.geometry (disk M.Media area.old) inode first count to × HasTooFew area.old.geometry (disk M.Media area.old) to count }
     ensures can { OnOk result (CanMove area.old.geometry (disk M.Media area.old) inode first count to × HasEnough area.old.geometry (disk M.Media area.old) to count) }
     ensures memory { IsErrOf result Memory → HasFileRun area.old.geometry (disk M.Media area.old) inode first count }
+    ensures only { IfErr result IsMoveRefusal }
     ensures moves { MovesOrStays M.Media area.old area.new result }
     ensures at_most { M.moment area.new.media ≤ M.moment area.old.media + count + 12 }
 {

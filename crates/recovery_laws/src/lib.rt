@@ -21,8 +21,8 @@ pub use fresh_media::{
 };
 pub use graph_check::{GraphError, check_graph};
 pub use kernel_fs::{
-    ApplyError, AreaError, BLOCK, DigestError, Geometry, GraphChange, Kernel, MAX_INODE, Mark,
-    Marks, Media, ReclaimError, SealedLog, Shared, Tier, changes_are_the_effects,
-    changes_keep_to_the_limits, client_index, digest_chunk, drop_nameless, mark_of,
-    marks_can_be_written, moved_mark_leaves_the_rest, prepare,
+    AreaError, BLOCK, DigestError, Geometry, GraphChange, Kernel, MAX_INODE, Mark, Marks, Media,
+    ReclaimError, SealedLog, Shared, Tier, changes_are_the_effects, changes_keep_to_the_limits,
+    client_index, digest_chunk, drop_nameless, mark_of, marks_can_be_written,
+    moved_mark_leaves_the_rest, prepare,
 };

@@ -11,17 +11,15 @@ use Rattle.inode_plan.specs.layout.Places.{Sizes, IsAllowed}
 use Rattle.inode_plan.specs.batch_journal.Course.{Unmoved}
 use Rattle.inode_plan.specs.batch_journal.View.{JournalView}
 use Rattle.inode_plan.proofs.batch_journal_lemmas.Courses.{left_before, tiers_same, unmoved_on}
-use Rattle.inode_plan.specs.area_image.declared.error.AreaError.{AreaError}
-use Rattle.inode_plan.specs.area_image.declared.error.AreaError.TheVariants as area
 use Rattle.inode_plan.specs.area_image.Store.{Store, disk, store_of}
 use Rattle.inode_plan.specs.area_image.Format.{IsOpenable}
 use Rattle.inode_plan.specs.area_image.Damage.{OnDamage}
 use Rattle.inode_plan.specs.area_image.Looks.{Looks}
+use Rattle.inode_plan.specs.area_image.Refusals.{IsMoveRefusal, IsChangeRefusal}
 use Rattle.inode_plan.specs.extent_tree.Map.{TierRuns}
 use Rattle.inode_plan.specs.area_commit.Value.{PoolsView, HasRanges, AreFree}
-use Rattle.relocation.specs.Errors.{IsRelocateError}
-use Rattle.relocation.specs.declared.error.RelocateError.{RelocateError}
-use Rattle.relocation.specs.declared.error.RelocateError.TheVariants as errors
+use Rattle.inode_plan.specs.area_image.declared.error.AreaError.{AreaError}
+use Rattle.inode_plan.specs.area_image.declared.error.AreaError.TheVariants as errors
 use Rattle.inode_plan.specs.area_commit.declared.plan.Rewrite.{Rewrite}
 use Rattle.inode_plan.specs.area_commit.PlanOutcome.{IsCarriedOut, AllOrNothing}
 use Rattle.inode_plan.proofs.area_commit_lemmas.Course.{Rests}
@@ -35,9 +33,6 @@ use Rattle.relocation.specs.RunMove.{AreLowestFree, IsSettled, IsMovedStore, IsM
 -- refusals that differ
 pub memory_fault : errors.Memory ≢ errors.DeviceFault
 memory_fault e = cc
-
-pub memory_mapped : errors.Memory ≢ errors.NotMapped
-memory_mapped e = cc
 
 pub memory_block : errors.Memory ≢ errors.NoBlock
 memory_block e = cc
@@ -57,68 +52,60 @@ block_fault e = cc
 pub block_memory : errors.NoBlock ≢ errors.Memory
 block_memory e = cc
 
-pub block_mapped : errors.NoBlock ≢ errors.NotMapped
-block_mapped e = cc
-
-pub err_same : (e f : RelocateError) → IsErrOf {T = Unit {0}} {E = RelocateError} (Err e) f → e ≡ f
+pub err_same : (e f : AreaError) → IsErrOf {T = Unit {0}} {E = AreaError} (Err e) f → e ≡ f
 err_same e f is = cc
 
-pub ok_no_err : (u : Unit {0}) (f : RelocateError) → IsErrOf {T = Unit {0}} {E = RelocateError} (Ok u) f → ⊥
+pub ok_no_err : (u : Unit {0}) (f : AreaError) → IsErrOf {T = Unit {0}} {E = AreaError} (Ok u) f → ⊥
 ok_no_err u f is = cc
 
 -- a fact holds under Ok, or a refusal
-pub on_ok : {A : Type 0} (r : Result (Unit {0}) RelocateError) → A → OnOk r A
+pub on_ok : {A : Type 0} (r : Result (Unit {0}) AreaError) → A → OnOk r A
 on_ok (Ok u) a = a
 on_ok (Err e) a = tt
 
-pub ok_with : {A B : Type 0} (r : Result (Unit {0}) RelocateError) → (A → B) → OnOk r A → OnOk r B
+pub ok_with : {A B : Type 0} (r : Result (Unit {0}) AreaError) → (A → B) → OnOk r A → OnOk r B
 ok_with (Ok u) f a = f a
 ok_with (Err e) f a = tt
 
-pub err_with : {A B : Type 0} (r : Result (Unit {0}) RelocateError) → (A → B) → OnErr r A → OnErr r B
+pub err_with : {A B : Type 0} (r : Result (Unit {0}) AreaError) → (A → B) → OnErr r A → OnErr r B
 err_with (Ok u) f a = tt
 err_with (Err e) f a = f a
 
 -- a refusal that a device or a want of memory causes
-abbrev pub IsForced : RelocateError → Type 0
+abbrev pub IsForced : AreaError → Type 0
 IsForced e = (e ≡ errors.DeviceFault) ⊎ (e ≡ errors.Memory)
 
-pub forced_only : (r : Result (Unit {0}) RelocateError) (f : RelocateError) → IfErr r IsForced → f ≢ errors.DeviceFault → f ≢ errors.Memory → IsErrOf r f → ⊥
+pub forced_only : (r : Result (Unit {0}) AreaError) (f : AreaError) → IfErr r IsForced → f ≢ errors.DeviceFault → f ≢ errors.Memory → IsErrOf r f → ⊥
 forced_only (Ok u) f only fault memory is = ok_no_err u f is
 forced_only (Err e) f only fault memory is = elim only [
   | inl failed ↦ fault (sym (err_same e f is) ∙ failed)
   | inr full ↦ memory (sym (err_same e f is) ∙ full)
 ]
 
-pub forced_mapped : (r : Result (Unit {0}) RelocateError) → IfErr r IsForced → IfErr r (λ e. e ≢ errors.NotMapped)
-forced_mapped (Ok u) only = tt
-forced_mapped (Err e) (inl fault) = λ is. mapped_fault (sym is ∙ fault)
-forced_mapped (Err e) (inr full) = λ is. mapped_memory (sym is ∙ full)
+pub forced_change : (r : Result (Unit {0}) AreaError) → IfErr r IsForced → IfErr r IsChangeRefusal
+forced_change (Ok u) only = tt
+forced_change (Err e) (inl fault) = subst IsChangeRefusal (sym fault) tt
+forced_change (Err e) (inr full) = subst IsChangeRefusal (sym full) tt
 
-pub err_other : (r : Result (Unit {0}) RelocateError) (f : RelocateError) → IfErr r (λ e. e ≢ f) → IsErrOf r f → ⊥
-err_other (Ok u) f other is = ok_no_err u f is
-err_other (Err e) f other is = other (err_same e f is)
+pub never_mapped : (r : Result (Unit {0}) AreaError) → IfErr r IsChangeRefusal → IsErrOf r errors.NotMapped → ⊥
+never_mapped (Ok u) only is = ok_no_err u errors.NotMapped is
+never_mapped (Err e) only is = subst IsChangeRefusal (err_same e errors.NotMapped is) only
 
-pub told_memory : (e : AreaError) (r : RelocateError) → IsRelocateError e r → IsErrOf {T = Unit {0}} {E = RelocateError} (Err r) errors.Memory → e ≡ area.Memory
-told_memory area.DeviceFault r is full = absurd (memory_fault (sym (err_same r errors.Memory full) ∙ is))
-told_memory (area.Damaged w b) r is full = absurd is
-told_memory area.Memory r is full = refl
+pub change_move : (r : Result (Unit {0}) AreaError) → IfErr r IsChangeRefusal → IfErr r IsMoveRefusal
+change_move (Ok u) only = tt
+change_move (Err errors.DeviceFault) only = tt
+change_move (Err (errors.Damaged w b)) only = only
+change_move (Err errors.NoBlock) only = tt
+change_move (Err errors.NotMapped) only = tt
+change_move (Err errors.Memory) only = tt
 
-pub told_forced : (e : AreaError) (r : RelocateError) → IsRelocateError e r → IsForced r
-told_forced area.DeviceFault r is = inl is
-told_forced (area.Damaged w b) r is = absurd is
-told_forced area.Memory r is = inr is
-
-pub no_damage : (e : AreaError) → (e ≡ area.DeviceFault) ⊎ (e ≡ area.Memory) → OnDamage e (λ _ _. ⊥)
-no_damage area.DeviceFault is = tt
-no_damage (area.Damaged w b) is = elim is [ inl e ↦ fault e | inr e ↦ memory e ]
-  where
-    fault : area.Damaged w b ≡ area.DeviceFault → ⊥
-    fault e = cc
-
-    memory : area.Damaged w b ≡ area.Memory → ⊥
-    memory e = cc
-no_damage area.Memory is = tt
+-- a refusal of a reader that finds no damage
+pub sound_forced : (e : AreaError) → OnDamage e (λ _ _. ⊥) → IsForced e
+sound_forced errors.DeviceFault sound = inl refl
+sound_forced (errors.Damaged w b) sound = absurd sound
+sound_forced errors.NoBlock sound = absurd sound
+sound_forced errors.NotMapped sound = absurd sound
+sound_forced errors.Memory sound = inr refl
 
 -- ---- a plan that is carried out
 
@@ -175,7 +162,7 @@ module _ {M : Type 0} (device : Ghosts M)
       few = (let few = some.few in let clock = still.clock in omega (arith, few, clock));
     })
 
-    abbrev EndsAt : JournalView M → JournalView M → PoolsView → Result (Unit {0}) RelocateError → Type 0
+    abbrev EndsAt : JournalView M → JournalView M → PoolsView → Result (Unit {0}) AreaError → Type 0
     EndsAt old new pools r = Ends device i first count to old new pools r
 
     back : (old new : JournalView M) → StillAt old new → (m : ℕ) → device.moment old.media ≤ m → m ≤ device.moment new.media → (t : Tier) (c : List ℕ) → device.left new.media m t c → device.left old.media (device.moment old.media) t c
@@ -212,7 +199,7 @@ module _ {M : Type 0} (device : Ghosts M)
       few = few;
     }
 
-    pub ends_refused : (old new : JournalView M) (pools : PoolsView) (e : RelocateError) → e ≢ errors.DeviceFault → Rests device old.geometry old.media → StillAt old new → new.geometry ≡ old.geometry → new.failed ≡ false → device.faults new.media ≡ device.faults old.media
+    pub ends_refused : (old new : JournalView M) (pools : PoolsView) (e : AreaError) → e ≢ errors.DeviceFault → Rests device old.geometry old.media → StillAt old new → new.geometry ≡ old.geometry → new.failed ≡ false → device.faults new.media ≡ device.faults old.media
         → SettledAt old pools → EndsAt old new pools (Err e)
     ends_refused old new pools e other rests still geometry going quiet settled = record {
       any_moment = moves_still old new rests still;
@@ -231,15 +218,16 @@ module _ {M : Type 0} (device : Ghosts M)
     failed_now p never = (p.0, elim p.1 [ inl b ↦ absurd (never b) | inr c ↦ c ])
 
     -- what a reader was refused for
-    pub ends_told : {T : Type 0} (old new : JournalView M) (pools : PoolsView) (e : AreaError) (f : RelocateError) → IsRelocateError e f → Looks {T = T} device old new (Err e) → old.failed ≡ false → Rests device old.geometry old.media → SettledAt old pools
-        → EndsAt old new pools (Err f)
-    ends_told old new pools area.DeviceFault f is looks going rests settled = subst (λ (x : RelocateError). EndsAt old new pools (Err x)) (sym is) (
-        ends_fault old new pools (moves_still old new rests looks.unmoved) (few_still old new looks.unmoved) (failed_now (looks.fault refl) (λ was. true≢false (sym was ∙ going))) looks.geometry looks.more_faults looks.one_fault
+    pub ends_told : {T : Type 0} (old new : JournalView M) (pools : PoolsView) (e : AreaError) → IsForced e → Looks {T = T} device old new (Err e) → old.failed ≡ false → Rests device old.geometry old.media → SettledAt old pools → EndsAt old new pools (Err e)
+    ends_told {T = T} old new pools e (inl is) looks going rests settled =
+        let failed : Looks {T = T} device old new (Err errors.DeviceFault) = subst (λ (x : AreaError). Looks {T = T} device old new (Err x)) is looks in
+        subst (λ (x : AreaError). EndsAt old new pools (Err x)) (sym is) (
+        ends_fault old new pools (moves_still old new rests looks.unmoved) (few_still old new looks.unmoved) (failed_now (failed.fault refl) (λ was. true≢false (sym was ∙ going))) looks.geometry looks.more_faults looks.one_fault
         )
-    ends_told old new pools (area.Damaged w b) f is looks going rests settled = absurd is
-    ends_told old new pools area.Memory f is looks going rests settled =
-        let q = looks.quiet_refused (λ is_fault. cc) in
-        subst (λ (x : RelocateError). EndsAt old new pools (Err x)) (sym is) (ends_refused old new pools errors.Memory (λ is_fault. cc) rests looks.unmoved looks.geometry q.2 q.0 settled)
+    ends_told {T = T} old new pools e (inr is) looks going rests settled =
+        let full : Looks {T = T} device old new (Err errors.Memory) = subst (λ (x : AreaError). Looks {T = T} device old new (Err x)) is looks in
+        let q = full.quiet_refused memory_fault in
+        subst (λ (x : AreaError). EndsAt old new pools (Err x)) (sym is) (ends_refused old new pools errors.Memory memory_fault rests looks.unmoved looks.geometry q.2 q.0 settled)
 
     -- ---- reads, and then a move
 
@@ -265,7 +253,7 @@ module _ {M : Type 0} (device : Ghosts M)
     still_on : (old mid new : JournalView M) → StillAt old mid → device.faults mid.media ≡ device.faults old.media → StaysStill device mid new → StaysStill device old new
     still_on old mid new still quiet stays = record { still = unmoved_on still stays.still; going = stays.going; quiet = stays.quiet ∙ quiet }
 
-    pub ends_on : (old mid new : JournalView M) (pools : PoolsView) (r : Result (Unit {0}) RelocateError) → StillAt old mid → mid.geometry ≡ old.geometry → device.faults mid.media ≡ device.faults old.media → EndsAt mid new pools r → EndsAt old new pools r
+    pub ends_on : (old mid new : JournalView M) (pools : PoolsView) (r : Result (Unit {0}) AreaError) → StillAt old mid → mid.geometry ≡ old.geometry → device.faults mid.media ≡ device.faults old.media → EndsAt mid new pools r → EndsAt old new pools r
     ends_on old mid new pools (Ok u) still geometry quiet ends = record {
       any_moment = moves_on old mid new still geometry ends.any_moment;
       moved = moved_on old mid new still geometry ends.moved;
@@ -319,8 +307,7 @@ module _ {M : Type 0} (device : Ghosts M)
         few = few;
       }
 
-      pub ends_undone : (pools : PoolsView) (e : AreaError) (f : RelocateError) → FewTo old new → IsRelocateError e f → (e ≡ area.DeviceFault → (new.failed ≡ true) × Rose (device.faults old.media) (device.faults new.media)) → (e ≡ area.Memory → Looks {T = Unit {0}} device old new (Err e)) → new.geometry ≡ old.geometry → device.faults old.media ≤ device.faults new.media
-          → device.faults new.media ≤ device.faults old.media + 1 → old.failed ≡ false → Rests device old.geometry old.media → SettledAt old pools → EndsAt old new pools (Err f)
-      ends_undone pools area.DeviceFault f few is fault memory geometry more one going rests settled = subst (λ (x : RelocateError). EndsAt old new pools (Err x)) (sym is) (ends_fault old new pools moves_all few (fault refl) geometry more one)
-      ends_undone pools (area.Damaged w b) f few is fault memory geometry more one going rests settled = absurd is
-      ends_undone pools area.Memory f few is fault memory geometry more one going rests settled = ends_told old new pools area.Memory f is (memory refl) going rests settled
+      pub ends_undone : (pools : PoolsView) (e : AreaError) → FewTo old new → IsForced e → (e ≡ errors.DeviceFault → (new.failed ≡ true) × Rose (device.faults old.media) (device.faults new.media)) → (e ≡ errors.Memory → Looks {T = Unit {0}} device old new (Err e)) → new.geometry ≡ old.geometry → device.faults old.media ≤ device.faults new.media
+          → device.faults new.media ≤ device.faults old.media + 1 → old.failed ≡ false → Rests device old.geometry old.media → SettledAt old pools → EndsAt old new pools (Err e)
+      ends_undone pools e few (inl is) fault memory geometry more one going rests settled = subst (λ (x : AreaError). EndsAt old new pools (Err x)) (sym is) (ends_fault old new pools moves_all few (fault is) geometry more one)
+      ends_undone pools e few (inr is) fault memory geometry more one going rests settled = ends_told old new pools e (inr is) (memory is) going rests settled

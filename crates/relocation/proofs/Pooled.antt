@@ -14,11 +14,11 @@ use Rattle.inode_plan.specs.area_image.Reads.{Free}
 use Rattle.inode_plan.specs.area_commit.Value.{PoolsView, data_pool}
 use Rattle.inode_plan.specs.area_commit.declared.allocation.Allocation.{Allocation}
 use Rattle.inode_plan.specs.area_commit.Allocations.{SameBlocks, SameFree, KeepsRoom, WereTaken, CanRelease, WasReleased}
-use Rattle.relocation.specs.Errors.{relocate_error}
+use Rattle.inode_plan.specs.area_image.Refusals.{IsChangeRefusal, area_error}
 use Rattle.relocation.specs.MovableFile.{IsMovableRun}
 use Rattle.relocation.specs.declared.run_search.MovableRun.{MovableRun}
-use Rattle.relocation.specs.declared.error.RelocateError.{RelocateError}
-use Rattle.relocation.specs.declared.error.RelocateError.TheVariants as errors
+use Rattle.inode_plan.specs.area_image.declared.error.AreaError.{AreaError}
+use Rattle.inode_plan.specs.area_image.declared.error.AreaError.TheVariants as errors
 use Rattle.inode_plan.specs.area_commit.declared.plan.FreedBlocks.{FreedBlocks}
 use Rattle.inode_plan.specs.area_commit.declared.plan.Rewrite.{Rewrite}
 use Rattle.inode_plan.specs.area_commit.Plan.{lost_in}
@@ -26,7 +26,7 @@ use Rattle.inode_plan.specs.area_commit.Room.{AreReadyFor}
 use Rattle.inode_plan.proofs.area_commit_lemmas.Returned.{same_free}
 use Rattle.relocation.specs.MovedFile.{spare_count, HasRoomFor, AreReadyToMove}
 use Rattle.relocation.specs.RunMove.{IsSettled}
-use Rattle.relocation.proofs.Ending.{err_same, memory_fault, memory_mapped, memory_block, block_fault, block_mapped}
+use Rattle.relocation.proofs.Ending.{err_same, memory_fault, memory_block, block_fault}
 
 -- ---- the same free blocks
 
@@ -120,13 +120,13 @@ spare_few root = elim (cases_Bool (root == 0)) [
 ]
 
 -- Where none were, it is for the data blocks: the node pool has some.
-pub too_few : (e : AllocatorError) (r : RelocateError) (root nodes count free : ℕ) → r ≡ relocate_error e → (IsErrOf {T = Allocation} {E = AllocatorError} (Err e) refusal.NoBlock ↔ ((nodes < spare_count root) ⊎ (free < count))) → 2048 ≤ nodes → IsErrOf {T = Unit {0}} {E = RelocateError} (Err r) errors.NoBlock → free < count
+pub too_few : (e : AllocatorError) (r : AreaError) (root nodes count free : ℕ) → r ≡ area_error e → (IsErrOf {T = Allocation} {E = AllocatorError} (Err e) refusal.NoBlock ↔ ((nodes < spare_count root) ⊎ (free < count))) → 2048 ≤ nodes → IsErrOf {T = Unit {0}} {E = AreaError} (Err r) errors.NoBlock → free < count
 too_few refusal.NoBlock r root nodes count free is few some refused = elim (few.0 refl) [ inl none ↦ (let one = spare_few root in absurd (omega (arith, none, some, one))) | inr less ↦ less ]
 too_few refusal.Memory r root nodes count free is few some refused = absurd (memory_block (sym is ∙ err_same r errors.NoBlock refused))
 
-pub not_fault : (e : AllocatorError) (r : RelocateError) → r ≡ relocate_error e → (r ≢ errors.DeviceFault) × (r ≢ errors.NotMapped)
-not_fault refusal.NoBlock r is = (λ f. block_fault (sym is ∙ f), λ n. block_mapped (sym is ∙ n))
-not_fault refusal.Memory r is = (λ f. memory_fault (sym is ∙ f), λ n. memory_mapped (sym is ∙ n))
+pub not_fault : (e : AllocatorError) (r : AreaError) → r ≡ area_error e → (r ≢ errors.DeviceFault) × IsChangeRefusal r
+not_fault refusal.NoBlock r is = (λ f. block_fault (sym is ∙ f), subst IsChangeRefusal (sym is) tt)
+not_fault refusal.Memory r is = (λ f. memory_fault (sym is ∙ f), subst IsChangeRefusal (sym is) tt)
 
 -- ---- the run
 

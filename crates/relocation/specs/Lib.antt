@@ -1,4 +1,3 @@
-pub mod Errors
 pub mod MovableFile
 pub mod TierMove
 pub mod RunMove

@@ -14,8 +14,8 @@ use Rattle.inode_plan.specs.area_image.Reads.{Loose}
 use Rattle.inode_plan.specs.area_image.Format.{IsOpenable}
 use Rattle.inode_plan.specs.area_commit.Value.{PoolsView, data_pool, AreInOrder, HasRanges, AreFree}
 use Rattle.relocation.specs.TierMove.{IsMoved}
-use Rattle.relocation.specs.declared.error.RelocateError.{RelocateError}
-use Rattle.relocation.specs.declared.error.RelocateError.TheVariants.{DeviceFault}
+use Rattle.inode_plan.specs.area_image.declared.error.AreaError.{AreaError}
+use Rattle.inode_plan.specs.area_image.declared.error.AreaError.TheVariants.{DeviceFault}
 pub use Rattle.inode_plan.specs.area_commit.StableState.{IsSettled, StaysStill}
 
 -- These runs are the lowest blocks that are free in a tier, so many, and none of them touches the next.
@@ -66,7 +66,7 @@ MovesInFewCalls g s to count before now = (now ≤ before) ⊎ MovesInCalls g s 
 
 -- How a move ends: at each moment a stop leaves the run where it lay, or moved; after Ok it is moved; after a refusal beside a device fault nothing has moved; and all is settled
 -- where no device has failed.
-pub record Ends {M : Type 0} (device : Ghosts M) (i first count : ℕ) (to : Tier) (old new : JournalView M) (pools : PoolsView) (result : Result (Unit {0}) RelocateError) : Type 0 where
+pub record Ends {M : Type 0} (device : Ghosts M) (i first count : ℕ) (to : Tier) (old new : JournalView M) (pools : PoolsView) (result : Result (Unit {0}) AreaError) : Type 0 where
   pub any_moment : Moves old.geometry (disk device old) i first count to (device.moment old.media) (device.moment new.media) (device.left old.media) (device.left new.media)
   pub moved : OnOk result (IsMovedStore old.geometry (disk device old) i first count to (disk device new))
   pub settled : new.failed ≡ false → IsSettled new.geometry (device.seen new.media) (device.left new.media (device.moment new.media)) pools

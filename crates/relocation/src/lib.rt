@@ -4,7 +4,6 @@
 //! What is to be written goes as one plan to `area_commit`.
 #![tactic(auto)]
 
-mod error;
 mod freed_places;
 mod images;
 mod laws;
@@ -17,7 +16,6 @@ mod target_blocks;
 mod tier_move;
 mod tier_test;
 
-pub use error::{RelocateError, relocate_error};
 pub use freed_places::lost_places;
 pub use images::images_of;
 pub use laws::{carried_out_move_moves, move_is_planned};

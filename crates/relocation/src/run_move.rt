@@ -1,15 +1,16 @@
 // A run that is read goes to another tier.
-ghost use Rattle.std.specs.Prelude.{◌≡◌, ◌≢◌, ◌≤◌, ◌<◌, ◌*◌, ◌⊎◌, ℕ, false, length, OnOk, OnErr, IfErr, IsErrOf};
+ghost use Rattle.std.specs.Prelude.{◌≡◌, ◌≤◌, ◌<◌, ◌*◌, ◌⊎◌, ℕ, false, length, OnOk, OnErr, IfErr, IsErrOf};
 ghost use Rattle.inode_plan.specs.tier_device.declared.media.Tier.{Tier};
 ghost use Rattle.inode_plan.specs.layout.declared.places.TheConstants.{BLOCK};
 ghost use Rattle.inode_plan.specs.tier_device.AfterStop.{AtRest};
 ghost use Rattle.inode_plan.specs.area_image.Store.{disk, logical_block};
 ghost use Rattle.inode_plan.specs.area_image.Format.{IsOpenable};
+ghost use Rattle.inode_plan.specs.area_image.Refusals.{IsChangeRefusal};
 ghost use Rattle.inode_plan.specs.area_commit.Value.{data_pool};
 ghost use Rattle.inode_plan.specs.area_commit.Allocations.{WasReleased, SameFree};
 ghost use Rattle.relocation.specs.MovableFile.{IsMovableRun};
 ghost use Rattle.inode_plan.specs.Lists.{HoldsRun};
-ghost use Rattle.relocation.specs.declared.error.RelocateError.TheVariants.{DeviceFault, NotMapped, NoBlock, Memory};
+ghost use Rattle.inode_plan.specs.area_image.declared.error.AreaError.TheVariants.{DeviceFault, NoBlock, Memory};
 ghost use Rattle.inode_plan.specs.area_commit.Room.{AreReadyFor};
 ghost use Rattle.relocation.specs.MovedFile.{IsReadRun, IsReadyMove, IsPlanOfMove, HasRoomFor, AreReadyToMove};
 ghost use Rattle.relocation.specs.RunMove.{IsSettled, Ends};
@@ -18,9 +19,9 @@ use crate::freed_places::lost_places;
 use crate::laws::{carried_out_move_moves, move_is_planned};
 use crate::move_plan::{ReadMove, plan_move};
 use crate::target_blocks::take_blocks;
-use crate::{MovableRun, RelocateError, read_run, relocate_error};
+use crate::{MovableRun, read_run};
 use inode_plan::{
-    Allocation, Journal, Media, Pools, Rewrite, Tier, carry_out, nodes_never_run_out,
+    Allocation, AreaError, Journal, Media, Pools, Rewrite, Tier, carry_out, nodes_never_run_out,
 };
 use std::alloc::Global;
 
@@ -38,7 +39,7 @@ fn write_move<M: Media>(
     journal: &mut Journal<M>,
     pools: &mut Pools,
     plan: Rewrite,
-) -> Result<(), RelocateError>
+) -> Result<(), AreaError>
     requires going { journal.old.failed ≡ false }
     requires opens { IsOpenable journal.old.geometry (disk M.Media journal.old) }
     requires rests { (t : Tier) → AtRest (M.seen journal.old.media) (M.left journal.old.media (M.moment journal.old.media)) t }
@@ -55,7 +56,7 @@ fn write_move<M: Media>(
     carried_out_move_moves();
     match carry_out(alloc, journal, pools, plan) {
         Ok(()) => Ok(()),
-        Err(error) => Err(relocate_error(error)),
+        Err(error) => Err(error),
     }
 }
 
@@ -66,7 +67,7 @@ fn carry<M: Media>(
     pools: &mut Pools,
     moved: ReadMove,
     taken: Allocation,
-) -> Result<(), RelocateError>
+) -> Result<(), AreaError>
     requires going { journal.old.failed ≡ false }
     requires opens { IsOpenable journal.old.geometry (disk M.Media journal.old) }
     requires rests { (t : Tier) → AtRest (M.seen journal.old.media) (M.left journal.old.media (M.moment journal.old.media)) t }
@@ -83,7 +84,7 @@ fn carry<M: Media>(
         Ok(plan) => write_move(alloc, journal, pools, plan),
         Err(back) => {
             pools.release(back);
-            Err(RelocateError::Memory)
+            Err(AreaError::Memory)
         }
     }
 }
@@ -94,7 +95,7 @@ fn allocate_run<M: Media>(
     journal: &mut Journal<M>,
     pools: &mut Pools,
     moved: ReadMove,
-) -> Result<(), RelocateError>
+) -> Result<(), AreaError>
     requires going { journal.old.failed ≡ false }
     requires settled { IsSettled journal.old.geometry (M.seen journal.old.media) (M.left journal.old.media (M.moment journal.old.media)) pools.old }
     requires run { IsReadRun journal.old.geometry (disk M.Media journal.old) moved.inode moved.to moved.file moved.bytes.items moved.lost }
@@ -103,14 +104,14 @@ fn allocate_run<M: Media>(
     ensures same { OnErr result (SameFree pools.old pools.new) }
     ensures enough { OnOk result (moved.file.run.count ≤ length (data_pool pools.old moved.to).free) }
     ensures few { IsErrOf result NoBlock → length (data_pool pools.old moved.to).free < moved.file.run.count }
-    ensures mapped { IfErr result (λ e. e ≢ NotMapped) }
+    ensures only { IfErr result IsChangeRefusal }
 {
     // For the proof: a stop now leaves what is read, and a block of the node pool is always free.
     journal.left_now();
     nodes_never_run_out();
     match take_blocks(pools, &moved.file, moved.to) {
         Ok(taken) => carry(alloc, journal, pools, moved, taken),
-        Err(error) => Err(RelocateError::from(error)),
+        Err(error) => Err(AreaError::from(error)),
     }
 }
 
@@ -121,7 +122,7 @@ fn move_bytes<M: Media>(
     pools: &mut Pools,
     moved: FileMove,
     bytes: Vec<u8>,
-) -> Result<(), RelocateError>
+) -> Result<(), AreaError>
     requires going { journal.old.failed ≡ false }
     requires settled { IsSettled journal.old.geometry (M.seen journal.old.media) (M.left journal.old.media (M.moment journal.old.media)) pools.old }
     requires file { IsMovableRun journal.old.geometry (disk M.Media journal.old) moved.inode moved.file.run.first moved.file.run.count moved.to moved.file }
@@ -131,7 +132,7 @@ fn move_bytes<M: Media>(
     ensures same { OnErr result (SameFree pools.old pools.new) }
     ensures enough { OnOk result (moved.file.run.count ≤ length (data_pool pools.old moved.to).free) }
     ensures few { IsErrOf result NoBlock → length (data_pool pools.old moved.to).free < moved.file.run.count }
-    ensures mapped { IfErr result (λ e. e ≢ NotMapped) }
+    ensures only { IfErr result IsChangeRefusal }
 {
     // For the proof: a stop now leaves what is read.
     journal.left_now();
@@ -147,7 +148,7 @@ fn move_bytes<M: Media>(
             };
             allocate_run(alloc, journal, pools, moved)
         }
-        Err(_) => Err(RelocateError::Memory),
+        Err(_) => Err(AreaError::Memory),
     }
 }
 
@@ -157,7 +158,7 @@ pub fn move_run<M: Media>(
     journal: &mut Journal<M>,
     pools: &mut Pools,
     moved: FileMove,
-) -> Result<(), RelocateError>
+) -> Result<(), AreaError>
     requires going { journal.old.failed ≡ false }
     requires settled { IsSettled journal.old.geometry (M.seen journal.old.media) (M.left journal.old.media (M.moment journal.old.media)) pools.old }
     requires file { IsMovableRun journal.old.geometry (disk M.Media journal.old) moved.inode moved.file.run.first moved.file.run.count moved.to moved.file }
@@ -165,16 +166,16 @@ pub fn move_run<M: Media>(
     ensures same { OnErr result (SameFree pools.old pools.new) }
     ensures enough { OnOk result (moved.file.run.count ≤ length (data_pool pools.old moved.to).free) }
     ensures few { IsErrOf result NoBlock → length (data_pool pools.old moved.to).free < moved.file.run.count }
-    ensures mapped { IfErr result (λ e. e ≢ NotMapped) }
+    ensures only { IfErr result IsChangeRefusal }
 {
     // For the proof: a stop now leaves what is read.
     journal.left_now();
     let free = pools.free(moved.to);
     if free < moved.file.run.count {
-        return Err(RelocateError::NoBlock);
+        return Err(AreaError::NoBlock);
     }
     match read_run(alloc, journal, moved.inode, &moved.file.map, moved.file.run) {
         Ok(bytes) => move_bytes(alloc, journal, pools, moved, bytes),
-        Err(error) => Err(relocate_error(error)),
+        Err(error) => Err(error),
     }
 }

@@ -2,16 +2,17 @@
 ghost use Rattle.std.specs.Prelude.{◌≡◌, ◌≢◌, ◌≤◌, ◌<◌, ◌+◌, ◌⊎◌, true, false, length, Err, OnOk, OnErr, IfErr, IsErrOf};
 ghost use Rattle.inode_plan.specs.tier_device.Media.{Rose};
 ghost use Rattle.inode_plan.specs.area_image.Store.{disk};
+ghost use Rattle.inode_plan.specs.area_image.Refusals.{IsMoveRefusal};
 ghost use Rattle.inode_plan.specs.area_commit.Value.{data_pool};
 ghost use Rattle.inode_plan.specs.area_commit.Allocations.{SameFree};
 ghost use Rattle.relocation.specs.MovableFile.{HasFileRun};
 ghost use Rattle.relocation.specs.TierMove.{CanMove};
-ghost use Rattle.relocation.specs.declared.error.RelocateError.TheVariants.{DeviceFault, NotMapped, NoBlock, Memory};
+ghost use Rattle.inode_plan.specs.area_image.declared.error.AreaError.TheVariants.{DeviceFault, NotMapped, NoBlock, Memory};
 ghost use Rattle.relocation.specs.RunMove.{IsSettled, IsMovedStore, Moves, MovesInFewCalls, StaysStill, Ends};
 
 use crate::run_move::{FileMove, move_run};
-use crate::{RelocateError, RunRequest, find_run, relocate_error};
-use inode_plan::{Journal, Media, Pools, Tier};
+use crate::{RunRequest, find_run};
+use inode_plan::{AreaError, Journal, Media, Pools, Tier};
 use std::alloc::Global;
 
 // Finds the run on media of which no device has failed, and moves it.
@@ -21,7 +22,7 @@ fn move_found<M: Media>(
     pools: &mut Pools,
     run: RunRequest,
     to: Tier,
-) -> Result<(), RelocateError>
+) -> Result<(), AreaError>
     requires going { journal.old.failed ≡ false }
     requires settled { IsSettled journal.old.geometry (M.seen journal.old.media) (M.left journal.old.media (M.moment journal.old.media)) pools.old }
     ensures ends { Ends M.Media run.inode run.first run.count to journal.old journal.new pools.new result }
@@ -30,6 +31,7 @@ fn move_found<M: Media>(
     ensures not_mapped { IsErrOf result NotMapped → CanMove journal.old.geometry (disk M.Media journal.old) run.inode run.first run.count to → ⊥ }
     ensures no_block { IsErrOf result NoBlock → CanMove journal.old.geometry (disk M.Media journal.old) run.inode run.first run.count to × (length (data_pool pools.old to).free < run.count) }
     ensures memory { IsErrOf result Memory → HasFileRun journal.old.geometry (disk M.Media journal.old) run.inode run.first run.count }
+    ensures only { IfErr result IsMoveRefusal }
 {
     // For the proof: a stop now leaves what is read.
     journal.left_now();
@@ -38,8 +40,8 @@ fn move_found<M: Media>(
             let inode = run.inode;
             move_run(alloc, journal, pools, FileMove { inode, to, file })
         }
-        Ok(None) => Err(RelocateError::NotMapped),
-        Err(error) => Err(relocate_error(error)),
+        Ok(None) => Err(AreaError::NotMapped),
+        Err(error) => Err(error),
     }
 }
 
@@ -58,7 +60,7 @@ pub fn relocate<M: Media>(
     pools: &mut Pools,
     run: RunRequest,
     to: Tier,
-) -> Result<(), RelocateError>
+) -> Result<(), AreaError>
     // The media spell a graph with nothing pending, and the pools have their free blocks.
     requires { journal.old.failed ≡ false → IsSettled journal.old.geometry (M.seen journal.old.media) (M.left journal.old.media (M.moment journal.old.media)) pools.old }
 
@@ -71,6 +73,7 @@ pub fn relocate<M: Media>(
     ensures not_mapped { IsErrOf result NotMapped → CanMove journal.old.geometry (disk M.Media journal.old) run.inode run.first run.count to → ⊥ }
     ensures no_block { IsErrOf result NoBlock → CanMove journal.old.geometry (disk M.Media journal.old) run.inode run.first run.count to × (length (data_pool pools.old to).free < run.count) }
     ensures memory { IsErrOf result Memory → HasFileRun journal.old.geometry (disk M.Media journal.old) run.inode run.first run.count }
+    ensures only { IfErr result IsMoveRefusal }
     ensures unmoved { IfErr result (λ e. e ≢ DeviceFault → StaysStill M.Media journal.old journal.new) }
     ensures same { OnErr result (SameFree pools.old pools.new) }
     ensures fault { IsErrOf result DeviceFault → (journal.new.failed ≡ true) × ((journal.old.failed ≡ true) ⊎ Rose (M.faults journal.old.media) (M.faults journal.new.media)) }
@@ -85,7 +88,7 @@ pub fn relocate<M: Media>(
     ensures at_most { M.moment journal.new.media ≤ M.moment journal.old.media + run.count + 12 }
 {
     if journal.has_failed() {
-        return Err(RelocateError::DeviceFault);
+        return Err(AreaError::DeviceFault);
     }
     move_found(alloc, journal, pools, run, to)
 }

@@ -13,6 +13,7 @@ use Rattle.recovery_laws.specs.shared_area.layout.declared.marks.Marks.{Marks}
 use Rattle.recovery_laws.specs.shared_area.batch_journal.Course.{Unmoved}
 use Rattle.recovery_laws.specs.shared_area.batch_journal.View.{JournalView}
 use Rattle.recovery_laws.specs.shared_area.area_image.Store.{Store, disk, graph, marks, store_of}
+use Rattle.recovery_laws.specs.shared_area.Parts.{IsNoDamage}
 use Rattle.recovery_laws.specs.shared_area.Ready.{OpensAs}
 use Rattle.recovery_laws.specs.shared_area.GraphUpdate.{OpensChangedOrNot, StaysOrChanges, AppliesOrStays}
 use Rattle.recovery_laws.specs.digester.graph_change.Change.{Change, Changes, Coalesces, changed_graph, coalesced_changes}
@@ -22,8 +23,8 @@ use Rattle.recovery_laws.specs.digester.coalescer.Within.{images_of}
 use Rattle.recovery_laws.specs.digester.change_plan.Next.{nodes_for}
 use Rattle.std.specs.List.{sum_by}
 use Rattle.recovery_laws.proofs.digester_lemmas.Applied.{fit_images}
-use Rattle.recovery_laws.specs.shared_area.declared.error.ApplyError.{ApplyError}
-use Rattle.recovery_laws.specs.shared_area.declared.error.ApplyError.TheVariants as apply
+use Rattle.recovery_laws.specs.shared_area.area_image.declared.error.AreaError.{AreaError}
+use Rattle.recovery_laws.specs.shared_area.area_image.declared.error.AreaError.TheVariants as area
 use Rattle.recovery_laws.specs.kernel_fs.Reclaim.{OpensReclaimedOrNot, ReclaimsOrStays, StaysOrReclaims}
 use Rattle.recovery_laws.specs.kernel_fs.declared.error.ReclaimError.{ReclaimError}
 use Rattle.recovery_laws.specs.kernel_fs.declared.error.ReclaimError.TheVariants as reclaim
@@ -34,6 +35,7 @@ use Rattle.world.specs.system_world.event_steps.libfs.world_invariant.Logs.{IsNa
 use Rattle.world.specs.system_world.event_steps.call_effects.ClosedGraph.{nobody}
 use Rattle.world.specs.system_world.event_steps.call_effects.Wholes.{IsSound, state_of}
 use Rattle.recovery_laws.specs.graph_check.Nameless.{is_nameless}
+use Rattle.settlement.specs.Errors.{IsAreaFault}
 use Rattle.settlement.specs.GraphTests.{without_nameless}
 use Rattle.settlement.specs.Recovers.{Regions, Recovers, CountNone}
 use Rattle.settlement.specs.Phases.{StaysRecovered, AnswersFaults}
@@ -260,8 +262,8 @@ answers_on device old mid new result geometry quiet answers = record {
   fault = subst (λ (n : ℕ). IfErr result (λ e. e ≡ DeviceFault → (new.failed ≡ true) × Rose n (device.faults new.media))) quiet answers.fault;
 }
 
-module _ {M : Type 0} (device : Ghosts M) (old new : JournalView M) (going : old.failed ≡ false) (e : ApplyError) (stays : AppliesOrStays device old new (Err e)) where
-  pub fault_answers : e ≡ apply.DeviceFault → AnswersFaults {T = Unit {0}} device old new (Err DeviceFault)
+module _ {M : Type 0} (device : Ghosts M) (old new : JournalView M) (going : old.failed ≡ false) (e : AreaError) (stays : AppliesOrStays device old new (Err e)) where
+  fault_answers : e ≡ area.DeviceFault → AnswersFaults {T = Unit {0}} device old new (Err DeviceFault)
   fault_answers is = record {
     geometry = stays.geometry;
     more_faults = stays.more_faults;
@@ -275,7 +277,7 @@ module _ {M : Type 0} (device : Ghosts M) (old new : JournalView M) (going : old
       rose (inl failed) = absurd (false≢true (sym going ∙ failed))
       rose (inr rises) = rises
 
-  pub memory_answers : e ≢ apply.DeviceFault → AnswersFaults {T = Unit {0}} device old new (Err Memory)
+  memory_answers : e ≢ area.DeviceFault → AnswersFaults {T = Unit {0}} device old new (Err Memory)
   memory_answers other = record {
     geometry = stays.geometry;
     more_faults = stays.more_faults;
@@ -284,6 +286,14 @@ module _ {M : Type 0} (device : Ghosts M) (old new : JournalView M) (going : old
     quiet_refused = λ off. (let quiet = stays.quiet_refused other in (quiet.0, quiet.2));
     fault = λ same. absurd (cc same);
   }
+
+-- a change that finds its blocks was refused
+pub apply_answers : {M : Type 0} (device : Ghosts M) (old new : JournalView M) (e : AreaError) (f : RecoveryError) → old.failed ≡ false → IsAreaFault e f → IsNoDamage e → AppliesOrStays device old new (Err e) → AnswersFaults {T = Unit {0}} device old new (Err f)
+apply_answers device old new area.DeviceFault f going is sound stays = subst (λ (x : RecoveryError). AnswersFaults {T = Unit {0}} device old new (Err x)) (sym is) (fault_answers device old new going area.DeviceFault stays refl)
+apply_answers device old new (area.Damaged what block) f going is sound stays = absurd sound
+apply_answers device old new area.NoBlock f going is sound stays = absurd sound
+apply_answers device old new area.NotMapped f going is sound stays = absurd sound
+apply_answers device old new area.Memory f going is sound stays = subst (λ (x : RecoveryError). AnswersFaults {T = Unit {0}} device old new (Err x)) (sym is) (memory_answers device old new going area.Memory stays (λ same. cc same))
 
 pub reclaim_answers : {M : Type 0} (device : Ghosts M) (old new : JournalView M) (e : ReclaimError) → ReclaimsOrStays device old new (Err e) → e ≡ reclaim.DeviceFault → AnswersFaults {T = Unit {0}} device old new (Err DeviceFault)
 reclaim_answers device old new e stays is = record {

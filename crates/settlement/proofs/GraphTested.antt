@@ -27,7 +27,7 @@ use Rattle.settlement.specs.declared.error.RecoveryError.{RecoveryError}
 use Rattle.settlement.specs.declared.error.RecoveryError.TheVariants as errors
 use Rattle.settlement.specs.Errors.{OnDamage, IsOfArea, IsAreaFault}
 use Rattle.settlement.specs.FaultOrMemory.{IsFaultOrMemory}
-use Rattle.settlement.specs.GraphTests.{IsGraphDamage, IsGraphFault}
+use Rattle.settlement.specs.GraphTests.{FindsNoDamage, IsGraphDamage, IsGraphFault}
 use Rattle.settlement.specs.Phases.{AnswersFaults}
 use Rattle.settlement.proofs.Faults.{of_area, no_damage}
 use Rattle.std.specs.Prelude.{option_map}
@@ -71,6 +71,11 @@ module _ {M : Type 0} (device : Ghosts M) (old new : JournalView M) where
   looked_for (why.Nodes e) going led = led.led going
   looked_for (why.Unsound inode defect) going led = (led going).0
 
+  pub finds_no_damage : (e : GraphError AreaError) → LookedFor e → FindsNoDamage e
+  finds_no_damage why.Memory looks = tt
+  finds_no_damage (why.Nodes e) looks = looks.1
+  finds_no_damage (why.Unsound inode defect) looks = tt
+
   -- a refusal that is no device fault
   quiet_answers : {T : Type 0} (f : RecoveryError) → f ≢ errors.DeviceFault → Looks device old new call_answer → AnswersFaults {T = T} device old new (Err f)
   quiet_answers f other looks = record {
@@ -96,6 +101,8 @@ module _ {M : Type 0} (device : Ghosts M) (old new : JournalView M) where
       rose (inl failed) = absurd (false≢true (sym going ∙ failed))
       rose (inr rises) = rises
   node_answers (area.Damaged what block) f going is looks sound = absurd sound
+  node_answers area.NoBlock f going is looks sound = absurd sound
+  node_answers area.NotMapped f going is looks sound = absurd sound
   node_answers area.Memory f going is looks sound = record {
     geometry = looks.geometry;
     more_faults = looks.more_faults;
@@ -113,6 +120,8 @@ module _ {M : Type 0} (device : Ghosts M) (old new : JournalView M) where
   nodes_damage : (e : AreaError) (f : RecoveryError) → IsAreaFault e f → IsNoDamage e → (g : Graph) → OnDamage f (IsGraphDamage g)
   nodes_damage area.DeviceFault f is sound g = subst (λ (x : RecoveryError). OnDamage x (IsGraphDamage g)) (sym is) tt
   nodes_damage (area.Damaged what block) f is sound g = absurd sound
+  nodes_damage area.NoBlock f is sound g = absurd sound
+  nodes_damage area.NotMapped f is sound g = absurd sound
   nodes_damage area.Memory f is sound g = subst (λ (x : RecoveryError). OnDamage x (IsGraphDamage g)) (sym is) tt
 
   pub tested_damage : (e : GraphError AreaError) (f : RecoveryError) (g : Graph) → IsGraphFault e f → LookedFor e → IfUnsound e (HasDefect g) → OnDamage f (IsGraphDamage g)
@@ -123,6 +132,8 @@ module _ {M : Type 0} (device : Ghosts M) (old new : JournalView M) where
   nodes_unsound : (e : AreaError) (f : RecoveryError) (P : Type 0) → IsAreaFault e f → IsNoDamage e → OnDamage f (λ _ _. P)
   nodes_unsound area.DeviceFault f P is sound = subst (λ (x : RecoveryError). OnDamage x (λ _ _. P)) (sym is) tt
   nodes_unsound (area.Damaged what block) f P is sound = absurd sound
+  nodes_unsound area.NoBlock f P is sound = absurd sound
+  nodes_unsound area.NotMapped f P is sound = absurd sound
   nodes_unsound area.Memory f P is sound = subst (λ (x : RecoveryError). OnDamage x (λ _ _. P)) (sym is) tt
 
   pub tested_unsound : (e : GraphError AreaError) (f : RecoveryError) (P : Type 0) → IsGraphFault e f → LookedFor e → IfUnsound e (λ inode defect. P) → OnDamage f (λ _ _. P)

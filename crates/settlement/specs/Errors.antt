@@ -27,6 +27,8 @@ IsOfArea _ = ⊥
 abbrev pub IsAreaFault : AreaError → RecoveryError → Type 0
 IsAreaFault area.DeviceFault e = e ≡ errors.DeviceFault
 IsAreaFault (area.Damaged structure block) e = e ≡ errors.Damaged structure block
+IsAreaFault area.NoBlock e = ⊥
+IsAreaFault area.NotMapped e = ⊥
 IsAreaFault area.Memory e = e ≡ errors.Memory
 
 -- a refusal is one of a digest of logs: for a device fault, a record that can't be digested, or memory

@@ -10,6 +10,7 @@ use Rattle.recovery_laws.specs.graph_check.declared.defect.GraphError.{GraphErro
 use Rattle.recovery_laws.specs.graph_check.declared.defect.GraphError.TheVariants as why
 use Rattle.recovery_laws.specs.graph_check.Nameless.{is_nameless}
 use Rattle.recovery_laws.specs.shared_area.area_image.declared.error.AreaError.{AreaError}
+use Rattle.recovery_laws.specs.shared_area.Parts.{IsNoDamage}
 use Rattle.settlement.specs.declared.error.RecoveryError.{RecoveryError}
 use Rattle.settlement.specs.declared.error.RecoveryError.TheVariants as errors
 use Rattle.settlement.specs.Errors.{IsAreaFault}
@@ -25,6 +26,12 @@ pub record IsGraphDamage (g : Graph) (structure : What) (block : ℕ) : Type 0 w
 -- the graph without those of these files that have no name
 abbrev pub without_nameless : List ℕ → Graph → Graph
 without_nameless inodes g i = if is_among i inodes && is_nameless (g i) then None else g i
+
+-- Where the nodes were not read, it is for no damage.
+abbrev pub FindsNoDamage : GraphError AreaError → Type 0
+FindsNoDamage why.Memory = Unit {0}
+FindsNoDamage (why.Nodes e) = IsNoDamage e
+FindsNoDamage (why.Unsound inode defect) = Unit {0}
 
 -- why the graph was not found sound
 abbrev pub IsGraphFault : GraphError AreaError → RecoveryError → Type 0

@@ -1,20 +1,19 @@
 //! What a refusal of the shared area is to a recovery.
 
+ghost use Rattle.recovery_laws.specs.shared_area.Parts.{IsNoDamage};
 ghost use Rattle.settlement.specs.Errors.{IsAreaFault};
 
 use crate::error::RecoveryError;
 use recovery_laws::AreaError;
 
-/// What the area was refused for.
-pub fn area_fault(error: AreaError) -> RecoveryError
+// What an opened area was refused for: no damage is found in it, and what a recovery changes there writes no block of data.
+pub(crate) fn area_fault(error: AreaError) -> RecoveryError
+    requires { IsNoDamage error }
     ensures { IsAreaFault error result }
 {
     match error {
         AreaError::DeviceFault => RecoveryError::DeviceFault,
-        AreaError::Damaged { what, block } => RecoveryError::Damaged {
-            structure: what,
-            block,
-        },
+        AreaError::Damaged { .. } | AreaError::NoBlock | AreaError::NotMapped => unreachable!(),
         AreaError::Memory => RecoveryError::Memory,
     }
 }

@@ -11,7 +11,7 @@ ghost use Rattle.recovery_laws.specs.graph_check.record_validation.call_effects.
 ghost use Rattle.settlement.specs.Errors.{OnDamage, IsOfArea};
 ghost use Rattle.settlement.specs.FaultOrMemory.{IsFaultOrMemory};
 ghost use Rattle.settlement.specs.Recovers.{Regions, Recovers, CountNone};
-ghost use Rattle.settlement.specs.GraphTests.{IsGraphDamage, IsGraphFault};
+ghost use Rattle.settlement.specs.GraphTests.{FindsNoDamage, IsGraphDamage, IsGraphFault};
 ghost use Rattle.settlement.specs.Phases.{StaysRecovered, AnswersFaults, Whatever};
 
 use crate::area_faults::area_fault;
@@ -30,6 +30,7 @@ fn slot_block_of(inode: u32) -> u32
 
 // Why the graph was not found sound.
 fn graph_fault(error: GraphError<AreaError>) -> RecoveryError
+    requires { FindsNoDamage error }
     ensures { IsGraphFault error result }
 {
     match error {

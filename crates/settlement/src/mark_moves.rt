@@ -9,9 +9,10 @@ ghost use Rattle.settlement.specs.FaultOrMemory.{IsFaultOrMemory};
 ghost use Rattle.settlement.specs.Recovers.{CountNone, marks_by};
 ghost use Rattle.settlement.specs.Phases.{StaysRecovered, AnswersFaults};
 
+use crate::area_faults::area_fault;
 use crate::error::RecoveryError;
 use recovery_laws::{
-    ApplyError, CLIENTS, GraphChange, Mark, Marks, Media, Shared, changes_are_the_effects,
+    CLIENTS, GraphChange, Mark, Marks, Media, Shared, changes_are_the_effects,
     changes_keep_to_the_limits, marks_can_be_written,
 };
 use std::alloc::Global;
@@ -47,8 +48,6 @@ pub fn set_marks<M: Media>(
     let change = GraphChange::new(alloc);
     match area.apply(&change, marks) {
         Ok(()) => Ok(()),
-        Err(ApplyError::DeviceFault) => Err(RecoveryError::DeviceFault),
-        Err(ApplyError::Memory) => Err(RecoveryError::Memory),
-        Err(ApplyError::NoBlock) => unreachable!(),
+        Err(error) => Err(area_fault(error)),
     }
 }

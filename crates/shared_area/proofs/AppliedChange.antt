@@ -15,7 +15,7 @@ use Rattle.change_plan.specs.batch_journal.Course.{Unmoved}
 use Rattle.change_plan.specs.batch_journal.View.{JournalView}
 use Rattle.change_plan.proofs.batch_journal_lemmas.Courses.{tiers_same}
 use Rattle.change_plan.specs.area_image.declared.error.AreaError.{AreaError}
-use Rattle.change_plan.specs.area_image.declared.error.AreaError.TheVariants as area
+use Rattle.change_plan.specs.area_image.Refusals.{IsChangeRefusal}
 use Rattle.change_plan.specs.area_image.Store.{Store, disk, store_of, graph, marks}
 use Rattle.change_plan.specs.area_image.Format.{IsOpenable}
 use Rattle.change_plan.specs.area_image.Looks.{Looks}
@@ -24,8 +24,7 @@ use Rattle.change_plan.specs.area_commit.Value.{PoolsView, free_data, on_tier, A
 use Rattle.change_plan.specs.area_commit.StableState.{IsSettled, StaysStill}
 use Rattle.shared_area.specs.ChangeApply.{IsAppliedStore, MakesFewCalls, Applies, Ends}
 use Rattle.shared_area.specs.Costs.{units_in}
-use Rattle.shared_area.specs.declared.error.ApplyError.{ApplyError}
-use Rattle.shared_area.specs.declared.error.ApplyError.TheVariants.{DeviceFault}
+use Rattle.change_plan.specs.area_image.declared.error.AreaError.TheVariants.{DeviceFault}
 use Rattle.shared_area.proofs.Calls.{few_then}
 use Rattle.shared_area.proofs.Ending.{settled_still}
 use Rattle.shared_area.specs.Ready.{IsReady}
@@ -89,7 +88,7 @@ module _ {M : Type 0} (device : Ghosts M)
     abbrev AppliesTo : JournalView M → JournalView M → Type 0
     AppliesTo old new = Applies old.geometry (disk device old) cs v (device.moment old.media) (device.moment new.media) (device.left old.media) (device.left new.media)
 
-    abbrev EndsAt : JournalView M → JournalView M → PoolsView → Result (Unit {0}) ApplyError → Type 0
+    abbrev EndsAt : JournalView M → JournalView M → PoolsView → Result (Unit {0}) AreaError → Type 0
     EndsAt old new pools r = Ends device cs v old new pools r
 
     failed_now : {A B C : Type 0} → A × (B ⊎ C) → (B → ⊥) → A × C
@@ -117,6 +116,7 @@ module _ {M : Type 0} (device : Ghosts M)
       any_moment = applies_then old mid new ends.any_moment looks.unmoved;
       applied = subst (IsAppliedStore old.geometry (disk device old) cs v) (sym (store_still mid new looks.unmoved)) ends.applied;
       settled = λ going. settled_still device sized mid new pools looks.unmoved looks.geometry (ends.settled looks.going.0);
+      only = tt;
       unmoved = tt;
       fault = λ is. absurd (ok_fault u is);
       quiet = (looks.going.1, looks.quiet ∙ ends.quiet.1);
@@ -126,18 +126,19 @@ module _ {M : Type 0} (device : Ghosts M)
       at_most = few_on old mid new ends.any_moment.later ends.at_most looks.unmoved;
     }
       where
-        ok_fault : (u : Unit {0}) → IsErrOf {T = Unit {0}} {E = ApplyError} (Ok u) DeviceFault → ⊥
+        ok_fault : (u : Unit {0}) → IsErrOf {T = Unit {0}} {E = AreaError} (Ok u) DeviceFault → ⊥
         ok_fault u is = cc
 
     -- what a change tells of media of which no device had failed
-    pub ends_of : (old new : JournalView M) (pools : PoolsView) (r : Result (Unit {0}) ApplyError) → old.failed ≡ false → (old.failed ≡ false → AppliesTo old new) → OnOk r (IsAppliedStore old.geometry (disk device old) cs v (disk device new))
-        → (new.failed ≡ false → IsSettled new.geometry (device.seen new.media) (device.left new.media (device.moment new.media)) pools) → IfErr r (λ e. e ≢ DeviceFault → StaysStill device old new)
+    pub ends_of : (old new : JournalView M) (pools : PoolsView) (r : Result (Unit {0}) AreaError) → old.failed ≡ false → (old.failed ≡ false → AppliesTo old new) → OnOk r (IsAppliedStore old.geometry (disk device old) cs v (disk device new))
+        → (new.failed ≡ false → IsSettled new.geometry (device.seen new.media) (device.left new.media (device.moment new.media)) pools) → IfErr r IsChangeRefusal → IfErr r (λ e. e ≢ DeviceFault → StaysStill device old new)
         → (IsErrOf r DeviceFault → (new.failed ≡ true) × ((old.failed ≡ true) ⊎ Rose (device.faults old.media) (device.faults new.media))) → OnOk r ((new.failed ≡ false) × (device.faults new.media ≡ device.faults old.media))
         → new.geometry ≡ old.geometry → device.faults old.media ≤ device.faults new.media → device.faults new.media ≤ device.faults old.media + 1 → MakesFew old new → EndsAt old new pools r
-    ends_of old new pools r going applies applied settled unmoved fault quiet geometry more one few = record {
+    ends_of old new pools r going applies applied settled only unmoved fault quiet geometry more one few = record {
       any_moment = applies going;
       applied = applied;
       settled = settled;
+      only = only;
       unmoved = unmoved;
       fault = λ is. failed_now (fault is) (λ was. true≢false (sym was ∙ going));
       quiet = quiet;
@@ -148,13 +149,14 @@ module _ {M : Type 0} (device : Ghosts M)
     }
 
     -- where a device fails in them, the change is made all the same, and the area has failed
-    pub ends_broken : {T : Type 0} (old mid new : JournalView M) (pools : PoolsView) (u : Unit {0}) (e : AreaError) → e ≡ area.DeviceFault → EndsAt old mid pools (Ok u) → Looks {T = T} device mid new (Err e) → EndsAt old new pools (Err DeviceFault)
+    pub ends_broken : {T : Type 0} (old mid new : JournalView M) (pools : PoolsView) (u : Unit {0}) (e : AreaError) → e ≡ DeviceFault → EndsAt old mid pools (Ok u) → Looks {T = T} device mid new (Err e) → EndsAt old new pools (Err DeviceFault)
     ends_broken old mid new pools u e is ends looks =
         let fault = failed_now (looks.fault is) (λ was. true≢false (sym was ∙ ends.quiet.0)) in
         record {
           any_moment = applies_then old mid new ends.any_moment looks.unmoved;
           applied = tt;
           settled = λ going. absurd (true≢false (sym fault.0 ∙ going));
+          only = tt;
           unmoved = λ other. absurd (other refl);
           fault = λ _. (fault.0, subst (λ (n : ℕ). Rose n (device.faults new.media)) ends.quiet.1 fault.1);
           quiet = tt;
@@ -177,7 +179,7 @@ module _ {M : Type 0} (device : Ghosts M)
     ready_made old new pools units u ends is = (let settled = ends.settled ends.quiet.0 in record { opens = settled.opens; rests = settled.rests; ranges = settled.ranges; free = settled.free; marked = ends.applied.new_marks; charged = is })
 
     -- or it is not
-    pub ready_refused : (old new : JournalView M) (pools pools' : PoolsView) (told : Marks) (units : ℕ) (e : ApplyError) → IsReady old.geometry (device.seen old.media) (device.left old.media (device.moment old.media)) pools told units → EndsAt old new pools' (Err e) → new.failed ≡ false → IsReady new.geometry (device.seen new.media) (device.left new.media (device.moment new.media)) pools' told units
+    pub ready_refused : (old new : JournalView M) (pools pools' : PoolsView) (told : Marks) (units : ℕ) (e : AreaError) → IsReady old.geometry (device.seen old.media) (device.left old.media (device.moment old.media)) pools told units → EndsAt old new pools' (Err e) → new.failed ≡ false → IsReady new.geometry (device.seen new.media) (device.left new.media (device.moment new.media)) pools' told units
     ready_refused old new pools pools' told units e ready ends going =
         let settled = ends.settled going in
         let other : e ≢ DeviceFault = λ is. true≢false (sym (ends.fault (ap Err is)).0 ∙ going) in
@@ -191,7 +193,7 @@ module _ {M : Type 0} (device : Ghosts M)
           charged = charge_on old new units still ends.geometry ready.charged;
         }
 
-    pub applies_or_stays : (old new : JournalView M) (pools : PoolsView) (r : Result (Unit {0}) ApplyError) → old.failed ≡ false → EndsAt old new pools r → AppliesOrStays device old new r
+    pub applies_or_stays : (old new : JournalView M) (pools : PoolsView) (r : Result (Unit {0}) AreaError) → old.failed ≡ false → EndsAt old new pools r → AppliesOrStays device old new r
     applies_or_stays old new pools (Ok u) going ends = record {
       unmoved = tt;
       geometry = ends.geometry;

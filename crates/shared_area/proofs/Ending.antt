@@ -13,10 +13,10 @@ use Rattle.change_plan.specs.batch_journal.Course.{Unmoved}
 use Rattle.change_plan.specs.batch_journal.View.{JournalView}
 use Rattle.change_plan.proofs.batch_journal_lemmas.Courses.{left_before, tiers_same, unmoved_on}
 use Rattle.change_plan.specs.area_image.declared.error.AreaError.{AreaError}
-use Rattle.change_plan.specs.area_image.declared.error.AreaError.TheVariants as area
+use Rattle.change_plan.specs.area_image.declared.error.AreaError.TheVariants as errors
+use Rattle.change_plan.specs.area_image.Refusals.{IsChangeRefusal}
 use Rattle.change_plan.specs.area_image.Store.{Store, disk, store_of}
 use Rattle.change_plan.specs.area_image.Format.{IsOpenable}
-use Rattle.change_plan.specs.area_image.Damage.{OnDamage}
 use Rattle.change_plan.specs.area_image.Looks.{Looks}
 use Rattle.change_plan.specs.area_commit.Value.{PoolsView, HasRanges, AreFree}
 use Rattle.change_plan.specs.area_commit.declared.plan.Rewrite.{Rewrite}
@@ -25,9 +25,7 @@ use Rattle.change_plan.specs.area_commit.StableState.{IsSettled, StaysStill}
 use Rattle.change_plan.proofs.area_commit_lemmas.Course.{Rests}
 use Rattle.change_plan.proofs.area_commit_lemmas.Moments.{rest_loose}
 use Rattle.shared_area.specs.ChangeApply.{IsAppliedStore, IsAppliedOrNot, MakesFewCalls, Applies, Ends}
-use Rattle.shared_area.specs.Errors.{IsApplyFault, IsForced}
-use Rattle.shared_area.specs.declared.error.ApplyError.{ApplyError}
-use Rattle.shared_area.specs.declared.error.ApplyError.TheVariants as errors
+use Rattle.shared_area.specs.Errors.{IsForced}
 use Rattle.shared_area.proofs.Calls.{few_behind}
 
 -- ---- answers
@@ -45,39 +43,27 @@ block_fault e = cc
 pub block_memory : errors.NoBlock ≢ errors.Memory
 block_memory e = cc
 
-pub err_same : (e f : ApplyError) → IsErrOf {T = Unit {0}} {E = ApplyError} (Err e) f → e ≡ f
+pub err_same : (e f : AreaError) → IsErrOf {T = Unit {0}} {E = AreaError} (Err e) f → e ≡ f
 err_same e f is = cc
 
-pub ok_no_err : (u : Unit {0}) (f : ApplyError) → IsErrOf {T = Unit {0}} {E = ApplyError} (Ok u) f → ⊥
+pub ok_no_err : (u : Unit {0}) (f : AreaError) → IsErrOf {T = Unit {0}} {E = AreaError} (Ok u) f → ⊥
 ok_no_err u f is = cc
 
-pub err_with : {A B : Type 0} (r : Result (Unit {0}) ApplyError) → (A → B) → OnErr r A → OnErr r B
+pub err_with : {A B : Type 0} (r : Result (Unit {0}) AreaError) → (A → B) → OnErr r A → OnErr r B
 err_with (Ok u) f a = tt
 err_with (Err e) f a = f a
 
 -- a device fault, or a want of memory, is no want of blocks
-pub forced_block : (r : Result (Unit {0}) ApplyError) → IfErr r IsForced → IsErrOf r errors.NoBlock → ⊥
+pub forced_block : (r : Result (Unit {0}) AreaError) → IfErr r IsForced → IsErrOf r errors.NoBlock → ⊥
 forced_block (Ok u) only is = ok_no_err u errors.NoBlock is
 forced_block (Err e) only is = elim only [
   | inl failed ↦ block_fault (sym (err_same e errors.NoBlock is) ∙ failed)
   | inr full ↦ block_memory (sym (err_same e errors.NoBlock is) ∙ full)
 ]
 
-pub told_forced : (e : AreaError) (r : ApplyError) → IsApplyFault e r → IsForced r
-told_forced area.DeviceFault r is = inl is
-told_forced (area.Damaged w b) r is = absurd is
-told_forced area.Memory r is = inr is
-
-pub no_damage_told : (e : AreaError) → (e ≡ area.DeviceFault) ⊎ (e ≡ area.Memory) → OnDamage e (λ _ _. ⊥)
-no_damage_told area.DeviceFault is = tt
-no_damage_told (area.Damaged w b) is = elim is [ inl e ↦ fault e | inr e ↦ memory e ]
-  where
-    fault : area.Damaged w b ≡ area.DeviceFault → ⊥
-    fault e = cc
-
-    memory : area.Damaged w b ≡ area.Memory → ⊥
-    memory e = cc
-no_damage_told area.Memory is = tt
+pub forced_change : (e : AreaError) → IsForced e → IsChangeRefusal e
+forced_change e (inl fault) = subst IsChangeRefusal (sym fault) tt
+forced_change e (inr full) = subst IsChangeRefusal (sym full) tt
 
 -- ---- courses
 
@@ -113,7 +99,7 @@ module _ {M : Type 0} (device : Ghosts M)
     abbrev MakesFew : JournalView M → JournalView M → Type 0
     MakesFew old new = MakesFewCalls old.geometry (disk device old) cs (device.moment old.media) (device.moment new.media) (device.left old.media) (device.left new.media)
 
-    abbrev EndsAt : JournalView M → JournalView M → PoolsView → Result (Unit {0}) ApplyError → Type 0
+    abbrev EndsAt : JournalView M → JournalView M → PoolsView → Result (Unit {0}) AreaError → Type 0
     EndsAt old new pools r = Ends device cs v old new pools r
 
     back : (old new : JournalView M) → StillAt old new → (m : ℕ) → device.moment old.media ≤ m → m ≤ device.moment new.media → (t : Tier) (c : List ℕ) → device.left new.media m t c → device.left old.media (device.moment old.media) t c
@@ -143,6 +129,7 @@ module _ {M : Type 0} (device : Ghosts M)
       any_moment = applies;
       applied = tt;
       settled = λ going. absurd (true≢false (sym fault.0 ∙ going));
+      only = tt;
       unmoved = λ other. absurd (other refl);
       fault = λ is. fault;
       quiet = tt;
@@ -152,12 +139,13 @@ module _ {M : Type 0} (device : Ghosts M)
       at_most = few;
     }
 
-    pub ends_refused : (old new : JournalView M) (pools : PoolsView) (e : ApplyError) → e ≢ errors.DeviceFault → Rests device old.geometry old.media → StillAt old new → new.geometry ≡ old.geometry → new.failed ≡ false → device.faults new.media ≡ device.faults old.media
+    pub ends_refused : (old new : JournalView M) (pools : PoolsView) (e : AreaError) → IsChangeRefusal e → e ≢ errors.DeviceFault → Rests device old.geometry old.media → StillAt old new → new.geometry ≡ old.geometry → new.failed ≡ false → device.faults new.media ≡ device.faults old.media
         → SettledAt old pools → EndsAt old new pools (Err e)
-    ends_refused old new pools e other rests still geometry going quiet settled = record {
+    ends_refused old new pools e change other rests still geometry going quiet settled = record {
       any_moment = applies_still old new rests still;
       applied = tt;
       settled = λ g. settled_still old new pools still geometry settled;
+      only = change;
       unmoved = λ o. record { still = still; going = going; quiet = quiet };
       fault = λ is. absurd (other (err_same e errors.DeviceFault is));
       quiet = tt;
@@ -171,14 +159,16 @@ module _ {M : Type 0} (device : Ghosts M)
     failed_now p never = (p.0, elim p.1 [ inl b ↦ absurd (never b) | inr c ↦ c ])
 
     -- what a reader was refused for
-    pub ends_told : {T : Type 0} (old new : JournalView M) (pools : PoolsView) (e : AreaError) (f : ApplyError) → IsApplyFault e f → Looks {T = T} device old new (Err e) → old.failed ≡ false → Rests device old.geometry old.media → SettledAt old pools → EndsAt old new pools (Err f)
-    ends_told old new pools area.DeviceFault f is looks going rests settled = subst (λ (x : ApplyError). EndsAt old new pools (Err x)) (sym is) (
-        ends_fault old new pools (applies_still old new rests looks.unmoved) (failed_now (looks.fault refl) (λ was. true≢false (sym was ∙ going))) looks.geometry looks.more_faults looks.one_fault (none_still old new looks.unmoved)
+    pub ends_told : {T : Type 0} (old new : JournalView M) (pools : PoolsView) (e : AreaError) → IsForced e → Looks {T = T} device old new (Err e) → old.failed ≡ false → Rests device old.geometry old.media → SettledAt old pools → EndsAt old new pools (Err e)
+    ends_told {T = T} old new pools e (inl is) looks going rests settled =
+        let failed : Looks {T = T} device old new (Err errors.DeviceFault) = subst (λ (x : AreaError). Looks {T = T} device old new (Err x)) is looks in
+        subst (λ (x : AreaError). EndsAt old new pools (Err x)) (sym is) (
+        ends_fault old new pools (applies_still old new rests looks.unmoved) (failed_now (failed.fault refl) (λ was. true≢false (sym was ∙ going))) looks.geometry looks.more_faults looks.one_fault (none_still old new looks.unmoved)
         )
-    ends_told old new pools (area.Damaged w b) f is looks going rests settled = absurd is
-    ends_told old new pools area.Memory f is looks going rests settled =
-        let q = looks.quiet_refused (λ is_fault. cc) in
-        subst (λ (x : ApplyError). EndsAt old new pools (Err x)) (sym is) (ends_refused old new pools errors.Memory memory_fault rests looks.unmoved looks.geometry q.2 q.0 settled)
+    ends_told {T = T} old new pools e (inr is) looks going rests settled =
+        let full : Looks {T = T} device old new (Err errors.Memory) = subst (λ (x : AreaError). Looks {T = T} device old new (Err x)) is looks in
+        let q = full.quiet_refused memory_fault in
+        subst (λ (x : AreaError). EndsAt old new pools (Err x)) (sym is) (ends_refused old new pools errors.Memory tt memory_fault rests looks.unmoved looks.geometry q.2 q.0 settled)
 
     -- ---- reads, and then a change
 
@@ -212,11 +202,12 @@ module _ {M : Type 0} (device : Ghosts M)
         few_behind mid.geometry (disk device mid) cs (device.moment old.media) (device.moment mid.media) (device.moment new.media) (device.left old.media) (device.left mid.media) (device.left new.media) still.clock still.past few
         ))
 
-    pub ends_on : (old mid new : JournalView M) (pools : PoolsView) (r : Result (Unit {0}) ApplyError) → StillAt old mid → mid.geometry ≡ old.geometry → device.faults mid.media ≡ device.faults old.media → EndsAt mid new pools r → EndsAt old new pools r
+    pub ends_on : (old mid new : JournalView M) (pools : PoolsView) (r : Result (Unit {0}) AreaError) → StillAt old mid → mid.geometry ≡ old.geometry → device.faults mid.media ≡ device.faults old.media → EndsAt mid new pools r → EndsAt old new pools r
     ends_on old mid new pools (Ok u) still geometry quiet ends = record {
       any_moment = applies_on old mid new still geometry ends.any_moment;
       applied = applied_on old mid new still geometry ends.applied;
       settled = ends.settled;
+      only = tt;
       unmoved = tt;
       fault = λ is. absurd (ok_no_err u errors.DeviceFault is);
       quiet = (ends.quiet.0, ends.quiet.1 ∙ quiet);
@@ -229,6 +220,7 @@ module _ {M : Type 0} (device : Ghosts M)
       any_moment = applies_on old mid new still geometry ends.any_moment;
       applied = tt;
       settled = ends.settled;
+      only = ends.only;
       unmoved = λ other. still_on old mid new still quiet (ends.unmoved other);
       fault = λ is. (let f = ends.fault is in (f.0, subst (λ (n : ℕ). Rose n (device.faults new.media)) quiet f.1));
       quiet = tt;
@@ -257,6 +249,7 @@ module _ {M : Type 0} (device : Ghosts M)
         any_moment = applies_all;
         applied = done (disk device new) out;
         settled = λ g. settled;
+        only = tt;
         unmoved = tt;
         fault = λ is. absurd (ok_no_err u errors.DeviceFault is);
         quiet = quiet;
@@ -266,8 +259,7 @@ module _ {M : Type 0} (device : Ghosts M)
         at_most = few;
       }
 
-      pub ends_undone : (pools : PoolsView) (e : AreaError) (f : ApplyError) → IsApplyFault e f → (e ≡ area.DeviceFault → (new.failed ≡ true) × Rose (device.faults old.media) (device.faults new.media)) → (e ≡ area.Memory → Looks {T = Unit {0}} device old new (Err e)) → new.geometry ≡ old.geometry → device.faults old.media ≤ device.faults new.media
-          → device.faults new.media ≤ device.faults old.media + 1 → old.failed ≡ false → Rests device old.geometry old.media → SettledAt old pools → EndsAt old new pools (Err f)
-      ends_undone pools area.DeviceFault f is fault memory geometry more one going rests settled = subst (λ (x : ApplyError). EndsAt old new pools (Err x)) (sym is) (ends_fault old new pools applies_all (fault refl) geometry more one few)
-      ends_undone pools (area.Damaged w b) f is fault memory geometry more one going rests settled = absurd is
-      ends_undone pools area.Memory f is fault memory geometry more one going rests settled = ends_told old new pools area.Memory f is (memory refl) going rests settled
+      pub ends_undone : (pools : PoolsView) (e : AreaError) → IsForced e → (e ≡ errors.DeviceFault → (new.failed ≡ true) × Rose (device.faults old.media) (device.faults new.media)) → (e ≡ errors.Memory → Looks {T = Unit {0}} device old new (Err e)) → new.geometry ≡ old.geometry → device.faults old.media ≤ device.faults new.media
+          → device.faults new.media ≤ device.faults old.media + 1 → old.failed ≡ false → Rests device old.geometry old.media → SettledAt old pools → EndsAt old new pools (Err e)
+      ends_undone pools e (inl is) fault memory geometry more one going rests settled = subst (λ (x : AreaError). EndsAt old new pools (Err x)) (sym is) (ends_fault old new pools applies_all (fault is) geometry more one few)
+      ends_undone pools e (inr is) fault memory geometry more one going rests settled = ends_told old new pools e (inr is) (memory is) going rests settled

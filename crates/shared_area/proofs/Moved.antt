@@ -15,8 +15,8 @@ use Rattle.change_plan.specs.area_image.Format.{IsOpenable}
 use Rattle.change_plan.proofs.area_image_lemmas.Frames.{loose_graph, loose_marks}
 use Rattle.change_plan.specs.area_commit.Value.{PoolsView}
 use Rattle.relocation.specs.TierMove.{IsMoved}
-use Rattle.relocation.specs.declared.error.RelocateError.{RelocateError}
-use Rattle.relocation.specs.declared.error.RelocateError.TheVariants.{DeviceFault, NotMapped, NoBlock, Memory}
+use Rattle.change_plan.specs.area_image.declared.error.AreaError.{AreaError}
+use Rattle.change_plan.specs.area_image.declared.error.AreaError.TheVariants.{DeviceFault, Damaged, NotMapped, NoBlock, Memory}
 use Rattle.relocation.specs.RunMove.{LieInLowest, IsSettled, IsMovedStore, Moves, StaysStill}
 use Rattle.shared_area.specs.Ready.{IsReady, HasFree}
 use Rattle.shared_area.specs.TierMoves.{HasTooFew, HasEnough, StaysOpen, MovesOrStays}
@@ -48,19 +48,19 @@ stays_open g s i first count to before now old new opens moves = record {
 -- ---- what is told of a move that is done
 
 module _ (g : Sizes) (s : Store) (i first count : ℕ) (to : Tier) (new : Store) where
-  pub ok_moved : (r : Result (Unit {0}) RelocateError) → OnOk r (IsMovedStore g s i first count to new) → OnOk r (IsMoved g s new i first count to)
+  pub ok_moved : (r : Result (Unit {0}) AreaError) → OnOk r (IsMovedStore g s i first count to new) → OnOk r (IsMoved g s new i first count to)
   ok_moved (Ok x) is = is.moved
   ok_moved (Err e) is = tt
 
-  pub ok_lowest : (r : Result (Unit {0}) RelocateError) → OnOk r (IsMovedStore g s i first count to new) → OnOk r (LieInLowest g s new i first count to)
+  pub ok_lowest : (r : Result (Unit {0}) AreaError) → OnOk r (IsMovedStore g s i first count to new) → OnOk r (LieInLowest g s new i first count to)
   ok_lowest (Ok u) moved = moved.lowest
   ok_lowest (Err e) moved = tt
 
-  pub ok_graph : (r : Result (Unit {0}) RelocateError) → OnOk r (IsMovedStore g s i first count to new) → OnOk r (graph g new ≡ graph g s)
+  pub ok_graph : (r : Result (Unit {0}) AreaError) → OnOk r (IsMovedStore g s i first count to new) → OnOk r (graph g new ≡ graph g s)
   ok_graph (Ok x) is = is.same_graph
   ok_graph (Err e) is = tt
 
-  pub ok_marks : (r : Result (Unit {0}) RelocateError) → OnOk r (IsMovedStore g s i first count to new) → OnOk r (marks new ≡ marks s)
+  pub ok_marks : (r : Result (Unit {0}) AreaError) → OnOk r (IsMovedStore g s i first count to new) → OnOk r (marks new ≡ marks s)
   ok_marks (Ok x) is = is.same_marks
   ok_marks (Err e) is = tt
 
@@ -69,15 +69,15 @@ module _ (g : Sizes) (s : Store) (i first count : ℕ) (to : Tier) (new : Store)
 ok_fault : (x : Unit {0}) → Ok x ≡ Err DeviceFault → ⊥
 ok_fault x is = cc
 
-few_fault : (r : Result (Unit {0}) RelocateError) → r ≡ Err NoBlock → r ≡ Err DeviceFault → ⊥
+few_fault : (r : Result (Unit {0}) AreaError) → r ≡ Err NoBlock → r ≡ Err DeviceFault → ⊥
 few_fault r few fault = cc
 
 module _ (failed : Bool) (g : Sizes) (s : Store) (t : Tier) (n count : ℕ) (free : failed ≡ false → HasFree g s t n) (C : Type 0) where
-  pub ok_enough : (r : Result (Unit {0}) RelocateError) → (failed ≡ true → r ≡ Err DeviceFault) → OnOk r (C × (count ≤ n)) → OnOk r (C × HasEnough g s t count)
+  pub ok_enough : (r : Result (Unit {0}) AreaError) → (failed ≡ true → r ≡ Err DeviceFault) → OnOk r (C × (count ≤ n)) → OnOk r (C × HasEnough g s t count)
   ok_enough (Ok x) stays is = elim (cases_Bool failed) [ inl was ↦ absurd (ok_fault x (stays was)) | inr going ↦ (is.0, (n, free going, is.1)) ]
   ok_enough (Err e) stays is = tt
 
-  pub err_few : (r : Result (Unit {0}) RelocateError) → (failed ≡ true → r ≡ Err DeviceFault) → (r ≡ Err NoBlock → C × (n < count)) → r ≡ Err NoBlock → C × HasTooFew g s t count
+  pub err_few : (r : Result (Unit {0}) AreaError) → (failed ≡ true → r ≡ Err DeviceFault) → (r ≡ Err NoBlock → C × (n < count)) → r ≡ Err NoBlock → C × HasTooFew g s t count
   err_few r stays few short = elim (cases_Bool failed) [ inl was ↦ absurd (few_fault r short (stays was)) | inr going ↦ ((few short).0, (n, free going, (few short).1)) ]
 
 module _ {M : Type 0} (device : Ghosts M) where
@@ -111,17 +111,18 @@ module _ {M : Type 0} (device : Ghosts M) where
       let store : disk device new ≡ disk device old = ap store_of (tiers_same (device.seen old.media) (device.seen new.media) is.still.reads) in
       (ap (graph old.geometry) store, ap marks store)
 
-  same_store : (old new : JournalView M) (r : Result (Unit {0}) RelocateError) (i first count : ℕ) (to : Tier) → new.failed ≡ false
+  same_store : (old new : JournalView M) (r : Result (Unit {0}) AreaError) (i first count : ℕ) (to : Tier) → new.failed ≡ false
       → OnOk r (IsMovedStore old.geometry (disk device old) i first count to (disk device new)) → IfErr r (λ e. e ≢ DeviceFault → StaysStill device old new)
       → (IsErrOf r DeviceFault → new.failed ≡ true) → SameStore old new
   same_store old new (Ok x) i first count to going moved still fault = (moved.same_graph, moved.same_marks)
   same_store old new (Err DeviceFault) i first count to going moved still fault = absurd (true≢false (sym (fault refl) ∙ going))
+  same_store old new (Err (Damaged part block)) i first count to going moved still fault = unmoved_store old new (still (λ e. cc))
   same_store old new (Err NotMapped) i first count to going moved still fault = unmoved_store old new (still (λ e. cc))
   same_store old new (Err NoBlock) i first count to going moved still fault = unmoved_store old new (still (λ e. cc))
   same_store old new (Err Memory) i first count to going moved still fault = unmoved_store old new (still (λ e. cc))
 
   -- what is in memory stays true
-  pub ready_moved : (old new : JournalView M) (r : Result (Unit {0}) RelocateError) (pools pools' : PoolsView) (told : Marks) (units i first count : ℕ) (to : Tier)
+  pub ready_moved : (old new : JournalView M) (r : Result (Unit {0}) AreaError) (pools pools' : PoolsView) (told : Marks) (units i first count : ℕ) (to : Tier)
       → OnOk r (IsMovedStore old.geometry (disk device old) i first count to (disk device new)) → IfErr r (λ e. e ≢ DeviceFault → StaysStill device old new)
       → (IsErrOf r DeviceFault → new.failed ≡ true) → (new.failed ≡ false → IsSettled new.geometry (device.seen new.media) (device.left new.media (device.moment new.media)) pools') → (old.failed ≡ true → new ≡ old)
       → new.geometry ≡ old.geometry → (old.failed ≡ false → IsReady old.geometry (device.seen old.media) (device.left old.media (device.moment old.media)) pools told units)
@@ -130,7 +131,7 @@ module _ {M : Type 0} (device : Ghosts M) where
       let same = same_store old new r i first count to going moved still fault in
       same_ready old new pools pools' told units geometry same.0 same.1 (ready (was_going old new stays going)) (settled going)
 
-  pub moves_or_stays : (old new : JournalView M) (r : Result (Unit {0}) RelocateError) → IfErr r (λ e. e ≢ DeviceFault → StaysStill device old new)
+  pub moves_or_stays : (old new : JournalView M) (r : Result (Unit {0}) AreaError) → IfErr r (λ e. e ≢ DeviceFault → StaysStill device old new)
       → (IsErrOf r DeviceFault → (new.failed ≡ true) × ((old.failed ≡ true) ⊎ Rose (device.faults old.media) (device.faults new.media))) → (old.failed ≡ true → (r ≡ Err DeviceFault) × (new ≡ old))
       → OnOk r ((new.failed ≡ false) × (device.faults new.media ≡ device.faults old.media)) → new.geometry ≡ old.geometry → device.faults old.media ≤ device.faults new.media → device.faults new.media ≤ device.faults old.media + 1
       → MovesOrStays device old new r
@@ -139,7 +140,7 @@ module _ {M : Type 0} (device : Ghosts M) where
       was : StaysStill device old new → (old.failed ≡ true → new ≡ old) → (device.faults new.media ≡ device.faults old.media) × (old.failed ≡ false) × (new.failed ≡ false)
       was is stays = (is.quiet, was_going old new stays is.going, is.going)
 
-      ends : (r : Result (Unit {0}) RelocateError) → IfErr r (λ e. e ≢ DeviceFault → StaysStill device old new)
+      ends : (r : Result (Unit {0}) AreaError) → IfErr r (λ e. e ≢ DeviceFault → StaysStill device old new)
           → (IsErrOf r DeviceFault → (new.failed ≡ true) × ((old.failed ≡ true) ⊎ Rose (device.faults old.media) (device.faults new.media))) → (old.failed ≡ true → (r ≡ Err DeviceFault) × (new ≡ old))
           → OnOk r ((new.failed ≡ false) × (device.faults new.media ≡ device.faults old.media)) → MovesOrStays device old new r
       ends (Ok x) still fault stays quiet = record {

@@ -1,5 +1,5 @@
 -- The pools, while a change is made over what was taken of them.
-use Rattle.std.proofs.Common.{◌≡◌, ◌≤◌, ◌<◌, ◌+◌, ◌⊎◌, ◌∙◌, inl, inr, ℕ, List, [], ◌∷◌, ◌++◌, length, refl, sym, ap, subst, arith}
+use Rattle.std.proofs.Common.{◌≡◌, ◌≢◌, ◌≤◌, ◌<◌, ◌+◌, ◌⊎◌, ◌∙◌, inl, inr, ℕ, List, [], ◌∷◌, ◌++◌, length, refl, sym, ap, subst, arith}
 use Rattle.std.proofs.lemmas.Bool.{cases_lt}
 use Rattle.std.specs.Prelude.{◌↔◌, ◌^◌, Ok, Err, IsErrOf, take, drop}
 use Rattle.std.specs.List.{Contains}
@@ -15,6 +15,9 @@ use Rattle.change_plan.specs.block_alloc.declared.error.AllocatorError.{Allocato
 use Rattle.change_plan.specs.block_alloc.declared.error.AllocatorError.TheVariants as refusal
 use Rattle.change_plan.proofs.block_alloc_lemmas.Blocks.{length-rising}
 use Rattle.change_plan.specs.extent_tree.declared.map.Place.{Place}
+use Rattle.change_plan.specs.area_image.declared.error.AreaError.{AreaError}
+use Rattle.change_plan.specs.area_image.declared.error.AreaError.TheVariants as errors
+use Rattle.change_plan.specs.area_image.Refusals.{IsChangeRefusal, area_error}
 use Rattle.change_plan.specs.area_image.Store.{Store, store_of}
 use Rattle.change_plan.specs.area_image.Reads.{Free}
 use Rattle.change_plan.specs.area_commit.Value.{PoolsView, data_pool, on_tier, free_data, AreInOrder, HasRanges}
@@ -25,6 +28,7 @@ use Rattle.change_plan.specs.inode_plan.PlannedFile.{pair_of, pairs_of}
 use Rattle.change_plan.specs.area_commit.StableState.{IsSettled}
 use Rattle.change_plan.specs.PlanAddition.{HasTaken}
 use Rattle.change_plan.proofs.Sparing.{normal_ends}
+use Rattle.shared_area.proofs.Ending.{memory_fault, memory_block, block_fault, err_same}
 
 -- ---- the same free blocks
 
@@ -167,6 +171,15 @@ enough_free taken nodes count free few = elim (cases_lt free count) [ inl less �
   where
     none : IsErrOf {T = Allocation} {E = AllocatorError} (Ok taken) refusal.NoBlock → ⊥
     none is = cc
+
+-- a refusal of the pools is one of a change
+pub told_pools : (e : AllocatorError) (r : AreaError) → r ≡ area_error e → IsChangeRefusal r × (r ≢ errors.DeviceFault)
+told_pools refusal.NoBlock r is = (subst IsChangeRefusal (sym is) tt, λ f. block_fault (sym is ∙ f))
+told_pools refusal.Memory r is = (subst IsChangeRefusal (sym is) tt, λ f. memory_fault (sym is ∙ f))
+
+pub told_block : (e : AllocatorError) (r : AreaError) → r ≡ area_error e → IsErrOf {T = Unit {0}} {E = AreaError} (Err r) errors.NoBlock → e ≡ refusal.NoBlock
+told_block refusal.NoBlock r is few = refl
+told_block refusal.Memory r is few = absurd (memory_block (sym is ∙ err_same r errors.NoBlock few))
 
 -- and fewer are, where they were not
 pub too_few_free : (e : AllocatorError) (nodes count free : ℕ) → e ≡ refusal.NoBlock → (IsErrOf {T = Allocation} {E = AllocatorError} (Err e) refusal.NoBlock ↔ ((nodes < 0) ⊎ (free < count))) → free < count

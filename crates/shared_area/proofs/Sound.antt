@@ -1,6 +1,6 @@
 -- Of media that spell a graph nothing is damaged.
 use Rattle.std.proofs.Common.{◌≡◌, ◌≢◌, ◌∙◌, ℕ, false, refl, sym, ap, subst, Option, Some, None}
-use Rattle.std.specs.Prelude.{IsSome, IfSome, IfNone, unwrap_or}
+use Rattle.std.specs.Prelude.{IsSome, IfSome, IfNone, Result, Ok, Err, IfErr, IsErrOf, unwrap_or}
 use Rattle.std.proofs.lemmas.Bool.{cond-false, false≢true}
 use Rattle.change_plan.specs.tier_device.declared.media.Tier.{Tier}
 use Rattle.change_plan.specs.layout.declared.slot.Slot.TheVariants as slots
@@ -8,6 +8,7 @@ use Rattle.change_plan.specs.layout.Places.{Sizes, is_inode}
 use Rattle.change_plan.specs.layout.Slot.{slot_of}
 use Rattle.change_plan.specs.area_image.declared.error.AreaError.{AreaError}
 use Rattle.change_plan.specs.area_image.declared.error.AreaError.TheVariants as errors
+use Rattle.change_plan.specs.area_image.Refusals.{IsChangeRefusal}
 use Rattle.change_plan.specs.area_image.declared.inode.InodeParts.{InodeParts}
 use Rattle.change_plan.specs.area_image.Store.{Store, slot_bytes, slot, slot_read, place}
 use Rattle.change_plan.specs.area_image.Map.{place_by}
@@ -24,12 +25,25 @@ undamaged g s errors.DeviceFault Going going opens damage = tt
 undamaged g s (errors.Damaged w block) Going going opens damage =
     let is = opens (going (λ e. cc)) in
     damage_none g s w block damage is.spelled is.units
+undamaged g s errors.NoBlock Going going opens damage = damage
+undamaged g s errors.NotMapped Going going opens damage = damage
 undamaged g s errors.Memory Going going opens damage = tt
 
 pub only_fault : (e : AreaError) → IsNoDamage e → e ≢ errors.Memory → e ≡ errors.DeviceFault
 only_fault errors.DeviceFault none other = refl
 only_fault (errors.Damaged w block) none other = absurd none
+only_fault errors.NoBlock none other = absurd none
+only_fault errors.NotMapped none other = absurd none
 only_fault errors.Memory none other = absurd (other refl)
+
+-- a change that finds its blocks
+pub found_change : (r : Result (Unit {0}) AreaError) → IfErr r IsChangeRefusal → (IsErrOf r errors.NoBlock → ⊥) → IfErr r IsNoDamage
+found_change (Ok u) only never = tt
+found_change (Err errors.DeviceFault) only never = tt
+found_change (Err (errors.Damaged what block)) only never = only
+found_change (Err errors.NoBlock) only never = never refl
+found_change (Err errors.NotMapped) only never = only
+found_change (Err errors.Memory) only never = tt
 
 pub not_some : {A : Type 0} (x : A) → None ≡ Some x → ⊥
 not_some x e = cc

@@ -26,8 +26,9 @@ use Rattle.change_plan.specs.FileLayout.{LeavesFile, GetPlaces, LieInPlaces, Kee
 use Rattle.change_plan.specs.Next.{HasFewEntries}
 use Rattle.change_plan.specs.Part.{IsTouchedBy}
 use Rattle.change_plan.specs.BlockDemand.{images_for, images_left}
-use Rattle.shared_area.specs.declared.error.ApplyError.{ApplyError}
-use Rattle.shared_area.specs.declared.error.ApplyError.TheVariants.{DeviceFault}
+use Rattle.change_plan.specs.area_image.declared.error.AreaError.{AreaError}
+use Rattle.change_plan.specs.area_image.Refusals.{IsChangeRefusal}
+use Rattle.change_plan.specs.area_image.declared.error.AreaError.TheVariants.{DeviceFault}
 
 -- The change keeps to the limits, and so does the graph after it, which keeps the units; one batch is enough for it; and the marks can be written.
 pub record CanApply (g : Sizes) (s : Store) (cs : Changes) (v : Marks) : Type 0 where
@@ -87,10 +88,11 @@ pub record Applies (g : Sizes) (s : Store) (cs : Changes) (v : Marks) (before no
 
 -- How a change ends: at each moment a stop leaves the store from before, or all of the change; after Ok it is made; after a refusal beside a device fault nothing has moved; and all is
 -- settled where no device has failed.
-pub record Ends {M : Type 0} (device : Ghosts M) (cs : Changes) (v : Marks) (old new : JournalView M) (pools : PoolsView) (result : Result (Unit {0}) ApplyError) : Type 0 where
+pub record Ends {M : Type 0} (device : Ghosts M) (cs : Changes) (v : Marks) (old new : JournalView M) (pools : PoolsView) (result : Result (Unit {0}) AreaError) : Type 0 where
   pub any_moment : Applies old.geometry (disk device old) cs v (device.moment old.media) (device.moment new.media) (device.left old.media) (device.left new.media)
   pub applied : OnOk result (IsAppliedStore old.geometry (disk device old) cs v (disk device new))
   pub settled : new.failed ≡ false → IsSettled new.geometry (device.seen new.media) (device.left new.media (device.moment new.media)) pools
+  pub only : IfErr result IsChangeRefusal
   pub unmoved : IfErr result (λ e. e ≢ DeviceFault → StaysStill device old new)
   pub fault : IsErrOf result DeviceFault → (new.failed ≡ true) × Rose (device.faults old.media) (device.faults new.media)
   pub quiet : OnOk result ((new.failed ≡ false) × (device.faults new.media ≡ device.faults old.media))

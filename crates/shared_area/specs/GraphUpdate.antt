@@ -11,8 +11,8 @@ use Rattle.change_plan.specs.batch_journal.Volume.{IsVolume}
 use Rattle.change_plan.specs.area_image.Store.{Store, store_of}
 use Rattle.change_plan.specs.area_image.Reads.{Loose}
 use Rattle.shared_area.specs.ChangeApply.{IsAppliedStore}
-use Rattle.shared_area.specs.declared.error.ApplyError.{ApplyError}
-use Rattle.shared_area.specs.declared.error.ApplyError.TheVariants.{DeviceFault}
+use Rattle.change_plan.specs.area_image.declared.error.AreaError.{AreaError}
+use Rattle.change_plan.specs.area_image.declared.error.AreaError.TheVariants.{DeviceFault}
 use Rattle.shared_area.specs.Ready.{HasFree, OpensAs}
 use Rattle.shared_area.specs.UnchangedMedia.{Stays, AnswersOrStays}
 
@@ -29,5 +29,5 @@ pub record OpensChangedOrNot (g : Sizes) (s : Store) (cs : Changes) (v : Marks) 
 abbrev pub StaysOrChanges : Sizes → Store → Changes → Marks → ℕ → ℕ → (ℕ → Tier → List ℕ → Type 0) → (ℕ → Tier → List ℕ → Type 0) → Type 0
 StaysOrChanges g s cs v = Stays (OpensChangedOrNot g s cs v)
 
-abbrev pub AppliesOrStays : {M : Type 0} → Ghosts M → JournalView M → JournalView M → Result (Unit {0}) ApplyError → Type 0
+abbrev pub AppliesOrStays : {M : Type 0} → Ghosts M → JournalView M → JournalView M → Result (Unit {0}) AreaError → Type 0
 AppliesOrStays = AnswersOrStays DeviceFault

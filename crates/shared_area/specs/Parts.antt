@@ -13,7 +13,7 @@ use Rattle.change_plan.specs.area_image.Store.{Store, slot_read, place}
 use Rattle.change_plan.specs.area_image.Checks.{HasFound}
 use Rattle.change_plan.specs.area_image.Damage.{OnDamage}
 
--- The refusal tells of no damage.
+-- The refusal is a reader's, and tells of no damage.
 abbrev pub IsNoDamage : AreaError → Type 0
 IsNoDamage e = OnDamage e (λ _ _. ⊥)
 

@@ -7,8 +7,8 @@ use Rattle.change_plan.specs.batch_journal.View.{JournalView}
 use Rattle.change_plan.specs.area_image.Store.{Store, store_of}
 use Rattle.change_plan.specs.area_image.Reads.{Loose}
 use Rattle.relocation.specs.TierMove.{IsMoved}
-use Rattle.relocation.specs.declared.error.RelocateError.{RelocateError}
-use Rattle.relocation.specs.declared.error.RelocateError.TheVariants.{DeviceFault}
+use Rattle.change_plan.specs.area_image.declared.error.AreaError.{AreaError}
+use Rattle.change_plan.specs.area_image.declared.error.AreaError.TheVariants.{DeviceFault}
 use Rattle.shared_area.specs.Ready.{HasFree, OpensAs}
 use Rattle.shared_area.specs.UnchangedMedia.{Stays, AnswersOrStays}
 
@@ -29,5 +29,5 @@ pub record OpensMovedOrNot (g : Sizes) (s : Store) (i first count : ℕ) (to : T
 abbrev pub StaysOpen : Sizes → Store → ℕ → ℕ → ℕ → Tier → ℕ → ℕ → (ℕ → Tier → List ℕ → Type 0) → (ℕ → Tier → List ℕ → Type 0) → Type 0
 StaysOpen g s i first count to = Stays (OpensMovedOrNot g s i first count to)
 
-abbrev pub MovesOrStays : {M : Type 0} → Ghosts M → JournalView M → JournalView M → Result (Unit {0}) RelocateError → Type 0
+abbrev pub MovesOrStays : {M : Type 0} → Ghosts M → JournalView M → JournalView M → Result (Unit {0}) AreaError → Type 0
 MovesOrStays = AnswersOrStays DeviceFault

@@ -23,16 +23,15 @@ ghost use Rattle.change_plan.specs.area_image.Reads.{Free, Loose};
 ghost use Rattle.change_plan.specs.area_image.Format.{IsOpenable};
 ghost use Rattle.change_plan.specs.area_image.Looks.{Looks};
 ghost use Rattle.change_plan.specs.area_image.Map.{WantsMemory};
-ghost use Rattle.change_plan.specs.area_image.declared.error.AreaError.TheVariants.{DeviceFault, Memory};
+ghost use Rattle.change_plan.specs.area_image.declared.error.AreaError.TheVariants.{DeviceFault, NoBlock, NotMapped, Memory};
 ghost use Rattle.change_plan.specs.area_image.Damage.{OnDamage};
 ghost use Rattle.relocation.specs.TierMove.{CanMove, IsMoved};
 ghost use Rattle.relocation.specs.RunMove.{LieInLowest, MovesInFewCalls};
 ghost use Rattle.relocation.specs.MovableFile.{HasFileRun};
-ghost use Rattle.relocation.specs.declared.error.RelocateError.TheVariants.{NotMapped, NoBlock, Memory as NoMemory};
+ghost use Rattle.change_plan.specs.area_image.Refusals.{IsMoveRefusal, IsChangeRefusal};
 ghost use Rattle.shared_area.specs.ChangeApply.{IsAppliedStore, MakesFewCalls};
 ghost use Rattle.change_plan.specs.Next.{HasFewEntries};
 ghost use Rattle.change_plan.specs.BlockDemand.{images_for, AreWritten};
-ghost use Rattle.shared_area.specs.declared.error.ApplyError.TheVariants as errors;
 ghost use Rattle.shared_area.specs.AreaOpen.{SpellsNone, IsMediumDamage, TakesMemory};
 ghost use Rattle.shared_area.specs.Ready.{OpensAs, HasCount, HasFree};
 ghost use Rattle.shared_area.specs.GraphUpdate.{HasTooFewData, StaysOrChanges, AppliesOrStays};
@@ -41,7 +40,6 @@ ghost use Rattle.shared_area.specs.FileReads.{bytes_of_inode, IsReadFrom};
 ghost use Rattle.shared_area.specs.Parts.{IsNoDamage, IsTierOf};
 ghost use Rattle.shared_area.specs.FirstRun.{FindsRun, file_lies};
 
-use crate::ApplyError;
 use crate::block_search::find_tier;
 use crate::digest_number::find_touch;
 use crate::file_read::read_file;
@@ -52,7 +50,7 @@ use crate::run_search::find_first_run;
 use crate::slot_counts::find_counts;
 use change_plan::{AreaError, Geometry, GraphChange, Journal, Marks, Media, Pools, Run, Tier};
 use record_validation::{NodeCounts, NodeSummary};
-use relocation::{RelocateError, RunRequest, relocate};
+use relocation::{RunRequest, relocate};
 use std::alloc::Global;
 use std::marker::Model;
 
@@ -221,7 +219,7 @@ impl<M: Media> Shared<M> {
         first: u64,
         count: u32,
         to: Tier,
-    ) -> Result<(), RelocateError>
+    ) -> Result<(), AreaError>
         // At each moment a stop leaves contents that are opened with the same graph and marks, with the run where it lay, or moved.
         ensures any_moment { self.old.failed ≡ false → StaysOpen self.old.geometry (disk M.Media self.old) inode first count to (M.moment self.old.media) (M.moment self.new.media) (M.left self.old.media) (M.left self.new.media) }
         ensures moved { OnOk result (IsMoved self.old.geometry (disk M.Media self.old) (disk M.Media self.new) inode first count to) }
@@ -233,7 +231,8 @@ impl<M: Media> Shared<M> {
         ensures not_mapped { IsErrOf result NotMapped → CanMove self.old.geometry (disk M.Media self.old) inode first count to → ⊥ }
         ensures no_block { IsErrOf result NoBlock → CanMove self.old.geometry (disk M.Media self.old) inode first count to × HasTooFew self.old.geometry (disk M.Media self.old) to count }
         ensures can { OnOk result (CanMove self.old.geometry (disk M.Media self.old) inode first count to × HasEnough self.old.geometry (disk M.Media self.old) to count) }
-        ensures memory { IsErrOf result NoMemory → HasFileRun self.old.geometry (disk M.Media self.old) inode first count }
+        ensures memory { IsErrOf result Memory → HasFileRun self.old.geometry (disk M.Media self.old) inode first count }
+        ensures only { IfErr result IsMoveRefusal }
         ensures moves { MovesOrStays M.Media self.old self.new result }
         // A write for each run of the blocks that it goes to, a fence, and the batch; what is read is not counted.
         ensures few { MovesInFewCalls self.old.geometry (disk M.Media self.old) to count (M.moment self.old.media) (M.moment self.new.media) }
@@ -263,7 +262,7 @@ impl<M: Media> Shared<M> {
     /// `NoBlock` where fewer data blocks are free than the change writes, which is never so where it writes no more than the format spares. `Memory` where there was none, before
     /// the first write. After each of these nothing has changed. `DeviceFault` where a device failed: the area answers nothing else then, until the medium is opened again, with
     /// all of the change or none of it.
-    pub fn apply(&mut self, change: &GraphChange, marks: Marks) -> Result<(), ApplyError>
+    pub fn apply(&mut self, change: &GraphChange, marks: Marks) -> Result<(), AreaError>
         requires bounded { AreBounded (changes_of change.now) }
         requires tidy { AreTidyChanges (changes_of change.now) }
         requires images { images_for (changes_of change.now) ≤ 255 }
@@ -276,8 +275,9 @@ impl<M: Media> Shared<M> {
         ensures applied { OnOk result (IsAppliedStore self.old.geometry (disk M.Media self.old) (changes_of change.now) marks (disk M.Media self.new)) }
 
         // Of the files that it leaves the change writes more blocks than there are free; and never where it writes no more than the format spares.
-        ensures no_block { IsErrOf result errors.NoBlock → (bs : List (ℕ × ℕ)) × AreWritten self.old.geometry (disk M.Media self.old) (changes_of change.now) bs × HasTooFewData self.old.geometry (disk M.Media self.old) (length bs) }
-        ensures never { ((bs : List (ℕ × ℕ)) → AreWritten self.old.geometry (disk M.Media self.old) (changes_of change.now) bs → length bs ≤ SPARE_BLOCKS) → IsErrOf result errors.NoBlock → ⊥ }
+        ensures no_block { IsErrOf result NoBlock → (bs : List (ℕ × ℕ)) × AreWritten self.old.geometry (disk M.Media self.old) (changes_of change.now) bs × HasTooFewData self.old.geometry (disk M.Media self.old) (length bs) }
+        ensures never { ((bs : List (ℕ × ℕ)) → AreWritten self.old.geometry (disk M.Media self.old) (changes_of change.now) bs → length bs ≤ SPARE_BLOCKS) → IsErrOf result NoBlock → ⊥ }
+        ensures only { IfErr result IsChangeRefusal }
         ensures applies { AppliesOrStays M.Media self.old self.new result }
         // A write for each run of data blocks that is taken, fastest tier first, a fence for each tier that is written, in the same order, and the batch; what is read is not counted.
         ensures at_most { MakesFewCalls self.old.geometry (disk M.Media self.old) (changes_of change.now) (M.moment self.old.media) (M.moment self.new.media) (M.left self.old.media) (M.left self.new.media) }

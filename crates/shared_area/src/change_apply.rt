@@ -21,12 +21,12 @@ ghost use Rattle.change_plan.specs.First.{PlansNothing};
 ghost use Rattle.change_plan.specs.FileLayout.{AreFirstFree};
 ghost use Rattle.change_plan.specs.Next.{HasFewEntries};
 ghost use Rattle.change_plan.specs.BlockDemand.{images_for, WantsBlocks, AreWritten};
-ghost use Rattle.shared_area.specs.declared.error.ApplyError.TheVariants.{DeviceFault, NoBlock};
+ghost use Rattle.change_plan.specs.area_image.declared.error.AreaError.TheVariants.{DeviceFault, NoBlock};
+ghost use Rattle.change_plan.specs.area_image.Refusals.{IsChangeRefusal};
 
-use crate::error::{ApplyError, apply_error};
 use crate::plan_write::reserve_blocks;
 use change_plan::{
-    Allocation, AllocatorError, BLOCK, FreedBlocks, GraphChange, Journal, Marks, Media, NodeImages,
+    Allocation, AreaError, BLOCK, FreedBlocks, GraphChange, Journal, Marks, Media, NodeImages,
     PartialPlan, Place, Pools, Tier, count_blocks, nodes_never_run_out, plan_changes, taken_places,
     wanted_blocks_are_written,
 };
@@ -80,7 +80,7 @@ fn plan_change<M: Media>(
     places: &[Place],
     taken: Allocation,
     plan: PartialPlan,
-) -> Result<(), ApplyError>
+) -> Result<(), AreaError>
     requires going { journal.old.failed ≡ false }
     requires can { CanApply journal.old.geometry (disk M.Media journal.old) (changes_of change.now) marks }
     requires taken { (before : PoolsView) × AreInOrder before × WereTaken before pools.old taken × IsSettled journal.old.geometry (M.seen journal.old.media) (M.left journal.old.media (M.moment journal.old.media)) before }
@@ -113,7 +113,7 @@ fn plan_change<M: Media>(
         Ok(()) => reserve_blocks(alloc, journal, pools, change, marks, plan, taken),
         Err(error) => {
             pools.release(taken);
-            Err(apply_error(error))
+            Err(error)
         }
     }
 }
@@ -126,7 +126,7 @@ fn place_blocks<M: Media>(
     change: &GraphChange,
     marks: Marks,
     taken: Allocation,
-) -> Result<(), ApplyError>
+) -> Result<(), AreaError>
     requires going { journal.old.failed ≡ false }
     requires can { CanApply journal.old.geometry (disk M.Media journal.old) (changes_of change.now) marks }
     requires taken { (before : PoolsView) × AreInOrder before × WereTaken before pools.old taken × IsSettled journal.old.geometry (M.seen journal.old.media) (M.left journal.old.media (M.moment journal.old.media)) before }
@@ -148,7 +148,7 @@ fn place_blocks<M: Media>(
         }
         Err(_) => {
             pools.release(taken);
-            Err(ApplyError::Memory)
+            Err(AreaError::Memory)
         }
     }
 }
@@ -161,7 +161,7 @@ fn allocate_blocks<M: Media>(
     change: &GraphChange,
     marks: Marks,
     count: usize,
-) -> Result<(), ApplyError>
+) -> Result<(), AreaError>
     requires going { journal.old.failed ≡ false }
     requires settled { IsSettled journal.old.geometry (M.seen journal.old.media) (M.left journal.old.media (M.moment journal.old.media)) pools.old }
     requires can { CanApply journal.old.geometry (disk M.Media journal.old) (changes_of change.now) marks }
@@ -176,12 +176,11 @@ fn allocate_blocks<M: Media>(
     nodes_never_run_out();
     let _free = pools.free(Tier::Fast);
     if count > u32::MAX as usize {
-        return Err(ApplyError::NoBlock);
+        return Err(AreaError::NoBlock);
     }
     match pools.take(0, count as u32) {
         Ok(taken) => place_blocks(alloc, journal, pools, change, marks, taken),
-        Err(AllocatorError::NoBlock) => Err(ApplyError::NoBlock),
-        Err(AllocatorError::Memory) => Err(ApplyError::Memory),
+        Err(error) => Err(AreaError::from(error)),
     }
 }
 
@@ -192,7 +191,7 @@ fn apply_counted<M: Media>(
     pools: &mut Pools,
     change: &GraphChange,
     marks: Marks,
-) -> Result<(), ApplyError>
+) -> Result<(), AreaError>
     requires going { journal.old.failed ≡ false }
     requires settled { IsSettled journal.old.geometry (M.seen journal.old.media) (M.left journal.old.media (M.moment journal.old.media)) pools.old }
     requires can { CanApply journal.old.geometry (disk M.Media journal.old) (changes_of change.now) marks }
@@ -204,7 +203,7 @@ fn apply_counted<M: Media>(
     journal.left_now();
     match count_blocks(alloc, journal, change) {
         Ok(count) => allocate_blocks(alloc, journal, pools, change, marks, count),
-        Err(error) => Err(apply_error(error)),
+        Err(error) => Err(error),
     }
 }
 
@@ -222,7 +221,7 @@ pub fn apply<M: Media>(
     pools: &mut Pools,
     change: &GraphChange,
     marks: Marks,
-) -> Result<(), ApplyError>
+) -> Result<(), AreaError>
     // The media spell a graph with nothing pending, and the pools have their free blocks.
     requires settled { journal.old.failed ≡ false → IsSettled journal.old.geometry (M.seen journal.old.media) (M.left journal.old.media (M.moment journal.old.media)) pools.old }
     requires bounded { AreBounded (changes_of change.now) }
@@ -239,6 +238,7 @@ pub fn apply<M: Media>(
 
     // Files that the change leaves have more blocks that it writes than data blocks are free.
     ensures no_block { IsErrOf result NoBlock → (bs : List (ℕ × ℕ)) × AreWritten journal.old.geometry (disk M.Media journal.old) (changes_of change.now) bs × (length (free_data pools.old) < length bs) }
+    ensures only { IfErr result IsChangeRefusal }
     ensures unmoved { IfErr result (λ e. e ≢ DeviceFault → StaysStill M.Media journal.old journal.new) }
     ensures same { OnErr result (SameFree pools.old pools.new) }
     ensures fault { IsErrOf result DeviceFault → (journal.new.failed ≡ true) × ((journal.old.failed ≡ true) ⊎ Rose (M.faults journal.old.media) (M.faults journal.new.media)) }
@@ -252,7 +252,7 @@ pub fn apply<M: Media>(
     ensures at_most { MakesFewCalls journal.old.geometry (disk M.Media journal.old) (changes_of change.now) (M.moment journal.old.media) (M.moment journal.new.media) (M.left journal.old.media) (M.left journal.new.media) }
 {
     if journal.has_failed() {
-        return Err(ApplyError::DeviceFault);
+        return Err(AreaError::DeviceFault);
     }
     // For the proof: the blocks that are wanted are those that the change writes.
     wanted_blocks_are_written();

@@ -1,5 +1,5 @@
 // A change of the graph is made, and what is kept of the media in memory follows it.
-ghost use Rattle.std.specs.Prelude.{◌≡◌, ◌≤◌, ◌<◌, ℕ, List, true, false, length, OnOk, OnErr, IsErrOf};
+ghost use Rattle.std.specs.Prelude.{◌≡◌, ◌≤◌, ◌<◌, ℕ, List, true, false, length, OnOk, OnErr, IfErr, IsErrOf};
 ghost use Rattle.std.specs.FinMap as fin;
 ghost use Rattle.record_validation.specs.file_graph.Units.{charge};
 ghost use Rattle.change_plan.specs.graph_change.Bounds.{AreBounded};
@@ -15,12 +15,15 @@ ghost use Rattle.shared_area.specs.ChangeApply.{CanApply, IsAppliedStore, Ends, 
 ghost use Rattle.shared_area.specs.Costs.{inodes_of, units_in};
 ghost use Rattle.change_plan.specs.Next.{HasFewEntries};
 ghost use Rattle.change_plan.specs.BlockDemand.{images_for, AreWritten};
-ghost use Rattle.shared_area.specs.declared.error.ApplyError.TheVariants.{NoBlock};
+ghost use Rattle.change_plan.specs.area_image.declared.error.AreaError.TheVariants.{NoBlock};
+ghost use Rattle.change_plan.specs.area_image.Refusals.{IsChangeRefusal};
 ghost use Rattle.shared_area.specs.Ready.{IsReady};
 ghost use Rattle.shared_area.specs.GraphUpdate.{HasTooFewData, StaysOrChanges, AppliesOrStays};
 
-use crate::{ApplyError, apply, charge_follows_the_change, units_of_change};
-use change_plan::{GraphChange, Journal, Marks, Media, Pools, Tier, small_changes_find_blocks};
+use crate::{apply, charge_follows_the_change, units_of_change};
+use change_plan::{
+    AreaError, GraphChange, Journal, Marks, Media, Pools, Tier, small_changes_find_blocks,
+};
 use std::alloc::Global;
 
 // Makes a change of inodes that cost so much before it, and counts what the graph costs then. The count stays where the change is not made.
@@ -32,7 +35,7 @@ fn change_from<M: Media>(
     before: u64,
     change: &GraphChange,
     marks: Marks,
-) -> Result<(), ApplyError>
+) -> Result<(), AreaError>
     requires going { journal.old.failed ≡ false }
     requires settled { IsSettled journal.old.geometry (M.seen journal.old.media) (M.left journal.old.media (M.moment journal.old.media)) pools.old }
     requires charged { units.old ≡ charge (graph journal.old.geometry (disk M.Media journal.old)) }
@@ -53,7 +56,7 @@ fn change_from<M: Media>(
                 *units = *units - before + after;
                 Ok(())
             }
-            Err(_) => Err(ApplyError::DeviceFault),
+            Err(_) => Err(AreaError::DeviceFault),
         },
         Err(error) => Err(error),
     }
@@ -67,7 +70,7 @@ fn apply_running<M: Media>(
     units: &mut u64,
     change: &GraphChange,
     marks: Marks,
-) -> Result<(), ApplyError>
+) -> Result<(), AreaError>
     requires going { journal.old.failed ≡ false }
     requires settled { IsSettled journal.old.geometry (M.seen journal.old.media) (M.left journal.old.media (M.moment journal.old.media)) pools.old }
     requires charged { units.old ≡ charge (graph journal.old.geometry (disk M.Media journal.old)) }
@@ -81,7 +84,7 @@ fn apply_running<M: Media>(
     journal.left_now();
     match units_of_change(journal, change) {
         Ok(before) => change_from(alloc, journal, pools, units, before, change, marks),
-        Err(_) => Err(ApplyError::DeviceFault),
+        Err(_) => Err(AreaError::DeviceFault),
     }
 }
 
@@ -94,7 +97,7 @@ pub fn make_change<M: Media>(
     units: &mut u64,
     change: &GraphChange,
     marks: Marks,
-) -> Result<(), ApplyError>
+) -> Result<(), AreaError>
     requires ready { journal.old.failed ≡ false → IsReady journal.old.geometry (M.seen journal.old.media) (M.left journal.old.media (M.moment journal.old.media)) pools.old told.old units.old }
     requires bounded { AreBounded (changes_of change.now) }
     requires tidy { AreTidyChanges (changes_of change.now) }
@@ -107,11 +110,12 @@ pub fn make_change<M: Media>(
     ensures applied { OnOk result (IsAppliedStore journal.old.geometry (disk M.Media journal.old) (changes_of change.now) marks (disk M.Media journal.new)) }
     ensures no_block { IsErrOf result NoBlock → (bs : List (ℕ × ℕ)) × AreWritten journal.old.geometry (disk M.Media journal.old) (changes_of change.now) bs × HasTooFewData journal.old.geometry (disk M.Media journal.old) (length bs) }
     ensures never { ((bs : List (ℕ × ℕ)) → AreWritten journal.old.geometry (disk M.Media journal.old) (changes_of change.now) bs → length bs ≤ SPARE_BLOCKS) → IsErrOf result NoBlock → ⊥ }
+    ensures only { IfErr result IsChangeRefusal }
     ensures applies { AppliesOrStays M.Media journal.old journal.new result }
     ensures at_most { MakesFewCalls journal.old.geometry (disk M.Media journal.old) (changes_of change.now) (M.moment journal.old.media) (M.moment journal.new.media) (M.left journal.old.media) (M.left journal.new.media) }
 {
     if journal.has_failed() {
-        return Err(ApplyError::DeviceFault);
+        return Err(AreaError::DeviceFault);
     }
     // For the proof: the pools are in order, and a small change finds the data blocks that it wants.
     let _free = pools.free(Tier::Fast);

@@ -12,7 +12,6 @@ mod block_search;
 mod change_apply;
 mod digest_number;
 mod directory_read;
-mod error;
 mod file_read;
 mod graph_update;
 mod inode_cost;
@@ -26,7 +25,6 @@ mod slot_counts;
 pub use apply_laws::carried_out_change_is_made;
 pub use area::Shared;
 pub use change_apply::apply;
-pub use error::ApplyError;
 pub use inode_cost::{charge_follows_the_change, units_of_change};
 pub use plan_write::reserve_blocks;
 
@@ -38,4 +36,3 @@ pub use change_plan::{
 pub use record_validation::{
     MAX_INODE, NodeCounts, NodeSummary, Nodes, RecordCheck, Verdict, is_unknown, take_effects,
 };
-pub use relocation::RelocateError;

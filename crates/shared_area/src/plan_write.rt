@@ -15,9 +15,8 @@ ghost use Rattle.change_plan.specs.First.{IsWhole};
 ghost use Rattle.change_plan.specs.FileLayout.{AreFirstFree};
 
 use crate::apply_laws::carried_out_change_is_made;
-use crate::error::{ApplyError, apply_error};
 use change_plan::{
-    Allocation, GraphChange, Journal, Marks, Media, PartialPlan, Pools, carry_out,
+    Allocation, AreaError, GraphChange, Journal, Marks, Media, PartialPlan, Pools, carry_out,
     whole_change_can_be_carried_out, whole_change_lies_in_its_places, whole_plan,
 };
 use std::alloc::Global;
@@ -31,7 +30,7 @@ fn write_change<M: Media>(
     marks: Marks,
     plan: PartialPlan,
     taken: Allocation,
-) -> Result<(), ApplyError>
+) -> Result<(), AreaError>
     requires going { journal.old.failed ≡ false }
     requires opens { IsOpenable journal.old.geometry (disk M.Media journal.old) }
     requires rests { (t : Tier) → AtRest (M.seen journal.old.media) (M.left journal.old.media (M.moment journal.old.media)) t }
@@ -53,7 +52,7 @@ fn write_change<M: Media>(
     carried_out_change_is_made();
     match carry_out(alloc, journal, pools, whole_plan(plan, taken, Some(marks))) {
         Ok(()) => Ok(()),
-        Err(error) => Err(apply_error(error)),
+        Err(error) => Err(error),
     }
 }
 
@@ -66,7 +65,7 @@ pub fn reserve_blocks<M: Media>(
     marks: Marks,
     plan: PartialPlan,
     taken: Allocation,
-) -> Result<(), ApplyError>
+) -> Result<(), AreaError>
     requires going { journal.old.failed ≡ false }
     requires opens { IsOpenable journal.old.geometry (disk M.Media journal.old) }
     requires rests { (t : Tier) → AtRest (M.seen journal.old.media) (M.left journal.old.media (M.moment journal.old.media)) t }
@@ -88,7 +87,7 @@ pub fn reserve_blocks<M: Media>(
         Ok(()) => write_change(alloc, journal, pools, change, marks, plan, taken),
         Err(_) => {
             pools.release(taken);
-            Err(ApplyError::Memory)
+            Err(AreaError::Memory)
         }
     }
 }

@@ -12,7 +12,7 @@ pub fn describe_area(alloc: Global, image: &Image<'_>, text: &mut Text) {
             describe_marks(&area, text);
         }
         Err(AreaError::Damaged { .. }) => {}
-        Err(AreaError::DeviceFault | AreaError::Memory) => text.cut(),
+        Err(_) => text.cut(),
     }
 }
 

@@ -46,3 +46,5 @@ IsAreaFault why.Failed answer = answer ≡ answers.Refused refusals.KernelFailed
 IsAreaFault (why.Refused errors.DeviceFault) answer = answer ≡ answers.Refused refusals.DeviceFault
 IsAreaFault (why.Refused errors.Memory) answer = answer ≡ answers.Refused refusals.Memory
 IsAreaFault (why.Refused (errors.Damaged what block)) answer = ⊥
+IsAreaFault (why.Refused errors.NoBlock) answer = ⊥
+IsAreaFault (why.Refused errors.NotMapped) answer = ⊥

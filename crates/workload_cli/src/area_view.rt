@@ -159,6 +159,8 @@ fn area_fault(error: KernelError<AreaError>) -> Answer
         KernelError::Failed => Answer::Refused(Refusal::KernelFailed),
         KernelError::Refused(AreaError::DeviceFault) => Answer::Refused(Refusal::DeviceFault),
         KernelError::Refused(AreaError::Memory) => Answer::Refused(Refusal::Memory),
-        KernelError::Refused(AreaError::Damaged { .. }) => unreachable!(),
+        KernelError::Refused(
+            AreaError::Damaged { .. } | AreaError::NoBlock | AreaError::NotMapped,
+        ) => unreachable!(),
     }
 }

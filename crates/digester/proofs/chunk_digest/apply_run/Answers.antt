@@ -3,6 +3,7 @@ use Rattle.coalescer.specs.graph_change.View.{changes_of}
 use Rattle.shared_area.specs.layout.Marks.{fits_marks}
 use Rattle.shared_area.specs.layout.declared.marks.Marks.{Marks}
 use Rattle.shared_area.specs.area_image.Store.{disk, graph}
+use Rattle.shared_area.proofs.Sound.{found_change}
 use Rattle.digester.proofs.Runs as runs
 use Rattle.digester.proofs.chunk_digest.apply_run.Goals as goal
 
@@ -36,12 +37,12 @@ apply-requires-clause-units g c =
     let r = c.requires.run in
     λ going. runs.units r.0 old.geometry.units (graph old.geometry (disk g.M.Media old)) r.1 (changes_of c.args.change.now) r.2
 
-pub returns-clause-never : goal.returns-clause-never
-returns-clause-never g c is =
+pub returns-clause-only : goal.returns-clause-only
+returns-clause-only g c =
     let old = c.args.area.now in
     let s = disk g.M.Media old in
     let r = c.requires.run in
-    c.apply.ensures.never (runs.few_written r.0 old.geometry.units (graph old.geometry s) r.1 (changes_of c.args.change.now) r.2 old.geometry s) is
+    found_change c.apply.result c.apply.ensures.only (c.apply.ensures.never (runs.few_written r.0 old.geometry.units (graph old.geometry s) r.1 (changes_of c.args.change.now) r.2 old.geometry s))
 
 pub returns-clause-fits : goal.returns-clause-fits
 returns-clause-fits g c =

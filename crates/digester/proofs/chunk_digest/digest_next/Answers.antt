@@ -94,7 +94,7 @@ returns-in-Ok-clause-at_mark g c =
 pub returns-in-Err-apply_run-clause-digests : goal.returns-in-Err-apply_run-clause-digests
 returns-in-Err-apply_run-clause-digests g c =
     let m = g.M.Media in
-    change_refused m c.args.area.now c.test_run.new.area c.apply_run.new.area c.in-Ok-AllGood.field-0 c.in-Err-apply_run.error c.apply_error.result c.in-Ok-AllGood.ensures.looks c.in-Err-apply_run.ensures.applies c.apply_error.ensures
+    change_refused m c.args.area.now c.test_run.new.area c.apply_run.new.area c.in-Ok-AllGood.field-0 c.in-Err-apply_run.error c.digest_error.result c.in-Ok-AllGood.ensures.looks c.in-Err-apply_run.ensures.applies c.digest_error.ensures
 
 pub overflow_add-result : goal.overflow_add-result
 overflow_add-result g c =

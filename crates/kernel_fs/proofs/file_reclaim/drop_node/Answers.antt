@@ -1,4 +1,5 @@
 use Rattle.std.proofs.Common.{◌≡◌, ℕ, List, [], ◌∷◌, Some, refl, ap, sym, ◌∙◌, subst}
+use Rattle.std.specs.Prelude.{Err}
 use Rattle.digester.specs.batch_journal.Course.{Unmoved}
 use Rattle.digester.specs.file_graph.declared.effect.Effect.TheVariants as effect
 use Rattle.digester.specs.graph_change.Bounds.{AreBounded}
@@ -6,6 +7,7 @@ use Rattle.digester.specs.graph_change.Change.{Changes, Coalesces, coalesced_cha
 use Rattle.digester.specs.graph_change.View.{changes_of}
 use Rattle.digester.specs.shared_area.ChangeApply.{MakesFewCalls}
 use Rattle.digester.specs.area_image.Store.{Store, disk, graph}
+use Rattle.digester.proofs.shared_area_lemmas.Sound.{found_change}
 use Rattle.kernel_fs.proofs.Dropping.{charge_fits, few_entries, few_images, none_written, one_inode, reclaimed, then_reclaimed}
 use Rattle.kernel_fs.proofs.Reclaimed.{applied_stays, apply_stays, change_no_use}
 use Rattle.kernel_fs.proofs.file_reclaim.drop_node.Goals as goal
@@ -30,12 +32,12 @@ apply-requires-clause-units g c =
     let old = c.args.area.now in
     λ going. charge_fits i (changes_of c.args.change.now) law (graph old.geometry (disk g.M.Media old)) old.geometry.units (c.left_now.ensures.opens c.requires.going).units
 
-pub apply_error-requires : goal.apply_error-requires
-apply_error-requires g c =
+pub reclaim_error-requires : goal.reclaim_error-requires
+reclaim_error-requires g c =
     let i = c.args.inode in
     let law = subst (Coalesces (effect.Drop i ∷ [])) (sym c.requires.change) (c.changes_are_the_effects.ensures (effect.Drop i ∷ [])) in
     let old = c.args.area.now in
-    λ is. c.in-Err.ensures.never (λ bs are. none_written i (changes_of c.args.change.now) law old.geometry (disk g.M.Media old) bs are) (cc (is, c.in-Err.is))
+    found_change (Err c.in-Err.error) c.in-Err.ensures.only (c.in-Err.ensures.never (λ bs are. none_written i (changes_of c.args.change.now) law old.geometry (disk g.M.Media old) bs are))
 
 pub returns-in-Ok-clause-dropped : goal.returns-in-Ok-clause-dropped
 returns-in-Ok-clause-dropped g c =
@@ -73,7 +75,7 @@ pub returns-in-Ok-clause-stays : goal.returns-in-Ok-clause-stays
 returns-in-Ok-clause-stays g c = let m = g.M.Media in applied_stays m c.args.area.now c.apply.new.self c.in-Ok.ensures.applies
 
 pub returns-in-Err-clause-stays : goal.returns-in-Err-clause-stays
-returns-in-Err-clause-stays g c = let m = g.M.Media in apply_stays m c.args.area.now c.apply.new.self c.in-Err.error c.apply_error.result c.apply_error.ensures c.requires.going c.in-Err.ensures.applies
+returns-in-Err-clause-stays g c = let m = g.M.Media in apply_stays m c.args.area.now c.apply.new.self c.in-Err.error c.reclaim_error.result c.reclaim_error.ensures c.requires.going c.in-Err.ensures.applies
 
 pub returns-in-Ok-clause-at_most : goal.returns-in-Ok-clause-at_most
 returns-in-Ok-clause-at_most g c =
@@ -88,4 +90,4 @@ returns-in-Err-clause-at_most g c =
     subst (λ (cs : Changes). MakesFewCalls old.geometry (disk m old) cs (m.moment old.media) (m.moment c.apply.new.self.media) (m.left old.media) (m.left c.apply.new.self.media)) c.requires.change c.in-Err.ensures.at_most
 
 pub returns-in-Err-clause-only : goal.returns-in-Err-clause-only
-returns-in-Err-clause-only g c = λ is. change_no_use c.in-Err.error c.apply_error.result c.apply_error.ensures is
+returns-in-Err-clause-only g c = λ is. change_no_use c.in-Err.error c.reclaim_error.result c.reclaim_error.ensures is

@@ -12,7 +12,7 @@ use Rattle.settlement.specs.world.system_world.event_steps.libfs.file_graph.Grap
 use Rattle.settlement.specs.Parts.{part_medium}
 use Rattle.settlement.specs.PartMedia.{AreUntouched, media_beneath}
 use Rattle.settlement.specs.Regions.{media_of}
-use Rattle.settlement.proofs.Faults.{no_damage, of_fault}
+use Rattle.settlement.proofs.Faults.{no_damage, of_fault, of_reader}
 use Rattle.recovery.proofs.IdleWorlds.{idle_assembled, idle_tree, looked_untouched, same_graph_read, same_mark}
 use Rattle.recovery.proofs.OpenedSeats.{are_seats, seats_read, unread}
 use Rattle.recovery.proofs.SystemParts.{given_back, region_rose, shared_rose, system_untouched}
@@ -77,6 +77,9 @@ returns-in-Err-clause-back g c =
     let m = g.M.Media in
     let parts = c.parts_of-parts.ensures ∙ ap (λ (x : _). record { shared = x; regions = media_of c.args.regions.items }) c.into_medium.ensures in
     given_back m c.args.area.media c.args.regions.items c.parts_of-parts.result c.in-Err.area.media c.args.regions.items parts (looked_untouched m c.args.area c.in-Err.area _ c.in-Err.ensures.refused) (unread m c.args.regions.items)
+
+pub area_fault-requires : goal.area_fault-requires
+area_fault-requires g c = of_reader c.in-Err.error c.in-Err.ensures.only
 
 pub returns-in-Err-clause-only : goal.returns-in-Err-clause-only
 returns-in-Err-clause-only g c = no_damage c.in-Err.error c.area_fault.result ⊥ c.area_fault.ensures c.in-Err.ensures.only (λ x. x)

@@ -3,9 +3,9 @@ use Rattle.inode_plan.specs.area_image.Store.{disk, root_of}
 use Rattle.inode_plan.specs.area_commit.Value.{data_pool}
 use Rattle.inode_plan.proofs.area_commit_lemmas.Course.{Rests}
 use Rattle.inode_plan.proofs.area_commit_lemmas.Returned.{same_free}
-use Rattle.relocation.specs.declared.error.RelocateError.TheVariants.{NoBlock}
+use Rattle.inode_plan.specs.area_image.declared.error.AreaError.TheVariants.{NoBlock}
 use Rattle.relocation.specs.MovedFile.{spare_count}
-use Rattle.relocation.proofs.Ending.{block_fault, block_memory, on_ok, err_with, forced_only, forced_mapped, still_self, ends_refused}
+use Rattle.relocation.proofs.Ending.{block_fault, block_memory, on_ok, err_with, forced_only, forced_change, still_self, ends_refused}
 use Rattle.relocation.proofs.Pooled.{room_still, enough, too_few, not_fault, settled_same}
 use Rattle.relocation.proofs.run_move.allocate_run.Goals as goal
 
@@ -36,8 +36,8 @@ returns-in-Ok-clause-enough g c =
 pub returns-in-Ok-clause-few : goal.returns-in-Ok-clause-few
 returns-in-Ok-clause-few g c is = absurd (forced_only c.carry.result NoBlock c.carry.ensures.only block_fault block_memory is)
 
-pub returns-in-Ok-clause-mapped : goal.returns-in-Ok-clause-mapped
-returns-in-Ok-clause-mapped g c = forced_mapped c.carry.result c.carry.ensures.only
+pub returns-in-Ok-clause-only : goal.returns-in-Ok-clause-only
+returns-in-Ok-clause-only g c = forced_change c.carry.result c.carry.ensures.only
 
 pub returns-in-Err-clause-ends : goal.returns-in-Err-clause-ends
 returns-in-Err-clause-ends g c =
@@ -58,5 +58,5 @@ returns-in-Err-clause-few g c is =
     let some = c.nodes_never_run_out.ensures.spare old.geometry (disk g.M.Media old) pools settled.opens.spelled settled.opens.units settled.free in
     too_few c.in-Err.error c.from.result (root_of c.args.moved.file.slot c.args.moved.to) (length pools.nodes.free) c.args.moved.file.run.count (length (data_pool pools c.args.moved.to).free) c.from.ensures c.in-Err.ensures.few some is
 
-pub returns-in-Err-clause-mapped : goal.returns-in-Err-clause-mapped
-returns-in-Err-clause-mapped g c = (not_fault c.in-Err.error c.from.result c.from.ensures).1
+pub returns-in-Err-clause-only : goal.returns-in-Err-clause-only
+returns-in-Err-clause-only g c = (not_fault c.in-Err.error c.from.result c.from.ensures).1

@@ -5,7 +5,7 @@ use Rattle.inode_plan.specs.area_image.Store.{disk}
 use Rattle.inode_plan.specs.area_commit.declared.allocation.Allocation.{Allocation}
 use Rattle.inode_plan.specs.area_commit.Allocations.{CanRelease, WasReleased}
 use Rattle.inode_plan.proofs.area_commit_lemmas.Course.{Rests}
-use Rattle.relocation.specs.declared.error.RelocateError.TheVariants.{Memory}
+use Rattle.inode_plan.specs.area_image.declared.error.AreaError.TheVariants.{Memory}
 use Rattle.relocation.specs.RunMove.{IsSettled}
 use Rattle.relocation.proofs.Ending.{memory_fault, still_self, ends_refused}
 use Rattle.relocation.proofs.Pooled.{ready_for, settled_undone}

@@ -2,8 +2,8 @@ use Rattle.std.proofs.Common.{◌≤◌, ◌<◌, refl, subst, arith}
 use Rattle.std.specs.Prelude.{OnOk}
 use Rattle.inode_plan.proofs.area_image_lemmas.Shown.{slot_limits}
 use Rattle.inode_plan.proofs.area_commit_lemmas.Course.{Rests}
-use Rattle.relocation.specs.declared.error.RelocateError.TheVariants.{NoBlock, Memory}
-use Rattle.relocation.proofs.Ending.{err_same, memory_fault, memory_mapped, memory_block, err_with, still_self, ends_refused}
+use Rattle.inode_plan.specs.area_image.declared.error.AreaError.TheVariants.{NoBlock, Memory}
+use Rattle.relocation.proofs.Ending.{err_same, memory_fault, memory_block, err_with, still_self, ends_refused}
 use Rattle.relocation.proofs.Pooled.{settled_same, same_then, same_count}
 use Rattle.relocation.proofs.run_move.move_bytes.Goals as goal
 
@@ -47,5 +47,5 @@ returns-in-Err-clause-ends g c =
 pub returns-in-Err-clause-few : goal.returns-in-Err-clause-few
 returns-in-Err-clause-few g c is = absurd (memory_block (err_same Memory NoBlock is))
 
-pub returns-in-Err-clause-mapped : goal.returns-in-Err-clause-mapped
-returns-in-Err-clause-mapped g c = memory_mapped
+pub returns-in-Err-clause-only : goal.returns-in-Err-clause-only
+returns-in-Err-clause-only g c = tt

@@ -6,9 +6,9 @@ use Rattle.inode_plan.proofs.area_image_lemmas.Shown.{slot_limits}
 use Rattle.inode_plan.proofs.area_commit_lemmas.Course.{Rests}
 use Rattle.relocation.specs.MovableFile.{IsMovableRun}
 use Rattle.inode_plan.specs.Lists.{HoldsRun}
-use Rattle.relocation.specs.declared.error.RelocateError.TheVariants.{NoBlock}
+use Rattle.inode_plan.specs.area_image.declared.error.AreaError.TheVariants.{NoBlock}
 use Rattle.inode_plan.proofs.Steps.{inside}
-use Rattle.relocation.proofs.Ending.{block_fault, block_memory, block_mapped, told_forced, forced_only, forced_mapped, no_damage, settled_still, still_self, ends_refused, ends_told, ends_on}
+use Rattle.relocation.proofs.Ending.{block_fault, block_memory, forced_only, forced_change, settled_still, still_self, ends_refused, ends_told, ends_on}
 use Rattle.relocation.proofs.Pooled.{same_self}
 use Rattle.relocation.proofs.run_move.move_run.Goals as goal
 
@@ -28,8 +28,8 @@ returns-then-free-moved-clause-same g c = same_self c.args.pools.now
 pub returns-then-free-moved-clause-few : goal.returns-then-free-moved-clause-few
 returns-then-free-moved-clause-few g c is = subst (λ (n : ℕ). n < c.args.moved.file.run.count) c.free-free.ensures.count c.if-free-moved.true
 
-pub returns-then-free-moved-clause-mapped : goal.returns-then-free-moved-clause-mapped
-returns-then-free-moved-clause-mapped g c = block_mapped
+pub returns-then-free-moved-clause-only : goal.returns-then-free-moved-clause-only
+returns-then-free-moved-clause-only g c = tt
 
 -- ---- else
 
@@ -47,9 +47,6 @@ read_run-requires-clause-lie g c n lt =
     let f = c.args.moved.file in
     let a = c.requires.file.can.above (f.run.first + n) (inside f.run.first f.run.count (f.run.first + n) (omega arith) (omega (arith, lt))) in
     (a.0, subst IsSome (sym (c.requires.file.places a.0 (f.run.first + n))) a.2)
-
-pub relocate_error-requires : goal.relocate_error-requires
-relocate_error-requires g c = no_damage c.in-Err.error c.in-Err.ensures.only
 
 pub move_bytes-requires-clause-going : goal.move_bytes-requires-clause-going
 move_bytes-requires-clause-going g c = c.in-Ok.ensures.looks.going.1
@@ -86,13 +83,13 @@ returns-in-Err-clause-ends g c =
     let old = c.args.journal.now in
     let f = c.args.moved.file in
     let rests : Rests m old.geometry old.media = record { sizes = c.left_now.ensures.sizes c.requires.going; journal = c.left_now.ensures.journal c.requires.going; rest = c.requires.settled.rests } in
-    ends_told m g.met.M.Media.sized c.args.moved.inode f.run.first f.run.count c.args.moved.to old c.read_run.new.journal c.args.pools.now c.in-Err.error c.relocate_error.result c.relocate_error.ensures c.in-Err.ensures.looks c.requires.going rests c.requires.settled
+    ends_told m g.met.M.Media.sized c.args.moved.inode f.run.first f.run.count c.args.moved.to old c.read_run.new.journal c.args.pools.now c.in-Err.error c.in-Err.ensures.only c.in-Err.ensures.looks c.requires.going rests c.requires.settled
 
 pub returns-in-Err-clause-same : goal.returns-in-Err-clause-same
 returns-in-Err-clause-same g c = same_self c.args.pools.now
 
 pub returns-in-Err-clause-few : goal.returns-in-Err-clause-few
-returns-in-Err-clause-few g c is = absurd (forced_only (Err c.relocate_error.result) NoBlock (told_forced c.in-Err.error c.relocate_error.result c.relocate_error.ensures) block_fault block_memory is)
+returns-in-Err-clause-few g c is = absurd (forced_only (Err c.in-Err.error) NoBlock c.in-Err.ensures.only block_fault block_memory is)
 
-pub returns-in-Err-clause-mapped : goal.returns-in-Err-clause-mapped
-returns-in-Err-clause-mapped g c = forced_mapped (Err c.relocate_error.result) (told_forced c.in-Err.error c.relocate_error.result c.relocate_error.ensures)
+pub returns-in-Err-clause-only : goal.returns-in-Err-clause-only
+returns-in-Err-clause-only g c = forced_change (Err c.in-Err.error) c.in-Err.ensures.only

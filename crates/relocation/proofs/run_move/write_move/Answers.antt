@@ -7,7 +7,7 @@ use Rattle.inode_plan.specs.area_image.Store.{Store, disk}
 use Rattle.inode_plan.specs.area_commit.PlanOutcome.{IsCarriedOut}
 use Rattle.inode_plan.proofs.area_commit_lemmas.Course.{Rests}
 use Rattle.relocation.specs.RunMove.{IsSettled, IsMovedStore}
-use Rattle.relocation.proofs.Ending.{told_forced, no_damage, moved_for, ends_done, ends_undone}
+use Rattle.relocation.proofs.Ending.{moved_for, ends_done, ends_undone}
 use Rattle.relocation.proofs.Planned.{plan_calls}
 use Rattle.relocation.proofs.Pooled.{settled_undone}
 use Rattle.relocation.proofs.run_move.write_move.Goals as goal
@@ -19,9 +19,6 @@ carry_out-requires-clause-plan g c =
     let xs : ℕ → Slot = λ _. p.slot in
     let ms : ℕ → TierRuns = λ _. p.map in
     (xs, ms, c.move_is_planned.ensures old.geometry (disk g.M.Media old) c.requires.plan.0 c.requires.plan.3 p.file p.slot p.map c.args.plan p.is_plan)
-
-pub relocate_error-requires : goal.relocate_error-requires
-relocate_error-requires g c = no_damage c.in-Err.error c.in-Err.ensures.only
 
 pub returns-in-Ok-clause-ends : goal.returns-in-Ok-clause-ends
 returns-in-Ok-clause-ends g c i first count to p =
@@ -55,8 +52,5 @@ returns-in-Err-clause-ends g c i first count to p =
     let before : IsSettled old.geometry (m.seen old.media) (m.left old.media (m.moment old.media)) ready.before = record { opens = c.requires.opens; rests = c.requires.rests; ranges = ready.ranges; free = ready.free } in
     let settled = settled_undone old.geometry (m.seen old.media) (m.left old.media (m.moment old.media)) ready.before c.args.pools.now pools c.args.plan.taken ready.took c.in-Err.ensures.undone before in
     let out = c.in-Err.ensures in
-    ends_undone m g.met.M.Media.sized i first count to old new c.args.plan done c.carry_out.ensures.any_moment pools c.in-Err.error c.relocate_error.result (plan_calls old.geometry s i first count to c.args.plan p (m.moment old.media) (m.moment new.media) c.carry_out.ensures.at_most) c.relocate_error.ensures
+    ends_undone m g.met.M.Media.sized i first count to old new c.args.plan done c.carry_out.ensures.any_moment pools c.in-Err.error (plan_calls old.geometry s i first count to c.args.plan p (m.moment old.media) (m.moment new.media) c.carry_out.ensures.at_most) out.only
     (λ is. out.fault (ap Err is)) (λ is. out.memory (ap Err is)) c.carry_out.ensures.geometry c.carry_out.ensures.faults c.carry_out.ensures.one_fault c.requires.going rests settled
-
-pub returns-in-Err-clause-only : goal.returns-in-Err-clause-only
-returns-in-Err-clause-only g c = told_forced c.in-Err.error c.relocate_error.result c.relocate_error.ensures

@@ -90,6 +90,8 @@ extents_here g s i x t is = ap (λ (y : Slot). extents_by g (s tiers.Fast) i y t
 no_lists : (g : Sizes) (s : Store) (i : ℕ) (x : Slot) (e : AreaError) → slot_read g s i ≡ Some x → SpellsInode g s i → OnDamage e (HasNoExtents g (s tiers.Fast) i x) → OnDamage e (λ _ _. ⊥)
 no_lists g s i x errors.DeviceFault is spells damage = tt
 no_lists g s i x (errors.Damaged w block) is spells damage = false≢true (subst IsSome (extents_here g s i x damage.tier is ∙ damage.none) (spells.extents damage.tier))
+no_lists g s i x errors.NoBlock is spells damage = damage
+no_lists g s i x errors.NotMapped is spells damage = damage
 no_lists g s i x errors.Memory is spells damage = tt
 
 pub returns-in-Err-clause-only : goal.returns-in-Err-clause-only

@@ -5,9 +5,9 @@ use Rattle.inode_plan.proofs.area_image_lemmas.Looked.{carried}
 use Rattle.inode_plan.specs.area_commit.Value.{data_pool}
 use Rattle.inode_plan.proofs.area_commit_lemmas.Course.{Rests}
 use Rattle.relocation.specs.MovableFile.{IsMovableRun}
-use Rattle.relocation.specs.declared.error.RelocateError.TheVariants.{NotMapped, NoBlock, Memory}
+use Rattle.inode_plan.specs.area_image.declared.error.AreaError.TheVariants.{NotMapped, NoBlock, Memory}
 use Rattle.relocation.specs.RunMove.{Ends}
-use Rattle.relocation.proofs.Ending.{mapped_fault, mapped_memory, mapped_block, block_fault, block_memory, err_same, ok_with, err_other, told_memory, told_forced, forced_only, settled_still, ends_refused, ends_told, ends_on}
+use Rattle.relocation.proofs.Ending.{mapped_fault, mapped_memory, mapped_block, block_fault, block_memory, err_same, ok_with, forced_change, never_mapped, change_move, sound_forced, forced_only, settled_still, ends_refused, ends_told, ends_on}
 use Rattle.relocation.proofs.Pooled.{same_self, own_run, found_run}
 use Rattle.relocation.proofs.tier_move.move_found.Goals as goal
 
@@ -51,7 +51,7 @@ returns-in-Ok-Some-clause-can g c =
     ok_with c.move_run.result (λ (enough : c.in-Ok-Some.file.run.count ≤ length (data_pool c.args.pools.now c.args.to).free). (is.can, subst (λ (n : ℕ). n ≤ free) is.count_is enough)) c.move_run.ensures.enough
 
 pub returns-in-Ok-Some-clause-not_mapped : goal.returns-in-Ok-Some-clause-not_mapped
-returns-in-Ok-Some-clause-not_mapped g c none = absurd (err_other c.move_run.result NotMapped c.move_run.ensures.mapped none)
+returns-in-Ok-Some-clause-not_mapped g c none = absurd (never_mapped c.move_run.result c.move_run.ensures.only none)
 
 pub returns-in-Ok-Some-clause-no_block : goal.returns-in-Ok-Some-clause-no_block
 returns-in-Ok-Some-clause-no_block g c none =
@@ -66,6 +66,9 @@ returns-in-Ok-Some-clause-memory g c full =
     let f = c.in-Ok-Some.file in
     let is = found_run old.geometry (disk g.M.Media old) c.args.run.inode c.args.run.first c.args.run.count c.args.to c.in-Ok-Some.field-0 f c.in-Ok-Some.field-0-is c.in-Ok-Some.ensures.found in
     record { file = f.slot; slot_is = is.slot_is; within = is.within_file }
+
+pub returns-in-Ok-Some-clause-only : goal.returns-in-Ok-Some-clause-only
+returns-in-Ok-Some-clause-only g c = change_move c.move_run.result c.move_run.ensures.only
 
 pub returns-in-Ok-None-clause-ends : goal.returns-in-Ok-None-clause-ends
 returns-in-Ok-None-clause-ends g c =
@@ -92,16 +95,19 @@ returns-in-Err-clause-ends g c =
     let m = g.M.Media in
     let old = c.args.journal.now in
     let rests : Rests m old.geometry old.media = record { sizes = c.left_now.ensures.sizes c.requires.going; journal = c.left_now.ensures.journal c.requires.going; rest = c.requires.settled.rests } in
-    ends_told m g.met.M.Media.sized c.args.run.inode c.args.run.first c.args.run.count c.args.to old c.find_run.new.journal c.args.pools.now c.in-Err.error c.relocate_error.result c.relocate_error.ensures c.in-Err.ensures.looks c.requires.going rests c.requires.settled
+    ends_told m g.met.M.Media.sized c.args.run.inode c.args.run.first c.args.run.count c.args.to old c.find_run.new.journal c.args.pools.now c.in-Err.error (sound_forced c.in-Err.error c.in-Err.ensures.only) c.in-Err.ensures.looks c.requires.going rests c.requires.settled
 
 pub returns-in-Err-clause-same : goal.returns-in-Err-clause-same
 returns-in-Err-clause-same g c = same_self c.args.pools.now
 
 pub returns-in-Err-clause-not_mapped : goal.returns-in-Err-clause-not_mapped
-returns-in-Err-clause-not_mapped g c is = absurd (forced_only (Err c.relocate_error.result) NotMapped (told_forced c.in-Err.error c.relocate_error.result c.relocate_error.ensures) mapped_fault mapped_memory is)
+returns-in-Err-clause-not_mapped g c is = absurd (forced_only (Err c.in-Err.error) NotMapped (sound_forced c.in-Err.error c.in-Err.ensures.only) mapped_fault mapped_memory is)
 
 pub returns-in-Err-clause-no_block : goal.returns-in-Err-clause-no_block
-returns-in-Err-clause-no_block g c is = absurd (forced_only (Err c.relocate_error.result) NoBlock (told_forced c.in-Err.error c.relocate_error.result c.relocate_error.ensures) block_fault block_memory is)
+returns-in-Err-clause-no_block g c is = absurd (forced_only (Err c.in-Err.error) NoBlock (sound_forced c.in-Err.error c.in-Err.ensures.only) block_fault block_memory is)
 
 pub returns-in-Err-clause-memory : goal.returns-in-Err-clause-memory
-returns-in-Err-clause-memory g c is = c.in-Err.ensures.memory (told_memory c.in-Err.error c.relocate_error.result c.relocate_error.ensures is)
+returns-in-Err-clause-memory g c is = c.in-Err.ensures.memory (err_same c.in-Err.error Memory is)
+
+pub returns-in-Err-clause-only : goal.returns-in-Err-clause-only
+returns-in-Err-clause-only g c = change_move (Err c.in-Err.error) (forced_change (Err c.in-Err.error) (sound_forced c.in-Err.error c.in-Err.ensures.only))

@@ -1,6 +1,6 @@
 use Rattle.std.proofs.Common.{◌∙◌, inl, inr, refl, sym, arith}
 use Rattle.std.proofs.lemmas.Bool.{true≢false}
-use Rattle.relocation.specs.declared.error.RelocateError.TheVariants.{DeviceFault, NotMapped, NoBlock, Memory}
+use Rattle.inode_plan.specs.area_image.declared.error.AreaError.TheVariants.{DeviceFault, NotMapped, NoBlock, Memory}
 use Rattle.relocation.proofs.Ending.{memory_fault, mapped_fault, block_fault, err_same}
 use Rattle.inode_plan.specs.area_image.Store.{disk}
 use Rattle.relocation.proofs.Planned.{few_calls}

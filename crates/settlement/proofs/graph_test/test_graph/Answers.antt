@@ -1,13 +1,20 @@
 use Rattle.recovery_laws.specs.shared_area.area_image.Store.{disk, graph}
 use Rattle.recovery_laws.specs.graph_check.record_validation.call_effects.ClosedGraph.{nobody}
 use Rattle.recovery_laws.specs.graph_check.record_validation.call_effects.Wholes.{IsSound}
-use Rattle.settlement.proofs.GraphTested.{inodes_alone, looked_for, looked_unmoved, tested_answers, tested_damage, tested_never, tested_of_area, tested_unsound}
+use Rattle.settlement.proofs.GraphTested.{finds_no_damage, inodes_alone, looked_for, looked_unmoved, tested_answers, tested_damage, tested_never, tested_of_area, tested_unsound}
 use Rattle.settlement.proofs.Changing.{sound_by, unmoved_stays}
 use Rattle.settlement.specs.Phases.{Whatever}
 use Rattle.settlement.proofs.graph_test.test_graph.Goals as goal
 
 pub returns-in-Ok-clause-sound : goal.returns-in-Ok-clause-sound
 returns-in-Ok-clause-sound g c = let old = c.args.area.now in c.in-Ok.ensures.sound (inodes_alone old.geometry (disk g.M.Media old))
+
+pub graph_fault-requires : goal.graph_fault-requires
+graph_fault-requires g c =
+    let m = g.M.Media in
+    let old = c.args.area.now in
+    let new = c.check_graph.new.nodes in
+    finds_no_damage m old new c.in-Err.error (looked_for m old new c.in-Err.error c.requires.going c.in-Err.ensures.asked)
 
 pub returns-in-Err-clause-answers : goal.returns-in-Err-clause-answers
 returns-in-Err-clause-answers g c =

@@ -8,9 +8,9 @@ use Rattle.change_plan.specs.area_commit.Value.{free_data}
 use Rattle.change_plan.specs.area_commit.Allocations.{taken_data}
 use Rattle.change_plan.proofs.area_commit_lemmas.Course.{Rests}
 use Rattle.change_plan.specs.BlockDemand.{WantsBlocks}
-use Rattle.shared_area.specs.declared.error.ApplyError.TheVariants.{NoBlock, Memory}
-use Rattle.shared_area.proofs.Ending.{memory_fault, memory_block, block_fault, err_same, forced_block, still_self, ends_refused}
-use Rattle.shared_area.proofs.Pooled.{same_self, settled_same, no_runs_of, few_free, take_none, drop_none, enough_free, too_few_free}
+use Rattle.change_plan.specs.area_image.declared.error.AreaError.TheVariants.{NoBlock}
+use Rattle.shared_area.proofs.Ending.{block_fault, forced_block, still_self, ends_refused}
+use Rattle.shared_area.proofs.Pooled.{same_self, settled_same, no_runs_of, few_free, take_none, drop_none, enough_free, too_few_free, told_pools, told_block}
 use Rattle.shared_area.proofs.change_apply.allocate_blocks.Goals as goal
 
 -- ---- more blocks are wanted than there are
@@ -20,7 +20,7 @@ returns-then-count-clause-ends g c =
     let m = g.M.Media in
     let old = c.args.journal.now in
     let rests : Rests m old.geometry old.media = record { sizes = c.left_now.ensures.sizes c.requires.going; journal = c.left_now.ensures.journal c.requires.going; rest = c.requires.settled.rests } in
-    ends_refused m g.met.M.Media.sized (changes_of c.args.change.now) c.args.marks old old c.args.pools.now NoBlock block_fault rests (still_self m g.met.M.Media.sized old) refl c.requires.going refl c.requires.settled
+    ends_refused m g.met.M.Media.sized (changes_of c.args.change.now) c.args.marks old old c.args.pools.now NoBlock tt block_fault rests (still_self m g.met.M.Media.sized old) refl c.requires.going refl c.requires.settled
 
 pub returns-then-count-clause-same : goal.returns-then-count-clause-same
 returns-then-count-clause-same g c = same_self c.args.pools.now
@@ -77,26 +77,15 @@ returns-in-Ok-clause-few g c is = absurd (forced_block c.place_blocks.result c.p
 
 -- ---- they are not
 
-pub returns-in-Err-NoBlock-clause-ends : goal.returns-in-Err-NoBlock-clause-ends
-returns-in-Err-NoBlock-clause-ends g c =
+pub returns-in-Err-clause-ends : goal.returns-in-Err-clause-ends
+returns-in-Err-clause-ends g c =
     let m = g.M.Media in
     let old = c.args.journal.now in
     let pools = c.take.new.self in
     let rests : Rests m old.geometry old.media = record { sizes = c.left_now.ensures.sizes c.requires.going; journal = c.left_now.ensures.journal c.requires.going; rest = c.requires.settled.rests } in
-    let settled = settled_same old.geometry (m.seen old.media) (m.left old.media (m.moment old.media)) c.args.pools.now pools c.in-Err-NoBlock.ensures.err c.requires.settled in
-    ends_refused m g.met.M.Media.sized (changes_of c.args.change.now) c.args.marks old old pools NoBlock block_fault rests (still_self m g.met.M.Media.sized old) refl c.requires.going refl settled
+    let settled = settled_same old.geometry (m.seen old.media) (m.left old.media (m.moment old.media)) c.args.pools.now pools c.in-Err.ensures.err c.requires.settled in
+    let told = told_pools c.in-Err.error c.from.result c.from.ensures in
+    ends_refused m g.met.M.Media.sized (changes_of c.args.change.now) c.args.marks old old pools c.from.result told.0 told.1 rests (still_self m g.met.M.Media.sized old) refl c.requires.going refl settled
 
-pub returns-in-Err-NoBlock-clause-few : goal.returns-in-Err-NoBlock-clause-few
-returns-in-Err-NoBlock-clause-few g c is = too_few_free c.in-Err-NoBlock.field-0 (length c.args.pools.now.nodes.free) c.args.count (length (free_data c.args.pools.now)) c.in-Err-NoBlock.field-0-is c.in-Err-NoBlock.ensures.few
-
-pub returns-in-Err-Memory-clause-ends : goal.returns-in-Err-Memory-clause-ends
-returns-in-Err-Memory-clause-ends g c =
-    let m = g.M.Media in
-    let old = c.args.journal.now in
-    let pools = c.take.new.self in
-    let rests : Rests m old.geometry old.media = record { sizes = c.left_now.ensures.sizes c.requires.going; journal = c.left_now.ensures.journal c.requires.going; rest = c.requires.settled.rests } in
-    let settled = settled_same old.geometry (m.seen old.media) (m.left old.media (m.moment old.media)) c.args.pools.now pools c.in-Err-Memory.ensures.err c.requires.settled in
-    ends_refused m g.met.M.Media.sized (changes_of c.args.change.now) c.args.marks old old pools Memory memory_fault rests (still_self m g.met.M.Media.sized old) refl c.requires.going refl settled
-
-pub returns-in-Err-Memory-clause-few : goal.returns-in-Err-Memory-clause-few
-returns-in-Err-Memory-clause-few g c is = absurd (memory_block (err_same Memory NoBlock is))
+pub returns-in-Err-clause-few : goal.returns-in-Err-clause-few
+returns-in-Err-clause-few g c is = too_few_free c.in-Err.error (length c.args.pools.now.nodes.free) c.args.count (length (free_data c.args.pools.now)) (told_block c.in-Err.error c.from.result c.from.ensures is) c.in-Err.ensures.few

@@ -3,7 +3,7 @@ use Rattle.std.proofs.lemmas.Bool.{true≢false}
 use Rattle.change_plan.specs.graph_change.View.{changes_of}
 use Rattle.change_plan.specs.area_image.Store.{disk}
 use Rattle.change_plan.specs.area_commit.Value.{free_data}
-use Rattle.shared_area.specs.declared.error.ApplyError.TheVariants.{DeviceFault, NoBlock}
+use Rattle.change_plan.specs.area_image.declared.error.AreaError.TheVariants.{DeviceFault, NoBlock}
 use Rattle.shared_area.proofs.Ending.{block_fault, err_same}
 use Rattle.shared_area.proofs.Pooled.{same_self}
 use Rattle.shared_area.proofs.change_apply.apply.Goals as goal
@@ -77,3 +77,6 @@ returns-clause-quiet g c = c.apply_counted.ensures.ends.quiet
 
 pub returns-clause-at_most : goal.returns-clause-at_most
 returns-clause-at_most g c = c.apply_counted.ensures.ends.at_most
+
+pub returns-clause-only : goal.returns-clause-only
+returns-clause-only g c = c.apply_counted.ensures.ends.only

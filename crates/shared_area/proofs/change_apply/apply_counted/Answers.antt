@@ -4,7 +4,7 @@ use Rattle.change_plan.proofs.area_image_lemmas.Looked.{carried}
 use Rattle.change_plan.proofs.area_commit_lemmas.Course.{Rests}
 use Rattle.shared_area.specs.ChangeApply.{CanApply}
 use Rattle.change_plan.specs.BlockDemand.{WantsBlocks}
-use Rattle.shared_area.proofs.Ending.{told_forced, no_damage_told, forced_block, settled_still, ends_told, ends_on}
+use Rattle.shared_area.proofs.Ending.{forced_block, settled_still, ends_told, ends_on}
 use Rattle.shared_area.proofs.Pooled.{same_self}
 use Rattle.shared_area.proofs.change_apply.apply_counted.Goals as goal
 
@@ -30,9 +30,6 @@ allocate_blocks-requires-clause-wants g c =
     let m = g.M.Media in
     carried m (λ h s. WantsBlocks h s (changes_of c.args.change.now) c.in-Ok.count) c.args.journal.now c.count_blocks.new.journal _ c.in-Ok.ensures.looks c.in-Ok.ensures.wanted
 
-pub apply_error-requires : goal.apply_error-requires
-apply_error-requires g c = no_damage_told c.in-Err.error c.in-Err.ensures.only
-
 pub returns-in-Ok-clause-ends : goal.returns-in-Ok-clause-ends
 returns-in-Ok-clause-ends g c =
     let m = g.M.Media in
@@ -47,13 +44,13 @@ returns-in-Err-clause-ends g c =
     let m = g.M.Media in
     let old = c.args.journal.now in
     let rests : Rests m old.geometry old.media = record { sizes = c.left_now.ensures.sizes c.requires.going; journal = c.left_now.ensures.journal c.requires.going; rest = c.requires.settled.rests } in
-    ends_told m g.met.M.Media.sized (changes_of c.args.change.now) c.args.marks old c.count_blocks.new.journal c.args.pools.now c.in-Err.error c.apply_error.result c.apply_error.ensures c.in-Err.ensures.looks c.requires.going rests c.requires.settled
+    ends_told m g.met.M.Media.sized (changes_of c.args.change.now) c.args.marks old c.count_blocks.new.journal c.args.pools.now c.in-Err.error c.in-Err.ensures.only c.in-Err.ensures.looks c.requires.going rests c.requires.settled
 
 pub returns-in-Err-clause-same : goal.returns-in-Err-clause-same
 returns-in-Err-clause-same g c = same_self c.args.pools.now
 
 pub returns-in-Err-clause-few : goal.returns-in-Err-clause-few
-returns-in-Err-clause-few g c is = absurd (forced_block (Err c.apply_error.result) (told_forced c.in-Err.error c.apply_error.result c.apply_error.ensures) is)
+returns-in-Err-clause-few g c is = absurd (forced_block (Err c.in-Err.error) c.in-Err.ensures.only is)
 
 pub count_blocks-requires-clause-bounded : goal.count_blocks-requires-clause-bounded
 count_blocks-requires-clause-bounded g c = c.requires.can.bounded

@@ -9,7 +9,7 @@ use Rattle.change_plan.specs.area_commit.Value.{PoolsView}
 use Rattle.change_plan.proofs.area_commit_lemmas.Course.{Rests}
 use Rattle.change_plan.proofs.area_commit_lemmas.Returned.{same_free}
 use Rattle.change_plan.specs.BlockDemand.{WantsBlocks}
-use Rattle.shared_area.specs.declared.error.ApplyError.TheVariants.{Memory}
+use Rattle.change_plan.specs.area_image.declared.error.AreaError.TheVariants.{Memory}
 use Rattle.shared_area.proofs.Ending.{memory_fault, still_self, ends_refused}
 use Rattle.shared_area.proofs.Pooled.{settled_same, taken_ends, count_places}
 use Rattle.shared_area.proofs.change_apply.place_blocks.Goals as goal
@@ -38,7 +38,7 @@ returns-in-Err-clause-ends g c =
     let r = c.requires.taken in
     let rests : Rests m old.geometry old.media = record { sizes = c.left_now.ensures.sizes c.requires.going; journal = c.left_now.ensures.journal c.requires.going; rest = r.3.rests } in
     let settled = settled_same old.geometry (m.seen old.media) (m.left old.media (m.moment old.media)) r.0 c.release.new.self (same_free r.0 c.args.pools.now c.release.new.self c.args.taken r.2 c.release.ensures) r.3 in
-    ends_refused m g.met.M.Media.sized (changes_of c.args.change.now) c.args.marks old old c.release.new.self Memory memory_fault rests (still_self m g.met.M.Media.sized old) refl c.requires.going refl settled
+    ends_refused m g.met.M.Media.sized (changes_of c.args.change.now) c.args.marks old old c.release.new.self Memory tt memory_fault rests (still_self m g.met.M.Media.sized old) refl c.requires.going refl settled
 
 pub returns-in-Err-clause-same : goal.returns-in-Err-clause-same
 returns-in-Err-clause-same g c = λ (before : PoolsView) order took. same_free before c.args.pools.now c.release.new.self c.args.taken took c.release.ensures

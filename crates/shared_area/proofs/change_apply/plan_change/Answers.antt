@@ -12,7 +12,7 @@ use Rattle.change_plan.specs.FileLayout.{AreFirstFree}
 use Rattle.change_plan.specs.area_commit.Allocations.{taken_data}
 use Rattle.shared_area.specs.ChangeApply.{CanApply}
 use Rattle.change_plan.specs.First.{IsWhole}
-use Rattle.shared_area.proofs.Ending.{told_forced, no_damage_told, settled_still, ends_told, ends_on}
+use Rattle.shared_area.proofs.Ending.{settled_still, ends_told, ends_on}
 use Rattle.shared_area.proofs.Pooled.{settled_same}
 use Rattle.shared_area.proofs.change_apply.plan_change.Goals as goal
 
@@ -73,9 +73,6 @@ reserve_blocks-requires-clause-first g c =
 pub release-requires : goal.release-requires
 release-requires g c = c.plan_changes.ensures.took.undo
 
-pub apply_error-requires : goal.apply_error-requires
-apply_error-requires g c = no_damage_told c.in-Err.error c.in-Err.ensures.only
-
 pub returns-in-Ok-clause-ends : goal.returns-in-Ok-clause-ends
 returns-in-Ok-clause-ends g c =
     let m = g.M.Media in
@@ -92,13 +89,13 @@ returns-in-Err-clause-ends g c =
     let r = c.requires.taken in
     let rests : Rests m old.geometry old.media = record { sizes = c.left_now.ensures.sizes c.requires.going; journal = c.left_now.ensures.journal c.requires.going; rest = r.3.rests } in
     let settled = settled_same old.geometry (m.seen old.media) (m.left old.media (m.moment old.media)) r.0 c.release.new.self (same_free r.0 c.plan_changes.new.pools c.release.new.self c.plan_changes.new.taken (c.plan_changes.ensures.took.took r.0 r.1 r.2) c.release.ensures) r.3 in
-    ends_told m g.met.M.Media.sized (changes_of c.args.change.now) c.args.marks old c.plan_changes.new.journal c.release.new.self c.in-Err.error c.apply_error.result c.apply_error.ensures c.in-Err.ensures.looks c.requires.going rests settled
+    ends_told m g.met.M.Media.sized (changes_of c.args.change.now) c.args.marks old c.plan_changes.new.journal c.release.new.self c.in-Err.error c.in-Err.ensures.only c.in-Err.ensures.looks c.requires.going rests settled
 
 pub returns-in-Err-clause-same : goal.returns-in-Err-clause-same
 returns-in-Err-clause-same g c = λ (before : PoolsView) order took. same_free before c.plan_changes.new.pools c.release.new.self c.plan_changes.new.taken (c.plan_changes.ensures.took.took before order took) c.release.ensures
 
 pub returns-in-Err-clause-only : goal.returns-in-Err-clause-only
-returns-in-Err-clause-only g c = told_forced c.in-Err.error c.apply_error.result c.apply_error.ensures
+returns-in-Err-clause-only g c = c.in-Err.ensures.only
 
 pub plan_changes-requires-clause-bounded : goal.plan_changes-requires-clause-bounded
 plan_changes-requires-clause-bounded g c = c.requires.can.bounded

@@ -1,13 +1,14 @@
-use Rattle.std.proofs.Common.{◌≡◌, refl, sym, subst}
+use Rattle.std.proofs.Common.{◌≡◌, inl, refl, subst}
+use Rattle.std.specs.Prelude.{Err}
 use Rattle.change_plan.specs.graph_change.View.{changes_of}
 use Rattle.change_plan.specs.area_image.declared.error.AreaError.{AreaError}
+use Rattle.change_plan.specs.area_image.Looks.{Looks}
 use Rattle.change_plan.proofs.area_image_lemmas.Looked.{carried, carried_back}
 use Rattle.change_plan.proofs.area_commit_lemmas.Course.{Rests}
 use Rattle.shared_area.specs.ChangeApply.{CanApply}
 use Rattle.shared_area.specs.Costs.{units_in, inodes_of}
-use Rattle.shared_area.specs.Errors.{IsApplyFault}
 use Rattle.change_plan.specs.BlockDemand.{AreWritten}
-use Rattle.shared_area.specs.declared.error.ApplyError.TheVariants.{DeviceFault}
+use Rattle.change_plan.specs.area_image.declared.error.AreaError.TheVariants.{DeviceFault}
 use Rattle.shared_area.proofs.Ending.{settled_still, ends_told, ends_on}
 use Rattle.shared_area.proofs.AppliedChange.{charge_on, units_few}
 use Rattle.shared_area.proofs.graph_update.apply_running.Goals as goal
@@ -63,4 +64,4 @@ returns-in-Err-clause-ends g c =
     let m = g.M.Media in
     let old = c.args.journal.now in
     let rests : Rests m old.geometry old.media = record { sizes = c.left_now.ensures.sizes c.requires.going; journal = c.left_now.ensures.journal c.requires.going; rest = c.requires.settled.rests } in
-    ends_told m g.met.M.Media.sized (changes_of c.args.change.now) c.args.marks old c.units_of_change.new.journal c.args.pools.now _ DeviceFault (subst (λ (e : AreaError). IsApplyFault e DeviceFault) (sym c.in-Err.ensures.only) refl) c.in-Err.ensures.looks c.requires.going rests c.requires.settled
+    ends_told m g.met.M.Media.sized (changes_of c.args.change.now) c.args.marks old c.units_of_change.new.journal c.args.pools.now DeviceFault (inl refl) (subst (λ (e : AreaError). Looks m old c.units_of_change.new.journal (Err e)) c.in-Err.ensures.only c.in-Err.ensures.looks) c.requires.going rests c.requires.settled

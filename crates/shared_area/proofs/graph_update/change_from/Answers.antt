@@ -44,7 +44,7 @@ returns-in-Ok-units_of_change-clause-ends g c =
     let is = c.apply.ensures in
     let ok = c.in-Ok.ensures in
     ends_read m g.met.M.Media.sized (changes_of c.args.change.now) c.args.marks c.args.journal.now c.apply.new.journal c.units_of_change.new.journal c.apply.new.pools tt c.in-Ok-units_of_change.after
-    (ends_of m g.met.M.Media.sized (changes_of c.args.change.now) c.args.marks c.args.journal.now c.apply.new.journal c.apply.new.pools (Ok tt) c.requires.going is.any_moment ok.applied is.settled tt (λ e. absurd cc) ok.quiet is.geometry is.faults is.one_fault is.at_most)
+    (ends_of m g.met.M.Media.sized (changes_of c.args.change.now) c.args.marks c.args.journal.now c.apply.new.journal c.apply.new.pools (Ok tt) c.requires.going is.any_moment ok.applied is.settled tt tt (λ e. absurd cc) ok.quiet is.geometry is.faults is.one_fault is.at_most)
     c.in-Ok-units_of_change.ensures.looks
 
 pub returns-in-Err-units_of_change-clause-ends : goal.returns-in-Err-units_of_change-clause-ends
@@ -53,14 +53,14 @@ returns-in-Err-units_of_change-clause-ends g c =
     let is = c.apply.ensures in
     let ok = c.in-Ok.ensures in
     ends_broken m g.met.M.Media.sized (changes_of c.args.change.now) c.args.marks c.args.journal.now c.apply.new.journal c.units_of_change.new.journal c.apply.new.pools tt _ c.in-Err-units_of_change.ensures.only
-    (ends_of m g.met.M.Media.sized (changes_of c.args.change.now) c.args.marks c.args.journal.now c.apply.new.journal c.apply.new.pools (Ok tt) c.requires.going is.any_moment ok.applied is.settled tt (λ e. absurd cc) ok.quiet is.geometry is.faults is.one_fault is.at_most)
+    (ends_of m g.met.M.Media.sized (changes_of c.args.change.now) c.args.marks c.args.journal.now c.apply.new.journal c.apply.new.pools (Ok tt) c.requires.going is.any_moment ok.applied is.settled tt tt (λ e. absurd cc) ok.quiet is.geometry is.faults is.one_fault is.at_most)
     c.in-Err-units_of_change.ensures.looks
 
 pub returns-in-Err-clause-ends : goal.returns-in-Err-clause-ends
 returns-in-Err-clause-ends g c =
     let m = g.M.Media in
     let is = c.apply.ensures in
-    ends_of m g.met.M.Media.sized (changes_of c.args.change.now) c.args.marks c.args.journal.now c.apply.new.journal c.apply.new.pools (Err c.in-Err.error) c.requires.going is.any_moment tt is.settled c.in-Err.ensures.unmoved c.in-Err.ensures.fault tt is.geometry is.faults is.one_fault is.at_most
+    ends_of m g.met.M.Media.sized (changes_of c.args.change.now) c.args.marks c.args.journal.now c.apply.new.journal c.apply.new.pools (Err c.in-Err.error) c.requires.going is.any_moment tt is.settled c.in-Err.ensures.only c.in-Err.ensures.unmoved c.in-Err.ensures.fault tt is.geometry is.faults is.one_fault is.at_most
 
 pub returns-in-Ok-units_of_change-clause-charged : goal.returns-in-Ok-units_of_change-clause-charged
 returns-in-Ok-units_of_change-clause-charged g c =

@@ -3,7 +3,7 @@ use Rattle.std.specs.Prelude.{Ok, Err}
 use Rattle.std.proofs.lemmas.Bool.{true≢false}
 use Rattle.change_plan.specs.graph_change.View.{changes_of}
 use Rattle.change_plan.specs.area_image.Store.{disk}
-use Rattle.shared_area.specs.declared.error.ApplyError.TheVariants.{DeviceFault, NoBlock}
+use Rattle.change_plan.specs.area_image.declared.error.AreaError.TheVariants.{DeviceFault, NoBlock}
 use Rattle.shared_area.proofs.Ending.{block_fault, err_same}
 use Rattle.shared_area.specs.Ready.{IsReady}
 use Rattle.shared_area.proofs.AppliedChange.{stays_or_changes, too_few_data, ready_made, ready_refused, applies_or_stays, failed_stays}
@@ -103,6 +103,9 @@ pub returns-in-Err-clause-applies : goal.returns-in-Err-clause-applies
 returns-in-Err-clause-applies g c =
     let m = g.M.Media in
     applies_or_stays m g.met.M.Media.sized (changes_of c.args.change.now) c.args.marks c.args.journal.now c.apply_running.new.journal c.apply_running.new.pools (Err c.in-Err.error) (sym c.has_failed.ensures ∙ c.if-has_failed.false) c.in-Err.ensures.ends
+
+pub returns-in-Err-clause-only : goal.returns-in-Err-clause-only
+returns-in-Err-clause-only g c = c.in-Err.ensures.ends.only
 
 pub returns-in-Ok-clause-at_most : goal.returns-in-Ok-clause-at_most
 returns-in-Ok-clause-at_most g c = c.in-Ok.ensures.ends.at_most

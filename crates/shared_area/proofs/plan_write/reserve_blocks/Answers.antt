@@ -9,7 +9,7 @@ use Rattle.change_plan.specs.area_commit.Plan.{lost_in}
 use Rattle.change_plan.specs.area_commit.StableState.{IsSettled}
 use Rattle.change_plan.proofs.area_commit_lemmas.Course.{Rests}
 use Rattle.change_plan.proofs.area_commit_lemmas.Returned.{same_free}
-use Rattle.shared_area.specs.declared.error.ApplyError.TheVariants.{Memory}
+use Rattle.change_plan.specs.area_image.declared.error.AreaError.TheVariants.{Memory}
 use Rattle.shared_area.proofs.Ending.{memory_fault, still_self, ends_refused}
 use Rattle.shared_area.proofs.Pooled.{settled_same, were_still, undo_still, has_still}
 use Rattle.shared_area.proofs.plan_write.reserve_blocks.Goals as goal
@@ -40,7 +40,7 @@ returns-in-Err-clause-ends g c =
     let before : IsSettled old.geometry (m.seen old.media) (m.left old.media (m.moment old.media)) took.before = record { opens = c.requires.opens; rests = c.requires.rests; ranges = took.ranges; free = took.free } in
     let still = were_still took.before c.args.pools.now c.reserve.new.self c.args.taken c.reserve.ensures.same c.reserve.ensures.kept took.took in
     let settled = settled_same old.geometry (m.seen old.media) (m.left old.media (m.moment old.media)) took.before c.release.new.self (same_free took.before c.reserve.new.self c.release.new.self c.args.taken still c.release.ensures) before in
-    ends_refused m g.met.M.Media.sized (changes_of c.args.change.now) c.args.marks old old c.release.new.self Memory memory_fault rests (still_self m g.met.M.Media.sized old) refl c.requires.going refl settled
+    ends_refused m g.met.M.Media.sized (changes_of c.args.change.now) c.args.marks old old c.release.new.self Memory tt memory_fault rests (still_self m g.met.M.Media.sized old) refl c.requires.going refl settled
 
 pub returns-in-Err-clause-same : goal.returns-in-Err-clause-same
 returns-in-Err-clause-same g c = λ (before : PoolsView) order took.

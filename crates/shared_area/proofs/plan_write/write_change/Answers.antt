@@ -16,7 +16,7 @@ use Rattle.change_plan.proofs.area_commit_lemmas.Course.{Rests}
 use Rattle.change_plan.proofs.area_commit_lemmas.Returned.{same_free}
 use Rattle.shared_area.specs.ChangeApply.{IsAppliedStore}
 use Rattle.shared_area.proofs.Calls.{few_calls}
-use Rattle.shared_area.proofs.Ending.{told_forced, no_damage_told, ends_done, ends_undone}
+use Rattle.shared_area.proofs.Ending.{ends_done, ends_undone}
 use Rattle.shared_area.proofs.Pooled.{settled_same}
 use Rattle.shared_area.proofs.plan_write.write_change.Goals as goal
 
@@ -33,9 +33,6 @@ carry_out-requires-clause-pools g c =
     let s : Store = disk g.M.Media old in
     subst (λ (r : Rewrite). AreReadyFor old.geometry s c.args.pools.now r) (sym c.whole_plan.ensures)
     (c.whole_change_can_be_carried_out.ensures.ready old.geometry s c.args.pools.now c.args.plan c.args.taken (Some c.args.marks) c.requires.took c.requires.nodes_room c.requires.room)
-
-pub apply_error-requires : goal.apply_error-requires
-apply_error-requires g c = no_damage_told c.in-Err.error c.in-Err.ensures.only
 
 pub returns-in-Ok-clause-ends : goal.returns-in-Ok-clause-ends
 returns-in-Ok-clause-ends g c =
@@ -82,7 +79,7 @@ returns-in-Err-clause-ends g c =
     let undone : WasReleased c.args.pools.now pools c.args.taken = subst (λ (r : Rewrite). WasReleased c.args.pools.now pools r.taken) c.whole_plan.ensures c.in-Err.ensures.undone in
     let settled = settled_same old.geometry (m.seen old.media) (m.left old.media (m.moment old.media)) took.before pools (same_free took.before c.args.pools.now pools c.args.taken took.took undone) before in
     let out = c.in-Err.ensures in
-    ends_undone m g.met.M.Media.sized cs v old new c.whole_plan.result done c.carry_out.ensures.any_moment few pools c.in-Err.error c.apply_error.result c.apply_error.ensures
+    ends_undone m g.met.M.Media.sized cs v old new c.whole_plan.result done c.carry_out.ensures.any_moment few pools c.in-Err.error out.only
     (λ is. out.fault (ap Err is)) (λ is. out.memory (ap Err is)) c.carry_out.ensures.geometry c.carry_out.ensures.faults c.carry_out.ensures.one_fault c.requires.going rests settled
 
 pub returns-in-Err-clause-same : goal.returns-in-Err-clause-same
@@ -91,4 +88,4 @@ returns-in-Err-clause-same g c = λ (before : PoolsView) order took.
     same_free before c.args.pools.now c.carry_out.new.pools c.args.taken took undone
 
 pub returns-in-Err-clause-only : goal.returns-in-Err-clause-only
-returns-in-Err-clause-only g c = told_forced c.in-Err.error c.apply_error.result c.apply_error.ensures
+returns-in-Err-clause-only g c = c.in-Err.ensures.only

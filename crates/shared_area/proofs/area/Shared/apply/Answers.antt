@@ -9,7 +9,7 @@ use Rattle.change_plan.specs.area_image.Store.{disk, graph}
 use Rattle.shared_area.specs.ChangeApply.{IsAppliedStore, MakesFewCalls}
 use Rattle.change_plan.specs.Next.{HasFewEntries}
 use Rattle.change_plan.specs.BlockDemand.{AreWritten}
-use Rattle.shared_area.specs.declared.error.ApplyError.TheVariants.{NoBlock}
+use Rattle.change_plan.specs.area_image.declared.error.AreaError.TheVariants.{NoBlock}
 use Rattle.shared_area.specs.GraphUpdate.{HasTooFewData, StaysOrChanges, AppliesOrStays}
 use Rattle.shared_area.proofs.area.Shared.apply.Goals as goal
 
