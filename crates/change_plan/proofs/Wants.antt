@@ -1,18 +1,19 @@
 -- How many data blocks a change wants: it is one number, a small one for each inode, and they are of blocks that are written.
-use Rattle.std.proofs.Common.{◌≡◌, ◌≤◌, ◌<◌, ◌+◌, ◌*◌, inl, inr, ℕ, List, [], ◌∷◌, length, true, Option, refl, sym, subst, arith}
+use Rattle.std.proofs.Common.{◌≡◌, ◌≤◌, ◌<◌, ◌+◌, ◌*◌, ◌∙◌, inl, inr, ℕ, List, [], ◌∷◌, length, true, Option, Some, refl, sym, subst, arith}
 use Rattle.std.specs.List.{Contains}
 use Rattle.std.specs.FinMap as fin
 use Rattle.std.proofs.lemmas.List.{length-map}
 use Rattle.inode_plan.proofs.area_commit_lemmas.Members.{cons_here, cons_there}
 use Rattle.inode_plan.specs.graph_change.Bounds.{IsBounded, AreBounded}
 use Rattle.inode_plan.specs.graph_change.Bytes.{end}
-use Rattle.inode_plan.specs.graph_change.Change.{Change, Changes}
+use Rattle.inode_plan.specs.graph_change.Change.{Change, Changes, writes_block}
 use Rattle.inode_plan.specs.graph_change.Tidy.{IsTidyChange, AreTidyChanges}
 use Rattle.inode_plan.specs.tier_device.declared.media.Tier.{Tier}
+use Rattle.inode_plan.specs.tier_device.declared.media.Tier.TheVariants as tiers
 use Rattle.inode_plan.specs.layout.Places.{Sizes, is_inode}
 use Rattle.inode_plan.specs.area_image.Store.{Store}
-use Rattle.inode_plan.specs.area_commit.InodeChange.{places_from}
-use Rattle.inode_plan.proofs.area_commit_lemmas.Holes.{over_written}
+use Rattle.inode_plan.specs.area_commit.InodeChange.{is_mapped, places_from, writes_over}
+use Rattle.inode_plan.proofs.area_commit_lemmas.Holes.{mapped_at, over_written}
 use Rattle.inode_plan.specs.BlockWrites.{AreNumbers}
 use Rattle.inode_plan.proofs.area_commit_lemmas.Chosen.{inode_range}
 use Rattle.change_plan.specs.Next.{WantsData}
@@ -20,6 +21,13 @@ use Rattle.change_plan.specs.BlockDemand.{WantInTurn, WantsBlocks}
 use Rattle.change_plan.proofs.Climbs.{climb_rising, climb_few, climb_within, change_here, has_here, keys_climb, mapped_from}
 
 -- ---- of one inode
+
+-- of a file that is cut within a block alone, that block may be written
+pub alone_written : (c : Change) (k : ℕ) → ((lay : Tier → ℕ → Option ℕ) → writes_over lay c k ≡ is_mapped lay k) → writes_block c k ≡ true
+alone_written c k alone = over_written somewhere k c (alone somewhere ∙ mapped_at somewhere k tiers.Fast 0 refl)
+  where
+    somewhere : Tier → ℕ → Option ℕ
+    somewhere t j = Some 0
 
 numbers_same : (lay : Tier → ℕ → Option ℕ) (c : Change) (xs ys : List ℕ) → AreNumbers lay c xs → AreNumbers lay c ys → length xs ≡ length ys
 numbers_same lay c xs ys one two =

@@ -7,7 +7,7 @@ use Rattle.std.proofs.lemmas.List.{length-take-le, length-drop, take_all}
 use Rattle.update_log.specs.file_graph.Graph.{Graph, Node, Body, FileBody, DirBody}
 use Rattle.update_log.specs.file_graph.Units.{charge}
 use Rattle.coalescer.specs.graph_change.Bounds.{AreBounded}
-use Rattle.coalescer.specs.graph_change.Change.{Change, Changes, change_at, changed_graph}
+use Rattle.coalescer.specs.graph_change.Change.{Change, Changes, changed_graph}
 use Rattle.coalescer.specs.graph_change.Tidy.{AreTidyChanges}
 use Rattle.coalescer.proofs.graph_change_lemmas.Tidying.{tidy_coalesced}
 use Rattle.update_log.specs.log_record.Grammar.{IsRecord}

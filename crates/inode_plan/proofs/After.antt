@@ -49,12 +49,16 @@ module _ (lay : Tier → ℕ → Option ℕ) (c : Change) (numbers : List ℕ) (
   pub number_fits : IsTidyChange c → end c.length ≤ 1048576 → (n : ℕ) → n < length numbers → nth_number numbers n + 1 < 2 ^ 32
   number_fits tidy few n lt = let begins = tidy.blocks (nth_number numbers n) (over_written lay (nth_number numbers n) c (written_at n lt)) in omega (arith, begins, few)
 
-  -- the same where the blocks lay so by another account
-  pub numbers_as : (other : Tier → ℕ → Option ℕ) → ((t : Tier) (k : ℕ) → lay t k ≡ other t k) → AreNumbers other c numbers
-  numbers_as other same = record {
+  -- the same where another account tells the same blocks as written
+  pub numbers_over : (other : Tier → ℕ → Option ℕ) → ((k : ℕ) → writes_over lay c k ≡ writes_over other c k) → AreNumbers other c numbers
+  numbers_over other same = record {
     rising = are.rising;
-    each = λ k. (let is = over_same lay k c other (λ t. same t k) in (λ at. sym is ∙ (are.each k).0 at, λ put. (are.each k).1 (is ∙ put)));
+    each = λ k. (λ at. sym (same k) ∙ (are.each k).0 at, λ put. (are.each k).1 (same k ∙ put));
   }
+
+  -- so it is where the blocks lay the same by it
+  pub numbers_as : (other : Tier → ℕ → Option ℕ) → ((t : Tier) (k : ℕ) → lay t k ≡ other t k) → AreNumbers other c numbers
+  numbers_as other same = numbers_over other (λ k. over_same lay k c other (λ t. same t k))
 
   pub stands : (k : ℕ) → writes_over lay c k ≡ true → StandsAt numbers k
   stands k put = stands_in numbers k ((are.each k).1 put)

@@ -1,5 +1,4 @@
 use Rattle.std.proofs.Common.{sym}
-use Rattle.std.proofs.lemmas.Bool.{leb-true}
 use Rattle.area_commit.specs.extent_tree.Map.{lies_at}
 use Rattle.area_commit.proofs.Holes.{unmapped, mapped_at}
 use Rattle.inode_plan.proofs.Keyed.{none_past}
