@@ -37,6 +37,7 @@ mod NodeRoom
 mod Exchanged
 mod Differing
 mod Found
+pub mod Holes
 pub mod Given
 pub mod GivenUp
 -- Passed on to the crates above, which so need not list those below.

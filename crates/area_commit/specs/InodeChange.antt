@@ -1,11 +1,12 @@
 -- An inode that is written anew for a change of it.
-use Rattle.std.specs.Prelude.{◌≡◌, ◌<◌, true, false, ℕ, Option, Some, None}
+use Rattle.std.specs.Prelude.{◌≡◌, ◌<◌, ◌&&◌, ◌||◌, Bool, true, false, ℕ, Option, Some, None, is_some}
+use Rattle.std.specs.FinMap as fin
 use Rattle.area_image.specs.tier_device.declared.media.Tier.{Tier}
 use Rattle.area_image.specs.tier_device.declared.media.Tier.TheVariants as tiers
 use Rattle.area_image.specs.file_graph.declared.effect.Kind.TheVariants as kind
 use Rattle.area_image.specs.graph_change.Bytes.{length_after}
 use Rattle.area_image.specs.graph_change.Net.{Base, Kept, Made, Gone, names_after}
-use Rattle.area_image.specs.graph_change.Change.{Change, patch_at, writes_block}
+use Rattle.area_image.specs.graph_change.Change.{Change, patch_at, cuts_within}
 use Rattle.area_image.specs.layout.declared.slot.Slot.{Slot}
 use Rattle.area_image.specs.layout.declared.slot.Slot.TheVariants as slots
 use Rattle.area_image.specs.layout.Places.{Sizes}
@@ -30,12 +31,25 @@ place_from Kept p = p
 place_from (Made kind) p = None
 place_from Gone p = None
 
+-- where the blocks of inode i lie that a change of it starts from
+abbrev pub places_from : Sizes → Store → ℕ → Base → Tier → ℕ → Option ℕ
+places_from g s i base t k = place_from base (place g s i t k)
+
+-- whether a block lies in some tier
+unfoldable pub is_mapped : (Tier → ℕ → Option ℕ) → ℕ → Bool
+is_mapped lies k = is_some (lies tiers.Fast k) || (is_some (lies tiers.Block k) || is_some (lies tiers.Slow k))
+
+-- whether a change writes a block of a file, by where the blocks lay that it starts from: bytes are put into it, or the file is cut within it and it lay somewhere. One that lay nowhere
+-- reads as zeros wherever it is cut, and so stays a hole.
+abbrev pub writes_over : (Tier → ℕ → Option ℕ) → Change → ℕ → Bool
+writes_over lies c k = fin.contains_key c.patches k || (cuts_within c.length k && is_mapped lies k)
+
 -- Each logical block that the change writes reads as it makes it; one that is cut off lies nowhere; each other one lies where it lay, in a block that is the same.
 pub record LieAsChanged (g : Sizes) (c : Change) (old new : Store) (i : ℕ) (m : TierRuns) : Type 0 where
-  pub written : (k : ℕ) → writes_block c k ≡ true → ReadsAfter c.length (patch_at c.patches k) k ((start_node c.base (inode g old i)).blocks k) (logical_by new m k)
-  pub gone : (t : Tier) (k : ℕ) → writes_block c k ≡ false → is_cut_off c.length k ≡ true → lies_at m t k ≡ None
-  pub others : (t : Tier) (k : ℕ) → writes_block c k ≡ false → is_cut_off c.length k ≡ false → lies_at m t k ≡ place_from c.base (place g old i t k)
-  pub same : (t : Tier) (k p : ℕ) → writes_block c k ≡ false → lies_at m t k ≡ Some p → new t p ≡ old t p
+  pub written : (k : ℕ) → writes_over (places_from g old i c.base) c k ≡ true → ReadsAfter c.length (patch_at c.patches k) k ((start_node c.base (inode g old i)).blocks k) (logical_by new m k)
+  pub gone : (t : Tier) (k : ℕ) → writes_over (places_from g old i c.base) c k ≡ false → is_cut_off c.length k ≡ true → lies_at m t k ≡ None
+  pub others : (t : Tier) (k : ℕ) → writes_over (places_from g old i c.base) c k ≡ false → is_cut_off c.length k ≡ false → lies_at m t k ≡ place_from c.base (place g old i t k)
+  pub same : (t : Tier) (k p : ℕ) → writes_over (places_from g old i c.base) c k ≡ false → lies_at m t k ≡ Some p → new t p ≡ old t p
 
 -- Inode i, a file that was there or is made, is written for a change of it.
 pub record IsFileWritten (g : Sizes) (c : Change) (old new : Store) (i : ℕ) (x : Slot) (m : TierRuns) : Type 0 where

@@ -25,7 +25,7 @@ use Rattle.inode_plan.specs.area_image.Map.{in_tier}
 use Rattle.inode_plan.proofs.area_image_lemmas.Lists.{slot_here_fits}
 use Rattle.inode_plan.proofs.area_image_lemmas.Shown.{slot_limits}
 use Rattle.inode_plan.specs.area_commit.InodeRewrite.{IsFit, IsListed, block_by}
-use Rattle.inode_plan.specs.area_commit.InodeChange.{IsFileWritten}
+use Rattle.inode_plan.specs.area_commit.InodeChange.{places_from, IsFileWritten}
 use Rattle.inode_plan.specs.area_commit.Batches.{AreNodes}
 use Rattle.inode_plan.specs.area_commit.Lists.{HaveOwnRoots}
 use Rattle.inode_plan.specs.Lists.{root_for}
@@ -35,7 +35,7 @@ use Rattle.inode_plan.specs.PlacedFile.{nth_number, nth_place}
 use Rattle.inode_plan.specs.MapChange.{AreFresh, AreData, TakesPlace}
 use Rattle.inode_plan.specs.PlannedFile.{pair_of, pairs_of, HasData}
 use Rattle.inode_plan.specs.Roots.{missing_roots, wanted_before, SparesFit, ListsStand}
-use Rattle.inode_plan.proofs.After.{keeps_or_takes, after_within}
+use Rattle.inode_plan.proofs.After.{numbers_as, keeps_or_takes, after_within}
 use Rattle.inode_plan.proofs.Stores.{from_kept, file_is_fit, as_changed}
 use Rattle.inode_plan.proofs.Listed.{inside as spare_inside, all_listed, root_uses, all_used}
 use Rattle.inode_plan.proofs.Vacant.{roots_differ}
@@ -264,7 +264,7 @@ module _ (g : Sizes) (s : Store) (c : Change) (touch i : ℕ) (x : Slot) (m : Ti
   pub is_laid : IsLaid g s c i m share.«data»
   is_laid = record {
     numbers = p.numbers;
-    written = inl (p.changes.kind_is, p.numbers_are);
+    written = inl (p.changes.kind_is, numbers_as (lies_at p.before) c p.numbers p.numbers_are (places_from g s i c.base) p.was.starts);
     many = ap length p.stored ∙ length-map p.places pair_of ∙ p.many;
     there = λ n lt. subst (λ (b : Tier × ℕ). lies_at m b.0 (nth_number p.numbers n) ≡ Some b.1) (sym (stored_at n (inside n lt))) (p.map.there n lt);
   }

@@ -11,12 +11,12 @@ use Rattle.inode_plan.specs.layout.Places.{Sizes}
 use Rattle.inode_plan.specs.layout.Slot.{fits_slot}
 use Rattle.inode_plan.specs.block_alloc.declared.runs.Run.{Run}
 use Rattle.inode_plan.specs.block_alloc.Runs.{blocks_of}
-use Rattle.inode_plan.specs.extent_tree.Map.{HasBlock}
+use Rattle.inode_plan.specs.extent_tree.Map.{lies_at, HasBlock}
 use Rattle.inode_plan.specs.extent_tree.declared.map.Place.{Place}
 use Rattle.inode_plan.specs.tree_blocks.After.{start_node}
 use Rattle.inode_plan.specs.tree_blocks.Inode.{LogicalBlocks, Inode, inode_of}
 use Rattle.inode_plan.specs.area_image.Store.{Store, slot, logical_block, inode}
-use Rattle.inode_plan.specs.area_commit.InodeChange.{IsFileSlot}
+use Rattle.inode_plan.specs.area_commit.InodeChange.{places_from, IsFileSlot}
 use Rattle.inode_plan.specs.Lists.{roots_left}
 use Rattle.inode_plan.specs.area_commit.declared.plan.FreedBlocks.{FreedBlocks}
 use Rattle.inode_plan.specs.area_commit.Plan.{LieApart}
@@ -24,6 +24,7 @@ use Rattle.inode_plan.specs.BlockWrites.{AreNumbers}
 use Rattle.inode_plan.specs.Bytes.{HoldsBlocks, blocks_from}
 use Rattle.inode_plan.specs.MapChange.{AreLeft}
 use Rattle.inode_plan.specs.PlannedFile.{pairs_of}
+use Rattle.inode_plan.proofs.After.{numbers_as}
 use Rattle.inode_plan.specs.Roots.{roots_wanted, HasRootsOf, SparesFit}
 use Rattle.change_plan.specs.File.{slot_from, AreFreePlaces, AreFreeNodes, GivesLeft, GivesUp, IsPlannedFile}
 use Rattle.change_plan.specs.FileStart.{IsPlacedFile, IsRootedFile, LosesOf, LosesFile}
@@ -53,14 +54,14 @@ module _ (g : Sizes) (s : Store) (c : Change) (touch i : ℕ) (numbers : List �
   gives : LosesFile g s c.base i f left lost → GivesUp g s c i placed.before x lost
   gives loses = elim loses [ inl r ↦ inl (r.0, gives_left r.0 r.1) | inr r ↦ inr r ]
 
-  pub planned : IsTidyChange c → IsBounded c → AreNumbers c numbers → length places ≡ length numbers → AreFreePlaces g s places → AreFreeNodes g s spare → length spare ≡ roots_wanted f.slot f.plan.lists
+  pub planned : IsTidyChange c → IsBounded c → AreNumbers (places_from g s i c.base) c numbers → length places ≡ length numbers → AreFreePlaces g s places → AreFreeNodes g s spare → length spare ≡ roots_wanted f.slot f.plan.lists
       → HoldsBlocks c (blocks_from f.found (logical_block g s i)) numbers (length numbers) bytes → LosesFile g s c.base i f left lost → IsPlannedFile g s c touch i x f.plan.map (record { nodes = spare; «data» = pairs_of places }) bytes old new lost
   planned tidy bounded are many free spares wanted holds loses = record {
     changes = record { kind_is = placed.kind_is; tidy = tidy; bounded = bounded };
     before = placed.before;
     was = placed.was;
     numbers = numbers;
-    numbers_are = are;
+    numbers_are = numbers_as (places_from g s i c.base) c numbers are (lies_at placed.before) (λ t k. sym (placed.was.starts t k));
     places = places;
     many = many;
     places_are = free;

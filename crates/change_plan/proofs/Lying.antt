@@ -18,6 +18,8 @@ use Rattle.inode_plan.specs.area_commit.Allocations.{taken_data}
 use Rattle.inode_plan.specs.area_commit.declared.plan.Rewrite.{Rewrite}
 use Rattle.inode_plan.specs.area_commit.Plan.{is_rewritten, IsPlanned}
 use Rattle.inode_plan.specs.area_commit.PlanOutcome.{IsCarriedOut}
+use Rattle.inode_plan.specs.area_commit.InodeChange.{places_from}
+use Rattle.inode_plan.proofs.area_commit_lemmas.Holes.{over_written}
 use Rattle.change_plan.specs.FileLayout.{LeavesFile, WritesBlock, nth_block, nth_data, AreInTurn, AreFirstFree, GetPlaces, LieInPlaces, KeepsPlaces}
 use Rattle.change_plan.specs.Parts.{AreParts, share_of}
 use Rattle.change_plan.proofs.PlannedPart.{no_file}
@@ -36,7 +38,7 @@ in_change g s cs i k w = by (fin.get cs i) refl
   where
     by : (o : Option Change) → fin.get cs i ≡ o → fin.contains_key cs i ≡ true
     by (Some c) is = ap is_some is
-    by None is = absurd (false≢true (sym (ap (λ (o : Option Change). writes_block (unwrap_or o (new_change Kept)) k) is ∙ nothing_written Kept k) ∙ w.writes))
+    by None is = absurd (false≢true (sym (ap (λ (o : Option Change). writes_block (unwrap_or o (new_change Kept)) k) is ∙ nothing_written Kept k) ∙ over_written (places_from g s i (change_at cs i).base) k (change_at cs i) w.writes))
 
 module _ (g : Sizes) (s : Store) (cs : Changes) (touch : ℕ) (x : ℕ → Slot) (m : ℕ → TierRuns) (plan : Rewrite) (parts : AreParts g s cs touch x m plan.slots.items (share_of plan.taken) plan.bytes.items plan.nodes plan.lost) where
   -- the blocks of the files that are written

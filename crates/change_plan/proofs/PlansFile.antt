@@ -7,21 +7,27 @@ use Rattle.inode_plan.specs.tier_device.declared.media.Tier.{Tier}
 use Rattle.inode_plan.specs.tier_device.declared.media.Tier.TheVariants as tiers
 use Rattle.inode_plan.specs.file_graph.declared.effect.Kind.{Kind}
 use Rattle.inode_plan.specs.file_graph.declared.effect.Kind.TheVariants as kind
+use Rattle.inode_plan.specs.graph_change.Change.{Change}
 use Rattle.inode_plan.specs.graph_change.Net.{Base, Made}
 use Rattle.inode_plan.specs.layout.declared.slot.Slot.{Slot}
 use Rattle.inode_plan.specs.layout.declared.slot.Slot.TheVariants as slots
 use Rattle.inode_plan.specs.layout.Extents.{ExtentList}
 use Rattle.inode_plan.specs.layout.Places.{Sizes, is_data}
-use Rattle.inode_plan.specs.extent_tree.Map.{TierRuns, runs_in}
+use Rattle.inode_plan.specs.extent_tree.Map.{TierRuns, runs_in, lies_at}
 use Rattle.inode_plan.specs.extent_tree.declared.map.Place.{Place}
 use Rattle.inode_plan.specs.tree_blocks.After.{start_node}
 use Rattle.inode_plan.specs.tree_blocks.Inode.{LogicalBlocks, Inode, inode_of}
 use Rattle.inode_plan.specs.area_image.Reads.{Free}
 use Rattle.inode_plan.specs.area_image.Store.{Store, slot_read, logical_block, inode}
 use Rattle.inode_plan.proofs.area_image_lemmas.Parts.{slot_as}
+use Rattle.inode_plan.specs.area_commit.InodeChange.{places_from}
 use Rattle.inode_plan.specs.Lists.{IsListOf}
+use Rattle.inode_plan.specs.BlockWrites.{AreNumbers}
 use Rattle.inode_plan.specs.PlacedFile.{nth_place}
+use Rattle.inode_plan.proofs.After.{numbers_as}
 use Rattle.change_plan.specs.File.{AreFreePlaces}
+use Rattle.change_plan.specs.FileStart.{IsStartedFile}
+use Rattle.change_plan.specs.declared.file_start.StartedFile.{StartedFile}
 
 -- ---- what the change starts from
 
@@ -40,6 +46,10 @@ kind_same (slots.Directory names entries touch root) a b = refl
 -- the slot of a file tells that it is one, whatever its blocks hold
 pub slot_tells_file : (g : Sizes) (s : Store) (i : ℕ) (x : Slot) (blocks : LogicalBlocks) → slot_read g s i ≡ Some x → (inode g s i).kind ≡ Some kind.File → (inode_of x blocks).kind ≡ Some kind.File
 slot_tells_file g s i x blocks is file = kind_same x blocks (logical_block g s i) ∙ (ap (λ (y : Slot). (inode_of y (logical_block g s i)).kind) (sym (slot_as g s i x is)) ∙ file)
+
+-- the blocks that are written over where they lay in memory are those that are written over what the inode was
+pub started_numbers : (g : Sizes) (s : Store) (c : Change) (i : ℕ) (f : StartedFile) (numbers : List ℕ) → IsStartedFile g s c.base i f → AreNumbers (lies_at f.map) c numbers → AreNumbers (places_from g s i c.base) c numbers
+started_numbers g s c i f numbers start are = numbers_as (lies_at f.map) c numbers are (places_from g s i c.base) start.map.starts
 
 -- ---- the first of the places
 

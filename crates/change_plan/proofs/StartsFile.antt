@@ -93,7 +93,7 @@ module _ (m : TierRuns) (none : (t : Tier) → runs_in m t ≡ []) where
   nowhere : (t : Tier) (k : ℕ) → lies_at m t k ≡ None
   nowhere t k = ap (λ es. place_of es k) (none t)
 
-  not_there : (t : Tier) (k : ℕ) → IsSome (lies_at m t k) → ⊥
+  pub not_there : (t : Tier) (k : ℕ) → IsSome (lies_at m t k) → ⊥
   not_there t k some = false≢true (subst IsSome (nowhere t k) some)
 
   not_at : (t : Tier) (k p : ℕ) → lies_at m t k ≡ Some p → ⊥

@@ -1,15 +1,19 @@
 -- How many data blocks a change wants: it is one number, a small one for each inode, and they are of blocks that are written.
-use Rattle.std.proofs.Common.{◌≡◌, ◌≤◌, ◌<◌, ◌+◌, ◌*◌, inl, inr, ℕ, List, [], ◌∷◌, length, true, refl, sym, subst, arith}
+use Rattle.std.proofs.Common.{◌≡◌, ◌≤◌, ◌<◌, ◌+◌, ◌*◌, ◌∙◌, inl, inr, ℕ, List, [], ◌∷◌, length, true, Option, Some, refl, sym, subst, arith}
 use Rattle.std.specs.List.{Contains}
 use Rattle.std.specs.FinMap as fin
 use Rattle.std.proofs.lemmas.List.{length-map}
 use Rattle.inode_plan.proofs.area_commit_lemmas.Members.{cons_here, cons_there}
 use Rattle.inode_plan.specs.graph_change.Bounds.{IsBounded, AreBounded}
 use Rattle.inode_plan.specs.graph_change.Bytes.{end}
-use Rattle.inode_plan.specs.graph_change.Change.{Change, Changes}
+use Rattle.inode_plan.specs.graph_change.Change.{Change, Changes, writes_block}
 use Rattle.inode_plan.specs.graph_change.Tidy.{IsTidyChange, AreTidyChanges}
+use Rattle.inode_plan.specs.tier_device.declared.media.Tier.{Tier}
+use Rattle.inode_plan.specs.tier_device.declared.media.Tier.TheVariants as tiers
 use Rattle.inode_plan.specs.layout.Places.{Sizes, is_inode}
 use Rattle.inode_plan.specs.area_image.Store.{Store}
+use Rattle.inode_plan.specs.area_commit.InodeChange.{is_mapped, places_from, writes_over}
+use Rattle.inode_plan.proofs.area_commit_lemmas.Holes.{mapped_at, over_written}
 use Rattle.inode_plan.specs.BlockWrites.{AreNumbers}
 use Rattle.inode_plan.proofs.area_commit_lemmas.Chosen.{inode_range}
 use Rattle.change_plan.specs.Next.{WantsData}
@@ -18,8 +22,15 @@ use Rattle.change_plan.proofs.Climbs.{climb_rising, climb_few, climb_within, cha
 
 -- ---- of one inode
 
-numbers_same : (c : Change) (xs ys : List ℕ) → AreNumbers c xs → AreNumbers c ys → length xs ≡ length ys
-numbers_same c xs ys one two =
+-- of a file that is cut within a block alone, that block may be written
+pub alone_written : (c : Change) (k : ℕ) → ((lay : Tier → ℕ → Option ℕ) → writes_over lay c k ≡ is_mapped lay k) → writes_block c k ≡ true
+alone_written c k alone = over_written somewhere k c (alone somewhere ∙ mapped_at somewhere k tiers.Fast 0 refl)
+  where
+    somewhere : Tier → ℕ → Option ℕ
+    somewhere t j = Some 0
+
+numbers_same : (lay : Tier → ℕ → Option ℕ) (c : Change) (xs ys : List ℕ) → AreNumbers lay c xs → AreNumbers lay c ys → length xs ≡ length ys
+numbers_same lay c xs ys one two =
     let first = climb_rising 0 one.rising.0 xs one.rising.1 in
     let second = climb_rising 0 two.rising.0 ys two.rising.1 in
     let le = climb_within 0 0 xs ys first second (λ k at. (two.each k).1 ((one.each k).0 at)) in
@@ -27,7 +38,7 @@ numbers_same c xs ys one two =
     omega (arith, le, ge)
 
 pub wants_same : (g : Sizes) (s : Store) (c : Change) (i m n : ℕ) → WantsData g s c i m → WantsData g s c i n → m ≡ n
-wants_same g s c i m n (inl one) (inl two) = let same = numbers_same c one.1 two.1 one.2 two.2 in omega (arith, same, one.3, two.3)
+wants_same g s c i m n (inl one) (inl two) = let same = numbers_same (places_from g s i c.base) c one.1 two.1 one.2 two.2 in omega (arith, same, one.3, two.3)
 wants_same g s c i m n (inl one) (inr two) = absurd (two.0 one.0)
 wants_same g s c i m n (inr one) (inl two) = absurd (one.0 two.0)
 wants_same g s c i m n (inr one) (inr two) = omega (arith, one.1, two.1)
@@ -35,7 +46,7 @@ wants_same g s c i m n (inr one) (inr two) = omega (arith, one.1, two.1)
 pub wants_few : (g : Sizes) (s : Store) (c : Change) (i n : ℕ) → IsTidyChange c → IsBounded c → WantsData g s c i n → n ≤ 256
 wants_few g s c i n tidy bounded (inl is) =
     let inside : (k : ℕ) → Contains is.1 k → k < 256 =
-    λ k at. (let before : 4096 * k < end c.length = tidy.blocks k ((is.2.each k).0 at) in let low : end c.length ≤ 1048576 = bounded.length in omega (arith, before, low)) in
+    λ k at. (let before : 4096 * k < end c.length = tidy.blocks k (over_written (places_from g s i c.base) k c ((is.2.each k).0 at)) in let low : end c.length ≤ 1048576 = bounded.length in omega (arith, before, low)) in
     let few = climb_few 0 is.1 256 (climb_rising 0 is.2.rising.0 is.1 is.2.rising.1) (omega arith) inside in
     omega (arith, few, is.3)
 wants_few g s c i n tidy bounded (inr is) = omega (arith, is.1)

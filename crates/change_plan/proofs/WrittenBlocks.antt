@@ -9,10 +9,11 @@ use Rattle.std.proofs.lemmas.List.Elements.{Contains-append_cases}
 use Rattle.std.proofs.lemmas.Map.Keys.{IsDistinct-cons}
 use Rattle.inode_plan.specs.file_graph.declared.effect.Kind.TheVariants as kind
 use Rattle.inode_plan.proofs.area_commit_lemmas.Members.{cons_here, cons_there, nothing}
-use Rattle.inode_plan.specs.graph_change.Change.{Change, Changes, change_at, writes_block}
+use Rattle.inode_plan.specs.graph_change.Change.{Change, Changes, change_at}
 use Rattle.inode_plan.specs.layout.Places.{Sizes}
 use Rattle.inode_plan.specs.tree_blocks.After.{start_node}
 use Rattle.inode_plan.specs.area_image.Store.{Store, inode}
+use Rattle.inode_plan.specs.area_commit.InodeChange.{places_from, writes_over}
 use Rattle.change_plan.specs.Next.{WantsData}
 use Rattle.change_plan.specs.BlockDemand.{WantInTurn, WantsBlocks, AreWritten, same_block}
 use Rattle.change_plan.proofs.Climbs.{Climb, climb_low, climb_rising, keys_climb, change_here, mapped_from}
@@ -59,7 +60,7 @@ once_more i low (k ∷ ks) bs climb once later =
 
 module _ (g : Sizes) (s : Store) (cs : Changes) where
   abbrev IsOne : ℕ × ℕ → Type 0
-  IsOne b = ((start_node (change_at cs b.0).base (inode g s b.0)).kind ≡ Some kind.File) × (writes_block (change_at cs b.0) b.1 ≡ true)
+  IsOne b = ((start_node (change_at cs b.0).base (inode g s b.0)).kind ≡ Some kind.File) × (writes_over (places_from g s b.0 (change_at cs b.0).base) (change_at cs b.0) b.1 ≡ true)
 
   -- blocks of inodes from a number on, as many as are wanted
   record HasBlocks (low count : ℕ) : Type 0 where
@@ -76,7 +77,7 @@ module _ (g : Sizes) (s : Store) (cs : Changes) where
     each = λ b at. elim (Contains-append_cases (its e.0 is.1) has.bs b at) [
       | inl one ↦
           let r = mapped_from (λ (j : ℕ). (e.0, j)) is.1 b one in
-          let own_one : IsOne (e.0, r.0) = subst (λ (c : Change). ((start_node c.base (inode g s e.0)).kind ≡ Some kind.File) × (writes_block c r.0 ≡ true)) (sym here) (is.0, (is.2.each r.0).0 r.1) in
+          let own_one : IsOne (e.0, r.0) = subst (λ (c : Change). ((start_node c.base (inode g s e.0)).kind ≡ Some kind.File) × (writes_over (places_from g s e.0 c.base) c r.0 ≡ true)) (sym here) (is.0, (is.2.each r.0).0 r.1) in
           subst IsOne r.2 own_one
       | inr other ↦ has.each b other
     ];

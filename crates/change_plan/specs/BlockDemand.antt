@@ -3,10 +3,11 @@ use Rattle.std.specs.Prelude.{◌≡◌, ◌+◌, ◌==◌, ◌&&◌, ℕ, List,
 use Rattle.std.specs.List.{AllByRecursion, IsDistinct, sum_by}
 use Rattle.std.specs.FinMap as fin
 use Rattle.inode_plan.specs.file_graph.declared.effect.Kind.TheVariants as kind
-use Rattle.inode_plan.specs.graph_change.Change.{Change, Changes, change_at, writes_block}
+use Rattle.inode_plan.specs.graph_change.Change.{Change, Changes, change_at}
 use Rattle.inode_plan.specs.layout.Places.{Sizes}
 use Rattle.inode_plan.specs.tree_blocks.After.{start_node}
 use Rattle.inode_plan.specs.area_image.Store.{Store, inode}
+use Rattle.inode_plan.specs.area_commit.InodeChange.{places_from, writes_over}
 use Rattle.change_plan.specs.Next.{nodes_for, nodes_left, WantsData}
 
 -- how many images a change takes at most, besides that of the marks: one for the block of each slot, and those of its inodes
@@ -37,4 +38,4 @@ same_block a b = a.0 == b.0 && a.1 == b.1
 -- These are blocks of files that a change leaves, which it writes; no two of them are one.
 pub record AreWritten (g : Sizes) (s : Store) (cs : Changes) (blocks : List (ℕ × ℕ)) : Type 0 where
   pub once : IsDistinct same_block blocks
-  pub each : AllByRecursion (λ b. ((start_node (change_at cs b.0).base (inode g s b.0)).kind ≡ Some kind.File) × (writes_block (change_at cs b.0) b.1 ≡ true)) blocks
+  pub each : AllByRecursion (λ b. ((start_node (change_at cs b.0).base (inode g s b.0)).kind ≡ Some kind.File) × (writes_over (places_from g s b.0 (change_at cs b.0).base) (change_at cs b.0) b.1 ≡ true)) blocks

@@ -18,7 +18,7 @@ use Rattle.inode_plan.specs.layout.Slot.{fits_slot}
 use Rattle.inode_plan.specs.block_alloc.Runs.{blocks_of}
 use Rattle.inode_plan.specs.extent_tree.Normal.{IsNormal}
 use Rattle.inode_plan.specs.extent_tree.BlockFormat.{LiesWithin, IsOneToOne}
-use Rattle.inode_plan.specs.extent_tree.Map.{TierRuns, runs_in, LieOnce, LieBelow, HasBlock}
+use Rattle.inode_plan.specs.extent_tree.Map.{TierRuns, runs_in, lies_at, LieOnce, LieBelow, HasBlock}
 use Rattle.inode_plan.specs.extent_tree.declared.map.Place.{Place}
 use Rattle.inode_plan.specs.tree_blocks.After.{start_node}
 use Rattle.inode_plan.specs.area_image.Store.{Store, slot, touch_of, inode}
@@ -96,7 +96,7 @@ pub record IsPlannedFile (g : Sizes) (s : Store) (c : Change) (touch : ℕ) (i :
   pub before : TierRuns
   pub was : IsOldMap g s c.base i before
   pub numbers : List ℕ
-  pub numbers_are : AreNumbers c numbers
+  pub numbers_are : AreNumbers (lies_at before) c numbers
   pub places : List Place
   pub many : length places ≡ length numbers
   pub places_are : AreFreePlaces g s places

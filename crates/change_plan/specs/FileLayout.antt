@@ -4,13 +4,13 @@ use Rattle.std.specs.List.{Contains}
 use Rattle.inode_plan.specs.tier_device.declared.media.Tier.{Tier}
 use Rattle.inode_plan.specs.tier_device.declared.media.Tier.TheVariants.{Fast}
 use Rattle.inode_plan.specs.file_graph.declared.effect.Kind.TheVariants as kind
-use Rattle.inode_plan.specs.graph_change.Change.{Change, Changes, change_at, writes_block}
+use Rattle.inode_plan.specs.graph_change.Change.{Change, Changes, change_at}
 use Rattle.inode_plan.specs.layout.Places.{Sizes}
 use Rattle.inode_plan.specs.extent_tree.Map.{TierRuns, lies_at}
 use Rattle.inode_plan.specs.tree_blocks.After.{start_node}
 use Rattle.inode_plan.specs.tree_blocks.FileBlock.{is_cut_off}
 use Rattle.inode_plan.specs.area_image.Store.{Store, place, inode}
-use Rattle.inode_plan.specs.area_commit.InodeChange.{place_from}
+use Rattle.inode_plan.specs.area_commit.InodeChange.{place_from, places_from, writes_over}
 use Rattle.inode_plan.specs.area_commit.Value.{PoolsView, free_data, AreInOrder, HasRanges, AreFree}
 use Rattle.inode_plan.specs.PlacedFile.{nth_number}
 use Rattle.inode_plan.specs.BlockWrites.{AreNumbers}
@@ -21,10 +21,10 @@ LeavesFile g s c i = (start_node c.base (inode g s i)).kind ≡ Some kind.File
 
 -- ---- blocks that are written
 
--- The change writes block k of inode i, which it leaves a file.
+-- The change writes block k of inode i, which it leaves a file. Of a block that no tier maps it writes none for a cut: that one stays a hole.
 pub record WritesBlock (g : Sizes) (s : Store) (cs : Changes) (i k : ℕ) : Type 0 where
   pub is_file : LeavesFile g s (change_at cs i) i
-  pub writes : writes_block (change_at cs i) k ≡ true
+  pub writes : writes_over (places_from g s i (change_at cs i).base) (change_at cs i) k ≡ true
 
 -- one of some blocks of inodes
 abbrev pub nth_block : List (ℕ × ℕ) → ℕ → ℕ × ℕ
@@ -70,14 +70,14 @@ pub record LieInPlaces (g : Sizes) (s : Store) (cs : Changes) (new : Store) : Ty
 
 -- Each block of a file that its change neither writes nor cuts off lies where it lay; of a file that is made, it lies nowhere. One that is cut off, and not written, lies nowhere.
 pub record KeepsPlaces (g : Sizes) (c : Change) (old new : Store) (i : ℕ) : Type 0 where
-  pub others : (t : Tier) (k : ℕ) → writes_block c k ≡ false → is_cut_off c.length k ≡ false → place g new i t k ≡ place_from c.base (place g old i t k)
-  pub gone : (t : Tier) (k : ℕ) → writes_block c k ≡ false → is_cut_off c.length k ≡ true → place g new i t k ≡ None
+  pub others : (t : Tier) (k : ℕ) → writes_over (places_from g old i c.base) c k ≡ false → is_cut_off c.length k ≡ false → place g new i t k ≡ place_from c.base (place g old i t k)
+  pub gone : (t : Tier) (k : ℕ) → writes_over (places_from g old i c.base) c k ≡ false → is_cut_off c.length k ≡ true → place g new i t k ≡ None
 
 -- ---- in memory
 
 -- The change of inode i writes the blocks of these numbers, where it leaves a file; none, where it leaves a directory or nothing.
 abbrev pub Writes : Sizes → Store → Change → ℕ → List ℕ → Type 0
-Writes g s c i numbers = (LeavesFile g s c i × AreNumbers c numbers) ⊎ ((LeavesFile g s c i → ⊥) × (numbers ≡ []))
+Writes g s c i numbers = (LeavesFile g s c i × AreNumbers (places_from g s i c.base) c numbers) ⊎ ((LeavesFile g s c i → ⊥) × (numbers ≡ []))
 
 -- The blocks of inode i that its change writes are to lie in these places.
 pub record IsLaid (g : Sizes) (s : Store) (c : Change) (i : ℕ) (m : TierRuns) (places : List (Tier × ℕ)) : Type 0 where

@@ -5,6 +5,7 @@ use Rattle.inode_plan.specs.graph_change.Net.{Base}
 use Rattle.inode_plan.specs.layout.Places.{Sizes}
 use Rattle.inode_plan.specs.extent_tree.declared.map.Place.{Place}
 use Rattle.inode_plan.specs.area_image.Store.{Store}
+use Rattle.inode_plan.specs.area_commit.InodeChange.{places_from}
 use Rattle.inode_plan.specs.area_commit.declared.plan.FreedBlocks.{FreedBlocks}
 use Rattle.inode_plan.specs.BlockWrites.{AreNumbers}
 use Rattle.change_plan.specs.Parts.{LoseBoth}
@@ -17,7 +18,7 @@ use Rattle.change_plan.specs.declared.file_place.RootedFile.{RootedFile}
 
 -- The blocks of the file that its change writes have these numbers, and go to the first so many of the places, one each, which were free.
 pub record IsWrittenFile (g : Sizes) (s : Store) (c : Change) (i : ℕ) (places : List Place) (w : WrittenFile) : Type 0 where
-  pub numbers : AreNumbers c w.numbers.items
+  pub numbers : AreNumbers (places_from g s i c.base) c w.numbers.items
   pub few : length w.numbers.items ≤ length places
   pub free : AreFreePlaces g s (take (length w.numbers.items) places)
   pub placed : IsPlacedFile g s c i w.numbers.items (take (length w.numbers.items) places) w.file

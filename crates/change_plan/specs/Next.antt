@@ -16,6 +16,7 @@ use Rattle.inode_plan.specs.extent_tree.declared.map.Place.{Place}
 use Rattle.inode_plan.specs.tree_blocks.After.{start_node}
 use Rattle.inode_plan.specs.area_image.Store.{Store, slot_read, inode, graph}
 use Rattle.inode_plan.specs.area_image.Format.{IsSpelled}
+use Rattle.inode_plan.specs.area_commit.InodeChange.{places_from}
 use Rattle.inode_plan.specs.area_commit.Value.{PoolsView}
 use Rattle.inode_plan.specs.area_commit.declared.allocation.Allocation.{Allocation}
 use Rattle.inode_plan.specs.PlacedFile.{PlacesFit}
@@ -44,7 +45,7 @@ HasFewEntries (Some n) = elim n.body [ FileBody bytes ↦ Unit {0} | DirBody ent
 
 -- So many data blocks are wanted for inode i: one for each block that its change writes, where that leaves a file; none, where it leaves a directory or nothing.
 abbrev pub WantsData : Sizes → Store → Change → ℕ → ℕ → Type 0
-WantsData g s c i count = (((start_node c.base (inode g s i)).kind ≡ Some kind.File) × (numbers : List ℕ) × AreNumbers c numbers × (length numbers ≡ count)) ⊎ (((start_node c.base (inode g s i)).kind ≡ Some kind.File → ⊥) × (count ≡ 0))
+WantsData g s c i count = (((start_node c.base (inode g s i)).kind ≡ Some kind.File) × (numbers : List ℕ) × AreNumbers (places_from g s i c.base) c numbers × (length numbers ≡ count)) ⊎ (((start_node c.base (inode g s i)).kind ≡ Some kind.File → ⊥) × (count ≡ 0))
 
 -- Inode i, which has this slot, is the next one to be planned: its change keeps to the limits; no image so far is for a block of it, or for a free one that was not taken; and blocks of the
 -- node pool are free for it.

@@ -2,7 +2,7 @@
 ghost use Rattle.std.specs.Prelude.{◌≡◌, ◌⊎◌, ℕ, List, Some, true, false, length, IfOk, IfErr, OnErr};
 ghost use Rattle.std.specs.FinMap as fin;
 ghost use Rattle.inode_plan.specs.graph_change.Bounds.{AreBounded};
-ghost use Rattle.inode_plan.specs.graph_change.Change.{Changes, writes_block};
+ghost use Rattle.inode_plan.specs.graph_change.Change.{Changes, change_at, writes_block};
 ghost use Rattle.inode_plan.specs.graph_change.Tidy.{AreTidyChanges};
 ghost use Rattle.inode_plan.specs.graph_change.View.{change_of, changes_of};
 ghost use Rattle.inode_plan.specs.layout.Places.{Sizes, is_inode};
@@ -10,26 +10,103 @@ ghost use Rattle.inode_plan.specs.area_image.Store.{Store, disk, slot_read};
 ghost use Rattle.inode_plan.specs.area_image.Format.{IsSpelled};
 ghost use Rattle.inode_plan.specs.area_image.Looks.{Looks};
 ghost use Rattle.inode_plan.specs.area_image.declared.error.AreaError.TheVariants.{DeviceFault, Memory};
-ghost use Rattle.change_plan.specs.FileLayout.{LeavesFile, WritesBlock};
+ghost use Rattle.inode_plan.specs.layout.declared.places.TheConstants.{FILE_BLOCKS};
+ghost use Rattle.inode_plan.specs.extent_tree.Map.{lies_at, LieBelow};
+ghost use Rattle.inode_plan.specs.area_commit.InodeChange.{places_from, writes_over};
+ghost use Rattle.change_plan.specs.FileLayout.{LeavesFile};
 ghost use Rattle.change_plan.specs.Next.{WantsData};
 ghost use Rattle.change_plan.specs.BlockDemand.{WantsBlocks, AreWritten};
 
+use crate::file_part::start_file;
+use crate::file_start::StartedFile;
 use crate::kinds::kind_from;
 use inode_plan::{
-    AreaError, GraphChange, Journal, Kind, Media, NodeChange, Slot, read_slot, written_numbers,
+    AreaError, BlockMap, GraphChange, Journal, Kind, Media, NodeChange, Slot, cut_alone, read_slot,
+    written_numbers,
 };
-use std::alloc::{AllocError, Global};
+use std::alloc::Global;
+
+// Where the blocks of a file lie that a change starts from, as far as that decides which of them it writes: its extents are read only where the change cuts within a block and puts no
+// byte into it.
+fn map_before<M: Media>(
+    alloc: Global,
+    journal: &mut Journal<M>,
+    inode: u32,
+    slot: &Slot,
+    change: &NodeChange,
+) -> Result<BlockMap, AreaError>
+    requires spelled { IsSpelled journal.old.geometry (disk M.Media journal.old) }
+    requires number { is_inode inode ≡ true }
+    requires slot_is { slot_read journal.old.geometry (disk M.Media journal.old) inode ≡ Some slot.now }
+    requires is_file { LeavesFile journal.old.geometry (disk M.Media journal.old) (change_of change.now) inode }
+    requires going { journal.old.failed ≡ false }
+    ensures same { IfOk result (λ map. (k : ℕ) → writes_over (lies_at map) (change_of change.now) k ≡ writes_over (places_from journal.old.geometry (disk M.Media journal.old) inode (change_of change.now).base) (change_of change.now) k) }
+    ensures below { IfOk result (LieBelow FILE_BLOCKS) }
+    ensures only { IfErr result (λ e. (e ≡ DeviceFault) ⊎ (e ≡ Memory)) }
+    ensures memory { IfErr result (λ e. e ≡ Memory → (k : ℕ) × (writes_block (change_of change.now) k ≡ true)) }
+    ensures looks { Looks M.Media journal.old journal.new result }
+{
+    match cut_alone(change) {
+        Some(_) => match start_file(alloc, journal, inode, slot, change.base) {
+            Ok(file) => {
+                let StartedFile { map, .. } = file;
+                Ok(map)
+            }
+            Err(error) => Err(error),
+        },
+        None => Ok(BlockMap::new(alloc)),
+    }
+}
+
+// How many data blocks the change of an inode wants that has this slot, and is a file then.
+fn count_written<M: Media>(
+    alloc: Global,
+    journal: &mut Journal<M>,
+    inode: u32,
+    slot: &Slot,
+    change: &NodeChange,
+) -> Result<usize, AreaError>
+    requires spelled { IsSpelled journal.old.geometry (disk M.Media journal.old) }
+    requires number { is_inode inode ≡ true }
+    requires slot_is { slot_read journal.old.geometry (disk M.Media journal.old) inode ≡ Some slot.now }
+    requires is_file { LeavesFile journal.old.geometry (disk M.Media journal.old) (change_of change.now) inode }
+    requires going { journal.old.failed ≡ false }
+    ensures wanted { IfOk result (WantsData journal.old.geometry (disk M.Media journal.old) (change_of change.now) inode) }
+    ensures only { IfErr result (λ e. (e ≡ DeviceFault) ⊎ (e ≡ Memory)) }
+    ensures memory { IfErr result (λ e. e ≡ Memory → (k : ℕ) × (writes_block (change_of change.now) k ≡ true)) }
+    ensures looks { Looks M.Media journal.old journal.new result }
+{
+    match map_before(alloc, journal, inode, slot, change) {
+        Ok(map) => match written_numbers(alloc, change, &map) {
+            Ok(numbers) => Ok(numbers.len()),
+            Err(_) => Err(AreaError::Memory),
+        },
+        Err(error) => Err(error),
+    }
+}
 
 // How many data blocks the change of an inode wants that has this slot.
-fn blocks_for(alloc: Global, slot: &Slot, change: &NodeChange) -> Result<usize, AllocError>
-    ensures wanted { (g : Sizes) (s : Store) (i : ℕ) → slot_read g s i ≡ Some slot.now → IfOk result (WantsData g s (change_of change.now) i) }
-    ensures memory { (g : Sizes) (s : Store) (i : ℕ) → slot_read g s i ≡ Some slot.now → OnErr result (LeavesFile g s (change_of change.now) i × (k : ℕ) × (writes_block (change_of change.now) k ≡ true)) }
+fn blocks_for<M: Media>(
+    alloc: Global,
+    journal: &mut Journal<M>,
+    inode: u32,
+    slot: &Slot,
+    change: &NodeChange,
+) -> Result<usize, AreaError>
+    requires spelled { IsSpelled journal.old.geometry (disk M.Media journal.old) }
+    requires number { is_inode inode ≡ true }
+    requires slot_is { slot_read journal.old.geometry (disk M.Media journal.old) inode ≡ Some slot.now }
+    requires going { journal.old.failed ≡ false }
+    ensures wanted { IfOk result (WantsData journal.old.geometry (disk M.Media journal.old) (change_of change.now) inode) }
+    ensures only { IfErr result (λ e. (e ≡ DeviceFault) ⊎ (e ≡ Memory)) }
+    ensures memory { IfErr result (λ e. e ≡ Memory → LeavesFile journal.old.geometry (disk M.Media journal.old) (change_of change.now) inode × (k : ℕ) × (writes_block (change_of change.now) k ≡ true)) }
+    ensures looks { Looks M.Media journal.old journal.new result }
 {
     match kind_from(change.base, slot) {
-        Some(Kind::File) => {
-            let numbers = written_numbers(alloc, change)?;
-            Ok(numbers.len())
-        }
+        Some(Kind::File) => match count_written(alloc, journal, inode, slot, change) {
+            Ok(count) => Ok(count),
+            Err(error) => Err(error),
+        },
         Some(Kind::Directory) => Ok(0),
         None => Ok(0),
     }
@@ -50,16 +127,17 @@ fn count_in<M: Media>(
     ensures looks { Looks M.Media journal.old journal.new result }
 {
     match read_slot(journal, inode) {
-        Ok(slot) => match blocks_for(alloc, &slot, change) {
+        Ok(slot) => match blocks_for(alloc, journal, inode, &slot, change) {
             Ok(count) => Ok(count),
-            Err(_) => Err(AreaError::Memory),
+            Err(error) => Err(error),
         },
         Err(error) => Err(error),
     }
 }
 
-/// How many data blocks a change wants: one for each block of a file that it writes. The slots of its inodes are read for that. `Memory` where there was none for the
-/// numbers of a file's blocks, and only where the change writes a block of a file that it leaves.
+/// How many data blocks a change wants: one for each block of a file that it writes. The slots of its inodes are read for that, and the extents of a file that it cuts within a block into
+/// which it puts no byte. `Memory` where there was none for these or for the numbers of a file's blocks, and only where the change puts bytes into a file that it leaves, or cuts it
+/// within a block.
 pub fn count_blocks<M: Media>(
     alloc: Global,
     journal: &mut Journal<M>,
@@ -71,7 +149,7 @@ pub fn count_blocks<M: Media>(
     requires tidy { AreTidyChanges (changes_of change.now) }
     ensures wanted { IfOk result (WantsBlocks journal.old.geometry (disk M.Media journal.old) (changes_of change.now)) }
     ensures only { IfErr result (λ e. (e ≡ DeviceFault) ⊎ (e ≡ Memory)) }
-    ensures memory { IfErr result (λ e. e ≡ Memory → (i : ℕ) × (k : ℕ) × (fin.contains_key (changes_of change.now) i ≡ true) × WritesBlock journal.old.geometry (disk M.Media journal.old) (changes_of change.now) i k) }
+    ensures memory { IfErr result (λ e. e ≡ Memory → (i : ℕ) × (k : ℕ) × (fin.contains_key (changes_of change.now) i ≡ true) × LeavesFile journal.old.geometry (disk M.Media journal.old) (change_at (changes_of change.now) i) i × (writes_block (change_at (changes_of change.now) i) k ≡ true)) }
     ensures looks { Looks M.Media journal.old journal.new result }
 {
     let mut count = 0;

@@ -69,8 +69,8 @@ fn read_kept<M: Media>(
     }
 }
 
-// The file that a change of an inode starts from: the one that is there, or an empty one, where it is made.
-fn start_file<M: Media>(
+/// The file that a change of an inode starts from: the one that is there, with its extents read, or an empty one, where it is made.
+pub fn start_file<M: Media>(
     alloc: Global,
     journal: &mut Journal<M>,
     inode: u32,
@@ -109,7 +109,7 @@ fn place_written(
     requires bounded { IsBounded (change_of change.now) }
     ensures { (g : Sizes) (s : Store) → IsStartedFile g s (change_of change.now).base inode file → HasPlaces g s (change_of change.now) inode places.now → IfOk result (IsWrittenFile g s (change_of change.now) inode places.now) }
 {
-    let numbers = written_numbers(alloc, change)?;
+    let numbers = written_numbers(alloc, change, &file.map)?;
     let count = numbers.len();
     let file = place_file(alloc, inode, file, change, &numbers, &places[..count])?;
     Ok(WrittenFile { numbers, file })

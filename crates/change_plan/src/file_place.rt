@@ -10,6 +10,7 @@ ghost use Rattle.inode_plan.specs.layout.declared.extents.TheConstants.{MAX_EXTE
 ghost use Rattle.inode_plan.specs.layout.Places.{Sizes};
 ghost use Rattle.inode_plan.specs.area_image.Store.{Store};
 ghost use Rattle.inode_plan.specs.area_image.Map.{in_tier};
+ghost use Rattle.inode_plan.specs.extent_tree.Map.{lies_at};
 ghost use Rattle.inode_plan.specs.PlacedFile.{PlacesFit};
 ghost use Rattle.inode_plan.specs.BlockWrites.{AreNumbers};
 ghost use Rattle.inode_plan.specs.Roots.{roots_wanted};
@@ -42,7 +43,7 @@ pub fn place_file(
     requires started { (g : Sizes) × (s : Store) × IsStartedFile g s (change_of change.now).base inode file }
     requires tidy { IsTidyChange (change_of change.now) }
     requires bounded { end (change_of change.now).length ≤ MAX_FILE }
-    requires numbers { AreNumbers (change_of change.now) numbers.now }
+    requires numbers { AreNumbers (lies_at file.map) (change_of change.now) numbers.now }
     requires enough { length numbers.now ≤ length places.now }
     requires fit { PlacesFit places.now }
     ensures { (g : Sizes) (s : Store) → IsStartedFile g s (change_of change.now).base inode file → IfOk result (IsPlacedFile g s (change_of change.now) inode numbers.now places.now) }

@@ -11,6 +11,7 @@ ghost use Rattle.inode_plan.specs.extent_tree.Map.{TierRuns};
 ghost use Rattle.inode_plan.specs.extent_tree.declared.map.Place.{Place};
 ghost use Rattle.inode_plan.specs.area_image.Store.{Store, logical_block};
 ghost use Rattle.inode_plan.specs.area_commit.declared.plan.FreedBlocks.{FreedBlocks};
+ghost use Rattle.inode_plan.specs.area_commit.InodeChange.{places_from};
 ghost use Rattle.inode_plan.specs.BlockWrites.{AreNumbers};
 ghost use Rattle.inode_plan.specs.Bytes.{HoldsBlocks, blocks_from};
 ghost use Rattle.inode_plan.specs.PlannedFile.{pairs_of};
@@ -32,7 +33,7 @@ pub fn planned_file_is_a_part()
 /// A file that has its places, its slot and what lists its extents, over blocks that were free, with the bytes of what is written and what it gives up, is planned.
 pub fn placed_file_is_planned()
     ensures { (g : Sizes) (s : Store) (c : Change) (touch i : ℕ) (numbers : List ℕ) (places : List Place) (f : PlacedFile) (spare bytes : List ℕ) (old new : List (ℕ × List ℕ)) (x : Slot) (left : List Run) (lost : FreedBlocks)
-        → IsTidyChange c → IsBounded c → AreNumbers c numbers → length places ≡ length numbers → AreFreePlaces g s places → IsPlacedFile g s c i numbers places f
+        → IsTidyChange c → IsBounded c → AreNumbers (places_from g s i c.base) c numbers → length places ≡ length numbers → AreFreePlaces g s places → IsPlacedFile g s c i numbers places f
         → AreFreeNodes g s spare → length spare ≡ roots_wanted f.slot f.plan.lists → IsRootedFile c touch f spare old new x left → HoldsBlocks c (blocks_from f.found (logical_block g s i)) numbers (length numbers) bytes
         → LosesFile g s c.base i f left lost → IsPlannedFile g s c touch i x f.plan.map (record { nodes = spare; «data» = pairs_of places }) bytes old new lost }
 {}

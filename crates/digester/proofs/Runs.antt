@@ -1,14 +1,13 @@
 -- What good records come to is a change that the shared area takes.
 use Rattle.std.proofs.Common.{◌≡◌, ◌<◌, ◌≤◌, ◌+◌, ◌-◌, ◌*◌, ℕ, zero, suc, true, List, [], ◌∷◌, length, take, drop, Option, Some, None, ap, sym, subst, arith}
-use Rattle.std.specs.List.{AllByRecursion, sum_by}
+use Rattle.std.specs.List.{sum_by}
 use Rattle.std.specs.Prelude.{option_map}
 use Rattle.std.specs.FinMap as fin
 use Rattle.std.proofs.lemmas.List.{length-take-le, length-drop, take_all}
-use Rattle.update_log.specs.file_graph.declared.effect.Kind.TheVariants as kind
 use Rattle.update_log.specs.file_graph.Graph.{Graph, Node, Body, FileBody, DirBody}
 use Rattle.update_log.specs.file_graph.Units.{charge}
 use Rattle.coalescer.specs.graph_change.Bounds.{AreBounded}
-use Rattle.coalescer.specs.graph_change.Change.{Change, Changes, change_at, changed_graph, writes_block}
+use Rattle.coalescer.specs.graph_change.Change.{Change, Changes, changed_graph}
 use Rattle.coalescer.specs.graph_change.Tidy.{AreTidyChanges}
 use Rattle.coalescer.proofs.graph_change_lemmas.Tidying.{tidy_coalesced}
 use Rattle.update_log.specs.log_record.Grammar.{IsRecord}
@@ -16,10 +15,10 @@ use Rattle.update_log.specs.log_record.declared.format.Record.{Record}
 use Rattle.shared_area.specs.call_effects.NodeView.{view_at, view_of_body, view_of_node}
 use Rattle.shared_area.specs.layout.declared.places.TheConstants.{SPARE_BLOCKS}
 use Rattle.shared_area.specs.layout.Places.{Sizes}
-use Rattle.shared_area.specs.tree_blocks.After.{start_node}
-use Rattle.shared_area.specs.area_image.Store.{Store, inode}
+use Rattle.shared_area.specs.area_image.Store.{Store}
 use Rattle.shared_area.specs.change_plan.Next.{HasFewEntries, nodes_for}
 use Rattle.shared_area.specs.change_plan.BlockDemand.{images_for, AreWritten}
+use Rattle.shared_area.proofs.Writes.{written_each}
 use Rattle.coalescer.proofs.Single.{run}
 use Rattle.coalescer.specs.Records.{effects_in}
 use Rattle.coalescer.specs.Within.{AreBlocksIn, images_of}
@@ -61,11 +60,6 @@ few_entries : (o : Option Node) → KeepsLimits (option_map view_of_node o) → 
 few_entries None keeps = tt
 few_entries (Some n) keeps = few_in n.names n.body keeps
 
-are_written : (g : Sizes) (s : Store) (cs : Changes) (bs : List (ℕ × ℕ)) → AllByRecursion (λ b. ((start_node (change_at cs b.0).base (inode g s b.0)).kind ≡ Some kind.File) × (writes_block (change_at cs b.0) b.1 ≡ true)) bs
-    → AllByRecursion (λ b. writes_block (change_at cs b.0) b.1 ≡ true) bs
-are_written g s cs [] all = tt
-are_written g s cs (b ∷ bs) all = (all.0.1, are_written g s cs bs all.1)
-
 module _ (held : List ℕ) (capacity : ℕ) (g : Graph) (rs : List Record) (cs : Changes) (is : IsGoodRun held capacity g rs cs) where
   pub bounded : AreBounded cs
   bounded = subst AreBounded (sym is.change) (good_bounded held capacity g rs is.good)
@@ -88,4 +82,4 @@ module _ (held : List ℕ) (capacity : ℕ) (g : Graph) (rs : List Record) (cs :
   units = subst (λ (c : Changes). charge (changed_graph c g) ≤ capacity) (sym is.change) (good_charge held capacity g rs is.some is.good)
 
   pub few_written : (x : Sizes) (s : Store) (bs : List (ℕ × ℕ)) → AreWritten x s cs bs → length bs ≤ SPARE_BLOCKS
-  few_written x s bs are = fit_blocks (effects_in rs) bs is.fits (subst (λ (c : Changes). AreBlocksIn c bs) is.change (are.once, are_written x s cs bs are.each))
+  few_written x s bs are = fit_blocks (effects_in rs) bs is.fits (subst (λ (c : Changes). AreBlocksIn c bs) is.change (are.once, written_each x s cs bs are))

@@ -1,5 +1,5 @@
 -- Where the blocks of a file lie after a change of it.
-use Rattle.std.proofs.Common.{◌≡◌, ◌≢◌, ◌<◌, ◌≤◌, ◌+◌, ◌/◌, ◌^◌, ◌⊎◌, ◌∙◌, ◌||◌, ℕ, List, [], ◌∷◌, length, Bool, true, false, Some, None, arith, inl, inr, sym, ap, subst, refl}
+use Rattle.std.proofs.Common.{◌≡◌, ◌≢◌, ◌<◌, ◌≤◌, ◌+◌, ◌/◌, ◌^◌, ◌⊎◌, ◌∙◌, ◌||◌, ℕ, List, [], ◌∷◌, length, Bool, true, false, Option, Some, None, arith, inl, inr, sym, ap, subst, refl}
 use Rattle.std.specs.Prelude.{IsSome, suc}
 use Rattle.std.specs.List.{Contains}
 use Rattle.std.proofs.lemmas.Bool.{cases_Bool, cond-true, cond-false, false≢true}
@@ -10,6 +10,8 @@ use Rattle.area_commit.specs.layout.declared.geometry.Space.TheVariants as space
 use Rattle.area_commit.specs.layout.Places.{Sizes, is_data}
 use Rattle.area_commit.specs.graph_change.Bytes.{length_after, end}
 use Rattle.area_commit.specs.graph_change.Change.{Change, writes_block}
+use Rattle.area_commit.specs.InodeChange.{writes_over}
+use Rattle.area_commit.proofs.Holes.{over_written, over_out, over_at, over_same}
 use Rattle.area_commit.specs.graph_change.Tidy.{IsTidyChange}
 use Rattle.area_commit.specs.tree_blocks.FileBlock.{is_cut_off}
 use Rattle.area_commit.proofs.tree_blocks_lemmas.FileBlocks.{written_inside, left_inside}
@@ -40,27 +42,38 @@ stands_in (x ∷ xs) k at = elim (cons_cases x xs k at) [
 
 -- ---- the map is cut, and then the blocks are placed
 
-module _ (c : Change) (numbers : List ℕ) (are : AreNumbers c numbers) where
-  pub written_at : (n : ℕ) → n < length numbers → writes_block c (nth_number numbers n) ≡ true
+module _ (lay : Tier → ℕ → Option ℕ) (c : Change) (numbers : List ℕ) (are : AreNumbers lay c numbers) where
+  pub written_at : (n : ℕ) → n < length numbers → writes_over lay c (nth_number numbers n) ≡ true
   written_at n lt = (are.each (nth_number numbers n)).0 (Contains-get_or numbers n 0 lt)
 
   pub number_fits : IsTidyChange c → end c.length ≤ 1048576 → (n : ℕ) → n < length numbers → nth_number numbers n + 1 < 2 ^ 32
-  number_fits tidy few n lt = let begins = tidy.blocks (nth_number numbers n) (written_at n lt) in omega (arith, begins, few)
+  number_fits tidy few n lt = let begins = tidy.blocks (nth_number numbers n) (over_written lay (nth_number numbers n) c (written_at n lt)) in omega (arith, begins, few)
 
-  pub stands : (k : ℕ) → writes_block c k ≡ true → StandsAt numbers k
+  -- the same where another account tells the same blocks as written
+  pub numbers_over : (other : Tier → ℕ → Option ℕ) → ((k : ℕ) → writes_over lay c k ≡ writes_over other c k) → AreNumbers other c numbers
+  numbers_over other same = record {
+    rising = are.rising;
+    each = λ k. (λ at. sym (same k) ∙ (are.each k).0 at, λ put. (are.each k).1 (same k ∙ put));
+  }
+
+  -- so it is where the blocks lay the same by it
+  pub numbers_as : (other : Tier → ℕ → Option ℕ) → ((t : Tier) (k : ℕ) → lay t k ≡ other t k) → AreNumbers other c numbers
+  numbers_as other same = numbers_over other (λ k. over_same lay k c other (λ t. same t k))
+
+  pub stands : (k : ℕ) → writes_over lay c k ≡ true → StandsAt numbers k
   stands k put = stands_in numbers k ((are.each k).1 put)
 
-  module _ (places : List Place) (old mid new : TierRuns) (cut : IsCutBy c.length old mid) (placed : NumbersArePlaced numbers places (length numbers) mid new) where
-    stays_put : (t : Tier) (k : ℕ) → writes_block c k ≡ false → lies_at new t k ≡ lies_at mid t k
-    stays_put t k out = placed.others k t (λ n lt is. false≢true (sym out ∙ ap (writes_block c) (sym is) ∙ written_at n lt))
+module _ (c : Change) (numbers : List ℕ) (places : List Place) (old mid new : TierRuns) (are : AreNumbers (lies_at old) c numbers) (cut : IsCutBy c.length old mid) (placed : NumbersArePlaced numbers places (length numbers) mid new) where
+  stays_put : (t : Tier) (k : ℕ) → writes_over (lies_at old) c k ≡ false → lies_at new t k ≡ lies_at mid t k
+  stays_put t k out = placed.others k t (λ n lt is. false≢true (sym out ∙ ap (λ j. writes_over (lies_at old) c j) (sym is) ∙ written_at (lies_at old) c numbers are n lt))
 
-    pub map_after : IsMapAfter c numbers places old new
-    map_after = record {
-      there = placed.there;
-      once = placed.once;
-      gone = λ t k out off. stays_put t k out ∙ cut t k ∙ cond-true (is_cut_off c.length k) None (lies_at old t k) off;
-      others = λ t k out on. stays_put t k out ∙ cut t k ∙ cond-false (is_cut_off c.length k) None (lies_at old t k) on;
-    }
+  pub map_after : IsMapAfter c numbers places old new
+  map_after = record {
+    there = placed.there;
+    once = placed.once;
+    gone = λ t k out off. stays_put t k out ∙ cut t k ∙ cond-true (is_cut_off c.length k) None (lies_at old t k) off;
+    others = λ t k out on. stays_put t k out ∙ cut t k ∙ cond-false (is_cut_off c.length k) None (lies_at old t k) on;
+  }
 
 -- ---- what holds of the map then
 
@@ -71,7 +84,10 @@ neither true b is = absurd (cc)
 pub both_out : (a b : Bool) → a ≡ false → b ≡ false → (a || b) ≡ false
 both_out a b one two = ap (λ x. x || b) one ∙ two
 
-module _ (c : Change) (numbers : List ℕ) (places : List Place) (old new : TierRuns) (are : AreNumbers c numbers) (after : IsMapAfter c numbers places old new) where
+module _ (c : Change) (numbers : List ℕ) (places : List Place) (old new : TierRuns) (are : AreNumbers (lies_at old) c numbers) (after : IsMapAfter c numbers places old new) where
+  abbrev over : ℕ → Bool
+  over k = writes_over (lies_at old) c k
+
   -- the place of a written block
   pub in_place : (k : ℕ) (s : StandsAt numbers k) → lies_at new (nth_place places s.at).tier k ≡ Some (nth_place places s.at).block
   in_place k s = subst (λ j. lies_at new (nth_place places s.at).tier j ≡ Some (nth_place places s.at).block) s.is (after.there s.at s.inside)
@@ -101,17 +117,19 @@ module _ (c : Change) (numbers : List ℕ) (places : List Place) (old new : Tier
 
   -- each block lies where it lay, or in the place of its number
   pub keeps_or_takes : (t : Tier) (k p : ℕ) → lies_at new t k ≡ Some p → KeepsPlace c old t k p ⊎ TakesPlace numbers places t k p
-  keeps_or_takes t k p at = elim (cases_Bool (writes_block c k)) [
-    | inl put ↦ inr (takes t k p (stands c numbers are k put) at)
+  keeps_or_takes t k p at = elim (cases_Bool (over k)) [
+    | inl put ↦ inr (takes t k p (stands (lies_at old) c numbers are k put) at)
     | inr out ↦ elim (cases_Bool (is_cut_off c.length k)) [
       | inl off ↦ absurd (none-some p (sym (after.gone t k out off) ∙ at))
-      | inr on ↦ inl (record { stays = both_out (writes_block c k) (is_cut_off c.length k) out on; was = sym (after.others t k out on) ∙ at })
+      | inr on ↦
+          let was : lies_at old t k ≡ Some p = sym (after.others t k out on) ∙ at in
+          inl (record { stays = both_out (writes_block c k) (is_cut_off c.length k) (sym (over_at (lies_at old) k c t p was) ∙ out) on; was = was })
     ]
   ]
 
   pub after_once : LieOnce old → LieOnce new
-  after_once once t u k some_t some_u = elim (cases_Bool (writes_block c k)) [
-    | inl put ↦ tier_of k (stands c numbers are k put) t some_t ∙ sym (tier_of k (stands c numbers are k put) u some_u)
+  after_once once t u k some_t some_u = elim (cases_Bool (over k)) [
+    | inl put ↦ tier_of k (stands (lies_at old) c numbers are k put) t some_t ∙ sym (tier_of k (stands (lies_at old) c numbers are k put) u some_u)
     | inr out ↦ elim (cases_Bool (is_cut_off c.length k)) [
       | inl off ↦ absurd (false≢true (subst IsSome (after.gone t k out off) some_t))
       | inr on ↦ once t u k (subst IsSome (after.others t k out on) some_t) (subst IsSome (after.others u k out on) some_u)
@@ -119,8 +137,8 @@ module _ (c : Change) (numbers : List ℕ) (places : List Place) (old new : Tier
   ]
 
   pub after_below : (size : ℕ) → IsTidyChange c → LieBelow ((size + 4095) / 4096) old → LieBelow ((length_after c.length size + 4095) / 4096) new
-  after_below size tidy below t k some = elim (cases_Bool (writes_block c k)) [
-    | inl put ↦ (let begins = written_inside c size k tidy put in omega (arith, begins))
+  after_below size tidy below t k some = elim (cases_Bool (over k)) [
+    | inl put ↦ (let begins = written_inside c size k tidy (over_written (lies_at old) k c put) in omega (arith, begins))
     | inr out ↦ elim (cases_Bool (is_cut_off c.length k)) [
       | inl off ↦ absurd (false≢true (subst IsSome (after.gone t k out off) some))
       | inr on ↦
@@ -164,13 +182,13 @@ module _ (c : Change) (numbers : List ℕ) (places : List Place) (old new : Tier
   pub lost_is_left : (t : Tier) (left : List ℕ) → AreLeft c old t left → (p k : ℕ) → lies_at old t k ≡ Some p → (lies_at new t k ≡ Some p → ⊥) → Contains left p
   lost_is_left t left is p k was none = elim (cases_Bool (leaves c k)) [
     | inl away ↦ (is p).1 (k, away, was)
-    | inr here ↦ (let both = neither (writes_block c k) (is_cut_off c.length k) here in absurd (none (after.others t k both.0 both.1 ∙ was)))
+    | inr here ↦ (let both = neither (writes_block c k) (is_cut_off c.length k) here in absurd (none (after.others t k (over_out (lies_at old) k c both.0) both.1 ∙ was)))
   ]
 
   pub after_within : (g : Sizes) → IsTidyChange c → end c.length ≤ 1048576 → AreData g places (length numbers) → ((t : Tier) → LiesWithin g (space.Data t) (runs_in old t)) → (t : Tier) → LiesWithin g (space.Data t) (runs_in new t)
   after_within g tidy few are_data within t k p at = elim (keeps_or_takes t k p at) [
     | inl kept ↦ within t k p kept.was
     | inr taken ↦
-        let begins = tidy.blocks k (subst (λ j. writes_block c j ≡ true) taken.number (written_at c numbers are taken.at taken.inside)) in
+        let begins = tidy.blocks k (over_written (lies_at old) k c (subst (λ j. over j ≡ true) taken.number (written_at (lies_at old) c numbers are taken.at taken.inside))) in
         (omega (arith, begins, few), subst (λ u. is_data g u p 1 ≡ true) taken.tier (subst (λ q. is_data g (nth_place places taken.at).tier q 1 ≡ true) taken.block (are_data taken.at taken.inside)))
   ]

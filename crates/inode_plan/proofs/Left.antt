@@ -13,6 +13,7 @@ use Rattle.area_commit.specs.block_alloc.Value.{FreeBlocks}
 use Rattle.area_commit.specs.extent_tree.Places.{place_of}
 use Rattle.area_commit.specs.extent_tree.BlockFormat.{IsOneToOne}
 use Rattle.area_commit.specs.graph_change.Change.{Change, writes_block}
+use Rattle.area_commit.proofs.Holes.{over_written, over_at}
 use Rattle.area_commit.specs.tree_blocks.FileBlock.{is_cut_off}
 use Rattle.area_commit.specs.extent_tree.Map.{TierRuns, runs_in, lies_at, place_list, places_of, LieBelow, HasBlock}
 use Rattle.area_commit.specs.Release.{AreUsed, IsInUse}
@@ -100,7 +101,7 @@ none_below es end k ge = ap (λ o. place_list o ++ []) (cond-false (nat_lt k end
 
 -- ---- those of the written blocks, and those behind the cut
 
-module _ (c : Change) (numbers : List ℕ) (m : TierRuns) (t : Tier) (cut : ℕ) (are : AreNumbers c numbers) (few : cut ≤ 256) (is_cut : (k : ℕ) → k < 256 → nat_le cut k ≡ is_cut_off c.length k) (below : LieBelow 256 m) where
+module _ (c : Change) (numbers : List ℕ) (m : TierRuns) (t : Tier) (cut : ℕ) (are : AreNumbers (lies_at m) c numbers) (few : cut ≤ 256) (is_cut : (k : ℕ) → k < 256 → nat_le cut k ≡ is_cut_off c.length k) (below : LieBelow 256 m) where
   abbrev before : ℕ → Option ℕ
   before = below_end cut (lies_at m t)
 
@@ -128,7 +129,7 @@ module _ (c : Change) (numbers : List ℕ) (m : TierRuns) (t : Tier) (cut : ℕ)
   left_of p at = elim (Contains-append_cases (places_below (runs_in m t) cut numbers) (places_of (runs_in m t) cut (256 - cut)) p at) [
     | inl front ↦
         let r = among before numbers p front in
-        (r.block, or_left (writes_block c r.block) (is_cut_off c.length r.block) ((are.each r.block).0 r.one), (before_is r.block p r.there).1)
+        (r.block, or_left (writes_block c r.block) (is_cut_off c.length r.block) (over_written (lies_at m) r.block c ((are.each r.block).0 r.one)), (before_is r.block p r.there).1)
     | inr back ↦
         let r = among (lies_at m t) (range_with_len cut (256 - cut)) p back in
         let within = range_above cut (256 - cut) r.block r.one in
@@ -147,7 +148,7 @@ module _ (c : Change) (numbers : List ℕ) (m : TierRuns) (t : Tier) (cut : ℕ)
     | inl lt ↦ elim (cases_Bool (writes_block c k)) [
       | inl put ↦
           Contains-append_left (places_below (runs_in m t) cut numbers) (places_of (runs_in m t) cut (256 - cut)) p
-          (among_back before numbers k p ((are.each k).1 put) (cond-true (nat_lt k cut) (lies_at m t k) None (lt-ltb k cut lt) ∙ at))
+          (among_back before numbers k p ((are.each k).1 (over_at (lies_at m) k c t p at ∙ put)) (cond-true (nat_lt k cut) (lies_at m t k) None (lt-ltb k cut lt) ∙ at))
       | inr out ↦
           let off : is_cut_off c.length k ≡ true = sym (ap (λ x. x || is_cut_off c.length k) out) ∙ away in
           behind_cut k p (leb-true cut k (is_cut k (is_below k p at) ∙ off)) at

@@ -1,19 +1,21 @@
 -- Which blocks of a file are written for a change.
-use Rattle.std.specs.Prelude.{◌≡◌, ◌↔◌, ◌⊎◌, ℕ, List, Bool, true, IsSome}
+use Rattle.std.specs.Prelude.{◌≡◌, ◌↔◌, ◌⊎◌, ℕ, List, Bool, true, Option, IsSome}
 use Rattle.std.specs.List.{Contains}
 use Rattle.std.specs.Ordering.{nat_cmp}
 use Rattle.std.specs.BTreeMap.{BTreeMap, get}
 use Rattle.area_commit.specs.block_alloc.Runs.{Rising}
-use Rattle.area_commit.specs.graph_change.Change.{Change, writes_block}
+use Rattle.area_commit.specs.tier_device.declared.media.Tier.{Tier}
+use Rattle.area_commit.specs.graph_change.Change.{Change}
+use Rattle.area_commit.specs.InodeChange.{writes_over}
 
 -- The numbers rise.
 abbrev pub Rise : List ℕ → Type 0
 Rise numbers = (end : ℕ) × Rising 0 end numbers
 
--- These are the numbers of the blocks that are written, and no others; they rise.
-pub record AreNumbers (c : Change) (written : List ℕ) : Type 0 where
+-- These are the numbers of the blocks that are written, where the blocks lay so before, and no others; they rise.
+pub record AreNumbers (lay : Tier → ℕ → Option ℕ) (c : Change) (written : List ℕ) : Type 0 where
   pub rising : Rise written
-  pub each : (k : ℕ) → Contains written k ↔ (writes_block c k ≡ true)
+  pub each : (k : ℕ) → Contains written k ↔ (writes_over lay c k ≡ true)
 
 -- These are the numbers at which something is kept, and no others; they rise.
 pub record AreKeys (blocks : BTreeMap ℕ (List ℕ × List Bool)) (numbers : List ℕ) : Type 0 where

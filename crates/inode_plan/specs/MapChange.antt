@@ -6,6 +6,7 @@ use Rattle.area_commit.specs.layout.Places.{Sizes, is_data}
 use Rattle.area_commit.specs.graph_change.Bytes.{Length}
 use Rattle.area_commit.specs.graph_change.Change.{Change, writes_block}
 use Rattle.area_commit.specs.tree_blocks.FileBlock.{is_cut_off}
+use Rattle.area_commit.specs.InodeChange.{writes_over}
 use Rattle.area_commit.specs.layout.declared.extents.Extent.{Extent}
 use Rattle.area_commit.specs.extent_tree.Places.{place_of}
 use Rattle.area_commit.specs.extent_tree.Map.{TierRuns, lies_at, place_list}
@@ -20,8 +21,8 @@ IsCutBy len old new = (t : Tier) (k : ℕ) → lies_at new t k ≡ (if is_cut_of
 pub record IsMapAfter (c : Change) (numbers : List ℕ) (places : List Place) (old new : TierRuns) : Type 0 where
   pub there : (n : ℕ) → n < length numbers → lies_at new (nth_place places n).tier (nth_number numbers n) ≡ Some (nth_place places n).block
   pub once : (n : ℕ) (t : Tier) → n < length numbers → t ≢ (nth_place places n).tier → lies_at new t (nth_number numbers n) ≡ None
-  pub gone : (t : Tier) (k : ℕ) → writes_block c k ≡ false → is_cut_off c.length k ≡ true → lies_at new t k ≡ None
-  pub others : (t : Tier) (k : ℕ) → writes_block c k ≡ false → is_cut_off c.length k ≡ false → lies_at new t k ≡ lies_at old t k
+  pub gone : (t : Tier) (k : ℕ) → writes_over (lies_at old) c k ≡ false → is_cut_off c.length k ≡ true → lies_at new t k ≡ None
+  pub others : (t : Tier) (k : ℕ) → writes_over (lies_at old) c k ≡ false → is_cut_off c.length k ≡ false → lies_at new t k ≡ lies_at old t k
 
 -- No two of the first so many places are one block, and no block of the file lay in one of them.
 pub record AreFresh (places : List Place) (count : ℕ) (old : TierRuns) : Type 0 where
@@ -32,11 +33,11 @@ pub record AreFresh (places : List Place) (count : ℕ) (old : TierRuns) : Type 
 abbrev pub AreData : Sizes → List Place → ℕ → Type 0
 AreData g places count = (n : ℕ) → n < count → is_data g (nth_place places n).tier (nth_place places n).block 1 ≡ true
 
--- whether a block does not stay where it lies: it is written, or cut off
+-- whether a block does not stay where it lies: bytes are put into it, or it is cut within or cut off
 abbrev pub leaves : Change → ℕ → Bool
 leaves c k = writes_block c k || is_cut_off c.length k
 
--- The block stays where it lay: it is neither written nor cut off.
+-- The block stays where it lay: no byte is put into it, and it is not cut.
 pub record KeepsPlace (c : Change) (old : TierRuns) (t : Tier) (k p : ℕ) : Type 0 where
   pub stays : leaves c k ≡ false
   pub was : lies_at old t k ≡ Some p

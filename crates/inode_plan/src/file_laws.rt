@@ -35,16 +35,16 @@ ghost use Rattle.inode_plan.specs.Roots.{roots_wanted, HasRootsOf, SparesFit, Li
 /// Each block of a changed file lies where it lay, or in the place of its number. Where no logical block lay in two tiers, or at or behind the end of the file, or in the place of
 /// another, and each where a file's data may, so it is after the change, if the new places are free, each of its own, and blocks for data.
 pub fn changed_map_is_fit()
-    ensures uses { (c : Change) (numbers : List ℕ) (places : List Place) (old new : TierRuns) → AreNumbers c numbers → IsMapAfter c numbers places old new → (t : Tier) (k p : ℕ) → lies_at new t k ≡ Some p → KeepsPlace c old t k p ⊎ TakesPlace numbers places t k p }
-    ensures once { (c : Change) (numbers : List ℕ) (places : List Place) (old new : TierRuns) → AreNumbers c numbers → IsMapAfter c numbers places old new → LieOnce old → LieOnce new }
-    ensures below { (c : Change) (numbers : List ℕ) (places : List Place) (old new : TierRuns) (size : ℕ) → AreNumbers c numbers → IsMapAfter c numbers places old new → IsTidyChange c → LieBelow ((size + (BLOCK - 1)) / BLOCK) old → LieBelow ((length_after c.length size + (BLOCK - 1)) / BLOCK) new }
-    ensures apart { (c : Change) (numbers : List ℕ) (places : List Place) (old new : TierRuns) → AreNumbers c numbers → IsMapAfter c numbers places old new → AreFresh places (length numbers) old → ((t : Tier) → IsOneToOne (runs_in old t)) → (t : Tier) → IsOneToOne (runs_in new t) }
-    ensures within { (g : Sizes) (c : Change) (numbers : List ℕ) (places : List Place) (old new : TierRuns) → AreNumbers c numbers → IsMapAfter c numbers places old new → IsTidyChange c → end c.length ≤ MAX_FILE → AreData g places (length numbers) → ((t : Tier) → LiesWithin g (space.Data t) (runs_in old t)) → (t : Tier) → LiesWithin g (space.Data t) (runs_in new t) }
+    ensures uses { (c : Change) (numbers : List ℕ) (places : List Place) (old new : TierRuns) → AreNumbers (lies_at old) c numbers → IsMapAfter c numbers places old new → (t : Tier) (k p : ℕ) → lies_at new t k ≡ Some p → KeepsPlace c old t k p ⊎ TakesPlace numbers places t k p }
+    ensures once { (c : Change) (numbers : List ℕ) (places : List Place) (old new : TierRuns) → AreNumbers (lies_at old) c numbers → IsMapAfter c numbers places old new → LieOnce old → LieOnce new }
+    ensures below { (c : Change) (numbers : List ℕ) (places : List Place) (old new : TierRuns) (size : ℕ) → AreNumbers (lies_at old) c numbers → IsMapAfter c numbers places old new → IsTidyChange c → LieBelow ((size + (BLOCK - 1)) / BLOCK) old → LieBelow ((length_after c.length size + (BLOCK - 1)) / BLOCK) new }
+    ensures apart { (c : Change) (numbers : List ℕ) (places : List Place) (old new : TierRuns) → AreNumbers (lies_at old) c numbers → IsMapAfter c numbers places old new → AreFresh places (length numbers) old → ((t : Tier) → IsOneToOne (runs_in old t)) → (t : Tier) → IsOneToOne (runs_in new t) }
+    ensures within { (g : Sizes) (c : Change) (numbers : List ℕ) (places : List Place) (old new : TierRuns) → AreNumbers (lies_at old) c numbers → IsMapAfter c numbers places old new → IsTidyChange c → end c.length ≤ MAX_FILE → AreData g places (length numbers) → ((t : Tier) → LiesWithin g (space.Data t) (runs_in old t)) → (t : Tier) → LiesWithin g (space.Data t) (runs_in new t) }
 {}
 
 /// What the blocks of a changed file leave is exactly what some block of it lay in, and none lies in any more.
 pub fn left_places_are_lost()
-    ensures { (c : Change) (numbers : List ℕ) (places : List Place) (old new : TierRuns) (t : Tier) (left : List ℕ) (p : ℕ) → AreNumbers c numbers → IsMapAfter c numbers places old new → AreFresh places (length numbers) old → IsOneToOne (runs_in old t) → AreLeft c old t left → Contains left p ↔ ((k : ℕ) × (lies_at old t k ≡ Some p) × ((j : ℕ) → lies_at new t j ≡ Some p → ⊥)) }
+    ensures { (c : Change) (numbers : List ℕ) (places : List Place) (old new : TierRuns) (t : Tier) (left : List ℕ) (p : ℕ) → AreNumbers (lies_at old) c numbers → IsMapAfter c numbers places old new → AreFresh places (length numbers) old → IsOneToOne (runs_in old t) → AreLeft c old t left → Contains left p ↔ ((k : ℕ) × (lies_at old t k ≡ Some p) × ((j : ℕ) → lies_at new t j ≡ Some p → ⊥)) }
 {}
 
 /// A file whose slot tells its new names and size and whose blocks lie so is written for the change in each store where the bytes of the written blocks stand in their places, and
@@ -52,7 +52,7 @@ pub fn left_places_are_lost()
 pub fn planned_file_is_written()
     ensures { (g : Sizes) (c : Change) (old new : Store) (i : ℕ) (x : Slot) (before after : TierRuns) (numbers : List ℕ) (places : List Place) (bytes : List ℕ)
         → (start_node c.base (inode g old i)).kind ≡ Some kind.File → IsFileSlot (names_after c.names (start_node c.base (inode g old i)).names) (length_after c.length (start_node c.base (inode g old i)).size) x
-        → StartsFrom g old i c.base before → LieOnce before → AreNumbers c numbers → IsMapAfter c numbers places before after → length numbers ≤ length places
+        → StartsFrom g old i c.base before → LieOnce before → AreNumbers (lies_at before) c numbers → IsMapAfter c numbers places before after → length numbers ≤ length places
         → HoldsBlocks c (start_node c.base (inode g old i)).blocks numbers (length numbers) bytes → HasData g c.base old new i places bytes → IsFileWritten g c old new i x after }
 {}
 
@@ -64,7 +64,7 @@ pub fn kept_file_starts_from_its_blocks()
 /// Slot and runs of a planned file keep the limits of the format, where the runs are as the plan tells.
 pub fn planned_file_is_fit()
     ensures { (g : Sizes) (c : Change) (names size : ℕ) (x : Slot) (numbers : List ℕ) (places : List Place) (old new : TierRuns)
-        → fits_slot g x ≡ true → IsFileSlot names (length_after c.length size) x → IsTidyChange c → end c.length ≤ MAX_FILE → AreNumbers c numbers → IsMapAfter c numbers places old new → ((t : Tier) → IsNormal (runs_in new t))
+        → fits_slot g x ≡ true → IsFileSlot names (length_after c.length size) x → IsTidyChange c → end c.length ≤ MAX_FILE → AreNumbers (lies_at old) c numbers → IsMapAfter c numbers places old new → ((t : Tier) → IsNormal (runs_in new t))
         → AreFresh places (length numbers) old → AreData g places (length numbers) → LieOnce old → LieBelow ((size + (BLOCK - 1)) / BLOCK) old → ((t : Tier) → IsOneToOne (runs_in old t)) → ((t : Tier) → LiesWithin g (space.Data t) (runs_in old t)) → IsFit g x new }
 {}
 

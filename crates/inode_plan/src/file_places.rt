@@ -2,7 +2,7 @@
 ghost use Rattle.std.specs.Prelude.{◌≡◌, ◌<◌, ◌≤◌, ◌+◌, ◌^◌, ℕ, length, OnOk, IsTrue};
 ghost use Rattle.area_commit.specs.posix_calls.declared.limits.TheConstants.{MAX_FILE};
 ghost use Rattle.area_commit.specs.block_alloc.Runs.{Rising};
-ghost use Rattle.area_commit.specs.extent_tree.Map.{ArePut};
+ghost use Rattle.area_commit.specs.extent_tree.Map.{ArePut, lies_at};
 ghost use Rattle.area_commit.specs.graph_change.Bytes.{end};
 ghost use Rattle.area_commit.specs.graph_change.Tidy.{IsTidyChange};
 ghost use Rattle.area_commit.specs.graph_change.View.{change_of};
@@ -80,7 +80,7 @@ pub fn change_map(
 ) -> Result<(), AllocError>
     requires tidy { IsTidyChange (change_of change.now) }
     requires bounded { end (change_of change.now).length ≤ MAX_FILE }
-    requires numbers { AreNumbers (change_of change.now) numbers.now }
+    requires numbers { AreNumbers (lies_at map.old) (change_of change.now) numbers.now }
     requires enough { length numbers.now ≤ length places.now }
     requires fit { PlacesFit places.now }
     ensures { OnOk result (IsMapAfter (change_of change.now) numbers.now places.now map.old map.new) }

@@ -47,7 +47,7 @@ pub fn plan_file(
 ) -> Result<FilePlan, AllocError>
     requires tidy { IsTidyChange (change_of change.now) }
     requires bounded { end (change_of change.now).length ≤ MAX_FILE }
-    requires numbers { AreNumbers (change_of change.now) numbers.now }
+    requires numbers { AreNumbers (lies_at map) (change_of change.now) numbers.now }
     requires enough { length numbers.now ≤ length places.now }
     requires fit { PlacesFit places.now }
     requires below { LieBelow FILE_BLOCKS map }

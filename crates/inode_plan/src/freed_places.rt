@@ -70,7 +70,7 @@ pub fn places_left(
 ) -> Result<Vec<Run>, AllocError>
     requires tidy { IsTidyChange (change_of change.now) }
     requires bounded { end (change_of change.now).length ≤ MAX_FILE }
-    requires numbers { AreNumbers (change_of change.now) numbers.now }
+    requires numbers { AreNumbers (lies_at map.now) (change_of change.now) numbers.now }
     requires below { LieBelow FILE_BLOCKS map.now }
     ensures left { IfOk result (λ runs. AreLeft (change_of change.now) map.now tier (blocks_of runs.items)) }
     ensures used { (p : FreeBlocks) → IsOneToOne (runs_in map.now tier) → ((k b : ℕ) → lies_at map.now tier k ≡ Some b → IsInUse p b) → IfOk result (λ runs. AreUsed p runs.items) }

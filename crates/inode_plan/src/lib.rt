@@ -53,7 +53,7 @@ pub use file_plan::{FilePlan, plan_file};
 pub use freed_places::{all_places, places_left};
 pub use list_roots::{places_in, roots_left};
 pub use new_roots::{root_for, slot_for};
-pub use numbers::written_numbers;
+pub use numbers::{cut_alone, written_numbers};
 pub use place_laws::{placed_blocks_are_fit, places_can_be_given};
 pub use place_list::taken_places;
 pub use plan::{DirectoryPlan, plan_directory};

@@ -1,13 +1,19 @@
 // Which blocks of a file are written for a change.
-ghost use Rattle.std.specs.Prelude.{◌≡◌, ◌↔◌, ◌<◌, ◌≤◌, ◌⊎◌, true, ℕ, length, slice_index, IfOk, OnOk, OnErr, IsSome, IfSome, IfNone};
+ghost use Rattle.std.specs.Prelude.{◌≡◌, ◌≢◌, ◌↔◌, ◌<◌, ◌≤◌, ◌⊎◌, true, ℕ, Option, length, slice_index, IfOk, OnOk, OnErr, IsSome, IfSome, IfNone};
 ghost use Rattle.std.specs.List.{Contains};
 ghost use Rattle.std.specs.Ordering.{nat_cmp};
 ghost use Rattle.std.specs.BTreeMap.{get};
-ghost use Rattle.area_commit.specs.graph_change.Change.{cuts_within, writes_block};
+ghost use Rattle.std.specs.FinMap as fin;
+ghost use Rattle.area_commit.specs.tier_device.declared.media.Tier.{Tier};
+ghost use Rattle.area_commit.specs.layout.declared.places.TheConstants.{FILE_BLOCKS};
+ghost use Rattle.area_commit.specs.graph_change.Change.{cuts_within};
 ghost use Rattle.area_commit.specs.graph_change.View.{change_of, new_length};
+ghost use Rattle.area_commit.specs.extent_tree.Map.{lies_at, LieBelow};
+ghost use Rattle.area_commit.specs.InodeChange.{is_mapped, writes_over};
 ghost use Rattle.inode_plan.specs.BlockWrites.{AreNumbers, AreKeys, Rise, HasOneMore};
 
-use area_commit::{BLOCK, BlockChange, NodeChange, NodeLength};
+use crate::file_cut::FILE_BLOCKS;
+use area_commit::{BLOCK, BlockChange, BlockMap, NodeChange, NodeLength};
 use std::alloc::{AllocError, Global};
 use std::collections::BTreeMap;
 
@@ -65,14 +71,64 @@ fn add_number(numbers: &mut Vec<u64>, number: u64) -> Result<(), AllocError>
     Ok(())
 }
 
-/// The numbers of the blocks of a file that are written for a change, rising: those into which bytes are put, and the one within which it is cut. No other block is looked at. It wants
-/// memory only where there is such a block.
-pub fn written_numbers(alloc: Global, change: &NodeChange) -> Result<Vec<u64>, AllocError>
-    ensures numbers { IfOk result (λ written. AreNumbers (change_of change.now) written.items) }
-    ensures memory { OnErr result ((k : ℕ) × (writes_block (change_of change.now) k ≡ true)) }
+/// The block within which a change cuts a file and into which it puts no byte, if there is one: it is written exactly where it lies in some tier.
+pub fn cut_alone(change: &NodeChange) -> Option<u64>
+    ensures some { IfSome result (λ k. (lay : Tier → ℕ → Option ℕ) → writes_over lay (change_of change.now) k ≡ is_mapped lay k) }
+    ensures others { IfSome result (λ k. (lay : Tier → ℕ → Option ℕ) (j : ℕ) → j ≢ k → writes_over lay (change_of change.now) j ≡ fin.contains_key (change_of change.now).patches j) }
+    ensures none { IfNone result ((lay : Tier → ℕ → Option ℕ) (j : ℕ) → writes_over lay (change_of change.now) j ≡ fin.contains_key (change_of change.now).patches j) }
+{
+    let Some(number) = cut_block(change.length) else {
+        return None;
+    };
+    match change.blocks.get(&number) {
+        Some(_) => None,
+        None => Some(number),
+    }
+}
+
+// Whether a block lies in some tier.
+fn is_mapped(map: &BlockMap, number: u64) -> bool
+    requires { LieBelow FILE_BLOCKS map.now }
+    ensures { result ≡ is_mapped (lies_at map.now) number }
+{
+    if FILE_BLOCKS as u64 <= number {
+        return false;
+    }
+    match map.at(number as u32) {
+        Some(_) => true,
+        None => false,
+    }
+}
+
+// The block that is written for no byte that is put into it, if there is one.
+fn cut_in(change: &NodeChange, map: &BlockMap) -> Option<u64>
+    requires { LieBelow FILE_BLOCKS map.now }
+    ensures some { IfSome result (λ k. writes_over (lies_at map.now) (change_of change.now) k ≡ true) }
+    ensures others { IfSome result (λ k. (j : ℕ) → j ≢ k → writes_over (lies_at map.now) (change_of change.now) j ≡ fin.contains_key (change_of change.now).patches j) }
+    ensures none { IfNone result ((j : ℕ) → writes_over (lies_at map.now) (change_of change.now) j ≡ fin.contains_key (change_of change.now).patches j) }
+{
+    let Some(number) = cut_alone(change) else {
+        return None;
+    };
+    if is_mapped(map, number) {
+        return Some(number);
+    }
+    None
+}
+
+/// The numbers of the blocks of a file that are written for a change, rising: those into which bytes are put, and the one within which it is cut, where that one lies in some tier: a hole
+/// reads as zeros wherever it is cut. No other block is looked at. It wants memory only where there is such a block.
+pub fn written_numbers(
+    alloc: Global,
+    change: &NodeChange,
+    map: &BlockMap,
+) -> Result<Vec<u64>, AllocError>
+    requires below { LieBelow FILE_BLOCKS map.now }
+    ensures numbers { IfOk result (λ written. AreNumbers (lies_at map.now) (change_of change.now) written.items) }
+    ensures memory { OnErr result ((k : ℕ) × (writes_over (lies_at map.now) (change_of change.now) k ≡ true)) }
 {
     let mut written = put_numbers(alloc, &change.blocks)?;
-    if let Some(number) = cut_block(change.length) {
+    if let Some(number) = cut_in(change, map) {
         add_number(&mut written, number)?;
     }
     Ok(written)

@@ -31,6 +31,7 @@ use Rattle.digester.proofs.posix_calls_lemmas.Sums.{same_if, there_if}
 use Rattle.digester.specs.change_plan.Next.{HasFewEntries, nodes_for}
 use Rattle.digester.specs.change_plan.BlockDemand.{images_for, AreWritten}
 use Rattle.digester.proofs.shared_area_lemmas.Entries.{no_view}
+use Rattle.digester.proofs.shared_area_lemmas.Writes.{written_each}
 use Rattle.world_invariant.specs.Logs.{IsNameless}
 use Rattle.world_invariant.proofs.Reclaims.{charge_less}
 use Rattle.world_invariant.proofs.Records.{either}
@@ -96,7 +97,7 @@ module _ (i : ℕ) (cs : Changes) (law : Coalesces (effect.Drop i ∷ []) cs) wh
 
   pub none_written : (x : Sizes) (s : Store) (bs : List (ℕ × ℕ)) → AreWritten x s cs bs → length bs ≤ 512
   none_written x s [] are = omega arith
-  none_written x s (b ∷ bs) are = absurd (false≢true (sym (no_block (b.0 == i)) ∙ law.blocks b.0 b.1 are.each.0.1))
+  none_written x s (b ∷ bs) are = absurd (false≢true (sym (no_block (b.0 == i)) ∙ law.blocks b.0 b.1 (written_each x s cs (b ∷ bs) are).0))
     where
       no_block : (t : Bool) → ((t && false) || false) ≡ false
       no_block true = refl

@@ -23,6 +23,7 @@ use Rattle.recovery_laws.specs.digester.coalescer.Within.{images_of}
 use Rattle.recovery_laws.specs.digester.change_plan.Next.{nodes_for}
 use Rattle.std.specs.List.{sum_by}
 use Rattle.recovery_laws.proofs.digester_lemmas.Applied.{fit_images}
+use Rattle.recovery_laws.proofs.shared_area_lemmas.Writes.{written_each}
 use Rattle.recovery_laws.specs.shared_area.area_image.declared.error.AreaError.{AreaError}
 use Rattle.recovery_laws.specs.shared_area.area_image.declared.error.AreaError.TheVariants as area
 use Rattle.recovery_laws.specs.kernel_fs.Reclaim.{OpensReclaimedOrNot, ReclaimsOrStays, StaysOrReclaims}
@@ -313,7 +314,7 @@ module _ (cs : Changes) (law : Coalesces [] cs) where
 
   pub nothing_written : (x : Sizes) (s : Store) (bs : List (ℕ × ℕ)) → AreWritten x s cs bs → length bs ≤ 512
   nothing_written x s [] are = omega arith
-  nothing_written x s (b ∷ bs) are = absurd (false≢true (law.blocks b.0 b.1 are.each.0.1))
+  nothing_written x s (b ∷ bs) are = absurd (false≢true (law.blocks b.0 b.1 (written_each x s cs (b ∷ bs) are).0))
 
 same_images : (cs : Changes) → images_for cs ≡ images_of cs
 same_images cs = ap (λ (f : ℕ × Change → ℕ). sum_by f (fin.entries cs)) (λ t e. each e t)

@@ -86,10 +86,8 @@ returns-in-Err-clause-memory g c is =
       e.0,
       block.1,
       has_here cs e at,
-      record {
-        is_file = subst (λ (d : Change). LeavesFile old.geometry s d e.0) here (carried_back m (λ h t. LeavesFile h t e.1 e.0) old c.nodes.journal call_answer c.nodes.invariant.looks block.0);
-        writes = subst (λ (d : Change). writes_block d block.1 ≡ true) here block.2;
-      },
+      subst (λ (d : Change). LeavesFile old.geometry s d e.0) here (carried_back m (λ h t. LeavesFile h t e.1 e.0) old c.nodes.journal call_answer c.nodes.invariant.looks block.0),
+      subst (λ (d : Change). writes_block d block.1 ≡ true) here block.2,
     )
 
 pub returns-clause-looks : goal.returns-clause-looks

@@ -4,7 +4,7 @@ use Rattle.inode_plan.specs.file_graph.declared.effect.Kind.TheVariants as kind
 use Rattle.inode_plan.specs.graph_change.View.{base_of, change_of}
 use Rattle.inode_plan.specs.layout.Places.{Sizes}
 use Rattle.inode_plan.specs.layout.Slot.{fits_slot}
-use Rattle.inode_plan.specs.extent_tree.Map.{runs_in}
+use Rattle.inode_plan.specs.extent_tree.Map.{runs_in, lies_at}
 use Rattle.inode_plan.specs.extent_tree.declared.map.Place.{Place}
 use Rattle.inode_plan.specs.tree_blocks.After.{start_node}
 use Rattle.inode_plan.specs.area_image.Map.{in_tier}
@@ -12,7 +12,9 @@ use Rattle.inode_plan.specs.area_image.Format.{IsSpelled}
 use Rattle.inode_plan.specs.area_image.Store.{Store, disk, slot_read, logical_block, inode}
 use Rattle.inode_plan.proofs.area_image_lemmas.Looked.{carried, carried_back}
 use Rattle.inode_plan.specs.Bytes.{HoldsBlocks, blocks_from}
+use Rattle.inode_plan.specs.area_commit.InodeChange.{places_from}
 use Rattle.inode_plan.specs.MapChange.{AreData}
+use Rattle.inode_plan.proofs.After.{numbers_as}
 use Rattle.inode_plan.specs.PlannedFile.{pair_of, pairs_of}
 use Rattle.inode_plan.specs.Roots.{roots_wanted}
 use Rattle.change_plan.specs.Part.{IsPart}
@@ -39,7 +41,9 @@ root_placed-requires-clause-short g c t =
     let plan = c.args.written.file.plan in
     let placed = ready.placed in
     let at : AreData old.geometry first (length numbers) = subst (AreData old.geometry first) (length-take-le (length numbers) places ready.few) ready.free.are_data in
-    let within = c.changed_map_is_fit.ensures.within old.geometry (change_of c.args.change.now) numbers first placed.before plan.map ready.numbers placed.map next.tidy next.bounded.length at placed.was.within t in
+    let change = change_of c.args.change.now in
+    let are = numbers_as (places_from old.geometry (disk g.M.Media old) c.args.inode change.base) change numbers ready.numbers (lies_at placed.before) (λ u k. sym (placed.was.starts u k)) in
+    let within = c.changed_map_is_fit.ensures.within old.geometry (change_of c.args.change.now) numbers first placed.before plan.map are placed.map next.tidy next.bounded.length at placed.was.within t in
     few_lists c.args.inode plan.map t (in_tier plan.lists t) (placed.lists t) (c.few_blocks_are_few_runs.ensures.few 256 (runs_in plan.map t) (placed.normal t) (λ k p is. (within k p is).0))
 
 pub push_file-requires : goal.push_file-requires
