@@ -18,5 +18,6 @@ pub use regions::{CountedLogs, LogRest, logs_that_count};
 pub use update_log::{
     Child, Effect, Effects, FaultMedia, Fill, Kind, Media, MediaError, MemMedia, Name, NameMap,
     PlainGraph, REGION_SIZE, ROOT, Record, RecordError, Region, RegionError, SharedBytes, Stage,
-    StopMedia, Tier, Trip, UNIT_BYTES, is_payload, read_payload, read_record, write_record,
+    StopMedia, Tier, TouchedInodes, Trip, UNIT_BYTES, is_payload, read_payload, read_record,
+    write_record,
 };

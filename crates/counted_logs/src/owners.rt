@@ -6,7 +6,7 @@ ghost use Rattle.counted_logs.specs.Owners.{AreAdded, IsClear, IsFirstShared, is
 
 use std::alloc::{AllocError, Global};
 use std::marker::Model;
-use update_log::{Effect, MAX_INODE, Record};
+use update_log::{MAX_INODE, TouchedInodes};
 
 /// An inode that the records of two clients touch.
 #[derive(Clone, Copy, Debug, PartialEq, Eq)]
@@ -50,10 +50,10 @@ impl Owners {
     ///
     /// Refused, with nothing added, are records that touch an inode that another client's do: the answer has the first such inode, in the
     /// order of the records and of their effects, and that client.
-    pub fn add_records(&mut self, client: u32, records: &[Record]) -> Result<(), SharedInode>
+    pub fn add_records(&mut self, client: u32, records: &[TouchedInodes]) -> Result<(), SharedInode>
         ensures owners { OnOk result (AreAdded (owner self.old) (owner self.new) client records.now) }
         ensures clear { IsOk result ↔ IsClear (owner self.old) client records.now }
-        ensures first { IfErr result (λ shared. find (is_foreign (owner self.old) client) (touched_inodes records.now) ≡ Some shared.inode) }
+        ensures first { IfErr result (λ shared. find (is_foreign (owner self.old) client) (concat records.now) ≡ Some shared.inode) }
         ensures holder { IfErr result (λ shared. (owner self.old shared.inode ≡ Some shared.client) × (shared.client ≢ client)) }
         ensures same { OnErr result (self.new ≡ self.old) }
     {
@@ -95,11 +95,11 @@ fn shared_inode(clients: &[Option<u32>], client: u32, inode: u32) -> Option<Shar
 }
 
 // The first inode that effects touch and another client's records do.
-fn first_shared_by(clients: &[Option<u32>], client: u32, effects: &[Effect]) -> Option<SharedInode>
-    ensures { IsFirstShared (owner clients.now) client (touches effects.now) result }
+fn first_of(clients: &[Option<u32>], client: u32, inodes: &[u32]) -> Option<SharedInode>
+    ensures { IsFirstShared (owner clients.now) client inodes.now result }
 {
-    for effect in effects {
-        if let Some(shared) = shared_inode(clients, client, effect.subject()) {
+    for inode in inodes {
+        if let Some(shared) = shared_inode(clients, client, *inode) {
             return Some(shared);
         }
     }
@@ -107,11 +107,11 @@ fn first_shared_by(clients: &[Option<u32>], client: u32, effects: &[Effect]) -> 
 }
 
 // The first inode that records touch and another client's do.
-fn first_shared(clients: &[Option<u32>], client: u32, records: &[Record]) -> Option<SharedInode>
-    ensures { IsFirstShared (owner clients.now) client (touched_inodes records.now) result }
+fn first_shared(clients: &[Option<u32>], client: u32, records: &[TouchedInodes]) -> Option<SharedInode>
+    ensures { IsFirstShared (owner clients.now) client (concat records.now) result }
 {
     for logged in records {
-        if let Some(shared) = first_shared_by(clients, client, logged.effects.as_slice()) {
+        if let Some(shared) = first_of(clients, client, logged.as_slice()) {
             return Some(shared);
         }
     }
@@ -129,21 +129,21 @@ fn own_inode(clients: &mut [Option<u32>], client: u32, inode: u32)
 }
 
 // The inodes that effects touch become the client's.
-fn own_effects(clients: &mut [Option<u32>], client: u32, effects: &[Effect])
+fn own_inodes(clients: &mut [Option<u32>], client: u32, inodes: &[u32])
     requires { length clients.old ≡ MAX_INODE + 1 }
-    ensures { (i : ℕ) → IsInode i → owner clients.new i ≡ with_owner (owner clients.old) client (touches effects.now) i }
+    ensures { (i : ℕ) → IsInode i → owner clients.new i ≡ with_owner (owner clients.old) client inodes.now i }
 {
-    for effect in effects {
-        own_inode(clients, client, effect.subject());
+    for inode in inodes {
+        own_inode(clients, client, *inode);
     }
 }
 
 // The inodes that records touch become the client's.
-fn own_records(clients: &mut [Option<u32>], client: u32, records: &[Record])
+fn own_records(clients: &mut [Option<u32>], client: u32, records: &[TouchedInodes])
     requires { length clients.old ≡ MAX_INODE + 1 }
     ensures { AreAdded (owner clients.old) (owner clients.new) client records.now }
 {
     for logged in records {
-        own_effects(clients, client, logged.effects.as_slice());
+        own_inodes(clients, client, logged.as_slice());
     }
 }

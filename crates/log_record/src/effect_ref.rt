@@ -1,4 +1,5 @@
-ghost use Rattle.std.specs.Prelude.{◌≡◌, if◌then◌else◌};
+ghost use Rattle.std.specs.Prelude.{◌≡◌, [], ◌∷◌, if◌then◌else◌};
+ghost use Rattle.file_graph.specs.Graph.{subjects};
 ghost use Rattle.log_record.specs.Outcome.{Gives, owned_effect};
 ghost use Rattle.log_record.specs.Grammar.{fits, is_write};
 
@@ -59,6 +60,21 @@ impl EffectRef<'_> {
             EffectRef::Size { inode, size } => is_inode(inode) && size <= MAX_FILE,
             EffectRef::Bytes { inode, at, bytes } => is_inode(inode) && is_write(at, bytes.len()),
             EffectRef::Drop { inode } => is_inode(inode),
+        }
+    }
+
+    /// The inode that it changes.
+    pub fn subject(&self) -> u32
+        ensures { subjects (owned_effect self.now) ≡ result ∷ [] }
+    {
+        match *self {
+            EffectRef::Make { inode, .. } => inode,
+            EffectRef::Enter { directory, .. } => directory,
+            EffectRef::Leave { directory, .. } => directory,
+            EffectRef::Names { inode, .. } => inode,
+            EffectRef::Size { inode, .. } => inode,
+            EffectRef::Bytes { inode, .. } => inode,
+            EffectRef::Drop { inode } => inode,
         }
     }
 

@@ -11,6 +11,7 @@ mod laws;
 mod numbers;
 mod record_reads;
 mod record_writes;
+mod touched_inodes;
 
 pub use format::{MAX_EFFECTS, Record, RecordError};
 pub use laws::{
@@ -20,6 +21,7 @@ pub use laws::{
 pub use numbers::record_has_its_numbers;
 pub use record_reads::{is_payload, read_payload, read_record};
 pub use record_writes::{write_behind, write_record};
+pub use touched_inodes::{TouchedInodes, read_touched_inodes};
 
 // Passed on to the crates above, which so need not list those below.
 pub use file_graph::{

@@ -1,4 +1,4 @@
-ghost use Rattle.std.specs.Prelude.{◌≡◌, IfOk, drop, option_map, is_some, true};
+ghost use Rattle.std.specs.Prelude.{◌≡◌, ◌≤◌, IfOk, IfSome, drop, option_map, is_some, true};
 ghost use Rattle.log_record.specs.Outcome.{Gives, owned_effect};
 ghost use Rattle.log_record.specs.Grammar.{Begins, NoneBegins, IsRecord, record_bytes, make_at, enter_at, leave_at, names_at, size_at, bytes_at, dropped_at, fields_at, effect_at, effects_at, header_at, record_at, record_of};
 
@@ -87,7 +87,7 @@ fn drop_of(bytes: &[u8]) -> Option<(EffectRef<'_>, &[u8])>
 
 // The tag of an effect and its fields, whether or not they keep the limits.
 #[tactic(auto, unfolding(crate::specs::Grammar::fields_at))]
-fn fields_of(bytes: &[u8]) -> Option<(EffectRef<'_>, &[u8])>
+pub(crate) fn fields_of(bytes: &[u8]) -> Option<(EffectRef<'_>, &[u8])>
     ensures { option_map (λ x. (owned_effect x.0, x.1.now)) result ≡ fields_at bytes.now }
 {
     let (tag, rest) = byte_of(bytes)?;
@@ -149,8 +149,9 @@ fn skip_effects(count: u8, bytes: &[u8]) -> Option<&[u8]>
 
 // The units and the count of the effects.
 #[tactic(auto, unfolding(crate::specs::Grammar::header_at))]
-fn header_of(bytes: &[u8]) -> Option<((u32, u8), &[u8])>
-    ensures { option_map (λ x. (x.0, x.1.now)) result ≡ header_at bytes.now }
+pub(crate) fn header_of(bytes: &[u8]) -> Option<((u32, u8), &[u8])>
+    ensures is { option_map (λ x. (x.0, x.1.now)) result ≡ header_at bytes.now }
+    ensures few { IfSome result (λ x. x.0.1 ≤ MAX_EFFECTS) }
 {
     let (units, rest) = u32_of(bytes)?;
     let (count, rest) = byte_of(rest)?;

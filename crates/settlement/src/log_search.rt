@@ -19,7 +19,7 @@ ghost use Rattle.settlement.specs.Regions.{HaveRisen, IsOnlyRead, REGIONS, Rests
 
 use crate::error::RecoveryError;
 use recovery_laws::{
-    CLIENTS, CountedLogs, LogRest, Mark, Marks, Media, Owners, Record, Region, RegionError,
+    CLIENTS, CountedLogs, LogRest, Mark, Marks, Media, Owners, Region, RegionError, TouchedInodes,
     counted_records_touch_inodes, logs_that_count, next_free_generation,
     owners_decide_whether_logs_are_apart,
 };
@@ -107,7 +107,7 @@ fn find_next<M: Media>(
 #[derive(Drop)]
 struct ReadRegion {
     name: u64,
-    records: Vec<Record>,
+    records: Vec<TouchedInodes>,
 }
 
 // Reads the region at a place.
@@ -173,8 +173,8 @@ fn find_log(
 fn own_log(
     owners: &mut Owners,
     client: u32,
-    even: &[Record],
-    odd: &[Record],
+    even: &[TouchedInodes],
+    odd: &[TouchedInodes],
     counted: CountedLogs,
 ) -> Result<(), RecoveryError>
     requires touched { TouchInodes (second_part even.now odd.now counted.second) }
@@ -194,7 +194,7 @@ fn own_log(
 }
 
 // The records of a region behind those that are passed over; none of no region.
-fn records_from<'a>(even: &'a [Record], odd: &'a [Record], rest: Option<LogRest>) -> &'a [Record]
+fn records_from<'a>(even: &'a [TouchedInodes], odd: &'a [TouchedInodes], rest: Option<LogRest>) -> &'a [TouchedInodes]
     ensures { result.now ≡ first_part even.now odd.now rest }
 {
     let Some(rest) = rest else {
@@ -207,10 +207,10 @@ fn records_from<'a>(even: &'a [Record], odd: &'a [Record], rest: Option<LogRest>
 
 // The records of a region; none of no region.
 fn records_in_region<'a>(
-    even: &'a [Record],
-    odd: &'a [Record],
+    even: &'a [TouchedInodes],
+    odd: &'a [TouchedInodes],
     region: Option<usize>,
-) -> &'a [Record]
+) -> &'a [TouchedInodes]
     ensures { result.now ≡ second_part even.now odd.now region }
 {
     match region {
@@ -225,7 +225,7 @@ fn own_part(
     owners: &mut Owners,
     client: u32,
     before: usize,
-    part: &[Record],
+    part: &[TouchedInodes],
 ) -> Result<(), RecoveryError>
     ensures clear { OnOk result (IsClear (owner owners.old) client part.now) }
     ensures added { OnOk result (AreAdded (owner owners.old) (owner owners.new) client part.now) }
@@ -243,7 +243,7 @@ fn own_part(
 }
 
 // The place of the first record that touches an inode; their number where none does.
-fn place_of(part: &[Record], inode: u32) -> usize
+fn place_of(part: &[TouchedInodes], inode: u32) -> usize
     ensures within { result ≤ length part.now }
     ensures none_before { is_written inode (take result part.now) ≡ false }
     ensures there { is_written inode part.now ≡ true → is_written inode (take (result + 1) part.now) ≡ true }
@@ -257,14 +257,10 @@ fn place_of(part: &[Record], inode: u32) -> usize
 }
 
 // Whether a record touches an inode.
-fn touches_inode(logged: &Record, inode: u32) -> bool
+fn touches_inode(logged: &TouchedInodes, inode: u32) -> bool
     ensures { result ≡ is_touched inode logged.now }
 {
-    logged
-        .effects
-        .as_slice()
-        .iter()
-        .any(|effect| effect.subject() == inode)
+    logged.as_slice().iter().any(|other| *other == inode)
 }
 
 // The generation that a region's header names.
@@ -284,7 +280,7 @@ fn generation_of<M: Media>(region: &mut Region<M>) -> Result<u64, RecoveryError>
 }
 
 // The records of a region.
-fn records_in<M: Media>(region: &mut Region<M>) -> Result<Vec<Record>, RecoveryError>
+fn records_in<M: Media>(region: &mut Region<M>) -> Result<Vec<TouchedInodes>, RecoveryError>
     requires idle { IsIdle region.old.stage }
     ensures found { IfOk result (λ found. found.items ≡ records (M.seen region.old.media Fast)) }
     ensures same { IsOnlyRead M.Media region.old region.new }
@@ -293,7 +289,7 @@ fn records_in<M: Media>(region: &mut Region<M>) -> Result<Vec<Record>, RecoveryE
 {
     // For the proof: what a stop leaves of the region now.
     region.left_now();
-    match region.records() {
+    match region.touched_inodes() {
         Ok(found) => Ok(found),
         Err(RegionError::DeviceFault) => Err(RecoveryError::DeviceFault),
         Err(_) => Err(RecoveryError::Memory),

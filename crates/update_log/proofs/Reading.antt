@@ -182,7 +182,7 @@ none_at content end within no_record =
     ap (payloads_from 0) (drop_more content end 0 within)
     ∙ cond-false ((get_or content end 0 == 165) && is_whole (drop (end + 1) content)) (payload_of (drop (end + 1) content) ∷ payloads_from (4 + payload_length (drop (end + 1) content)) (drop (end + 1) content)) [] no_record
 
-payloads_skip : (n : ℕ) (xs : List ℕ) → payloads_from n xs ≡ payloads_from 0 (drop n xs)
+pub payloads_skip : (n : ℕ) (xs : List ℕ) → payloads_from n xs ≡ payloads_from 0 (drop n xs)
 payloads_skip zero xs = refl
 payloads_skip (suc n) [] = refl
 payloads_skip (suc n) (x ∷ xs) = payloads_skip n xs

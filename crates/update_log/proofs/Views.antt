@@ -173,6 +173,19 @@ reopened end stage body seen left shut (inr is) size within stands ends rest =
     subst (λ st. FitsItsStage end st body seen left) (sym is)
     (record { size = size; within = omega (arith, within, size); at_stage = record { stands = stands; ends = ends; rest = rest }; record_begun = tt })
 
+-- where nothing is begun the buffer may hold anything
+pub idle_with : (end : ℕ) (stage : Stage) (body body' seen : List ℕ) (left : List ℕ → Type 0) → IsIdle stage → FitsItsStage end stage body seen left → FitsItsStage end stage body' seen left
+idle_with end stage body body' seen left (inl is) sound =
+    let here = subst (λ (st : Stage). FitsItsStage end st body seen left) is sound in
+    subst (λ (st : Stage). FitsItsStage end st body' seen left) (sym is) (record { size = here.size; within = here.within; at_stage = here.at_stage; record_begun = tt })
+idle_with end stage body body' seen left (inr is) sound =
+    let here = subst (λ (st : Stage). FitsItsStage end st body seen left) is sound in
+    subst (λ (st : Stage). FitsItsStage end st body' seen left) (sym is) (record { size = here.size; within = here.within; at_stage = here.at_stage; record_begun = tt })
+
+pub idle_begins_none : (stage : Stage) (payload : List ℕ) → IsIdle stage → begun_in stage payload ≡ None
+idle_begins_none stage payload (inl is) = ap (λ (st : Stage). begun_in st payload) is
+idle_begins_none stage payload (inr is) = ap (λ (st : Stage). begun_in st payload) is
+
 module _ (end : ℕ) (stage : Stage) (body seen : List ℕ) (left : List ℕ → Type 0) (sound : FitsItsStage end stage body seen left) where
   abbrev Either : List ℕ → Type 0
   Either c = WithOrWithout (header (take end seen)) (spelled_records (before_gate (take end seen))) (begun_in stage (payload_in body)) c

@@ -1,5 +1,5 @@
 -- How far an append has come, and what a read and a stop give of the region then.
-use Rattle.std.specs.Prelude.{◌≡◌, ◌≢◌, ◌≤◌, ◌<◌, ◌⊎◌, ◌-◌, ℕ, ◌+◌, List, [], ◌∷◌, ◌++◌, length, take, drop, true}
+use Rattle.std.specs.Prelude.{◌≡◌, ◌≢◌, ◌≤◌, ◌<◌, ◌⊎◌, ◌-◌, ℕ, ◌+◌, List, [], ◌∷◌, ◌++◌, length, take, drop, Bool, true}
 use Rattle.tier_device.specs.Media.{Torn}
 use Rattle.update_log.specs.declared.format.TheConstants.{HEADER, OPEN, REGION_SIZE, GENERATION_SIZE}
 use Rattle.update_log.specs.declared.stage.Stage.{Stage}
@@ -138,6 +138,10 @@ pub record FitsItsStage (end : ℕ) (stage : Stage) (body seen : List ℕ) (left
   pub within : end < REGION_SIZE
   pub at_stage : AtStage stage (take end seen) body seen left
   pub record_begun : HasRecord stage end body
+
+-- a buffer that is said to have what a read gives has it
+abbrev pub HasIfSaid : Bool → List ℕ → List ℕ → Type 0
+HasIfSaid said body seen = said ≡ true → body ≡ seen
 
 -- the stage after a device call that succeeds
 abbrev pub next : Stage → Stage

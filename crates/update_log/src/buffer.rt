@@ -6,6 +6,7 @@ ghost use Rattle.tier_device.specs.Media.{Keeps, Rose};
 ghost use Rattle.log_record.specs.Grammar.{IsRecord, record_bytes};
 ghost use Rattle.update_log.specs.declared.format.TheConstants.{REGION_SIZE};
 ghost use Rattle.update_log.specs.Frames.{behind_gate};
+ghost use Rattle.update_log.specs.Stage.{HasIfSaid};
 
 use crate::format::{CLOSED, REGION_SIZE};
 use byteorder::{ByteOrder, LittleEndian};
@@ -75,6 +76,29 @@ impl Buffer {
             self.read_piece(media, place * PIECE, &mut piece)?;
         }
         Ok(())
+    }
+
+    /// Reads as `read` does, unless it has what a read gives.
+    pub fn read_if_needed<M: Media>(
+        &mut self,
+        media: &mut M,
+        has_content: bool,
+    ) -> Result<(), MediaError>
+        requires size { length (M.seen media.old Fast) ≡ REGION_SIZE }
+        requires said { HasIfSaid has_content self.old (M.seen media.old Fast) }
+        ensures bytes { OnOk result (self.new ≡ M.seen media.old Fast) }
+        ensures seen { (t : Tier) → M.seen media.new t ≡ M.seen media.old t }
+        ensures clock { M.moment media.new ≡ M.moment media.old }
+        ensures past { Keeps (M.moment media.old) (M.moment media.new) (M.left media.old) (M.left media.new) }
+        ensures fault { OnErr result (Rose (M.faults media.old) (M.faults media.new)) }
+        ensures quiet { OnOk result (M.faults media.new ≡ M.faults media.old) }
+        ensures faults { M.faults media.old ≤ M.faults media.new }
+        ensures one_fault { M.faults media.new ≤ M.faults media.old + 1 }
+    {
+        if has_content {
+            return Ok(());
+        }
+        self.read(media)
     }
 
     // Reads as many bytes as a piece has, from a place on, behind those that it has.

@@ -10,10 +10,10 @@ ghost use Rattle.update_log.specs.declared.error.RegionError.TheVariants.{Device
 use crate::error::RegionError;
 use crate::format::{CLOSED, GENERATION_SIZE, HEADER};
 use byteorder::{ByteOrder, LittleEndian};
-use std::alloc::{AllocError, Global};
+use std::alloc::Global;
 use tier_device::{Media, Tier};
 
-/// Bytes of the fast tier behind the header, which is not read, with room for one byte more.
+/// Bytes of the fast tier behind the header, which is not read.
 pub fn read_behind_header<M: Media>(
     alloc: Global,
     media: &mut M,
@@ -30,25 +30,13 @@ pub fn read_behind_header<M: Media>(
     ensures faults { M.faults media.old ≤ M.faults media.new }
     ensures one_fault { M.faults media.new ≤ M.faults media.old + 1 }
 {
-    match zeros_with_room(alloc, len) {
+    match vec![in alloc; 0u8; len] {
         Ok(mut behind) => match media.read(Tier::Fast, HEADER, &mut behind) {
             Ok(()) => Ok(behind),
             Err(_) => Err(RegionError::DeviceFault),
         },
         Err(_) => Err(RegionError::Memory),
     }
-}
-
-// Zeros, with room for one byte more: a gate that is put behind them moves none.
-fn zeros_with_room(alloc: Global, len: usize) -> Result<Vec<u8>, AllocError>
-    ensures { IfOk result (λ zeros. length zeros.items ≡ len) }
-{
-    let Some(size) = len.checked_add(1) else {
-        return Err(AllocError);
-    };
-    let mut zeros = vec![in alloc; 0u8; size]?;
-    zeros.pop();
-    Ok(zeros)
 }
 
 /// The bytes between the header and a gate, and a closed gate.

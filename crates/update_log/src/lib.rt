@@ -28,7 +28,7 @@ pub use stage::{Progress, Stage, WipeProgress};
 pub use log_record::{
     Bytes, Call, Child, DIRECTORY_KIND, DecideError, Effect, Errno, FileGraphEffects as Effects,
     Flags, Kind, MAX_CLIENTS, MAX_INODE, MAX_TRANSFER, Name, NameMap, Path, PlainGraph, ROOT,
-    Record, RecordError, Reply, SharedBytes, UNIT_BYTES, client_index, is_payload, read_payload,
-    read_record, u32_of, write_record,
+    Record, RecordError, Reply, SharedBytes, TouchedInodes, UNIT_BYTES, client_index, is_payload,
+    read_payload, read_record, u32_of, write_record,
 };
 pub use tier_device::{FaultMedia, Fill, Media, MediaError, MemMedia, StopMedia, Tier, Trip};

@@ -1,5 +1,6 @@
-ghost use Rattle.std.specs.Prelude.{◌≡◌, ◌≢◌, ◌≤◌, ◌<◌, ◌+◌, ◌⊎◌, ℕ, List, [], length, IfOk, IfErr, IfSome, IfNone, IsErrOf, IsTrue, ◌↔◌, OnOk, OnErr, Some, None, get_or};
+ghost use Rattle.std.specs.Prelude.{◌≡◌, ◌≢◌, ◌≤◌, ◌<◌, ◌+◌, ◌⊎◌, ℕ, List, [], length, IfOk, IfErr, IfSome, IfNone, IsErrOf, IsTrue, ◌↔◌, OnOk, OnErr, Some, None, get_or, map};
 ghost use Rattle.log_record.specs.Grammar.{IsRecord, record_bytes};
+ghost use Rattle.log_record.specs.Touches.{inodes_of};
 ghost use Rattle.tier_device.specs.declared.media.Tier.{Tier};
 ghost use Rattle.tier_device.specs.declared.media.Tier.TheVariants.{Fast};
 ghost use Rattle.tier_device.specs.Media.{Keeps, Puts, Rose};
@@ -18,10 +19,10 @@ use crate::error::RegionError;
 use crate::format::{HEADER, REGION_SIZE};
 use crate::front::{read_before_gate, read_generation};
 use crate::laws::records_are_as_long;
-use crate::scan::{end_of, records_in, stage_at};
+use crate::scan::{end_of, records_in, stage_at, touched_inodes_in};
 use crate::stage::{Progress, Stage, WipeProgress};
 use crate::wipe::wipe_call;
-use log_record::{Record, written_is_read};
+use log_record::{Record, TouchedInodes, written_is_read};
 use std::alloc::Global;
 use std::marker::Model;
 use tier_device::{Media, Tier};
@@ -38,6 +39,8 @@ pub struct Region<M: Media> {
     end: usize,
     stage: Stage,
     body: Buffer,
+    // Whether the buffer has what a read gives.
+    has_content: bool,
 }
 
 impl<M: Media> Model for Region<M> {
@@ -46,11 +49,11 @@ impl<M: Media> Model for Region<M> {
 
     ghost Value = { RegionView M };
 
-    ghost use Rattle.update_log.specs.Stage.{FitsItsStage, payload_in};
+    ghost use Rattle.update_log.specs.Stage.{FitsItsStage, HasIfSaid, payload_in};
 
     ghost view = { λ r. record { media = r.media; end = r.end; stage = r.stage; begun = begun_in r.stage (payload_in r.body) } };
 
-    ghost invariant = { λ r. FitsItsStage r.end r.stage r.body (M.seen r.media Fast) (M.left r.media (M.moment r.media) Fast) };
+    ghost invariant = { λ r. FitsItsStage r.end r.stage r.body (M.seen r.media Fast) (M.left r.media (M.moment r.media) Fast) × HasIfSaid r.has_content r.body (M.seen r.media Fast) };
 }
 
 impl<M: Media> Region<M> {
@@ -142,6 +145,7 @@ impl<M: Media> Region<M> {
                     end,
                     stage,
                     body,
+                    has_content: true,
                 })
             }
             Err(_) => Err((RegionError::DeviceFault, media)),
@@ -170,6 +174,7 @@ impl<M: Media> Region<M> {
         if left < 6 || left - 6 < len {
             return Err(RegionError::RegionFull);
         }
+        self.has_content = false;
         self.body.put(logged);
         self.stage = Stage::Begun;
         Ok(())
@@ -210,6 +215,7 @@ impl<M: Media> Region<M> {
         ensures faults { (M.faults self.old.media ≤ M.faults self.new.media) × (M.faults self.new.media ≤ M.faults self.old.media + 1) }
     {
         let stage = self.stage;
+        self.has_content = false;
         match device_call(&mut self.media, stage, self.end, self.body.as_slice()) {
             Ok(()) => {
                 self.end = end_after(stage, self.end, self.body.as_slice());
@@ -325,6 +331,7 @@ impl<M: Media> Region<M> {
     {
         // Behind the header then stands a record, so that the first gate is open.
         let is_open = self.end > HEADER;
+        self.has_content = false;
         match wipe_call(&mut self.media, self.stage, is_open, generation) {
             Ok(to) => {
                 self.end = HEADER;
@@ -358,6 +365,35 @@ impl<M: Media> Region<M> {
                 Err(_) => Err(RegionError::Memory),
             },
             Err(error) => Err(error),
+        }
+    }
+
+    /// The inodes that each of the records touches that are appended, in their order. Nothing may be begun. It takes no memory for names and bytes,
+    /// and changes nothing: it looks at what the opening read, or reads the medium where a record was begun or the region wiped since.
+    pub fn touched_inodes(&mut self) -> Result<Vec<TouchedInodes>, RegionError>
+        requires idle { IsIdle self.old.stage }
+        ensures found { IfOk result (λ found. found.items ≡ map inodes_of (records_of M.Media self.old)) }
+        ensures same { (self.new.end ≡ self.old.end) × (self.new.stage ≡ self.old.stage) × (begun_of self.new ≡ begun_of self.old) }
+        ensures seen { (t : Tier) → M.seen self.new.media t ≡ M.seen self.old.media t }
+        ensures clock { M.moment self.new.media ≡ M.moment self.old.media }
+        ensures past { Keeps (M.moment self.old.media) (M.moment self.new.media) (M.left self.old.media) (M.left self.new.media) }
+        ensures only { IfErr result (λ e. (e ≡ DeviceFault) ⊎ (e ≡ Memory)) }
+        ensures fault { IsErrOf result DeviceFault → Rose (M.faults self.old.media) (M.faults self.new.media) }
+        ensures quiet { IsErrOf result DeviceFault ⊎ (M.faults self.new.media ≡ M.faults self.old.media) }
+        ensures faults { M.faults self.old.media ≤ M.faults self.new.media }
+        ensures one_fault { M.faults self.new.media ≤ M.faults self.old.media + 1 }
+    {
+        let has_content = self.has_content;
+        self.has_content = false;
+        match self.body.read_if_needed(&mut self.media, has_content) {
+            Ok(()) => {
+                self.has_content = true;
+                match touched_inodes_in(self.alloc, self.body.as_slice()) {
+                    Ok(found) => Ok(found),
+                    Err(_) => Err(RegionError::Memory),
+                }
+            }
+            Err(_) => Err(RegionError::DeviceFault),
         }
     }
 

@@ -1,6 +1,7 @@
 // Where the records of a region end.
-ghost use Rattle.std.specs.Prelude.{◌≡◌, ◌≢◌, ◌⊎◌, ◌≤◌, ◌<◌, ◌+◌, [], length, take, drop, get_or, false, true, IfOk, IfSome, IfNone};
+ghost use Rattle.std.specs.Prelude.{◌≡◌, ◌≢◌, ◌⊎◌, ◌≤◌, ◌<◌, ◌+◌, [], length, take, drop, get_or, map, option_map, Some, false, true, IfOk, IfSome, IfNone};
 ghost use Rattle.log_record.specs.Grammar.{record_of};
+ghost use Rattle.log_record.specs.Touches.{inodes_of};
 ghost use Rattle.update_log.specs.Frames.{payloads, payloads_from, is_whole, before_gate, records, spelled_records, end_behind, is_payload as is_payload_of};
 ghost use Rattle.update_log.specs.Scan.{IsRecordAt, IsPayloadBehind};
 ghost use Rattle.update_log.specs.declared.stage.Stage.TheVariants.{Resting, Foreign};
@@ -11,7 +12,9 @@ use crate::format::{HEADER, OPEN};
 use crate::laws::records_are_as_long;
 use crate::stage::Stage;
 use byteorder::{ByteOrder, LittleEndian};
-use log_record::{Record, RecordError, is_payload, read_payload};
+use log_record::{
+    Record, RecordError, TouchedInodes, is_payload, read_payload, read_touched_inodes,
+};
 use std::alloc::{AllocError, Global};
 
 /// The place of the gate behind the last record of a content.
@@ -43,6 +46,31 @@ pub fn records_in(alloc: Global, content: &[u8]) -> Result<Vec<Record>, AllocErr
         end += 5 + payload.len();
     }
     Ok(found)
+}
+
+/// The inodes that each of the records touches which stand behind the header of a content.
+pub fn touched_inodes_in(alloc: Global, content: &[u8]) -> Result<Vec<TouchedInodes>, AllocError>
+    requires { 16 < length content.now }
+    ensures { IfOk result (λ found. found.items ≡ map inodes_of (records content.now)) }
+{
+    let mut found = Vec::new(alloc);
+    let mut end = HEADER;
+    'records: while let Some(payload) = payload_at(content, end) {
+        found.push(touched_inodes_of(payload))?;
+        end += 5 + payload.len();
+    }
+    Ok(found)
+}
+
+// The inodes that the record of a payload touches.
+fn touched_inodes_of(payload: &[u8]) -> TouchedInodes
+    requires { is_payload_of payload.now ≡ true }
+    ensures { Some result ≡ option_map inodes_of (record_of payload.now) }
+{
+    match read_touched_inodes(payload) {
+        Some(inodes) => inodes,
+        None => unreachable!(),
+    }
 }
 
 // The record that a payload spells.

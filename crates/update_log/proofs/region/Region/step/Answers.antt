@@ -19,7 +19,7 @@ returns-in-Ok-clause-any_moment g c =
     let left : List ℕ → Type 0 = λ e. m.left s.media (m.moment s.media) Fast e in
     let appending = subst (λ (v : RegionView _). IsAppending v.stage) (sym c.self.view_is) c.requires in
     let shows = λ (e : List ℕ) (b : BeforeOrAfter (take s.end seen) (payload_in c.as_slice.result.now) e).
-    shows_either s.end s.stage s.body seen left c.self.invariant (begun_appending s.stage (payload_in s.body) appending) e (subst (λ (bs : List ℕ). BeforeOrAfter (take s.end seen) (payload_in bs) e) c.as_slice.ensures b) in
+    shows_either s.end s.stage s.body seen left c.self.invariant.0 (begun_appending s.stage (payload_in s.body) appending) e (subst (λ (bs : List ℕ). BeforeOrAfter (take s.end seen) (payload_in bs) e) c.as_slice.ensures b) in
     subst (λ (v : RegionView _). (e : List ℕ) → LeftSince (m.left c.device_call.new.media) (m.moment c.device_call.new.media) (m.moment v.media) Fast e → WithOrWithout (header_of m v) (records_of m v) (begun_of v) e)
     c.self.view_is (since_one _ _ _ _ _ d.past (λ e l. shows e (d.before e l)) (λ e l. shows e (d.after e l)))
 
@@ -32,7 +32,7 @@ returns-in-Err-clause-any_moment g c =
     let left : List ℕ → Type 0 = λ e. m.left s.media (m.moment s.media) Fast e in
     let appending = subst (λ (v : RegionView _). IsAppending v.stage) (sym c.self.view_is) c.requires in
     let shows = λ (e : List ℕ) (b : BeforeOrAfter (take s.end seen) (payload_in c.as_slice.result.now) e).
-    shows_either s.end s.stage s.body seen left c.self.invariant (begun_appending s.stage (payload_in s.body) appending) e (subst (λ (bs : List ℕ). BeforeOrAfter (take s.end seen) (payload_in bs) e) c.as_slice.ensures b) in
+    shows_either s.end s.stage s.body seen left c.self.invariant.0 (begun_appending s.stage (payload_in s.body) appending) e (subst (λ (bs : List ℕ). BeforeOrAfter (take s.end seen) (payload_in bs) e) c.as_slice.ensures b) in
     subst (λ (v : RegionView _). (e : List ℕ) → LeftSince (m.left c.device_call.new.media) (m.moment c.device_call.new.media) (m.moment v.media) Fast e → WithOrWithout (header_of m v) (records_of m v) (begun_of v) e)
     c.self.view_is (since_one _ _ _ _ _ d.past (λ e l. shows e (d.before e l)) (λ e l. shows e (d.after e l)))
 
@@ -65,7 +65,7 @@ returns-in-Ok-clause-seen g c =
     let new = m.seen c.device_call.new.media in
     let payload = payload_in s.body in
     let appending = subst (λ (v : RegionView _). IsAppending v.stage) (sym c.self.view_is) c.requires in
-    let whole = whole_at s.stage s.end s.body appending c.self.invariant.record_begun in
+    let whole = whole_at s.stage s.end s.body appending c.self.invariant.0.record_begun in
     let shows : Puts Fast (seen_after s.stage s.end (behind_gate payload) (old Fast)) old new =
     subst (λ (bs : List ℕ). Puts Fast (seen_after s.stage s.end bs (old Fast)) old new) (c.as_slice.ensures ∙ whole.bytes) c.in-Ok.ensures.seen in
     subst (λ (v : RegionView _). ShowsCall v.stage v.end (begun_of v) (m.seen v.media) new) c.self.view_is (record { payload = payload; spells = sym (begun_appending s.stage payload appending); shows = shows })
