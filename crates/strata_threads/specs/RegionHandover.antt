@@ -28,6 +28,11 @@ module _ {M : Type 0} (device : Ghosts M) where
   abbrev pub HasReceived : ClientView M → EndView (SealedRegionView M) → SealedRegionView M → ClientView M → EndView (SealedRegionView M) → Option (SealedRegionView M) → Type 0
   HasReceived old tasks x new after kept = (MayTakeBack device old x × HasTakenBack device old x new × (after ≡ tasks) × (kept ≡ None)) ⊎ ((MayTakeBack device old x → ⊥) × (new ≡ old) × HasSentOrKept tasks x after kept)
 
+  -- It took the first region of the queue back to it, and got that; or that queue was empty at one moment, and nothing has changed.
+  abbrev pub HasLookedForRegion : ClientView M → EndView (SealedRegionView M) → EndView (SealedRegionView M) → ClientView M → EndView (SealedRegionView M) → EndView (SealedRegionView M) → Option (SealedRegionView M) → Type 0
+  HasLookedForRegion old tasks returns new after back kept = (Held 0 (EndsLine returns.hands) × (back.hands ≡ returns.hands) × (new ≡ old) × (after ≡ tasks) × (kept ≡ None))
+      ⊎ ((x : SealedRegionView M) × HasTaken returns.hands x back.hands × HasReceived old tasks x new after kept)
+
   -- A client handed its current region over: it was sealed, and sent to the workers or kept.
   abbrev pub HasHandedOver : ClientView M → EndView (SealedRegionView M) → ClientView M → EndView (SealedRegionView M) → Option (SealedRegionView M) → Type 0
   HasHandedOver old tasks new after kept = (x : SealedRegionView M) × HasSealed device old x new × HasSentOrKept tasks x after kept
