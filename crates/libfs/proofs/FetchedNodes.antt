@@ -197,7 +197,7 @@ module _ {M S : Type 0} (device : Ghosts M) (shared : Ghosts S) (k : KernelView 
       rest = b.rest ∙ ap (λ (v : ClientView M). record v { copies = record v.copies { blocks = new.copies.blocks } }) a.rest;
     }
 
-    pub has_more : first + n < 4294967296 → HasThem device shared k old i first n mid → HasThem device shared then' mid i (first + n) 1 new → HasThem device shared k old i first (n + more) new
+    pub has_more : first + n < 4294967296 → HasThem device shared k old i first n mid → HasThem device shared then' mid i (first + n) more new → HasThem device shared k old i first (n + more) new
     has_more bound had has' = λ few x w mark low high is told its. elim (dec_le (first + n) x) [
       | yes last ↦
           let known_then : IsBlockLong (known_to mid) i x w = long_then x w its in

@@ -1,14 +1,15 @@
 -- Runs of blocks that a client fetches: read, laid over by its own records, and kept one after the other.
-use Rattle.std.proofs.Common.{◌≡◌, ◌≢◌, ◌⊎◌, inl, inr, ◌<◌, ◌≤◌, ℕ, zero, suc, ◌+◌, ◌*◌, Bool, false, List, [], ◌∷◌, ◌++◌, length, min, drop, get_or, Option, Some, None, refl, ap, sym, ◌∙◌, subst, arith}
-use Rattle.std.specs.Prelude.{Result, Ok, Err, OnOk, OnErr}
+use Rattle.std.proofs.Common.{◌≡◌, ◌≢◌, ◌⊎◌, inl, inr, ◌<◌, ◌≤◌, ℕ, zero, suc, ◌+◌, ◌*◌, Bool, false, List, [], ◌∷◌, ◌++◌, length, min, take, drop, get_or, Option, Some, None, refl, ap, sym, ◌∙◌, subst, arith}
+use Rattle.std.specs.Prelude.{Result, Ok, Err, OnOk, OnErr, IfNone, IfSome}
 use Rattle.std.proofs.lemmas.Bool.Decides.{eqb_tells}
 use Rattle.std.proofs.lemmas.Bool.{cases_lt}
-use Rattle.std.proofs.lemmas.List.{get_or_past, length-take}
+use Rattle.std.proofs.lemmas.List.{get_or_past, length-take, take-append-le, take_all}
 use Rattle.client_log.specs.tier_device.declared.media.Media.{Ghosts}
 use Rattle.lease_manager.specs.log_record.declared.format.Record.{Record}
 use Rattle.lease_manager.specs.Passes.{client_of}
 use Rattle.kernel_fs.specs.layout.declared.marks.Mark.{Mark}
-use Rattle.kernel_fs.specs.area_image.Store.{disk}
+use Rattle.kernel_fs.specs.layout.Places.{Sizes}
+use Rattle.kernel_fs.specs.area_image.Store.{disk, graph}
 use Rattle.kernel_fs.specs.KernelView.{KernelView}
 use Rattle.kernel_fs.specs.MachineState.{IsMarkIn}
 use Rattle.client_log.specs.call_effects.Blocks.{block_of}
@@ -21,6 +22,10 @@ use Rattle.libfs.specs.View.{ClientView}
 use Rattle.libfs.specs.NeedService.{HasFetchedBlocks, HasPutLaid, HasThem, IsRunBehind, IsRunOf, block_behind, records_behind, shared_by}
 use Rattle.libfs.proofs.FetchedNodes.{has_more, has_one, more_came, none_came, none_told, one_mark, put_or_not}
 use Rattle.libfs.proofs.OwnRecords.{TouchNone}
+
+-- a list that was lent whole and is back
+pub lent_back : {X : Type 0} (len : ℕ) (out items : List X) → len ≡ length out → take len (out ++ drop (length out) items) ≡ out
+lent_back len out items all = take-append-le len out (drop (length out) items) (omega (arith, all)) ∙ take_all len out (omega (arith, all))
 
 -- ---- a run as it is read
 
@@ -73,18 +78,32 @@ run_stays [] i first run none = refl
 run_stays (r ∷ rs) i first run none = ap (run_laid rs i first) (stays_after r i first run rs none) ∙ run_stays rs i first run none.1
 
 module _ {M S : Type 0} (device : Ghosts M) (shared : Ghosts S) (k : KernelView S) where
-  pub run_behind : (v : ClientView M) (i first count : ℕ) (mark : Mark) (run new : List (Option (List ℕ))) → IsMarkIn (disk shared k.area) (client_of v.pass) mark → IsRunOf (bytes_at (shared_by shared k) i) first count run
-      → new ≡ run_laid (records_behind device v mark) i first run → IsRunBehind device shared k v i first count new
-  run_behind v i first count mark run new its is laid = subst (IsRunBehind device shared k v i first count) (sym laid) (record {
-    long = laid_length (records_behind device v mark) i first run ∙ is.long;
-    told = λ asked asks n low.
-        laid_at (records_behind device v mark) i first run n (omega (arith, low, is.long))
-        ∙ ap (block_laid (records_behind device v mark) i (first + n)) (is.told n low)
-        ∙ ap (λ (m : Mark). block_laid (records_behind device v m) i (first + n) (Some (block_of (first + n) (bytes_at (shared_by shared k) i)))) (one_mark (disk shared k.area) (client_of v.pass) mark asked its asks);
-  })
+  pub shared_same : (then' : KernelView S) → disk shared then'.area ≡ disk shared k.area → then'.area.geometry ≡ k.area.geometry → shared_by shared then' ≡ shared_by shared k
+  shared_same then' stores geometry = ap (λ (g : Sizes). graph g (disk shared then'.area)) geometry ∙ ap (graph k.area.geometry) stores
 
-  pub none_behind : (v : ClientView M) (i first count : ℕ) (run : List (Option (List ℕ))) → length run ≡ count → count ≡ 0 → IsRunBehind device shared k v i first count run
-  none_behind v i first count run long none = record { long = long; told = λ mark is n low. absurd (omega (arith, low, none)) }
+  pub run_behind : (v : ClientView M) (i first count : ℕ) (found : Option Mark) (run new : List (Option (List ℕ))) → IsRunOf (bytes_at (shared_by shared k) i) first count run
+      → (0 < count → (mark : Mark) × (found ≡ Some mark) × IsMarkIn (disk shared k.area) (client_of v.pass) mark)
+      → IfSome found (λ m. new ≡ run_laid (records_behind device v m) i first run) → IfNone found (new ≡ run) → IsRunBehind device shared k v i first count new
+  run_behind v i first count (Some m) run new is marks laid none = record {
+    long = ap (λ (xs : List (Option (List ℕ))). length xs) laid ∙ laid_length (records_behind device v m) i first run ∙ is.long;
+    told = λ asked asks n low.
+        let its = marks (omega (arith, low)) in
+        let same : m ≡ its.0 = one_of its.1 in
+        ap (λ (xs : List (Option (List ℕ))). get_or xs n None) laid
+        ∙ laid_at (records_behind device v m) i first run n (omega (arith, low, is.long))
+        ∙ ap (block_laid (records_behind device v m) i (first + n)) (is.told n low)
+        ∙ ap (λ (a : Mark). block_laid (records_behind device v a) i (first + n) (Some (block_of (first + n) (bytes_at (shared_by shared k) i)))) (same ∙ one_mark (disk shared k.area) (client_of v.pass) its.0 asked its.2 asks);
+  }
+    where
+      one_of : {x y : Mark} → ◌≡◌ {A = Option Mark} (Some x) (Some y) → x ≡ y
+      one_of both = cc
+  run_behind v i first count None run new is marks laid none = record {
+    long = ap (λ (xs : List (Option (List ℕ))). length xs) none ∙ is.long;
+    told = λ asked asks n low. let its = marks (omega (arith, low)) in absurd (no_mark its.1);
+  }
+    where
+      no_mark : {y : Mark} → ◌≡◌ {A = Option Mark} None (Some y) → ⊥
+      no_mark clash = cc
 
   -- ---- kept one after the other
 
@@ -99,19 +118,19 @@ module _ {M S : Type 0} (device : Ghosts M) (shared : Ghosts S) (k : KernelView 
   there mid i b (Some bytes) low laid new put = has_one device shared k mid i b bytes low laid new put
   there mid i b None low laid new put = none_told device shared k mid i new b laid
 
-  module _ (old mid new : ClientView M) (i first count n : ℕ) (run : List (Option (List ℕ))) (d : Option (List ℕ)) (r : Result (Unit {0}) Denied) (inside : n < count) (bound : first + count < 4294967296) (is : IsRunBehind device shared k old i first count run)
-    (a : HasFetchedBlocks device shared k old i first n mid) (put : OnOk r (HasPutLaid mid i (first + n) (get_or run n d) new)) (same : OnErr r (new ≡ mid)) where
-    laid_then : (mark : Mark) → IsMarkIn (disk shared k.area) (client_of mid.pass) mark → get_or run n d ≡ block_behind device shared k mid mark i (first + n)
+  module _ (old mid new : ClientView M) (i first count n : ℕ) (run : List (Option (List ℕ))) (x : Option (List ℕ)) (at : x ≡ get_or run n x) (r : Result (Unit {0}) Denied) (inside : n < count) (bound : first + count < 4294967296) (is : IsRunBehind device shared k old i first count run)
+      (a : HasFetchedBlocks device shared k old i first n mid) (put : OnOk r (HasPutLaid mid i (first + n) x new)) (same : OnErr r (new ≡ mid)) where
+    laid_then : (mark : Mark) → IsMarkIn (disk shared k.area) (client_of mid.pass) mark → x ≡ block_behind device shared k mid mark i (first + n)
     laid_then mark its =
-        same_read run n d None (omega (arith, inside, is.long))
+        at ∙ same_read run n x None (omega (arith, inside, is.long))
         ∙ is.told mark (subst (λ (c : ℕ). IsMarkIn (disk shared k.area) c mark) (ap (λ (v : ClientView M). client_of v.pass) a.rest) its) n inside
         ∙ sym (ap (λ (v : ClientView M). block_laid (records_behind device v mark) i (first + n) (Some (block_of (first + n) (bytes_at (shared_by shared k) i)))) a.rest)
 
     one : HasFetchedBlocks device shared k mid i (first + n) 1 new
-    one = came mid i (first + n) (get_or run n d) (omega (arith, inside, bound)) laid_then r new put same
+    one = came mid i (first + n) x (omega (arith, inside, bound)) laid_then r new put same
 
     pub put_more : HasFetchedBlocks device shared k old i first (n + 1) new
     put_more = more_came device shared k old i first n 1 k mid new a one refl refl
 
-    pub has_put : HasThem device shared k old i first n mid → HasPutLaid mid i (first + n) (get_or run n d) new → HasThem device shared k old i first (n + 1) new
-    has_put had is_put = has_more device shared k old i first n 1 k mid new a one refl refl (omega (arith, inside, bound)) had (there mid i (first + n) (get_or run n d) (omega (arith, inside, bound)) laid_then new is_put)
+    pub has_put : HasThem device shared k old i first n mid → HasPutLaid mid i (first + n) x new → HasThem device shared k old i first (n + 1) new
+    has_put had is_put = has_more device shared k old i first n 1 k mid new a one refl refl (omega (arith, inside, bound)) had (there mid i (first + n) x (omega (arith, inside, bound)) laid_then new is_put)

@@ -1,5 +1,5 @@
 //! Blocks of files that a client fetches of the shared graph, with its own records laid over them.
-ghost use Rattle.std.specs.Prelude.{◌≡◌, ◌≢◌, ◌⊎◌, ◌≤◌, ◌<◌, ◌+◌, ◌-◌, ◌*◌, ◌^◌, ◌↔◌, ◌++◌, ◌∷◌, [], ℕ, List, length, min, true, false, Some, Err, OnOk, OnErr, IfOk, IfErr, IsTrue, IsErrOf};
+ghost use Rattle.std.specs.Prelude.{◌≡◌, ◌≢◌, ◌⊎◌, ◌≤◌, ◌<◌, ◌+◌, ◌-◌, ◌*◌, ◌^◌, ◌↔◌, ◌++◌, ◌∷◌, [], ℕ, List, length, min, true, false, Some, Err, OnOk, OnErr, IfOk, IfErr, IfNone, IfSome, IsTrue, IsErrOf};
 ghost use Rattle.lease_manager.specs.posix_calls.declared.limits.TheConstants.{UNIT_BYTES};
 ghost use Rattle.kernel_fs.specs.layout.declared.marks.Mark.{Mark};
 ghost use Rattle.lease_manager.specs.Passes.{client_of, lease_of};
@@ -117,9 +117,7 @@ impl<M: Media> Client<M> {
     {
         let mut run = Vec::new(self.alloc);
         let mark = self.read_run(kernel, inode, first, count, &mut run)?;
-        if let Some(mark) = mark {
-            self.lay_own(mark, inode, first, &mut run);
-        }
+        self.lay_marked(mark, inode, first, &mut run);
         Ok(run)
     }
 
@@ -169,6 +167,19 @@ impl<M: Media> Client<M> {
         match kernel.blocks(self.pass.client(), inode, block, &mut buffer) {
             Ok(found) => Ok((FetchedBlock::of(buffer, found.count), found.mark)),
             Err(error) => Err(area_denied(error)),
+        }
+    }
+
+    // Lays the own records behind a mark, if there is one, over a run of blocks.
+    fn lay_marked(&self, mark: Option<Mark>, inode: u32, first: u32, run: &mut [FetchedBlock])
+        requires blocks { first + length run.old ≤ 2 ^ 32 }
+        requires short { AreShort run.old }
+        ensures laid { IfSome mark (λ m. run.new ≡ run_laid (records_behind M.Media self.now m) inode first run.old) }
+        ensures none { IfNone mark (run.new ≡ run.old) }
+    {
+        match mark {
+            Some(mark) => self.lay_own(mark, inode, first, run),
+            None => {}
         }
     }
 
