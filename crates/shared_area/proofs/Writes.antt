@@ -1,7 +1,7 @@
 -- The blocks that a change writes.
 use Rattle.std.proofs.Common.{◌≡◌, ℕ, List, [], ◌∷◌, true, Some}
 use Rattle.std.specs.List.{AllByRecursion}
-use Rattle.change_plan.specs.file_graph.declared.effect.Kind.TheVariants as kind
+use Rattle.record_validation.specs.file_graph.declared.effect.Kind.TheVariants as kind
 use Rattle.change_plan.specs.graph_change.Change.{Changes, change_at, writes_block}
 use Rattle.change_plan.specs.layout.Places.{Sizes}
 use Rattle.change_plan.specs.tree_blocks.After.{start_node}
