@@ -107,7 +107,11 @@ fn first_of(clients: &[Option<u32>], client: u32, inodes: &[u32]) -> Option<Shar
 }
 
 // The first inode that records touch and another client's do.
-fn first_shared(clients: &[Option<u32>], client: u32, records: &[TouchedInodes]) -> Option<SharedInode>
+fn first_shared(
+    clients: &[Option<u32>],
+    client: u32,
+    records: &[TouchedInodes],
+) -> Option<SharedInode>
     ensures { IsFirstShared (owner clients.now) client (listed records.now) result }
 {
     for logged in records {

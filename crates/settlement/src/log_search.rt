@@ -283,9 +283,7 @@ fn generation_of<M: Media>(region: &mut Region<M>) -> Result<u64, RecoveryError>
 }
 
 // The inodes that each of a region's records touches.
-fn touched_inodes_in<M: Media>(
-    region: &mut Region<M>,
-) -> Result<Vec<TouchedInodes>, RecoveryError>
+fn touched_inodes_in<M: Media>(region: &mut Region<M>) -> Result<Vec<TouchedInodes>, RecoveryError>
     requires idle { IsIdle region.old.stage }
     ensures found { IfOk result (λ found. AreTouchedBy (records (M.seen region.old.media Fast)) found.items) }
     ensures same { IsOnlyRead M.Media region.old region.new }

@@ -13,6 +13,6 @@ returns-in-Err-clause-first c =
       k,
       (λ low. ap (BadLog c.args.client) (omega (arith, low, c.saturating_add.ensures))),
       (λ rs are. first_foreign (owner c.args.owners.now) c.args.client rs k i (c.in-Err.ensures.first rs are)
-      (first_written i rs c.args.part.now are k ∙ e.none_before)
-      (λ some. first_written i rs c.args.part.now are (k + 1) ∙ e.there (sym (written_is_listed i rs c.args.part.now are) ∙ some))),
+          (first_written i rs c.args.part.now are k ∙ e.none_before)
+          (λ some. first_written i rs c.args.part.now are (k + 1) ∙ e.there (sym (written_is_listed i rs c.args.part.now are) ∙ some))),
     )
