@@ -1,21 +1,30 @@
 -- What is found in a table of owners, and what is put into it.
 use Rattle.std.proofs.Common.{◌≡◌, inl, inr, ℕ, zero, suc, ◌+◌, ◌<◌, Bool, true, false, eqb, cond, ◌||◌, List, [], ◌∷◌, ◌++◌, length, drop, get_or, replicate, Option, Some, None, refl, sym, ap, subst, ◌∙◌}
-use Rattle.std.specs.Prelude.{find}
+use Rattle.std.specs.Prelude.{find, map}
 use Rattle.std.specs.List.{flat_map}
 use Rattle.std.proofs.lemmas.Bool.{cases_Bool, cond-true, cond-false, eqb-true, eq-eqb, or_cases, both_ways, false≢true}
 use Rattle.std.proofs.lemmas.List.{at_drop_more}
 use Rattle.std.proofs.lemmas.List.Folds.{list_any-append}
 use Rattle.update_log.specs.log_record.Grammar.{IsInode}
+use Rattle.update_log.specs.log_record.Touches.{inodes_of}
 use Rattle.update_log.specs.file_graph.Graph.{is_among, touches}
 use Rattle.update_log.specs.log_record.declared.format.Record.{Record}
 use Rattle.world_invariant.specs.Logs.{is_touched, is_written}
-use Rattle.counted_logs.specs.Owners.{IsClear, touched_inodes, is_foreign, owner, with_owner}
+use Rattle.counted_logs.specs.Owners.{AreTouchedBy, IsClear, listed, touched_inodes, is_foreign, owner, with_owner}
 
 -- what records touch is what stands in the list
 pub written_is_touched : (i : ℕ) (rs : List Record) → is_written i rs ≡ is_among i (touched_inodes rs)
 written_is_touched i [] = refl
 written_is_touched i (r ∷ rs) =
     ap (λ b. is_touched i r || b) (written_is_touched i rs) ∙ sym (list_any-append (λ j. eqb j i) (touches r.effects) (touched_inodes rs))
+
+-- what the lists of records have is what the records touch
+pub listed_are_touched : (rs : List Record) → listed (map inodes_of rs) ≡ touched_inodes rs
+listed_are_touched [] = refl
+listed_are_touched (r ∷ rs) = ap (λ (is : List ℕ). touches r.effects ++ is) (listed_are_touched rs)
+
+pub listed_is : (rs : List Record) (lists : List (List ℕ)) → AreTouchedBy rs lists → listed lists ≡ touched_inodes rs
+listed_is rs lists are = ap listed are ∙ listed_are_touched rs
 
 pub one_or_other : (a b : Bool) (x y : Option ℕ) → cond (a || b) x y ≡ cond b x (cond a x y)
 one_or_other true true x y = refl
@@ -85,7 +94,7 @@ empty_owner (suc n) (suc i) = empty_owner n i
 pub all_empty : (n : ℕ) (clients : List (Option ℕ)) → clients ≡ replicate n None → (i : ℕ) → owner clients i ≡ None
 all_empty n clients is i = ap (λ t. owner t i) is ∙ empty_owner n i
 
--- ---- a loop over what has inodes each: records, or effects
+-- ---- a loop over what has inodes each: lists, or inodes
 
 module _ {X : Type 0} (inodes : X → List ℕ) (xs : List X) (k : ℕ) (x : X) (small : k < length xs) (is : x ≡ get_or xs k x) where
   -- what is left begins with the one in hand

@@ -1,9 +1,10 @@
 -- Which client's records touch an inode, and which records touch another client's. What an effect touches it reads and writes: an inode
 -- that the records of two clients touch is written by either. An inode that is entered under a name is not touched by that.
-use Rattle.std.specs.Prelude.{◌≡◌, ◌≢◌, ℕ, zero, suc, ◌==◌, Bool, true, false, not, List, find, slice_index_or, Option, Some, None, if◌then◌else◌}
+use Rattle.std.specs.Prelude.{◌≡◌, ◌≢◌, ℕ, zero, suc, ◌==◌, Bool, true, false, not, List, find, map, slice_index_or, Option, Some, None, if◌then◌else◌}
 use Rattle.std.specs.List.{flat_map}
 use Rattle.update_log.specs.file_graph.Graph.{is_among, touches}
 use Rattle.update_log.specs.log_record.Grammar.{IsInode}
+use Rattle.update_log.specs.log_record.Touches.{inodes_of}
 use Rattle.update_log.specs.log_record.declared.format.Record.{Record}
 use Rattle.world_invariant.specs.Logs.{is_written}
 use Rattle.counted_logs.specs.declared.owners.SharedInode.{SharedInode}
@@ -15,6 +16,14 @@ owner clients i = slice_index_or clients i None
 -- the inodes that records touch, in the order of the records and of their effects
 abbrev pub touched_inodes : List Record → List ℕ
 touched_inodes rs = flat_map (λ r. touches r.effects) rs
+
+-- the lists have the inodes that records touch, one list for each record
+abbrev pub AreTouchedBy : List Record → List (List ℕ) → Type 0
+AreTouchedBy rs lists = lists ≡ map inodes_of rs
+
+-- the inodes in all lists
+abbrev pub listed : List (List ℕ) → List ℕ
+listed lists = flat_map (λ is. is) lists
 
 -- the numbers that records touch are those of inodes
 abbrev pub TouchInodes : List Record → Type 0

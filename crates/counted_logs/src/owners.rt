@@ -1,8 +1,8 @@
 // Which client's records touch each inode.
-ghost use Rattle.std.specs.Prelude.{◌≡◌, ◌≢◌, ◌+◌, ◌↔◌, ℕ, [], ◌∷◌, length, find, Some, None, IfOk, IfErr, IsOk, OnOk, OnErr};
+ghost use Rattle.std.specs.Prelude.{◌≡◌, ◌≢◌, ◌+◌, ◌↔◌, ℕ, List, [], ◌∷◌, length, find, Some, None, IfOk, IfErr, IsOk, OnOk, OnErr};
 ghost use Rattle.update_log.specs.log_record.Grammar.{IsInode};
-ghost use Rattle.update_log.specs.file_graph.Graph.{touches};
-ghost use Rattle.counted_logs.specs.Owners.{AreAdded, IsClear, IsFirstShared, is_foreign, owner, touched_inodes, with_owner};
+ghost use Rattle.update_log.specs.log_record.declared.format.Record.{Record};
+ghost use Rattle.counted_logs.specs.Owners.{AreAdded, AreTouchedBy, IsClear, IsFirstShared, is_foreign, listed, owner, touched_inodes, with_owner};
 
 use std::alloc::{AllocError, Global};
 use std::marker::Model;
@@ -45,15 +45,15 @@ impl Owners {
         })
     }
 
-    /// Adds records of a client; they may be added in parts. A number past the highest inode's has no entry and is passed over: no record
+    /// Adds the inodes that records of a client touch, a list for each record; they may be added in parts. A number past the highest inode's has no entry and is passed over: no record
     /// that the bytes of a region spell touches such a number, or 0.
     ///
     /// Refused, with nothing added, are records that touch an inode that another client's do: the answer has the first such inode, in the
     /// order of the records and of their effects, and that client.
     pub fn add_records(&mut self, client: u32, records: &[TouchedInodes]) -> Result<(), SharedInode>
-        ensures owners { OnOk result (AreAdded (owner self.old) (owner self.new) client records.now) }
-        ensures clear { IsOk result ↔ IsClear (owner self.old) client records.now }
-        ensures first { IfErr result (λ shared. find (is_foreign (owner self.old) client) (concat records.now) ≡ Some shared.inode) }
+        ensures owners { OnOk result ((rs : List Record) → AreTouchedBy rs records.now → AreAdded (owner self.old) (owner self.new) client rs) }
+        ensures clear { (rs : List Record) → AreTouchedBy rs records.now → (IsOk result ↔ IsClear (owner self.old) client rs) }
+        ensures first { IfErr result (λ shared. (rs : List Record) → AreTouchedBy rs records.now → find (is_foreign (owner self.old) client) (touched_inodes rs) ≡ Some shared.inode) }
         ensures holder { IfErr result (λ shared. (owner self.old shared.inode ≡ Some shared.client) × (shared.client ≢ client)) }
         ensures same { OnErr result (self.new ≡ self.old) }
     {
@@ -94,7 +94,7 @@ fn shared_inode(clients: &[Option<u32>], client: u32, inode: u32) -> Option<Shar
     })
 }
 
-// The first inode that effects touch and another client's records do.
+// The first of these inodes that another client's records touch.
 fn first_of(clients: &[Option<u32>], client: u32, inodes: &[u32]) -> Option<SharedInode>
     ensures { IsFirstShared (owner clients.now) client inodes.now result }
 {
@@ -107,8 +107,12 @@ fn first_of(clients: &[Option<u32>], client: u32, inodes: &[u32]) -> Option<Shar
 }
 
 // The first inode that records touch and another client's do.
-fn first_shared(clients: &[Option<u32>], client: u32, records: &[TouchedInodes]) -> Option<SharedInode>
-    ensures { IsFirstShared (owner clients.now) client (concat records.now) result }
+fn first_shared(
+    clients: &[Option<u32>],
+    client: u32,
+    records: &[TouchedInodes],
+) -> Option<SharedInode>
+    ensures { IsFirstShared (owner clients.now) client (listed records.now) result }
 {
     for logged in records {
         if let Some(shared) = first_of(clients, client, logged.as_slice()) {
@@ -128,7 +132,7 @@ fn own_inode(clients: &mut [Option<u32>], client: u32, inode: u32)
     }
 }
 
-// The inodes that effects touch become the client's.
+// These inodes become the client's.
 fn own_inodes(clients: &mut [Option<u32>], client: u32, inodes: &[u32])
     requires { length clients.old ≡ MAX_INODE + 1 }
     ensures { (i : ℕ) → IsInode i → owner clients.new i ≡ with_owner (owner clients.old) client inodes.now i }
@@ -141,7 +145,7 @@ fn own_inodes(clients: &mut [Option<u32>], client: u32, inodes: &[u32])
 // The inodes that records touch become the client's.
 fn own_records(clients: &mut [Option<u32>], client: u32, records: &[TouchedInodes])
     requires { length clients.old ≡ MAX_INODE + 1 }
-    ensures { AreAdded (owner clients.old) (owner clients.new) client records.now }
+    ensures { (rs : List Record) → AreTouchedBy rs records.now → AreAdded (owner clients.old) (owner clients.new) client rs }
 {
     for logged in records {
         own_inodes(clients, client, logged.as_slice());

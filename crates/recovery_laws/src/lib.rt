@@ -12,8 +12,8 @@ pub use record_laws::{paid_records_are_covered, recoverable_records_are_covered}
 
 // Passed on to the crates above, which so need not list those below.
 pub use counted_logs::{
-    CountedLogs, LogRest, Owners, REGION_SIZE, Record, TouchedInodes,
-    counted_records_touch_inodes, logs_that_count, next_free_generation, owners_decide_whether_logs_are_apart,
+    CountedLogs, LogRest, Owners, REGION_SIZE, Record, TouchedInodes, counted_records_touch_inodes,
+    logs_that_count, next_free_generation, owners_decide_whether_logs_are_apart,
 };
 pub use fresh_media::{
     CLIENTS, FIRST_SLOT_BLOCK, Region, RegionError, SLOTS_IN_BLOCK, Super, What, WipeProgress,

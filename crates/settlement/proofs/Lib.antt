@@ -30,6 +30,7 @@ pub mod DigestAnswers
 pub mod DigestedClients
 pub mod ClientParts
 pub mod SharedRecords
+pub mod TouchedRecords
 pub mod UndigestibleRecords
 pub mod RefusalCauses
 -- Passed on to the crates above, which so need not list those below.

@@ -2,6 +2,8 @@
 use Rattle.std.proofs.Common.{◌≡◌, ℕ, zero, suc, ◌%◌, ◌<◌, List, [], ◌∷◌, ◌++◌, length, drop, refl, ap, sym, ◌∙◌, arith}
 use Rattle.std.specs.Prelude.{Option, Some, None, IfSome, min, slice_index}
 use Rattle.std.proofs.lemmas.Bool.{false≢true}
+use lib.ListN.{length-map}
+use Rattle.recovery_laws.specs.update_log.log_record.Touches.{inodes_of}
 use Rattle.recovery_laws.specs.update_log.log_record.declared.format.Record.{Record}
 use Rattle.recovery_laws.specs.update_log.Frames.{header, records}
 use Rattle.recovery_laws.specs.update_log.WipeStops.{generation}
@@ -21,7 +23,7 @@ second_touched even odd e o' None i w = absurd (false≢true w)
 second_touched even odd e o' (Some zero) i w = e i w
 second_touched even odd e o' (Some (suc r)) i w = o' i w
 
-module _ (regions : ℕ → List ℕ) (name other : ℕ) (even odd : List Record) (read : AreReadAs regions name other even odd) where
+module _ (regions : ℕ → List ℕ) (name other : ℕ) (even odd : List (List ℕ)) (read : AreReadAs regions name other even odd) where
   pub are_read : (m n : ℕ) → m ≡ length even → n ≡ length odd → AreRead regions (name ∷ other ∷ []) (m ∷ n ∷ [])
   are_read m n is_m is_n = record { named = named; long = long }
     where
@@ -31,25 +33,26 @@ module _ (regions : ℕ → List ℕ) (name other : ℕ) (even odd : List Record
       named (suc (suc r)) lt = absurd (omega (arith, lt))
 
       long : (r : ℕ) → r < 2 → length (records (regions r)) ≡ slice_index (m ∷ n ∷ []) r
-      long zero lt = ap length read.even_is.has ∙ sym is_m
-      long (suc zero) lt = ap length read.odd_is.has ∙ sym is_n
+      long zero lt = sym (length-map (records (regions 0)) inodes_of) ∙ ap length (sym read.even_is.has) ∙ sym is_m
+      long (suc zero) lt = sym (length-map (records (regions 1)) inodes_of) ∙ ap length (sym read.odd_is.has) ∙ sym is_n
       long (suc (suc r)) lt = absurd (omega (arith, lt))
 
-  part_is : (r : ℕ) → r < 2 → records (regions r) ≡ second_part even odd (Some r)
-  part_is zero lt = read.even_is.has
-  part_is (suc zero) lt = read.odd_is.has
+module _ (regions : ℕ → List ℕ) where
+  part_is : (r : ℕ) → r < 2 → records (regions r) ≡ second_part (records (regions 0)) (records (regions 1)) (Some r)
+  part_is zero lt = refl
+  part_is (suc zero) lt = refl
   part_is (suc (suc r)) lt = absurd (omega (arith, lt))
 
-  first_is : (X : LogRest → Type 0) (g : ℕ) (o : Option LogRest) → IfSome o (λ rest. (rest.region ≡ g % 2) × X rest) → records_behind regions o ≡ first_part even odd o
+  first_is : (X : LogRest → Type 0) (g : ℕ) (o : Option LogRest) → IfSome o (λ rest. (rest.region ≡ g % 2) × X rest) → records_behind regions o ≡ first_part (records (regions 0)) (records (regions 1)) o
   first_is X g None h = refl
   first_is X g (Some rest) h = ap (drop rest.from) (part_is rest.region (let is = h.0 in omega (arith, is)))
 
-  second_is : (X : ℕ → Type 0) (g : ℕ) (o : Option ℕ) → IfSome o (λ r. (r ≡ g % 2) × X r) → records_of regions o ≡ second_part even odd o
+  second_is : (X : ℕ → Type 0) (g : ℕ) (o : Option ℕ) → IfSome o (λ r. (r ≡ g % 2) × X r) → records_of regions o ≡ second_part (records (regions 0)) (records (regions 1)) o
   second_is X g None h = refl
   second_is X g (Some r) h = part_is r (let is = h.0 in omega (arith, is))
 
   pub counted_are : (X : LogRest → Type 0) (Y : ℕ → Type 0) (g h : ℕ) (counted : CountedLogs) → IfSome counted.first (λ rest. (rest.region ≡ g % 2) × X rest) → IfSome counted.second (λ r. (r ≡ h % 2) × Y r)
-      → records_that_count regions counted ≡ first_part even odd counted.first ++ second_part even odd counted.second
+      → records_that_count regions counted ≡ first_part (records (regions 0)) (records (regions 1)) counted.first ++ second_part (records (regions 0)) (records (regions 1)) counted.second
   counted_are X Y g h counted f s = λ k. first_is X g counted.first f k ++ second_is Y h counted.second s k
 
 -- where the records that count stand: those of the mark's generation, and the next one's
@@ -68,10 +71,10 @@ module _ (regions : ℕ → List ℕ) (names lengths : List ℕ) (read : AreRead
   next_is g (Some r) second = (second.0, names_it r g (let is = second.0 in omega (arith, is)) second.1)
 
 -- the same, of lists that are the same
-pub read_same : (regions : ℕ → List ℕ) (name other : ℕ) (even odd even' odd' : List Record) → AreReadAs regions name other even odd → even' ≡ even → odd' ≡ odd → AreReadAs regions name other even' odd'
+pub read_same : (regions : ℕ → List ℕ) (name other : ℕ) (even odd even' odd' : List (List ℕ)) → AreReadAs regions name other even odd → even' ≡ even → odd' ≡ odd → AreReadAs regions name other even' odd'
 read_same regions name other even odd even' odd' read e o = record {
-  even_is = record { named = read.even_is.named; has = read.even_is.has ∙ sym e };
-  odd_is = record { named = read.odd_is.named; has = read.odd_is.has ∙ sym o };
+  even_is = record { named = read.even_is.named; has = e ∙ read.even_is.has };
+  odd_is = record { named = read.odd_is.named; has = o ∙ read.odd_is.has };
 }
 
 module _ {M : Type 0} (device : Ghosts M) where

@@ -121,7 +121,7 @@ module _ {M : Type 0} (device : Ghosts M) where
   risen_before (u ∷ us) (v ∷ vs) (w ∷ ws) h (inr other) = inr (risen_before us vs ws h.1 other)
 
   -- the two regions of the client after so many
-  pub two_read : (vs ws : List (RegionView M)) (before name other : ℕ) (even odd : List Record) → AreOnlyRead vs ws → IsReadAs (read_of device (slice_get vs (2 * before))) name even
+  pub two_read : (vs ws : List (RegionView M)) (before name other : ℕ) (even odd : List (List ℕ)) → AreOnlyRead vs ws → IsReadAs (read_of device (slice_get vs (2 * before))) name even
       → IsReadAs (read_of device (slice_get ws (2 * before + 1))) other odd → AreReadAs (regions_read device vs (before + 1)) name other even odd
   two_read vs ws before name other even odd h first second = record {
     even_is = subst (λ (k : ℕ). IsReadAs (read_of device (slice_get vs k)) name even) even_place first;

@@ -1,23 +1,18 @@
 -- The first record that touches an inode which another client's records do.
 use Rattle.std.proofs.Common.{◌≡◌, inl, inr, ℕ, zero, suc, ◌+◌, ◌-◌, ◌<◌, ◌≤◌, ◌⊎◌, Bool, true, false, eqb, ◌||◌, List, [], ◌∷◌, ◌++◌, length, take, drop, Option, Some, None, refl, ap, sym, ◌∙◌, subst, arith}
-use Rattle.std.specs.List.{list_any}
-use Rattle.std.specs.Prelude.{find, get_or, ◌==◌}
+use Rattle.std.specs.Prelude.{find}
 use Rattle.std.proofs.lemmas.Bool.{cases_Bool, cond-true, cond-false, eq-eqb, both_ways, cases_lt, false≢true, false_from_ne_true, ne_eqb, not_from_false}
 use Rattle.std.proofs.lemmas.Bool.Decides.{eqb_tells}
-use Rattle.std.proofs.lemmas.List.{append_assoc, length-drop, take-append-drop, take-append-le, take_all, take_more}
+use Rattle.std.proofs.lemmas.List.{append_assoc, length-drop, take-append-drop, take-append-le, take_all}
 use Rattle.recovery_laws.specs.counted_logs.Owners.{AreAdded, AreOwners, IsClear, TouchInodes, is_foreign, is_other, owner_among, touched_inodes}
 use Rattle.recovery_laws.specs.counted_logs.declared.regions.LogRest.{LogRest}
-use Rattle.recovery_laws.specs.update_log.file_graph.Graph.{is_among, subjects, touches}
-use Rattle.recovery_laws.specs.update_log.file_graph.Subject.{subject}
-use Rattle.recovery_laws.specs.update_log.file_graph.declared.effect.Effect.{Effect}
-use Rattle.recovery_laws.specs.update_log.file_graph.declared.effect.Effect.TheVariants as effect
+use Rattle.recovery_laws.specs.update_log.file_graph.Graph.{is_among, touches}
 use Rattle.recovery_laws.specs.update_log.log_record.declared.format.Record.{Record}
 use Rattle.recovery_laws.proofs.counted_logs_lemmas.OwnerLemmas.{clear_in_parts}
 use Rattle.recovery_laws.proofs.counted_logs_lemmas.TableLemmas.{find_hit, none_is_clear, written_is_touched}
 use Rattle.recovery_laws.proofs.counted_logs_lemmas.TouchLemmas.{part_touches}
 use Rattle.recovery_laws.proofs.kernel_fs_lemmas.world_invariant_lemmas.Owners as owners
-use Rattle.recovery_laws.proofs.kernel_fs_lemmas.world_invariant_lemmas.Records.{written_append}
-use Rattle.world.specs.system_world.event_steps.libfs.world_invariant.Logs.{is_touched, is_written}
+use Rattle.world.specs.system_world.event_steps.libfs.world_invariant.Logs.{is_written}
 use Rattle.world.specs.system_world.event_steps.posix_calls.Operations.{is_client}
 use Rattle.settlement.specs.declared.error.RecoveryError.{RecoveryError}
 use Rattle.settlement.specs.declared.error.RecoveryError.TheVariants.{BadLog, DeviceFault, Memory}
@@ -143,25 +138,6 @@ module _ (own : ℕ → Option ℕ) (client : ℕ) (even odd : List Record) (res
       let short = first_few 4294967296 even odd rest few few_too in
       let short_too = second_few 4294967296 even odd region few few_too in
       subst (NamesForeign own client (xs ++ ys)) (sym (is (omega (arith, long, low, short, short_too)) ∙ ap (λ m. BadLog client (m + k)) long)) (refl, foreign_behind own part client xs ys k clear added inodes first)
-
--- ---- whether effects touch an inode
-
-subject_alone : (e : Effect) → subjects e ≡ subject e ∷ []
-subject_alone (effect.Make i k) = refl
-subject_alone (effect.Enter d i k name) = refl
-subject_alone (effect.Leave d name) = refl
-subject_alone (effect.Names i n) = refl
-subject_alone (effect.Size i size) = refl
-subject_alone (effect.Bytes i at new) = refl
-subject_alone (effect.Drop i) = refl
-
-pub touched_any : (i : ℕ) (es : List Effect) → list_any (λ e. subject e == i) es ≡ is_among i (touches es)
-touched_any i [] = refl
-touched_any i (e ∷ es) = ap (λ b. (subject e == i) || b) (touched_any i es) ∙ sym (ap (λ is. is_among i (is ++ touches es)) (subject_alone e))
-
--- whether the records up to the next one touch it
-pub written_more : (i : ℕ) (rs : List Record) (k : ℕ) (r : Record) → k < length rs → get_or rs k r ≡ r → is_written i (take (k + 1) rs) ≡ (is_written i (take k rs) || (is_touched i r || false))
-written_more i rs k r low same = ap (is_written i) (take_more rs k r low) ∙ written_append i (take k rs) (get_or rs k r ∷ []) ∙ ap (λ s. is_written i (take k rs) || (is_touched i s || false)) same
 
 -- ---- by the logs of the clients before
 

@@ -1,6 +1,6 @@
 -- What is found of the clients' logs.
 use Rattle.std.specs.Prelude.{◌≡◌, ℕ, zero, suc, ◌%◌, ◌+◌, ◌-◌, ◌<◌, true, List, [], drop, length, min, slice_get, take, Option, Some, None, IfSome}
-use Rattle.recovery_laws.specs.counted_logs.Owners.{IsClear}
+use Rattle.recovery_laws.specs.counted_logs.Owners.{AreTouchedBy, IsClear, TouchInodes}
 use Rattle.recovery_laws.specs.counted_logs.Regions.{AreStale, records_that_count}
 use Rattle.recovery_laws.specs.update_log.Frames.{records}
 use Rattle.recovery_laws.specs.update_log.WipeStops.{generation}
@@ -39,26 +39,32 @@ pub record IsFound (mark : Mark) (regions : ℕ → List ℕ) (log : FoundLog) :
   pub stale : AreStale regions log.generation
   pub parity : log.generation % 2 ≡ mark.generation % 2
 
--- of a region this generation and these records are read
-pub record IsReadAs (content : List ℕ) (name : ℕ) (rs : List Record) : Type 0 where
+-- of a region this generation is read, and the inodes that each of its records touches
+pub record IsReadAs (content : List ℕ) (name : ℕ) (touched : List (List ℕ)) : Type 0 where
   pub named : generation content ≡ name
-  pub has : records content ≡ rs
+  pub has : AreTouchedBy (records content) touched
 
 -- so of a client's two regions
-pub record AreReadAs (regions : ℕ → List ℕ) (name other : ℕ) (even odd : List Record) : Type 0 where
+pub record AreReadAs (regions : ℕ → List ℕ) (name other : ℕ) (even odd : List (List ℕ)) : Type 0 where
   pub even_is : IsReadAs (regions 0) name even
   pub odd_is : IsReadAs (regions 1) other odd
 
--- all records of a region, 0 or another one; none of no region
-abbrev pub second_part : List Record → List Record → Option ℕ → List Record
+-- all that a region has, 0 or another one; nothing of no region
+abbrev pub second_part : {A : Type 0} → List A → List A → Option ℕ → List A
 second_part even odd None = []
 second_part even odd (Some zero) = even
 second_part even odd (Some (suc r)) = odd
 
--- the records of a region behind those that are passed over; none of no region
-abbrev pub first_part : List Record → List Record → Option LogRest → List Record
+-- what a region has behind what is passed over; nothing of no region
+abbrev pub first_part : {A : Type 0} → List A → List A → Option LogRest → List A
 first_part even odd None = []
 first_part even odd (Some rest) = drop rest.from (second_part even odd (Some rest.region))
+
+-- the records of two regions, which touch no number but inodes', touch these, a list for each record
+pub record AreTouchedIn (even odd : List (List ℕ)) (evens odds : List Record) : Type 0 where
+  pub even_is : AreTouchedBy evens even
+  pub odd_is : AreTouchedBy odds odd
+  pub inodes : (o : Option ℕ) → TouchInodes (second_part evens odds o)
 
 -- so it is of each client
 abbrev pub AreFound : Marks → Regions → List FoundLog → Type 0

@@ -7,13 +7,15 @@ ghost use Rattle.recovery_laws.specs.update_log.WipeStops.{generation};
 ghost use Rattle.recovery_laws.specs.update_log.Frames.{records};
 ghost use Rattle.recovery_laws.specs.update_log.tier_device.Media.{Rose};
 ghost use Rattle.recovery_laws.specs.update_log.tier_device.declared.media.Tier.TheVariants.{Fast};
-ghost use Rattle.recovery_laws.specs.counted_logs.Owners.{AreAdded, IsClear, TouchInodes, owner};
+ghost use Rattle.recovery_laws.specs.counted_logs.Owners.{AreAdded, AreTouchedBy, IsClear, listed, owner};
 ghost use Rattle.recovery_laws.specs.update_log.RecordCounts.{counted_records};
-ghost use Rattle.recovery_laws.specs.counted_logs.world_invariant.Logs.{LogsAreApart, is_touched, is_written};
+ghost use Rattle.recovery_laws.specs.counted_logs.world_invariant.Logs.{LogsAreApart};
+ghost use Rattle.recovery_laws.specs.update_log.file_graph.Graph.{is_among};
+ghost use Rattle.recovery_laws.specs.update_log.log_record.declared.format.Record.{Record};
 ghost use Rattle.world.specs.system_world.event_steps.kernel_fs.digester.MarkMoves.{mark_of};
 ghost use Rattle.settlement.specs.declared.error.RecoveryError.TheVariants.{BadLog, DeviceFault, Memory};
 ghost use Rattle.settlement.specs.Errors.{OnBadLog};
-ghost use Rattle.settlement.specs.FoundLogs.{AreFound, AreReadAs, HoldFew, HoldsFew, IsFirstForeign, IsFound, IsReadAs, NamesForeign, first_part, log_by, second_part};
+ghost use Rattle.settlement.specs.FoundLogs.{AreFound, AreReadAs, AreTouchedIn, HoldFew, HoldsFew, IsFirstForeign, IsFound, IsReadAs, NamesForeign, first_part, log_by, second_part};
 ghost use Rattle.settlement.specs.Refusals.{IsFirstSharing};
 ghost use Rattle.settlement.specs.Regions.{HaveRisen, IsOnlyRead, REGIONS, Rests, media_of, read_of, regions_read};
 
@@ -34,8 +36,8 @@ pub struct FoundLog {
     pub generation: u64,
 }
 
-/// The logs of the clients, by the marks: those of the regions 2 and 3 are the second client's. It reads the records of one client at a time, and
-/// changes nothing.
+/// The logs of the clients, by the marks: those of the regions 2 and 3 are the second client's. Of the records it reads which inodes each touches,
+/// those of one client at a time, and it changes nothing.
 ///
 /// Refused are records that touch an inode that a client's before them do (`BadLog`, with the first such record by its place among those that count), a
 /// device that fails, and a want of memory.
@@ -103,19 +105,18 @@ fn find_next<M: Media>(
     )
 }
 
-// What is read of a region: the generation that its header names, and its records.
+// What is read of a region: the generation that its header names, and which inodes each of its records touches.
 #[derive(Drop)]
 struct ReadRegion {
     name: u64,
-    records: Vec<TouchedInodes>,
+    touched: Vec<TouchedInodes>,
 }
 
 // Reads the region at a place.
 fn read_at<M: Media>(regions: &mut [Region<M>], place: usize) -> Result<ReadRegion, RecoveryError>
     requires there { place < length regions.old }
     requires idle { (k : ℕ) (v : RegionView _) → slice_get regions.old k ≡ Some v → IsIdle v.stage }
-    ensures read { IfOk result (λ read. IsReadAs (read_of M.Media (slice_get regions.old place)) read.name read.records.items) }
-    ensures touched { IfOk result (λ read. TouchInodes read.records.items) }
+    ensures read { IfOk result (λ read. IsReadAs (read_of M.Media (slice_get regions.old place)) read.name read.touched.items) }
     ensures same { AllZip (IsOnlyRead M.Media) regions.old regions.new }
     ensures only { IfErr result (λ e. (e ≡ DeviceFault) ⊎ (e ≡ Memory)) }
     ensures fault { IfErr result (λ e. e ≡ DeviceFault → HaveRisen M.Media (media_of regions.old) (media_of regions.new)) }
@@ -123,20 +124,17 @@ fn read_at<M: Media>(regions: &mut [Region<M>], place: usize) -> Result<ReadRegi
     read_region(&mut regions[place])
 }
 
-// Reads the generation that a region's header names, and its records.
+// Reads the generation that a region's header names, and which inodes its records touch.
 fn read_region<M: Media>(region: &mut Region<M>) -> Result<ReadRegion, RecoveryError>
     requires idle { IsIdle region.old.stage }
-    ensures read { IfOk result (λ read. IsReadAs (M.seen region.old.media Fast) read.name read.records.items) }
-    ensures touched { IfOk result (λ read. TouchInodes read.records.items) }
+    ensures read { IfOk result (λ read. IsReadAs (M.seen region.old.media Fast) read.name read.touched.items) }
     ensures same { IsOnlyRead M.Media region.old region.new }
     ensures only { IfErr result (λ e. (e ≡ DeviceFault) ⊎ (e ≡ Memory)) }
     ensures fault { IfErr result (λ e. e ≡ DeviceFault → Rose (M.faults region.old.media) (M.faults region.new.media)) }
 {
-    // For the proof: records of a region touch no number but inodes'.
-    counted_records_touch_inodes();
     let name = generation_of(region)?;
-    let records = records_in(region)?;
-    Ok(ReadRegion { name, records })
+    let touched = touched_inodes_in(region)?;
+    Ok(ReadRegion { name, touched })
 }
 
 // The log of a client, by what is read of its two regions; its records are added to those of the clients before.
@@ -147,29 +145,28 @@ fn find_log(
     even: &ReadRegion,
     odd: &ReadRegion,
 ) -> Result<FoundLog, RecoveryError>
-    requires touched { TouchInodes even.now.records.items × TouchInodes odd.now.records.items }
-    ensures found { IfOk result (λ log. (regions : ℕ → List ℕ) → AreReadAs regions even.now.name odd.now.name even.now.records.items odd.now.records.items → IsFound mark regions log) }
-    ensures clear { OnOk result ((regions : ℕ → List ℕ) → AreReadAs regions even.now.name odd.now.name even.now.records.items odd.now.records.items
+    ensures found { IfOk result (λ log. (regions : ℕ → List ℕ) → AreReadAs regions even.now.name odd.now.name even.now.touched.items odd.now.touched.items → IsFound mark regions log) }
+    ensures clear { OnOk result ((regions : ℕ → List ℕ) → AreReadAs regions even.now.name odd.now.name even.now.touched.items odd.now.touched.items
         → IsClear (owner owners.old) client (counted_records mark.generation mark.done regions)) }
-    ensures added { OnOk result ((regions : ℕ → List ℕ) → AreReadAs regions even.now.name odd.now.name even.now.records.items odd.now.records.items
+    ensures added { OnOk result ((regions : ℕ → List ℕ) → AreReadAs regions even.now.name odd.now.name even.now.touched.items odd.now.touched.items
         → AreAdded (owner owners.old) (owner owners.new) client (counted_records mark.generation mark.done regions)) }
-    ensures refused { OnErr result ((regions : ℕ → List ℕ) → AreReadAs regions even.now.name odd.now.name even.now.records.items odd.now.records.items
+    ensures refused { OnErr result ((regions : ℕ → List ℕ) → AreReadAs regions even.now.name odd.now.name even.now.touched.items odd.now.touched.items
         → IsClear (owner owners.old) client (counted_records mark.generation mark.done regions) → ⊥) }
-    ensures first { IfErr result (λ e. (regions : ℕ → List ℕ) → AreReadAs regions even.now.name odd.now.name even.now.records.items odd.now.records.items → HoldsFew regions
+    ensures first { IfErr result (λ e. (regions : ℕ → List ℕ) → AreReadAs regions even.now.name odd.now.name even.now.touched.items odd.now.touched.items → HoldsFew regions
         → NamesForeign (owner owners.old) client (counted_records mark.generation mark.done regions) e) }
     ensures only { IfErr result (λ e. (place : ℕ) × (e ≡ BadLog client place)) }
 {
     let names = [even.name, odd.name];
-    let lengths = [even.records.len(), odd.records.len()];
+    let lengths = [even.touched.len(), odd.touched.len()];
     let counted = logs_that_count(mark.generation, mark.done, names, lengths);
-    own_log(owners, client, &even.records, &odd.records, counted)?;
+    own_log(owners, client, &even.touched, &odd.touched, counted)?;
     Ok(FoundLog {
         counted,
         generation: next_free_generation(mark.generation, names),
     })
 }
 
-// Adds the records that count of a client's two regions, the first place among them being 0.
+// Adds the records that count of a client's two regions, by the inodes that each touches. The first place among them is 0.
 fn own_log(
     owners: &mut Owners,
     client: u32,
@@ -177,12 +174,14 @@ fn own_log(
     odd: &[TouchedInodes],
     counted: CountedLogs,
 ) -> Result<(), RecoveryError>
-    requires touched { TouchInodes (second_part even.now odd.now counted.second) }
-    ensures clear { OnOk result (IsClear (owner owners.old) client (first_part even.now odd.now counted.first ++ second_part even.now odd.now counted.second)) }
-    ensures added { OnOk result (AreAdded (owner owners.old) (owner owners.new) client (first_part even.now odd.now counted.first ++ second_part even.now odd.now counted.second)) }
-    ensures refused { OnErr result (IsClear (owner owners.old) client (first_part even.now odd.now counted.first ++ second_part even.now odd.now counted.second) → ⊥) }
-    ensures first { IfErr result (λ e. length even.now < 2 ^ 32 → length odd.now < 2 ^ 32
-        → NamesForeign (owner owners.old) client (first_part even.now odd.now counted.first ++ second_part even.now odd.now counted.second) e) }
+    ensures clear { OnOk result ((evens odds : List Record) → AreTouchedIn even.now odd.now evens odds
+        → IsClear (owner owners.old) client (first_part evens odds counted.first ++ second_part evens odds counted.second)) }
+    ensures added { OnOk result ((evens odds : List Record) → AreTouchedIn even.now odd.now evens odds
+        → AreAdded (owner owners.old) (owner owners.new) client (first_part evens odds counted.first ++ second_part evens odds counted.second)) }
+    ensures refused { OnErr result ((evens odds : List Record) → AreTouchedIn even.now odd.now evens odds
+        → IsClear (owner owners.old) client (first_part evens odds counted.first ++ second_part evens odds counted.second) → ⊥) }
+    ensures first { IfErr result (λ e. (evens odds : List Record) → AreTouchedIn even.now odd.now evens odds → length evens < 2 ^ 32 → length odds < 2 ^ 32
+        → NamesForeign (owner owners.old) client (first_part evens odds counted.first ++ second_part evens odds counted.second) e) }
     ensures only { IfErr result (λ e. (place : ℕ) × (e ≡ BadLog client place)) }
 {
     // For the proof: the table of owners decides whether two logs touch one inode.
@@ -194,7 +193,11 @@ fn own_log(
 }
 
 // The records of a region behind those that are passed over; none of no region.
-fn records_from<'a>(even: &'a [TouchedInodes], odd: &'a [TouchedInodes], rest: Option<LogRest>) -> &'a [TouchedInodes]
+fn records_from<'a>(
+    even: &'a [TouchedInodes],
+    odd: &'a [TouchedInodes],
+    rest: Option<LogRest>,
+) -> &'a [TouchedInodes]
     ensures { result.now ≡ first_part even.now odd.now rest }
 {
     let Some(rest) = rest else {
@@ -227,10 +230,10 @@ fn own_part(
     before: usize,
     part: &[TouchedInodes],
 ) -> Result<(), RecoveryError>
-    ensures clear { OnOk result (IsClear (owner owners.old) client part.now) }
-    ensures added { OnOk result (AreAdded (owner owners.old) (owner owners.new) client part.now) }
-    ensures refused { OnErr result (IsClear (owner owners.old) client part.now → ⊥) }
-    ensures first { IfErr result (λ e. (k : ℕ) × (before + k < 2 ^ 64 → e ≡ BadLog client (before + k)) × IsFirstForeign (owner owners.old) client part.now k) }
+    ensures clear { OnOk result ((rs : List Record) → AreTouchedBy rs part.now → IsClear (owner owners.old) client rs) }
+    ensures added { OnOk result ((rs : List Record) → AreTouchedBy rs part.now → AreAdded (owner owners.old) (owner owners.new) client rs) }
+    ensures refused { OnErr result ((rs : List Record) → AreTouchedBy rs part.now → IsClear (owner owners.old) client rs → ⊥) }
+    ensures first { IfErr result (λ e. (k : ℕ) × (before + k < 2 ^ 64 → e ≡ BadLog client (before + k)) × ((rs : List Record) → AreTouchedBy rs part.now → IsFirstForeign (owner owners.old) client rs k)) }
     ensures only { IfErr result (λ e. (place : ℕ) × (e ≡ BadLog client place)) }
 {
     match owners.add_records(client, part) {
@@ -245,8 +248,8 @@ fn own_part(
 // The place of the first record that touches an inode; their number where none does.
 fn place_of(part: &[TouchedInodes], inode: u32) -> usize
     ensures within { result ≤ length part.now }
-    ensures none_before { is_written inode (take result part.now) ≡ false }
-    ensures there { is_written inode part.now ≡ true → is_written inode (take (result + 1) part.now) ≡ true }
+    ensures none_before { is_among inode (listed (take result part.now)) ≡ false }
+    ensures there { is_among inode (listed part.now) ≡ true → is_among inode (listed (take (result + 1) part.now)) ≡ true }
 {
     for (place, logged) in part.iter().enumerate() {
         if touches_inode(logged, inode) {
@@ -258,7 +261,7 @@ fn place_of(part: &[TouchedInodes], inode: u32) -> usize
 
 // Whether a record touches an inode.
 fn touches_inode(logged: &TouchedInodes, inode: u32) -> bool
-    ensures { result ≡ is_touched inode logged.now }
+    ensures { result ≡ is_among inode logged.now }
 {
     logged.as_slice().iter().any(|other| *other == inode)
 }
@@ -279,10 +282,10 @@ fn generation_of<M: Media>(region: &mut Region<M>) -> Result<u64, RecoveryError>
     }
 }
 
-// The records of a region.
-fn records_in<M: Media>(region: &mut Region<M>) -> Result<Vec<TouchedInodes>, RecoveryError>
+// The inodes that each of a region's records touches.
+fn touched_inodes_in<M: Media>(region: &mut Region<M>) -> Result<Vec<TouchedInodes>, RecoveryError>
     requires idle { IsIdle region.old.stage }
-    ensures found { IfOk result (λ found. found.items ≡ records (M.seen region.old.media Fast)) }
+    ensures found { IfOk result (λ found. AreTouchedBy (records (M.seen region.old.media Fast)) found.items) }
     ensures same { IsOnlyRead M.Media region.old region.new }
     ensures only { IfErr result (λ e. (e ≡ DeviceFault) ⊎ (e ≡ Memory)) }
     ensures fault { IfErr result (λ e. e ≡ DeviceFault → Rose (M.faults region.old.media) (M.faults region.new.media)) }

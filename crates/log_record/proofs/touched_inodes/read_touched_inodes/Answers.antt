@@ -1,4 +1,4 @@
-use Rattle.std.proofs.Common.{rules, sym, ap, ◌∙◌, eqb, length}
+use Rattle.std.proofs.Common.{sym, ◌∙◌}
 use Rattle.log_record.proofs.Touched.{none_at_front, none_before_end, whole_is}
 use Rattle.log_record.proofs.touched_inodes.read_touched_inodes.Goals as goal
 

@@ -1,14 +1,13 @@
 use Rattle.std.proofs.Common.{rules, ◌<◌, length, ◌∙◌, sym, subst, arith}
+use Rattle.recovery_laws.specs.update_log.Frames.{records}
 use Rattle.recovery_laws.specs.update_log.RecordCounts.{next_generation}
-use Rattle.recovery_laws.specs.counted_logs.Owners.{AreAdded, IsClear, TouchInodes, owner}
+use Rattle.recovery_laws.specs.counted_logs.Owners.{AreAdded, IsClear, owner}
 use Rattle.recovery_laws.proofs.update_log_lemmas.DeviceCalls.{on_err}
-use Rattle.settlement.proofs.ReadLogs.{are_read, counted_are, next_is, read_same, rest_is, second_touched}
+use Rattle.settlement.proofs.ReadLogs.{are_read, counted_are, next_is, read_same, rest_is}
+use Rattle.settlement.proofs.TouchedRecords.{read_are_listed}
 use Rattle.settlement.specs.FoundLogs.{NamesForeign}
 use Rattle.settlement.proofs.SettlementPhases.{passed_on}
 use Rattle.settlement.proofs.log_search.find_log.Goals as goal
-
-pub own_log-requires : goal.own_log-requires
-own_log-requires c = record { touched = second_touched c.deref.result.now c.deref-2.result.now (subst TouchInodes (sym c.deref.ensures.value) c.requires.touched.0) (subst TouchInodes (sym c.deref-2.ensures.value) c.requires.touched.1) c.logs_that_count-counted.result.second }
 
 pub returns-in_err-own_log-clause-refused : goal.returns-in_err-own_log-clause-refused
 returns-in_err-own_log-clause-refused c = on_err c.from_residual.result (λ regions read clear.
@@ -16,8 +15,8 @@ returns-in_err-own_log-clause-refused c = on_err c.from_residual.result (λ regi
     let a = c.args in
     let same = read_same regions a.even.now.name a.odd.now.name _ _ c.deref.result.now c.deref-2.result.now read c.deref.ensures.value c.deref-2.ensures.value in
     let is = e.records regions (are_read regions a.even.now.name a.odd.now.name _ _ read c.len.result c.len-2.result (search rules) (search rules))
-    ∙ counted_are regions a.even.now.name a.odd.now.name c.deref.result.now c.deref-2.result.now same _ _ a.mark.generation (next_generation a.mark.generation) c.logs_that_count-counted.result e.first e.second in
-    c.in_err-own_log.ensures.refused (subst (IsClear (owner a.owners.now) a.client) is clear))
+    ∙ counted_are regions _ _ a.mark.generation (next_generation a.mark.generation) c.logs_that_count-counted.result e.first e.second in
+    c.in_err-own_log.ensures.refused (records (regions 0)) (records (regions 1)) (read_are_listed regions a.even.now.name a.odd.now.name _ _ same) (subst (IsClear (owner a.owners.now) a.client) is clear))
 
 pub returns-clause-found : goal.returns-clause-found
 returns-clause-found c = λ regions read.
@@ -38,8 +37,8 @@ returns-clause-clear c = λ regions read.
     let a = c.args in
     let same = read_same regions a.even.now.name a.odd.now.name _ _ c.deref.result.now c.deref-2.result.now read c.deref.ensures.value c.deref-2.ensures.value in
     let is = e.records regions (are_read regions a.even.now.name a.odd.now.name _ _ read c.len.result c.len-2.result (search rules) (search rules))
-    ∙ counted_are regions a.even.now.name a.odd.now.name c.deref.result.now c.deref-2.result.now same _ _ a.mark.generation (next_generation a.mark.generation) c.logs_that_count-counted.result e.first e.second in
-    subst (IsClear (owner a.owners.now) a.client) (sym is) c.in_ok-own_log.ensures.clear
+    ∙ counted_are regions _ _ a.mark.generation (next_generation a.mark.generation) c.logs_that_count-counted.result e.first e.second in
+    subst (IsClear (owner a.owners.now) a.client) (sym is) (c.in_ok-own_log.ensures.clear (records (regions 0)) (records (regions 1)) (read_are_listed regions a.even.now.name a.odd.now.name _ _ same))
 
 pub returns-clause-added : goal.returns-clause-added
 returns-clause-added c = λ regions read.
@@ -47,8 +46,8 @@ returns-clause-added c = λ regions read.
     let a = c.args in
     let same = read_same regions a.even.now.name a.odd.now.name _ _ c.deref.result.now c.deref-2.result.now read c.deref.ensures.value c.deref-2.ensures.value in
     let is = e.records regions (are_read regions a.even.now.name a.odd.now.name _ _ read c.len.result c.len-2.result (search rules) (search rules))
-    ∙ counted_are regions a.even.now.name a.odd.now.name c.deref.result.now c.deref-2.result.now same _ _ a.mark.generation (next_generation a.mark.generation) c.logs_that_count-counted.result e.first e.second in
-    subst (λ l. AreAdded (owner a.owners.now) (owner c.own_log.new.owners) a.client l) (sym is) c.in_ok-own_log.ensures.added
+    ∙ counted_are regions _ _ a.mark.generation (next_generation a.mark.generation) c.logs_that_count-counted.result e.first e.second in
+    subst (λ l. AreAdded (owner a.owners.now) (owner c.own_log.new.owners) a.client l) (sym is) (c.in_ok-own_log.ensures.added (records (regions 0)) (records (regions 1)) (read_are_listed regions a.even.now.name a.odd.now.name _ _ same))
 
 pub returns-in_err-own_log-clause-first : goal.returns-in_err-own_log-clause-first
 returns-in_err-own_log-clause-first c =
@@ -57,6 +56,6 @@ returns-in_err-own_log-clause-first c =
     passed_on c.from_residual.result _ _ c.from_residual.ensures.1 (λ regions read few.
     let same = read_same regions a.even.now.name a.odd.now.name _ _ c.deref.result.now c.deref-2.result.now read c.deref.ensures.value c.deref-2.ensures.value in
     let is = e.records regions (are_read regions a.even.now.name a.odd.now.name _ _ read c.len.result c.len-2.result (search rules) (search rules))
-    ∙ counted_are regions a.even.now.name a.odd.now.name c.deref.result.now c.deref-2.result.now same _ _ a.mark.generation (next_generation a.mark.generation) c.logs_that_count-counted.result e.first e.second in
+    ∙ counted_are regions _ _ a.mark.generation (next_generation a.mark.generation) c.logs_that_count-counted.result e.first e.second in
     subst (λ l. NamesForeign (owner a.owners.now) a.client l c.in_err-own_log.field-0.0) (sym is)
-    (c.in_err-own_log.ensures.first (subst (λ rs. length rs < 4294967296) same.even_is.has (few 0 (omega arith))) (subst (λ rs. length rs < 4294967296) same.odd_is.has (few 1 (omega arith)))))
+    (c.in_err-own_log.ensures.first (records (regions 0)) (records (regions 1)) (read_are_listed regions a.even.now.name a.odd.now.name _ _ same) (few 0 (omega arith)) (few 1 (omega arith))))

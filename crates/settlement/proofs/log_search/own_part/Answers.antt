@@ -1,13 +1,18 @@
-use Rattle.std.proofs.Common.{ap, arith}
+use Rattle.std.proofs.Common.{◌+◌, ap, arith, sym, ◌∙◌}
 use Rattle.settlement.specs.declared.error.RecoveryError.TheVariants.{BadLog}
 use Rattle.recovery_laws.specs.counted_logs.Owners.{owner}
 use Rattle.settlement.proofs.SharedRecords.{first_foreign}
+use Rattle.settlement.proofs.TouchedRecords.{first_written, written_is_listed}
 use Rattle.settlement.proofs.log_search.own_part.Goals as goal
 
 pub returns-in-Err-clause-first : goal.returns-in-Err-clause-first
 returns-in-Err-clause-first c =
-    let e = c.place_of.ensures in (
-      c.place_of.result,
+    let e = c.place_of.ensures in
+    let k = c.place_of.result in
+    let i = c.in-Err.shared.inode in (
+      k,
       (λ low. ap (BadLog c.args.client) (omega (arith, low, c.saturating_add.ensures))),
-      first_foreign (owner c.args.owners.now) c.args.client c.args.part.now c.place_of.result c.in-Err.shared.inode c.in-Err.ensures.first e.none_before e.there,
+      (λ rs are. first_foreign (owner c.args.owners.now) c.args.client rs k i (c.in-Err.ensures.first rs are)
+          (first_written i rs c.args.part.now are k ∙ e.none_before)
+          (λ some. first_written i rs c.args.part.now are (k + 1) ∙ e.there (sym (written_is_listed i rs c.args.part.now are) ∙ some))),
     )

@@ -1,7 +1,8 @@
 use Rattle.std.proofs.Common.{rules, ◌≡◌, ◌+◌, ◌||◌, ℕ, Bool, true, false, length, take, refl, ap, sym, ◌∙◌, subst, arith}
 use Rattle.std.proofs.lemmas.List.{take_all}
-use Rattle.recovery_laws.specs.counted_logs.world_invariant.Logs.{is_touched, is_written}
-use Rattle.settlement.proofs.SharedRecords.{written_more}
+use Rattle.recovery_laws.specs.counted_logs.Owners.{listed}
+use Rattle.recovery_laws.specs.update_log.file_graph.Graph.{is_among}
+use Rattle.settlement.proofs.TouchedRecords.{listed_more}
 use Rattle.settlement.proofs.log_search.place_of.Goals as goal
 
 both_off : (a b : Bool) → a ≡ false → b ≡ false → (a || (b || false)) ≡ false
@@ -20,8 +21,8 @@ loop-place-init c = refl
 pub loop-place-preserved : goal.loop-place-preserved
 loop-place-preserved c =
     let r = c.index-part-place.result in
-    written_more c.args.inode c.args.part.now c.loop-place.place r c.loop-place-test.true (search rules)
-    ∙ both_off (is_written c.args.inode (take c.loop-place.place c.args.part.now)) (is_touched c.args.inode r) c.loop-place.invariant (sym c.touches_inode.ensures ∙ c.if-touches_inode.false)
+    listed_more c.args.inode c.args.part.now c.loop-place.place r c.loop-place-test.true (search rules)
+    ∙ both_off (is_among c.args.inode (listed (take c.loop-place.place c.args.part.now))) (is_among c.args.inode r) c.loop-place.invariant (sym c.touches_inode.ensures ∙ c.if-touches_inode.false)
 
 pub returns-then-touches_inode-clause-none_before : goal.returns-then-touches_inode-clause-none_before
 returns-then-touches_inode-clause-none_before c = c.loop-place.invariant
@@ -29,13 +30,13 @@ returns-then-touches_inode-clause-none_before c = c.loop-place.invariant
 pub returns-then-touches_inode-clause-there : goal.returns-then-touches_inode-clause-there
 returns-then-touches_inode-clause-there c = λ some.
     let r = c.index-part-place.result in
-    written_more c.args.inode c.args.part.now c.loop-place.place r c.loop-place-test.true (search rules)
-    ∙ last_on (is_written c.args.inode (take c.loop-place.place c.args.part.now)) (is_touched c.args.inode r) (sym c.touches_inode.ensures ∙ c.if-touches_inode.true)
+    listed_more c.args.inode c.args.part.now c.loop-place.place r c.loop-place-test.true (search rules)
+    ∙ last_on (is_among c.args.inode (listed (take c.loop-place.place c.args.part.now))) (is_among c.args.inode r) (sym c.touches_inode.ensures ∙ c.if-touches_inode.true)
 
 pub returns-clause-none_before : goal.returns-clause-none_before
 returns-clause-none_before c =
     let all : c.loop-place.place ≡ length c.args.part.now = omega (arith, c.loop-place-test.false, c.loop-place.auto.place-end) in
-    subst (λ (n : ℕ). is_written c.args.inode (take n c.args.part.now) ≡ false) all c.loop-place.invariant
+    subst (λ (n : ℕ). is_among c.args.inode (listed (take n c.args.part.now)) ≡ false) all c.loop-place.invariant
 
 pub returns-clause-there : goal.returns-clause-there
-returns-clause-there c = λ some. ap (is_written c.args.inode) (take_all (length c.args.part.now + 1) c.args.part.now (omega arith)) ∙ some
+returns-clause-there c = λ some. ap (λ ls. is_among c.args.inode (listed ls)) (take_all (length c.args.part.now + 1) c.args.part.now (omega arith)) ∙ some

@@ -13,15 +13,17 @@ invariant_of-result g c =
     let seen = m.seen c.read.new.media Fast in
     let same : c.as_slice.result.now ≡ seen = c.as_slice.ensures ∙ c.in-Ok.ensures.bytes ∙ sym (r.seen Fast) in
     let again : c.as_slice-in-Ok.result.now ≡ seen = c.as_slice-in-Ok.ensures ∙ c.in-Ok.ensures.bytes ∙ sym (r.seen Fast) in
-    let end = c.end_of-end.result in
-    (reopened end c.stage_at-stage.result c.read.new.self seen (λ d. m.left c.read.new.media (m.moment c.read.new.media) Fast d)
-    (subst (λ (f : List ℕ). c.stage_at-stage.result ≡ stages.Resting → get_or f end 0 ≢ 165) again c.stage_at-stage.ensures.shut)
-    c.stage_at-stage.ensures.idle
-    (omega (arith, ap length (r.seen Fast), c.requires.size))
-    (subst (λ (f : List ℕ). end < length f) same c.end_of-end.ensures.within)
-    (subst (λ (f : List ℕ). IsFront (take end f)) same c.end_of-end.ensures.front)
-    (subst (λ (f : List ℕ). payloads f ≡ before_gate (take end f)) same c.end_of-end.ensures.records)
-    (λ d l. c.requires.rests d (same_left _ _ _ _ r.clock r.past d l) ∙ sym (r.seen Fast)), (λ said. c.in-Ok.ensures.bytes ∙ sym (r.seen Fast)))
+    let end = c.end_of-end.result in (
+      reopened end c.stage_at-stage.result c.read.new.self seen (λ d. m.left c.read.new.media (m.moment c.read.new.media) Fast d)
+          (subst (λ (f : List ℕ). c.stage_at-stage.result ≡ stages.Resting → get_or f end 0 ≢ 165) again c.stage_at-stage.ensures.shut)
+          c.stage_at-stage.ensures.idle
+          (omega (arith, ap length (r.seen Fast), c.requires.size))
+          (subst (λ (f : List ℕ). end < length f) same c.end_of-end.ensures.within)
+          (subst (λ (f : List ℕ). IsFront (take end f)) same c.end_of-end.ensures.front)
+          (subst (λ (f : List ℕ). payloads f ≡ before_gate (take end f)) same c.end_of-end.ensures.records)
+          (λ d l. c.requires.rests d (same_left _ _ _ _ r.clock r.past d l) ∙ sym (r.seen Fast)),
+      (λ said. c.in-Ok.ensures.bytes ∙ sym (r.seen Fast)),
+    )
 
 pub returns-in-Ok-clause-header : goal.returns-in-Ok-clause-header
 returns-in-Ok-clause-header g c =
