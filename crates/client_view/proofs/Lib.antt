@@ -12,6 +12,7 @@ pub mod Reached
 pub mod Stays
 pub mod Tables
 pub mod Rooms
+pub mod Runs
 pub mod Untouched
 pub mod Views
 pub mod Agreeing

@@ -1,5 +1,5 @@
 -- Which blocks of files a record changes, and which it leaves.
-use Rattle.std.proofs.Common.{◌≡◌, ◌<◌, ◌≤◌, inl, inr, ◌⊎◌, ℕ, zero, suc, ◌+◌, ◌-◌, ◌*◌, Bool, true, false, cond, List, [], ◌∷◌, ◌++◌, length, take, drop, replicate, get_or, Option, Some, refl, ap, sym, ◌∙◌, subst, arith}
+use Rattle.std.proofs.Common.{◌≡◌, ◌<◌, ◌≤◌, inl, inr, ◌⊎◌, ℕ, zero, suc, ◌+◌, ◌-◌, ◌*◌, Bool, true, false, cond, List, [], ◌∷◌, ◌++◌, length, take, drop, replicate, get_or, Option, None, Some, refl, ap, sym, ◌∙◌, subst, arith}
 use Rattle.std.specs.Prelude.{◌==◌, ◌&&◌, ◌||◌, nat_lt}
 use Rattle.std.specs.List.{AllByRecursion}
 use Rattle.std.proofs.lemmas.List.{take_all, drop_all}
@@ -61,7 +61,8 @@ left at end b n t is yes' = elim (parts (nat_lt (4096 * b) end) (nat_lt at (4096
 ]
 
 pub written_reach : (j at : ℕ) (new : List ℕ) → IsReachOf (effect.Bytes j at new ∷ []) (reach.Written j at (at + length new))
-written_reach j at new i b block short is =
+written_reach j at new i b None short is = unless (is_among i (j ∷ [])) None None (λ same. refl)
+written_reach j at new i b (Some block) short is =
     ap (λ t. cond t (Some (block_written at new b block)) (Some block)) (on_one i j)
     ∙ unless (j == i) (Some (block_written at new b block)) (Some block) (λ same. ap (λ xs. Some xs) (elim (left at (at + length new) b (length block) (j == i) is same) [
       | inl less ↦ ends_before at b new block short less
@@ -69,7 +70,7 @@ written_reach j at new i b block short is =
     ]))
 
 pub subject_reach : (e : Effect) (j : ℕ) → subjects e ≡ j ∷ [] → IsReachOf (e ∷ []) (reach.OneInode j)
-subject_reach e j alone i b block short is = ap (λ t. cond t (block_acted e b (Some block)) (Some block)) (ap (is_among i) alone ∙ on_one i j ∙ is)
+subject_reach e j alone i b block short is = ap (λ t. cond t (block_acted e b block) block) (ap (is_among i) alone ∙ on_one i j ∙ is)
 
 -- ---- records and their reaches
 

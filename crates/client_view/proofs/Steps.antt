@@ -8,7 +8,7 @@ use Rattle.client_plan.specs.file_graph.declared.effect.Effect.{Effect}
 use Rattle.client_plan.specs.log_record.declared.format.Record.{Record}
 use Rattle.world_invariant.specs.call_effects.Blocks.{block_acted, block_after}
 use Rattle.world_invariant.specs.call_effects.NodeView.{NodeView, view_acted, view_after}
-use Rattle.client_view.specs.After.{block_laid, node_laid}
+use Rattle.client_view.specs.After.{node_laid}
 
 pub from_here : {X : Type 0} (xs : List X) (k : ℕ) (x : X) → k < length xs → x ≡ get_or xs k x → drop k xs ≡ x ∷ drop (k + 1) xs
 from_here {X} xs k x inside is = drop_more xs k x inside ∙ ap (λ (y : X). y ∷ drop (k + 1) xs) (sym is)
@@ -32,14 +32,6 @@ module _ (rs : List Record) (i : ℕ) where
 
   pub node_all : (k : ℕ) → length rs ≤ k → (now first : Option NodeView) → node_laid (drop k rs) i now ≡ node_laid rs i first → now ≡ node_laid rs i first
   node_all k done now first all = ap (λ (xs : List Record). node_laid xs i now) (sym (drop_all k rs done)) ∙ all
-
-  module _ (b : ℕ) where
-    pub block_more : (k : ℕ) (r : Record) → k < length rs → r ≡ get_or rs k r → (now next first : Option (List ℕ)) → next ≡ block_after r.effects i b now → block_laid (drop k rs) i b now ≡ block_laid rs i b first → block_laid (drop (k + 1) rs) i b next ≡ block_laid rs i b first
-    block_more k r inside is now next first laid all =
-        ap (block_laid (drop (k + 1) rs) i b) laid ∙ ap (λ (xs : List Record). block_laid xs i b now) (sym (from_here rs k r inside is)) ∙ all
-
-    pub block_all : (k : ℕ) → length rs ≤ k → (now first : Option (List ℕ)) → block_laid (drop k rs) i b now ≡ block_laid rs i b first → now ≡ block_laid rs i b first
-    block_all k done now first all = ap (λ (xs : List Record). block_laid xs i b now) (sym (drop_all k rs done)) ∙ all
 
 -- ---- effects
 

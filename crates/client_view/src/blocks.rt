@@ -1,74 +1,19 @@
-ghost use Rattle.std.specs.Prelude.{◌≡◌, ◌+◌, ◌-◌, ◌*◌, ◌≤◌, ◌++◌, ℕ, List, Option, min, max, length, take, drop, replicate, option_map, not, false, if◌then◌else◌};
-ghost use Rattle.std.specs.Option.{ForSome, option_map_or};
+ghost use Rattle.std.specs.Prelude.{◌≡◌, ◌+◌, ◌-◌, ◌*◌, ◌≤◌, ◌++◌, ℕ, List, Option, min, max, length, take, drop, replicate, option_map, if◌then◌else◌};
+ghost use Rattle.std.specs.Option.{ForSome};
 ghost use Rattle.client_plan.specs.posix_calls.Content.{with_length, with_bytes};
 ghost use Rattle.client_plan.specs.posix_calls.declared.limits.TheConstants.{UNIT_BYTES};
 ghost use Rattle.client_plan.specs.file_graph.Graph.{is_among, subjects};
 ghost use Rattle.client_plan.specs.file_graph.declared.effect.Effect.TheVariants as variants;
 ghost use Rattle.world_invariant.specs.call_effects.Blocks.{block_acted, block_after, block_resized, block_written};
-ghost use Rattle.client_view.specs.After.{block_laid};
-ghost use Rattle.client_view.specs.RecordReach.{AreReaches, IsReachOf, may_change};
 
 use crate::nodes::is_on;
-use crate::record_reach::RecordReach;
-use client_plan::{Effect, Kind, Record, UNIT_BYTES};
+use client_plan::{Effect, Kind, UNIT_BYTES};
 
 const UNIT: u64 = UNIT_BYTES as u64;
 
-/// A block of a file after records, each with what it reaches, in place: it stands at the front of a buffer of 4,096 bytes, and its length is told before and after, `None` where nothing is known of it, as of a file that was
+/// A block of a file after effects, in place: it stands at the front of a buffer of 4,096 bytes, and its length is told before and after, `None` where nothing is known of it, as of a file that was
 /// dropped. The block has the bytes that the file has there, so it is short where the file ends in it, and empty behind the end. It takes no memory.
-pub fn block_after(
-    records: &[Record],
-    reaches: &[RecordReach],
-    inode: u32,
-    block: u32,
-    buffer: &mut [u8],
-    len: Option<usize>,
-) -> Option<usize>
-    requires whole { length buffer.old ≡ UNIT_BYTES }
-    requires within { ForSome len (λ n. n ≤ UNIT_BYTES) }
-    requires reaches { AreReaches reaches.now records.now }
-    ensures laid { option_map (λ n. take n buffer.new) result ≡ block_laid records.now inode block (option_map (λ n. take n buffer.old) len) }
-    ensures within { ForSome result (λ n. n ≤ UNIT_BYTES) }
-{
-    let mut laid = len;
-    for place in 0..records.len() {
-        laid = take_record(&records[place], reaches[place], inode, block, buffer, laid);
-    }
-    laid
-}
-
-// A block after one record; one that is out of its reach stays as it is.
-fn take_record(
-    entry: &Record,
-    reach: RecordReach,
-    inode: u32,
-    block: u32,
-    buffer: &mut [u8],
-    len: Option<usize>,
-) -> Option<usize>
-    requires whole { length buffer.old ≡ UNIT_BYTES }
-    requires within { ForSome len (λ n. n ≤ UNIT_BYTES) }
-    requires reach { IsReachOf entry.now.effects reach }
-    ensures laid { option_map (λ n. take n buffer.new) result ≡ block_after entry.now.effects inode block (option_map (λ n. take n buffer.old) len) }
-    ensures within { ForSome result (λ n. n ≤ UNIT_BYTES) }
-{
-    if is_out_of_reach(reach, inode, block, len) {
-        return len;
-    }
-    take_effects(entry.effects.as_slice(), inode, block, buffer, len)
-}
-
-// Whether a block that is known is out of a record's reach.
-fn is_out_of_reach(reach: RecordReach, inode: u32, block: u32, len: Option<usize>) -> bool
-    ensures { result ≡ option_map_or (λ n. not (may_change reach inode block n)) len false }
-{
-    match len {
-        Some(len) => !reach.may_change(inode, block, len),
-        None => false,
-    }
-}
-
-fn take_effects(
+pub fn take_effects(
     effects: &[Effect],
     inode: u32,
     block: u32,

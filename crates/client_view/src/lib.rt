@@ -14,7 +14,7 @@
 //! (`specs/AfterRecord.antt`), and no block of what it touched. So no record copies a directory; a name that is entered moves those behind it.
 //!
 //! The kernel tells a client what stands in the shared graph, and the mark up to which the client's records are digested there. What the client logged behind the mark is not
-//! in it: before what was fetched goes into the copies, those records are laid over it, over a node (`node_after`) or over a block of a file (`OwnRecords::block_after`, which looks only at the effects of records that may change it). What that comes to is
+//! in it: before what was fetched goes into the copies, those records are laid over it, over a node (`node_after`) or over a run of blocks of a file (`OwnRecords::lay_over`, which looks at each record once and lays it over the blocks that it may change). What that comes to is
 //! what the graph has after the records (`specs/After.antt`), so that the copies agree with the whole again, as the laws tell. A client can't read the region that it handed over
 //! while it is away, so it keeps its records in memory too (`OwnRecords`): those of that region, until all of them are digested, and those of the region that it writes.
 //!
@@ -22,10 +22,12 @@
 #![tactic(auto)]
 
 mod answers;
+mod block_runs;
 mod blocks;
 mod copies;
 mod enter_room;
 mod enter_rooms;
+mod fetched_block;
 mod file_reads;
 mod in_place;
 mod laws;
@@ -38,6 +40,7 @@ mod record_reach;
 mod slots;
 
 pub use copies::ClientCopies;
+pub use fetched_block::FetchedBlock;
 pub use laws::{
     committed_change_adds_no_more_than_the_effects, forgetting_leaves_no_more,
     logged_call_can_be_prepared, logged_call_keeps_agreement, prepared_change_stays,

@@ -1,12 +1,12 @@
-ghost use Rattle.std.specs.Prelude.{◌≡◌, [], ◌∷◌, ◌++◌, ◌+◌, ◌^◌, ◌<◌, ◌≤◌, true, false, IfOk, OnErr, OnOk, option_map, take, drop, length, vec_capacity};
+ghost use Rattle.std.specs.Prelude.{◌≡◌, [], ◌∷◌, ◌++◌, ◌+◌, ◌^◌, ◌<◌, ◌≤◌, true, false, IfOk, OnErr, OnOk, drop, length, vec_capacity};
 ghost use Rattle.std.specs.List.{AllByRecursion};
-ghost use Rattle.std.specs.Option.{ForSome};
-ghost use Rattle.client_plan.specs.posix_calls.declared.limits.TheConstants.{UNIT_BYTES};
 ghost use Rattle.client_plan.specs.log_record.Grammar.{IsRecord};
-ghost use Rattle.client_view.specs.After.{block_laid, enter_at, node_laid};
+ghost use Rattle.client_view.specs.After.{enter_at, node_laid, run_laid};
 ghost use Rattle.client_view.specs.RecordLists.{IsEmptied, beyond};
+ghost use Rattle.client_view.specs.RecordReach.{AreShort};
 
-use crate::blocks::block_after;
+use crate::block_runs::take_records;
+use crate::fetched_block::FetchedBlock;
 use crate::nodes::node_after;
 use crate::record_reach::RecordReach;
 use client_plan::{Effect, Effects, Record};
@@ -150,64 +150,48 @@ impl OwnRecords {
         node_after(self.alloc, &self.current, inode, before)
     }
 
-    /// A block of a file after the records behind a mark, in place, as `block_after` has it. It takes no memory.
-    pub fn block_after(
+    /// Lays the records behind a mark over a run of blocks of a file from a first one on, as `node_after` does over a node. It takes no memory.
+    pub fn lay_over(
         &self,
         is_current: bool,
         done: usize,
         inode: u32,
-        block: u32,
-        buffer: &mut [u8],
-        len: Option<usize>,
-    ) -> Option<usize>
-        requires whole { length buffer.old ≡ UNIT_BYTES }
-        requires within { ForSome len (λ n. n ≤ UNIT_BYTES) }
-        ensures laid { option_map (λ n. take n buffer.new) result ≡ block_laid (beyond self.now is_current done) inode block (option_map (λ n. take n buffer.old) len) }
-        ensures within { ForSome result (λ n. n ≤ UNIT_BYTES) }
+        first: u32,
+        run: &mut [FetchedBlock],
+    )
+        requires blocks { first + length run.old ≤ 2 ^ 32 }
+        requires short { AreShort run.old }
+        ensures { run.new ≡ run_laid (beyond self.now is_current done) inode first run.old }
     {
         if is_current {
-            return self.after_current(done, inode, block, buffer, len);
+            self.lay_current(done, inode, first, run);
+            return;
         }
-        let before = self.after_away(done, inode, block, buffer, len);
-        self.after_current(0, inode, block, buffer, before)
+        self.lay_away(done, inode, first, run);
+        self.lay_current(0, inode, first, run);
     }
 
-    // A block after the records behind so many of the region that was handed over.
-    fn after_away(
-        &self,
-        done: usize,
-        inode: u32,
-        block: u32,
-        buffer: &mut [u8],
-        len: Option<usize>,
-    ) -> Option<usize>
-        requires whole { length buffer.old ≡ UNIT_BYTES }
-        requires within { ForSome len (λ n. n ≤ UNIT_BYTES) }
-        ensures laid { option_map (λ n. take n buffer.new) result ≡ block_laid (drop done self.now.away) inode block (option_map (λ n. take n buffer.old) len) }
-        ensures within { ForSome result (λ n. n ≤ UNIT_BYTES) }
+    // Lays the records behind so many of the region that was handed over.
+    fn lay_away(&self, done: usize, inode: u32, first: u32, run: &mut [FetchedBlock])
+        requires blocks { first + length run.old ≤ 2 ^ 32 }
+        requires short { AreShort run.old }
+        ensures laid { run.new ≡ run_laid (drop done self.now.away) inode first run.old }
+        ensures short { AreShort run.new }
     {
         let records = records_from(&self.away, done);
         let reaches = reaches_from(&self.away_reaches, done);
-        block_after(records, reaches, inode, block, buffer, len)
+        take_records(records, reaches, inode, first, run);
     }
 
-    // A block after the records behind so many of the region that is written.
-    fn after_current(
-        &self,
-        done: usize,
-        inode: u32,
-        block: u32,
-        buffer: &mut [u8],
-        len: Option<usize>,
-    ) -> Option<usize>
-        requires whole { length buffer.old ≡ UNIT_BYTES }
-        requires within { ForSome len (λ n. n ≤ UNIT_BYTES) }
-        ensures laid { option_map (λ n. take n buffer.new) result ≡ block_laid (drop done self.now.current) inode block (option_map (λ n. take n buffer.old) len) }
-        ensures within { ForSome result (λ n. n ≤ UNIT_BYTES) }
+    // Lays the records behind so many of the region that is written.
+    fn lay_current(&self, done: usize, inode: u32, first: u32, run: &mut [FetchedBlock])
+        requires blocks { first + length run.old ≤ 2 ^ 32 }
+        requires short { AreShort run.old }
+        ensures { run.new ≡ run_laid (drop done self.now.current) inode first run.old }
     {
         let records = records_from(&self.current, done);
         let reaches = reaches_from(&self.current_reaches, done);
-        block_after(records, reaches, inode, block, buffer, len)
+        take_records(records, reaches, inode, first, run);
     }
 }
 

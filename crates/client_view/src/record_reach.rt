@@ -1,5 +1,5 @@
 //! Which blocks of files a record may change, so that a block is laid over without looking at the effects of records that leave it as it is.
-ghost use Rattle.std.specs.Prelude.{◌≡◌, ◌+◌, ◌*◌, ◌&&◌, ◌||◌, [], ◌∷◌, nat_lt};
+ghost use Rattle.std.specs.Prelude.{◌≡◌, ◌≤◌, ◌<◌, ◌+◌, ◌-◌, ◌*◌, ◌&&◌, ◌||◌, ℕ, [], ◌∷◌, false, min, nat_lt, if◌then◌else◌};
 ghost use Rattle.std.specs.List.{AllByRecursion};
 ghost use Rattle.client_plan.specs.posix_calls.declared.limits.TheConstants.{UNIT_BYTES};
 ghost use Rattle.client_plan.specs.log_record.Grammar.{Fits};
@@ -46,6 +46,45 @@ impl RecordReach {
             } => subject == inode && reaches_block(start, end, block, len),
         }
     }
+
+    /// Which blocks of a run of a file may be changed, of which so many at the front are whole: none before the one place, and none from the other one on.
+    pub fn places(self, inode: u32, first: u32, count: usize, whole: usize) -> (usize, usize)
+        ensures before { (k : ℕ) → k < result.0 → (k < whole) × (may_change self inode (first + k) UNIT_BYTES ≡ false) }
+        ensures behind { (k n : ℕ) → result.1 ≤ k → k < count → may_change self inode (first + k) n ≡ false }
+        ensures within { result.1 ≤ count }
+    {
+        match self {
+            RecordReach::AnyInode => (0, count),
+            RecordReach::OneInode { inode: subject } => one_places(subject == inode, count),
+            RecordReach::Written {
+                inode: subject,
+                start,
+                end,
+            } => {
+                if subject != inode {
+                    return (0, 0);
+                }
+                (
+                    place_of(start / UNIT, first, whole),
+                    place_of(end.div_ceil(UNIT), first, count),
+                )
+            }
+        }
+    }
+}
+
+// All places of a run, or none.
+fn one_places(are_reached: bool, count: usize) -> (usize, usize)
+    ensures { result ≡ (0, if are_reached then count else 0) }
+{
+    if are_reached { (0, count) } else { (0, 0) }
+}
+
+// The place of a block in a run from a first one on, at most a limit.
+fn place_of(block: u64, first: u32, limit: usize) -> usize
+    ensures { result ≡ min limit (block - first) }
+{
+    block.saturating_sub(first as u64).min(limit as u64) as usize
 }
 
 fn reach_of(effect: &Effect) -> RecordReach

@@ -38,21 +38,12 @@ one_marks : (o : Option Marks) (v w : Marks) → o ≡ Some v → o ≡ Some w �
 one_marks o v w is also' = let both : Some v ≡ Some w = sym is ∙ also' in cc
 
 -- a client has one mark
-one_mark : (s : Store) (c : ℕ) (x y : Mark) → IsMarkIn s c x → IsMarkIn s c y → x ≡ y
+pub one_mark : (s : Store) (c : ℕ) (x y : Mark) → IsMarkIn s c x → IsMarkIn s c y → x ≡ y
 one_mark s c x y a b =
     let same : a.0 ≡ b.0 = one_marks (marks s) a.0 b.0 a.1 b.1 in
     let one = a.2 in
     let other = b.2 in
     cc
-
-module _ {M S : Type 0} (device : Ghosts M) (shared : Ghosts S) (k : KernelView S) where
-  pub laid_is : (v : ClientView M) (kept : Kept) (mark found : Mark) (i b : ℕ) (is_current : Bool) (read : List ℕ) → kept.current ≡ current_records device v.log → kept.away ≡ v.sealed → is_current ≡ (found.generation == v.log.generation)
-      → IsMarkIn (disk shared k.area) (client_of v.pass) found → IsMarkIn (disk shared k.area) (client_of v.pass) mark → read ≡ block_of b (bytes_at (shared_by shared k) i)
-      → block_laid (beyond kept is_current found.done) i b (Some read) ≡ block_behind device shared k v mark i b
-  laid_is v kept mark found i b is_current read current away is its asked same =
-      ap (λ (rs : List Record). block_laid rs i b (Some read)) (kept_behind device v kept found is_current current away is)
-      ∙ ap (λ (m : Mark). block_laid (records_behind device v m) i b (Some read)) (one_mark (disk shared k.area) (client_of v.pass) found mark its asked)
-      ∙ ap (λ (xs : List ℕ). block_laid (records_behind device v mark) i b (Some xs)) same
 
 -- ---- what is among the first ones is known
 
@@ -168,9 +159,9 @@ module _ {M S : Type 0} (device : Ghosts M) (shared : Ghosts S) (k : KernelView 
     rest = h.rest;
   }
 
-  -- ---- one more of a kernel that was only looked at
+  -- ---- more of a kernel that was only looked at
 
-  module _ (first n : ℕ) (then' : KernelView S) (mid new : ClientView M) (a : HasFetchedBlocks device shared k old i first n mid) (b : HasFetchedBlocks device shared then' mid i (first + n) 1 new) (stores : disk shared then'.area ≡ disk shared k.area) (geometry : then'.area.geometry ≡ k.area.geometry) where
+  module _ (first n more : ℕ) (then' : KernelView S) (mid new : ClientView M) (a : HasFetchedBlocks device shared k old i first n mid) (b : HasFetchedBlocks device shared then' mid i (first + n) more new) (stores : disk shared then'.area ≡ disk shared k.area) (geometry : then'.area.geometry ≡ k.area.geometry) where
     graphs : shared_by shared then' ≡ shared_by shared k
     graphs = ap (λ (g : Sizes). graph g (disk shared then'.area)) geometry ∙ ap (graph k.area.geometry) stores
 
@@ -189,7 +180,7 @@ module _ {M S : Type 0} (device : Ghosts M) (shared : Ghosts S) (k : KernelView 
         let l : IsBlockLong (known_to (record old { copies = record old.copies { blocks = mid.copies.blocks } })) i x w = subst (λ (v : ClientView M). IsBlockLong (known_to v) i x w) a.rest long in
         record { names = l.names; size = l.size; copy = l.copy; long = l.long }
 
-    pub more_came : HasFetchedBlocks device shared k old i first (n + 1) new
+    pub more_came : HasFetchedBlocks device shared k old i first (n + more) new
     more_came = record {
       no_more = λ mark is j x w known. elim (b.no_more mark (mark_then mark is) j x w known) [
         | inl before ↦ elim (a.no_more mark is j x w before) [
@@ -201,21 +192,21 @@ module _ {M S : Type 0} (device : Ghosts M) (shared : Ghosts S) (k : KernelView 
       others_stay = λ j x m w few out is.
           let before = a.others_stay j x m w (omega (arith, few)) (λ at low high. out at low (omega (arith, high))) is in
           let then'' = b.others_stay j x (m + n) w (omega (arith, few)) (λ at low high. out at (omega (arith, low)) (omega (arith, high))) before in
-          let further : m + n + 1 ≡ m + (n + 1) = omega arith in
+          let further : m + n + more ≡ m + (n + more) = omega arith in
           subst (λ c. kept_bytes j x (take c new.copies.blocks) ≡ Some w) further then'';
       rest = b.rest ∙ ap (λ (v : ClientView M). record v { copies = record v.copies { blocks = new.copies.blocks } }) a.rest;
     }
 
-    pub has_more : first + n < 4294967296 → HasThem device shared k old i first n mid → HasThem device shared then' mid i (first + n) 1 new → HasThem device shared k old i first (n + 1) new
+    pub has_more : first + n < 4294967296 → HasThem device shared k old i first n mid → HasThem device shared then' mid i (first + n) more new → HasThem device shared k old i first (n + more) new
     has_more bound had has' = λ few x w mark low high is told its. elim (dec_le (first + n) x) [
       | yes last ↦
           let known_then : IsBlockLong (known_to mid) i x w = long_then x w its in
-          let it = has' (omega arith) x w mark last (omega (arith, high)) (mark_then mark is) (same_block mark x ∙ told) known_then in
-          (it.0, found_in_more new.copies.blocks 1 (n + 1) i x (with_length 4096 w) (omega arith) it.1)
+          let it = has' (omega (arith, few)) x w mark last (omega (arith, high)) (mark_then mark is) (same_block mark x ∙ told) known_then in
+          (it.0, found_in_more new.copies.blocks more (n + more) i x (with_length 4096 w) (omega arith) it.1)
       | no earlier ↦
           let it = had (omega (arith, few)) x w mark low (omega (arith, earlier)) is told its in
           let there = b.others_stay i x n (with_length 4096 w) few (λ at from' to. absurd (omega (arith, from', earlier))) it.1 in
-          (found_is_known new.copies i x (n + 1) w (omega (arith, earlier, bound)) (long_now x w its) there, there)
+          (found_is_known new.copies i x (n + more) w (omega (arith, earlier, bound)) (long_now x w its) there, there)
     ]
       where
         long_then : (x : ℕ) (w : List ℕ) → IsBlockLong (known_to old) i x w → IsBlockLong (known_to mid) i x w

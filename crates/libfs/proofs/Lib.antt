@@ -9,6 +9,7 @@ pub mod Behind
 pub mod FirstBlocks
 pub mod Lengths
 pub mod FetchedNodes
+mod FetchedRuns
 pub mod Served
 mod Used
 mod OwnRecords

@@ -1,5 +1,5 @@
 -- What a client has once the kernel served it.
-use Rattle.std.specs.Prelude.{◌≡◌, ◌≢◌, ◌⊎◌, ℕ, ◌+◌, ◌<◌, ◌≤◌, ◌==◌, ◌&&◌, ◌||◌, ◌++◌, not, drop, min, take, Bool, false, List, [], ◌∷◌, Option, Some, None, Result, Ok, Err, OnErr, if◌then◌else◌}
+use Rattle.std.specs.Prelude.{◌≡◌, ◌≢◌, ◌⊎◌, ℕ, ◌+◌, ◌<◌, ◌≤◌, ◌==◌, ◌&&◌, ◌||◌, ◌++◌, not, drop, min, take, length, get_or, Bool, false, List, [], ◌∷◌, Option, Some, None, Result, Ok, Err, OnErr, if◌then◌else◌}
 use Rattle.std.specs.List.{filter}
 use Rattle.client_log.specs.tier_device.declared.media.Media.{Ghosts}
 use Rattle.client_log.specs.tier_device.declared.media.Tier.{Tier}
@@ -101,6 +101,16 @@ pub record HasFetched {M S : Type 0} (device : Ghosts M) (shared : Ghosts S) (k 
 abbrev pub block_behind : {M S : Type 0} → Ghosts M → Ghosts S → KernelView S → ClientView M → Mark → ℕ → ℕ → Option (List ℕ)
 block_behind device shared k v mark i b = block_laid (records_behind device v mark) i b (Some (block_of b (bytes_at (shared_by shared k) i)))
 
+-- so many blocks of a file with these bytes, from a first one on
+pub record IsRunOf (bytes : List ℕ) (first count : ℕ) (run : List (Option (List ℕ))) : Type 0 where
+  pub long : length run ≡ count
+  pub told : (n : ℕ) → n < count → get_or run n None ≡ Some (block_of (first + n) bytes)
+
+-- so many blocks of a file from a first one on, each as the client has it behind its mark
+pub record IsRunBehind {M S : Type 0} (device : Ghosts M) (shared : Ghosts S) (k : KernelView S) (v : ClientView M) (i first count : ℕ) (run : List (Option (List ℕ))) : Type 0 where
+  pub long : length run ≡ count
+  pub told : (mark : Mark) → IsMarkIn (disk shared k.area) (client_of v.pass) mark → (n : ℕ) → n < count → get_or run n None ≡ block_behind device shared k v mark i (first + n)
+
 -- It has no block that it had not before but some of these of a file, each as long as its copy of the file tells; and of all others those stay that are among the ones used last, as many as there is room for beside these.
 pub record HasFetchedBlocks {M S : Type 0} (device : Ghosts M) (shared : Ghosts S) (k : KernelView S) (old : ClientView M) (i first count : ℕ) (new : ClientView M) : Type 0 where
   pub no_more : (mark : Mark) → IsMarkIn (disk shared k.area) (client_of old.pass) mark → (j b : ℕ) (bytes : List ℕ) → (known_to new).blocks j b ≡ Some bytes
@@ -124,6 +134,11 @@ pub record AreAsLong {M S : Type 0} (device : Ghosts M) (shared : Ghosts S) (k :
 -- It has put a block of a file that is as long as its copy of the file tells; any other it has not.
 abbrev pub HasPut : {M : Type 0} → ClientView M → ℕ → ℕ → List ℕ → ClientView M → Type 0
 HasPut old i b bytes new = (IsBlockLong (known_to old) i b bytes × (new ≡ record old { copies = record old.copies { blocks = put_block i b (with_length BLOCK_SIZE bytes) old.copies.blocks } })) ⊎ ((IsBlockLong (known_to old) i b bytes → ⊥) × (new ≡ old))
+
+-- the same of a block over which its records are laid, if a file stands there
+abbrev pub HasPutLaid : {M : Type 0} → ClientView M → ℕ → ℕ → Option (List ℕ) → ClientView M → Type 0
+HasPutLaid old i b None new = new ≡ old
+HasPutLaid old i b (Some bytes) new = HasPut old i b bytes new
 
 -- ---- units, numbers and pins
 

@@ -1,25 +1,31 @@
 //! Blocks of files that a client fetches of the shared graph, with its own records laid over them.
-ghost use Rattle.std.specs.Prelude.{◌≡◌, ◌≢◌, ◌⊎◌, ◌≤◌, ◌<◌, ◌+◌, ◌-◌, ◌*◌, ◌^◌, ◌↔◌, ℕ, List, length, min, take, true, false, Err, OnOk, OnErr, IfOk, IfErr, IsTrue, IsErrOf, option_map};
-ghost use Rattle.std.specs.Option.{ForSome};
+ghost use Rattle.std.specs.Prelude.{◌≡◌, ◌≢◌, ◌⊎◌, ◌≤◌, ◌<◌, ◌+◌, ◌-◌, ◌*◌, ◌^◌, ◌↔◌, ◌++◌, ◌∷◌, [], ℕ, List, length, min, true, false, Some, Err, OnOk, OnErr, IfOk, IfErr, IfNone, IfSome, IsTrue, IsErrOf};
 ghost use Rattle.lease_manager.specs.posix_calls.declared.limits.TheConstants.{UNIT_BYTES};
 ghost use Rattle.kernel_fs.specs.layout.declared.marks.Mark.{Mark};
 ghost use Rattle.lease_manager.specs.Passes.{client_of, lease_of};
 ghost use Rattle.lease_manager.specs.Words.{HasWord};
 ghost use Rattle.lease_manager.specs.declared.view.LeaseMode.TheVariants.{Free};
+ghost use Rattle.client_log.specs.call_effects.Blocks.{block_of};
+ghost use Rattle.client_view.specs.After.{bytes_at, run_laid};
 ghost use Rattle.client_view.specs.BlockPut.{IsBlockLong};
+ghost use Rattle.client_view.specs.RecordReach.{AreShort};
 ghost use Rattle.kernel_fs.specs.area_image.Store.{disk};
 ghost use Rattle.kernel_fs.specs.MachineState.{IsMarkIn};
 ghost use Rattle.libfs.specs.declared.denial.Denied.TheVariants as denied;
 ghost use Rattle.libfs.specs.ClientHoldings.{known_to};
-ghost use Rattle.libfs.specs.NeedService.{HasFetchedBlocks, HasLooked, HasPut, HasThem, block_behind};
+ghost use Rattle.libfs.specs.NeedService.{HasFetchedBlocks, HasLooked, HasPut, HasPutLaid, HasThem, IsRunBehind, IsRunOf, records_behind, shared_by};
 
 use crate::client::Client;
 use crate::copy_fetch::area_denied;
 use crate::denial::Denied;
 use client_log::Media;
-use kernel_fs::Kernel;
+use client_view::FetchedBlock;
+use kernel_fs::{Kernel, Mark};
 use lease_manager::UNIT_BYTES;
 use std::alloc::{AllocError, Global};
+
+// How many blocks are in memory at once, before they are kept: those of 64 KiB.
+const RUN: u32 = 16;
 
 impl<M: Media> Client<M> {
     /// Fetches blocks of a file that it holds, of 4,096 bytes each, with the client's own records that are not digested there laid over them. They are the ones used last then. Of a block that is not as long as
@@ -47,86 +53,160 @@ impl<M: Media> Client<M> {
         if kernel.has_failed() {
             return Err(Denied::KernelFailed);
         }
-        match block_buffer(self.alloc) {
-            Ok(mut buffer) => self.fetch_each(kernel, inode, first, count, &mut buffer),
-            Err(_) => Err(Denied::Memory),
-        }
+        self.fetch_runs(kernel, inode, first, count)
     }
 
-    // Fetches blocks one after the other, of a kernel that has not failed.
-    fn fetch_each<S: Media>(
+    // Fetches blocks run by run, of a kernel that has not failed.
+    fn fetch_runs<S: Media>(
         &mut self,
         kernel: &mut Kernel<S>,
         inode: u32,
         first: u32,
         count: u32,
-        buffer: &mut [u8],
     ) -> Result<(), Denied>
         requires blocks { first + count < 2 ^ 32 }
-        requires whole { length buffer.old ≡ UNIT_BYTES }
         requires going { kernel.old.area.failed ≡ false }
         ensures fetched { HasFetchedBlocks M.Media S.Media kernel.old self.old inode first count self.new }
         ensures there { OnOk result (HasThem M.Media S.Media kernel.old self.old inode first count self.new) }
         ensures looks { HasLooked S.Media kernel.old kernel.new result }
         ensures only { IfErr result (λ e. (e ≡ denied.Device) ⊎ (e ≡ denied.Memory)) }
     {
+        let mut done = 0;
+        for run in 0..count / RUN {
+            self.fetch_run(kernel, inode, first + done, RUN)?;
+            done += RUN;
+        }
+        self.fetch_run(kernel, inode, first + done, count - done)
+    }
+
+    // Fetches a run of blocks, which are in memory at once.
+    fn fetch_run<S: Media>(
+        &mut self,
+        kernel: &mut Kernel<S>,
+        inode: u32,
+        first: u32,
+        count: u32,
+    ) -> Result<(), Denied>
+        requires blocks { first + count < 2 ^ 32 }
+        requires going { kernel.old.area.failed ≡ false }
+        ensures fetched { HasFetchedBlocks M.Media S.Media kernel.old self.old inode first count self.new }
+        ensures there { OnOk result (HasThem M.Media S.Media kernel.old self.old inode first count self.new) }
+        ensures looks { HasLooked S.Media kernel.old kernel.new result }
+        ensures only { IfErr result (λ e. (e ≡ denied.Device) ⊎ (e ≡ denied.Memory)) }
+    {
+        let run = self.lay_run(kernel, inode, first, count)?;
         for place in 0..count {
-            self.fetch_block(kernel, inode, first + place, buffer)?;
+            self.put_laid(inode, first + place, &run[place as usize])?;
         }
         Ok(())
     }
 
-    // Fetches one block, by a buffer of its length.
-    fn fetch_block<S: Media>(
-        &mut self,
+    // Reads a run of blocks of the kernel's graph, with the own records behind the mark laid over it.
+    fn lay_run<S: Media>(
+        &self,
         kernel: &mut Kernel<S>,
         inode: u32,
-        block: u32,
-        buffer: &mut [u8],
-    ) -> Result<(), Denied>
-        requires whole { length buffer.old ≡ UNIT_BYTES }
+        first: u32,
+        count: u32,
+    ) -> Result<Vec<FetchedBlock>, Denied>
+        requires blocks { first + count < 2 ^ 32 }
         requires going { kernel.old.area.failed ≡ false }
-        ensures fetched { HasFetchedBlocks M.Media S.Media kernel.old self.old inode block 1 self.new }
-        ensures there { OnOk result (HasThem M.Media S.Media kernel.old self.old inode block 1 self.new) }
+        ensures laid { IfOk result (λ run. IsRunBehind M.Media S.Media kernel.old self.now inode first count run.items) }
         ensures looks { HasLooked S.Media kernel.old kernel.new result }
         ensures only { IfErr result (λ e. (e ≡ denied.Device) ⊎ (e ≡ denied.Memory)) }
     {
-        match self.lay_block(kernel, inode, block, buffer) {
-            Ok(Some(len)) => self.put_block(inode, block, &buffer[..len]),
-            Ok(None) => Ok(()),
-            Err(why) => Err(why),
-        }
+        let mut run = Vec::new(self.alloc);
+        let mark = self.read_run(kernel, inode, first, count, &mut run)?;
+        self.lay_marked(mark, inode, first, &mut run);
+        Ok(run)
     }
 
-    // Reads a block of the kernel's graph into the front of a buffer, with the own records behind the mark laid over it, and tells its length; `None` where no file stands then.
-    fn lay_block<S: Media>(
+    // Reads a run of blocks of the kernel's graph, with the client's mark, if they are any.
+    fn read_run<S: Media>(
+        &self,
+        kernel: &mut Kernel<S>,
+        inode: u32,
+        first: u32,
+        count: u32,
+        run: &mut Vec<FetchedBlock>,
+    ) -> Result<Option<Mark>, Denied>
+        requires empty { run.old.items ≡ [] }
+        requires blocks { first + count < 2 ^ 32 }
+        requires going { kernel.old.area.failed ≡ false }
+        ensures run { OnOk result (IsRunOf (bytes_at (shared_by S.Media kernel.old) inode) first count run.new.items) }
+        ensures mark { IfOk result (λ found. 0 < count → (mark : Mark) × (found ≡ Some mark) × IsMarkIn (disk S.Media kernel.old.area) (client_of self.now.pass) mark) }
+        ensures looks { HasLooked S.Media kernel.old kernel.new result }
+        ensures only { IfErr result (λ e. (e ≡ denied.Device) ⊎ (e ≡ denied.Memory)) }
+    {
+        let mut mark = None;
+        for place in 0..count {
+            let (block, found) = self.read_block(kernel, inode, first + place)?;
+            push_block(run, block)?;
+            mark = Some(found);
+        }
+        Ok(mark)
+    }
+
+    // Reads a block of the kernel's graph, with the client's mark.
+    fn read_block<S: Media>(
         &self,
         kernel: &mut Kernel<S>,
         inode: u32,
         block: u32,
-        buffer: &mut [u8],
-    ) -> Result<Option<usize>, Denied>
-        requires whole { length buffer.old ≡ UNIT_BYTES }
+    ) -> Result<(FetchedBlock, Mark), Denied>
         requires going { kernel.old.area.failed ≡ false }
-        ensures laid { IfOk result (λ len. (mark : Mark) → IsMarkIn (disk S.Media kernel.old.area) (client_of self.now.pass) mark → option_map (λ n. take n buffer.new) len ≡ block_behind M.Media S.Media kernel.old self.now mark inode block) }
-        ensures within { IfOk result (λ len. ForSome len (λ n. n ≤ UNIT_BYTES)) }
+        ensures block { IfOk result (λ x. x.0 ≡ Some (block_of block (bytes_at (shared_by S.Media kernel.old) inode))) }
+        ensures mark { IfOk result (λ x. IsMarkIn (disk S.Media kernel.old.area) (client_of self.now.pass) x.1) }
         ensures looks { HasLooked S.Media kernel.old kernel.new result }
         ensures only { IfErr result (λ e. (e ≡ denied.Device) ⊎ (e ≡ denied.Memory)) }
     {
-        let found = match kernel.blocks(self.pass.client(), inode, block, buffer) {
-            Ok(found) => found,
-            Err(error) => return Err(area_denied(error)),
+        let mut buffer = match block_buffer(self.alloc) {
+            Ok(buffer) => buffer,
+            Err(_) => return Err(Denied::Memory),
         };
-        if !self.has_own_records(inode) {
-            return Ok(Some(found.count));
+        match kernel.blocks(self.pass.client(), inode, block, &mut buffer) {
+            Ok(found) => Ok((FetchedBlock::of(buffer, found.count), found.mark)),
+            Err(error) => Err(area_denied(error)),
         }
-        let is_current = self.is_current(found.mark);
-        let done = found.mark.done as usize;
-        let count = Some(found.count);
-        Ok(
-            self.records
-                .block_after(is_current, done, inode, block, buffer, count),
-        )
+    }
+
+    // Lays the own records behind a mark, if there is one, over a run of blocks.
+    fn lay_marked(&self, mark: Option<Mark>, inode: u32, first: u32, run: &mut [FetchedBlock])
+        requires blocks { first + length run.old ≤ 2 ^ 32 }
+        requires short { AreShort run.old }
+        ensures laid { IfSome mark (λ m. run.new ≡ run_laid (records_behind M.Media self.now m) inode first run.old) }
+        ensures none { IfNone mark (run.new ≡ run.old) }
+    {
+        match mark {
+            Some(mark) => self.lay_own(mark, inode, first, run),
+            None => {}
+        }
+    }
+
+    // Lays the own records behind a mark over a run of blocks: each record is looked at once.
+    fn lay_own(&self, mark: Mark, inode: u32, first: u32, run: &mut [FetchedBlock])
+        requires blocks { first + length run.old ≤ 2 ^ 32 }
+        requires short { AreShort run.old }
+        ensures { run.new ≡ run_laid (records_behind M.Media self.now mark) inode first run.old }
+    {
+        if !self.has_own_records(inode) {
+            return;
+        }
+        let is_current = self.is_current(mark);
+        let done = mark.done as usize;
+        self.records.lay_over(is_current, done, inode, first, run);
+    }
+
+    // Keeps a block over which the own records are laid, unless no file stands there.
+    fn put_laid(&mut self, inode: u32, block: u32, laid: &FetchedBlock) -> Result<(), Denied>
+        ensures put { OnOk result (HasPutLaid self.old inode block laid.now self.new) }
+        ensures same { OnErr result (self.new ≡ self.old) }
+        ensures only { IfErr result (λ e. e ≡ denied.Memory) }
+    {
+        match laid.bytes() {
+            Some(bytes) => self.put_block(inode, block, bytes),
+            None => Ok(()),
+        }
     }
 
     // Keeps a block that is as long as the client's copy of the file tells, and no other.
@@ -169,4 +249,15 @@ fn block_buffer(alloc: Global) -> Result<Vec<u8>, AllocError>
 {
     let size = UNIT_BYTES as usize;
     vec![in alloc; 0u8; size]
+}
+
+// Puts a block behind the others of a run.
+fn push_block(run: &mut Vec<FetchedBlock>, block: FetchedBlock) -> Result<(), Denied>
+    ensures pushed { OnOk result (run.new.items ≡ run.old.items ++ block ∷ []) }
+    ensures only { IfErr result (λ e. e ≡ denied.Memory) }
+{
+    match run.push(block) {
+        Ok(()) => Ok(()),
+        Err(_) => Err(Denied::Memory),
+    }
 }

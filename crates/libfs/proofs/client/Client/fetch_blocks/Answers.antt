@@ -4,6 +4,3 @@ use Rattle.libfs.proofs.client.Client.fetch_blocks.Goals as goal
 
 pub returns-then-has_failed-clause-fetched : goal.returns-then-has_failed-clause-fetched
 returns-then-has_failed-clause-fetched g c = none_came g.M.Media g.S.Media c.args.kernel.now c.args.self.now c.args.inode c.args.self.now c.args.first c.args.count refl
-
-pub returns-in-Err-clause-fetched : goal.returns-in-Err-clause-fetched
-returns-in-Err-clause-fetched g c = none_came g.M.Media g.S.Media c.args.kernel.now c.args.self.now c.args.inode c.args.self.now c.args.first c.args.count refl
