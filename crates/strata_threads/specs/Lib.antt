@@ -1,5 +1,6 @@
 pub mod CallDenials
 pub mod ClientCalls
+pub mod HeardQuestions
 pub mod LeaseReturn
 pub mod RegionHandover
 pub mod RegionRefusals

@@ -1,7 +1,7 @@
 -- How a region goes from thread to thread: each step puts it at an end of a queue, or takes it there, and no other one moves.
-use Rattle.std.specs.Prelude.{◌≡◌, ◌⊎◌, ◌-◌, ◌≤◌, ℕ, List, Option, None, Some, slice_get, slice_set}
+use Rattle.std.specs.Prelude.{◌≡◌, ◌⊎◌, ◌-◌, ◌≤◌, ℕ, List, Option, None, Some, length, slice_get, slice_set}
 use Rattle.handoff.specs.Ends.{EndView}
-use Rattle.handoff.specs.Line.{HasPut, HasTaken}
+use Rattle.handoff.specs.Line.{EndsLine, HasPut, HasTaken}
 use Rattle.libfs.specs.tier_device.declared.media.Media.{Ghosts}
 use Rattle.libfs.specs.client_log.Calls.{IsOnlyRead}
 use Rattle.libfs.specs.client_log.Steps.{CanBeSealed}
@@ -27,6 +27,11 @@ module _ {M : Type 0} (device : Ghosts M) where
   -- A client got its region: it took it back, exactly where it may, or sent it to the workers once more or keeps it.
   abbrev pub HasReceived : ClientView M → EndView (SealedRegionView M) → SealedRegionView M → ClientView M → EndView (SealedRegionView M) → Option (SealedRegionView M) → Type 0
   HasReceived old tasks x new after kept = (MayTakeBack device old x × HasTakenBack device old x new × (after ≡ tasks) × (kept ≡ None)) ⊎ ((MayTakeBack device old x → ⊥) × (new ≡ old) × HasSentOrKept tasks x after kept)
+
+  -- It took the first region of the queue back to it, and got that; or that queue was empty at one moment, and nothing has changed.
+  abbrev pub HasLookedForRegion : ClientView M → EndView (SealedRegionView M) → EndView (SealedRegionView M) → ClientView M → EndView (SealedRegionView M) → EndView (SealedRegionView M) → Option (SealedRegionView M) → Type 0
+  HasLookedForRegion old tasks returns new after back kept = (((items : List (SealedRegionView M)) × (length items ≡ 0) × EndsLine returns.hands items) × (back.hands ≡ returns.hands) × (new ≡ old) × (after ≡ tasks) × (kept ≡ None))
+      ⊎ ((x : SealedRegionView M) × HasTaken returns.hands x back.hands × HasReceived old tasks x new after kept)
 
   -- A client handed its current region over: it was sealed, and sent to the workers or kept.
   abbrev pub HasHandedOver : ClientView M → EndView (SealedRegionView M) → ClientView M → EndView (SealedRegionView M) → Option (SealedRegionView M) → Type 0

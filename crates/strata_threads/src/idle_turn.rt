@@ -1,12 +1,16 @@
 //! What a client does between its turns: it gives what others ask for, and takes its region back.
-ghost use Rattle.std.specs.Prelude.{◌≡◌, ◌<◌, ◌++◌, ◌↔◌, true, [], None, IfNone, IfSome, IsTrue, OnErr, OnOk};
+ghost use Rattle.std.specs.Prelude.{◌≡◌, ◌≢◌, ◌<◌, ◌+◌, ◌++◌, ◌↔◌, ℕ, min, true, false, [], None, IfNone, IfSome, IsTrue, OnErr, OnOk, slice_index};
+ghost use Rattle.std.specs.Int.{bit_at};
 ghost use Rattle.libfs.specs.client_log.Steps.{CanBeSealed};
 ghost use Rattle.libfs.specs.client_log.View.{current_records};
+ghost use Rattle.libfs.specs.lease_manager.Passes.{lease_of};
 ghost use Rattle.libfs.specs.lease_manager.Words.{HasWord};
+ghost use Rattle.libfs.specs.lease_manager.declared.view.LeaseMode.TheVariants.{Free};
 ghost use Rattle.libfs.specs.LeaseCalls.{CanBeGiven};
 ghost use Rattle.strata_threads.specs.ClientCalls.{KeepsCall};
+ghost use Rattle.strata_threads.specs.HeardQuestions.{AreAnswered, IsAnswered, HasHeardRow, HasHeardRows, HoldsWithin, heard_of, looked_at, row_of};
 ghost use Rattle.strata_threads.specs.LeaseReturn.{HasNoneToGive, HasOnlyGiven};
-ghost use Rattle.strata_threads.specs.RegionHandover.{HandsOver, HasComeBack, HasListened, HasReceived, HasSealedOrNot, HasSentOrKept};
+ghost use Rattle.strata_threads.specs.RegionHandover.{HandsOver, HasComeBack, HasListened, HasLookedForRegion, HasReceived, HasSealedOrNot, HasSentOrKept};
 
 use crate::thread_client::ThreadClient;
 use libfs::{Client, INODES, LeaseMode, Media, SealedRegion};
@@ -21,6 +25,7 @@ impl<M: Media + Drop> ThreadClient<M> {
     /// to do listens all the time, since nobody else gives what it holds.
     pub fn listen<R: Wait>(&mut self, rt: &R)
         ensures listened { HasListened M.Media self.old.client self.new.client }
+        ensures rows { self.new.rows ≡ self.old.rows }
         ensures kept { KeepsCall self.old.client self.new.client }
         ensures waited { self.new.waited ≡ self.old.waited }
     {
@@ -30,6 +35,7 @@ impl<M: Media + Drop> ThreadClient<M> {
     // The same of the first rows of inodes.
     pub(crate) fn listen_to<R: Wait>(&mut self, rt: &R, rows: u32)
         ensures listened { HasListened M.Media self.old.client self.new.client }
+        ensures rows { self.new.rows ≡ self.old.rows }
         ensures kept { KeepsCall self.old.client self.new.client }
         ensures waited { self.new.waited ≡ self.old.waited }
     {
@@ -43,6 +49,8 @@ impl<M: Media + Drop> ThreadClient<M> {
     // Takes the region back that came by the queue, if one is away. One that the queue to the workers had no room for goes first.
     fn take_back<R: Wait>(&mut self, rt: &R)
         ensures back { HasComeBack M.Media self.old.client self.new.client }
+        ensures looked { self.old.client.log.other ≡ None → self.old.kept ≡ None → HasLookedForRegion M.Media self.old.client self.old.tasks self.old.returns self.new.client self.new.tasks self.new.returns self.new.kept }
+        ensures rows { self.new.rows ≡ self.old.rows }
         ensures kept { KeepsCall self.old.client self.new.client }
         ensures waited { self.new.waited ≡ self.old.waited }
     {
@@ -64,6 +72,7 @@ impl<M: Media + Drop> ThreadClient<M> {
         requires free { self.old.kept ≡ None }
         ensures received { HasReceived M.Media self.old.client self.old.tasks region self.new.client self.new.tasks self.new.kept }
         ensures returns { self.new.returns ≡ self.old.returns }
+        ensures rows { self.new.rows ≡ self.old.rows }
         ensures kept { KeepsCall self.old.client self.new.client }
         ensures waited { self.new.waited ≡ self.old.waited }
     {
@@ -79,6 +88,7 @@ impl<M: Media + Drop> ThreadClient<M> {
         ensures memory { OnErr result (CanBeSealed M.Media self.old.client.log × (self.new.client ≡ self.old.client) × (self.new.tasks ≡ self.old.tasks) × (self.new.kept ≡ self.old.kept)) }
         ensures sealed { HasSealedOrNot M.Media self.old.client self.new.client }
         ensures returns { self.new.returns ≡ self.old.returns }
+        ensures rows { self.new.rows ≡ self.old.rows }
         ensures kept { KeepsCall self.old.client self.new.client }
         ensures waited { self.new.waited ≡ self.old.waited }
     {
@@ -100,6 +110,7 @@ impl<M: Media + Drop> ThreadClient<M> {
         ensures sent { IfSome self.old.kept (λ region. HasSentOrKept self.old.tasks region self.new.tasks self.new.kept) }
         ensures none { IfNone self.old.kept ((self.new.tasks ≡ self.old.tasks) × (self.new.kept ≡ None)) }
         ensures returns { self.new.returns ≡ self.old.returns }
+        ensures rows { self.new.rows ≡ self.old.rows }
         ensures kept { self.new.client ≡ self.old.client }
         ensures waited { self.new.waited ≡ self.old.waited }
     {
@@ -114,6 +125,7 @@ impl<M: Media + Drop> ThreadClient<M> {
         requires free { self.old.kept ≡ None }
         ensures sent { HasSentOrKept self.old.tasks region self.new.tasks self.new.kept }
         ensures returns { self.new.returns ≡ self.old.returns }
+        ensures rows { self.new.rows ≡ self.old.rows }
         ensures kept { self.new.client ≡ self.old.client }
         ensures waited { self.new.waited ≡ self.old.waited }
     {
@@ -151,6 +163,7 @@ impl<M: Media + Drop> ThreadClient<M> {
     pub fn give_all(&mut self)
         ensures given { HasOnlyGiven self.old.client self.new.client }
         ensures none { HasNoneToGive self.new.client }
+        ensures rows { HoldsWithin self.new.rows self.new.client }
         ensures kept { KeepsCall self.old.client self.new.client }
         ensures waited { self.new.waited ≡ self.old.waited }
     {
@@ -160,15 +173,12 @@ impl<M: Media + Drop> ThreadClient<M> {
 }
 
 // Hears what others ask for of the first rows of inodes.
-#[tactic(auto, using(crate::proofs::LeaseReturn::gives_nothing, crate::proofs::LeaseReturn::gives_both))]
 fn hear<M: Media>(client: &mut Client<M>, asked: &mut [u64; 16], rows: u32)
+    ensures heard { HasHeardRows (min rows 16) client.old asked.old client.new asked.new }
     ensures given { HasOnlyGiven client.old client.new }
     ensures kept { KeepsCall client.old client.new }
 {
-    for row in 0..ROWS {
-        if rows <= row {
-            return;
-        }
+    for row in 0..rows.min(ROWS) {
         let bits = hear_row(client, row);
         asked[row as usize] |= bits;
     }
@@ -178,6 +188,7 @@ fn hear<M: Media>(client: &mut Client<M>, asked: &mut [u64; 16], rows: u32)
 #[tactic(auto, using(crate::proofs::LeaseReturn::gives_nothing, crate::proofs::LeaseReturn::gives_both))]
 fn hear_row<M: Media>(client: &mut Client<M>, row: u32) -> u64
     requires row { row < 16 }
+    ensures heard { HasHeardRow client.old row result client.new }
     ensures given { HasOnlyGiven client.old client.new }
     ensures kept { KeepsCall client.old client.new }
 {
@@ -188,7 +199,9 @@ fn hear_row<M: Media>(client: &mut Client<M>, row: u32) -> u64
 }
 
 // How many rows there are up to the last one of which it holds an inode.
-pub(crate) fn held_rows<M: Media>(client: &Client<M>) -> u32 {
+pub(crate) fn held_rows<M: Media>(client: &Client<M>) -> u32
+    ensures { HoldsWithin result client.now }
+{
     let mut rows = 0;
     for before in 0..INODES {
         if client.holds(before + 1) != LeaseMode::Free {
@@ -201,6 +214,7 @@ pub(crate) fn held_rows<M: Media>(client: &Client<M>) -> u32 {
 // How many rows there are up to that of an inode.
 pub(crate) fn row_count(inode: u32) -> u32
     requires { HasWord inode }
+    ensures { result ≡ row_of inode + 1 }
 {
     (inode - 1) / 64 + 1
 }
@@ -208,6 +222,7 @@ pub(crate) fn row_count(inode: u32) -> u32
 // Whether others ask for something of a row of inodes.
 fn has_questions<M: Media>(client: &mut Client<M>, row: u32) -> bool
     requires row { row < 16 }
+    ensures looked { (shown : ℕ) × (IsTrue result ↔ (shown ≢ 0)) × (client.new ≡ looked_at client.old row shown) }
     ensures given { HasOnlyGiven client.old client.new }
     ensures kept { KeepsCall client.old client.new }
 {
@@ -217,29 +232,25 @@ fn has_questions<M: Media>(client: &mut Client<M>, row: u32) -> bool
 // What others ask for of it, and the row is emptied.
 fn empty_row<M: Media>(client: &mut Client<M>, row: u32) -> u64
     requires row { row < 16 }
+    ensures heard { client.new ≡ heard_of client.old row result }
     ensures given { HasOnlyGiven client.old client.new }
     ensures kept { KeepsCall client.old client.new }
 {
     client.asked_back(row)
 }
 
-// Gives what was asked for of the first rows. It answers whether something is left that can't be given.
-#[tactic(auto, using(crate::proofs::LeaseReturn::gives_nothing, crate::proofs::LeaseReturn::gives_both))]
+// Gives what was asked for of the first rows, and keeps what can't be given. It answers whether something of them is left.
 fn give_asked<M: Media>(client: &mut Client<M>, asked: &mut [u64; 16], rows: u32) -> bool
+    ensures answered { (row : ℕ) → row < min rows 16 → AreAnswered client.new row (slice_index asked.old row) (slice_index asked.new row) }
+    ensures left { result ≡ false → (row : ℕ) → row < min rows 16 → slice_index asked.new row ≡ 0 }
     ensures given { HasOnlyGiven client.old client.new }
     ensures kept { KeepsCall client.old client.new }
 {
     let mut is_left = false;
-    for row in 0..ROWS {
-        if rows <= row {
-            return is_left;
-        }
-        let bits = asked[row as usize];
-        if bits != 0 {
-            let left = give_row(client, row, bits);
-            asked[row as usize] = left;
-            is_left = is_left || left != 0;
-        }
+    for row in 0..rows.min(ROWS) {
+        let left = give_row(client, row, asked[row as usize]);
+        asked[row as usize] = left;
+        is_left = is_left || left != 0;
     }
     is_left
 }
@@ -256,19 +267,66 @@ fn give_inodes<M: Media>(client: &mut Client<M>)
 }
 
 // Gives those of a row of inodes whose bits are set. It answers which are held and can't be given.
-#[tactic(auto, using(crate::proofs::LeaseReturn::gives_nothing, crate::proofs::LeaseReturn::gives_both))]
 fn give_row<M: Media>(client: &mut Client<M>, row: u32, bits: u64) -> u64
     requires row { row < 16 }
+    ensures answered { AreAnswered client.new row bits result }
+    ensures given { HasOnlyGiven client.old client.new }
+    ensures kept { KeepsCall client.old client.new }
+{
+    if bits == 0 {
+        return 0;
+    }
+    give_bits(client, row, bits)
+}
+
+// The same, where a bit is set.
+fn give_bits<M: Media>(client: &mut Client<M>, row: u32, bits: u64) -> u64
+    requires row { row < 16 }
+    ensures answered { AreAnswered client.new row bits result }
     ensures given { HasOnlyGiven client.old client.new }
     ensures kept { KeepsCall client.old client.new }
 {
     let mut left = 0;
     for bit in 0..64u32 {
-        if bits >> bit & 1 == 1 && !give(client, 64 * row + bit + 1) {
-            left |= 1 << bit;
-        }
+        left = give_bit(client, row, bits, bit, left);
     }
     left
+}
+
+// Gives the inode of a bit of a row, if the bit is set. It answers the bits that are left, with this one if it is held and can't be given.
+#[tactic(auto, using(crate::proofs::LeaseReturn::gives_nothing))]
+fn give_bit<M: Media>(client: &mut Client<M>, row: u32, bits: u64, bit: u32, left: u64) -> u64
+    requires row { row < 16 }
+    requires bit { bit < 64 }
+    ensures answered { bit_at bits bit ≡ 1 → IsAnswered client.new row result bit }
+    ensures rest { (other : ℕ) → other ≢ bit → bit_at result other ≡ bit_at left other }
+    ensures given { HasOnlyGiven client.old client.new }
+    ensures kept { KeepsCall client.old client.new }
+{
+    if !has_bit(bits, bit) {
+        return left;
+    }
+    if give(client, 64 * row + bit + 1) {
+        return left;
+    }
+    with_bit(left, bit)
+}
+
+// Whether a bit is set.
+fn has_bit(bits: u64, bit: u32) -> bool
+    requires { bit < 64 }
+    ensures { IsTrue result ↔ (bit_at bits bit ≡ 1) }
+{
+    bits >> bit & 1 == 1
+}
+
+// The bits with one more set.
+fn with_bit(bits: u64, bit: u32) -> u64
+    requires { bit < 64 }
+    ensures is_set { bit_at result bit ≡ 1 }
+    ensures rest { (other : ℕ) → other ≢ bit → bit_at result other ≡ bit_at bits other }
+{
+    bits | 1 << bit
 }
 
 // Gives an inode back, if it is held. It answers false where it can't be given.
@@ -277,6 +335,7 @@ fn give<M: Media>(client: &mut Client<M>, inode: u32) -> bool
     requires inode { HasWord inode }
     ensures given { HasOnlyGiven client.old client.new }
     ensures none { CanBeGiven client.new inode → ⊥ }
+    ensures free { result ≡ true → lease_of client.new.pass inode ≡ Free }
     ensures kept { KeepsCall client.old client.new }
 {
     if client.holds(inode) == LeaseMode::Free {
@@ -289,6 +348,7 @@ fn give<M: Media>(client: &mut Client<M>, inode: u32) -> bool
 fn give_held<M: Media>(client: &mut Client<M>, inode: u32) -> bool
     ensures given { HasOnlyGiven client.old client.new }
     ensures none { CanBeGiven client.new inode → ⊥ }
+    ensures free { result ≡ true → lease_of client.new.pass inode ≡ Free }
     ensures kept { KeepsCall client.old client.new }
 {
     client.give(inode)

@@ -1,5 +1,5 @@
 //! Leases that a call needs, and room in the region.
-ghost use Rattle.std.specs.Prelude.{◌≡◌, ◌≢◌, ◌<◌, IfErr, OnErr, OnOk, None};
+ghost use Rattle.std.specs.Prelude.{◌≡◌, ◌≢◌, ◌<◌, ◌≤◌, IfErr, OnErr, OnOk, None};
 ghost use Rattle.libfs.specs.View.{ClientView};
 ghost use Rattle.libfs.specs.declared.denial.Denied.TheVariants as denied;
 ghost use Rattle.libfs.specs.lease_manager.Marks.{ShowsOther};
@@ -7,6 +7,7 @@ ghost use Rattle.libfs.specs.lease_manager.Words.{HasWord};
 ghost use Rattle.libfs.specs.client_view.client_plan.declared.need.Need.TheVariants as needs;
 ghost use Rattle.strata_threads.specs.CallDenials.{IsUnmet};
 ghost use Rattle.strata_threads.specs.ClientCalls.{KeepsCall};
+ghost use Rattle.strata_threads.specs.HeardQuestions.{row_of};
 ghost use Rattle.strata_threads.specs.LeaseReturn.{IsLeased};
 ghost use Rattle.strata_threads.specs.RegionHandover.{HandsOver};
 ghost use Rattle.strata_threads.specs.WaitedTurns.{HasWaited};
@@ -31,6 +32,8 @@ impl<M: Media + Drop> ThreadClient<M> {
         ensures kept { KeepsCall self.old.client self.new.client }
         ensures waited { HasWaited self.old.waited self.new.waited }
         ensures got { self.new.waited ≡ self.old.waited → HasWord inode → IsLeased mode self.new.client inode }
+        ensures raised { HasWord inode → row_of inode < self.new.rows }
+        ensures rows { self.old.rows ≤ self.new.rows }
     {
         if !is_inode(inode) {
             return;
@@ -87,6 +90,7 @@ impl<M: Media + Drop> ThreadClient<M> {
 
     // Listens in a turn that was waited, and lets other threads go. Only there: what a call was given is its own until it is answered or waits, else clients that ask for one another's leases would never hold all that they need.
     fn let_go<R: Wait>(&mut self, rt: &R)
+        ensures rows { self.new.rows ≡ self.old.rows }
         ensures kept { KeepsCall self.old.client self.new.client }
         ensures waited { self.new.waited ≡ self.old.waited }
     {

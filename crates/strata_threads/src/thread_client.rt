@@ -1,5 +1,6 @@
 ghost use Rattle.std.specs.Prelude.{◌≡◌, false, IfSome, Some};
 ghost use Rattle.libfs.specs.View.{is_pending};
+ghost use Rattle.strata_threads.specs.HeardQuestions.{HoldsWithin};
 
 use crate::idle_turn::held_rows;
 use crate::waited::Waited;
@@ -10,8 +11,8 @@ use std::sync::Wait;
 /// A client in a thread of its own, of which no call waits for its answer, with its ends of the two queues by which its regions go to the workers and come back.
 #[derive(Drop)]
 pub struct ThreadClient<M: Media + Drop> {
-    /// The client, which no other thread has. Who takes a lease by it, in place of a call, has it listen (`listen`) as long as it holds that: a call need not hear what is asked of it.
-    pub client: Client<M>,
+    // The client, which no other thread has
+    pub(crate) client: Client<M>,
     pub(crate) tasks: QueueEnd<SealedRegion<M>>,
     pub(crate) returns: QueueEnd<SealedRegion<M>>,
     // A sealed region for which the queue had no room
@@ -34,6 +35,7 @@ impl<M: Media + Drop> ThreadClient<M> {
     ) -> Self
         requires idle { is_pending client ≡ false }
         ensures client { result.client ≡ client }
+        ensures rows { HoldsWithin result.rows client }
     {
         let rows = held_rows(&client);
         ThreadClient {
@@ -45,6 +47,13 @@ impl<M: Media + Drop> ThreadClient<M> {
             rows,
             waited: Waited::none_of(0),
         }
+    }
+
+    /// The client, which takes its leases by calls alone.
+    pub fn client(&self) -> &Client<M>
+        ensures { result.now ≡ self.now.client }
+    {
+        &self.client
     }
 
     /// The client, and its region that is on the way back to it, if it is here: the one that came by the queue, or that the queue to the workers had no room for.

@@ -1,0 +1,46 @@
+-- What others ask of a client: what it hears, row by row of 64 inodes, and what it answers.
+use Rattle.std.specs.Prelude.{◌≡◌, ◌≢◌, ◌⊎◌, ◌+◌, ◌-◌, ◌*◌, ◌/◌, ◌≤◌, ◌<◌, ℕ, zero, suc, List, slice_index, slice_set, bit_or}
+use Rattle.std.specs.Int.{bit_at}
+use Rattle.libfs.specs.lease_manager.Passes.{client_of, lease_of, with_event}
+use Rattle.libfs.specs.lease_manager.Words.{HasWord, asked_word}
+use Rattle.libfs.specs.lease_manager.declared.view.Event.TheVariants.{Heard, Looked}
+use Rattle.libfs.specs.lease_manager.declared.view.LeaseMode.TheVariants.{Free}
+use Rattle.libfs.specs.LeaseCalls.{CanBeGiven}
+use Rattle.libfs.specs.View.{ClientView}
+
+-- the row of an inode
+abbrev pub row_of : ℕ → ℕ
+row_of i = (i - 1) / 64
+
+module _ {M : Type 0} where
+  -- it holds no inode of that row or of one behind it
+  abbrev pub HoldsWithin : ℕ → ClientView M → Type 0
+  HoldsWithin rows v = (i : ℕ) → HasWord i → rows ≤ row_of i → lease_of v.pass i ≡ Free
+
+  -- ---- what it hears
+
+  -- the client once it looked at a row, which showed that, and once it emptied the row, and heard that
+  abbrev pub looked_at : ClientView M → ℕ → ℕ → ClientView M
+  looked_at v row shown = record v { pass = with_event v.pass (Looked (asked_word (client_of v.pass) row) shown) }
+
+  abbrev pub heard_of : ClientView M → ℕ → ℕ → ClientView M
+  heard_of v row bits = record v { pass = with_event v.pass (Heard (asked_word (client_of v.pass) row) bits) }
+
+  -- It looked at a row, and emptied it exactly where something was asked for.
+  abbrev pub HasHeardRow : ClientView M → ℕ → ℕ → ClientView M → Type 0
+  HasHeardRow old row bits new = ((new ≡ looked_at old row 0) × (bits ≡ 0)) ⊎ ((shown : ℕ) × (shown ≢ 0) × (new ≡ heard_of (looked_at old row shown) row bits))
+
+  -- It heard so many rows, one after the other, and what it heard is asked beside what was asked before.
+  abbrev pub HasHeardRows : ℕ → ClientView M → List ℕ → ClientView M → List ℕ → Type 0
+  HasHeardRows zero old asked new after = (new ≡ old) × (after ≡ asked)
+  HasHeardRows (suc n) old asked new after = (v : ClientView M) × (before : List ℕ) × (bits : ℕ) × HasHeardRows n old asked v before × HasHeardRow v n bits new × (after ≡ slice_set before n (bit_or (slice_index before n) bits))
+
+  -- ---- what it answers
+
+  -- The inode of a bit of a row is not held, or it is asked for still, and can't be given.
+  abbrev pub IsAnswered : ClientView M → ℕ → ℕ → ℕ → Type 0
+  IsAnswered v row left bit = (lease_of v.pass (64 * row + bit + 1) ≡ Free) ⊎ ((bit_at left bit ≡ 1) × (CanBeGiven v (64 * row + bit + 1) → ⊥))
+
+  -- so is each of these bits of a row
+  abbrev pub AreAnswered : ClientView M → ℕ → ℕ → ℕ → Type 0
+  AreAnswered v row bits left = (bit : ℕ) → bit < 64 → bit_at bits bit ≡ 1 → IsAnswered v row left bit
