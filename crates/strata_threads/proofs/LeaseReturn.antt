@@ -33,7 +33,7 @@ module _ {M : Type 0} where
   gives_nothing_of old new is = subst (HasOnlyGiven old) (sym is) (gives_nothing old)
 
   -- what can be given could be given before
-  can_before : (old new : ClientView M) → HasOnlyGiven old new → (i : ℕ) → CanBeGiven new i → CanBeGiven old i
+  pub can_before : (old new : ClientView M) → HasOnlyGiven old new → (i : ℕ) → CanBeGiven new i → CanBeGiven old i
   can_before old new given i can = record {
     inode = can.inode;
     held = ⊎_elim (λ same. λ free. can.held (same ∙ free)) (λ gone. absurd (can.held gone.0)) (given.leases i can.inode);

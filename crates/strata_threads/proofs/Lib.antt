@@ -2,6 +2,7 @@ pub mod Busy
 pub mod Handover
 pub mod LeaseReturn
 pub mod Needs
+pub mod Questions
 pub mod Refusals
 pub mod Seating
 pub mod SharedOut

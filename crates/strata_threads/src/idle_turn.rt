@@ -8,7 +8,7 @@ ghost use Rattle.libfs.specs.lease_manager.Words.{HasWord};
 ghost use Rattle.libfs.specs.lease_manager.declared.view.LeaseMode.TheVariants.{Free};
 ghost use Rattle.libfs.specs.LeaseCalls.{CanBeGiven};
 ghost use Rattle.strata_threads.specs.ClientCalls.{KeepsCall};
-ghost use Rattle.strata_threads.specs.HeardQuestions.{AreAnswered, HasHeardRow, HasHeardRows, HoldsWithin, heard_of, looked_at, row_of};
+ghost use Rattle.strata_threads.specs.HeardQuestions.{AreAnswered, IsAnswered, HasHeardRow, HasHeardRows, HoldsWithin, heard_of, looked_at, row_of};
 ghost use Rattle.strata_threads.specs.LeaseReturn.{HasNoneToGive, HasOnlyGiven};
 ghost use Rattle.strata_threads.specs.RegionHandover.{HandsOver, HasComeBack, HasListened, HasLookedForRegion, HasReceived, HasSealedOrNot, HasSentOrKept};
 
@@ -288,11 +288,28 @@ fn give_bits<M: Media>(client: &mut Client<M>, row: u32, bits: u64) -> u64
 {
     let mut left = 0;
     for bit in 0..64u32 {
-        if has_bit(bits, bit) && !give(client, 64 * row + bit + 1) {
-            left = with_bit(left, bit);
-        }
+        left = give_bit(client, row, bits, bit, left);
     }
     left
+}
+
+// Gives the inode of a bit of a row, if the bit is set. It answers the bits that are left, with this one if it is held and can't be given.
+#[tactic(auto, using(crate::proofs::LeaseReturn::gives_nothing))]
+fn give_bit<M: Media>(client: &mut Client<M>, row: u32, bits: u64, bit: u32, left: u64) -> u64
+    requires row { row < 16 }
+    requires bit { bit < 64 }
+    ensures answered { bit_at bits bit ≡ 1 → IsAnswered client.new row result bit }
+    ensures rest { (other : ℕ) → other ≢ bit → bit_at result other ≡ bit_at left other }
+    ensures given { HasOnlyGiven client.old client.new }
+    ensures kept { KeepsCall client.old client.new }
+{
+    if !has_bit(bits, bit) {
+        return left;
+    }
+    if give(client, 64 * row + bit + 1) {
+        return left;
+    }
+    with_bit(left, bit)
 }
 
 // Whether a bit is set.

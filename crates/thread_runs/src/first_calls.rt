@@ -168,7 +168,7 @@ fn end_calls<R: Wait + AllocGlobal>(
 // The records of client 1 that are not digested.
 fn first_records(clients: &[ThreadClient<RunMedium>]) -> &[Record] {
     match clients.first() {
-        Some(first) => first.client.current_records(),
+        Some(first) => first.client().current_records(),
         None => &[],
     }
 }

@@ -1,0 +1,5 @@
+use Rattle.strata_threads.proofs.Questions.{HoldsWithinUpTo}
+use Rattle.strata_threads.proofs.idle_turn.held_rows.Given as goal
+
+abbrev pub invariant-loop-before : goal.invariant-loop-before
+invariant-loop-before g l = HoldsWithinUpTo l.before l.rows l.client
