@@ -11,12 +11,12 @@ use Rattle.settlement.specs.Errors.{OnDamage, IsOfArea, IsAreaFault}
 use Rattle.settlement.specs.FaultOrMemory.{IsFaultOrMemory}
 
 -- what a reader was refused for
-pub of_reader : (e : AreaError) {P : What → ℕ → Type 0} → areas.OnDamage e P → IsReadRefusal e
-of_reader area.DeviceFault p = tt
-of_reader (area.Damaged what block) p = tt
-of_reader area.NoBlock p = p
-of_reader area.NotMapped p = p
-of_reader area.Memory p = tt
+pub of_reader : (e : AreaError) (P : What → ℕ → Type 0) → areas.OnDamage e P → IsReadRefusal e
+of_reader area.DeviceFault P p = tt
+of_reader (area.Damaged what block) P p = tt
+of_reader area.NoBlock P p = p
+of_reader area.NotMapped P p = p
+of_reader area.Memory P p = tt
 
 pub on_damage : (e : AreaError) (f : RecoveryError) (P : What → ℕ → Type 0) → IsAreaFault e f → areas.OnDamage e P → OnDamage f P
 on_damage area.DeviceFault f P is p = subst (λ (x : RecoveryError). OnDamage x P) (sym is) tt

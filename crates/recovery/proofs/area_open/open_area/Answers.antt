@@ -4,7 +4,7 @@ use Rattle.settlement.proofs.Staying.{opened_stays, opened_volume}
 use Rattle.recovery.proofs.area_open.open_area.Goals as goal
 
 pub area_fault-requires : goal.area_fault-requires
-area_fault-requires g c = of_reader c.in-Err.error c.in-Err.ensures.damaged
+area_fault-requires g c = of_reader c.in-Err.error _ c.in-Err.ensures.damaged
 
 pub returns-in-Ok-clause-any_moment : goal.returns-in-Ok-clause-any_moment
 returns-in-Ok-clause-any_moment g c = let m = g.M.Media in opened_stays m c.args.medium c.in-Ok.area.media c.requires.rest c.in-Ok.ensures.any_moment

@@ -79,7 +79,7 @@ returns-in-Err-clause-back g c =
     given_back m c.args.area.media c.args.regions.items c.parts_of-parts.result c.in-Err.area.media c.args.regions.items parts (looked_untouched m c.args.area c.in-Err.area _ c.in-Err.ensures.refused) (unread m c.args.regions.items)
 
 pub area_fault-requires : goal.area_fault-requires
-area_fault-requires g c = of_reader c.in-Err.error c.in-Err.ensures.only
+area_fault-requires g c = of_reader c.in-Err.error _ c.in-Err.ensures.only
 
 pub returns-in-Err-clause-only : goal.returns-in-Err-clause-only
 returns-in-Err-clause-only g c = no_damage c.in-Err.error c.area_fault.result ⊥ c.area_fault.ensures c.in-Err.ensures.only (λ x. x)

@@ -34,14 +34,14 @@ area_fault-requires g c =
     let old = c.args.area.now in
     found_change (Err c.in-Err.error) c.in-Err.ensures.only (c.in-Err.ensures.never (λ bs are. nothing_written (changes_of c.new-change.result) law old.geometry (disk g.M.Media old) bs are))
 
-pub returns-in-Err-clause-only : goal.returns-in-Err-clause-only
-returns-in-Err-clause-only g c =
+pub returns-clause-only : goal.returns-clause-only
+returns-clause-only g c =
     let law = subst (Coalesces []) (sym c.new-change.ensures.change) (c.changes_are_the_effects.ensures []) in
     let old = c.args.area.now in
     no_damage c.in-Err.error c.area_fault.result ⊥ c.area_fault.ensures (found_change (Err c.in-Err.error) c.in-Err.ensures.only (c.in-Err.ensures.never (λ bs are. nothing_written (changes_of c.new-change.result) law old.geometry (disk g.M.Media old) bs are))) (λ x. x)
 
-pub returns-in-Err-clause-unmoved : goal.returns-in-Err-clause-unmoved
-returns-in-Err-clause-unmoved g c = λ other. c.in-Err.ensures.applies.unmoved (of_other c.in-Err.error c.area_fault.result c.area_fault.ensures other)
+pub returns-clause-unmoved : goal.returns-clause-unmoved
+returns-clause-unmoved g c = λ other. c.in-Err.ensures.applies.unmoved (of_other c.in-Err.error c.area_fault.result c.area_fault.ensures other)
 
 pub returns-in-Ok-clause-any_moment : goal.returns-in-Ok-clause-any_moment
 returns-in-Ok-clause-any_moment g c =
@@ -49,8 +49,8 @@ returns-in-Ok-clause-any_moment g c =
     let old = c.args.area.now in
     set_stays g.M.Media g.met.M.Media.seen_now old c.apply.new.self (c.left_now.ensures.same c.requires.going) (changes_of c.new-change.result) (record { clients = c.args.clients; digests = c.marks.result.digests }) (law.meaning (graph old.geometry (disk g.M.Media old))) (c.in-Ok.ensures.any_moment c.requires.going)
 
-pub returns-in-Err-clause-any_moment : goal.returns-in-Err-clause-any_moment
-returns-in-Err-clause-any_moment g c =
+pub returns-clause-any_moment : goal.returns-clause-any_moment
+returns-clause-any_moment g c =
     let law = subst (Coalesces []) (sym c.new-change.ensures.change) (c.changes_are_the_effects.ensures []) in
     let old = c.args.area.now in
     set_stays g.M.Media g.met.M.Media.seen_now old c.apply.new.self (c.left_now.ensures.same c.requires.going) (changes_of c.new-change.result) (record { clients = c.args.clients; digests = c.marks.result.digests }) (law.meaning (graph old.geometry (disk g.M.Media old))) (c.in-Err.ensures.any_moment c.requires.going)
@@ -62,8 +62,8 @@ returns-in-Ok-clause-graph g c =
     let old = c.args.area.now in
     ap (λ (h : Sizes). graph h (disk m c.apply.new.self)) c.in-Ok.ensures.applies.geometry ∙ c.in-Ok.ensures.applied.graph_after ∙ law.meaning (graph old.geometry (disk m old))
 
-pub returns-in-Err-clause-answers : goal.returns-in-Err-clause-answers
-returns-in-Err-clause-answers g c =
+pub returns-clause-answers : goal.returns-clause-answers
+returns-clause-answers g c =
     let law = subst (Coalesces []) (sym c.new-change.ensures.change) (c.changes_are_the_effects.ensures []) in
     let old = c.args.area.now in
     apply_answers g.M.Media old c.apply.new.self c.in-Err.error c.area_fault.result c.requires.going c.area_fault.ensures (found_change (Err c.in-Err.error) c.in-Err.ensures.only (c.in-Err.ensures.never (λ bs are. nothing_written (changes_of c.new-change.result) law old.geometry (disk g.M.Media old) bs are))) c.in-Err.ensures.applies
