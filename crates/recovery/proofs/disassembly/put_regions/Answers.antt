@@ -11,6 +11,18 @@ turned done before rest all x split next = append_assoc done (x ∷ []) rest ∙
 ended : {X : Type 0} (done before all : List X) → done ++ before ≡ all → before ≡ [] → done ≡ all
 ended done before all split none = sym (append-nil done) ∙ ap (λ xs. done ++ xs) (sym none) ∙ split
 
+pub loop-seat-init : goal.loop-seat-init
+loop-seat-init g c =
+    let gives = c.into_iter-seat-iterator.ensures.into_iter_gives in
+    let items = ap length gives.0 in
+    let seats = c.args.seats.ok in
+    record {
+      split = gives.0;
+      long = omega (arith, gives.1, items, seats.0);
+      room = omega (arith, gives.1, c.requires.room);
+      put = sym (append-nil c.args.regions.now.items);
+    }
+
 pub loop-seat-preserved : goal.loop-seat-preserved
 loop-seat-preserved g c =
     let i = c.loop-seat.invariant in
