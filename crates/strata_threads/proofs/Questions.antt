@@ -139,9 +139,9 @@ module _ {M : Type 0} where
   pub one_bit_given : (first old new : ClientView M) (row bits n : ℕ) → n < 64 → HasGivenAsked row bits first old → (bit_at bits n ≢ 1 → new ≡ old) → ChangesAtMost (64 * row + n + 1) old new → HasGivenAsked row bits first new
   one_bit_given first old new row bits n low before unasked others i word = elim (eqb_tells i (64 * row + n + 1)) [
     | inl same ↦ elim (eqb_tells (bit_at bits n) 1) [
-        | inl is ↦ inr (n, low, same.1, is.1)
-        | inr off ↦ stays first old new (IsAskedOf row bits i) i (ap (λ (v : ClientView M). lease_of v.pass i) (unasked off.1)) (before i word)
-      ]
+      | inl is ↦ inr (n, low, same.1, is.1)
+      | inr off ↦ stays first old new (IsAskedOf row bits i) i (ap (λ (v : ClientView M). lease_of v.pass i) (unasked off.1)) (before i word)
+    ]
     | inr other ↦ stays first old new (IsAskedOf row bits i) i (others i word other.1) (before i word)
   ]
 

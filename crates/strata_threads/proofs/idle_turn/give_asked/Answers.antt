@@ -1,7 +1,6 @@
 use Rattle.std.proofs.Common.{inl, refl, arith}
 use Rattle.std.proofs.lemmas.Bool.{false≢true}
-use Rattle.strata_threads.proofs.LeaseReturn.{gives_both, gives_nothing, keeps_both}
-use Rattle.strata_threads.proofs.Questions.{later_more, left_is_known, none_left_more, one_row_given, one_row_held, one_row_more, some_left_here, some_left_more}
+use Rattle.strata_threads.proofs.LeaseReturn.{gives_nothing}
 use Rattle.strata_threads.proofs.idle_turn.give_asked.Goals as goal
 
 pub loop-row-init : goal.loop-row-init
