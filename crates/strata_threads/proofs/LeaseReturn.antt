@@ -97,6 +97,13 @@ module _ {M : Type 0} where
   gives_if_it_can old new i true exact given kept = (gives_one old new i (exact.0 refl) (given refl), given_once old new i (exact.0 refl) (given refl))
   gives_if_it_can old new i false exact given kept = (gives_nothing_of old new (kept refl), λ can. false≢true (exact.1 (subst (λ (v : ClientView M). CanBeGiven v i) (kept refl) can)))
 
+  -- and no other lease has changed
+  pub gives_no_other : (old new : ClientView M) (i : ℕ) (is_given : Bool) → (IsTrue is_given ↔ CanBeGiven old i) → (is_given ≡ true → HasGiven old i new) → (is_given ≡ false → new ≡ old)
+      → (j : ℕ) → HasWord j → j ≢ i → lease_of new.pass j ≡ lease_of old.pass j
+  gives_no_other old new i true exact given kept j word off =
+      ap (λ (p : PassView). lease_of p j) (given refl).lease ∙ get_or-set_other old.pass.part.modes (lease_place i) (lease_place j) Free Free (apart i j (exact.0 refl).inode word off)
+  gives_no_other old new i false exact given kept j word off = ap (λ (v : ClientView M). lease_of v.pass j) (kept refl)
+
   -- what is free can't be given
   pub free_stays : (v : ClientView M) (i : ℕ) → lease_of v.pass i ≡ Free → CanBeGiven v i → ⊥
   free_stays v i free can = can.held free

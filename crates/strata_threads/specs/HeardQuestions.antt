@@ -12,6 +12,10 @@ use Rattle.libfs.specs.View.{ClientView}
 abbrev pub row_of : ℕ → ℕ
 row_of i = (i - 1) / 64
 
+-- the inode of a bit of a row that is set
+abbrev pub IsAskedOf : ℕ → ℕ → ℕ → Type 0
+IsAskedOf row bits i = (bit : ℕ) × (bit < 64) × (i ≡ 64 * row + bit + 1) × (bit_at bits bit ≡ 1)
+
 module _ {M : Type 0} where
   -- it holds no inode of that row or of one behind it
   abbrev pub HoldsWithin : ℕ → ClientView M → Type 0
@@ -38,9 +42,29 @@ module _ {M : Type 0} where
   -- ---- what it answers
 
   -- The inode of a bit of a row is not held, or it is asked for still, and can't be given.
-  abbrev pub IsAnswered : ClientView M → ℕ → ℕ → ℕ → Type 0
-  IsAnswered v row left bit = (lease_of v.pass (64 * row + bit + 1) ≡ Free) ⊎ ((bit_at left bit ≡ 1) × (CanBeGiven v (64 * row + bit + 1) → ⊥))
+  abbrev pub IsGivenOrAsked : ClientView M → ℕ → ℕ → ℕ → Type 0
+  IsGivenOrAsked v row left bit = (lease_of v.pass (64 * row + bit + 1) ≡ Free) ⊎ ((bit_at left bit ≡ 1) × (CanBeGiven v (64 * row + bit + 1) → ⊥))
 
   -- so is each of these bits of a row
-  abbrev pub AreAnswered : ClientView M → ℕ → ℕ → ℕ → Type 0
-  AreAnswered v row bits left = (bit : ℕ) → bit < 64 → bit_at bits bit ≡ 1 → IsAnswered v row left bit
+  abbrev pub AreGivenOrAsked : ClientView M → ℕ → ℕ → ℕ → Type 0
+  AreGivenOrAsked v row bits left = (bit : ℕ) → bit < 64 → bit_at bits bit ≡ 1 → IsGivenOrAsked v row left bit
+
+  -- The bit is one of those that were asked for, and its inode is held.
+  abbrev pub IsHeldAndAsked : ClientView M → ℕ → ℕ → ℕ → Type 0
+  IsHeldAndAsked v row bits bit = (bit_at bits bit ≡ 1) × (lease_of v.pass (64 * row + bit + 1) ≢ Free)
+
+  -- so is each bit that is left of a row
+  abbrev pub AreHeldAndAsked : ClientView M → ℕ → ℕ → ℕ → Type 0
+  AreHeldAndAsked v row bits left = (bit : ℕ) → bit < 64 → bit_at left bit ≡ 1 → IsHeldAndAsked v row bits bit
+
+  -- No lease has changed but of inodes of a row whose bits are set.
+  abbrev pub HasGivenAsked : ℕ → ℕ → ClientView M → ClientView M → Type 0
+  HasGivenAsked row bits old new = (i : ℕ) → HasWord i → (lease_of new.pass i ≡ lease_of old.pass i) ⊎ IsAskedOf row bits i
+
+  -- so of the first rows
+  abbrev pub HasGivenAskedRows : ℕ → List ℕ → ClientView M → ClientView M → Type 0
+  HasGivenAskedRows rows asked old new = (i : ℕ) → HasWord i → (lease_of new.pass i ≡ lease_of old.pass i) ⊎ ((row : ℕ) × (row < rows) × IsAskedOf row (slice_index asked row) i)
+
+-- something is left of the first rows
+abbrev pub IsSomeLeft : ℕ → List ℕ → Type 0
+IsSomeLeft rows asked = (row : ℕ) × (row < rows) × (slice_index asked row ≢ 0)

@@ -1,5 +1,5 @@
 //! What a client does between its turns: it gives what others ask for, and takes its region back.
-ghost use Rattle.std.specs.Prelude.{◌≡◌, ◌≢◌, ◌<◌, ◌+◌, ◌++◌, ◌↔◌, ℕ, min, true, false, [], None, IfNone, IfSome, IsTrue, OnErr, OnOk, slice_index};
+ghost use Rattle.std.specs.Prelude.{◌≡◌, ◌≢◌, ◌<◌, ◌≤◌, ◌+◌, ◌*◌, ◌++◌, ◌↔◌, ℕ, min, true, false, [], None, IfNone, IfSome, IsTrue, OnErr, OnOk, slice_index};
 ghost use Rattle.std.specs.Int.{bit_at};
 ghost use Rattle.libfs.specs.client_log.Steps.{CanBeSealed};
 ghost use Rattle.libfs.specs.client_log.View.{current_records};
@@ -8,7 +8,7 @@ ghost use Rattle.libfs.specs.lease_manager.Words.{HasWord};
 ghost use Rattle.libfs.specs.lease_manager.declared.view.LeaseMode.TheVariants.{Free};
 ghost use Rattle.libfs.specs.LeaseCalls.{CanBeGiven};
 ghost use Rattle.strata_threads.specs.ClientCalls.{KeepsCall};
-ghost use Rattle.strata_threads.specs.HeardQuestions.{AreAnswered, IsAnswered, HasHeardRow, HasHeardRows, HoldsWithin, heard_of, looked_at, row_of};
+ghost use Rattle.strata_threads.specs.HeardQuestions.{AreGivenOrAsked, AreHeldAndAsked, HasGivenAsked, HasGivenAskedRows, HasHeardRow, HasHeardRows, HoldsWithin, IsGivenOrAsked, IsHeldAndAsked, IsSomeLeft, heard_of, looked_at, row_of};
 ghost use Rattle.strata_threads.specs.LeaseReturn.{HasNoneToGive, HasOnlyGiven};
 ghost use Rattle.strata_threads.specs.RegionHandover.{HandsOver, HasComeBack, HasListened, HasLookedForRegion, HasReceived, HasSealedOrNot, HasSentOrKept};
 
@@ -32,7 +32,7 @@ impl<M: Media + Drop> ThreadClient<M> {
         self.listen_to(rt, ROWS);
     }
 
-    // The same of the first rows of inodes.
+    // The same, but hears and gives of the first `rows` rows of inodes alone.
     pub(crate) fn listen_to<R: Wait>(&mut self, rt: &R, rows: u32)
         ensures listened { HasListened M.Media self.old.client self.new.client }
         ensures rows { self.new.rows ≡ self.old.rows }
@@ -241,8 +241,11 @@ fn empty_row<M: Media>(client: &mut Client<M>, row: u32) -> u64
 
 // Gives what was asked for of the first rows, and keeps what can't be given. It answers whether something of them is left.
 fn give_asked<M: Media>(client: &mut Client<M>, asked: &mut [u64; 16], rows: u32) -> bool
-    ensures answered { (row : ℕ) → row < min rows 16 → AreAnswered client.new row (slice_index asked.old row) (slice_index asked.new row) }
-    ensures left { result ≡ false → (row : ℕ) → row < min rows 16 → slice_index asked.new row ≡ 0 }
+    ensures answered { (row : ℕ) → row < min rows 16 → AreGivenOrAsked client.new row (slice_index asked.old row) (slice_index asked.new row) }
+    ensures only { (row : ℕ) → row < min rows 16 → AreHeldAndAsked client.new row (slice_index asked.old row) (slice_index asked.new row) }
+    ensures later { (row : ℕ) → min rows 16 ≤ row → slice_index asked.new row ≡ slice_index asked.old row }
+    ensures left { IsTrue result ↔ IsSomeLeft (min rows 16) asked.new }
+    ensures unasked { HasGivenAskedRows (min rows 16) asked.old client.old client.new }
     ensures given { HasOnlyGiven client.old client.new }
     ensures kept { KeepsCall client.old client.new }
 {
@@ -269,7 +272,9 @@ fn give_inodes<M: Media>(client: &mut Client<M>)
 // Gives those of a row of inodes whose bits are set. It answers which are held and can't be given.
 fn give_row<M: Media>(client: &mut Client<M>, row: u32, bits: u64) -> u64
     requires row { row < 16 }
-    ensures answered { AreAnswered client.new row bits result }
+    ensures answered { AreGivenOrAsked client.new row bits result }
+    ensures only { AreHeldAndAsked client.new row bits result }
+    ensures unasked { HasGivenAsked row bits client.old client.new }
     ensures given { HasOnlyGiven client.old client.new }
     ensures kept { KeepsCall client.old client.new }
 {
@@ -282,7 +287,9 @@ fn give_row<M: Media>(client: &mut Client<M>, row: u32, bits: u64) -> u64
 // The same, where a bit is set.
 fn give_bits<M: Media>(client: &mut Client<M>, row: u32, bits: u64) -> u64
     requires row { row < 16 }
-    ensures answered { AreAnswered client.new row bits result }
+    ensures answered { AreGivenOrAsked client.new row bits result }
+    ensures only { AreHeldAndAsked client.new row bits result }
+    ensures unasked { HasGivenAsked row bits client.old client.new }
     ensures given { HasOnlyGiven client.old client.new }
     ensures kept { KeepsCall client.old client.new }
 {
@@ -298,8 +305,12 @@ fn give_bits<M: Media>(client: &mut Client<M>, row: u32, bits: u64) -> u64
 fn give_bit<M: Media>(client: &mut Client<M>, row: u32, bits: u64, bit: u32, left: u64) -> u64
     requires row { row < 16 }
     requires bit { bit < 64 }
-    ensures answered { bit_at bits bit ≡ 1 → IsAnswered client.new row result bit }
+    requires unset { bit_at left bit ≢ 1 }
+    ensures answered { bit_at bits bit ≡ 1 → IsGivenOrAsked client.new row result bit }
+    ensures only { bit_at result bit ≡ 1 → IsHeldAndAsked client.new row bits bit }
     ensures rest { (other : ℕ) → other ≢ bit → bit_at result other ≡ bit_at left other }
+    ensures unasked { bit_at bits bit ≢ 1 → client.new ≡ client.old }
+    ensures others { (i : ℕ) → HasWord i → i ≢ 64 * row + bit + 1 → lease_of client.new.pass i ≡ lease_of client.old.pass i }
     ensures given { HasOnlyGiven client.old client.new }
     ensures kept { KeepsCall client.old client.new }
 {
@@ -336,6 +347,8 @@ fn give<M: Media>(client: &mut Client<M>, inode: u32) -> bool
     ensures given { HasOnlyGiven client.old client.new }
     ensures none { CanBeGiven client.new inode → ⊥ }
     ensures free { result ≡ true → lease_of client.new.pass inode ≡ Free }
+    ensures held { result ≡ false → lease_of client.new.pass inode ≢ Free }
+    ensures others { (i : ℕ) → HasWord i → i ≢ inode → lease_of client.new.pass i ≡ lease_of client.old.pass i }
     ensures kept { KeepsCall client.old client.new }
 {
     if client.holds(inode) == LeaseMode::Free {
@@ -346,9 +359,12 @@ fn give<M: Media>(client: &mut Client<M>, inode: u32) -> bool
 
 // The same, where it is held.
 fn give_held<M: Media>(client: &mut Client<M>, inode: u32) -> bool
+    requires held { lease_of client.old.pass inode ≢ Free }
     ensures given { HasOnlyGiven client.old client.new }
     ensures none { CanBeGiven client.new inode → ⊥ }
     ensures free { result ≡ true → lease_of client.new.pass inode ≡ Free }
+    ensures held { result ≡ false → lease_of client.new.pass inode ≢ Free }
+    ensures others { (i : ℕ) → HasWord i → i ≢ inode → lease_of client.new.pass i ≡ lease_of client.old.pass i }
     ensures kept { KeepsCall client.old client.new }
 {
     client.give(inode)

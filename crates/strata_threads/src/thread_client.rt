@@ -19,7 +19,7 @@ pub struct ThreadClient<M: Media + Drop> {
     pub(crate) kept: Option<SealedRegion<M>>,
     // What others asked back and is not given yet: bit b of row r is inode 64 r + b + 1
     pub(crate) asked: [u64; 16],
-    // How many rows there are up to the last one of which it may hold an inode: of the others nothing can be asked back
+    // How many rows there are up to the last one of which it may hold an inode: of the others it has nothing to give
     pub(crate) rows: u32,
     /// How many turns its last call has waited.
     pub waited: Waited,
