@@ -39,8 +39,8 @@ places_from g s i base t k = place_from base (place g s i t k)
 unfoldable pub is_mapped : (Tier → ℕ → Option ℕ) → ℕ → Bool
 is_mapped lies k = is_some (lies tiers.Fast k) || (is_some (lies tiers.Block k) || is_some (lies tiers.Slow k))
 
--- whether a change writes a block of a file, by where the blocks lay that it starts from: bytes are put into it, or the file is cut within it and it lay somewhere. One that lay nowhere
--- reads as zeros wherever it is cut, and so stays a hole.
+-- whether a change writes a block of a file, by where the blocks lay that it starts from: bytes were put into it, or the file is cut
+-- within it and it lay in some tier. One that lay in none reads as zeros wherever the file is cut, so a cut alone leaves it a hole.
 abbrev pub writes_over : (Tier → ℕ → Option ℕ) → Change → ℕ → Bool
 writes_over lies c k = fin.contains_key c.patches k || (cuts_within c.length k && is_mapped lies k)
 

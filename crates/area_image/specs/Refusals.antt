@@ -1,4 +1,4 @@
--- Which refusals a call of the shared area can have, and what the pools refuse with.
+-- Which refusals a call of the shared area can have, and what those of the pools are told as.
 use Rattle.extent_tree.specs.block_alloc.declared.error.AllocatorError.{AllocatorError}
 use Rattle.extent_tree.specs.block_alloc.declared.error.AllocatorError.TheVariants as pools
 use Rattle.area_image.specs.declared.error.AreaError.{AreaError}
@@ -20,7 +20,7 @@ IsMoveRefusal errors.NoBlock = Unit {0}
 IsMoveRefusal errors.NotMapped = Unit {0}
 IsMoveRefusal errors.Memory = Unit {0}
 
--- Refusals of a change, on media that spell a graph: no run is asked for either.
+-- Refusals of a change on media that spell a graph, and of a move whose run was found: no damage, and no run that is not mapped.
 abbrev pub IsChangeRefusal : AreaError → Type 0
 IsChangeRefusal errors.DeviceFault = Unit {0}
 IsChangeRefusal (errors.Damaged part block) = ⊥
@@ -28,7 +28,7 @@ IsChangeRefusal errors.NoBlock = Unit {0}
 IsChangeRefusal errors.NotMapped = ⊥
 IsChangeRefusal errors.Memory = Unit {0}
 
--- a refusal of the pools
+-- what a refusal of the pools is told as
 abbrev pub area_error : AllocatorError → AreaError
 area_error pools.NoBlock = errors.NoBlock
 area_error pools.Memory = errors.Memory

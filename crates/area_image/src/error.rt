@@ -16,7 +16,7 @@ pub enum AreaError {
     /// in the fast one.
     #[error("block {block} is damaged")]
     Damaged { what: What, block: u32 },
-    /// Fewer blocks are free than a change writes, or than a run has that is to be moved.
+    /// Fewer data blocks are free than the change writes, or fewer of the tier than the run has that is to be moved there.
     #[error("too few blocks are free")]
     NoBlock,
     /// There is no file, the run has no block or more than 256, or some block of it lies in no tier that is faster than the one asked for.

@@ -21,7 +21,7 @@ LeavesFile g s c i = (start_node c.base (inode g s i)).kind ≡ Some kind.File
 
 -- ---- blocks that are written
 
--- The change writes block k of inode i, which it leaves a file. Of a block that no tier maps it writes none for a cut: that one stays a hole.
+-- The change writes block k of inode i, which it leaves a file. A block in no tier is not written for a cut alone: it stays a hole.
 pub record WritesBlock (g : Sizes) (s : Store) (cs : Changes) (i k : ℕ) : Type 0 where
   pub is_file : LeavesFile g s (change_at cs i) i
   pub writes : writes_over (places_from g s i (change_at cs i).base) (change_at cs i) k ≡ true

@@ -26,8 +26,8 @@ use inode_plan::{
 };
 use std::alloc::Global;
 
-// Where the blocks of a file lie that a change starts from, as far as that decides which of them it writes: its extents are read only where the change cuts within a block and puts no
-// byte into it.
+// Where the blocks of a file lie that a change starts from, as far as that decides which of them it writes: its extents are read only
+// where the change cuts within a block into which no bytes were put.
 fn map_before<M: Media>(
     alloc: Global,
     journal: &mut Journal<M>,
@@ -135,9 +135,9 @@ fn count_in<M: Media>(
     }
 }
 
-/// How many data blocks a change wants: one for each block of a file that it writes. The slots of its inodes are read for that, and the extents of a file that it cuts within a block into
-/// which it puts no byte. `Memory` where there was none for these or for the numbers of a file's blocks, and only where the change puts bytes into a file that it leaves, or cuts it
-/// within a block.
+/// How many data blocks a change wants: one for each block of a file that it writes. The slots of its inodes are read for that, and the
+/// extents of a file that it cuts within a block into which no bytes were put. `Memory` where there was none for these or for the numbers
+/// of a file's blocks, and only where bytes were put into a file that the change leaves, or it is cut within a block.
 pub fn count_blocks<M: Media>(
     alloc: Global,
     journal: &mut Journal<M>,

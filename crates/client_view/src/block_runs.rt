@@ -8,8 +8,8 @@ use crate::fetched_block::FetchedBlock;
 use crate::record_reach::RecordReach;
 use client_plan::{Record, UNIT_BYTES};
 
-/// Lays records over a run of blocks of a file from a first one on, each record with what it reaches. It looks at each record once, and then at those blocks alone that the record may change: of whole blocks
-/// those in which its bytes lie. It takes no memory.
+/// Lays records over a run of blocks of a file from a first one on, each record with what it reaches. It looks at each record once, and of
+/// the blocks that are known to be whole at those alone that the record may change. It takes no memory.
 pub fn take_records(
     records: &[Record],
     reaches: &[RecordReach],

@@ -11,8 +11,8 @@ use client_plan::{Effect, Kind, UNIT_BYTES};
 
 const UNIT: u64 = UNIT_BYTES as u64;
 
-/// A block of a file after effects, in place: it stands at the front of a buffer of 4,096 bytes, and its length is told before and after, `None` where nothing is known of it, as of a file that was
-/// dropped. The block has the bytes that the file has there, so it is short where the file ends in it, and empty behind the end. It takes no memory.
+/// Lays effects over a block of a file, in place: it stands at the front of a buffer of 4,096 bytes, and its length is known before and
+/// after, `None` where nothing is known of it, as of a file that was dropped. The block has the bytes that the file has there, so it is short where the file ends in it, and empty behind the end. It takes no memory.
 pub fn take_effects(
     effects: &[Effect],
     inode: u32,

@@ -63,7 +63,7 @@ impl FetchedBlock {
         }
     }
 
-    /// Lays a record over it, of which it tells what the record reaches. It takes no memory.
+    /// Lays a record over it, as block `block` of the file at `inode`, by what the record reaches. It takes no memory.
     pub fn take_record(&mut self, entry: &Record, reach: RecordReach, inode: u32, block: u32)
         requires { IsReachOf entry.now.effects reach }
         ensures { self.new ≡ block_after entry.now.effects inode block self.old }

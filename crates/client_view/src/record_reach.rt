@@ -47,7 +47,8 @@ impl RecordReach {
         }
     }
 
-    /// Which blocks of a run of a file may be changed, of which so many at the front are whole: none before the one place, and none from the other one on.
+    /// The places of a run of blocks between which all lie that may be changed, where `whole` blocks at its front are whole: none before the
+    /// first place, and none from the second on.
     pub fn places(self, inode: u32, first: u32, count: usize, whole: usize) -> (usize, usize)
         ensures before { (k : ℕ) → k < result.0 → (k < whole) × (may_change self inode (first + k) UNIT_BYTES ≡ false) }
         ensures behind { (k n : ℕ) → result.1 ≤ k → k < count → may_change self inode (first + k) n ≡ false }

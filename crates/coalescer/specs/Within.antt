@@ -27,7 +27,7 @@ same_entry a b = a.0 == b.0 && eq_by_cmp (slice_cmp nat_cmp) a.1 b.1
 abbrev pub AreEntriesIn : Changes → List (ℕ × List ℕ) → Type 0
 AreEntriesIn cs ns = IsDistinct same_entry ns × AllByRecursion (λ n. fin.contains_key (change_at cs n.0).entries n.1 ≡ true) ns
 
--- some blocks of files, no two of them one, each of which is written for a change
+-- some blocks of files, no two of them one, into each of which a change put bytes or within which it cuts the file
 abbrev pub AreBlocksIn : Changes → List (ℕ × ℕ) → Type 0
 AreBlocksIn cs bs = IsDistinct same_block bs × AllByRecursion (λ b. writes_block (change_at cs b.0) b.1 ≡ true) bs
 

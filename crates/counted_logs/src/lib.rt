@@ -1,7 +1,8 @@
 //! What a recovery finds of the clients' logs before it digests a record: which records of a client's two regions count under its mark
 //! and in which order, under which generation the client goes on, and whether an inode is touched by the records of two clients.
 //!
-//! It reads no medium: its caller knows what the headers name, how many records there are, and the records.
+//! It reads no medium: its caller knows what the headers name, how many records there are, and which inodes
+//! each touches.
 #![tactic(auto)]
 
 mod laws;

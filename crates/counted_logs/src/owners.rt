@@ -45,8 +45,8 @@ impl Owners {
         })
     }
 
-    /// Adds the inodes that records of a client touch, a list for each record; they may be added in parts. A number past the highest inode's has no entry and is passed over: no record
-    /// that the bytes of a region spell touches such a number, or 0.
+    /// Adds the inodes that records of a client touch, a list for each record; they may be added in parts. A number past the highest inode's
+    /// has no entry and is passed over: no record that the bytes of a region spell touches such a number, or 0.
     ///
     /// Refused, with nothing added, are records that touch an inode that another client's do: the answer has the first such inode, in the
     /// order of the records and of their effects, and that client.

@@ -12,7 +12,7 @@ use Rattle.area_commit.specs.InodeChange.{writes_over}
 abbrev pub Rise : List ℕ → Type 0
 Rise numbers = (end : ℕ) × Rising 0 end numbers
 
--- These are the numbers of the blocks that are written, where the blocks lay so before, and no others; they rise.
+-- These are exactly the numbers of the blocks that a change writes of a file whose blocks lay so before; they rise.
 pub record AreNumbers (lay : Tier → ℕ → Option ℕ) (c : Change) (written : List ℕ) : Type 0 where
   pub rising : Rise written
   pub each : (k : ℕ) → Contains written k ↔ (writes_over lay c k ≡ true)

@@ -33,7 +33,7 @@ pub record AreFresh (places : List Place) (count : ℕ) (old : TierRuns) : Type 
 abbrev pub AreData : Sizes → List Place → ℕ → Type 0
 AreData g places count = (n : ℕ) → n < count → is_data g (nth_place places n).tier (nth_place places n).block 1 ≡ true
 
--- whether a block does not stay where it lies: bytes are put into it, or it is cut within or cut off
+-- whether a block that lies somewhere does not stay there: bytes were put into it, or it is cut within or cut off
 abbrev pub leaves : Change → ℕ → Bool
 leaves c k = writes_block c k || is_cut_off c.length k
 

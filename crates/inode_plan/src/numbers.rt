@@ -71,7 +71,8 @@ fn add_number(numbers: &mut Vec<u64>, number: u64) -> Result<(), AllocError>
     Ok(())
 }
 
-/// The block within which a change cuts a file and into which it puts no byte, if there is one: it is written exactly where it lies in some tier.
+/// The block within which a change cuts a file and into which no bytes were put, if there is one: it is written exactly where it lies in
+/// some tier.
 pub fn cut_alone(change: &NodeChange) -> Option<u64>
     ensures some { IfSome result (λ k. (lay : Tier → ℕ → Option ℕ) → writes_over lay (change_of change.now) k ≡ is_mapped lay k) }
     ensures others { IfSome result (λ k. (lay : Tier → ℕ → Option ℕ) (j : ℕ) → j ≢ k → writes_over lay (change_of change.now) j ≡ fin.contains_key (change_of change.now).patches j) }
@@ -100,7 +101,7 @@ fn is_mapped(map: &BlockMap, number: u64) -> bool
     }
 }
 
-// The block that is written for no byte that is put into it, if there is one.
+// The block that is written for a cut alone, if there is one.
 fn cut_in(change: &NodeChange, map: &BlockMap) -> Option<u64>
     requires { LieBelow FILE_BLOCKS map.now }
     ensures some { IfSome result (λ k. writes_over (lies_at map.now) (change_of change.now) k ≡ true) }
@@ -116,8 +117,8 @@ fn cut_in(change: &NodeChange, map: &BlockMap) -> Option<u64>
     None
 }
 
-/// The numbers of the blocks of a file that are written for a change, rising: those into which bytes are put, and the one within which it is cut, where that one lies in some tier: a hole
-/// reads as zeros wherever it is cut. No other block is looked at. It wants memory only where there is such a block.
+/// The numbers of the blocks of a file that are written for a change, rising: those into which bytes were put, and the one within which it
+/// is cut, where that one lies in some tier. The map has only blocks before `FILE_BLOCKS`. Memory is wanted only where there is such a number.
 pub fn written_numbers(
     alloc: Global,
     change: &NodeChange,

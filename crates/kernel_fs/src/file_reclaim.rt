@@ -34,7 +34,7 @@ fn is_nameless(found: Option<NodeCounts>) -> bool
     }
 }
 
-// Why the change was not made; it writes no block of data, so it always finds those that it writes.
+// Why the change was not made: no damage is found in an opened area, and it writes no block of data, so none is lacking.
 fn reclaim_error(error: AreaError) -> ReclaimError
     requires { IsNoDamage error }
     ensures { IsAreaError DeviceFault Memory error result }

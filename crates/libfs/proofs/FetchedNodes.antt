@@ -32,7 +32,7 @@ use Rattle.libfs.specs.NeedService.{HasFetchedBlocks, HasPut, HasThem, records_b
 use Rattle.libfs.proofs.Behind.{kept_behind}
 use Rattle.libfs.proofs.FirstBlocks.{found_in_all, found_in_more, put_before, put_is_first}
 
--- ---- a block as it is laid
+-- ---- the mark of a client
 
 one_marks : (o : Option Marks) (v w : Marks) → o ≡ Some v → o ≡ Some w → v ≡ w
 one_marks o v w is also' = let both : Some v ≡ Some w = sym is ∙ also' in cc

@@ -65,7 +65,7 @@ area_answer (Ok x) = Ok tt
 area_answer (Err denied.Memory) = Err area.Memory
 area_answer (Err _) = Err area.DeviceFault
 
--- why the kernel told nothing, as a client tells it
+-- why the kernel told nothing, as a client tells it; what no reader is refused for stands as a fault
 abbrev pub area_denied : KernelError AreaError → Denied
 area_denied kernel.Failed = denied.KernelFailed
 area_denied (kernel.Refused area.DeviceFault) = denied.Device

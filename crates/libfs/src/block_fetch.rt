@@ -121,7 +121,7 @@ impl<M: Media> Client<M> {
         Ok(run)
     }
 
-    // Reads a run of blocks of the kernel's graph, with the client's mark, if they are any.
+    // Reads a run of blocks of the kernel's graph, with the client's mark, where there are any.
     fn read_run<S: Media>(
         &self,
         kernel: &mut Kernel<S>,

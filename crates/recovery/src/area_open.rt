@@ -24,7 +24,7 @@ ghost use Rattle.settlement.specs.Phases.{StaysRecovered, Whatever};
 use settlement::{AreaError, Media, RecoveryError, Shared};
 use std::alloc::Global;
 
-// What the area was refused for, as it was read.
+// What the area was refused for where it was opened or read: never for too few blocks or a run.
 pub(crate) fn area_fault(error: AreaError) -> RecoveryError
     requires { IsReadRefusal error }
     ensures { IsAreaFault error result }

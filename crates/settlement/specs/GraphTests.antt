@@ -27,7 +27,7 @@ pub record IsGraphDamage (g : Graph) (structure : What) (block : ℕ) : Type 0 w
 abbrev pub without_nameless : List ℕ → Graph → Graph
 without_nameless inodes g i = if is_among i inodes && is_nameless (g i) then None else g i
 
--- Where the nodes were not read, it is for no damage.
+-- If the nodes were not read, that is for no damage.
 abbrev pub FindsNoDamage : GraphError AreaError → Type 0
 FindsNoDamage why.Memory = Unit {0}
 FindsNoDamage (why.Nodes e) = IsNoDamage e

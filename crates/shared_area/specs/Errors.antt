@@ -1,4 +1,4 @@
--- Refusals that nothing of the change itself causes.
+-- Refusals that a device or a want of memory causes.
 use Rattle.std.specs.Prelude.{◌≡◌, ◌⊎◌}
 use Rattle.change_plan.specs.area_image.declared.error.AreaError.{AreaError}
 use Rattle.change_plan.specs.area_image.declared.error.AreaError.TheVariants as errors

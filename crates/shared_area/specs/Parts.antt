@@ -13,7 +13,7 @@ use Rattle.change_plan.specs.area_image.Store.{Store, slot_read, place}
 use Rattle.change_plan.specs.area_image.Checks.{HasFound}
 use Rattle.change_plan.specs.area_image.Damage.{OnDamage}
 
--- The refusal is a reader's, and tells of no damage.
+-- A device failed, or there was no memory: the refusal is for no damage, nor for too few blocks or a run that is not mapped.
 abbrev pub IsNoDamage : AreaError → Type 0
 IsNoDamage e = OnDamage e (λ _ _. ⊥)
 

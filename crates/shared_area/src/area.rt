@@ -256,7 +256,7 @@ impl<M: Media> Shared<M> {
 
     /// Changes the graph, with new marks, in one batch: what the change puts into files goes into data blocks of its own first, the first that are free, fastest tier first, with one
     /// write for each run of them and then one fence for each tier that was written, in the same order; then one batch of the journal writes all else. Data blocks that the change does
-    /// not write stay where they lie, and a hole within which a file is cut stays a hole. A stop at any moment leaves the graph and the marks from before, or the graph after the change
+    /// not write stay where they lie, and a hole within which a file is only cut stays a hole. A stop at any moment leaves the graph and the marks from before, or the graph after the change
     /// and the new marks. Each inode that is written tells the number of digests of the marks as its touch number. The change has to keep to the limits, and the graph after it to the
     /// units.
     ///

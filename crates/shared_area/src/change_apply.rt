@@ -214,7 +214,8 @@ fn apply_counted<M: Media>(
 ///
 /// `NoBlock` where fewer data blocks are free than the change writes; `Memory` where there was none, before the first write. After these two the media and the free blocks are as
 /// before. `DeviceFault` where a device fails in the call, or has failed before it, and nothing is touched then; the journal answers nothing else until it is opened again. The
-/// blocks are counted by reading slots, and the extents of a file that is cut within a block, so that of several reasons that stand together any may be told.
+/// blocks are counted by reading slots, and the extents of a file that is cut within a block into which no bytes were put: so of several
+/// reasons that stand together any may be told.
 pub fn apply<M: Media>(
     alloc: Global,
     journal: &mut Journal<M>,

@@ -78,7 +78,7 @@ impl Buffer {
         Ok(())
     }
 
-    /// Reads as `read` does, unless it has what a read gives.
+    /// Reads as `read` does, unless `has_content` says that it has what a read gives.
     pub fn read_if_needed<M: Media>(
         &mut self,
         media: &mut M,

@@ -368,8 +368,9 @@ impl<M: Media> Region<M> {
         }
     }
 
-    /// The inodes that each of the records touches that are appended, in their order. Nothing may be begun. It takes no memory for names and bytes,
-    /// and changes nothing: it looks at what the opening read, or reads the medium where a record was begun or the region wiped since.
+    /// The inodes that each of the records touches that are appended, in their order. Nothing may be begun. It takes no memory for names
+    /// and bytes, and changes nothing: it looks at what the opening or a call before read, and reads the medium only where a record was
+    /// begun or a wipe's step made since.
     pub fn touched_inodes(&mut self) -> Result<Vec<TouchedInodes>, RegionError>
         requires idle { IsIdle self.old.stage }
         ensures found { IfOk result (λ found. found.items ≡ map inodes_of (records_of M.Media self.old)) }
@@ -383,6 +384,7 @@ impl<M: Media> Region<M> {
         ensures faults { M.faults self.old.media ≤ M.faults self.new.media }
         ensures one_fault { M.faults self.new.media ≤ M.faults self.old.media + 1 }
     {
+        // What a read that fails leaves in the buffer is no content.
         let has_content = self.has_content;
         self.has_content = false;
         match self.body.read_if_needed(&mut self.media, has_content) {

@@ -1,4 +1,4 @@
-// Where the records of a region end.
+// Where the records of a region end, the records, and which inodes they touch.
 ghost use Rattle.std.specs.Prelude.{◌≡◌, ◌≢◌, ◌⊎◌, ◌≤◌, ◌<◌, ◌+◌, [], length, take, drop, get_or, map, option_map, Some, false, true, IfOk, IfSome, IfNone};
 ghost use Rattle.log_record.specs.Grammar.{record_of};
 ghost use Rattle.log_record.specs.Touches.{inodes_of};
