@@ -402,12 +402,8 @@ def run_first(words):
     return tally(f"strata_first {' '.join(words)}", whole, runs, lambda it: has_stopped(it, whole) or it.status == 3 and it.err == "fault 15\n" and whole.out.startswith(it.out))
 
 
-# How layer_rows ends where it can't tell of a row.
+# How layer_rows ends where it can't read its table, or print.
 OUT_OF_MEMORY = re.compile(r"^Error: (?:.*: )?(?:out of memory|memory allocation failed|Kind\(OutOfMemory\))\n$")
-
-
-def ends_by_name(run):
-    return run.status == 1 and bool(OUT_OF_MEMORY.match(run.err))
 
 
 # Over a file strata_sh ends with `fault 15` and status 3 too, and the file then keeps all directories that were there. A line that meets
@@ -598,7 +594,8 @@ def said_well(said, answer):
 
 
 HOLDS = "1 rows hold, 0 do not\n"
-# The sections of formats, media and areas tell the want of memory of what they try as the crates name it, and their own by one of these.
+FAILS = "\n0 rows hold, 1 do not\n"
+# The sections tell the want of memory of what they try as the crates name it, and their own by one of these, or in place of what is said.
 OF_ITS_OWN = ("no memory for the report\n", "no memory for a row\n0 rows hold, 1 do not\n")
 
 
@@ -607,17 +604,23 @@ def said_of(run):
     return re.sub(r"\A%% \w+\n", "", run.out)
 
 
-def row_ends_well(run):
-    if run.status != 1:
-        return False
+def is_unsaid(run):
+    """Whether a row is left out, or not told to its end, and that is said."""
     out = said_of(run)
     if not out:
         return bool(OUT_OF_MEMORY.match(run.err))
     found = SAYS.match(out)
     if not found:
         return out in OF_ITS_OWN
-    said = found[2]
-    return out.endswith("\n0 rows hold, 1 do not\n") and (said == "no memory for what is said" or said.endswith("the row can't be read") or said_well(said, found[3]))
+    return out.endswith(FAILS) and (found[2] == "no memory for what is said" or found[2].endswith("the row can't be read"))
+
+
+def row_ends_well(run):
+    if run.status != 1:
+        return False
+    out = said_of(run)
+    found = SAYS.match(out)
+    return is_unsaid(run) or bool(found and out.endswith(FAILS) and said_well(found[2], found[3]))
 
 
 def run_row(section, text):
@@ -665,11 +668,11 @@ BYTES = re.compile(r"[\d ]+")
 
 
 def device_row_ends_well(run, text):
-    if ends_by_name(run):
-        return True
-    found = SAYS.match(said_of(run))
-    if run.status != 1 or not found:
+    if run.status != 1:
         return False
+    found = SAYS.match(said_of(run))
+    if is_unsaid(run) or not found:
+        return is_unsaid(run)
     said = items(found[2])
     if FAILING.match(text):
         answers = zip(found[2].split("; ")[:-1], found[3].split("; "))

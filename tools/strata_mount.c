@@ -24,10 +24,15 @@ static int refuse(const char *what, const char *why) {
     return NO_MOUNT;
 }
 
-// What a server that was killed left: every call on it answers ENOTCONN, and nothing can be mounted over it.
-static void clear_dead_mount(const char *path) {
+// What a server that was killed left: every call on it fails so, and nothing can be mounted over it.
+static int is_dead(const char *path) {
     struct stat found;
-    if (stat(path, &found) != 0 && errno == ENOTCONN) umount2(path, MNT_DETACH);
+    return stat(path, &found) != 0 && (errno == ENOTCONN || errno == ECONNABORTED);
+}
+
+// A call that waits for a server as it dies fails in one way, each later call in the other: so it is looked at again.
+static void clear_dead_mount(const char *path) {
+    for (int tries = 0; tries < 8 && is_dead(path); tries++) umount2(path, MNT_DETACH);
 }
 
 // Ends the mount: in order where nothing is open in it; else the device is closed under those who have something open.
@@ -61,16 +66,17 @@ static void run_server(int device, pid_t parent, char **words) {
     _exit(SERVER_GONE);
 }
 
-// Waits for the server's end. The first call within the mount waits for the server too; then the mount is told of.
+// Waits for the server's end. The first call within the mount waits for the server too; then the mount is told of. By the end another one may
+// have mounted the folder anew, and that mount stays.
 static int wait_for_server(pid_t server) {
-    struct stat found;
-    if (stat(folder, &found) == 0) {
+    struct stat own = {0}, found;
+    if (stat(folder, &own) == 0) {
         printf("%s: mounted\n", folder);
         fflush(stdout);
     }
     int status = 0;
     while (waitpid(server, &status, 0) < 0 && errno == EINTR) {}
-    umount2(folder, MNT_DETACH);
+    if (stat(folder, &found) != 0 || found.st_dev == own.st_dev) umount2(folder, MNT_DETACH);
     if (WIFEXITED(status)) return WEXITSTATUS(status);
     fprintf(stderr, "strata_mount: %s: the server was ended by signal %d\n", folder, WTERMSIG(status));
     return SERVER_GONE;

@@ -72,10 +72,8 @@ fn push_slot_blocks<M: Media>(
     let mut rest = slots;
     'numbers: for block in FIRST_SLOT_BLOCK..MARKS_BLOCK {
         let (here, others) = rest.split_at(count_up_to(rest, block));
-        match push_slot_block(journal, block, here, batch) {
-            Ok(()) => rest = others,
-            Err(error) => return Err(error),
-        }
+        push_slot_block(journal, block, here, batch)?;
+        rest = others;
     }
     Ok(())
 }

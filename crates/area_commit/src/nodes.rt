@@ -112,10 +112,8 @@ impl NodeImages {
         ensures few { OnOk result (length self.new ≤ length self.old + 1) }
         ensures refused { OnErr result (self.new ≡ self.old) }
     {
-        match self.images.insert(number, image) {
-            Ok(_) => Ok(()),
-            Err(_) => Err(AllocError),
-        }
+        self.images.insert(number, image)?;
+        Ok(())
     }
 
     /// How many images there are.

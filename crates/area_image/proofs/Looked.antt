@@ -1,9 +1,8 @@
 -- Reads one after the other.
-use Rattle.std.proofs.Common.{◌≡◌, ◌≢◌, ◌≤◌, ◌+◌, ◌⊎◌, inl, inr, ℕ, List, true, false, refl, sym, ◌∙◌, ap, subst, arith}
+use Rattle.std.proofs.Common.{◌≡◌, ◌≢◌, ◌≤◌, ◌+◌, ◌⊎◌, inl, inr, ℕ, true, false, refl, sym, ◌∙◌, ap, subst, arith}
 use Rattle.std.specs.Prelude.{Result, Ok, Err, IfErr}
 use Rattle.std.proofs.lemmas.Bool.{true≢false}
 use Rattle.batch_journal.specs.tier_device.declared.media.Media.{Ghosts}
-use Rattle.batch_journal.specs.tier_device.declared.media.Tier.{Tier}
 use Rattle.batch_journal.specs.tier_device.Media.{Rose}
 use Rattle.batch_journal.specs.View.{JournalView}
 use Rattle.batch_journal.specs.Course.{Unmoved}

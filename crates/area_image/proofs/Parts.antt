@@ -1,6 +1,6 @@
 -- Slot and extents of an inode, by the slot that was read.
 use Rattle.std.proofs.Common.{◌≡◌, ◌∙◌, inl, inr, ℕ, true, refl, sym, ap, Some}
-use Rattle.std.specs.Prelude.{unwrap_or}
+use Rattle.std.specs.Prelude.{Result, Ok, Err, IfOk, unwrap_or}
 use Rattle.batch_journal.specs.tier_device.declared.media.Tier.{Tier}
 use Rattle.batch_journal.specs.tier_device.declared.media.Tier.TheVariants.{Fast}
 use Rattle.batch_journal.specs.layout.declared.error.What.{What}
@@ -9,10 +9,11 @@ use Rattle.batch_journal.specs.layout.declared.slot.Slot.TheVariants as slots
 use Rattle.batch_journal.specs.layout.Places.{Sizes, is_inode}
 use Rattle.area_image.specs.declared.error.AreaError.{AreaError}
 use Rattle.area_image.specs.declared.error.AreaError.TheVariants as errors
+use Rattle.area_image.specs.declared.inode.InodeParts.{InodeParts}
 use Rattle.area_image.specs.declared.tiers.InodeExtents.{InodeExtents}
 use Rattle.area_image.specs.Store.{Store, slot, slot_read, root_of, extents_by, extents_read}
 use Rattle.area_image.specs.Damage.{OnDamage, IsDamaged}
-use Rattle.area_image.specs.Checks.{IsOwnDamage}
+use Rattle.area_image.specs.Checks.{HasFound, IsOwnDamage}
 use Rattle.area_image.specs.Map.{in_tier, extents_in, HasAllExtents, IsPartDamage}
 
 pub on_damage : {P Q : What → ℕ → Type 0} (e : AreaError) → ((w : What) (block : ℕ) → P w block → Q w block) → OnDamage e P → OnDamage e Q
@@ -32,6 +33,10 @@ module _ (g : Sizes) (s : Store) (i : ℕ) where
 
   pub extents_all : (x : Slot) (found : InodeExtents) → slot_read g s i ≡ Some x → HasAllExtents g (s Fast) i x found → (t : Tier) → extents_read g s i t ≡ Some (extents_in (in_tier found t))
   extents_all x found is has t = extents_as x t is ∙ (has t).extents
+
+  pub found_all : (r : Result InodeParts AreaError) → IfOk r (λ x. slot_read g s i ≡ Some x.slot) → IfOk r (λ x. HasAllExtents g (s Fast) i x.slot x.extents) → IfOk r (λ x. HasFound g s i x.extents)
+  found_all (Ok x) is has = extents_all x.slot x.extents is has
+  found_all (Err e) is has = tt
 
   pub part_damage : is_inode i ≡ true → (w : What) (block : ℕ) → IsPartDamage g s i w block → IsOwnDamage g s i w block
   part_damage number w block (inl (structure, at, none)) = inl (record { damage = record { structure = structure; inode = i; is = number; at = at; wrong = inl none }; of_it = refl })

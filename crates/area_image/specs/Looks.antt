@@ -1,7 +1,6 @@
 -- What a call that only reads leaves of a journal.
-use Rattle.std.specs.Prelude.{◌≡◌, ◌≢◌, ◌⊎◌, ◌≤◌, ◌+◌, ℕ, List, true, false, Result, Ok, Err, OnOk, IfErr}
+use Rattle.std.specs.Prelude.{◌≡◌, ◌≢◌, ◌⊎◌, ◌≤◌, ◌+◌, true, false, Result, Ok, Err, OnOk, IfErr}
 use Rattle.batch_journal.specs.tier_device.declared.media.Media.{Ghosts}
-use Rattle.batch_journal.specs.tier_device.declared.media.Tier.{Tier}
 use Rattle.batch_journal.specs.tier_device.Media.{Rose}
 use Rattle.batch_journal.specs.View.{JournalView}
 use Rattle.batch_journal.specs.Course.{Unmoved}

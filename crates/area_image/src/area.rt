@@ -42,15 +42,13 @@ fn add_inode<M: Media>(
     ensures memory { IfErr result (λ e. e ≡ Memory → WantsMemory journal.old.geometry (disk M.Media journal.old) inode ⊎ HasPart journal.old.geometry (disk M.Media journal.old) inode) }
     ensures looks { Looks M.Media journal.old journal.new result }
 {
-    match read_inode(alloc, journal, inode) {
-        Ok(parts) => match mark_inode(used, &parts) {
-            None => Ok(units_of(&parts.slot)),
-            Some(tier) => Err(AreaError::Damaged {
-                what: What::ExtentBlock,
-                block: root_of(&parts.slot, tier),
-            }),
-        },
-        Err(error) => Err(error),
+    let parts = read_inode(alloc, journal, inode)?;
+    match mark_inode(used, &parts) {
+        None => Ok(units_of(&parts.slot)),
+        Some(tier) => Err(AreaError::Damaged {
+            what: What::ExtentBlock,
+            block: root_of(&parts.slot, tier),
+        }),
     }
 }
 
@@ -79,10 +77,7 @@ pub fn read_area<M: Media>(
     }
     let mut units = 0;
     'inodes: for inode in 1..MAX_INODE + 1 {
-        match add_inode(alloc, journal, inode, used) {
-            Ok(more) => units += more,
-            Err(error) => return Err(error),
-        }
+        units += add_inode(alloc, journal, inode, used)?;
     }
     Ok(units)
 }

@@ -39,13 +39,8 @@ pub fn open_area<M: Media>(alloc: Global, journal: &mut Journal<M>) -> Result<Op
     ensures memory { IfErr result (λ e. e ≡ Memory → IsSome (marks_of (disk M.Media journal.old))) }
     ensures looks { Looks M.Media journal.old journal.new result }
 {
-    match read_marks(journal) {
-        Ok(marks) => match read_inodes(alloc, journal, marks) {
-            Ok(found) => Ok(found),
-            Err(error) => Err(error),
-        },
-        Err(error) => Err(error),
-    }
+    let marks = read_marks(journal)?;
+    read_inodes(alloc, journal, marks)
 }
 
 // The same behind these marks.
@@ -67,14 +62,8 @@ fn read_inodes<M: Media>(
     // For the proof: each tier is as long as its sizes say.
     journal.left_now();
     let geometry = journal.geometry();
-    let mut used = match UsedBlocks::new(alloc, &geometry) {
-        Ok(used) => used,
-        Err(_) => return Err(AreaError::Memory),
-    };
-    let charge = match read_area(alloc, journal, &mut used) {
-        Ok(charge) => charge,
-        Err(error) => return Err(error),
-    };
+    let mut used = UsedBlocks::new(alloc, &geometry)?;
+    let charge = read_area(alloc, journal, &mut used)?;
     if (geometry.units() as u64) < charge {
         return Err(AreaError::Damaged {
             what: What::Super,

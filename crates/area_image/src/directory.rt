@@ -45,10 +45,7 @@ pub fn check_directory<M: Media>(
             entries,
             number,
         };
-        match check_part(alloc, journal, part, &mut names) {
-            Ok(()) => {}
-            Err(error) => return Err(error),
-        }
+        check_part(alloc, journal, part, &mut names)?;
     }
     Ok(())
 }

@@ -52,13 +52,9 @@ fn add_names(alloc: Global, names: &mut Names, block: &[u8; BLOCK]) -> Result<bo
     let list = DirEntries::from_known(block);
     'entries: for index in 0..list.len() {
         let entry = list.entry(index);
-        match names.add(alloc, entry.name) {
-            Ok(new) => {
-                if !new {
-                    return Ok(false);
-                }
-            }
-            Err(error) => return Err(error),
+        let is_new = names.add(alloc, entry.name)?;
+        if !is_new {
+            return Ok(false);
         }
     }
     Ok(true)
@@ -106,15 +102,11 @@ pub fn check_part<M: Media>(
     if !is_part(&block, at, part.inode, part.entries, part.number) {
         return Err(entries_damaged(at));
     }
-    match add_names(alloc, names, &block) {
-        Ok(new) => {
-            if !new {
-                return Err(entries_damaged(at));
-            }
-            Ok(())
-        }
-        Err(_) => Err(AreaError::Memory),
+    let is_new = add_names(alloc, names, &block)?;
+    if !is_new {
+        return Err(entries_damaged(at));
     }
+    Ok(())
 }
 
 fn entries_damaged(at: u32) -> AreaError

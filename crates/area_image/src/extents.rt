@@ -54,10 +54,8 @@ pub fn read_extents<M: Media>(
         inode,
         blocks,
     };
-    match spelled_extents(alloc, &geometry, list, &bytes) {
-        Ok(found) => Ok(Some(found)),
-        Err(error) => Err(error),
-    }
+    let found = spelled_extents(alloc, &geometry, list, &bytes)?;
+    Ok(Some(found))
 }
 
 // Where a list of extents stands, and whose it is to be: an inode's of so many logical blocks.

@@ -39,10 +39,7 @@ pub fn read_parts<M: Media>(
     ensures memory { IfErr result (λ e. e ≡ Memory → WantsMemory journal.old.geometry (disk M.Media journal.old) inode) }
     ensures looks { Looks M.Media journal.old journal.new result }
 {
-    match read_inode_parts(alloc, journal, inode) {
-        Ok(parts) => Ok(parts),
-        Err(error) => Err(error),
-    }
+    read_inode_parts(alloc, journal, inode)
 }
 
 fn read_inode_parts<M: Media>(

@@ -40,13 +40,9 @@ pub fn read_inode<M: Media>(
     ensures memory { IfErr result (λ e. e ≡ Memory → WantsMemory journal.old.geometry (disk M.Media journal.old) inode ⊎ HasPart journal.old.geometry (disk M.Media journal.old) inode) }
     ensures looks { Looks M.Media journal.old journal.new result }
 {
-    match read_parts(alloc, journal, inode) {
-        Ok(parts) => match check_parts(alloc, journal, inode, &parts) {
-            Ok(()) => Ok(parts),
-            Err(error) => Err(error),
-        },
-        Err(refused) => Err(refused),
-    }
+    let parts = read_parts(alloc, journal, inode)?;
+    check_parts(alloc, journal, inode, &parts)?;
+    Ok(parts)
 }
 
 // Whether what an inode maps is its own, each block once.
@@ -72,10 +68,7 @@ fn check_parts<M: Media>(
             what: What::ExtentBlock,
             block: root_of(&parts.slot, tier),
         }),
-        None => match check_content(alloc, journal, inode, parts) {
-            Ok(()) => Ok(()),
-            Err(error) => Err(error),
-        },
+        None => check_content(alloc, journal, inode, parts),
     }
 }
 
@@ -100,15 +93,9 @@ fn check_content<M: Media>(
 {
     match parts.slot {
         Slot::Free => Ok(()),
-        Slot::File { size, .. } => match check_file(journal, inode, &parts.extents, size) {
-            Ok(()) => Ok(()),
-            Err(error) => Err(error),
-        },
+        Slot::File { size, .. } => check_file(journal, inode, &parts.extents, size),
         Slot::Directory { entries, .. } => {
-            match check_directory(alloc, journal, inode, &parts.extents, entries) {
-                Ok(()) => Ok(()),
-                Err(error) => Err(error),
-            }
+            check_directory(alloc, journal, inode, &parts.extents, entries)
         }
     }
 }

@@ -85,10 +85,7 @@ pub fn check_file<M: Media>(
     match first_place(found, size / BLOCK as u64) {
         Some((tier, place)) => {
             let at = block_number(&geometry, tier, place);
-            match read_tail(journal, tier, at, rest) {
-                Ok(()) => Ok(()),
-                Err(error) => Err(error),
-            }
+            read_tail(journal, tier, at, rest)
         }
         None => Ok(()),
     }

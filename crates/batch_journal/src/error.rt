@@ -1,4 +1,9 @@
+ghost use Rattle.std.specs.Prelude.{◌≡◌};
+ghost use Rattle.batch_journal.specs.declared.error.JournalError.TheVariants.{DeviceFault, Memory};
+
+use crate::calls::Failed;
 use layout::What;
+use std::alloc::AllocError;
 use thiserror::Error;
 
 /// Why a call of a journal was refused.
@@ -13,4 +18,20 @@ pub enum JournalError {
     Damaged { what: What, block: u32 },
     #[error("out of memory")]
     Memory,
+}
+
+impl From<Failed> for JournalError {
+    ghost from_gives = { λ _ e. e ≡ DeviceFault };
+
+    fn from(_e: Failed) -> JournalError {
+        JournalError::DeviceFault
+    }
+}
+
+impl From<AllocError> for JournalError {
+    ghost from_gives = { λ _ e. e ≡ Memory };
+
+    fn from(_e: AllocError) -> JournalError {
+        JournalError::Memory
+    }
 }

@@ -33,14 +33,8 @@ fn read_volume<M: Media>(media: &mut M) -> Result<(Geometry, usize), JournalErro
     ensures only { IfErr result IsOfReading }
 {
     let mut head = blank_block();
-    let count = match read_head(media, &mut head) {
-        Ok(count) => count,
-        Err(error) => return Err(error),
-    };
-    let geometry = match read_geometry(media, superblock_in(&head)) {
-        Ok(geometry) => geometry,
-        Err(error) => return Err(error),
-    };
+    let count = read_head(media, &mut head)?;
+    let geometry = read_geometry(media, superblock_in(&head))?;
     if !is_head(&head, count, &geometry) {
         return Err(JournalError::Damaged {
             what: What::JournalHead,
@@ -59,18 +53,10 @@ fn open_replayed<M: Media>(alloc: Global, media: &mut M) -> Result<Geometry, Jou
     requires gate { are_zero (rest_of_gate (M.seen media.old Fast)) ≡ true }
     ensures { Opens (M.seen media.old) (M.seen media.new) (M.moment media.old) (M.moment media.new) (M.left media.old) (M.left media.new) (M.faults media.old) (M.faults media.new) result }
 {
-    let (geometry, count) = match read_volume(media) {
-        Ok(found) => found,
-        Err(error) => return Err(error),
-    };
-    let bytes = match read_run(alloc, media, HEAD, BLOCK * count + BLOCK) {
-        Ok(bytes) => bytes,
-        Err(error) => return Err(error),
-    };
-    match replay(media, &bytes, count) {
-        Ok(()) => Ok(geometry),
-        Err(_) => Err(JournalError::DeviceFault),
-    }
+    let (geometry, count) = read_volume(media)?;
+    let bytes = read_run(alloc, media, HEAD, BLOCK * count + BLOCK)?;
+    replay(media, &bytes, count)?;
+    Ok(geometry)
 }
 
 /// Opens a medium at rest.
@@ -84,13 +70,8 @@ pub fn open_medium<M: Media>(alloc: Global, media: &mut M) -> Result<Geometry, J
             block: SUPER_BLOCK,
         });
     }
-    match read_gate(media) {
-        Ok(is_open) => {
-            if is_open {
-                return open_replayed(alloc, media);
-            }
-            read_geometry(media, BLOCK * SUPER_BLOCK as usize)
-        }
-        Err(error) => Err(error),
+    if read_gate(media)? {
+        return open_replayed(alloc, media);
     }
+    read_geometry(media, BLOCK * SUPER_BLOCK as usize)
 }

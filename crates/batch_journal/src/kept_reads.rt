@@ -88,14 +88,10 @@ fn fetch_part<M: Media>(
         return Ok(());
     }
     let mut bytes = blank_block();
-    match fetch(media, Tier::Fast, BLOCK * block as usize, &mut bytes) {
-        Ok(()) => {
-            kept.keep(block, &bytes);
-            copy_part(&bytes, from, out);
-            Ok(())
-        }
-        Err(failed) => Err(failed),
-    }
+    fetch(media, Tier::Fast, BLOCK * block as usize, &mut bytes)?;
+    kept.keep(block, &bytes);
+    copy_part(&bytes, from, out);
+    Ok(())
 }
 
 // Copies bytes of a block that is kept; whether it is.

@@ -46,10 +46,8 @@ fn put_images<M: Media>(media: &mut M, bytes: &[u8], count: usize) -> Result<(),
 {
     let mut place = 0;
     'images: while place < count {
-        match put_image(media, bytes, place) {
-            Ok(()) => place += 1,
-            Err(failed) => return Err(failed),
-        }
+        put_image(media, bytes, place)?;
+        place += 1;
     }
     Ok(())
 }
@@ -71,10 +69,8 @@ fn put_images_kept<M: Media>(media: &mut M, bytes: &[u8], count: usize) -> Resul
     ensures one_fault { M.faults media.new ≤ M.faults media.old + 1 }
     ensures cause { OnErr result (Rose (M.faults media.old) (M.faults media.new)) }
 {
-    match put_images(media, bytes, count) {
-        Ok(()) => settle(media, Tier::Fast),
-        Err(failed) => Err(failed),
-    }
+    put_images(media, bytes, count)?;
+    settle(media, Tier::Fast)
 }
 
 /// Replays the open journal, whose head and images these bytes are, and closes it.
@@ -100,10 +96,8 @@ pub fn replay<M: Media>(media: &mut M, bytes: &[u8], count: usize) -> Result<(),
     ensures one_fault { M.faults media.new ≤ M.faults media.old + 1 }
     ensures cause { OnErr result (Rose (M.faults media.old) (M.faults media.new)) }
 {
-    match put_images_kept(media, bytes, count) {
-        Ok(()) => keep(media, GATE, &[CLOSED]),
-        Err(failed) => Err(failed),
-    }
+    put_images_kept(media, bytes, count)?;
+    keep(media, GATE, &[CLOSED])
 }
 
 /// Writes head and images behind the closed gate, and opens it.
@@ -126,10 +120,8 @@ fn open_batch<M: Media>(media: &mut M, bytes: &[u8]) -> Result<(), Failed>
     ensures one_fault { M.faults media.new ≤ M.faults media.old + 1 }
     ensures cause { OnErr result (Rose (M.faults media.old) (M.faults media.new)) }
 {
-    match keep(media, HEAD, bytes) {
-        Ok(()) => keep(media, GATE, &[OPEN]),
-        Err(failed) => Err(failed),
-    }
+    keep(media, HEAD, bytes)?;
+    keep(media, GATE, &[OPEN])
 }
 
 /// A batch of at least one image, whole or not at all.
@@ -154,8 +146,6 @@ pub fn write_batch<M: Media>(media: &mut M, bytes: &[u8], count: usize) -> Resul
     ensures one_fault { M.faults media.new ≤ M.faults media.old + 1 }
     ensures cause { OnErr result (Rose (M.faults media.old) (M.faults media.new)) }
 {
-    match open_batch(media, bytes) {
-        Ok(()) => replay(media, bytes, count),
-        Err(failed) => Err(failed),
-    }
+    open_batch(media, bytes)?;
+    replay(media, bytes, count)
 }

@@ -36,13 +36,9 @@ pub fn read_run<M: Media>(
     ensures faults { CountsFaults (M.faults media.old) (M.faults media.new) result }
     ensures only { IfErr result (λ e. (e ≡ DeviceFault) ⊎ (e ≡ Memory)) }
 {
-    match vec![in alloc; 0u8; size] {
-        Ok(mut bytes) => match fetch(media, Tier::Fast, at, &mut bytes) {
-            Ok(()) => Ok(bytes),
-            Err(_) => Err(JournalError::DeviceFault),
-        },
-        Err(_) => Err(JournalError::Memory),
-    }
+    let mut bytes = vec![in alloc; 0u8; size]?;
+    fetch(media, Tier::Fast, at, &mut bytes)?;
+    Ok(bytes)
 }
 
 /// A block's worth of bytes, to read into.
@@ -61,15 +57,13 @@ pub fn read_gate<M: Media>(media: &mut M) -> Result<bool, JournalError>
     ensures damaged { IfErr result (λ e. OnJournalDamage e (IsGateDamage (M.seen media.old Fast))) }
 {
     let mut block = blank_block();
-    match fetch(media, Tier::Fast, GATE, &mut block) {
-        Ok(()) => match gate_in(&block) {
-            Some(is_open) => Ok(is_open),
-            None => Err(JournalError::Damaged {
-                what: What::JournalGate,
-                block: GATE_BLOCK,
-            }),
-        },
-        Err(_) => Err(JournalError::DeviceFault),
+    fetch(media, Tier::Fast, GATE, &mut block)?;
+    match gate_in(&block) {
+        Some(is_open) => Ok(is_open),
+        None => Err(JournalError::Damaged {
+            what: What::JournalGate,
+            block: GATE_BLOCK,
+        }),
     }
 }
 
@@ -97,15 +91,13 @@ pub fn read_geometry<M: Media>(media: &mut M, at: usize) -> Result<Geometry, Jou
     ensures only { IfErr result IsOfReading }
 {
     let mut block = blank_block();
-    match fetch(media, Tier::Fast, at, &mut block) {
-        Ok(()) => match geometry_in(media, &block) {
-            Some(geometry) => Ok(geometry),
-            None => Err(JournalError::Damaged {
-                what: What::Super,
-                block: SUPER_BLOCK,
-            }),
-        },
-        Err(_) => Err(JournalError::DeviceFault),
+    fetch(media, Tier::Fast, at, &mut block)?;
+    match geometry_in(media, &block) {
+        Some(geometry) => Ok(geometry),
+        None => Err(JournalError::Damaged {
+            what: What::Super,
+            block: SUPER_BLOCK,
+        }),
     }
 }
 
@@ -154,19 +146,15 @@ pub fn read_head<M: Media>(media: &mut M, head: &mut [u8]) -> Result<usize, Jour
     ensures faults { CountsFaults (M.faults media.old) (M.faults media.new) result }
     ensures only { IfErr result IsOfReading }
 {
-    match fetch(media, Tier::Fast, HEAD, head) {
-        Ok(()) => {
-            let count = LittleEndian::read_u32(head) as usize;
-            if count < 1 || 256 < count {
-                return Err(JournalError::Damaged {
-                    what: What::JournalHead,
-                    block: HEAD_BLOCK,
-                });
-            }
-            Ok(count)
-        }
-        Err(_) => Err(JournalError::DeviceFault),
+    fetch(media, Tier::Fast, HEAD, head)?;
+    let count = LittleEndian::read_u32(head) as usize;
+    if count < 1 || 256 < count {
+        return Err(JournalError::Damaged {
+            what: What::JournalHead,
+            block: HEAD_BLOCK,
+        });
     }
+    Ok(count)
 }
 
 /// Where the superblock stands behind an open gate: the first image, if that is for block 0, else block 0.

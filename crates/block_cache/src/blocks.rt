@@ -74,10 +74,8 @@ impl Blocks {
         let _ = self.cache.len();
         let copy = BlockBytes::copy_of(self.alloc, bytes)?;
         widen_span(&mut self.spans, inode, block);
-        match self.cache.put(Place { inode, block }, copy) {
-            Ok(_) => Ok(()),
-            Err(_) => Err(AllocError),
-        }
+        self.cache.put(Place { inode, block }, copy)?;
+        Ok(())
     }
 
     /// The bytes of a block, if it is there. It is the first then. Where it is the first already it is not looked for.

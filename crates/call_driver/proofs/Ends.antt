@@ -1,5 +1,5 @@
 -- How a call goes on or ends.
-use Rattle.std.proofs.Common.{◌≡◌, ◌≢◌, ◌+◌, ℕ, Bool, inl, inr, refl, ap, sym, add-one, subst, Some, None}
+use Rattle.std.proofs.Common.{◌≡◌, ◌≢◌, ◌+◌, ◌≤◌, ℕ, Bool, inl, inr, refl, ap, sym, add-one, subst, Some, None}
 use Rattle.std.specs.Prelude.{Result, Ok, Err}
 use Rattle.world.specs.system_world.event_steps.posix_calls.declared.call.Call.{Call}
 use Rattle.world.specs.system_world.event_steps.client_plan.declared.need.Need.{Need}
@@ -10,7 +10,7 @@ use Rattle.world.specs.system_world.event_steps.declared.event.Event.TheVariants
 use Rattle.world.specs.system_world.event_steps.declared.outcome.Outcome.{Outcome}
 use Rattle.world.specs.system_world.event_steps.declared.outcome.Outcome.TheVariants as outcome
 use Rattle.call_driver.specs.Needs.{IsServed}
-use Rattle.call_driver.specs.Calls.{GoesOn, IsCarriedOn, IsEndedBy, IsLastStep, IsStepOf, IsReadyCall, Turns}
+use Rattle.call_driver.specs.Calls.{append_calls, most_turns, GoesOn, IsCarriedOn, IsEndedBy, IsLastStep, IsStepOf, IsReadyCall, Turns}
 use Rattle.call_driver.specs.EventOwner.{after_start, after_step}
 use Rattle.call_driver.specs.declared.call_result.CallResult.{CallResult}
 use Rattle.call_driver.specs.declared.call_result.CallResult.TheVariants as served
@@ -54,11 +54,11 @@ module _ {S : Type 0} (plays : S → Event → Outcome → S → Type 0) (client
   pub one_more_step : (n : ℕ) (s t u : S) → GoesOn plays client n s t → IsStepOf plays client (Some served.Pending) t u → GoesOn plays client (n + 1) s u
   one_more_step n s t u before (o, played, is) = subst (λ m. GoesOn plays client m s u) (sym (add-one n)) (t, before, subst (λ p. plays t (kinds.Step client) p u) (went_on o is) played)
 
-  pub ended_by_step : (n : ℕ) (x : CallResult) (s t u : S) → GoesOn plays client n s t → IsStepOf plays client (Some x) t u → x ≢ served.Pending → IsCarriedOn plays client x s u
-  ended_by_step n x s t u before (o, played, is) other = record { count = n; last = t; steps = before; end = inr (o, played, last_step o x is other) }
+  pub ended_by_step : (n : ℕ) (x : CallResult) (s t u : S) → GoesOn plays client n s t → n ≤ append_calls → IsStepOf plays client (Some x) t u → x ≢ served.Pending → IsCarriedOn plays client x s u
+  ended_by_step n x s t u before few (o, played, is) other = record { count = n; last = t; steps = before; few = few; end = inr (o, played, last_step o x is other) }
 
-  pub ended_by_none : (n : ℕ) (s t u : S) → GoesOn plays client n s t → IsStepOf plays client None t u → IsCarriedOn plays client served.Blocked s u
-  ended_by_none n s t u before (o, played, is) = record { count = n; last = t; steps = before; end = inr (o, played, none_step o is) }
+  pub ended_by_none : (n : ℕ) (s t u : S) → GoesOn plays client n s t → n ≤ append_calls → IsStepOf plays client None t u → IsCarriedOn plays client served.Blocked s u
+  ended_by_none n s t u before few (o, played, is) = record { count = n; last = t; steps = before; few = few; end = inr (o, played, none_step o is) }
 
 -- ---- turns
 
@@ -86,8 +86,8 @@ module _ {S : Type 0} (system : Ghosts S) (hands : Bool) (client : ℕ) (call : 
   pub one_more_turn : (n : ℕ) (need : Need) (s t u v : S) → Turns system hands client call n s t → (o : Outcome) × system.plays t e o u × (lacking need ≡ after_start o) → IsServed system hands client need turns.Again u v → Turns system hands client call (n + 1) s v
   one_more_turn n need s t u v before lacks has = subst (λ m. Turns system hands client call m s v) (sym (add-one n)) (t, u, need, before, lacked need t u lacks, has)
 
-  pub told_at_once : (n : ℕ) (x : CallResult) (s t u : S) → Turns system hands client call n s t → (o : Outcome) × system.plays t e o u × (told_now x ≡ after_start o) → IsReadyCall system hands client call (Ok x) s u
-  told_at_once n x s t u before (o, played, is) = record { count = n; last = t; turns = before; end = inr (inl (x, o, subst (λ f. system.plays t f o u) starts played, sym is, refl)) }
+  pub told_at_once : (n : ℕ) (x : CallResult) (s t u : S) → Turns system hands client call n s t → n ≤ most_turns → (o : Outcome) × system.plays t e o u × (told_now x ≡ after_start o) → IsReadyCall system hands client call (Ok x) s u
+  told_at_once n x s t u before few (o, played, is) = record { count = n; last = t; turns = before; few = few; end = inr (inl (x, o, subst (λ f. system.plays t f o u) starts played, sym is, refl)) }
 
-  pub told_by_need : (n : ℕ) (need : Need) (turn : NeedResult) (r : Result CallResult Denied) (s t u v : S) → Turns system hands client call n s t → (o : Outcome) × system.plays t e o u × (lacking need ≡ after_start o) → IsServed system hands client need turn u v → IsEndedBy turn r → IsReadyCall system hands client call r s v
-  told_by_need n need turn r s t u v before lacks has ends = record { count = n; last = t; turns = before; end = inr (inr (need, u, turn, lacked need t u lacks, has, ends)) }
+  pub told_by_need : (n : ℕ) (need : Need) (turn : NeedResult) (r : Result CallResult Denied) (s t u v : S) → Turns system hands client call n s t → n ≤ most_turns → (o : Outcome) × system.plays t e o u × (lacking need ≡ after_start o) → IsServed system hands client need turn u v → IsEndedBy turn r → IsReadyCall system hands client call r s v
+  told_by_need n need turn r s t u v before few lacks has ends = record { count = n; last = t; turns = before; few = few; end = inr (inr (need, u, turn, lacked need t u lacks, has, ends)) }

@@ -1,7 +1,8 @@
 -- A call, from its start to its answer.
-use Rattle.std.specs.Prelude.{◌≡◌, ◌≢◌, ◌⊎◌, ℕ, zero, suc, Bool, true, false, Option, Result, Ok, Err}
+use Rattle.std.specs.Prelude.{◌≡◌, ◌≢◌, ◌⊎◌, ◌≤◌, ◌*◌, ℕ, zero, suc, Bool, true, false, Option, Result, Ok, Err}
 use Rattle.world.specs.system_world.event_steps.posix_calls.declared.call.Call.{Call}
 use Rattle.world.specs.system_world.event_steps.client_plan.declared.need.Need.{Need}
+use Rattle.world.specs.system_world.event_steps.lease_manager.declared.layout.TheConstants.{INODES}
 use Rattle.world.specs.system_world.event_steps.lease_manager.declared.view.LeaseMode.{LeaseMode}
 use Rattle.world.specs.system_world.event_steps.libfs.declared.denial.Denied.{Denied}
 use Rattle.world.specs.system_world.event_steps.declared.event.Event.{Event}
@@ -14,8 +15,15 @@ use Rattle.call_driver.specs.declared.call_result.CallResult.{CallResult}
 use Rattle.call_driver.specs.declared.call_result.CallResult.TheVariants as served
 use Rattle.call_driver.specs.declared.needs.NeedResult.{NeedResult}
 use Rattle.call_driver.specs.declared.needs.NeedResult.TheVariants as turns
-use Rattle.call_driver.specs.declared.calls.TheConstants.{STEPS, TURNS}
 use Rattle.call_driver.specs.declared.events.Events.{Ghosts}
+
+-- by how many device calls a record is appended, of which the last answers its call
+abbrev pub append_calls : ℕ
+append_calls = 4
+
+-- how often a call is started at most: eight times for each inode, more than it has needs
+abbrev pub most_turns : ℕ
+most_turns = 8 * INODES
 
 -- how a call ends that takes no further step
 abbrev pub IsLastStep : Outcome → CallResult → Type 0
@@ -43,12 +51,13 @@ module _ {S : Type 0} (plays : S → Event → Outcome → S → Type 0) where
   GoesOn client zero s t = t ≡ s
   GoesOn client (suc n) s t = (u : S) × GoesOn client n s u × plays u (event.Step client) outcome.Stepped t
 
-  -- The call that a client has begun was carried on, to its answer.
+  -- The call that a client has begun was carried on, until it was answered, or all device calls of an append were made.
   pub record IsCarriedOn (client : ℕ) (x : CallResult) (s t : S) : Type 0 where
     pub count : ℕ
     pub last : S
     pub steps : GoesOn client count s last
-    pub end : ((count ≡ STEPS) × (x ≡ served.Pending) × (t ≡ last)) ⊎ ((o : Outcome) × plays last (event.Step client) o t × IsLastStep o x)
+    pub few : count ≤ append_calls
+    pub end : ((count ≡ append_calls) × (x ≡ served.Pending) × (t ≡ last)) ⊎ ((o : Outcome) × plays last (event.Step client) o t × IsLastStep o x)
 
 module _ {S : Type 0} (system : Ghosts S) where
   -- A call was started this number of times, lacked something each time, and got it.
@@ -69,7 +78,8 @@ module _ {S : Type 0} (system : Ghosts S) where
     pub count : ℕ
     pub last : S
     pub turns : Turns hands client call count s last
-    pub end : ((count ≡ TURNS) × (r ≡ Ok served.Blocked) × (t ≡ last)) ⊎ (IsReadyAtOnce client call r last t ⊎ IsEndedByNeed hands client call r last t)
+    pub few : count ≤ most_turns
+    pub end : ((count ≡ most_turns) × (r ≡ Ok served.Blocked) × (t ≡ last)) ⊎ (IsReadyAtOnce client call r last t ⊎ IsEndedByNeed hands client call r last t)
 
   -- what the kernel refused it is answered by a denial
   pub record IsDenied (hands : Bool) (client : ℕ) (call : Call) (x : CallResult) (s t : S) : Type 0 where

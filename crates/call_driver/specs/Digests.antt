@@ -1,5 +1,5 @@
 -- What a client logged is digested, and its regions are wiped.
-use Rattle.std.specs.Prelude.{◌≡◌, ◌⊎◌, ◌-◌, ℕ, zero, suc, nat_lt, Bool, Result, Ok, Err}
+use Rattle.std.specs.Prelude.{◌≡◌, ◌⊎◌, ◌≤◌, ◌-◌, ℕ, zero, suc, nat_lt, Bool, Result, Ok, Err}
 use Rattle.world.specs.system_world.event_steps.lease_manager.declared.layout.TheConstants.{INODES}
 use Rattle.world.specs.system_world.event_steps.declared.event.Event.{Event}
 use Rattle.world.specs.system_world.event_steps.declared.event.Event.TheVariants as event
@@ -8,7 +8,6 @@ use Rattle.world.specs.system_world.event_steps.declared.outcome.Refusal.{Refusa
 use Rattle.world.specs.system_world.event_steps.declared.outcome.Refusal.TheVariants as refusals
 use Rattle.call_driver.specs.EventResults.{CameTo, IsRefusedIn}
 use Rattle.call_driver.specs.EventOwner.{IsClearing, IsDigesting, IsReclaim}
-use Rattle.call_driver.specs.declared.digests.TheConstants.{WIPE_STEPS}
 use Rattle.call_driver.specs.declared.event_result.EventResult.{EventResult}
 use Rattle.call_driver.specs.declared.event_result.EventResult.TheVariants as did
 use Rattle.call_driver.specs.declared.events.Events.{Ghosts}
@@ -22,6 +21,7 @@ Times {S = S} plays e (suc n) s t = (u : S) × Times plays e n s u × CameTo pla
 pub record IsDoneUpTo {S : Type 0} (plays : S → Event → Outcome → S → Type 0) (e : Event) (most count : ℕ) (s t : S) : Type 0 where
   pub last : S
   pub times : Times plays e count s last
+  pub few : count ≤ most
   pub end : ((count ≡ most) × (t ≡ last)) ⊎ CameTo plays e did.Nothing last t
 
 -- All records of the region that a client handed over are digested: each chunk has one of them at least.
@@ -73,9 +73,13 @@ abbrev pub IsCleared : {S : Type 0} → Ghosts S → ℕ → Result ℕ Refusal 
 IsCleared system client (Ok count) s t = HasCleared system client count s t
 IsCleared system client (Err why) s t = IsRefusedIn system.plays (IsClearing client) why s t
 
--- What there is to wipe of a client's regions is wiped; whether there was something.
+-- by how many device calls a client's regions are wiped: four for each of two
+abbrev pub wipe_calls : ℕ
+wipe_calls = 8
+
+-- What there is to wipe of a client's regions is wiped: so many device calls were made, or nothing was left to do. And whether there was something.
 abbrev pub HasWiped : {S : Type 0} → (S → Event → Outcome → S → Type 0) → ℕ → Bool → S → S → Type 0
-HasWiped plays client wiped s t = (count : ℕ) × IsDoneUpTo plays (event.WipeStep client) WIPE_STEPS count s t × (wiped ≡ nat_lt 0 count)
+HasWiped plays client wiped s t = (count : ℕ) × IsDoneUpTo plays (event.WipeStep client) wipe_calls count s t × (wiped ≡ nat_lt 0 count)
 
 abbrev pub IsWiped : {S : Type 0} → (S → Event → Outcome → S → Type 0) → ℕ → Result Bool Refusal → S → S → Type 0
 IsWiped plays client (Ok wiped) s t = HasWiped plays client wiped s t

@@ -20,10 +20,7 @@ pub fn digest_all<E: Events>(events: &mut E, client: u32) -> Result<(), Refusal>
     ensures digested { IsDigested E.Events client result events.old events.new }
     ensures events { Leads E.plays (IsDigesting client) events.old events.new }
 {
-    match digest_region(events, client) {
-        Ok(()) => {}
-        Err(refusal) => return Err(refusal),
-    }
+    digest_region(events, client)?;
     match carry_out(events, Event::Seal { client }) {
         EventResult::Done => digest_region(events, client),
         EventResult::Nothing => Ok(()),
@@ -52,15 +49,10 @@ pub fn clear_client<E: Events>(events: &mut E, client: u32) -> Result<usize, Ref
     ensures events { Leads E.plays (IsClearing client) events.old events.new }
 {
     let before = events.undigested(client);
-    match digest_all(events, client) {
-        Ok(()) => {}
-        Err(refusal) => return Err(refusal),
-    }
+    digest_all(events, client)?;
     let count = before.saturating_sub(events.undigested(client));
-    match reclaim_all(events) {
-        Ok(()) => Ok(count),
-        Err(refusal) => Err(refusal),
-    }
+    reclaim_all(events)?;
+    Ok(count)
 }
 
 // Drops each file that may go, rising.
@@ -69,10 +61,7 @@ fn reclaim_all<E: Events>(events: &mut E) -> Result<(), Refusal>
     ensures events { Leads E.plays IsReclaim events.old events.new }
 {
     for before in 0..INODES {
-        match reclaim(events, before + 1) {
-            Ok(()) => {}
-            Err(refusal) => return Err(refusal),
-        }
+        reclaim(events, before + 1)?;
     }
     Ok(())
 }

@@ -4,10 +4,11 @@ use crate::events::Events;
 use world::{Event, LeaseMode, Outcome, Steps, TierDeviceMedia as Media, World, lease_in};
 
 impl<M: Media + Drop> Events for World<M> {
-    ghost use Rattle.call_driver.specs.OfSystem.{failed_in, plays_in, undigested_in, waits_in};
+    ghost use Rattle.call_driver.specs.OfSystem.{failed_in, undigested_in, waits_in};
     ghost use Rattle.world.specs.Leases.{lease_in};
+    ghost use Rattle.world.specs.system_world.Steps.{MakesOrStays};
 
-    ghost plays = { λ v e o w. plays_in M.Media v.system e o w.system };
+    ghost plays = { MakesOrStays M.Media };
 
     ghost leases = { λ v. lease_in v.system };
 

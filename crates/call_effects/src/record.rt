@@ -158,7 +158,14 @@ fn effects_by(effects: Vec<Effect>, names: u32, new: u32, operation: Operation) 
             inode,
             is_dir,
             replaced,
-        } => move_effects(effects, names, from, to, inode, kind_if(is_dir), replaced),
+        } => {
+            let to = NewEntry {
+                at: to,
+                inode,
+                kind: kind_if(is_dir),
+            };
+            move_effects(effects, names, from, to, replaced)
+        }
     }
 }
 
@@ -242,22 +249,28 @@ fn remove_effects(mut effects: Vec<Effect>, at: Location, inode: u32) -> Effects
     Effects::from_vec(effects)
 }
 
+// The name that a rename enters, and what it is a name of.
+#[derive(Drop)]
+struct NewEntry {
+    at: Location,
+    inode: u32,
+    kind: Kind,
+}
+
 fn move_effects(
     mut effects: Vec<Effect>,
     names: u32,
     from: Location,
-    to: Location,
-    inode: u32,
-    kind: Kind,
+    to: NewEntry,
     replaced: Replaced,
 ) -> Effects
-    requires first { effects.items ≡ leaving_first to replaced }
+    requires first { effects.items ≡ leaving_first to.at replaced }
     requires room { MOST_EFFECTS ≤ vec_capacity effects }
-    ensures { result ≡ clear_effects names to replaced ++ (Leave from.parent from.name ∷ Enter to.parent inode kind to.name ∷ []) }
+    ensures { result ≡ clear_effects names to.at replaced ++ (Leave from.parent from.name ∷ Enter to.at.parent to.inode to.kind to.at.name ∷ []) }
 {
     put_out(&mut effects, names.saturating_sub(1), replaced);
     put(&mut effects, leave_effect(from));
-    put(&mut effects, enter_effect(to, inode, kind));
+    put(&mut effects, enter_effect(to.at, to.inode, to.kind));
     Effects::from_vec(effects)
 }
 

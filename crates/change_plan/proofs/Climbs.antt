@@ -1,5 +1,5 @@
 -- Numbers that climb, and the changes of inodes in the order of their numbers.
-use Rattle.std.proofs.Common.{◌≡◌, ◌≤◌, ◌<◌, ◌+◌, ◌∙◌, inl, inr, ℕ, List, [], ◌∷◌, ◌++◌, length, map, Bool, true, false, T, Some, refl, sym, ap, arith}
+use Rattle.std.proofs.Common.{◌≡◌, ◌≤◌, ◌<◌, ◌+◌, ◌∙◌, inl, inr, ℕ, List, [], ◌∷◌, ◌++◌, length, map, Bool, true, false, T, Some, refl, sym, ap, subst, arith}
 use Rattle.std.specs.Prelude.{is_some, unwrap_or}
 use Rattle.std.specs.List.{Contains, AllByRecursion}
 use Rattle.std.specs.List.Sorted.{IsStrictlySortedBy}
@@ -139,6 +139,9 @@ change_here cs e at = ap (λ o. unwrap_or o (new_change Kept)) (entry_at cs e at
 pub has_here : (cs : Changes) (e : ℕ × Change) → Contains (fin.entries cs) e → fin.contains_key cs e.0 ≡ true
 has_here cs e at = ap is_some (entry_at cs e at)
 
+pub key_has : (cs : Changes) (k : ℕ) → Contains (fin.keys cs) k → fin.contains_key cs k ≡ true
+key_has cs k at = let r = mapped_from (λ (e : ℕ × Change). e.0) (fin.entries cs) k at in subst (λ (j : ℕ). fin.contains_key cs j ≡ true) r.2 (has_here cs r.0 r.1)
+
 -- ---- a map in memory
 
 nothing_in : {A : Type 0} (xs : List A) → length xs ≡ 0 → xs ≡ []
@@ -161,3 +164,8 @@ entries_seen f (e ∷ es) sorted =
     fin.entries-insert nat_cmp_total (map_of f es) e.0 (f e.1)
     ∙ ap (fin.put nat_cmp e.0 (f e.1)) (entries_seen f es sorted.1)
     ∙ put_first f e.0 (f e.1) es sorted.0
+
+-- one that is not empty has a key
+pub some_key : {X : Type 0} (f : X → Change) (es : List (ℕ × X)) → IsStrictlySortedBy nat_cmp (keys_of es) → (length es ≡ 0 → ⊥) → (i : ℕ) × (fin.contains_key (map_of f es) i ≡ true)
+some_key f [] sorted some = absurd (some refl)
+some_key f (e ∷ es) sorted some = (e.0, has_here (map_of f (e ∷ es)) (e.0, f e.1) (subst (λ zs. Contains zs (e.0, f e.1)) (sym (entries_seen f (e ∷ es) sorted)) (cons_here (e.0, f e.1) (seen_as f es) (e.0, f e.1) refl)))

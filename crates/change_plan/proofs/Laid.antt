@@ -1,5 +1,5 @@
 -- Where the blocks lie that are written: of no inode, of one, and of one more.
-use Rattle.std.proofs.Common.{◌≡◌, ◌≢◌, ◌≤◌, ◌<◌, ◌+◌, ◌-◌, ◌⊎◌, ◌∙◌, inl, inr, ℕ, List, [], ◌∷◌, ◌++◌, length, get_or, map, true, Some, refl, sym, ap, subst, arith}
+use Rattle.std.proofs.Common.{◌≡◌, ◌<◌, ◌+◌, ◌-◌, ◌⊎◌, ◌∙◌, inl, inr, ℕ, List, [], ◌∷◌, ◌++◌, length, get_or, map, true, Some, refl, sym, ap, subst, arith}
 use Rattle.std.specs.List.{Contains}
 use Rattle.std.proofs.lemmas.Bool.{cases_lt}
 use Rattle.std.proofs.lemmas.List.{length-append, length-map, get_or-map, get_or_append_left, get_or-append-add}
@@ -14,9 +14,8 @@ use Rattle.inode_plan.specs.area_commit.declared.slots.ChangedSlot.{ChangedSlot}
 use Rattle.inode_plan.specs.area_commit.Plan.{is_changed}
 use Rattle.inode_plan.proofs.area_commit_lemmas.Members.{nothing}
 use Rattle.inode_plan.specs.PlacedFile.{nth_number}
-use Rattle.inode_plan.specs.BlockWrites.{Rise}
 use Rattle.inode_plan.proofs.Moves.{later_is_greater}
-use Rattle.change_plan.specs.FileLayout.{LeavesFile, WritesBlock, ComesBefore, nth_block, nth_data, AreInTurn, Writes, IsLaid, AreLaid}
+use Rattle.change_plan.specs.FileLayout.{LeavesFile, WritesBlock, ComesBefore, nth_block, nth_data, Writes, IsLaid, AreLaid}
 use Rattle.change_plan.specs.Parts.{with_at}
 use Rattle.change_plan.proofs.Climbs.{mapped_in, mapped_from}
 use Rattle.change_plan.proofs.Pieces.{at_one, at_other, changed_old, changed_last, changed_either}

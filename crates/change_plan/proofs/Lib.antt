@@ -28,6 +28,7 @@ pub mod Wants
 pub mod NextPlaces
 pub mod NextOthers
 pub mod Walked
+pub mod Slotted
 mod WrittenBlocks
 mod Lying
 -- Passed on to the crates above, which so need not list those below.

@@ -1,5 +1,5 @@
 -- Where blocks lie in a store in which a change is carried out.
-use Rattle.std.proofs.Common.{◌≡◌, ◌∙◌, ◌<◌, inl, inr, ℕ, List, length, true, false, Option, Some, None, refl, sym, ap, subst}
+use Rattle.std.proofs.Common.{◌≡◌, ◌∙◌, inl, inr, ℕ, true, Option, Some, None, refl, sym, ap}
 use Rattle.std.specs.Prelude.{option_map, is_some, unwrap_or}
 use Rattle.std.specs.FinMap as fin
 use Rattle.std.proofs.lemmas.Bool.{false≢true}

@@ -1,13 +1,18 @@
 -- Blocks of runs, one after the other, and the ones of them that were taken last.
-use Rattle.std.proofs.Common.{◌<◌, ◌≡◌, ◌≤◌, ◌+◌, ◌-◌, ◌∙◌, ℕ, zero, suc, List, [], ◌∷◌, ◌++◌, ap, sym, arith}
+use Rattle.std.proofs.Common.{◌<◌, ◌≡◌, ◌≤◌, ◌+◌, ◌-◌, ◌∙◌, ℕ, zero, suc, List, [], ◌∷◌, ◌++◌, length, ap, sym, arith}
+use Rattle.std.specs.Prelude.{◌^◌}
 use Rattle.std.specs.List.{range_with_len}
-use Rattle.std.proofs.lemmas.List.{append_assoc}
+use Rattle.std.proofs.lemmas.List.{append_assoc, length-map}
 use Rattle.inode_plan.specs.tier_device.declared.media.Tier.{Tier}
 use Rattle.inode_plan.specs.tier_device.declared.media.Tier.TheVariants.{Fast, Block, Slow}
 use Rattle.inode_plan.specs.block_alloc.declared.runs.Run.{Run}
+use Rattle.inode_plan.specs.layout.Places.{Sizes, IsAllowed, tier_blocks}
 use Rattle.inode_plan.specs.block_alloc.Runs.{AreNormalRuns}
+use Rattle.inode_plan.specs.extent_tree.declared.map.Place.{Place}
+use Rattle.inode_plan.specs.area_commit.Value.{PoolsView, data_pool, HasRanges}
 use Rattle.inode_plan.specs.area_commit.declared.allocation.Allocation.{Allocation}
-use Rattle.inode_plan.specs.area_commit.Allocations.{runs_of, tier_places, taken_data}
+use Rattle.inode_plan.specs.area_commit.Allocations.{runs_of, tier_places, taken_data, WereTaken}
+use Rattle.inode_plan.specs.PlannedFile.{pair_of, pairs_of}
 use Rattle.inode_plan.specs.RunPlaces.{EndsFit}
 
 range_more : (a n : ℕ) → range_with_len a (n + 1) ≡ range_with_len a n ++ (a + n) ∷ []
@@ -35,3 +40,17 @@ pub same_data : (old new : Allocation) → ((t : Tier) → runs_of new t ≡ run
 same_data old new same =
     ap (λ (rs : List Run). tier_places rs new.block.items new.slow.items) (same Fast)
     ∙ (ap (λ (rs : List Run). tier_places old.fast.items rs new.slow.items) (same Block) ∙ ap (λ (rs : List Run). tier_places old.fast.items old.block.items rs) (same Slow))
+
+-- each block of a tier has a number of 32 bits
+tier_end : (g : Sizes) (t : Tier) → IsAllowed g → tier_blocks g t < 2 ^ 32
+tier_end g Fast allowed = omega (arith, allowed.few_units, allowed.fast)
+tier_end g Block allowed = omega (arith, allowed.block)
+tier_end g Slow allowed = omega (arith, allowed.slow)
+
+pub taken_ends : (g : Sizes) (before left : PoolsView) (taken : Allocation) → IsAllowed g → HasRanges g before → WereTaken before left taken → (t : Tier) → EndsFit (runs_of taken t)
+taken_ends g before left taken allowed ranges took t =
+    normal_ends (data_pool before t).first (data_pool before t).end (runs_of taken t) (took.per_tier t).apart (let last = ranges.end t in let fits = tier_end g t allowed in omega (arith, last, fits))
+
+-- as many places as blocks
+pub count_places : (places : List Place) (taken : Allocation) → pairs_of places ≡ taken_data taken → length places ≡ length (taken_data taken)
+count_places places taken is = sym (length-map places pair_of) ∙ ap length is

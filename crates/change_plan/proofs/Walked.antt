@@ -83,7 +83,7 @@ places_behind used places = take_all (length places - used) (drop used places) (
 
 -- ---- the slots and the inodes
 
-same_number : (i k : ℕ) → eq_by_cmp nat_cmp i k ≡ (k == i)
+pub same_number : (i k : ℕ) → eq_by_cmp nat_cmp i k ≡ (k == i)
 same_number i k = (eq_by_cmp_equiv nat_cmp_total).symm i k ∙ unsigned_tied k i
 
 among : (i : ℕ) (slots : List ChangedSlot) → list_any (eq_by_cmp nat_cmp i) (inodes_of slots) ≡ is_changed slots i
@@ -121,6 +121,7 @@ module _ (g : Sizes) (s : Store) (cs : Changes) (touch : ℕ) (places : List Pla
       let keys : inodes_of plan.slots.items ≡ fin.keys cs = sym (append-nil (inodes_of plan.slots.items)) ∙ walked.keys in
       record {
         inodes = λ i. fin.contains_key-keys cs i ∙ (ap (λ (ks : List ℕ). list_any (eq_by_cmp nat_cmp i) ks) (sym keys) ∙ among i plan.slots.items);
+        keys = keys;
         left = left;
         took = walked.took;
         places = places;

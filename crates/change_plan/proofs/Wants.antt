@@ -18,7 +18,7 @@ use Rattle.inode_plan.specs.BlockWrites.{AreNumbers}
 use Rattle.inode_plan.proofs.area_commit_lemmas.Chosen.{inode_range}
 use Rattle.change_plan.specs.Next.{WantsData}
 use Rattle.change_plan.specs.BlockDemand.{WantInTurn, WantsBlocks}
-use Rattle.change_plan.proofs.Climbs.{climb_rising, climb_few, climb_within, change_here, has_here, keys_climb, mapped_from}
+use Rattle.change_plan.proofs.Climbs.{climb_rising, climb_few, climb_within, change_here, has_here, key_has, keys_climb}
 
 -- ---- of one inode
 
@@ -60,14 +60,11 @@ pub record Counted (g : Sizes) (s : Store) (cs : Changes) (count : ℕ) (rest : 
   pub few : count + 256 * length rest ≤ 262400
 
 -- an inode's number is no greater than 1,024, so that there are no more inodes
-entries_few : (cs : Changes) → ((i : ℕ) → fin.contains_key cs i ≡ true → i < 1025) → length (fin.entries cs) ≤ 1025
+pub entries_few : (cs : Changes) → ((i : ℕ) → fin.contains_key cs i ≡ true → i < 1025) → length (fin.entries cs) ≤ 1025
 entries_few cs low =
     let many = length-map (fin.entries cs) (λ (e : ℕ × Change). e.0) in
-    let few = climb_few 0 (fin.keys cs) 1025 (keys_climb cs) (omega arith) (λ k at. low k (key_there k at)) in
+    let few = climb_few 0 (fin.keys cs) 1025 (keys_climb cs) (omega arith) (λ k at. low k (key_has cs k at)) in
     omega (arith, many, few)
-  where
-    key_there : (k : ℕ) → Contains (fin.keys cs) k → fin.contains_key cs k ≡ true
-    key_there k at = let r = mapped_from (λ (e : ℕ × Change). e.0) (fin.entries cs) k at in subst (λ (j : ℕ). fin.contains_key cs j ≡ true) r.2 (has_here cs r.0 r.1)
 
 module _ (g : Sizes) (s : Store) (cs : Changes) (bounded : AreBounded cs) where
   pub none_counted : Counted g s cs 0 (fin.entries cs)

@@ -1,5 +1,5 @@
 -- The plans of the first inodes of a change, over what was taken so far.
-use Rattle.std.specs.Prelude.{◌≡◌, ◌≤◌, ◌+◌, min, ℕ, List, [], true, length, take, drop, Option, IfSome}
+use Rattle.std.specs.Prelude.{◌≡◌, ◌≤◌, ◌+◌, min, ℕ, List, [], true, length, map, take, drop, Option, IfSome}
 use Rattle.std.specs.FinMap as fin
 use Rattle.inode_plan.specs.graph_change.Change.{Changes}
 use Rattle.inode_plan.specs.layout.declared.marks.Marks.{Marks}
@@ -53,6 +53,7 @@ whole_of plan taken marks = record { slots = plan.slots; marks = marks; nodes = 
 -- All inodes of a change are planned over all blocks that were taken of the free ones of a store, with no more images than what it leaves takes; and one batch is enough for them.
 pub record IsWhole (g : Sizes) (s : Store) (cs : Changes) (touch : ℕ) (plan : PartialPlan) (taken : Allocation) (marks : Option Marks) : Type 0 where
   pub inodes : (i : ℕ) → fin.contains_key cs i ≡ is_changed plan.slots.items i
+  pub keys : map (λ c. c.inode) plan.slots.items ≡ fin.keys cs
   pub left : PoolsView
   pub took : HasTaken g s left taken
   pub places : List Place

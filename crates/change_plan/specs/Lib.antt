@@ -11,6 +11,7 @@ pub mod FileStart
 pub mod FileSteps
 pub mod Next
 pub mod BlockDemand
+pub mod ReadSlots
 -- Passed on to the crates above, which so need not list those below.
 pub use Rattle.inode_plan.specs.area_commit
 pub use Rattle.inode_plan.specs.area_image

@@ -16,13 +16,14 @@ ghost use Rattle.inode_plan.specs.area_commit.InodeChange.{places_from, writes_o
 ghost use Rattle.change_plan.specs.FileLayout.{LeavesFile};
 ghost use Rattle.change_plan.specs.Next.{WantsData};
 ghost use Rattle.change_plan.specs.BlockDemand.{WantsBlocks, AreWritten};
+ghost use Rattle.change_plan.specs.ReadSlots.{HaveSlots};
 
 use crate::file_part::start_file;
 use crate::file_start::StartedFile;
 use crate::kinds::kind_from;
+use crate::read_change::ReadChange;
 use inode_plan::{
-    AreaError, BlockMap, GraphChange, Journal, Kind, Media, NodeChange, Slot, cut_alone, read_slot,
-    written_numbers,
+    AreaError, BlockMap, Journal, Kind, Media, NodeChange, Slot, cut_alone, written_numbers,
 };
 use std::alloc::Global;
 
@@ -47,13 +48,11 @@ fn map_before<M: Media>(
     ensures looks { Looks M.Media journal.old journal.new result }
 {
     match cut_alone(change) {
-        Some(_) => match start_file(alloc, journal, inode, slot, change.base) {
-            Ok(file) => {
-                let StartedFile { map, .. } = file;
-                Ok(map)
-            }
-            Err(error) => Err(error),
-        },
+        Some(_) => {
+            let file = start_file(alloc, journal, inode, slot, change.base)?;
+            let StartedFile { map, .. } = file;
+            Ok(map)
+        }
         None => Ok(BlockMap::new(alloc)),
     }
 }
@@ -76,13 +75,9 @@ fn count_written<M: Media>(
     ensures memory { IfErr result (λ e. e ≡ Memory → (k : ℕ) × (writes_block (change_of change.now) k ≡ true)) }
     ensures looks { Looks M.Media journal.old journal.new result }
 {
-    match map_before(alloc, journal, inode, slot, change) {
-        Ok(map) => match written_numbers(alloc, change, &map) {
-            Ok(numbers) => Ok(numbers.len()),
-            Err(_) => Err(AreaError::Memory),
-        },
-        Err(error) => Err(error),
-    }
+    let map = map_before(alloc, journal, inode, slot, change)?;
+    let numbers = written_numbers(alloc, change, &map)?;
+    Ok(numbers.len())
 }
 
 // How many data blocks the change of an inode wants that has this slot.
@@ -103,61 +98,37 @@ fn blocks_for<M: Media>(
     ensures looks { Looks M.Media journal.old journal.new result }
 {
     match kind_from(change.base, slot) {
-        Some(Kind::File) => match count_written(alloc, journal, inode, slot, change) {
-            Ok(count) => Ok(count),
-            Err(error) => Err(error),
-        },
+        Some(Kind::File) => count_written(alloc, journal, inode, slot, change),
         Some(Kind::Directory) => Ok(0),
         None => Ok(0),
     }
 }
 
-// How many the change of an inode wants, by the slot that is read.
-fn count_in<M: Media>(
-    alloc: Global,
-    journal: &mut Journal<M>,
-    inode: u32,
-    change: &NodeChange,
-) -> Result<usize, AreaError>
-    requires spelled { IsSpelled journal.old.geometry (disk M.Media journal.old) }
-    requires number { is_inode inode ≡ true }
-    ensures wanted { IfOk result (WantsData journal.old.geometry (disk M.Media journal.old) (change_of change.now) inode) }
-    ensures only { IfErr result (λ e. (e ≡ DeviceFault) ⊎ (e ≡ Memory)) }
-    ensures memory { IfErr result (λ e. e ≡ Memory → LeavesFile journal.old.geometry (disk M.Media journal.old) (change_of change.now) inode × (k : ℕ) × (writes_block (change_of change.now) k ≡ true)) }
-    ensures looks { Looks M.Media journal.old journal.new result }
-{
-    match read_slot(journal, inode) {
-        Ok(slot) => match blocks_for(alloc, journal, inode, &slot, change) {
-            Ok(count) => Ok(count),
-            Err(error) => Err(error),
-        },
-        Err(error) => Err(error),
-    }
-}
-
-/// How many data blocks a change wants: one for each block of a file that it writes. The slots of its inodes are read for that, and the
-/// extents of a file that it cuts within a block into which no bytes were put. `Memory` where there was none for these or for the numbers
-/// of a file's blocks, and only where bytes were put into a file that the change leaves, or it is cut within a block.
+/// How many data blocks a change wants: one for each block of a file that it writes. The extents of a file are read for that which it cuts
+/// within a block into which no bytes were put. `Memory` where there was none for these or for the numbers of a file's blocks, and only
+/// where bytes were put into a file that the change leaves, or it is cut within a block.
 pub fn count_blocks<M: Media>(
     alloc: Global,
     journal: &mut Journal<M>,
-    change: &GraphChange,
+    read: &ReadChange<'_>,
 ) -> Result<usize, AreaError>
     requires going { journal.old.failed ≡ false }
     requires spelled { IsSpelled journal.old.geometry (disk M.Media journal.old) }
-    requires bounded { AreBounded (changes_of change.now) }
-    requires tidy { AreTidyChanges (changes_of change.now) }
-    ensures wanted { IfOk result (WantsBlocks journal.old.geometry (disk M.Media journal.old) (changes_of change.now)) }
+    requires bounded { AreBounded (changes_of read.now.change.now) }
+    requires tidy { AreTidyChanges (changes_of read.now.change.now) }
+    requires slots { HaveSlots journal.old.geometry (disk M.Media journal.old) (fin.keys (changes_of read.now.change.now)) read.now.slots.now }
+    ensures wanted { IfOk result (WantsBlocks journal.old.geometry (disk M.Media journal.old) (changes_of read.now.change.now)) }
     ensures only { IfErr result (λ e. (e ≡ DeviceFault) ⊎ (e ≡ Memory)) }
-    ensures memory { IfErr result (λ e. e ≡ Memory → (i : ℕ) × (k : ℕ) × (fin.contains_key (changes_of change.now) i ≡ true) × LeavesFile journal.old.geometry (disk M.Media journal.old) (change_at (changes_of change.now) i) i × (writes_block (change_at (changes_of change.now) i) k ≡ true)) }
+    ensures memory { IfErr result (λ e. e ≡ Memory → (i : ℕ) × (k : ℕ) × (fin.contains_key (changes_of read.now.change.now) i ≡ true) × LeavesFile journal.old.geometry (disk M.Media journal.old) (change_at (changes_of read.now.change.now) i) i × (writes_block (change_at (changes_of read.now.change.now) i) k ≡ true)) }
     ensures looks { Looks M.Media journal.old journal.new result }
 {
     let mut count = 0;
-    'nodes: for (inode, node) in change.nodes.iter() {
-        match count_in(alloc, journal, *inode, node) {
-            Ok(more) => count += more,
-            Err(error) => return Err(error),
-        }
+    let mut at = 0;
+    'nodes: for (inode, node) in read.change.nodes.iter() {
+        let slot = read.slots[at].slot;
+        let more = blocks_for(alloc, journal, *inode, &slot, node)?;
+        count += more;
+        at += 1;
     }
     Ok(count)
 }

@@ -13,57 +13,62 @@ ghost use Rattle.inode_plan.specs.area_image.Format.{IsSpelled};
 ghost use Rattle.inode_plan.specs.area_image.Looks.{Looks};
 ghost use Rattle.inode_plan.specs.area_image.declared.error.AreaError.TheVariants.{DeviceFault, Memory};
 ghost use Rattle.inode_plan.specs.area_commit.Allocations.{taken_data};
-ghost use Rattle.inode_plan.specs.PlannedFile.{pairs_of};
 ghost use Rattle.change_plan.specs.PlanAddition.{HasTaken, TakesMoreNodes};
 ghost use Rattle.change_plan.specs.First.{PlansNothing, IsWhole};
 ghost use Rattle.change_plan.specs.Next.{HasFewEntries};
 ghost use Rattle.change_plan.specs.BlockDemand.{images_for, WantsBlocks};
+ghost use Rattle.change_plan.specs.ReadSlots.{HaveSlots};
 
-use crate::inode_part::plan_next;
+use crate::changed_inode::ChangedInode;
+use crate::inode_part::plan_inode;
 use crate::partial_plan::PartialPlan;
-use inode_plan::{Allocation, AreaError, GraphChange, Journal, Media, Place, Pools};
+use crate::read_change::ReadChange;
+use inode_plan::{AreaError, Journal, Media, Pools, taken_places};
 use std::alloc::Global;
 
-/// Plans all inodes of a change, in the order of their numbers, over these places, which are the data blocks that were taken, as many as it wants; blocks of the node pool are taken as
-/// they are wanted. After a refusal nothing is said of the plan; what was taken can be given back.
+/// Plans all inodes of a change, in the order of their numbers, each with this touch number, by the slots that they have, over the data blocks that were taken, as many as it wants; blocks
+/// of the node pool are taken as they are wanted. `Memory` where there was none; `DeviceFault` where a device fails. After a refusal nothing is said of the plan but what was taken for it, which can be given back.
 pub fn plan_changes<M: Media>(
     alloc: Global,
     journal: &mut Journal<M>,
     pools: &mut Pools,
-    taken: &mut Allocation,
-    change: &GraphChange,
+    read: &ReadChange<'_>,
     touch: u64,
-    places: &[Place],
     plan: &mut PartialPlan,
 ) -> Result<(), AreaError>
     requires going { journal.old.failed ≡ false }
     requires allowed { IsAllowed journal.old.geometry }
     requires spelled { IsSpelled journal.old.geometry (disk M.Media journal.old) }
-    requires bounded { AreBounded (changes_of change.now) }
-    requires tidy { AreTidyChanges (changes_of change.now) }
-    requires entries { (i : ℕ) → fin.contains_key (changes_of change.now) i ≡ true → HasFewEntries (changed_graph (changes_of change.now) (graph journal.old.geometry (disk M.Media journal.old)) i) }
-    requires images { images_for (changes_of change.now) ≤ 255 }
-    requires took { HasTaken journal.old.geometry (disk M.Media journal.old) pools.old taken.old }
-    requires fresh { taken.old.nodes.items ≡ [] }
+    requires bounded { AreBounded (changes_of read.now.change.now) }
+    requires tidy { AreTidyChanges (changes_of read.now.change.now) }
+    requires entries { (i : ℕ) → fin.contains_key (changes_of read.now.change.now) i ≡ true → HasFewEntries (changed_graph (changes_of read.now.change.now) (graph journal.old.geometry (disk M.Media journal.old)) i) }
+    requires images { images_for (changes_of read.now.change.now) ≤ 255 }
+    requires took { HasTaken journal.old.geometry (disk M.Media journal.old) pools.old plan.old.taken }
+    requires fresh { plan.old.taken.nodes.items ≡ [] }
     requires nodes { 255 ≤ length pools.old.nodes.free }
-    requires places { pairs_of places.now ≡ taken_data taken.old }
-    requires wanted { WantsBlocks journal.old.geometry (disk M.Media journal.old) (changes_of change.now) (length places.now) }
+    requires wanted { WantsBlocks journal.old.geometry (disk M.Media journal.old) (changes_of read.now.change.now) (length (taken_data plan.old.taken)) }
     requires nothing { PlansNothing plan.old }
-    ensures whole { OnOk result ((marks : Option Marks) → IfSome marks (λ v. fits_marks v ≡ true) → IsWhole journal.old.geometry (disk M.Media journal.old) (changes_of change.now) touch plan.new taken.new marks) }
-    ensures kept { OnOk result (HasTaken journal.old.geometry (disk M.Media journal.old) pools.new taken.new) }
-    ensures took { TakesMoreNodes pools.old taken.old pools.new taken.new }
+    requires slots { HaveSlots journal.old.geometry (disk M.Media journal.old) (fin.keys (changes_of read.now.change.now)) read.now.slots.now }
+    ensures whole { OnOk result ((marks : Option Marks) → IfSome marks (λ v. fits_marks v ≡ true) → IsWhole journal.old.geometry (disk M.Media journal.old) (changes_of read.now.change.now) touch plan.new plan.new.taken marks) }
+    ensures kept { OnOk result (HasTaken journal.old.geometry (disk M.Media journal.old) pools.new plan.new.taken) }
+    ensures took { TakesMoreNodes pools.old plan.old.taken pools.new plan.new.taken }
     ensures only { IfErr result (λ e. (e ≡ DeviceFault) ⊎ (e ≡ Memory)) }
     ensures looks { Looks M.Media journal.old journal.new result }
 {
+    let listed = taken_places(alloc, &plan.taken)?;
+    let places = listed.as_slice();
     let mut used = 0;
-    'nodes: for (inode, node) in change.nodes.iter() {
-        let rest = &places[used..];
-        match plan_next(
-            alloc, journal, pools, taken, *inode, node, touch, rest, plan,
-        ) {
-            Ok(count) => used += count,
-            Err(error) => return Err(error),
-        }
+    let mut at = 0;
+    'nodes: for (inode, node) in read.change.nodes.iter() {
+        let changed = ChangedInode {
+            inode: *inode,
+            slot: read.slots[at].slot,
+            change: node,
+            touch,
+        };
+        let count = plan_inode(alloc, journal, pools, &changed, &places[used..], plan)?;
+        used += count;
+        at += 1;
     }
     Ok(())
 }

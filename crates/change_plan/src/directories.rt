@@ -18,13 +18,13 @@ ghost use Rattle.change_plan.specs.Parts.{LoseBoth};
 ghost use Rattle.change_plan.specs.PlanAddition.{AddsPart};
 ghost use Rattle.change_plan.specs.Directory.{LosesFor, AddsLosses, IsReadyToWrite};
 
+use crate::changed_inode::ChangedInode;
 use crate::inode_drop::{all_blocks_of, push_lost, push_slot};
 use crate::part_laws::planned_directory_is_a_part;
 use crate::partial_plan::PartialPlan;
 use inode_plan::{
     AreaError, ChangedDirectory, DirectoryPlan, FreedBlocks, InodeParts, Journal, Media, NodeBase,
-    NodeChange, Run, Slot, StartedDirectory, made_directory, plan_directory, read_all_extents,
-    read_directory,
+    Run, Slot, StartedDirectory, made_directory, plan_directory, read_all_extents, read_directory,
 };
 use std::alloc::{AllocError, Global};
 
@@ -45,16 +45,9 @@ fn read_kept<M: Media>(
     ensures only { IfErr result (λ e. (e ≡ DeviceFault) ⊎ (e ≡ Memory)) }
     ensures looks { Looks M.Media journal.old journal.new result }
 {
-    match read_all_extents(alloc, journal, inode, &slot) {
-        Ok(extents) => {
-            let parts = InodeParts { slot, extents };
-            match read_directory(alloc, journal, inode, &parts) {
-                Ok(start) => Ok(start),
-                Err(error) => Err(error),
-            }
-        }
-        Err(error) => Err(error),
-    }
+    let extents = read_all_extents(alloc, journal, inode, &slot)?;
+    let parts = InodeParts { slot, extents };
+    read_directory(alloc, journal, inode, &parts)
 }
 
 /// The directory that a change of an inode starts from: the one that is there, as its slot and its blocks tell, or an empty one, where it is made.
@@ -77,10 +70,7 @@ pub fn start_directory<M: Media>(
     ensures looks { Looks M.Media journal.old journal.new result }
 {
     match base {
-        NodeBase::Kept => match read_kept(alloc, journal, inode, slot) {
-            Ok(start) => Ok(start),
-            Err(error) => Err(error),
-        },
+        NodeBase::Kept => read_kept(alloc, journal, inode, slot),
         NodeBase::Made { .. } => Ok(made_directory(alloc, inode)),
         NodeBase::Gone => unreachable!(),
     }
@@ -90,35 +80,27 @@ pub fn start_directory<M: Media>(
 fn lost_for<M: Media>(
     alloc: Global,
     journal: &mut Journal<M>,
-    inode: u32,
-    slot: &Slot,
-    base: NodeBase,
+    changed: &ChangedInode<'_>,
     planned: Vec<Run>,
 ) -> Result<FreedBlocks, AreaError>
     requires spelled { IsSpelled journal.old.geometry (disk M.Media journal.old) }
-    requires number { is_inode inode ≡ true }
-    requires fits { fits_slot journal.old.geometry slot.now ≡ true }
-    requires slot_is { slot_read journal.old.geometry (disk M.Media journal.old) inode ≡ Some slot.now }
+    requires number { is_inode changed.now.inode ≡ true }
+    requires fits { fits_slot journal.old.geometry changed.now.slot ≡ true }
+    requires slot_is { slot_read journal.old.geometry (disk M.Media journal.old) changed.now.inode ≡ Some changed.now.slot }
     requires going { journal.old.failed ≡ false }
-    ensures lost { IfOk result (LosesFor (base_of base) journal.old.geometry (disk M.Media journal.old) inode planned.items) }
+    ensures lost { IfOk result (LosesFor (base_of changed.now.change.now.base) journal.old.geometry (disk M.Media journal.old) changed.now.inode planned.items) }
     ensures only { IfErr result (λ e. (e ≡ DeviceFault) ⊎ (e ≡ Memory)) }
     ensures looks { Looks M.Media journal.old journal.new result }
 {
-    match base {
+    match changed.change.base {
         NodeBase::Kept => Ok(FreedBlocks {
             nodes: planned,
             fast: Vec::new(alloc),
             block: Vec::new(alloc),
             slow: Vec::new(alloc),
         }),
-        NodeBase::Made { .. } => match all_blocks_of(alloc, journal, inode, slot) {
-            Ok(lost) => Ok(lost),
-            Err(error) => Err(error),
-        },
-        NodeBase::Gone => match all_blocks_of(alloc, journal, inode, slot) {
-            Ok(lost) => Ok(lost),
-            Err(error) => Err(error),
-        },
+        NodeBase::Made { .. } => all_blocks_of(alloc, journal, changed.inode, &changed.slot),
+        NodeBase::Gone => all_blocks_of(alloc, journal, changed.inode, &changed.slot),
     }
 }
 
@@ -133,6 +115,7 @@ pub fn push_part(
     ensures lost { OnOk result (LoseBoth plan.old.lost its.now plan.new.lost) }
     ensures images { plan.new.nodes ≡ plan.old.nodes }
     ensures bytes { plan.new.bytes ≡ plan.old.bytes }
+    ensures taken { plan.new.taken ≡ plan.old.taken }
 {
     push_lost(&mut plan.lost, its)?;
     push_slot(&mut plan.slots, inode, slot)
@@ -142,62 +125,51 @@ pub fn push_part(
 fn push_planned<M: Media>(
     alloc: Global,
     journal: &mut Journal<M>,
-    inode: u32,
-    slot: &Slot,
-    base: NodeBase,
+    changed: &ChangedInode<'_>,
     planned: DirectoryPlan,
     plan: &mut PartialPlan,
 ) -> Result<(), AreaError>
     requires spelled { IsSpelled journal.old.geometry (disk M.Media journal.old) }
-    requires number { is_inode inode ≡ true }
-    requires fits { fits_slot journal.old.geometry slot.now ≡ true }
-    requires slot_is { slot_read journal.old.geometry (disk M.Media journal.old) inode ≡ Some slot.now }
+    requires number { is_inode changed.now.inode ≡ true }
+    requires fits { fits_slot journal.old.geometry changed.now.slot ≡ true }
+    requires slot_is { slot_read journal.old.geometry (disk M.Media journal.old) changed.now.inode ≡ Some changed.now.slot }
     requires going { journal.old.failed ≡ false }
-    ensures adds { OnOk result (AddsLosses journal.old.geometry (disk M.Media journal.old) (base_of base) inode planned plan.old plan.new) }
+    ensures adds { OnOk result (AddsLosses journal.old.geometry (disk M.Media journal.old) (base_of changed.now.change.now.base) changed.now.inode planned plan.old plan.new) }
+    ensures taken { plan.new.taken ≡ plan.old.taken }
     ensures only { IfErr result (λ e. (e ≡ DeviceFault) ⊎ (e ≡ Memory)) }
     ensures looks { Looks M.Media journal.old journal.new result }
 {
     let after = planned.slot;
-    match lost_for(alloc, journal, inode, slot, base, planned.lost) {
-        Ok(its) => match push_part(plan, inode, after, &its) {
-            Ok(()) => Ok(()),
-            Err(_) => Err(AreaError::Memory),
-        },
-        Err(error) => Err(error),
-    }
+    let its = lost_for(alloc, journal, changed, planned.lost)?;
+    push_part(plan, changed.inode, after, &its)?;
+    Ok(())
 }
 
-/// Plans a directory that is changed in memory, over spare blocks that were free: its slot, its images, and what it gives up stand behind those of the plan. After a refusal nothing is said
-/// of the plan.
+/// Plans a directory that is changed in memory, over spare blocks that were free: its slot, its images, and what it gives up stand behind those of the plan. `Memory` where there was none;
+/// `DeviceFault` where a device fails. After a refusal nothing is said of the plan but what was taken for it, which stays as it is.
 pub fn plan_over_spares<M: Media>(
     alloc: Global,
     journal: &mut Journal<M>,
-    inode: u32,
-    slot: &Slot,
-    change: &NodeChange,
-    changed: &ChangedDirectory,
-    touch: u64,
+    changed: &ChangedInode<'_>,
+    directory: &ChangedDirectory,
     spares: &[u32],
     plan: &mut PartialPlan,
 ) -> Result<(), AreaError>
     requires spelled { IsSpelled journal.old.geometry (disk M.Media journal.old) }
-    requires number { is_inode inode ≡ true }
-    requires fits { fits_slot journal.old.geometry slot.now ≡ true }
-    requires slot_is { slot_read journal.old.geometry (disk M.Media journal.old) inode ≡ Some slot.now }
+    requires number { is_inode changed.now.inode ≡ true }
+    requires fits { fits_slot journal.old.geometry changed.now.slot ≡ true }
+    requires slot_is { slot_read journal.old.geometry (disk M.Media journal.old) changed.now.inode ≡ Some changed.now.slot }
     requires going { journal.old.failed ≡ false }
-    requires ready { (start : StartedDirectory) × IsReadyToWrite journal.old.geometry (disk M.Media journal.old) (change_of change.now) inode start changed.now spares.now plan.old.nodes }
-    ensures part { OnOk result ((places : List Place) (before after : Allocation) → blocks_of after.nodes.items ≡ blocks_of before.nodes.items ++ spares.now → AddsPart journal.old.geometry (disk M.Media journal.old) (change_of change.now) touch inode places 0 before after plan.old plan.new) }
-    ensures few { OnOk result (length plan.new.nodes ≤ length plan.old.nodes + length changed.now.written + 1) }
+    requires ready { (start : StartedDirectory) × IsReadyToWrite journal.old.geometry (disk M.Media journal.old) (change_of changed.now.change.now) changed.now.inode start directory.now spares.now plan.old.nodes }
+    ensures part { OnOk result ((places : List Place) (before after : Allocation) → blocks_of after.nodes.items ≡ blocks_of before.nodes.items ++ spares.now → AddsPart journal.old.geometry (disk M.Media journal.old) (change_of changed.now.change.now) changed.now.touch changed.now.inode places 0 before after plan.old plan.new) }
+    ensures few { OnOk result (length plan.new.nodes ≤ length plan.old.nodes + length directory.now.written + 1) }
+    ensures taken { plan.new.taken ≡ plan.old.taken }
     ensures only { IfErr result (λ e. (e ≡ DeviceFault) ⊎ (e ≡ Memory)) }
     ensures looks { Looks M.Media journal.old journal.new result }
 {
     // For the proof: a planned directory is a part of the change.
     planned_directory_is_a_part();
-    match plan_directory(alloc, changed, touch, spares, &mut plan.nodes) {
-        Ok(planned) => match push_planned(alloc, journal, inode, slot, change.base, planned, plan) {
-            Ok(()) => Ok(()),
-            Err(error) => Err(error),
-        },
-        Err(_) => Err(AreaError::Memory),
-    }
+    let planned = plan_directory(alloc, directory, changed.touch, spares, &mut plan.nodes)?;
+    push_planned(alloc, journal, changed, planned, plan)?;
+    Ok(())
 }

@@ -27,6 +27,7 @@ ghost use Rattle.change_plan.specs.FileSteps.{IsWrittenFile, AddsFile};
 ghost use Rattle.change_plan.specs.Next.{IsNext, HasPlaces, PlansInode};
 ghost use Rattle.change_plan.specs.FileStart.{IsStartedFile, IsRootedFile, LosesOf, LosesFile};
 
+use crate::changed_inode::ChangedInode;
 use crate::directories::push_part;
 use crate::file_place::{PlacedFile, RootedFile, place_file, root_file};
 use crate::file_start::{StartedFile, made_file, read_file};
@@ -63,10 +64,7 @@ fn read_kept<M: Media>(
     ensures only { IfErr result (λ e. (e ≡ DeviceFault) ⊎ (e ≡ Memory)) }
     ensures looks { Looks M.Media journal.old journal.new result }
 {
-    match read_file(alloc, journal, inode, slot) {
-        Ok(file) => Ok(file),
-        Err(error) => Err(error),
-    }
+    read_file(alloc, journal, inode, slot)
 }
 
 /// The file that a change of an inode starts from: the one that is there, with its extents read, or an empty one, where it is made.
@@ -87,10 +85,7 @@ pub fn start_file<M: Media>(
     ensures looks { Looks M.Media journal.old journal.new result }
 {
     match base {
-        NodeBase::Kept => match read_kept(alloc, journal, inode, slot) {
-            Ok(file) => Ok(file),
-            Err(error) => Err(error),
-        },
+        NodeBase::Kept => read_kept(alloc, journal, inode, slot),
         NodeBase::Made { .. } => Ok(made_file(alloc)),
         NodeBase::Gone => unreachable!(),
     }
@@ -132,14 +127,8 @@ fn add_bytes<M: Media>(
     ensures looks { Looks M.Media journal.old journal.new result }
 {
     match found {
-        Some(extents) => match read_changed(journal, inode, Some(extents), change, numbers, out) {
-            Ok(()) => Ok(()),
-            Err(error) => Err(error),
-        },
-        None => match read_changed(journal, inode, None, change, numbers, out) {
-            Ok(()) => Ok(()),
-            Err(error) => Err(error),
-        },
+        Some(extents) => read_changed(journal, inode, Some(extents), change, numbers, out),
+        None => read_changed(journal, inode, None, change, numbers, out),
     }
 }
 
@@ -148,17 +137,16 @@ fn root_placed(
     alloc: Global,
     pools: &mut Pools,
     taken: &mut Allocation,
+    changed: &ChangedInode<'_>,
     file: &PlacedFile,
-    change: &NodeChange,
-    touch: u64,
     images: &mut NodeImages,
 ) -> Result<RootedFile, AllocError>
-    requires bounded { IsBounded (change_of change.now) }
+    requires bounded { IsBounded (change_of changed.now.change.now) }
     requires before { (before : PoolsView) × AreInOrder before × WereTaken before pools.old taken.old × (before.nodes.end < 2 ^ 32) }
     requires undo { CanRelease pools.old taken.old }
     requires enough { 3 ≤ length pools.old.nodes.free }
     requires short { (t : Tier) → IfSome (in_tier file.now.plan.lists t) (λ v. length v.extents ≤ MAX_EXTENTS) }
-    ensures rooted { IfOk result (λ r. IsRootedFile (change_of change.now) touch file.now (take (roots_wanted file.now.slot file.now.plan.lists) pools.old.nodes.free) images.old images.new r.slot r.left.items) }
+    ensures rooted { IfOk result (λ r. IsRootedFile (change_of changed.now.change.now) changed.now.touch file.now (take (roots_wanted file.now.slot file.now.plan.lists) pools.old.nodes.free) images.old images.new r.slot r.left.items) }
     ensures wanted { length (take (roots_wanted file.now.slot file.now.plan.lists) pools.old.nodes.free) ≡ roots_wanted file.now.slot file.now.plan.lists }
     ensures nodes { OnOk result (blocks_of taken.new.nodes.items ≡ blocks_of taken.old.nodes.items ++ take (roots_wanted file.now.slot file.now.plan.lists) pools.old.nodes.free) }
     ensures images { OnOk result (length images.new ≤ length images.old + 3) }
@@ -167,7 +155,7 @@ fn root_placed(
 {
     let count = roots_wanted(&file.slot, &file.plan.lists);
     let spares = take_spares(alloc, pools, taken, count)?;
-    let rooted = root_file(alloc, file, change, touch, &spares, images)?;
+    let rooted = root_file(alloc, file, changed.change, changed.touch, &spares, images)?;
     Ok(rooted)
 }
 
@@ -188,28 +176,23 @@ fn freed_blocks(file: PlacedFile, left: Vec<Run>) -> FreedBlocks
 fn lost_for<M: Media>(
     alloc: Global,
     journal: &mut Journal<M>,
-    inode: u32,
-    slot: &Slot,
-    base: NodeBase,
+    changed: &ChangedInode<'_>,
     file: PlacedFile,
     left: Vec<Run>,
 ) -> Result<FreedBlocks, AreaError>
     requires spelled { IsSpelled journal.old.geometry (disk M.Media journal.old) }
-    requires number { is_inode inode ≡ true }
-    requires fits { fits_slot journal.old.geometry slot.now ≡ true }
-    requires slot_is { slot_read journal.old.geometry (disk M.Media journal.old) inode ≡ Some slot.now }
-    requires is_file { (start_node (base_of base) (inode_in journal.old.geometry (disk M.Media journal.old) inode)).kind ≡ Some kind.File }
+    requires number { is_inode changed.now.inode ≡ true }
+    requires fits { fits_slot journal.old.geometry changed.now.slot ≡ true }
+    requires slot_is { slot_read journal.old.geometry (disk M.Media journal.old) changed.now.inode ≡ Some changed.now.slot }
+    requires is_file { (start_node (base_of changed.now.change.now.base) (inode_in journal.old.geometry (disk M.Media journal.old) changed.now.inode)).kind ≡ Some kind.File }
     requires going { journal.old.failed ≡ false }
-    ensures lost { IfOk result (LosesFile journal.old.geometry (disk M.Media journal.old) (base_of base) inode file left.items) }
+    ensures lost { IfOk result (LosesFile journal.old.geometry (disk M.Media journal.old) (base_of changed.now.change.now.base) changed.now.inode file left.items) }
     ensures only { IfErr result (λ e. (e ≡ DeviceFault) ⊎ (e ≡ Memory)) }
     ensures looks { Looks M.Media journal.old journal.new result }
 {
-    match base {
+    match changed.change.base {
         NodeBase::Kept => Ok(freed_blocks(file, left)),
-        NodeBase::Made { .. } => match all_blocks_of(alloc, journal, inode, slot) {
-            Ok(lost) => Ok(lost),
-            Err(error) => Err(error),
-        },
+        NodeBase::Made { .. } => all_blocks_of(alloc, journal, changed.inode, &changed.slot),
         NodeBase::Gone => unreachable!(),
     }
 }
@@ -218,31 +201,26 @@ fn lost_for<M: Media>(
 fn push_file<M: Media>(
     alloc: Global,
     journal: &mut Journal<M>,
-    inode: u32,
-    slot: &Slot,
-    base: NodeBase,
+    changed: &ChangedInode<'_>,
     file: PlacedFile,
     rooted: RootedFile,
     plan: &mut PartialPlan,
 ) -> Result<(), AreaError>
     requires spelled { IsSpelled journal.old.geometry (disk M.Media journal.old) }
-    requires number { is_inode inode ≡ true }
-    requires fits { fits_slot journal.old.geometry slot.now ≡ true }
-    requires slot_is { slot_read journal.old.geometry (disk M.Media journal.old) inode ≡ Some slot.now }
-    requires is_file { (start_node (base_of base) (inode_in journal.old.geometry (disk M.Media journal.old) inode)).kind ≡ Some kind.File }
+    requires number { is_inode changed.now.inode ≡ true }
+    requires fits { fits_slot journal.old.geometry changed.now.slot ≡ true }
+    requires slot_is { slot_read journal.old.geometry (disk M.Media journal.old) changed.now.inode ≡ Some changed.now.slot }
+    requires is_file { (start_node (base_of changed.now.change.now.base) (inode_in journal.old.geometry (disk M.Media journal.old) changed.now.inode)).kind ≡ Some kind.File }
     requires going { journal.old.failed ≡ false }
-    ensures adds { OnOk result (AddsFile journal.old.geometry (disk M.Media journal.old) (base_of base) inode file rooted plan.old plan.new) }
+    ensures adds { OnOk result (AddsFile journal.old.geometry (disk M.Media journal.old) (base_of changed.now.change.now.base) changed.now.inode file rooted plan.old plan.new) }
+    ensures taken { plan.new.taken ≡ plan.old.taken }
     ensures only { IfErr result (λ e. (e ≡ DeviceFault) ⊎ (e ≡ Memory)) }
     ensures looks { Looks M.Media journal.old journal.new result }
 {
     let after = rooted.slot;
-    match lost_for(alloc, journal, inode, slot, base, file, rooted.left) {
-        Ok(its) => match push_part(plan, inode, after, &its) {
-            Ok(()) => Ok(()),
-            Err(_) => Err(AreaError::Memory),
-        },
-        Err(error) => Err(error),
-    }
+    let its = lost_for(alloc, journal, changed, file, rooted.left)?;
+    push_part(plan, changed.inode, after, &its)?;
+    Ok(())
 }
 
 // Plans a file whose blocks have their places: its bytes, its images, its slot and what it gives up stand behind those of the plan.
@@ -250,21 +228,17 @@ fn plan_written<M: Media>(
     alloc: Global,
     journal: &mut Journal<M>,
     pools: &mut Pools,
-    taken: &mut Allocation,
-    inode: u32,
-    slot: &Slot,
-    change: &NodeChange,
-    touch: u64,
+    changed: &ChangedInode<'_>,
     written: WrittenFile,
     plan: &mut PartialPlan,
 ) -> Result<(), AreaError>
     requires going { journal.old.failed ≡ false }
-    requires next { IsNext journal.old.geometry (disk M.Media journal.old) inode slot.now (change_of change.now) pools.old taken.old plan.old.nodes }
-    requires ready { (places : List Place) × IsWrittenFile journal.old.geometry (disk M.Media journal.old) (change_of change.now) inode places written }
-    ensures part { (places : List Place) → IsWrittenFile journal.old.geometry (disk M.Media journal.old) (change_of change.now) inode places written → OnOk result (AddsPart journal.old.geometry (disk M.Media journal.old) (change_of change.now) touch inode places (length written.numbers.items) taken.old taken.new plan.old plan.new) }
+    requires next { IsNext journal.old.geometry (disk M.Media journal.old) changed.now.inode changed.now.slot (change_of changed.now.change.now) pools.old plan.old.taken plan.old.nodes }
+    requires ready { (places : List Place) × IsWrittenFile journal.old.geometry (disk M.Media journal.old) (change_of changed.now.change.now) changed.now.inode places written }
+    ensures part { (places : List Place) → IsWrittenFile journal.old.geometry (disk M.Media journal.old) (change_of changed.now.change.now) changed.now.inode places written → OnOk result (AddsPart journal.old.geometry (disk M.Media journal.old) (change_of changed.now.change.now) changed.now.touch changed.now.inode places (length written.numbers.items) plan.old.taken plan.new.taken plan.old plan.new) }
     ensures images { OnOk result (length plan.new.nodes ≤ length plan.old.nodes + 3) }
     ensures free { OnOk result (length pools.old.nodes.free ≤ length pools.new.nodes.free + 3) }
-    ensures took { TakesMoreNodes pools.old taken.old pools.new taken.new }
+    ensures took { TakesMoreNodes pools.old plan.old.taken pools.new plan.new.taken }
     ensures only { IfErr result (λ e. (e ≡ DeviceFault) ⊎ (e ≡ Memory)) }
     ensures looks { Looks M.Media journal.old journal.new result }
 {
@@ -275,97 +249,55 @@ fn plan_written<M: Media>(
     few_blocks_are_few_runs();
     changed_map_is_fit();
     let WrittenFile { numbers, file } = written;
-    match add_bytes(
+    add_bytes(
         journal,
-        inode,
+        changed.inode,
         &file.found,
-        change,
+        changed.change,
         &numbers,
         &mut plan.bytes,
-    ) {
-        Ok(()) => match root_placed(alloc, pools, taken, &file, change, touch, &mut plan.nodes) {
-            Ok(rooted) => {
-                match push_file(alloc, journal, inode, slot, change.base, file, rooted, plan) {
-                    Ok(()) => Ok(()),
-                    Err(error) => Err(error),
-                }
-            }
-            Err(_) => Err(AreaError::Memory),
-        },
-        Err(error) => Err(error),
-    }
-}
-
-// Plans a file that is known as its change starts from it.
-fn plan_started<M: Media>(
-    alloc: Global,
-    journal: &mut Journal<M>,
-    pools: &mut Pools,
-    taken: &mut Allocation,
-    inode: u32,
-    slot: &Slot,
-    change: &NodeChange,
-    touch: u64,
-    places: &[Place],
-    file: StartedFile,
-    plan: &mut PartialPlan,
-) -> Result<usize, AreaError>
-    requires going { journal.old.failed ≡ false }
-    requires next { IsNext journal.old.geometry (disk M.Media journal.old) inode slot.now (change_of change.now) pools.old taken.old plan.old.nodes }
-    requires places { HasPlaces journal.old.geometry (disk M.Media journal.old) (change_of change.now) inode places.now }
-    requires started { IsStartedFile journal.old.geometry (disk M.Media journal.old) (change_of change.now).base inode file }
-    ensures planned { IfOk result (λ count. PlansInode journal.old.geometry (disk M.Media journal.old) (change_of change.now) touch inode places.now count pools.old taken.old pools.new taken.new plan.old plan.new) }
-    ensures took { TakesMoreNodes pools.old taken.old pools.new taken.new }
-    ensures only { IfErr result (λ e. (e ≡ DeviceFault) ⊎ (e ≡ Memory)) }
-    ensures looks { Looks M.Media journal.old journal.new result }
-{
-    match place_written(alloc, inode, file, change, places) {
-        Ok(written) => {
-            let count = written.numbers.len();
-            match plan_written(
-                alloc, journal, pools, taken, inode, slot, change, touch, written, plan,
-            ) {
-                Ok(()) => Ok(count),
-                Err(error) => Err(error),
-            }
-        }
-        Err(_) => Err(AreaError::Memory),
-    }
+    )?;
+    let rooted = root_placed(
+        alloc,
+        pools,
+        &mut plan.taken,
+        changed,
+        &file,
+        &mut plan.nodes,
+    )?;
+    push_file(alloc, journal, changed, file, rooted, plan)?;
+    Ok(())
 }
 
 /// Plans a file: reads what it was, gives each block that its change writes a place, takes blocks of the node pool to list its extents where it wants some, and puts its slot, its
-/// images, its bytes and what it gives up behind those of the plan. It answers how many of the places it used. After a refusal nothing is said of the plan; what was taken stands in
-/// `taken`.
+/// images, its bytes and what it gives up behind those of the plan. It answers how many of the places it used. `Memory` where there was none; `DeviceFault` where a device fails. After a
+/// refusal nothing is said of the plan but what was taken for it.
 pub fn plan_file_part<M: Media>(
     alloc: Global,
     journal: &mut Journal<M>,
     pools: &mut Pools,
-    taken: &mut Allocation,
-    inode: u32,
-    slot: &Slot,
-    change: &NodeChange,
-    touch: u64,
+    changed: &ChangedInode<'_>,
     places: &[Place],
     plan: &mut PartialPlan,
 ) -> Result<usize, AreaError>
     requires going { journal.old.failed ≡ false }
-    requires next { IsNext journal.old.geometry (disk M.Media journal.old) inode slot.now (change_of change.now) pools.old taken.old plan.old.nodes }
-    requires places { HasPlaces journal.old.geometry (disk M.Media journal.old) (change_of change.now) inode places.now }
-    requires file { (start_node (change_of change.now).base (inode_in journal.old.geometry (disk M.Media journal.old) inode)).kind ≡ Some kind.File }
-    ensures planned { IfOk result (λ count. PlansInode journal.old.geometry (disk M.Media journal.old) (change_of change.now) touch inode places.now count pools.old taken.old pools.new taken.new plan.old plan.new) }
-    ensures took { TakesMoreNodes pools.old taken.old pools.new taken.new }
+    requires next { IsNext journal.old.geometry (disk M.Media journal.old) changed.now.inode changed.now.slot (change_of changed.now.change.now) pools.old plan.old.taken plan.old.nodes }
+    requires places { HasPlaces journal.old.geometry (disk M.Media journal.old) (change_of changed.now.change.now) changed.now.inode places.now }
+    requires file { (start_node (change_of changed.now.change.now).base (inode_in journal.old.geometry (disk M.Media journal.old) changed.now.inode)).kind ≡ Some kind.File }
+    ensures planned { IfOk result (λ count. PlansInode journal.old.geometry (disk M.Media journal.old) (change_of changed.now.change.now) changed.now.touch changed.now.inode places.now count pools.old plan.old.taken pools.new plan.new.taken plan.old plan.new) }
+    ensures took { TakesMoreNodes pools.old plan.old.taken pools.new plan.new.taken }
     ensures only { IfErr result (λ e. (e ≡ DeviceFault) ⊎ (e ≡ Memory)) }
     ensures looks { Looks M.Media journal.old journal.new result }
 {
-    match start_file(alloc, journal, inode, slot, change.base) {
-        Ok(file) => {
-            match plan_started(
-                alloc, journal, pools, taken, inode, slot, change, touch, places, file, plan,
-            ) {
-                Ok(count) => Ok(count),
-                Err(error) => Err(error),
-            }
-        }
-        Err(error) => Err(error),
-    }
+    let file = start_file(
+        alloc,
+        journal,
+        changed.inode,
+        &changed.slot,
+        changed.change.base,
+    )?;
+    let written = place_written(alloc, changed.inode, file, changed.change, places)?;
+    let count = written.numbers.len();
+    plan_written(alloc, journal, pools, changed, written, plan)?;
+    Ok(count)
 }

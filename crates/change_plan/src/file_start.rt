@@ -50,15 +50,11 @@ pub fn read_file<M: Media>(
     ensures looks { Looks M.Media journal.old journal.new result }
 {
     let geometry = journal.geometry();
-    match read_all_extents(alloc, journal, inode, slot) {
-        Ok(found) => match map_of(alloc, &geometry, &found) {
-            Ok(map) => Ok(StartedFile {
-                slot: *slot,
-                map,
-                found: Some(found),
-            }),
-            Err(_) => Err(AreaError::Memory),
-        },
-        Err(error) => Err(error),
-    }
+    let found = read_all_extents(alloc, journal, inode, slot)?;
+    let map = map_of(alloc, &geometry, &found)?;
+    Ok(StartedFile {
+        slot: *slot,
+        map,
+        found: Some(found),
+    })
 }

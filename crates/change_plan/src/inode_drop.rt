@@ -13,7 +13,6 @@ ghost use Rattle.inode_plan.specs.area_image.Store.{disk, slot_read, space_of, i
 ghost use Rattle.inode_plan.specs.area_image.Format.{IsSpelled};
 ghost use Rattle.inode_plan.specs.area_image.Looks.{Looks};
 ghost use Rattle.inode_plan.specs.area_image.declared.error.AreaError.TheVariants.{DeviceFault, Memory};
-ghost use Rattle.inode_plan.specs.area_commit.declared.allocation.Allocation.{Allocation};
 ghost use Rattle.inode_plan.specs.Lists.{LieAsIn};
 ghost use Rattle.change_plan.specs.Parts.{LoseBoth};
 ghost use Rattle.change_plan.specs.PlanAddition.{GivesAll, AddsAll, AddsPart};
@@ -44,13 +43,9 @@ fn read_map<M: Media>(
     ensures looks { Looks M.Media journal.old journal.new result }
 {
     let geometry = journal.geometry();
-    match read_all_extents(alloc, journal, inode, slot) {
-        Ok(found) => match map_of(alloc, &geometry, &found) {
-            Ok(map) => Ok(map),
-            Err(_) => Err(AreaError::Memory),
-        },
-        Err(error) => Err(error),
-    }
+    let found = read_all_extents(alloc, journal, inode, slot)?;
+    let map = map_of(alloc, &geometry, &found)?;
+    Ok(map)
 }
 
 // The blocks that list extents, those of the fast tier, and the others, as what is given up.
@@ -121,13 +116,9 @@ pub fn all_blocks_of<M: Media>(
     ensures only { IfErr result (λ e. (e ≡ DeviceFault) ⊎ (e ≡ Memory)) }
     ensures looks { Looks M.Media journal.old journal.new result }
 {
-    match read_map(alloc, journal, inode, slot) {
-        Ok(map) => match all_blocks(alloc, slot, &map) {
-            Ok(lost) => Ok(lost),
-            Err(_) => Err(AreaError::Memory),
-        },
-        Err(error) => Err(error),
-    }
+    let map = read_map(alloc, journal, inode, slot)?;
+    let lost = all_blocks(alloc, slot, &map)?;
+    Ok(lost)
 }
 
 /// Puts runs that are given up behind others. After a refusal some of them may stand there.
@@ -158,17 +149,13 @@ pub fn give_all<M: Media>(
     ensures only { IfErr result (λ e. (e ≡ DeviceFault) ⊎ (e ≡ Memory)) }
     ensures looks { Looks M.Media journal.old journal.new result }
 {
-    match all_blocks_of(alloc, journal, inode, slot) {
-        Ok(its) => match push_lost(lost, &its) {
-            Ok(()) => Ok(()),
-            Err(_) => Err(AreaError::Memory),
-        },
-        Err(error) => Err(error),
-    }
+    let its = all_blocks_of(alloc, journal, inode, slot)?;
+    push_lost(lost, &its)?;
+    Ok(())
 }
 
-/// Plans an inode of which no node is left, if there was one: its slot is free, and all that it had is given up. Nothing is taken and no image is put. After a refusal
-/// nothing is said of the plan.
+/// Plans an inode of which no node is left, if there was one: its slot is free, and all that it had is given up. Nothing is taken and no image is put. `Memory` where there was none;
+/// `DeviceFault` where a device fails. After a refusal nothing is said of the plan but its images and what was taken for it, which stay as they are.
 pub fn plan_gone_part<M: Media>(
     alloc: Global,
     journal: &mut Journal<M>,
@@ -180,20 +167,17 @@ pub fn plan_gone_part<M: Media>(
     requires number { is_inode inode ≡ true }
     requires fits { fits_slot journal.old.geometry slot.now ≡ true }
     requires slot_is { slot_read journal.old.geometry (disk M.Media journal.old) inode ≡ Some slot.now }
-    ensures part { (c : Change) (touch : ℕ) (places : List Place) (taken : Allocation) → (start_node c.base (inode_in journal.old.geometry (disk M.Media journal.old) inode)).kind ≡ None → OnOk result (AddsPart journal.old.geometry (disk M.Media journal.old) c touch inode places 0 taken taken plan.old plan.new) }
+    ensures part { (c : Change) (touch : ℕ) (places : List Place) → (start_node c.base (inode_in journal.old.geometry (disk M.Media journal.old) inode)).kind ≡ None → OnOk result (AddsPart journal.old.geometry (disk M.Media journal.old) c touch inode places 0 plan.old.taken plan.new.taken plan.old plan.new) }
     ensures images { plan.new.nodes ≡ plan.old.nodes }
+    ensures taken { plan.new.taken ≡ plan.old.taken }
     ensures only { IfErr result (λ e. (e ≡ DeviceFault) ⊎ (e ≡ Memory)) }
     ensures looks { Looks M.Media journal.old journal.new result }
 {
     // For the proof: an inode of which all is given up is a part of the change.
     gone_inode_is_a_part();
-    match give_all(alloc, journal, inode, slot, &mut plan.lost) {
-        Ok(()) => match push_slot(&mut plan.slots, inode, Slot::Free) {
-            Ok(()) => Ok(()),
-            Err(_) => Err(AreaError::Memory),
-        },
-        Err(error) => Err(error),
-    }
+    give_all(alloc, journal, inode, slot, &mut plan.lost)?;
+    push_slot(&mut plan.slots, inode, Slot::Free)?;
+    Ok(())
 }
 
 /// Puts the slot of an inode behind the others.

@@ -6,6 +6,7 @@
 
 mod block_count;
 mod change_walk;
+mod changed_inode;
 mod directories;
 mod directory_part;
 mod file_part;
@@ -19,10 +20,12 @@ mod laws;
 mod part_laws;
 mod partial_plan;
 mod prefix_laws;
+mod read_change;
 mod spares;
 
 pub use block_count::{count_blocks, wanted_blocks_are_written};
 pub use change_walk::plan_changes;
+pub use changed_inode::ChangedInode;
 pub use directories::{plan_over_spares, start_directory};
 pub use directory_part::plan_directory_part;
 pub use file_part::plan_file_part;
@@ -30,7 +33,7 @@ pub use file_place::{PlacedFile, RootedFile, place_file, root_file};
 pub use file_start::{StartedFile, made_file, read_file};
 pub use files::{next_nodes_were_free, placed_file_is_planned, planned_file_is_a_part};
 pub use inode_drop::{give_all, plan_gone_part};
-pub use inode_part::{plan_inode, plan_next};
+pub use inode_part::plan_inode;
 pub use kinds::kind_from;
 pub use laws::{
     carried_out_blocks_lie_in_their_places, carried_out_change_is_the_graph_after, no_parts,
@@ -42,14 +45,15 @@ pub use prefix_laws::{
     added_part_stands_with_the_first, whole_change_can_be_carried_out,
     whole_change_lies_in_its_places, whole_plan,
 };
+pub use read_change::{ReadChange, read_slots};
 pub use spares::{last_blocks, take_spares};
 
 // Passed on to the crates above, which so need not list those below.
 pub use inode_plan::{
-    Allocation, AllocatorError, AreaError, BLOCK, CLIENTS, DirBlock, DirEntries, DirEntry,
-    EntryRef, Extent, ExtentBlock, FreedBlocks, Geometry, GraphChange, InodeExtents, InodeParts,
-    Journal, JournalError, MARKS_BLOCK, Mark, Marks, Media, NodeImages, Place, Pools, Run,
-    SLOT_SIZE, Slot, Super, Tier, What, blank_block, block_number, carried_out_marks, carry_out,
-    charge_after_change, first_place, length_of, nodes_never_run_out, open_area, read_parts,
-    read_slot, small_changes_find_blocks, taken_places, units_of,
+    Allocation, AllocatorError, AreaError, BLOCK, CLIENTS, ChangedSlot, DirBlock, DirEntries,
+    DirEntry, EntryRef, Extent, ExtentBlock, FreedBlocks, Geometry, GraphChange, InodeExtents,
+    InodeParts, Journal, JournalError, MARKS_BLOCK, Mark, Marks, Media, NodeImages, Place, Pools,
+    Run, SLOT_SIZE, Slot, Super, Tier, What, blank_block, block_number, carried_out_marks,
+    carry_out, charge_after_change, first_place, length_of, nodes_never_run_out, open_area,
+    read_parts, read_slot, small_changes_find_blocks, taken_places, units_of,
 };

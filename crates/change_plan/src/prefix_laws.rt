@@ -33,7 +33,7 @@ use crate::laws::{
     parts_are_planned,
 };
 use crate::partial_plan::PartialPlan;
-use inode_plan::{Allocation, Marks, Rewrite, taken_blocks_were_free};
+use inode_plan::{Marks, Rewrite, taken_blocks_were_free};
 
 /// Before the first inode nothing is planned, over none of the places. What is planned of one inode more, behind them, stands with them: over the next of the places, and over the
 /// blocks of the node pool that were taken for it. Where all places are used, it is planned over all that was taken.
@@ -49,15 +49,15 @@ pub fn added_part_stands_with_the_first()
     taken_blocks_were_free();
 }
 
-/// All that was planned over what was taken, as one plan.
-pub fn whole_plan(plan: PartialPlan, taken: Allocation, marks: Option<Marks>) -> Rewrite
-    ensures { result ≡ whole_of plan taken marks }
+/// All that was planned over what was taken, with new marks where they change, as one plan.
+pub fn whole_plan(plan: PartialPlan, marks: Option<Marks>) -> Rewrite
+    ensures { result ≡ whole_of plan plan.taken marks }
 {
     Rewrite {
         slots: plan.slots,
         marks,
         nodes: plan.nodes,
-        taken,
+        taken: plan.taken,
         bytes: plan.bytes,
         lost: plan.lost,
     }

@@ -29,7 +29,7 @@ use Rattle.client_plan.specs.Holdings.{Holdings, may_read, first_unused}
 use Rattle.client_plan.specs.NeedOrder.{root_alone, not_refused, given_back, unpin_step, found_step, look_step, number_step, is_new, lease_step, write_step, unit_step, pin_step, roomy, is_record, room_step}
 use Rattle.client_plan.specs.CallPlan.{record_of_plan, log_outcome, answer_outcome, settle_outcome, plan_outcome, course, made_by, change_of}
 use Rattle.client_plan.specs.NeedEffects.{HasNumber, IsLacking}
-use Rattle.client_plan.proofs.Courses.{lacks_where, goes_where, unless_lacks}
+use Rattle.client_plan.proofs.Courses.{lacks_where, goes_where, unless_lacks, unless_goes}
 use Rattle.client_plan.proofs.Asking.{node_unknown, bytes_unknown}
 
 -- ---- small facts
@@ -108,7 +108,7 @@ module _ (p : Part) (h : Holdings) (call : Call) (need : Need) where
   Lacking n = IsLacking p h call n
 
   look_lacks : {A : Type 0} (i : ℕ) (b : Bool) → may_read h i ≡ b → (p.node i ≡ None) ⊎ (p.is_dir i ≡ None) → ◌≡◌ {A = PlanSteps A} (Lacks (cond b (View i) (Lease i Read))) (Lacks need) → Lacking need
-  look_lacks i true may unknown e = let same : View i ≡ need = cc in subst Lacking same unknown
+  look_lacks i true may unknown e = let same : View i ≡ need = cc in subst Lacking same (may, unknown)
   look_lacks i false may unknown e = let same : Lease i Read ≡ need = cc in subst Lacking same may
 
   looked_lacks : {A : Type 0} (q : Query A) → look_step p h q ≡ Lacks need → Lacking need
@@ -146,7 +146,10 @@ module _ (p : Part) (h : Holdings) (call : Call) (need : Need) where
   held_lacks : (new : ℕ) (operation : Operation) (i : ℕ) → lease_step p h new operation i ≡ Lacks need → Lacking need
   held_lacks new operation i e = elim (lacks_where (unless (h.writes i) (Lease i Write)) (λ _. unless (is_some (p.node i) || is_new new operation i) (View i)) need e) [
     | inl at ↦ let why = unless_lacks (h.writes i) (Lease i Write) need at in subst Lacking why.1 why.0
-    | inr on ↦ let why = unless_lacks (is_some (p.node i) || is_new new operation i) (View i) need on.2 in subst Lacking why.1 (inl (none_from (p.node i) (or_parts _ _ why.0).0))
+    | inr on ↦
+        let held = unless_goes (h.writes i) (Lease i Write) on.0 on.1 in
+        let why = unless_lacks (is_some (p.node i) || is_new new operation i) (View i) need on.2 in
+        subst Lacking why.1 (or_right (h.reads i) (h.writes i) held, inl (none_from (p.node i) (or_parts _ _ why.0).0))
   ]
 
   written_lacks : (new : ℕ) (operation : Operation) (is : List ℕ) → write_step p h new operation is ≡ Lacks need → Lacking need

@@ -59,7 +59,7 @@ pub viewed_once : (k : Knowledge) (h : Holdings) (call : Call) (i : ℕ) (copy :
 viewed_once k h call i copy e =
     let more = with_copy k i copy in
     let there : more.copies i ≡ Some copy = ap (λ b. cond b (Some copy) (k.copies i)) (eq-eqb i i refl) in
-    elim (lacking (part_of more) h call (View i) e) [
+    elim ((lacking (part_of more) h call (View i) e).1) [
       | inl none ↦ absurd (let clash : Some (option_map view_seen copy) ≡ None = sym (ap (option_map (λ c. option_map view_seen c)) there) ∙ none in cc)
       | inr none ↦ elim (eqb_tells i 1) [
         | inl root ↦ absurd (let clash : Some (Some true) ≡ None = sym (ap (λ b. cond b (Some (Some true)) (is_dir_by (more.copies i) (is_listed more i kind.Directory) (is_listed more i kind.File))) root.0) ∙ none in cc)

@@ -61,12 +61,12 @@ pub record IsTooLong (p : Part) (h : Holdings) (call : Call) : Type 0 where
   pub room : h.room ≡ Some most
   pub long : (is_record change && nat_le (length (record_bytes change)) most) ≡ false
 
--- the client lacks this
+-- the client lacks this; what it is to view it holds
 abbrev pub IsLacking : Part → Holdings → Call → Need → Type 0
 IsLacking p h call (Unpin i) = (is_among i h.pins ≡ true) × (has_open h.own i ≡ false)
 IsLacking p h call (Lease i Read) = may_read h i ≡ false
 IsLacking p h call (Lease i Write) = h.writes i ≡ false
-IsLacking p h call (View i) = (p.node i ≡ None) ⊎ (p.is_dir i ≡ None)
+IsLacking p h call (View i) = (may_read h i ≡ true) × ((p.node i ≡ None) ⊎ (p.is_dir i ≡ None))
 IsLacking p h call (Blocks i first count) = AreUnread p i first count
 IsLacking p h call (Inodes n) = h.numbers ≡ []
 IsLacking p h call (Units n) = IsShort p h call n

@@ -32,7 +32,7 @@ ghost use Rattle.client_plan.specs.CallPlan.{outcome, own_changed};
 ghost use Rattle.client_plan.specs.NeedEffects.{IsLacking, IsTooLong, longest_record, without_pin, with_pin, with_lease, with_number, with_units, with_room};
 ghost use Rattle.client_plan.specs.Steps.{IsAnswered, IsOf, IsReady, IsRefused};
 
-/// What a call is told to need the client lacks. So once it is served, the same call needs it no longer: not a pin that was given back, a lease
+/// What a call is told to need the client lacks, and what it is to view it holds. So once it is served, the same call needs it no longer: not a pin that was given back, a lease
 /// that was taken, a copy or blocks that came, a number, units, however few were lacking, or a pin that was set.
 pub fn served_need_is_lacking_no_longer()
     ensures lacks { (p : Part) (h : Holdings) (call : Call) (need : Need) → outcome p h call ≡ outcomes.Need need → IsLacking p h call need }

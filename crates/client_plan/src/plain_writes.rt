@@ -25,8 +25,8 @@ pub struct PlainWrite {
     pub units: u32,
 }
 
-/// Finds a write for which nothing is lacking, of so many bytes at an offset of what is open at a number: it comes to the record that `record_of_write` makes. For any other call, `None`, `plan_call` tells what
-/// it comes to. Takes no memory.
+/// Plans a `pwrite` of `count` bytes at the offset `at`, by the descriptor `number`, that can begin at once: its lease, units, pin and room are there, and `record_of_write` makes its record. `None`: ask
+/// `plan_call`. Takes no memory.
 pub fn plain_write<T: TreeAnswers, S: Supplies>(
     tree: &T,
     has: &S,

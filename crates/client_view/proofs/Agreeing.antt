@@ -1,5 +1,5 @@
--- What was laid over what was fetched goes into a client's copies, which agree with the whole still.
-use Rattle.std.proofs.Common.{◌≡◌, inl, inr, ℕ, ◌+◌, ◌-◌, ◌*◌, min, true, cond, List, length, drop, Option, Some, None, refl, ap, sym, ◌∙◌, subst, arith}
+-- A block that was fetched goes into what a client knows, which agrees with the whole still.
+use Rattle.std.proofs.Common.{◌≡◌, inl, inr, ℕ, ◌+◌, ◌-◌, ◌*◌, min, true, cond, List, length, drop, Option, Some, None, refl, ap, sym, ◌∙◌, arith}
 use Rattle.std.specs.Prelude.{◌==◌, ◌&&◌, nat_le, nat_lt, option_map}
 use Rattle.std.proofs.lemmas.Bool.{cases_Bool, and_parts, cond-true, cond-false}
 use Rattle.std.proofs.lemmas.Bool.Decides.{nat_tests}
@@ -9,24 +9,15 @@ use Rattle.client_plan.specs.file_graph.Graph.{Graph, Node, FileBody, DirBody, f
 use Rattle.client_plan.specs.file_graph.Numbers.{in_run}
 use Rattle.client_plan.specs.log_record.declared.format.Record.{Record}
 use Rattle.world_invariant.specs.call_effects.Blocks.{block_of}
-use Rattle.world_invariant.specs.call_effects.Knowledge.{Knowledge, Agrees, IsForgetful, with_blocks, with_copy}
-use Rattle.world_invariant.specs.call_effects.NodeView.{NodeView, FileView, view_at, view_of_node}
-use Rattle.world_invariant.proofs.call_effects_lemmas.Served.{blocks_agree, copy_agrees, less_agrees}
+use Rattle.world_invariant.specs.call_effects.Knowledge.{Knowledge, Agrees, IsForgetful, with_blocks}
+use Rattle.world_invariant.specs.call_effects.NodeView.{FileView, view_of_node}
+use Rattle.world_invariant.proofs.call_effects_lemmas.Served.{blocks_agree, less_agrees}
 use Rattle.world_invariant.specs.Logs.{after_records}
-use Rattle.client_view.specs.After.{block_laid, bytes_at, node_laid}
-use Rattle.client_view.proofs.Laid.{block_is, node_is}
+use Rattle.client_view.specs.After.{block_laid, bytes_at}
+use Rattle.client_view.proofs.Laid.{block_is}
 
+-- a block over which records are laid
 module _ (k : Knowledge) (g whole : Graph) (held : Descriptors) (rs : List Record) (i : ℕ) (agrees : Agrees k whole held) (same : whole i ≡ after_records g rs i) where
-  -- ---- a node
-
-  whole_is : view_at whole i ≡ node_laid rs i (view_at g i)
-  whole_is = ap (option_map view_of_node) same ∙ node_is g rs i (view_at g i) refl
-
-  pub node_agrees : ((b : ℕ) → k.blocks i b ≡ None) → Agrees (with_copy k i (node_laid rs i (view_at g i))) whole held
-  node_agrees no_blocks = subst (λ (copy : Option NodeView). Agrees (with_copy k i copy) whole held) whole_is (copy_agrees k whole held agrees i (λ none. no_blocks))
-
-  -- ---- a block
-
   file_is : (o : Option Node) (bytes : List ℕ) → file_bytes o ≡ Some bytes → (names : ℕ) × (o ≡ Some (record { names = names; body = FileBody bytes }))
   file_is None bytes is = absurd (cc)
   file_is (Some n) bytes is = elim (n.body) as (λ y. n.body ≡ y → file_bytes (Some (record { names = n.names; body = y })) ≡ Some bytes → (names : ℕ) × (Some n ≡ Some (record { names = names; body = FileBody bytes }))) [

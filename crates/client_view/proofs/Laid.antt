@@ -1,4 +1,4 @@
--- Records laid over what a graph has at an inode come to what it has there after them.
+-- Records laid over a block of a graph's file come to the block that it has after them.
 use Rattle.std.proofs.Common.{◌≡◌, ℕ, ◌*◌, Bool, true, false, cond, List, [], ◌∷◌, take, Option, Some, None, refl, ap, sym, ◌∙◌}
 use Rattle.std.specs.Prelude.{option_map, unwrap_or}
 use Rattle.std.specs.FinMap as fin
@@ -11,19 +11,9 @@ use Rattle.client_plan.specs.file_graph.declared.effect.Kind.{Kind}
 use Rattle.client_plan.specs.file_graph.declared.effect.Kind.TheVariants as kind
 use Rattle.client_plan.specs.log_record.declared.format.Record.{Record}
 use Rattle.world_invariant.specs.call_effects.Blocks.{block_acted, block_after, block_of, block_resized, block_written}
-use Rattle.world_invariant.specs.call_effects.NodeView.{NodeView, view_after, view_at}
 use Rattle.world_invariant.proofs.call_effects_lemmas.Blocks.{resized_block, written_block}
-use Rattle.world_invariant.proofs.call_effects_lemmas.NodeViews.{viewed_after}
 use Rattle.world_invariant.specs.Logs.{after_records}
-use Rattle.client_view.specs.After.{block_laid, bytes_at, node_laid}
-
--- ---- a node
-
-pub node_is : (g : Graph) (rs : List Record) (i : ℕ) (there : Option NodeView) → view_at g i ≡ there → view_at (after_records g rs) i ≡ node_laid rs i there
-node_is g [] i there is = is
-node_is g (r ∷ rs) i there is = node_is (after_effects g r.effects) rs i (view_after r.effects i there) (viewed_after g r.effects i there is)
-
--- ---- a block
+use Rattle.client_view.specs.After.{block_laid, bytes_at}
 
 -- where a file stands, this is its block
 abbrev IsTold : ℕ → Option Node → Option (List ℕ) → Type 0

@@ -20,4 +20,5 @@ pub mod Behind
 pub mod Buffers
 pub mod Laid
 pub mod LeftBlocks
+pub mod ListedKinds
 pub mod Steps

@@ -1,6 +1,6 @@
 -- Names are entered in room that was taken before the first of the effects was done.
 use Rattle.std.proofs.Common.{◌≡◌, ◌≤◌, ◌<◌, ◌+◌, ◌-◌, ℕ, zero, suc, Bool, true, false, cond, List, [], ◌∷◌, ◌++◌, length, get_or, take, Option, Some, None, inl, inr, refl, ap, sym, ◌∙◌, subst, arith}
-use Rattle.std.specs.Prelude.{◌==◌, ◌||◌, ◌&&◌, IsSome, is_some, option_map}
+use Rattle.std.specs.Prelude.{◌==◌, IsSome, option_map}
 use Rattle.std.specs.FinMap as fin
 use Rattle.std.specs.List.{list_any}
 use Rattle.std.specs.Ordering.{nat_cmp}
@@ -18,7 +18,7 @@ use Rattle.world_invariant.specs.call_effects.Knowledge.{Knowledge}
 use Rattle.record_validation.specs.KnownNodes.{known_after}
 use Rattle.record_validation.specs.NodeAnswers.{entries_of}
 use Rattle.client_view.specs.AfterRecord.{with_effects}
-use Rattle.client_view.specs.Preparation.{AreReady, IsRoomFor, IsRoomOf, any_enters, enters, names_known}
+use Rattle.client_view.specs.Preparation.{AreReady, IsRoomOf, any_enters, enters, names_known}
 use Rattle.client_view.specs.declared.enter_room.EnterRoom.{EnterRoom}
 use Rattle.record_validation.proofs.Steps.{views_joined}
 use Rattle.client_view.proofs.ForgottenBlocks.{twice}

@@ -1,17 +1,9 @@
--- What records, one after the other, make of a node that is known without its bytes, and of a block of a file.
-use Rattle.std.specs.Prelude.{ℕ, ◌+◌, List, [], ◌∷◌, Bool, ◌&&◌, Option, unwrap_or}
-use Rattle.std.specs.List.{list_any}
-use Rattle.client_plan.specs.file_graph.Graph.{Graph, file_bytes, is_among, subjects}
+-- What records, one after the other, make of a block of a file.
+use Rattle.std.specs.Prelude.{ℕ, ◌+◌, List, [], ◌∷◌, Option, unwrap_or}
+use Rattle.client_plan.specs.file_graph.Graph.{Graph, file_bytes}
 use Rattle.client_plan.specs.file_graph.declared.effect.Effect.{Effect}
 use Rattle.client_plan.specs.log_record.declared.format.Record.{Record}
 use Rattle.world_invariant.specs.call_effects.Blocks.{block_after}
-use Rattle.world_invariant.specs.call_effects.NodeView.{NodeView, view_after}
-use Rattle.record_validation.specs.Memory.{is_enter}
-
--- what stands at an inode after records
-abbrev pub node_laid : List Record → ℕ → Option NodeView → Option NodeView
-node_laid [] i node = node
-node_laid (r ∷ rs) i node = node_laid rs i (view_after r.effects i node)
 
 -- a known block of a file after records
 abbrev pub block_laid : List Record → ℕ → ℕ → Option (List ℕ) → Option (List ℕ)
@@ -30,11 +22,3 @@ run_laid (r ∷ rs) i first run = run_laid rs i first (run_after r.effects i fir
 -- the bytes of the file at an inode; what is no file has none
 abbrev pub bytes_at : Graph → ℕ → List ℕ
 bytes_at g i = unwrap_or (file_bytes (g i)) []
-
--- whether an effect enters a name at an inode
-abbrev pub enters_at : ℕ → Effect → Bool
-enters_at i e = is_among i (subjects e) && is_enter e
-
--- whether one of some records does so
-abbrev pub enter_at : ℕ → List Record → Bool
-enter_at i rs = list_any (λ r. list_any (enters_at i) r.effects) rs

@@ -1,15 +1,14 @@
-ghost use Rattle.std.specs.Prelude.{◌≡◌, Bool, Some, None, option_map};
+ghost use Rattle.std.specs.Prelude.{◌≡◌, Bool, true, Some, None, option_map, unwrap_or};
 ghost use Rattle.client_plan.specs.posix_calls.Answers.{entry_in};
-ghost use Rattle.world_invariant.specs.call_effects.Knowledge.{part_of, is_dir_by};
+ghost use Rattle.world_invariant.specs.call_effects.Knowledge.{lists_as, part_of};
 ghost use Rattle.record_validation.specs.NodeAnswers.{seen_node};
-ghost use Rattle.client_plan.specs.file_graph.declared.effect.Kind.TheVariants as kind;
-ghost use Rattle.client_view.specs.KnowledgeTables.{knows, known_dir_in, is_listed_in};
+ghost use Rattle.client_view.specs.KnowledgeTables.{copy_at, knows, known_dir_in};
 
 use crate::copies::ClientCopies;
 use crate::file_reads::read;
-use crate::slots::{Slot, is_listed, size_at, slot_at};
+use crate::slots::{Slot, child_is_dir, size_at, slot_at};
 use client_plan::{Bytes, Description, Kind, NamedInode, Names, ROOT, TreeAnswers};
-use record_validation::NodeSummary;
+use record_validation::{NodeSummary, is_inode};
 use std::alloc::{AllocError, Global};
 
 impl TreeAnswers for ClientCopies {
@@ -21,7 +20,7 @@ impl TreeAnswers for ClientCopies {
 
     fn entry(&self, dir: u32, name: &[u8]) -> Option<Option<NamedInode>> {
         match slot_at(&self.copies, dir) {
-            Some(Some(copy)) => Some(child_in(&self.copies, copy, name)),
+            Some(Some(copy)) => Some(child_in(&self.copies, dir, copy, name)),
             Some(None) => Some(None),
             None => None,
         }
@@ -89,32 +88,33 @@ fn known_dir(slots: &[Slot], inode: u32) -> Option<Option<bool>>
     match slot_at(slots, inode) {
         Some(Some(copy)) => Some(Some(copy.is_dir())),
         Some(None) => Some(None),
-        None => child_kind(slots, inode),
+        None => child_is_dir(slots, inode),
     }
-}
-
-fn child_kind(slots: &[Slot], inode: u32) -> Option<Option<bool>>
-    ensures { result ≡ is_dir_by None (is_listed_in slots.now inode kind.Directory) (is_listed_in slots.now inode kind.File) }
-{
-    if is_listed(slots, inode, Kind::Directory) {
-        return Some(Some(true));
-    }
-    if is_listed(slots, inode, Kind::File) {
-        return Some(Some(false));
-    }
-    None
 }
 
 // What a directory has under a name, with whether that is a directory.
-fn child_in(slots: &[Slot], copy: &NodeSummary, name: &[u8]) -> Option<NamedInode>
+fn child_in(slots: &[Slot], dir: u32, copy: &NodeSummary, name: &[u8]) -> Option<NamedInode>
+    requires copied { copy_at slots.now dir ≡ Some (Some copy.now) }
     ensures inode { option_map (λ e. e.inode) result ≡ entry_in name.now (seen_node copy.now) }
     ensures kind { (e : NamedInode) (is_dir : Bool) → result ≡ Some e → e.is_dir ≡ Some is_dir → known_dir_in slots.now e.inode ≡ Some (Some is_dir) }
 {
     match copy.child(name) {
         Some(child) => Some(NamedInode {
             inode: child.inode(),
-            is_dir: known_dir(slots, child.inode()).flatten(),
+            is_dir: is_child_dir(slots, dir, child.inode(), child.kind()),
         }),
         None => None,
+    }
+}
+
+// Whether what a directory names is a directory. Where there is no copy of it the entry at hand tells that at once; for an entry of a file each
+// copy is looked at.
+fn is_child_dir(slots: &[Slot], dir: u32, inode: u32, kind: Kind) -> Option<bool>
+    requires listed { lists_as inode kind (unwrap_or (copy_at slots.now dir) None) ≡ true }
+    ensures { (is_dir : Bool) → result ≡ Some is_dir → known_dir_in slots.now inode ≡ Some (Some is_dir) }
+{
+    match (slot_at(slots, inode), kind) {
+        (None, Kind::Directory) if is_inode(dir) => Some(true),
+        _ => known_dir(slots, inode).flatten(),
     }
 }

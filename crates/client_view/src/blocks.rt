@@ -6,7 +6,6 @@ ghost use Rattle.client_plan.specs.file_graph.Graph.{is_among, subjects};
 ghost use Rattle.client_plan.specs.file_graph.declared.effect.Effect.TheVariants as variants;
 ghost use Rattle.world_invariant.specs.call_effects.Blocks.{block_acted, block_after, block_resized, block_written};
 
-use crate::nodes::is_on;
 use client_plan::{Effect, Kind, UNIT_BYTES};
 
 const UNIT: u64 = UNIT_BYTES as u64;
@@ -48,6 +47,13 @@ fn take_effect(
         return act(effect, block, buffer, len);
     }
     len
+}
+
+// Whether an effect is on an inode.
+fn is_on(effect: &Effect, inode: u32) -> bool
+    ensures { result ≡ is_among inode (subjects effect.now) }
+{
+    effect.subject() == inode
 }
 
 // What an effect on a file makes of one of its blocks.

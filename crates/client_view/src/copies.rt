@@ -1,4 +1,4 @@
-ghost use Rattle.std.specs.Prelude.{◌≡◌, ◌==◌, ◌<◌, ◌+◌, ◌^◌, ℕ, length, Some, None, IsSome, not, true, false, IfOk, OnOk, OnErr};
+ghost use Rattle.std.specs.Prelude.{◌≡◌, ◌==◌, ◌<◌, ◌+◌, ◌^◌, ℕ, length, Some, None, IsSome, is_some, not, true, false, IfOk, OnOk, OnErr};
 ghost use Rattle.std.specs.List.{filter};
 ghost use Rattle.block_cache.specs.CacheList.{put_block as put_first, used_run, without_file};
 ghost use Rattle.block_cache.specs.declared.bytes.TheConstants.{BLOCK_SIZE};
@@ -14,7 +14,7 @@ ghost use Rattle.client_view.specs.BlockPut.{IsBlockLong};
 ghost use Rattle.client_view.specs.KnowledgeChanges.{with_descriptor, without_blocks, without_blocks_at, without_inode, without_granted};
 ghost use Rattle.client_view.specs.AfterRecord.{without_touched};
 
-use crate::slots::{Slot, forget_slot, size_at, unknown_slots};
+use crate::slots::{Slot, forget_slot, size_at, slot_at, unknown_slots};
 use block_cache::{BLOCK_SIZE, Blocks};
 use client_plan::{Bytes, Descriptor, Effect, OwnDescriptors};
 use record_validation::NodeSummary;
@@ -169,6 +169,13 @@ impl ClientCopies {
         ensures { own_of result.now ≡ (knows self.now).own }
     {
         &self.own
+    }
+
+    /// Whether there is a copy of what stands at an inode, or that nothing stands there.
+    pub fn has_copy(&self, inode: u32) -> bool
+        ensures { result ≡ is_some ((knows self.now).copies inode) }
+    {
+        slot_at(&self.copies, inode).is_some()
     }
 
     /// How many bytes a file has that there is a copy of.

@@ -1,5 +1,5 @@
 //! What the effects of a record need, taken before any of them is done.
-ghost use Rattle.std.specs.Prelude.{◌≡◌, ◌==◌, ◌&&◌, ◌<◌, ◌^◌, ℕ, true, Some, None, is_some, IfOk, OnErr, if◌then◌else◌};
+ghost use Rattle.std.specs.Prelude.{◌≡◌, ◌==◌, ◌&&◌, ◌<◌, true, Some, None, is_some, IfOk, OnErr, if◌then◌else◌};
 ghost use Rattle.client_view.specs.KnowledgeTables.{copy_at};
 ghost use Rattle.client_view.specs.AfterRecord.{is_made};
 ghost use Rattle.client_view.specs.Preparation.{AreReady, IsRoomFor, IsRoomOf, any_enters, enters, names_known};

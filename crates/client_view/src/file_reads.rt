@@ -28,9 +28,16 @@ pub fn read(
     ensures memory { IfErr result (λ _. is_some (range_by (block_by size blocks.now inode) at count) ≡ true) }
 {
     match size {
-        Some(size) => read_file(alloc, blocks, inode, size, at, count),
+        Some(size) => read_file(alloc, blocks, SizedFile { inode, size }, at, count),
         None => Ok(read_nothing(alloc, count)),
     }
+}
+
+// A file of a known size.
+#[derive(Clone, Copy)]
+struct SizedFile {
+    inode: u32,
+    size: u64,
 }
 
 // Of what is no file no bytes are known but none.
@@ -46,16 +53,15 @@ fn read_nothing(alloc: Global, count: u64) -> Option<Bytes>
 fn read_file(
     alloc: Global,
     blocks: &Blocks,
-    inode: u32,
-    size: u64,
+    file: SizedFile,
     at: u64,
     count: u64,
 ) -> Result<Option<Bytes>, AllocError>
-    ensures bytes { IfOk result (λ bytes. bytes ≡ range_by (file_block size blocks.now inode) at count) }
-    ensures memory { IfErr result (λ _. is_some (range_by (file_block size blocks.now inode) at count) ≡ true) }
+    ensures bytes { IfOk result (λ bytes. bytes ≡ range_by (file_block file.size blocks.now file.inode) at count) }
+    ensures memory { IfErr result (λ _. is_some (range_by (file_block file.size blocks.now file.inode) at count) ≡ true) }
 {
     let touched = blocks_touched(at, count);
-    if !are_kept(blocks, inode, size, at / UNIT, touched) {
+    if !are_kept(blocks, file, at / UNIT, touched) {
         return Ok(None);
     }
     let mut bytes = Vec::with_capacity(alloc, count as usize)?;
@@ -63,7 +69,7 @@ fn read_file(
         skip: at % UNIT,
         len: count,
     };
-    join(&mut bytes, blocks, inode, size, at / UNIT, touched, part)?;
+    join(&mut bytes, blocks, file, at / UNIT, touched, part)?;
     Ok(Some(Bytes::from_vec(bytes)))
 }
 
@@ -77,16 +83,16 @@ fn blocks_touched(at: u64, count: u64) -> u64
     1 + last as u64 - at / UNIT
 }
 
-// A block of a file of so many bytes, if it is kept.
-fn file_block<'a>(blocks: &'a Blocks, inode: u32, size: u64, block: u64) -> Option<&'a [u8]>
-    ensures bytes { option_map (λ b. b.now) result ≡ file_block size blocks.now inode block }
+// A block of a file, if it is kept.
+fn file_block<'a>(blocks: &'a Blocks, file: SizedFile, block: u64) -> Option<&'a [u8]>
+    ensures bytes { option_map (λ b. b.now) result ≡ file_block file.size blocks.now file.inode block }
     ensures low { IfSome result (λ _. block < 2 ^ 32) }
 {
     if block >= MOST_NUMBERED {
         return None;
     }
-    match blocks.peek(inode, block as u32) {
-        Some(bytes) => Some(cut(bytes, size.saturating_sub(UNIT * block))),
+    match blocks.peek(file.inode, block as u32) {
+        Some(bytes) => Some(cut(bytes, file.size.saturating_sub(UNIT * block))),
         None => None,
     }
 }
@@ -105,14 +111,14 @@ fn range(bytes: &[u8], at: u64, count: u64) -> &[u8]
 }
 
 // Whether so many blocks from a first one on are kept.
-fn are_kept(blocks: &Blocks, inode: u32, size: u64, first: u64, count: u64) -> bool
-    ensures { result ≡ is_some (blocks_joined (file_block size blocks.now inode) first count) }
+fn are_kept(blocks: &Blocks, file: SizedFile, first: u64, count: u64) -> bool
+    ensures { result ≡ is_some (blocks_joined (file_block file.size blocks.now file.inode) first count) }
 {
     if count == 0 {
         return true;
     }
-    match file_block(blocks, inode, size, first) {
-        Some(_) => are_kept(blocks, inode, size, first + 1, count - 1),
+    match file_block(blocks, file, first) {
+        Some(_) => are_kept(blocks, file, first + 1, count - 1),
         None => false,
     }
 }
@@ -141,23 +147,22 @@ impl Part {
 fn join(
     bytes: &mut Vec<u8>,
     blocks: &Blocks,
-    inode: u32,
-    size: u64,
+    file: SizedFile,
     first: u64,
     count: u64,
     part: Part,
 ) -> Result<(), AllocError>
-    ensures { OnOk result ((joined : List ℕ) → blocks_joined (file_block size blocks.now inode) first count ≡ Some joined → bytes.new.items ≡ bytes.old.items ++ range part.skip part.len joined) }
+    ensures { OnOk result ((joined : List ℕ) → blocks_joined (file_block file.size blocks.now file.inode) first count ≡ Some joined → bytes.new.items ≡ bytes.old.items ++ range part.skip part.len joined) }
 {
     if count == 0 {
         return Ok(());
     }
-    match file_block(blocks, inode, size, first) {
+    match file_block(blocks, file, first) {
         Some(block) => {
             let taken = range(block, part.skip, part.len);
             bytes.extend_from_slice(taken)?;
             let rest = part.next_part(block.len(), taken.len());
-            join(bytes, blocks, inode, size, first + 1, count - 1, rest)
+            join(bytes, blocks, file, first + 1, count - 1, rest)
         }
         None => Ok(()),
     }

@@ -1,5 +1,5 @@
 //! An effect that takes no memory, done to the copy that a client has of its inode.
-ghost use Rattle.std.specs.Prelude.{◌≡◌, ◌<◌, true, false, Some, IsSome, OnErr, OnOk, option_map};
+ghost use Rattle.std.specs.Prelude.{◌≡◌, ◌<◌, false, Some, IsSome, option_map};
 ghost use Rattle.std.specs.FinMap as fin;
 ghost use Rattle.client_plan.specs.file_graph.Plain.{is_drop};
 ghost use Rattle.client_plan.specs.log_record.Grammar.{Fits};
@@ -11,7 +11,7 @@ use crate::enter_room::EnterRoom;
 use crate::slots::Slot;
 use client_plan::Effect;
 use record_validation::{Child, EntryRoom, Name, NodeSummary};
-use std::alloc::{AllocError, Global};
+use std::alloc::Global;
 
 /// An effect is done to what is known of its inode, if something is, in the room that was taken ahead where it enters a name. It takes no memory.
 pub fn act_on(alloc: Global, slot: &mut Slot, effect: &Effect, room: Option<EnterRoom>)
@@ -59,33 +59,30 @@ fn act_alone(alloc: Global, node: &mut Option<NodeSummary>, effect: &Effect)
     requires room { is_enter effect.now ≡ false }
     ensures { node.new ≡ view_acted effect.now node.old }
 {
-    match take_effect(alloc, node, effect) {
-        Ok(()) => {}
-        Err(_) => unreachable!(),
-    }
-}
-
-// What an effect makes of what stands at its inode. Memory is asked for only to enter a name.
-fn take_effect(
-    alloc: Global,
-    node: &mut Option<NodeSummary>,
-    effect: &Effect,
-) -> Result<(), AllocError>
-    requires { Fits effect.now }
-    ensures acted { OnOk result (node.new ≡ view_acted effect.now node.old) }
-    ensures memory { OnErr result (is_enter effect.now ≡ true) }
-{
     if is_drop(effect) {
         *node = None;
-        return Ok(());
+        return;
     }
     if let Some(summary) = node {
-        return summary.act(alloc, effect);
+        act_there(alloc, summary, effect);
+        return;
     }
     if let Effect::Make { kind, .. } = effect {
         *node = Some(NodeSummary::empty(alloc, *kind));
     }
-    Ok(())
+}
+
+// The same to a node that is there and stays.
+fn act_there(alloc: Global, summary: &mut NodeSummary, effect: &Effect)
+    requires fits { Fits effect.now }
+    requires kept { is_drop effect.now ≡ false }
+    requires room { is_enter effect.now ≡ false }
+    ensures { Some summary.new ≡ view_acted effect.now (Some summary.old) }
+{
+    match summary.act(alloc, effect) {
+        Ok(()) => {}
+        Err(_) => unreachable!(),
+    }
 }
 
 fn is_drop(effect: &Effect) -> bool

@@ -1,4 +1,4 @@
-//! What one client sees of the file tree, kept in memory: its copies of what the kernel told it, and its own records laid over what it fetches.
+//! What one client sees of the file tree, kept in memory: its copies of what the kernel told it, and its own records laid over the blocks that it fetches.
 //!
 //! `ClientCopies` has a client's descriptors, its copies of nodes without the bytes of files (`NodeSummary` of `record_validation`, as the kernel tells
 //! them), its blocks of files, and the numbers for new nodes that it was granted. What it knows by them is `knows` of `specs/KnowledgeTables.antt`: a `Knowledge` of `call_effects`, whose laws say when
@@ -14,11 +14,12 @@
 //! (`specs/AfterRecord.antt`), and no block of what it touched. So no record copies a directory; a name that is entered moves those behind it.
 //!
 //! The kernel tells a client what stands in the shared graph, and the mark up to which the client's records are digested there. What the client logged behind the mark is not
-//! in it: before what was fetched goes into the copies, those records are laid over it, over a node (`node_after`) or over a run of blocks of a file (`OwnRecords::lay_over`, which looks at each record once and lays it over the blocks that it may change). What that comes to is
+//! in it. Of a node that one of these records touches the client has a copy, since the record was planned by it, and none is fetched; but over a run of blocks of a file they are laid before it goes into the
+//! cache (`OwnRecords::lay_over`, which looks at each record once and lays it over the blocks that it may change). What that comes to is
 //! what the graph has after the records (`specs/After.antt`), so that the copies agree with the whole again, as the laws tell. A client can't read the region that it handed over
 //! while it is away, so it keeps its records in memory too (`OwnRecords`): those of that region, until all of them are digested, and those of the region that it writes.
 //!
-//! To come: blocks that are written over where a record writes them; and a count of the entries that tell a kind, so that the kind of an inode without a copy is not looked for in all copied directories.
+//! To come: blocks that are written over where a record writes them; and `is_dir_by` of `call_effects` with File before Directory, so that an entry of a file, too, tells the kind of an inode without a copy at once.
 #![tactic(auto)]
 
 mod answers;
@@ -31,7 +32,6 @@ mod fetched_block;
 mod file_reads;
 mod in_place;
 mod laws;
-mod nodes;
 mod own_change;
 mod own_record_laws;
 mod own_records;
@@ -46,11 +46,8 @@ pub use laws::{
     logged_call_can_be_prepared, logged_call_keeps_agreement, prepared_change_stays,
     used_blocks_are_known_as_before,
 };
-pub use nodes::node_after;
 pub use own_change::OwnChange;
-pub use own_record_laws::{
-    laid_block_agrees, laid_node_agrees, records_are_laid_as_the_graph_has_them,
-};
+pub use own_record_laws::{laid_block_agrees, records_are_laid_as_the_graph_has_them};
 pub use own_records::OwnRecords;
 
 // Passed on to the crates above, which so need not list those below.

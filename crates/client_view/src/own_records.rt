@@ -1,16 +1,14 @@
 ghost use Rattle.std.specs.Prelude.{◌≡◌, [], ◌∷◌, ◌++◌, ◌+◌, ◌^◌, ◌<◌, ◌≤◌, true, false, IfOk, OnErr, OnOk, drop, length, vec_capacity};
 ghost use Rattle.std.specs.List.{AllByRecursion};
 ghost use Rattle.client_plan.specs.log_record.Grammar.{IsRecord};
-ghost use Rattle.client_view.specs.After.{enter_at, node_laid, run_laid};
+ghost use Rattle.client_view.specs.After.{run_laid};
 ghost use Rattle.client_view.specs.RecordLists.{IsEmptied, beyond};
 ghost use Rattle.client_view.specs.RecordReach.{AreShort};
 
 use crate::block_runs::take_records;
 use crate::fetched_block::FetchedBlock;
-use crate::nodes::node_after;
 use crate::record_reach::RecordReach;
 use client_plan::{Effect, Effects, Record};
-use record_validation::NodeSummary;
 use std::alloc::{AllocError, Global};
 use std::marker::Model;
 use std::mem;
@@ -131,26 +129,8 @@ impl OwnRecords {
         }
     }
 
-    /// What stands at an inode after the records behind a mark, given what stood there at the mark: whether that is in the generation of the region that is written, or in the one before, and how many
-    /// records of that one are digested. Memory is asked for to enter a name, and for nothing else.
-    pub fn node_after(
-        &self,
-        is_current: bool,
-        done: usize,
-        inode: u32,
-        node: Option<NodeSummary>,
-    ) -> Result<Option<NodeSummary>, AllocError>
-        ensures laid { IfOk result (λ after. after ≡ node_laid (beyond self.now is_current done) inode node) }
-        ensures memory { OnErr result (enter_at inode (beyond self.now is_current done) ≡ true) }
-    {
-        if is_current {
-            return node_after(self.alloc, records_from(&self.current, done), inode, node);
-        }
-        let before = node_after(self.alloc, records_from(&self.away, done), inode, node)?;
-        node_after(self.alloc, &self.current, inode, before)
-    }
-
-    /// Lays the records behind a mark over a run of blocks of a file from a first one on, as `node_after` does over a node. It takes no memory.
+    /// Lays the records behind a mark over a run of blocks of a file from a first one on: whether that is in the generation of the region that is written, or in the one before, and how many records of that
+    /// one are digested. It takes no memory.
     pub fn lay_over(
         &self,
         is_current: bool,

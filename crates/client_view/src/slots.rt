@@ -1,7 +1,8 @@
 // The copies of a client, by their inodes.
-ghost use Rattle.std.specs.Prelude.{◌≡◌, ◌==◌, ◌&&◌, ℕ, Some, None, IfOk, length, if◌then◌else◌, option_map, unwrap_or};
+ghost use Rattle.std.specs.Prelude.{◌≡◌, ◌==◌, ◌&&◌, ℕ, false, Some, None, IfOk, length, if◌then◌else◌, option_map, unwrap_or};
 ghost use Rattle.std.specs.List.{list_any};
-ghost use Rattle.world_invariant.specs.call_effects.Knowledge.{same_kind, lists_as};
+ghost use Rattle.client_plan.specs.file_graph.declared.effect.Kind.TheVariants as kinds;
+ghost use Rattle.world_invariant.specs.call_effects.Knowledge.{same_kind, lists_as, is_dir_by};
 ghost use Rattle.client_view.specs.KnowledgeTables.{copy_at, size_known, is_listed_in};
 
 use client_plan::{Kind, MAX_INODE, PlainEntry};
@@ -10,6 +11,13 @@ use std::alloc::{AllocError, Global};
 
 /// What is known to stand at an inode; `None` where nothing is known, `Some(None)` where nothing stands there.
 pub type Slot = Option<Option<NodeSummary>>;
+
+// The kinds as which entries name an inode.
+#[derive(Clone, Copy)]
+struct NamedKinds {
+    directory: bool,
+    file: bool,
+}
 
 /// A slot for 0 and one for each inode, of which nothing is known.
 pub fn unknown_slots(alloc: Global) -> Result<Vec<Slot>, AllocError>
@@ -54,36 +62,76 @@ pub fn size_at(slots: &[Slot], inode: u32) -> Option<u64>
     }
 }
 
-/// Whether an entry of a copy names an inode as of a kind.
-pub fn is_listed(slots: &[Slot], inode: u32, kind: Kind) -> bool
-    ensures { result ≡ is_listed_in slots.now inode kind }
+/// Whether an inode without a copy is a directory, by the kinds that entries of copies tell: it is where one tells a directory, and else is none where one
+/// tells a file. Each copy is looked at once.
+pub fn child_is_dir(slots: &[Slot], inode: u32) -> Option<Option<bool>>
+    ensures { result ≡ is_dir_by None (is_listed_in slots.now inode kinds.Directory) (is_listed_in slots.now inode kinds.File) }
 {
+    let mut is_file = false;
     for before in 0..MAX_INODE {
-        if directory_lists(slots, before + 1, inode, kind) {
-            return true;
+        let told = kinds_in(slots, before + 1, inode);
+        if told.directory {
+            return Some(Some(true));
         }
+        is_file |= told.file;
     }
-    false
+    if is_file {
+        return Some(Some(false));
+    }
+    None
 }
 
-// Whether an entry of a directory that there is a copy of names an inode as of a kind.
-fn directory_lists(slots: &[Slot], dir: u32, inode: u32, kind: Kind) -> bool
-    ensures { result ≡ lists_as inode kind (unwrap_or (copy_at slots.now dir) None) }
+// The kinds as which the entries of a directory that there is a copy of name an inode.
+fn kinds_in(slots: &[Slot], dir: u32, inode: u32) -> NamedKinds
+    ensures directory { result.directory ≡ lists_as inode kinds.Directory (unwrap_or (copy_at slots.now dir) None) }
+    ensures file { result.file ≡ lists_as inode kinds.File (unwrap_or (copy_at slots.now dir) None) }
 {
     match slot_at(slots, dir) {
-        Some(Some(copy)) => copy_lists(copy, inode, kind),
-        _ => false,
+        Some(Some(copy)) => copy_kinds(copy, inode),
+        _ => no_kinds(),
     }
 }
 
-fn copy_lists(copy: &NodeSummary, inode: u32, kind: Kind) -> bool
-    ensures { result ≡ lists_as inode kind (Some copy.now) }
+fn copy_kinds(copy: &NodeSummary, inode: u32) -> NamedKinds
+    ensures directory { result.directory ≡ lists_as inode kinds.Directory (Some copy.now) }
+    ensures file { result.file ≡ lists_as inode kinds.File (Some copy.now) }
 {
-    any_names(copy.entries(), inode, kind)
+    entry_kinds(copy.entries(), inode)
+}
+
+// The kinds as which some entries name an inode: they are looked at only where one names it at all.
+fn entry_kinds(entries: &[PlainEntry], inode: u32) -> NamedKinds
+    ensures directory { result.directory ≡ list_any (λ e. e.value.0 == inode && same_kind e.value.1 kinds.Directory) entries.now }
+    ensures file { result.file ≡ list_any (λ e. e.value.0 == inode && same_kind e.value.1 kinds.File) entries.now }
+{
+    if !any_names(entries, inode) {
+        return no_kinds();
+    }
+    NamedKinds {
+        directory: any_names_as(entries, inode, Kind::Directory),
+        file: any_names_as(entries, inode, Kind::File),
+    }
+}
+
+fn no_kinds() -> NamedKinds
+    ensures directory { result.directory ≡ false }
+    ensures file { result.file ≡ false }
+{
+    NamedKinds {
+        directory: false,
+        file: false,
+    }
+}
+
+// Whether an entry names an inode.
+fn any_names(entries: &[PlainEntry], inode: u32) -> bool
+    ensures { result ≡ list_any (λ e. e.value.0 == inode) entries.now }
+{
+    entries.iter().any(|entry| entry.value.inode() == inode)
 }
 
 // Whether an entry names an inode as of a kind.
-fn any_names(entries: &[PlainEntry], inode: u32, kind: Kind) -> bool
+fn any_names_as(entries: &[PlainEntry], inode: u32, kind: Kind) -> bool
     ensures { result ≡ list_any (λ e. e.value.0 == inode && same_kind e.value.1 kind) entries.now }
 {
     entries.iter().any(|entry| entry.value.inode() == inode && same_kind(entry.value.kind(), kind))

@@ -136,11 +136,7 @@ pub fn digest_chunk<M: Media>(
     // As many writes and fences as the change of the chunk makes; what is read is not counted.
     ensures at_most { MakesFewCalls area.old.geometry (disk M.Media area.old) (changes_of chunk.now.change) (M.moment area.old.media) (M.moment area.new.media) (M.left area.old.media) (M.left area.new.media) }
 {
-    match digest_next(alloc, area, sealed, chunk) {
-        Ok(done) => {
-            sealed.set_done(done);
-            Ok(())
-        }
-        Err(error) => Err(error),
-    }
+    let done = digest_next(alloc, area, sealed, chunk)?;
+    sealed.set_done(done);
+    Ok(())
 }

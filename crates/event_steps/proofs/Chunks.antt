@@ -1,9 +1,8 @@
 -- One chunk of a region that is away.
-use Rattle.std.proofs.Common.{◌≡◌, ◌≢◌, ◌↔◌, inl, inr, ℕ, ◌<◌, ◌≤◌, Bool, true, false, List, length, take, drop, Option, Some, None, refl, ap, sym, ◌∙◌, subst, arith, length-drop}
+use Rattle.std.proofs.Common.{◌≡◌, ◌≢◌, ◌↔◌, inl, inr, ℕ, ◌≤◌, Bool, true, false, List, length, take, drop, Option, Some, None, refl, ap, sym, ◌∙◌, subst, arith, length-drop}
 use Rattle.std.specs.Prelude.{Result, Ok, Err, IsErrOf, ◌==◌, ◌&&◌}
 use Rattle.std.proofs.lemmas.Bool.{and_parts, eq-eqb, eqb-true, false≢true}
 use Rattle.libfs.specs.tier_device.declared.media.Media.{Ghosts}
-use Rattle.libfs.specs.tier_device.declared.media.Tier.{Tier}
 use Rattle.libfs.specs.tier_device.declared.media.Tier.TheVariants.{Fast}
 use Rattle.libfs.specs.log_record.declared.format.Record.{Record}
 use Rattle.libfs.specs.update_log.RecordCounts.{next_generation}

@@ -5,7 +5,6 @@ use Rattle.std.proofs.lemmas.Bool.{false≢true}
 use Rattle.atomic_table.specs.Seated.{TableId}
 use Rattle.libfs.specs.log_record.declared.format.Record.{Record}
 use Rattle.libfs.specs.tier_device.declared.media.Media.{Ghosts}
-use Rattle.libfs.specs.tier_device.declared.media.Tier.{Tier}
 use Rattle.libfs.specs.posix_calls.declared.call.Call.{Call}
 use Rattle.libfs.specs.posix_calls.declared.call.Reply.{Reply}
 use Rattle.libfs.specs.update_log.declared.stage.Progress.{Progress}

@@ -1,7 +1,6 @@
 -- What an event makes of a client's call.
 use Rattle.std.specs.Prelude.{◌≡◌, ◌⊎◌, ℕ, List, true, false, Option, IfSome, is_some}
 use Rattle.libfs.specs.tier_device.declared.media.Media.{Ghosts}
-use Rattle.libfs.specs.tier_device.declared.media.Tier.{Tier}
 use Rattle.libfs.specs.posix_calls.declared.call.Call.{Call}
 use Rattle.libfs.specs.posix_calls.declared.call.Reply.{Reply}
 use Rattle.libfs.specs.posix_calls.declared.call.Reply.TheVariants as replies
@@ -15,7 +14,7 @@ use Rattle.libfs.specs.Denial.{errno_of}
 use Rattle.libfs.specs.ClientHoldings.{outcome_for}
 use Rattle.libfs.specs.CallStart.{HasStarted, IsOutOfMemory}
 use Rattle.libfs.specs.CallStep.{HasFailed, HasReplied, IsGoing, call_answer}
-use Rattle.libfs.specs.View.{ClientView}
+use Rattle.libfs.specs.View.{ClientView, pass_answered}
 use Rattle.libfs.specs.declared.denial.Denied.{Denied}
 use Rattle.libfs.specs.declared.now.Now.{Now}
 use Rattle.libfs.specs.declared.now.Now.TheVariants as now
@@ -28,7 +27,7 @@ use Rattle.event_steps.specs.View.{SeatView}
 pub record IsStarted {M : Type 0} (device : Ghosts M) (old : SeatView M) (call : Call) (o : Outcome) (new : SeatView M) : Type 0 where
   pub answer : Now
   pub told : o ≡ start_outcome answer
-  pub failed : old.client.log.failed ≡ true → (answer ≡ now.Done (replies.Failed IoError)) × (new.client ≡ old.client)
+  pub failed : old.client.log.failed ≡ true → (answer ≡ now.Done (replies.Failed IoError)) × (new.client ≡ record old.client { pass = pass_answered old.client.pass })
   pub started : old.client.log.failed ≡ false → HasStarted device old.client (outcome_for device old.client call) answer new.client ⊎ IsOutOfMemory device old.client call answer new.client
   pub rest : new ≡ record old { client = new.client; refused = refused_then o old.refused }
 
@@ -53,4 +52,4 @@ pub record IsStepped {M : Type 0} (device : Ghosts M) (old : SeatView M) (o : Ou
 -- The call was given up for what the kernel refused.
 pub record IsDenied {M : Type 0} (old : SeatView M) (why : Denied) (o : Outcome) (new : SeatView M) : Type 0 where
   pub told : o ≡ outcomes.Reply (replies.Failed (errno_of why))
-  pub rest : new ≡ record old { refused = refused_then o old.refused }
+  pub rest : new ≡ record old { client = record old.client { pass = pass_answered old.client.pass }; refused = refused_then o old.refused }

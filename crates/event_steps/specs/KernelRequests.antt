@@ -1,7 +1,8 @@
 -- What an event makes of client and kernel in which the client asks the kernel.
-use Rattle.std.specs.Prelude.{◌≡◌, ◌⊎◌, ◌<◌, ◌≤◌, ◌+◌, ◌^◌, ℕ, List, true, false, None, Result, Ok, Err, OnOk, OnErr, IfErr, IsErrOf, is_some}
+use Rattle.std.specs.Prelude.{◌≡◌, ◌⊎◌, ◌<◌, ◌≤◌, ◌+◌, ◌^◌, ℕ, true, false, None, Result, Ok, Err, OnOk, OnErr, IfErr, IsErrOf, is_some}
 use Rattle.libfs.specs.tier_device.declared.media.Media.{Ghosts}
-use Rattle.libfs.specs.tier_device.declared.media.Tier.{Tier}
+use Rattle.libfs.specs.area_image.Map.{WantsMemory}
+use Rattle.libfs.specs.area_image.Store.{disk}
 use Rattle.libfs.specs.file_graph.Units.{charge}
 use Rattle.libfs.specs.kernel_fs.Book.{out_of, is_free}
 use Rattle.libfs.specs.kernel_fs.Free.{count_of}
@@ -10,6 +11,7 @@ use Rattle.libfs.specs.kernel_fs.KernelView.{KernelView}
 use Rattle.libfs.specs.kernel_fs.MachineState.{IsKernelOf}
 use Rattle.libfs.specs.lease_manager.Passes.{client_of}
 use Rattle.libfs.specs.world_invariant.Machine.{Machine, book_pin, unbook_pin}
+use Rattle.libfs.specs.ClientHoldings.{known_to}
 use Rattle.libfs.specs.NeedService.{HasFetched, HasFetchedBlocks, HasThem, HasGivenBack, HasLooked, HasRefilled, with_pin, shared_by, without_pin}
 use Rattle.libfs.specs.declared.denial.Denied.{Denied}
 use Rattle.libfs.specs.declared.denial.Denied.TheVariants as denied
@@ -33,21 +35,23 @@ pub record HasNoneMeanwhile {M : Type 0} (k : KernelView M) (old : SeatView M) (
 abbrev pub IsOfDevice : Denied → Type 0
 IsOfDevice e = (e ≡ denied.KernelFailed) ⊎ (e ≡ denied.Device) ⊎ (e ≡ denied.Memory)
 
--- A copy was fetched.
-pub record GetsCopy {M : Type 0} (device : Ghosts M) (k : KernelView M) (old : SeatView M) (i : ℕ) (o : Outcome) (new : SeatView M) (after : KernelView M) : Type 0 where
+-- A copy that was there stays, and the kernel reads nothing; else the client gets one, or is told why not.
+pub record AnswersFetch {M : Type 0} (device : Ghosts M) (k : KernelView M) (old : SeatView M) (i : ℕ) (o : Outcome) (new : SeatView M) (after : KernelView M) : Type 0 where
   pub idle : old.client.begun ≡ None
   pub answer : Result (Unit {0}) Denied
   pub asks : HasAsked old answer o new
   pub fetched : OnOk answer (HasFetched device device k old.client i new.client)
+  pub there : k.area.failed ≡ false → is_some ((known_to old.client).copies i) ≡ true → (answer ≡ Ok tt) × (new.client ≡ old.client) × (after ≡ k)
   pub refused : OnErr answer (new.client ≡ old.client)
   pub failed : k.area.failed ≡ true → answer ≡ Err denied.KernelFailed
   pub untouched : k.area.failed ≡ true → after ≡ k
   pub only : IfErr answer IsOfDevice
+  pub memory : IsErrOf answer denied.Memory → ((known_to old.client).copies i ≡ None) × WantsMemory k.area.geometry (disk device k.area) i
   pub going : IsErrOf answer denied.KernelFailed → k.area.failed ≡ true
   pub kernel : HasLooked device k after answer
 
 abbrev pub IsFetched : {M : Type 0} → Ghosts M → KernelView M → SeatView M → ℕ → Outcome → SeatView M → KernelView M → Type 0
-IsFetched device k old i o new after = HasNoneMeanwhile k old o new after ⊎ GetsCopy device k old i o new after
+IsFetched device k old i o new after = HasNoneMeanwhile k old o new after ⊎ AnswersFetch device k old i o new after
 
 -- Blocks of a file were fetched: where it was refused, those before stay that had come.
 pub record GetsBlocks {M : Type 0} (device : Ghosts M) (k : KernelView M) (old : SeatView M) (i first count : ℕ) (o : Outcome) (new : SeatView M) (after : KernelView M) : Type 0 where

@@ -1,12 +1,11 @@
 -- What an event makes of the shared media that is of no client.
-use Rattle.std.specs.Prelude.{◌≡◌, ◌⊎◌, ◌≤◌, ◌+◌, ℕ, List, [], ◌∷◌, true, false, Result, Ok, Err, OnOk, IfErr, IsErrOf}
+use Rattle.std.specs.Prelude.{◌≡◌, ◌≤◌, ◌+◌, ℕ, [], ◌∷◌, true, false, Result, Ok, Err, OnOk, IfErr, IsErrOf}
 use Rattle.libfs.specs.tier_device.declared.media.Media.{Ghosts}
 use Rattle.libfs.specs.tier_device.declared.media.Tier.{Tier}
 use Rattle.libfs.specs.file_graph.declared.effect.Effect.TheVariants as effect
 use Rattle.libfs.specs.graph_change.Change.{coalesced_changes}
 use Rattle.libfs.specs.shared_area.ChangeApply.{MakesFewCalls}
 use Rattle.libfs.specs.relocation.MovableFile.{HasFileRun}
-use Rattle.libfs.specs.area_image.Map.{WantsMemory}
 use Rattle.libfs.specs.area_image.Refusals.{IsMoveRefusal}
 use Rattle.libfs.specs.area_image.batch_journal.Course.{Unmoved}
 use Rattle.libfs.specs.shared_area.TierMoves.{HasTooFew, HasEnough, StaysOpen, MovesOrStays}
@@ -51,7 +50,7 @@ pub record IsReclaimedIn {M : Type 0} (device : Ghosts M) (k : KernelView M) (i 
   pub untouched : (IsUnused (graph k.area.geometry (disk device k.area)) k.book i → ⊥) → Unmoved (device.moment k.area.media) (device.moment after.area.media) (device.seen k.area.media) (device.seen after.area.media) (device.left k.area.media) (device.left after.area.media)
   -- a pin is reported before any device is asked
   pub pinned : k.area.failed ≡ false → is_pinned k.book i ≡ true → IsErrOf answer (kernel.Refused reclaims.InUse) × (after ≡ k)
-  pub memory : IsErrOf answer (kernel.Refused reclaims.Memory) → WantsMemory k.area.geometry (disk device k.area) i ⊎ IsNameless (graph k.area.geometry (disk device k.area) i)
+  pub memory : IsErrOf answer (kernel.Refused reclaims.Memory) → IsNameless (graph k.area.geometry (disk device k.area) i)
   pub book : after.book ≡ k.book
   pub opening : after.opening ≡ k.opening
   pub answers : Answers k.area.failed k after answer (ReclaimsOrStays device k.area after.area)

@@ -1,7 +1,6 @@
 -- What an event makes of a client's regions.
-use Rattle.std.specs.Prelude.{◌≡◌, ◌≢◌, ◌⊎◌, ◌==◌, ◌≤◌, ◌+◌, ℕ, Bool, List, true, false, length, take, Option, Some, None, Result, Ok, Err, IfErr, IfOk, IsErrOf}
+use Rattle.std.specs.Prelude.{◌≡◌, ◌≢◌, ◌⊎◌, ◌==◌, ◌≤◌, ◌+◌, ℕ, Bool, true, false, length, take, Option, Some, None, Result, Ok, Err, IfErr, IfOk, IsErrOf}
 use Rattle.libfs.specs.tier_device.declared.media.Media.{Ghosts}
-use Rattle.libfs.specs.tier_device.declared.media.Tier.{Tier}
 use Rattle.libfs.specs.tier_device.Media.{Rose}
 use Rattle.libfs.specs.update_log.View.{RegionView, records_of}
 use Rattle.libfs.specs.update_log.declared.stage.WipeProgress.{WipeProgress}

@@ -1,10 +1,10 @@
 -- What a stop between two events leaves of the regions of one client.
-use Rattle.std.specs.Prelude.{◌≡◌, ℕ, List, Option, Some, None, IfSome, is_some}
+use Rattle.std.specs.Prelude.{◌≡◌, ℕ, List, None, IfSome, is_some}
 use Rattle.libfs.specs.tier_device.declared.media.Media.{Ghosts}
-use Rattle.libfs.specs.tier_device.declared.media.Tier.{Tier}
 use Rattle.libfs.specs.tier_device.declared.media.Tier.TheVariants.{Fast}
 use Rattle.libfs.specs.update_log.Frames.{records}
 use Rattle.libfs.specs.update_log.RecordCounts.{next_generation}
+use Rattle.libfs.specs.update_log.Stage.{IsUnopened}
 use Rattle.libfs.specs.update_log.View.{records_of}
 use Rattle.libfs.specs.update_log.WipeStops.{generation}
 use Rattle.libfs.specs.client_log.Counts.{AreLeft, CountOf}
@@ -28,3 +28,5 @@ pub record SeatLeaves {M : Type 0} (device : Ghosts M) (s : SeatView M) : Type 0
   pub beside : IfSome s.client.log.other (CountsNothing device (next_generation s.client.log.generation))
   -- of those that are here the client's records count, with the begun one or without
   pub counts : (regions : ℕ → List ℕ) → AreLeft device s.client.log s.client.log regions → CountOf s.client.log.generation (is_some s.client.log.other) (current_records device s.client.log) s.client.log.current.begun regions
+  -- until the call that opens its gate, the begun one does not
+  pub unopened : IsUnopened s.client.log.current.stage → (regions : ℕ → List ℕ) → AreLeft device s.client.log s.client.log regions → CountOf s.client.log.generation (is_some s.client.log.other) (current_records device s.client.log) None regions

@@ -1,7 +1,6 @@
 -- When an event has something to do.
-use Rattle.std.specs.Prelude.{◌≡◌, ◌≢◌, ◌⊎◌, ℕ, Bool, List, true, false, Option, Some, None, is_some, IfSome}
+use Rattle.std.specs.Prelude.{◌≡◌, ◌≢◌, ◌⊎◌, ℕ, Bool, true, false, Option, Some, None, is_some, IfSome}
 use Rattle.libfs.specs.tier_device.declared.media.Media.{Ghosts}
-use Rattle.libfs.specs.tier_device.declared.media.Tier.{Tier}
 use Rattle.libfs.specs.posix_calls.Tree.{has_open}
 use Rattle.libfs.specs.file_graph.Graph.{is_among}
 use Rattle.libfs.specs.client_log.Steps.{CanBeSealed}

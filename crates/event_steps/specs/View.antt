@@ -1,7 +1,6 @@
 -- A running system, as its callers see it.
 use Rattle.std.specs.Prelude.{◌≡◌, ℕ, ◌-◌, ◌++◌, List, length, Option, Some, None, slice_get}
 use Rattle.libfs.specs.tier_device.declared.media.Media.{Ghosts}
-use Rattle.libfs.specs.tier_device.declared.media.Tier.{Tier}
 use Rattle.libfs.specs.client_log.View.{current_records}
 use Rattle.libfs.specs.kernel_fs.KernelView.{KernelView}
 use Rattle.libfs.specs.SealedRegion.{SealedRegionView}

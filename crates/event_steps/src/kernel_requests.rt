@@ -16,9 +16,10 @@ use crate::refusals::Refusals;
 use libfs::{Denied, Kernel, LeaseMode, Media, is_inode};
 
 impl<M: Media> ClientSlot<M> {
-    /// Fetches a copy of what stands at an inode. `Idle`, with nothing changed, if the client holds no lease of the inode.
-    /// `Stepped`, with nothing changed, while a record is begun: its call has all that it needs. Refused with the copies as
-    /// they were: a device of the kernel failed before or fails now, or memory is wanting.
+    /// Fetches a copy of what stands at an inode, where the client has none; one that it has stays, and the kernel reads
+    /// nothing. `Idle`, with nothing changed, if it holds no lease of the inode. `Stepped`, with nothing changed, while a
+    /// record is begun: its call has all that it needs. Refused with the copies as they were: a device of the kernel
+    /// failed before; or, where it has no copy, one fails now, or memory is wanting for an extent block or an entry.
     pub fn fetch(&mut self, kernel: &mut Kernel<M>, inode: u32) -> Outcome
         ensures carries { Carries (IsHeld self.old.client inode) (IsFetched M.Media kernel.old self.old inode result self.new kernel.new) ((self.new ≡ self.old) × (kernel.new ≡ kernel.old)) result }
         ensures owner { owner_of self.new.client ≡ owner_of self.old.client }

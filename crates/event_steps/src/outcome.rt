@@ -12,7 +12,7 @@ pub enum Refusal {
     NoBlock,
     /// The word of the lease showed another client.
     Busy,
-    /// A record of the region can't be digested.
+    /// A record of the region can't be digested; or the kernel doesn't accept the region; or a chunk of it is not the next one, or is of a region that is not accepted.
     BadLog,
     /// There is no such run of a file above the tier.
     NotMapped,

@@ -120,13 +120,9 @@ impl Mirrored {
         ensures kept { OnOk result ((t : Tier) → pending_in self.new.pending t ≡ false) }
         ensures failed { self.new.host.failed ≡ not (is_ok result) }
     {
-        match self.host.sync() {
-            Ok(()) => {
-                self.pending = Pending::none();
-                Ok(())
-            }
-            Err(error) => Err(error),
-        }
+        self.host.sync()?;
+        self.pending = Pending::none();
+        Ok(())
     }
 }
 

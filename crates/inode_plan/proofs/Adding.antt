@@ -1,5 +1,5 @@
 -- One block more behind the bytes of others.
-use Rattle.std.proofs.Common.{◌≡◌, ◌<◌, ◌≤◌, ◌+◌, ◌*◌, ◌∙◌, ◌⊎◌, ℕ, Bool, true, List, [], ◌++◌, length, take, drop, get_or, Option, Some, None, arith, inl, inr, sym, ap, subst, refl}
+use Rattle.std.proofs.Common.{◌≡◌, ◌<◌, ◌≤◌, ◌+◌, ◌-◌, ◌*◌, ◌∙◌, ◌⊎◌, ℕ, Bool, true, List, [], ◌++◌, length, take, drop, get_or, Option, Some, None, arith, inl, inr, sym, ap, subst, refl}
 use Rattle.std.specs.Prelude.{option_map, unwrap_or, replicate}
 use Rattle.std.specs.BTreeMap.{BTreeMap, get}
 use Rattle.std.specs.Ordering.{nat_cmp}
@@ -69,6 +69,10 @@ made_of_put len patch put k old block same each p lt =
 -- a block that is as long as the buffer that it is made in
 pub made_long : (len : Length) (put : Patch) (k : ℕ) (buffer block : List ℕ) → block ≡ block_after len put k buffer → length block ≡ 4096
 made_long len put k buffer block is = ap length is ∙ after_is_a_block len put k buffer
+
+-- where the zeros stand that are put behind other bytes
+pub zeros_begin : (size : ℕ) (old zeros : List ℕ) → zeros ≡ old ++ replicate size 0 → length zeros - size ≡ length old
+zeros_begin size old zeros is = omega (arith, ap length is, length-append old (replicate size 0), length-replicate {A = ℕ} size 0)
 
 -- a block that is made where zeros stood behind other bytes
 module _ (at size : ℕ) (old zeros new : List ℕ) (here : at ≡ length old) (is : zeros ≡ old ++ replicate size 0) (front : take at new ≡ take at zeros) where

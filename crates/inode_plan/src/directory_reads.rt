@@ -72,6 +72,7 @@ fn push_node<M: Media>(
     ensures looks { Looks M.Media journal.old journal.new result }
 {
     let bytes = read_node(journal, block)?;
+    // No `?`: a refused `push` gives its block back, and so is no `AllocError`.
     match held.push(bytes) {
         Ok(()) => Ok(()),
         Err(_) => Err(AreaError::Memory),

@@ -104,14 +104,8 @@ pub fn read_directory<M: Media>(
     ensures looks { Looks M.Media journal.old journal.new result }
 {
     let geometry = journal.geometry();
-    match directory_blocks(alloc, &geometry, parts) {
-        Ok(blocks) => match read_root(journal, blocks.root) {
-            Ok(list) => match read_places(alloc, journal, &blocks.places) {
-                Ok(held) => Ok(directory_of(alloc, inode, &parts.slot, blocks, list, held)),
-                Err(error) => Err(error),
-            },
-            Err(error) => Err(error),
-        },
-        Err(_) => Err(AreaError::Memory),
-    }
+    let blocks = directory_blocks(alloc, &geometry, parts)?;
+    let list = read_root(journal, blocks.root)?;
+    let held = read_places(alloc, journal, &blocks.places)?;
+    Ok(directory_of(alloc, inode, &parts.slot, blocks, list, held))
 }

@@ -1,5 +1,5 @@
 // The bytes that the written blocks of a file get.
-ghost use Rattle.std.specs.Prelude.{◌≡◌, ◌⊎◌, ◌++◌, ◌*◌, ◌+◌, ◌<◌, ◌≤◌, ◌^◌, ℕ, List, length, take, drop, replicate, true, false, OnOk, OnErr, IfErr, IfSome, option_map};
+ghost use Rattle.std.specs.Prelude.{◌≡◌, ◌⊎◌, ◌++◌, ◌*◌, ◌+◌, ◌-◌, ◌<◌, ◌≤◌, ◌^◌, ℕ, List, length, take, drop, replicate, true, false, OnOk, OnErr, IfErr, IfSome, option_map};
 ghost use Rattle.area_commit.specs.layout.declared.places.TheConstants.{BLOCK};
 ghost use Rattle.area_commit.specs.area_image.Store.{disk, logical_block};
 ghost use Rattle.area_commit.specs.area_image.Checks.{HasFound, IsOnce};
@@ -38,10 +38,7 @@ fn read_logical<M: Media>(
     match first_place(found, number) {
         Some((tier, place)) => {
             let block = block_number(&geometry, tier, place);
-            match read_block(journal, tier, block, out) {
-                Ok(()) => Ok(()),
-                Err(error) => Err(error),
-            }
+            read_block(journal, tier, block, out)
         }
         None => {
             clear(out);
@@ -118,13 +115,9 @@ fn change_into<M: Media>(
         change_block(block, number, change.length, put);
         return Ok(());
     }
-    match read_started(journal, inode, found, number, block) {
-        Ok(()) => {
-            change_block(block, number, change.length, put);
-            Ok(())
-        }
-        Err(error) => Err(error),
-    }
+    read_started(journal, inode, found, number, block)?;
+    change_block(block, number, change.length, put);
+    Ok(())
 }
 
 // So many zero bytes more.
@@ -136,7 +129,7 @@ fn add_zeros(out: &mut Vec<u8>, size: usize) -> Result<(), AllocError>
     out.resize(out.len() + size, 0)
 }
 
-// Makes of the last block the one of a number, where it stands; what is before it stays.
+// Makes of the last block, which ends the bytes, the one of a number; what is before it stays.
 fn change_last<M: Media>(
     journal: &mut Journal<M>,
     inode: u32,
@@ -144,18 +137,18 @@ fn change_last<M: Media>(
     change: &NodeChange,
     number: u64,
     out: &mut Vec<u8>,
-    at: usize,
 ) -> Result<(), AreaError>
-    requires long { length out.old.items ≡ at + BLOCK }
+    requires long { BLOCK ≤ length out.old.items }
     requires found { IfSome found (λ x. HasFound journal.old.geometry (disk M.Media journal.old) inode x.now) }
     requires once { IsOnce journal.old.geometry (disk M.Media journal.old) inode }
     requires going { journal.old.failed ≡ false }
-    ensures front { take at out.new.items ≡ take at out.old.items }
+    ensures front { take (length out.old.items - BLOCK) out.new.items ≡ take (length out.old.items - BLOCK) out.old.items }
     ensures long { length out.new.items ≡ length out.old.items }
-    ensures made { OnOk result (IsBlockAfter (change_of change.now) (blocks_from found.entry (logical_block journal.old.geometry (disk M.Media journal.old) inode)) number (drop at out.new.items)) }
+    ensures made { OnOk result (IsBlockAfter (change_of change.now) (blocks_from found.entry (logical_block journal.old.geometry (disk M.Media journal.old) inode)) number (drop (length out.old.items - BLOCK) out.new.items)) }
     ensures only { IfErr result (λ e. e ≡ DeviceFault) }
     ensures looks { Looks M.Media journal.old journal.new result }
 {
+    let at = out.len() - BLOCK;
     change_into(journal, inode, found, change, number, &mut out[at..])
 }
 
@@ -176,15 +169,8 @@ fn push_block<M: Media>(
     ensures only { IfErr result (λ e. (e ≡ DeviceFault) ⊎ (e ≡ Memory)) }
     ensures looks { Looks M.Media journal.old journal.new result }
 {
-    let at = out.len();
-    let size = BLOCK;
-    match add_zeros(out, size) {
-        Ok(()) => match change_last(journal, inode, found, change, number, out, at) {
-            Ok(()) => Ok(()),
-            Err(error) => Err(error),
-        },
-        Err(_) => Err(AreaError::Memory),
-    }
+    add_zeros(out, BLOCK)?;
+    change_last(journal, inode, found, change, number, out)
 }
 
 // The bytes of a block that a change puts whole.
@@ -219,10 +205,10 @@ fn add_block<M: Media>(
     ensures looks { Looks M.Media journal.old journal.new result }
 {
     match whole_block(change, number) {
-        Some(bytes) => match out.extend_from_slice(bytes) {
-            Ok(()) => Ok(()),
-            Err(_) => Err(AreaError::Memory),
-        },
+        Some(bytes) => {
+            out.extend_from_slice(bytes)?;
+            Ok(())
+        }
         None => push_block(journal, inode, found, change, number, out),
     }
 }
@@ -246,10 +232,7 @@ fn push_blocks<M: Media>(
     ensures looks { Looks M.Media journal.old journal.new result }
 {
     'each: for index in 0..numbers.len() {
-        match add_block(journal, inode, found, change, numbers[index], out) {
-            Ok(()) => {}
-            Err(error) => return Err(error),
-        }
+        add_block(journal, inode, found, change, numbers[index], out)?;
     }
     Ok(())
 }
@@ -287,8 +270,6 @@ pub fn read_changed<M: Media>(
     ensures memory { IfErr result (λ e. e ≡ Memory → 0 < length numbers.now) }
     ensures looks { Looks M.Media journal.old journal.new result }
 {
-    match make_room(out, numbers.len()) {
-        Ok(()) => push_blocks(journal, inode, found, change, numbers, out),
-        Err(_) => Err(AreaError::Memory),
-    }
+    make_room(out, numbers.len())?;
+    push_blocks(journal, inode, found, change, numbers, out)
 }

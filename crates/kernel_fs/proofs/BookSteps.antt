@@ -1,15 +1,12 @@
 -- The book changes, and the media stay.
-use Rattle.std.proofs.Common.{◌≡◌, ℕ, ◌≤◌, List, true, refl, sym, ◌∙◌, subst}
+use Rattle.std.proofs.Common.{◌≡◌, ℕ, ◌≤◌, refl, sym, ◌∙◌, subst}
 use Rattle.digester.specs.tier_device.declared.media.Media.{Ghosts}
-use Rattle.digester.specs.tier_device.declared.media.Tier.{Tier}
-use Rattle.digester.specs.posix_calls.Operations.{is_client}
 use Rattle.digester.specs.batch_journal.View.{JournalView}
-use Rattle.digester.specs.area_image.Store.{store_of}
 use Rattle.world_invariant.specs.World.{Account, at}
 use Rattle.world_invariant.specs.Machine.{Machine, with_account}
 use Rattle.world_invariant.proofs.Kernels.{each}
 use Rattle.kernel_fs.specs.Book.{Accounts, IsBookOf}
-use Rattle.kernel_fs.specs.Marks.{AreMarksOf, IsMarkOf}
+use Rattle.kernel_fs.specs.Marks.{AreMarksOf}
 use Rattle.kernel_fs.specs.KernelView.{KernelView}
 use Rattle.kernel_fs.specs.MachineState.{IsKernelOf, done_in, StandFor}
 

@@ -1,13 +1,12 @@
 -- A chunk is digested: what becomes of the graph, its charge and its nodes, and that no record is bad.
-use Rattle.std.proofs.Common.{◌≡◌, ◌≢◌, inl, inr, ℕ, zero, suc, ◌+◌, ◌≤◌, ◌==◌, List, [], ◌∷◌, take, Bool, true, false, cond, Option, Some, None, refl, ap, sym, ◌∙◌, subst, arith}
+use Rattle.std.proofs.Common.{◌≡◌, ℕ, zero, suc, ◌+◌, ◌≤◌, List, [], ◌∷◌, take, Bool, ap, sym, ◌∙◌, subst, arith}
 use Rattle.digester.specs.tier_device.declared.media.Media.{Ghosts}
-use Rattle.digester.specs.tier_device.declared.media.Tier.{Tier}
 use Rattle.digester.specs.file_graph.Graph.{Graph}
 use Rattle.digester.specs.file_graph.Units.{charge}
 use Rattle.digester.specs.layout.Places.{Sizes}
 use Rattle.digester.specs.log_record.declared.format.Record.{Record}
 use Rattle.digester.specs.batch_journal.View.{JournalView}
-use Rattle.digester.specs.area_image.Store.{Store, disk, graph}
+use Rattle.digester.specs.area_image.Store.{disk, graph}
 use Rattle.digester.specs.Plan.{AreGood, IsFirstBad}
 use Rattle.digester.specs.DigestStep.{IsDigested, NamesFirstBad}
 use Rattle.digester.specs.SealedLog.{SealedView, IsSealed, undone}
@@ -16,11 +15,10 @@ use Rattle.digester.specs.declared.error.DigestError.TheVariants as errors
 use Rattle.world_invariant.specs.Logs.{after_records, units_in, ArePaid}
 use Rattle.world_invariant.specs.Machine.{Machine, Sealed, IsRunning, StandsSealed}
 use Rattle.world_invariant.proofs.Paid.{charge_records}
-use Rattle.kernel_fs.specs.Book.{Accounts, IsBookOf}
+use Rattle.kernel_fs.specs.Book.{Accounts}
 use Rattle.kernel_fs.specs.Nodes.{AreNodes}
 use Rattle.kernel_fs.specs.RegionAccept.{IsRegionOf}
-use Rattle.kernel_fs.specs.KernelView.{KernelView}
-use Rattle.kernel_fs.specs.MachineState.{IsKernelOf, StandFor}
+use Rattle.kernel_fs.specs.MachineState.{StandFor}
 use Rattle.kernel_fs.proofs.SealedRecords.{effects_are, never}
 
 good_paid : (held : List ℕ) (capacity : ℕ) (rs : List Record) (g : Graph) → AreGood held capacity g rs → ArePaid g rs

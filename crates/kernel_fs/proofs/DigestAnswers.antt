@@ -1,9 +1,8 @@
 -- What a digest answers, by what was answered to it.
-use Rattle.std.proofs.Common.{◌≡◌, ◌≢◌, ◌≤◌, ◌+◌, ℕ, List, Bool, true, false, refl, sym, ap, ◌∙◌, arith}
+use Rattle.std.proofs.Common.{◌≡◌, false, refl, sym, ap, ◌∙◌, arith}
 use Rattle.std.specs.Prelude.{Result, Ok, Err}
 use Rattle.std.proofs.lemmas.Bool.{true≢false}
 use Rattle.digester.specs.tier_device.declared.media.Media.{Ghosts}
-use Rattle.digester.specs.tier_device.declared.media.Tier.{Tier}
 use Rattle.digester.specs.batch_journal.View.{JournalView}
 use Rattle.digester.specs.DigestStep.{DigestsOrStays}
 use Rattle.digester.specs.declared.error.DigestError.{DigestError}

@@ -1,29 +1,26 @@
 -- A sealed region is accepted, and a chunk of it digested: graph, marks and accounts go together.
-use Rattle.std.proofs.Common.{◌≡◌, ◌≢◌, inl, inr, ℕ, ◌+◌, ◌-◌, ◌<◌, ◌≤◌, ◌==◌, List, [], length, take, drop, Bool, true, cond, Option, Some, refl, ap, sym, ◌∙◌, subst, arith}
+use Rattle.std.proofs.Common.{◌≡◌, ◌≢◌, inl, inr, ℕ, ◌+◌, ◌-◌, ◌≤◌, List, length, take, drop, Bool, true, cond, Option, Some, ap, sym, ◌∙◌, arith}
 use Rattle.std.proofs.lemmas.Bool.Decides.{eqb_tells}
 use Rattle.std.proofs.lemmas.List.{length-drop, length-take-le, get_or-set_other}
 use Rattle.digester.specs.tier_device.declared.media.Media.{Ghosts}
-use Rattle.digester.specs.tier_device.declared.media.Tier.{Tier}
-use Rattle.digester.specs.posix_calls.Operations.{is_client}
 use Rattle.digester.specs.file_graph.Graph.{Graph, is_among}
 use Rattle.digester.specs.layout.declared.marks.Mark.{Mark}
 use Rattle.digester.specs.layout.declared.marks.Marks.{Marks}
 use Rattle.digester.specs.log_record.declared.format.Record.{Record}
 use Rattle.digester.specs.batch_journal.View.{JournalView}
-use Rattle.digester.specs.area_image.Store.{Store, disk, graph, marks}
+use Rattle.digester.specs.area_image.Store.{disk, graph, marks}
 use Rattle.digester.specs.DigestStep.{IsDigested}
-use Rattle.digester.specs.MarkMoves.{mark_of, mark_after, marks_after}
+use Rattle.digester.specs.MarkMoves.{mark_after, marks_after}
 use Rattle.digester.specs.update_log.RecordCounts.{next_generation}
 use Rattle.digester.specs.SealedLog.{SealedView, HasUndigested, IsSealed, StandsAt, StandsAtMark, done_to, undone, mark_then}
 use Rattle.world_invariant.specs.Logs.{after_records}
 use Rattle.world_invariant.specs.Machine.{Machine, Sealed, CanAccept, accept, digest}
 use Rattle.world_invariant.proofs.Owners.{is_low}
 use Rattle.kernel_fs.specs.Book.{Accounts, IsBookOf, waiting_of}
-use Rattle.kernel_fs.specs.Marks.{AreMarksAfter, AreMarksOf}
+use Rattle.kernel_fs.specs.Marks.{AreMarksAfter}
 use Rattle.kernel_fs.proofs.MarksGo.{accepted_marks, digested_marks}
 use Rattle.kernel_fs.specs.RegionAccept.{HasAsManyWaiting, IsRegionOf}
-use Rattle.kernel_fs.specs.KernelView.{KernelView}
-use Rattle.kernel_fs.specs.MachineState.{IsKernelOf, done_in, StandFor}
+use Rattle.kernel_fs.specs.MachineState.{done_in, StandFor}
 use Rattle.kernel_fs.proofs.SealedRecords.{effects_are}
 
 pub some_is : (o : Option Marks) (v w : Marks) → o ≡ Some v → o ≡ Some w → v ≡ w

@@ -1,8 +1,7 @@
 -- A file is dropped, and the machine that the kernel stands for.
-use Rattle.std.proofs.Common.{◌≡◌, ◌≢◌, inl, inr, ℕ, zero, suc, ◌+◌, ◌≤◌, ◌==◌, List, [], ◌∷◌, take, Bool, true, false, cond, Option, Some, None, refl, ap, sym, ◌∙◌, subst, arith}
+use Rattle.std.proofs.Common.{◌≡◌, inl, inr, ℕ, Bool, false, cond, None, ap, sym, ◌∙◌, subst}
 use Rattle.std.proofs.lemmas.Bool.Decides.{eqb_tells}
 use Rattle.digester.specs.tier_device.declared.media.Media.{Ghosts}
-use Rattle.digester.specs.tier_device.declared.media.Tier.{Tier}
 use Rattle.digester.specs.file_graph.Graph.{Graph, set_node}
 use Rattle.digester.specs.layout.Places.{Sizes}
 use Rattle.digester.specs.batch_journal.View.{JournalView}
@@ -11,11 +10,10 @@ use Rattle.world_invariant.specs.KernelSteps.{CanReclaim}
 use Rattle.world_invariant.specs.Logs.{IsNameless}
 use Rattle.world_invariant.specs.LeaseSteps.{without}
 use Rattle.world_invariant.specs.Machine.{Machine, reclaim}
-use Rattle.kernel_fs.specs.Book.{Accounts, IsBookOf}
+use Rattle.kernel_fs.specs.Book.{Accounts}
 use Rattle.kernel_fs.specs.Nodes.{AreNodes, is_node}
-use Rattle.kernel_fs.specs.KernelView.{KernelView}
 use Rattle.kernel_fs.specs.Reclaim.{IsReclaimed, IsUnused}
-use Rattle.kernel_fs.specs.MachineState.{IsKernelOf, StandFor}
+use Rattle.kernel_fs.specs.MachineState.{StandFor}
 use Rattle.kernel_fs.proofs.Machines.{pinned_not}
 
 module _ {M : Type 0} (device : Ghosts M) (old new : JournalView M) (i : ℕ) (same : new.geometry ≡ old.geometry) (gone : IsReclaimed old.geometry (disk device old) i (disk device new)) where

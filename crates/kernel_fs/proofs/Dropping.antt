@@ -1,25 +1,25 @@
 -- A change that drops one node, and what it makes of shared media.
-use Rattle.std.proofs.Common.{◌≡◌, ◌≢◌, ◌⊎◌, inl, inr, ℕ, ◌+◌, ◌*◌, ◌≤◌, ◌==◌, ◌||◌, ◌&&◌, List, [], ◌∷◌, length, Bool, true, false, cond, Option, Some, None, refl, ap, sym, ◌∙◌, subst, arith, rules}
-use Rattle.std.specs.List.{AllByRecursion, sum_by}
+use Rattle.std.proofs.Common.{◌≡◌, ◌≢◌, inl, inr, ℕ, ◌+◌, ◌*◌, ◌≤◌, ◌==◌, ◌||◌, ◌&&◌, List, [], ◌∷◌, length, Bool, true, false, cond, Option, Some, None, refl, ap, sym, ◌∙◌, subst, arith, rules}
+use Rattle.std.specs.List.{sum_by}
 use Rattle.std.specs.Prelude.{option_map}
 use Rattle.std.specs.FinMap as fin
-use Rattle.std.proofs.lemmas.Bool.{false≢true, true≢false, eq-eqb}
+use Rattle.std.proofs.lemmas.Bool.{false≢true, eq-eqb}
 use Rattle.std.proofs.lemmas.Bool.Decides.{eqb_tells, nat_tests}
 use Rattle.digester.specs.tier_device.declared.media.Tier.{Tier}
 use Rattle.digester.specs.tier_device.AfterStop.{Left}
 use Rattle.digester.specs.file_graph.declared.effect.Effect.TheVariants as effect
 use Rattle.digester.specs.file_graph.Graph.{Graph, Node, Body, FileBody, DirBody, set_node}
 use Rattle.digester.specs.file_graph.Units.{charge}
-use Rattle.digester.specs.graph_change.Change.{Change, Changes, Coalesces, changed_graph, coalesced_changes, change_at, writes_block}
+use Rattle.digester.specs.graph_change.Change.{Change, Changes, Coalesces, changed_graph, coalesced_changes}
 use Rattle.digester.specs.layout.declared.marks.Marks.{Marks}
 use Rattle.digester.specs.layout.Places.{Sizes, is_inode}
 use Rattle.digester.specs.log_record.Grammar.{IsInode}
 use Rattle.digester.specs.batch_journal.Course.{Unmoved}
-use Rattle.world_invariant.specs.call_effects.NodeView.{view_at, view_of_body, view_of_node}
+use Rattle.world_invariant.specs.call_effects.NodeView.{view_of_body, view_of_node}
 use Rattle.digester.specs.record_validation.Counts.{counts_of}
 use Rattle.digester.specs.record_validation.declared.node_counts.NodeCounts.{NodeCounts}
 use Rattle.digester.specs.record_validation.declared.node_counts.NodeCounts.TheVariants as counts
-use Rattle.digester.specs.area_image.Store.{Store, store_of, graph, inode, marks}
+use Rattle.digester.specs.area_image.Store.{Store, store_of, graph, marks}
 use Rattle.digester.specs.area_image.Reads.{Loose}
 use Rattle.digester.specs.shared_area.Ready.{OpensAs}
 use Rattle.digester.specs.shared_area.ChangeApply.{IsAppliedStore}

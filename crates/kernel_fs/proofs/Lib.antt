@@ -10,6 +10,7 @@ pub mod DigestAnswers
 pub mod Dropping
 pub mod Reclaimed
 pub mod DropSteps
+pub mod Generations
 pub mod Runs
 pub mod BookRuns
 pub mod Accounts
@@ -20,7 +21,6 @@ pub mod Rows
 pub mod Leading
 pub mod Members
 pub mod MarksGo
-pub mod SetGrants
 -- Passed on to the crates above, which so need not list those below.
 pub use Rattle.digester.proofs.area_image_lemmas
 pub use Rattle.digester.proofs as digester_lemmas

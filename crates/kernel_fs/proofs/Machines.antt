@@ -15,7 +15,7 @@ use Rattle.world_invariant.proofs.Owners.{is_low, is_high, client_is}
 use Rattle.world_invariant.proofs.Records.{either}
 use Rattle.kernel_fs.specs.Book.{Accounts, numbers_of, pins_of, units_of, out_of, is_free, is_granted, is_pinned, IsBookOf}
 use Rattle.kernel_fs.specs.Nodes.{AreNodes, is_node}
-use Rattle.kernel_fs.specs.Steps.{grant, opened_machine, take_back}
+use Rattle.kernel_fs.specs.Steps.{grant, take_back}
 use Rattle.kernel_fs.proofs.Choosing.{and_true, first_of, second_of, not_true}
 
 sum_alike : (n : ℕ) (f g : ℕ → ℕ) → ((j : ℕ) → 1 ≤ j → j ≤ n → f j ≡ g j) → sum_up_to n f ≡ sum_up_to n g

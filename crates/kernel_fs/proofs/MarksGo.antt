@@ -1,5 +1,5 @@
 -- The marks of the media beside those of the machine, step by step.
-use Rattle.std.proofs.Common.{◌≡◌, ◌≢◌, inl, inr, ℕ, ◌+◌, ◌-◌, ◌≤◌, ◌==◌, List, [], ◌∷◌, length, drop, Bool, true, cond, refl, ap, sym, ◌∙◌, subst, arith}
+use Rattle.std.proofs.Common.{◌≡◌, ◌≢◌, inl, inr, ℕ, ◌+◌, ◌-◌, ◌≤◌, List, [], ◌∷◌, length, drop, true, cond, refl, ap, sym, ◌∙◌, subst, arith}
 use Rattle.std.proofs.lemmas.Bool.{false≢true}
 use Rattle.std.proofs.lemmas.Bool.Decides.{eqb_tells}
 use Rattle.digester.specs.posix_calls.Tree.{sum_up_to}
@@ -28,7 +28,7 @@ opened_runs g capacity marks within fits =
       accepted = λ c is. omega arith;
     }
 
-none_in : {X : Type 0} (xs : List X) → length xs ≡ 0 → xs ≡ []
+pub none_in : {X : Type 0} (xs : List X) → length xs ≡ 0 → xs ≡ []
 none_in [] e = refl
 none_in (x ∷ xs) e = absurd (omega (arith, e))
 

@@ -1,7 +1,9 @@
 -- The media change, and the machine that the kernel stands for.
-use Rattle.std.proofs.Common.{◌≡◌, ◌≢◌, inl, inr, ℕ, zero, suc, ◌+◌, ◌≤◌, ◌==◌, List, [], ◌∷◌, take, Bool, true, false, cond, Option, Some, None, refl, ap, sym, ◌∙◌, subst, arith}
+use Rattle.std.proofs.Common.{◌≡◌, ℕ, Bool, true, Some, refl, ap, sym, ◌∙◌, subst, arith}
+use Rattle.std.specs.Prelude.{◌↔◌, IsTrue}
 use Rattle.digester.specs.tier_device.declared.media.Media.{Ghosts}
 use Rattle.digester.specs.tier_device.declared.media.Tier.{Tier}
+use Rattle.digester.specs.posix_calls.Operations.{is_client}
 use Rattle.digester.specs.file_graph.Graph.{Graph}
 use Rattle.digester.specs.layout.declared.marks.Marks.{Marks}
 use Rattle.digester.specs.layout.Places.{Sizes}
@@ -10,11 +12,10 @@ use Rattle.digester.proofs.batch_journal_lemmas.Courses.{tiers_same}
 use Rattle.digester.specs.area_image.Store.{Store, disk, store_of, graph, marks}
 use Rattle.world_invariant.specs.Machine.{Machine}
 use Rattle.kernel_fs.specs.Book.{Accounts, IsBookOf}
-use Rattle.kernel_fs.specs.Marks.{AreMarksOf}
 use Rattle.kernel_fs.specs.Nodes.{AreNodes}
 use Rattle.kernel_fs.specs.Steps.{opened_machine}
 use Rattle.kernel_fs.specs.KernelView.{KernelView}
-use Rattle.kernel_fs.specs.MachineState.{IsKernelOf, StandBeforeRegions, StandFor}
+use Rattle.kernel_fs.specs.MachineState.{IsKernelOf, StandBeforeRegions, StandFor, done_in}
 
 -- ---- opened
 
@@ -26,6 +27,13 @@ opened_kernel device area book v is empty m before = record {
   book = empty (graph area.geometry (disk device area)) area.geometry.units m;
   marks = (v, is, λ c is_c. (let first = before v is c is_c in record { counted = omega (arith, first); between = λ e. first }));
 }
+
+-- what tells of the marks of a store whether each stands before a region tells it of the store
+pub store_before : (s : Store) (v : Marks) → marks s ≡ Some v → (b : Bool) → (IsTrue b ↔ ((c : ℕ) → is_client c ≡ true → done_in v c ≡ 0)) → IsTrue b ↔ StandBeforeRegions s
+store_before s v is b tells = (λ yes w other c is_c. ap (λ (x : Marks). done_in x c) (same w other) ∙ tells.0 yes c is_c, λ before. tells.1 (before v is))
+  where
+    same : (w : Marks) → marks s ≡ Some w → w ≡ v
+    same w other = cc
 
 -- ---- a run is moved
 

@@ -21,7 +21,7 @@ put_long true n k rest is = omega (arith, is)
 put_long false n k rest is = omega (arith, is)
 
 -- what is greater than all of them is not among them, and 0 is not
-pub beyond : (p : ℕ → Bool) (n i : ℕ) → (1 ≤ i → i ≤ n → ⊥) → is_among i (passing_numbers p n) ≡ false
+beyond : (p : ℕ → Bool) (n i : ℕ) → (1 ≤ i → i ≤ n → ⊥) → is_among i (passing_numbers p n) ≡ false
 unfolding passing_numbers
 beyond p zero i out = refl
 beyond p (suc n) i out = elim (eqb_tells (suc n) i) [

@@ -27,13 +27,13 @@ twice m c x next more is = ap (λ (f : ℕ → Account). record { kernel = recor
           ∙ sym (ap (λ b. cond b next (m.kernel.accounts d)) other.0)
     ]
 
-pub turned : (i j : ℕ) → (i == j) ≡ (j == i)
+turned : (i j : ℕ) → (i == j) ≡ (j == i)
 turned i j = elim (eqb_tells i j) [
   | inl same ↦ elim (eqb_tells j i) [ inl back ↦ same.0 ∙ sym back.0 | inr off ↦ absurd (off.1 (sym same.1)) ]
   | inr other ↦ elim (eqb_tells j i) [ inl back ↦ absurd (other.1 (sym back.1)) | inr off ↦ other.0 ∙ sym off.0 ]
 ]
 
-pub or_false : (b : Bool) → b ≡ (b || false)
+or_false : (b : Bool) → b ≡ (b || false)
 or_false true = refl
 or_false false = refl
 

@@ -1,12 +1,10 @@
 -- What a reclaim answers, by what its area answered.
-use Rattle.std.proofs.Common.{◌≡◌, ◌≢◌, ◌⊎◌, inl, inr, ℕ, ◌+◌, ◌≤◌, List, true, false, refl, ap, sym, ◌∙◌, subst, arith}
+use Rattle.std.proofs.Common.{◌≡◌, ◌≢◌, inl, inr, ℕ, false, refl, ap, sym, ◌∙◌, subst, arith}
 use Rattle.std.specs.Prelude.{Option, Result, Ok, Err}
 use Rattle.std.proofs.lemmas.Bool.{true≢false}
 use Rattle.digester.specs.tier_device.declared.media.Media.{Ghosts}
-use Rattle.digester.specs.tier_device.declared.media.Tier.{Tier}
 use Rattle.digester.specs.tier_device.Media.{Rose}
 use Rattle.digester.specs.batch_journal.View.{JournalView}
-use Rattle.digester.specs.batch_journal.Course.{Unmoved}
 use Rattle.digester.proofs.batch_journal_lemmas.Courses.{unmoved_on}
 use Rattle.digester.specs.area_image.declared.error.AreaError.{AreaError}
 use Rattle.digester.specs.area_image.declared.error.AreaError.TheVariants as area

@@ -1,8 +1,7 @@
 -- Which refusals of the book are told.
-use Rattle.std.proofs.Common.{◌≡◌, ℕ, ◌+◌, ◌<◌, ◌≤◌, Bool, false, sym, arith}
-use Rattle.std.specs.Prelude.{◌↔◌, Result, Ok, Err, IsErrOf}
+use Rattle.std.proofs.Common.{◌≡◌, ℕ, ◌+◌, ◌≤◌, Bool, false, arith}
+use Rattle.std.specs.Prelude.{◌↔◌, Ok, Err, IsErrOf}
 use Rattle.kernel_fs.specs.declared.book_error.RefillError.{RefillError}
-use Rattle.kernel_fs.specs.declared.error.KernelError.{KernelError}
 use Rattle.kernel_fs.specs.declared.error.KernelError.TheVariants as why
 
 pub told_few : {T : Type 0} (e wanted : RefillError) (failed : Bool) (charge charge' out units capacity capacity' : ℕ) (Few : Type 0) → failed ≡ false → charge ≡ charge' → capacity ≡ capacity'

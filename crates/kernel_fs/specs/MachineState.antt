@@ -1,7 +1,6 @@
 -- Which machine the kernel stands for.
-use Rattle.std.specs.Prelude.{◌≡◌, ℕ, true, List, Some}
+use Rattle.std.specs.Prelude.{◌≡◌, ℕ, true, Option, Some, None}
 use Rattle.digester.specs.tier_device.declared.media.Media.{Ghosts}
-use Rattle.digester.specs.tier_device.declared.media.Tier.{Tier}
 use Rattle.digester.specs.posix_calls.Operations.{is_client}
 use Rattle.digester.specs.layout.declared.marks.Mark.{Mark}
 use Rattle.digester.specs.layout.declared.marks.Marks.{Marks}
@@ -16,6 +15,19 @@ use Rattle.kernel_fs.specs.KernelView.{KernelView}
 -- how many records of its generation a client's mark tells as digested
 abbrev pub done_in : Marks → ℕ → ℕ
 done_in v c = (mark_of v c).done
+
+-- which generation the mark of a client names, where marks are spelled; else 0
+abbrev pub generation_of : Option Marks → ℕ → ℕ
+generation_of None c = 0
+generation_of (Some v) c = (mark_of v c).generation
+
+-- which one it names in a store
+abbrev pub generation_in : Store → ℕ → ℕ
+generation_in s c = generation_of (marks s) c
+
+-- The marks of a store name these generations.
+abbrev pub HasGenerations : Store → (ℕ → ℕ) → Type 0
+HasGenerations s generations = (c : ℕ) → is_client c ≡ true → generations c ≡ generation_in s c
 
 -- It is the mark of a client that a store spells.
 abbrev pub IsMarkIn : Store → ℕ → Mark → Type 0

@@ -2,7 +2,6 @@
 use Rattle.std.specs.Prelude.{ℕ, ◌+◌, ◌-◌, List, [], ◌∷◌, Bool, ◌&&◌, ◌||◌, not}
 use Rattle.digester.specs.file_graph.Graph.{Graph}
 use Rattle.world_invariant.specs.Machine.{Machine, with_account, book_number, unbook_number}
-use Rattle.world_invariant.specs.World.{World, moved_world}
 use Rattle.world_invariant.specs.FormatWorld.{idle_account}
 
 -- a machine that was just opened over a graph, where so many records of each client were ever digested: all that were accepted
@@ -26,17 +25,3 @@ book_numbers m c (i ∷ is) = book_number (book_numbers m c is) c i
 abbrev pub unbook_numbers : Machine → ℕ → List ℕ → Machine
 unbook_numbers m c [] = m
 unbook_numbers m c (i ∷ is) = unbook_number (unbook_numbers m c is) c i
-
--- ---- in the world
-
--- units and a set of numbers are granted at once: the book has them, and the client
-abbrev pub set_granted : World → ℕ → ℕ → (ℕ → Bool) → World
-set_granted w c units numbers = moved_world w c w.kernel.shared
-    (record (w.kernel.accounts c) { units = (w.kernel.accounts c).units + units; numbers = λ i. (w.kernel.accounts c).numbers i || numbers i })
-    (record (w.clients c) { spare = (w.clients c).spare + units; knows = record (w.clients c).knows { granted = λ i. (w.clients c).knows.granted i || numbers i } })
-
--- they are in the book, and on their way to the client
-abbrev pub set_booked : World → ℕ → ℕ → (ℕ → Bool) → World
-set_booked w c units numbers = moved_world w c w.kernel.shared
-    (record (w.kernel.accounts c) { units = (w.kernel.accounts c).units + units; numbers = λ i. (w.kernel.accounts c).numbers i || numbers i })
-    (w.clients c)

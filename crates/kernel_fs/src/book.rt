@@ -38,11 +38,19 @@ impl Model for Book {
     ghost invariant = { λ b. (length b.accounts ≡ 8) × (b.out ≡ out_of b.accounts) };
 }
 
+/// How the units stand: `charge` of them is what the shared graph costs, and `capacity` is how many there are in all.
+#[derive(Clone, Copy, Debug)]
+pub struct UnitUse {
+    pub charge: u64,
+    pub capacity: u64,
+}
+
 // Whether so many more units fit beside those that are charged and out.
-fn has_room(charge: u64, out: u64, units: u64, capacity: u64) -> bool
-    ensures room { result ≡ true → charge + out + units ≤ capacity }
-    ensures none { result ≡ false → capacity < charge + out + units }
+fn has_room(used: UnitUse, out: u64, units: u64) -> bool
+    ensures room { result ≡ true → used.charge + out + units ≤ used.capacity }
+    ensures none { result ≡ false → used.capacity < used.charge + out + units }
 {
+    let UnitUse { charge, capacity } = used;
     charge <= capacity && out <= capacity - charge && units <= capacity - charge - out
 }
 
@@ -101,8 +109,8 @@ impl Book {
         units <= account.units && account.numbers.contains_all(numbers)
     }
 
-    /// Grants a client units and the lowest inode numbers that are free: those from 2 on that are no node of the shared graph and in no account. It is told what the
-    /// graph costs, how much there is in all, and which inodes are nodes.
+    /// Grants a client units and the lowest inode numbers that are free: those from 2 on that are no node of the shared graph and in no account. It is given what the
+    /// graph costs, how many units there are in all, and which inodes are nodes.
     ///
     /// `NoUnits` exactly where what is charged, what is out and what is asked for pass the capacity; `NoInode` exactly where they don't, but fewer numbers are free than asked.
     /// After either nothing has changed.
@@ -111,20 +119,19 @@ impl Book {
         client: u32,
         units: u64,
         inodes: u32,
-        charge: u64,
-        capacity: u64,
+        used: UnitUse,
         nodes: &InodeSet,
     ) -> Result<InodeSet, RefillError>
         requires client { is_client client ≡ true }
         ensures granted { IfOk result (λ numbers. AreLowest (is_free self.old (has nodes.now)) (has numbers) inodes) }
         ensures step { IfOk result (λ numbers. (m : Machine) → IsBookOf self.old m → IsBookOf self.new (granted m client units (has numbers))) }
         ensures out { OnOk result (out_of self.new ≡ out_of self.old + units) }
-        ensures law { OnOk result (charge + out_of self.new ≤ capacity) }
-        ensures no_units { IsErrOf result NoUnits ↔ (capacity < charge + out_of self.old + units) }
-        ensures no_inode { IsErrOf result NoInode ↔ ((charge + out_of self.old + units ≤ capacity) × (count_of (is_free self.old (has nodes.now)) < inodes)) }
+        ensures law { OnOk result (used.charge + out_of self.new ≤ used.capacity) }
+        ensures no_units { IsErrOf result NoUnits ↔ (used.capacity < used.charge + out_of self.old + units) }
+        ensures no_inode { IsErrOf result NoInode ↔ ((used.charge + out_of self.old + units ≤ used.capacity) × (count_of (is_free self.old (has nodes.now)) < inodes)) }
         ensures refused { OnErr result (self.new ≡ self.old) }
     {
-        if !has_room(charge, self.out, units, capacity) {
+        if !has_room(used, self.out, units) {
             return Err(RefillError::NoUnits);
         }
         match self.lowest_free(nodes, inodes) {

@@ -5,19 +5,18 @@ ghost use Rattle.digester.specs.file_graph.Units.{charge};
 ghost use Rattle.digester.specs.log_record.declared.format.Record.{Record};
 ghost use Rattle.world_invariant.specs.Limits.{AreWithin};
 ghost use Rattle.world_invariant.specs.Logs.{IsNameless};
-ghost use Rattle.world_invariant.specs.World.{Account, World, world_state};
+ghost use Rattle.world_invariant.specs.World.{Account};
 ghost use Rattle.world_invariant.specs.BookSteps.{HasRoom, IsUnbooked};
 ghost use Rattle.world_invariant.specs.KernelSteps.{CanReclaim};
 ghost use Rattle.world_invariant.specs.Machine.{Machine, Sealed, IsRunning, accept, book_units, digest, unbook_units, undigested_sealed};
 ghost use Rattle.world_invariant.specs.FormatWorld.{idle_world};
-ghost use Rattle.world_invariant.specs.Invariant.{IsCoherent};
 ghost use Rattle.kernel_fs.specs.Book.{Accounts, out_of, is_free, is_pinned, IsBookOf};
 ghost use Rattle.kernel_fs.specs.Free.{count_of};
 ghost use Rattle.kernel_fs.specs.Inodes.{has, members};
 ghost use Rattle.kernel_fs.specs.Marks.{AreMarksAfter, AreMarksOf, IsWaiting};
 ghost use Rattle.kernel_fs.specs.Nodes.{AreNodes};
-ghost use Rattle.kernel_fs.specs.Run.{Entry, MayTake, Stands, LeadsBy, IsRun};
-ghost use Rattle.kernel_fs.specs.Steps.{book_numbers, grant, opened_machine, set_booked, set_granted, take_back, unbook_numbers};
+ghost use Rattle.kernel_fs.specs.Run.{Entry, RunState, MayTake, Stands, LeadsBy, IsRun};
+ghost use Rattle.kernel_fs.specs.Steps.{book_numbers, grant, opened_machine, take_back, unbook_numbers};
 
 /// What a book tells of its machine: units fit there where they fit beside those that are out; a number may be granted there where it is free; and a file that has no name may
 /// be reclaimed there where nobody has pinned it. While the machine runs, what is charged and what is out are within the capacity.
@@ -54,18 +53,10 @@ pub fn grants_keep_the_book()
     ensures taken_back { (m : Machine) (c units : ℕ) (numbers : ℕ → Bool) → IsRunning m → is_client c ≡ true → IsRunning (take_back m c units numbers) }
 {}
 
-/// A grant of units and of a whole set of numbers keeps what holds of kernel and clients, and the tree, where the units fit and each number is free: both halves at once, or the book alone first. The kernel's part
-/// is that of the machine after the grant.
-pub fn granted_set_keeps_the_whole()
-    ensures granted { (w : World) (c units : ℕ) (rows : List ℕ) → IsCoherent w → is_client c ≡ true → HasRoom w.kernel units → ((i : ℕ) → has rows i ≡ true → IsUnbooked w.kernel i) → IsCoherent (set_granted w c units (has rows)) × (world_state (set_granted w c units (has rows)) ≡ world_state w) }
-    ensures booked { (w : World) (c units : ℕ) (rows : List ℕ) → IsCoherent w → is_client c ≡ true → HasRoom w.kernel units → ((i : ℕ) → has rows i ≡ true → IsUnbooked w.kernel i) → IsCoherent (set_booked w c units (has rows)) × (world_state (set_booked w c units (has rows)) ≡ world_state w) }
-    ensures machine { (w : World) (accepted : ℕ → ℕ) (c units : ℕ) (numbers : ℕ → Bool) → ((grant (record { kernel = w.kernel; accepted = accepted }) c units numbers).kernel ≡ (set_granted w c units numbers).kernel) × ((set_booked w c units numbers).kernel ≡ (set_granted w c units numbers).kernel) }
-{}
-
 /// A run of the machine keeps what holds of it, where each region that is digested stands when it is; and a run in which each stands is a run.
 pub fn runs_keep_what_holds()
-    ensures runs { (first last : Machine) (es : List Entry) → IsRunning first → LeadsBy (λ m e. MayTake m e × Stands m e) first es last → IsRunning last }
-    ensures is { (first last : Machine) (es : List Entry) → LeadsBy (λ m e. MayTake m e × Stands m e) first es last → IsRun first es last }
+    ensures runs { (first last : RunState) (es : List Entry) → IsRunning first.machine → LeadsBy (λ r e. MayTake r e × Stands r.machine e) first es last → IsRunning last.machine }
+    ensures is { (first last : RunState) (es : List Entry) → LeadsBy (λ r e. MayTake r e × Stands r.machine e) first es last → IsRun first es last }
 {}
 
 /// The marks of the media go with the machine's: they are those of a machine that was opened over them, where each stands before a region; they stay where a region is accepted; and those after a digest are

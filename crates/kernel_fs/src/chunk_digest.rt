@@ -84,14 +84,10 @@ pub fn digest_at_mark<M: Media>(
     ensures at_most { MakesFewCalls area.old.geometry (disk M.Media area.old) (changes_of chunk.now.change) (M.moment area.old.media) (M.moment area.new.media) (M.left area.old.media) (M.left area.new.media) }
 {
     let first = log.digested_count() as usize;
-    match digest_chunk(alloc, area, log, chunk) {
-        Ok(()) => {
-            // For the proof: the records within which the digested ones end.
-            log.invariant();
-            let end = log.digested_count() as usize;
-            follow(book, nodes, log.client(), &log.records()[first..end]);
-            Ok(())
-        }
-        Err(error) => Err(error),
-    }
+    digest_chunk(alloc, area, log, chunk)?;
+    // For the proof: the records within which the digested ones end.
+    log.invariant();
+    let end = log.digested_count() as usize;
+    follow(book, nodes, log.client(), &log.records()[first..end]);
+    Ok(())
 }

@@ -56,10 +56,8 @@ pub fn fetch_node<M: Media>(
     ensures looks { Looks M.Media area.old area.new result }
 {
     let mark = mark_in(area, client);
-    match area.node(inode) {
-        Ok(node) => Ok(Fetched { node, mark }),
-        Err(error) => Err(error),
-    }
+    let node = area.node(inode)?;
+    Ok(Fetched { node, mark })
 }
 
 /// Bytes of a file from a logical block on, with the mark of a client.
@@ -81,8 +79,6 @@ pub fn fetch_bytes<M: Media>(
     ensures looks { Looks M.Media area.old area.new result }
 {
     let mark = mark_in(area, client);
-    match area.read_range(inode, UNIT_BYTES as u64 * first as u64, out) {
-        Ok(count) => Ok(FetchedBytes { count, mark }),
-        Err(error) => Err(error),
-    }
+    let count = area.read_range(inode, UNIT_BYTES as u64 * first as u64, out)?;
+    Ok(FetchedBytes { count, mark })
 }

@@ -1,6 +1,6 @@
 //! A file that nobody uses is dropped.
 
-ghost use Rattle.std.specs.Prelude.{◌≡◌, ◌↔◌, ◌⊎◌, ℕ, List, [], ◌∷◌, true, false, IfOk, IfErr, OnOk, IsTrue, IsErrOf};
+ghost use Rattle.std.specs.Prelude.{◌≡◌, ◌↔◌, ℕ, List, [], ◌∷◌, true, false, IfOk, IfErr, OnOk, IsTrue, IsErrOf};
 ghost use Rattle.digester.specs.file_graph.declared.effect.Effect.TheVariants as effect;
 ghost use Rattle.digester.specs.graph_change.Change.{coalesced_changes};
 ghost use Rattle.digester.specs.graph_change.Tidy.{AreTidyChanges};
@@ -10,7 +10,6 @@ ghost use Rattle.digester.specs.area_image.Store.{disk, graph};
 ghost use Rattle.digester.specs.batch_journal.Course.{Unmoved};
 ghost use Rattle.digester.specs.shared_area.Parts.{IsNoDamage};
 ghost use Rattle.digester.specs.shared_area.ChangeApply.{MakesFewCalls};
-ghost use Rattle.digester.specs.area_image.Map.{WantsMemory};
 ghost use Rattle.digester.specs.Errors.{IsAreaError};
 ghost use Rattle.world_invariant.specs.Logs.{IsNameless};
 ghost use Rattle.kernel_fs.specs.Reclaim.{AreNameless, IsReclaimed, StaysOrReclaims, ReclaimsOrStays};
@@ -101,13 +100,11 @@ fn drop_file<M: Media>(alloc: Global, area: &mut Shared<M>, inode: u32) -> Resul
 {
     // For the proof: a stop leaves what opens as before.
     area.left_now();
-    match drop_change(alloc, inode) {
-        Ok(change) => drop_node(area, inode, &change),
-        Err(error) => Err(error),
-    }
+    let change = drop_change(alloc, inode)?;
+    drop_node(area, inode, &change)
 }
 
-/// Drops the file at an inode, if one without a name stands there.
+/// Drops the file at an inode, if one without a name stands there. `InUse` where none does; `Memory` only where one does, for the change that drops it; `DeviceFault` where a device failed.
 pub fn drop_nameless<M: Media>(
     alloc: Global,
     area: &mut Shared<M>,
@@ -120,7 +117,7 @@ pub fn drop_nameless<M: Media>(
     ensures in_use { IsErrOf result InUse → IsNameless (graph area.old.geometry (disk M.Media area.old) inode) → ⊥ }
     // What is no such file is not touched, whatever fails.
     ensures untouched { (IsNameless (graph area.old.geometry (disk M.Media area.old) inode) → ⊥) → Unmoved (M.moment area.old.media) (M.moment area.new.media) (M.seen area.old.media) (M.seen area.new.media) (M.left area.old.media) (M.left area.new.media) }
-    ensures memory { IsErrOf result Memory → WantsMemory area.old.geometry (disk M.Media area.old) inode ⊎ IsNameless (graph area.old.geometry (disk M.Media area.old) inode) }
+    ensures memory { IsErrOf result Memory → IsNameless (graph area.old.geometry (disk M.Media area.old) inode) }
     ensures stays { ReclaimsOrStays M.Media area.old area.new result }
     ensures at_most { MakesFewCalls area.old.geometry (disk M.Media area.old) (coalesced_changes (effect.Drop inode ∷ [])) (M.moment area.old.media) (M.moment area.new.media) (M.left area.old.media) (M.left area.new.media) }
 {

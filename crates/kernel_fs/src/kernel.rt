@@ -1,4 +1,4 @@
-ghost use Rattle.std.specs.Prelude.{◌≡◌, ◌≢◌, ◌↔◌, ◌≤◌, ◌<◌, ◌+◌, ◌-◌, ◌*◌, ◌⊎◌, ℕ, List, [], ◌∷◌, min, length, take, drop, true, false, None, Some, Err, OnOk, OnErr, IfOk, IfErr, IfSome, IsErrOf};
+ghost use Rattle.std.specs.Prelude.{◌≡◌, ◌≢◌, ◌↔◌, ◌≤◌, ◌<◌, ◌+◌, ◌-◌, ◌*◌, ℕ, List, [], ◌∷◌, min, length, take, true, false, None, Err, OnOk, OnErr, IfOk, IfErr, IfSome, IsErrOf, IsTrue};
 ghost use Rattle.digester.specs.batch_journal.Course.{Unmoved};
 ghost use Rattle.digester.specs.posix_calls.Operations.{is_client};
 ghost use Rattle.digester.specs.posix_calls.declared.limits.TheConstants.{UNIT_BYTES};
@@ -16,7 +16,7 @@ ghost use Rattle.digester.specs.area_image.Looks.{Looks, call_answer};
 ghost use Rattle.digester.specs.shared_area.ChangeApply.{MakesFewCalls};
 ghost use Rattle.digester.specs.area_image.Map.{WantsMemory};
 ghost use Rattle.digester.specs.area_image.Refusals.{IsMoveRefusal};
-ghost use Rattle.digester.specs.area_image.declared.error.AreaError.TheVariants.{NoBlock, NotMapped, Memory};
+ghost use Rattle.digester.specs.area_image.declared.error.AreaError.TheVariants.{DeviceFault, NoBlock, NotMapped, Memory};
 ghost use Rattle.digester.specs.shared_area.Parts.{IsNoDamage, IsTierOf};
 ghost use Rattle.digester.specs.shared_area.Ready.{HasFree, OpensAs};
 ghost use Rattle.digester.specs.shared_area.FileReads.{bytes_of_inode, IsReadFrom};
@@ -30,16 +30,13 @@ ghost use Rattle.digester.specs.declared.error.DigestError.TheVariants.{BadLog};
 ghost use Rattle.migrator.specs.RunChoice.{IsPicked, MayBeMoved};
 ghost use Rattle.world_invariant.specs.KernelSteps.{CanReclaim};
 ghost use Rattle.world_invariant.specs.Logs.{IsNameless, units_in};
-ghost use Rattle.world_invariant.specs.Machine.{Machine, Sealed, IsRunning, StandsSealed, CanAccept, accept as accepted, digest as digested, book_pin, unbook_pin, bury as buried, reclaim as reclaimed};
-ghost use Rattle.kernel_fs.specs.Book.{units_of, waiting_of, out_of, is_free, is_pinned};
-ghost use Rattle.kernel_fs.specs.Free.{AreLowest, count_of};
-ghost use Rattle.kernel_fs.specs.Inodes.{IsInode, has};
-ghost use Rattle.kernel_fs.specs.Nodes.{nodes_in};
-ghost use Rattle.kernel_fs.specs.Steps.{grant as granted, opened_machine, take_back as taken_back};
-ghost use Rattle.kernel_fs.specs.declared.book_error.RefillError.TheVariants.{NoUnits, NoInode};
+ghost use Rattle.world_invariant.specs.Machine.{Machine, Sealed, IsRunning, StandsSealed, CanAccept, accept as accepted, digest as digested, reclaim as reclaimed};
+ghost use Rattle.kernel_fs.specs.Book.{units_of, waiting_of, out_of, is_pinned, IsBookOf};
+ghost use Rattle.kernel_fs.specs.Inodes.{has};
+ghost use Rattle.kernel_fs.specs.Steps.{grant as granted, opened_machine};
 ghost use Rattle.kernel_fs.specs.RegionAccept.{HasAsManyWaiting, BeginsAtMark, IsRegionOf};
 ghost use Rattle.kernel_fs.specs.KernelAnswers.{Answers, OnRefusal};
-ghost use Rattle.kernel_fs.specs.History.{EndsRun};
+ghost use Rattle.kernel_fs.specs.History.{HasRun};
 ghost use Rattle.kernel_fs.specs.Reclaim.{IsUnused, IsReclaimed, StaysOrReclaims, ReclaimsOrStays};
 ghost use Rattle.kernel_fs.specs.MachineState.{IsKernelOf, IsMarkIn, StandBeforeRegions};
 ghost use Rattle.kernel_fs.specs.declared.chunk_digest.Digestion.TheVariants.{Digested, NotNext, NotAccepted};
@@ -51,10 +48,10 @@ use crate::chunk_digest::{Digestion, begins_at_mark, digest_at_mark};
 use crate::error::{AcceptError, KernelError, KernelFailed, ReclaimError};
 use crate::fetches::{Fetched, FetchedBytes, fetch_bytes, fetch_node};
 use crate::file_reclaim::drop_nameless;
-use crate::initial_value::OpenedFrom;
 use crate::log_reads::{has_as_many_waiting, undigested_count};
 use crate::node_scan::nodes_of;
-use crate::{Book, InodeSet, RefillError};
+use crate::opening::Opening;
+use crate::{Book, InodeSet};
 use digester::{AreaError, Chunk, DigestError, Media, SealedLog, Shared, Tier, capacity_of};
 use migrator::{FileRun, migrate, pick};
 use std::alloc::Global;
@@ -75,13 +72,13 @@ pub struct Figures {
 /// Contracts see the shared area and the accounts. Clients are numbered from 1.
 #[derive(Debug, Drop)]
 pub struct Kernel<M: Media> {
-    // the media at the opening
-    began: OpenedFrom<Shared<M>>,
+    // the media at the opening, and how their marks stood
+    began: Opening<M>,
     alloc: Global,
-    area: Shared<M>,
-    book: Book,
+    pub(crate) area: Shared<M>,
+    pub(crate) book: Book,
     // the inodes of the shared graph
-    nodes: InodeSet,
+    pub(crate) nodes: InodeSet,
 }
 
 impl<M: Media> Model for Kernel<M> {
@@ -95,30 +92,29 @@ impl<M: Media> Model for Kernel<M> {
 
     ghost Value = { KernelView M };
 
-    ghost view = { λ k. record { area = k.area; book = k.book; opening = k.began.value } };
+    ghost view = { λ k. record { area = k.area; book = k.book; opening = k.began } };
 
     // Until a device has failed: the set has the nodes of the graph, and the kernel stands at the end of a run of its machine.
-    ghost invariant = { λ k. k.area.failed ≡ false → AreNodes (graph k.area.geometry (disk M.Media k.area)) (has k.nodes) × EndsRun M.Media (record { area = k.area; book = k.book; opening = k.began.value }) };
+    ghost invariant = { λ k. k.area.failed ≡ false → AreNodes (graph k.area.geometry (disk M.Media k.area)) (has k.nodes) × EndsRun M.Media (record { area = k.area; book = k.book; opening = k.began }) };
 }
 
 impl<M: Media> Kernel<M> {
-    /// The kernel over shared media that are opened: nothing is granted, pinned or accepted. It reads the slot of each inode once. Where each mark stands before a region, the kernel stands for the machine that
+    /// The kernel over shared media that are opened: nothing is granted, pinned or accepted. Its device calls are reads. Where each mark stands before a region, the kernel stands for the machine that
     /// was just opened over the graph, whatever it has of the records that were digested before. The area is given back with its one refusal, `DeviceFault`, where a device has failed or fails.
     pub fn open(alloc: Global, area: Shared<M>) -> Result<Self, (AreaError, Shared<M>)>
         ensures opens { IfOk result (λ k. (marks : ℕ → ℕ) → StandBeforeRegions (disk M.Media k.area) → IsKernelOf M.Media k (opened_machine (graph k.area.geometry (disk M.Media k.area)) k.area.geometry.units marks)) }
+        ensures booked { IfOk result (λ k. (marks : ℕ → ℕ) → IsBookOf k.book (opened_machine (graph k.area.geometry (disk M.Media k.area)) k.area.geometry.units marks)) }
         ensures out { IfOk result (λ k. out_of k.book ≡ 0) }
         ensures opening { IfOk result (λ k. k.opening ≡ k.area) }
         ensures looks { IfOk result (λ k. Looks M.Media area k.area call_answer) }
-        ensures only { IfErr result (λ e. IsNoDamage e.0) }
-        ensures memory { IfErr result (λ e. e.0 ≡ Memory → (i : ℕ) × WantsMemory area.geometry (disk M.Media area) i) }
+        ensures only { IfErr result (λ e. e.0 ≡ DeviceFault) }
         ensures refused { IfErr result (λ e. Looks {T = Unit {0}} M.Media area e.1 (Err e.0)) }
     {
         let mut area = area;
         match nodes_of(&mut area) {
             Ok(nodes) => {
-                // For the proof: there are marks.
-                let _marks = area.marks();
-                let began = OpenedFrom::of(&area);
+                let marks = area.marks();
+                let began = Opening::of(&area, &marks);
                 Ok(Kernel {
                     began,
                     alloc,
@@ -155,13 +151,14 @@ impl<M: Media> Kernel<M> {
         self.area.left_now();
     }
 
-    /// Where it stands: at the end of a run of its machine, from the one that was opened over the media as they were then, where each mark stood before a region. That is a fact of the value: no list of
-    /// entries is kept, and nothing grows with them. It makes no device call.
-    pub fn history(&self)
-        ensures { self.now.area.failed ≡ false → EndsRun M.Media self.now }
+    /// Whether each mark stood before a region as the kernel was opened. Where they did, the kernel stands at the end of a run of its machine, from the one that was opened over the media as they were then. An entry that
+    /// accepts or digests names its region, by client and generation, and may be taken only while that client's mark names it. The run is a fact of the value: no list of entries is kept, and nothing grows with them.
+    /// It makes no device call.
+    pub fn history(&self) -> bool
+        ensures before { IsTrue result ↔ StandBeforeRegions (disk M.Media self.now.opening) }
+        ensures run { IsTrue result → self.now.area.failed ≡ false → HasRun M.Media self.now }
     {
-        // For the proof: the invariant of a kernel is at hand.
-        let _failed = self.area.has_failed();
+        self.began.is_before_regions()
     }
 
     // ---- what is there
@@ -169,7 +166,7 @@ impl<M: Media> Kernel<M> {
     /// What stands at an inode of the shared graph: a file with its size and how many names it has, a directory with its entries by name; `None` where nothing does. Beside it the mark of the client that asks:
     /// what it has logged behind the mark is not in the graph.
     ///
-    /// It makes four device calls at most, all of them reads, and one more for each block of a directory. `DeviceFault` where a device failed, `Memory` where there was none for an extent block or for an entry.
+    /// Its device calls are reads. `DeviceFault` where a device failed, `Memory` where there was none for an extent block or for an entry.
     pub fn fetch(&mut self, client: u32, inode: u32) -> Result<Fetched, KernelError<AreaError>>
         requires client { is_client client ≡ true }
         ensures mark { IfOk result (λ x. IsMarkIn (disk M.Media self.old.area) client x.mark) }
@@ -274,123 +271,6 @@ impl<M: Media> Kernel<M> {
         Ok(self.area.free(tier))
     }
 
-    // ---- what is given
-
-    /// Grants a client units and the lowest inode numbers that are free: those from 2 on that are no node of the shared graph and in no account. It makes no device call.
-    ///
-    /// `NoUnits` exactly where what is charged, what is out and what is asked for pass the capacity; `NoInode` exactly where they don't, but fewer numbers are free than asked. Nothing has changed then.
-    pub fn refill(
-        &mut self,
-        client: u32,
-        units: u64,
-        inodes: u32,
-    ) -> Result<InodeSet, KernelError<RefillError>>
-        requires client { is_client client ≡ true }
-        ensures granted { IfOk result (λ numbers. AreLowest (is_free self.old.book (nodes_in (graph self.old.area.geometry (disk M.Media self.old.area)))) (has numbers) inodes) }
-        ensures step { IfOk result (λ numbers. (m : Machine) → IsKernelOf M.Media self.old m → IsKernelOf M.Media self.new (granted m client units (has numbers))) }
-        ensures out { OnOk result (out_of self.new.book ≡ out_of self.old.book + units) }
-        ensures law { OnOk result (charge (graph self.old.area.geometry (disk M.Media self.old.area)) + out_of self.new.book ≤ self.old.area.geometry.units) }
-        ensures no_units { IsErrOf result (Refused NoUnits) ↔ ((self.old.area.failed ≡ false) × (self.old.area.geometry.units < charge (graph self.old.area.geometry (disk M.Media self.old.area)) + out_of self.old.book + units)) }
-        ensures no_inode { IsErrOf result (Refused NoInode) ↔ ((self.old.area.failed ≡ false) × (charge (graph self.old.area.geometry (disk M.Media self.old.area)) + out_of self.old.book + units ≤ self.old.area.geometry.units)
-            × (count_of (is_free self.old.book (nodes_in (graph self.old.area.geometry (disk M.Media self.old.area)))) < inodes)) }
-        ensures failed { IsErrOf result Failed ↔ (self.old.area.failed ≡ true) }
-        ensures refused { OnErr result (self.new ≡ self.old) }
-        ensures area { self.new.area ≡ self.old.area }
-        ensures opening { self.new.opening ≡ self.old.opening }
-    {
-        if self.area.has_failed() {
-            return Err(KernelError::Failed);
-        }
-        let charge = self.area.charge();
-        let capacity = capacity_of(&self.area);
-        let numbers = match self
-            .book
-            .refill(client, units, inodes, charge, capacity, &self.nodes)
-        {
-            Ok(numbers) => numbers,
-            Err(error) => return Err(KernelError::Refused(error)),
-        };
-        Ok(numbers)
-    }
-
-    /// Takes units and numbers out of a client's account, which it gives back; what the account doesn't have stays out of it. It makes no device call.
-    pub fn give_back(
-        &mut self,
-        client: u32,
-        units: u64,
-        numbers: &InodeSet,
-    ) -> Result<(), KernelFailed>
-        requires client { is_client client ≡ true }
-        ensures step { OnOk result ((m : Machine) → IsKernelOf M.Media self.old m → IsKernelOf M.Media self.new (taken_back m client units (has numbers.now))) }
-        ensures out { OnOk result (out_of self.new.book + min units (units_of self.old.book client) ≡ out_of self.old.book) }
-        ensures going { OnOk result (self.old.area.failed ≡ false) }
-        ensures failed { OnErr result (self.old.area.failed ≡ true) }
-        ensures refused { OnErr result (self.new ≡ self.old) }
-        ensures area { self.new.area ≡ self.old.area }
-        ensures opening { self.new.opening ≡ self.old.opening }
-    {
-        if self.area.has_failed() {
-            return Err(KernelFailed);
-        }
-        self.book.take_back(client, units, numbers);
-        Ok(())
-    }
-
-    /// Pins an inode for a client. It makes no device call.
-    pub fn pin(&mut self, client: u32, inode: u32) -> Result<(), KernelFailed>
-        requires client { is_client client ≡ true }
-        requires inode { IsInode inode }
-        ensures step { OnOk result ((m : Machine) → IsKernelOf M.Media self.old m → IsKernelOf M.Media self.new (book_pin m client inode)) }
-        ensures out { out_of self.new.book ≡ out_of self.old.book }
-        ensures going { OnOk result (self.old.area.failed ≡ false) }
-        ensures failed { OnErr result (self.old.area.failed ≡ true) }
-        ensures refused { OnErr result (self.new ≡ self.old) }
-        ensures area { self.new.area ≡ self.old.area }
-        ensures opening { self.new.opening ≡ self.old.opening }
-    {
-        if self.area.has_failed() {
-            return Err(KernelFailed);
-        }
-        self.book.pin(client, inode);
-        Ok(())
-    }
-
-    /// Drops a client's pin of an inode; others' pins stay. It makes no device call.
-    pub fn unpin(&mut self, client: u32, inode: u32) -> Result<(), KernelFailed>
-        requires client { is_client client ≡ true }
-        ensures step { OnOk result ((m : Machine) → IsKernelOf M.Media self.old m → IsKernelOf M.Media self.new (unbook_pin m client inode)) }
-        ensures out { out_of self.new.book ≡ out_of self.old.book }
-        ensures going { OnOk result (self.old.area.failed ≡ false) }
-        ensures failed { OnErr result (self.old.area.failed ≡ true) }
-        ensures refused { OnErr result (self.new ≡ self.old) }
-        ensures area { self.new.area ≡ self.old.area }
-        ensures opening { self.new.opening ≡ self.old.opening }
-    {
-        if self.area.has_failed() {
-            return Err(KernelFailed);
-        }
-        self.book.unpin(client, inode);
-        Ok(())
-    }
-
-    /// Empties the account of a client that is gone: it has no units, no number and no pin any more. It makes no device call.
-    pub fn bury(&mut self, client: u32) -> Result<(), KernelFailed>
-        requires client { is_client client ≡ true }
-        ensures step { OnOk result ((m : Machine) → IsKernelOf M.Media self.old m → IsKernelOf M.Media self.new (buried m client)) }
-        ensures out { OnOk result (out_of self.new.book + units_of self.old.book client ≡ out_of self.old.book) }
-        ensures going { OnOk result (self.old.area.failed ≡ false) }
-        ensures failed { OnErr result (self.old.area.failed ≡ true) }
-        ensures refused { OnErr result (self.new ≡ self.old) }
-        ensures area { self.new.area ≡ self.old.area }
-        ensures opening { self.new.opening ≡ self.old.opening }
-    {
-        if self.area.has_failed() {
-            return Err(KernelFailed);
-        }
-        self.book.bury(client);
-        Ok(())
-    }
-
     // ---- sealed regions
 
     /// Accepts a region that a client sealed, before any of its records is digested. It makes no device call.
@@ -401,6 +281,7 @@ impl<M: Media> Kernel<M> {
         ensures accepted { OnOk result (HasAsManyWaiting self.new.book log.now) }
         ensures can { OnOk result ((m : Machine) (s : Sealed) → IsKernelOf M.Media self.old m → m.accepted log.now.client ≡ s.past → s.records ≡ log.now.records → CanAccept m log.now.client s) }
         ensures step { OnOk result ((m : Machine) (s : Sealed) → IsKernelOf M.Media self.old m → m.accepted log.now.client ≡ s.past → s.records ≡ log.now.records → IsKernelOf M.Media self.new (accepted m log.now.client s)) }
+        ensures booked { OnOk result ((m : Machine) (s : Sealed) → IsBookOf self.old.book m → m.accepted log.now.client ≡ s.past → length s.records ≡ length (undone log.now) → IsBookOf self.new.book (accepted m log.now.client s)) }
         ensures region { OnOk result ((m : Machine) (s : Sealed) → IsKernelOf M.Media self.old m → m.accepted log.now.client ≡ s.past → s.records ≡ log.now.records → ((i : ℕ) → s.writes i ≡ true → is_among i log.now.held ≡ true) → IsRegionOf log.now (m.kernel.accounts log.now.client).mark s) }
         ensures out { out_of self.new.book ≡ out_of self.old.book }
         ensures not_at_mark { IsErrOf result (Refused NotAtMark) ↔ ((self.old.area.failed ≡ false) × (StandsAtMark log.now (disk M.Media self.old.area) → ⊥)) }
@@ -456,6 +337,7 @@ impl<M: Media> Kernel<M> {
         ensures at_mark { IfOk result (λ a. a ≡ Digested → StandsAtMark log.new (disk M.Media self.new.area)) }
         ensures accepted { IfOk result (λ a. a ≡ Digested → HasAsManyWaiting self.new.book log.new) }
         ensures step { IfOk result (λ a. a ≡ Digested → (m : Machine) → IsKernelOf M.Media self.old m → IsKernelOf M.Media self.new (digested m log.old.client (take chunk.now.count (undone log.old)))) }
+        ensures booked { IfOk result (λ a. a ≡ Digested → (m : Machine) → IsBookOf self.old.book m → IsBookOf self.new.book (digested m log.old.client (take chunk.now.count (undone log.old)))) }
         // What the records raise of the charge they have in units.
         ensures law { OnOk result (units_in (undone log.old) ≤ units_of self.old.book log.old.client → charge (graph self.old.area.geometry (disk M.Media self.old.area)) + out_of self.old.book ≤ self.old.area.geometry.units
             → charge (graph self.new.area.geometry (disk M.Media self.new.area)) + out_of self.new.book ≤ self.new.area.geometry.units) }
@@ -502,7 +384,7 @@ impl<M: Media> Kernel<M> {
     /// each moment a stop leaves the graph with the file or without it, and the same marks.
     ///
     /// `InUse` exactly where there is no such file: one that has a name or a pin, a directory, or nothing at all. A pin, and that nothing is there, is answered before any device is asked. `Memory` where
-    /// there was none for the change. After these nothing has changed. `DeviceFault` where a device failed.
+    /// there was none for the change, which is made of such a file alone. After these nothing has changed. `DeviceFault` where a device failed.
     pub fn reclaim(&mut self, inode: u32) -> Result<(), KernelError<ReclaimError>>
         ensures any_moment { self.old.area.failed ≡ false → StaysOrReclaims self.old.area.geometry (disk M.Media self.old.area) inode (M.moment self.old.area.media) (M.moment self.new.area.media) (M.left self.old.area.media) (M.left self.new.area.media) }
         ensures unused { OnOk result (IsUnused (graph self.old.area.geometry (disk M.Media self.old.area)) self.old.book inode) }
@@ -513,7 +395,7 @@ impl<M: Media> Kernel<M> {
         // What is no such file is not touched, whatever fails.
         ensures untouched { (IsUnused (graph self.old.area.geometry (disk M.Media self.old.area)) self.old.book inode → ⊥) → Unmoved (M.moment self.old.area.media) (M.moment self.new.area.media) (M.seen self.old.area.media) (M.seen self.new.area.media) (M.left self.old.area.media) (M.left self.new.area.media) }
         ensures pinned { self.old.area.failed ≡ false → is_pinned self.old.book inode ≡ true → IsErrOf result (Refused reclaims.InUse) × (self.new ≡ self.old) }
-        ensures memory { IsErrOf result (Refused reclaims.Memory) → WantsMemory self.old.area.geometry (disk M.Media self.old.area) inode ⊎ IsNameless (graph self.old.area.geometry (disk M.Media self.old.area) inode) }
+        ensures memory { IsErrOf result (Refused reclaims.Memory) → IsNameless (graph self.old.area.geometry (disk M.Media self.old.area) inode) }
         ensures book { self.new.book ≡ self.old.book }
         ensures answers { Answers self.old.area.failed self.old self.new result (ReclaimsOrStays M.Media self.old.area self.new.area) }
         // As many writes and fences as the change that drops a node makes, and none where it is not made; what is read is not counted.
@@ -539,9 +421,9 @@ impl<M: Media> Kernel<M> {
         Ok(())
     }
 
-    /// What is to be moved to a tier next: of the files that have a block in the tier next above it the one with the least touch number, of several the one with the least inode, with its first run there, of 256
-    /// blocks at most. `None` where no file has a block there, and for the fast tier. It changes nothing.
-    /// It reads the slot and the extents of each inode. `DeviceFault` where a device failed, `Memory` where there was none for an extent block.
+    /// Picks what is to be moved to a tier next: of the files with a block in the tier next above it the one with the least touch number, of several the one with the least inode, with its first run there, of 256
+    /// blocks at most. `None` where no file has a block there, and for the fast tier. Changes nothing; reads the slot and the extents of each inode. Refused: `DeviceFault`, and `Memory` where there was none for an
+    /// extent block.
     pub fn pick(&mut self, to: Tier) -> Result<Option<FileRun>, KernelError<AreaError>>
         ensures picked { IfOk result (IsPicked self.old.area.geometry (disk M.Media self.old.area) to) }
         ensures may_be_moved { IfOk result (λ x. IfSome x (MayBeMoved self.old.area.geometry (disk M.Media self.old.area) to)) }

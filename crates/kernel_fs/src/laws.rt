@@ -1,6 +1,6 @@
 //! Where the machine's records meet those of the digester.
 
-ghost use Rattle.std.specs.Prelude.{◌≡◌, ◌<◌, ◌≤◌, ◌+◌, ℕ, Bool, List, true, length, take, drop};
+ghost use Rattle.std.specs.Prelude.{◌≡◌, ◌<◌, ◌≤◌, ◌+◌, ℕ, Bool, List, ◌∷◌, Some, true, length, take, drop};
 ghost use Rattle.std.specs.List.{AllByRecursion};
 ghost use Rattle.digester.specs.file_graph.Graph.{Graph, after_effects, is_among};
 ghost use Rattle.digester.specs.log_record.Grammar.{IsRecord};
@@ -16,6 +16,7 @@ ghost use Rattle.world_invariant.specs.ClientParts.{IsLogged};
 ghost use Rattle.world_invariant.specs.Machine.{Machine, Sealed, IsRunning, StandsSealed, CanDigestNext, digest, undigested_sealed};
 ghost use Rattle.kernel_fs.specs.Book.{Accounts, IsBookOf};
 ghost use Rattle.kernel_fs.specs.RegionAccept.{HasAsManyWaiting, IsRegionOf};
+ghost use Rattle.kernel_fs.specs.Run.{Entry, Digest, RunState, IsRun, generation_accepted_last};
 ghost use Rattle.kernel_fs.specs.KernelView.{KernelView};
 ghost use Rattle.kernel_fs.specs.MachineState.{IsKernelOf};
 
@@ -50,6 +51,12 @@ pub fn accepted_records_may_be_digested()
 pub fn digest_keeps_its_region()
     ensures { (x : SealedView) (m : Machine) (s : Sealed) (n : ℕ) → IsRegionOf x (m.kernel.accounts x.client).mark s → n ≤ length (undone x)
         → IsRegionOf (done_to (x.done + n) x) ((digest m x.client (take n (undone x))).kernel.accounts x.client).mark s }
+{}
+
+/// In a run that begins with no record waiting, as one from an opening does, each digest is of the region of its client that was accepted last, by its generation.
+pub fn digests_are_of_the_region_accepted_last()
+    ensures { (first last : RunState) (es : List Entry) (c g : ℕ) (s : Sealed) (digested rest : List Record) → ((d : ℕ) → first.machine.accepted d ≡ (first.machine.kernel.accounts d).mark)
+        → IsRun first (Digest c g s digested rest ∷ es) last → generation_accepted_last es c ≡ Some g }
 {}
 
 /// What leaves the book and moves nothing on the media keeps the machine that the kernel stands for: so do `fetch`, `blocks`, `tier_of` and `pick`, whatever they answer, and the refusals of the other calls but

@@ -30,6 +30,7 @@ mod chunk_digest;
 mod error;
 mod fetches;
 mod file_reclaim;
+mod grants;
 mod initial_value;
 mod inode_set;
 mod kernel;
@@ -38,14 +39,15 @@ mod log_reads;
 mod lowest;
 mod node_scan;
 mod node_update;
+mod opening;
 
 pub use account::ClientAccount;
-pub use book::Book;
+pub use book::{Book, UnitUse};
 pub use book_error::RefillError;
 pub use book_laws::{
-    book_has_what_its_machine_has, granted_and_taken_back_one_by_one, granted_set_keeps_the_whole,
-    grants_keep_the_book, marks_go_with_the_machine, members_are_those_of_the_set,
-    opened_machine_runs, runs_keep_what_holds,
+    book_has_what_its_machine_has, granted_and_taken_back_one_by_one, grants_keep_the_book,
+    marks_go_with_the_machine, members_are_those_of_the_set, opened_machine_runs,
+    runs_keep_what_holds,
 };
 pub use chunk_digest::Digestion;
 pub use error::{AcceptError, KernelError, KernelFailed, ReclaimError};
@@ -54,7 +56,8 @@ pub use file_reclaim::drop_nameless;
 pub use inode_set::InodeSet;
 pub use kernel::{Figures, Kernel};
 pub use laws::{
-    accepted_records_may_be_digested, digest_keeps_its_region, effects_of_records_are_the_records,
+    accepted_records_may_be_digested, digest_keeps_its_region,
+    digests_are_of_the_region_accepted_last, effects_of_records_are_the_records,
     sealed_records_are_covered, units_of_records_are_one_number,
     unmoved_kernel_stands_for_its_machine,
 };

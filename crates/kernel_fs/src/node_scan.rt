@@ -17,10 +17,8 @@ fn is_there<M: Media>(area: &mut Shared<M>, inode: u32) -> Result<bool, AreaErro
     ensures only { IfErr result (λ e. e ≡ DeviceFault) }
     ensures looks { Looks M.Media area.old area.new result }
 {
-    match area.node_counts(inode) {
-        Ok(found) => Ok(found.is_some()),
-        Err(error) => Err(error),
-    }
+    let found = area.node_counts(inode)?;
+    Ok(found.is_some())
 }
 
 // One more inode is put into the set of those that are nodes, where it is one.
@@ -35,17 +33,14 @@ fn add_node<M: Media>(
     ensures only { IfErr result (λ e. e ≡ DeviceFault) }
     ensures looks { Looks M.Media area.old area.new result }
 {
-    match is_there(area, inode) {
-        Ok(true) => {
-            nodes.insert(inode);
-            Ok(())
-        }
-        Ok(false) => Ok(()),
-        Err(error) => Err(error),
+    if !is_there(area, inode)? {
+        return Ok(());
     }
+    nodes.insert(inode);
+    Ok(())
 }
 
-/// The inodes that are nodes of the graph that the area spells. It reads the slot of each, and takes no memory.
+/// The inodes that are nodes of the graph that the area spells. Its device calls are reads, and it takes no memory.
 pub fn nodes_of<M: Media>(area: &mut Shared<M>) -> Result<InodeSet, AreaError>
     ensures nodes { IfOk result (λ nodes. AreNodes (graph area.old.geometry (disk M.Media area.old)) (has nodes)) }
     ensures only { IfErr result (λ e. e ≡ DeviceFault) }
@@ -56,10 +51,7 @@ pub fn nodes_of<M: Media>(area: &mut Shared<M>) -> Result<InodeSet, AreaError>
     }
     let mut nodes = InodeSet::new();
     'inodes: for inode in 1..MAX_INODE + 1 {
-        match add_node(area, &mut nodes, inode) {
-            Ok(()) => {}
-            Err(error) => return Err(error),
-        }
+        add_node(area, &mut nodes, inode)?;
     }
     Ok(nodes)
 }

@@ -2,49 +2,42 @@
 ghost use Rattle.host_media.specs.tier_device.declared.media.Tier.{Tier};
 ghost use Rattle.host_media.specs.tier_device.AfterStop.{AtRest};
 
-use crate::image_text::Image;
 use crate::input::Input;
 use crate::tree_walk::put_tree;
+use crate::world_rows::image_of;
+use crate::zeroed_media::Image;
 use area_image::{AreaError, Journal, JournalError, Marks, OpenArea, What, open_area};
 use host_media::{Media, Tier};
 use script::Text;
 use std::alloc::Global;
-use std::fs;
 
 /// `U,F,B,S FILE`, and changes of it each behind a `;`: what the media of this file hold once they are opened.
 pub fn tell_opened(rt: &HostRuntime, input: &mut Input<'_>, out: &mut Text) {
-    let alloc = input.alloc();
-    if let Some(geometry) = input.geometry() {
-        match Image::new(alloc, &geometry) {
-            Ok(image) => put_image(rt, image, input, out),
-            Err(_) => out.cut(),
-        }
+    if let Some(image) = image_of(rt, input) {
+        put_changed(image, input, out);
     }
 }
 
-fn put_image(rt: &HostRuntime, image: Image, input: &mut Input<'_>, out: &mut Text) {
-    let alloc = input.alloc();
+fn put_changed(image: Image, input: &mut Input<'_>, out: &mut Text) {
     let mut image = image;
-    match fs::read_to_string(rt, input.part(';')) {
-        Ok(lines) => image.put_world(&lines, input),
-        Err(_) => input.fail(),
+    for change in input.remaining_text().split(';') {
+        put_change(&mut image, change, input);
     }
-    put_changes(alloc, &mut image, input);
-    match image.into_media() {
-        Ok(media) => put_medium(alloc, media, out),
-        Err(_) => out.field("", &AreaError::Memory),
+    put_image(&image, out);
+}
+
+fn put_change(image: &mut Image, change: &str, input: &mut Input<'_>) {
+    if !change.is_empty() {
+        let mut words = Input::new(image.alloc, change.trim());
+        image.change(&mut words);
+        input.fail_if(!words.is_read());
     }
 }
 
-fn put_changes(alloc: Global, image: &mut Image, input: &mut Input<'_>) {
-    for change in input.remaining_text().split(';') {
-        if !change.is_empty() {
-            let mut words = Input::new(alloc, change.trim());
-            image.change(&mut words);
-            if words.is_bad() {
-                input.fail();
-            }
-        }
+fn put_image(image: &Image, out: &mut Text) {
+    match image.tiers() {
+        Ok(media) => put_medium(image.alloc, media, out),
+        Err(_) => out.field("", &AreaError::Memory),
     }
 }
 

@@ -1,141 +1,140 @@
 // Calls of a medium as text, and what it answers.
-use anyhow::{Result, bail};
+use crate::byte_fill::equal_bytes;
+use crate::input::Input;
 use host_media::{Media, MediaError, Tier};
-use std::alloc::{AllocError, Global};
+use script::Text;
+use std::alloc::Global;
+use std::fmt::Display;
 
 /// What a buffer holds before a read.
 const BEFORE: u8 = 238;
 
-/// Makes the calls, which are parted by `; `, and adds the answer of each.
-pub fn play<M: Media>(alloc: Global, media: &mut M, calls: &str, out: &mut String) -> Result<()> {
+/// Makes the calls, which are parted by `; `, and writes the answer of each.
+pub fn play<M: Media>(media: &mut M, calls: &str, input: &mut Input<'_>, out: &mut Text) {
     for call in calls.split("; ") {
-        make(alloc, media, call, out)?;
-        out.push_str("; ")?;
-    }
-    Ok(())
-}
-
-/// Adds what reads give of the three tiers.
-pub fn tell_tiers<M: Media>(alloc: Global, media: &mut M, out: &mut String) -> Result<()> {
-    let mut joint = "";
-    for tier in [Tier::Fast, Tier::Block, Tier::Slow] {
-        out.push_str(joint)?;
-        let size = media.size(tier);
-        read(alloc, media, tier, 0, size, out)?;
-        joint = " / ";
-    }
-    Ok(())
-}
-
-fn make<M: Media>(alloc: Global, media: &mut M, call: &str, out: &mut String) -> Result<()> {
-    let (word, rest) = first_word(call);
-    let (tier, rest) = first_word(rest);
-    let tier = tier_of(tier)?;
-    match word {
-        "size" => Ok(write!(out, "{}", media.size(tier))?),
-        "fence" => Ok(put_answer(media.fence(tier), out)?),
-        "read" => make_read(alloc, media, tier, rest, out),
-        "write" => make_write(alloc, media, tier, rest, out),
-        _ => bail!("no call: {call}"),
+        let mut words = Input::new(input.alloc(), call);
+        make(media, &mut words, out);
+        input.fail_if(!words.is_read());
+        out.put("; ");
     }
 }
 
-fn make_read<M: Media>(
-    alloc: Global,
-    media: &mut M,
-    tier: Tier,
-    words: &str,
-    out: &mut String,
-) -> Result<()> {
-    let (at, size) = first_word(words);
-    let at = number_of(at)?;
-    read(alloc, media, tier, at, number_of(size)?, out)
+fn make<M: Media>(media: &mut M, words: &mut Input<'_>, out: &mut Text) {
+    let call = words.word();
+    let tier = words.word();
+    let tier = words.tier(tier);
+    match call {
+        "size" => out.field("", &media.size(tier)),
+        "fence" => put_answer(&media.fence(tier), out),
+        "read" => make_read(media, tier, words, out),
+        "write" => make_write(media, tier, words, out),
+        _ => words.fail(),
+    }
 }
 
-fn make_write<M: Media>(
-    alloc: Global,
-    media: &mut M,
-    tier: Tier,
-    words: &str,
-    out: &mut String,
-) -> Result<()> {
-    let (at, bytes) = first_word(words);
-    let at = number_of(at)?;
-    let bytes = bytes_of(alloc, bytes)?;
-    Ok(put_answer(media.write(tier, at, &bytes), out)?)
+fn make_read<M: Media>(media: &mut M, tier: Tier, words: &mut Input<'_>, out: &mut Text) {
+    let at = words.size();
+    let size = words.size();
+    read(words.alloc(), media, tier, at, size, out);
 }
 
-// Reads `size` bytes. After a refusal the buffer has to be as it was.
+fn make_write<M: Media>(media: &mut M, tier: Tier, words: &mut Input<'_>, out: &mut Text) {
+    let at = words.size();
+    let bytes = bytes_of(words);
+    put_answer(&media.write(tier, at, &bytes), out);
+}
+
+/// Writes what reads give of the three tiers.
+pub fn put_tiers<M: Media>(alloc: Global, media: &mut M, out: &mut Text) {
+    put_tier(alloc, media, Tier::Fast, out);
+    out.put(" / ");
+    put_tier(alloc, media, Tier::Block, out);
+    out.put(" / ");
+    put_tier(alloc, media, Tier::Slow, out);
+}
+
+fn put_tier<M: Media>(alloc: Global, media: &mut M, tier: Tier, out: &mut Text) {
+    let size = media.size(tier);
+    read(alloc, media, tier, 0, size, out);
+}
+
+// Reads `size` bytes.
 fn read<M: Media>(
     alloc: Global,
     media: &mut M,
     tier: Tier,
     at: usize,
     size: usize,
-    out: &mut String,
-) -> Result<()> {
-    let mut bytes = vec![in alloc; BEFORE; size]?;
-    match media.read(tier, at, &mut bytes) {
-        Ok(()) => put_bytes(&bytes, out)?,
-        Err(error) => {
-            write!(out, "{error}")?;
-            if bytes.iter().any(|byte| *byte != BEFORE) {
-                out.push_str(", with a buffer that has changed")?;
-            }
+    out: &mut Text,
+) {
+    match equal_bytes(alloc, BEFORE, size) {
+        Ok(mut bytes) => {
+            let answer = media.read(tier, at, &mut bytes);
+            put_buffer(answer, &bytes, out);
+        }
+        Err(_) => out.cut(),
+    }
+}
+
+// After a refusal the buffer has to be as it was.
+fn put_buffer(answer: Result<(), MediaError>, bytes: &[u8], out: &mut Text) {
+    put_read(&answer, bytes, out);
+    if answer.is_err() && has_changed(bytes) {
+        out.put(", with a buffer that has changed");
+    }
+}
+
+fn has_changed(bytes: &[u8]) -> bool {
+    for byte in bytes {
+        if *byte != BEFORE {
+            return true;
         }
     }
-    Ok(())
+    false
 }
 
-fn put_answer(answer: Result<(), MediaError>, out: &mut String) -> Result<(), AllocError> {
+/// Writes `ok`, or why something was refused.
+pub fn put_answer<E: Display>(answer: &Result<(), E>, out: &mut Text) {
     match answer {
-        Ok(()) => out.push_str("ok"),
-        Err(error) => write!(out, "{error}"),
+        Ok(()) => out.put("ok"),
+        Err(error) => out.field("", error),
     }
 }
 
-/// Adds the bytes as numbers, or `-` where there are none.
-pub fn put_bytes(bytes: &[u8], out: &mut String) -> Result<(), AllocError> {
-    if bytes.is_empty() {
-        return out.push('-');
+/// Writes the bytes that were read as numbers, `-` where there are none, or why the read was refused.
+pub fn put_read<E: Display>(answer: &Result<(), E>, bytes: &[u8], out: &mut Text) {
+    match answer {
+        Ok(()) => put_bytes(bytes, out),
+        Err(error) => out.field("", error),
     }
+}
+
+fn put_bytes(bytes: &[u8], out: &mut Text) {
     let mut joint = "";
     for byte in bytes {
-        write!(out, "{joint}{byte}")?;
+        out.field(joint, byte);
         joint = " ";
     }
-    Ok(())
-}
-
-/// What stands before the first space, and what behind it.
-pub fn first_word(text: &str) -> (&str, &str) {
-    text.split_once(' ').unwrap_or((text, ""))
-}
-
-fn tier_of(word: &str) -> Result<Tier> {
-    match word {
-        "fast" => Ok(Tier::Fast),
-        "block" => Ok(Tier::Block),
-        "slow" => Ok(Tier::Slow),
-        _ => bail!("no tier: {word}"),
+    if bytes.is_empty() {
+        out.put("-");
     }
 }
 
-/// The number that a word spells.
-pub fn number_of(word: &str) -> Result<usize> {
-    match word.parse::<usize>() {
-        Ok(number) => Ok(number),
-        Err(_) => bail!("no number: {word}"),
-    }
-}
-
-fn bytes_of(alloc: Global, words: &str) -> Result<Vec<u8>> {
-    let mut bytes = Vec::new(alloc);
-    for word in words.split(' ').filter(|word| !word.is_empty()) {
-        match word.parse::<u8>() {
-            Ok(byte) => bytes.push(byte)?,
-            Err(_) => bail!("no byte: {word}"),
+// The bytes of the words that are left, a number each.
+fn bytes_of(words: &mut Input<'_>) -> Vec<u8> {
+    let mut bytes = Vec::new(words.alloc());
+    for word in words.remaining_text().split(' ') {
+        if !word.is_empty() && !add_byte(&mut bytes, word) {
+            words.fail();
         }
     }
-    Ok(bytes)
+    bytes
+}
+
+// Whether the word is a byte, and there was memory for it.
+fn add_byte(bytes: &mut Vec<u8>, word: &str) -> bool {
+    match word.parse::<u8>() {
+        Ok(byte) => bytes.push(byte).is_ok(),
+        Err(_) => false,
+    }
 }

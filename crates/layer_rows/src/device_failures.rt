@@ -1,10 +1,12 @@
 // Media in memory that fail or stop, and count their calls by a trip or by a number of their own.
 ghost use Rattle.std.specs.Prelude.{◌≤◌};
 
-use crate::device_call::{first_word, number_of, play, tell_tiers};
-use crate::device_kinds::memory;
-use anyhow::{Result, bail};
-use host_media::{FaultMedia, Fill, Media, Sizes, StopMedia, Trip};
+use crate::device_call::{play, put_tiers};
+use crate::device_kinds::{memory, sizes_of};
+use crate::input::Input;
+use crate::tables::{Teller, split_text};
+use host_media::{FaultMedia, Fill, Media, MemMedia, StopMedia, Trip};
+use script::Text;
 use std::alloc::{AllocError, Global};
 
 /// What a medium counts by.
@@ -17,140 +19,148 @@ pub enum Counter {
 /// What media count by, in the order in which rows try them.
 pub const COUNTERS: [Counter; 2] = [Counter::Trip, Counter::Own];
 
-/// The write or fence within which a medium stops, the first being 1, and what unfenced bytes hold after it.
+impl Teller for Counter {
+    // `FAST BLOCK SLOW, FAILURES: CALLS`: what a medium answers that fails or stops so, and what it then holds: one that has stopped,
+    // what is left after the stop.
+    fn tell(&self, _rt: &HostRuntime, input: &mut Input<'_>, out: &mut Text) {
+        let (media, calls) = split_text(input.remaining_text(), ": ");
+        let (sizes, failures) = split_text(media, ", ");
+        let sizes = sizes_of(sizes, input);
+        let failing = Failing::read(failures, input);
+        match memory(sizes, input) {
+            Some(media) => tell_failing(*self, media, failing, calls, input, out),
+            None => out.cut(),
+        }
+    }
+}
+
+// The write or fence that fails, the one within which a medium stops, and what unfenced bytes hold after the stop. The first call is 1; 0
+// is none.
 #[derive(Clone, Copy)]
-struct Stop {
-    call: u64,
+struct Failing {
+    fail: u64,
+    stop: u64,
     fill: Fill,
 }
 
-/// The write or fence that fails, and the stop.
-#[derive(Clone, Copy)]
-pub struct Failing {
-    fail: Option<u64>,
-    stop: Option<Stop>,
-}
-
 impl Failing {
-    /// `fail CALL`, `stop CALL FILL`, or both with `, ` between them.
-    pub fn read(words: &str) -> Result<Failing> {
+    // `fail CALL`, `stop CALL FILL`, or both with `, ` between them.
+    fn read(text: &str, input: &mut Input<'_>) -> Failing {
         let mut found = Failing {
-            fail: None,
-            stop: None,
+            fail: 0,
+            stop: 0,
+            fill: Fill::New,
         };
-        for part in words.split(", ") {
-            found.put(part)?;
+        for part in text.split(", ") {
+            let mut words = Input::new(input.alloc(), part);
+            found.put(&mut words);
+            input.fail_if(!words.is_read());
         }
-        Ok(found)
+        found
     }
 
-    fn put(&mut self, part: &str) -> Result<()> {
-        let (word, rest) = first_word(part);
-        let (call, fill) = first_word(rest);
-        let call = number_of(call)? as u64;
+    fn put(&mut self, words: &mut Input<'_>) {
+        let word = words.word();
+        let call = words.size() as u64;
+        words.fail_if(call == 0);
         match word {
-            "fail" => self.fail = Some(call),
+            "fail" => self.fail = call,
             "stop" => {
-                self.stop = Some(Stop {
-                    call,
-                    fill: fill_of(fill)?,
-                })
+                self.stop = call;
+                self.fill = fill_of(words);
             }
-            _ => bail!("no failure: {part}"),
+            _ => words.fail(),
         }
-        Ok(())
     }
 }
 
-fn fill_of(word: &str) -> Result<Fill> {
-    match word {
-        "old" => Ok(Fill::Old),
-        "new" => Ok(Fill::New),
-        _ => bail!("no fill: {word}"),
+fn fill_of(words: &mut Input<'_>) -> Fill {
+    match words.word() {
+        "old" => return Fill::Old,
+        "new" => {}
+        _ => words.fail(),
     }
+    Fill::New
 }
 
-/// What a medium answers that fails or stops so, and what it then holds: one that has stopped, what is left after the stop.
-pub fn failure_report(
-    alloc: Global,
+fn tell_failing(
     counter: Counter,
-    sizes: Sizes,
+    media: MemMedia,
     failing: Failing,
     calls: &str,
-) -> Result<String> {
-    let mut out = String::new(alloc);
-    let media = memory(alloc, sizes)?;
-    match (failing.fail, failing.stop) {
-        (Some(fail), Some(stop)) => {
-            let media = stop_media(alloc, counter, StopMedia::new(media), stop)?;
-            let media = media_failure(alloc, counter, media, fail)?;
-            tell_rest(
-                alloc,
-                play_calls(alloc, media, calls, &mut out)?.into_inner(),
-                &mut out,
-            )?;
-        }
-        (Some(fail), None) => {
-            let media = media_failure(alloc, counter, media, fail)?;
-            let mut media = play_calls(alloc, media, calls, &mut out)?.into_inner();
-            tell_tiers(alloc, &mut media, &mut out)?;
-        }
-        (None, Some(stop)) => {
-            let media = stop_media(alloc, counter, StopMedia::new(media), stop)?;
-            tell_rest(alloc, play_calls(alloc, media, calls, &mut out)?, &mut out)?;
-        }
-        (None, None) => bail!("no failure"),
+    input: &mut Input<'_>,
+    out: &mut Text,
+) {
+    if failing.stop == 0 {
+        let mut media = play_failing(counter, media, failing.fail, calls, input, out);
+        return put_tiers(input.alloc(), &mut media, out);
     }
-    Ok(out)
+    let media = stop_media(counter, media, failing, input);
+    let media = play_failing(counter, media, failing.fail, calls, input, out);
+    put_rest(input.alloc(), media, out);
 }
 
-// The medium after these calls.
-fn play_calls<M: Media + Drop>(
-    alloc: Global,
-    media: M,
-    calls: &str,
-    out: &mut String,
-) -> Result<M> {
-    let mut media = media;
-    play(alloc, &mut media, calls, out)?;
-    Ok(media)
-}
-
-// Adds what a medium holds at rest after its stop; one that has not stopped holds what was written.
-fn tell_rest(alloc: Global, media: StopMedia, out: &mut String) -> Result<()> {
-    match media.rest() {
-        Ok(mut rest) => tell_tiers(alloc, &mut rest, out),
-        Err(_media) => Err(AllocError.into()),
-    }
-}
-
-fn stop_media(alloc: Global, counter: Counter, media: StopMedia, stop: Stop) -> Result<StopMedia> {
-    let mut media = media;
-    if stop.call == 0 {
-        bail!("no call: 0");
-    }
+// A medium over this one that stops.
+fn stop_media(
+    counter: Counter,
+    media: MemMedia,
+    failing: Failing,
+    input: &mut Input<'_>,
+) -> StopMedia
+    requires { 1 ≤ failing.stop }
+{
+    let mut media = StopMedia::new(media);
     match counter {
-        Counter::Own => media.stop_within(stop.call, stop.fill),
-        Counter::Trip => media.stop_with(arm_trip(alloc, stop.call)?, stop.fill),
+        Counter::Own => media.stop_within(failing.stop, failing.fill),
+        Counter::Trip => {
+            match arm_trip(input.alloc(), failing.stop) {
+                Ok(trip) => media.stop_with(trip, failing.fill),
+                Err(_) => input.fail(),
+            }
+        }
     }
-    Ok(media)
+    media
 }
 
-fn media_failure<M: Media + Drop>(
-    alloc: Global,
+// The medium after these calls, of which it fails one.
+fn play_failing<M: Media + Drop>(
     counter: Counter,
     media: M,
-    call: u64,
-) -> Result<FaultMedia<M>> {
+    fail: u64,
+    calls: &str,
+    input: &mut Input<'_>,
+    out: &mut Text,
+) -> M {
+    let mut media = media;
+    if fail == 0 {
+        play(&mut media, calls, input, out);
+        return media;
+    }
+    let mut media = fail_media(counter, media, fail, input);
+    play(&mut media, calls, input, out);
+    media.into_inner()
+}
+
+// A medium over this one that fails.
+fn fail_media<M: Media + Drop>(
+    counter: Counter,
+    media: M,
+    fail: u64,
+    input: &mut Input<'_>,
+) -> FaultMedia<M>
+    requires { 1 ≤ fail }
+{
     let mut media = FaultMedia::new(media);
-    if call == 0 {
-        bail!("no call: 0");
-    }
     match counter {
-        Counter::Own => media.fail_at(call),
-        Counter::Trip => media.fail_with(arm_trip(alloc, call)?),
+        Counter::Own => media.fail_at(fail),
+        Counter::Trip => {
+            match arm_trip(input.alloc(), fail) {
+                Ok(trip) => media.fail_with(trip),
+                Err(_) => input.fail(),
+            }
+        }
     }
-    Ok(media)
+    media
 }
 
 // A trip that runs out at this call.
@@ -160,4 +170,12 @@ fn arm_trip(alloc: Global, call: u64) -> Result<Trip, AllocError>
     let trip = Trip::new(alloc)?;
     trip.arm(call);
     Ok(trip)
+}
+
+// Writes what a medium holds at rest after its stop; one that has not stopped holds what was written.
+fn put_rest(alloc: Global, media: StopMedia, out: &mut Text) {
+    match media.rest() {
+        Ok(mut rest) => put_tiers(alloc, &mut rest, out),
+        Err(_media) => out.cut(),
+    }
 }

@@ -1,139 +1,119 @@
 // Files of several media: how they are made, opened, named and taken away.
-use crate::device_call::{first_word, number_of, put_bytes};
-use crate::device_parts::{all_sizes, tell_media};
-use anyhow::{Result, bail};
-use host_media::{DiskFile, FileError, FileProblem};
+use crate::byte_fill::equal_bytes;
+use crate::device_call::{put_answer, put_read};
+use crate::device_parts::{all_sizes, put_all};
+use crate::input::Input;
+use host_media::{DiskFile, FileError, Sizes};
+use script::Text;
+use std::alloc::Global;
 use std::fs;
 
-/// What is said of the steps, which are parted by `; `. The file that was made or opened last is held, until it is parted or closed.
-pub fn steps_report(rt: &HostRuntime, steps: &str) -> Result<String> {
+/// `STEP; STEP ..`: what is said of the steps. The file that was made or opened last is held, until it is parted or closed.
+pub fn tell_steps(rt: &HostRuntime, input: &mut Input<'_>, out: &mut Text) {
     let mut held = None;
-    let mut out = String::new(rt.alloc());
-    for words in steps.split("; ") {
-        if !out.is_empty() {
-            out.push_str("; ")?;
+    for step in input.remaining_text().split("; ") {
+        if !out.as_str().is_empty() {
+            out.put("; ");
         }
-        make_step(rt, &mut held, words, &mut out)?;
+        let mut words = Input::new(input.alloc(), step);
+        make_step(rt, &mut held, &mut words, out);
+        input.fail_if(!words.is_read());
     }
-    Ok(out)
 }
 
-fn make_step(
-    rt: &HostRuntime,
-    held: &mut Option<DiskFile>,
-    words: &str,
-    out: &mut String,
-) -> Result<()> {
-    let (step, words) = first_word(words);
-    match step {
+fn make_step(rt: &HostRuntime, held: &mut Option<DiskFile>, words: &mut Input<'_>, out: &mut Text) {
+    match words.word() {
         "create" => create(rt, held, words, out),
-        "open" => hold(DiskFile::open(rt, rt.alloc(), words), held, out),
+        "open" => open(rt, held, words, out),
         "close" => close(held, out),
         "rename" => rename(rt, words, out),
-        "remove" => put_answer(DiskFile::remove_unused(rt, words), out),
+        "remove" => remove(rt, words, out),
         "write" => write_file(rt, words, out),
-        "read" => read(rt, held, words, out),
-        "part" => part(rt, held, words, out),
-        _ => bail!("no step: {step}"),
+        "read" => read(held, words, out),
+        "part" => part(held, words, out),
+        _ => words.fail(),
     }
 }
 
-fn create(
-    rt: &HostRuntime,
-    held: &mut Option<DiskFile>,
-    words: &str,
-    out: &mut String,
-) -> Result<()> {
-    let (path, len) = first_word(words);
-    let len = number_of(len)?;
-    hold(DiskFile::create(rt, rt.alloc(), path, len), held, out)
+fn create(rt: &HostRuntime, held: &mut Option<DiskFile>, words: &mut Input<'_>, out: &mut Text) {
+    let path = words.word();
+    let len = words.size();
+    hold(DiskFile::create(rt, rt.alloc(), path, len), held, out);
+}
+
+fn open(rt: &HostRuntime, held: &mut Option<DiskFile>, words: &mut Input<'_>, out: &mut Text) {
+    hold(
+        DiskFile::open(rt, rt.alloc(), words.remaining_text()),
+        held,
+        out,
+    );
 }
 
 // A file that was opened is held, and the one that was held before is closed.
-fn hold(
-    opened: Result<DiskFile, FileError<'_>>,
-    held: &mut Option<DiskFile>,
-    out: &mut String,
-) -> Result<()> {
+fn hold(opened: Result<DiskFile, FileError<'_>>, held: &mut Option<DiskFile>, out: &mut Text) {
     match opened {
         Ok(disk) => {
-            write!(out, "{} bytes", disk.len())?;
+            out.field("", &disk.len());
+            out.put(" bytes");
             *held = Some(disk);
         }
-        Err(error) => {
-            check_memory(&error.problem)?;
-            write!(out, "{error}")?;
-        }
-    }
-    Ok(())
-}
-
-// A want of memory ends the row.
-fn check_memory(problem: &FileProblem) -> Result<()> {
-    match problem {
-        FileProblem::Memory => bail!("{problem}"),
-        _ => Ok(()),
+        Err(error) => out.field("", &error),
     }
 }
 
-fn close(held: &mut Option<DiskFile>, out: &mut String) -> Result<()> {
+fn close(held: &mut Option<DiskFile>, out: &mut Text) {
     *held = None;
-    Ok(out.push_str("ok")?)
+    out.put("ok");
 }
 
-fn rename(rt: &HostRuntime, words: &str, out: &mut String) -> Result<()> {
-    let (path, name) = first_word(words);
-    put_answer(DiskFile::rename(rt, path, name), out)
+fn rename(rt: &HostRuntime, words: &mut Input<'_>, out: &mut Text) {
+    let path = words.word();
+    put_answer(&DiskFile::rename(rt, path, words.remaining_text()), out);
+}
+
+fn remove(rt: &HostRuntime, words: &mut Input<'_>, out: &mut Text) {
+    put_answer(&DiskFile::remove_unused(rt, words.remaining_text()), out);
 }
 
 // A file that another hand makes.
-fn write_file(rt: &HostRuntime, words: &str, out: &mut String) -> Result<()> {
-    let (path, text) = first_word(words);
-    fs::write(rt, path, text)?;
-    Ok(out.push_str("ok")?)
+fn write_file(rt: &HostRuntime, words: &mut Input<'_>, out: &mut Text) {
+    let path = words.word();
+    let text = words.remaining_text();
+    words.fail_if(fs::write(rt, path, text).is_err());
+    out.put("ok");
 }
 
-fn put_answer(answer: Result<(), FileError<'_>>, out: &mut String) -> Result<()> {
-    match answer {
-        Ok(()) => out.push_str("ok")?,
-        Err(error) => write!(out, "{error}")?,
-    }
-    Ok(())
-}
-
-fn read(rt: &HostRuntime, held: &Option<DiskFile>, words: &str, out: &mut String) -> Result<()> {
-    let (at, count) = first_word(words);
-    let mut bytes = vec![in rt.alloc(); 0u8; number_of(count)?]?;
+fn read(held: &Option<DiskFile>, words: &mut Input<'_>, out: &mut Text) {
+    let at = words.size();
+    let count = words.size();
     match held {
-        Some(disk) => put_read(disk.read(number_of(at)?, &mut bytes), &bytes, out),
-        None => bail!("no file is open"),
+        Some(disk) => read_bytes(words.alloc(), disk, at, count, out),
+        None => words.fail(),
     }
 }
 
-fn put_read(answer: Result<(), FileProblem>, bytes: &[u8], out: &mut String) -> Result<()> {
-    match answer {
-        Ok(()) => put_bytes(bytes, out)?,
-        Err(problem) => write!(out, "{problem}")?,
+fn read_bytes(alloc: Global, disk: &DiskFile, at: usize, count: usize, out: &mut Text) {
+    match equal_bytes(alloc, 0, count) {
+        Ok(mut bytes) => {
+            let answer = disk.read(at, &mut bytes);
+            put_read(&answer, &bytes, out);
+        }
+        Err(_) => out.cut(),
     }
-    Ok(())
 }
 
 // Parts the file that is held, and closes it.
-fn part(
-    rt: &HostRuntime,
-    held: &mut Option<DiskFile>,
-    words: &str,
-    out: &mut String,
-) -> Result<()> {
-    let sizes = all_sizes(rt, words)?;
-    let Some(disk) = held.take() else {
-        bail!("no file is open");
-    };
-    match disk.into_media(rt.alloc(), &sizes) {
-        Ok(mut media) => tell_media(rt, &mut media, out),
-        Err(problem) => {
-            check_memory(&problem)?;
-            Ok(write!(out, "{problem}")?)
-        }
+fn part(held: &mut Option<DiskFile>, words: &mut Input<'_>, out: &mut Text) {
+    let sizes = all_sizes(words.remaining_text(), words);
+    match held.take() {
+        Some(disk) => put_parts(words.alloc(), disk, &sizes, out),
+        None => words.fail(),
+    }
+}
+
+fn put_parts(alloc: Global, disk: DiskFile, sizes: &[Sizes], out: &mut Text) {
+    match disk.into_media(alloc, sizes) {
+        Ok(mut media) => put_all(alloc, &mut media, out),
+        Err(problem) => out.field("", &problem),
     }
 }

@@ -1,79 +1,96 @@
 // Several media in one file.
-use crate::device_call::{play, tell_tiers};
-use crate::device_kinds::{PATH, sizes_of};
-use anyhow::{Result, bail};
-use host_media::{DiskFile, FileError, FileMedia, Sizes};
-use std::fs;
+use crate::device_call::{play, put_tiers};
+use crate::device_kinds::{PATH, remove_medium, sizes_of};
+use crate::input::Input;
+use crate::tables::split_text;
+use host_media::{DiskFile, FileError, FileMedia, FileProblem, Sizes};
+use script::Text;
+use std::alloc::Global;
 
-/// What is said of `SIZES, SIZES ..: CALLS | CALLS ..`: of the calls of each medium of a new file, and of what each holds once the
+/// `SIZES, SIZES ..: CALLS | CALLS ..`: what is said of the calls of each medium of a new file, and of what each holds once the
 /// file was closed and opened again.
-pub fn shared_report(rt: &HostRuntime, words: &str) -> Result<String> {
-    let Some((sizes, calls)) = words.split_once(": ") else {
-        bail!("no calls: {words}");
-    };
-    let sizes = all_sizes(rt, sizes)?;
-    let mut out = String::new(rt.alloc());
-    play_over_media(rt, &mut made_media(rt, &sizes)?, calls, &mut out)?;
-    tell_media(rt, &mut opened_media(rt, &sizes)?, &mut out)?;
-    fs::remove_file(rt, PATH)?;
-    Ok(out)
-}
-
-/// The sizes of several media, `FAST BLOCK SLOW, FAST BLOCK SLOW ..`.
-pub fn all_sizes(rt: &HostRuntime, words: &str) -> Result<Vec<Sizes>> {
-    let mut all = Vec::new(rt.alloc());
-    for part in words.split(", ") {
-        all.push(sizes_of(part)?)?;
+pub fn tell_shared(rt: &HostRuntime, input: &mut Input<'_>, out: &mut Text) {
+    let (sizes, calls) = split_text(input.remaining_text(), ": ");
+    let sizes = all_sizes(sizes, input);
+    if play_over_new(rt, &sizes, calls, input, out) {
+        put_reopened(rt, &sizes, out);
     }
-    Ok(all)
+    remove_medium(rt, input);
 }
 
-fn made_media(rt: &HostRuntime, sizes: &[Sizes]) -> Result<Vec<FileMedia>> {
-    let Some(len) = Sizes::total_len(sizes) else {
-        bail!("no file has so many bytes");
-    };
-    media_of(rt, DiskFile::create(rt, rt.alloc(), PATH, len), sizes)
+/// The lengths of the tiers of several media, `FAST BLOCK SLOW, FAST BLOCK SLOW ..`.
+pub fn all_sizes(text: &str, input: &mut Input<'_>) -> Vec<Sizes> {
+    let mut all = Vec::new(input.alloc());
+    for words in text.split(", ") {
+        let sizes = sizes_of(words, input);
+        input.fail_if(all.push(sizes).is_err());
+    }
+    all
 }
 
-fn opened_media(rt: &HostRuntime, sizes: &[Sizes]) -> Result<Vec<FileMedia>> {
-    media_of(rt, DiskFile::open(rt, rt.alloc(), PATH), sizes)
+// Whether there is such a file.
+fn play_over_new(
+    rt: &HostRuntime,
+    sizes: &[Sizes],
+    calls: &str,
+    input: &mut Input<'_>,
+    out: &mut Text,
+) -> bool {
+    let len = total_len(sizes, input);
+    match media_of(
+        rt.alloc(),
+        DiskFile::create(rt, rt.alloc(), PATH, len),
+        sizes,
+    ) {
+        Ok(mut media) => {
+            play_all(&mut media, calls, input, out);
+            true
+        }
+        Err(problem) => {
+            out.field("", &problem);
+            false
+        }
+    }
+}
+
+// The bytes of all media. The row can't be read where there can't be so many.
+fn total_len(sizes: &[Sizes], input: &mut Input<'_>) -> usize {
+    let len = Sizes::total_len(sizes);
+    input.fail_if(len.is_none());
+    len.unwrap_or(0)
+}
+
+fn put_reopened(rt: &HostRuntime, sizes: &[Sizes], out: &mut Text) {
+    match media_of(rt.alloc(), DiskFile::open(rt, rt.alloc(), PATH), sizes) {
+        Ok(mut media) => put_all(rt.alloc(), &mut media, out),
+        Err(problem) => out.field("", &problem),
+    }
 }
 
 fn media_of(
-    rt: &HostRuntime,
+    alloc: Global,
     disk: Result<DiskFile, FileError<'_>>,
     sizes: &[Sizes],
-) -> Result<Vec<FileMedia>> {
-    let disk = match disk {
-        Ok(disk) => disk,
-        Err(error) => bail!("{error}"),
-    };
-    match disk.into_media(rt.alloc(), sizes) {
-        Ok(media) => Ok(media),
-        Err(problem) => bail!("{problem}"),
+) -> Result<Vec<FileMedia>, FileProblem> {
+    match disk {
+        Ok(disk) => disk.into_media(alloc, sizes),
+        Err(error) => Err(error.problem),
     }
 }
 
-fn play_over_media(
-    rt: &HostRuntime,
-    media: &mut [FileMedia],
-    calls: &str,
-    out: &mut String,
-) -> Result<()> {
+fn play_all(media: &mut [FileMedia], calls: &str, input: &mut Input<'_>, out: &mut Text) {
     for (one, calls) in media.iter_mut().zip(calls.split(" | ")) {
-        play(rt.alloc(), one, calls, out)?;
-        out.push_str("| ")?;
+        play(one, calls, input, out);
+        out.put("| ");
     }
-    Ok(())
 }
 
-/// Adds what each medium holds.
-pub fn tell_media(rt: &HostRuntime, media: &mut [FileMedia], out: &mut String) -> Result<()> {
+/// Writes what each medium holds.
+pub fn put_all(alloc: Global, media: &mut [FileMedia], out: &mut Text) {
     let mut joint = "";
     for one in media {
-        out.push_str(joint)?;
-        tell_tiers(rt.alloc(), one, out)?;
+        out.put(joint);
+        put_tiers(alloc, one, out);
         joint = " | ";
     }
-    Ok(())
 }

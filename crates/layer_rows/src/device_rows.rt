@@ -1,106 +1,77 @@
-// A row of the table.
-use crate::device_call::first_word;
-use crate::device_failures::{COUNTERS, Failing, failure_report};
-use crate::device_files::steps_report;
-use crate::device_kinds::{KINDS, device_report, sizes_of};
-use crate::device_open::opening_report;
-use crate::device_parts::shared_report;
-use anyhow::{Result, bail};
-use host_media::Sizes;
-
-/// `NAME: INPUT => ANSWER`
-#[derive(Clone, Copy)]
-struct Row<'a> {
-    name: &'a str,
-    input: &'a str,
-    answer: &'a str,
-}
-
-impl<'a> Row<'a> {
-    fn read(text: &'a str) -> Option<Row<'a>> {
-        let (name, rest) = text.split_once(": ")?;
-        let (input, answer) = rest.split_once(" => ")?;
-        Some(Row {
-            name,
-            input,
-            answer,
-        })
-    }
-}
+// The rows of devices.
+use crate::device_failures::COUNTERS;
+use crate::device_files::tell_steps;
+use crate::device_kinds::KINDS;
+use crate::device_open::tell_openings;
+use crate::device_parts::tell_shared;
+use crate::input::{Input, is_blank};
+use crate::tables::{Row, Rows, Teller, split_text};
+use script::Text;
+use std::io;
 
 /// Tries the rows of device calls, each against `MemMedia`, `RamMedia`, and `FileMedia` over a file in the folder that it runs in; those of
 /// media that fail or stop against `FaultMedia` and `StopMedia`. Prints what differs, and then how many rows hold; whether all do.
-pub fn try_devices(rt: &HostRuntime, table: &str) -> Result<bool> {
-    let mut held = 0u64;
-    let mut failed = 0u64;
+pub fn try_devices(rt: &HostRuntime, table: &str) -> io::Result<bool> {
+    let mut rows = Rows::new(rt.alloc());
     for line in table.lines() {
-        if !line.is_empty() && !line.starts_with('#') {
-            if check_row(rt, line)? {
-                held = held.saturating_add(1);
-            } else {
-                failed = failed.saturating_add(1);
-            }
+        if !is_blank(line) {
+            try_line(rt, &mut rows, line);
         }
     }
-    println!(rt; "{held} rows hold, {failed} do not")?;
-    Ok(failed == 0)
+    rows.print(rt)
 }
 
-// Whether a row holds, of each medium that it is about. Where it does not, its name and what differs are printed.
-fn check_row(rt: &HostRuntime, text: &str) -> Result<bool> {
-    let Some(row) = Row::read(text) else {
-        println!(rt; "no row: {text}")?;
-        return Ok(false);
-    };
-    let (kind, words) = first_word(row.input);
-    match kind {
-        "open" => is_said(rt, row, &opening_report(rt, words)?),
-        "share" => is_said(rt, row, &shared_report(rt, words)?),
-        "files" => is_said(rt, row, &steps_report(rt, words)?),
-        _ => is_said_by_all(rt, row),
+fn try_line(rt: &HostRuntime, rows: &mut Rows, line: &str) {
+    let row = Row::read(line);
+    if row.answer.is_empty() {
+        return rows.refuse(line);
     }
+    let holds = is_said_by_all(rt, rows, row);
+    rows.count(holds);
 }
 
-// `FAST BLOCK SLOW: CALLS`, or `FAST BLOCK SLOW, FAILURES: CALLS`.
-fn is_said_by_all(rt: &HostRuntime, row: Row<'_>) -> Result<bool> {
-    let Some((media, calls)) = row.input.split_once(": ") else {
-        bail!("no calls: {}", row.input);
-    };
-    match media.split_once(", ") {
-        Some((sizes, words)) => {
-            is_said_failing(rt, row, sizes_of(sizes)?, Failing::read(words)?, calls)
+// Whether a row holds, of each medium that it is about.
+fn is_said_by_all(rt: &HostRuntime, rows: &mut Rows, row: Row<'_>) -> bool {
+    let (media, _) = split_text(row.input, ": ");
+    if is_of_files(media) {
+        return rows.is_said(rt, &Files, row);
+    }
+    let (_, failures) = split_text(media, ", ");
+    if failures.is_empty() {
+        return is_said_by_kinds(rt, rows, row);
+    }
+    is_said_by_counters(rt, rows, row)
+}
+
+fn is_of_files(text: &str) -> bool {
+    text.starts_with("open ") || text.starts_with("share ") || text.starts_with("files ")
+}
+
+fn is_said_by_kinds(rt: &HostRuntime, rows: &mut Rows, row: Row<'_>) -> bool {
+    let mut holds = true;
+    for kind in &KINDS {
+        holds &= rows.is_said(rt, kind, row);
+    }
+    holds
+}
+
+fn is_said_by_counters(rt: &HostRuntime, rows: &mut Rows, row: Row<'_>) -> bool {
+    let mut holds = true;
+    for counter in &COUNTERS {
+        holds &= rows.is_said(rt, counter, row);
+    }
+    holds
+}
+
+// Files that are opened as media, or hold several.
+struct Files;
+
+impl Teller for Files {
+    fn tell(&self, rt: &HostRuntime, input: &mut Input<'_>, out: &mut Text) {
+        match input.word() {
+            "open" => tell_openings(rt, input, out),
+            "share" => tell_shared(rt, input, out),
+            _ => tell_steps(rt, input, out),
         }
-        None => is_said_by_kinds(rt, row, sizes_of(media)?, calls),
     }
-}
-
-fn is_said_by_kinds(rt: &HostRuntime, row: Row<'_>, sizes: Sizes, calls: &str) -> Result<bool> {
-    let mut holds = true;
-    for kind in KINDS {
-        holds &= is_said(rt, row, &device_report(rt, kind, sizes, calls)?)?;
-    }
-    Ok(holds)
-}
-
-fn is_said_failing(
-    rt: &HostRuntime,
-    row: Row<'_>,
-    sizes: Sizes,
-    failing: Failing,
-    calls: &str,
-) -> Result<bool> {
-    let mut holds = true;
-    for counter in COUNTERS {
-        let said = failure_report(rt.alloc(), counter, sizes, failing, calls)?;
-        holds &= is_said(rt, row, &said)?;
-    }
-    Ok(holds)
-}
-
-fn is_said(rt: &HostRuntime, row: Row<'_>, said: &str) -> Result<bool> {
-    if said == row.answer {
-        return Ok(true);
-    }
-    println!(rt; "{}\n  says {said}\n  not  {}", row.name, row.answer)?;
-    Ok(false)
 }

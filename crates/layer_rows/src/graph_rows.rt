@@ -20,9 +20,7 @@ fn apply_records(input: &mut Input<'_>, graph: &mut PlainGraph, out: &mut Text) 
     for word in input.remaining_text().split(' ') {
         let mut payload = Input::new(input.alloc(), word);
         let is_applied = apply_record(&mut payload, graph, out);
-        if payload.is_bad() || !is_applied {
-            input.fail();
-        }
+        input.fail_if(!payload.is_read() || !is_applied);
     }
 }
 

@@ -117,12 +117,7 @@ fn close_journal(image: &Image, fast: &[u8]) -> Result<MemMedia, AllocError>
     if end <= fast.len() {
         fast[gate..end].fill(0);
     }
-    let block = image.tier(Tier::Block)?;
-    let slow = image.tier(Tier::Slow)?;
-    match MemMedia::of_bytes(image.alloc, fast, block, slow) {
-        Ok(media) => Ok(media),
-        Err(_) => Err(AllocError),
-    }
+    image.tiers_over(fast)
 }
 
 fn commit_medium<M: Media + Drop>(
@@ -134,17 +129,26 @@ fn commit_medium<M: Media + Drop>(
     requires { (t : Tier) → AtRest (M.seen media) (M.left media (M.moment media)) t }
 {
     match Journal::reopen(alloc, media) {
-        Ok(mut journal) => {
-            if !commit(&mut journal, batch)? {
-                return Ok(Spelled::NoBatch);
-            }
-            Ok(Spelled::Head {
-                images: batch.len(),
-                is_same: has_head(alloc, journal.into_media(), head)?,
-            })
-        }
+        Ok(journal) => commit_to(alloc, journal, batch, head),
         Err((error, _media)) => Err(error),
     }
+}
+
+fn commit_to<M: Media + Drop>(
+    alloc: Global,
+    journal: Journal<M>,
+    batch: &Batch,
+    head: &[u8],
+) -> Result<Spelled, JournalError> {
+    let mut journal = journal;
+    if !commit(&mut journal, batch)? {
+        return Ok(Spelled::NoBatch);
+    }
+    let is_same = has_head(alloc, journal.into_media(), head)?;
+    Ok(Spelled::Head {
+        images: batch.len(),
+        is_same,
+    })
 }
 
 // Commits the batch where it suits the medium, and says whether it does.

@@ -27,14 +27,19 @@ impl<'a> Input<'a> {
         self.alloc
     }
 
-    /// Whether something could not be read.
-    pub fn is_bad(&self) -> bool {
-        self.is_bad
+    /// Whether all of it was read, and could be.
+    pub fn is_read(&self) -> bool {
+        self.rest.is_empty() && !self.is_bad
     }
 
     /// Notes that something can't be read.
     pub fn fail(&mut self) {
         self.is_bad = true;
+    }
+
+    /// Notes that something can't be read where this says so.
+    pub fn fail_if(&mut self, is_bad: bool) {
+        self.is_bad |= is_bad;
     }
 
     /// What stands before the next such character, or all that is left.
@@ -61,6 +66,17 @@ impl<'a> Input<'a> {
         self.number_before(' ')
     }
 
+    /// Reads a number of bytes so.
+    pub fn size(&mut self) -> usize {
+        match self.word().parse::<usize>() {
+            Ok(size) => size,
+            Err(_) => {
+                self.fail();
+                0
+            }
+        }
+    }
+
     fn number_before(&mut self, end: char) -> u32 {
         match self.part(end).parse::<u32>() {
             Ok(number) => number,
@@ -83,9 +99,7 @@ impl<'a> Input<'a> {
     /// The same of media that there may be.
     pub fn geometry(&mut self) -> Option<Geometry> {
         let found = self.any_geometry();
-        if found.is_none() {
-            self.fail();
-        }
+        self.fail_if(found.is_none());
         found
     }
 
@@ -106,9 +120,8 @@ impl<'a> Input<'a> {
     pub fn data(&mut self) -> Vec<u8> {
         let mut bytes = Vec::new(self.alloc);
         for word in self.remaining_text().split(' ') {
-            if !add_data(self.alloc, &mut bytes, word) {
-                self.fail();
-            }
+            let is_added = add_data(self.alloc, &mut bytes, word);
+            self.fail_if(!is_added);
         }
         bytes
     }
@@ -121,6 +134,11 @@ impl<'a> Input<'a> {
         }
         bytes
     }
+}
+
+/// Whether a line says nothing: it is empty, or a comment.
+pub fn is_blank(line: &str) -> bool {
+    line.is_empty() || line.starts_with('#')
 }
 
 // Whether a word could be read, and there was memory for its bytes.

@@ -17,7 +17,7 @@ use std::alloc::Global;
 pub fn tell_journal(input: &mut Input<'_>, out: &mut Text) {
     if let Some(geometry) = input.geometry() {
         let mut image = Image::new(input.alloc(), geometry);
-        image.put(input, ';');
+        image.put(input.remaining_text(), ';', input);
         put_opened(&image, out);
     }
 }

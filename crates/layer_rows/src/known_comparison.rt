@@ -37,14 +37,20 @@ pub struct Beside {
 impl Beside {
     /// An empty graph beside an empty tree.
     pub fn new(alloc: Global) -> Result<Self, AllocError> {
-        let mut owns = Vec::new(alloc);
-        for _ in 0..MAX_CLIENTS {
-            owns.push(OwnDescriptors::new())?;
-        }
         let graph = PlainGraph::with_root(alloc)?;
+        Beside::with_graph(alloc, graph)
+    }
+
+    fn with_graph(alloc: Global, graph: PlainGraph) -> Result<Self, AllocError> {
+        let tree = PlainTree::new(alloc)?;
+        Beside::with_trees(alloc, graph, tree)
+    }
+
+    fn with_trees(alloc: Global, graph: PlainGraph, tree: PlainTree) -> Result<Self, AllocError> {
+        let owns = no_descriptors(alloc)?;
         Ok(Beside {
             alloc,
-            tree: PlainTree::new(alloc)?,
+            tree,
             part: KnownPart::new(alloc, graph),
             owns,
             reply: None,
@@ -120,9 +126,9 @@ impl Beside {
 
     fn learn_missing(&mut self, what: Missing) -> bool {
         match what {
-            Missing::Node { inode } => self.part.learn(inode).is_ok(),
+            Missing::Node { inode } => self.part.learn(inode),
             Missing::Blocks { inode, .. } => {
-                self.part.learn_bytes(inode).is_ok() && self.blocks.push(what).is_ok()
+                self.part.learn_bytes(inode) && self.blocks.push(what).is_ok()
             }
         }
     }
@@ -235,6 +241,15 @@ impl Beside {
         }
         false
     }
+}
+
+// The descriptors of all clients, of which none is open.
+fn no_descriptors(alloc: Global) -> Result<Vec<OwnDescriptors>, AllocError> {
+    let mut owns = Vec::new(alloc);
+    for _ in 0..MAX_CLIENTS {
+        owns.push(OwnDescriptors::new())?;
+    }
+    Ok(owns)
 }
 
 fn is_text_of(alloc: Global, reply: &Reply, text: &str) -> bool {

@@ -35,22 +35,19 @@ impl KnownPart {
         self.read.clear();
     }
 
-    /// An inode becomes known, and of its entries what they are.
-    pub fn learn(&mut self, inode: u32) -> Result<(), AllocError> {
-        self.nodes.push(inode)?;
-        self.kinds.push(inode)?;
-        if let Some(entries) = self.graph.entries(inode) {
-            for entry in entries {
-                self.kinds.push(entry.value.inode())?;
-            }
+    /// An inode becomes known, and of its entries what they are. Whether there was memory for it.
+    pub fn learn(&mut self, inode: u32) -> bool {
+        let mut is_learned = self.nodes.push(inode).is_ok();
+        is_learned &= self.kinds.push(inode).is_ok();
+        for entry in self.graph.entries(inode).unwrap_or(&[]) {
+            is_learned &= self.kinds.push(entry.value.inode()).is_ok();
         }
-        Ok(())
+        is_learned
     }
 
-    /// The bytes of a file become known.
-    pub fn learn_bytes(&mut self, inode: u32) -> Result<(), AllocError> {
-        self.read.push(inode)?;
-        Ok(())
+    /// The bytes of a file become known. Whether there was memory for it.
+    pub fn learn_bytes(&mut self, inode: u32) -> bool {
+        self.read.push(inode).is_ok()
     }
 
     /// The inodes that are known whole, in the order in which they became known.

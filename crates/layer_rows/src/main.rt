@@ -18,7 +18,6 @@ mod directory_rows;
 mod error_rows;
 mod graph_rows;
 mod head_rows;
-mod image_text;
 mod input;
 mod journal_rows;
 mod known_calls;
@@ -38,12 +37,11 @@ mod tree_walk;
 mod world_rows;
 mod zeroed_media;
 
-use anyhow::Result;
 use sections::try_section;
-use std::io::Read;
+use std::io::{self, Read};
 use std::process::ExitCode;
 
-fn main(rt: HostRuntime) -> Result<ExitCode> {
+fn main(rt: HostRuntime) -> io::Result<ExitCode> {
     let mut text = String::new(rt.alloc());
     rt.stdin().read_to_string(&mut text)?;
     let mut hold = true;

@@ -69,19 +69,15 @@ fn all_of<M: Media>(
     region: &mut Region<M>,
     bytes: &[u8],
 ) -> Result<Found, RegionError> {
-    match region.records() {
-        Ok(records) => {
-            let room = region.room();
-            let is_same = is_appended(alloc, &records, front_of(bytes, room))?;
-            Ok(Found {
-                stage: region.stage(),
-                room,
-                records,
-                is_same,
-            })
-        }
-        Err(error) => Err(error),
-    }
+    let records = region.records()?;
+    let room = region.room();
+    let is_same = is_appended(alloc, &records, front_of(bytes, room))?;
+    Ok(Found {
+        stage: region.stage(),
+        room,
+        records,
+        is_same,
+    })
 }
 
 fn medium(alloc: Global, bytes: &[u8]) -> Result<MemMedia, AllocError>
@@ -127,12 +123,22 @@ fn is_written<M: Media + Drop>(
     requires { (t : Tier) → AtRest (M.seen media) (M.left media (M.moment media)) t }
 {
     match Region::reopen(alloc, media) {
-        Ok(mut region) => {
-            let is_appended = append_all(&mut region, records)?;
-            Ok(is_appended && begins_with(alloc, region, front)?)
-        }
+        Ok(region) => is_written_to(alloc, region, records, front),
         Err((error, _media)) => Err(error),
     }
+}
+
+fn is_written_to<M: Media + Drop>(
+    alloc: Global,
+    region: Region<M>,
+    records: &[Record],
+    front: &[u8],
+) -> Result<bool, RegionError> {
+    let mut region = region;
+    if !append_all(&mut region, records)? {
+        return Ok(false);
+    }
+    begins_with(alloc, region, front)
 }
 
 fn begins_with<M: Media + Drop>(

@@ -14,20 +14,25 @@ use crate::record_rows::{tell_payload, tell_record};
 use crate::region_rows::tell_region;
 use crate::tables::{Teller, try_rows};
 use crate::world_rows::tell_world;
-use anyhow::{Result, bail};
 use script::Text;
+use std::io;
 
 /// Tries the rows of a section, and prints those that do not hold; whether all hold.
-pub fn try_section(rt: &HostRuntime, name: &str, table: &str) -> Result<bool> {
-    Ok(match name {
-        "formats" => try_rows(rt, &Formats, table)?,
-        "media" => try_rows(rt, &Images, table)?,
-        "areas" => try_rows(rt, &Areas, table)?,
-        "devices" => try_devices(rt, table)?,
-        "known" => try_known(rt, table)?,
-        "errors" => try_errors(rt, table)?,
-        _ => bail!("no section of rows has the name {name}"),
-    })
+pub fn try_section(rt: &HostRuntime, name: &str, table: &str) -> io::Result<bool> {
+    match name {
+        "formats" => try_rows(rt, &Formats, table),
+        "media" => try_rows(rt, &Images, table),
+        "areas" => try_rows(rt, &Areas, table),
+        "devices" => try_devices(rt, table),
+        "known" => try_known(rt, table),
+        "errors" => try_errors(rt, table),
+        _ => refuse_section(rt, name),
+    }
+}
+
+fn refuse_section(rt: &HostRuntime, name: &str) -> io::Result<bool> {
+    println!(rt; "no section of rows has the name {name}")?;
+    Ok(false)
 }
 
 // Paths, records, graphs, structures and directories, with the crates that read and write them.

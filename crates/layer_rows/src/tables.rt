@@ -1,5 +1,5 @@
 // The rows of a table.
-use crate::input::Input;
+use crate::input::{Input, is_blank};
 use script::Text;
 use std::alloc::Global;
 use std::io;
@@ -15,21 +15,20 @@ pub trait Teller {
 pub fn try_rows<T: Teller>(rt: &HostRuntime, teller: &T, table: &str) -> io::Result<bool> {
     let mut rows = Rows::new(rt.alloc());
     rows.try_table(rt, teller, table);
-    println!(rt; "{}", rows.report())?;
-    Ok(rows.hold())
+    rows.print(rt)
 }
 
-// How many rows hold, and the report of the others.
+/// How many rows hold, and the report of the others.
 #[derive(Drop)]
-struct Rows {
+pub struct Rows {
     held: u64,
     failed: u64,
     report: Text,
 }
 
 impl Rows {
-    // No row yet.
-    fn new(alloc: Global) -> Self {
+    /// Begins with no row.
+    pub fn new(alloc: Global) -> Self {
         Rows {
             held: 0,
             failed: 0,
@@ -50,33 +49,54 @@ impl Rows {
             row.put(line.trim());
         }
         self.try_line(rt, teller, &row);
-        self.report.field("", &self.held);
-        self.report.field(" rows hold, ", &self.failed);
-        self.report.put(" do not");
     }
 
-    // A line that is empty or a comment is no row.
     fn try_line<T: Teller>(&mut self, rt: &HostRuntime, teller: &T, line: &Text) {
-        let text = line.as_str();
         if line.is_cut() {
-            self.failed = self.failed.saturating_add(1);
             self.report.put("no memory for a row\n");
-        } else if !text.is_empty() && !text.starts_with('#') {
-            self.try_row(rt, teller, Row::read(text));
+            self.count(false);
+        } else if !is_blank(line.as_str()) {
+            let holds = self.is_said(rt, teller, Row::read(line.as_str()));
+            self.count(holds);
         }
     }
 
-    fn try_row<T: Teller>(&mut self, rt: &HostRuntime, teller: &T, row: Row<'_>) {
+    /// Whether a row's answer is said of its input. What is said in its place is reported.
+    pub fn is_said<T: Teller>(&mut self, rt: &HostRuntime, teller: &T, row: Row<'_>) -> bool {
         let said = row_text(rt, teller, row.input);
         if said.as_str() == row.answer {
-            self.held = self.held.saturating_add(1);
-            return;
+            return true;
         }
-        self.failed = self.failed.saturating_add(1);
         self.report.put(row.name);
         self.report.field("\n  says ", &said.as_str());
         self.report.field("\n  not  ", &row.answer);
         self.report.put("\n");
+        false
+    }
+
+    /// Reports a line that is no row, and counts it.
+    pub fn refuse(&mut self, line: &str) {
+        self.report.field("no row: ", &line);
+        self.report.put("\n");
+        self.count(false);
+    }
+
+    /// Counts a row.
+    pub fn count(&mut self, holds: bool) {
+        if holds {
+            self.held = self.held.saturating_add(1);
+        } else {
+            self.failed = self.failed.saturating_add(1);
+        }
+    }
+
+    /// Prints the report, and how many rows hold; whether all do.
+    pub fn print(&mut self, rt: &HostRuntime) -> io::Result<bool> {
+        self.report.field("", &self.held);
+        self.report.field(" rows hold, ", &self.failed);
+        self.report.put(" do not");
+        println!(rt; "{}", self.report())?;
+        Ok(self.hold())
     }
 
     fn report(&self) -> &str {
@@ -91,16 +111,17 @@ impl Rows {
     }
 }
 
-// `NAME: INPUT => ANSWER`
+/// `NAME: INPUT => ANSWER`
 #[derive(Clone, Copy)]
-struct Row<'a> {
-    name: &'a str,
-    input: &'a str,
-    answer: &'a str,
+pub struct Row<'a> {
+    pub name: &'a str,
+    pub input: &'a str,
+    pub answer: &'a str,
 }
 
 impl<'a> Row<'a> {
-    fn read(text: &'a str) -> Row<'a> {
+    /// Reads a row. What is left out is empty.
+    pub fn read(text: &'a str) -> Row<'a> {
         let (name, rest) = split_text(text, ": ");
         let (input, answer) = split_text(rest, " => ");
         Row {
@@ -111,8 +132,8 @@ impl<'a> Row<'a> {
     }
 }
 
-// What stands before the first of these, and what behind it.
-fn split_text<'a>(text: &'a str, by: &str) -> (&'a str, &'a str) {
+/// What stands before the first of these, and what behind it.
+pub fn split_text<'a>(text: &'a str, by: &str) -> (&'a str, &'a str) {
     text.split_once(by).unwrap_or((text, ""))
 }
 
@@ -121,7 +142,7 @@ fn row_text<T: Teller>(rt: &HostRuntime, teller: &T, input: &str) -> Text {
     let mut input = Input::new(rt.alloc(), input);
     let mut out = Text::new(rt.alloc());
     teller.tell(rt, &mut input, &mut out);
-    if input.is_bad() {
+    if !input.is_read() {
         out.put("the row can't be read");
     }
     if out.is_cut() {

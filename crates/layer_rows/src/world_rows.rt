@@ -17,7 +17,6 @@ use call_effects::MAX_INODE;
 use host_media::{Media, Tier};
 use script::Text;
 use std::alloc::Global;
-use std::fs;
 
 /// `world U,F,B,S FILE`: what stands on the media of a file, once they are opened.
 pub fn tell_world(rt: &HostRuntime, input: &mut Input<'_>, out: &mut Text) {
@@ -26,23 +25,12 @@ pub fn tell_world(rt: &HostRuntime, input: &mut Input<'_>, out: &mut Text) {
     }
 }
 
-/// The media of a file, `U,F,B,S FILE`.
+/// The media of a file, `U,F,B,S FILE`, up to a `;` or to the end.
 pub fn image_of(rt: &HostRuntime, input: &mut Input<'_>) -> Option<Image> {
     let geometry = input.geometry()?;
     let mut image = Image::new(input.alloc(), geometry);
-    match fs::read_to_string(rt, input.remaining_text()) {
-        Ok(lines) => put_lines(&mut image, &lines, input),
-        Err(_) => input.fail(),
-    }
+    image.put_file(rt, input.part(';'), input);
     Some(image)
-}
-
-fn put_lines(image: &mut Image, lines: &str, input: &mut Input<'_>) {
-    let mut lines = Input::new(image.alloc, lines);
-    image.put(&mut lines, '\n');
-    if lines.is_bad() {
-        input.fail();
-    }
 }
 
 fn put_image(image: &Image, out: &mut Text) {

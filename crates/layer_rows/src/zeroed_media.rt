@@ -3,11 +3,12 @@ ghost use Rattle.std.specs.Prelude.{IfOk};
 ghost use Rattle.host_media.specs.tier_device.Memory.{IsAtRest};
 
 use crate::byte_fill::{equal_bytes, overwrite};
-use crate::input::Input;
+use crate::input::{Input, is_blank};
 use area_image::{BLOCK, Geometry};
 use host_media::{MemMedia, Tier};
 use script::REGION_SIZE;
 use std::alloc::{AllocError, Global};
+use std::fs;
 
 /// How many regions there are: two for each of the eight clients.
 pub const REGIONS: usize = 16;
@@ -31,24 +32,56 @@ impl Image {
         }
     }
 
+    /// Puts what the lines of a file say over what is there.
+    pub fn put_file(&mut self, rt: &HostRuntime, path: &str, input: &mut Input<'_>) {
+        match fs::read_to_string(rt, path) {
+            Ok(lines) => self.put(&lines, '\n', input),
+            Err(_) => input.fail(),
+        }
+    }
+
     /// Puts what the lines say, each up to this character, over what is there. Empty lines and comments say nothing.
-    pub fn put(&mut self, input: &mut Input<'_>, end: char) {
-        for line in input.remaining_text().split(end) {
+    pub fn put(&mut self, lines: &str, end: char, input: &mut Input<'_>) {
+        for line in lines.split(end) {
             let line = line.trim();
-            if !line.is_empty() && !line.starts_with('#') {
-                self.put_line(line, input);
+            if !is_blank(line) {
+                let mut words = Input::new(self.alloc, line);
+                self.put_line(&mut words);
+                input.fail_if(!words.is_read());
             }
         }
     }
 
-    fn put_line(&mut self, line: &str, input: &mut Input<'_>) {
-        let mut words = Input::new(self.alloc, line);
-        let at = place_of(&self.geometry, &mut words);
-        let text = words.data();
-        let is_put = overwrite(&mut self.bytes, at, &text);
-        if words.is_bad() || !is_put {
-            input.fail();
+    fn put_line(&mut self, words: &mut Input<'_>) {
+        let place = place_of(&self.geometry, words);
+        let bytes = words.data();
+        self.put_bytes(place, 0, &bytes, words);
+    }
+
+    /// `set TIER BLOCK BYTE DATA` puts bytes over those of a block from one on, `noise TIER BLOCK COUNT SEED` `COUNT` others over those from
+    /// the start of a block on.
+    pub fn change(&mut self, words: &mut Input<'_>) {
+        let kind = words.word();
+        let place = place_of(&self.geometry, words);
+        let number = words.number();
+        match kind {
+            "set" => {
+                let bytes = words.data();
+                self.put_bytes(place, number as usize, &bytes, words);
+            }
+            "noise" => {
+                let bytes = noise(number, words);
+                self.put_bytes(place, 0, &bytes, words);
+            }
+            _ => words.fail(),
         }
+    }
+
+    // Puts bytes over those from a place on, `more` behind its start, if they end within it.
+    fn put_bytes(&mut self, place: Place, more: usize, bytes: &[u8], words: &mut Input<'_>) {
+        let at = place.start.saturating_add(more);
+        let is_within = at.saturating_add(bytes.len()) <= place.end;
+        words.fail_if(!is_within || !overwrite(&mut self.bytes, at, bytes));
     }
 
     /// The medium of the tiers.
@@ -56,6 +89,13 @@ impl Image {
         ensures { IfOk result IsAtRest }
     {
         let fast = self.tier(Tier::Fast)?;
+        self.tiers_over(fast)
+    }
+
+    /// The same with these bytes in the fast tier.
+    pub fn tiers_over(&self, fast: Vec<u8>) -> Result<MemMedia, AllocError>
+        ensures { IfOk result IsAtRest }
+    {
         let block = self.tier(Tier::Block)?;
         let slow = self.tier(Tier::Slow)?;
         match MemMedia::of_bytes(self.alloc, fast, block, slow) {
@@ -107,23 +147,54 @@ fn region_start(geometry: &Geometry, index: usize) -> usize {
         .saturating_add(REGION_SIZE.saturating_mul(index))
 }
 
+// Where a line's bytes go from on, and where the tier or region ends in which they have to lie.
+#[derive(Clone, Copy)]
+struct Place {
+    start: usize,
+    end: usize,
+}
+
 // The place that the words in front of a line name.
-fn place_of(geometry: &Geometry, words: &mut Input<'_>) -> usize {
+fn place_of(geometry: &Geometry, words: &mut Input<'_>) -> Place {
     match words.word() {
         "region" => region_place(geometry, words),
         word => {
             let tier = words.tier(word);
-            let at = BLOCK.saturating_mul(words.number() as usize);
-            tier_start(geometry, tier).saturating_add(at)
+            tier_place(geometry, tier, words.number())
         }
     }
 }
 
+// The place of a block of a tier.
+fn tier_place(geometry: &Geometry, tier: Tier, block: u32) -> Place {
+    let first = tier_start(geometry, tier);
+    let size = BLOCK.saturating_mul(geometry.tier_blocks(tier) as usize);
+    Place {
+        start: first.saturating_add(BLOCK.saturating_mul(block as usize)),
+        end: first.saturating_add(size),
+    }
+}
+
 // The place of a client's region 0 or 1.
-fn region_place(geometry: &Geometry, words: &mut Input<'_>) -> usize {
+fn region_place(geometry: &Geometry, words: &mut Input<'_>) -> Place {
     let pair = (words.number() as usize).saturating_sub(1);
     let index = pair
         .saturating_mul(2)
         .saturating_add(words.number() as usize);
-    region_start(geometry, index)
+    let start = region_start(geometry, index);
+    Place {
+        start,
+        end: start.saturating_add(REGION_SIZE),
+    }
+}
+
+// `count` bytes that the seed in front of the words leads to.
+fn noise(count: u32, words: &mut Input<'_>) -> Vec<u8> {
+    let mut bytes = Vec::new(words.alloc());
+    let mut state = words.number();
+    for _ in 0..count {
+        state = state.wrapping_mul(1664525).wrapping_add(1013904223);
+        words.fail_if(bytes.push(state.to_be_bytes()[0]).is_err());
+    }
+    bytes
 }

@@ -1,15 +1,13 @@
 -- Blocks that a client fetches, one after the other.
-use Rattle.std.proofs.Common.{◌≡◌, ◌⊎◌, inl, inr, ℕ, ◌+◌, ◌-◌, ◌*◌, ◌<◌, ◌≤◌, Bool, true, false, List, take, Option, Some, None, refl, ap, sym, ◌∙◌, subst, arith}
+use Rattle.std.proofs.Common.{◌≡◌, ◌⊎◌, inl, inr, ℕ, ◌+◌, ◌-◌, ◌*◌, ◌<◌, ◌≤◌, true, false, List, take, Option, Some, None, refl, ap, sym, ◌∙◌, subst, arith}
 use Rattle.std.specs.Prelude.{◌==◌, ◌&&◌, option_map, nat_le, nat_lt, Result, Ok, Err, OnOk, OnErr}
 use Rattle.std.proofs.Math.Decide.{dec_le}
 use Rattle.std.proofs.lemmas.Bool.{cases_Bool, and_parts, eqb-true, cond-true, cond-false, lt-ltb}
 use Rattle.std.proofs.lemmas.Bool.Decides.{nat_tests}
 use Rattle.client_log.specs.tier_device.declared.media.Media.{Ghosts}
-use Rattle.client_log.specs.tier_device.declared.media.Tier.{Tier}
 use Rattle.lease_manager.specs.posix_calls.Content.{with_length}
 use Rattle.lease_manager.specs.file_graph.Graph.{Graph}
 use Rattle.lease_manager.specs.file_graph.Numbers.{in_run}
-use Rattle.lease_manager.specs.log_record.declared.format.Record.{Record}
 use Rattle.kernel_fs.specs.layout.declared.marks.Mark.{Mark}
 use Rattle.kernel_fs.specs.layout.declared.marks.Marks.{Marks}
 use Rattle.kernel_fs.specs.layout.Places.{Sizes}
@@ -20,8 +18,6 @@ use Rattle.kernel_fs.specs.MachineState.{IsMarkIn}
 use Rattle.client_log.specs.call_effects.Blocks.{block_of}
 use Rattle.client_view.specs.block_cache.CacheList.{bytes_at as kept_bytes, put_block}
 use Rattle.client_view.specs.After.{block_laid, bytes_at}
-use Rattle.client_view.specs.RecordLists.{Kept, beyond}
-use Rattle.client_log.specs.View.{current_records}
 use Rattle.client_view.specs.KnowledgeTables.{Held, block_known, copy_at, knows}
 use Rattle.client_view.specs.BlockPut.{IsBlockLong}
 use Rattle.client_view.proofs.Put.{block_there, by_size, cut_padded, no_more_blocks}
@@ -29,7 +25,6 @@ use Rattle.libfs.specs.declared.denial.Denied.{Denied}
 use Rattle.libfs.specs.View.{ClientView}
 use Rattle.libfs.specs.ClientHoldings.{known_to}
 use Rattle.libfs.specs.NeedService.{HasFetchedBlocks, HasPut, HasThem, records_behind, block_behind, shared_by}
-use Rattle.libfs.proofs.Behind.{kept_behind}
 use Rattle.libfs.proofs.FirstBlocks.{found_in_all, found_in_more, put_before, put_is_first}
 
 -- ---- the mark of a client

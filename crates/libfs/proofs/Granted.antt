@@ -11,7 +11,6 @@ use Rattle.kernel_fs.proofs.Choosing.{count_more}
 use Rattle.kernel_fs.proofs.Rows.{has_none, inode_tells}
 use Rattle.client_view.specs.KnowledgeTables.{Held, knows}
 use Rattle.client_log.specs.tier_device.declared.media.Media.{Ghosts}
-use Rattle.client_log.specs.tier_device.declared.media.Tier.{Tier}
 use Rattle.lease_manager.specs.Passes.{client_of}
 use Rattle.client_log.specs.world_invariant.LeaseSteps.{without}
 use Rattle.client_log.specs.world_invariant.Machine.{Machine}

@@ -1,30 +1,35 @@
 -- A client stays sound: one lemma for each kind of call.
-use Rattle.std.proofs.Common.{◌≡◌, ℕ, ◌+◌, ◌≤◌, Bool, true, false, List, [], ◌∷◌, ◌++◌, refl, sym, ◌∙◌, ap, subst, append_assoc, arith}
-use Rattle.std.specs.Prelude.{Option, Some, None, is_some, not, ◌&&◌}
+use Rattle.std.proofs.Common.{◌≡◌, inl, inr, ℕ, zero, suc, ◌+◌, ◌<◌, ◌≤◌, ◌==◌, Bool, true, false, cond, List, [], ◌∷◌, ◌++◌, refl, sym, ◌∙◌, ap, subst, append_assoc, arith}
+use Rattle.std.specs.Prelude.{Option, Some, None, IsSome, is_some, not, option_map, ◌&&◌}
 use Rattle.std.specs.Option.{ForSome}
-use Rattle.std.proofs.lemmas.Bool.{true≢false, false≢true}
+use Rattle.std.proofs.lemmas.Bool.{true≢false, false≢true, cases_eq, cond-false, ne_eqb}
 use Rattle.std.proofs.lemmas.List.Sums.{sum_by-append}
 use Rattle.atomic_table.specs.Seated.{TableId}
 use Rattle.client_log.specs.tier_device.declared.media.Media.{Ghosts}
-use Rattle.client_log.specs.tier_device.declared.media.Tier.{Tier}
 use Rattle.client_view.specs.block_cache.CacheList.{Block}
 use Rattle.lease_manager.specs.log_record.declared.format.Record.{Record}
 use Rattle.client_log.specs.update_log.Frames.{with_record}
 use Rattle.lease_manager.specs.Words.{HasWord}
-use Rattle.lease_manager.specs.Passes.{PassView, client_of, records_of}
+use Rattle.lease_manager.specs.Passes.{PassView, client_of, records_of, without_lease}
 use Rattle.client_log.specs.Turns.{Turn, turn_of}
 use Rattle.client_log.specs.View.{LogView, current_records}
-use Rattle.client_view.specs.KnowledgeTables.{Held, knows}
+use Rattle.client_view.specs.KnowledgeTables.{Held, copy_at, knows}
 use Rattle.client_view.specs.Preparation.{IsPreparedFor}
 use Rattle.libfs.specs.declared.begun_record.Begun.{Begun}
 use Rattle.libfs.specs.View.{begun_record}
 use Rattle.lease_manager.specs.RecordCounts.{Counts, HasNoted, HasCleaned, is_touched, one_if, touch_count}
 use Rattle.client_view.specs.RecordLists.{Kept}
 use Rattle.libfs.specs.NewClient.{IsBlank}
+use Rattle.libfs.specs.OwnCopies.{AreCopied, number_made}
 use Rattle.libfs.specs.RegionSeal.{without_blocks_of}
+use Rattle.client_view.specs.KnowledgeChanges.{without_inode}
 use Rattle.libfs.specs.Sound.{IsSound}
 use Rattle.client_view.specs.declared.own_change.OwnChange.{OwnChange}
 use Rattle.client_log.specs.call_effects.Knowledge.{Knowledge}
+use Rattle.client_log.specs.call_effects.NodeView.{NodeView, view_after}
+use Rattle.client_view.specs.AfterRecord.{is_made, knows_logged, with_made}
+use Rattle.client_view.specs.client_plan.declared.outcome.DescriptorChange.{DescriptorChange}
+use Rattle.lease_manager.specs.file_graph.declared.effect.Effect.{Effect}
 use Rattle.std.proofs.lemmas.List.{append-nil}
 
 -- ---- lists of records
@@ -62,6 +67,38 @@ still_prepared k rs c p = record { spelled = p.spelled; made = p.made; number = 
 sum_moves : (new old more : ℕ) → new + more ≡ old → (rest : ℕ) → old ≡ more + rest → new ≡ rest
 sum_moves new old more is rest all = omega arith
 
+-- ---- copies of what records touch
+
+-- a copy stays one where a node is made
+pub known_still : (k : Knowledge) (made : Option ℕ) (i : ℕ) → IsSome (k.copies i) → IsSome ((with_made k made).copies i)
+known_still k made i some = elim (is_made made i) as (λ b. IsSome (cond b (Some None) (k.copies i))) [ true ↦ refl | false ↦ some ]
+
+pub put_some : {A : Type 0} (b : Bool) (x : A) (o : Option A) → IsSome o → IsSome (cond b (Some x) o)
+put_some true x o some = refl
+put_some false x o some = some
+
+mapped_some : {A B : Type 0} (f : A → B) (o : Option A) → IsSome o → IsSome (option_map f o)
+mapped_some f None some = absurd (cc)
+mapped_some f (Some x) some = refl
+
+-- and where effects are done to it
+pub logged_some : (k : Knowledge) (es : List Effect) (made : Option ℕ) (change : Option DescriptorChange) (i : ℕ) → IsSome ((with_made k made).copies i) → IsSome ((knows_logged k es made change).copies i)
+logged_some k es made change i some = mapped_some (view_after es i) ((with_made k made).copies i) some
+
+-- fewer records are touched by as many copies
+fewer_copied : (few many : List Record) (made : Option ℕ) (k : Knowledge) → ((i : ℕ) → touch_count few i ≤ touch_count many i) → AreCopied many made k → AreCopied few made k
+fewer_copied few many made k fewer all i some = all i (omega (arith, fewer i, some))
+
+none_touched : (rs : List Record) (made : Option ℕ) (k : Knowledge) → rs ≡ [] → AreCopied rs made k
+none_touched rs made k none i some = let zero : touch_count rs i ≡ 0 = ap (λ (l : List Record). touch_count l i) none in absurd (omega (arith, zero, some))
+
+-- one record more
+more_copied : (rs : List Record) (r : Record) (made : Option ℕ) (k : Knowledge) → AreCopied rs None k → ((i : ℕ) → is_touched r.effects i ≡ true → IsSome ((with_made k made).copies i)) → AreCopied (rs ++ r ∷ []) made k
+more_copied rs r made k all this i some = elim (is_touched r.effects i) as (λ b. is_touched r.effects i ≡ b → touch_count (rs ++ r ∷ []) i ≡ touch_count rs i + one_if b → IsSome ((with_made k made).copies i)) [
+  | true ↦ λ touched count. this i touched
+  | false ↦ λ apart count. known_still k made i (all i (omega (arith, count, some)))
+] refl (touching_both rs (r ∷ []) i ∙ ap (λ n. touch_count rs i + n) (touching_one r i))
+
 -- what is written is told by the log's turn
 pub turn_written : {M : Type 0} (device : Ghosts M) (log : LogView M) (t : Turn) → turn_of device log ≡ t → current_records device log ≡ t.current
 turn_written device log t is = ap (λ (x : Turn). x.current) is
@@ -82,6 +119,7 @@ module _ {M : Type 0} (device : Ghosts M) (leases : TableId) where
     prepared = none_some _;
     room = λ some. absurd (false≢true some);
     counts = λ i w. uncounted i w ∙ sym (ap (λ (l : List Record). touch_count l i) nothing);
+    copied = none_touched (kept.away ++ kept.current) None (knows copies) nothing;
     failed = λ is. absurd (false≢true is);
   }
     where
@@ -100,12 +138,25 @@ module _ {M : Type 0} (device : Ghosts M) (leases : TableId) where
       prepared = s.prepared;
       room = s.room;
       counts = λ i w. ap (λ (l : List ℕ). records_of (record pass { records = l }) i) records ∙ s.counts i w;
+      copied = s.copied;
       failed = s.failed;
     }
 
-    -- what the client knows changes, where no record is begun
-    pub sound_copies : (new : Held) → begun ≡ None → new.client ≡ copies.client → IsSound device leases pass log new begun answered kept
-    sound_copies new idle client = record {
+    -- what the records that are kept touch there is a copy of
+    pub idle_copied : begun ≡ None → AreCopied (kept.away ++ kept.current) None (knows copies)
+    idle_copied idle = subst (λ (o : Option Begun). AreCopied (with_record (kept.away ++ kept.current) (begun_record o)) (number_made o) (knows copies)) idle s.copied
+
+    -- so none of the own records touches what there is no copy of
+    pub unknown_untouched : begun ≡ None → (i : ℕ) → is_some (copy_at copies.copies i) ≡ false → touch_count (with_record (kept.away ++ kept.current) (begun_record begun)) i ≡ 0
+    unknown_untouched idle i unknown = subst (λ (o : Option Begun). touch_count (with_record (kept.away ++ kept.current) (begun_record o)) i ≡ 0) (sym idle) (no_more (touch_count (kept.away ++ kept.current) i) (λ some. false≢true (sym unknown ∙ idle_copied idle i some)))
+      where
+        no_more : (n : ℕ) → (0 < n → ⊥) → n ≡ 0
+        no_more zero none = refl
+        no_more (suc n) none = absurd (none (omega arith))
+
+    -- what the client knows changes, where no record is begun, and no copy goes of what its records touch
+    pub sound_copies : (new : Held) → begun ≡ None → new.client ≡ copies.client → ((i : ℕ) → 0 < touch_count (kept.away ++ kept.current) i → IsSome (copy_at copies.copies i) → IsSome (copy_at new.copies i)) → IsSound device leases pass log new begun answered kept
+    sound_copies new idle client stays = record {
       table = s.table;
       number = client ∙ s.number;
       written_is = s.written_is;
@@ -114,11 +165,16 @@ module _ {M : Type 0} (device : Ghosts M) (leases : TableId) where
       prepared = λ b is. absurd (not_both b is);
       room = s.room;
       counts = s.counts;
+      copied = subst (λ (o : Option Begun). AreCopied (with_record (kept.away ++ kept.current) (begun_record o)) (number_made o) (knows new)) (sym idle) (λ i some. stays i some (idle_copied idle i some));
       failed = s.failed;
     }
       where
         not_both : (b : Begun) → begun ≡ Some b → ⊥
         not_both b is = let clash : ◌≡◌ {A = Option Begun} None (Some b) = sym idle ∙ is in cc
+
+    -- its copies stay, where no record is begun
+    pub sound_known : (new : Held) → begun ≡ None → new.client ≡ copies.client → new.copies ≡ copies.copies → IsSound device leases pass log new begun answered kept
+    sound_known new idle client same = sound_copies new idle client (λ i some copy. subst (λ (cs : List (Option (Option NodeView))). IsSome (copy_at cs i)) (sym same) copy)
 
     -- the numbers that it was granted change
     pub sound_numbers : (new : Held) (ns : List ℕ) → new ≡ record copies { numbers = ns } → IsSound device leases pass log new begun answered kept
@@ -132,6 +188,7 @@ module _ {M : Type 0} (device : Ghosts M) (leases : TableId) where
           prepared = λ b some. let p = s.prepared b some in record { spelled = p.spelled; made = p.made; number = p.number; nodes = p.nodes };
           room = s.room;
           counts = s.counts;
+          copied = s.copied;
           failed = s.failed;
         })
 
@@ -147,6 +204,7 @@ module _ {M : Type 0} (device : Ghosts M) (leases : TableId) where
           prepared = λ b some. let p = s.prepared b some in record { spelled = p.spelled; made = p.made; number = p.number; nodes = p.nodes };
           room = s.room;
           counts = s.counts;
+          copied = s.copied;
           failed = s.failed;
         })
 
@@ -162,6 +220,7 @@ module _ {M : Type 0} (device : Ghosts M) (leases : TableId) where
       prepared = s.prepared;
       room = s.room;
       counts = s.counts;
+      copied = s.copied;
       failed = failed;
     }
 
@@ -195,13 +254,14 @@ module _ {M : Type 0} (device : Ghosts M) (leases : TableId) where
       prepared = s.prepared;
       room = λ some. absurd (false≢true (sym (ap is_some idle) ∙ some));
       counts = λ i w. s.counts i w ∙ sym (ap (λ (k : Kept). touch_count (with_record (k.away ++ k.current) (begun_record begun)) i) same);
+      copied = λ i some. s.copied i (subst (λ (k : Kept). 0 < touch_count (with_record (k.away ++ k.current) (begun_record begun)) i) same some);
       failed = s.failed;
     }
 
     -- a record is begun, for which there is room
     pub sound_begun : (noted : PassView) (new : LogView M) (b : Begun) (more : Kept) → begun ≡ None → HasNoted pass b.change.logged.effects noted → new.current.begun ≡ Some b.change.logged → current_records device new ≡ current_records device log → new.other ≡ log.other
-        → IsPreparedFor (knows copies) b.change → more ≡ record kept { has_room = more.has_room } → more.has_room ≡ true → IsSound device leases noted new copies (Some b) answered more
-    sound_begun noted new b more idle h begins records other prepared same room = record {
+        → IsPreparedFor (knows copies) b.change → ((i : ℕ) → is_touched b.change.logged.effects i ≡ true → IsSome ((with_made (knows copies) b.change.made).copies i)) → more ≡ record kept { has_room = more.has_room } → more.has_room ≡ true → IsSound device leases noted new copies (Some b) answered more
+    sound_begun noted new b more idle h begins records other prepared known same room = record {
       table = ap (λ (p : PassView). p.table) h.rest ∙ s.table;
       number = s.number ∙ sym (ap (λ (p : PassView). client_of p) h.rest);
       written_is = ap (λ (k : Kept). k.current) same ∙ s.written_is ∙ sym records;
@@ -212,21 +272,25 @@ module _ {M : Type 0} (device : Ghosts M) (leases : TableId) where
       counts = λ i w.
           h.counts i w ∙ ap (λ n. n + one_if (is_touched b.change.logged.effects i)) (idle_counts idle i w)
           ∙ sym (touching_both (more.away ++ more.current) (b.change.logged ∷ []) i ∙ ap (λ n. touch_count (more.away ++ more.current) i + n) (touching_one b.change.logged i) ∙ ap (λ (k : Kept). touch_count (k.away ++ k.current) i + one_if (is_touched b.change.logged.effects i)) same);
+      copied = subst (λ (k : Kept). AreCopied ((k.away ++ k.current) ++ b.change.logged ∷ []) b.change.made (knows copies)) (sym same) (more_copied (kept.away ++ kept.current) b.change.logged b.change.made (knows copies) (idle_copied idle) known);
       failed = λ is. absurd (idle_unanswered idle is);
     }
 
     -- the record is kept, and the call answered
-    pub sound_replied : (new : LogView M) (known : Held) (b : Begun) (more : Kept) → begun ≡ Some b → answered ≡ false → current_records device new ≡ current_records device log ++ b.change.logged ∷ [] → new.current.begun ≡ None → new.other ≡ log.other → known.client ≡ copies.client
+    pub sound_replied : (new : LogView M) (known : Held) (b : Begun) (more : Kept) → begun ≡ Some b → answered ≡ false → current_records device new ≡ current_records device log ++ b.change.logged ∷ [] → new.current.begun ≡ None → new.other ≡ log.other → knows known ≡ knows_logged (knows copies) b.change.logged.effects b.change.made b.change.descriptor
         → more.current ≡ kept.current ++ b.change.logged ∷ [] → more.away ≡ kept.away → IsSound device leases pass new known None answered more
-    sound_replied new known b more pending open_yet records begins other client pushed away = record {
+    sound_replied new known b more pending open_yet records begins other logged pushed away = record {
       table = s.table;
-      number = client ∙ s.number;
+      number = ap (λ (k : Knowledge). k.client) logged ∙ s.number;
       written_is = pushed ∙ ap (λ (l : List Record). l ++ b.change.logged ∷ []) s.written_is ∙ sym records;
       back = λ here. away ∙ s.back (sym (ap is_some other) ∙ here);
       begins = sym begins;
       prepared = none_some _;
       room = λ some. absurd (false≢true some);
       counts = λ i w. s.counts i w ∙ ap (λ (o : Option Begun). touch_count (with_record (kept.away ++ kept.current) (begun_record o)) i) pending ∙ ap (λ (l : List Record). touch_count l i) (sym all);
+      copied = λ i some.
+          subst (λ (k : Knowledge). IsSome (k.copies i)) (sym logged) (logged_some (knows copies) b.change.logged.effects b.change.made b.change.descriptor i
+          (subst (λ (o : Option Begun). AreCopied (with_record (kept.away ++ kept.current) (begun_record o)) (number_made o) (knows copies)) pending s.copied i (subst (λ (l : List Record). 0 < touch_count l i) all some)));
       failed = λ is. absurd (false≢true (sym open_yet ∙ is));
     }
       where
@@ -246,6 +310,7 @@ module _ {M : Type 0} (device : Ghosts M) (leases : TableId) where
       counts = λ i w.
           idle_counts idle i w ∙ ap (λ (l : List Record). touch_count l i) (sym all)
           ∙ sym (ap (λ (o : Option Record). touch_count (with_record (gone.away ++ gone.current) o) i) (idle_record idle));
+      copied = subst (λ (o : Option Begun). AreCopied (with_record (gone.away ++ gone.current) (begun_record o)) (number_made o) (knows copies)) (sym idle) (subst (λ (l : List Record). AreCopied l None (knows copies)) (sym all) (idle_copied idle));
       failed = λ is. absurd (idle_unanswered idle is);
     }
       where
@@ -268,5 +333,34 @@ module _ {M : Type 0} (device : Ghosts M) (leases : TableId) where
       counts = λ i w.
           sum_moves (records_of cleaned i) (records_of pass i) (touch_count kept.away i) (h.counts i w) (touch_count (with_record kept.current (begun_record begun)) i) (s.counts i w ∙ parted kept.away kept.current (begun_record begun) i)
           ∙ sym (ap (λ (k : Kept). touch_count (with_record (k.away ++ k.current) (begun_record begun)) i) is_none);
+      copied = subst (λ (k : Knowledge). AreCopied (with_record (none.away ++ none.current) (begun_record begun)) (number_made begun) k) (sym is_known)
+          (subst (λ (k : Kept). AreCopied (with_record (k.away ++ k.current) (begun_record begun)) (number_made begun) (without_blocks_of (knows copies) kept.away)) (sym is_none)
+          (fewer_copied (with_record kept.current (begun_record begun)) (with_record (kept.away ++ kept.current) (begun_record begun)) (number_made begun) (knows copies) (λ i. less (touch_count (with_record (kept.away ++ kept.current) (begun_record begun)) i) (touch_count kept.away i) (touch_count (with_record kept.current (begun_record begun)) i) (parted kept.away kept.current (begun_record begun) i)) s.copied));
       failed = λ is. (fails ∙ (s.failed is).0, (s.failed is).1);
     }
+      where
+        less : (all part rest : ℕ) → all ≡ part + rest → rest ≤ all
+        less all part rest is = omega arith
+
+    -- a lease is given back, and what was known of its inode is forgotten
+    pub sound_given : (i : ℕ) (new : PassView) (known : Held) → HasWord i → records_of pass i ≡ 0 → (is_some begun && not answered) ≡ false → log.failed ≡ false → new ≡ without_lease pass i → knows known ≡ without_inode (knows copies) i → IsSound device leases new log known begun answered kept
+    sound_given i new known word none waits going given forgotten =
+        let idle = idle_none waits going in
+        sound_pass_of (sound_copies known idle (ap (λ (k : Knowledge). k.client) forgotten) (λ j some copy. subst (λ (k : Knowledge). IsSome (k.copies j)) (sym forgotten) (elim (cases_eq j i) [
+          | inl same ↦ let zero : touch_count (kept.away ++ kept.current) j ≡ 0 = ap (touch_count (kept.away ++ kept.current)) same ∙ sym (idle_counts idle i word) ∙ none in absurd (omega (arith, zero, some))
+          | inr other ↦ subst IsSome (sym (cond-false (j == i) None (copy_at copies.copies j) (ne_eqb j i other))) copy
+        ])))
+      where
+        sound_pass_of : IsSound device leases pass log known begun answered kept → IsSound device leases new log known begun answered kept
+        sound_pass_of is = record {
+          table = ap (λ (p : PassView). p.table) given ∙ is.table;
+          number = is.number ∙ sym (ap (λ (p : PassView). client_of p) given);
+          written_is = is.written_is;
+          back = is.back;
+          begins = is.begins;
+          prepared = is.prepared;
+          room = is.room;
+          counts = λ j w. ap (λ (p : PassView). records_of p j) given ∙ is.counts j w;
+          copied = is.copied;
+          failed = is.failed;
+        }

@@ -1,4 +1,5 @@
 pub mod Kept
+mod KeptRecord
 pub mod Ready
 pub mod LogSteps
 mod SealedRegions

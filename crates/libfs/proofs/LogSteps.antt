@@ -1,9 +1,8 @@
 -- What a wipe leaves of the log's records.
-use Rattle.std.proofs.Common.{◌≡◌, ◌≢◌, ℕ, Bool, true, false, cond, List, [], refl, sym, ◌∙◌, ap}
+use Rattle.std.proofs.Common.{◌≡◌, ◌≢◌, Bool, true, false, cond, [], refl, sym, ◌∙◌, ap}
 use Rattle.std.specs.Prelude.{Option, Some, None, Result, Ok, Err, is_some, IfOk, IfSome, OnErr}
 use Rattle.std.proofs.lemmas.Bool.{false≢true}
 use Rattle.client_log.specs.tier_device.declared.media.Media.{Ghosts}
-use Rattle.client_log.specs.tier_device.declared.media.Tier.{Tier}
 use Rattle.client_log.specs.update_log.View.{RegionView, records_of}
 use Rattle.client_log.specs.update_log.declared.stage.WipeProgress.{WipeProgress}
 use Rattle.client_log.specs.update_log.declared.stage.WipeProgress.TheVariants.{Going, Wiped}

@@ -1,16 +1,13 @@
--- Where the pass counts no record of its own on an inode, nothing is laid over what is fetched of it.
-use Rattle.std.proofs.Common.{◌≡◌, ℕ, zero, suc, ◌+◌, Bool, true, false, cond, List, [], ◌∷◌, ◌++◌, drop, Option, Some, None, refl, ap, sym, ◌∙◌, arith}
+-- Where the pass counts no record of its own on an inode, none behind a mark touches it.
+use Rattle.std.proofs.Common.{◌≡◌, ℕ, zero, suc, ◌+◌, true, false, cond, List, [], ◌∷◌, ◌++◌, drop, Option, Some, None, refl, sym, ◌∙◌, arith}
 use Rattle.std.specs.Prelude.{◌==◌}
 use Rattle.std.proofs.lemmas.List.Sums.{sum_by-cons}
 use Rattle.client_log.specs.tier_device.declared.media.Media.{Ghosts}
 use Rattle.client_log.specs.View.{current_records}
 use Rattle.client_log.specs.update_log.Frames.{with_record}
-use Rattle.client_log.specs.call_effects.NodeView.{NodeView}
 use Rattle.kernel_fs.specs.layout.declared.marks.Mark.{Mark}
 use Rattle.lease_manager.specs.RecordCounts.{is_touched, touch_count}
 use Rattle.lease_manager.specs.log_record.declared.format.Record.{Record}
-use Rattle.client_view.specs.After.{block_laid, node_laid}
-use Rattle.client_view.proofs.Untouched.{untouched_block, untouched_view}
 use Rattle.libfs.specs.NeedService.{records_behind}
 use Rattle.libfs.specs.View.{ClientView, begun_record, own_records}
 
@@ -59,11 +56,3 @@ none_behind device v mark i is = elim (mark.generation == v.log.generation) as (
 
     none : TouchNone i (v.sealed ++ current)
     none = none_kept i (v.sealed ++ current) (begun_record v.begun) (none_counted i (own_records device v) is)
-
-pub node_stays : (rs : List Record) (i : ℕ) (node : Option NodeView) → TouchNone i rs → node_laid rs i node ≡ node
-node_stays [] i node none = refl
-node_stays (r ∷ rs) i node none = ap (node_laid rs i) (untouched_view r.effects i node none.0) ∙ node_stays rs i node none.1
-
-pub block_stays : (rs : List Record) (i b : ℕ) (block : Option (List ℕ)) → TouchNone i rs → block_laid rs i b block ≡ block
-block_stays [] i b block none = refl
-block_stays (r ∷ rs) i b block none = ap (block_laid rs i b) (untouched_block r.effects i b block none.0) ∙ block_stays rs i b block none.1

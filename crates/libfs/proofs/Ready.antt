@@ -1,11 +1,10 @@
 -- What a call comes to may be begun.
-use Rattle.std.proofs.Common.{◌≡◌, ℕ, ◌+◌, ◌-◌, ◌^◌, ◌<◌, ◌≤◌, Bool, true, false, cond, List, ◌++◌, length, refl, sym, arith, length-append}
-use Rattle.std.specs.Prelude.{Option, Some, None, Result, Ok, Err, IfOk, nat_le, ◌&&◌}
+use Rattle.std.proofs.Common.{◌≡◌, ◌⊎◌, inl, inr, ℕ, ◌+◌, ◌-◌, ◌^◌, ◌<◌, ◌≤◌, Bool, true, false, cond, List, ◌++◌, length, refl, sym, ap, ◌∙◌, subst, arith, length-append}
+use Rattle.std.specs.Prelude.{Option, Some, None, Result, Ok, Err, IfOk, IsSome, nat_le, ◌&&◌}
 use Rattle.std.specs.Option.{ForSome}
-use Rattle.std.proofs.lemmas.Bool.{false≢true, and_parts, leb-true}
+use Rattle.std.proofs.lemmas.Bool.{false≢true, and_parts, eq-eqb, leb-true}
 use Rattle.std.proofs.lemmas.List.Sums.{count_by-le-length}
 use Rattle.client_log.specs.tier_device.declared.media.Media.{Ghosts}
-use Rattle.client_log.specs.tier_device.declared.media.Tier.{Tier}
 use Rattle.lease_manager.specs.posix_calls.Part.{Part}
 use Rattle.lease_manager.specs.posix_calls.declared.call.Call.{Call}
 use Rattle.lease_manager.specs.posix_calls.declared.call.Call.TheVariants.{Pwrite}
@@ -30,16 +29,25 @@ use Rattle.lease_manager.specs.declared.view.LeaseMode.TheVariants.{Free, Readin
 use Rattle.lease_manager.specs.Words.{HasWord}
 use Rattle.lease_manager.specs.Passes.{PassView, lease_of, records_of}
 use Rattle.client_log.specs.Steps.{most_of}
+use Rattle.client_view.specs.AfterRecord.{is_made, with_made}
 use Rattle.client_log.specs.View.{LogView}
 use Rattle.libfs.specs.View.{ClientView}
 use Rattle.lease_manager.specs.RecordCounts.{Counts, is_touched, touch_count}
 use Rattle.lease_manager.specs.PassLeases.{is_writing, writes}
 use Rattle.libfs.specs.ClientHoldings.{holdings_of, known_to, outcome_for}
 use Rattle.libfs.specs.CallStart.{IsReadyToBegin, MayGoOn}
+use Rattle.libfs.proofs.Kept.{known_still}
 
 -- what a client has is of what it knows
 pub has_of : {M : Type 0} (device : Ghosts M) (v : ClientView M) → IsOf (known_to v) (holdings_of device v)
 has_of device v = record { own = refl; numbers = λ i is. is }
+
+-- what is known, or made, is known once the number of the node that is made is used
+known_or_made : (k : Knowledge) (made : Option ℕ) (i : ℕ) → IsSome (k.copies i) ⊎ (made ≡ Some i) → IsSome ((with_made k made).copies i)
+known_or_made k made i (inl some) = known_still k made i some
+known_or_made k made i (inr is) =
+    let own : is_made made i ≡ true = ap (λ (m : Option ℕ). is_made m i) is ∙ eq-eqb i i refl in
+    subst (λ b. IsSome (cond b (Some None) (k.copies i))) (sym own) refl
 
 -- so what a call comes to may be begun, if it comes to a record
 pub may_go_on : {M : Type 0} (device : Ghosts M) (v : ClientView M) (call : Call) (o : Outcome) → o ≡ outcome_for device v call → ForSome (change_in o) OpensInRange
@@ -56,6 +64,7 @@ may_go_on device v call (outcomes.Log entry reply made change) is number ready m
       opens = number;
       enough = r.enough;
       held = r.leased;
+      known = λ i touched. known_or_made (known_to v) made i (r.known i touched);
       most = r.most;
       room = r.room;
       fits = r.short;

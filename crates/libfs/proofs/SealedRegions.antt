@@ -1,20 +1,17 @@
 -- A region that was sealed, and its log in memory.
-use Rattle.std.proofs.Common.{◌≡◌, ◌<◌, ◌≤◌, ◌^◌, ℕ, Bool, true, false, cond, List, [], take, length, Option, Some, None, refl, sym, ◌∙◌, ap, subst, arith}
+use Rattle.std.proofs.Common.{◌≡◌, ◌≤◌, ℕ, Bool, true, false, cond, List, [], take, Option, Some, None, refl, sym, ◌∙◌, ap, subst, arith}
 use Rattle.std.proofs.lemmas.Bool.Decides.{nat_tests}
 use Rattle.std.specs.Prelude.{◌≢◌, Result, Ok, Err, IfOk, OnErr, is_some}
 use Rattle.client_log.specs.tier_device.declared.media.Media.{Ghosts}
-use Rattle.client_log.specs.tier_device.declared.media.Tier.{Tier}
 use Rattle.client_log.specs.tier_device.declared.media.Tier.TheVariants.{Fast}
 use Rattle.client_log.specs.tier_device.Media.{Keeps}
 use Rattle.client_log.specs.update_log.Frames.{before_gate, spelled_records}
 use Rattle.client_log.specs.update_log.View.{RegionView, records_of}
 use Rattle.client_log.specs.Calls.{IsOnlyRead}
-use Rattle.client_log.specs.Regions.{IsSealedRegion}
 use Rattle.client_log.specs.View.{LogView, current_records}
-use Rattle.lease_manager.specs.log_record.declared.format.Record.{Record}
 use Rattle.lease_manager.specs.posix_calls.Operations.{is_client}
 use Rattle.lease_manager.specs.Words.{IsClient}
-use Rattle.kernel_fs.specs.digester.SealedLog.{SealedView, IsDoneBy, IsSealed, done_to}
+use Rattle.kernel_fs.specs.digester.SealedLog.{SealedView, IsDoneBy, done_to}
 use Rattle.kernel_fs.specs.digester.declared.error.DigestError.{DigestError}
 use Rattle.kernel_fs.specs.declared.chunk_digest.Digestion.{Digestion}
 use Rattle.kernel_fs.specs.declared.chunk_digest.Digestion.TheVariants.{Digested, NotNext, NotAccepted}

@@ -1,10 +1,10 @@
 -- What a client that was served lacks no longer.
-use Rattle.std.proofs.Common.{◌≡◌, inl, inr, ℕ, zero, suc, ◌+◌, ◌-◌, ◌*◌, ◌/◌, ◌<◌, ◌≤◌, Bool, true, false, cond, List, [], ◌∷◌, ◌++◌, Option, Some, None, refl, ap, sym, ◌∙◌, subst, arith}
-use Rattle.std.specs.Prelude.{◌==◌, ◌||◌, ◌&&◌, nat_le, not, option_map, Ok}
-use Rattle.std.proofs.lemmas.Bool.{cases_Bool, true≢false, cond-true, cond-false, eq-eqb, le-leb}
+use Rattle.std.proofs.Common.{◌≡◌, ◌≢◌, inl, inr, ℕ, zero, suc, ◌+◌, ◌-◌, ◌*◌, ◌/◌, ◌<◌, ◌≤◌, Bool, true, false, cond, List, [], ◌∷◌, ◌++◌, Option, Some, None, refl, ap, sym, ◌∙◌, subst, arith}
+use Rattle.std.specs.Prelude.{◌==◌, ◌||◌, ◌&&◌, IsSome, is_some, nat_le, not, option_map, Ok}
+use Rattle.std.proofs.lemmas.Bool.{and_parts, cases_Bool, cases_eq, true≢false, cond-true, cond-false, eq-eqb, le-leb, ne_eqb}
+use Rattle.std.proofs.lemmas.Bool.Decides.{nat_tests}
 use Rattle.std.proofs.lemmas.List.Folds.{list_any-append}
 use Rattle.client_log.specs.tier_device.declared.media.Media.{Ghosts}
-use Rattle.client_log.specs.tier_device.declared.media.Tier.{Tier}
 use Rattle.lease_manager.specs.posix_calls.Content.{range}
 use Rattle.lease_manager.specs.posix_calls.Tree.{sum_up_to}
 use Rattle.lease_manager.specs.posix_calls.Part.{Part, Known, blocks_touched, run_part}
@@ -17,7 +17,8 @@ use Rattle.lease_manager.specs.posix_calls.declared.limits.TheConstants.{MAX_INO
 use Rattle.lease_manager.specs.file_graph.Graph.{is_among}
 use Rattle.lease_manager.specs.file_graph.Numbers.{is_inode}
 use Rattle.client_log.specs.call_effects.Blocks.{blocks_joined, joined_bytes, range_by}
-use Rattle.client_log.specs.call_effects.Knowledge.{Knowledge, part_of}
+use Rattle.client_log.specs.call_effects.Knowledge.{Knowledge, part_of, with_copy}
+use Rattle.client_log.specs.call_effects.NodeView.{NodeView}
 use Rattle.client_log.specs.call_effects.Records.{units_asked}
 use Rattle.lease_manager.specs.PassLeases.{is_reading, is_writing, reads, writes}
 use Rattle.client_view.specs.client_plan.NeedEffects.{AreUnread, IsLacking, IsShort}
@@ -29,6 +30,7 @@ use Rattle.kernel_fs.specs.KernelView.{KernelView}
 use Rattle.lease_manager.specs.Passes.{lease_of}
 use Rattle.lease_manager.specs.Words.{HasWord}
 use Rattle.lease_manager.specs.declared.view.LeaseMode.{LeaseMode}
+use Rattle.lease_manager.specs.declared.view.LeaseMode.TheVariants.{Free}
 use Rattle.libfs.specs.LeaseCalls.{mode_of}
 use Rattle.libfs.specs.View.{ClientView}
 use Rattle.libfs.specs.ClientHoldings.{holdings_of, known_to}
@@ -48,6 +50,37 @@ is_had device v call i Read word is lacks =
 is_had device v call i Write word is lacks =
     let inode : is_inode i ≡ true = in_range i word in
     true≢false (subst (λ (m : LeaseMode). is_writing m ≡ false) is (subst (λ b. (b && is_writing (lease_of v.pass i)) ≡ false) inode lacks))
+
+-- what a client may read it holds
+held_by : (inode : Bool) (m : LeaseMode) → ((inode && is_reading m) || (inode && is_writing m)) ≡ true → (inode ≡ true) × (m ≢ Free)
+held_by true m may = (refl, λ free. true≢false (sym may ∙ ap (λ (x : LeaseMode). is_reading x || is_writing x) free))
+held_by false m may = absurd (cc)
+
+word_of : (i : ℕ) → is_inode i ≡ true → HasWord i
+word_of i is = let parts = and_parts (nat_le 1 i) (nat_le i MAX_INODE) is in (grind (arith, nat_tests, parts.0), grind (arith, nat_tests, parts.1))
+
+pub is_held : {M : Type 0} (v : ClientView M) (i : ℕ) → (reads v.pass i || writes v.pass i) ≡ true → HasWord i × (lease_of v.pass i ≢ Free)
+is_held v i may = let held = held_by (is_inode i) (lease_of v.pass i) may in (word_of i held.0, held.1)
+
+-- ---- copies
+
+pub is_there : {X : Type 0} (o : Option X) → IsSome o → (x : X) × (o ≡ Some x)
+is_there None some = absurd (cc)
+is_there (Some x) some = (x, refl)
+
+pub none_there : {X : Type 0} (o : Option X) → is_some o ≡ false → o ≡ None
+none_there None none = refl
+none_there (Some x) none = absurd (cc)
+
+-- a copy that is there already
+pub copied_again : (k : Knowledge) (i : ℕ) (copy : Option NodeView) → k.copies i ≡ Some copy → with_copy k i copy ≡ k
+copied_again k i copy is = λ t. record { client = k.client; own = k.own; copies = λ j. same j t; blocks = k.blocks; granted = k.granted }
+  where
+    same : (j : ℕ) → cond (j == i) (Some copy) (k.copies j) ≡ k.copies j
+    same j = elim (cases_eq j i) [
+      | inl at ↦ cond-true (j == i) (Some copy) (k.copies j) (eq-eqb j i at) ∙ sym (ap k.copies at ∙ is)
+      | inr other ↦ cond-false (j == i) (Some copy) (k.copies j) (ne_eqb j i other)
+    ]
 
 -- ---- blocks
 

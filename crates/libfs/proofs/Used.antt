@@ -1,6 +1,6 @@
 -- Which blocks a read uses.
 use Rattle.std.proofs.Common.{◌≡◌, ◌∙◌, ap, ℕ, List, ◌/◌}
-use Rattle.std.specs.Prelude.{Option, Some, None, length}
+use Rattle.std.specs.Prelude.{Option, length}
 use Rattle.std.specs.Option.{option_map_or}
 use Rattle.lease_manager.specs.posix_calls.Tree.{Own}
 use Rattle.lease_manager.specs.posix_calls.declared.call.Call.{Call}

@@ -1,8 +1,7 @@
 -- What becomes of a client as a call is started.
-use Rattle.std.specs.Prelude.{◌≡◌, ℕ, ◌+◌, ◌≤◌, ◌||◌, Bool, true, false, List, length, Option, Some}
+use Rattle.std.specs.Prelude.{◌≡◌, ℕ, ◌+◌, ◌≤◌, ◌||◌, Bool, true, false, length, Option, Some, IsSome}
 use Rattle.std.specs.Option.{ForSome}
 use Rattle.client_log.specs.tier_device.declared.media.Media.{Ghosts}
-use Rattle.client_log.specs.tier_device.declared.media.Tier.{Tier}
 use Rattle.lease_manager.specs.posix_calls.declared.call.Call.{Call}
 use Rattle.lease_manager.specs.posix_calls.declared.call.Reply.{Reply}
 use Rattle.lease_manager.specs.posix_calls.declared.call.Reply.TheVariants as replies
@@ -19,7 +18,7 @@ use Rattle.client_view.specs.client_plan.Memory.{wants_memory}
 use Rattle.client_view.specs.client_plan.CallPlan.{OpensInRange}
 use Rattle.client_log.specs.Steps.{most_of}
 use Rattle.client_log.specs.Turns.{turn_of, record_begun}
-use Rattle.client_view.specs.AfterRecord.{with_change}
+use Rattle.client_view.specs.AfterRecord.{with_change, with_made}
 use Rattle.libfs.specs.declared.begun_record.Begun.{Begun}
 use Rattle.libfs.specs.declared.now.Now.{Now}
 use Rattle.libfs.specs.declared.now.Now.TheVariants as now
@@ -35,6 +34,7 @@ pub record IsReadyToBegin {M : Type 0} (device : Ghosts M) (v : ClientView M) (e
   pub opens : ForSome change OpensInRange
   pub enough : entry.units ≤ v.spare
   pub held : (i : ℕ) → is_touched entry.effects i ≡ true → writes v.pass i ≡ true
+  pub known : (i : ℕ) → is_touched entry.effects i ≡ true → IsSome ((with_made (known_to v) made).copies i)
   pub most : ℕ
   pub room : most_of device v.log ≡ Some most
   pub fits : length (record_bytes entry) ≤ most
@@ -85,4 +85,4 @@ is_logged (outcomes.Log entry reply made change) = true
 pub record IsOutOfMemory {M : Type 0} (device : Ghosts M) (old : ClientView M) (call : Call) (answer : Now) (new : ClientView M) : Type 0 where
   pub told : answer ≡ now.Done (replies.Failed NoMemory)
   pub wanted : (wants_memory (part_of (known_to old)) (holdings_of device old).own call || is_logged (outcome_for device old call)) ≡ true
-  pub same : new ≡ old
+  pub same : new ≡ record old { pass = pass_answered old.pass }

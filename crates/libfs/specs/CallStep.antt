@@ -1,7 +1,6 @@
 -- What a device call of a begun record makes of its client.
-use Rattle.std.specs.Prelude.{◌≡◌, ℕ, Bool, true, false, List, Option, Some, None, Result, Ok, Err}
+use Rattle.std.specs.Prelude.{◌≡◌, Bool, true, false, Option, Some, None, Result, Ok, Err}
 use Rattle.client_log.specs.tier_device.declared.media.Media.{Ghosts}
-use Rattle.client_log.specs.tier_device.declared.media.Tier.{Tier}
 use Rattle.lease_manager.specs.posix_calls.declared.call.Reply.{Reply}
 use Rattle.lease_manager.specs.posix_calls.declared.call.Reply.TheVariants as replies
 use Rattle.lease_manager.specs.posix_calls.declared.errno.Errno.TheVariants.{IoError}

@@ -1,7 +1,5 @@
 -- What a client has for its calls.
-use Rattle.std.specs.Prelude.{ℕ, List}
 use Rattle.client_log.specs.tier_device.declared.media.Media.{Ghosts}
-use Rattle.client_log.specs.tier_device.declared.media.Tier.{Tier}
 use Rattle.lease_manager.specs.posix_calls.Own.{own_of}
 use Rattle.lease_manager.specs.posix_calls.declared.call.Call.{Call}
 use Rattle.client_log.specs.call_effects.Knowledge.{Knowledge, part_of}

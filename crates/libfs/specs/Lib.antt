@@ -1,6 +1,7 @@
 pub mod Denial
 pub mod View
 pub mod ClientHoldings
+pub mod OwnCopies
 pub mod Sound
 pub mod CallStart
 pub mod CallStep

@@ -1,8 +1,7 @@
 -- What a client has once the kernel served it.
-use Rattle.std.specs.Prelude.{◌≡◌, ◌≢◌, ◌⊎◌, ℕ, ◌+◌, ◌<◌, ◌≤◌, ◌==◌, ◌&&◌, ◌||◌, ◌++◌, not, drop, min, take, length, get_or, Bool, false, List, [], ◌∷◌, Option, Some, None, Result, Ok, Err, OnErr, if◌then◌else◌}
+use Rattle.std.specs.Prelude.{◌≡◌, ◌≢◌, ◌⊎◌, ℕ, ◌+◌, ◌<◌, ◌≤◌, ◌==◌, ◌&&◌, ◌||◌, ◌++◌, not, drop, min, take, length, get_or, Bool, false, List, [], ◌∷◌, Option, Some, None, Result, Ok, Err, IsSome, OnErr, if◌then◌else◌}
 use Rattle.std.specs.List.{filter}
 use Rattle.client_log.specs.tier_device.declared.media.Media.{Ghosts}
-use Rattle.client_log.specs.tier_device.declared.media.Tier.{Tier}
 use Rattle.lease_manager.specs.posix_calls.Content.{with_length}
 use Rattle.lease_manager.specs.file_graph.Graph.{Graph, is_among}
 use Rattle.lease_manager.specs.file_graph.Numbers.{is_inode}
@@ -15,6 +14,7 @@ use Rattle.client_log.specs.call_effects.Blocks.{block_of}
 use Rattle.client_log.specs.call_effects.Knowledge.{Knowledge, with_copy}
 use Rattle.client_log.specs.call_effects.NodeView.{view_at}
 use Rattle.kernel_fs.specs.layout.declared.marks.Mark.{Mark}
+use Rattle.lease_manager.specs.RecordCounts.{touch_count}
 use Rattle.lease_manager.specs.Words.{HasWord}
 use Rattle.lease_manager.specs.Passes.{client_of, lease_of}
 use Rattle.lease_manager.specs.declared.view.LeaseMode.TheVariants.{Free}
@@ -26,9 +26,8 @@ use Rattle.kernel_fs.specs.Nodes.{nodes_in}
 use Rattle.kernel_fs.specs.Steps.{grant as granted, take_back as taken_back}
 use Rattle.kernel_fs.specs.declared.book_error.RefillError.{RefillError}
 use Rattle.kernel_fs.specs.declared.book_error.RefillError.TheVariants as refills
-use Rattle.client_view.specs.After.{block_laid, bytes_at, node_laid}
+use Rattle.client_view.specs.After.{block_laid, bytes_at}
 use Rattle.client_log.specs.View.{current_records}
-use Rattle.client_view.specs.KnowledgeChanges.{without_blocks}
 use Rattle.client_view.specs.BlockPut.{IsBlockLong}
 use Rattle.client_view.specs.client_plan.declared.need.Need.{Need}
 use Rattle.client_view.specs.client_plan.declared.need.Need.TheVariants as needs
@@ -43,12 +42,12 @@ use Rattle.kernel_fs.specs.area_image.declared.error.AreaError.{AreaError}
 use Rattle.kernel_fs.specs.area_image.declared.error.AreaError.TheVariants as area
 use Rattle.libfs.specs.declared.denial.Denied.{Denied}
 use Rattle.libfs.specs.declared.denial.Denied.TheVariants as denied
-use Rattle.libfs.specs.View.{ClientView}
+use Rattle.libfs.specs.View.{ClientView, own_records}
 use Rattle.libfs.specs.ClientHoldings.{known_to}
 
 -- ---- what is asked of the kernel
 
--- The kernel serves all that a client may lack but a lease, which the client takes itself, and room in its region. No call is begun meanwhile where a copy comes in the place of another.
+-- The kernel serves all that a client may lack but a lease, which the client takes itself, and room in its region. A copy comes only while no record is begun, and a copy that is there stays.
 abbrev pub IsServable : {M : Type 0} → ClientView M → Need → Type 0
 IsServable v (needs.View i) = HasWord i × (lease_of v.pass i ≢ Free) × (v.begun ≡ None)
 IsServable v (needs.Blocks i first count) = HasWord i × (lease_of v.pass i ≢ Free) × (first + count < 4294967296)
@@ -90,14 +89,23 @@ records_behind device v mark = if mark.generation == v.log.generation then drop 
 abbrev pub shared_by : {S : Type 0} → Ghosts S → KernelView S → Graph
 shared_by device k = graph k.area.geometry (disk device k.area)
 
--- It has a copy of what stands at an inode of the kernel's graph, with its own records behind its mark laid over it; the blocks of other files stay in their order.
-pub record HasFetched {M S : Type 0} (device : Ghosts M) (shared : Ghosts S) (k : KernelView S) (old : ClientView M) (i : ℕ) (new : ClientView M) : Type 0 where
-  pub mark : Mark
-  pub is_mark : IsMarkIn (disk shared k.area) (client_of old.pass) mark
-  pub knows_then : known_to new ≡ with_copy (without_blocks (known_to old) i) i (node_laid (records_behind device old mark) i (view_at (shared_by shared k) i))
+-- It has a copy of an inode, and keeps it and all else.
+pub record KeepsCopy {M : Type 0} (old : ClientView M) (i : ℕ) (new : ClientView M) : Type 0 where
+  pub some : IsSome ((known_to old).copies i)
+  pub same : new ≡ old
+
+-- It had no copy of an inode, and so no record of its own that is not digested touches it: it has a copy of what stands there in the kernel's graph. The blocks of other files stay in their order.
+pub record GetsNode {M S : Type 0} (device : Ghosts M) (shared : Ghosts S) (k : KernelView S) (old : ClientView M) (i : ℕ) (new : ClientView M) : Type 0 where
+  pub none : (known_to old).copies i ≡ None
+  pub untouched : touch_count (own_records device old) i ≡ 0
+  pub knows_then : known_to new ≡ with_copy (known_to old) i (view_at (shared_by shared k) i)
   pub numbers : new.copies.numbers ≡ old.copies.numbers
   pub order : new.copies.blocks ≡ without_file i old.copies.blocks
   pub rest : new ≡ record old { copies = new.copies }
+
+-- It has a copy of an inode.
+abbrev pub HasFetched : {M S : Type 0} → Ghosts M → Ghosts S → KernelView S → ClientView M → ℕ → ClientView M → Type 0
+HasFetched device shared k old i new = KeepsCopy old i new ⊎ GetsNode device shared k old i new
 
 -- a block of a file, as the client has it behind a mark: that of the kernel's graph, with its own records laid over it; none where no file stands then
 abbrev pub block_behind : {M S : Type 0} → Ghosts M → Ghosts S → KernelView S → ClientView M → Mark → ℕ → ℕ → Option (List ℕ)

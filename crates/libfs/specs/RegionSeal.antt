@@ -2,7 +2,6 @@
 use Rattle.std.specs.Prelude.{◌≡◌, ℕ, Bool, false, not, List, [], length, Some, None, if◌then◌else◌}
 use Rattle.std.specs.List.{filter, list_any}
 use Rattle.client_log.specs.tier_device.declared.media.Media.{Ghosts}
-use Rattle.client_log.specs.tier_device.declared.media.Tier.{Tier}
 use Rattle.lease_manager.specs.log_record.declared.format.Record.{Record}
 use Rattle.client_log.specs.update_log.RecordCounts.{next_generation}
 use Rattle.client_log.specs.update_log.View.{RegionView, records_of}

@@ -4,7 +4,6 @@ use Rattle.std.specs.List.{AllByRecursion}
 use Rattle.std.specs.List.Sorted.{IsStrictlyIncreasing}
 use Rattle.std.specs.Option.{ForSome}
 use Rattle.client_log.specs.tier_device.declared.media.Media.{Ghosts}
-use Rattle.client_log.specs.tier_device.declared.media.Tier.{Tier}
 use Rattle.client_log.specs.update_log.View.{RegionView, records_of}
 use Rattle.client_log.specs.Regions.{IsSealedRegion}
 use Rattle.lease_manager.specs.posix_calls.Operations.{is_client}
@@ -12,7 +11,6 @@ use Rattle.lease_manager.specs.file_graph.Graph.{is_among}
 use Rattle.lease_manager.specs.log_record.Grammar.{IsRecord}
 use Rattle.lease_manager.specs.log_record.declared.format.Record.{Record}
 use Rattle.kernel_fs.specs.digester.SealedLog.{SealedView, IsDoneBy, StandsAtMark, undone}
-use Rattle.kernel_fs.specs.digester.Chunk.{is_next}
 use Rattle.kernel_fs.specs.digester.declared.chunk.Chunk.{Chunk}
 use Rattle.kernel_fs.specs.digester.DigestStep.{IsDigested, NamesFirstBad, StaysOrDigests, DigestsOrStays}
 use Rattle.kernel_fs.specs.digester.declared.error.DigestError.{DigestError}

@@ -1,7 +1,6 @@
 -- A client, as its callers see it.
 use Rattle.std.specs.Prelude.{ℕ, ◌&&◌, ◌++◌, not, Bool, List, Option, is_some, option_map}
 use Rattle.client_log.specs.tier_device.declared.media.Media.{Ghosts}
-use Rattle.client_log.specs.tier_device.declared.media.Tier.{Tier}
 use Rattle.lease_manager.specs.log_record.declared.format.Record.{Record}
 use Rattle.client_log.specs.update_log.Frames.{with_record}
 use Rattle.lease_manager.specs.Passes.{PassView}

@@ -1,8 +1,9 @@
 //! Blocks of files that a client fetches of the shared graph, with its own records laid over them.
-ghost use Rattle.std.specs.Prelude.{◌≡◌, ◌≢◌, ◌⊎◌, ◌≤◌, ◌<◌, ◌+◌, ◌-◌, ◌*◌, ◌^◌, ◌↔◌, ◌++◌, ◌∷◌, [], ℕ, List, length, min, true, false, Some, Err, OnOk, OnErr, IfOk, IfErr, IfNone, IfSome, IsTrue, IsErrOf};
+ghost use Rattle.std.specs.Prelude.{◌≡◌, ◌≢◌, ◌⊎◌, ◌≤◌, ◌<◌, ◌+◌, ◌-◌, ◌*◌, ◌^◌, ◌==◌, ◌↔◌, ◌++◌, ◌∷◌, [], ℕ, List, length, min, true, false, Some, Err, OnOk, OnErr, IfOk, IfErr, IfNone, IfSome, IsTrue, IsErrOf};
 ghost use Rattle.lease_manager.specs.posix_calls.declared.limits.TheConstants.{UNIT_BYTES};
 ghost use Rattle.kernel_fs.specs.layout.declared.marks.Mark.{Mark};
 ghost use Rattle.lease_manager.specs.Passes.{client_of, lease_of};
+ghost use Rattle.lease_manager.specs.RecordCounts.{touch_count};
 ghost use Rattle.lease_manager.specs.Words.{HasWord};
 ghost use Rattle.lease_manager.specs.declared.view.LeaseMode.TheVariants.{Free};
 ghost use Rattle.client_log.specs.call_effects.Blocks.{block_of};
@@ -14,6 +15,7 @@ ghost use Rattle.kernel_fs.specs.MachineState.{IsMarkIn};
 ghost use Rattle.libfs.specs.declared.denial.Denied.TheVariants as denied;
 ghost use Rattle.libfs.specs.ClientHoldings.{known_to};
 ghost use Rattle.libfs.specs.NeedService.{HasFetchedBlocks, HasLooked, HasPut, HasPutLaid, HasThem, IsRunBehind, IsRunOf, records_behind, shared_by};
+ghost use Rattle.libfs.specs.View.{own_records};
 
 use crate::client::Client;
 use crate::copy_fetch::area_denied;
@@ -21,7 +23,7 @@ use crate::denial::Denied;
 use client_log::Media;
 use client_view::FetchedBlock;
 use kernel_fs::{Kernel, Mark};
-use lease_manager::UNIT_BYTES;
+use lease_manager::{UNIT_BYTES, is_inode};
 use std::alloc::{AllocError, Global};
 
 // How many blocks are in memory at once, before they are kept: those of 64 KiB.
@@ -195,6 +197,23 @@ impl<M: Media> Client<M> {
         let is_current = self.is_current(mark);
         let done = mark.done as usize;
         self.records.lay_over(is_current, done, inode, first, run);
+    }
+
+    // Whether a record of its own that is not digested touches an inode.
+    fn has_own_records(&self, inode: u32) -> bool
+        ensures { result ≡ false → HasWord inode × (touch_count (own_records M.Media self.now) inode ≡ 0) }
+    {
+        if !is_inode(inode) {
+            return true;
+        }
+        self.pass.records(inode) > 0
+    }
+
+    // Whether a mark is in the generation of the region that is written.
+    fn is_current(&self, mark: Mark) -> bool
+        ensures { result ≡ (mark.generation == self.now.log.generation) }
+    {
+        mark.generation == self.log.generation()
     }
 
     // Keeps a block over which the own records are laid, unless no file stands there.

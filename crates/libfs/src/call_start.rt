@@ -1,4 +1,4 @@
-ghost use Rattle.std.specs.Prelude.{◌≡◌, ◌≤◌, ◌⊎◌, ◌/◌, ℕ, length, true, false, None, IfOk, IfErr, IfSome};
+ghost use Rattle.std.specs.Prelude.{◌≡◌, ◌≤◌, ◌⊎◌, ◌/◌, length, true, false, None, IfOk, IfErr, IfSome};
 ghost use Rattle.lease_manager.specs.posix_calls.declared.call.Call.TheVariants as calls;
 ghost use Rattle.lease_manager.specs.posix_calls.declared.call.Reply.TheVariants as replies;
 ghost use Rattle.lease_manager.specs.posix_calls.declared.errno.Errno.TheVariants.{IoError, NoMemory};
@@ -12,7 +12,7 @@ ghost use Rattle.lease_manager.specs.posix_calls.declared.call.Reply.{Reply};
 ghost use Rattle.lease_manager.specs.posix_calls.declared.limits.TheConstants.{MAX_TRANSFER, UNIT_BYTES};
 ghost use Rattle.client_view.specs.block_cache.CacheList.{used_run};
 ghost use Rattle.libfs.specs.BlockUse.{blocks_read, used_by};
-ghost use Rattle.libfs.specs.View.{is_pending};
+ghost use Rattle.libfs.specs.View.{is_pending, pass_answered};
 ghost use Rattle.libfs.specs.ClientHoldings.{holdings_of, known_to, outcome_for};
 ghost use Rattle.libfs.specs.CallStart.{HasBegun, HasStarted, IsOutOfMemory, IsReadyToBegin, MayGoOn};
 
@@ -31,15 +31,14 @@ use lease_manager::{
 use std::alloc::AllocError;
 
 impl<M: Media> Client<M> {
-    /// Starts a call, where none waits for its answer. A client of which a device has failed answers EIO. Else it comes to what `plan_call` decides by what the client knows and has: it is
-    /// answered at once, or needs what is lacking first, with nothing changed, or its record is begun, and `step` does the rest. A read that is answered uses the kept blocks in which its bytes lie, so another
-    /// one goes first where the cache is full.
+    /// Starts a call, where none waits for its answer: answers it at once, or names what is lacking first and changes nothing, or begins its record, whose device calls `step` makes. Which of these, `plan_call`
+    /// decides by what the client knows and has. A read that is answered uses the kept blocks in which its bytes lie, so another one goes first where the cache is full.
     ///
-    /// Memory is taken for names and bytes that the call tells or has, and for all that its record needs until it is answered; where there is none the answer is ENOMEM, and nothing has
-    /// changed. It makes no device call.
+    /// Answered EIO where a device of the client has failed. Answered ENOMEM, with nothing changed, where there is no memory for the names and bytes of the call and its answer, or for all that its record needs
+    /// until it is answered. It makes no device call.
     pub fn start(&mut self, call: &Call) -> Now
         requires idle { is_pending self.old ≡ false }
-        ensures failed { self.old.log.failed ≡ true → (result ≡ now.Done (replies.Failed IoError)) × (self.new ≡ self.old) }
+        ensures failed { self.old.log.failed ≡ true → (result ≡ now.Done (replies.Failed IoError)) × (self.new ≡ record self.old { pass = pass_answered self.old.pass }) }
         ensures started { self.old.log.failed ≡ false → HasStarted M.Media self.old (outcome_for M.Media self.old call.now) result self.new ⊎ IsOutOfMemory M.Media self.old call.now result self.new }
 
         // A read that is answered uses the blocks in which its bytes lie.
@@ -83,6 +82,7 @@ impl<M: Media> Client<M> {
         ensures ready { IfOk result (MayGoOn M.Media self.now) }
         ensures memory { IfErr result (λ _. wants_memory (part_of (known_to self.now)) (holdings_of M.Media self.now).own call.now ≡ true) }
     {
+        // For the proof: the record that a call comes to is one to begin, and can be prepared.
         logged_call_is_a_step();
         logged_call_can_be_prepared();
         plan_call(self.alloc, &self.copies, self, call)
@@ -94,6 +94,7 @@ impl<M: Media> Client<M> {
         ensures ready { IfSome result (λ w. IsReadyToBegin M.Media self.now (written_by w at bytes.now) None None) }
         ensures few { IfSome result (λ w. length bytes.now ≤ MAX_TRANSFER) }
     {
+        // For the proof: the same of a write's record.
         plain_write_is_logged();
         logged_call_is_a_step();
         logged_call_can_be_prepared();
@@ -191,6 +192,7 @@ fn use_read(copies: &mut ClientCopies, call: &Call, reply: &Reply)
     ensures used { copies.new ≡ record copies.old { blocks = used_by call.now reply.now (knows copies.old).own copies.old.blocks } }
     ensures known { knows copies.new ≡ knows copies.old }
 {
+    // For the proof: which blocks were used last changes nothing that is known.
     used_blocks_are_known_as_before();
     let Call::Pread { descriptor, at, .. } = call else {
         return;

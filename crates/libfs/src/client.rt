@@ -1,9 +1,10 @@
-ghost use Rattle.std.specs.Prelude.{◌≡◌, ◌≢◌, ◌<◌, ◌≤◌, ℕ, ◌++◌, List, [], true, false, Some, None, IfOk, IfErr, IfSome, is_some, length, IsTrue, ◌↔◌};
+ghost use Rattle.std.specs.Prelude.{◌≡◌, ◌≢◌, ◌<◌, ℕ, ◌++◌, List, [], true, false, Some, None, IfOk, IfErr, IfSome, is_some, length, IsTrue, ◌↔◌};
 ghost use Rattle.std.specs.List.{AllByRecursion};
 ghost use Rattle.lease_manager.specs.file_graph.Graph.{is_among};
 ghost use Rattle.lease_manager.specs.log_record.Grammar.{IsRecord};
 ghost use Rattle.client_log.specs.update_log.RecordCounts.{next_generation};
 ghost use Rattle.client_log.specs.update_log.Frames.{end_behind};
+ghost use Rattle.client_log.specs.update_log.Stage.{IsUnopened};
 ghost use Rattle.client_log.specs.update_log.View.{records_of as records_in};
 ghost use Rattle.lease_manager.specs.declared.view.LeaseMode.TheVariants.{Writing, Trying};
 ghost use Rattle.lease_manager.specs.Words.{HasWord, IsClient};
@@ -16,6 +17,7 @@ ghost use Rattle.libfs.specs.View.{begun_record, is_pending, own_records};
 ghost use Rattle.lease_manager.specs.RecordCounts.{Counts, touch_count};
 ghost use Rattle.libfs.specs.ClientHoldings.{known_to};
 ghost use Rattle.libfs.specs.NewClient.{IsBlank, IsNew};
+ghost use Rattle.libfs.specs.OwnCopies.{AreCopied, number_made};
 
 use crate::begun_record::Begun;
 use client_log::{ClientLog, Media, Region};
@@ -63,6 +65,8 @@ impl<M: Media> Model for Client<M> {
 pub struct Detached<M: Media> {
     pub leases: Leases,
     pub pass: Pass,
+    /// The current generation of its log.
+    pub generation: u64,
     /// The region of even generations and that of odd ones, where they are here.
     pub regions: (Option<Region<M>>, Option<Region<M>>),
 }
@@ -106,6 +110,7 @@ impl<M: Media> Client<M> {
         ensures known { (known_to self.now).client ≡ result }
         ensures within { IsClient result }
     {
+        // For the proof: the invariant of a client is at hand.
         let _ = &self.log;
         self.pass.client()
     }
@@ -190,11 +195,12 @@ impl<M: Media> Client<M> {
     }
 
     /// What holds of a client: what it has begun is begun in its log, its pass counts just its records that are not digested, and each inode that one of them touches it holds for
-    /// writing. Where both regions are here none of its records is away, those that are away have spellings, and only where a device has failed a call is answered whose record stays begun.
+    /// writing and has a copy of, but for the node that the begun one makes. Where both regions are here none of its records is away, those that are away have spellings, and only where a device has failed a call is answered whose record stays begun.
     pub fn own_records_are_held(&self)
         ensures begins { begun_record self.now.begun ≡ self.now.log.current.begun }
         ensures counts { Counts self.now.pass (own_records M.Media self.now) }
         ensures held { (i : ℕ) → HasWord i → 0 < touch_count (own_records M.Media self.now) i → lease_of self.now.pass i ≡ Writing }
+        ensures copied { AreCopied (own_records M.Media self.now) (number_made self.now.begun) (known_to self.now) }
         ensures back { is_some self.now.log.other ≡ true → self.now.sealed ≡ [] }
         ensures spelled { AllByRecursion IsRecord self.now.sealed }
         ensures failed { self.now.answered ≡ true → (self.now.log.failed ≡ true) × (is_some self.now.begun ≡ true) }
@@ -213,14 +219,17 @@ impl<M: Media> Client<M> {
         ensures other_wiped { self.now.log.clean ≡ true → IfSome self.now.log.other (IsWiped M.Media (next_generation self.now.log.generation)) }
         ensures beside { IfSome self.now.log.other (CountsNothing M.Media (next_generation self.now.log.generation)) }
         ensures counts { (regions : ℕ → List ℕ) → AreLeft M.Media self.now.log self.now.log regions → CountOf self.now.log.generation (is_some self.now.log.other) (current_records M.Media self.now.log) self.now.log.current.begun regions }
+        // Until the call that opens its gate, the begun record does not count.
+        ensures unopened { IsUnopened self.now.log.current.stage → (regions : ℕ → List ℕ) → AreLeft M.Media self.now.log self.now.log regions → CountOf self.now.log.generation (is_some self.now.log.other) (current_records M.Media self.now.log) None regions }
     {
         self.log.left_now();
     }
 
-    /// The pass and the regions that are here, to which the client makes no call any more.
+    /// The pass, the log's generation and the regions that are here, to which the client makes no call any more.
     pub fn detach(self) -> Detached<M>
         ensures pass { result.pass ≡ self.pass }
         ensures table { result.leases ≡ self.pass.table }
+        ensures generation { result.generation ≡ self.log.generation }
         ensures regions { result.regions ≡ in_turn self.log.generation (Some self.log.current, self.log.other) }
     {
         let Client {
@@ -232,6 +241,7 @@ impl<M: Media> Client<M> {
         Detached {
             leases,
             pass,
+            generation: log.generation(),
             regions: log.into_regions(),
         }
     }

@@ -1,102 +1,78 @@
-//! Copies that a client fetches of the shared graph, with its own records laid over them.
-ghost use Rattle.std.specs.Prelude.{◌≡◌, ◌≢◌, ◌⊎◌, ◌==◌, true, false, None, Err, OnOk, OnErr, IfOk, IfErr, IsErrOf};
+//! Copies that a client fetches of the shared graph.
+ghost use Rattle.std.specs.Prelude.{◌≡◌, ◌≢◌, ◌⊎◌, true, false, None, Ok, Err, OnOk, OnErr, IfErr, IsErrOf, is_some};
 ghost use Rattle.lease_manager.specs.RecordCounts.{touch_count};
 ghost use Rattle.lease_manager.specs.Passes.{lease_of};
 ghost use Rattle.lease_manager.specs.Words.{HasWord};
 ghost use Rattle.lease_manager.specs.declared.view.LeaseMode.TheVariants.{Free};
 ghost use Rattle.client_log.specs.call_effects.Knowledge.{with_copy};
-ghost use Rattle.client_view.specs.KnowledgeChanges.{without_blocks};
 ghost use Rattle.client_view.specs.block_cache.CacheList.{without_file};
-ghost use Rattle.client_view.specs.After.{node_laid};
+ghost use Rattle.kernel_fs.specs.area_image.Map.{WantsMemory};
+ghost use Rattle.kernel_fs.specs.area_image.Store.{disk};
 ghost use Rattle.kernel_fs.specs.shared_area.Parts.{IsNoDamage};
 ghost use Rattle.kernel_fs.specs.KernelAnswers.{OnRefusal};
 ghost use Rattle.libfs.specs.declared.denial.Denied.TheVariants as denied;
 ghost use Rattle.libfs.specs.ClientHoldings.{known_to};
-ghost use Rattle.libfs.specs.NeedService.{HasFetched, HasLooked, area_denied, records_behind};
+ghost use Rattle.libfs.specs.NeedService.{HasFetched, HasLooked, area_denied};
 ghost use Rattle.libfs.specs.View.{own_records};
 
 use crate::client::Client;
 use crate::denial::Denied;
 use client_log::Media;
 use client_view::NodeSummary;
-use kernel_fs::{AreaError, Fetched, Kernel, KernelError, Mark};
-use lease_manager::is_inode;
-use std::alloc::AllocError;
+use kernel_fs::{AreaError, Kernel, KernelError};
 
 impl<M: Media> Client<M> {
-    /// Fetches a copy of what stands at an inode that it holds: the shared node, and over it the client's own records that are not digested there. What it knew of the inode before goes, its blocks too.
+    /// Fetches a copy of what stands at an inode that it holds, the shared node, where it has none; then no record of its own that is not digested touches the inode. A copy that it has stays, with its blocks, and the kernel reads nothing.
     ///
-    /// Refused: `KernelFailed` exactly where a device of the kernel had failed before; `Device` where one fails now; `Memory` where there was none for an extent block of the kernel's or for an entry. The
-    /// client is as it was then. The kernel's device calls are reads.
+    /// Refused: `KernelFailed` exactly where a device of the kernel had failed before; and only where it has no copy `Device`, where one fails now, and `Memory`, where there was none for an extent block of the
+    /// kernel's or for an entry. The client is as it was then. The kernel's device calls are reads.
     pub fn fetch<S: Media>(&mut self, kernel: &mut Kernel<S>, inode: u32) -> Result<(), Denied>
         requires inode { HasWord inode }
         requires held { lease_of self.old.pass inode ≢ Free }
         requires idle { self.old.begun ≡ None }
         ensures fetched { OnOk result (HasFetched M.Media S.Media kernel.old self.old inode self.new) }
+        ensures there { kernel.old.area.failed ≡ false → is_some ((known_to self.old).copies inode) ≡ true → (result ≡ Ok tt) × (self.new ≡ self.old) × (kernel.new ≡ kernel.old) }
         ensures looks { HasLooked S.Media kernel.old kernel.new result }
         ensures failed { kernel.old.area.failed ≡ true → (result ≡ Err denied.KernelFailed) × (kernel.new ≡ kernel.old) }
         ensures going { IsErrOf result denied.KernelFailed → kernel.old.area.failed ≡ true }
         ensures only { IfErr result (λ e. (e ≡ denied.KernelFailed) ⊎ (e ≡ denied.Device) ⊎ (e ≡ denied.Memory)) }
+        ensures memory { IsErrOf result denied.Memory → ((known_to self.old).copies inode ≡ None) × WantsMemory kernel.old.area.geometry (disk S.Media kernel.old.area) inode }
         ensures refused { OnErr result (self.new ≡ self.old) }
     {
+        if kernel.has_failed() {
+            return Err(Denied::KernelFailed);
+        }
+        if self.has_copy(inode) {
+            return Ok(());
+        }
         match kernel.fetch(self.pass.client(), inode) {
-            Ok(found) => self.put_copy(inode, found),
+            Ok(found) => {
+                self.put_copy(inode, found.node);
+                Ok(())
+            }
             Err(error) => Err(area_denied(error)),
         }
     }
 
-    // Puts the copy of a shared node, with the own records behind its mark laid over it.
-    fn put_copy(&mut self, inode: u32, found: Fetched) -> Result<(), Denied>
+    // Whether it has a copy of an inode. Where it has none, no record of its own that is not digested touches it, unless one is begun.
+    fn has_copy(&self, inode: u32) -> bool
+        ensures copy { result ≡ is_some ((known_to self.now).copies inode) }
+        ensures untouched { result ≡ false → self.now.begun ≡ None → touch_count (own_records M.Media self.now) inode ≡ 0 }
+    {
+        self.copies.has_copy(inode)
+    }
+
+    // Puts the copy of a shared node, where there is none.
+    fn put_copy(&mut self, inode: u32, node: Option<NodeSummary>)
         requires inode { HasWord inode }
         requires idle { self.old.begun ≡ None }
-        ensures known { OnOk result (known_to self.new ≡ with_copy (without_blocks (known_to self.old) inode) inode (node_laid (records_behind M.Media self.old found.mark) inode found.node)) }
-        ensures numbers { OnOk result (self.new.copies.numbers ≡ self.old.copies.numbers) }
-        ensures order { OnOk result (self.new.copies.blocks ≡ without_file inode self.old.copies.blocks) }
-        ensures rest { OnOk result (self.new ≡ record self.old { copies = self.new.copies }) }
-        ensures refused { OnErr result (self.new ≡ self.old) }
-        ensures only { IfErr result (λ e. e ≡ denied.Memory) }
+        requires none { (known_to self.old).copies inode ≡ None }
+        ensures known { known_to self.new ≡ with_copy (known_to self.old) inode node }
+        ensures numbers { self.new.copies.numbers ≡ self.old.copies.numbers }
+        ensures order { self.new.copies.blocks ≡ without_file inode self.old.copies.blocks }
+        ensures rest { self.new ≡ record self.old { copies = self.new.copies } }
     {
-        let Fetched { node, mark } = found;
-        match self.overlay_node(mark, inode, node) {
-            Ok(view) => {
-                self.copies.put_view(inode, view);
-                Ok(())
-            }
-            Err(_) => Err(Denied::Memory),
-        }
-    }
-
-    // A shared node with the own records behind a mark laid over it.
-    fn overlay_node(
-        &self,
-        mark: Mark,
-        inode: u32,
-        node: Option<NodeSummary>,
-    ) -> Result<Option<NodeSummary>, AllocError>
-        ensures { IfOk result (λ laid. laid ≡ node_laid (records_behind M.Media self.now mark) inode node) }
-    {
-        if !self.has_own_records(inode) {
-            return Ok(node);
-        }
-        self.records
-            .node_after(self.is_current(mark), mark.done as usize, inode, node)
-    }
-
-    // Whether a record of its own that is not digested touches an inode.
-    pub(crate) fn has_own_records(&self, inode: u32) -> bool
-        ensures { result ≡ false → HasWord inode × (touch_count (own_records M.Media self.now) inode ≡ 0) }
-    {
-        if !is_inode(inode) {
-            return true;
-        }
-        self.pass.records(inode) > 0
-    }
-
-    // Whether a mark is in the generation of the region that is written.
-    pub(crate) fn is_current(&self, mark: Mark) -> bool
-        ensures { result ≡ (mark.generation == self.now.log.generation) }
-    {
-        mark.generation == self.log.generation()
+        self.copies.put_view(inode, node);
     }
 }
 

@@ -1,6 +1,7 @@
 ghost use Rattle.std.specs.Prelude.{◌≡◌};
 ghost use Rattle.lease_manager.specs.posix_calls.declared.call.Reply.TheVariants as replies;
 ghost use Rattle.libfs.specs.Denial.{errno_of};
+ghost use Rattle.libfs.specs.View.{pass_answered};
 
 use crate::client::Client;
 use client_log::Media;
@@ -27,7 +28,7 @@ impl<M: Media> Client<M> {
     /// Answers a call whose need was denied. It changes nothing, and takes no memory.
     pub fn deny(&mut self, _call: &Call, why: Denied) -> Reply
         ensures reply { result ≡ replies.Failed (errno_of why) }
-        ensures unchanged { self.new ≡ self.old }
+        ensures unchanged { self.new ≡ record self.old { pass = pass_answered self.old.pass } }
     {
         Reply::Failed {
             errno: errno_of(why),

@@ -1,5 +1,5 @@
 //! What holds of every client and every call.
-ghost use Rattle.std.specs.Prelude.{◌≡◌, ◌≢◌, ◌⊎◌, ◌<◌, ◌≤◌, ℕ, List, [], Option, Some, true};
+ghost use Rattle.std.specs.Prelude.{◌≡◌, ◌≢◌, ◌⊎◌, ◌<◌, ◌≤◌, ℕ, List, [], Option, Some, None, true};
 ghost use Rattle.lease_manager.specs.posix_calls.Tree.{Descriptors, with_own};
 ghost use Rattle.lease_manager.specs.posix_calls.Operations.{Step};
 ghost use Rattle.lease_manager.specs.posix_calls.WellFormed.{IsWithinLimits};
@@ -32,7 +32,7 @@ ghost use Rattle.lease_manager.specs.Words.{HasWord};
 ghost use Rattle.libfs.specs.LeaseCalls.{mode_of};
 ghost use Rattle.libfs.specs.View.{ClientView};
 ghost use Rattle.libfs.specs.ClientHoldings.{holdings_of, known_to, outcome_for};
-ghost use Rattle.libfs.specs.NeedService.{AreAsLong, HasFetched, HasRefilled, HasThem, records_behind, shared_by, with_pin, without_pin};
+ghost use Rattle.libfs.specs.NeedService.{AreAsLong, HasFetched, HasRefilled, HasThem, IsServable, records_behind, shared_by, with_pin, without_pin};
 
 use client_log::Media;
 use client_view::{
@@ -89,6 +89,14 @@ pub fn served_client_needs_it_no_longer<M: Media, S: Media>()
         → outcome_for M.Media new call ≢ outcomes.Need (needs.Units more) }
     ensures pin { (old new : ClientView M) (call : Call) (i : ℕ) → new ≡ record old { pins = with_pin old.pins i } → outcome_for M.Media new call ≢ outcomes.Need (needs.Pin i) }
     ensures unpin { (old new : ClientView M) (call : Call) (i : ℕ) → new ≡ record old { pins = without_pin old.pins i } → outcome_for M.Media new call ≢ outcomes.Need (needs.Unpin i) }
+{
+    served_need_is_lacking_no_longer();
+}
+
+/// A need for a copy, or to drop a pin, can be served: the client holds what it is to view, and a file whose pin goes is not open.
+pub fn inode_need_is_servable<M: Media>()
+    ensures view { (v : ClientView M) (call : Call) (i : ℕ) → v.begun ≡ None → outcome_for M.Media v call ≡ outcomes.Need (needs.View i) → IsServable v (needs.View i) }
+    ensures unpin { (v : ClientView M) (call : Call) (i : ℕ) → outcome_for M.Media v call ≡ outcomes.Need (needs.Unpin i) → IsServable v (needs.Unpin i) }
 {
     served_need_is_lacking_no_longer();
 }

@@ -1,4 +1,4 @@
-ghost use Rattle.std.specs.Prelude.{◌≡◌, ◌+◌, ◌-◌, ◌/◌, ◌<◌, ◌↔◌, [], ◌∷◌, IsTrue, IfErr, OnOk, true, false};
+ghost use Rattle.std.specs.Prelude.{◌≡◌, ◌-◌, ◌/◌, ◌<◌, ◌↔◌, [], ◌∷◌, IsTrue, IfErr, OnOk, true, false};
 ghost use Rattle.lease_manager.specs.declared.view.Event.TheVariants.{Asked, Heard, Looked};
 ghost use Rattle.lease_manager.specs.declared.view.LeaseMode.TheVariants.{Free, Reading, Writing};
 ghost use Rattle.lease_manager.specs.Words.{HasWord, IsClient, asked_word, asked_bit};

@@ -5,9 +5,9 @@
 //! (`specs/ClientHoldings.antt`); neither `start` nor `step` nor a call on a lease waits for anyone.
 //!
 //! The records that are not digested stay in memory beside the log: those of the current region and those of the region that is away. The pass counts on each inode how many of them
-//! touch it, so no lease goes while a record on its inode is not digested.
+//! touch it, so no lease goes while a record on its inode is not digested, and no copy, by which the record was planned.
 //!
-//! What it lacks beside leases and room it asks of the kernel: copies of nodes, over which it lays its own records that are not digested, units, numbers for new nodes, and pins. Each is one call
+//! What it lacks beside leases and room it asks of the kernel: copies of nodes that none of its own undigested records touches, blocks, over which it lays these records, units, numbers for new nodes, and pins. Each is one call
 //! of the kernel, and one step of its machine.
 //!
 //! That what a client answers is a step of the file tree, in every whole that agrees with what it knows, is told by the laws.
@@ -34,7 +34,7 @@ pub use client::{Client, Detached};
 pub use denial::Denied;
 pub use laws::{
     answered_start_is_a_step, begun_record_is_a_step, blocks_are_as_long_as_their_copy,
-    served_client_needs_it_no_longer, wiped_region_has_room,
+    inode_need_is_servable, served_client_needs_it_no_longer, wiped_region_has_room,
 };
 pub use now::Now;
 pub use sealed_region::SealedRegion;

@@ -46,6 +46,7 @@ impl<M: Media> Client<M> {
                 count,
             } => self.fetch_blocks(kernel, inode, block_number(first), count),
             Need::Inodes { count } => {
+                // For the proof: the spare units have 32 bits.
                 let _ = &self.spare;
                 self.refill(kernel, 0, count)
             }

@@ -76,6 +76,7 @@ impl<M: Media> Client<M> {
             return Err(back);
         }
         let generation = back.generation();
+        // For the proof: what a stop leaves of the region that comes back.
         back.left_now();
         match self.log.take_back(back.into_region(), generation) {
             Ok(()) => {}

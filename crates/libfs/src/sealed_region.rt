@@ -166,15 +166,11 @@ impl<M: Media> SealedRegion<M> {
             return Ok(());
         }
         left_of_sealed(&self.region, self.generation);
-        match read_sealed(&mut self.region, self.generation) {
-            Ok(records) => {
-                let held = mem::replace(&mut self.held, Vec::new(alloc));
-                let log = SealedLog::new(self.client, self.generation, held, records);
-                self.log = Some(log);
-                Ok(())
-            }
-            Err(error) => Err(error),
-        }
+        let records = read_sealed(&mut self.region, self.generation)?;
+        let held = mem::replace(&mut self.held, Vec::new(alloc));
+        let log = SealedLog::new(self.client, self.generation, held, records);
+        self.log = Some(log);
+        Ok(())
     }
 
     // The log, once the records are read.
@@ -201,13 +197,9 @@ impl<M: Media> SealedRegion<M> {
         ensures accepted { OnOk result (self.new ≡ record self.old { accepted = true }) }
         ensures refused { OnErr result (self.new ≡ self.old) }
     {
-        match kernel.accept(self.log()) {
-            Ok(()) => {
-                self.accepted = true;
-                Ok(())
-            }
-            Err(error) => Err(error),
-        }
+        kernel.accept(self.log())?;
+        self.accepted = true;
+        Ok(())
     }
 
     /// Prepares the next chunk: the longest run of its next records that one batch takes, one at least, and what it comes to. Its records have to be read, and one of them not digested. It

@@ -21,9 +21,9 @@ pub struct FileRun {
     pub run: Run,
 }
 
-/// What is to be moved to a tier next: of the files that have a block in the tier next above it the one with the least touch number, of several the one with the least inode,
-/// with its first run there, of 256 blocks at most: a run that may be moved to the tier. `None` where no file has a block there, and for the fast tier. It changes nothing;
-/// the slots and the extents of inodes are read. `Memory` where there was none for an extent block.
+/// Picks what is to be moved to a tier next: of the files with a block in the tier next above it the one with the least touch number, of several the one with the least inode,
+/// with its first run there, of 256 blocks at most, which may be moved. `None` where no file has a block there, and for the fast tier. Changes nothing; reads the slots and the
+/// extents of inodes. Refused: `DeviceFault`, and `Memory` where there was none for an extent block.
 pub fn pick<M: Media>(area: &mut Shared<M>, to: Tier) -> Result<Option<FileRun>, AreaError>
     ensures picked { IfOk result (IsPicked area.old.geometry (disk M.Media area.old) to) }
     ensures may_be_moved { IfOk result (λ x. IfSome x (MayBeMoved area.old.geometry (disk M.Media area.old) to)) }
@@ -62,10 +62,7 @@ fn pick_in<M: Media>(area: &mut Shared<M>, tier: Tier) -> Result<Option<FileRun>
     }
     let mut best: Option<(u64, FileRun)> = None;
     'inodes: for inode in 1..MAX_INODE + 1 {
-        match next_best(area, tier, inode, best) {
-            Ok(found) => best = found,
-            Err(error) => return Err(error),
-        }
+        best = next_best(area, tier, inode, best)?;
     }
     Ok(best_run(best))
 }
@@ -83,10 +80,9 @@ fn next_best<M: Media>(
     ensures memory { IfErr result (λ e. e ≡ Memory → WantsMemory area.old.geometry (disk M.Media area.old) inode) }
     ensures looks { Looks M.Media area.old area.new result }
 {
-    match candidate(area, tier, inode) {
-        Ok(Some(found)) => Ok(Some(first_of(best, found))),
-        Ok(None) => Ok(best),
-        Err(error) => Err(error),
+    match candidate(area, tier, inode)? {
+        Some(found) => Ok(Some(first_of(best, found))),
+        None => Ok(best),
     }
 }
 
@@ -101,13 +97,9 @@ fn candidate<M: Media>(
     ensures memory { IfErr result (λ e. e ≡ Memory → WantsMemory area.old.geometry (disk M.Media area.old) inode) }
     ensures looks { Looks M.Media area.old area.new result }
 {
-    match area.first_run(inode, tier, MOST_BLOCKS) {
-        Ok(Some(run)) => match area.touch(inode) {
-            Ok(touch) => Ok(Some((touch, FileRun { inode, run }))),
-            Err(error) => Err(error),
-        },
-        Ok(None) => Ok(None),
-        Err(error) => Err(error),
+    match area.first_run(inode, tier, MOST_BLOCKS)? {
+        Some(run) => Ok(Some((area.touch(inode)?, FileRun { inode, run }))),
+        None => Ok(None),
     }
 }
 

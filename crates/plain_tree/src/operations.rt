@@ -90,25 +90,36 @@ pub fn drop_name(
     Ok(())
 }
 
+/// Where a name moves to: its new place, the inode that it is of, and what stands there before.
+#[derive(Drop)]
+pub struct Destination {
+    pub at: Location,
+    pub inode: u32,
+    pub replaced: Replaced,
+}
+
 /// A name moves. The new one is put in first, since that alone takes memory; where there is none, the tree stays as it was.
 pub fn move_name(
     alloc: Global,
     nodes: &mut PlainNodes,
     rows: &[OwnDescriptors],
     from: &Location,
-    to: Location,
-    inode: u32,
-    replaced: Replaced,
+    to: Destination,
 ) -> Result<(), AllocError>
     requires from_place { HasPlace from.now.parent }
-    requires to_place { HasPlace to.parent }
-    requires few { names_of (stored_tree nodes.old) inode ≤ MAX_NAMES }
-    requires movable { IsMovable (stored_tree nodes.old) from.now to inode replaced }
-    ensures ok { OnOk result (stored_tree nodes.new ≡ with_entry (without_entry (less_replaced (held_of rows.now) (stored_tree nodes.old) to replaced) from.now) to inode) }
+    requires to_place { HasPlace to.at.parent }
+    requires few { names_of (stored_tree nodes.old) to.inode ≤ MAX_NAMES }
+    requires movable { IsMovable (stored_tree nodes.old) from.now to.at to.inode to.replaced }
+    ensures ok { OnOk result (stored_tree nodes.new ≡ with_entry (without_entry (less_replaced (held_of rows.now) (stored_tree nodes.old) to.at to.replaced) from.now) to.at to.inode) }
     ensures err { OnErr result (stored_tree nodes.new ≡ stored_tree nodes.old) }
 {
+    let Destination {
+        at,
+        inode,
+        replaced,
+    } = to;
     nodes.make_room(from.parent)?;
-    nodes.enter(alloc, to, inode)?;
+    nodes.enter(alloc, at, inode)?;
     put_out(nodes, rows, replaced);
     nodes.leave(alloc, from);
     Ok(())

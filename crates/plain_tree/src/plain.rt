@@ -13,7 +13,9 @@ ghost use Rattle.file_graph.specs.posix_calls.declared.call.Reply.TheVariants.{F
 
 use crate::node::PlainNode;
 use crate::nodes::{PlainNodes, lowest_free};
-use crate::operations::{close_at, drop_name, empty_if, make, move_name, open_if, remove_dir};
+use crate::operations::{
+    Destination, close_at, drop_name, empty_if, make, move_name, open_if, remove_dir,
+};
 use file_graph::{
     Bytes, Call, DecideError, Description, Errno, MAX_CLIENTS, NamedInode, Names, Operation,
     OwnDescriptors, ROOT, Reply, TreeAnswers, decide,
@@ -318,7 +320,14 @@ fn apply_to_tree(
             inode,
             replaced,
             ..
-        } => { move_name(alloc, nodes, rows, &from, to, inode, replaced) }
+        } => {
+            let to = Destination {
+                at: to,
+                inode,
+                replaced,
+            };
+            move_name(alloc, nodes, rows, &from, to)
+        }
         _ => Ok(()),
     }
 }

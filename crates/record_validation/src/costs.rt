@@ -69,10 +69,8 @@ pub fn tally_record(
     ensures known { IfOk result (λ t. first_unknown known.now effects.now ≡ None) }
     ensures unknown { IfErr result (λ i. first_unknown known.now effects.now ≡ Some i) }
 {
-    match tally(known, effects) {
-        Ok(all) => Ok(all),
-        Err(inode) => Err(inode),
-    }
+    let all = tally(known, effects)?;
+    Ok(all)
 }
 
 // What the inodes that effects touch cost, each once, and whether each keeps the limits.

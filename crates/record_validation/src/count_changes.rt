@@ -32,7 +32,7 @@ pub fn counts_after(effects: &[Effect], inode: u32, old: Option<&NodeSummary>) -
     counts
 }
 
-// The numbers of a node that is known.
+/// Returns the numbers of a node that is known.
 pub fn counts_of(old: Option<&NodeSummary>) -> Option<NodeCounts>
     ensures is { result ≡ option_map counts_of (option_map (λ n. n.now) old.entry) }
     ensures few { entry_count result ≤ 4294967295 }
@@ -157,7 +157,7 @@ fn is_same(name: &[u8], other: &Name) -> bool
     matches!(name.cmp(&other.as_slice()), Ordering::Equal)
 }
 
-// Whether an effect is on an inode.
+/// Whether an effect is on an inode.
 #[tactic(auto, using(crate::proofs::Steps::on_one))]
 pub fn is_on(effect: &Effect, inode: u32) -> bool
     ensures { result ≡ is_among inode (subjects effect.now) }

@@ -12,33 +12,16 @@ ghost use Rattle.settlement.specs.recovery_laws.shared_area.batch_journal.Damage
 ghost use Rattle.settlement.specs.recovery_laws.shared_area.batch_journal.Volume.{IsVolume};
 ghost use Rattle.settlement.specs.recovery_laws.shared_area.area_image.Store.{disk, store_of};
 ghost use Rattle.settlement.specs.recovery_laws.shared_area.area_image.Format.{IsOpenable};
-ghost use Rattle.settlement.specs.recovery_laws.shared_area.area_image.Refusals.{IsReadRefusal};
 ghost use Rattle.settlement.specs.recovery_laws.shared_area.AreaOpen.{SpellsNone, IsMediumDamage, TakesMemory};
 ghost use Rattle.settlement.specs.world.system_world.event_steps.posix_calls.Tree.{State};
 ghost use Rattle.settlement.specs.declared.error.RecoveryError.TheVariants.{DeviceFault, Memory};
-ghost use Rattle.settlement.specs.Errors.{OnDamage, IsAreaFault, IsOfArea};
+ghost use Rattle.settlement.specs.Errors.{OnDamage, IsOfArea};
 ghost use Rattle.settlement.specs.FaultOrMemory.{IsFaultOrMemory};
 ghost use Rattle.settlement.specs.Recovers.{Regions, Recovers};
 ghost use Rattle.settlement.specs.Phases.{StaysRecovered, Whatever};
 
-use settlement::{AreaError, Media, RecoveryError, Shared};
+use settlement::{Media, RecoveryError, Shared, area_fault};
 use std::alloc::Global;
-
-// What the area was refused for where it was opened or read: never for too few blocks or a run.
-pub(crate) fn area_fault(error: AreaError) -> RecoveryError
-    requires { IsReadRefusal error }
-    ensures { IsAreaFault error result }
-{
-    match error {
-        AreaError::DeviceFault => RecoveryError::DeviceFault,
-        AreaError::Damaged { what, block } => RecoveryError::Damaged {
-            structure: what,
-            block,
-        },
-        AreaError::NoBlock | AreaError::NotMapped => unreachable!(),
-        AreaError::Memory => RecoveryError::Memory,
-    }
-}
 
 /// Opens the shared medium, at rest, as `Shared::reopen` does. Whatever a stop leaves meanwhile is recovered as what was read, with any regions.
 ///

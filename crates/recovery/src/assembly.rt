@@ -26,14 +26,13 @@ ghost use Rattle.settlement.specs.PartMedia.{AreUntouched, SomeRose, media_benea
 ghost use Rattle.settlement.specs.Regions.{REGIONS, HaveRisen, IsUntouched, media_of};
 ghost use Rattle.settlement.specs.Silent.{IsWiped, wiped_name};
 
-use crate::area_open::area_fault;
 use crate::disassembly::{parts_of, present, put_regions};
 use crate::parts::Parts;
 use crate::region_list::{put_first, put_last};
 use settlement::{
     CLIENTS, Client, ClientLog, ClientSlot, Kernel, LeaseManagerLeases as Leases, Marks, Media,
-    Opened, Pass, RecoveryError, Region, Shared, System, World, idle_system_stands_for_a_world,
-    openable_area_is_within_limits,
+    Opened, Pass, RecoveryError, Region, Shared, System, World, area_fault,
+    idle_system_stands_for_a_world, openable_area_is_within_limits,
 };
 use std::alloc::Global;
 

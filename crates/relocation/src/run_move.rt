@@ -54,10 +54,9 @@ fn write_move<M: Media>(
     let _units = journal.geometry().units();
     move_is_planned();
     carried_out_move_moves();
-    match carry_out(alloc, journal, pools, plan) {
-        Ok(()) => Ok(()),
-        Err(error) => Err(error),
-    }
+    // Two exits: what holds of a plan that is carried out, and of one that is refused, is proved apart.
+    carry_out(alloc, journal, pools, plan)?;
+    Ok(())
 }
 
 // Moves a run to the blocks that were taken for it. Where it is refused, they stand in the pools again.
@@ -109,10 +108,8 @@ fn allocate_run<M: Media>(
     // For the proof: a stop now leaves what is read, and a block of the node pool is always free.
     journal.left_now();
     nodes_never_run_out();
-    match take_blocks(pools, &moved.file, moved.to) {
-        Ok(taken) => carry(alloc, journal, pools, moved, taken),
-        Err(error) => Err(AreaError::from(error)),
-    }
+    let taken = take_blocks(pools, &moved.file, moved.to)?;
+    carry(alloc, journal, pools, moved, taken)
 }
 
 // Moves a run whose bytes are read: nothing more is read for it.
@@ -136,23 +133,19 @@ fn move_bytes<M: Media>(
 {
     // For the proof: a stop now leaves what is read.
     journal.left_now();
-    match lost_places(alloc, pools, &moved.file.map, moved.file.run) {
-        Ok(lost) => {
-            let FileMove { inode, to, file } = moved;
-            let moved = ReadMove {
-                inode,
-                to,
-                file,
-                bytes,
-                lost,
-            };
-            allocate_run(alloc, journal, pools, moved)
-        }
-        Err(_) => Err(AreaError::Memory),
-    }
+    let lost = lost_places(alloc, pools, &moved.file.map, moved.file.run)?;
+    let FileMove { inode, to, file } = moved;
+    let moved = ReadMove {
+        inode,
+        to,
+        file,
+        bytes,
+        lost,
+    };
+    allocate_run(alloc, journal, pools, moved)
 }
 
-/// Moves a run that may be moved. The free blocks are counted first, so that no byte is read for a tier that has too few.
+/// Moves a run that may be moved; `NoBlock` where fewer blocks are free in the tier than it has. The free blocks are counted before its bytes are read: that is a matter of cost alone.
 pub fn move_run<M: Media>(
     alloc: Global,
     journal: &mut Journal<M>,
@@ -174,8 +167,6 @@ pub fn move_run<M: Media>(
     if free < moved.file.run.count {
         return Err(AreaError::NoBlock);
     }
-    match read_run(alloc, journal, moved.inode, &moved.file.map, moved.file.run) {
-        Ok(bytes) => move_bytes(alloc, journal, pools, moved, bytes),
-        Err(error) => Err(error),
-    }
+    let bytes = read_run(alloc, journal, moved.inode, &moved.file.map, moved.file.run)?;
+    move_bytes(alloc, journal, pools, moved, bytes)
 }

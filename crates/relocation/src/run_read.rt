@@ -29,10 +29,7 @@ fn read_logical<M: Media>(
     ensures looks { Looks M.Media journal.old journal.new result }
 {
     match map.at(block) {
-        Some(place) => match read_block(journal, place.tier, place.block, out) {
-            Ok(()) => Ok(()),
-            Err(error) => Err(error),
-        },
+        Some(place) => read_block(journal, place.tier, place.block, out),
         None => unreachable!(),
     }
 }
@@ -59,10 +56,7 @@ fn read_into<M: Media>(
     'each: for place in 0..run.count {
         let at = BLOCK * place as usize;
         let end = at + BLOCK;
-        match read_logical(journal, inode, map, run.first + place, &mut out[at..end]) {
-            Ok(()) => {}
-            Err(error) => return Err(error),
-        }
+        read_logical(journal, inode, map, run.first + place, &mut out[at..end])?;
     }
     Ok(())
 }
@@ -86,10 +80,7 @@ pub fn read_run<M: Media>(
     ensures looks { Looks M.Media journal.old journal.new result }
 {
     let size = BLOCK * run.count as usize;
-    let mut bytes = match vec![in alloc; 0u8; size] {
-        Ok(bytes) => bytes,
-        Err(_) => return Err(AreaError::Memory),
-    };
+    let mut bytes = vec![in alloc; 0u8; size]?;
     read_into(journal, inode, map, run, &mut bytes)?;
     Ok(bytes)
 }

@@ -80,13 +80,8 @@ pub fn read_map<M: Media>(
     ensures looks { Looks M.Media journal.old journal.new result }
 {
     let geometry = journal.geometry();
-    match read_all_extents(alloc, journal, inode, slot) {
-        Ok(found) => match map_of(alloc, &geometry, &found) {
-            Ok(map) => Ok(map),
-            Err(_) => Err(AreaError::Memory),
-        },
-        Err(error) => Err(error),
-    }
+    let found = read_all_extents(alloc, journal, inode, slot)?;
+    Ok(map_of(alloc, &geometry, &found)?)
 }
 
 // The run of an inode that has this slot, where it may be moved.
@@ -108,15 +103,11 @@ fn find_in<M: Media>(
     ensures only { IfErr result (λ e. OnDamage e (λ _ _. ⊥)) }
     ensures looks { Looks M.Media journal.old journal.new result }
 {
-    match read_map(alloc, journal, inode, &slot) {
-        Ok(map) => {
-            if lie_above(&map, run, to) {
-                Ok(Some(MovableRun { slot, map, run }))
-            } else {
-                Ok(None)
-            }
-        }
-        Err(error) => Err(error),
+    let map = read_map(alloc, journal, inode, &slot)?;
+    if lie_above(&map, run, to) {
+        Ok(Some(MovableRun { slot, map, run }))
+    } else {
+        Ok(None)
     }
 }
 
@@ -142,14 +133,9 @@ pub fn find_run<M: Media>(
     if !is_inode(run.inode) {
         return Ok(None);
     }
-    match read_slot(journal, run.inode) {
-        Ok(slot) => match run_of(&slot, run.first, run.count) {
-            Some(its) => match find_in(alloc, journal, run.inode, slot, its, to) {
-                Ok(found) => Ok(found),
-                Err(error) => Err(error),
-            },
-            None => Ok(None),
-        },
-        Err(error) => Err(error),
+    let slot = read_slot(journal, run.inode)?;
+    match run_of(&slot, run.first, run.count) {
+        Some(its) => find_in(alloc, journal, run.inode, slot, its, to),
+        None => Ok(None),
     }
 }

@@ -35,20 +35,19 @@ fn move_found<M: Media>(
 {
     // For the proof: a stop now leaves what is read.
     journal.left_now();
-    match find_run(alloc, journal, run, to) {
-        Ok(Some(file)) => {
+    match find_run(alloc, journal, run, to)? {
+        Some(file) => {
             let inode = run.inode;
             move_run(alloc, journal, pools, FileMove { inode, to, file })
         }
-        Ok(None) => Err(AreaError::NotMapped),
-        Err(error) => Err(error),
+        None => Err(AreaError::NotMapped),
     }
 }
 
 /// Moves a run of logical blocks of a file to a tier that is slower than those in which they lie: into the lowest blocks that are free
 /// there. The bytes go to their new places and are fenced first; then one batch writes what the file is; then the old places are free. So a stop at any moment leaves the run
-/// where it lay, or all of it moved, and in both cases the same files with the same bytes. The bytes of the run are read, once the free blocks
-/// are counted; how many reads that takes is a matter of cost alone.
+/// where it lay, or all of it moved, and in both cases the same files with the same bytes. When its bytes are read, and by how many reads, is
+/// a matter of cost alone.
 ///
 /// The refusals, in this order: `DeviceFault` where a device has failed before, and nothing is touched then; `NotMapped` where there is no file, the run has no block or more
 /// than 256, or some block of it lies in no faster tier; `NoBlock` where fewer blocks are free in the tier than the run has. After these two, and after `Memory`, which

@@ -23,8 +23,8 @@ use Rattle.world.specs.system_world.event_steps.libfs.world_invariant.Logs.{afte
 use Rattle.world.specs.system_world.event_steps.kernel_fs.layout.declared.marks.Mark.{Mark}
 use Rattle.world.specs.system_world.event_steps.kernel_fs.layout.declared.marks.Marks.{Marks}
 use Rattle.world.specs.system_world.courses.Courses.{Content}
-use Rattle.settlement.specs.DigestedLogs.{DigestsAll, HaveRecords, IsLogOf, IsReadRefusal, MovesMark}
-use Rattle.settlement.specs.Errors.{IsDigestError}
+use Rattle.settlement.specs.DigestedLogs.{DigestsAll, HaveRecords, IsLogOf, IsRegionReadRefusal, MovesMark}
+use Rattle.settlement.specs.Errors.{IsLogDigestRefusal}
 use Rattle.settlement.specs.FaultOrMemory.{IsFaultOrMemory}
 use Rattle.settlement.specs.FoundLogs.{HasGeneration, IsRestOf}
 use Rattle.settlement.specs.Phases.{StaysRecovered}
@@ -41,7 +41,7 @@ use Rattle.settlement.proofs.SpelledRecords.{records_few}
 pub read_memory : (e : RecoveryError) → e ≡ errors.Memory → IsFaultOrMemory e
 read_memory e is = subst IsFaultOrMemory (sym is) tt
 
-pub memory_digest : (e : RecoveryError) → IsFaultOrMemory e → IsDigestError e
+pub memory_digest : (e : RecoveryError) → IsFaultOrMemory e → IsLogDigestRefusal e
 memory_digest errors.DeviceFault is = tt
 memory_digest (errors.Damaged structure block) is = absurd is
 memory_digest errors.AreaSize is = absurd is
@@ -49,12 +49,12 @@ memory_digest errors.RegionSize is = absurd is
 memory_digest (errors.BadLog client place) is = absurd is
 memory_digest errors.Memory is = tt
 
-pub read_only_digest : (client : ℕ) (rs : List Record) (e : RecoveryError) → IsReadRefusal client rs e → IsDigestError e
-read_only_digest client rs e (inl is) = subst IsDigestError (sym is) tt
-read_only_digest client rs e (inr (inl is)) = subst IsDigestError (sym is) tt
-read_only_digest client rs e (inr (inr more)) = subst IsDigestError (sym more.1) tt
+pub read_only_digest : (client : ℕ) (rs : List Record) (e : RecoveryError) → IsRegionReadRefusal client rs e → IsLogDigestRefusal e
+read_only_digest client rs e (inl is) = subst IsLogDigestRefusal (sym is) tt
+read_only_digest client rs e (inr (inl is)) = subst IsLogDigestRefusal (sym is) tt
+read_only_digest client rs e (inr (inr more)) = subst IsLogDigestRefusal (sym more.1) tt
 
-pub read_never : (client r : ℕ) (these : Regions) (e : RecoveryError) → is_client client ≡ true → r < 2 → IsReadRefusal client (records (these client r)) e
+pub read_never : (client r : ℕ) (these : Regions) (e : RecoveryError) → is_client client ≡ true → r < 2 → IsRegionReadRefusal client (records (these client r)) e
     → (g : Sizes) (now : Regions) (state : State) (content : Content) → AreThese these now → Recovers g now state content → IsFaultOrMemory e
 read_never client r these e is_c low (inl is) g now state content same recovers = subst IsFaultOrMemory (sym is) tt
 read_never client r these e is_c low (inr (inl is)) g now state content same recovers = read_memory e is

@@ -20,7 +20,7 @@ use Rattle.world.specs.system_world.event_steps.libfs.file_graph.Graph.{Graph}
 use Rattle.world.specs.system_world.event_steps.libfs.world_invariant.Logs.{after_records}
 use Rattle.world.specs.system_world.event_steps.kernel_fs.layout.declared.marks.Marks.{Marks}
 use Rattle.settlement.specs.DigestedLogs.{DigestsNext, IsNoBadLog, IsRefusal}
-use Rattle.settlement.specs.Errors.{IsDigestError}
+use Rattle.settlement.specs.Errors.{IsLogDigestRefusal}
 use Rattle.settlement.specs.FaultOrMemory.{IsFaultOrMemory}
 use Rattle.settlement.specs.Phases.{AnswersFaults}
 use Rattle.settlement.specs.declared.error.RecoveryError.{RecoveryError}
@@ -29,10 +29,10 @@ use Rattle.settlement.proofs.DigestedContents.{moved_other}
 
 -- ---- refusals
 
-pub refused_only : (client : ℕ) (e : DigestError) (f : RecoveryError) → IsRefusal client e f → IsDigestError f
-refused_only client digests.DeviceFault f is = subst IsDigestError (sym is) tt
-refused_only client (digests.BadLog place) f is = subst IsDigestError (sym is.1) tt
-refused_only client digests.Memory f is = subst IsDigestError (sym is) tt
+pub refused_only : (client : ℕ) (e : DigestError) (f : RecoveryError) → IsRefusal client e f → IsLogDigestRefusal f
+refused_only client digests.DeviceFault f is = subst IsLogDigestRefusal (sym is) tt
+refused_only client (digests.BadLog place) f is = subst IsLogDigestRefusal (sym is.1) tt
+refused_only client digests.Memory f is = subst IsLogDigestRefusal (sym is) tt
 
 pub refused_never : (client : ℕ) (e : DigestError) (f : RecoveryError) → IsRefusal client e f → IsNoBadLog e → IsFaultOrMemory f
 refused_never client digests.DeviceFault f is good = subst IsFaultOrMemory (sym is) tt

@@ -19,7 +19,7 @@ use Rattle.world.specs.system_world.event_steps.libfs.world_invariant.Logs.{Logs
 use Rattle.world.specs.system_world.event_steps.posix_calls.Operations.{is_client}
 use Rattle.settlement.specs.declared.error.RecoveryError.{RecoveryError}
 use Rattle.settlement.specs.declared.error.RecoveryError.TheVariants as errors
-use Rattle.settlement.specs.Errors.{IsDigestError, IsOfArea, OnBadLog, OnDamage}
+use Rattle.settlement.specs.Errors.{IsLogDigestRefusal, IsOfArea, OnBadLog, OnDamage}
 use Rattle.settlement.specs.FaultOrMemory.{IsFaultOrMemory}
 use Rattle.settlement.specs.FoundLogs.{HoldFew}
 use Rattle.settlement.specs.GraphTests.{IsGraphDamage}
@@ -56,7 +56,7 @@ module _ (g : Sizes) (s : Store) (logs : ℕ → List Record) where
 
   module _ (apart : LogsAreApart logs) where
     -- they were digested
-    pub digest_cause : (e : RecoveryError) → IsDigestError e → OnBadLog e (IsFirstUndigestible g.units (graph g s) logs) → IsStoredCause g s logs e
+    pub digest_cause : (e : RecoveryError) → IsLogDigestRefusal e → OnBadLog e (IsFirstUndigestible g.units (graph g s) logs) → IsStoredCause g s logs e
     digest_cause errors.DeviceFault is bad = tt
     digest_cause (errors.Damaged structure block) is bad = absurd is
     digest_cause errors.AreaSize is bad = is

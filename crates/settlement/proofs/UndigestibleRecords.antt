@@ -19,7 +19,7 @@ use Rattle.recovery_laws.specs.Inodes.{HasEveryInode}
 use Rattle.world.specs.system_world.event_steps.libfs.world_invariant.Logs.{after_records}
 use Rattle.settlement.specs.declared.error.RecoveryError.{RecoveryError}
 use Rattle.settlement.specs.declared.error.RecoveryError.TheVariants as errors
-use Rattle.settlement.specs.DigestedLogs.{CanDigest, IsFirstRefused, IsReadRefusal, IsRefusal, NamesBad, NamesRefused}
+use Rattle.settlement.specs.DigestedLogs.{CanDigest, IsFirstRefused, IsRefusal, IsRegionReadRefusal, NamesBad, NamesRefused}
 use Rattle.settlement.specs.Errors.{OnBadLog}
 use Rattle.settlement.specs.FaultOrMemory.{IsFaultOrMemory}
 use Rattle.settlement.proofs.EveryInode.{all_there, numbers_to}
@@ -194,7 +194,7 @@ module _ (client capacity : ℕ) (g : Graph) (xs ys log : List Record) (is : log
   behind_named before long few few_too first errors.Memory n = tt
 
 -- records that are not read name none, where they are few
-pub read_named : (client before capacity : ℕ) (g : Graph) (rs read : List Record) (e : RecoveryError) → IsReadRefusal client read e → length read < 4294967296 → NamesRefused client before capacity g rs e
+pub read_named : (client before capacity : ℕ) (g : Graph) (rs read : List Record) (e : RecoveryError) → IsRegionReadRefusal client read e → length read < 4294967296 → NamesRefused client before capacity g rs e
 read_named client before capacity g rs read e (inl is) few = subst (NamesRefused client before capacity g rs) (sym is) tt
 read_named client before capacity g rs read e (inr (inl is)) few = subst (NamesRefused client before capacity g rs) (sym is) tt
 read_named client before capacity g rs read e (inr (inr more)) few = (let many = more.2 in absurd (omega (arith, many, few)))

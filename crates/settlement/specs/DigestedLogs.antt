@@ -62,8 +62,8 @@ IsRefusal client (digests.BadLog place) f = (k : ℕ) × (f ≡ errors.BadLog cl
 IsRefusal client digests.Memory f = f ≡ errors.Memory
 
 -- Why the records of a client's region are not read: a device failed, there was no memory, or there are more than can be numbered.
-abbrev pub IsReadRefusal : ℕ → List Record → RecoveryError → Type 0
-IsReadRefusal client rs e = (e ≡ errors.DeviceFault) ⊎ (e ≡ errors.Memory) ⊎ (k : ℕ) × (e ≡ errors.BadLog client k) × (2 ^ 32 ≤ length rs)
+abbrev pub IsRegionReadRefusal : ℕ → List Record → RecoveryError → Type 0
+IsRegionReadRefusal client rs e = (e ≡ errors.DeviceFault) ⊎ (e ≡ errors.Memory) ⊎ (k : ℕ) × (e ≡ errors.BadLog client k) × (2 ^ 32 ≤ length rs)
 
 -- ---- records that can't be digested
 

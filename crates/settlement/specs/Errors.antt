@@ -32,8 +32,8 @@ IsAreaFault area.NotMapped e = ⊥
 IsAreaFault area.Memory e = e ≡ errors.Memory
 
 -- a refusal is one of a digest of logs: for a device fault, a record that can't be digested, or memory
-abbrev pub IsDigestError : RecoveryError → Type 0
-IsDigestError errors.DeviceFault = Unit {0}
-IsDigestError (errors.BadLog client place) = Unit {0}
-IsDigestError errors.Memory = Unit {0}
-IsDigestError _ = ⊥
+abbrev pub IsLogDigestRefusal : RecoveryError → Type 0
+IsLogDigestRefusal errors.DeviceFault = Unit {0}
+IsLogDigestRefusal (errors.BadLog client place) = Unit {0}
+IsLogDigestRefusal errors.Memory = Unit {0}
+IsLogDigestRefusal _ = ⊥

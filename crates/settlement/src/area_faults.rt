@@ -1,19 +1,23 @@
 //! What a refusal of the shared area is to a recovery.
 
-ghost use Rattle.recovery_laws.specs.shared_area.Parts.{IsNoDamage};
+ghost use Rattle.recovery_laws.specs.shared_area.area_image.Refusals.{IsReadRefusal};
 ghost use Rattle.settlement.specs.Errors.{IsAreaFault};
 
 use crate::error::RecoveryError;
 use recovery_laws::AreaError;
 
-// What an opened area was refused for: no damage is found in it, and what a recovery changes there writes no block of data.
-pub(crate) fn area_fault(error: AreaError) -> RecoveryError
-    requires { IsNoDamage error }
+/// Returns the refusal of a recovery for one of the shared area, which a recovery opens, reads, and changes without blocks of data: so it is refused no block and no run.
+pub fn area_fault(error: AreaError) -> RecoveryError
+    requires { IsReadRefusal error }
     ensures { IsAreaFault error result }
 {
     match error {
         AreaError::DeviceFault => RecoveryError::DeviceFault,
-        AreaError::Damaged { .. } | AreaError::NoBlock | AreaError::NotMapped => unreachable!(),
+        AreaError::Damaged { what, block } => RecoveryError::Damaged {
+            structure: what,
+            block,
+        },
+        AreaError::NoBlock | AreaError::NotMapped => unreachable!(),
         AreaError::Memory => RecoveryError::Memory,
     }
 }

@@ -17,6 +17,7 @@ mod mark_moves;
 mod record_digest;
 mod record_reads;
 
+pub use area_faults::area_fault;
 pub use area_settlement::settle_area;
 pub use error::RecoveryError;
 

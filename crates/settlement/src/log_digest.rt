@@ -12,7 +12,7 @@ ghost use Rattle.world.specs.system_world.event_steps.libfs.world_invariant.Logs
 ghost use Rattle.world.specs.system_world.event_steps.posix_calls.Operations.{is_client};
 ghost use Rattle.world.specs.system_world.event_steps.posix_calls.Tree.{State};
 ghost use Rattle.world.specs.system_world.event_steps.posix_calls.declared.limits.TheConstants.{MAX_CLIENTS};
-ghost use Rattle.settlement.specs.Errors.{IsDigestError, OnBadLog};
+ghost use Rattle.settlement.specs.Errors.{IsLogDigestRefusal, OnBadLog};
 ghost use Rattle.settlement.specs.FaultOrMemory.{IsFaultOrMemory};
 ghost use Rattle.settlement.specs.DigestedLogs.{CanDigest, CanDigestAll, DigestsLog, IsFirstRefused};
 ghost use Rattle.settlement.specs.FoundLogs.{AreFound, HoldFew, HoldsFew, IsFound, log_by};
@@ -51,7 +51,7 @@ pub fn digest_logs<M: Media>(
     ensures good { OnOk result ((v : Marks) → marks_of (disk M.Media area.old) ≡ Some v → CanDigestAll area.old.geometry.units (graph area.old.geometry (disk M.Media area.old)) (log_by v (regions_read M.Media regions.old))) }
     ensures bad { IfErr result (λ e. (v : Marks) → marks_of (disk M.Media area.old) ≡ Some v → HoldFew (regions_read M.Media regions.old) → OnBadLog e (IsFirstUndigestible area.old.geometry.units (graph area.old.geometry (disk M.Media area.old)) (log_by v (regions_read M.Media regions.old)))) }
     ensures never { IfErr result (λ e. (g : Sizes) (now : Regions) (state : State) → AreThese (regions_read M.Media regions.old) now → Recovers g now state (M.seen area.old.media) → IsFaultOrMemory e) }
-    ensures only { IfErr result IsDigestError }
+    ensures only { IfErr result IsLogDigestRefusal }
     ensures answers { AnswersEither M.Media area.old area.new regions.old regions.new result }
 {
     // For the proof: the area can be opened as it stands, and a stop leaves what opens as that.
@@ -81,7 +81,7 @@ fn digest_log<M: Media>(
     ensures good { OnOk result ((v : Marks) → marks_of (disk M.Media area.old) ≡ Some v → CanDigest area.old.geometry.units (graph area.old.geometry (disk M.Media area.old)) (log_by v (regions_read M.Media regions.old) client)) }
     ensures bad { IfErr result (λ e. (v : Marks) → marks_of (disk M.Media area.old) ≡ Some v → HoldsFew (regions_read M.Media regions.old client) → OnBadLog e (λ c place. (c ≡ client) × IsFirstRefused area.old.geometry.units (graph area.old.geometry (disk M.Media area.old)) (log_by v (regions_read M.Media regions.old) client) place)) }
     ensures never { IfErr result (λ e. (g : Sizes) (now : Regions) (state : State) → AreThese (regions_read M.Media regions.old) now → Recovers g now state (M.seen area.old.media) → IsFaultOrMemory e) }
-    ensures only { IfErr result IsDigestError }
+    ensures only { IfErr result IsLogDigestRefusal }
     ensures answers { AnswersEither M.Media area.old area.new regions.old regions.new result }
 {
     // For the proof: a stop leaves what opens as what is read, and a mark that moves leaves the records behind it to count.

@@ -13,7 +13,7 @@ ghost use Rattle.world.specs.system_world.event_steps.kernel_fs.layout.Places.{S
 ghost use Rattle.world.specs.system_world.event_steps.posix_calls.Operations.{is_client};
 ghost use Rattle.world.specs.system_world.event_steps.posix_calls.Tree.{State};
 ghost use Rattle.settlement.specs.DigestedLogs.{CanDigest, DigestsAll, HoldAll, HoldRecords, MovesMark, NamesRefused, StandsAtStart};
-ghost use Rattle.settlement.specs.Errors.{IsDigestError};
+ghost use Rattle.settlement.specs.Errors.{IsLogDigestRefusal};
 ghost use Rattle.settlement.specs.FaultOrMemory.{IsFaultOrMemory};
 ghost use Rattle.settlement.specs.FoundLogs.{HasGeneration, HoldsFew, IsRestOf};
 ghost use Rattle.settlement.specs.Phases.{AnswersEither, AnswersFaults, StaysRecovered};
@@ -56,7 +56,7 @@ fn digest_part<M: Media>(
     ensures bad { IfErr result (NamesRefused part.client part.before area.old.geometry.units (graph area.old.geometry (disk M.Media area.old)) (drop part.from records.items)) }
     ensures count { IfOk result (λ n. n ≡ length (drop part.from records.items)) }
     ensures never { IfErr result (λ e. (g : Sizes) (regions : Regions) (state : State) → HoldRecords part.client part.generation records.items regions → Recovers g regions state (M.seen area.old.media) → IsFaultOrMemory e) }
-    ensures only { IfErr result IsDigestError }
+    ensures only { IfErr result IsLogDigestRefusal }
     ensures answers { AnswersFaults M.Media area.old area.new result }
 {
     // For the proof: until the first device call a stop leaves what opens as what is read, with these marks.
@@ -89,7 +89,7 @@ fn digest_next_part<M: Media>(
     ensures bad { IfErr result (NamesRefused part.client part.before area.old.geometry.units (graph area.old.geometry (disk M.Media area.old)) records.items) }
     ensures never { IfErr result (λ e. (these : Regions) → HoldAll these part.client part.generation records.items → (records.items ≢ [] → StandsAtStart (AreThese these) part.client part.generation (M.seen area.old.media))
         → (g : Sizes) (now : Regions) (state : State) → AreThese these now → Recovers g now state (M.seen area.old.media) → IsFaultOrMemory e) }
-    ensures only { IfErr result IsDigestError }
+    ensures only { IfErr result IsLogDigestRefusal }
     ensures answers { AnswersFaults M.Media area.old area.new result }
 {
     // For the proof: until the first device call a stop leaves what opens as what is read.
@@ -122,7 +122,7 @@ pub(crate) fn digest_first<M: Media>(
     ensures bad { IfErr result (λ e. HoldsFew (regions_read M.Media regions.old client) → NamesRefused client 0 area.old.geometry.units (graph area.old.geometry (disk M.Media area.old)) (records_behind (regions_read M.Media regions.old client) rest) e) }
     ensures count { IfOk result (λ n. n ≡ length (records_behind (regions_read M.Media regions.old client) rest)) }
     ensures never { IfErr result (λ e. (g : Sizes) (now : Regions) (state : State) → AreThese (regions_read M.Media regions.old) now → Recovers g now state (M.seen area.old.media) → IsFaultOrMemory e) }
-    ensures only { IfErr result IsDigestError }
+    ensures only { IfErr result IsLogDigestRefusal }
     ensures answers { AnswersEither M.Media area.old area.new regions.old regions.new result }
 {
     // For the proof: until the first device call a stop leaves what opens as what is read.
@@ -162,7 +162,7 @@ pub(crate) fn digest_second<M: Media>(
     ensures good { OnOk result (CanDigest area.old.geometry.units (graph area.old.geometry (disk M.Media area.old)) (records_of (regions_read M.Media regions.old part.client) region)) }
     ensures bad { IfErr result (λ e. HoldsFew (regions_read M.Media regions.old part.client) → NamesRefused part.client part.before area.old.geometry.units (graph area.old.geometry (disk M.Media area.old)) (records_of (regions_read M.Media regions.old part.client) region) e) }
     ensures never { IfErr result (λ e. (g : Sizes) (now : Regions) (state : State) → AreThese (regions_read M.Media regions.old) now → Recovers g now state (M.seen area.old.media) → IsFaultOrMemory e) }
-    ensures only { IfErr result IsDigestError }
+    ensures only { IfErr result IsLogDigestRefusal }
     ensures answers { AnswersEither M.Media area.old area.new regions.old regions.new result }
 {
     // For the proof: until the first device call a stop leaves what opens as what is read.

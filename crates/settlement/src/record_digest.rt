@@ -14,7 +14,7 @@ ghost use Rattle.world.specs.system_world.event_steps.posix_calls.Tree.{State};
 ghost use Rattle.recovery_laws.specs.Inodes.{HasEveryInode};
 ghost use Rattle.settlement.specs.declared.error.RecoveryError.TheVariants.{BadLog, Memory};
 ghost use Rattle.settlement.specs.DigestedLogs.{CanDigest, DigestsAll, DigestsNext, HaveRecords, IsLogOf, IsNoBadLog, IsRefusal, NamesBad, NamesRefused};
-ghost use Rattle.settlement.specs.Errors.{IsDigestError};
+ghost use Rattle.settlement.specs.Errors.{IsLogDigestRefusal};
 ghost use Rattle.settlement.specs.FaultOrMemory.{IsFaultOrMemory};
 ghost use Rattle.settlement.specs.Phases.{AnswersFaults, StaysRecovered};
 ghost use Rattle.settlement.specs.Recovers.{Recovers, Regions};
@@ -81,10 +81,8 @@ fn digest_next<M: Media>(
     log.invariant();
     marks_can_be_written(area.marks());
     moved_mark_leaves_the_rest();
-    match prepare(alloc, log) {
-        Ok(chunk) => digest_chunk(alloc, area, log, &chunk),
-        Err(error) => Err(error),
-    }
+    let chunk = prepare(alloc, log)?;
+    digest_chunk(alloc, area, log, &chunk)
 }
 
 // Why a recovery is refused where a digest is of a client's log whose first `from` records are none that count; `before` that count stand in another region.
@@ -121,7 +119,7 @@ pub(crate) fn digest_records<M: Media>(
     ensures good { OnOk result (CanDigest area.old.geometry.units (graph area.old.geometry (disk M.Media area.old)) (undone log)) }
     ensures bad { IfErr result (NamesRefused log.client before area.old.geometry.units (graph area.old.geometry (disk M.Media area.old)) (undone log)) }
     ensures never { IfErr result (λ e. (g : Sizes) (regions : Regions) (state : State) → HaveRecords log regions → Recovers g regions state (M.seen area.old.media) → IsFaultOrMemory e) }
-    ensures only { IfErr result IsDigestError }
+    ensures only { IfErr result IsLogDigestRefusal }
     ensures answers { AnswersFaults M.Media area.old area.new result }
 {
     // For the proof: until the first device call a stop leaves what opens as what is read.

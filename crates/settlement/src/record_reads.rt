@@ -9,7 +9,7 @@ ghost use Rattle.recovery_laws.specs.update_log.tier_device.Media.{Rose};
 ghost use Rattle.recovery_laws.specs.update_log.tier_device.declared.media.Tier.TheVariants.{Fast};
 ghost use Rattle.world.specs.system_world.event_steps.posix_calls.Operations.{is_client};
 ghost use Rattle.settlement.specs.declared.error.RecoveryError.TheVariants.{DeviceFault, Memory};
-ghost use Rattle.settlement.specs.DigestedLogs.{IsReadRefusal};
+ghost use Rattle.settlement.specs.DigestedLogs.{IsRegionReadRefusal};
 ghost use Rattle.settlement.specs.Regions.{HaveRisen, IsOnlyRead, REGIONS, media_of, regions_read};
 ghost use Rattle.settlement.specs.SpelledRecords.{HasSpelledEffects};
 
@@ -73,7 +73,7 @@ pub(crate) fn read_region_records<M: Media>(
     ensures spelled { IfOk result (λ found. AllByRecursion IsRecord found.items) }
     ensures few { IfOk result (λ found. length found.items < 2 ^ 32) }
     ensures same { AllZip (IsOnlyRead M.Media) regions.old regions.new }
-    ensures only { IfErr result (IsReadRefusal client (records (regions_read M.Media regions.old client region))) }
+    ensures only { IfErr result (IsRegionReadRefusal client (records (regions_read M.Media regions.old client region))) }
     ensures fault { IfErr result (λ e. e ≡ DeviceFault → HaveRisen M.Media (media_of regions.old) (media_of regions.new)) }
 {
     let place = 2 * client_index(client) + region;

@@ -1,5 +1,5 @@
 -- After a change what is in memory is true of the media, and what a stop leaves can be opened.
-use Rattle.std.proofs.Common.{◌≡◌, ◌≢◌, ◌≤◌, ◌<◌, ◌+◌, ◌-◌, ◌⊎◌, ◌∙◌, ℕ, List, ◌++◌, true, false, length, refl, sym, ap, inl, inr, subst, arith}
+use Rattle.std.proofs.Common.{◌≡◌, ◌≢◌, ◌≤◌, ◌<◌, ◌+◌, ◌⊎◌, ◌∙◌, ℕ, List, ◌++◌, true, false, length, refl, sym, ap, inl, inr, arith}
 use Rattle.std.specs.Prelude.{Result, Ok, Err, OnOk, IfErr, IsErrOf}
 use Rattle.std.proofs.lemmas.Bool.{true≢false}
 use Rattle.std.proofs.lemmas.List.{length-append, length-map}
@@ -18,15 +18,11 @@ use Rattle.change_plan.specs.area_image.declared.error.AreaError.{AreaError}
 use Rattle.change_plan.specs.area_image.Refusals.{IsChangeRefusal}
 use Rattle.change_plan.specs.area_image.Store.{Store, disk, store_of, graph, marks}
 use Rattle.change_plan.specs.area_image.Format.{IsOpenable}
-use Rattle.change_plan.specs.area_image.Looks.{Looks}
 use Rattle.change_plan.proofs.area_image_lemmas.Frames.{loose_graph, loose_marks}
 use Rattle.change_plan.specs.area_commit.Value.{PoolsView, free_data, on_tier, AreInOrder, HasRanges, AreFree}
 use Rattle.change_plan.specs.area_commit.StableState.{IsSettled, StaysStill}
 use Rattle.shared_area.specs.ChangeApply.{IsAppliedStore, MakesFewCalls, Applies, Ends}
-use Rattle.shared_area.specs.Costs.{units_in}
 use Rattle.change_plan.specs.area_image.declared.error.AreaError.TheVariants.{DeviceFault}
-use Rattle.shared_area.proofs.Calls.{few_then}
-use Rattle.shared_area.proofs.Ending.{settled_still}
 use Rattle.shared_area.specs.Ready.{IsReady}
 use Rattle.shared_area.specs.GraphUpdate.{HasTooFewData, StaysOrChanges, AppliesOrStays}
 use Rattle.shared_area.proofs.Counts.{data_count}
@@ -69,15 +65,7 @@ too_few_data g s p count ranges free order few = (
   (let all = free_long p in omega (arith, all, few)),
 )
 
--- ---- what the graph costs then
-
-pub counted : (old new was now : ℕ) (g h : Sizes) (s : Store) (is : List ℕ) → h ≡ g → old + units_in g s is ≡ new + was → now ≡ units_in h s is → was ≤ old → old - was + now ≡ new
-counted old new was now g h s is same law after few = (let units = after ∙ ap (λ (x : Sizes). units_in x s is) same in omega (arith, units, law, few))
-
-pub units_few : (was units all : ℕ) → was ≤ all → units ≡ all → was ≤ units
-units_few was units all few is = omega (arith, few, is)
-
--- ---- a change, and then reads
+-- ---- a change that was made, or was not
 
 module _ {M : Type 0} (device : Ghosts M)
     (sized : (x : M) (n : ℕ) (t : Tier) (c : List ℕ) → n ≤ device.moment x → device.left x n t c → length c ≡ length (device.seen x t)) where
@@ -94,40 +82,11 @@ module _ {M : Type 0} (device : Ghosts M)
     failed_now : {A B C : Type 0} → A × (B ⊎ C) → (B → ⊥) → A × C
     failed_now p never = (p.0, elim p.1 [ inl b ↦ absurd (never b) | inr c ↦ c ])
 
-    applies_then : (old mid new : JournalView M) → AppliesTo old mid → StillAt mid new → AppliesTo old new
-    applies_then old mid new applies still = record {
-      later = (let later = applies.later in let clock = still.clock in omega (arith, later, clock));
-      past = λ m t c le l. applies.past m t c le (still.past m t c (let later = applies.later in omega (arith, le, later)) l);
-      kept = λ m t c le l. still.kept m t c (let later = applies.later in omega (arith, le, later)) (applies.kept m t c le l);
-      any_moment = λ m content lo hi l. (let clock = still.clock in let within : m ≤ device.moment mid.media = omega (arith, hi, clock) in applies.any_moment m content lo within (λ t. still.past m t (content t) within (l t)));
-    }
-
     abbrev MakesFew : JournalView M → JournalView M → Type 0
     MakesFew old new = MakesFewCalls old.geometry (disk device old) cs (device.moment old.media) (device.moment new.media) (device.left old.media) (device.left new.media)
 
-    few_on : (old mid new : JournalView M) → device.moment old.media ≤ device.moment mid.media → MakesFew old mid → StillAt mid new → MakesFew old new
-    few_on old mid new later few still = few_then old.geometry (disk device old) cs (device.moment old.media) (device.moment mid.media) (device.moment new.media) (device.left old.media) (device.left mid.media) (device.left new.media) later still.clock still.past few
-
     store_still : (mid new : JournalView M) → StillAt mid new → disk device new ≡ disk device mid
     store_still mid new still = ap store_of (tiers_same (device.seen mid.media) (device.seen new.media) still.reads)
-
-    pub ends_read : {T : Type 0} (old mid new : JournalView M) (pools : PoolsView) (u : Unit {0}) (x : T) → EndsAt old mid pools (Ok u) → Looks device mid new (Ok x) → EndsAt old new pools (Ok u)
-    ends_read old mid new pools u x ends looks = record {
-      any_moment = applies_then old mid new ends.any_moment looks.unmoved;
-      applied = subst (IsAppliedStore old.geometry (disk device old) cs v) (sym (store_still mid new looks.unmoved)) ends.applied;
-      settled = λ going. settled_still device sized mid new pools looks.unmoved looks.geometry (ends.settled looks.going.0);
-      only = tt;
-      unmoved = tt;
-      fault = λ is. absurd (ok_fault u is);
-      quiet = (looks.going.1, looks.quiet ∙ ends.quiet.1);
-      geometry = looks.geometry ∙ ends.geometry;
-      more_faults = (let a = ends.more_faults in let b = looks.more_faults in omega (arith, a, b));
-      one_fault = (let a = ends.quiet.1 in let b = looks.quiet in omega (arith, a, b));
-      at_most = few_on old mid new ends.any_moment.later ends.at_most looks.unmoved;
-    }
-      where
-        ok_fault : (u : Unit {0}) → IsErrOf {T = Unit {0}} {E = AreaError} (Ok u) DeviceFault → ⊥
-        ok_fault u is = cc
 
     -- what a change tells of media of which no device had failed
     pub ends_of : (old new : JournalView M) (pools : PoolsView) (r : Result (Unit {0}) AreaError) → old.failed ≡ false → (old.failed ≡ false → AppliesTo old new) → OnOk r (IsAppliedStore old.geometry (disk device old) cs v (disk device new))
@@ -148,30 +107,12 @@ module _ {M : Type 0} (device : Ghosts M)
       at_most = few;
     }
 
-    -- where a device fails in them, the change is made all the same, and the area has failed
-    pub ends_broken : {T : Type 0} (old mid new : JournalView M) (pools : PoolsView) (u : Unit {0}) (e : AreaError) → e ≡ DeviceFault → EndsAt old mid pools (Ok u) → Looks {T = T} device mid new (Err e) → EndsAt old new pools (Err DeviceFault)
-    ends_broken old mid new pools u e is ends looks =
-        let fault = failed_now (looks.fault is) (λ was. true≢false (sym was ∙ ends.quiet.0)) in
-        record {
-          any_moment = applies_then old mid new ends.any_moment looks.unmoved;
-          applied = tt;
-          settled = λ going. absurd (true≢false (sym fault.0 ∙ going));
-          only = tt;
-          unmoved = λ other. absurd (other refl);
-          fault = λ _. (fault.0, subst (λ (n : ℕ). Rose n (device.faults new.media)) ends.quiet.1 fault.1);
-          quiet = tt;
-          geometry = looks.geometry ∙ ends.geometry;
-          more_faults = (let a = ends.more_faults in let b = looks.more_faults in omega (arith, a, b));
-          one_fault = (let a = ends.quiet.1 in let b = looks.one_fault in omega (arith, a, b));
-          at_most = few_on old mid new ends.any_moment.later ends.at_most looks.unmoved;
-        }
-
     -- ---- what is in memory
 
     graph_on : (old mid : JournalView M) → StillAt old mid → mid.geometry ≡ old.geometry → graph mid.geometry (disk device mid) ≡ graph old.geometry (disk device old)
     graph_on old mid still geometry = ap (λ (g : Sizes). graph g (disk device mid)) geometry ∙ ap (graph old.geometry) (store_still old mid still)
 
-    pub charge_on : (old mid : JournalView M) (units : ℕ) → StillAt old mid → mid.geometry ≡ old.geometry → units ≡ charge (graph old.geometry (disk device old)) → units ≡ charge (graph mid.geometry (disk device mid))
+    charge_on : (old mid : JournalView M) (units : ℕ) → StillAt old mid → mid.geometry ≡ old.geometry → units ≡ charge (graph old.geometry (disk device old)) → units ≡ charge (graph mid.geometry (disk device mid))
     charge_on old mid units still geometry is = is ∙ sym (ap charge (graph_on old mid still geometry))
 
     -- the change is made

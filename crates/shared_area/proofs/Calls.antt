@@ -16,7 +16,7 @@ use Rattle.change_plan.specs.area_commit.Batches.{marks_images}
 use Rattle.change_plan.specs.area_commit.DataWrite.{TakenInTurn, calls_for}
 use Rattle.change_plan.specs.declared.partial_plan.PartialPlan.{PartialPlan}
 use Rattle.change_plan.proofs.area_commit_lemmas.Returned.{were_free}
-use Rattle.change_plan.proofs.area_commit_lemmas.Turns.{turn_behind, turn_read}
+use Rattle.change_plan.proofs.area_commit_lemmas.Turns.{turn_behind}
 use Rattle.shared_area.specs.ChangeApply.{MakesFewCalls}
 
 pub few_calls : (g : Sizes) (s : Store) (cs : Changes) (v : Marks) (plan : PartialPlan) (taken : Allocation) (left : PoolsView) (before now : ℕ) (L M : ℕ → Tier → List ℕ → Type 0) → IsWhole g s cs v.digests plan taken (Some v) → HasTaken g s left taken → (blocks : List (ℕ × ℕ)) × GetPlaces g s cs blocks (taken_data taken)
@@ -42,18 +42,5 @@ module _ (g : Sizes) (s : Store) (cs : Changes) (a b c : ℕ) (L M N : ℕ → T
     calls = is.calls;
     for_data = is.for_data;
     turn = (let taken = is.for_data.taken in turn_behind taken.fast.items taken.block.items taken.slow.items a b c L M N same past is.turn);
-    few = (let few = is.few in omega (arith, few, same));
-  })
-
-  -- reads behind it
-  pub few_then : a ≤ b → c ≡ b → ((m : ℕ) (t : Tier) (x : List ℕ) → m ≤ b → N m t x → M m t x) → MakesFewCalls g s cs a b L M → MakesFewCalls g s cs a c L N
-  few_then later same past (inl none) = inl (omega (arith, none, same))
-  few_then later same past (inr is) = inr (record {
-    blocks = is.blocks;
-    places = is.places;
-    got = is.got;
-    calls = is.calls;
-    for_data = is.for_data;
-    turn = (let taken = is.for_data.taken in turn_read taken.fast.items taken.block.items taken.slow.items a b c L M N same past is.turn later);
     few = (let few = is.few in omega (arith, few, same));
   })

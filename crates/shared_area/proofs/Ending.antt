@@ -43,18 +43,18 @@ block_fault e = cc
 pub block_memory : errors.NoBlock ≢ errors.Memory
 block_memory e = cc
 
-pub err_same : (e f : AreaError) → IsErrOf {T = Unit {0}} {E = AreaError} (Err e) f → e ≡ f
+pub err_same : {R : Type 0} (e f : AreaError) → IsErrOf {T = R} {E = AreaError} (Err e) f → e ≡ f
 err_same e f is = cc
 
-pub ok_no_err : (u : Unit {0}) (f : AreaError) → IsErrOf {T = Unit {0}} {E = AreaError} (Ok u) f → ⊥
+pub ok_no_err : {R : Type 0} (u : R) (f : AreaError) → IsErrOf {T = R} {E = AreaError} (Ok u) f → ⊥
 ok_no_err u f is = cc
 
-pub err_with : {A B : Type 0} (r : Result (Unit {0}) AreaError) → (A → B) → OnErr r A → OnErr r B
+pub err_with : {A B R : Type 0} (r : Result R AreaError) → (A → B) → OnErr r A → OnErr r B
 err_with (Ok u) f a = tt
 err_with (Err e) f a = f a
 
 -- a device fault, or a want of memory, is no want of blocks
-pub forced_block : (r : Result (Unit {0}) AreaError) → IfErr r IsForced → IsErrOf r errors.NoBlock → ⊥
+pub forced_block : {R : Type 0} (r : Result R AreaError) → IfErr r IsForced → IsErrOf r errors.NoBlock → ⊥
 forced_block (Ok u) only is = ok_no_err u errors.NoBlock is
 forced_block (Err e) only is = elim only [
   | inl failed ↦ block_fault (sym (err_same e errors.NoBlock is) ∙ failed)
@@ -99,7 +99,7 @@ module _ {M : Type 0} (device : Ghosts M)
     abbrev MakesFew : JournalView M → JournalView M → Type 0
     MakesFew old new = MakesFewCalls old.geometry (disk device old) cs (device.moment old.media) (device.moment new.media) (device.left old.media) (device.left new.media)
 
-    abbrev EndsAt : JournalView M → JournalView M → PoolsView → Result (Unit {0}) AreaError → Type 0
+    abbrev EndsAt : {R : Type 0} → JournalView M → JournalView M → PoolsView → Result R AreaError → Type 0
     EndsAt old new pools r = Ends device cs v old new pools r
 
     back : (old new : JournalView M) → StillAt old new → (m : ℕ) → device.moment old.media ≤ m → m ≤ device.moment new.media → (t : Tier) (c : List ℕ) → device.left new.media m t c → device.left old.media (device.moment old.media) t c
@@ -124,7 +124,7 @@ module _ {M : Type 0} (device : Ghosts M)
 
     -- ---- refusals
 
-    ends_fault : (old new : JournalView M) (pools : PoolsView) → AppliesTo old new → (new.failed ≡ true) × Rose (device.faults old.media) (device.faults new.media) → new.geometry ≡ old.geometry → device.faults old.media ≤ device.faults new.media → device.faults new.media ≤ device.faults old.media + 1 → MakesFew old new → EndsAt old new pools (Err errors.DeviceFault)
+    ends_fault : {R : Type 0} (old new : JournalView M) (pools : PoolsView) → AppliesTo old new → (new.failed ≡ true) × Rose (device.faults old.media) (device.faults new.media) → new.geometry ≡ old.geometry → device.faults old.media ≤ device.faults new.media → device.faults new.media ≤ device.faults old.media + 1 → MakesFew old new → EndsAt {R = R} old new pools (Err errors.DeviceFault)
     ends_fault old new pools applies fault geometry more one few = record {
       any_moment = applies;
       applied = tt;
@@ -139,8 +139,8 @@ module _ {M : Type 0} (device : Ghosts M)
       at_most = few;
     }
 
-    pub ends_refused : (old new : JournalView M) (pools : PoolsView) (e : AreaError) → IsChangeRefusal e → e ≢ errors.DeviceFault → Rests device old.geometry old.media → StillAt old new → new.geometry ≡ old.geometry → new.failed ≡ false → device.faults new.media ≡ device.faults old.media
-        → SettledAt old pools → EndsAt old new pools (Err e)
+    pub ends_refused : {R : Type 0} (old new : JournalView M) (pools : PoolsView) (e : AreaError) → IsChangeRefusal e → e ≢ errors.DeviceFault → Rests device old.geometry old.media → StillAt old new → new.geometry ≡ old.geometry → new.failed ≡ false → device.faults new.media ≡ device.faults old.media
+        → SettledAt old pools → EndsAt {R = R} old new pools (Err e)
     ends_refused old new pools e change other rests still geometry going quiet settled = record {
       any_moment = applies_still old new rests still;
       applied = tt;
@@ -159,16 +159,16 @@ module _ {M : Type 0} (device : Ghosts M)
     failed_now p never = (p.0, elim p.1 [ inl b ↦ absurd (never b) | inr c ↦ c ])
 
     -- what a reader was refused for
-    pub ends_told : {T : Type 0} (old new : JournalView M) (pools : PoolsView) (e : AreaError) → IsForced e → Looks {T = T} device old new (Err e) → old.failed ≡ false → Rests device old.geometry old.media → SettledAt old pools → EndsAt old new pools (Err e)
-    ends_told {T = T} old new pools e (inl is) looks going rests settled =
+    pub ends_told : {T R : Type 0} (old new : JournalView M) (pools : PoolsView) (e : AreaError) → IsForced e → Looks {T = T} device old new (Err e) → old.failed ≡ false → Rests device old.geometry old.media → SettledAt old pools → EndsAt {R = R} old new pools (Err e)
+    ends_told {T = T} {R = R} old new pools e (inl is) looks going rests settled =
         let failed : Looks {T = T} device old new (Err errors.DeviceFault) = subst (λ (x : AreaError). Looks {T = T} device old new (Err x)) is looks in
-        subst (λ (x : AreaError). EndsAt old new pools (Err x)) (sym is) (
+        subst (λ (x : AreaError). EndsAt {R = R} old new pools (Err x)) (sym is) (
         ends_fault old new pools (applies_still old new rests looks.unmoved) (failed_now (failed.fault refl) (λ was. true≢false (sym was ∙ going))) looks.geometry looks.more_faults looks.one_fault (none_still old new looks.unmoved)
         )
-    ends_told {T = T} old new pools e (inr is) looks going rests settled =
+    ends_told {T = T} {R = R} old new pools e (inr is) looks going rests settled =
         let full : Looks {T = T} device old new (Err errors.Memory) = subst (λ (x : AreaError). Looks {T = T} device old new (Err x)) is looks in
         let q = full.quiet_refused memory_fault in
-        subst (λ (x : AreaError). EndsAt old new pools (Err x)) (sym is) (ends_refused old new pools errors.Memory tt memory_fault rests looks.unmoved looks.geometry q.2 q.0 settled)
+        subst (λ (x : AreaError). EndsAt {R = R} old new pools (Err x)) (sym is) (ends_refused old new pools errors.Memory tt memory_fault rests looks.unmoved looks.geometry q.2 q.0 settled)
 
     -- ---- reads, and then a change
 
@@ -202,7 +202,7 @@ module _ {M : Type 0} (device : Ghosts M)
         few_behind mid.geometry (disk device mid) cs (device.moment old.media) (device.moment mid.media) (device.moment new.media) (device.left old.media) (device.left mid.media) (device.left new.media) still.clock still.past few
         ))
 
-    pub ends_on : (old mid new : JournalView M) (pools : PoolsView) (r : Result (Unit {0}) AreaError) → StillAt old mid → mid.geometry ≡ old.geometry → device.faults mid.media ≡ device.faults old.media → EndsAt mid new pools r → EndsAt old new pools r
+    pub ends_on : {R : Type 0} (old mid new : JournalView M) (pools : PoolsView) (r : Result R AreaError) → StillAt old mid → mid.geometry ≡ old.geometry → device.faults mid.media ≡ device.faults old.media → EndsAt mid new pools r → EndsAt old new pools r
     ends_on old mid new pools (Ok u) still geometry quiet ends = record {
       any_moment = applies_on old mid new still geometry ends.any_moment;
       applied = applied_on old mid new still geometry ends.applied;
@@ -228,6 +228,38 @@ module _ {M : Type 0} (device : Ghosts M)
       more_faults = (let more = ends.more_faults in omega (arith, more, quiet));
       one_fault = (let one = ends.one_fault in omega (arith, one, quiet));
       at_most = few_on old mid new still geometry ends.at_most;
+    }
+
+    -- ---- what is answered is another value
+
+    pub ends_ok : {R Q : Type 0} (old new : JournalView M) (pools : PoolsView) (x : R) (y : Q) → EndsAt old new pools (Ok x) → EndsAt old new pools (Ok y)
+    ends_ok old new pools x y ends = record {
+      any_moment = ends.any_moment;
+      applied = ends.applied;
+      settled = ends.settled;
+      only = tt;
+      unmoved = tt;
+      fault = λ is. absurd (ok_no_err y errors.DeviceFault is);
+      quiet = ends.quiet;
+      geometry = ends.geometry;
+      more_faults = ends.more_faults;
+      one_fault = ends.one_fault;
+      at_most = ends.at_most;
+    }
+
+    pub ends_err : {R Q : Type 0} (old new : JournalView M) (pools : PoolsView) (e : AreaError) → EndsAt {R = R} old new pools (Err e) → EndsAt {R = Q} old new pools (Err e)
+    ends_err old new pools e ends = record {
+      any_moment = ends.any_moment;
+      applied = tt;
+      settled = ends.settled;
+      only = ends.only;
+      unmoved = ends.unmoved;
+      fault = λ is. ends.fault (ap Err (err_same e errors.DeviceFault is));
+      quiet = tt;
+      geometry = ends.geometry;
+      more_faults = ends.more_faults;
+      one_fault = ends.one_fault;
+      at_most = ends.at_most;
     }
 
     -- ---- a plan that is carried out
@@ -260,6 +292,6 @@ module _ {M : Type 0} (device : Ghosts M)
       }
 
       pub ends_undone : (pools : PoolsView) (e : AreaError) → IsForced e → (e ≡ errors.DeviceFault → (new.failed ≡ true) × Rose (device.faults old.media) (device.faults new.media)) → (e ≡ errors.Memory → Looks {T = Unit {0}} device old new (Err e)) → new.geometry ≡ old.geometry → device.faults old.media ≤ device.faults new.media
-          → device.faults new.media ≤ device.faults old.media + 1 → old.failed ≡ false → Rests device old.geometry old.media → SettledAt old pools → EndsAt old new pools (Err e)
-      ends_undone pools e (inl is) fault memory geometry more one going rests settled = subst (λ (x : AreaError). EndsAt old new pools (Err x)) (sym is) (ends_fault old new pools applies_all (fault is) geometry more one few)
+          → device.faults new.media ≤ device.faults old.media + 1 → old.failed ≡ false → Rests device old.geometry old.media → SettledAt old pools → EndsAt {R = Unit {0}} old new pools (Err e)
+      ends_undone pools e (inl is) fault memory geometry more one going rests settled = subst (λ (x : AreaError). EndsAt {R = Unit {0}} old new pools (Err x)) (sym is) (ends_fault old new pools applies_all (fault is) geometry more one few)
       ends_undone pools e (inr is) fault memory geometry more one going rests settled = ends_told old new pools e (inr is) (memory is) going rests settled

@@ -1,7 +1,7 @@
 -- The pools, while a change is made over what was taken of them.
 use Rattle.std.proofs.Common.{◌≡◌, ◌≢◌, ◌≤◌, ◌<◌, ◌+◌, ◌⊎◌, ◌∙◌, inl, inr, ℕ, List, [], ◌∷◌, ◌++◌, length, refl, sym, ap, subst, arith}
 use Rattle.std.proofs.lemmas.Bool.{cases_lt}
-use Rattle.std.specs.Prelude.{◌↔◌, ◌^◌, Ok, Err, IsErrOf, take, drop}
+use Rattle.std.specs.Prelude.{◌↔◌, Ok, Err, IsErrOf, take, drop}
 use Rattle.std.specs.List.{Contains}
 use Rattle.std.proofs.lemmas.List.{length-append, length-map}
 use Rattle.std.proofs.lemmas.List.FromFn.{length-range_with_len}
@@ -14,7 +14,6 @@ use Rattle.change_plan.specs.block_alloc.Value.{FreeBlocks, InOrder}
 use Rattle.change_plan.specs.block_alloc.declared.error.AllocatorError.{AllocatorError}
 use Rattle.change_plan.specs.block_alloc.declared.error.AllocatorError.TheVariants as refusal
 use Rattle.change_plan.proofs.block_alloc_lemmas.Blocks.{length-rising}
-use Rattle.change_plan.specs.extent_tree.declared.map.Place.{Place}
 use Rattle.change_plan.specs.area_image.declared.error.AreaError.{AreaError}
 use Rattle.change_plan.specs.area_image.declared.error.AreaError.TheVariants as errors
 use Rattle.change_plan.specs.area_image.Refusals.{IsChangeRefusal, area_error}
@@ -22,12 +21,9 @@ use Rattle.change_plan.specs.area_image.Store.{Store, store_of}
 use Rattle.change_plan.specs.area_image.Reads.{Free}
 use Rattle.change_plan.specs.area_commit.Value.{PoolsView, data_pool, on_tier, free_data, AreInOrder, HasRanges}
 use Rattle.change_plan.specs.area_commit.declared.allocation.Allocation.{Allocation}
-use Rattle.change_plan.specs.area_commit.Allocations.{runs_of, taken_data, WasTaken, CanGive, WereTaken, CanRelease, SameBlocks, SameFree, KeepsRoom}
-use Rattle.change_plan.specs.inode_plan.RunPlaces.{EndsFit}
-use Rattle.change_plan.specs.inode_plan.PlannedFile.{pair_of, pairs_of}
+use Rattle.change_plan.specs.area_commit.Allocations.{runs_of, WasTaken, CanGive, WereTaken, CanRelease, SameBlocks, SameFree, KeepsRoom}
 use Rattle.change_plan.specs.area_commit.StableState.{IsSettled}
 use Rattle.change_plan.specs.PlanAddition.{HasTaken}
-use Rattle.change_plan.proofs.Sparing.{normal_ends}
 use Rattle.shared_area.proofs.Ending.{memory_fault, memory_block, block_fault, err_same}
 
 -- ---- the same free blocks
@@ -115,16 +111,6 @@ pub no_runs_of : (low end : ℕ) (rs : List Run) → AreNormalRuns low end rs �
 no_runs_of low end [] normal none = refl
 no_runs_of low end (r ∷ rs) normal none = (let long = ap length none in absurd (omega (arith, long, length-append (run_blocks r) (blocks_of rs), length-range_with_len r.first r.count, normal.1)))
 
--- each block of a tier has a number of 32 bits
-tier_end : (g : Sizes) (t : Tier) → IsAllowed g → tier_blocks g t < 2 ^ 32
-tier_end g Fast allowed = omega (arith, allowed.few_units, allowed.fast)
-tier_end g Block allowed = omega (arith, allowed.block)
-tier_end g Slow allowed = omega (arith, allowed.slow)
-
-pub taken_ends : (g : Sizes) (before left : PoolsView) (taken : Allocation) → IsAllowed g → HasRanges g before → WereTaken before left taken → (t : Tier) → EndsFit (runs_of taken t)
-taken_ends g before left taken allowed ranges took t =
-    normal_ends (data_pool before t).first (data_pool before t).end (runs_of taken t) (took.per_tier t).apart (let last = ranges.end t in let fits = tier_end g t allowed in omega (arith, last, fits))
-
 -- the free data blocks have numbers of 32 bits, and so has their count
 tier_free : (g : Sizes) (p : PoolsView) (t : Tier) → IsAllowed g → HasRanges g p → InOrder (data_pool p t) → length (data_pool p t).free ≤ 65536
 tier_free g p t allowed ranges order = most t (length-rising (data_pool p t).first (data_pool p t).end (data_pool p t).free (low t) order) (ranges.first t) (ranges.end t)
@@ -151,10 +137,6 @@ few_free g p allowed ranges order =
     let z = length-map {B = Tier × ℕ} p.slow.free (λ (k : ℕ). (Slow, k)) in
     omega (arith, fast, block, slow, a, b, x, y, z)
 
--- as many places as blocks
-pub count_places : (places : List Place) (taken : Allocation) → pairs_of places ≡ taken_data taken → length places ≡ length (taken_data taken)
-count_places places taken is = sym (length-map places pair_of) ∙ ap length is
-
 -- ---- what was taken
 
 pub take_none : {A : Type 0} (xs : List A) → take 0 xs ≡ []
@@ -177,7 +159,7 @@ pub told_pools : (e : AllocatorError) (r : AreaError) → r ≡ area_error e →
 told_pools refusal.NoBlock r is = (subst IsChangeRefusal (sym is) tt, λ f. block_fault (sym is ∙ f))
 told_pools refusal.Memory r is = (subst IsChangeRefusal (sym is) tt, λ f. memory_fault (sym is ∙ f))
 
-pub told_block : (e : AllocatorError) (r : AreaError) → r ≡ area_error e → IsErrOf {T = Unit {0}} {E = AreaError} (Err r) errors.NoBlock → e ≡ refusal.NoBlock
+pub told_block : {R : Type 0} (e : AllocatorError) (r : AreaError) → r ≡ area_error e → IsErrOf {T = R} {E = AreaError} (Err r) errors.NoBlock → e ≡ refusal.NoBlock
 told_block refusal.NoBlock r is few = refl
 told_block refusal.Memory r is few = absurd (memory_block (sym is ∙ err_same r errors.NoBlock few))
 

@@ -1,7 +1,6 @@
 -- What comes of questions that the shared area is asked.
-use Rattle.std.specs.Prelude.{◌≡◌, ℕ, false, List, Option, Some, None, Result, Err}
+use Rattle.std.specs.Prelude.{◌≡◌, false, Option, Some, None, Result, Err}
 use Rattle.change_plan.specs.tier_device.declared.media.Media.{Ghosts}
-use Rattle.change_plan.specs.tier_device.declared.media.Tier.{Tier}
 use Rattle.change_plan.specs.batch_journal.View.{JournalView}
 use Rattle.change_plan.specs.area_image.declared.error.AreaError.{AreaError}
 use Rattle.change_plan.specs.area_image.Looks.{Looks, call_answer}

@@ -1,6 +1,7 @@
 //! What holds of a whole change that is carried out.
 
-ghost use Rattle.std.specs.Prelude.{Some};
+ghost use Rattle.std.specs.Prelude.{ℕ, Option, Some};
+ghost use Rattle.std.specs.FinMap as fin;
 ghost use Rattle.change_plan.specs.graph_change.Change.{Changes};
 ghost use Rattle.change_plan.specs.layout.declared.marks.Marks.{Marks};
 ghost use Rattle.change_plan.specs.layout.Places.{Sizes, IsAllowed};
@@ -11,9 +12,11 @@ ghost use Rattle.change_plan.specs.area_commit.Allocations.{taken_data};
 ghost use Rattle.change_plan.specs.FileLayout.{AreFirstFree};
 ghost use Rattle.change_plan.specs.area_commit.PlanOutcome.{IsCarriedOut};
 ghost use Rattle.change_plan.specs.First.{IsWhole, whole_of};
+ghost use Rattle.change_plan.specs.ReadSlots.{HaveSlots};
 ghost use Rattle.shared_area.specs.ChangeApply.{CanApply, IsAppliedStore};
 ghost use Rattle.change_plan.specs.declared.partial_plan.PartialPlan.{PartialPlan};
 
+use area_image::slot_is_read;
 use change_plan::{
     carried_out_marks, whole_change_can_be_carried_out, whole_change_lies_in_its_places,
 };
@@ -26,4 +29,12 @@ pub fn carried_out_change_is_made()
     whole_change_can_be_carried_out();
     whole_change_lies_in_its_places();
     carried_out_marks();
+}
+
+/// Then the inodes of the change have the slots of the plan, so that none of them is read to know what they cost.
+pub fn carried_out_change_has_its_slots()
+    ensures { (g : Sizes) (s : Store) (cs : Changes) (touch : ℕ) (plan : PartialPlan) (taken : Allocation) (marks : Option Marks) (new : Store)
+        → IsAllowed g → IsWhole g s cs touch plan taken marks → IsCarriedOut g s (whole_of plan taken marks) new → HaveSlots g new (fin.keys cs) plan.slots.items }
+{
+    slot_is_read();
 }

@@ -43,7 +43,7 @@ ghost use Rattle.shared_area.specs.FirstRun.{FindsRun, file_lies};
 use crate::block_search::find_tier;
 use crate::digest_number::find_touch;
 use crate::file_read::read_file;
-use crate::graph_update::make_change;
+use crate::graph_update::{MarkedChange, make_change};
 use crate::media_contents::{journal_fault, read_contents};
 use crate::node::find_node;
 use crate::run_search::find_first_run;
@@ -284,14 +284,14 @@ impl<M: Media> Shared<M> {
         ensures at_most { MakesFewCalls self.old.geometry (disk M.Media self.old) (changes_of change.now) (M.moment self.old.media) (M.moment self.new.media) (M.left self.old.media) (M.left self.new.media) }
     {
         let alloc = self.alloc;
+        let marked = MarkedChange { change, marks };
         make_change(
             alloc,
             &mut self.journal,
             &mut self.pools,
             &mut self.marks,
             &mut self.units,
-            change,
-            marks,
+            &marked,
         )
     }
 

@@ -26,10 +26,8 @@ fn sound_parts<M: Media>(
     ensures memory { IfErr result (λ e. e ≡ Memory → WantsMemory journal.old.geometry (disk M.Media journal.old) inode) }
     ensures looks { Looks M.Media journal.old journal.new result }
 {
-    match read_parts(alloc, journal, inode) {
-        Ok(parts) => Ok(parts),
-        Err(error) => Err(error),
-    }
+    let parts = read_parts(alloc, journal, inode)?;
+    Ok(parts)
 }
 
 /// Reads slot and extents of an inode; `None` for a number that is no inode's. `DeviceFault` where a device has failed before or fails now; `Memory` where there was none
@@ -79,9 +77,8 @@ pub fn find_tier<M: Media>(
     ensures memory { IfErr result (λ e. e ≡ Memory → WantsMemory journal.old.geometry (disk M.Media journal.old) inode) }
     ensures looks { Looks M.Media journal.old journal.new result }
 {
-    match find_parts(alloc, journal, inode) {
-        Ok(Some(parts)) => Ok(mapping_tier(&parts, block)),
-        Ok(None) => Ok(None),
-        Err(error) => Err(error),
+    match find_parts(alloc, journal, inode)? {
+        Some(parts) => Ok(mapping_tier(&parts, block)),
+        None => Ok(None),
     }
 }

@@ -6,29 +6,29 @@ ghost use Rattle.change_plan.specs.graph_change.Bounds.{AreBounded};
 ghost use Rattle.change_plan.specs.graph_change.Change.{changed_graph};
 ghost use Rattle.change_plan.specs.graph_change.Tidy.{AreTidyChanges};
 ghost use Rattle.change_plan.specs.graph_change.View.{changes_of};
-ghost use Rattle.change_plan.specs.tier_device.declared.media.Tier.{Tier};
 ghost use Rattle.change_plan.specs.tier_device.Media.{Rose};
 ghost use Rattle.change_plan.specs.layout.Marks.{fits_marks};
 ghost use Rattle.change_plan.specs.area_image.Store.{disk, graph};
 ghost use Rattle.change_plan.specs.area_commit.Value.{PoolsView, free_data, AreInOrder};
-ghost use Rattle.change_plan.specs.inode_plan.RunPlaces.{EndsFit};
-ghost use Rattle.change_plan.specs.area_commit.Allocations.{runs_of, WereTaken, CanRelease, SameFree, taken_data};
-ghost use Rattle.change_plan.specs.inode_plan.PlannedFile.{pairs_of};
+ghost use Rattle.change_plan.specs.area_commit.Allocations.{WereTaken, CanRelease, SameFree, taken_data};
 ghost use Rattle.change_plan.specs.area_commit.StableState.{IsSettled, StaysStill};
 ghost use Rattle.shared_area.specs.ChangeApply.{CanApply, IsAppliedStore, Applies, Ends, MakesFewCalls};
+ghost use Rattle.shared_area.specs.Costs.{IsCostOf, units_in};
 ghost use Rattle.shared_area.specs.Errors.{IsForced};
 ghost use Rattle.change_plan.specs.First.{PlansNothing};
 ghost use Rattle.change_plan.specs.FileLayout.{AreFirstFree};
 ghost use Rattle.change_plan.specs.Next.{HasFewEntries};
 ghost use Rattle.change_plan.specs.BlockDemand.{images_for, WantsBlocks, AreWritten};
+ghost use Rattle.change_plan.specs.ReadSlots.{HaveSlots};
 ghost use Rattle.change_plan.specs.area_image.declared.error.AreaError.TheVariants.{DeviceFault, NoBlock};
 ghost use Rattle.change_plan.specs.area_image.Refusals.{IsChangeRefusal};
 
-use crate::plan_write::reserve_blocks;
+use crate::inode_cost::{ChangeCost, units_of_slots};
+use crate::plan_write::write_counted;
 use change_plan::{
     Allocation, AreaError, BLOCK, FreedBlocks, GraphChange, Journal, Marks, Media, NodeImages,
-    PartialPlan, Place, Pools, Tier, count_blocks, nodes_never_run_out, plan_changes, taken_places,
-    wanted_blocks_are_written,
+    PartialPlan, Pools, ReadChange, Tier, count_blocks, nodes_never_run_out, plan_changes,
+    read_slots, wanted_blocks_are_written,
 };
 use std::alloc::{AllocError, Global};
 
@@ -42,131 +42,79 @@ fn room_for(alloc: Global, blocks: usize) -> Result<Vec<u8>, AllocError>
     }
 }
 
-// Before the first inode nothing is planned. There is room for the bytes of all data blocks, so that none are moved when others come behind them.
-fn nothing_planned(alloc: Global, blocks: usize) -> Result<PartialPlan, AllocError>
-    ensures { IfOk result (λ plan. PlansNothing plan) }
+// Before the first inode nothing is planned, over the data blocks that were taken.
+fn start_plan(alloc: Global, taken: Allocation, bytes: Vec<u8>) -> PartialPlan
+    requires { bytes.items ≡ [] }
+    ensures nothing { PlansNothing result }
+    ensures taken { result.taken ≡ taken }
 {
-    Ok(PartialPlan {
+    PartialPlan {
+        taken,
         slots: Vec::new(alloc),
         nodes: NodeImages::new(alloc),
-        bytes: room_for(alloc, blocks)?,
+        bytes,
         lost: FreedBlocks {
             nodes: Vec::new(alloc),
             fast: Vec::new(alloc),
             block: Vec::new(alloc),
             slow: Vec::new(alloc),
         },
-    })
+    }
 }
 
-// Lists the places of the data blocks that were taken, for a plan in which nothing stands yet.
-fn start_plan(alloc: Global, taken: &Allocation) -> Result<(Vec<Place>, PartialPlan), AllocError>
-    requires { (t : Tier) → EndsFit (runs_of taken.now t) }
-    ensures places { IfOk result (λ start. pairs_of start.0.items ≡ taken_data taken.now) }
-    ensures nothing { IfOk result (λ start. PlansNothing start.1) }
-{
-    let places = taken_places(alloc, taken)?;
-    let plan = nothing_planned(alloc, places.len())?;
-    Ok((places, plan))
-}
-
-// Plans a change over the data blocks that were taken for it, whose places these are, and carries it out.
+// Plans a change over the data blocks that were taken for it, and carries it out. It answers what its inodes cost then.
 fn plan_change<M: Media>(
     alloc: Global,
     journal: &mut Journal<M>,
     pools: &mut Pools,
-    change: &GraphChange,
+    read: &ReadChange<'_>,
     marks: Marks,
-    places: &[Place],
-    taken: Allocation,
     plan: PartialPlan,
-) -> Result<(), AreaError>
+) -> Result<u64, AreaError>
     requires going { journal.old.failed ≡ false }
-    requires can { CanApply journal.old.geometry (disk M.Media journal.old) (changes_of change.now) marks }
-    requires taken { (before : PoolsView) × AreInOrder before × WereTaken before pools.old taken × IsSettled journal.old.geometry (M.seen journal.old.media) (M.left journal.old.media (M.moment journal.old.media)) before }
-    requires undo { CanRelease pools.old taken }
-    requires first { AreFirstFree journal.old.geometry (disk M.Media journal.old) (taken_data taken) }
-    requires no_nodes { taken.nodes.items ≡ [] }
+    requires can { CanApply journal.old.geometry (disk M.Media journal.old) (changes_of read.now.change.now) marks }
+    requires taken { (before : PoolsView) × AreInOrder before × WereTaken before pools.old plan.taken × IsSettled journal.old.geometry (M.seen journal.old.media) (M.left journal.old.media (M.moment journal.old.media)) before }
+    requires undo { CanRelease pools.old plan.taken }
+    requires first { AreFirstFree journal.old.geometry (disk M.Media journal.old) (taken_data plan.taken) }
+    requires no_nodes { plan.taken.nodes.items ≡ [] }
     requires nodes { 255 ≤ length pools.old.nodes.free }
-    requires places { pairs_of places.now ≡ taken_data taken }
     requires nothing { PlansNothing plan }
-    requires wants { WantsBlocks journal.old.geometry (disk M.Media journal.old) (changes_of change.now) (length places.now) }
-    ensures ends { Ends M.Media (changes_of change.now) marks journal.old journal.new pools.new result }
-    ensures same { (before : PoolsView) → AreInOrder before → WereTaken before pools.old taken → OnErr result (SameFree before pools.new) }
+    requires wants { WantsBlocks journal.old.geometry (disk M.Media journal.old) (changes_of read.now.change.now) (length (taken_data plan.taken)) }
+    requires slots { HaveSlots journal.old.geometry (disk M.Media journal.old) (fin.keys (changes_of read.now.change.now)) read.now.slots.now }
+    ensures ends { Ends M.Media (changes_of read.now.change.now) marks journal.old journal.new pools.new result }
+    ensures units { IfOk result (λ units. units ≡ units_in journal.old.geometry (disk M.Media journal.new) (fin.keys (changes_of read.now.change.now))) }
+    ensures same { (before : PoolsView) → AreInOrder before → WereTaken before pools.old plan.taken → OnErr result (SameFree before pools.new) }
     ensures only { IfErr result IsForced }
 {
     // For the proof: a stop now leaves what is read, and the sizes are allowed ones.
     journal.left_now();
     let _units = journal.geometry().units();
-    let mut taken = taken;
     let mut plan = plan;
-    match plan_changes(
-        alloc,
-        journal,
-        pools,
-        &mut taken,
-        change,
-        marks.digests,
-        places,
-        &mut plan,
-    ) {
-        Ok(()) => reserve_blocks(alloc, journal, pools, change, marks, plan, taken),
+    match plan_changes(alloc, journal, pools, read, marks.digests, &mut plan) {
+        Ok(()) => write_counted(alloc, journal, pools, read.change, marks, plan),
         Err(error) => {
-            pools.release(taken);
+            pools.release(plan.taken);
             Err(error)
         }
     }
 }
 
-// Lists the places of the data blocks that were taken, and makes the change over them.
-fn place_blocks<M: Media>(
-    alloc: Global,
-    journal: &mut Journal<M>,
-    pools: &mut Pools,
-    change: &GraphChange,
-    marks: Marks,
-    taken: Allocation,
-) -> Result<(), AreaError>
-    requires going { journal.old.failed ≡ false }
-    requires can { CanApply journal.old.geometry (disk M.Media journal.old) (changes_of change.now) marks }
-    requires taken { (before : PoolsView) × AreInOrder before × WereTaken before pools.old taken × IsSettled journal.old.geometry (M.seen journal.old.media) (M.left journal.old.media (M.moment journal.old.media)) before }
-    requires undo { CanRelease pools.old taken }
-    requires first { AreFirstFree journal.old.geometry (disk M.Media journal.old) (taken_data taken) }
-    requires no_nodes { taken.nodes.items ≡ [] }
-    requires nodes { 255 ≤ length pools.old.nodes.free }
-    requires wants { WantsBlocks journal.old.geometry (disk M.Media journal.old) (changes_of change.now) (length (taken_data taken)) }
-    ensures ends { Ends M.Media (changes_of change.now) marks journal.old journal.new pools.new result }
-    ensures same { (before : PoolsView) → AreInOrder before → WereTaken before pools.old taken → OnErr result (SameFree before pools.new) }
-    ensures only { IfErr result IsForced }
-{
-    // For the proof: a stop now leaves what is read, and the sizes are allowed ones.
-    journal.left_now();
-    let _units = journal.geometry().units();
-    match start_plan(alloc, &taken) {
-        Ok((places, plan)) => {
-            plan_change(alloc, journal, pools, change, marks, &places, taken, plan)
-        }
-        Err(_) => {
-            pools.release(taken);
-            Err(AreaError::Memory)
-        }
-    }
-}
-
-// Takes as many data blocks as the change wants, and makes it.
+// Takes as many data blocks as the change wants, and makes it. There is room for the bytes of all from the start, so that none are moved when others come behind them.
 fn allocate_blocks<M: Media>(
     alloc: Global,
     journal: &mut Journal<M>,
     pools: &mut Pools,
-    change: &GraphChange,
+    read: &ReadChange<'_>,
     marks: Marks,
     count: usize,
-) -> Result<(), AreaError>
+) -> Result<u64, AreaError>
     requires going { journal.old.failed ≡ false }
     requires settled { IsSettled journal.old.geometry (M.seen journal.old.media) (M.left journal.old.media (M.moment journal.old.media)) pools.old }
-    requires can { CanApply journal.old.geometry (disk M.Media journal.old) (changes_of change.now) marks }
-    requires wants { WantsBlocks journal.old.geometry (disk M.Media journal.old) (changes_of change.now) count }
-    ensures ends { Ends M.Media (changes_of change.now) marks journal.old journal.new pools.new result }
+    requires can { CanApply journal.old.geometry (disk M.Media journal.old) (changes_of read.now.change.now) marks }
+    requires wants { WantsBlocks journal.old.geometry (disk M.Media journal.old) (changes_of read.now.change.now) count }
+    requires slots { HaveSlots journal.old.geometry (disk M.Media journal.old) (fin.keys (changes_of read.now.change.now)) read.now.slots.now }
+    ensures ends { Ends M.Media (changes_of read.now.change.now) marks journal.old journal.new pools.new result }
+    ensures units { IfOk result (λ units. units ≡ units_in journal.old.geometry (disk M.Media journal.new) (fin.keys (changes_of read.now.change.now))) }
     ensures same { OnErr result (SameFree pools.old pools.new) }
     ensures few { IsErrOf result NoBlock → length (free_data pools.old) < count }
 {
@@ -178,51 +126,87 @@ fn allocate_blocks<M: Media>(
     if count > u32::MAX as usize {
         return Err(AreaError::NoBlock);
     }
-    match pools.take(0, count as u32) {
-        Ok(taken) => place_blocks(alloc, journal, pools, change, marks, taken),
-        Err(error) => Err(AreaError::from(error)),
+    let taken = pools.take(0, count as u32)?;
+    match room_for(alloc, count) {
+        Ok(bytes) => {
+            let plan = start_plan(alloc, taken, bytes);
+            plan_change(alloc, journal, pools, read, marks, plan)
+        }
+        Err(_) => {
+            pools.release(taken);
+            Err(AreaError::Memory)
+        }
     }
 }
 
-// Counts the blocks that the change wants, on media of which no device has failed, and makes it.
+// Counts the blocks that the change wants, and makes it.
 fn apply_counted<M: Media>(
+    alloc: Global,
+    journal: &mut Journal<M>,
+    pools: &mut Pools,
+    read: &ReadChange<'_>,
+    marks: Marks,
+) -> Result<u64, AreaError>
+    requires going { journal.old.failed ≡ false }
+    requires settled { IsSettled journal.old.geometry (M.seen journal.old.media) (M.left journal.old.media (M.moment journal.old.media)) pools.old }
+    requires can { CanApply journal.old.geometry (disk M.Media journal.old) (changes_of read.now.change.now) marks }
+    requires slots { HaveSlots journal.old.geometry (disk M.Media journal.old) (fin.keys (changes_of read.now.change.now)) read.now.slots.now }
+    ensures ends { Ends M.Media (changes_of read.now.change.now) marks journal.old journal.new pools.new result }
+    ensures units { IfOk result (λ units. units ≡ units_in journal.old.geometry (disk M.Media journal.new) (fin.keys (changes_of read.now.change.now))) }
+    ensures same { OnErr result (SameFree pools.old pools.new) }
+    ensures few { IsErrOf result NoBlock → (n : ℕ) × WantsBlocks journal.old.geometry (disk M.Media journal.old) (changes_of read.now.change.now) n × (length (free_data pools.old) < n) }
+{
+    // For the proof: a stop now leaves what is read.
+    journal.left_now();
+    let count = count_blocks(alloc, journal, read)?;
+    allocate_blocks(alloc, journal, pools, read, marks, count)
+}
+
+// Reads the slots of the inodes of the change, on media of which no device has failed, and makes it.
+fn apply_read<M: Media>(
     alloc: Global,
     journal: &mut Journal<M>,
     pools: &mut Pools,
     change: &GraphChange,
     marks: Marks,
-) -> Result<(), AreaError>
+) -> Result<ChangeCost, AreaError>
     requires going { journal.old.failed ≡ false }
     requires settled { IsSettled journal.old.geometry (M.seen journal.old.media) (M.left journal.old.media (M.moment journal.old.media)) pools.old }
     requires can { CanApply journal.old.geometry (disk M.Media journal.old) (changes_of change.now) marks }
     ensures ends { Ends M.Media (changes_of change.now) marks journal.old journal.new pools.new result }
+    ensures cost { IfOk result (IsCostOf journal.old.geometry (disk M.Media journal.old) (disk M.Media journal.new) (changes_of change.now)) }
     ensures same { OnErr result (SameFree pools.old pools.new) }
     ensures few { IsErrOf result NoBlock → (n : ℕ) × WantsBlocks journal.old.geometry (disk M.Media journal.old) (changes_of change.now) n × (length (free_data pools.old) < n) }
 {
     // For the proof: a stop now leaves what is read.
     journal.left_now();
-    match count_blocks(alloc, journal, change) {
-        Ok(count) => allocate_blocks(alloc, journal, pools, change, marks, count),
-        Err(error) => Err(error),
-    }
+    let slots = read_slots(alloc, journal, change)?;
+    let before = units_of_slots(&slots);
+    let read = ReadChange {
+        change,
+        slots: &slots,
+    };
+    let after = apply_counted(alloc, journal, pools, &read, marks)?;
+    Ok(ChangeCost { before, after })
 }
 
 /// Changes the graph on the shared media, with new marks, in one batch: each block that the change writes goes into a data block of its own, the first that are free, fastest tier
 /// first, with one write for each run of them in that order and then one fence for each tier that was written; then one batch writes slots, lists of extents, blocks of directories and marks;
 /// then what the inodes used and use no more is free. So a stop at any moment leaves the graph and the marks from before, or the graph after the change and the new marks. Each
-/// inode that is written tells the number of digests that the marks tell.
+/// inode that is written tells the number of digests that the marks tell. The slot of each inode of the change is read once, before all else. It answers what these inodes cost before and
+/// after.
 ///
 /// `NoBlock` where fewer data blocks are free than the change writes; `Memory` where there was none, before the first write. After these two the media and the free blocks are as
 /// before. `DeviceFault` where a device fails in the call, or has failed before it, and nothing is touched then; the journal answers nothing else until it is opened again. The
-/// blocks are counted by reading slots, and the extents of a file that is cut within a block into which no bytes were put: so of several
-/// reasons that stand together any may be told.
+/// slots are read into memory, and of a file that is cut within a block into which no bytes were put the extents are read to count the blocks: so of
+/// several reasons that stand together any may be told.
 pub fn apply<M: Media>(
     alloc: Global,
     journal: &mut Journal<M>,
     pools: &mut Pools,
     change: &GraphChange,
     marks: Marks,
-) -> Result<(), AreaError>
+) -> Result<ChangeCost, AreaError>
     // The media spell a graph with nothing pending, and the pools have their free blocks.
     requires settled { journal.old.failed ≡ false → IsSettled journal.old.geometry (M.seen journal.old.media) (M.left journal.old.media (M.moment journal.old.media)) pools.old }
     requires bounded { AreBounded (changes_of change.now) }
@@ -235,6 +219,7 @@ pub fn apply<M: Media>(
     // At each moment a stop leaves the graph and the marks from before, or the graph after the change and the new marks.
     ensures any_moment { journal.old.failed ≡ false → Applies journal.old.geometry (disk M.Media journal.old) (changes_of change.now) marks (M.moment journal.old.media) (M.moment journal.new.media) (M.left journal.old.media) (M.left journal.new.media) }
     ensures applied { OnOk result (IsAppliedStore journal.old.geometry (disk M.Media journal.old) (changes_of change.now) marks (disk M.Media journal.new)) }
+    ensures cost { IfOk result (IsCostOf journal.old.geometry (disk M.Media journal.old) (disk M.Media journal.new) (changes_of change.now)) }
     ensures settled { journal.new.failed ≡ false → IsSettled journal.new.geometry (M.seen journal.new.media) (M.left journal.new.media (M.moment journal.new.media)) pools.new }
 
     // Files that the change leaves have more blocks that it writes than data blocks are free.
@@ -257,5 +242,5 @@ pub fn apply<M: Media>(
     }
     // For the proof: the blocks that are wanted are those that the change writes.
     wanted_blocks_are_written();
-    apply_counted(alloc, journal, pools, change, marks)
+    apply_read(alloc, journal, pools, change, marks)
 }

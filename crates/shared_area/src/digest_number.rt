@@ -32,8 +32,6 @@ pub fn find_touch<M: Media>(journal: &mut Journal<M>, inode: u32) -> Result<u64,
     if !is_inode(inode) {
         return Ok(0);
     }
-    match read_slot(journal, inode) {
-        Ok(slot) => Ok(touch_of(&slot)),
-        Err(error) => Err(error),
-    }
+    let slot = read_slot(journal, inode)?;
+    Ok(touch_of(&slot))
 }

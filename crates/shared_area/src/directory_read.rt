@@ -14,6 +14,7 @@ ghost use Rattle.shared_area.specs.DirectoryReads.{AreNext};
 ghost use Rattle.shared_area.specs.Parts.{IsNoDamage};
 
 use crate::file_read::read_within;
+use area_image::MAX_IN_BLOCK;
 use change_plan::{
     AreaError, BLOCK, DirEntries, EntryRef, InodeExtents, Journal, Media, blank_block,
 };
@@ -45,6 +46,14 @@ fn put_entries(alloc: Global, entries: &mut NameMap<Child>, block: &[u8]) -> Res
     Ok(())
 }
 
+/// A directory whose entries are read: its inode, where its blocks lie, and how many entries it has.
+#[derive(Clone, Copy)]
+pub struct FoundDirectory<'a> {
+    pub inode: u32,
+    pub extents: &'a InodeExtents,
+    pub entries: u64,
+}
+
 // A block of a directory.
 fn read_entry_block<M: Media>(
     journal: &mut Journal<M>,
@@ -62,68 +71,54 @@ fn read_entry_block<M: Media>(
     ensures looks { Looks M.Media journal.old journal.new result }
 {
     let mut block = blank_block();
-    match read_within(journal, inode, found, BLOCK as u64 * number, &mut block) {
-        Ok(()) => Ok(block),
-        Err(error) => Err(error),
-    }
+    read_within(journal, inode, found, BLOCK as u64 * number, &mut block)?;
+    Ok(block)
 }
 
 // Puts the entries of one more block of a directory.
 fn add_part<M: Media>(
     alloc: Global,
     journal: &mut Journal<M>,
-    inode: u32,
-    found: &InodeExtents,
-    entries: u64,
+    directory: &FoundDirectory<'_>,
     number: u64,
     map: &mut NameMap<Child>,
 ) -> Result<(), AreaError>
     requires few { number < 65536 }
-    requires within { number < blocks_for entries }
-    requires directory { AreDirectoryBlocks inode entries (logical_block journal.old.geometry (disk M.Media journal.old) inode) }
-    requires found { HasFound journal.old.geometry (disk M.Media journal.old) inode found.now }
-    requires once { IsOnce journal.old.geometry (disk M.Media journal.old) inode }
-    requires before { map.old ≡ named_entries (entry_at (logical_block journal.old.geometry (disk M.Media journal.old) inode)) (min entries (MAX_IN_BLOCK * number)) }
+    requires within { number < blocks_for directory.now.entries }
+    requires directory { AreDirectoryBlocks directory.now.inode directory.now.entries (logical_block journal.old.geometry (disk M.Media journal.old) directory.now.inode) }
+    requires found { HasFound journal.old.geometry (disk M.Media journal.old) directory.now.inode directory.now.extents.now }
+    requires once { IsOnce journal.old.geometry (disk M.Media journal.old) directory.now.inode }
+    requires before { map.old ≡ named_entries (entry_at (logical_block journal.old.geometry (disk M.Media journal.old) directory.now.inode)) (min directory.now.entries (MAX_IN_BLOCK * number)) }
     requires going { journal.old.failed ≡ false }
-    ensures after { OnOk result (map.new ≡ named_entries (entry_at (logical_block journal.old.geometry (disk M.Media journal.old) inode)) (min entries (MAX_IN_BLOCK * (number + 1)))) }
+    ensures after { OnOk result (map.new ≡ named_entries (entry_at (logical_block journal.old.geometry (disk M.Media journal.old) directory.now.inode)) (min directory.now.entries (MAX_IN_BLOCK * (number + 1)))) }
     ensures only { IfErr result IsNoDamage }
     ensures looks { Looks M.Media journal.old journal.new result }
 {
-    match read_entry_block(journal, inode, found, number) {
-        Ok(block) => match put_entries(alloc, map, &block) {
-            Ok(()) => Ok(()),
-            Err(_) => Err(AreaError::Memory),
-        },
-        Err(error) => Err(error),
-    }
+    let block = read_entry_block(journal, directory.inode, directory.extents, number)?;
+    put_entries(alloc, map, &block)?;
+    Ok(())
 }
 
-/// Reads the entries of a directory by name.
+/// Reads the entries of a directory by name. `Memory` where there was none for an entry, and only where it has one; `DeviceFault` where a device fails.
 pub fn read_entries<M: Media>(
     alloc: Global,
     journal: &mut Journal<M>,
-    inode: u32,
-    found: &InodeExtents,
-    entries: u64,
-    blocks: u64,
+    directory: &FoundDirectory<'_>,
 ) -> Result<NameMap<Child>, AreaError>
-    requires few { entries ≤ MAX_ENTRIES }
-    requires blocks { blocks ≡ blocks_for entries }
-    requires directory { AreDirectoryBlocks inode entries (logical_block journal.old.geometry (disk M.Media journal.old) inode) }
-    requires found { HasFound journal.old.geometry (disk M.Media journal.old) inode found.now }
-    requires once { IsOnce journal.old.geometry (disk M.Media journal.old) inode }
+    requires few { directory.now.entries ≤ MAX_ENTRIES }
+    requires directory { AreDirectoryBlocks directory.now.inode directory.now.entries (logical_block journal.old.geometry (disk M.Media journal.old) directory.now.inode) }
+    requires found { HasFound journal.old.geometry (disk M.Media journal.old) directory.now.inode directory.now.extents.now }
+    requires once { IsOnce journal.old.geometry (disk M.Media journal.old) directory.now.inode }
     requires going { journal.old.failed ≡ false }
-    ensures entries { IfOk result (λ m. m ≡ named_entries (entry_at (logical_block journal.old.geometry (disk M.Media journal.old) inode)) entries) }
+    ensures entries { IfOk result (λ m. m ≡ named_entries (entry_at (logical_block journal.old.geometry (disk M.Media journal.old) directory.now.inode)) directory.now.entries) }
     ensures only { IfErr result IsNoDamage }
-    ensures memory { IfErr result (λ e. e ≡ Memory → 0 < blocks) }
+    ensures memory { IfErr result (λ e. e ≡ Memory → 0 < blocks_for directory.now.entries) }
     ensures looks { Looks M.Media journal.old journal.new result }
 {
     let mut map = NameMap::new(alloc);
+    let blocks = directory.entries.div_ceil(MAX_IN_BLOCK as u64);
     'parts: for number in 0..blocks {
-        match add_part(alloc, journal, inode, found, entries, number, &mut map) {
-            Ok(()) => {}
-            Err(error) => return Err(error),
-        }
+        add_part(alloc, journal, directory, number, &mut map)?;
     }
     Ok(map)
 }

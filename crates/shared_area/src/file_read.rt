@@ -68,10 +68,7 @@ pub fn read_within<M: Media>(
     match first_place(found, at / BLOCK as u64) {
         Some((tier, place)) => {
             let block = block_number(&geometry, tier, place);
-            match read_part(journal, tier, block, (at % BLOCK as u64) as usize, out) {
-                Ok(()) => Ok(()),
-                Err(error) => Err(error),
-            }
+            read_part(journal, tier, block, (at % BLOCK as u64) as usize, out)
         }
         None => {
             clear(out);
@@ -101,10 +98,7 @@ fn read_blocks<M: Media>(
     while done < out.len() {
         let start = at + done as u64;
         let count = (BLOCK - (start % BLOCK as u64) as usize).min(out.len() - done);
-        match read_within(journal, inode, found, start, &mut out[done..done + count]) {
-            Ok(()) => {}
-            Err(error) => return Err(error),
-        }
+        read_within(journal, inode, found, start, &mut out[done..done + count])?;
         done += count;
     }
     Ok(())
@@ -145,10 +139,8 @@ fn read_bytes<M: Media>(
     if count == 0 {
         return Ok(0);
     }
-    match read_blocks(journal, inode, found, at, &mut out[..count]) {
-        Ok(()) => Ok(count),
-        Err(error) => Err(error),
-    }
+    read_blocks(journal, inode, found, at, &mut out[..count])?;
+    Ok(count)
 }
 
 // Bytes of what has these parts, if it is a file.
@@ -169,12 +161,7 @@ fn read_parts_bytes<M: Media>(
     ensures looks { Looks M.Media journal.old journal.new result }
 {
     match parts.slot {
-        Slot::File { size, .. } => {
-            match read_bytes(journal, inode, &parts.extents, size, at, out) {
-                Ok(count) => Ok(count),
-                Err(error) => Err(error),
-            }
-        }
+        Slot::File { size, .. } => read_bytes(journal, inode, &parts.extents, size, at, out),
         Slot::Directory { .. } => Ok(0),
         Slot::Free => Ok(0),
     }
@@ -196,12 +183,11 @@ pub fn read_file<M: Media>(
     ensures memory { IfErr result (λ e. e ≡ Memory → WantsMemory journal.old.geometry (disk M.Media journal.old) inode) }
     ensures looks { Looks M.Media journal.old journal.new result }
 {
-    match find_parts(alloc, journal, inode) {
-        Ok(Some(parts)) => match read_parts_bytes(journal, inode, &parts, at, out) {
-            Ok(count) => Ok(count),
-            Err(error) => Err(error),
-        },
-        Ok(None) => Ok(0),
-        Err(error) => Err(error),
+    match find_parts(alloc, journal, inode)? {
+        Some(parts) => {
+            let count = read_parts_bytes(journal, inode, &parts, at, out)?;
+            Ok(count)
+        }
+        None => Ok(0),
     }
 }

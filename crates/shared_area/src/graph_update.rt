@@ -12,7 +12,6 @@ ghost use Rattle.change_plan.specs.area_image.Store.{disk, graph};
 ghost use Rattle.change_plan.specs.area_commit.Value.{free_data};
 ghost use Rattle.change_plan.specs.area_commit.StableState.{IsSettled};
 ghost use Rattle.shared_area.specs.ChangeApply.{CanApply, IsAppliedStore, Ends, MakesFewCalls};
-ghost use Rattle.shared_area.specs.Costs.{inodes_of, units_in};
 ghost use Rattle.change_plan.specs.Next.{HasFewEntries};
 ghost use Rattle.change_plan.specs.BlockDemand.{images_for, AreWritten};
 ghost use Rattle.change_plan.specs.area_image.declared.error.AreaError.TheVariants.{NoBlock};
@@ -20,99 +19,68 @@ ghost use Rattle.change_plan.specs.area_image.Refusals.{IsChangeRefusal};
 ghost use Rattle.shared_area.specs.Ready.{IsReady};
 ghost use Rattle.shared_area.specs.GraphUpdate.{HasTooFewData, StaysOrChanges, AppliesOrStays};
 
-use crate::{apply, charge_follows_the_change, units_of_change};
+use crate::{apply, charge_after, charge_follows_the_change};
 use change_plan::{
     AreaError, GraphChange, Journal, Marks, Media, Pools, Tier, small_changes_find_blocks,
 };
 use std::alloc::Global;
 
-// Makes a change of inodes that cost so much before it, and counts what the graph costs then. The count stays where the change is not made.
-fn change_from<M: Media>(
-    alloc: Global,
-    journal: &mut Journal<M>,
-    pools: &mut Pools,
-    units: &mut u64,
-    before: u64,
-    change: &GraphChange,
-    marks: Marks,
-) -> Result<(), AreaError>
-    requires going { journal.old.failed ≡ false }
-    requires settled { IsSettled journal.old.geometry (M.seen journal.old.media) (M.left journal.old.media (M.moment journal.old.media)) pools.old }
-    requires charged { units.old ≡ charge (graph journal.old.geometry (disk M.Media journal.old)) }
-    requires before { before ≡ units_in journal.old.geometry (disk M.Media journal.old) (inodes_of change.now) }
-    requires few { before ≤ units.old }
-    requires can { CanApply journal.old.geometry (disk M.Media journal.old) (changes_of change.now) marks }
-    ensures ends { Ends M.Media (changes_of change.now) marks journal.old journal.new pools.new result }
-    ensures charged { OnOk result (units.new ≡ charge (graph journal.new.geometry (disk M.Media journal.new))) }
-    ensures kept { OnErr result (units.new ≡ units.old) }
-    ensures no_block { IsErrOf result NoBlock → (bs : List (ℕ × ℕ)) × AreWritten journal.old.geometry (disk M.Media journal.old) (changes_of change.now) bs × (length (free_data pools.old) < length bs) }
-{
-    // For the proof: the sizes are allowed ones, and the charge changes as the inodes of the change do.
-    let _units = journal.geometry().units();
-    charge_follows_the_change();
-    match apply(alloc, journal, pools, change, marks) {
-        Ok(()) => match units_of_change(journal, change) {
-            Ok(after) => {
-                *units = *units - before + after;
-                Ok(())
-            }
-            Err(_) => Err(AreaError::DeviceFault),
-        },
-        Err(error) => Err(error),
-    }
+/// A change of the graph, with the marks that go with it, as it is lent down to `apply`, which takes the two apart: that is public.
+#[derive(Clone, Copy)]
+pub struct MarkedChange<'a> {
+    pub change: &'a GraphChange,
+    pub marks: Marks,
 }
 
-// The same, with what the inodes cost before it, on media of which no device has failed.
+// Makes a change, on media of which no device has failed, and counts what the graph costs then. The count stays where the change is not made.
 fn apply_running<M: Media>(
     alloc: Global,
     journal: &mut Journal<M>,
     pools: &mut Pools,
     units: &mut u64,
-    change: &GraphChange,
-    marks: Marks,
+    marked: &MarkedChange<'_>,
 ) -> Result<(), AreaError>
     requires going { journal.old.failed ≡ false }
     requires settled { IsSettled journal.old.geometry (M.seen journal.old.media) (M.left journal.old.media (M.moment journal.old.media)) pools.old }
     requires charged { units.old ≡ charge (graph journal.old.geometry (disk M.Media journal.old)) }
-    requires can { CanApply journal.old.geometry (disk M.Media journal.old) (changes_of change.now) marks }
-    ensures ends { Ends M.Media (changes_of change.now) marks journal.old journal.new pools.new result }
+    requires can { CanApply journal.old.geometry (disk M.Media journal.old) (changes_of marked.now.change.now) marked.now.marks }
+    ensures ends { Ends M.Media (changes_of marked.now.change.now) marked.now.marks journal.old journal.new pools.new result }
     ensures charged { OnOk result (units.new ≡ charge (graph journal.new.geometry (disk M.Media journal.new))) }
     ensures kept { OnErr result (units.new ≡ units.old) }
-    ensures no_block { IsErrOf result NoBlock → (bs : List (ℕ × ℕ)) × AreWritten journal.old.geometry (disk M.Media journal.old) (changes_of change.now) bs × (length (free_data pools.old) < length bs) }
+    ensures no_block { IsErrOf result NoBlock → (bs : List (ℕ × ℕ)) × AreWritten journal.old.geometry (disk M.Media journal.old) (changes_of marked.now.change.now) bs × (length (free_data pools.old) < length bs) }
 {
-    // For the proof: a stop now leaves what is read.
-    journal.left_now();
-    match units_of_change(journal, change) {
-        Ok(before) => change_from(alloc, journal, pools, units, before, change, marks),
-        Err(_) => Err(AreaError::DeviceFault),
-    }
+    // For the proof: the sizes are allowed ones, and the charge changes as the inodes of the change do, which cost no more.
+    let _units = journal.geometry().units();
+    charge_follows_the_change();
+    let cost = apply(alloc, journal, pools, marked.change, marked.marks)?;
+    *units = charge_after(*units, cost);
+    Ok(())
 }
 
-/// Makes a change of the graph with new marks, and keeps pools, marks and units true of the media.
+/// Makes a change of the graph with new marks, and keeps pools, marks and units true of the media. It is refused as `apply` is: nothing of these has changed then but where a device failed.
 pub fn make_change<M: Media>(
     alloc: Global,
     journal: &mut Journal<M>,
     pools: &mut Pools,
     told: &mut Marks,
     units: &mut u64,
-    change: &GraphChange,
-    marks: Marks,
+    marked: &MarkedChange<'_>,
 ) -> Result<(), AreaError>
     requires ready { journal.old.failed ≡ false → IsReady journal.old.geometry (M.seen journal.old.media) (M.left journal.old.media (M.moment journal.old.media)) pools.old told.old units.old }
-    requires bounded { AreBounded (changes_of change.now) }
-    requires tidy { AreTidyChanges (changes_of change.now) }
-    requires images { images_for (changes_of change.now) ≤ 255 }
-    requires fits { fits_marks marks ≡ true }
-    requires entries { journal.old.failed ≡ false → (i : ℕ) → fin.contains_key (changes_of change.now) i ≡ true → HasFewEntries (changed_graph (changes_of change.now) (graph journal.old.geometry (disk M.Media journal.old)) i) }
-    requires units { journal.old.failed ≡ false → charge (changed_graph (changes_of change.now) (graph journal.old.geometry (disk M.Media journal.old))) ≤ journal.old.geometry.units }
+    requires bounded { AreBounded (changes_of marked.now.change.now) }
+    requires tidy { AreTidyChanges (changes_of marked.now.change.now) }
+    requires images { images_for (changes_of marked.now.change.now) ≤ 255 }
+    requires fits { fits_marks marked.now.marks ≡ true }
+    requires entries { journal.old.failed ≡ false → (i : ℕ) → fin.contains_key (changes_of marked.now.change.now) i ≡ true → HasFewEntries (changed_graph (changes_of marked.now.change.now) (graph journal.old.geometry (disk M.Media journal.old)) i) }
+    requires units { journal.old.failed ≡ false → charge (changed_graph (changes_of marked.now.change.now) (graph journal.old.geometry (disk M.Media journal.old))) ≤ journal.old.geometry.units }
     ensures ready { journal.new.failed ≡ false → IsReady journal.new.geometry (M.seen journal.new.media) (M.left journal.new.media (M.moment journal.new.media)) pools.new told.new units.new }
-    ensures any_moment { journal.old.failed ≡ false → StaysOrChanges journal.old.geometry (disk M.Media journal.old) (changes_of change.now) marks (M.moment journal.old.media) (M.moment journal.new.media) (M.left journal.old.media) (M.left journal.new.media) }
-    ensures applied { OnOk result (IsAppliedStore journal.old.geometry (disk M.Media journal.old) (changes_of change.now) marks (disk M.Media journal.new)) }
-    ensures no_block { IsErrOf result NoBlock → (bs : List (ℕ × ℕ)) × AreWritten journal.old.geometry (disk M.Media journal.old) (changes_of change.now) bs × HasTooFewData journal.old.geometry (disk M.Media journal.old) (length bs) }
-    ensures never { ((bs : List (ℕ × ℕ)) → AreWritten journal.old.geometry (disk M.Media journal.old) (changes_of change.now) bs → length bs ≤ SPARE_BLOCKS) → IsErrOf result NoBlock → ⊥ }
+    ensures any_moment { journal.old.failed ≡ false → StaysOrChanges journal.old.geometry (disk M.Media journal.old) (changes_of marked.now.change.now) marked.now.marks (M.moment journal.old.media) (M.moment journal.new.media) (M.left journal.old.media) (M.left journal.new.media) }
+    ensures applied { OnOk result (IsAppliedStore journal.old.geometry (disk M.Media journal.old) (changes_of marked.now.change.now) marked.now.marks (disk M.Media journal.new)) }
+    ensures no_block { IsErrOf result NoBlock → (bs : List (ℕ × ℕ)) × AreWritten journal.old.geometry (disk M.Media journal.old) (changes_of marked.now.change.now) bs × HasTooFewData journal.old.geometry (disk M.Media journal.old) (length bs) }
+    ensures never { ((bs : List (ℕ × ℕ)) → AreWritten journal.old.geometry (disk M.Media journal.old) (changes_of marked.now.change.now) bs → length bs ≤ SPARE_BLOCKS) → IsErrOf result NoBlock → ⊥ }
     ensures only { IfErr result IsChangeRefusal }
     ensures applies { AppliesOrStays M.Media journal.old journal.new result }
-    ensures at_most { MakesFewCalls journal.old.geometry (disk M.Media journal.old) (changes_of change.now) (M.moment journal.old.media) (M.moment journal.new.media) (M.left journal.old.media) (M.left journal.new.media) }
+    ensures at_most { MakesFewCalls journal.old.geometry (disk M.Media journal.old) (changes_of marked.now.change.now) (M.moment journal.old.media) (M.moment journal.new.media) (M.left journal.old.media) (M.left journal.new.media) }
 {
     if journal.has_failed() {
         return Err(AreaError::DeviceFault);
@@ -120,11 +88,7 @@ pub fn make_change<M: Media>(
     // For the proof: the pools are in order, and a small change finds the data blocks that it wants.
     let _free = pools.free(Tier::Fast);
     small_changes_find_blocks();
-    match apply_running(alloc, journal, pools, units, change, marks) {
-        Ok(()) => {
-            *told = marks;
-            Ok(())
-        }
-        Err(error) => Err(error),
-    }
+    apply_running(alloc, journal, pools, units, marked)?;
+    *told = marked.marks;
+    Ok(())
 }

@@ -1,65 +1,52 @@
 // What the inodes of a change cost.
-ghost use Rattle.std.specs.Prelude.{◌≡◌, ◌≤◌, ◌+◌, false, true, IfOk, IfErr};
-ghost use Rattle.std.specs.BTreeMap.{IsOrdered};
-ghost use Rattle.std.specs.Ordering.{nat_cmp};
+ghost use Rattle.std.specs.Prelude.{◌≡◌, ◌≤◌, ◌<◌, ◌+◌, ◌^◌};
+ghost use Rattle.std.specs.FinMap as fin;
+ghost use Rattle.std.specs.List.{sum_by};
 ghost use Rattle.record_validation.specs.file_graph.Units.{charge};
 ghost use Rattle.change_plan.specs.graph_change.Bounds.{AreBounded};
-ghost use Rattle.change_plan.specs.graph_change.Change.{changed_graph};
-ghost use Rattle.change_plan.specs.graph_change.View.{changes_of};
-ghost use Rattle.change_plan.specs.graph_change.declared.graph_change.GraphChange.{GraphChange};
-ghost use Rattle.change_plan.specs.layout.Places.{Sizes, is_inode};
-ghost use Rattle.change_plan.specs.area_image.Store.{Store, disk, slot, graph};
-ghost use Rattle.change_plan.specs.area_image.Format.{IsSpelled, IsOpenable};
+ghost use Rattle.change_plan.specs.graph_change.Change.{Changes, changed_graph};
+ghost use Rattle.change_plan.specs.layout.Places.{Sizes};
+ghost use Rattle.change_plan.specs.area_image.Store.{Store, graph};
+ghost use Rattle.change_plan.specs.area_image.Format.{IsSpelled};
 ghost use Rattle.change_plan.specs.area_image.Units.{slot_units};
-ghost use Rattle.change_plan.specs.area_image.Looks.{Looks};
-ghost use Rattle.change_plan.specs.area_image.declared.error.AreaError.TheVariants.{DeviceFault};
-ghost use Rattle.shared_area.specs.Costs.{inodes_of, units_in};
+ghost use Rattle.shared_area.specs.Costs.{units_in};
 
-use change_plan::{
-    AreaError, GraphChange, Journal, Media, charge_after_change, read_slot, units_of,
-};
+use change_plan::{ChangedSlot, charge_after_change, units_of};
 
-// What an inode costs.
-fn inode_units<M: Media>(journal: &mut Journal<M>, inode: u32) -> Result<u64, AreaError>
-    requires number { is_inode inode ≡ true }
-    requires spelled { IsSpelled journal.old.geometry (disk M.Media journal.old) }
-    ensures units { IfOk result (λ n. n ≡ slot_units (slot journal.old.geometry (disk M.Media journal.old) inode)) }
-    ensures only { IfErr result (λ e. e ≡ DeviceFault) }
-    ensures looks { Looks M.Media journal.old journal.new result }
-{
-    let slot = read_slot(journal, inode)?;
-    Ok(units_of(&slot))
+/// What the inodes of a change cost, in units: before it, and after it.
+#[derive(Clone, Copy)]
+pub struct ChangeCost {
+    pub before: u64,
+    pub after: u64,
 }
 
-/// What the inodes of a change cost, in units, as their slots tell it: no more than the graph. It takes no memory.
-pub fn units_of_change<M: Media>(
-    journal: &mut Journal<M>,
-    change: &GraphChange,
-) -> Result<u64, AreaError>
-    requires going { journal.old.failed ≡ false }
-    requires opens { IsOpenable journal.old.geometry (disk M.Media journal.old) }
-    requires bounded { AreBounded (changes_of change.now) }
-    ensures units { IfOk result (λ n. n ≡ units_in journal.old.geometry (disk M.Media journal.old) (inodes_of change.now)) }
-    ensures few { IfOk result (λ n. n ≤ charge (graph journal.old.geometry (disk M.Media journal.old))) }
-    ensures ordered { IsOrdered nat_cmp change.now.nodes }
-    ensures only { IfErr result (λ e. e ≡ DeviceFault) }
-    ensures looks { Looks M.Media journal.old journal.new result }
+/// What inodes that have these slots cost, in units.
+pub fn units_of_slots(slots: &[ChangedSlot]) -> u64
+    requires { sum_by (λ x. slot_units x.slot) slots.now < 2 ^ 64 }
+    ensures { result ≡ sum_by (λ x. slot_units x.slot) slots.now }
 {
-    // For the proof: the sizes are allowed ones, and the inodes of a change cost no more than the graph.
-    let _units = journal.geometry().units();
-    charge_after_change();
     let mut units = 0;
-    'each: for inode in change.nodes.keys() {
-        let its = inode_units(journal, *inode)?;
-        units += its;
+    'each: for at in 0..slots.len() {
+        units += units_of(&slots[at].slot);
     }
-    Ok(units)
+    units
+}
+
+/// What a graph of so many units costs once a change of this cost is made.
+pub fn charge_after(units: u64, cost: ChangeCost) -> u64
+    requires before { cost.before ≤ units }
+    requires small { units + cost.after < 2 ^ 64 }
+    ensures { result + cost.before ≡ units + cost.after }
+{
+    units - cost.before + cost.after
 }
 
 /// Where the graph changes, the charge falls by what the inodes of the change cost before, and rises by what they cost then.
 pub fn charge_follows_the_change()
-    ensures { (g : Sizes) (old new : Store) (change : GraphChange) → IsSpelled g old → IsSpelled g new → AreBounded (changes_of change) → IsOrdered nat_cmp change.nodes → graph g new ≡ changed_graph (changes_of change) (graph g old)
-        → charge (graph g old) + units_in g new (inodes_of change) ≡ charge (graph g new) + units_in g old (inodes_of change) }
+    ensures follows { (g : Sizes) (old new : Store) (cs : Changes) → IsSpelled g old → IsSpelled g new → AreBounded cs → graph g new ≡ changed_graph cs (graph g old)
+        → charge (graph g old) + units_in g new (fin.keys cs) ≡ charge (graph g new) + units_in g old (fin.keys cs) }
+    // They cost no more than the graph.
+    ensures within { (g : Sizes) (s : Store) (cs : Changes) → IsSpelled g s → AreBounded cs → units_in g s (fin.keys cs) ≤ charge (graph g s) }
 {
     charge_after_change();
 }

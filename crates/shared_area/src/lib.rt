@@ -3,7 +3,7 @@
 //! Contracts speak of the medium alone, through `store_of`, `graph` and `marks` of `area_image`.
 //!
 //! A change of the graph counts the data blocks that it wants, takes them, and is planned inode by inode (`change_plan`); the plan of all is written by `area_commit`,
-//! in one batch with the marks: at each moment a stop leaves the graph and the marks from before, or those after.
+//! in one batch with the marks: at each moment a stop leaves the graph and the marks from before, or those after. The slot of each inode of the change is read once, before all else.
 #![tactic(auto)]
 
 mod apply_laws;
@@ -22,11 +22,11 @@ mod plan_write;
 mod run_search;
 mod slot_counts;
 
-pub use apply_laws::carried_out_change_is_made;
+pub use apply_laws::{carried_out_change_has_its_slots, carried_out_change_is_made};
 pub use area::Shared;
 pub use change_apply::apply;
-pub use inode_cost::{charge_follows_the_change, units_of_change};
-pub use plan_write::reserve_blocks;
+pub use inode_cost::{ChangeCost, charge_after, charge_follows_the_change, units_of_slots};
+pub use plan_write::{reserve_blocks, write_counted};
 
 // Passed on to the crates above, which so need not list those below.
 pub use change_plan::{

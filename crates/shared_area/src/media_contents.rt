@@ -36,20 +36,14 @@ pub fn read_contents<M: Media>(
     ensures memory { IfErr result (λ e. e ≡ Memory → IsSome (marks_of (disk M.Media journal.old))) }
     ensures looks { Looks M.Media journal.old journal.new result }
 {
-    match open_area(alloc, journal) {
-        Ok(found) => {
-            let geometry = journal.geometry();
-            match Pools::from_used(alloc, &geometry, &found.used) {
-                Ok(pools) => Ok(Contents {
-                    pools,
-                    marks: found.marks,
-                    units: found.charge,
-                }),
-                Err(_) => Err(AreaError::Memory),
-            }
-        }
-        Err(error) => Err(error),
-    }
+    let found = open_area(alloc, journal)?;
+    let geometry = journal.geometry();
+    let pools = Pools::from_used(alloc, &geometry, &found.used)?;
+    Ok(Contents {
+        pools,
+        marks: found.marks,
+        units: found.charge,
+    })
 }
 
 /// What the journal was refused for.

@@ -9,8 +9,8 @@ ghost use Rattle.change_plan.specs.area_image.declared.error.AreaError.TheVarian
 ghost use Rattle.shared_area.specs.Parts.{IsNoDamage, HasParts};
 
 use crate::block_search::find_parts;
-use crate::directory_read::read_entries;
-use change_plan::{AreaError, InodeParts, Journal, Media, Slot, length_of};
+use crate::directory_read::{FoundDirectory, read_entries};
+use change_plan::{AreaError, InodeParts, Journal, Media, Slot};
 use record_validation::NodeSummary;
 use std::alloc::Global;
 
@@ -33,11 +33,13 @@ fn node_of<M: Media>(
         Slot::Free => Ok(None),
         Slot::File { names, size, .. } => Ok(Some(NodeSummary::file(names, size))),
         Slot::Directory { names, entries, .. } => {
-            let blocks = length_of(&parts.slot);
-            match read_entries(alloc, journal, inode, &parts.extents, entries, blocks) {
-                Ok(map) => Ok(Some(NodeSummary::directory(names, map))),
-                Err(error) => Err(error),
-            }
+            let directory = FoundDirectory {
+                inode,
+                extents: &parts.extents,
+                entries,
+            };
+            let map = read_entries(alloc, journal, &directory)?;
+            Ok(Some(NodeSummary::directory(names, map)))
         }
     }
 }
@@ -54,12 +56,11 @@ pub fn find_node<M: Media>(
     ensures memory { IfErr result (λ e. e ≡ Memory → WantsMemory journal.old.geometry (disk M.Media journal.old) inode) }
     ensures looks { Looks M.Media journal.old journal.new result }
 {
-    match find_parts(alloc, journal, inode) {
-        Ok(Some(parts)) => match node_of(alloc, journal, inode, &parts) {
-            Ok(found) => Ok(found),
-            Err(error) => Err(error),
-        },
-        Ok(None) => Ok(None),
-        Err(error) => Err(error),
+    match find_parts(alloc, journal, inode)? {
+        Some(parts) => {
+            let found = node_of(alloc, journal, inode, &parts)?;
+            Ok(found)
+        }
+        None => Ok(None),
     }
 }

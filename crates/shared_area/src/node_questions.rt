@@ -20,9 +20,7 @@ impl<M: Media> Nodes for Shared<M> {
     ghost more_asked = { λ first next last before behind refusal answered more. asked_on {M = M} (record { seen = M.seen; moment = M.moment; left = M.left; faults = M.faults }) first next last refusal answered more };
 
     fn node(&mut self, _alloc: Global, inode: u32) -> Result<Option<NodeSummary>, AreaError> {
-        match Shared::node(self, inode) {
-            Ok(node) => Ok(node),
-            Err(error) => Err(error),
-        }
+        let node = Shared::node(self, inode)?;
+        Ok(node)
     }
 }

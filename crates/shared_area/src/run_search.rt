@@ -98,13 +98,12 @@ pub fn find_first_run<M: Media>(
     ensures memory { IfErr result (λ e. e ≡ Memory → WantsMemory journal.old.geometry (disk M.Media journal.old) inode) }
     ensures looks { Looks M.Media journal.old journal.new result }
 {
-    match find_parts(alloc, journal, inode) {
-        Ok(Some(parts)) => match parts.slot {
+    match find_parts(alloc, journal, inode)? {
+        Some(parts) => match parts.slot {
             Slot::File { .. } => Ok(run_of(&parts, tier, most)),
             Slot::Free => Ok(None),
             Slot::Directory { .. } => Ok(None),
         },
-        Ok(None) => Ok(None),
-        Err(error) => Err(error),
+        None => Ok(None),
     }
 }

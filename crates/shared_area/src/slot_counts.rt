@@ -38,8 +38,6 @@ pub fn find_counts<M: Media>(
     if !is_inode(inode) {
         return Ok(None);
     }
-    match read_slot(journal, inode) {
-        Ok(slot) => Ok(slot_counts(&slot)),
-        Err(error) => Err(error),
-    }
+    let slot = read_slot(journal, inode)?;
+    Ok(slot_counts(&slot))
 }

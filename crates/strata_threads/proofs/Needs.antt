@@ -1,40 +1,51 @@
--- A client whose need is served, or is not, keeps its call, and is never denied for its turns.
-use Rattle.std.proofs.Common.{◌≡◌, ◌≢◌, ⊎_elim, Result, Ok, Err, refl, sym, subst}
+-- A client whose need is served, or is not, keeps its call and its leases, and is never denied for its turns.
+use Rattle.std.proofs.Common.{◌≡◌, ◌≢◌, ℕ, ⊎_elim, Result, Ok, Err, refl, sym, subst}
 use Rattle.std.specs.Prelude.{OnOk}
 use Rattle.libfs.specs.tier_device.declared.media.Media.{Ghosts}
 use Rattle.libfs.specs.client_view.client_plan.declared.need.Need.{Need}
 use Rattle.libfs.specs.client_view.client_plan.declared.need.Need.TheVariants as needs
 use Rattle.libfs.specs.kernel_fs.KernelView.{KernelView}
-use Rattle.libfs.specs.NeedService.{HasServed, HasNotServed, MayBeDenied}
+use Rattle.libfs.specs.NeedService.{GetsNode, HasServed, HasNotServed, KeepsCopy, MayBeDenied}
 use Rattle.libfs.specs.View.{ClientView}
 use Rattle.libfs.specs.declared.denial.Denied.{Denied}
 use Rattle.libfs.specs.declared.denial.Denied.TheVariants as denied
 use Rattle.strata_threads.specs.ClientCalls.{KeepsCall}
+use Rattle.strata_threads.specs.LeaseReturn.{KeepsLeases}
 
--- it is another record of the same call
-keeps : {M : Type 0} → (old new other : ClientView M) → new ≡ other → KeepsCall old other → KeepsCall old new
-keeps old new other e k = subst (KeepsCall old) (sym e) k
+-- the same call, and the same leases
+abbrev KeepsAll : {M : Type 0} → ClientView M → ClientView M → Type 0
+KeepsAll old new = KeepsCall old new × KeepsLeases old new
+
+-- it is another record of the same
+keeps : {M : Type 0} → (old new other : ClientView M) → new ≡ other → KeepsAll old other → KeepsAll old new
+keeps old new other e k = subst (KeepsAll old) (sym e) k
 
 module _ {M S : Type 0} (device : Ghosts M) (shared : Ghosts S) (k after : KernelView S) (old new : ClientView M) where
-  pub served_keeps : (need : Need) → HasServed device shared k old need new after → KeepsCall old new
-  served_keeps (needs.View i) has = keeps old new _ has.rest (refl, refl, refl)
-  served_keeps (needs.Blocks i first count) has = keeps old new _ has.0.rest (refl, refl, refl)
-  served_keeps (needs.Inodes n) has = keeps old new _ has.refilled.rest (refl, refl, refl)
-  served_keeps (needs.Units n) has = keeps old new _ has.refilled.rest (refl, refl, refl)
-  served_keeps (needs.Pin i) has = keeps old new _ has.0 (refl, refl, refl)
-  served_keeps (needs.Unpin i) has = keeps old new _ has.0 (refl, refl, refl)
+  copy_stays : (i : ℕ) → KeepsCopy old i new → KeepsAll old new
+  copy_stays i has = keeps old new old has.same ((refl, refl, refl), refl)
+
+  node_comes : (i : ℕ) → GetsNode device shared k old i new → KeepsAll old new
+  node_comes i has = keeps old new _ has.rest ((refl, refl, refl), refl)
+
+  pub served_keeps : (need : Need) → HasServed device shared k old need new after → KeepsAll old new
+  served_keeps (needs.View i) has = ⊎_elim (copy_stays i) (node_comes i) has
+  served_keeps (needs.Blocks i first count) has = keeps old new _ has.0.rest ((refl, refl, refl), refl)
+  served_keeps (needs.Inodes n) has = keeps old new _ has.refilled.rest ((refl, refl, refl), refl)
+  served_keeps (needs.Units n) has = keeps old new _ has.refilled.rest ((refl, refl, refl), refl)
+  served_keeps (needs.Pin i) has = keeps old new _ has.0 ((refl, refl, refl), refl)
+  served_keeps (needs.Unpin i) has = keeps old new _ has.0 ((refl, refl, refl), refl)
   served_keeps (needs.Lease i mode) has = absurd has
   served_keeps needs.Room has = absurd has
 
-  pub unserved_keeps : (need : Need) → HasNotServed device shared k old need new → KeepsCall old new
-  unserved_keeps (needs.View i) has = keeps old new old has (refl, refl, refl)
-  unserved_keeps (needs.Blocks i first count) has = keeps old new _ has.rest (refl, refl, refl)
-  unserved_keeps (needs.Inodes n) has = keeps old new old has (refl, refl, refl)
-  unserved_keeps (needs.Units n) has = keeps old new old has (refl, refl, refl)
-  unserved_keeps (needs.Pin i) has = keeps old new old has (refl, refl, refl)
-  unserved_keeps (needs.Unpin i) has = keeps old new old has (refl, refl, refl)
-  unserved_keeps (needs.Lease i mode) has = keeps old new old has (refl, refl, refl)
-  unserved_keeps needs.Room has = keeps old new old has (refl, refl, refl)
+  pub unserved_keeps : (need : Need) → HasNotServed device shared k old need new → KeepsAll old new
+  unserved_keeps (needs.View i) has = keeps old new old has ((refl, refl, refl), refl)
+  unserved_keeps (needs.Blocks i first count) has = keeps old new _ has.rest ((refl, refl, refl), refl)
+  unserved_keeps (needs.Inodes n) has = keeps old new old has ((refl, refl, refl), refl)
+  unserved_keeps (needs.Units n) has = keeps old new old has ((refl, refl, refl), refl)
+  unserved_keeps (needs.Pin i) has = keeps old new old has ((refl, refl, refl), refl)
+  unserved_keeps (needs.Unpin i) has = keeps old new old has ((refl, refl, refl), refl)
+  unserved_keeps (needs.Lease i mode) has = keeps old new old has ((refl, refl, refl), refl)
+  unserved_keeps needs.Room has = keeps old new old has ((refl, refl, refl), refl)
 
 failed : (e : Denied) → e ≡ denied.KernelFailed → e ≢ denied.Turns
 failed e is t = absurd (cc)

@@ -1,6 +1,6 @@
 -- What a client answers of what others ask, bit by bit and row by row.
-use Rattle.std.proofs.Common.{◌≡◌, ◌≢◌, ◌⊎◌, inl, inr, ⊎_elim, ℕ, ◌+◌, ◌*◌, ◌<◌, ◌≤◌, List, length, set, refl, sym, ap, ◌∙◌, subst, arith}
-use Rattle.std.specs.Prelude.{◌↔◌, Bool, true, false, IsTrue, slice_index}
+use Rattle.std.proofs.Common.{◌≡◌, ◌≢◌, ◌⊎◌, inl, inr, ⊎_elim, ℕ, zero, suc, ◌+◌, ◌*◌, ◌<◌, ◌≤◌, List, length, set, refl, sym, ap, ◌∙◌, subst, arith}
+use Rattle.std.specs.Prelude.{◌↔◌, Bool, true, false, IsTrue, bit_or, slice_index}
 use Rattle.std.specs.Int.{bit_at}
 use Rattle.std.proofs.lemmas.Bool.Decides.{eqb_tells}
 use Rattle.std.proofs.lemmas.List.{get_or-set_same, get_or-set_other}
@@ -8,7 +8,7 @@ use Rattle.libfs.specs.lease_manager.Passes.{lease_of}
 use Rattle.libfs.specs.lease_manager.Words.{HasWord}
 use Rattle.libfs.specs.lease_manager.declared.view.LeaseMode.TheVariants.{Free}
 use Rattle.libfs.specs.View.{ClientView}
-use Rattle.strata_threads.specs.HeardQuestions.{AreGivenOrAsked, AreHeldAndAsked, HasGivenAsked, HasGivenAskedRows, IsAskedOf, IsGivenOrAsked, IsHeldAndAsked, IsSomeLeft, row_of}
+use Rattle.strata_threads.specs.HeardQuestions.{AreGivenOrAsked, AreHeldAndAsked, HasAnsweredRows, HasGivenAsked, HasGivenAskedRows, HasHeardRows, IsAskedOf, IsGivenOrAsked, IsHeldAndAsked, IsSomeLeft, row_of}
 use Rattle.strata_threads.specs.LeaseReturn.{HasOnlyGiven}
 use Rattle.strata_threads.proofs.LeaseReturn.{can_before}
 
@@ -160,3 +160,28 @@ module _ {M : Type 0} where
   -- of the inodes up to n none is held behind these rows
   abbrev pub HoldsWithinUpTo : ℕ → ℕ → ClientView M → Type 0
   HoldsWithinUpTo n rows v = (i : ℕ) → HasWord i → i ≤ n → rows ≤ row_of i → lease_of v.pass i ≡ Free
+
+  -- ---- the rows that are heard and answered
+
+  -- what is asked of other rows stays as they are heard
+  heard_later : (n : ℕ) (old new : ClientView M) (asked after : List ℕ) → HasHeardRows n old asked new after → (row : ℕ) → n ≤ row → slice_index after row ≡ slice_index asked row
+  heard_later zero old new asked after heard row past = ap (λ (xs : List ℕ). slice_index xs row) heard.1
+  heard_later (suc n) old new asked after heard row past =
+      ap (λ (xs : List ℕ). slice_index xs row) heard.5
+      ∙ get_or-set_other heard.1 n row (bit_or (slice_index heard.1 n) heard.2) 0 (λ same. absurd (omega (arith, past, same)))
+      ∙ heard_later n old heard.0 asked heard.1 heard.3 row (omega (arith, past))
+
+  pub answers_rows : (rows : ℕ) (old heard new : ClientView M) (asked first known left last : List ℕ) → first ≡ asked → last ≡ left → HasHeardRows rows old first heard known
+      → RowsAreGivenOrAsked rows new known left → RowsAreHeld rows new known left → HasGivenAskedRows rows known heard new
+      → ((row : ℕ) → rows ≤ row → slice_index left row ≡ slice_index known row) → HasAnsweredRows rows old asked new last
+  answers_rows rows old heard new asked first known left last is stays hears answered only unasked later =
+      subst (λ (l : List ℕ). HasAnsweredRows rows old asked new l) (sym stays)
+      (subst (λ (a : List ℕ). HasAnsweredRows rows old a new left) is (record {
+        heard = heard;
+        known = known;
+        hears = hears;
+        answered = answered;
+        only = only;
+        unasked = unasked;
+        later = λ row past. later row past ∙ heard_later rows old heard first known hears row past;
+      }))

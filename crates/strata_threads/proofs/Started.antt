@@ -1,7 +1,8 @@
--- A call that is started is begun, or nothing waits; and it is the same client.
-use Rattle.std.proofs.Common.{◌≡◌, ◌⊎◌, inl, inr, ⊎_elim, Bool, true, false, Option, Some, None, refl, sym, ap, ◌∙◌, subst}
+-- A call that is started is begun, or nothing waits; and it is the same client, with the same leases.
+use Rattle.std.proofs.Common.{◌≡◌, ◌⊎◌, inl, inr, ⊎_elim, ℕ, Bool, true, false, List, Option, Some, None, refl, sym, ap, ◌∙◌, subst}
 use Rattle.std.specs.Prelude.{IfSome, is_some, not, ◌&&◌}
 use Rattle.std.proofs.lemmas.Bool.{false≢true}
+use Rattle.atomic_table.specs.Seated.{TableId}
 use Rattle.libfs.specs.tier_device.declared.media.Media.{Ghosts}
 use Rattle.libfs.specs.posix_calls.declared.call.Call.{Call}
 use Rattle.libfs.specs.posix_calls.declared.call.Reply.{Reply}
@@ -10,6 +11,7 @@ use Rattle.libfs.specs.update_log.declared.stage.Progress.{Progress}
 use Rattle.libfs.specs.update_log.declared.stage.Progress.TheVariants.{Going, Appended}
 use Rattle.libfs.specs.posix_calls.declared.errno.Errno.TheVariants.{IoError, NoMemory}
 use Rattle.libfs.specs.lease_manager.Passes.{PassView, client_of}
+use Rattle.libfs.specs.lease_manager.declared.view.LeaseMode.{LeaseMode}
 use Rattle.libfs.specs.client_view.client_plan.declared.need.Need.{Need}
 use Rattle.libfs.specs.client_view.client_plan.declared.outcome.Outcome.{Outcome}
 use Rattle.libfs.specs.client_view.client_plan.declared.outcome.Outcome.TheVariants as outcomes
@@ -22,6 +24,17 @@ use Rattle.libfs.specs.declared.now.Now.{Now}
 use Rattle.libfs.specs.declared.now.Now.TheVariants as now
 use Rattle.strata_threads.specs.CallDenials.{NeedsFirst}
 use Rattle.strata_threads.specs.ClientCalls.{owner_of, IsEnded, IsStarted}
+use Rattle.strata_threads.specs.LeaseReturn.{KeepsLeases}
+
+-- whose pass it is, and how it stands to each inode
+abbrev pub standing_of : {M : Type 0} → ClientView M → (ℕ × TableId) × List LeaseMode
+standing_of v = (owner_of v, v.pass.part.modes)
+
+pub owner_stays : {M : Type 0} (old new : ClientView M) → standing_of new ≡ standing_of old → owner_of new ≡ owner_of old
+owner_stays old new is = ap (λ (s : (ℕ × TableId) × List LeaseMode). s.0) is
+
+pub leases_stay : {M : Type 0} (old new : ClientView M) → standing_of new ≡ standing_of old → KeepsLeases old new
+leases_stay old new is = ap (λ (s : (ℕ × TableId) × List LeaseMode). s.1) is
 
 done_is_no_wait : (a : Now) (r : Reply) → a ≡ now.Done r → a ≡ now.Pending → ⊥
 done_is_no_wait a r d p = absurd (cc)
@@ -45,11 +58,11 @@ same_need n m e = ap (need_in n) e
 
 -- it is the same client; a call waits where it is pending, and else as before
 abbrev Kept : {M : Type 0} → ClientView M → Now → ClientView M → Type 0
-Kept old answer new = (owner_of new ≡ owner_of old) × (answer ≡ now.Pending → is_pending new ≡ true) × ((answer ≡ now.Pending → ⊥) → is_pending new ≡ is_pending old)
+Kept old answer new = (standing_of new ≡ standing_of old) × (answer ≡ now.Pending → is_pending new ≡ true) × ((answer ≡ now.Pending → ⊥) → is_pending new ≡ is_pending old)
 
 -- it is as it was but for what is no matter here
-same : {M : Type 0} → (old new other : ClientView M) (answer : Now) → (answer ≡ now.Pending → ⊥) → new ≡ other → owner_of other ≡ owner_of old → is_pending other ≡ is_pending old → Kept old answer new
-same old new other answer is_not is owner pending = (ap owner_of is ∙ owner, (λ p. absurd (is_not p)), (λ _. ap is_pending is ∙ pending))
+same : {M : Type 0} → (old new other : ClientView M) (answer : Now) → (answer ≡ now.Pending → ⊥) → new ≡ other → standing_of other ≡ standing_of old → is_pending other ≡ is_pending old → Kept old answer new
+same old new other answer is_not is owner pending = (ap standing_of is ∙ owner, (λ p. absurd (is_not p)), (λ _. ap is_pending is ∙ pending))
 
 waits : (begun : Option Begun) (b : Begun) (answered : Bool) → begun ≡ Some b → answered ≡ false → (is_some begun && not answered) ≡ true
 waits begun b answered is is_not = (λ i. is_some (is i) && not (is_not i))
@@ -63,7 +76,7 @@ module _ {M : Type 0} (device : Ghosts M) (old new : ClientView M) (call : Call)
   by_outcome (outcomes.Reply reply change) is_not has = same old new _ answer (done_is_no_wait answer reply has.0) has.1.rest refl refl
   by_outcome (outcomes.Need need) is_not has = same old new old answer (need_is_no_wait answer need has.0) has.1 refl refl
   by_outcome (outcomes.Log entry reply made change) is_not has = let b = has.1 in (
-    ap (λ (p : PassView). (client_of p, p.table)) b.noted.rest,
+    ap (λ (p : PassView). ((client_of p, p.table), p.part.modes)) b.noted.rest,
     (λ _. waits new.begun b.begun new.answered b.is_begun (ap (λ (v : ClientView M). v.answered) b.rest ∙ is_not)),
     (λ not_so. absurd (not_so has.0)),
   )
@@ -132,25 +145,25 @@ both_false false = refl
 
 -- it is the same client; its call waits on where nothing is answered, with the same record begun, and else no more
 abbrev Moved : {M : Type 0} → ClientView M → Option Reply → ClientView M → Type 0
-Moved old answer new = (owner_of new ≡ owner_of old) × (answer ≡ None → (is_pending new ≡ true) × (new.begun ≡ old.begun)) × ((answer ≡ None → ⊥) → is_pending new ≡ false)
+Moved old answer new = (standing_of new ≡ standing_of old) × (answer ≡ None → (is_pending new ≡ true) × (new.begun ≡ old.begun)) × ((answer ≡ None → ⊥) → is_pending new ≡ false)
 
 module _ {M : Type 0} (device : Ghosts M) (old new : ClientView M) (answer : Option Reply) where
   moved_failed : HasFailed device old answer new → Moved old answer new
   moved_failed has = (
-    ap owner_of has.rest,
+    ap standing_of has.rest,
     (λ none. absurd (none_is_some _ (sym none ∙ has.told))),
     (λ _. ap is_pending has.rest ∙ both_false (is_some old.begun)),
   )
 
   moved_replied : (b : Begun) → HasReplied device old b answer new → Moved old answer new
   moved_replied b has = (
-    ap owner_of has.rest,
+    ap standing_of has.rest,
     (λ none. absurd (none_is_some _ (sym none ∙ has.told))),
     (λ _. ap is_pending has.rest),
   )
 
   moved_going : is_pending old ≡ true → IsGoing device old answer new → Moved old answer new
-  moved_going pending has = (ap owner_of has.rest, (λ _. (ap is_pending has.rest ∙ pending, ap (λ (v : ClientView M). v.begun) has.rest)), (λ some. absurd (some has.told)))
+  moved_going pending has = (ap standing_of has.rest, (λ _. (ap is_pending has.rest ∙ pending, ap (λ (v : ClientView M). v.begun) has.rest)), (λ some. absurd (some has.told)))
 
   by_begun : (o : Option Begun) (answered : Bool) → (is_some o && not answered) ≡ true → IfSome o (λ b. HasReplied device old b answer new) → Moved old answer new
   by_begun None answered pending has = absurd (false≢true pending)
@@ -220,18 +233,18 @@ module _ {M : Type 0} (device : Ghosts M) (old new : ClientView M) where
   calls_end reply = by_calls reply new.log.failed refl
 
 module _ {M : Type 0} (device : Ghosts M) (old new : ClientView M) (reply : Reply) where
-  ended : Moved old (Some reply) new → (owner_of new ≡ owner_of old) × (is_pending new ≡ false)
+  ended : Moved old (Some reply) new → (standing_of new ≡ standing_of old) × (is_pending new ≡ false)
   ended moved = (moved.0, moved.2 (λ e. none_is_some reply (sym e)))
 
   by_end : (flag : Bool) → new.log.failed ≡ flag → is_pending old ≡ true
       → (new.log.failed ≡ false → IfSome old.begun (λ b. HasReplied device old b (Some reply) new))
       → (new.log.failed ≡ true → HasFailed device old (Some reply) new)
-      → (owner_of new ≡ owner_of old) × (is_pending new ≡ false)
+      → (standing_of new ≡ standing_of old) × (is_pending new ≡ false)
   by_end true is pending replied failed = ended (moved_failed device old new (Some reply) (failed is))
   by_end false is pending replied failed = ended (by_begun device old new (Some reply) old.begun old.answered pending (replied is))
 
   pub finish_ends : is_pending old ≡ true
       → (new.log.failed ≡ false → IfSome old.begun (λ b. HasReplied device old b (Some reply) new))
       → (new.log.failed ≡ true → HasFailed device old (Some reply) new)
-      → (owner_of new ≡ owner_of old) × (is_pending new ≡ false)
+      → (standing_of new ≡ standing_of old) × (is_pending new ≡ false)
   finish_ends = by_end new.log.failed refl

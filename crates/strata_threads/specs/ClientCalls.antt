@@ -10,7 +10,7 @@ use Rattle.libfs.specs.lease_manager.Passes.{client_of}
 use Rattle.libfs.specs.CallStart.{HasStarted, IsOutOfMemory}
 use Rattle.libfs.specs.CallStep.{HasReplied, HasFailed}
 use Rattle.libfs.specs.ClientHoldings.{outcome_for}
-use Rattle.libfs.specs.View.{ClientView}
+use Rattle.libfs.specs.View.{ClientView, pass_answered}
 use Rattle.libfs.specs.declared.begun_record.Begun.{Begun}
 use Rattle.libfs.specs.declared.now.Now.{Now}
 use Rattle.libfs.specs.declared.now.Now.TheVariants as now
@@ -26,7 +26,7 @@ KeepsCall old new = (owner_of new ≡ owner_of old) × (new.begun ≡ old.begun)
 module _ {M : Type 0} (device : Ghosts M) where
   -- A call is started: its client's log has failed, the answer is the call's outcome, or memory is wanting.
   abbrev pub IsStarted : Call → ClientView M → Now → ClientView M → Type 0
-  IsStarted call old answer new = ((old.log.failed ≡ true) × (answer ≡ now.Done (replies.Failed IoError)) × (new ≡ old))
+  IsStarted call old answer new = ((old.log.failed ≡ true) × (answer ≡ now.Done (replies.Failed IoError)) × (new ≡ record old { pass = pass_answered old.pass }))
       ⊎ (HasStarted device old (outcome_for device old call) answer new ⊎ IsOutOfMemory device old call answer new)
 
   -- A device call of the begun record answers its call: the record is kept, or the device failed.

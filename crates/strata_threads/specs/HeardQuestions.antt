@@ -21,6 +21,10 @@ module _ {M : Type 0} where
   abbrev pub HoldsWithin : ℕ → ClientView M → Type 0
   HoldsWithin rows v = (i : ℕ) → HasWord i → rows ≤ row_of i → lease_of v.pass i ≡ Free
 
+  -- no fewer rows have all that it holds
+  abbrev pub NeedsRows : ℕ → ClientView M → Type 0
+  NeedsRows rows v = (fewer : ℕ) → HoldsWithin fewer v → rows ≤ fewer
+
   -- ---- what it hears
 
   -- the client once it looked at a row, which showed that, and once it emptied the row, and heard that
@@ -64,6 +68,16 @@ module _ {M : Type 0} where
   -- so of the first rows
   abbrev pub HasGivenAskedRows : ℕ → List ℕ → ClientView M → ClientView M → Type 0
   HasGivenAskedRows rows asked old new = (i : ℕ) → HasWord i → (lease_of new.pass i ≡ lease_of old.pass i) ⊎ ((row : ℕ) × (row < rows) × IsAskedOf row (slice_index asked row) i)
+
+-- It heard the first rows, and of what it was asked there, then or before, each inode is given, or it is held and asked still since it can't be given. No other lease has changed, and what is asked of other rows stays.
+pub record HasAnsweredRows {M : Type 0} (rows : ℕ) (old : ClientView M) (asked : List ℕ) (new : ClientView M) (left : List ℕ) : Type 0 where
+  pub heard : ClientView M
+  pub known : List ℕ
+  pub hears : HasHeardRows rows old asked heard known
+  pub answered : (row : ℕ) → row < rows → AreGivenOrAsked new row (slice_index known row) (slice_index left row)
+  pub only : (row : ℕ) → row < rows → AreHeldAndAsked new row (slice_index known row) (slice_index left row)
+  pub unasked : HasGivenAskedRows rows known heard new
+  pub later : (row : ℕ) → rows ≤ row → slice_index left row ≡ slice_index asked row
 
 -- something is left of the first rows
 abbrev pub IsSomeLeft : ℕ → List ℕ → Type 0

@@ -16,6 +16,10 @@ pub record HasOnlyGiven {M : Type 0} (old new : ClientView M) : Type 0 where
   pub numbers : new.copies.numbers ≡ old.copies.numbers
   pub rest : new ≡ record old { pass = new.pass; copies = new.copies }
 
+-- no lease has changed
+abbrev pub KeepsLeases : {M : Type 0} → ClientView M → ClientView M → Type 0
+KeepsLeases old new = new.pass.part.modes ≡ old.pass.part.modes
+
 -- no lease is left that can be given
 abbrev pub HasNoneToGive : {M : Type 0} → ClientView M → Type 0
 HasNoneToGive v = (i : ℕ) → HasWord i → CanBeGiven v i → ⊥

@@ -8,6 +8,7 @@ use Rattle.libfs.specs.client_log.Steps.{CanBeSealed}
 use Rattle.libfs.specs.RegionSeal.{HasSealed, HasTakenBack, MayTakeBack}
 use Rattle.libfs.specs.SealedRegion.{SealedRegionView}
 use Rattle.libfs.specs.View.{ClientView}
+use Rattle.strata_threads.specs.HeardQuestions.{HasAnsweredRows}
 use Rattle.strata_threads.specs.LeaseReturn.{HasOnlyGiven}
 
 module _ {T : Type 0} where
@@ -48,9 +49,9 @@ module _ {M : Type 0} (device : Ghosts M) where
   abbrev pub HasSealedOrNot : ClientView M → ClientView M → Type 0
   HasSealedOrNot old new = (new ≡ old) ⊎ ((x : SealedRegionView M) × HasSealed device old x new)
 
-  -- A client listened: a region may have come back, then leases were given and none taken, then the current region may have been sealed.
-  abbrev pub HasListened : ClientView M → ClientView M → Type 0
-  HasListened old new = (back : ClientView M) × (given : ClientView M) × HasComeBack old back × HasOnlyGiven back given × HasSealedOrNot given new
+  -- A client listened to the first rows: a region may have come back, then it heard them and gave what is asked of them, and took no lease, then the current region may have been sealed.
+  abbrev pub HasListened : ℕ → ClientView M → List ℕ → ClientView M → List ℕ → Type 0
+  HasListened rows old asked new left = (back : ClientView M) × (given : ClientView M) × HasComeBack old back × HasOnlyGiven back given × HasAnsweredRows rows back asked given left × HasSealedOrNot given new
 
   -- A worker had a region: it is the same one, which was at most read, and no fewer of its records are digested.
   pub record IsWorkedOn (old new : SealedRegionView M) : Type 0 where

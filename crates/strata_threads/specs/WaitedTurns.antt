@@ -1,19 +1,41 @@
 -- How long a call was waited for, and why it was given up.
-use Rattle.std.specs.Prelude.{◌≡◌, ◌↔◌, ◌≤◌, ◌+◌, ℕ, Result, Ok, Err, IsErrOf}
+use Rattle.std.specs.Prelude.{◌≡◌, ◌↔◌, ◌≤◌, ◌+◌, ◌==◌, ◌||◌, if◌then◌else◌, ℕ, Bool, List, [], ◌∷◌, Result, Ok, Err, IsErrOf, slice_index}
+use Rattle.libfs.specs.client_view.client_plan.declared.need.Mode.{Mode}
+use Rattle.libfs.specs.client_view.client_plan.declared.need.Mode.TheVariants.{Read, Write}
 use Rattle.libfs.specs.posix_calls.declared.call.Reply.{Reply}
 use Rattle.libfs.specs.posix_calls.declared.call.Reply.TheVariants as replies
 use Rattle.libfs.specs.Denial.{errno_of}
 use Rattle.libfs.specs.declared.denial.Denied.{Denied}
 use Rattle.libfs.specs.declared.denial.Denied.TheVariants as denied
 
--- how many turns were waited, of how many
+-- how many turns were waited, of how many, and three inodes that the call waited to write, 0 for none
 pub record WaitedView : Type 0 where
   pub count : ℕ
   pub turns : ℕ
+  pub to_write : List ℕ
 
--- none, or one more of as many
+-- none, or one more of as many; where none was waited all stays
 abbrev pub HasWaited : WaitedView → WaitedView → Type 0
-HasWaited old new = (new.turns ≡ old.turns) × (old.count ≤ new.count) × (new.count ≤ old.count + 1)
+HasWaited old new = (new.turns ≡ old.turns) × (old.count ≤ new.count) × (new.count ≤ old.count + 1) × (new.count ≡ old.count → new ≡ old)
+
+-- ---- what was waited for
+
+-- it is among the inodes that the call waited to write
+abbrev pub is_to_write : List ℕ → ℕ → Bool
+is_to_write inodes i = (slice_index inodes 0 == i) || (slice_index inodes 1 == i) || (slice_index inodes 2 == i)
+
+-- with one more, unless it is there; of four the one that was added first is forgotten
+abbrev pub with_inode : List ℕ → ℕ → List ℕ
+with_inode inodes i = if is_to_write inodes i then inodes else i ∷ slice_index inodes 0 ∷ slice_index inodes 1 ∷ []
+
+-- a turn in which a lease was busy
+abbrev pub busy_turn : WaitedView → ℕ → Mode → WaitedView
+busy_turn w i Read = record w { count = w.count + 1 }
+busy_turn w i Write = record w { count = w.count + 1; to_write = with_inode w.to_write i }
+
+-- the mode in which a call takes a lease: for writing, where it waited to write that inode; else as it is needed
+abbrev pub taken_mode : WaitedView → ℕ → Mode → Mode
+taken_mode w i mode = if is_to_write w.to_write i then Write else mode
 
 -- A call is denied for its turns exactly where all of them were waited.
 abbrev pub IsWithinTurns : Result Reply Denied → WaitedView → Type 0

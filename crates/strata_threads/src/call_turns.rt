@@ -8,6 +8,7 @@ ghost use Rattle.libfs.specs.declared.denial.Denied.{Denied};
 ghost use Rattle.libfs.specs.declared.denial.Denied.TheVariants as denied;
 ghost use Rattle.strata_threads.specs.CallDenials.{HasUnmetNeed, IsAnsweredOrDenied, IsUnmet, NeedsFirst};
 ghost use Rattle.strata_threads.specs.ClientCalls.{IsAnswered, IsEnded, IsFinished, IsStarted, KeepsCall, owner_of};
+ghost use Rattle.strata_threads.specs.LeaseReturn.{KeepsLeases};
 ghost use Rattle.strata_threads.specs.WaitedTurns.{HasWaited, IsWithinTurns, reply_of};
 
 use crate::gate_point::GatePoint;
@@ -116,10 +117,8 @@ impl<M: Media + Drop> ThreadClient<M> {
     {
         // For the proof: `call` stands in the contract alone: it is the one that lacks the need.
         let _ = call;
-        match self.serve_need(rt, shared, need, gate) {
-            Ok(()) => Ok(()),
-            Err(why) => Err(why),
-        }
+        self.serve_need(rt, shared, need, gate)?;
+        Ok(())
     }
 
     fn serve_need<R: Wait, G: GatePoint>(
@@ -158,6 +157,7 @@ fn start_call<M: Media, G: GatePoint>(
     ensures needed { IfErr result (λ need. NeedsFirst M.Media client.new call.now need) }
     ensures idle { is_pending client.new ≡ false }
     ensures owner { owner_of client.new ≡ owner_of client.old }
+    ensures leases { KeepsLeases client.old client.new }
 {
     match begin_call(client, call) {
         Now::Done { reply } => Ok(reply),
@@ -172,6 +172,7 @@ fn begin_call<M: Media>(client: &mut Client<M>, call: &Call) -> Now
     ensures started { IsStarted M.Media call.now client.old result client.new }
     ensures needed { (need : Need) → result ≡ now.Need need → NeedsFirst M.Media client.new call.now need }
     ensures owner { owner_of client.new ≡ owner_of client.old }
+    ensures leases { KeepsLeases client.old client.new }
     ensures pending { result ≡ now.Pending → is_pending client.new ≡ true }
     ensures idle { (result ≡ now.Pending → ⊥) → is_pending client.new ≡ false }
 {
@@ -180,13 +181,17 @@ fn begin_call<M: Media>(client: &mut Client<M>, call: &Call) -> Now
     client.start(call)
 }
 
-// Makes the device calls of a begun record, and passes the gate before each.
+// Makes the device calls of a begun record, and passes the gate before each; all at once where the gate does nothing.
 fn finish<M: Media, G: GatePoint>(client: &mut Client<M>, gate: &G) -> Reply
     requires { is_pending client.old ≡ true }
     ensures finished { IsFinished M.Media client.old result client.new }
     ensures idle { is_pending client.new ≡ false }
     ensures owner { owner_of client.new ≡ owner_of client.old }
+    ensures leases { KeepsLeases client.old client.new }
 {
+    if gate.is_open() {
+        return end_call(client);
+    }
     for step in 1..STEPS {
         gate.pass();
         if let Some(reply) = make_step(client) {
@@ -201,6 +206,7 @@ fn finish<M: Media, G: GatePoint>(client: &mut Client<M>, gate: &G) -> Reply
 fn make_step<M: Media>(client: &mut Client<M>) -> Option<Reply>
     requires pending { is_pending client.old ≡ true }
     ensures owner { owner_of client.new ≡ owner_of client.old }
+    ensures leases { KeepsLeases client.old client.new }
     ensures ended { IfSome result (λ reply. IsEnded M.Media client.old reply client.new) }
     ensures going { result ≡ None → (is_pending client.new ≡ true) × (client.new.begun ≡ client.old.begun) }
     ensures idle { (result ≡ None → ⊥) → is_pending client.new ≡ false }
@@ -213,6 +219,7 @@ fn end_call<M: Media>(client: &mut Client<M>) -> Reply
     requires pending { is_pending client.old ≡ true }
     ensures ended { IsEnded M.Media client.old result client.new }
     ensures owner { owner_of client.new ≡ owner_of client.old }
+    ensures leases { KeepsLeases client.old client.new }
     ensures idle { is_pending client.new ≡ false }
 {
     client.finish()

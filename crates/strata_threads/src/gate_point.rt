@@ -2,6 +2,9 @@
 pub trait GatePoint {
     /// Goes through.
     fn pass(&self);
+
+    /// Whether it does nothing: then nobody sees one device call of a record from the next.
+    fn is_open(&self) -> bool;
 }
 
 /// A gate that holds nobody.
@@ -9,4 +12,8 @@ pub struct OpenGate;
 
 impl GatePoint for OpenGate {
     fn pass(&self) {}
+
+    fn is_open(&self) -> bool {
+        true
+    }
 }

@@ -8,7 +8,7 @@ ghost use Rattle.libfs.specs.lease_manager.Words.{HasWord};
 ghost use Rattle.libfs.specs.lease_manager.declared.view.LeaseMode.TheVariants.{Free};
 ghost use Rattle.libfs.specs.LeaseCalls.{CanBeGiven};
 ghost use Rattle.strata_threads.specs.ClientCalls.{KeepsCall};
-ghost use Rattle.strata_threads.specs.HeardQuestions.{AreGivenOrAsked, AreHeldAndAsked, HasGivenAsked, HasGivenAskedRows, HasHeardRow, HasHeardRows, HoldsWithin, IsGivenOrAsked, IsHeldAndAsked, IsSomeLeft, heard_of, looked_at, row_of};
+ghost use Rattle.strata_threads.specs.HeardQuestions.{AreGivenOrAsked, AreHeldAndAsked, HasGivenAsked, HasGivenAskedRows, HasHeardRow, HasHeardRows, HoldsWithin, IsGivenOrAsked, IsHeldAndAsked, IsSomeLeft, NeedsRows, heard_of, looked_at, row_of};
 ghost use Rattle.strata_threads.specs.LeaseReturn.{HasNoneToGive, HasOnlyGiven};
 ghost use Rattle.strata_threads.specs.RegionHandover.{HandsOver, HasComeBack, HasListened, HasLookedForRegion, HasReceived, HasSealedOrNot, HasSentOrKept};
 
@@ -22,9 +22,9 @@ const ROWS: u32 = 16;
 
 impl<M: Media + Drop> ThreadClient<M> {
     /// Takes the region back that a worker has digested, and gives each inode back that others ask for. Where a record that is not digested is in the way, the current region is sealed and handed over. Who has nothing else
-    /// to do listens all the time, since nobody else gives what it holds.
+    /// to do listens all the time, since nobody else gives what it holds. All 16 rows of 64 inodes are heard.
     pub fn listen<R: Wait>(&mut self, rt: &R)
-        ensures listened { HasListened M.Media self.old.client self.new.client }
+        ensures listened { HasListened M.Media 16 self.old.client self.old.asked self.new.client self.new.asked }
         ensures rows { self.new.rows ≡ self.old.rows }
         ensures kept { KeepsCall self.old.client self.new.client }
         ensures waited { self.new.waited ≡ self.old.waited }
@@ -34,7 +34,7 @@ impl<M: Media + Drop> ThreadClient<M> {
 
     // The same, but hears and gives of the first `rows` rows of inodes alone.
     pub(crate) fn listen_to<R: Wait>(&mut self, rt: &R, rows: u32)
-        ensures listened { HasListened M.Media self.old.client self.new.client }
+        ensures listened { HasListened M.Media (min rows 16) self.old.client self.old.asked self.new.client self.new.asked }
         ensures rows { self.new.rows ≡ self.old.rows }
         ensures kept { KeepsCall self.old.client self.new.client }
         ensures waited { self.new.waited ≡ self.old.waited }
@@ -51,6 +51,7 @@ impl<M: Media + Drop> ThreadClient<M> {
         ensures back { HasComeBack M.Media self.old.client self.new.client }
         ensures looked { self.old.client.log.other ≡ None → self.old.kept ≡ None → HasLookedForRegion M.Media self.old.client self.old.tasks self.old.returns self.new.client self.new.tasks self.new.returns self.new.kept }
         ensures rows { self.new.rows ≡ self.old.rows }
+        ensures asked { self.new.asked ≡ self.old.asked }
         ensures kept { KeepsCall self.old.client self.new.client }
         ensures waited { self.new.waited ≡ self.old.waited }
     {
@@ -73,6 +74,7 @@ impl<M: Media + Drop> ThreadClient<M> {
         ensures received { HasReceived M.Media self.old.client self.old.tasks region self.new.client self.new.tasks self.new.kept }
         ensures returns { self.new.returns ≡ self.old.returns }
         ensures rows { self.new.rows ≡ self.old.rows }
+        ensures asked { self.new.asked ≡ self.old.asked }
         ensures kept { KeepsCall self.old.client self.new.client }
         ensures waited { self.new.waited ≡ self.old.waited }
     {
@@ -89,19 +91,19 @@ impl<M: Media + Drop> ThreadClient<M> {
         ensures sealed { HasSealedOrNot M.Media self.old.client self.new.client }
         ensures returns { self.new.returns ≡ self.old.returns }
         ensures rows { self.new.rows ≡ self.old.rows }
+        ensures asked { self.new.asked ≡ self.old.asked }
         ensures kept { KeepsCall self.old.client self.new.client }
         ensures waited { self.new.waited ≡ self.old.waited }
     {
         if self.kept.is_some() {
             return Ok(());
         }
-        match self.client.seal() {
-            Ok(Some(region)) => {
+        match self.client.seal()? {
+            Some(region) => {
                 self.send(rt, region);
                 Ok(())
             }
-            Ok(None) => Ok(()),
-            Err(error) => Err(error),
+            None => Ok(()),
         }
     }
 
@@ -111,6 +113,7 @@ impl<M: Media + Drop> ThreadClient<M> {
         ensures none { IfNone self.old.kept ((self.new.tasks ≡ self.old.tasks) × (self.new.kept ≡ None)) }
         ensures returns { self.new.returns ≡ self.old.returns }
         ensures rows { self.new.rows ≡ self.old.rows }
+        ensures asked { self.new.asked ≡ self.old.asked }
         ensures kept { self.new.client ≡ self.old.client }
         ensures waited { self.new.waited ≡ self.old.waited }
     {
@@ -126,6 +129,7 @@ impl<M: Media + Drop> ThreadClient<M> {
         ensures sent { HasSentOrKept self.old.tasks region self.new.tasks self.new.kept }
         ensures returns { self.new.returns ≡ self.old.returns }
         ensures rows { self.new.rows ≡ self.old.rows }
+        ensures asked { self.new.asked ≡ self.old.asked }
         ensures kept { self.new.client ≡ self.old.client }
         ensures waited { self.new.waited ≡ self.old.waited }
     {
@@ -164,6 +168,7 @@ impl<M: Media + Drop> ThreadClient<M> {
         ensures given { HasOnlyGiven self.old.client self.new.client }
         ensures none { HasNoneToGive self.new.client }
         ensures rows { HoldsWithin self.new.rows self.new.client }
+        ensures least { NeedsRows self.new.rows self.new.client }
         ensures kept { KeepsCall self.old.client self.new.client }
         ensures waited { self.new.waited ≡ self.old.waited }
     {
@@ -200,7 +205,8 @@ fn hear_row<M: Media>(client: &mut Client<M>, row: u32) -> u64
 
 // How many rows there are up to the last one of which it holds an inode.
 pub(crate) fn held_rows<M: Media>(client: &Client<M>) -> u32
-    ensures { HoldsWithin result client.now }
+    ensures within { HoldsWithin result client.now }
+    ensures least { NeedsRows result client.now }
 {
     let mut rows = 0;
     for before in 0..INODES {

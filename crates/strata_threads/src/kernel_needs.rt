@@ -5,6 +5,7 @@ ghost use Rattle.libfs.specs.kernel_fs.KernelView.{KernelView};
 ghost use Rattle.libfs.specs.declared.denial.Denied.TheVariants as denied;
 ghost use Rattle.strata_threads.specs.CallDenials.{IsRefused, IsUnmet, is_for_kernel};
 ghost use Rattle.strata_threads.specs.ClientCalls.{KeepsCall};
+ghost use Rattle.strata_threads.specs.LeaseReturn.{KeepsLeases};
 
 use crate::shared_kernel::SharedKernel;
 use crate::thread_client::ThreadClient;
@@ -44,15 +45,12 @@ fn serve<M: Media>(
     ensures served { OnOk result ((after : KernelView M) × HasServed M.Media M.Media kernel.old client.old need.now client.new after) }
     ensures refused { IfErr result (λ e. IsRefused M.Media client.old need.now e client.new) }
     ensures kept { KeepsCall client.old client.new }
+    ensures leases { KeepsLeases client.old client.new }
     ensures only { IfErr result (λ e. e ≢ denied.Turns) }
 {
-    match client.serve(kernel, need) {
-        Ok(()) => {
-            drop_unpinned(kernel, need);
-            Ok(())
-        }
-        Err(why) => Err(why),
-    }
+    client.serve(kernel, need)?;
+    drop_unpinned(kernel, need);
+    Ok(())
 }
 
 // Drops the file of a pin that goes, if nothing else keeps it.

@@ -1,16 +1,19 @@
 //! Leases that a call needs, and room in the region.
-ghost use Rattle.std.specs.Prelude.{◌≡◌, ◌≢◌, ◌<◌, ◌≤◌, IfErr, OnErr, OnOk, None};
+ghost use Rattle.std.specs.Prelude.{◌≡◌, ◌≢◌, ◌<◌, ◌+◌, ℕ, max, IfErr, OnErr, OnOk, None};
+ghost use Rattle.libfs.specs.LeaseCalls.{mode_of};
 ghost use Rattle.libfs.specs.View.{ClientView};
 ghost use Rattle.libfs.specs.declared.denial.Denied.TheVariants as denied;
 ghost use Rattle.libfs.specs.lease_manager.Marks.{ShowsOther};
+ghost use Rattle.libfs.specs.lease_manager.Passes.{lease_of};
 ghost use Rattle.libfs.specs.lease_manager.Words.{HasWord};
+ghost use Rattle.libfs.specs.lease_manager.declared.view.LeaseMode.TheVariants.{Free};
 ghost use Rattle.libfs.specs.client_view.client_plan.declared.need.Need.TheVariants as needs;
 ghost use Rattle.strata_threads.specs.CallDenials.{IsUnmet};
 ghost use Rattle.strata_threads.specs.ClientCalls.{KeepsCall};
 ghost use Rattle.strata_threads.specs.HeardQuestions.{row_of};
-ghost use Rattle.strata_threads.specs.LeaseReturn.{IsLeased};
+ghost use Rattle.strata_threads.specs.LeaseReturn.{IsLeased, KeepsLeases};
 ghost use Rattle.strata_threads.specs.RegionHandover.{HandsOver};
-ghost use Rattle.strata_threads.specs.WaitedTurns.{HasWaited};
+ghost use Rattle.strata_threads.specs.WaitedTurns.{HasWaited, busy_turn, taken_mode};
 
 use crate::gate_point::GatePoint;
 use crate::idle_turn::row_count;
@@ -22,27 +25,31 @@ use std::thread;
 // A wipe makes four device calls, and a client has two regions.
 const WIPE_STEPS: u32 = 8;
 
-// How often a client that waits lets others go in a turn, at most.
+// The turns up to which a client that waits lets others go longer and longer
 const MOST_YIELDS: u64 = 64;
 
 impl<M: Media + Drop> ThreadClient<M> {
-    // Takes a lease; where it is busy each holder is asked for it, and the turn is waited.
+    // Takes a lease, for writing where the call waited to write the inode. Where it is busy each holder is asked for it, and the turn is waited.
     pub(crate) fn take_lease<R: Wait>(&mut self, rt: &R, inode: u32, mode: Mode)
         requires left { self.old.waited.count < self.old.waited.turns }
         ensures kept { KeepsCall self.old.client self.new.client }
         ensures waited { HasWaited self.old.waited self.new.waited }
-        ensures got { self.new.waited ≡ self.old.waited → HasWord inode → IsLeased mode self.new.client inode }
-        ensures raised { HasWord inode → row_of inode < self.new.rows }
-        ensures rows { self.old.rows ≤ self.new.rows }
+        ensures got { self.new.waited ≡ self.old.waited → HasWord inode → IsLeased (taken_mode self.old.waited inode mode) self.new.client inode }
+        ensures lease { self.new.waited ≡ self.old.waited → HasWord inode → lease_of self.old.client.pass inode ≡ Free → lease_of self.new.client.pass inode ≡ mode_of (taken_mode self.old.waited inode mode) }
+        ensures others { self.new.waited ≡ self.old.waited → (i : ℕ) → HasWord i → i ≢ inode → lease_of self.new.client.pass i ≡ lease_of self.old.client.pass i }
+        ensures busy { self.new.waited ≢ self.old.waited → self.new.waited ≡ busy_turn self.old.waited inode (taken_mode self.old.waited inode mode) }
+        ensures raised { HasWord inode → self.new.rows ≡ max self.old.rows (row_of inode + 1) }
+        ensures rows { (HasWord inode → ⊥) → self.new.rows ≡ self.old.rows }
     {
         if !is_inode(inode) {
             return;
         }
         self.rows = self.rows.max(row_count(inode));
+        let mode = self.waited.lease_mode(inode, mode);
         match request_lease(&mut self.client, inode, mode) {
             Ok(()) => {}
             Err(word) => {
-                self.waited.count_busy(&self.client, word);
+                self.waited.count_busy(&self.client, inode, mode, word);
                 ask_holders(&mut self.client, inode, word);
                 self.let_go(rt);
             }
@@ -61,6 +68,7 @@ impl<M: Media + Drop> ThreadClient<M> {
         ensures only { IfErr result (λ e. e ≡ denied.Memory) }
         ensures kept { KeepsCall self.old.client self.new.client }
         ensures waited { HasWaited self.old.waited self.new.waited }
+        ensures away { self.new.waited ≢ self.old.waited → self.new.waited ≡ record self.old.waited { count = self.old.waited.count + 1 } }
         ensures refused { OnErr result (self.new.waited ≡ self.old.waited) }
     {
         if self.client.is_region_away() {
@@ -95,16 +103,19 @@ impl<M: Media + Drop> ThreadClient<M> {
         ensures waited { self.new.waited ≡ self.old.waited }
     {
         self.listen(rt);
-        pause(self.waited.count());
+        pause(self.waited.count(), self.client.client());
     }
 }
 
 // Takes or raises a lease; the word that shows which other client holds it, where it is busy.
-#[tactic(auto, using(crate::proofs::Busy::bar_is_other))]
+#[tactic(auto, using(crate::proofs::Busy::bar_is_other, crate::proofs::Busy::refusal_keeps_modes))]
 fn request_lease<M: Media>(client: &mut Client<M>, inode: u32, mode: Mode) -> Result<(), u64>
     requires inode { HasWord inode }
     ensures kept { KeepsCall client.old client.new }
     ensures got { OnOk result (IsLeased mode client.new inode) }
+    ensures lease { OnOk result (lease_of client.old.pass inode ≡ Free → lease_of client.new.pass inode ≡ mode_of mode) }
+    ensures others { (i : ℕ) → HasWord i → i ≢ inode → lease_of client.new.pass i ≡ lease_of client.old.pass i }
+    ensures refused { OnErr result (KeepsLeases client.old client.new) }
     ensures busy { IfErr result (λ word. ShowsOther client.new.pass.part.place word) }
 {
     match client.holds(inode) {
@@ -123,7 +134,8 @@ fn request_lease<M: Media>(client: &mut Client<M>, inode: u32, mode: Mode) -> Re
 // Asks each other client whose mark the word shows.
 fn ask_holders<M: Media>(client: &mut Client<M>, inode: u32, word: u64)
     requires inode { HasWord inode }
-    ensures { KeepsCall client.old client.new }
+    ensures kept { KeepsCall client.old client.new }
+    ensures leases { KeepsLeases client.old client.new }
 {
     let own = client.client();
     for place in 0..CLIENTS {
@@ -137,6 +149,7 @@ fn ask_holders<M: Media>(client: &mut Client<M>, inode: u32, word: u64)
 fn wipe_regions<M: Media, G: GatePoint>(client: &mut Client<M>, gate: &G)
     ensures rest { client.new ≡ record client.old { log = client.new.log } }
     ensures kept { KeepsCall client.old client.new }
+    ensures leases { KeepsLeases client.old client.new }
 {
     for step in 0..WIPE_STEPS {
         gate.pass();
@@ -147,9 +160,10 @@ fn wipe_regions<M: Media, G: GatePoint>(client: &mut Client<M>, gate: &G)
     }
 }
 
-// Lets other threads go, the longer the more turns were waited.
-fn pause(waited: u64) {
-    for time in 0..waited.min(MOST_YIELDS) {
+// Lets other threads go, the longer the more turns were waited, and in one turn each client for another time: two that bar one another would else begin anew in step. Each client has its turn to be the first.
+fn pause(waited: u64, client: u32) {
+    let place = (waited % CLIENTS as u64 + client as u64) % CLIENTS as u64;
+    for time in 0..waited.min(MOST_YIELDS) * (place + 1) {
         thread::yield_now();
     }
 }

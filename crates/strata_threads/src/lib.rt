@@ -3,7 +3,7 @@
 //! A client makes its calls by `ThreadClient::posix`: what a call needs it has served one need at a time, and between the turns it listens, that is, it gives what others ask back and takes its own region back. The
 //! regions that clients seal go to the workers by a queue, and come back by one for each client (`handoff`). Workers digest them (`Worker`), and a migrator moves runs of files down (`migrate`).
 //!
-//! As a call begins, its client hears the rows of inodes of which it may hold one, and in a turn that was waited all rows; a row is emptied only where it shows something.
+//! As a call begins, its client hears the rows in which all inodes lie that it holds, and in a turn that was waited all rows; a row is emptied only where it shows something.
 //!
 //! The lock is held for one need, one chunk or one run at a time; never while a client passes its gate or makes a device call on its own regions. What is promised: the kernel under the lock keeps its own invariant, so
 //! it stands at the end of one run of its machine; each sealed region is handed over once; a call is given up with EAGAIN after just as many turns as it was given, in each of which a lease was busy or the region that

@@ -1,6 +1,6 @@
 ghost use Rattle.std.specs.Prelude.{◌≡◌, false, IfSome, Some};
 ghost use Rattle.libfs.specs.View.{is_pending};
-ghost use Rattle.strata_threads.specs.HeardQuestions.{HoldsWithin};
+ghost use Rattle.strata_threads.specs.HeardQuestions.{HoldsWithin, NeedsRows};
 
 use crate::idle_turn::held_rows;
 use crate::waited::Waited;
@@ -19,11 +19,13 @@ pub struct ThreadClient<M: Media + Drop> {
     pub(crate) kept: Option<SealedRegion<M>>,
     // What others asked back and is not given yet: bit b of row r is inode 64 r + b + 1
     pub(crate) asked: [u64; 16],
-    // How many rows there are up to the last one of which it may hold an inode: of the others it has nothing to give
+    // The rows up to the last one of which it may hold an inode
     pub(crate) rows: u32,
-    /// How many turns its last call has waited.
+    /// How many turns its last call has waited, and which inodes it waited to write.
     pub waited: Waited,
     ghost idle: { is_pending client ≡ false },
+    // Of the rows behind these it has nothing to give.
+    ghost within: { HoldsWithin rows client },
 }
 
 impl<M: Media + Drop> ThreadClient<M> {
@@ -35,7 +37,7 @@ impl<M: Media + Drop> ThreadClient<M> {
     ) -> Self
         requires idle { is_pending client ≡ false }
         ensures client { result.client ≡ client }
-        ensures rows { HoldsWithin result.rows client }
+        ensures rows { NeedsRows result.rows client }
     {
         let rows = held_rows(&client);
         ThreadClient {

@@ -3,7 +3,7 @@ ghost use Rattle.std.specs.Prelude.{◌≡◌, ◌≤◌, ◌<◌, ◌↔◌, �
 ghost use Rattle.std.specs.Vec.{vec_len, vec_capacity};
 ghost use Rattle.libfs.specs.View.{is_pending};
 ghost use Rattle.libfs.specs.lease_manager.Passes.{client_of};
-ghost use Rattle.strata_threads.specs.SharedClients.{AreIdleFrom, CanBeShared};
+ghost use Rattle.strata_threads.specs.SharedClients.{AreIdleFrom, CanBeShared, ShareTable};
 ghost use Rattle.strata_threads.specs.declared.thread_set.ShareError.TheVariants.{Clients, Memory};
 
 use crate::shared_kernel::SharedKernel;
@@ -53,7 +53,7 @@ struct Ends<M: Media + Drop> {
 }
 
 impl<M: Media + Drop> ThreadSet<M> {
-    /// Shares a kernel and clients out, the clients 1, 2 and so on in their order, 8 at most, with `workers` workers, 8 at most. A region that is away stays so.
+    /// Shares a kernel and clients out, the clients 1, 2 and so on in their order, 8 at most, with `workers` workers, 8 at most. A region that is away stays so. They share a table of leases: a client of another one would see no mark of theirs.
     ///
     /// Refused with `Clients` exactly where they are not these, or a call of one waits for its answer; else only with `Memory`. Kernel and clients are given back then.
     pub fn open(
@@ -62,6 +62,7 @@ impl<M: Media + Drop> ThreadSet<M> {
         clients: Vec<Client<M>>,
         workers: usize,
     ) -> Result<ThreadSet<M>, (ShareError, Kernel<M>, Vec<Client<M>>)>
+        requires table { ShareTable clients.items }
         ensures clients { IfOk result (λ set. map (λ c. c.client) set.clients.items ≡ clients.items) }
         ensures workers { IfOk result (λ set. length set.workers.items ≡ min workers 8) }
         ensures can { OnOk result (CanBeShared clients.items) }

@@ -67,6 +67,14 @@ all_done g done total is = elim (eqb_tells done total) [
   | inr part ↦ absurd (part.1 is)
 ]
 
+-- a region that is away stands at its client's mark
+pub stands_at_mark : {M : Type 0} (device : Ghosts M) (s : SeatView M) (b : SealedRegionView M) (k : KernelView M) (c : ℕ) (w : World) (accepted : ℕ → ℕ) (shared_marks : Marks) (cut : Cut) (call : Option Call) → IsAwayFrom device s.client b → number_of s ≡ c
+    → StandsFor device k w accepted shared_marks cut → IsClientOf device s call (w.clients c) → StandsMarked (mark_by (Some shared_marks) c) (with_away s b) (w.kernel.accounts c) (accepted c) (w.clients c) → k.area.failed ≡ false → StandsAtMark (log_of device b) (disk device k.area)
+stands_at_mark device s b k c w accepted shared_marks cut call seat number stands own marked going =
+    let long : length (w.clients c).sealed ≡ length (log_of device b).records = ap (λ (rs : List Record). length rs) (own.sealed ∙ sym seat.records) in
+    let low : b.done < length (w.clients c).sealed = subst (λ (rs : List Record). b.done < length rs) (sym own.sealed) seat.some in
+    (shared_marks, (stands.going going).1, ap (mark_of shared_marks) (seat.client ∙ number) ∙ marked.mark ∙ sym (ap (mark_after b.generation b.done) (sym long) ∙ not_all b.generation b.done (length (w.clients c).sealed) low))
+
 module _ {M : Type 0} (device : Ghosts M) (s : SeatView M) (b : SealedRegionView M) (k : KernelView M) (c : ℕ) (w : World) (accepted : ℕ → ℕ) (shared_marks : Marks) (cut : Cut) (call : Option Call) (is_c : is_client c ≡ true) (seat : IsAwayFrom device s.client b) (number : number_of s ≡ c)
     (stands : StandsFor device k w accepted shared_marks cut) (own : IsClientOf device s call (w.clients c)) (marked : StandsMarked (mark_by (Some shared_marks) c) (with_away s b) (w.kernel.accounts c) (accepted c) (w.clients c)) (is_accepted : b.accepted ≡ true)
     (n : ℕ) (run : IsLongestRun (undone (log_of device b)) n) where
@@ -116,7 +124,7 @@ module _ {M : Type 0} (device : Ghosts M) (s : SeatView M) (b : SealedRegionView
   -- ---- where the log stands
 
   pub at_mark : k.area.failed ≡ false → StandsAtMark x (disk device k.area)
-  at_mark going = (shared_marks, (stands.going going).1, ap (mark_of shared_marks) whose_log ∙ marked.mark ∙ sym (ap (mark_after b.generation b.done) (ap (λ (rs : List Record). length rs) (sym sealed_is)) ∙ not_all b.generation b.done (length p.sealed) low))
+  at_mark going = stands_at_mark device s b k c w accepted shared_marks cut call seat number stands own marked going
 
   pub as_many : HasAsManyWaiting k.book x
   as_many =

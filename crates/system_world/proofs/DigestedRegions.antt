@@ -8,16 +8,18 @@ use Rattle.event_steps.specs.tier_device.declared.media.Tier.TheVariants.{Fast}
 use Rattle.event_steps.specs.posix_calls.Operations.{is_client}
 use Rattle.event_steps.specs.area_image.Store.{disk, graph, marks, store_of}
 use Rattle.event_steps.specs.area_image.batch_journal.View.{JournalView}
-use Rattle.event_steps.specs.kernel_fs.Book.{Accounts, IsBookOf}
+use Rattle.event_steps.specs.kernel_fs.Book.{Accounts, IsBookOf, waiting_of}
 use Rattle.event_steps.specs.kernel_fs.KernelAnswers.{kernel_answer}
 use Rattle.event_steps.specs.kernel_fs.KernelView.{KernelView}
 use Rattle.event_steps.specs.kernel_fs.MachineState.{IsKernelOf}
+use Rattle.event_steps.specs.kernel_fs.RegionAccept.{HasAsManyWaiting}
 use Rattle.event_steps.specs.kernel_fs.declared.chunk_digest.Digestion.{Digestion}
 use Rattle.event_steps.specs.kernel_fs.declared.chunk_digest.Digestion.TheVariants as digestion
 use Rattle.event_steps.specs.kernel_fs.declared.error.KernelError.{KernelError}
 use Rattle.event_steps.specs.kernel_fs.declared.error.KernelError.TheVariants as why
 use Rattle.event_steps.specs.kernel_fs.digester.DigestStep.{DigestsOrStays, IsDigested}
 use Rattle.event_steps.specs.kernel_fs.digester.MarkMoves.{mark_after}
+use Rattle.event_steps.specs.kernel_fs.digester.SealedLog.{StandsAtMark}
 use Rattle.event_steps.specs.kernel_fs.digester.declared.error.DigestError.{DigestError}
 use Rattle.event_steps.specs.kernel_fs.digester.declared.error.DigestError.TheVariants as digests
 use Rattle.event_steps.specs.kernel_fs.layout.Places.{Sizes}
@@ -35,17 +37,19 @@ use Rattle.event_steps.specs.libfs.world_invariant.ClientSteps.{with_client}
 use Rattle.event_steps.specs.libfs.world_invariant.Invariant.{IsCoherent}
 use Rattle.event_steps.specs.libfs.world_invariant.KernelSteps.{CanDigest}
 use Rattle.event_steps.specs.libfs.world_invariant.Logs.{after_records}
-use Rattle.event_steps.specs.libfs.world_invariant.Machine.{account_after, digest}
+use Rattle.event_steps.specs.libfs.world_invariant.Machine.{IsRunning, account_after, digest}
 use Rattle.event_steps.specs.libfs.world_invariant.World.{Account, Client, World, moved_world, world_state}
 use Rattle.event_steps.specs.libfs.world_invariant.World as world
 use Rattle.event_steps.specs.shared_area.UnchangedMedia.{Stays}
 use Rattle.event_steps.specs.Effects.{MakesAt}
-use Rattle.event_steps.specs.Regions.{DigestsNext, IsAskedToDigest, IsDigestedOn, IsNotAccepted, IsNotPrepared, IsPutAway, IsPutBy}
+use Rattle.event_steps.specs.Regions.{DigestsNext, IsAskedToDigest, IsDigestedOn, IsNotAcceptable, IsNotAccepted, IsNotPrepared, IsPutAway, IsPutBy, digest_outcome}
 use Rattle.event_steps.specs.Sound.{IsAwayFrom, number_of}
 use Rattle.event_steps.specs.Turns.{CanPlay}
 use Rattle.event_steps.specs.View.{SeatView, SystemView, seat_of}
 use Rattle.event_steps.specs.declared.event.Event.TheVariants.{Digest}
 use Rattle.event_steps.specs.declared.outcome.Outcome.{Outcome}
+use Rattle.event_steps.specs.declared.outcome.Outcome.TheVariants as outcomes
+use Rattle.event_steps.specs.declared.outcome.Refusal.TheVariants as refusals
 use Rattle.event_steps.proofs.world_invariant_lemmas.Digests.{digested_holds, digested_tree}
 use Rattle.event_steps.proofs.world_invariant_lemmas.Records.{either}
 use Rattle.courses.specs.Courses.{MovesOnly, PARTS, Reading}
@@ -57,11 +61,13 @@ use Rattle.system_world.specs.Relation as cuts
 use Rattle.system_world.specs.Contents.{mark_by}
 use Rattle.system_world.specs.Steps.{IsBegunIn, IsStep}
 use Rattle.system_world.specs.WorldView.{WorldView, calls_of}
-use Rattle.system_world.proofs.AcceptedRegions.{Accepted, accepted, unaccepted_then}
+use Rattle.system_world.proofs.AcceptedRegions.{Accepted, accepted, seat_then, unaccepted_then}
 use Rattle.system_world.proofs.AwayRegions.{MediumStays, all_stay, client_away, parts_stay, read_stays, same_medium, same_regions, shared_world, size_stays, unmoved_medium, with_away}
 use Rattle.system_world.proofs.ClientMoves.{StandsFor, client_moves, kernel_stands, with_part}
-use Rattle.system_world.proofs.DigestedChunks.{as_many, at_mark, can_digest, few, first, first_long, marks_new, mark_moves, marks_then, not_all, all_done, rest, stays_or_after, whose_log}
+use Rattle.system_world.proofs.DigestedChunks.{as_many, at_mark, can_digest, few, first, first_long, marks_new, mark_moves, marks_then, not_all, all_done, rest, stands_at_mark, stays_or_after, whose_log}
+use Rattle.system_world.proofs.EventRefusals.{bad}
 use Rattle.system_world.proofs.Given.{Given}
+use Rattle.system_world.proofs.GoodRegions.{is_region, marked_within, region, region_stands}
 use Rattle.system_world.proofs.KernelMoves.{SpellsOrAfter}
 use Rattle.system_world.proofs.OwnSeat.{client_at, leaves_at, marked_at, number_at}
 use Rattle.system_world.proofs.Seats.{client_is}
@@ -276,13 +282,18 @@ module _ {M : Type 0} (device : Ghosts M) (sized : IsSized device) (given : Give
     abbrev chunk : Cut
     chunk = cuts.Digest c firsts rests
 
+    -- its log stands at the mark, and as many records are waiting as it has undigested
+    stands_there : between.area.failed ≡ false → StandsAtMark (log_of device b) (disk device between.area)
+    stands_there going = at_mark device s b between c w mid.accepted z.marks z.cut (calls_of v c) is_c mid.seat number mid.stands own mid.marked mid.is_accepted h.count d.run going
+
+    waits_there : HasAsManyWaiting between.book (log_of device b)
+    waits_there = as_many device s b between c w mid.accepted z.marks z.cut (calls_of v c) is_c mid.seat number mid.stands own mid.marked mid.is_accepted h.count d.run
+
     -- At each moment the shared medium spells the graph and the marks from before, or those behind the chunk.
     module _ (going : between.area.failed ≡ false) where
       from_between : StaysFrom device between new.kernel (SpellsOrAfter between.area.geometry w z.marks chunk)
       from_between = stays_or_after device s b between c w mid.accepted z.marks z.cut (calls_of v c) is_c mid.seat number mid.stands own mid.marked mid.is_accepted h.count d.run going new.kernel
-          (d.any_moment going
-          (at_mark device s b between c w mid.accepted z.marks z.cut (calls_of v c) is_c mid.seat number mid.stands own mid.marked mid.is_accepted h.count d.run going)
-          (as_many device s b between c w mid.accepted z.marks z.cut (calls_of v c) is_c mid.seat number mid.stands own mid.marked mid.is_accepted h.count d.run))
+          (d.any_moment going (stands_there going) waits_there)
 
       from_old : StaysFrom device k new.kernel (SpellsOrAfter k.area.geometry w z.marks chunk)
       from_old = subst (λ (area : JournalView M). Stays (SpellsOrAfter area.geometry w z.marks chunk) (device.moment area.media) (device.moment new.kernel.area.media) (device.left area.media) (device.left new.kernel.area.media)) mid.area from_between
@@ -473,6 +484,79 @@ module _ {M : Type 0} (device : Ghosts M) (sized : IsSized device) (given : Give
       | inl failed ↦ let before = d.answers.failed failed in as_it_was (d.stays (not_ok why.Failed before.0)).0 before.1
       | inr going ↦ let r = d.answers.going going in by going r.0 r.1 r.2
     ]
+
+    -- ---- and it is not refused for a bad log
+
+    going_unless : h.answer ≢ Err why.Failed → between.area.failed ≡ false
+    going_unless not = elim (either between.area.failed) [
+      | inl failed ↦ absurd (not (d.answers.failed failed).0)
+      | inr going ↦ going
+    ]
+
+    -- what was digested of each client was accepted
+    within : (e : ℕ) → is_client e ≡ true → (w.kernel.accounts e).mark ≤ mid.accepted e
+    within e is_e = elim (eqb_tells e c) [
+      | inl same ↦ subst (λ (n : ℕ). (w.kernel.accounts n).mark ≤ mid.accepted n) (sym same.1) (marked_within device (with_away s b) (mark_by (Some z.marks) c) (w.kernel.accounts c) (mid.accepted c) p own.sealed mid.seat mid.marked)
+      | inr off ↦
+          let t = begun.leaves.clients e is_e in
+          let other = client_at device v e t.0 is_e t.1 z begun.stands.is in
+          subst (λ (n : ℕ). (w.kernel.accounts e).mark ≤ n) (sym (mid.others e off.1))
+          (marked_within device t.0 (mark_by (Some z.marks) e) (w.kernel.accounts e) (z.accepted e) (w.clients e) other.sealed t.2.seated (marked_at device v e t.0 is_e t.1 z begun.stands.is))
+    ]
+
+    runs : IsRunning (machine_of w mid.accepted)
+    runs = record { booked = begun.stands.is.coherent.booked; accepted = within }
+
+    asked_well : (r : Result Digestion (KernelError DigestError)) → h.answer ≡ r → digest_outcome r ≢ bad
+    asked_well (Ok digestion.Digested) is told = absurd (cc told)
+    asked_well (Ok digestion.NotNext) is told = d.not_next is (stands_there (going_unless (λ e. absurd (let clash : Ok digestion.NotNext ≡ Err why.Failed = sym is ∙ e in cc))))
+    asked_well (Ok digestion.NotAccepted) is told = (d.not_accepted is).1 waits_there
+    asked_well (Err why.Failed) is told = absurd (cc told)
+    asked_well (Err (why.Refused digests.DeviceFault)) is told = absurd (cc told)
+    asked_well (Err (why.Refused (digests.BadLog place))) is told =
+        let going = going_unless (λ e. absurd (let clash : Err (why.Refused (digests.BadLog place)) ≡ Err why.Failed = sym is ∙ e in cc)) in
+        d.never_bad (machine_of w mid.accepted) (region device s b c w (mid.accepted c) (mark_by (Some z.marks) c) (calls_of v c) is_c mid.seat number begun.stands.is.coherent own mid.marked) place (mid.stands.going going).0 runs
+        (is_region device s b c w (mid.accepted c) (mark_by (Some z.marks) c) (calls_of v c) is_c mid.seat number begun.stands.is.coherent own mid.marked)
+        (region_stands device s b c w (mid.accepted c) (mark_by (Some z.marks) c) (calls_of v c) is_c mid.seat number begun.stands.is.coherent own mid.marked) is
+    asked_well (Err (why.Refused digests.Memory)) is told = absurd (cc told)
+
+  -- a region that the kernel has not accepted stands at its client's mark, and no record of its client is waiting
+  acceptable : (h : IsNotAccepted device k makes.seat a o makes.seat_then new.kernel) → IsNotAcceptable device k (log_of device h.away) → ⊥
+  acceptable h not =
+      let seat : IsAwayFrom device s.client h.away = seat_then device s a k c z (calls_of v c) is_c seated number stands own mark h.away h.read (λ _. not.none) in
+      let marked = unaccepted_then device s a k c z (calls_of v c) is_c seated number stands own mark h.away h.read h.unaccepted h.none in
+      let account = (stands.book c is_c).waiting in
+      let accepts : z.accepted c ≡ p.past + 0 = marked.accepts ∙ ap (λ (t : Bool). p.past + cond t (length p.sealed) 0) h.none in
+      let digested : (w.kernel.accounts c).mark ≡ p.past + h.away.done = marked.digested in
+      let none : h.away.done ≡ 0 = not.none in
+      not.stands (stands_at_mark device s h.away k c w z.accepted z.marks z.cut (calls_of v c) seat number stands own marked not.going)
+      (ap (waiting_of k.book) (seat.client ∙ number) ∙ omega (arith, account, accepts, digested, none))
+
+  unaccepted_well : (h : IsNotAccepted device k makes.seat a o makes.seat_then new.kernel) → o ≢ bad
+  unaccepted_well h is =
+      let both : outcomes.Refused h.why ≡ bad = sym h.told ∙ is in
+      let why_is : h.why ≡ refusals.BadLog = cc in
+      elim h.only [
+        | inl unread ↦ elim unread [
+          | inl memory ↦ absurd (let clash : refusals.Memory ≡ refusals.BadLog = sym memory ∙ why_is in cc)
+          | inr fault ↦ absurd (let clash : refusals.DeviceFault ≡ refusals.BadLog = sym fault.0 ∙ why_is in cc)
+        ]
+        | inr asked ↦ elim asked [
+          | inl failed ↦ absurd (let clash : refusals.KernelFailed ≡ refusals.BadLog = sym failed.0 ∙ why_is in cc)
+          | inr not ↦ acceptable h not.1
+        ]
+      ]
+
+  pub never_bad : o ≢ bad
+  never_bad is = elim made.came [
+    | inl none ↦ unaccepted_well none is
+    | inr came ↦ elim came [
+      | inl none ↦ absurd (let clash : outcomes.Refused refusals.Memory ≡ bad = sym none.told ∙ is in cc)
+      | inr asked ↦ asked_well asked asked.answer refl (sym asked.told ∙ is)
+    ]
+  ]
+
+  -- ---- what the event comes to
 
   pub digested : IsStep device v (Digest c) o (record { system = new; calls = v.calls })
   digested = elim made.came [

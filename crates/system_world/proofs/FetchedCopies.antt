@@ -1,14 +1,14 @@
 -- A client fetches a copy, and blocks of a file.
 use Rattle.std.proofs.Common.{◌≡◌, ◌≢◌, inl, inr, ℕ, ◌-◌, ◌==◌, ◌||◌, ◌&&◌, cond, Bool, true, false, List, ◌++◌, drop, Option, Some, None, Ok, Err, refl, ap, sym, ◌∙◌, subst, arith}
-use Rattle.std.specs.Prelude.{Result, OnErr, OnOk, IfSome, slice_set}
-use Rattle.std.proofs.lemmas.Bool.Decides.{eqb_tells, nat_tests}
+use Rattle.std.specs.Prelude.{Result, OnErr, OnOk, IfSome, option_map, slice_set}
+use Rattle.std.proofs.lemmas.Bool.Decides.{nat_tests}
 use Rattle.event_steps.specs.tier_device.declared.media.Media.{Ghosts}
 use Rattle.event_steps.specs.posix_calls.Operations.{is_client}
 use Rattle.event_steps.specs.posix_calls.Tree.{Own}
 use Rattle.event_steps.specs.posix_calls.declared.call.Call.{Call}
 use Rattle.event_steps.specs.area_image.Store.{disk}
 use Rattle.event_steps.specs.call_effects.Knowledge.{Agrees, IsPlanned, Knowledge, with_copy}
-use Rattle.event_steps.specs.call_effects.NodeView.{NodeView, view_at}
+use Rattle.event_steps.specs.call_effects.NodeView.{NodeView, view_at, view_of_node}
 use Rattle.event_steps.specs.kernel_fs.MachineState.{IsMarkIn}
 use Rattle.event_steps.specs.kernel_fs.digester.MarkMoves.{mark_of}
 use Rattle.event_steps.specs.kernel_fs.layout.declared.marks.Mark.{Mark}
@@ -19,12 +19,12 @@ use Rattle.event_steps.specs.lease_manager.Words.{HasWord}
 use Rattle.event_steps.specs.lease_manager.declared.view.LeaseMode.{LeaseMode}
 use Rattle.event_steps.specs.lease_manager.declared.view.LeaseMode.TheVariants.{Free, Reading, Trying, Writing}
 use Rattle.event_steps.specs.libfs.ClientHoldings.{known_to}
-use Rattle.event_steps.specs.libfs.NeedService.{HasFetched, HasLooked, records_behind, shared_by}
+use Rattle.event_steps.specs.libfs.NeedService.{GetsNode, HasFetched, HasLooked, records_behind, shared_by}
 use Rattle.event_steps.specs.libfs.View.{ClientView}
 use Rattle.event_steps.specs.libfs.client_log.View.{current_records}
 use Rattle.event_steps.specs.libfs.declared.begun_record.Begun.{Begun}
 use Rattle.event_steps.specs.libfs.declared.denial.Denied.{Denied}
-use Rattle.event_steps.specs.libfs.file_graph.Graph.{Graph, is_among}
+use Rattle.event_steps.specs.libfs.file_graph.Graph.{Graph, Node, is_among}
 use Rattle.event_steps.specs.libfs.file_graph.Numbers.{is_inode}
 use Rattle.event_steps.specs.libfs.log_record.declared.format.Record.{Record}
 use Rattle.event_steps.specs.libfs.world_invariant.ClientParts.{Stands}
@@ -33,7 +33,7 @@ use Rattle.event_steps.specs.libfs.world_invariant.Invariant.{IsCoherent}
 use Rattle.event_steps.specs.libfs.world_invariant.World.{Account, Client, World, has_lease, log_of, held_descriptors, undigested_records, whole_graph, world_state}
 use Rattle.event_steps.specs.libfs.world_invariant.World as world
 use Rattle.event_steps.specs.Effects.{MakesAt}
-use Rattle.event_steps.specs.KernelRequests.{GetsCopy, HasAsked, HasNoneMeanwhile}
+use Rattle.event_steps.specs.KernelRequests.{AnswersFetch, HasAsked, HasNoneMeanwhile}
 use Rattle.event_steps.specs.Outcomes.{noted_refusals}
 use Rattle.event_steps.specs.Sound.{IsSeated}
 use Rattle.event_steps.specs.Stops.{SeatLeaves}
@@ -41,14 +41,13 @@ use Rattle.event_steps.specs.Turns.{CanPlay, IsHeld}
 use Rattle.event_steps.specs.View.{SeatView, SystemView, seat_of}
 use Rattle.event_steps.specs.declared.event.Event.TheVariants.{Fetch}
 use Rattle.event_steps.specs.declared.outcome.Outcome.{Outcome}
-use Rattle.event_steps.specs.libfs.client_view.After.{node_laid}
-use Rattle.event_steps.specs.libfs.client_view.KnowledgeChanges.{without_blocks}
-use Rattle.event_steps.proofs.libfs_lemmas.client_view_lemmas.Agreeing.{node_agrees}
+use Rattle.event_steps.specs.libfs.client_view.KnowledgeTables.{block_by, size_known}
+use Rattle.event_steps.specs.libfs.world_invariant.LeaseSteps.{CanFetch, own_view}
+use Rattle.event_steps.specs.libfs.world_invariant.Logs.{is_written}
 use Rattle.event_steps.proofs.world_invariant_lemmas.Begins.{tree_same}
-use Rattle.event_steps.proofs.world_invariant_lemmas.Fetches.{view_is}
-use Rattle.event_steps.proofs.world_invariant_lemmas.Idle.{none_some}
+use Rattle.event_steps.proofs.world_invariant_lemmas.Fetches.{fetched_holds, fetched_tree}
 use Rattle.event_steps.proofs.world_invariant_lemmas.Moved.{after_less, before_less, booked_same, quiet}
-use Rattle.event_steps.proofs.world_invariant_lemmas.call_effects_lemmas.Served.{less_agrees}
+use Rattle.event_steps.proofs.world_invariant_lemmas.Records.{records_stay}
 use Rattle.system_world.specs.Leaves.{IsSettledAt}
 use Rattle.system_world.specs.Relation.{Cut, IsBegunAs, IsClientOf, IsWorldOf, StandsMarked}
 use Rattle.system_world.specs.Steps.{IsBegunIn, IsStep}
@@ -58,6 +57,7 @@ use Rattle.system_world.specs.WorldView.{WorldView, calls_of}
 use Rattle.system_world.proofs.FailedKernel.{refused_step}
 use Rattle.system_world.proofs.FailedRequests.{OfCopy, failed_request}
 use Rattle.system_world.proofs.Given.{Given}
+use Rattle.system_world.proofs.LeasesGiven.{clean_log}
 use Rattle.system_world.proofs.Looked.{looked_step}
 use Rattle.system_world.proofs.MarkPlaces.{behind_mark, mark_now, not_away}
 use Rattle.system_world.proofs.OwnSeat.{leaves_at, number_at, of_seat}
@@ -133,39 +133,6 @@ held_is p s i for_reading for_writing held settled = ap (λ t. t || p.writes i) 
 
 -- ---- a copy
 
-module _ (w : World) (c i : ℕ) (h : IsCoherent w) (is_c : is_client c ≡ true) (leased : has_lease (w.clients c) i ≡ true) (idle : (w.clients c).begun ≡ None) where
-  abbrev knew : Knowledge
-  knew = (w.clients c).knows
-
-  abbrev copied : Knowledge
-  copied = with_copy (without_blocks knew i) i (node_laid (log_of w c) i (view_at w.kernel.shared i))
-
-  no_block : (b : ℕ) → (without_blocks knew i).blocks i b ≡ None
-  no_block b = elim (eqb_tells i i) [ inl same ↦ ap (λ t. cond t None (knew.blocks i b)) same.0 | inr off ↦ absurd (off.1 refl) ]
-
-  block_of_other : (j b : ℕ) (bytes : List ℕ) → (without_blocks knew i).blocks j b ≡ Some bytes → knew.blocks j b ≡ Some bytes
-  block_of_other j b bytes e = elim (eqb_tells j i) [
-    | inl same ↦ none_some bytes (sym (ap (λ t. cond t None (knew.blocks j b)) same.0) ∙ e)
-    | inr off ↦ sym (ap (λ t. cond t None (knew.blocks j b)) off.0) ∙ e
-  ]
-
-  copied_agrees : Agrees copied (whole_graph w) (held_descriptors w)
-  copied_agrees = node_agrees (without_blocks knew i) w.kernel.shared (whole_graph w) (held_descriptors w) (log_of w c) i
-      (less_agrees knew (whole_graph w) (held_descriptors w) (h.agrees c is_c) (without_blocks knew i) (record { client = refl; own = λ n. refl; copies = record { nodes = λ j copy e. e; blocks = block_of_other }; granted = λ j e. e }))
-      (view_is w c i h is_c leased) no_block
-
-  held_copy : (j : ℕ) (copy : Option NodeView) → copied.copies j ≡ Some copy → has_lease (w.clients c) j ≡ true
-  held_copy j copy e = elim (eqb_tells j i) [
-    | inl same ↦ ap (has_lease (w.clients c)) same.1 ∙ leased
-    | inr off ↦ (h.stands c is_c).leased.copies j copy (sym (ap (λ t. cond t (Some (node_laid (log_of w c) i (view_at w.kernel.shared i))) (knew.copies j)) off.0) ∙ e)
-  ]
-
-  pub copied_holds : IsCoherent (with_client w c (record (w.clients c) { knows = copied }))
-  copied_holds = known_holds w c h is_c copied refl refl refl copied_agrees held_copy (λ j b bytes e. (h.stands c is_c).leased.blocks j b bytes (block_of_other j b bytes e)) (λ b e. none_some b (sym idle ∙ e))
-
-  pub copied_tree : world_state (with_client w c (record (w.clients c) { knows = copied })) ≡ world_state w
-  copied_tree = known_tree w c h is_c copied refl refl refl copied_agrees held_copy (λ j b bytes e. (h.stands c is_c).leased.blocks j b bytes (block_of_other j b bytes e)) (λ b e. none_some b (sym idle ∙ e))
-
 module _ {M : Type 0} (device : Ghosts M) (v : WorldView M) (w : World) (accepted : ℕ → ℕ) (shared_marks : Marks) (cut : Cut) (c : ℕ) (s : SeatView M) (is : IsWorldOf device v w accepted shared_marks cut) (is_c : is_client c ≡ true) (there : seat_of v.system c ≡ Some s) where
   -- its records behind the mark that the kernel's medium has of it
   pub behind_its_mark : SeatLeaves device s → client_of s.client.pass ≡ c → v.system.kernel.area.failed ≡ false → (mark : Mark) → IsMarkIn (disk device v.system.kernel.area) (client_of s.client.pass) mark → records_behind device s.client mark ≡ log_of w c
@@ -196,41 +163,56 @@ module _ {M : Type 0} (device : Ghosts M) where
       meanwhile : HasNoneMeanwhile v.system.kernel makes.seat o makes.seat_then new.kernel → IsStep device v (Fetch c i) o (record { system = new; calls = v.calls })
       meanwhile none = refused_step device given v new c makes.seat makes.seat.refused (Fetch c i) o begun (client_is c turn.0) makes.was none.kernel (makes.seats ∙ ap (λ (y : SeatView M). slice_set v.system.seats (c - 1) y) none.same) refl (λ stand. stand)
 
-      by_answer : (answer : Result (Unit {0}) Denied) → v.system.kernel.area.failed ≡ false → makes.seat.client.begun ≡ None → HasAsked makes.seat answer o makes.seat_then → OnOk answer (HasFetched device device v.system.kernel makes.seat.client i makes.seat_then.client)
-          → OnErr answer (makes.seat_then.client ≡ makes.seat.client) → HasLooked device v.system.kernel new.kernel answer → IsStep device v (Fetch c i) o (record { system = new; calls = v.calls })
-      by_answer (Err why) going idle asks got same looked =
+      -- nothing of the client changes
+      stays : (answer : Result (Unit {0}) Denied) → v.system.kernel.area.failed ≡ false → HasAsked makes.seat answer o makes.seat_then → makes.seat_then.client ≡ makes.seat.client → HasLooked device v.system.kernel new.kernel answer → IsStep device v (Fetch c i) o (record { system = new; calls = v.calls })
+      stays answer going asks same looked =
           let is = begun.stands.is in
           let w = begun.stands.world in
           let s = makes.seat in
           let is_c = client_is c turn.0 in
           let part = same_part device v w begun.stands.accepted begun.stands.shared_marks begun.stands.cut c s is is_c makes.was in
-          looked_step device given v new c s makes.seat_then (Fetch c i) o begun is_c makes.was makes.seats (λ stand. stand) refl s.client (noted_refusals (Err why) s.refused) (w.clients c) (Err why)
-          (asks.rest ∙ ap (λ (x : ClientView M). record s { client = x; refused = noted_refusals (Err why) s.refused }) same) going looked part
+          looked_step device given v new c s makes.seat_then (Fetch c i) o begun is_c makes.was makes.seats (λ stand. stand) refl s.client (noted_refusals answer s.refused) (w.clients c) answer
+          (asks.rest ∙ ap (λ (x : ClientView M). record s { client = x; refused = noted_refusals answer s.refused }) same) going looked part
           (subst IsCoherent (sym (same_world w c)) is.coherent) (ap world_state (same_world w c))
-      by_answer (Ok x) going idle asks got same looked =
+
+      -- what no record of its own touches the client gets as the whole has it
+      gets : (x : Unit {0}) → v.system.kernel.area.failed ≡ false → makes.seat.client.begun ≡ None → HasAsked makes.seat (Ok x) o makes.seat_then → GetsNode device device v.system.kernel makes.seat.client i makes.seat_then.client → HasLooked device v.system.kernel new.kernel (Ok x)
+          → IsStep device v (Fetch c i) o (record { system = new; calls = v.calls })
+      gets x going idle asks got looked =
           let is = begun.stands.is in
           let w = begun.stands.world in
           let s = makes.seat in
           let is_c = client_is c turn.0 in
           let own = own_part device v w begun.stands.accepted begun.stands.shared_marks begun.stands.cut c s is is_c makes.was in
-          let number = number_at device v c s is_c makes.was begun.leaves in
           let held = subst (λ (y : Option (SeatView M)). IfSome y (λ s. IsHeld s.client i)) makes.was turn.1 in
           let leased = leased_is device v w begun.stands.accepted begun.stands.shared_marks begun.stands.cut c s is is_c makes.was i settled held in
           let none = (subst (λ (b : Option Begun). IsBegunAs (calls_of v c) b (w.clients c).begun) idle own.begun).0 in
-          let records = behind_its_mark device v w begun.stands.accepted begun.stands.shared_marks begun.stands.cut c s is is_c makes.was (leaves_at device v c s is_c makes.was begun.leaves) number going got.mark got.is_mark in
+          let can : CanFetch w c i = record {
+            client = is_c;
+            leased = leased;
+            missing = inl none;
+            clear = λ gone b. ap (λ (k : Knowledge). k.blocks i b) own.knows ∙ ap (λ (copy : Option (Option NodeView)). block_by (size_known copy) s.client.copies.blocks i b) got.none;
+          } in
+          let clean : is_written i (log_of w c) ≡ false = clean_log device s.client (w.clients c).sealed (w.clients c).current i ((w.kernel.accounts c).mark - (w.clients c).past) own.sealed own.turn.current got.untouched in
           let was = (is.going going).0 in
-          let knows : known_to makes.seat_then.client ≡ with_copy (without_blocks (w.clients c).knows i) i (node_laid (log_of w c) i (view_at w.kernel.shared i)) =
+          let more : Knowledge = with_copy (w.clients c).knows i (view_at (own_view w c) i) in
+          let knows : known_to makes.seat_then.client ≡ more =
           got.knows_then
-          ∙ ap (λ (k : Knowledge). with_copy (without_blocks k i) i (node_laid (records_behind device s.client got.mark) i (view_at (shared_by device v.system.kernel) i))) (sym own.knows)
-          ∙ ap (λ (rs : List Record). with_copy (without_blocks (w.clients c).knows i) i (node_laid rs i (view_at (shared_by device v.system.kernel) i))) records
-          ∙ ap (λ (g : Graph). with_copy (without_blocks (w.clients c).knows i) i (node_laid (log_of w c) i (view_at g i))) (sym was.shared) in
+          ∙ ap (λ (k : Knowledge). with_copy k i (view_at (shared_by device v.system.kernel) i)) (sym own.knows)
+          ∙ ap (λ (g : Graph). with_copy (w.clients c).knows i (view_at g i)) (sym was.shared)
+          ∙ ap (λ (n : Option Node). with_copy (w.clients c).knows i (option_map view_of_node n)) (sym (records_stay w.kernel.shared (log_of w c) i clean)) in
           looked_step device given v new c s makes.seat_then (Fetch c i) o begun is_c makes.was makes.seats (λ stand. stand) refl makes.seat_then.client s.refused
-          (record (w.clients c) { knows = with_copy (without_blocks (w.clients c).knows i) i (node_laid (log_of w c) i (view_at w.kernel.shared i)) }) (Ok x)
+          (record (w.clients c) { knows = more }) (Ok x)
           (asks.rest ∙ ap (λ (y : ClientView M). record s { client = y; refused = s.refused }) (got.rest ∙ ap (λ (y : ClientView M). supplied s.client y) (sym got.rest))) going looked
-          (known_part (w.clients c) makes.seat_then.client (with_copy (without_blocks (w.clients c).knows i) i (node_laid (log_of w c) i (view_at w.kernel.shared i))) (w.clients c).spare knows
+          (known_part (w.clients c) makes.seat_then.client more (w.clients c).spare knows
           (ap (λ (y : ClientView M). y.spare) got.rest ∙ sym own.spare) (λ j. own.pins j ∙ ap (λ (y : ClientView M). is_among j y.pins) (sym got.rest)))
-          (copied_holds w c i is.coherent is_c leased none) (copied_tree w c i is.coherent is_c leased none)
+          (fetched_holds w c i is.coherent can) (fetched_tree w c i is.coherent can)
 
-      by_failed : (b : Bool) → v.system.kernel.area.failed ≡ b → GetsCopy device v.system.kernel makes.seat i o makes.seat_then new.kernel → IsStep device v (Fetch c i) o (record { system = new; calls = v.calls })
+      by_answer : (answer : Result (Unit {0}) Denied) → v.system.kernel.area.failed ≡ false → makes.seat.client.begun ≡ None → HasAsked makes.seat answer o makes.seat_then → OnOk answer (HasFetched device device v.system.kernel makes.seat.client i makes.seat_then.client)
+          → OnErr answer (makes.seat_then.client ≡ makes.seat.client) → HasLooked device v.system.kernel new.kernel answer → IsStep device v (Fetch c i) o (record { system = new; calls = v.calls })
+      by_answer (Err why) going idle asks got same looked = stays (Err why) going asks same looked
+      by_answer (Ok x) going idle asks got same looked = elim got [ inl kept ↦ stays (Ok x) going asks kept.same looked | inr node ↦ gets x going idle asks node looked ]
+
+      by_failed : (b : Bool) → v.system.kernel.area.failed ≡ b → AnswersFetch device v.system.kernel makes.seat i o makes.seat_then new.kernel → IsStep device v (Fetch c i) o (record { system = new; calls = v.calls })
       by_failed true failed got = failed_request device given v c (Fetch c i) o new begun turn makes (OfCopy i) failed
       by_failed false going got = by_answer got.answer going got.idle got.asks got.fetched got.refused got.kernel

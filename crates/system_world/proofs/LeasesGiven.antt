@@ -63,6 +63,12 @@ front_of : (i : ℕ) (rs : List Record) (begun : Option Record) → is_written i
 front_of i rs None none = none
 front_of i rs (Some r) none = front i rs (r ∷ []) none
 
+-- where no record of a client's own touches an inode, none does that is not digested
+pub clean_log : {M : Type 0} (device : Ghosts M) (v : ClientView M) (sealed current : List Record) (i n : ℕ) → sealed ≡ v.sealed → current ≡ current_records device v.log → touch_count (own_records device v) i ≡ 0 → is_written i (drop n sealed ++ current) ≡ false
+clean_log device v sealed current i n away here none =
+    let untold = front_of i (v.sealed ++ current_records device v.log) (begun_record v.begun) (untouched i (own_records device v) none) in
+    dropped i n sealed current (subst (λ (rs : List Record). is_written i (rs ++ current) ≡ false) (sym away) (subst (λ (rs : List Record). is_written i (v.sealed ++ rs) ≡ false) (sym here) untold))
+
 module _ {M : Type 0} (device : Ghosts M) where
   -- A lease that a client may give back, of an inode that none of its records touches.
   pub given_back : Given device → (v : WorldView M) (c i : ℕ) (o : Outcome) (new : SystemView M)
@@ -84,9 +90,7 @@ module _ {M : Type 0} (device : Ghosts M) where
       let knows : p.knows ≡ known_to y.client = ap (λ (k : Knowledge). without_copies k i) own.knows ∙ sym (sym (ap (λ (t : SeatView M). known_to t.client) to) ∙ is.given.knows_then) in
       let held = begun.holds c is_c in
       let counts = subst (λ (t : SeatView M). HoldsRecords device t.client) (same_seat held.0 s (sym held.1 ∙ makes.was)) held.2 in
-      let untold = front_of i (s.client.sealed ++ current_records device s.client.log) (begun_record s.client.begun) (untouched i (own_records device s.client) (sym (counts.counts i may.inode) ∙ may.digested)) in
-      let clean : is_written i (log_of w c) ≡ false = dropped i ((w.kernel.accounts c).mark - (w.clients c).past) (w.clients c).sealed (w.clients c).current
-      (subst (λ (rs : List Record). is_written i (rs ++ (w.clients c).current) ≡ false) (sym own.sealed) (subst (λ (rs : List Record). is_written i (s.client.sealed ++ rs) ≡ false) (sym own.turn.current) untold)) in
+      let clean : is_written i (log_of w c) ≡ false = clean_log device s.client (w.clients c).sealed (w.clients c).current i ((w.kernel.accounts c).mark - (w.clients c).past) own.sealed own.turn.current (sym (counts.counts i may.inode) ∙ may.digested) in
       let can : CanGive w c i = record { client = is_c; idle = none; clean = clean } in
       quiet_step device given v new c s y p (Give c i) o begun is_c makes.was makes.makes.1 (makes.seats ∙ ap (λ (t : SeatView M). slice_set v.system.seats (c - 1) t) to) (λ stand. stand)
       (ap (λ (r : Outcome). news (calls_of v) (Give c i) r) is.told)

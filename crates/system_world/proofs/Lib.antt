@@ -24,6 +24,7 @@ pub mod SpelledWorlds
 pub mod Trees
 pub mod WorldFacts
 pub mod PlayedEvents
+pub mod EventRefusals
 pub mod LeasesGiven
 pub mod Asked
 pub mod Supplies
@@ -46,6 +47,7 @@ pub mod WipedRegions
 pub mod AwayRegions
 pub mod AcceptedRegions
 pub mod DigestedChunks
+pub mod GoodRegions
 pub mod TakenBack
 pub mod DigestedRegions
 pub mod StartReplies

@@ -1,5 +1,5 @@
 -- What a world that recovers is, for whoever plays lists of events on it, and what every event keeps and makes.
-use Rattle.std.specs.Prelude.{◌≡◌}
+use Rattle.std.specs.Prelude.{◌≡◌, ◌≢◌}
 use Rattle.event_steps.specs.tier_device.declared.media.Media.{Ghosts}
 use Rattle.event_steps.specs.posix_calls.Run.{Run}
 use Rattle.event_steps.specs.Effects.{Carries, Plays}
@@ -7,6 +7,8 @@ use Rattle.event_steps.specs.Turns.{CanPlay}
 use Rattle.event_steps.specs.View.{SystemView}
 use Rattle.event_steps.specs.declared.event.Event.{Event}
 use Rattle.event_steps.specs.declared.outcome.Outcome.{Outcome}
+use Rattle.event_steps.specs.declared.outcome.Outcome.TheVariants as outcomes
+use Rattle.event_steps.specs.declared.outcome.Refusal.TheVariants as refusals
 use Rattle.courses.specs.Courses.{LeftBetween, WorldContent}
 use Rattle.courses.specs.Plays.{PastIsKept, RecoversAlike, StopsNow}
 use Rattle.courses.specs.declared.recoverable.Recoverable.{Ghosts as Recoverable}
@@ -20,9 +22,10 @@ use Rattle.system_world.specs.WorldTree.{world_tree}
 use Rattle.system_world.specs.WorldView.{WorldView, calls_of}
 
 module _ {M : Type 0} (device : Ghosts M) where
-  -- an event has nothing to do and changes nothing, or makes what it is to make
-  abbrev pub MakesOrStays : WorldView M → Event → Outcome → WorldView M → Type 0
-  MakesOrStays old e o new = Carries (CanPlay device old.system e) (Plays device old.system e o new.system) (new.system ≡ old.system) o
+  -- An event has nothing to do and changes nothing, or makes what it is to make. None is refused for a bad log: each region stands where its client's mark does, is accepted in its turn, and has good records.
+  pub record MakesOrStays (old : WorldView M) (e : Event) (o : Outcome) (new : WorldView M) : Type 0 where
+    pub carries : Carries (CanPlay device old.system e) (Plays device old.system e o new.system) (new.system ≡ old.system) o
+    pub never_bad : o ≢ outcomes.Refused refusals.BadLog
 
   -- A world as what plays lists of events: its tree, calls and parts, and what a recovery makes of contents of the geometry that its shared medium has.
   abbrev pub recoverable : Recoverable (WorldView M) Event Outcome

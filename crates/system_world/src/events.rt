@@ -1,11 +1,13 @@
 //! Whatever an event is.
 
-ghost use Rattle.std.specs.Prelude.{◌≡◌};
+ghost use Rattle.std.specs.Prelude.{◌≡◌, ◌≢◌};
 ghost use Rattle.event_steps.specs.Effects.{Carries, Plays};
 ghost use Rattle.event_steps.specs.Turns.{CanPlay};
 ghost use Rattle.event_steps.specs.View.{SystemView};
 ghost use Rattle.event_steps.specs.declared.event.Event.{Event};
 ghost use Rattle.event_steps.specs.declared.outcome.Outcome.{Outcome};
+ghost use Rattle.event_steps.specs.declared.outcome.Outcome.TheVariants.{Refused};
+ghost use Rattle.event_steps.specs.declared.outcome.Refusal.TheVariants.{BadLog};
 ghost use Rattle.system_world.specs.Leaves.{HasMetIn, IsSettledIn};
 ghost use Rattle.system_world.specs.KeptCalls.{calls_then};
 ghost use Rattle.system_world.specs.Steps.{IsBegunIn, IsStep};
@@ -26,14 +28,16 @@ use crate::requests::{
 use crate::starts::started_call_is_a_step;
 use event_steps::TierDeviceMedia as Media;
 
-/// Every event that is played on a system that stands for a world is a step; one that is `Idle` is a step that changes nothing.
+/// Every event that is played on a system that stands for a world is a step; one that is `Idle` is a step that changes nothing. None is
+/// refused for a bad log.
 ///
 /// Asked for beside what `System::play` promises: what holds of the system and its clients between two events, before it and after it
 /// (`IsBegunIn`); that a client that takes or raises a lease has met each other one after it (`System::meet`); and that no failed try for
 /// the lease of a client that fetches is being taken out before it (`Client::holds`).
 pub fn played_event_is_a_step<M: Media>()
-    ensures { (v : WorldView M) (e : Event) (o : Outcome) (new : SystemView M) → IsBegunIn M.Media v new → Carries (CanPlay M.Media v.system e) (Plays M.Media v.system e o new) (new ≡ v.system) o → HasMetIn e new → IsSettledIn e v.system
+    ensures step { (v : WorldView M) (e : Event) (o : Outcome) (new : SystemView M) → IsBegunIn M.Media v new → Carries (CanPlay M.Media v.system e) (Plays M.Media v.system e o new) (new ≡ v.system) o → HasMetIn e new → IsSettledIn e v.system
         → IsStep M.Media v e o (record { system = new; calls = calls_then v.calls e o }) }
+    ensures never_bad { (v : WorldView M) (e : Event) (o : Outcome) (new : SystemView M) → IsBegunIn M.Media v new → Carries (CanPlay M.Media v.system e) (Plays M.Media v.system e o new) (new ≡ v.system) o → o ≢ Refused BadLog }
 {
     idle_event_is_a_step::<M>();
     started_call_is_a_step::<M>();

@@ -1,5 +1,6 @@
 //! The file system of a run: made on fresh media, shared out to threads, and recovered from what its media hold.
-ghost use Rattle.std.specs.Prelude.{◌∷◌, All, IfOk};
+ghost use Rattle.std.specs.Prelude.{◌≡◌, ◌≤◌, ◌∷◌, [], All, IfOk, length};
+ghost use Rattle.std.specs.Vec.{vec_capacity};
 ghost use Rattle.script.specs.tier_device.declared.media.Tier.TheVariants.{Fast};
 ghost use Rattle.script.specs.tier_device.Memory.{IsAtRest, memory_seen};
 ghost use Rattle.thread_runs.specs.FirstPath.{MayBeLeft};
@@ -36,13 +37,16 @@ fn share_out(
     world: World<RunMedium>,
     room: Vec<Client<RunMedium>>,
     workers: usize,
-) -> Result<ThreadSet<RunMedium>, RunError> {
+) -> Result<ThreadSet<RunMedium>, RunError>
+    requires empty { room.items ≡ [] }
+    requires room { 8 ≤ vec_capacity room }
+    ensures eight { IfOk result (λ set. length set.clients.items ≡ 8) }
+{
     let (kernel, slots) = world.into_system().into_parts();
     let mut clients = room;
     for slot in slots {
         let (client, _) = slot.into_parts();
-        // a client that found no room would be missed by what follows
-        let _ = clients.push(client);
+        clients.push_reserved(client);
     }
     match ThreadSet::open(alloc, kernel, clients, workers) {
         Ok(set) => Ok(set),

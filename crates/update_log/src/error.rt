@@ -1,3 +1,7 @@
+ghost use Rattle.std.specs.Prelude.{◌≡◌};
+ghost use Rattle.update_log.specs.declared.error.RegionError.TheVariants.{Memory};
+
+use std::alloc::{AllocError, AllocFailed};
 use thiserror::Error;
 
 /// Why a call of a region was refused.
@@ -11,4 +15,20 @@ pub enum RegionError {
     Damaged,
     #[error("out of memory")]
     Memory,
+}
+
+impl From<AllocError> for RegionError {
+    ghost from_gives = { λ _ e. e ≡ Memory };
+
+    fn from(_e: AllocError) -> RegionError {
+        RegionError::Memory
+    }
+}
+
+impl<T: Drop> From<AllocFailed<T>> for RegionError {
+    ghost from_gives = { λ _ e. e ≡ Memory };
+
+    fn from(_e: AllocFailed<T>) -> RegionError {
+        RegionError::Memory
+    }
 }

@@ -30,12 +30,10 @@ pub fn read_behind_header<M: Media>(
     ensures faults { M.faults media.old ≤ M.faults media.new }
     ensures one_fault { M.faults media.new ≤ M.faults media.old + 1 }
 {
-    match vec![in alloc; 0u8; len] {
-        Ok(mut behind) => match media.read(Tier::Fast, HEADER, &mut behind) {
-            Ok(()) => Ok(behind),
-            Err(_) => Err(RegionError::DeviceFault),
-        },
-        Err(_) => Err(RegionError::Memory),
+    let mut behind = vec![in alloc; 0u8; len]?;
+    match media.read(Tier::Fast, HEADER, &mut behind) {
+        Ok(()) => Ok(behind),
+        Err(_) => Err(RegionError::DeviceFault),
     }
 }
 
@@ -58,10 +56,8 @@ pub fn read_before_gate<M: Media>(
     ensures one_fault { M.faults media.new ≤ M.faults media.old + 1 }
 {
     let mut behind = read_behind_header(alloc, media, end - HEADER)?;
-    match behind.push(CLOSED) {
-        Ok(()) => Ok(behind),
-        Err(_) => Err(RegionError::Memory),
-    }
+    behind.push(CLOSED)?;
+    Ok(behind)
 }
 
 /// The generation that the header names.

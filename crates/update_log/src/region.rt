@@ -359,13 +359,8 @@ impl<M: Media> Region<M> {
         ensures faults { M.faults self.old.media ≤ M.faults self.new.media }
         ensures one_fault { M.faults self.new.media ≤ M.faults self.old.media + 1 }
     {
-        match read_before_gate(self.alloc, &mut self.media, self.end) {
-            Ok(front) => match records_in(self.alloc, &front) {
-                Ok(found) => Ok(found),
-                Err(_) => Err(RegionError::Memory),
-            },
-            Err(error) => Err(error),
-        }
+        let front = read_before_gate(self.alloc, &mut self.media, self.end)?;
+        Ok(records_in(self.alloc, &front)?)
     }
 
     /// The inodes that each of the records touches that are appended, in their order. Nothing may be begun. It takes no memory for names
@@ -390,10 +385,7 @@ impl<M: Media> Region<M> {
         match self.body.read_if_needed(&mut self.media, has_content) {
             Ok(()) => {
                 self.has_content = true;
-                match touched_inodes_in(self.alloc, self.body.as_slice()) {
-                    Ok(found) => Ok(found),
-                    Err(_) => Err(RegionError::Memory),
-                }
+                Ok(touched_inodes_in(self.alloc, self.body.as_slice())?)
             }
             Err(_) => Err(RegionError::DeviceFault),
         }

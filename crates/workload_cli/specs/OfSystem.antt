@@ -41,10 +41,10 @@ pub record HasLooked {M : Type 0} (device : Ghosts M) (old new : SystemView M) :
   pub unmoved : Unmoved (device.moment old.kernel.area.media) (device.moment new.kernel.area.media) (device.seen old.kernel.area.media) (device.seen new.kernel.area.media) (device.left old.kernel.area.media) (device.left new.kernel.area.media)
 
 -- The answer that the shared media could not be read, which is never for damage.
-abbrev pub IsAreaFault : KernelError AreaError → Answer → Type 0
-IsAreaFault why.Failed answer = answer ≡ answers.Refused refusals.KernelFailed
-IsAreaFault (why.Refused errors.DeviceFault) answer = answer ≡ answers.Refused refusals.DeviceFault
-IsAreaFault (why.Refused errors.Memory) answer = answer ≡ answers.Refused refusals.Memory
-IsAreaFault (why.Refused (errors.Damaged what block)) answer = ⊥
-IsAreaFault (why.Refused errors.NoBlock) answer = ⊥
-IsAreaFault (why.Refused errors.NotMapped) answer = ⊥
+abbrev pub IsUnreadAnswer : KernelError AreaError → Answer → Type 0
+IsUnreadAnswer why.Failed answer = answer ≡ answers.Refused refusals.KernelFailed
+IsUnreadAnswer (why.Refused errors.DeviceFault) answer = answer ≡ answers.Refused refusals.DeviceFault
+IsUnreadAnswer (why.Refused errors.Memory) answer = answer ≡ answers.Refused refusals.Memory
+IsUnreadAnswer (why.Refused (errors.Damaged what block)) answer = ⊥
+IsUnreadAnswer (why.Refused errors.NoBlock) answer = ⊥
+IsUnreadAnswer (why.Refused errors.NotMapped) answer = ⊥

@@ -8,7 +8,7 @@ ghost use Rattle.script.specs.posix_calls.Path.{path_names};
 ghost use Rattle.script.specs.posix_calls.Resolve as resolve;
 ghost use Rattle.script.specs.posix_calls.declared.errno.Errno.{Errno};
 ghost use Rattle.script.specs.LineValues.{path_of};
-ghost use Rattle.workload_cli.specs.OfSystem.{HasLooked, IsAreaFault, tree_in};
+ghost use Rattle.workload_cli.specs.OfSystem.{HasLooked, IsUnreadAnswer, tree_in};
 ghost use Rattle.workload_cli.specs.Paths.{child_in, file_along, unless_directory};
 ghost use Rattle.workload_cli.specs.AnswerText.{IsNoFile, IsUnread, failure_answer};
 
@@ -47,7 +47,7 @@ impl<M: Media + Drop> Running for World<M> {
         let inode = self.file_at(alloc, path)?;
         match World::tier_of(self, inode, block) {
             Ok(tier) => Ok(tier),
-            Err(error) => Err(area_fault(error)),
+            Err(error) => Err(unread_answer(error)),
         }
     }
 
@@ -146,14 +146,14 @@ fn node_at<M: Media + Drop>(
 {
     match system.look(inode) {
         Ok(found) => Ok(found.node),
-        Err(error) => Err(area_fault(error)),
+        Err(error) => Err(unread_answer(error)),
     }
 }
 
 // The answer if the shared area could not be read; no damage is found on media that are opened.
-fn area_fault(error: KernelError<AreaError>) -> Answer
+fn unread_answer(error: KernelError<AreaError>) -> Answer
     requires { OnRefusal error IsNoDamage }
-    ensures { IsAreaFault error result }
+    ensures { IsUnreadAnswer error result }
 {
     match error {
         KernelError::Failed => Answer::Refused(Refusal::KernelFailed),

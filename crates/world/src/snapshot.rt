@@ -24,7 +24,7 @@ use system_world::{
 impl<M: Media> World<M> {
     /// The graph of inodes that the world stands for: that on the shared medium, and over it the records of each client that are not digested. With what the clients have open it is the world's tree.
     ///
-    /// It reads each node once, and changes nothing; at most 1 MiB is wanted beside the graph. `Failed` exactly where a device of the kernel has failed before, `DeviceFault` where one fails, `Memory` where there was none.
+    /// Its device calls are reads, and it changes nothing. As a matter of cost it reads each node once, and wants at most 1 MiB beside the graph. `Failed` exactly where a device of the kernel has failed before, `DeviceFault` where one fails, `Memory` where there was none.
     pub fn snapshot(&mut self, alloc: Global) -> Result<PlainGraph, KernelError<AreaError>>
         ensures graph { IfOk result (λ g. graph_of g ≡ whole_graph M.Media self.old.system) }
         ensures tree { IfOk result (λ g. state_of (graph_of g) (opened_in self.old.system) ≡ world_tree M.Media self.old) }

@@ -1,4 +1,5 @@
 use Rattle.std.proofs.Common.{◌≡◌, refl, ◌+◌, ◌-◌, ◌*◌, ◌≤◌, ◌∙◌, ◌++◌, inl, inr, Err, ℕ, List, length, sym, subst, ap, arith, true}
+use Rattle.std.proofs.lemmas.Result.{err_from_is_err_and}
 use Rattle.std.proofs.lemmas.Bool.{cases_eq}
 use Rattle.std.proofs.lemmas.List.{length-append}
 use Rattle.area_image.specs.tier_device.declared.media.Tier.TheVariants.{Fast}
@@ -65,27 +66,28 @@ numbers-preserved g c =
     let tells : TellsFrom k (front ++ back) slots = subst (λ (l : List ChangedSlot). TellsFrom k l slots) c.split_at.ensures.by_index.0 c.numbers.invariant.tells in
     let here : RiseIn (32 * (k - 1) + 1) (32 * k) front = subst (RiseIn (32 * (k - 1) + 1) (32 * k)) (sym c.split_at.ensures.front) (c.count_up_to.ensures.front (32 * (k - 1) + 1) 1024 c.numbers.invariant.rises) in
     let behind : RiseIn (32 * k + 1) 1024 back = subst (RiseIn (32 * k + 1) 1024) (sym c.split_at.ensures.back) (c.count_up_to.ensures.rest (32 * (k - 1) + 1) 1024 c.numbers.invariant.rises) in
-    let pushed : c.push_slot_block.new.batch ≡ images ++ images_for k front (s Fast k) = c.in-Ok.ensures.pushed ∙ ap (λ (t : Store). images ++ images_for k front (t Fast k)) same in
+    let pushed : c.push_slot_block.new.batch ≡ images ++ images_for k front (s Fast k) = c.in_ok-push_slot_block.ensures.pushed ∙ ap (λ (t : Store). images ++ images_for k front (t Fast k)) same in
     let long = ap length pushed ∙ length-append images (images_for k front (s Fast k)) in
     record {
-      looks = looks_on m old mid new tt call_answer first (looks_answer m mid new c.in-Ok.field-0 tt c.in-Ok.ensures.looks);
+      looks = looks_on m old mid new tt call_answer first (looks_answer m mid new c.in_ok-push_slot_block.field-0 tt c.in_ok-push_slot_block.ensures.looks);
       images = subst (HasSlotImages slots (s Fast) (k + 1)) (sym pushed) (one_block k 1024 slots front back one tells here behind (s Fast) images c.numbers.invariant.images);
       rises = subst (λ (n : ℕ). RiseIn (32 * n + 1) 1024 back) (omega arith) behind;
       tells = tells_on k 1024 slots front back one tells here behind;
       whole = λ j lt has. elim (cases_eq j k) [
-        | inl is ↦ subst (λ (i : ℕ). length (s Fast i) ≡ 4096) (sym is) (whole_block k 1024 slots front back one tells here behind (s Fast k) (subst (λ (t : Store). 1 ≤ length front → length (t Fast k) ≡ 4096) same c.in-Ok.ensures.whole) (subst (λ (i : ℕ). has_slot i slots ≡ true) is has))
+        | inl is ↦ subst (λ (i : ℕ). length (s Fast i) ≡ 4096) (sym is) (whole_block k 1024 slots front back one tells here behind (s Fast k) (subst (λ (t : Store). 1 ≤ length front → length (t Fast k) ≡ 4096) same c.in_ok-push_slot_block.ensures.whole) (subst (λ (i : ℕ). has_slot i slots ≡ true) is has))
         | inr off ↦ c.numbers.invariant.whole j (omega (arith, lt, off)) has
       ];
-      next = c.in-Ok.ensures.next;
+      next = c.in_ok-push_slot_block.ensures.next;
       few_blocks = omega (arith, long, one_or_none k front (s Fast k), c.numbers.invariant.few_blocks);
       few = omega (arith, long, one_for_some k front (s Fast k), c.numbers.invariant.few, c.split_at.ensures.front_len, c.split_at.ensures.back_len);
       places = λ geometry. subst (AreJournaled geometry) (sym pushed) (journaled_both geometry images (images_for k front (s Fast k)) (c.numbers.invariant.places geometry) (slot_journaled geometry k front (s Fast k) (omega (arith, c.numbers-test.true))));
     }
 
-pub returns-in-Err-clause-looks : goal.returns-in-Err-clause-looks
-returns-in-Err-clause-looks g c =
+pub returns-in_err-push_slot_block-clause-looks : goal.returns-in_err-push_slot_block-clause-looks
+returns-in_err-push_slot_block-clause-looks g c =
     let m = g.M.Media in
-    looks_on m c.args.journal.now c.numbers.journal c.push_slot_block.new.journal tt (Err c.in-Err.error) c.numbers.invariant.looks c.in-Err.ensures.looks
+    let p = err_from_is_err_and c.from_residual.result c.from_residual.ensures.1 in
+    rw (p.1, p.2) (looks_on m c.args.journal.now c.numbers.journal c.push_slot_block.new.journal tt (Err c.in_err-push_slot_block.field-0.0) c.numbers.invariant.looks c.in_err-push_slot_block.ensures.looks)
 
 pub returns-clause-images : goal.returns-clause-images
 returns-clause-images g c =

@@ -1,5 +1,5 @@
-use Rattle.std.proofs.Common.{ℕ, sym, subst}
-use Rattle.area_image.specs.layout.Places.{Sizes, IsAllowed}
+use Rattle.std.proofs.Common.{subst}
+use Rattle.area_image.specs.layout.Places.{IsAllowed}
 use Rattle.area_image.specs.Store.{disk}
 use Rattle.area_commit.proofs.plan_write.carry_out.Goals as goal
 

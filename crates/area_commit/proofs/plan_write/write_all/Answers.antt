@@ -1,4 +1,4 @@
-use Rattle.std.proofs.Common.{◌≡◌, ◌≤◌, ◌∙◌, ℕ, List, length, sym, ap, subst, arith}
+use Rattle.std.proofs.Common.{◌∙◌, List, length, sym, ap, subst, arith}
 use Rattle.area_image.specs.layout.Places.{Sizes}
 use Rattle.area_image.proofs.batch_journal_lemmas.Courses.{left_before}
 use Rattle.area_image.specs.Store.{Store, disk}

@@ -9,27 +9,27 @@ use Rattle.area_image.proofs.area.add_inode.Goals as goal
 pub mark_inode-requires : goal.mark_inode-requires
 mark_inode-requires g c =
     let old = c.args.journal.now in
-    let x = c.in-Ok.parts in
-    room_for old.geometry (disk g.M.Media old) c.args.inode x c.in-Ok.ensures.slot c.in-Ok.ensures.extents c.args.used.now c.in-Ok.ensures.fits c.requires.before
+    let x = c.in_ok-parts.parts in
+    room_for old.geometry (disk g.M.Media old) c.args.inode x c.in_ok-parts.ensures.slot c.in_ok-parts.ensures.extents c.args.used.now c.in_ok-parts.ensures.fits c.requires.before
 
 pub returns-in-None-clause-marks : goal.returns-in-None-clause-marks
 returns-in-None-clause-marks g c =
     let old = c.args.journal.now in
-    let x = c.in-Ok.parts in
-    marks_more old.geometry (disk g.M.Media old) c.args.inode x c.in-Ok.ensures.slot c.in-Ok.ensures.extents c.args.used.now c.mark_inode.new.used c.in-Ok.ensures.fits c.requires.before c.in-None.ensures.none
+    let x = c.in_ok-parts.parts in
+    marks_more old.geometry (disk g.M.Media old) c.args.inode x c.in_ok-parts.ensures.slot c.in_ok-parts.ensures.extents c.args.used.now c.mark_inode.new.used c.in_ok-parts.ensures.fits c.requires.before c.in-None.ensures.none
 
-pub returns-in-Ok-clause-damaged : goal.returns-in-Ok-clause-damaged
-returns-in-Ok-clause-damaged g c =
+pub returns-clause-damaged : goal.returns-clause-damaged
+returns-clause-damaged g c =
     let old = c.args.journal.now in
     let s = disk g.M.Media old in
-    let x = c.in-Ok.parts in
-    let damage = clash_damage old.geometry s c.args.inode x c.in-Ok.ensures.slot c.in-Ok.ensures.extents c.args.used.now c.in-Some.tier c.requires.before c.in-Some.ensures.some in
+    let x = c.in_ok-parts.parts in
+    let damage = clash_damage old.geometry s c.args.inode x c.in_ok-parts.ensures.slot c.in_ok-parts.ensures.extents c.args.used.now c.in-Some.tier c.requires.before c.in-Some.ensures.some in
     subst (IsDamaged old.geometry s what.ExtentBlock) (sym c.root_of.ensures) damage
 
 pub returns-in-None-clause-units : goal.returns-in-None-clause-units
 returns-in-None-clause-units g c =
     let old = c.args.journal.now in
-    c.units_of.ensures.units ∙ sym (parts_units old.geometry (disk g.M.Media old) c.args.inode c.in-Ok.parts.slot c.in-Ok.ensures.slot c.in-Ok.ensures.spelled)
+    c.units_of.ensures.units ∙ sym (parts_units old.geometry (disk g.M.Media old) c.args.inode c.in_ok-parts.parts.slot c.in_ok-parts.ensures.slot c.in_ok-parts.ensures.spelled)
 
 pub returns-in-None-clause-small : goal.returns-in-None-clause-small
-returns-in-None-clause-small g c = subst (λ (n : ℕ). n ≤ 257) (sym c.units_of.ensures.units) (few_units c.args.journal.now.geometry c.in-Ok.parts.slot c.in-Ok.ensures.fits)
+returns-in-None-clause-small g c = subst (λ (n : ℕ). n ≤ 257) (sym c.units_of.ensures.units) (few_units c.args.journal.now.geometry c.in_ok-parts.parts.slot c.in_ok-parts.ensures.fits)

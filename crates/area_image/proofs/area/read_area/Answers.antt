@@ -1,4 +1,5 @@
 use Rattle.std.proofs.Common.{◌≡◌, ◌+◌, ◌⊎◌, ◌∙◌, Err, sym, arith}
+use Rattle.std.proofs.lemmas.Result.{err_from_is_err_and}
 use Rattle.area_image.specs.Store.{disk, graph}
 use Rattle.batch_journal.specs.file_graph.Graph.{cost}
 use Rattle.area_image.proofs.Costs.{total_none, total_more, total_all}
@@ -35,31 +36,34 @@ inodes-preserved g c =
     let m = g.M.Media in
     let old = c.args.journal.now in
     let first = c.inodes.invariant.looks in
-    let here = carried_back m (λ x s. SpellsInode x s c.inodes.inode) old c.inodes.journal call_answer first c.in-Ok.ensures.spelled in
+    let here = carried_back m (λ x s. SpellsInode x s c.inodes.inode) old c.inodes.journal call_answer first c.in_ok-units.ensures.spelled in
     record {
       looks = looks_on m old c.inodes.journal c.add_inode.new.journal tt call_answer first
-          (looks_answer m c.inodes.journal c.add_inode.new.journal c.in-Ok.more tt c.in-Ok.ensures.looks);
-      total = total_more (graph old.geometry (disk m old)) c.inodes.inode c.inodes.units c.in-Ok.more c.inodes.auto.inode c.inodes.invariant.total
-          (carried_back m (λ x s. c.in-Ok.more ≡ cost (graph x s c.inodes.inode)) old c.inodes.journal call_answer first c.in-Ok.ensures.units);
-      few = (let low = c.inodes.auto.inode in let few = c.inodes.invariant.few in let small = c.in-Ok.ensures.small in omega (arith, low, few, small));
-      marks = carried_back m (λ x s. MarksUses x s (c.inodes.inode + 1) c.add_inode.new.used) old c.inodes.journal call_answer first c.in-Ok.ensures.marks;
+          (looks_answer m c.inodes.journal c.add_inode.new.journal c.in_ok-units.field-0 tt c.in_ok-units.ensures.looks);
+      total = total_more (graph old.geometry (disk m old)) c.inodes.inode c.inodes.units c.in_ok-units.field-0 c.inodes.auto.inode c.inodes.invariant.total
+          (carried_back m (λ x s. c.in_ok-units.field-0 ≡ cost (graph x s c.inodes.inode)) old c.inodes.journal call_answer first c.in_ok-units.ensures.units);
+      few = (let low = c.inodes.auto.inode in let few = c.inodes.invariant.few in let small = c.in_ok-units.ensures.small in omega (arith, low, few, small));
+      marks = carried_back m (λ x s. MarksUses x s (c.inodes.inode + 1) c.add_inode.new.used) old c.inodes.journal call_answer first c.in_ok-units.ensures.marks;
       spelled = spelled_more old.geometry (disk m old) c.inodes.inode c.inodes.invariant.spelled here;
     }
 
-pub returns-in-Err-clause-damaged : goal.returns-in-Err-clause-damaged
-returns-in-Err-clause-damaged g c =
+pub returns-in_err-units-clause-damaged : goal.returns-in_err-units-clause-damaged
+returns-in_err-units-clause-damaged g c =
     let m = g.M.Media in
-    on_damage c.in-Err.error (λ w b d. carried_back m (λ x s. IsDamaged x s w b) c.args.journal.now c.inodes.journal call_answer c.inodes.invariant.looks d) c.in-Err.ensures.damaged
+    let p = err_from_is_err_and c.from_residual.result c.from_residual.ensures.1 in
+    rw (p.1, p.2) (on_damage c.in_err-units.field-0.0 (λ w b d. carried_back m (λ x s. IsDamaged x s w b) c.args.journal.now c.inodes.journal call_answer c.inodes.invariant.looks d) c.in_err-units.ensures.damaged)
 
-pub returns-in-Err-clause-memory : goal.returns-in-Err-clause-memory
-returns-in-Err-clause-memory g c = λ is.
+pub returns-in_err-units-clause-memory : goal.returns-in_err-units-clause-memory
+returns-in_err-units-clause-memory g c =
     let m = g.M.Media in
-    (c.inodes.inode, carried_back m (λ x s. (WantsMemory x s c.inodes.inode) ⊎ (HasPart x s c.inodes.inode)) c.args.journal.now c.inodes.journal call_answer c.inodes.invariant.looks (c.in-Err.ensures.memory is))
+    let p = err_from_is_err_and c.from_residual.result c.from_residual.ensures.1 in
+    rw (p.1, p.2) (λ is. (c.inodes.inode, carried_back m (λ x s. (WantsMemory x s c.inodes.inode) ⊎ (HasPart x s c.inodes.inode)) c.args.journal.now c.inodes.journal call_answer c.inodes.invariant.looks (c.in_err-units.ensures.memory is)))
 
-pub returns-in-Err-clause-looks : goal.returns-in-Err-clause-looks
-returns-in-Err-clause-looks g c =
+pub returns-in_err-units-clause-looks : goal.returns-in_err-units-clause-looks
+returns-in_err-units-clause-looks g c =
     let m = g.M.Media in
-    looks_on m c.args.journal.now c.inodes.journal c.add_inode.new.journal tt (Err c.in-Err.error) c.inodes.invariant.looks c.in-Err.ensures.looks
+    let p = err_from_is_err_and c.from_residual.result c.from_residual.ensures.1 in
+    rw (p.1, p.2) (looks_on m c.args.journal.now c.inodes.journal c.add_inode.new.journal tt (Err c.in_err-units.field-0.0) c.inodes.invariant.looks c.in_err-units.ensures.looks)
 
 pub returns-clause-inodes : goal.returns-clause-inodes
 returns-clause-inodes g c =

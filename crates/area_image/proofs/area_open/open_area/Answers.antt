@@ -1,7 +1,9 @@
 use Rattle.std.proofs.Common.{◌≡◌, ℕ, Some}
+use Rattle.std.proofs.lemmas.Result.{on_ok_weaker, IfOk-weaker, IfErr-weaker}
 use Rattle.std.specs.Prelude.{◌↔◌, Ok}
 use Rattle.batch_journal.specs.tier_device.declared.media.Tier.{Tier}
-use Rattle.area_image.specs.Store.{disk}
+use Rattle.batch_journal.specs.file_graph.Units.{charge}
+use Rattle.area_image.specs.Store.{disk, graph}
 use Rattle.area_image.specs.Format.{Use, used_block, IsOpenable}
 use Rattle.area_image.specs.BlockMarks.{IsMarked}
 use Rattle.area_image.proofs.Damages.{damage_none}
@@ -10,19 +12,28 @@ use Rattle.area_image.proofs.Looked.{carried_back}
 use Rattle.area_image.specs.Damage.{IsDamaged}
 use Rattle.area_image.proofs.area_open.open_area.Goals as goal
 
-pub returns-in-Ok-read_inodes-clause-openable : goal.returns-in-Ok-read_inodes-clause-openable
-returns-in-Ok-read_inodes-clause-openable g c =
+pub returns-clause-openable : goal.returns-clause-openable
+returns-clause-openable g c =
     let m = g.M.Media in
-    carried_back m IsOpenable c.args.journal.now c.read_marks.new.journal (Ok c.in-Ok.marks) c.in-Ok.ensures.looks c.in-Ok-read_inodes.ensures.openable
+    on_ok_weaker c.read_inodes.result (λ is. carried_back m IsOpenable c.args.journal.now c.read_marks.new.journal (Ok c.in_ok-marks.marks) c.in_ok-marks.ensures.looks is) c.read_inodes.ensures.openable
 
-pub returns-in-Ok-read_inodes-clause-used : goal.returns-in-Ok-read_inodes-clause-used
-returns-in-Ok-read_inodes-clause-used g c =
+pub returns-clause-used : goal.returns-clause-used
+returns-clause-used g c =
     let m = g.M.Media in
-    carried_back m (λ x s. (t : Tier) (k : ℕ) → IsMarked c.in-Ok-read_inodes.found.used t k ↔ ((u : Use) × (used_block x s u ≡ Some (t, k)))) c.args.journal.now c.read_marks.new.journal (Ok c.in-Ok.marks) c.in-Ok.ensures.looks c.in-Ok-read_inodes.ensures.used
+    IfOk-weaker c.read_inodes.result _ _ (λ found used. carried_back m (λ x s. (t : Tier) (k : ℕ) → IsMarked found.used t k ↔ ((u : Use) × (used_block x s u ≡ Some (t, k)))) c.args.journal.now c.read_marks.new.journal (Ok c.in_ok-marks.marks) c.in_ok-marks.ensures.looks used) c.read_inodes.ensures.used
 
-pub returns-in-Err-read_inodes-clause-unopenable :
-    goal.returns-in-Err-read_inodes-clause-unopenable
-returns-in-Err-read_inodes-clause-unopenable g c =
+pub returns-clause-unopenable : goal.returns-clause-unopenable
+returns-clause-unopenable g c =
     let m = g.M.Media in
     let old = c.args.journal.now in
-    on_damage c.in-Err-read_inodes.error (λ w b d is. damage_none old.geometry (disk m old) w b (carried_back m (λ x s. IsDamaged x s w b) old c.read_marks.new.journal (Ok c.in-Ok.marks) c.in-Ok.ensures.looks d) is.spelled is.units) c.in-Err-read_inodes.ensures.damaged
+    IfErr-weaker c.read_inodes.result _ _ (λ e damaged. on_damage e (λ w b d is. damage_none old.geometry (disk m old) w b (carried_back m (λ x s. IsDamaged x s w b) old c.read_marks.new.journal (Ok c.in_ok-marks.marks) c.in_ok-marks.ensures.looks d) is.spelled is.units) damaged) c.read_inodes.ensures.damaged
+
+pub returns-clause-charge : goal.returns-clause-charge
+returns-clause-charge g c =
+    let m = g.M.Media in
+    IfOk-weaker c.read_inodes.result _ _ (λ found is. carried_back m (λ x s. found.charge ≡ charge (graph x s)) c.args.journal.now c.read_marks.new.journal (Ok c.in_ok-marks.marks) c.in_ok-marks.ensures.looks is) c.read_inodes.ensures.charge
+
+pub returns-clause-damaged : goal.returns-clause-damaged
+returns-clause-damaged g c =
+    let m = g.M.Media in
+    IfErr-weaker c.read_inodes.result _ _ (λ e damaged. on_damage e (λ w b d. carried_back m (λ x s. IsDamaged x s w b) c.args.journal.now c.read_marks.new.journal (Ok c.in_ok-marks.marks) c.in_ok-marks.ensures.looks d) damaged) c.read_inodes.ensures.damaged

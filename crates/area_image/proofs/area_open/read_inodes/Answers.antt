@@ -12,14 +12,14 @@ returns-clause-openable g c =
       spelled = record {
         superblock = (c.left_now.ensures.journal c.requires.going seen (g.met.M.Media.seen_now old.media Fast)).superblock;
         marks = is_some_at _ c.args.marks c.requires.marks;
-        inodes = c.in-Ok-read_area.ensures.inodes;
-        apart = c.in-Ok-read_area.ensures.apart;
+        inodes = c.in_ok-charge.ensures.inodes;
+        apart = c.in_ok-charge.ensures.apart;
       };
       units = (
           let over = c.if-units-charge.false in
           let told = c.units.ensures.units in
           let same = ap (λ (x : Sizes). x.units) c.geometry-geometry.ensures in
-          let here = c.in-Ok-read_area.ensures.units in
+          let here = c.in_ok-charge.ensures.units in
           omega (arith, over, told, same, here)
           );
     }

@@ -1,4 +1,5 @@
 use Rattle.std.proofs.Common.{◌+◌, Err, sym, subst, arith}
+use Rattle.std.proofs.lemmas.Result.{err_from_is_err_and}
 use Rattle.area_image.specs.Store.{disk}
 use Rattle.area_image.specs.Looks.{call_answer}
 use Rattle.area_image.specs.Checks.{IsEntries, HasFound, AreFirstParts, HasPart, IsDirectoryDamageOf}
@@ -40,24 +41,27 @@ parts-preserved g c =
     let old = c.args.journal.now in
     let first = c.parts.invariant.looks in
     record {
-      looks = looks_on m old c.parts.journal c.check_part.new.journal tt call_answer first c.in-Ok.ensures.looks;
-      before = carried_back m (λ x s. AreFirstParts x s c.args.inode c.args.entries (c.parts.number + 1) c.check_part.new.names) old c.parts.journal call_answer first c.in-Ok.ensures.parts;
+      looks = looks_on m old c.parts.journal c.check_part.new.journal tt call_answer first c.in_ok-check_part.ensures.looks;
+      before = carried_back m (λ x s. AreFirstParts x s c.args.inode c.args.entries (c.parts.number + 1) c.check_part.new.names) old c.parts.journal call_answer first c.in_ok-check_part.ensures.parts;
     }
 
-pub returns-in-Err-clause-damaged : goal.returns-in-Err-clause-damaged
-returns-in-Err-clause-damaged g c =
+pub returns-in_err-check_part-clause-damaged : goal.returns-in_err-check_part-clause-damaged
+returns-in_err-check_part-clause-damaged g c =
     let m = g.M.Media in
-    on_damage c.in-Err.error (λ w b d. carried_back m (λ x s. IsDirectoryDamageOf x s c.args.inode w b) c.args.journal.now c.parts.journal call_answer c.parts.invariant.looks d) c.in-Err.ensures.damaged
+    let p = err_from_is_err_and c.from_residual.result c.from_residual.ensures.1 in
+    rw (p.1, p.2) (on_damage c.in_err-check_part.field-0.0 (λ w b d. carried_back m (λ x s. IsDirectoryDamageOf x s c.args.inode w b) c.args.journal.now c.parts.journal call_answer c.parts.invariant.looks d) c.in_err-check_part.ensures.damaged)
 
-pub returns-in-Err-clause-memory : goal.returns-in-Err-clause-memory
-returns-in-Err-clause-memory g c = λ is.
+pub returns-in_err-check_part-clause-memory : goal.returns-in_err-check_part-clause-memory
+returns-in_err-check_part-clause-memory g c =
     let m = g.M.Media in
-    carried_back m (λ x s. HasPart x s c.args.inode) c.args.journal.now c.parts.journal call_answer c.parts.invariant.looks (c.in-Err.ensures.memory is)
+    let p = err_from_is_err_and c.from_residual.result c.from_residual.ensures.1 in
+    rw (p.1, p.2) (λ is. carried_back m (λ x s. HasPart x s c.args.inode) c.args.journal.now c.parts.journal call_answer c.parts.invariant.looks (c.in_err-check_part.ensures.memory is))
 
-pub returns-in-Err-clause-looks : goal.returns-in-Err-clause-looks
-returns-in-Err-clause-looks g c =
+pub returns-in_err-check_part-clause-looks : goal.returns-in_err-check_part-clause-looks
+returns-in_err-check_part-clause-looks g c =
     let m = g.M.Media in
-    looks_on m c.args.journal.now c.parts.journal c.check_part.new.journal tt (Err c.in-Err.error) c.parts.invariant.looks c.in-Err.ensures.looks
+    let p = err_from_is_err_and c.from_residual.result c.from_residual.ensures.1 in
+    rw (p.1, p.2) (looks_on m c.args.journal.now c.parts.journal c.check_part.new.journal tt (Err c.in_err-check_part.field-0.0) c.parts.invariant.looks c.in_err-check_part.ensures.looks)
 
 pub returns-clause-directory : goal.returns-clause-directory
 returns-clause-directory g c =

@@ -15,8 +15,8 @@ name_here v es i x same lt is = ap (λ (e : DirEntry). e.name) (got v.entries i 
 abbrev HaveMore : List (List ℕ) → List (List ℕ) → List ℕ → Type 0
 HaveMore new old name = (n : List ℕ) → IsAmong new n ↔ (IsAmong old n ⊎ (n ≡ name))
 
-pub returns-then-not-new : goal.returns-then-not-new
-returns-then-not-new c =
+pub returns-then-not-is_new : goal.returns-then-not-is_new
+returns-then-not-is_new c =
     let v : EntryList = block_entries c.args.block.now in
     let i : ℕ = c.entries.index in
     let list : c.from_known-list.result ≡ v = c.from_known-list.ensures in
@@ -25,7 +25,7 @@ returns-then-not-new c =
     let lt : i < length v.entries = subst (λ n. i < n) long test in
     let name = name_here v c.from_known-list.result.entries i (owned_entry c.entry-entry.result) (ap (λ (l : EntryList). l.entries) list) lt c.entry-entry.ensures.entry in
     let n : List ℕ = (owned_entry c.entry-entry.result).name in
-    let there : IsAmong c.entries.names n = subst (λ (b : Bool). MatchBool b (IsAmong c.entries.names n → ⊥) (IsAmong c.entries.names n)) c.if-not-new.true c.in-Ok.ensures.new in
+    let there : IsAmong c.entries.names n = subst (λ (b : Bool). MatchBool b (IsAmong c.entries.names n → ⊥) (IsAmong c.entries.names n)) c.if-not-is_new.true c.in_ok-is_new.ensures.new in
     shares_name c.args.block.now c.requires i lt c.args.names.now c.entries.names c.entries.invariant (subst (IsAmong c.entries.names) name there)
 
 pub entries-preserved : goal.entries-preserved
@@ -38,6 +38,6 @@ entries-preserved c =
     let lt : i < length v.entries = subst (λ n. i < n) long test in
     let name = name_here v c.from_known-list.result.entries i (owned_entry c.entry-entry.result) (ap (λ (l : EntryList). l.entries) list) lt c.entry-entry.ensures.entry in
     let n : List ℕ = (owned_entry c.entry-entry.result).name in
-    let fresh : IsAmong c.entries.names n → ⊥ = subst (λ (b : Bool). MatchBool b (IsAmong c.entries.names n → ⊥) (IsAmong c.entries.names n)) c.if-not-new.false c.in-Ok.ensures.new in
-    let more : HaveMore c.add.new.self c.entries.names n = c.in-Ok.ensures.names in
+    let fresh : IsAmong c.entries.names n → ⊥ = subst (λ (b : Bool). MatchBool b (IsAmong c.entries.names n → ⊥) (IsAmong c.entries.names n)) c.if-not-is_new.false c.in_ok-is_new.ensures.new in
+    let more : HaveMore c.add.new.self c.entries.names n = c.in_ok-is_new.ensures.names in
     adds_more c.args.block.now c.requires i lt c.args.names.now c.entries.names c.entries.invariant c.add.new.self (subst (λ (x : List ℕ). IsAmong c.entries.names x → ⊥) name fresh) (subst (HaveMore c.add.new.self c.entries.names) name more)

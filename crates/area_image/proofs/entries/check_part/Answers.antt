@@ -1,4 +1,5 @@
 use Rattle.std.proofs.Common.{◌≡◌, ◌<◌, ◌∙◌, ℕ, Some, length, sym, ap, subst, inl, inr}
+use Rattle.std.proofs.lemmas.Result.{err_from_is_err_and}
 use Rattle.batch_journal.specs.tier_device.declared.media.Tier.{Tier}
 use Rattle.batch_journal.specs.tier_device.declared.media.Tier.TheVariants.{Fast}
 use Rattle.batch_journal.specs.layout.Places.{Sizes, tier_blocks}
@@ -60,8 +61,8 @@ returns-then-not-is_part-clause-damaged g c =
     let damage : IsDirectoryDamageOf old.geometry s i what.DirBlock at = inr (no_part old.geometry s i c.args.part.entries dir k at c.requires.more fast wrong) in
     subst (λ (e : AreaError). OnDamage e (IsDirectoryDamageOf old.geometry s i)) (sym c.entries_damaged.ensures) damage
 
-pub returns-then-not-new-clause-damaged : goal.returns-then-not-new-clause-damaged
-returns-then-not-new-clause-damaged g c =
+pub returns-then-not-is_new-clause-damaged : goal.returns-then-not-is_new-clause-damaged
+returns-then-not-is_new-clause-damaged g c =
     let old = c.args.journal.now in
     let s : Store = disk g.M.Media old in
     let i = c.args.part.inode in
@@ -73,13 +74,13 @@ returns-then-not-new-clause-damaged g c =
     let read : c.read_block.new.out ≡ logical_block old.geometry s i k = c.in_ok-read_block.ensures.bytes ∙ sym (block_at old.geometry s i t k at dir.kind_is there) in
     let part : IsDirectoryBlock i c.args.part.entries k (logical_block old.geometry s i k) = subst (IsDirectoryBlock i c.args.part.entries k) read c.if-not-is_part.ensures in
     let fast = subst (λ (u : Tier). place old.geometry s i u k ≡ Some at) (directory_tier old.geometry s i t k at dir.kind_is there) there in
-    let shares : SharesName c.read_block.new.out c.args.names.now = subst (λ (b : Bool). MatchBool b (AddsNames c.read_block.new.out (length (block_entries c.read_block.new.out).entries) c.args.names.now c.add_names.new.names) (SharesName c.read_block.new.out c.args.names.now)) c.if-not-new.true c.in-Ok.ensures in
+    let shares : SharesName c.read_block.new.out c.args.names.now = subst (λ (b : Bool). MatchBool b (AddsNames c.read_block.new.out (length (block_entries c.read_block.new.out).entries) c.args.names.now c.add_names.new.names) (SharesName c.read_block.new.out c.args.names.now)) c.if-not-is_new.true c.in_ok-is_new.ensures in
     let same = same_name old.geometry s i c.args.part.entries k c.args.names.now c.requires.before (subst (λ (b : List ℕ). SharesName b c.args.names.now) read shares) in
     let damage : IsDirectoryDamageOf old.geometry s i what.DirBlock at = inr (twin old.geometry s i c.args.part.entries dir k at c.requires.more fast part c.requires.before.parts same) in
-    subst (λ (e : AreaError). OnDamage e (IsDirectoryDamageOf old.geometry s i)) (sym c.entries_damaged-then-not-new.ensures) damage
+    subst (λ (e : AreaError). OnDamage e (IsDirectoryDamageOf old.geometry s i)) (sym c.entries_damaged-then-not-is_new.ensures) damage
 
-pub returns-else-not-new-clause-parts : goal.returns-else-not-new-clause-parts
-returns-else-not-new-clause-parts g c =
+pub returns-clause-parts : goal.returns-clause-parts
+returns-clause-parts g c =
     let old = c.args.journal.now in
     let s : Store = disk g.M.Media old in
     let i = c.args.part.inode in
@@ -90,11 +91,11 @@ returns-else-not-new-clause-parts g c =
     let there : place old.geometry s i t k ≡ Some at = place_is old.geometry s i c.args.part.found.now c.requires.found t k ∙ c.in-Some.ensures.some ∙ ap Some (sym c.block_number-at.ensures) in
     let read : c.read_block.new.out ≡ logical_block old.geometry s i k = c.in_ok-read_block.ensures.bytes ∙ sym (block_at old.geometry s i t k at dir.kind_is there) in
     let part : IsDirectoryBlock i c.args.part.entries k (logical_block old.geometry s i k) = subst (IsDirectoryBlock i c.args.part.entries k) read c.if-not-is_part.ensures in
-    let adds : AddsNames c.read_block.new.out (length (block_entries c.read_block.new.out).entries) c.args.names.now c.add_names.new.names = subst (λ (b : Bool). MatchBool b (AddsNames c.read_block.new.out (length (block_entries c.read_block.new.out).entries) c.args.names.now c.add_names.new.names) (SharesName c.read_block.new.out c.args.names.now)) c.if-not-new.false c.in-Ok.ensures in
+    let adds : AddsNames c.read_block.new.out (length (block_entries c.read_block.new.out).entries) c.args.names.now c.add_names.new.names = subst (λ (b : Bool). MatchBool b (AddsNames c.read_block.new.out (length (block_entries c.read_block.new.out).entries) c.args.names.now c.add_names.new.names) (SharesName c.read_block.new.out c.args.names.now)) c.if-not-is_new.false c.in_ok-is_new.ensures in
     first_more old.geometry s i c.args.part.entries k c.args.names.now c.requires.before part c.add_names.new.names (subst (λ (b : List ℕ). AddsNames b (length (block_entries b).entries) c.args.names.now c.add_names.new.names) read adds)
 
-pub returns-in-Err-clause-memory : goal.returns-in-Err-clause-memory
-returns-in-Err-clause-memory g c = λ is.
+pub returns-in_err-is_new-clause-memory : goal.returns-in_err-is_new-clause-memory
+returns-in_err-is_new-clause-memory g c =
     let old = c.args.journal.now in
     let s : Store = disk g.M.Media old in
     let i = c.args.part.inode in
@@ -105,4 +106,5 @@ returns-in-Err-clause-memory g c = λ is.
     let there : place old.geometry s i t k ≡ Some at = place_is old.geometry s i c.args.part.found.now c.requires.found t k ∙ c.in-Some.ensures.some ∙ ap Some (sym c.block_number-at.ensures) in
     let read : c.read_block.new.out ≡ logical_block old.geometry s i k = c.in_ok-read_block.ensures.bytes ∙ sym (block_at old.geometry s i t k at dir.kind_is there) in
     let part : IsDirectoryBlock i c.args.part.entries k (logical_block old.geometry s i k) = subst (IsDirectoryBlock i c.args.part.entries k) read c.if-not-is_part.ensures in
-    part_held old.geometry s i c.args.part.entries k dir c.requires.more part
+    let p = err_from_is_err_and c.from_residual-in_err-is_new.result c.from_residual-in_err-is_new.ensures.1 in
+    rw p.1 (λ is. part_held old.geometry s i c.args.part.entries k dir c.requires.more part)

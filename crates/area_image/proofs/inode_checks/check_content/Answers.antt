@@ -1,4 +1,5 @@
 use Rattle.std.proofs.Common.{◌≡◌, ◌∙◌, Some, ap, subst, true}
+use Rattle.std.proofs.lemmas.Result.{on_ok_weaker, IfErr-weaker}
 use Rattle.batch_journal.specs.layout.declared.slot.Slot.{Slot}
 use Rattle.batch_journal.specs.layout.Slot.{fits_slot}
 use Rattle.area_image.specs.Store.{Store, disk}
@@ -23,17 +24,17 @@ check_file-requires-clause-file g c =
     let old = c.args.journal.now in
     is_file old.geometry (disk g.M.Media old) c.args.inode _ _ _ _ _ _ (inode_is c.args.inode c.requires.low c.requires.high) (c.requires.slot ∙ ap Some c.in-File.is)
 
-pub returns-in-Ok-clause-consistent : goal.returns-in-Ok-clause-consistent
-returns-in-Ok-clause-consistent g c =
+pub returns-in-File-clause-consistent : goal.returns-in-File-clause-consistent
+returns-in-File-clause-consistent g c =
     let old = c.args.journal.now in
     let s : Store = disk g.M.Media old in
     let file = is_file old.geometry s c.args.inode _ _ _ _ _ _ (inode_is c.args.inode c.requires.low c.requires.high) (c.requires.slot ∙ ap Some c.in-File.is) in
-    file_consistent old.geometry s c.args.inode c.in-File.size file c.in-Ok.ensures.zero
+    on_ok_weaker c.check_file.result (λ zero. file_consistent old.geometry s c.args.inode c.in-File.size file zero) c.check_file.ensures.zero
 
-pub returns-in-Err-clause-own : goal.returns-in-Err-clause-own
-returns-in-Err-clause-own g c =
+pub returns-in-File-clause-own : goal.returns-in-File-clause-own
+returns-in-File-clause-own g c =
     let old = c.args.journal.now in
-    on_damage c.in-Err.error (tail_own old.geometry (disk g.M.Media old) c.args.inode) c.in-Err.ensures.damaged
+    IfErr-weaker c.check_file.result _ _ (λ e damaged. on_damage e (tail_own old.geometry (disk g.M.Media old) c.args.inode) damaged) c.check_file.ensures.damaged
 
 pub check_directory-requires-clause-directory : goal.check_directory-requires-clause-directory
 check_directory-requires-clause-directory g c =
@@ -45,17 +46,14 @@ check_directory-requires-clause-few g c =
     let old = c.args.journal.now in
     few_entries old.geometry c.in-Directory.names c.in-Directory.entries c.in-Directory.touch c.in-Directory.root (subst (λ (x : Slot). fits_slot old.geometry x ≡ true) c.in-Directory.is c.requires.fits)
 
-pub returns-in-Ok-check_directory-clause-consistent : goal.returns-in-Ok-check_directory-clause-consistent
-returns-in-Ok-check_directory-clause-consistent g c =
+pub returns-in-Directory-clause-consistent : goal.returns-in-Directory-clause-consistent
+returns-in-Directory-clause-consistent g c =
     let old = c.args.journal.now in
     let s : Store = disk g.M.Media old in
     let dir = is_entries old.geometry s c.args.inode _ _ _ _ (inode_is c.args.inode c.requires.low c.requires.high) (c.requires.slot ∙ ap Some c.in-Directory.is) in
-    directory_consistent old.geometry s c.args.inode c.in-Directory.entries dir c.in-Ok-check_directory.ensures.directory
+    on_ok_weaker c.check_directory.result (λ are. directory_consistent old.geometry s c.args.inode c.in-Directory.entries dir are) c.check_directory.ensures.directory
 
-pub returns-in-Err-check_directory-clause-own : goal.returns-in-Err-check_directory-clause-own
-returns-in-Err-check_directory-clause-own g c =
+pub returns-in-Directory-clause-own : goal.returns-in-Directory-clause-own
+returns-in-Directory-clause-own g c =
     let old = c.args.journal.now in
-    on_damage c.in-Err-check_directory.error (directory_own old.geometry (disk g.M.Media old) c.args.inode) c.in-Err-check_directory.ensures.damaged
-
-pub returns-in-Err-check_directory-clause-memory : goal.returns-in-Err-check_directory-clause-memory
-returns-in-Err-check_directory-clause-memory g c = λ is. c.in-Err-check_directory.ensures.memory is
+    IfErr-weaker c.check_directory.result _ _ (λ e damaged. on_damage e (directory_own old.geometry (disk g.M.Media old) c.args.inode) damaged) c.check_directory.ensures.damaged

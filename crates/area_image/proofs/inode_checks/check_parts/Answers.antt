@@ -1,4 +1,5 @@
 use Rattle.std.proofs.Common.{◌<◌, Err, sym, subst, inl, inr}
+use Rattle.std.proofs.lemmas.Result.{on_ok_weaker}
 use Rattle.batch_journal.specs.layout.declared.error.What.TheVariants as what
 use Rattle.area_image.specs.declared.error.AreaError.TheVariants as errors
 use Rattle.area_image.specs.Store.{Store, disk}
@@ -27,9 +28,9 @@ check_content-requires-clause-once g c =
     let s : Store = disk g.M.Media old in
     once_all old.geometry s c.args.inode c.args.parts.now.slot c.requires.slot c.args.parts.now.extents c.requires.found (λ k lt. c.in-None.ensures.none k (subst (λ n. k < n) (sym c.length_of.ensures) lt))
 
-pub returns-in-Ok-clause-spelled : goal.returns-in-Ok-clause-spelled
-returns-in-Ok-clause-spelled g c =
+pub returns-in-None-clause-spelled : goal.returns-in-None-clause-spelled
+returns-in-None-clause-spelled g c =
     let old = c.args.journal.now in
     let s : Store = disk g.M.Media old in
     let once : IsOnce old.geometry s c.args.inode = once_all old.geometry s c.args.inode c.args.parts.now.slot c.requires.slot c.args.parts.now.extents c.requires.found (λ k lt. c.in-None.ensures.none k (subst (λ n. k < n) (sym c.length_of.ensures) lt)) in
-    spells old.geometry s c.args.inode c.args.parts.now.slot c.requires.slot c.args.parts.now.extents c.requires.found once c.in-Ok.ensures.consistent
+    on_ok_weaker c.check_content.result (λ consistent. spells old.geometry s c.args.inode c.args.parts.now.slot c.requires.slot c.args.parts.now.extents c.requires.found once consistent) c.check_content.ensures.consistent

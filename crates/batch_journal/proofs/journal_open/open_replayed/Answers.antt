@@ -1,4 +1,5 @@
 use Rattle.std.proofs.Common.{◌≡◌, ◌∙◌, ◌+◌, ◌*◌, ℕ, List, true, length, sym, ap, subst, arith}
+use Rattle.std.proofs.lemmas.Result.{err_from_is_err_and}
 use Rattle.layout.specs.tier_device.declared.media.Tier.TheVariants.{Fast}
 use Rattle.layout.specs.tier_device.Media.{Rose}
 use Rattle.batch_journal.specs.Images.{slice, image_count, images_of}
@@ -7,63 +8,67 @@ use Rattle.batch_journal.proofs.Courses.{unmoved_on, left_before}
 use Rattle.batch_journal.proofs.Opens.{tells_ok, tells_fault, tells_as, tells_on, opens_err, opens_failed, opens_replayed, few_images, batch_there, run_names, run_fits}
 use Rattle.batch_journal.proofs.journal_open.open_replayed.Goals as goal
 
-pub returns-in-Err : goal.returns-in-Err
-returns-in-Err g c =
+pub returns-in_err-geometry : goal.returns-in_err-geometry
+returns-in_err-geometry g c =
     let m = g.M.Media in
     let f = m.faults c.args.media.now in
     let f' = m.faults c.read_volume.new.media in
-    opens_err f f' c.read_volume.ensures.unmoved c.requires.rest c.in-Err.error (tells_as f f' c.in-Err.error c.in-Err.ensures.faults) c.in-Err.ensures.named (λ is. absurd (c.in-Err.ensures.only.1 is)) c.in-Err.ensures.only.0
+    let e = c.in_err-geometry.field-0.0 in
+    let read = c.in_err-geometry.ensures in
+    let p = err_from_is_err_and c.from_residual.result c.from_residual.ensures.1 in
+    rw (p.1, p.2) (opens_err f f' c.read_volume.ensures.unmoved c.requires.rest e (tells_as f f' e read.faults) read.named (λ is. absurd (read.only.1 is)) read.only.0)
 
 pub overflow_mul-count : goal.overflow_mul-count
 overflow_mul-count g c =
-    let few = few_images c.in-Ok.found.0 (g.M.Media.seen c.args.media.now) c.in-Ok.found.1 c.in-Ok.ensures.is c.requires.opened c.in-Ok.ensures.count in
+    let few = few_images c.in_ok-geometry.geometry (g.M.Media.seen c.args.media.now) c.in_ok-geometry.count c.in_ok-geometry.ensures.is c.requires.opened c.in_ok-geometry.ensures.count in
     omega (arith, few)
 
 pub overflow_add-count : goal.overflow_add-count
 overflow_add-count g c =
-    let few = few_images c.in-Ok.found.0 (g.M.Media.seen c.args.media.now) c.in-Ok.found.1 c.in-Ok.ensures.is c.requires.opened c.in-Ok.ensures.count in
+    let few = few_images c.in_ok-geometry.geometry (g.M.Media.seen c.args.media.now) c.in_ok-geometry.count c.in_ok-geometry.ensures.is c.requires.opened c.in_ok-geometry.ensures.count in
     omega (arith, few)
 
 pub read_run-requires : goal.read_run-requires
 read_run-requires g c =
-    let few = few_images c.in-Ok.found.0 (g.M.Media.seen c.args.media.now) c.in-Ok.found.1 c.in-Ok.ensures.is c.requires.opened c.in-Ok.ensures.count in
+    let few = few_images c.in_ok-geometry.geometry (g.M.Media.seen c.args.media.now) c.in_ok-geometry.count c.in_ok-geometry.ensures.is c.requires.opened c.in_ok-geometry.ensures.count in
     let same = ap length (c.read_volume.ensures.unmoved.reads Fast) in
     omega (arith, few, same, c.requires.size)
 
-pub returns-in-Err-read_run : goal.returns-in-Err-read_run
-returns-in-Err-read_run g c =
+pub returns-in_err-bytes : goal.returns-in_err-bytes
+returns-in_err-bytes g c =
     let m = g.M.Media in
     let f = m.faults c.args.media.now in
     let k = m.faults c.read_volume.new.media in
     let f' = m.faults c.read_run.new.media in
-    let e = c.in-Err-read_run.error in
+    let e = c.in_err-bytes.field-0.0 in
     let un = unmoved_on c.read_volume.ensures.unmoved c.read_run.ensures.unmoved in
-    let told = tells_on f k f' _ c.in-Ok.ensures.faults.quiet (tells_as k f' e c.in-Err-read_run.ensures.faults) in
-    let only = c.in-Err-read_run.ensures.only in
-    opens_err f f' un c.requires.rest e told (run_names e _ only) (λ is. (c.requires.opened, (c.in-Ok.found.0, c.in-Ok.ensures.is))) (run_fits e only)
+    let told = tells_on f k f' _ c.in_ok-geometry.ensures.faults.quiet (tells_as k f' e c.in_err-bytes.ensures.faults) in
+    let only = c.in_err-bytes.ensures.only in
+    let p = err_from_is_err_and c.from_residual-in_err-bytes.result c.from_residual-in_err-bytes.ensures.1 in
+    rw (p.1, p.2) (opens_err f f' un c.requires.rest e told (run_names e _ only) (λ is. (c.requires.opened, (c.in_ok-geometry.geometry, c.in_ok-geometry.ensures.is))) (run_fits e only))
 
 pub replay-requires-clause-count : goal.replay-requires-clause-count
 replay-requires-clause-count g c =
     let m = g.M.Media in
     let s = m.seen c.args.media.now in
-    let n = c.in-Ok.found.1 in
-    let items = c.in-Ok-read_run.bytes.items in
-    let is : items ≡ slice 143360 (4096 * n + 4096) (s Fast) = c.in-Ok-read_run.ensures.bytes ∙ ap (slice 143360 (4096 * n + 4096)) (c.read_volume.ensures.unmoved.reads Fast) in
-    let there = batch_there c.in-Ok.found.0 s n items c.in-Ok.ensures.is c.requires.opened c.in-Ok.ensures.count is in
+    let n = c.in_ok-geometry.count in
+    let items = c.in_ok-bytes.bytes.items in
+    let is : items ≡ slice 143360 (4096 * n + 4096) (s Fast) = c.in_ok-bytes.ensures.bytes ∙ ap (slice 143360 (4096 * n + 4096)) (c.read_volume.ensures.unmoved.reads Fast) in
+    let there = batch_there c.in_ok-geometry.geometry s n items c.in_ok-geometry.ensures.is c.requires.opened c.in_ok-geometry.ensures.count is in
     let value : c.deref.result.now ≡ items = c.deref.ensures.value in
     there.count ∙ ap image_count (sym value)
 
 pub replay-requires-clause-few : goal.replay-requires-clause-few
-replay-requires-clause-few g c = (few_images c.in-Ok.found.0 (g.M.Media.seen c.args.media.now) c.in-Ok.found.1 c.in-Ok.ensures.is c.requires.opened c.in-Ok.ensures.count).1
+replay-requires-clause-few g c = (few_images c.in_ok-geometry.geometry (g.M.Media.seen c.args.media.now) c.in_ok-geometry.count c.in_ok-geometry.ensures.is c.requires.opened c.in_ok-geometry.ensures.count).1
 
 pub replay-requires-clause-long : goal.replay-requires-clause-long
 replay-requires-clause-long g c =
     let m = g.M.Media in
     let s = m.seen c.args.media.now in
-    let n = c.in-Ok.found.1 in
-    let items = c.in-Ok-read_run.bytes.items in
-    let is : items ≡ slice 143360 (4096 * n + 4096) (s Fast) = c.in-Ok-read_run.ensures.bytes ∙ ap (slice 143360 (4096 * n + 4096)) (c.read_volume.ensures.unmoved.reads Fast) in
-    let there = batch_there c.in-Ok.found.0 s n items c.in-Ok.ensures.is c.requires.opened c.in-Ok.ensures.count is in
+    let n = c.in_ok-geometry.count in
+    let items = c.in_ok-bytes.bytes.items in
+    let is : items ≡ slice 143360 (4096 * n + 4096) (s Fast) = c.in_ok-bytes.ensures.bytes ∙ ap (slice 143360 (4096 * n + 4096)) (c.read_volume.ensures.unmoved.reads Fast) in
+    let there = batch_there c.in_ok-geometry.geometry s n items c.in_ok-geometry.ensures.is c.requires.opened c.in_ok-geometry.ensures.count is in
     let value : c.deref.result.now ≡ items = c.deref.ensures.value in
     omega (arith, there.long, ap length value)
 
@@ -71,10 +76,10 @@ pub replay-requires-clause-fit : goal.replay-requires-clause-fit
 replay-requires-clause-fit g c =
     let m = g.M.Media in
     let s = m.seen c.args.media.now in
-    let n = c.in-Ok.found.1 in
-    let items = c.in-Ok-read_run.bytes.items in
-    let is : items ≡ slice 143360 (4096 * n + 4096) (s Fast) = c.in-Ok-read_run.ensures.bytes ∙ ap (slice 143360 (4096 * n + 4096)) (c.read_volume.ensures.unmoved.reads Fast) in
-    let there = batch_there c.in-Ok.found.0 s n items c.in-Ok.ensures.is c.requires.opened c.in-Ok.ensures.count is in
+    let n = c.in_ok-geometry.count in
+    let items = c.in_ok-bytes.bytes.items in
+    let is : items ≡ slice 143360 (4096 * n + 4096) (s Fast) = c.in_ok-bytes.ensures.bytes ∙ ap (slice 143360 (4096 * n + 4096)) (c.read_volume.ensures.unmoved.reads Fast) in
+    let there = batch_there c.in_ok-geometry.geometry s n items c.in_ok-geometry.ensures.is c.requires.opened c.in_ok-geometry.ensures.count is in
     let value : c.deref.result.now ≡ items = c.deref.ensures.value in
     let un = unmoved_on c.read_volume.ensures.unmoved c.read_run.ensures.unmoved in
     let now = m.seen c.read_run.new.media Fast in
@@ -99,32 +104,33 @@ pub replay-requires-clause-staged : goal.replay-requires-clause-staged
 replay-requires-clause-staged g c =
     let m = g.M.Media in
     let s = m.seen c.args.media.now in
-    let n = c.in-Ok.found.1 in
-    let items = c.in-Ok-read_run.bytes.items in
-    let is : items ≡ slice 143360 (4096 * n + 4096) (s Fast) = c.in-Ok-read_run.ensures.bytes ∙ ap (slice 143360 (4096 * n + 4096)) (c.read_volume.ensures.unmoved.reads Fast) in
-    let there = batch_there c.in-Ok.found.0 s n items c.in-Ok.ensures.is c.requires.opened c.in-Ok.ensures.count is in
+    let n = c.in_ok-geometry.count in
+    let items = c.in_ok-bytes.bytes.items in
+    let is : items ≡ slice 143360 (4096 * n + 4096) (s Fast) = c.in_ok-bytes.ensures.bytes ∙ ap (slice 143360 (4096 * n + 4096)) (c.read_volume.ensures.unmoved.reads Fast) in
+    let there = batch_there c.in_ok-geometry.geometry s n items c.in_ok-geometry.ensures.is c.requires.opened c.in_ok-geometry.ensures.count is in
     let value : c.deref.result.now ≡ items = c.deref.ensures.value in
     let un = unmoved_on c.read_volume.ensures.unmoved c.read_run.ensures.unmoved in
     ap (λ (x : List ℕ). images_of (area_of x)) (un.reads Fast) ∙ there.read.staged ∙ ap images_of (sym value)
-
-pub returns-in-Ok-replay : goal.returns-in-Ok-replay
-returns-in-Ok-replay g c =
-    let m = g.M.Media in
-    let f = m.faults c.args.media.now in
-    let f' = m.faults c.replay.new.media in
-    let un = unmoved_on c.read_volume.ensures.unmoved c.read_run.ensures.unmoved in
-    let quiet : f' ≡ f = c.in-Ok-replay.ensures.quiet ∙ c.in-Ok-read_run.ensures.faults.quiet ∙ c.in-Ok.ensures.faults.quiet in
-    let r = c.in-Ok-replay.ensures in
-    opens_replayed f f' c.in-Ok.found.1 un c.requires.rest c.requires.opened c.in-Ok.ensures.count r.course (m.seen c.replay.new.media) r.lengths c.in-Ok.found.0 r.calls (tells_ok f f' c.in-Ok.found.0 quiet) c.in-Ok.ensures.is r.rest r.closed r.others r.gate_byte
 
 pub returns : goal.returns
 returns g c =
     let m = g.M.Media in
     let f = m.faults c.args.media.now in
+    let f' = m.faults c.replay.new.media in
+    let un = unmoved_on c.read_volume.ensures.unmoved c.read_run.ensures.unmoved in
+    let quiet : f' ≡ f = c.in_ok-replay.ensures.quiet ∙ c.in_ok-bytes.ensures.faults.quiet ∙ c.in_ok-geometry.ensures.faults.quiet in
+    let r = c.in_ok-replay.ensures in
+    opens_replayed f f' c.in_ok-geometry.count un c.requires.rest c.requires.opened c.in_ok-geometry.ensures.count r.course (m.seen c.replay.new.media) r.lengths c.in_ok-geometry.geometry r.calls (tells_ok f f' c.in_ok-geometry.geometry quiet) c.in_ok-geometry.ensures.is r.rest r.closed r.others r.gate_byte
+
+pub returns-in_err-replay : goal.returns-in_err-replay
+returns-in_err-replay g c =
+    let m = g.M.Media in
+    let f = m.faults c.args.media.now in
     let k = m.faults c.read_run.new.media in
     let f' = m.faults c.replay.new.media in
     let un = unmoved_on c.read_volume.ensures.unmoved c.read_run.ensures.unmoved in
-    let same : k ≡ f = c.in-Ok-read_run.ensures.faults.quiet ∙ c.in-Ok.ensures.faults.quiet in
-    let r = c.in-Err-replay.ensures in
+    let same : k ≡ f = c.in_ok-bytes.ensures.faults.quiet ∙ c.in_ok-geometry.ensures.faults.quiet in
+    let r = c.in_err-replay.ensures in
     let told = tells_fault f f' (omega (arith, same, r.faults)) (omega (arith, same, r.one_fault)) (subst (λ (j : ℕ). Rose j f') same r.cause) in
-    opens_failed f f' c.in-Ok.found.1 un c.requires.rest c.requires.opened c.in-Ok.ensures.count r.course (m.seen c.replay.new.media) r.lengths r.at_most told
+    let p = err_from_is_err_and c.from_residual-in_err-replay.result c.from_residual-in_err-replay.ensures.1 in
+    rw (p.1, p.2) (opens_failed f f' c.in_ok-geometry.count un c.requires.rest c.requires.opened c.in_ok-geometry.ensures.count r.course (m.seen c.replay.new.media) r.lengths r.at_most told)

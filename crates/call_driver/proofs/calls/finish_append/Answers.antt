@@ -9,13 +9,13 @@ use Rattle.call_driver.proofs.calls.finish_append.Goals as goal
 pub returns-in_default : goal.returns-in_default
 returns-in_default g c =
     record {
-      carried = ended_by_step g.E.Events.plays c.args.client c.loop-step.step c.in-Some.served _ _ _ c.loop-step.invariant.steps c.in-Some.ensures.exact c.in_default.not-Pending;
+      carried = ended_by_step g.E.Events.plays c.args.client c.loop-step.step c.in-Some.served _ _ _ c.loop-step.invariant.steps (omega (arith, c.loop-step.auto.step-end)) c.in-Some.ensures.exact c.in_default.not-Pending;
       events = leads_on g.E.Events.plays (IsOf c.args.client) _ _ (event.Step c.args.client) _ c.loop-step.invariant.run refl (c.step_call.ensures.exact.0, c.step_call.ensures.exact.1);
       answered = λ reply is. (c.loop-step.events, event.Step c.args.client, refl, c.step_call.ensures.answered reply (c.in-Some.is ∙ ap Some is));
     }
 
 pub returns-in-None-clause-carried : goal.returns-in-None-clause-carried
-returns-in-None-clause-carried g c = ended_by_none g.E.Events.plays c.args.client c.loop-step.step _ _ _ c.loop-step.invariant.steps c.in-None.ensures.exact
+returns-in-None-clause-carried g c = ended_by_none g.E.Events.plays c.args.client c.loop-step.step _ _ _ c.loop-step.invariant.steps (omega (arith, c.loop-step.auto.step-end)) c.in-None.ensures.exact
 
 pub returns-in-None-clause-events : goal.returns-in-None-clause-events
 returns-in-None-clause-events g c = leads_on g.E.Events.plays (IsOf c.args.client) _ _ (event.Step c.args.client) _ c.loop-step.invariant.run refl (c.step_call.ensures.exact.0, c.step_call.ensures.exact.1)
@@ -27,4 +27,4 @@ loop-step-preserved g c = record {
 }
 
 pub returns-clause-carried : goal.returns-clause-carried
-returns-clause-carried g c = record { count = c.loop-step.step; last = c.loop-step.events; steps = c.loop-step.invariant.steps; end = inl (omega (arith, c.loop-step-test.false, c.loop-step.auto.step-end), refl, refl) }
+returns-clause-carried g c = record { count = c.loop-step.step; last = c.loop-step.events; steps = c.loop-step.invariant.steps; few = omega (arith, c.loop-step.auto.step-end); end = inl (omega (arith, c.loop-step-test.false, c.loop-step.auto.step-end), refl, refl) }

@@ -7,7 +7,7 @@ use Rattle.call_driver.proofs.digests.digest_all.Goals as goal
 
 pub returns-in-Nothing : goal.returns-in-Nothing
 returns-in-Nothing g c = record {
-  digested = record { before = c.digest_region.new.events; first = c.in-Ok.ensures.digested; rest = inr c.in-Nothing.ensures };
+  digested = record { before = c.digest_region.new.events; first = c.in_ok-digest_region.ensures.digested; rest = inr c.in-Nothing.ensures };
   events = leads_on g.E.Events.plays (IsDigesting c.args.client) _ _ _ _ c.digest_region.ensures.events (inr refl) (c.carry_out.ensures.0, c.carry_out.ensures.1);
 }
 
@@ -19,6 +19,6 @@ returns-in-Refused g c = record {
 
 pub returns-in-Done : goal.returns-in-Done
 returns-in-Done g c = record {
-  digested = after_seal g.E.Events c.args.client c.digest_region-in-Done.result _ _ _ _ c.in-Ok.ensures.digested c.digest_region.ensures.events c.in-Done.ensures c.digest_region-in-Done.ensures.digested;
+  digested = after_seal g.E.Events c.args.client c.digest_region-in-Done.result _ _ _ _ c.in_ok-digest_region.ensures.digested c.digest_region.ensures.events c.in-Done.ensures c.digest_region-in-Done.ensures.digested;
   events = leads_then g.E.Events.plays (IsDigesting c.args.client) _ _ _ (leads_on g.E.Events.plays (IsDigesting c.args.client) _ _ _ _ c.digest_region.ensures.events (inr refl) (c.carry_out.ensures.0, c.carry_out.ensures.1)) c.digest_region-in-Done.ensures.events;
 }

@@ -1,4 +1,4 @@
-use Rattle.std.proofs.Common.{refl, inl, inr}
+use Rattle.std.proofs.Common.{arith, refl, inl, inr}
 use Rattle.world.specs.system_world.event_steps.declared.event.Event.TheVariants as event
 use Rattle.call_driver.specs.EventOwner.{IsDigesting}
 use Rattle.call_driver.proofs.Chains.{once_more}
@@ -7,7 +7,7 @@ use Rattle.call_driver.proofs.digests.digest_region.Goals as goal
 
 pub returns-in-Nothing : goal.returns-in-Nothing
 returns-in-Nothing g c = record {
-  digested = (c.loop-chunk.chunk, record { last = c.loop-chunk.events; times = c.loop-chunk.invariant.times; end = inr c.in-Nothing.ensures });
+  digested = (c.loop-chunk.chunk, record { last = c.loop-chunk.events; times = c.loop-chunk.invariant.times; few = (let told = c.undigested-chunk-end.ensures in omega (arith, told, c.loop-chunk.auto.chunk-end)); end = inr c.in-Nothing.ensures });
   events = leads_on g.E.Events.plays (IsDigesting c.args.client) _ _ _ _ c.loop-chunk.invariant.run (inl refl) (c.carry_out.ensures.0, c.carry_out.ensures.1);
 }
 

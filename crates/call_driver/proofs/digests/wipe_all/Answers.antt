@@ -1,4 +1,4 @@
-use Rattle.std.proofs.Common.{rules, ◌≡◌, refl, inr}
+use Rattle.std.proofs.Common.{rules, arith, ◌≡◌, refl, inr}
 use Rattle.world.specs.system_world.event_steps.declared.event.Event.TheVariants as event
 use Rattle.call_driver.proofs.Chains.{once_more}
 use Rattle.call_driver.proofs.RunLemmas.{leads_on}
@@ -6,7 +6,7 @@ use Rattle.call_driver.proofs.digests.wipe_all.Goals as goal
 
 pub returns-in-Nothing : goal.returns-in-Nothing
 returns-in-Nothing g c = record {
-  wiped = (c.loop-step.step, record { last = c.loop-step.events; times = c.loop-step.invariant.times; end = inr c.in-Nothing.ensures }, c.loop-step.invariant.told);
+  wiped = (c.loop-step.step, record { last = c.loop-step.events; times = c.loop-step.invariant.times; few = omega (arith, c.loop-step.auto.step-end); end = inr c.in-Nothing.ensures }, c.loop-step.invariant.told);
   events = leads_on g.E.Events.plays (λ e. e ≡ event.WipeStep c.args.client) _ _ _ _ c.loop-step.invariant.run refl (c.carry_out.ensures.0, c.carry_out.ensures.1);
 }
 

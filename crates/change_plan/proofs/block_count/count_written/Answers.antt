@@ -7,10 +7,10 @@ use Rattle.inode_plan.proofs.After.{numbers_over}
 use Rattle.change_plan.proofs.PlansFile.{long}
 use Rattle.change_plan.proofs.block_count.count_written.Goals as goal
 
-pub returns-in-Ok-written_numbers-clause-wanted : goal.returns-in-Ok-written_numbers-clause-wanted
-returns-in-Ok-written_numbers-clause-wanted g c =
+pub returns-clause-wanted : goal.returns-clause-wanted
+returns-clause-wanted g c =
     let old = c.args.journal.now in
     let change = change_of c.args.change.now in
-    let numbers = c.in-Ok-written_numbers.numbers in
-    let are = numbers_over (lies_at c.in-Ok.map) change numbers.items c.in-Ok-written_numbers.ensures.numbers (places_from old.geometry (disk g.M.Media old) c.args.inode change.base) c.in-Ok.ensures.same in
+    let numbers = c.in_ok-numbers.numbers in
+    let are = numbers_over (lies_at c.in_ok-map.map) change numbers.items c.in_ok-numbers.ensures.numbers (places_from old.geometry (disk g.M.Media old) c.args.inode change.base) c.in_ok-map.ensures.same in
     inl (c.requires.is_file, numbers.items, are, sym (c.len.ensures ∙ long numbers))

@@ -24,19 +24,19 @@ plan_changed-requires g c =
     let m = g.M.Media in
     let old = c.args.journal.now in
     let new = c.directory_change.new.journal in
-    let looks = c.in-Ok.ensures.looks in
-    let change = change_of c.args.change.now in
+    let looks = c.in_ok-directory.ensures.looks in
+    let change = change_of c.args.changed.now.change.now in
     record {
       going = looks.going.1;
-      next = carried m (λ h s. IsNext h s c.args.inode c.args.slot.now change c.args.pools.now c.args.taken.now c.args.plan.now.nodes) old new _ looks c.requires.next;
-      changed = carried m (λ h s. IsChangedFrom h s change c.args.inode c.in-Ok.changed) old new _ looks c.in-Ok.ensures.changed;
+      next = carried m (λ h s. IsNext h s c.args.changed.now.inode c.args.changed.now.slot change c.args.pools.now c.args.plan.now.taken c.args.plan.now.nodes) old new _ looks c.requires.next;
+      changed = carried m (λ h s. IsChangedFrom h s change c.args.changed.now.inode c.in_ok-directory.directory) old new _ looks c.in_ok-directory.ensures.changed;
     }
 
-pub returns-in-Ok-plan_changed-clause-planned : goal.returns-in-Ok-plan_changed-clause-planned
-returns-in-Ok-plan_changed-clause-planned g c places =
+pub returns-clause-planned : goal.returns-clause-planned
+returns-clause-planned g c places =
     let m = g.M.Media in
-    let change = change_of c.args.change.now in
-    carried_back m (λ h s. PlansInode h s change c.args.touch c.args.inode places 0 c.args.pools.now c.args.taken.now c.plan_changed.new.pools c.plan_changed.new.taken c.args.plan.now c.plan_changed.new.plan) c.args.journal.now c.directory_change.new.journal _ c.in-Ok.ensures.looks (c.in-Ok-plan_changed.ensures.planned places)
+    let change = change_of c.args.changed.now.change.now in
+    carried_back m (λ h s. PlansInode h s change c.args.changed.now.touch c.args.changed.now.inode places 0 c.args.pools.now c.args.plan.now.taken c.plan_changed.new.pools c.plan_changed.new.plan.taken c.args.plan.now c.plan_changed.new.plan) c.args.journal.now c.directory_change.new.journal _ c.in_ok-directory.ensures.looks (c.in_ok-plan_changed.ensures.planned places)
 
-pub returns-clause-took : goal.returns-clause-took
-returns-clause-took g c = record { same = refl; took = λ before order was. was; undo = c.requires.next.pools.undo }
+pub returns-in_err-directory-clause-took : goal.returns-in_err-directory-clause-took
+returns-in_err-directory-clause-took g c = record { same = refl; took = λ before order was. was; undo = c.requires.next.pools.undo }

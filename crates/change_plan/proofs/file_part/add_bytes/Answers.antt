@@ -1,4 +1,5 @@
 use Rattle.std.proofs.Common.{◌≡◌, ◌*◌, ℕ, List, length, Option, sym, ap, subst}
+use Rattle.std.proofs.lemmas.Result.{on_ok_weaker}
 use Rattle.inode_plan.specs.layout.declared.places.TheConstants.{BLOCK}
 use Rattle.inode_plan.specs.batch_journal.Images.{slice}
 use Rattle.inode_plan.specs.graph_change.Change.{Change}
@@ -21,16 +22,18 @@ adds_same c a b numbers count old new same adds = (
   },
 )
 
-pub returns-in-Ok-clause-added : goal.returns-in-Ok-clause-added
-returns-in-Ok-clause-added g c =
+pub returns-in-Some-clause-added : goal.returns-in-Some-clause-added
+returns-in-Some-clause-added g c =
     let old = c.args.journal.now in
     let blocks : LogicalBlocks = logical_block old.geometry (disk g.M.Media old) c.args.inode in
-    adds_same (change_of c.args.change.now) _ (blocks_from c.args.found.now blocks) c.args.numbers.now (length c.args.numbers.now) c.args.out.now.items c.read_changed.new.out.items
-    (λ k. sym (ap (λ (o : Option InodeExtents). blocks_from o blocks k) c.in-Some.is)) c.in-Ok.ensures.added
+    on_ok_weaker c.read_changed.result
+    (adds_same (change_of c.args.change.now) _ (blocks_from c.args.found.now blocks) c.args.numbers.now (length c.args.numbers.now) c.args.out.now.items c.read_changed.new.out.items (λ k. sym (ap (λ (o : Option InodeExtents). blocks_from o blocks k) c.in-Some.is)))
+    c.read_changed.ensures.added
 
-pub returns-in-Ok-read_changed-clause-added : goal.returns-in-Ok-read_changed-clause-added
-returns-in-Ok-read_changed-clause-added g c =
+pub returns-in-None-clause-added : goal.returns-in-None-clause-added
+returns-in-None-clause-added g c =
     let old = c.args.journal.now in
     let blocks : LogicalBlocks = logical_block old.geometry (disk g.M.Media old) c.args.inode in
-    adds_same (change_of c.args.change.now) _ (blocks_from c.args.found.now blocks) c.args.numbers.now (length c.args.numbers.now) c.args.out.now.items c.read_changed-in-None.new.out.items
-    (λ k. sym (ap (λ (o : Option InodeExtents). blocks_from o blocks k) c.in-None.is)) c.in-Ok-read_changed.ensures.added
+    on_ok_weaker c.read_changed-in-None.result
+    (adds_same (change_of c.args.change.now) _ (blocks_from c.args.found.now blocks) c.args.numbers.now (length c.args.numbers.now) c.args.out.now.items c.read_changed-in-None.new.out.items (λ k. sym (ap (λ (o : Option InodeExtents). blocks_from o blocks k) c.in-None.is)))
+    c.read_changed-in-None.ensures.added

@@ -1,4 +1,5 @@
 use Rattle.std.proofs.Common.{◌∙◌, sym, subst}
+use Rattle.std.proofs.lemmas.Result.{err_from_is_err_and}
 use Rattle.inode_plan.specs.tier_device.declared.media.Tier.{Tier}
 use Rattle.inode_plan.specs.layout.Places.{Sizes}
 use Rattle.inode_plan.specs.extent_tree.BlockFormat.{LiesWithin}
@@ -24,27 +25,28 @@ pub map_of-requires : goal.map_of-requires
 map_of-requires g c = (
   c.args.inode,
   c.args.slot.now,
-  subst (λ (x : Sizes). AreOwnLists x c.args.inode c.args.slot.now c.in-Ok.found) (sym c.geometry-geometry.ensures) (λ t. (c.in-Ok.ensures.extents t).list),
+  subst (λ (x : Sizes). AreOwnLists x c.args.inode c.args.slot.now c.in_ok-found.found) (sym c.geometry-geometry.ensures) (λ t. (c.in_ok-found.ensures.extents t).list),
 )
 
-pub returns-in-Ok-map_of-clause-started : goal.returns-in-Ok-map_of-clause-started
-returns-in-Ok-map_of-clause-started g c =
+pub returns-clause-started : goal.returns-clause-started
+returns-clause-started g c =
     let old = c.args.journal.now in
     let s : Store = disk g.M.Media old in
-    let found = extents_all old.geometry s c.args.inode c.args.slot.now c.in-Ok.found c.requires.slot_is c.in-Ok.ensures.extents in
-    let places : LieAsIn old.geometry s c.args.inode c.in-Ok-map_of.map = λ t k. c.in-Ok-map_of.ensures.places t k ∙ sym (place_is old.geometry s c.args.inode c.in-Ok.found found t k) in
-    let within = subst (λ (x : Sizes). AreOwnLists x c.args.inode c.args.slot.now c.in-Ok.found → (t : Tier) → LiesWithin x (space_of c.args.slot.now t) (runs_in c.in-Ok-map_of.map t)) c.geometry-geometry.ensures
-    (c.in-Ok-map_of.ensures.within c.args.inode c.args.slot.now) (λ t. (c.in-Ok.ensures.extents t).list) in
+    let found = extents_all old.geometry s c.args.inode c.args.slot.now c.in_ok-found.found c.requires.slot_is c.in_ok-found.ensures.extents in
+    let places : LieAsIn old.geometry s c.args.inode c.in_ok-map.map = λ t k. c.in_ok-map.ensures.places t k ∙ sym (place_is old.geometry s c.args.inode c.in_ok-found.found found t k) in
+    let within = subst (λ (x : Sizes). AreOwnLists x c.args.inode c.args.slot.now c.in_ok-found.found → (t : Tier) → LiesWithin x (space_of c.args.slot.now t) (runs_in c.in_ok-map.map t)) c.geometry-geometry.ensures
+    (c.in_ok-map.ensures.within c.args.inode c.args.slot.now) (λ t. (c.in_ok-found.ensures.extents t).list) in
     record {
       kind_is = kept_kind old.geometry s c.args.inode c.args.slot.now c.requires.slot_is c.requires.file;
       slot_is = sym (slot_as old.geometry s c.args.inode c.args.slot.now c.requires.slot_is);
-      map = kept_map old.geometry s c.args.inode c.args.slot.now c.requires.slot_is c.requires.file c.in-Ok-map_of.map (c.requires.spelled.inodes c.args.inode c.requires.number) places within;
+      map = kept_map old.geometry s c.args.inode c.args.slot.now c.requires.slot_is c.requires.file c.in_ok-map.map (c.requires.spelled.inodes c.args.inode c.requires.number) places within;
       found = found;
       blocks = kept_blocks old.geometry s c.args.inode c.args.slot.now c.requires.slot_is c.requires.file;
     }
 
-pub returns-in-Err-clause-only : goal.returns-in-Err-clause-only
-returns-in-Err-clause-only g c =
+pub returns-in_err-found-clause-only : goal.returns-in_err-found-clause-only
+returns-in_err-found-clause-only g c =
     let old = c.args.journal.now in
     let s : Store = disk g.M.Media old in
-    no_damage old.geometry s c.args.inode c.args.slot.now c.in-Err.error c.requires.slot_is (c.requires.spelled.inodes c.args.inode c.requires.number) c.in-Err.ensures.damaged
+    let p = err_from_is_err_and c.from_residual.result c.from_residual.ensures.1 in
+    rw (p.1, p.2) (no_damage old.geometry s c.args.inode c.args.slot.now c.in_err-found.field-0.0 c.requires.slot_is (c.requires.spelled.inodes c.args.inode c.requires.number) c.in_err-found.ensures.damaged)

@@ -22,10 +22,10 @@ pub all_blocks-requires : goal.all_blocks-requires
 all_blocks-requires g c =
     let old = c.args.journal.now in
     let s : Store = disk g.M.Media old in
-    map_below old.geometry s c.args.inode c.in-Ok.map c.args.slot.now c.in-Ok.ensures.places c.requires.slot_is (slot_limits old.geometry c.args.slot.now c.requires.fits).few
+    map_below old.geometry s c.args.inode c.in_ok-map.map c.args.slot.now c.in_ok-map.ensures.places c.requires.slot_is (slot_limits old.geometry c.args.slot.now c.requires.fits).few
 
-pub returns-in-Ok-all_blocks-clause-all : goal.returns-in-Ok-all_blocks-clause-all
-returns-in-Ok-all_blocks-clause-all g c =
+pub returns-clause-all : goal.returns-clause-all
+returns-clause-all g c =
     let old = c.args.journal.now in
     let s : Store = disk g.M.Media old in
-    gives_all old.geometry s c.args.inode c.args.slot.now c.in-Ok.map c.requires.slot_is c.requires.fits c.requires.spelled.apart c.in-Ok.ensures.places c.in-Ok.ensures.within c.in-Ok-all_blocks.lost c.in-Ok-all_blocks.ensures
+    gives_all old.geometry s c.args.inode c.args.slot.now c.in_ok-map.map c.requires.slot_is c.requires.fits c.requires.spelled.apart c.in_ok-map.ensures.places c.in_ok-map.ensures.within c.in_ok-lost.lost c.in_ok-lost.ensures

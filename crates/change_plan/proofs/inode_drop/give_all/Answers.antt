@@ -1,4 +1,4 @@
 use Rattle.change_plan.proofs.inode_drop.give_all.Goals as goal
 
-pub returns-in-Ok-push_lost-clause-adds : goal.returns-in-Ok-push_lost-clause-adds
-returns-in-Ok-push_lost-clause-adds g c = record { lost = c.in-Ok.its; all = c.in-Ok.ensures.all; both = c.in-Ok-push_lost.ensures }
+pub returns-clause-adds : goal.returns-clause-adds
+returns-clause-adds g c = record { lost = c.in_ok-its.its; all = c.in_ok-its.ensures.all; both = c.in_ok-push_lost.ensures }

@@ -1,6 +1,5 @@
 use Rattle.std.proofs.Common.{arith}
 use Rattle.client_view.proofs.Reached.{as_many, reach_at}
-use Rattle.client_view.proofs.Runs.{laid_length, run_all, run_more}
 use Rattle.client_view.proofs.block_runs.take_records.Goals as goal
 
 pub bounds-reaches-place : goal.bounds-reaches-place

@@ -1,8 +1,6 @@
-use Rattle.std.proofs.Common.{◌≡◌, ◌+◌, ◌∷◌, ◌++◌, [], Some, None, cond, length, sym, ap, subst, ◌∙◌, arith, rules}
-use Rattle.client_plan.specs.file_graph.Subject.{subject}
+use Rattle.std.proofs.Common.{Some, None, cond, arith, rules}
 use Rattle.client_view.specs.KnowledgeTables.{copy_at}
 use Rattle.client_view.specs.AfterRecord.{is_made}
-use Rattle.client_view.specs.Preparation.{IsRoomOf, names_known}
 use Rattle.client_view.proofs.Rooms.{ready_for_all, ready_pushed}
 use Rattle.client_view.proofs.enter_rooms.room_for_each.Goals as goal
 

@@ -1,4 +1,4 @@
-use Rattle.std.proofs.Common.{◌≡◌, ◌∙◌, true, false, ap, inl, inr, refl, subst, sym}
+use Rattle.std.proofs.Common.{◌≡◌, ◌∙◌, true, false, ap, inr, subst, sym}
 use Rattle.libfs.specs.SealedRegion.{SealedRegionView, log_of}
 use Rattle.event_steps.specs.Regions.{HasAccepted, IsAwayRead, IsNotAcceptedFor, refusal_to_accept}
 use Rattle.event_steps.specs.declared.outcome.Refusal.{Refusal}

@@ -1,8 +1,6 @@
-use Rattle.std.proofs.Common.{◌≡◌, Err, ap, inl, inr, subst, sym, ◌∙◌}
+use Rattle.std.proofs.Common.{◌≡◌, Err, ap, inl, inr, sym, ◌∙◌}
 use Rattle.std.proofs.lemmas.Bool.{false≢true}
-use Rattle.libfs.specs.SealedRegion.{SealedRegionView}
-use Rattle.event_steps.specs.Regions.{IsNotReadFor, refusal_to_read}
-use Rattle.event_steps.specs.declared.outcome.Refusal.{Refusal}
+use Rattle.event_steps.specs.Regions.{refusal_to_read}
 use Rattle.event_steps.proofs.Chunks.{only_read}
 use Rattle.event_steps.proofs.log_accept.read_region.Goals as goal
 

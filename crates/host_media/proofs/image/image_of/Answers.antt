@@ -1,4 +1,4 @@
-use Rattle.std.proofs.Common.{◌≡◌, ◌∙◌, ◌++◌, [], ◌∷◌, append-nil, append_assoc, length, sym, ap, arith}
+use Rattle.std.proofs.Common.{◌∙◌, ◌++◌, [], ◌∷◌, append-nil, append_assoc, length, sym, ap, arith}
 use Rattle.host_media.specs.Images.{media_bytes, content_bytes}
 use Rattle.host_media.proofs.Images.{bytes_push, none_left}
 use Rattle.host_media.proofs.image.image_of.Goals as goal

@@ -13,10 +13,10 @@ returns-then-not-needs_old-clause-made g c =
     made_anyway (new_length change.length) (patch_at (patches_of change.blocks) k) _ k (blocks_from c.args.found (logical_block old.geometry (disk g.M.Media old) c.args.inode) k) c.args.block.now c.change_block.new.block
     c.change_block.ensures (put_is change.blocks k _ c.get-put.ensures.value) (c.needs_old.ensures.none c.if-not-needs_old.true)
 
-pub returns-in-Ok-clause-made : goal.returns-in-Ok-clause-made
-returns-in-Ok-clause-made g c =
+pub returns-clause-made : goal.returns-clause-made
+returns-clause-made g c =
     let change = c.args.change.now in
     let old = c.args.journal.now in
     let k = c.args.number in
-    made_from (new_length change.length) (patch_at (patches_of change.blocks) k) _ k (blocks_from c.args.found (logical_block old.geometry (disk g.M.Media old) c.args.inode) k) c.read_started.new.out c.change_block-in-Ok.new.block
-    c.change_block-in-Ok.ensures (put_is change.blocks k _ c.get-put.ensures.value) c.in-Ok.ensures.bytes
+    made_from (new_length change.length) (patch_at (patches_of change.blocks) k) _ k (blocks_from c.args.found (logical_block old.geometry (disk g.M.Media old) c.args.inode) k) c.read_started.new.out c.change_block-2.new.block
+    c.change_block-2.ensures (put_is change.blocks k _ c.get-put.ensures.value) c.in_ok-read_started.ensures.bytes

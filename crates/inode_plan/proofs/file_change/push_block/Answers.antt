@@ -1,30 +1,31 @@
-use Rattle.std.proofs.Common.{◌≡◌, ◌∙◌, ℕ, List, length, drop}
-use Rattle.std.specs.Global.{Vec}
-use Rattle.inode_plan.proofs.Adding.{stands_behind, is_long}
+use Rattle.std.proofs.Common.{◌≡◌, ◌-◌, ℕ, List, inl, length, drop}
+use Rattle.std.proofs.lemmas.Result.{on_ok_weaker, IfErr-weaker}
+use Rattle.inode_plan.proofs.Adding.{zeros_begin, stands_behind, is_long}
 use Rattle.inode_plan.proofs.file_change.push_block.Goals as goal
 
--- the two counts of a vector's elements
-long : (v : Vec ℕ) → v.len ≡ length v.items
-long v = v.ok.0
-
-pub returns-in-Ok-change_last-clause-added : goal.returns-in-Ok-change_last-clause-added
-returns-in-Ok-change_last-clause-added g c =
-    let at : ℕ = c.len-at.result in
+pub returns-clause-added : goal.returns-clause-added
+returns-clause-added g c =
     let old : List ℕ = c.args.out.now.items in
     let zeros : List ℕ = c.add_zeros.new.out.items in
     let new : List ℕ = c.change_last.new.out.items in
-    let here : at ≡ length old = c.len-at.ensures ∙ long c.args.out.now in (
+    let at : ℕ = length zeros - 4096 in
+    let here : at ≡ length old = zeros_begin 4096 old zeros c.in_ok-add_zeros.ensures.longer in
+    on_ok_weaker c.change_last.result
+    (λ made. (
       drop at new,
-      stands_behind at 4096 old zeros new here c.in-Ok.ensures.longer c.in-Ok-change_last.ensures.front,
-      is_long at 4096 old zeros new here c.in-Ok.ensures.longer c.in-Ok-change_last.ensures.front c.in-Ok-change_last.ensures.long,
-      c.in-Ok-change_last.ensures.made,
-    )
+      stands_behind at 4096 old zeros new here c.in_ok-add_zeros.ensures.longer c.change_last.ensures.front,
+      is_long at 4096 old zeros new here c.in_ok-add_zeros.ensures.longer c.change_last.ensures.front c.change_last.ensures.long,
+      made,
+    )) c.change_last.ensures.made
 
-pub returns-in-Err-change_last-clause-refused : goal.returns-in-Err-change_last-clause-refused
-returns-in-Err-change_last-clause-refused g c =
-    let at : ℕ = c.len-at.result in
+pub returns-clause-refused : goal.returns-clause-refused
+returns-clause-refused g c =
     let old : List ℕ = c.args.out.now.items in
     let zeros : List ℕ = c.add_zeros.new.out.items in
     let new : List ℕ = c.change_last.new.out.items in
-    let here : at ≡ length old = c.len-at.ensures ∙ long c.args.out.now in
-    (drop at new, stands_behind at 4096 old zeros new here c.in-Ok.ensures.longer c.in-Err-change_last.ensures.front)
+    let at : ℕ = length zeros - 4096 in
+    let here : at ≡ length old = zeros_begin 4096 old zeros c.in_ok-add_zeros.ensures.longer in
+    IfErr-weaker c.change_last.result _ _ (λ e is. (drop at new, stands_behind at 4096 old zeros new here c.in_ok-add_zeros.ensures.longer c.change_last.ensures.front)) c.change_last.ensures.only
+
+pub returns-clause-only : goal.returns-clause-only
+returns-clause-only g c = IfErr-weaker c.change_last.result _ _ (λ e is. inl is) c.change_last.ensures.only

@@ -1,4 +1,5 @@
 use Rattle.std.proofs.Common.{◌≡◌, ◌<◌, ◌∙◌, ℕ, List, [], Some, None, replicate, get_or, sym, ap, subst}
+use Rattle.std.proofs.lemmas.Result.{on_ok_weaker}
 use Rattle.area_commit.specs.layout.Places.{Sizes, tier_blocks}
 use Rattle.area_commit.proofs.tree_blocks_lemmas.FileBlocks.{zeros_are_none}
 use Rattle.area_commit.specs.area_image.Store.{Store, disk, place, logical_block}
@@ -28,15 +29,15 @@ read_block-requires-clause-home g c =
     let p = placed_by old.geometry (disk g.M.Media old) c.args.inode c.args.found.now c.requires.found c.in-Some.tier c.args.number c.in-Some.place c.in-Some.ensures.some in
     room_home old.geometry c.in-Some.tier c.block_number-block.result (subst (λ (n : ℕ). IsRoom old.geometry c.in-Some.tier n) (sym c.block_number-block.ensures) p.room)
 
-pub returns-in-Ok-clause-bytes : goal.returns-in-Ok-clause-bytes
-returns-in-Ok-clause-bytes g c p lt =
+pub returns-in-Some-clause-bytes : goal.returns-in-Some-clause-bytes
+returns-in-Some-clause-bytes g c =
     let old = c.args.journal.now in
     let s : Store = disk g.M.Media old in
     let t = c.in-Some.tier in
     let k : ℕ = c.args.number in
     let there : place old.geometry s c.args.inode t k ≡ Some c.in-Some.place = place_is old.geometry s c.args.inode c.args.found.now c.requires.found t k ∙ c.in-Some.ensures.some in
     let read : logical_block old.geometry s c.args.inode k ≡ s t c.block_number-block.result = logical_is old.geometry s c.args.inode c.requires.once t k c.in-Some.place there ∙ ap (s t) (sym c.block_number-block.ensures) in
-    ap (λ (b : List ℕ). get_or b p 0) (c.in-Ok.ensures.bytes ∙ sym read)
+    on_ok_weaker c.read_block.result (λ is p lt. ap (λ (b : List ℕ). get_or b p 0) (is ∙ sym read)) c.read_block.ensures.bytes
 
 pub returns-in-None-clause-bytes : goal.returns-in-None-clause-bytes
 returns-in-None-clause-bytes g c p lt =

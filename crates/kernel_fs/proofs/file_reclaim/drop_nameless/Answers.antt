@@ -1,4 +1,4 @@
-use Rattle.std.proofs.Common.{◌≡◌, ◌≤◌, [], ◌∷◌, inl, inr, Some, None, Option, arith, ap, sym, ◌∙◌, subst}
+use Rattle.std.proofs.Common.{[], ◌∷◌, inl, arith, sym, ◌∙◌, subst}
 use Rattle.std.specs.Prelude.{Ok, OnOk}
 use Rattle.std.proofs.lemmas.Bool.{false≢true}
 use Rattle.digester.proofs.batch_journal_lemmas.Courses.{any_ok}
@@ -8,7 +8,6 @@ use Rattle.digester.proofs.Composed.{few_looked}
 use Rattle.digester.specs.layout.Places.{Sizes}
 use Rattle.digester.specs.area_image.Store.{Store, disk, graph}
 use Rattle.digester.proofs.area_image_lemmas.Looked.{carried_back}
-use Rattle.world_invariant.specs.Logs.{IsNameless}
 use Rattle.kernel_fs.specs.Reclaim.{AreNameless, IsReclaimed, StaysOrReclaims}
 use Rattle.kernel_fs.specs.declared.error.ReclaimError.TheVariants as errors
 use Rattle.kernel_fs.proofs.Dropping.{its_inode, nameless_by, still_open, counts_nameless, reclaims_behind}
@@ -82,7 +81,7 @@ pub returns-else-not-is_nameless-clause-memory : goal.returns-else-not-is_namele
 returns-else-not-is_nameless-clause-memory g c = λ is.
     let old = c.args.area.now in
     let s : Store = disk g.M.Media old in
-    inr (nameless_by (graph old.geometry s c.args.inode) (subst AreNameless c.in-Ok.ensures.counts (c.is_nameless.ensures.0 c.if-not-is_nameless.false)))
+    nameless_by (graph old.geometry s c.args.inode) (subst AreNameless c.in-Ok.ensures.counts (c.is_nameless.ensures.0 c.if-not-is_nameless.false))
 
 pub returns-then-not-is_nameless-clause-memory : goal.returns-then-not-is_nameless-clause-memory
 returns-then-not-is_nameless-clause-memory g c = λ is. absurd (cc is)

@@ -1,9 +1,8 @@
-use Rattle.std.proofs.Common.{◌≡◌, ℕ, List, [], ◌∷◌, Some, refl, ap, sym, ◌∙◌, subst}
+use Rattle.std.proofs.Common.{[], ◌∷◌, refl, sym, subst}
 use Rattle.std.specs.Prelude.{Err}
-use Rattle.digester.specs.batch_journal.Course.{Unmoved}
 use Rattle.digester.specs.file_graph.declared.effect.Effect.TheVariants as effect
 use Rattle.digester.specs.graph_change.Bounds.{AreBounded}
-use Rattle.digester.specs.graph_change.Change.{Changes, Coalesces, coalesced_changes}
+use Rattle.digester.specs.graph_change.Change.{Changes, Coalesces}
 use Rattle.digester.specs.graph_change.View.{changes_of}
 use Rattle.digester.specs.shared_area.ChangeApply.{MakesFewCalls}
 use Rattle.digester.specs.area_image.Store.{Store, disk, graph}

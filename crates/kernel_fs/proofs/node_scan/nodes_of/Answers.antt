@@ -27,8 +27,8 @@ inodes-preserved g c =
     let m = g.M.Media in
     let old = c.args.area.now in
     record {
-      looks = looks_on m old c.inodes.area c.add_node.new.area tt call_answer c.inodes.invariant.looks c.in-Ok.ensures.looks;
-      below = carried_back m (λ (x : Sizes) (s : Store). AreNodesBelow (graph x s) (c.inodes.inode + 1) (has c.add_node.new.nodes)) old c.inodes.area call_answer c.inodes.invariant.looks c.in-Ok.ensures.below;
+      looks = looks_on m old c.inodes.area c.add_node.new.area tt call_answer c.inodes.invariant.looks c.in_ok-add_node.ensures.looks;
+      below = carried_back m (λ (x : Sizes) (s : Store). AreNodesBelow (graph x s) (c.inodes.inode + 1) (has c.add_node.new.nodes)) old c.inodes.area call_answer c.inodes.invariant.looks c.in_ok-add_node.ensures.below;
     }
 
 pub returns-clause-nodes : goal.returns-clause-nodes

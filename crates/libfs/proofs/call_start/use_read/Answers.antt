@@ -1,10 +1,10 @@
-use Rattle.std.proofs.Common.{◌≡◌, ◌∙◌, ap, sym, ℕ, List, ◌/◌}
-use Rattle.std.specs.Prelude.{Option, Some, None}
+use Rattle.std.proofs.Common.{◌∙◌, ap, sym, ℕ, List, ◌/◌}
+use Rattle.std.specs.Prelude.{Some, None}
 use Rattle.lease_manager.specs.posix_calls.Own.{own_of}
 use Rattle.lease_manager.specs.posix_calls.Tree.{Own}
 use Rattle.lease_manager.specs.posix_calls.declared.limits.TheConstants.{UNIT_BYTES}
 use Rattle.client_view.specs.block_cache.CacheList.{Block, used_run}
-use Rattle.client_view.specs.KnowledgeTables.{Held, knows}
+use Rattle.client_view.specs.KnowledgeTables.{knows}
 use Rattle.libfs.specs.BlockUse.{blocks_read}
 use Rattle.libfs.proofs.Used.{read_uses}
 use Rattle.libfs.proofs.call_start.use_read.Goals as goal

@@ -10,7 +10,7 @@ pub returns : goal.returns
 returns g c = λ k v mark whole held i first count names size bytes is_mark agrees same file copy.
     let shared = shared_by g.S.Media k in
     let behind = records_behind g.M.Media v mark in
-    let laid : (b : ℕ) → block_laid behind i b (Some (block_of b (bytes_at shared i))) ≡ Some (block_of b bytes) = λ b. c.records_are_laid_as_the_graph_has_them.ensures.block shared behind i b bytes (ap file_bytes (sym same) ∙ file) in
+    let laid : (b : ℕ) → block_laid behind i b (Some (block_of b (bytes_at shared i))) ≡ Some (block_of b bytes) = λ b. c.records_are_laid_as_the_graph_has_them.ensures shared behind i b bytes (ap file_bytes (sym same) ∙ file) in
     record {
       mark = mark;
       is_mark = is_mark;

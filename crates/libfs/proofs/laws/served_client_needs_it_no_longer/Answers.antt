@@ -1,4 +1,4 @@
-use Rattle.std.proofs.Common.{◌≡◌, ◌≢◌, false, refl, ap, sym, ◌∙◌, subst}
+use Rattle.std.proofs.Common.{◌≡◌, ◌≢◌, inl, inr, false, refl, ap, sym, ◌∙◌, subst}
 use Rattle.std.proofs.lemmas.Bool.{true≢false}
 use Rattle.lease_manager.specs.file_graph.Graph.{is_among}
 use Rattle.client_log.specs.call_effects.Knowledge.{Knowledge, part_of}
@@ -6,12 +6,10 @@ use Rattle.client_log.specs.call_effects.NodeView.{view_at}
 use Rattle.client_view.specs.client_plan.declared.need.Need.TheVariants as needs
 use Rattle.client_view.specs.client_plan.declared.outcome.Outcome.TheVariants as outcomes
 use Rattle.client_view.specs.client_plan.CallPlan.{outcome}
-use Rattle.client_view.specs.KnowledgeChanges.{without_blocks}
-use Rattle.client_view.specs.After.{node_laid}
 use Rattle.libfs.specs.ClientHoldings.{holdings_of, known_to}
-use Rattle.libfs.specs.NeedService.{records_behind, shared_by}
+use Rattle.libfs.specs.NeedService.{shared_by}
 use Rattle.libfs.specs.View.{ClientView}
-use Rattle.libfs.proofs.Served.{blocks_read, is_had, is_pinned, is_unpinned, paid, some_number}
+use Rattle.libfs.proofs.Served.{blocks_read, copied_again, is_had, is_pinned, is_there, is_unpinned, paid, some_number}
 use Rattle.libfs.proofs.laws.served_client_needs_it_no_longer.Goals as goal
 
 pub returns-clause-lease : goal.returns-clause-lease
@@ -21,8 +19,15 @@ returns-clause-lease g c = λ v call i mode word is lacks.
 pub returns-clause-view : goal.returns-clause-view
 returns-clause-view g c = λ k old new call i h.
     let device = g.M.Media in
-    subst (λ (x : Knowledge). outcome (part_of x) (holdings_of device new) call ≢ outcomes.Need (needs.View i)) (sym h.knows_then)
-    (c.served_need_is_lacking_no_longer.ensures.view (without_blocks (known_to old) i) (holdings_of device new) call i (node_laid (records_behind device old h.mark) i (view_at (shared_by g.S.Media k) i)))
+    elim h [
+      | inl kept ↦
+          let there = is_there ((known_to old).copies i) kept.some in
+          subst (λ (x : Knowledge). outcome (part_of x) (holdings_of device new) call ≢ outcomes.Need (needs.View i)) (copied_again (known_to old) i there.0 there.1 ∙ sym (ap known_to kept.same))
+          (c.served_need_is_lacking_no_longer.ensures.view (known_to old) (holdings_of device new) call i there.0)
+      | inr got ↦
+          subst (λ (x : Knowledge). outcome (part_of x) (holdings_of device new) call ≢ outcomes.Need (needs.View i)) (sym got.knows_then)
+          (c.served_need_is_lacking_no_longer.ensures.view (known_to old) (holdings_of device new) call i (view_at (shared_by g.S.Media k) i))
+    ]
 
 pub returns-clause-blocks : goal.returns-clause-blocks
 returns-clause-blocks g c = λ k old new call i first count few long has is.

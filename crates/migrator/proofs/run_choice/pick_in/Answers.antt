@@ -28,8 +28,8 @@ inodes-preserved g c =
     let old = c.args.area.now in
     record {
       looks = looks_on m old c.inodes.area c.next_best.new.area tt call_answer c.inodes.invariant.looks
-          (looks_answer m c.inodes.area c.next_best.new.area c.in-Ok.found tt c.in-Ok.ensures.looks);
-      best = carried_back m (λ (x : Sizes) (s : Store). IsBestBelow x s c.args.tier (c.inodes.inode + 1) c.in-Ok.found) old c.inodes.area call_answer c.inodes.invariant.looks c.in-Ok.ensures.best;
+          (looks_answer m c.inodes.area c.next_best.new.area c.in_ok-best.best tt c.in_ok-best.ensures.looks);
+      best = carried_back m (λ (x : Sizes) (s : Store). IsBestBelow x s c.args.tier (c.inodes.inode + 1) c.in_ok-best.best) old c.inodes.area call_answer c.inodes.invariant.looks c.in_ok-best.ensures.best;
     }
 
 pub returns-clause-picked : goal.returns-clause-picked

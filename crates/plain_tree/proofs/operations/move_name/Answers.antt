@@ -8,17 +8,17 @@ use Rattle.plain_tree.proofs.Moves.{moved}
 use Rattle.plain_tree.proofs.operations.move_name.Goals as goal
 
 pub enter-requires-clause-few : goal.enter-requires-clause-few
-enter-requires-clause-few c = subst (λ (t : Tree). names_of t c.args.inode ≤ MAX_NAMES) (sym c.make_room.ensures.tree) c.requires.few
+enter-requires-clause-few c = subst (λ (t : Tree). names_of t c.args.to.inode ≤ MAX_NAMES) (sym c.make_room.ensures.tree) c.requires.few
 
 pub put_out-requires : goal.put_out-requires
 put_out-requires c =
-    subst (λ (t : Tree). IsBareReplaced t c.args.replaced) (sym (c.in_ok-enter.ensures.ok ∙ ap (λ (t : Tree). with_entry t c.args.to c.args.inode) c.make_room.ensures.tree))
-    (bare_put_out (stored_tree c.args.nodes.now) c.args.to c.args.inode c.args.replaced c.requires.movable.1)
+    subst (λ (t : Tree). IsBareReplaced t c.args.to.replaced) (sym (c.in_ok-enter.ensures.ok ∙ ap (λ (t : Tree). with_entry t c.args.to.at c.args.to.inode) c.make_room.ensures.tree))
+    (bare_put_out (stored_tree c.args.nodes.now) c.args.to.at c.args.to.inode c.args.to.replaced c.requires.movable.1)
 
 pub returns-clause-ok : goal.returns-clause-ok
 returns-clause-ok c =
     c.leave.ensures.tree
     ∙ ap (λ (t : Tree). without_entry t c.args.from.now)
     (c.put_out.ensures.tree
-    ∙ ap (λ (t : Tree). less_put_out (held_of c.args.rows.now) t c.args.replaced) (c.in_ok-enter.ensures.ok ∙ ap (λ (t : Tree). with_entry t c.args.to c.args.inode) c.make_room.ensures.tree))
-    ∙ moved (held_of c.args.rows.now) (stored_tree c.args.nodes.now) c.args.from.now c.args.to c.args.inode c.args.replaced c.requires.movable
+    ∙ ap (λ (t : Tree). less_put_out (held_of c.args.rows.now) t c.args.to.replaced) (c.in_ok-enter.ensures.ok ∙ ap (λ (t : Tree). with_entry t c.args.to.at c.args.to.inode) c.make_room.ensures.tree))
+    ∙ moved (held_of c.args.rows.now) (stored_tree c.args.nodes.now) c.args.from.now c.args.to.at c.args.to.inode c.args.to.replaced c.requires.movable

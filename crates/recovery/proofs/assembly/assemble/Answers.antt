@@ -2,6 +2,8 @@ use Rattle.std.proofs.Common.{ap, sym, subst, ◌∙◌, inl, inr}
 use Rattle.std.proofs.lemmas.Bool.{false≢true}
 use Rattle.settlement.specs.world.system_world.event_steps.View.{SystemView}
 use Rattle.settlement.specs.recovery_laws.shared_area.area_image.Looks.{call_answer}
+use Rattle.settlement.specs.recovery_laws.shared_area.area_image.Refusals.{IsReadRefusal}
+use Rattle.settlement.specs.recovery_laws.shared_area.Parts.{IsNoDamage}
 use Rattle.settlement.specs.recovery_laws.shared_area.batch_journal.View.{JournalView}
 use Rattle.settlement.specs.recovery_laws.shared_area.layout.declared.marks.Marks.{Marks}
 use Rattle.settlement.specs.world.system_world.Idle.{IsIdleSystem}
@@ -12,7 +14,7 @@ use Rattle.settlement.specs.world.system_world.event_steps.libfs.file_graph.Grap
 use Rattle.settlement.specs.Parts.{part_medium}
 use Rattle.settlement.specs.PartMedia.{AreUntouched, media_beneath}
 use Rattle.settlement.specs.Regions.{media_of}
-use Rattle.settlement.proofs.Faults.{no_damage, of_fault, of_reader}
+use Rattle.settlement.proofs.Faults.{no_damage}
 use Rattle.recovery.proofs.IdleWorlds.{idle_assembled, idle_tree, looked_untouched, same_graph_read, same_mark}
 use Rattle.recovery.proofs.OpenedSeats.{are_seats, seats_read, unread}
 use Rattle.recovery.proofs.SystemParts.{given_back, region_rose, shared_rose, system_untouched}
@@ -79,16 +81,16 @@ returns-in-Err-clause-back g c =
     given_back m c.args.area.media c.args.regions.items c.parts_of-parts.result c.in-Err.area.media c.args.regions.items parts (looked_untouched m c.args.area c.in-Err.area _ c.in-Err.ensures.refused) (unread m c.args.regions.items)
 
 pub area_fault-requires : goal.area_fault-requires
-area_fault-requires g c = of_reader c.in-Err.error _ c.in-Err.ensures.only
+area_fault-requires g c = subst IsReadRefusal (sym c.in-Err.ensures.only) tt
 
 pub returns-in-Err-clause-only : goal.returns-in-Err-clause-only
-returns-in-Err-clause-only g c = no_damage c.in-Err.error c.area_fault.result ⊥ c.area_fault.ensures c.in-Err.ensures.only (λ x. x)
+returns-in-Err-clause-only g c = no_damage c.in-Err.error c.area_fault.result ⊥ c.area_fault.ensures (subst IsNoDamage (sym c.in-Err.ensures.only) tt) (λ x. x)
 
 pub returns-in-Err-clause-fault : goal.returns-in-Err-clause-fault
 returns-in-Err-clause-fault g c = λ e.
     let m = g.M.Media in
     let parts = c.parts_of-parts.ensures ∙ ap (λ (x : _). record { shared = x; regions = media_of c.args.regions.items }) c.into_medium.ensures in
-    elim (c.in-Err.ensures.refused.fault (of_fault c.in-Err.error c.area_fault.result c.area_fault.ensures e)).1 [
+    elim (c.in-Err.ensures.refused.fault c.in-Err.ensures.only).1 [
       | inl failed ↦ absurd (false≢true (sym c.requires.area.going ∙ failed))
       | inr rose ↦ shared_rose m c.args.area.media c.args.regions.items c.parts_of-parts.result c.in-Err.area.media c.args.regions.items parts rose
     ]

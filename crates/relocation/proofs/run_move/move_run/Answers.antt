@@ -1,5 +1,6 @@
 use Rattle.std.proofs.Common.{◌<◌, ◌+◌, ℕ, refl, sym, subst, arith}
 use Rattle.std.specs.Prelude.{IsSome, Err}
+use Rattle.std.proofs.lemmas.Result.{err_from_is_err_and}
 use Rattle.inode_plan.specs.area_image.Store.{logical_block}
 use Rattle.inode_plan.proofs.area_image_lemmas.Looked.{carried}
 use Rattle.inode_plan.proofs.area_image_lemmas.Shown.{slot_limits}
@@ -49,47 +50,54 @@ read_run-requires-clause-lie g c n lt =
     (a.0, subst IsSome (sym (c.requires.file.places a.0 (f.run.first + n))) a.2)
 
 pub move_bytes-requires-clause-going : goal.move_bytes-requires-clause-going
-move_bytes-requires-clause-going g c = c.in-Ok.ensures.looks.going.1
+move_bytes-requires-clause-going g c = c.in_ok-bytes.ensures.looks.going.1
 
 pub move_bytes-requires-clause-settled : goal.move_bytes-requires-clause-settled
 move_bytes-requires-clause-settled g c =
     let m = g.M.Media in
-    let looks = c.in-Ok.ensures.looks in
+    let looks = c.in_ok-bytes.ensures.looks in
     settled_still m g.met.M.Media.sized c.args.journal.now c.read_run.new.journal c.args.pools.now looks.unmoved looks.geometry c.requires.settled
 
 pub move_bytes-requires-clause-file : goal.move_bytes-requires-clause-file
 move_bytes-requires-clause-file g c =
     let m = g.M.Media in
     let f = c.args.moved.file in
-    carried m (λ h s. IsMovableRun h s c.args.moved.inode f.run.first f.run.count c.args.moved.to f) c.args.journal.now c.read_run.new.journal _ c.in-Ok.ensures.looks c.requires.file
+    carried m (λ h s. IsMovableRun h s c.args.moved.inode f.run.first f.run.count c.args.moved.to f) c.args.journal.now c.read_run.new.journal _ c.in_ok-bytes.ensures.looks c.requires.file
 
 pub move_bytes-requires-clause-holds : goal.move_bytes-requires-clause-holds
 move_bytes-requires-clause-holds g c =
     let m = g.M.Media in
     let f = c.args.moved.file in
-    carried m (λ h s. HoldsRun (logical_block h s c.args.moved.inode) f.run.first f.run.count c.in-Ok.bytes.items) c.args.journal.now c.read_run.new.journal _ c.in-Ok.ensures.looks c.in-Ok.ensures.bytes
+    carried m (λ h s. HoldsRun (logical_block h s c.args.moved.inode) f.run.first f.run.count c.in_ok-bytes.bytes.items) c.args.journal.now c.read_run.new.journal _ c.in_ok-bytes.ensures.looks c.in_ok-bytes.ensures.bytes
 
-pub returns-in-Ok-clause-ends : goal.returns-in-Ok-clause-ends
-returns-in-Ok-clause-ends g c =
+pub returns-clause-ends : goal.returns-clause-ends
+returns-clause-ends g c =
     let m = g.M.Media in
     let f = c.args.moved.file in
-    let looks = c.in-Ok.ensures.looks in
+    let looks = c.in_ok-bytes.ensures.looks in
     ends_on m g.met.M.Media.sized c.args.moved.inode f.run.first f.run.count c.args.moved.to c.args.journal.now c.read_run.new.journal c.move_bytes.new.journal c.move_bytes.new.pools c.move_bytes.result looks.unmoved looks.geometry looks.quiet
     c.move_bytes.ensures.ends
 
-pub returns-in-Err-clause-ends : goal.returns-in-Err-clause-ends
-returns-in-Err-clause-ends g c =
+pub returns-in_err-bytes-clause-ends : goal.returns-in_err-bytes-clause-ends
+returns-in_err-bytes-clause-ends g c =
+    let p = err_from_is_err_and c.from_residual.result c.from_residual.ensures.1 in
     let m = g.M.Media in
     let old = c.args.journal.now in
     let f = c.args.moved.file in
     let rests : Rests m old.geometry old.media = record { sizes = c.left_now.ensures.sizes c.requires.going; journal = c.left_now.ensures.journal c.requires.going; rest = c.requires.settled.rests } in
-    ends_told m g.met.M.Media.sized c.args.moved.inode f.run.first f.run.count c.args.moved.to old c.read_run.new.journal c.args.pools.now c.in-Err.error c.in-Err.ensures.only c.in-Err.ensures.looks c.requires.going rests c.requires.settled
+    rw (p.1, p.2) (ends_told m g.met.M.Media.sized c.args.moved.inode f.run.first f.run.count c.args.moved.to old c.read_run.new.journal c.args.pools.now c.in_err-bytes.field-0.0 c.in_err-bytes.ensures.only c.in_err-bytes.ensures.looks c.requires.going rests c.requires.settled)
 
-pub returns-in-Err-clause-same : goal.returns-in-Err-clause-same
-returns-in-Err-clause-same g c = same_self c.args.pools.now
+pub returns-in_err-bytes-clause-same : goal.returns-in_err-bytes-clause-same
+returns-in_err-bytes-clause-same g c =
+    let p = err_from_is_err_and c.from_residual.result c.from_residual.ensures.1 in
+    rw p.1 (same_self c.args.pools.now)
 
-pub returns-in-Err-clause-few : goal.returns-in-Err-clause-few
-returns-in-Err-clause-few g c is = absurd (forced_only (Err c.in-Err.error) NoBlock c.in-Err.ensures.only block_fault block_memory is)
+pub returns-in_err-bytes-clause-few : goal.returns-in_err-bytes-clause-few
+returns-in_err-bytes-clause-few g c =
+    let p = err_from_is_err_and c.from_residual.result c.from_residual.ensures.1 in
+    rw (p.1, p.2) (λ is. absurd (forced_only (Err c.in_err-bytes.field-0.0) NoBlock c.in_err-bytes.ensures.only block_fault block_memory is))
 
-pub returns-in-Err-clause-only : goal.returns-in-Err-clause-only
-returns-in-Err-clause-only g c = forced_change (Err c.in-Err.error) c.in-Err.ensures.only
+pub returns-in_err-bytes-clause-only : goal.returns-in_err-bytes-clause-only
+returns-in_err-bytes-clause-only g c =
+    let p = err_from_is_err_and c.from_residual.result c.from_residual.ensures.1 in
+    rw (p.1, p.2) (forced_change (Err c.in_err-bytes.field-0.0) c.in_err-bytes.ensures.only)

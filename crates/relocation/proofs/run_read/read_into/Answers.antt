@@ -32,14 +32,14 @@ each-preserved g c =
     let fits : 4096 * n + 4096 ≤ length now = omega (arith, c.each-test.true, c.each.invariant.long, c.requires.size) in
     let at : ℕ = 4096 * n in
     let size : at + 4096 - at ≡ 4096 = omega arith in
-    let stop : at + (at + 4096 - at) ≡ at + length new = omega (arith, c.in-Ok.ensures.size) in
+    let stop : at + (at + 4096 - at) ≡ at + length new = omega (arith, c.in_ok-read_logical.ensures.size) in
     let behind : drop (at + 4096 - at) (drop at now) ≡ drop (at + length new) now = drop-drop (at + 4096 - at) at now ∙ ap (λ j. drop j now) stop in
     let is : overwritten now at new ≡ take at now ++ (new ++ drop (at + 4096 - at) (drop at now)) = append_assoc (take at now) new (drop (at + length new) now) ∙ ap (λ (l : List ℕ). take at now ++ (new ++ l)) (sym behind) in
-    let read = carried_back m (λ x s. new ≡ logical_block x s c.args.inode (c.args.run.first + n)) old c.each.journal call_answer first c.in-Ok.ensures.bytes in
-    let holds = holds_more blocks c.args.run.first n now new c.each.invariant.holds c.in-Ok.ensures.size fits read in
-    let long = (torn_overwritten now at new (omega (arith, fits, c.in-Ok.ensures.size))).same_length in
+    let read = carried_back m (λ x s. new ≡ logical_block x s c.args.inode (c.args.run.first + n)) old c.each.journal call_answer first c.in_ok-read_logical.ensures.bytes in
+    let holds = holds_more blocks c.args.run.first n now new c.each.invariant.holds c.in_ok-read_logical.ensures.size fits read in
+    let long = (torn_overwritten now at new (omega (arith, fits, c.in_ok-read_logical.ensures.size))).same_length in
     record {
-      looks = looks_on m old c.each.journal c.read_logical.new.journal tt call_answer first c.in-Ok.ensures.looks;
+      looks = looks_on m old c.each.journal c.read_logical.new.journal tt call_answer first c.in_ok-read_logical.ensures.looks;
       long = ap length (sym is) ∙ long ∙ c.each.invariant.long;
       holds = subst (HoldsRun blocks c.args.run.first (n + 1)) is holds;
     }

@@ -1,4 +1,5 @@
 use Rattle.std.proofs.Common.{◌≡◌, ◌∙◌, Some, sym}
+use Rattle.std.proofs.lemmas.Result.{on_ok_weaker}
 use Rattle.inode_plan.specs.area_image.Store.{Store, disk, place}
 use Rattle.inode_plan.proofs.area_image_lemmas.Damages.{logical_is}
 use Rattle.inode_plan.proofs.area_image_lemmas.Lists.{place_placed}
@@ -19,9 +20,9 @@ read_block-requires-clause-home g c =
     let there : place old.geometry s c.args.inode c.in-Some.place.tier c.args.block ≡ Some c.in-Some.place.block = sym (c.requires.map c.in-Some.place.tier c.args.block) ∙ c.in-Some.ensures.found in
     room_home old.geometry c.in-Some.place.tier c.in-Some.place.block (place_placed old.geometry s c.args.inode c.in-Some.place.tier c.args.block c.in-Some.place.block there).room
 
-pub returns-in-Ok-clause-bytes : goal.returns-in-Ok-clause-bytes
-returns-in-Ok-clause-bytes g c =
+pub returns-clause-bytes : goal.returns-clause-bytes
+returns-clause-bytes g c =
     let old = c.args.journal.now in
     let s : Store = disk g.M.Media old in
     let there : place old.geometry s c.args.inode c.in-Some.place.tier c.args.block ≡ Some c.in-Some.place.block = sym (c.requires.map c.in-Some.place.tier c.args.block) ∙ c.in-Some.ensures.found in
-    c.in-Ok.ensures.bytes ∙ sym (logical_is old.geometry s c.args.inode c.requires.once c.in-Some.place.tier c.args.block c.in-Some.place.block there)
+    on_ok_weaker c.read_block.result (λ is. is ∙ sym (logical_is old.geometry s c.args.inode c.requires.once c.in-Some.place.tier c.args.block c.in-Some.place.block there)) c.read_block.ensures.bytes

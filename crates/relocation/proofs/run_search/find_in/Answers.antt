@@ -1,6 +1,7 @@
 use Rattle.std.proofs.Common.{◌≡◌, ◌≤◌, ◌<◌, ◌∙◌, inl, inr, ℕ, [], Some, refl, sym, ap, subst, arith}
 use Rattle.std.specs.Prelude.{IsSome}
 use Rattle.std.proofs.lemmas.Bool.{cases_lt, false≢true}
+use Rattle.std.proofs.lemmas.Result.{err_from_is_err_and}
 use Rattle.inode_plan.specs.tier_device.declared.media.Tier.{Tier}
 use Rattle.inode_plan.specs.layout.Places.{Sizes}
 use Rattle.inode_plan.specs.layout.declared.slot.Slot.{Slot}
@@ -43,7 +44,7 @@ lie_above-requires g c =
     let few = (slot_limits old.geometry c.args.slot c.requires.fits).few in
     let within = c.requires.within.within in
     record {
-      once = map_once old.geometry s c.args.inode c.in-Ok.map c.in-Ok.ensures.places (c.requires.opens.spelled.inodes c.args.inode c.requires.number);
+      once = map_once old.geometry s c.args.inode c.in_ok-map.map c.in_ok-map.ensures.places (c.requires.opens.spelled.inodes c.args.inode c.requires.number);
       few = omega (arith, few, within);
     }
 
@@ -52,8 +53,8 @@ returns-then-lie_above-clause-found g c =
     let old = c.args.journal.now in
     let s : Store = disk g.M.Media old in
     let x = c.args.slot in
-    let m = c.in-Ok.map in
-    let places = c.in-Ok.ensures.places in
+    let m = c.in_ok-map.map in
+    let places = c.in_ok-map.ensures.places in
     let few = (slot_limits old.geometry x c.requires.fits).few in
     let within = c.requires.within.within in
     let above = c.lie_above.ensures.0 c.if-lie_above.true in
@@ -73,7 +74,7 @@ returns-then-lie_above-clause-found g c =
       count_is = refl;
       once = map_once old.geometry s c.args.inode m places (c.requires.opens.spelled.inodes c.args.inode c.requires.number);
       below = map_below old.geometry s c.args.inode m places x c.requires.slot_is;
-      within = c.in-Ok.ensures.within;
+      within = c.in_ok-map.ensures.within;
       apart = λ t j k p at_j at_k. place_once old.geometry s c.args.inode t j k p (sym (places t j) ∙ at_j) (sym (places t k) ∙ at_k);
     }
 
@@ -81,7 +82,7 @@ pub returns-else-lie_above-clause-none : goal.returns-else-lie_above-clause-none
 returns-else-lie_above-clause-none g c is can =
     let old = c.args.journal.now in
     let s : Store = disk g.M.Media old in
-    false≢true (sym c.if-lie_above.false ∙ c.lie_above.ensures.1 (above_there old.geometry s c.args.inode c.in-Ok.map c.in-Ok.ensures.places c.args.run.first c.args.run.count c.args.to can))
+    false≢true (sym c.if-lie_above.false ∙ c.lie_above.ensures.1 (above_there old.geometry s c.args.inode c.in_ok-map.map c.in_ok-map.ensures.places c.args.run.first c.args.run.count c.args.to can))
 
 extents_here : (g : Sizes) (s : Store) (i : ℕ) (x : Slot) (t : Tier) → slot_read g s i ≡ Some x → extents_read g s i t ≡ extents_by g (s tiers.Fast) i x t
 unfolding extents_read
@@ -94,8 +95,9 @@ no_lists g s i x errors.NoBlock is spells damage = damage
 no_lists g s i x errors.NotMapped is spells damage = damage
 no_lists g s i x errors.Memory is spells damage = tt
 
-pub returns-in-Err-clause-only : goal.returns-in-Err-clause-only
-returns-in-Err-clause-only g c =
+pub returns-in_err-map-clause-only : goal.returns-in_err-map-clause-only
+returns-in_err-map-clause-only g c =
+    let p = err_from_is_err_and c.from_residual.result c.from_residual.ensures.1 in
     let old = c.args.journal.now in
     let s : Store = disk g.M.Media old in
-    no_lists old.geometry s c.args.inode c.args.slot c.in-Err.error c.requires.slot_is (c.requires.opens.spelled.inodes c.args.inode c.requires.number) c.in-Err.ensures.damaged
+    rw (p.1, p.2) (no_lists old.geometry s c.args.inode c.args.slot c.in_err-map.field-0.0 c.requires.slot_is (c.requires.opens.spelled.inodes c.args.inode c.requires.number) c.in_err-map.ensures.damaged)

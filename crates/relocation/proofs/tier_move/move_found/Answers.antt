@@ -1,5 +1,6 @@
 use Rattle.std.proofs.Common.{◌≤◌, ◌<◌, ℕ, length, subst}
 use Rattle.std.specs.Prelude.{Err}
+use Rattle.std.proofs.lemmas.Result.{err_from_is_err_and}
 use Rattle.inode_plan.specs.area_image.Store.{disk}
 use Rattle.inode_plan.proofs.area_image_lemmas.Looked.{carried}
 use Rattle.inode_plan.specs.area_commit.Value.{data_pool}
@@ -12,102 +13,112 @@ use Rattle.relocation.proofs.Pooled.{same_self, own_run, found_run}
 use Rattle.relocation.proofs.tier_move.move_found.Goals as goal
 
 pub move_run-requires-clause-going : goal.move_run-requires-clause-going
-move_run-requires-clause-going g c = c.in-Ok-Some.ensures.looks.going.1
+move_run-requires-clause-going g c = c.in_ok-file.ensures.looks.going.1
 
 pub move_run-requires-clause-settled : goal.move_run-requires-clause-settled
 move_run-requires-clause-settled g c =
     let m = g.M.Media in
-    let looks = c.in-Ok-Some.ensures.looks in
+    let looks = c.in_ok-file.ensures.looks in
     settled_still m g.met.M.Media.sized c.args.journal.now c.find_run.new.journal c.args.pools.now looks.unmoved looks.geometry c.requires.settled
 
 pub move_run-requires-clause-file : goal.move_run-requires-clause-file
 move_run-requires-clause-file g c =
     let m = g.M.Media in
     let old = c.args.journal.now in
-    let there = c.in-Ok-Some in
-    let f = there.file in
-    let is = found_run old.geometry (disk g.M.Media old) c.args.run.inode c.args.run.first c.args.run.count c.args.to c.in-Ok-Some.field-0 c.in-Ok-Some.file c.in-Ok-Some.field-0-is c.in-Ok-Some.ensures.found in
-    carried m (λ h s. IsMovableRun h s c.args.run.inode f.run.first f.run.count c.args.to f) old c.find_run.new.journal _ there.ensures.looks
+    let f = c.in-Some.file in
+    let is = found_run old.geometry (disk g.M.Media old) c.args.run.inode c.args.run.first c.args.run.count c.args.to c.in_ok-file.field-0 c.in-Some.file c.in-Some.is c.in_ok-file.ensures.found in
+    carried m (λ h s. IsMovableRun h s c.args.run.inode f.run.first f.run.count c.args.to f) old c.find_run.new.journal _ c.in_ok-file.ensures.looks
     (own_run old.geometry (disk m old) c.args.run.inode c.args.run.first c.args.run.count c.args.to f is)
 
-pub returns-in-Ok-Some-clause-ends : goal.returns-in-Ok-Some-clause-ends
-returns-in-Ok-Some-clause-ends g c =
+pub returns-in-Some-clause-ends : goal.returns-in-Some-clause-ends
+returns-in-Some-clause-ends g c =
     let m = g.M.Media in
     let old = c.args.journal.now in
     let new = c.move_run.new.journal in
-    let f = c.in-Ok-Some.file in
-    let is = found_run old.geometry (disk g.M.Media old) c.args.run.inode c.args.run.first c.args.run.count c.args.to c.in-Ok-Some.field-0 c.in-Ok-Some.file c.in-Ok-Some.field-0-is c.in-Ok-Some.ensures.found in
-    let looks = c.in-Ok-Some.ensures.looks in
+    let f = c.in-Some.file in
+    let is = found_run old.geometry (disk g.M.Media old) c.args.run.inode c.args.run.first c.args.run.count c.args.to c.in_ok-file.field-0 c.in-Some.file c.in-Some.is c.in_ok-file.ensures.found in
+    let looks = c.in_ok-file.ensures.looks in
     let ends = ends_on m g.met.M.Media.sized c.args.run.inode f.run.first f.run.count c.args.to old c.find_run.new.journal new c.move_run.new.pools c.move_run.result looks.unmoved looks.geometry looks.quiet c.move_run.ensures.ends in
     subst (λ (n : ℕ). Ends m c.args.run.inode c.args.run.first n c.args.to old new c.move_run.new.pools c.move_run.result) is.count_is (
     subst (λ (n : ℕ). Ends m c.args.run.inode n f.run.count c.args.to old new c.move_run.new.pools c.move_run.result) is.first_is ends
     )
 
-pub returns-in-Ok-Some-clause-can : goal.returns-in-Ok-Some-clause-can
-returns-in-Ok-Some-clause-can g c =
+pub returns-in-Some-clause-can : goal.returns-in-Some-clause-can
+returns-in-Some-clause-can g c =
     let old = c.args.journal.now in
     let free = length (data_pool c.args.pools.now c.args.to).free in
-    let is = found_run old.geometry (disk g.M.Media old) c.args.run.inode c.args.run.first c.args.run.count c.args.to c.in-Ok-Some.field-0 c.in-Ok-Some.file c.in-Ok-Some.field-0-is c.in-Ok-Some.ensures.found in
-    ok_with c.move_run.result (λ (enough : c.in-Ok-Some.file.run.count ≤ length (data_pool c.args.pools.now c.args.to).free). (is.can, subst (λ (n : ℕ). n ≤ free) is.count_is enough)) c.move_run.ensures.enough
+    let is = found_run old.geometry (disk g.M.Media old) c.args.run.inode c.args.run.first c.args.run.count c.args.to c.in_ok-file.field-0 c.in-Some.file c.in-Some.is c.in_ok-file.ensures.found in
+    ok_with c.move_run.result (λ (enough : c.in-Some.file.run.count ≤ length (data_pool c.args.pools.now c.args.to).free). (is.can, subst (λ (n : ℕ). n ≤ free) is.count_is enough)) c.move_run.ensures.enough
 
-pub returns-in-Ok-Some-clause-not_mapped : goal.returns-in-Ok-Some-clause-not_mapped
-returns-in-Ok-Some-clause-not_mapped g c none = absurd (never_mapped c.move_run.result c.move_run.ensures.only none)
+pub returns-in-Some-clause-not_mapped : goal.returns-in-Some-clause-not_mapped
+returns-in-Some-clause-not_mapped g c none = absurd (never_mapped c.move_run.result c.move_run.ensures.only none)
 
-pub returns-in-Ok-Some-clause-no_block : goal.returns-in-Ok-Some-clause-no_block
-returns-in-Ok-Some-clause-no_block g c none =
+pub returns-in-Some-clause-no_block : goal.returns-in-Some-clause-no_block
+returns-in-Some-clause-no_block g c none =
     let old = c.args.journal.now in
     let free = length (data_pool c.args.pools.now c.args.to).free in
-    let is = found_run old.geometry (disk g.M.Media old) c.args.run.inode c.args.run.first c.args.run.count c.args.to c.in-Ok-Some.field-0 c.in-Ok-Some.file c.in-Ok-Some.field-0-is c.in-Ok-Some.ensures.found in
+    let is = found_run old.geometry (disk g.M.Media old) c.args.run.inode c.args.run.first c.args.run.count c.args.to c.in_ok-file.field-0 c.in-Some.file c.in-Some.is c.in_ok-file.ensures.found in
     (is.can, subst (λ (n : ℕ). free < n) is.count_is (c.move_run.ensures.few none))
 
-pub returns-in-Ok-Some-clause-memory : goal.returns-in-Ok-Some-clause-memory
-returns-in-Ok-Some-clause-memory g c full =
+pub returns-in-Some-clause-memory : goal.returns-in-Some-clause-memory
+returns-in-Some-clause-memory g c full =
     let old = c.args.journal.now in
-    let f = c.in-Ok-Some.file in
-    let is = found_run old.geometry (disk g.M.Media old) c.args.run.inode c.args.run.first c.args.run.count c.args.to c.in-Ok-Some.field-0 f c.in-Ok-Some.field-0-is c.in-Ok-Some.ensures.found in
+    let f = c.in-Some.file in
+    let is = found_run old.geometry (disk g.M.Media old) c.args.run.inode c.args.run.first c.args.run.count c.args.to c.in_ok-file.field-0 f c.in-Some.is c.in_ok-file.ensures.found in
     record { file = f.slot; slot_is = is.slot_is; within = is.within_file }
 
-pub returns-in-Ok-Some-clause-only : goal.returns-in-Ok-Some-clause-only
-returns-in-Ok-Some-clause-only g c = change_move c.move_run.result c.move_run.ensures.only
+pub returns-in-Some-clause-only : goal.returns-in-Some-clause-only
+returns-in-Some-clause-only g c = change_move c.move_run.result c.move_run.ensures.only
 
-pub returns-in-Ok-None-clause-ends : goal.returns-in-Ok-None-clause-ends
-returns-in-Ok-None-clause-ends g c =
+pub returns-in-None-clause-ends : goal.returns-in-None-clause-ends
+returns-in-None-clause-ends g c =
     let m = g.M.Media in
     let old = c.args.journal.now in
     let rests : Rests m old.geometry old.media = record { sizes = c.left_now.ensures.sizes c.requires.going; journal = c.left_now.ensures.journal c.requires.going; rest = c.requires.settled.rests } in
-    let looks = c.in-Ok-None.ensures.looks in
+    let looks = c.in_ok-file.ensures.looks in
     ends_refused m g.met.M.Media.sized c.args.run.inode c.args.run.first c.args.run.count c.args.to old c.find_run.new.journal c.args.pools.now NotMapped mapped_fault rests looks.unmoved looks.geometry looks.going.1 looks.quiet c.requires.settled
 
-pub returns-in-Ok-None-clause-same : goal.returns-in-Ok-None-clause-same
-returns-in-Ok-None-clause-same g c = same_self c.args.pools.now
+pub returns-in-None-clause-same : goal.returns-in-None-clause-same
+returns-in-None-clause-same g c = same_self c.args.pools.now
 
-pub returns-in-Ok-None-clause-not_mapped : goal.returns-in-Ok-None-clause-not_mapped
-returns-in-Ok-None-clause-not_mapped g c is = c.in-Ok-None.ensures.none c.in-Ok-None.field-0-is
+pub returns-in-None-clause-not_mapped : goal.returns-in-None-clause-not_mapped
+returns-in-None-clause-not_mapped g c is = c.in_ok-file.ensures.none c.in-None.is
 
-pub returns-in-Ok-None-clause-no_block : goal.returns-in-Ok-None-clause-no_block
-returns-in-Ok-None-clause-no_block g c is = absurd (mapped_block (err_same NotMapped NoBlock is))
+pub returns-in-None-clause-no_block : goal.returns-in-None-clause-no_block
+returns-in-None-clause-no_block g c is = absurd (mapped_block (err_same NotMapped NoBlock is))
 
-pub returns-in-Ok-None-clause-memory : goal.returns-in-Ok-None-clause-memory
-returns-in-Ok-None-clause-memory g c is = absurd (mapped_memory (err_same NotMapped Memory is))
+pub returns-in-None-clause-memory : goal.returns-in-None-clause-memory
+returns-in-None-clause-memory g c is = absurd (mapped_memory (err_same NotMapped Memory is))
 
-pub returns-in-Err-clause-ends : goal.returns-in-Err-clause-ends
-returns-in-Err-clause-ends g c =
+pub returns-in_err-file-clause-ends : goal.returns-in_err-file-clause-ends
+returns-in_err-file-clause-ends g c =
+    let p = err_from_is_err_and c.from_residual.result c.from_residual.ensures.1 in
     let m = g.M.Media in
     let old = c.args.journal.now in
     let rests : Rests m old.geometry old.media = record { sizes = c.left_now.ensures.sizes c.requires.going; journal = c.left_now.ensures.journal c.requires.going; rest = c.requires.settled.rests } in
-    ends_told m g.met.M.Media.sized c.args.run.inode c.args.run.first c.args.run.count c.args.to old c.find_run.new.journal c.args.pools.now c.in-Err.error (sound_forced c.in-Err.error c.in-Err.ensures.only) c.in-Err.ensures.looks c.requires.going rests c.requires.settled
+    rw (p.1, p.2) (ends_told m g.met.M.Media.sized c.args.run.inode c.args.run.first c.args.run.count c.args.to old c.find_run.new.journal c.args.pools.now c.in_err-file.field-0.0 (sound_forced c.in_err-file.field-0.0 c.in_err-file.ensures.only) c.in_err-file.ensures.looks c.requires.going rests c.requires.settled)
 
-pub returns-in-Err-clause-same : goal.returns-in-Err-clause-same
-returns-in-Err-clause-same g c = same_self c.args.pools.now
+pub returns-in_err-file-clause-same : goal.returns-in_err-file-clause-same
+returns-in_err-file-clause-same g c =
+    let p = err_from_is_err_and c.from_residual.result c.from_residual.ensures.1 in
+    rw p.1 (same_self c.args.pools.now)
 
-pub returns-in-Err-clause-not_mapped : goal.returns-in-Err-clause-not_mapped
-returns-in-Err-clause-not_mapped g c is = absurd (forced_only (Err c.in-Err.error) NotMapped (sound_forced c.in-Err.error c.in-Err.ensures.only) mapped_fault mapped_memory is)
+pub returns-in_err-file-clause-not_mapped : goal.returns-in_err-file-clause-not_mapped
+returns-in_err-file-clause-not_mapped g c =
+    let p = err_from_is_err_and c.from_residual.result c.from_residual.ensures.1 in
+    rw (p.1, p.2) (λ is. absurd (forced_only (Err c.in_err-file.field-0.0) NotMapped (sound_forced c.in_err-file.field-0.0 c.in_err-file.ensures.only) mapped_fault mapped_memory is))
 
-pub returns-in-Err-clause-no_block : goal.returns-in-Err-clause-no_block
-returns-in-Err-clause-no_block g c is = absurd (forced_only (Err c.in-Err.error) NoBlock (sound_forced c.in-Err.error c.in-Err.ensures.only) block_fault block_memory is)
+pub returns-in_err-file-clause-no_block : goal.returns-in_err-file-clause-no_block
+returns-in_err-file-clause-no_block g c =
+    let p = err_from_is_err_and c.from_residual.result c.from_residual.ensures.1 in
+    rw (p.1, p.2) (λ is. absurd (forced_only (Err c.in_err-file.field-0.0) NoBlock (sound_forced c.in_err-file.field-0.0 c.in_err-file.ensures.only) block_fault block_memory is))
 
-pub returns-in-Err-clause-memory : goal.returns-in-Err-clause-memory
-returns-in-Err-clause-memory g c is = c.in-Err.ensures.memory (err_same c.in-Err.error Memory is)
+pub returns-in_err-file-clause-memory : goal.returns-in_err-file-clause-memory
+returns-in_err-file-clause-memory g c =
+    let p = err_from_is_err_and c.from_residual.result c.from_residual.ensures.1 in
+    rw (p.1, p.2) (λ is. c.in_err-file.ensures.memory (err_same c.in_err-file.field-0.0 Memory is))
 
-pub returns-in-Err-clause-only : goal.returns-in-Err-clause-only
-returns-in-Err-clause-only g c = change_move (Err c.in-Err.error) (forced_change (Err c.in-Err.error) (sound_forced c.in-Err.error c.in-Err.ensures.only))
+pub returns-in_err-file-clause-only : goal.returns-in_err-file-clause-only
+returns-in_err-file-clause-only g c =
+    let p = err_from_is_err_and c.from_residual.result c.from_residual.ensures.1 in
+    rw (p.1, p.2) (change_move (Err c.in_err-file.field-0.0) (forced_change (Err c.in_err-file.field-0.0) (sound_forced c.in_err-file.field-0.0 c.in_err-file.ensures.only)))

@@ -7,7 +7,7 @@ use Rattle.recovery_laws.specs.digester.graph_change.Change.{Coalesces}
 use Rattle.recovery_laws.specs.digester.graph_change.View.{changes_of}
 use Rattle.recovery_laws.specs.digester.file_graph.Graph.{Graph}
 use Rattle.settlement.proofs.Changing.{apply_answers, nothing_few, nothing_has, nothing_written, set_stays}
-use Rattle.settlement.proofs.Faults.{no_damage, of_other}
+use Rattle.settlement.proofs.Faults.{no_damage, of_other, of_reader}
 use Rattle.recovery_laws.proofs.shared_area_lemmas.Sound.{found_change}
 use Rattle.settlement.proofs.mark_moves.set_marks.Goals as goal
 
@@ -32,7 +32,7 @@ pub area_fault-requires : goal.area_fault-requires
 area_fault-requires g c =
     let law = subst (Coalesces []) (sym c.new-change.ensures.change) (c.changes_are_the_effects.ensures []) in
     let old = c.args.area.now in
-    found_change (Err c.in-Err.error) c.in-Err.ensures.only (c.in-Err.ensures.never (λ bs are. nothing_written (changes_of c.new-change.result) law old.geometry (disk g.M.Media old) bs are))
+    of_reader c.in-Err.error (λ _ _. ⊥) (found_change (Err c.in-Err.error) c.in-Err.ensures.only (c.in-Err.ensures.never (λ bs are. nothing_written (changes_of c.new-change.result) law old.geometry (disk g.M.Media old) bs are)))
 
 pub returns-clause-only : goal.returns-clause-only
 returns-clause-only g c =

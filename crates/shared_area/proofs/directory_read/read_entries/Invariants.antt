@@ -10,5 +10,5 @@ invariant-parts g l =
     let m = g.M.Media in
     record {
       looks : Looks m l.fn.journal l.journal call_answer;
-      put : l.map ≡ named_entries (entry_at (logical_block l.fn.journal.geometry (disk m l.fn.journal) l.inode)) (min l.entries (56 * l.number));
+      put : l.map ≡ named_entries (entry_at (logical_block l.fn.journal.geometry (disk m l.fn.journal) l.directory.inode)) (min l.directory.entries (56 * l.number));
     }

@@ -3,8 +3,8 @@ use Rattle.change_plan.specs.area_image.Store.{disk, logical_block}
 use Rattle.shared_area.proofs.Entries.{block_shown}
 use Rattle.shared_area.proofs.directory_read.read_entry_block.Goals as goal
 
-pub returns-in-Ok-clause-block : goal.returns-in-Ok-clause-block
-returns-in-Ok-clause-block g c =
+pub returns-clause-block : goal.returns-clause-block
+returns-clause-block g c =
     let old = c.args.journal.now in
     let long : length c.read_within.new.out ≡ 4096 = search rules in
-    block_shown (logical_block old.geometry (disk g.M.Media old) c.args.inode) c.args.number c.read_within.new.out c.requires.entries long c.in-Ok.ensures.bytes
+    block_shown (logical_block old.geometry (disk g.M.Media old) c.args.inode) c.args.number c.read_within.new.out c.requires.entries long c.in_ok-read_within.ensures.bytes

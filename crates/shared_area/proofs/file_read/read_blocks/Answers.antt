@@ -28,14 +28,14 @@ loop-done-preserved g c =
     let same : done + n - done ≡ n = omega arith in
     let cut : length (take (done + n - done) (drop done now)) ≡ done + n - done = length-take-le (done + n - done) (drop done now) (omega (arith, length-drop done now, fits)) in
     let long : length new ≡ n = c.read_within.auto.out ∙ cut ∙ same in
-    let shows = carried_back m (λ x s. ShowsBytes (logical_block x s c.args.inode) (c.args.at + done) new) old c.loop-done.journal call_answer first c.in-Ok.ensures.bytes in
+    let shows = carried_back m (λ x s. ShowsBytes (logical_block x s c.args.inode) (c.args.at + done) new) old c.loop-done.journal call_answer first c.in_ok-read_within.ensures.bytes in
     let blocks = logical_block old.geometry (disk m old) c.args.inode in
     let behind : drop (done + n - done) (drop done now) ≡ drop (done + n) now = drop-drop (done + n - done) done now ∙ ap (λ j. drop (done + j) now) same in
     let read : IsReadUpTo blocks c.args.at (done + n) c.args.out.now (take done now ++ (new ++ drop (done + n - done) (drop done now))) =
     subst (λ (l : List ℕ). IsReadUpTo blocks c.args.at (done + n) c.args.out.now (take done now ++ (new ++ l))) (sym behind)
     (up_to_more blocks c.args.at done n c.args.out.now now new c.loop-done.invariant.read shows long fits) in
     record {
-      looks = looks_on m old c.loop-done.journal c.read_within.new.journal tt call_answer first c.in-Ok.ensures.looks;
+      looks = looks_on m old c.loop-done.journal c.read_within.new.journal tt call_answer first c.in_ok-read_within.ensures.looks;
       few = omega (arith, fits, read.long, c.loop-done.invariant.read.long);
       read = read;
     }

@@ -1,67 +1,80 @@
-use Rattle.std.proofs.Common.{◌≡◌, inl, refl, subst}
-use Rattle.std.specs.Prelude.{Err}
+use Rattle.std.proofs.Common.{◌≡◌, sym, ap, subst, arith}
+use Rattle.std.specs.Prelude.{Ok, Err}
+use Rattle.std.proofs.lemmas.Result.{err_from_is_err_and}
+use Rattle.record_validation.specs.file_graph.Units.{charge}
 use Rattle.change_plan.specs.graph_change.View.{changes_of}
-use Rattle.change_plan.specs.area_image.declared.error.AreaError.{AreaError}
-use Rattle.change_plan.specs.area_image.Looks.{Looks}
-use Rattle.change_plan.proofs.area_image_lemmas.Looked.{carried, carried_back}
-use Rattle.change_plan.proofs.area_commit_lemmas.Course.{Rests}
-use Rattle.shared_area.specs.ChangeApply.{CanApply}
-use Rattle.shared_area.specs.Costs.{units_in, inodes_of}
-use Rattle.change_plan.specs.BlockDemand.{AreWritten}
+use Rattle.change_plan.specs.layout.Places.{Sizes, IsAllowed}
+use Rattle.change_plan.specs.area_image.Store.{Store, disk, graph}
 use Rattle.change_plan.specs.area_image.declared.error.AreaError.TheVariants.{DeviceFault}
-use Rattle.shared_area.proofs.Ending.{settled_still, ends_told, ends_on}
-use Rattle.shared_area.proofs.AppliedChange.{charge_on, units_few}
+use Rattle.shared_area.proofs.Ending.{err_same}
+use Rattle.shared_area.proofs.AppliedChange.{ends_of}
 use Rattle.shared_area.proofs.graph_update.apply_running.Goals as goal
 
-pub units_of_change-requires-clause-opens : goal.units_of_change-requires-clause-opens
-units_of_change-requires-clause-opens g c = c.requires.settled.opens
+pub apply-requires-clause-settled : goal.apply-requires-clause-settled
+apply-requires-clause-settled g c = λ going. c.requires.settled
 
-pub units_of_change-requires-clause-bounded : goal.units_of_change-requires-clause-bounded
-units_of_change-requires-clause-bounded g c = c.requires.can.bounded
+pub apply-requires-clause-bounded : goal.apply-requires-clause-bounded
+apply-requires-clause-bounded g c = c.requires.can.bounded
 
-pub change_from-requires-clause-going : goal.change_from-requires-clause-going
-change_from-requires-clause-going g c = c.in-Ok.ensures.looks.going.1
+pub apply-requires-clause-tidy : goal.apply-requires-clause-tidy
+apply-requires-clause-tidy g c = c.requires.can.tidy
 
-pub change_from-requires-clause-settled : goal.change_from-requires-clause-settled
-change_from-requires-clause-settled g c =
+pub apply-requires-clause-images : goal.apply-requires-clause-images
+apply-requires-clause-images g c = c.requires.can.images
+
+pub apply-requires-clause-fits : goal.apply-requires-clause-fits
+apply-requires-clause-fits g c = c.requires.can.fits
+
+pub apply-requires-clause-entries : goal.apply-requires-clause-entries
+apply-requires-clause-entries g c = λ going. c.requires.can.entries
+
+pub apply-requires-clause-units : goal.apply-requires-clause-units
+apply-requires-clause-units g c = λ going. c.requires.can.units
+
+pub returns-in_err-cost-clause-ends : goal.returns-in_err-cost-clause-ends
+returns-in_err-cost-clause-ends g c =
     let m = g.M.Media in
-    let looks = c.in-Ok.ensures.looks in
-    settled_still m g.met.M.Media.sized c.args.journal.now c.units_of_change.new.journal c.args.pools.now looks.unmoved looks.geometry c.requires.settled
+    let is = c.apply.ensures in
+    let refused = c.in_err-cost.ensures in
+    let error = c.in_err-cost.field-0.0 in
+    let p = err_from_is_err_and c.from_residual.result c.from_residual.ensures.1 in
+    rw (p.1, p.2)
+    (ends_of m g.met.M.Media.sized (changes_of c.args.marked.now.change.now) c.args.marked.now.marks c.args.journal.now c.apply.new.journal c.apply.new.pools (Err error) c.requires.going is.any_moment tt is.settled refused.only refused.unmoved (λ is. refused.fault (ap Err (err_same error DeviceFault is))) tt is.geometry is.faults is.one_fault is.at_most)
 
-pub change_from-requires-clause-charged : goal.change_from-requires-clause-charged
-change_from-requires-clause-charged g c =
+pub returns-clause-ends : goal.returns-clause-ends
+returns-clause-ends g c =
     let m = g.M.Media in
-    let looks = c.in-Ok.ensures.looks in
-    charge_on m g.met.M.Media.sized (changes_of c.args.change.now) c.args.marks c.args.journal.now c.units_of_change.new.journal c.args.units.now looks.unmoved looks.geometry c.requires.charged
+    let is = c.apply.ensures in
+    let ok = c.in_ok-cost.ensures in
+    ends_of m g.met.M.Media.sized (changes_of c.args.marked.now.change.now) c.args.marked.now.marks c.args.journal.now c.apply.new.journal c.apply.new.pools (Ok tt) c.requires.going is.any_moment ok.applied is.settled tt tt (λ e. absurd cc) ok.quiet is.geometry is.faults is.one_fault is.at_most
 
-pub change_from-requires-clause-before : goal.change_from-requires-clause-before
-change_from-requires-clause-before g c =
-    let m = g.M.Media in
-    carried m (λ h s. c.in-Ok.before ≡ units_in h s (inodes_of c.args.change.now)) c.args.journal.now c.units_of_change.new.journal _ c.in-Ok.ensures.looks c.in-Ok.ensures.units
+pub charge_after-requires-clause-before : goal.charge_after-requires-clause-before
+charge_after-requires-clause-before g c =
+    let old = c.args.journal.now in
+    let s : Store = disk g.M.Media old in
+    let cs = changes_of c.args.marked.now.change.now in
+    let within = c.charge_follows_the_change.ensures.within old.geometry s cs c.requires.settled.opens.spelled c.requires.can.bounded in
+    omega (arith, within, c.requires.charged, c.in_ok-cost.ensures.cost.before)
 
-pub change_from-requires-clause-few : goal.change_from-requires-clause-few
-change_from-requires-clause-few g c = units_few c.in-Ok.before c.args.units.now _ c.in-Ok.ensures.few c.requires.charged
+pub charge_after-requires-clause-small : goal.charge_after-requires-clause-small
+charge_after-requires-clause-small g c =
+    let old = c.args.journal.now in
+    let after : Store = disk g.M.Media c.apply.new.journal in
+    let cs = changes_of c.args.marked.now.change.now in
+    let opens = c.in_ok-cost.ensures.applied.opens in
+    let within = c.charge_follows_the_change.ensures.within old.geometry after cs opens.spelled c.requires.can.bounded in
+    let allowed : IsAllowed old.geometry = subst IsAllowed c.geometry.ensures c.units-units.ensures.allowed in
+    omega (arith, within, opens.units, c.requires.settled.opens.units, allowed.few_units, c.requires.charged, c.in_ok-cost.ensures.cost.after)
 
-pub change_from-requires-clause-can : goal.change_from-requires-clause-can
-change_from-requires-clause-can g c =
-    let m = g.M.Media in
-    carried m (λ h s. CanApply h s (changes_of c.args.change.now) c.args.marks) c.args.journal.now c.units_of_change.new.journal _ c.in-Ok.ensures.looks c.requires.can
-
-pub returns-in-Ok-clause-ends : goal.returns-in-Ok-clause-ends
-returns-in-Ok-clause-ends g c =
-    let m = g.M.Media in
-    let looks = c.in-Ok.ensures.looks in
-    ends_on m g.met.M.Media.sized (changes_of c.args.change.now) c.args.marks c.args.journal.now c.units_of_change.new.journal c.change_from.new.journal c.change_from.new.pools c.change_from.result looks.unmoved looks.geometry looks.quiet c.change_from.ensures.ends
-
-pub returns-in-Ok-clause-no_block : goal.returns-in-Ok-clause-no_block
-returns-in-Ok-clause-no_block g c is =
-    let m = g.M.Media in
-    let b = c.change_from.ensures.no_block is in
-    (b.0, carried_back m (λ h s. AreWritten h s (changes_of c.args.change.now) b.0) c.args.journal.now c.units_of_change.new.journal _ c.in-Ok.ensures.looks b.1, b.2)
-
-pub returns-in-Err-clause-ends : goal.returns-in-Err-clause-ends
-returns-in-Err-clause-ends g c =
+pub returns-clause-charged : goal.returns-clause-charged
+returns-clause-charged g c =
     let m = g.M.Media in
     let old = c.args.journal.now in
-    let rests : Rests m old.geometry old.media = record { sizes = c.left_now.ensures.sizes c.requires.going; journal = c.left_now.ensures.journal c.requires.going; rest = c.requires.settled.rests } in
-    ends_told m g.met.M.Media.sized (changes_of c.args.change.now) c.args.marks old c.units_of_change.new.journal c.args.pools.now DeviceFault (inl refl) (subst (λ (e : AreaError). Looks m old c.units_of_change.new.journal (Err e)) c.in-Err.ensures.only c.in-Err.ensures.looks) c.requires.going rests c.requires.settled
+    let s : Store = disk m old in
+    let after : Store = disk m c.apply.new.journal in
+    let cs = changes_of c.args.marked.now.change.now in
+    let applied = c.in_ok-cost.ensures.applied in
+    let cost = c.in_ok-cost.ensures.cost in
+    let law = c.charge_follows_the_change.ensures.follows old.geometry s after cs c.requires.settled.opens.spelled applied.opens.spelled c.requires.can.bounded applied.graph_after in
+    subst (λ (h : Sizes). c.charge_after.result ≡ charge (graph h after)) (sym c.apply.ensures.geometry)
+    (omega (arith, law, c.charge_after.ensures, c.requires.charged, cost.before, cost.after))

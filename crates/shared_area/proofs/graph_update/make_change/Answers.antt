@@ -1,6 +1,7 @@
 use Rattle.std.proofs.Common.{◌∙◌, ℕ, length, inl, inr, sym, subst, arith}
 use Rattle.std.specs.Prelude.{Ok, Err}
 use Rattle.std.proofs.lemmas.Bool.{true≢false}
+use Rattle.std.proofs.lemmas.Result.{err_from_is_err_and}
 use Rattle.change_plan.specs.graph_change.View.{changes_of}
 use Rattle.change_plan.specs.area_image.Store.{disk}
 use Rattle.change_plan.specs.area_image.declared.error.AreaError.TheVariants.{DeviceFault, NoBlock}
@@ -47,68 +48,71 @@ apply_running-requires-clause-can g c =
     let going = sym c.has_failed.ensures ∙ c.if-has_failed.false in
     record { bounded = c.requires.bounded; tidy = c.requires.tidy; entries = c.requires.entries going; images = c.requires.images; units = c.requires.units going; fits = c.requires.fits }
 
-pub returns-in-Ok-clause-ready : goal.returns-in-Ok-clause-ready
-returns-in-Ok-clause-ready g c going =
+pub returns-clause-ready : goal.returns-clause-ready
+returns-clause-ready g c going =
     let m = g.M.Media in
-    ready_made m g.met.M.Media.sized (changes_of c.args.change.now) c.args.marks c.args.journal.now c.apply_running.new.journal c.apply_running.new.pools c.apply_running.new.units tt c.in-Ok.ensures.ends c.in-Ok.ensures.charged
+    ready_made m g.met.M.Media.sized (changes_of c.args.marked.now.change.now) c.args.marked.now.marks c.args.journal.now c.apply_running.new.journal c.apply_running.new.pools c.apply_running.new.units tt c.in_ok-apply_running.ensures.ends c.in_ok-apply_running.ensures.charged
 
-pub returns-in-Ok-clause-any_moment : goal.returns-in-Ok-clause-any_moment
-returns-in-Ok-clause-any_moment g c going =
+pub returns-clause-any_moment : goal.returns-clause-any_moment
+returns-clause-any_moment g c going =
     let m = g.M.Media in
     let old = c.args.journal.now in
     let new = c.apply_running.new.journal in
-    stays_or_changes old.geometry (disk m old) (changes_of c.args.change.now) c.args.marks (m.moment old.media) (m.moment new.media) (m.left old.media) (m.left new.media) (c.requires.ready going).opens c.in-Ok.ensures.ends.any_moment
+    stays_or_changes old.geometry (disk m old) (changes_of c.args.marked.now.change.now) c.args.marked.now.marks (m.moment old.media) (m.moment new.media) (m.left old.media) (m.left new.media) (c.requires.ready going).opens c.in_ok-apply_running.ensures.ends.any_moment
 
-pub returns-in-Ok-clause-applied : goal.returns-in-Ok-clause-applied
-returns-in-Ok-clause-applied g c = c.in-Ok.ensures.ends.applied
+pub returns-clause-applied : goal.returns-clause-applied
+returns-clause-applied g c = c.in_ok-apply_running.ensures.ends.applied
 
-pub returns-in-Ok-clause-applies : goal.returns-in-Ok-clause-applies
-returns-in-Ok-clause-applies g c =
+pub returns-clause-applies : goal.returns-clause-applies
+returns-clause-applies g c =
     let m = g.M.Media in
-    applies_or_stays m g.met.M.Media.sized (changes_of c.args.change.now) c.args.marks c.args.journal.now c.apply_running.new.journal c.apply_running.new.pools (Ok tt) (sym c.has_failed.ensures ∙ c.if-has_failed.false) c.in-Ok.ensures.ends
+    applies_or_stays m g.met.M.Media.sized (changes_of c.args.marked.now.change.now) c.args.marked.now.marks c.args.journal.now c.apply_running.new.journal c.apply_running.new.pools (Ok tt) (sym c.has_failed.ensures ∙ c.if-has_failed.false) c.in_ok-apply_running.ensures.ends
 
-pub returns-in-Err-clause-ready : goal.returns-in-Err-clause-ready
-returns-in-Err-clause-ready g c going =
+pub returns-in_err-apply_running-clause-ready : goal.returns-in_err-apply_running-clause-ready
+returns-in_err-apply_running-clause-ready g c going =
     let m = g.M.Media in
     let old = c.args.journal.now in
     let new = c.apply_running.new.journal in
     let was = sym c.has_failed.ensures ∙ c.if-has_failed.false in
-    subst (λ (n : ℕ). IsReady new.geometry (m.seen new.media) (m.left new.media (m.moment new.media)) c.apply_running.new.pools c.args.told.now n) (sym c.in-Err.ensures.kept)
-    (ready_refused m g.met.M.Media.sized (changes_of c.args.change.now) c.args.marks old new c.args.pools.now c.apply_running.new.pools c.args.told.now c.args.units.now c.in-Err.error (c.requires.ready was) c.in-Err.ensures.ends going)
+    subst (λ (n : ℕ). IsReady new.geometry (m.seen new.media) (m.left new.media (m.moment new.media)) c.apply_running.new.pools c.args.told.now n) (sym c.in_err-apply_running.ensures.kept)
+    (ready_refused m g.met.M.Media.sized (changes_of c.args.marked.now.change.now) c.args.marked.now.marks old new c.args.pools.now c.apply_running.new.pools c.args.told.now c.args.units.now c.in_err-apply_running.field-0.0 (c.requires.ready was) c.in_err-apply_running.ensures.ends going)
 
-pub returns-in-Err-clause-any_moment : goal.returns-in-Err-clause-any_moment
-returns-in-Err-clause-any_moment g c going =
+pub returns-in_err-apply_running-clause-any_moment : goal.returns-in_err-apply_running-clause-any_moment
+returns-in_err-apply_running-clause-any_moment g c going =
     let m = g.M.Media in
     let old = c.args.journal.now in
     let new = c.apply_running.new.journal in
-    stays_or_changes old.geometry (disk m old) (changes_of c.args.change.now) c.args.marks (m.moment old.media) (m.moment new.media) (m.left old.media) (m.left new.media) (c.requires.ready going).opens c.in-Err.ensures.ends.any_moment
+    stays_or_changes old.geometry (disk m old) (changes_of c.args.marked.now.change.now) c.args.marked.now.marks (m.moment old.media) (m.moment new.media) (m.left old.media) (m.left new.media) (c.requires.ready going).opens c.in_err-apply_running.ensures.ends.any_moment
 
-pub returns-in-Err-clause-no_block : goal.returns-in-Err-clause-no_block
-returns-in-Err-clause-no_block g c is =
+pub returns-in_err-apply_running-clause-no_block : goal.returns-in_err-apply_running-clause-no_block
+returns-in_err-apply_running-clause-no_block g c =
     let m = g.M.Media in
     let old = c.args.journal.now in
     let ready = c.requires.ready (sym c.has_failed.ensures ∙ c.if-has_failed.false) in
-    let b = c.in-Err.ensures.no_block is in
-    (b.0, b.1, too_few_data old.geometry (disk m old) c.args.pools.now (length b.0) ready.ranges ready.free c.free-free.ensures.ordered b.2)
+    let p = err_from_is_err_and c.from_residual.result c.from_residual.ensures.1 in
+    rw (p.1, p.2) (λ is. let b = c.in_err-apply_running.ensures.no_block is in (b.0, b.1, too_few_data old.geometry (disk m old) c.args.pools.now (length b.0) ready.ranges ready.free c.free-free.ensures.ordered b.2))
 
-pub returns-in-Err-clause-never : goal.returns-in-Err-clause-never
-returns-in-Err-clause-never g c few is =
+pub returns-in_err-apply_running-clause-never : goal.returns-in_err-apply_running-clause-never
+returns-in_err-apply_running-clause-never g c few =
     let m = g.M.Media in
     let old = c.args.journal.now in
     let ready = c.requires.ready (sym c.has_failed.ensures ∙ c.if-has_failed.false) in
-    let b = c.in-Err.ensures.no_block is in
-    c.small_changes_find_blocks.ensures.spare old.geometry (disk m old) c.args.pools.now 0 (length b.0) ready.opens.spelled ready.opens.units ready.free (omega arith) (few b.0 b.1) (inr b.2)
+    let p = err_from_is_err_and c.from_residual.result c.from_residual.ensures.1 in
+    rw (p.1, p.2) (λ is. let b = c.in_err-apply_running.ensures.no_block is in c.small_changes_find_blocks.ensures.spare old.geometry (disk m old) c.args.pools.now 0 (length b.0) ready.opens.spelled ready.opens.units ready.free (omega arith) (few b.0 b.1) (inr b.2))
 
-pub returns-in-Err-clause-applies : goal.returns-in-Err-clause-applies
-returns-in-Err-clause-applies g c =
+pub returns-in_err-apply_running-clause-applies : goal.returns-in_err-apply_running-clause-applies
+returns-in_err-apply_running-clause-applies g c =
     let m = g.M.Media in
-    applies_or_stays m g.met.M.Media.sized (changes_of c.args.change.now) c.args.marks c.args.journal.now c.apply_running.new.journal c.apply_running.new.pools (Err c.in-Err.error) (sym c.has_failed.ensures ∙ c.if-has_failed.false) c.in-Err.ensures.ends
+    let p = err_from_is_err_and c.from_residual.result c.from_residual.ensures.1 in
+    rw (p.1, p.2) (applies_or_stays m g.met.M.Media.sized (changes_of c.args.marked.now.change.now) c.args.marked.now.marks c.args.journal.now c.apply_running.new.journal c.apply_running.new.pools (Err c.in_err-apply_running.field-0.0) (sym c.has_failed.ensures ∙ c.if-has_failed.false) c.in_err-apply_running.ensures.ends)
 
-pub returns-in-Err-clause-only : goal.returns-in-Err-clause-only
-returns-in-Err-clause-only g c = c.in-Err.ensures.ends.only
+pub returns-in_err-apply_running-clause-only : goal.returns-in_err-apply_running-clause-only
+returns-in_err-apply_running-clause-only g c =
+    let p = err_from_is_err_and c.from_residual.result c.from_residual.ensures.1 in
+    rw (p.1, p.2) (c.in_err-apply_running.ensures.ends.only)
 
-pub returns-in-Ok-clause-at_most : goal.returns-in-Ok-clause-at_most
-returns-in-Ok-clause-at_most g c = c.in-Ok.ensures.ends.at_most
+pub returns-clause-at_most : goal.returns-clause-at_most
+returns-clause-at_most g c = c.in_ok-apply_running.ensures.ends.at_most
 
-pub returns-in-Err-clause-at_most : goal.returns-in-Err-clause-at_most
-returns-in-Err-clause-at_most g c = c.in-Err.ensures.ends.at_most
+pub returns-in_err-apply_running-clause-at_most : goal.returns-in_err-apply_running-clause-at_most
+returns-in_err-apply_running-clause-at_most g c = c.in_err-apply_running.ensures.ends.at_most

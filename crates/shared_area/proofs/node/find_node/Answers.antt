@@ -1,4 +1,3 @@
-use Rattle.std.proofs.Common.{Ok}
 use Rattle.change_plan.specs.area_image.Store.{disk}
 use Rattle.change_plan.specs.area_image.Format.{IsOpenable}
 use Rattle.change_plan.proofs.area_image_lemmas.Looked.{carried}
@@ -9,11 +8,11 @@ use Rattle.shared_area.proofs.node.find_node.Goals as goal
 pub node_of-requires-clause-opens : goal.node_of-requires-clause-opens
 node_of-requires-clause-opens g c =
     let m = g.M.Media in
-    let looks = c.in-Ok-Some.ensures.looks in
-    carried m (λ x s. IsOpenable x s) c.args.journal.now c.find_parts.new.journal (Ok c.in-Ok-Some.field-0) looks (c.requires looks.going.0)
+    let looks = c.in_ok-parts.ensures.looks in
+    carried m (λ x s. IsOpenable x s) c.args.journal.now c.find_parts.new.journal _ looks (c.requires looks.going.0)
 
-pub returns-in-Ok-None-clause-node : goal.returns-in-Ok-None-clause-node
-returns-in-Ok-None-clause-node g c =
+pub returns-in-None-clause-node : goal.returns-in-None-clause-node
+returns-in-None-clause-node g c =
     let old = c.args.journal.now in
     let s = disk g.M.Media old in
-    no_view old.geometry s c.args.inode (parts_none old.geometry s c.args.inode c.in-Ok-None.field-0 c.in-Ok-None.field-0-is c.in-Ok-None.ensures.parts)
+    no_view old.geometry s c.args.inode (parts_none old.geometry s c.args.inode c.in_ok-parts.field-0 c.in-None.is c.in_ok-parts.ensures.parts)

@@ -1,5 +1,6 @@
-use Rattle.std.proofs.Common.{◌<◌, ◌∙◌, ℕ, Some, ap, subst}
-use Rattle.change_plan.specs.area_image.Store.{disk, length_of}
+use Rattle.std.proofs.Common.{◌∙◌, Some, ap}
+use Rattle.std.proofs.lemmas.Result.{err_from_is_err_and}
+use Rattle.change_plan.specs.area_image.Store.{disk}
 use Rattle.shared_area.proofs.Entries.{file_view}
 use Rattle.shared_area.proofs.Wants.{directory_wants}
 use Rattle.shared_area.proofs.node.node_of.Goals as goal
@@ -10,11 +11,11 @@ returns-in-File-clause-node g c =
     let x = c.in-File in
     ap Some c.file.ensures ∙ file_view old.geometry (disk g.M.Media old) c.args.inode x.names x.size x.touch x.fast x.block x.slow (c.requires.parts.slot ∙ ap Some x.is)
 
-pub returns-in-Err-clause-memory : goal.returns-in-Err-clause-memory
-returns-in-Err-clause-memory g c memory =
+pub returns-in_err-map-in-Directory-clause-memory : goal.returns-in_err-map-in-Directory-clause-memory
+returns-in_err-map-in-Directory-clause-memory g c =
     let old = c.args.journal.now in
     let s = disk g.M.Media old in
     let x = c.in-Directory in
     let is = c.requires.parts.slot ∙ ap Some x.is in
-    directory_wants old.geometry s c.args.inode x.names x.entries x.touch x.root c.requires.parts.number is (c.requires.opens.spelled.inodes c.args.inode c.requires.parts.number)
-    (subst (λ (n : ℕ). 0 < n) (c.length_of-blocks.ensures ∙ ap length_of x.is) (c.in-Err.ensures.memory memory))
+    let p = err_from_is_err_and c.from_residual.result c.from_residual.ensures.1 in
+    rw (p.1, p.2) (λ memory. directory_wants old.geometry s c.args.inode x.names x.entries x.touch x.root c.requires.parts.number is (c.requires.opens.spelled.inodes c.args.inode c.requires.parts.number) (c.in_err-map-in-Directory.ensures.memory memory))

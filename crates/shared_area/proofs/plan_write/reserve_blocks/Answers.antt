@@ -23,13 +23,13 @@ room_for pools lost fast block slow Slow = slow
 pub write_change-requires-clause-took : goal.write_change-requires-clause-took
 write_change-requires-clause-took g c =
     let old = c.args.journal.now in
-    has_still old.geometry (disk g.M.Media old) c.args.pools.now c.reserve.new.self c.args.taken c.reserve.ensures.same c.reserve.ensures.kept c.requires.took
+    has_still old.geometry (disk g.M.Media old) c.args.pools.now c.reserve.new.self c.args.plan.taken c.reserve.ensures.same c.reserve.ensures.kept c.requires.took
 
 pub release-requires : goal.release-requires
-release-requires g c = undo_still c.args.pools.now c.reserve.new.self c.args.taken c.reserve.ensures.same c.reserve.ensures.kept c.requires.took.undo
+release-requires g c = undo_still c.args.pools.now c.reserve.new.self c.args.plan.taken c.reserve.ensures.same c.reserve.ensures.kept c.requires.took.undo
 
 pub returns-in-Ok-clause-same : goal.returns-in-Ok-clause-same
-returns-in-Ok-clause-same g c = λ (before : PoolsView) order took. c.write_change.ensures.same before order (were_still before c.args.pools.now c.reserve.new.self c.args.taken c.reserve.ensures.same c.reserve.ensures.kept took)
+returns-in-Ok-clause-same g c = λ (before : PoolsView) order took. c.write_change.ensures.same before order (were_still before c.args.pools.now c.reserve.new.self c.args.plan.taken c.reserve.ensures.same c.reserve.ensures.kept took)
 
 pub returns-in-Err-clause-ends : goal.returns-in-Err-clause-ends
 returns-in-Err-clause-ends g c =
@@ -38,13 +38,13 @@ returns-in-Err-clause-ends g c =
     let rests : Rests m old.geometry old.media = record { sizes = c.left_now.ensures.sizes c.requires.going; journal = c.left_now.ensures.journal c.requires.going; rest = c.requires.rests } in
     let took = c.requires.took in
     let before : IsSettled old.geometry (m.seen old.media) (m.left old.media (m.moment old.media)) took.before = record { opens = c.requires.opens; rests = c.requires.rests; ranges = took.ranges; free = took.free } in
-    let still = were_still took.before c.args.pools.now c.reserve.new.self c.args.taken c.reserve.ensures.same c.reserve.ensures.kept took.took in
-    let settled = settled_same old.geometry (m.seen old.media) (m.left old.media (m.moment old.media)) took.before c.release.new.self (same_free took.before c.reserve.new.self c.release.new.self c.args.taken still c.release.ensures) before in
+    let still = were_still took.before c.args.pools.now c.reserve.new.self c.args.plan.taken c.reserve.ensures.same c.reserve.ensures.kept took.took in
+    let settled = settled_same old.geometry (m.seen old.media) (m.left old.media (m.moment old.media)) took.before c.release.new.self (same_free took.before c.reserve.new.self c.release.new.self c.args.plan.taken still c.release.ensures) before in
     ends_refused m g.met.M.Media.sized (changes_of c.args.change.now) c.args.marks old old c.release.new.self Memory tt memory_fault rests (still_self m g.met.M.Media.sized old) refl c.requires.going refl settled
 
 pub returns-in-Err-clause-same : goal.returns-in-Err-clause-same
 returns-in-Err-clause-same g c = λ (before : PoolsView) order took.
-    same_free before c.reserve.new.self c.release.new.self c.args.taken (were_still before c.args.pools.now c.reserve.new.self c.args.taken c.reserve.ensures.same c.reserve.ensures.kept took) c.release.ensures
+    same_free before c.reserve.new.self c.release.new.self c.args.plan.taken (were_still before c.args.pools.now c.reserve.new.self c.args.plan.taken c.reserve.ensures.same c.reserve.ensures.kept took) c.release.ensures
 
 pub returns-in-Err-clause-only : goal.returns-in-Err-clause-only
 returns-in-Err-clause-only g c = inr refl

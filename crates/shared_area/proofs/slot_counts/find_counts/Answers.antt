@@ -10,9 +10,9 @@ returns-then-not-is_inode-clause-counts g c =
     let old = c.args.journal.now in
     ap (option_map counts_of) (no_view old.geometry (disk g.M.Media old) c.args.inode (sym c.if-not-is_inode.ensures))
 
-pub returns-in-Ok-clause-counts : goal.returns-in-Ok-clause-counts
-returns-in-Ok-clause-counts g c =
+pub returns-clause-counts : goal.returns-clause-counts
+returns-clause-counts g c =
     let old = c.args.journal.now in
-    let opens = c.requires c.in-Ok.ensures.looks.going.0 in
+    let opens = c.requires c.in_ok-slot.ensures.looks.going.0 in
     c.slot_counts.ensures
-    ∙ counts_are old.geometry (disk g.M.Media old) c.args.inode c.in-Ok.slot c.in-Ok.ensures.slot (opens.spelled.inodes c.args.inode (sym c.if-not-is_inode.ensures))
+    ∙ counts_are old.geometry (disk g.M.Media old) c.args.inode c.in_ok-slot.slot c.in_ok-slot.ensures.slot (opens.spelled.inodes c.args.inode (sym c.if-not-is_inode.ensures))

@@ -1,9 +1,12 @@
 use Rattle.std.proofs.Common.{◌∙◌}
-use Rattle.strata_threads.proofs.Started.{is_started, needs_first, started_keeps}
+use Rattle.strata_threads.proofs.Started.{is_started, leases_stay, needs_first, owner_stays, started_keeps}
 use Rattle.strata_threads.proofs.call_turns.begin_call.Goals as goal
 
 pub returns-clause-owner : goal.returns-clause-owner
-returns-clause-owner g c = (started_keeps g.M.Media c.args.client.now c.start.new.self c.args.call.now c.start.result c.own_records_are_held.ensures.failed c.start.ensures.failed c.start.ensures.started).0
+returns-clause-owner g c = owner_stays c.args.client.now c.start.new.self (started_keeps g.M.Media c.args.client.now c.start.new.self c.args.call.now c.start.result c.own_records_are_held.ensures.failed c.start.ensures.failed c.start.ensures.started).0
+
+pub returns-clause-leases : goal.returns-clause-leases
+returns-clause-leases g c = leases_stay c.args.client.now c.start.new.self (started_keeps g.M.Media c.args.client.now c.start.new.self c.args.call.now c.start.result c.own_records_are_held.ensures.failed c.start.ensures.failed c.start.ensures.started).0
 
 pub returns-clause-pending : goal.returns-clause-pending
 returns-clause-pending g c = (started_keeps g.M.Media c.args.client.now c.start.new.self c.args.call.now c.start.result c.own_records_are_held.ensures.failed c.start.ensures.failed c.start.ensures.started).1

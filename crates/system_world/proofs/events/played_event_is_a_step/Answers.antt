@@ -4,11 +4,12 @@ use Rattle.event_steps.specs.declared.event.Event.TheVariants as event
 use Rattle.event_steps.specs.declared.outcome.Outcome.{Outcome}
 use Rattle.system_world.specs.KeptCalls.{calls_then}
 use Rattle.system_world.specs.Steps.{IsStep}
+use Rattle.system_world.proofs.EventRefusals.{each_well, idle_well}
 use Rattle.system_world.proofs.PlayedEvents.{IsAStep, idle_or_done}
 use Rattle.system_world.proofs.events.played_event_is_a_step.Goals as goal
 
-pub returns : goal.returns
-returns g c = λ v e o new begun carries met settled. elim (idle_or_done o carries) [
+pub returns-clause-step : goal.returns-clause-step
+returns-clause-step g c = λ v e o new begun carries met settled. elim (idle_or_done o carries) [
   | inl idle ↦ subst (λ (r : Outcome). IsStep g.M.Media v e r (record { system = new; calls = calls_then v.calls e r })) (sym idle.0) (c.idle_event_is_a_step.ensures v e new begun idle.1)
   | inr done ↦ each e v o new begun done.0 done.1 met settled
 ]
@@ -27,8 +28,14 @@ returns g c = λ v e o new begun carries met settled. elim (idle_or_done o carri
     each (event.Pin client i) = λ v o new begun turn makes met settled. c.pinned_inode_is_a_step.ensures v client i o new begun turn makes
     each (event.Unpin client i) = λ v o new begun turn makes met settled. c.dropped_pin_is_a_step.ensures v client i o new begun turn makes
     each (event.Seal client) = λ v o new begun turn makes met settled. c.sealed_region_is_a_step.ensures v client o new begun turn makes
-    each (event.Digest client) = λ v o new begun turn makes met settled. c.digested_region_is_a_step.ensures v client o new begun turn makes
+    each (event.Digest client) = λ v o new begun turn makes met settled. c.digested_region_is_a_step.ensures.step v client o new begun turn makes
     each (event.WipeStep client) = λ v o new begun turn makes met settled. c.wiped_region_is_a_step.ensures v client o new begun turn makes
     each (event.Reclaim i) = λ v o new begun turn makes met settled. c.reclaimed_file_is_a_step.ensures v i o new begun turn makes
     each (event.Migrate i first count to) = λ v o new begun turn makes met settled. c.migrated_run_is_a_step.ensures v i first count to o new begun turn makes
     each (event.Deny client call why) = λ v o new begun turn makes met settled. c.denied_call_is_a_step.ensures v client call why o new begun turn makes
+
+pub returns-clause-never_bad : goal.returns-clause-never_bad
+returns-clause-never_bad g c = λ v e o new begun carries. elim (idle_or_done o carries) [
+  | inl idle ↦ idle_well o idle.0
+  | inr done ↦ each_well g.M.Media (λ client v o new begun turn makes. c.digested_region_is_a_step.ensures.never_bad v client o new begun turn makes) e v o new begun done.0 done.1
+]

@@ -1,7 +1,11 @@
-use Rattle.system_world.proofs.DigestedRegions.{digested}
+use Rattle.system_world.proofs.DigestedRegions.{digested, never_bad}
 use Rattle.system_world.proofs.WorldFacts.{world_facts}
 use Rattle.system_world.proofs.regions.digested_region_is_a_step.Goals as goal
 
-pub returns : goal.returns
-returns g c = λ v number o new begun turn makes.
+pub returns-clause-step : goal.returns-clause-step
+returns-clause-step g c = λ v number o new begun turn makes.
     digested g.M.Media g.met.M.Media.sized (world_facts g.M.Media g.met.M.Media.seen_now g.met.M.Media.sized) v number o new begun turn makes
+
+pub returns-clause-never_bad : goal.returns-clause-never_bad
+returns-clause-never_bad g c = λ v number o new begun turn makes.
+    never_bad g.M.Media g.met.M.Media.sized (world_facts g.M.Media g.met.M.Media.seen_now g.met.M.Media.sized) v number o new begun turn makes

@@ -1,4 +1,4 @@
-use Rattle.std.proofs.Common.{◌≡◌, None, get_or, refl, sym, ◌∙◌, arith, rules}
+use Rattle.std.proofs.Common.{refl, sym, ◌∙◌, arith, rules}
 use Rattle.client_plan.specs.file_graph.Subject.{subject}
 use Rattle.client_view.specs.KnowledgeTables.{knows}
 use Rattle.client_view.proofs.LeftBlocks.{left_all, left_alone, left_next, left_none}

@@ -1,4 +1,4 @@
-use Rattle.std.proofs.Common.{◌≡◌, ◌≤◌, ℕ, Option, None, get_or, take}
+use Rattle.std.proofs.Common.{◌≡◌, ◌≤◌, ℕ, None, get_or, take}
 use Rattle.client_view.specs.KnowledgeTables.{knows}
 use Rattle.client_view.specs.AfterRecord.{with_effects, without_touched}
 use Rattle.client_view.proofs.copies.ClientCopies.act_each.Given as goal

@@ -1,11 +1,10 @@
-use Rattle.std.proofs.Common.{◌≡◌, Some, arith, inl, refl, subst, sym, ◌∙◌}
+use Rattle.std.proofs.Common.{◌≡◌, Some, arith, inl, refl, subst}
 use Rattle.std.specs.Prelude.{IfSome}
 use Rattle.libfs.specs.lease_manager.PassLeases.{AreWritten}
 use Rattle.libfs.specs.client_log.Steps.{CanBeSealed}
 use Rattle.libfs.specs.lease_manager.Passes.{client_of}
 use Rattle.libfs.specs.RegionSeal.{HasSealed}
 use Rattle.libfs.specs.SealedRegion.{SealedRegionView, IsUntouched}
-use Rattle.event_steps.specs.Sound.{IsSeated}
 use Rattle.event_steps.specs.Effects.{Carries}
 use Rattle.event_steps.specs.Regions.{IsHandedOver}
 use Rattle.event_steps.specs.View.{SeatView}

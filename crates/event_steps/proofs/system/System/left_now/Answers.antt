@@ -1,4 +1,4 @@
-use Rattle.std.proofs.Common.{◌≡◌, ◌-◌, ◌<◌, ℕ, arith, length, slice_index_or, subst, sym, Some}
+use Rattle.std.proofs.Common.{◌≡◌, ◌-◌, ◌<◌, ℕ, arith, length, slice_index_or, subst, Some}
 use Rattle.std.specs.Prelude.{slice_get}
 use Rattle.event_steps.specs.Sound.{number_of}
 use Rattle.event_steps.specs.Stops.{SeatLeaves}

@@ -1,4 +1,4 @@
-use Rattle.std.proofs.Common.{◌≡◌, ◌-◌, ◌<◌, ℕ, List, Some, arith, ap, length, slice_get, slice_index_or, subst, sym, ◌∙◌}
+use Rattle.std.proofs.Common.{◌≡◌, ◌-◌, ℕ, List, Some, arith, ap, slice_get, subst, sym, ◌∙◌}
 use Rattle.libfs.specs.lease_manager.Parts.{AreCompatible}
 use Rattle.event_steps.specs.Sound.{AreSeats}
 use Rattle.event_steps.specs.View.{HasSeat, SeatView, SystemView}

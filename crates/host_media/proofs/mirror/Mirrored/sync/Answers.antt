@@ -10,25 +10,25 @@ invariant_of-self c =
     let m = c.args.self.now in
     let f = m.host.past.history in
     let g = c.sync.new.self.past.history in
-    let is = c.in-Ok.ensures.kept in
-    record {
-      shows = m.shows;
-      mirrors = λ t. m.mirrors t ∙ sym (synced_shows f g is t);
-      covered = ∣ cover_sync f g m.past.history is (λ t. sym (m.mirrors t) ∙ m.shows t) ∣₁;
-      settled = λ t _ d left. synced_left f g is t d left ∙ sym (m.mirrors t);
-      fits = omega (arith, c.sync.ensures.begin, m.fits);
-    }
-
-pub invariant_of-self-in-Err-1 : goal.invariant_of-self-in-Err-1
-invariant_of-self-in-Err-1 c =
-    let m = c.args.self.now in
-    let f = m.host.past.history in
-    let g = c.sync.new.self.past.history in
-    let is = c.in-Err.ensures.lost in
+    let is = c.in_err-sync.ensures.lost in
     record {
       shows = m.shows;
       mirrors = λ t. m.mirrors t ∙ sym (ap (λ (x : History). shown_now x t) is);
       covered = ∥∥₁_map m.covered (λ covers t d left. covers t d (same_left f g is t d left));
       settled = λ t clean d left. m.settled t clean d (same_left f g is t d left);
+      fits = omega (arith, c.sync.ensures.begin, m.fits);
+    }
+
+pub invariant_of-self-2 : goal.invariant_of-self-2
+invariant_of-self-2 c =
+    let m = c.args.self.now in
+    let f = m.host.past.history in
+    let g = c.sync.new.self.past.history in
+    let is = c.in_ok-sync.ensures.kept in
+    record {
+      shows = m.shows;
+      mirrors = λ t. m.mirrors t ∙ sym (synced_shows f g is t);
+      covered = ∣ cover_sync f g m.past.history is (λ t. sym (m.mirrors t) ∙ m.shows t) ∣₁;
+      settled = λ t _ d left. synced_left f g is t d left ∙ sym (m.mirrors t);
       fits = omega (arith, c.sync.ensures.begin, m.fits);
     }

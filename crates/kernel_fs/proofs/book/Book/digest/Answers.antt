@@ -1,4 +1,4 @@
-use Rattle.std.proofs.Common.{◌≡◌, ◌∙◌, ◌-◌, set, min, ap, sym, subst, arith}
+use Rattle.std.proofs.Common.{◌≡◌, ◌∙◌, set, min, ap, sym, subst, arith}
 use Rattle.world_invariant.specs.Logs.{units_in}
 use Rattle.kernel_fs.specs.declared.account.ClientAccount.{ClientAccount}
 use Rattle.kernel_fs.specs.Book.{out_of, units_of, waiting_of, IsBookOf}

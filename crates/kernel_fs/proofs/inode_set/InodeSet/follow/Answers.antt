@@ -1,7 +1,7 @@
-use Rattle.std.proofs.Common.{◌≡◌, List, refl, sym, subst}
+use Rattle.std.proofs.Common.{List, refl, sym, subst}
 use Rattle.std.specs.List.{AllByRecursion}
 use Rattle.digester.specs.file_graph.declared.effect.Effect.{Effect}
-use Rattle.digester.specs.file_graph.Graph.{Graph, after_effects}
+use Rattle.digester.specs.file_graph.Graph.{after_effects}
 use Rattle.digester.specs.log_record.Grammar.{Fits, IsRecord}
 use Rattle.world_invariant.specs.Logs.{after_records}
 use Rattle.kernel_fs.specs.Inodes.{has}

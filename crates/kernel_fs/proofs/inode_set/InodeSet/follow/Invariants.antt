@@ -1,4 +1,3 @@
-use Rattle.std.proofs.Common.{ℕ}
 use Rattle.digester.specs.file_graph.Graph.{Graph}
 use Rattle.world_invariant.specs.Logs.{after_records}
 use Rattle.kernel_fs.specs.Inodes.{has}

@@ -1,5 +1,5 @@
-use Rattle.std.proofs.Common.{List, refl, sym, subst}
-use Rattle.digester.specs.file_graph.Graph.{Graph, after_effect, after_effects}
+use Rattle.std.proofs.Common.{refl, sym, subst}
+use Rattle.digester.specs.file_graph.Graph.{after_effect, after_effects}
 use Rattle.digester.specs.log_record.Grammar.{Fits}
 use Rattle.kernel_fs.specs.Inodes.{has}
 use Rattle.kernel_fs.proofs.Leading.{all_at, begins, ends, goes_on}

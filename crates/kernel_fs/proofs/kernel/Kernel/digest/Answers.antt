@@ -1,9 +1,9 @@
-use Rattle.std.proofs.Common.{◌≡◌, ◌∙◌, ℕ, ◌≤◌, ◌+◌, true, false, refl, ap, sym, subst, take, arith, drop, length, ◌<◌, ◌-◌, List}
+use Rattle.std.proofs.Common.{◌∙◌, ℕ, ◌≤◌, ◌+◌, refl, sym, subst, take, arith, drop, length, ◌<◌, ◌-◌, List}
 use Rattle.digester.specs.area_image.Store.{disk, graph}
-use Rattle.digester.specs.SealedLog.{SealedView, StandsAtMark, done_to, undone}
+use Rattle.digester.specs.SealedLog.{SealedView, StandsAtMark, undone}
 use Rattle.digester.specs.file_graph.Units.{charge}
 use Rattle.digester.specs.layout.Places.{Sizes}
-use Rattle.kernel_fs.specs.Book.{units_of, out_of, Accounts}
+use Rattle.kernel_fs.specs.Book.{units_of, out_of, Accounts, IsBookOf}
 use Rattle.world_invariant.specs.Logs.{units_in}
 use Rattle.kernel_fs.specs.Inodes.{has}
 use Rattle.kernel_fs.specs.RegionAccept.{HasAsManyWaiting, BeginsAtMark}
@@ -18,6 +18,7 @@ use Rattle.kernel_fs.specs.declared.chunk_digest.Digestion.TheVariants.{Digested
 use Rattle.kernel_fs.specs.KernelAnswers.{Answers, kernel_answer}
 use Rattle.kernel_fs.proofs.Answered.{answered}
 use Rattle.kernel_fs.proofs.DigestAnswers.{another, none, refused}
+use Rattle.kernel_fs.proofs.Generations.{named_after, own_generation}
 use Rattle.kernel_fs.proofs.Runs.{Inside, digest_refused, goes_on, region_of, told_region}
 use Rattle.kernel_fs.specs.Run as entry
 use Rattle.kernel_fs.proofs.SealedRecords.{next}
@@ -34,6 +35,9 @@ returns-clause-step g c = λ yes m is.
     let accepted = c.has_as_many_waiting.ensures.0 c.if-not-has_as_many_waiting.false in
     let at = subst (λ (z : SealedView). StandsAtMark z (disk device new.area)) c.in-Ok.ensures.done c.in-Ok.ensures.at_mark in
     digested_kernel x c.invariant.ensures c.requires.some device c.self.inside.area new.area c.self.inside.book new.book m n own accepted c.in-Ok.ensures.digested at c.in-Ok.ensures.digests.geometry (c.in-Ok.ensures.book m own.book)
+
+pub returns-clause-booked : goal.returns-clause-booked
+returns-clause-booked g c = λ yes m is. c.in-Ok.ensures.book m (subst (λ (v : KernelView _). IsBookOf v.book m) (sym c.self.view_is) is)
 
 pub returns-clause-law : goal.returns-clause-law
 returns-clause-law g c =
@@ -63,7 +67,7 @@ returns-then-not-begins_at_mark-clause-answers g c =
     let area = c.self.inside.area in
     let book = c.self.inside.book in
     subst (λ (v : KernelView _). Answers v.area.failed v v (kernel_answer (Ok NotNext)) (DigestsOrStays m v.area v.area)) c.self.view_is
-    (answered (DigestsOrStays m) area area book book (record { area = area; book = book; opening = c.self.inside.began.value }) refl (Ok NotNext) going (none m area NotNext going))
+    (answered (DigestsOrStays m) area area book book (record { area = area; book = book; opening = c.self.inside.began }) refl (Ok NotNext) going (none m area NotNext going))
 
 pub returns-then-not-has_as_many_waiting-clause-any_moment : goal.returns-then-not-has_as_many_waiting-clause-any_moment
 returns-then-not-has_as_many_waiting-clause-any_moment g c = λ going begins many.
@@ -76,7 +80,7 @@ returns-then-not-has_as_many_waiting-clause-answers g c =
     let area = c.self.inside.area in
     let book = c.self.inside.book in
     subst (λ (v : KernelView _). Answers v.area.failed v v (kernel_answer (Ok NotAccepted)) (DigestsOrStays m v.area v.area)) c.self.view_is
-    (answered (DigestsOrStays m) area area book book (record { area = area; book = book; opening = c.self.inside.began.value }) refl (Ok NotAccepted) going (none m area NotAccepted going))
+    (answered (DigestsOrStays m) area area book book (record { area = area; book = book; opening = c.self.inside.began }) refl (Ok NotAccepted) going (none m area NotAccepted going))
 
 pub returns-in-Err-clause-answers : goal.returns-in-Err-clause-answers
 returns-in-Err-clause-answers g c =
@@ -99,9 +103,9 @@ invariant_of-self g c = λ still.
     let m = g.M.Media in
     let new = c.digest_at_mark.new in
     let same = c.in-Err.ensures.refused in
-    let stays = digest_refused m c.self.inside.began.value (has c.self.inside.nodes) c.self.inside.book c.self.inside.area new.area c.in-Err.error c.in-Err.ensures.digests still inside in
-    subst (λ (b : Accounts). Inside m c.self.inside.began.value (has new.nodes) b new.area) (sym same.0)
-    (subst (λ (set : List ℕ). Inside m c.self.inside.began.value (has set) c.self.inside.book new.area) (sym same.1) stays)
+    let stays = digest_refused m c.self.inside.began (has c.self.inside.nodes) c.self.inside.book c.self.inside.area new.area c.in-Err.error c.in-Err.ensures.digests still inside in
+    subst (λ (b : Accounts). Inside m c.self.inside.began (has new.nodes) b new.area) (sym same.0)
+    (subst (λ (set : List ℕ). Inside m c.self.inside.began (has set) c.self.inside.book new.area) (sym same.1) stays)
 
 pub invariant_of-self-2 : goal.invariant_of-self-2
 invariant_of-self-2 g c = λ still.
@@ -120,11 +124,15 @@ invariant_of-self-2 g c = λ still.
     let at = subst (λ (z : SealedView). StandsAtMark z (disk device new.area)) c.in-Ok.ensures.done c.in-Ok.ensures.at_mark in
     let left : 0 < length (undone x) = (let few = c.requires.some in let long = length-drop x.done x.records in omega (arith, few, long)) in (
       nodes_moved device old new.area x n same done (has c.self.inside.nodes) (has new.nodes) c.in-Ok.ensures.nodes inside.0,
-      goes_on device c.self.inside.began.value old new.area book new.book
-          (λ m. entry.Digest x.client (region_of x ((m.kernel.accounts x.client).mark - x.done)) (take n (undone x)) (drop n (undone x)))
-          (λ m is. (
-            next x m (region_of x ((m.kernel.accounts x.client).mark - x.done)) (told_region x c.invariant.ensures c.requires.some device old book m is begins.1) c.invariant.ensures book n is.book accepted (done.run.some left) done.run.within,
+      goes_on device c.self.inside.began old new.area book new.book
+          (λ r. entry.Digest x.client x.generation (region_of x ((r.machine.kernel.accounts x.client).mark - x.done)) (take n (undone x)) (drop n (undone x)))
+          (λ r is named. let m = r.machine in (
+            (
+              next x m (region_of x ((m.kernel.accounts x.client).mark - x.done)) (told_region x c.invariant.ensures c.requires.some device old book m is begins.1) c.invariant.ensures book n is.book accepted (done.run.some left) done.run.within,
+              sym (named x.client c.invariant.ensures.client ∙ own_generation x c.requires.some (disk device old) begins.1),
+            ),
             digested_kernel x c.invariant.ensures c.requires.some device old new.area book new.book m n is accepted done at same (c.in-Ok.ensures.book m is.book),
+            named_after x c.invariant.ensures c.requires.some device old new.area book m n is accepted done at r.generations named,
           )) inside.1,
     )
 

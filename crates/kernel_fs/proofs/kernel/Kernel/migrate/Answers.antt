@@ -25,7 +25,7 @@ invariant_of-self g c = λ still.
     let going : _ = sym c.has_failed.ensures ∙ c.if-has_failed.false in
     let inside = c.self.invariant going in
     let m = g.M.Media in
-    move_refused m c.self.inside.began.value (has c.self.inside.nodes) c.self.inside.book c.self.inside.area c.migrate.new.area c.in-Err.error c.in-Err.ensures.moves still inside
+    move_refused m c.self.inside.began (has c.self.inside.nodes) c.self.inside.book c.self.inside.area c.migrate.new.area c.in-Err.error c.in-Err.ensures.moves still inside
 
 pub invariant_of-self-2 : goal.invariant_of-self-2
 invariant_of-self-2 g c = λ still.
@@ -36,5 +36,5 @@ invariant_of-self-2 g c = λ still.
     let new = c.migrate.new.area in
     let moves = c.in-Ok.ensures.moves in (
       moved_nodes device old new (has c.self.inside.nodes) moves.geometry c.in-Ok.ensures.same_graph inside.0,
-      stays_there device c.self.inside.began.value old new c.self.inside.book c.self.inside.book (λ m is. moved_kernel device old new c.self.inside.book m moves.geometry c.in-Ok.ensures.same_graph c.in-Ok.ensures.same_marks is) inside.1,
+      stays_there device c.self.inside.began old new c.self.inside.book c.self.inside.book c.in-Ok.ensures.same_marks (λ m is. moved_kernel device old new c.self.inside.book m moves.geometry c.in-Ok.ensures.same_graph c.in-Ok.ensures.same_marks is) inside.1,
     )

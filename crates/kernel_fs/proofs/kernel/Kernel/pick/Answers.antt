@@ -8,11 +8,11 @@ invariant_of-self g c = λ still.
     let going : _ = sym c.has_failed.ensures ∙ c.if-has_failed.false in
     let inside = c.self.invariant going in
     let looks = c.pick.ensures.looks in
-    unmoved_inside g.M.Media c.self.inside.began.value (has c.self.inside.nodes) c.self.inside.book c.self.inside.area c.pick.new.area looks.geometry looks.unmoved.reads inside
+    unmoved_inside g.M.Media c.self.inside.began (has c.self.inside.nodes) c.self.inside.book c.self.inside.area c.pick.new.area looks.geometry looks.unmoved.reads inside
 
 pub invariant_of-self-2 : goal.invariant_of-self-2
 invariant_of-self-2 g c = λ still.
     let going : _ = sym c.has_failed.ensures ∙ c.if-has_failed.false in
     let inside = c.self.invariant going in
     let looks = c.pick.ensures.looks in
-    unmoved_inside g.M.Media c.self.inside.began.value (has c.self.inside.nodes) c.self.inside.book c.self.inside.area c.pick.new.area looks.geometry looks.unmoved.reads inside
+    unmoved_inside g.M.Media c.self.inside.began (has c.self.inside.nodes) c.self.inside.book c.self.inside.area c.pick.new.area looks.geometry looks.unmoved.reads inside

@@ -1,8 +1,7 @@
-use Rattle.std.proofs.Common.{◌≡◌, ◌⊎◌, false, refl, ◌∙◌, sym, subst}
+use Rattle.std.proofs.Common.{◌≡◌, false, refl, ◌∙◌, sym, subst}
 use Rattle.std.specs.Prelude.{Ok, Err}
 use Rattle.digester.specs.area_image.Store.{disk, graph}
 use Rattle.digester.specs.batch_journal.Course.{Unmoved}
-use Rattle.digester.specs.area_image.Map.{WantsMemory}
 use Rattle.world_invariant.specs.Logs.{IsNameless}
 use Rattle.kernel_fs.specs.KernelAnswers.{Answers, kernel_answer}
 use Rattle.kernel_fs.specs.Reclaim.{IsUnused, ReclaimsOrStays, StaysOrReclaims}
@@ -14,6 +13,7 @@ use Rattle.kernel_fs.specs.Inodes.{has}
 use Rattle.kernel_fs.specs.KernelView.{KernelView}
 use Rattle.kernel_fs.specs.MachineState.{IsKernelOf}
 use Rattle.kernel_fs.proofs.DropSteps.{may_reclaim, reclaimed_kernel, reclaimed_nodes}
+use Rattle.kernel_fs.proofs.Generations.{still_named}
 use Rattle.kernel_fs.proofs.Runs.{goes_on, reclaim_refused}
 use Rattle.kernel_fs.specs.Run as entry
 use Rattle.kernel_fs.proofs.kernel.Kernel.reclaim.Goals as goal
@@ -44,7 +44,7 @@ returns-then-is_pinned-clause-answers g c =
     let area = c.self.inside.area in
     let book = c.self.inside.book in
     subst (λ (v : KernelView _). Answers v.area.failed v v (kernel_answer (Err errors.InUse)) (ReclaimsOrStays m v.area v.area)) c.self.view_is
-    (answered (ReclaimsOrStays m) area area book book (record { area = area; book = book; opening = c.self.inside.began.value }) refl (Err errors.InUse) going (nothing_stays m area errors.InUse in_use_no_fault going))
+    (answered (ReclaimsOrStays m) area area book book (record { area = area; book = book; opening = c.self.inside.began }) refl (Err errors.InUse) going (nothing_stays m area errors.InUse in_use_no_fault going))
 
 -- ---- where nothing is there
 
@@ -64,7 +64,7 @@ returns-then-not-contains-clause-answers g c =
     let area = c.self.inside.area in
     let book = c.self.inside.book in
     subst (λ (v : KernelView _). Answers v.area.failed v v (kernel_answer (Err errors.InUse)) (ReclaimsOrStays m v.area v.area)) c.self.view_is
-    (answered (ReclaimsOrStays m) area area book book (record { area = area; book = book; opening = c.self.inside.began.value }) refl (Err errors.InUse) going (nothing_stays m area errors.InUse in_use_no_fault going))
+    (answered (ReclaimsOrStays m) area area book book (record { area = area; book = book; opening = c.self.inside.began }) refl (Err errors.InUse) going (nothing_stays m area errors.InUse in_use_no_fault going))
 
 pub returns-then-not-contains-clause-in_use : goal.returns-then-not-contains-clause-in_use
 returns-then-not-contains-clause-in_use g c = λ is.
@@ -80,7 +80,7 @@ invariant_of-self g c = λ still.
     let going : _ = sym c.has_failed.ensures ∙ c.if-has_failed.false in
     let inside = c.self.invariant going in
     let m = g.M.Media in
-    reclaim_refused m c.self.inside.began.value (has c.self.inside.nodes) c.self.inside.book c.self.inside.area c.drop_nameless.new.area c.in-Err.error c.in-Err.ensures.stays still inside
+    reclaim_refused m c.self.inside.began (has c.self.inside.nodes) c.self.inside.book c.self.inside.area c.drop_nameless.new.area c.in-Err.error c.in-Err.ensures.stays still inside
 
 pub returns-in-Err-clause-in_use : goal.returns-in-Err-clause-in_use
 returns-in-Err-clause-in_use g c = λ is.
@@ -97,7 +97,7 @@ returns-in-Err-clause-untouched g c =
 pub returns-in-Err-clause-memory : goal.returns-in-Err-clause-memory
 returns-in-Err-clause-memory g c = λ is.
     let device = g.M.Media in
-    subst (λ (v : KernelView _). WantsMemory v.area.geometry (disk device v.area) c.args.inode ⊎ IsNameless (graph v.area.geometry (disk device v.area) c.args.inode)) c.self.view_is
+    subst (λ (v : KernelView _). IsNameless (graph v.area.geometry (disk device v.area) c.args.inode)) c.self.view_is
     (c.in-Err.ensures.memory (cc is))
 
 pub returns-in-Err-clause-answers : goal.returns-in-Err-clause-answers
@@ -118,9 +118,10 @@ invariant_of-self-2 g c = λ still.
     let book = c.self.inside.book in
     let geometry = c.in-Ok.ensures.stays.geometry in (
       reclaimed_nodes device old new c.args.inode geometry c.in-Ok.ensures.dropped (has c.self.inside.nodes) (has c.remove.new.self) c.remove.ensures inside.0,
-      goes_on device c.self.inside.began.value old new book book (λ m. entry.Reclaim c.args.inode) (λ m is. (
+      goes_on device c.self.inside.began old new book book (λ r. entry.Reclaim c.args.inode) (λ r is named. let m = r.machine in (
         may_reclaim device old book m c.args.inode (c.in-Ok.ensures.was, sym c.is_pinned.ensures ∙ c.if-is_pinned.false) is,
         reclaimed_kernel device old new c.args.inode geometry c.in-Ok.ensures.dropped book m is,
+        still_named (disk device old) (disk device new) r.generations c.in-Ok.ensures.dropped.same_marks named,
       )) inside.1,
     )
 

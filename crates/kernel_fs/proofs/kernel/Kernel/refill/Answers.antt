@@ -1,8 +1,8 @@
-use Rattle.std.proofs.Common.{◌≡◌, ◌∙◌, ℕ, ◌+◌, ◌-◌, ◌<◌, ◌≤◌, ◌||◌, ◌&&◌, not, List, Bool, false, refl, sym, subst, ap}
+use Rattle.std.proofs.Common.{◌≡◌, ◌∙◌, ℕ, ◌+◌, ◌<◌, ◌≤◌, ◌||◌, List, Bool, false, refl, sym, subst}
 use Rattle.std.specs.Prelude.{◌↔◌, Ok, Err, IsErrOf}
 use Rattle.digester.specs.file_graph.Units.{charge}
 use Rattle.digester.specs.area_image.Store.{disk, graph}
-use Rattle.kernel_fs.specs.Book.{is_free, out_of, Accounts}
+use Rattle.kernel_fs.specs.Book.{is_free, out_of, Accounts, IsBookOf}
 use Rattle.kernel_fs.specs.Free.{AreLowest, count_of}
 use Rattle.kernel_fs.specs.Nodes.{nodes_in}
 use Rattle.kernel_fs.specs.declared.book_error.RefillError.TheVariants as book_why
@@ -10,8 +10,6 @@ use Rattle.kernel_fs.specs.KernelView.{KernelView}
 use Rattle.kernel_fs.specs.declared.error.KernelError.TheVariants as why
 use Rattle.kernel_fs.proofs.Refilled.{told_few, told_none}
 use Rattle.kernel_fs.specs.Inodes.{has}
-use Rattle.world_invariant.specs.LeaseSteps.{also, without}
-use Rattle.world_invariant.specs.FormatWorld.{idle_account}
 use Rattle.kernel_fs.proofs.BookSteps.{stepped}
 use Rattle.kernel_fs.proofs.Runs.{Inside, goes_on, may_refill}
 use Rattle.kernel_fs.specs.Run as entry
@@ -20,6 +18,9 @@ use Rattle.kernel_fs.proofs.kernel.Kernel.refill.Goals as goal
 pub returns-clause-step : goal.returns-clause-step
 returns-clause-step g c = λ m.
     stepped g.M.Media c.self.inside.area c.self.inside.book c.refill.new.self c.args.self.now c.self.view_is c.args.client m (record (m.kernel.accounts c.args.client) { units = (m.kernel.accounts c.args.client).units + c.args.units; numbers = λ i. (m.kernel.accounts c.args.client).numbers i || has c.in-Ok.numbers i }) refl (c.in-Ok.ensures.step m)
+
+pub returns-clause-booked : goal.returns-clause-booked
+returns-clause-booked g c = λ m is. c.in-Ok.ensures.step m (subst (λ (v : KernelView _). IsBookOf v.book m) (sym c.self.view_is) is)
 
 pub returns-clause-granted : goal.returns-clause-granted
 returns-clause-granted g c =
@@ -60,7 +61,7 @@ pub invariant_of-self : goal.invariant_of-self
 invariant_of-self g c = λ still.
     let going : _ = sym c.has_failed.ensures ∙ c.if-has_failed.false in
     let inside = c.self.invariant going in
-    subst (λ (b : Accounts). Inside g.M.Media c.self.inside.began.value (has c.self.inside.nodes) b c.self.inside.area) (sym c.in-Err.ensures.refused) inside
+    subst (λ (b : Accounts). Inside g.M.Media c.self.inside.began (has c.self.inside.nodes) b c.self.inside.area) (sym c.in-Err.ensures.refused) inside
 
 pub invariant_of-self-2 : goal.invariant_of-self-2
 invariant_of-self-2 g c = λ still.
@@ -70,10 +71,11 @@ invariant_of-self-2 g c = λ still.
     let area = c.self.inside.area in
     let book = c.self.inside.book in (
       inside.0,
-      goes_on device c.self.inside.began.value area area book c.refill.new.self (λ m. entry.Refill c.args.client c.args.units (has c.in-Ok.numbers)) (λ m is. (
+      goes_on device c.self.inside.began area area book c.refill.new.self (λ r. entry.Refill c.args.client c.args.units (has c.in-Ok.numbers)) (λ r is named. let m = r.machine in (
         may_refill device area book m is c.args.client c.args.units c.args.inodes c.charge-charge.result c.capacity_of-capacity.result (out_of c.refill.new.self) (has c.self.inside.nodes) (has c.in-Ok.numbers) c.requires.client inside.0
             (c.charge-charge.ensures going) c.capacity_of-capacity.ensures c.in-Ok.ensures.out c.in-Ok.ensures.law c.in-Ok.ensures.granted,
-        stepped device area book c.refill.new.self (record { area = c.self.inside.area; book = c.self.inside.book; opening = c.self.inside.began.value }) refl c.args.client m
+        stepped device area book c.refill.new.self (record { area = c.self.inside.area; book = c.self.inside.book; opening = c.self.inside.began }) refl c.args.client m
             (record (m.kernel.accounts c.args.client) { units = (m.kernel.accounts c.args.client).units + c.args.units; numbers = λ i. (m.kernel.accounts c.args.client).numbers i || has c.in-Ok.numbers i }) refl (c.in-Ok.ensures.step m) is,
+        named,
       )) inside.1,
     )

@@ -8,4 +8,4 @@ invariant_of-self g c = λ still.
     let going : _ = sym c.has_failed.ensures ∙ c.if-has_failed.false in
     let inside = c.self.invariant going in
     let looks = c.tier_of.ensures.looks in
-    unmoved_inside g.M.Media c.self.inside.began.value (has c.self.inside.nodes) c.self.inside.book c.self.inside.area c.tier_of.new.self looks.geometry looks.unmoved.reads inside
+    unmoved_inside g.M.Media c.self.inside.began (has c.self.inside.nodes) c.self.inside.book c.self.inside.area c.tier_of.new.self looks.geometry looks.unmoved.reads inside

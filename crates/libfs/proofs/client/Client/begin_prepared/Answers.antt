@@ -1,4 +1,4 @@
-use Rattle.std.proofs.Common.{rules, ◌≡◌, refl, inl}
+use Rattle.std.proofs.Common.{rules, refl, inl}
 use Rattle.libfs.proofs.client.Client.begin_prepared.Goals as goal
 
 pub returns : goal.returns

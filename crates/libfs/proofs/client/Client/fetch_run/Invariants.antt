@@ -1,4 +1,3 @@
-use Rattle.std.proofs.Common.{◌≡◌}
 use Rattle.libfs.specs.NeedService.{HasFetchedBlocks, HasThem}
 use Rattle.libfs.proofs.client.Client.fetch_run.Given as goal
 

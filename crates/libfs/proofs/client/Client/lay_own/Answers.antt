@@ -1,4 +1,4 @@
-use Rattle.std.proofs.Common.{◌≡◌, List, ap, sym, ◌∙◌}
+use Rattle.std.proofs.Common.{List, ap, sym, ◌∙◌}
 use Rattle.client_log.specs.View.{current_records}
 use Rattle.lease_manager.specs.log_record.declared.format.Record.{Record}
 use Rattle.client_view.specs.After.{run_laid}

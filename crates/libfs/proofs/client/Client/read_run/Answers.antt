@@ -1,4 +1,4 @@
-use Rattle.std.proofs.Common.{◌≡◌, ◌+◌, ◌∙◌, Some, ap, refl, subst}
+use Rattle.std.proofs.Common.{◌+◌, ◌∙◌, Some, ap, refl, subst}
 use Rattle.client_view.specs.After.{bytes_at}
 use Rattle.client_log.specs.call_effects.Blocks.{block_of}
 use Rattle.lease_manager.specs.file_graph.Graph.{Graph}

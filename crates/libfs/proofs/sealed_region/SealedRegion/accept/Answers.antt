@@ -1,11 +1,12 @@
 use Rattle.std.proofs.Common.{Err, Ok, subst}
+use Rattle.std.proofs.lemmas.Result.{err_from_is_err_and}
 use Rattle.kernel_fs.specs.digester.SealedLog.{SealedView}
 use Rattle.libfs.specs.SealedRegion.{AcceptsLog}
 use Rattle.libfs.proofs.sealed_region.SealedRegion.accept.Goals as goal
 
-pub returns-in-Ok-clause-accepts : goal.returns-in-Ok-clause-accepts
-returns-in-Ok-clause-accepts g c =
-    let e = c.in-Ok.ensures in
+pub returns-clause-accepts : goal.returns-clause-accepts
+returns-clause-accepts g c =
+    let e = c.in_ok-accept.ensures in
     subst (λ (x : SealedView). AcceptsLog g.K.Media c.args.kernel.now x (Ok tt) c.accept.new.self) c.log.ensures (record {
       accepted = e.accepted;
       can = e.can;
@@ -20,10 +21,11 @@ returns-in-Ok-clause-accepts g c =
       opening = e.opening;
     })
 
-pub returns-in-Err-clause-accepts : goal.returns-in-Err-clause-accepts
-returns-in-Err-clause-accepts g c =
-    let e = c.in-Err.ensures in
-    subst (λ (x : SealedView). AcceptsLog g.K.Media c.args.kernel.now x (Err c.in-Err.error) c.accept.new.self) c.log.ensures (record {
+pub returns-in_err-accept-clause-accepts : goal.returns-in_err-accept-clause-accepts
+returns-in_err-accept-clause-accepts g c =
+    let e = c.in_err-accept.ensures in
+    let p = err_from_is_err_and c.from_residual.result c.from_residual.ensures.1 in
+    rw (p.1, p.2) (subst (λ (x : SealedView). AcceptsLog g.K.Media c.args.kernel.now x (Err c.in_err-accept.field-0.0) c.accept.new.self) c.log.ensures (record {
       accepted = tt;
       can = tt;
       step = tt;
@@ -35,4 +37,4 @@ returns-in-Err-clause-accepts g c =
       refused = e.refused;
       area = e.area;
       opening = e.opening;
-    })
+    }))

@@ -1,4 +1,7 @@
+use Rattle.std.proofs.lemmas.Result.{err_from_is_err_and}
 use Rattle.strata_threads.proofs.thread_client.ThreadClient.meet_need.Goals as goal
 
-pub returns-in-Err-clause-unmet : goal.returns-in-Err-clause-unmet
-returns-in-Err-clause-unmet g c = (c.args.self.now.client, c.args.need.now, c.requires.needed, c.in-Err.ensures.unmet)
+pub returns-in_err-serve_need-clause-unmet : goal.returns-in_err-serve_need-clause-unmet
+returns-in_err-serve_need-clause-unmet g c =
+    let p = err_from_is_err_and c.from_residual.result c.from_residual.ensures.1 in
+    rw (p.1, p.2) (c.args.self.now.client, c.args.need.now, c.requires.needed, c.in_err-serve_need.ensures.unmet)

@@ -6,7 +6,7 @@ use Rattle.world.proofs.steps.WorldStepsEventOutcome.play_event.Goals as goal
 pub invariant_of-self : goal.invariant_of-self
 invariant_of-self g c =
     let s = c.self.inside in
-    (one_event g.M.Media c.played_event_is_a_step.ensures c.args.self.now s.system c.play-outcome.new.self c.meet_in_event.new.system s.notes.calls c.after-self-inside.result.calls c.args.event.now c.play-outcome.result
+    (one_event g.M.Media c.played_event_is_a_step.ensures.step c.played_event_is_a_step.ensures.never_bad c.args.self.now s.system c.play-outcome.new.self c.meet_in_event.new.system s.notes.calls c.after-self-inside.result.calls c.args.event.now c.play-outcome.result
     c.self.view_is c.self.invariant c.left_now.ensures.leaves c.left_now.ensures.holds c.left_now-2.ensures.leaves
     c.play-outcome.ensures.idle c.play-outcome.ensures.turn c.play-outcome.ensures.plays
     c.meet_in_event.ensures.same c.meet_in_event.ensures.met c.settle_in_event.ensures c.after-self-inside.ensures).0.world
@@ -14,7 +14,7 @@ invariant_of-self g c =
 pub returns : goal.returns
 returns g c =
     let s = c.self.inside in
-    let both = one_event g.M.Media c.played_event_is_a_step.ensures c.args.self.now s.system c.play-outcome.new.self c.meet_in_event.new.system s.notes.calls c.after-self-inside.result.calls c.args.event.now c.play-outcome.result
+    let both = one_event g.M.Media c.played_event_is_a_step.ensures.step c.played_event_is_a_step.ensures.never_bad c.args.self.now s.system c.play-outcome.new.self c.meet_in_event.new.system s.notes.calls c.after-self-inside.result.calls c.args.event.now c.play-outcome.result
     c.self.view_is c.self.invariant c.left_now.ensures.leaves c.left_now.ensures.holds c.left_now-2.ensures.leaves
     c.play-outcome.ensures.idle c.play-outcome.ensures.turn c.play-outcome.ensures.plays
     c.meet_in_event.ensures.same c.meet_in_event.ensures.met c.settle_in_event.ensures c.after-self-inside.ensures in
