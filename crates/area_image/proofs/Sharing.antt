@@ -13,7 +13,7 @@ use Rattle.area_image.specs.Format.{Use, used_block, AreUsedOnce, SpellsInode}
 use Rattle.area_image.specs.Damage.{IsDamaged, IsShared}
 use Rattle.area_image.specs.Map.{place_by}
 use Rattle.area_image.specs.Checks.{HasFound}
-use Rattle.area_image.specs.BlockMarks.{UsedMarks, marks_in, is_marked, IsMarked, Takes, Clashes}
+use Rattle.area_image.specs.BlockMarks.{UsedMarks, marks_in, is_marked, IsMarked, TakesBlocks, Clashes}
 use Rattle.area_image.specs.Parts.{InodeUse, part_block, part_for, IsOfTier, IsWithin, HasRoomFor}
 use Rattle.area_image.specs.MediumUse.{MarksUses}
 use Rattle.area_image.specs.declared.inode.InodeParts.{InodeParts}
@@ -107,7 +107,7 @@ module _ (g : Sizes) (s : Store) (i : ℕ) (x : InodeParts) (read : slot_read g 
   use_same : (u v : Use) → u.inode ≡ i → v.inode ≡ i → part_at u ≡ part_at v → u ≡ v
   use_same u v one two same = use_here u one ∙ (ap part_use same ∙ sym (use_here v two))
 
-  pub marks_more : (old new : UsedMarks) → fits_slot g x.slot ≡ true → MarksUses g s i old → Takes old new (part_block x) (IsWithin x) → MarksUses g s (i + 1) new
+  pub marks_more : (old new : UsedMarks) → fits_slot g x.slot ≡ true → MarksUses g s i old → TakesBlocks old new (part_block x) (IsWithin x) → MarksUses g s (i + 1) new
   marks_more old new fits before takes = record {
     room = λ t. takes.adds.room t ∙ before.room t;
     marked = λ t k. (

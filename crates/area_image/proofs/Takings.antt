@@ -3,7 +3,7 @@ use Rattle.std.proofs.Common.{◌≡◌, ℕ, true, false, refl, sym, ap, subst,
 use Rattle.std.specs.Prelude.{◌↔◌}
 use Rattle.std.proofs.lemmas.Bool.{true≢false}
 use Rattle.batch_journal.specs.tier_device.declared.media.Tier.{Tier}
-use Rattle.area_image.specs.BlockMarks.{UsedMarks, is_marked, Adds, Takes, Clashes}
+use Rattle.area_image.specs.BlockMarks.{UsedMarks, is_marked, Adds, TakesBlocks, Clashes}
 
 abbrev pair : Tier → ℕ → Tier × ℕ
 pair t k = (t, k)
@@ -16,7 +16,7 @@ pair_is t u k j e = let same : pair t k ≡ pair u j = cc in (ap (λ (x : Tier �
 
 module _ {A : Type 0} (of : A → Option (Tier × ℕ)) where
   -- uses that have no block
-  pub take_none : (m : UsedMarks) (these : A → Type 0) → ((a : A) (t : Tier) (k : ℕ) → these a → of a ≡ Some (t, k) → ⊥) → Takes m m of these
+  pub take_none : (m : UsedMarks) (these : A → Type 0) → ((a : A) (t : Tier) (k : ℕ) → these a → of a ≡ Some (t, k) → ⊥) → TakesBlocks m m of these
   take_none m these none = record {
     adds = record { room = λ t. refl; marked = λ t k. (λ now. inl now, λ was. elim was [ inl before ↦ before | inr (a, is, at) ↦ absurd (none a t k is at) ]) };
     fresh = λ a t k is at. absurd (none a t k is at);
@@ -24,7 +24,7 @@ module _ {A : Type 0} (of : A → Option (Tier × ℕ)) where
   }
 
   -- the block of one use
-  pub take_one : (old new : UsedMarks) (a : A) (t : Tier) (k : ℕ) → of a ≡ Some (t, k) → is_marked old t k ≡ false → Adds old new (λ u j. (u ≡ t) × (j ≡ k)) → Takes old new of (λ c. c ≡ a)
+  pub take_one : (old new : UsedMarks) (a : A) (t : Tier) (k : ℕ) → of a ≡ Some (t, k) → is_marked old t k ≡ false → Adds old new (λ u j. (u ≡ t) × (j ≡ k)) → TakesBlocks old new of (λ c. c ≡ a)
   take_one old new a t k at unmarked adds = record {
     adds = record { room = adds.room; marked = λ u j. (λ now. elim ((adds.marked u j).0 now) [ inl before ↦ inl before | inr x ↦ inr (a, refl, at ∙ sym (same_block u j x.0 x.1)) ], λ was. (adds.marked u j).1 (elim was [ inl before ↦ inl before | inr (c, is, there) ↦ inr (pair_is u t j k (sym there ∙ ap of is ∙ at)) ])) };
     fresh = λ c u j is there was. let e = pair_is u t j k (sym there ∙ ap of is ∙ at) in true≢false (sym was ∙ other_mark u j e.0 e.1 ∙ unmarked);
@@ -37,7 +37,7 @@ module _ {A : Type 0} (of : A → Option (Tier × ℕ)) where
     other_mark u j one two = ap (λ v. is_marked old v j) one ∙ ap (is_marked old t) two
 
   -- first those, then these
-  pub take_more : (old mid new : UsedMarks) (those these : A → Type 0) → Takes old mid of those → Takes mid new of these → Takes old new of (λ a. those a ⊎ these a)
+  pub take_more : (old mid new : UsedMarks) (those these : A → Type 0) → TakesBlocks old mid of those → TakesBlocks mid new of these → TakesBlocks old new of (λ a. those a ⊎ these a)
   take_more old mid new those these first second = record {
     adds = record {
       room = λ t. second.adds.room t ∙ first.adds.room t;
@@ -60,7 +60,7 @@ module _ {A : Type 0} (of : A → Option (Tier × ℕ)) where
   }
 
   -- the same uses, told otherwise; those without a block count for nothing
-  pub take_same : (old new : UsedMarks) (those these : A → Type 0) → Takes old new of those → ((a : A) (t : Tier) (k : ℕ) → of a ≡ Some (t, k) → those a ↔ these a) → Takes old new of these
+  pub take_same : (old new : UsedMarks) (those these : A → Type 0) → TakesBlocks old new of those → ((a : A) (t : Tier) (k : ℕ) → of a ≡ Some (t, k) → those a ↔ these a) → TakesBlocks old new of these
   take_same old new those these takes same = record {
     adds = record {
       room = takes.adds.room;
@@ -78,7 +78,7 @@ module _ {A : Type 0} (of : A → Option (Tier × ℕ)) where
   clash_one old these a t k is at marked = record { one = a; tier = t; block = k; is = is; here = at; there = inl marked }
 
   -- behind others
-  pub clash_after : (old mid : UsedMarks) (those these all : A → Type 0) → Takes old mid of those → Clashes mid of these → ((a : A) → those a → these a → ⊥) → ((a : A) → these a → all a) → Clashes old of all
+  pub clash_after : (old mid : UsedMarks) (those these all : A → Type 0) → TakesBlocks old mid of those → Clashes mid of these → ((a : A) → those a → these a → ⊥) → ((a : A) → these a → all a) → Clashes old of all
   clash_after old mid those these all takes clash apart more = record {
     one = clash.one;
     tier = clash.tier;

@@ -32,7 +32,7 @@ pub record Adds (old new : UsedMarks) (more : Tier → ℕ → Type 0) : Type 0 
 -- ---- uses of blocks, each with a block or none
 
 -- These uses have a block each that no other of them has, and that was not marked: it is now.
-pub record Takes {A : Type 0} (old new : UsedMarks) (of : A → Option (Tier × ℕ)) (these : A → Type 0) : Type 0 where
+pub record TakesBlocks {A : Type 0} (old new : UsedMarks) (of : A → Option (Tier × ℕ)) (these : A → Type 0) : Type 0 where
   pub adds : Adds old new (λ t k. (a : A) × (these a) × (of a ≡ Some (t, k)))
   pub fresh : (a : A) (t : Tier) (k : ℕ) → these a → of a ≡ Some (t, k) → IsMarked old t k → ⊥
   pub once : (a c : A) (t : Tier) (k : ℕ) → these a → these c → of a ≡ Some (t, k) → of c ≡ Some (t, k) → a ≡ c

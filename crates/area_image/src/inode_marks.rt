@@ -2,7 +2,7 @@
 ghost use Rattle.std.specs.Prelude.{◌≡◌, MatchBool, IfSome, IfNone};
 ghost use Rattle.area_image.specs.Map.{in_tier};
 ghost use Rattle.area_image.specs.Store.{length_of};
-ghost use Rattle.area_image.specs.BlockMarks.{Takes, Clashes};
+ghost use Rattle.area_image.specs.BlockMarks.{TakesBlocks, Clashes};
 ghost use Rattle.area_image.specs.Parts.{part_block, IsRoot, IsPlace, IsOfTier, IsWithin, HasRoomFor};
 
 use crate::inode::InodeParts;
@@ -26,7 +26,7 @@ fn extents_in(found: &InodeExtents, tier: Tier) -> &Option<ExtentBlock>
 // Marks the extent block of a tier, and tells whether it was marked.
 fn mark_root(used: &mut UsedBlocks, parts: &InodeParts, tier: Tier) -> bool
     requires { HasRoomFor used.old parts.now }
-    ensures { MatchBool result (Clashes used.old (part_block parts.now) (IsRoot tier)) (Takes used.old used.new (part_block parts.now) (IsRoot tier)) }
+    ensures { MatchBool result (Clashes used.old (part_block parts.now) (IsRoot tier)) (TakesBlocks used.old used.new (part_block parts.now) (IsRoot tier)) }
 {
     let root = root_of(&parts.slot, tier);
     if root == 0 {
@@ -38,7 +38,7 @@ fn mark_root(used: &mut UsedBlocks, parts: &InodeParts, tier: Tier) -> bool
 // Marks the blocks that hold what a tier maps, up to the first that was marked.
 fn mark_places(used: &mut UsedBlocks, parts: &InodeParts, tier: Tier) -> bool
     requires { HasRoomFor used.old parts.now }
-    ensures { MatchBool result (Clashes used.old (part_block parts.now) (IsPlace tier (length_of parts.now.slot))) (Takes used.old used.new (part_block parts.now) (IsPlace tier (length_of parts.now.slot))) }
+    ensures { MatchBool result (Clashes used.old (part_block parts.now) (IsPlace tier (length_of parts.now.slot))) (TakesBlocks used.old used.new (part_block parts.now) (IsPlace tier (length_of parts.now.slot))) }
 {
     let found = extents_in(&parts.extents, tier);
     'places: for block in 0..length_of(&parts.slot) {
@@ -54,7 +54,7 @@ fn mark_places(used: &mut UsedBlocks, parts: &InodeParts, tier: Tier) -> bool
 // Marks what a tier has of an inode, up to the first block that was marked.
 fn mark_tier(used: &mut UsedBlocks, parts: &InodeParts, tier: Tier) -> bool
     requires { HasRoomFor used.old parts.now }
-    ensures { MatchBool result (Clashes used.old (part_block parts.now) (IsOfTier tier parts.now)) (Takes used.old used.new (part_block parts.now) (IsOfTier tier parts.now)) }
+    ensures { MatchBool result (Clashes used.old (part_block parts.now) (IsOfTier tier parts.now)) (TakesBlocks used.old used.new (part_block parts.now) (IsOfTier tier parts.now)) }
 {
     if mark_root(used, parts, tier) {
         return true;
@@ -67,7 +67,7 @@ fn mark_tier(used: &mut UsedBlocks, parts: &InodeParts, tier: Tier) -> bool
 pub fn mark_inode(used: &mut UsedBlocks, parts: &InodeParts) -> Option<Tier>
     requires { HasRoomFor used.old parts.now }
     ensures some { IfSome result (λ t. Clashes used.old (part_block parts.now) (IsOfTier t parts.now)) }
-    ensures none { IfNone result (Takes used.old used.new (part_block parts.now) (IsWithin parts.now)) }
+    ensures none { IfNone result (TakesBlocks used.old used.new (part_block parts.now) (IsWithin parts.now)) }
 {
     if mark_tier(used, parts, Tier::Fast) {
         return Some(Tier::Fast);

@@ -49,10 +49,10 @@ pub use used_blocks::{UsedBlocks, unmarked_blocks_are_free};
 // Passed on to the crates above, which so need not list those below.
 pub use batch_journal::{
     BLOCK, Batch, CLIENTS, DirBlock, DirEntries, DirEntry, EntryRef, Extent, ExtentBlock,
-    FIRST_IMAGE_BLOCK, FIRST_NODE_BLOCK, FIRST_SLOT_BLOCK, GATE_BLOCK, Geometry, HEAD_BLOCK, Image,
-    Journal, JournalError, Kind, LayoutError, MARKS_BLOCK, MAX_IMAGES, MAX_IN_BLOCK, Mark, Marks,
-    Media, SLOT_SIZE, SLOTS_IN_BLOCK, Slot, Space, Super, Tier, What, extents_are_read, is_inode,
-    marks_are_read, slot_block, slot_byte, slot_is_read,
+    FILE_BLOCKS, FIRST_IMAGE_BLOCK, FIRST_NODE_BLOCK, FIRST_SLOT_BLOCK, GATE_BLOCK, Geometry,
+    HEAD_BLOCK, Image, Journal, JournalError, Kind, LayoutError, MARKS_BLOCK, MAX_IMAGES,
+    MAX_IN_BLOCK, Mark, Marks, Media, SLOT_SIZE, SLOTS_IN_BLOCK, Slot, Space, Super, Tier, What,
+    extents_are_read, is_inode, marks_are_read, slot_block, slot_byte, slot_is_read,
 };
 pub use extent_tree::{
     AllocatorError, BlockMap, FreeRuns, Place, Run, block_spells_a_map, few_blocks_are_few_runs,

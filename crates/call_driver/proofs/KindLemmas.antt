@@ -3,21 +3,21 @@ use Rattle.std.proofs.Common.{◌≡◌, ℕ, Bool, true, false, inl, inr, ap, s
 use Rattle.world.specs.system_world.event_steps.declared.event.Event.{Event}
 use Rattle.world.specs.system_world.event_steps.declared.event.Event.TheVariants as kinds
 use Rattle.world.specs.system_world.event_steps.Turns.{whose}
-use Rattle.call_driver.specs.EventOwner.{IsOf, IsServing, IsDigesting, IsHandingOver}
+use Rattle.call_driver.specs.EventOwner.{IsOfClient, IsServing, IsDigesting, IsHandingOver}
 
 -- what a client digests is its own
-pub digesting_is_own : (client : ℕ) (e : Event) → IsDigesting client e → IsOf client e
+pub digesting_is_own : (client : ℕ) (e : Event) → IsDigesting client e → IsOfClient client e
 digesting_is_own client e (inl is) = ap whose is
 digesting_is_own client e (inr is) = ap whose is
 
-pub wipe_is_own : (client : ℕ) (e : Event) → e ≡ kinds.WipeStep client → IsOf client e
+pub wipe_is_own : (client : ℕ) (e : Event) → e ≡ kinds.WipeStep client → IsOfClient client e
 wipe_is_own client e is = ap whose is
 
-pub step_is_own : (client : ℕ) (e : Event) → e ≡ kinds.Step client → IsOf client e
+pub step_is_own : (client : ℕ) (e : Event) → e ≡ kinds.Step client → IsOfClient client e
 step_is_own client e is = ap whose is
 
 -- a call's own events serve it
-pub own_serves : (hands : Bool) (client : ℕ) (e : Event) → IsOf client e → IsServing hands client e
+pub own_serves : (hands : Bool) (client : ℕ) (e : Event) → IsOfClient client e → IsServing hands client e
 own_serves true client e is = inl is
 own_serves false client e is = is
 

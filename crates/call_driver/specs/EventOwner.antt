@@ -12,8 +12,8 @@ use Rattle.call_driver.specs.declared.call_result.CallResult.{CallResult}
 use Rattle.call_driver.specs.declared.call_result.CallResult.TheVariants as served
 
 -- an event of this client
-abbrev pub IsOf : ℕ → Event → Type 0
-IsOf client e = whose e ≡ Some client
+abbrev pub IsOfClient : ℕ → Event → Type 0
+IsOfClient client e = whose e ≡ Some client
 
 -- an event by which a client digests what it logged
 abbrev pub IsDigesting : ℕ → Event → Type 0
@@ -25,8 +25,8 @@ IsHandingOver inode e = (c : ℕ) × (IsDigesting c e ⊎ (e ≡ event.Give c in
 
 -- an event that a call of a client may take: its own, and where others hand over, theirs of some inode
 abbrev pub IsServing : Bool → ℕ → Event → Type 0
-IsServing true client e = IsOf client e ⊎ ((inode : ℕ) × IsHandingOver inode e)
-IsServing false client e = IsOf client e
+IsServing true client e = IsOfClient client e ⊎ ((inode : ℕ) × IsHandingOver inode e)
+IsServing false client e = IsOfClient client e
 
 -- an event that drops a file
 abbrev pub IsReclaim : Event → Type 0

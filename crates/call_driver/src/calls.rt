@@ -5,7 +5,7 @@ ghost use Rattle.world.specs.system_world.event_steps.posix_calls.declared.call.
 ghost use Rattle.world.specs.system_world.event_steps.declared.event.Event.TheVariants as kinds;
 ghost use Rattle.call_driver.specs.Runs.{Leads, IsLast};
 ghost use Rattle.call_driver.specs.Calls.{IsBegunCall, IsCarriedOn, IsServedCall, IsReadyCall};
-ghost use Rattle.call_driver.specs.EventOwner.{IsOf, IsServing, IsAsking};
+ghost use Rattle.call_driver.specs.EventOwner.{IsOfClient, IsServing, IsAsking};
 
 use crate::call_result::{CallResult, deny, start, step_call};
 use crate::events::Events;
@@ -68,7 +68,7 @@ fn start_until_ready<E: Events>(
     event: &Event,
     hands_over: bool,
 ) -> Result<CallResult, Denied>
-    requires { IsOf client event.now }
+    requires { IsOfClient client event.now }
     ensures answer { (call : Call) → event.now ≡ kinds.Start client call → IsReadyCall E.Events hands_over client call result events.old events.new }
     ensures events { Leads E.plays (IsServing hands_over client) events.old events.new }
     ensures answered { (reply : Reply) → result ≡ Ok (CallResult.Reply reply) → IsLast E.plays (λ e. e ≡ event.now) reply events.new }
@@ -89,7 +89,7 @@ fn start_until_ready<E: Events>(
 
 fn finish_append<E: Events>(events: &mut E, client: u32) -> CallResult
     ensures carried { IsCarriedOn E.plays client result events.old events.new }
-    ensures events { Leads E.plays (IsOf client) events.old events.new }
+    ensures events { Leads E.plays (IsOfClient client) events.old events.new }
     ensures answered { (reply : Reply) → result ≡ CallResult.Reply reply → IsLast E.plays (λ e. e ≡ kinds.Step client) reply events.new }
 {
     for step in 0..STEPS {

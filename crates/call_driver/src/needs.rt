@@ -7,7 +7,7 @@ ghost use Rattle.call_driver.specs.declared.event_result.EventResult.TheVariants
 ghost use Rattle.world.specs.system_world.event_steps.declared.outcome.Refusal.{Refusal};
 ghost use Rattle.call_driver.specs.Needs.{AfterLease, IsLeased, IsServed, MakesRoom, after_asking, after_refusal, event_for, lease_event};
 ghost use Rattle.call_driver.specs.Runs.{Leads};
-ghost use Rattle.call_driver.specs.EventOwner.{IsOf, IsServing};
+ghost use Rattle.call_driver.specs.EventOwner.{IsOfClient, IsServing};
 
 use crate::digests::{digest_all, wipe_all};
 use crate::event_result::{EventResult, carry_out};
@@ -93,7 +93,7 @@ fn lease_event(client: u32, inode: u32, mode: Mode, held: LeaseMode) -> Event
 // Room for a record: all that the client logged is digested, and what there is to wipe of its regions is wiped. Where its device fails in that, the call is answered so when it is started again.
 fn make_room<E: Events>(events: &mut E, client: u32) -> NeedResult
     ensures room { MakesRoom E.Events client result events.old events.new }
-    ensures events { Leads E.plays (IsOf client) events.old events.new }
+    ensures events { Leads E.plays (IsOfClient client) events.old events.new }
 {
     match digest_all(events, client) {
         Ok(()) => {
@@ -107,7 +107,7 @@ fn make_room<E: Events>(events: &mut E, client: u32) -> NeedResult
 // Asks the kernel.
 fn ask_kernel<E: Events>(events: &mut E, client: u32, need: Need) -> NeedResult
     ensures asked { (d : EventResult) × CameTo E.plays (event_for client need) d events.old events.new × (result ≡ after_asking d) }
-    ensures events { Leads E.plays (IsOf client) events.old events.new }
+    ensures events { Leads E.plays (IsOfClient client) events.old events.new }
 {
     match carry_out(events, event_for(client, need)) {
         EventResult::Done => NeedResult::Again,

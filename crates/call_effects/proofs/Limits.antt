@@ -42,7 +42,7 @@ size_is : (o : Option Node) → length (node_bytes o) ≡ size_viewed (option_ma
 size_is None = refl
 size_is (Some n) = elim (n.body) as (λ y. length (node_bytes (Some (record { names = n.names; body = y }))) ≡ size_viewed (Some (view_of_body n.names y))) [ FileBody bytes ↦ refl | DirBody es ↦ refl ]
 
-acted_small : (e : Effect) (v : Option NodeView) → grammar.Fits e → size_viewed v ≤ 1048576 → size_viewed (view_acted e v) ≤ 1048576
+acted_small : (e : Effect) (v : Option NodeView) → grammar.FitsLimits e → size_viewed v ≤ 1048576 → size_viewed (view_acted e v) ≤ 1048576
 acted_small (effect.Make i kind.File) v fits small = omega arith
 acted_small (effect.Make i kind.Directory) v fits small = omega arith
 acted_small (effect.Enter d i k name) None fits small = small
@@ -62,15 +62,15 @@ acted_small (effect.Bytes i at new) (Some (FileView names old)) fits small = let
 acted_small (effect.Bytes i at new) (Some (DirView names entries)) fits small = small
 acted_small (effect.Drop i) v fits small = omega arith
 
-small_if : (b : Bool) (e : Effect) (v : Option NodeView) → grammar.Fits e → size_viewed v ≤ 1048576 → size_viewed (cond b (view_acted e v) v) ≤ 1048576
+small_if : (b : Bool) (e : Effect) (v : Option NodeView) → grammar.FitsLimits e → size_viewed v ≤ 1048576 → size_viewed (cond b (view_acted e v) v) ≤ 1048576
 small_if true e v fits small = acted_small e v fits small
 small_if false e v fits small = small
 
-after_small : (es : List Effect) (i : ℕ) (v : Option NodeView) → AllByRecursion grammar.Fits es → size_viewed v ≤ 1048576 → size_viewed (view_after es i v) ≤ 1048576
+after_small : (es : List Effect) (i : ℕ) (v : Option NodeView) → AllByRecursion grammar.FitsLimits es → size_viewed v ≤ 1048576 → size_viewed (view_after es i v) ≤ 1048576
 after_small [] i v fit small = small
 after_small (e ∷ es) i v fit small = after_small es i (cond (is_among i (subjects e)) (view_acted e v) v) fit.1 (small_if (is_among i (subjects e)) e v fit.0 small)
 
-sizes_after : (g : Graph) (es : List Effect) (i : ℕ) → AllByRecursion grammar.Fits es → length (node_bytes (g i)) ≤ 1048576 → length (node_bytes (after_effects g es i)) ≤ 1048576
+sizes_after : (g : Graph) (es : List Effect) (i : ℕ) → AllByRecursion grammar.FitsLimits es → length (node_bytes (g i)) ≤ 1048576 → length (node_bytes (after_effects g es i)) ≤ 1048576
 sizes_after g es i fit small =
     let was : size_viewed (view_at g i) ≤ 1048576 = subst (λ n. n ≤ 1048576) (size_is (g i)) small in
     subst (λ n. n ≤ 1048576) (sym (size_is (after_effects g es i) ∙ ap size_viewed (viewed_after g es i (view_at g i) refl))) (after_small es i (view_at g i) fit was)
@@ -105,9 +105,9 @@ within_by g nodes names = record { sizes = λ i. (nodes i).size; entries = λ i.
 pub seen_within : (g : Graph) (d : Descriptors) → IsWithinLimits (tree_of g) → IsWithinLimits (state_of g d).tree
 seen_within g d within = within_by (reachable_graph g d) (λ i. kept_within (tree.is_open d i) (g i) (nodes_of (tree_of g) within i)) (λ i. subst (λ n. n ≤ 1000) (sym (kept_named g d i)) (within.names i))
 
-fit_of : (g : Graph) (d : Descriptors) (client new : ℕ) (c : Call) (operation : Operation) → IsSound g d → IsWithinLimits (state_of g d).tree → answer_over g d client c ≡ Ok operation → (makes operation ≡ true → IsNew g new) → (b : Bool) → changes operation ≡ b → AllByRecursion grammar.Fits (effects_of g new operation)
+fit_of : (g : Graph) (d : Descriptors) (client new : ℕ) (c : Call) (operation : Operation) → IsSound g d → IsWithinLimits (state_of g d).tree → answer_over g d client c ≡ Ok operation → (makes operation ≡ true → IsNew g new) → (b : Bool) → changes operation ≡ b → AllByRecursion grammar.FitsLimits (effects_of g new operation)
 fit_of g d client new c operation sound within e free true some = (record_spelled g d client new 0 c operation sound within e free some (omega arith)).fit
-fit_of g d client new c operation sound within e free false none = subst (AllByRecursion grammar.Fits) (sym (unchanged g new operation none)) tt
+fit_of g d client new c operation sound within e free false none = subst (AllByRecursion grammar.FitsLimits) (sym (unchanged g new operation none)) tt
 
 pub call_within : (g : Graph) (d : Descriptors) (client new : ℕ) (c : Call) (operation : Operation) → IsSound g d → IsWithinLimits (tree_of g) → answer_over g d client c ≡ Ok operation → (makes operation ≡ true → IsNew g new) → IsWithinLimits (tree_of (after_effects g (effects_of g new operation)))
 call_within g d client new c operation sound within e free =

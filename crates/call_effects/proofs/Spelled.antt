@@ -41,7 +41,7 @@ use Rattle.call_effects.proofs.WellFormed.{well_formed}
 -- ---- what keeps the limits
 
 abbrev AllFit : List Effect → Type 0
-AllFit es = AllByRecursion grammar.Fits es
+AllFit es = AllByRecursion grammar.FitsLimits es
 
 -- a record of some effects that keep the limits
 record IsSpelled (es : List Effect) : Type 0 where

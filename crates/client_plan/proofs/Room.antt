@@ -12,7 +12,7 @@ use Rattle.call_effects.specs.posix_calls.declared.call.Call.{Call}
 use Rattle.call_effects.specs.posix_calls.declared.call.Reply.{Reply}
 use Rattle.call_effects.specs.file_graph.Graph.{Graph}
 use Rattle.call_effects.specs.file_graph.declared.effect.Effect.{Effect}
-use Rattle.call_effects.specs.log_record.Grammar.{Fits, IsRecord, record_bytes}
+use Rattle.call_effects.specs.log_record.Grammar.{FitsLimits, IsRecord, record_bytes}
 use Rattle.call_effects.specs.log_record.declared.format.Record.{Record}
 use Rattle.call_effects.specs.Knowledge.{Knowledge, Agrees, part_of}
 use Rattle.call_effects.specs.Wholes.{IsSound, state_of}
@@ -27,7 +27,7 @@ use Rattle.client_plan.specs.Holdings.{Holdings}
 use Rattle.client_plan.specs.NeedOrder.{is_record}
 use Rattle.client_plan.specs.CallPlan.{answer_outcome, outcome, made_by, change_of}
 use Rattle.client_plan.specs.NeedEffects.{IsTooLong, longest_record}
-use Rattle.client_plan.specs.Steps.{IsOf}
+use Rattle.client_plan.specs.Steps.{AreHoldingsOf}
 use Rattle.client_plan.proofs.Ends.{course_goes}
 use Rattle.client_plan.proofs.Outcomes.{ends, log_is}
 use Rattle.client_plan.proofs.RecordLengths.{record_bound, units_small}
@@ -58,7 +58,7 @@ logged_bound p h call change reply made descriptor e =
 fits_in : (change : Record) (most : ℕ) → IsRecord change → length (record_bytes change) ≤ most → (is_record change && nat_le (length (record_bytes change)) most) ≡ true
 fits_in change most is short = and_from (is_record change) (nat_le (length (record_bytes change)) most) (record_is change is) (le-leb (length (record_bytes change)) most short)
 
-module _ (k : Knowledge) (g : Graph) (held : Descriptors) (sound : IsSound g held) (within : IsWithinLimits (state_of g held).tree) (agrees : Agrees k g held) (h : Holdings) (of : IsOf k h) (call : Call) where
+module _ (k : Knowledge) (g : Graph) (held : Descriptors) (sound : IsSound g held) (within : IsWithinLimits (state_of g held).tree) (agrees : Agrees k g held) (h : Holdings) (of : AreHoldingsOf k h) (call : Call) where
   -- the record has the effects of an operation that the whole comes to
   spelled : (long : IsTooLong (part_of k) h call) → IsRecord long.change
   spelled long =
@@ -72,7 +72,7 @@ module _ (k : Knowledge) (g : Graph) (held : Descriptors) (sound : IsSound g hel
         units = is.units;
         some = subst (λ (es : List Effect). 1 ≤ length es) same is.some;
         few = subst (λ (es : List Effect). length es ≤ 8) same is.few;
-        fit = subst (λ (es : List Effect). AllByRecursion Fits es) same is.fit;
+        fit = subst (λ (es : List Effect). AllByRecursion FitsLimits es) same is.fit;
       }
 
   never_long : (long : IsTooLong (part_of k) h call) → longest_record ≤ long.most → ⊥

@@ -4,16 +4,16 @@ use Rattle.std.specs.Prelude.{◌&&◌, nat_le, nat_lt}
 use Rattle.std.specs.List.{AllByRecursion}
 use Rattle.std.proofs.lemmas.Bool.{and_parts, and_from, leb-true, le-leb, ltb-true, lt-ltb, cases_Bool}
 use Rattle.call_effects.specs.file_graph.declared.effect.Effect.{Effect}
-use Rattle.call_effects.specs.log_record.Grammar.{Fits, fits, IsRecord}
+use Rattle.call_effects.specs.log_record.Grammar.{FitsLimits, fits, IsRecord}
 use Rattle.call_effects.specs.log_record.declared.format.Record.{Record}
 use Rattle.call_effects.proofs.log_record_lemmas.Effects.{Fits-from_fits, fits-from_Fits}
 use Rattle.client_plan.specs.NeedOrder.{are_fit, is_record}
 
-fit_from : (es : List Effect) → are_fit es ≡ true → AllByRecursion Fits es
+fit_from : (es : List Effect) → are_fit es ≡ true → AllByRecursion FitsLimits es
 fit_from [] h = tt
 fit_from (e ∷ es) h = let p = and_parts (fits e) (are_fit es) h in (Fits-from_fits e p.0, fit_from es p.1)
 
-fit_is : (es : List Effect) → AllByRecursion Fits es → are_fit es ≡ true
+fit_is : (es : List Effect) → AllByRecursion FitsLimits es → are_fit es ≡ true
 fit_is [] h = refl
 fit_is (e ∷ es) h = and_from (fits e) (are_fit es) (fits-from_Fits e h.0) (fit_is es h.1)
 

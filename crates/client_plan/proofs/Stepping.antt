@@ -36,7 +36,7 @@ use Rattle.client_plan.specs.declared.outcome.Outcome.TheVariants as outcomes
 use Rattle.client_plan.specs.Holdings.{Holdings}
 use Rattle.client_plan.specs.NeedOrder.{is_record}
 use Rattle.client_plan.specs.CallPlan.{answer_outcome, outcome, made_by, change_of, own_changed}
-use Rattle.client_plan.specs.Steps.{IsAnswered, IsOf, IsReady, IsRefused}
+use Rattle.client_plan.specs.Steps.{IsAnswered, AreHoldingsOf, IsReady, IsRefused}
 use Rattle.client_plan.proofs.Ends.{LogGoes, OperationGoes, course_goes, course_refuses}
 use Rattle.client_plan.proofs.Outcomes.{Answer, Error, Told, ends, reply_is, log_is}
 use Rattle.client_plan.proofs.Spelled.{record_from}
@@ -61,7 +61,7 @@ known_or_made f (Some x) m i new e = inl refl
 known_or_made f None true i new e = inr (ap (λ n. Some n) (sym (eqb-true i new e)))
 known_or_made f None false i new e = absurd (cc)
 
-module _ (k : Knowledge) (h : Holdings) (of : IsOf k h) (call : Call) where
+module _ (k : Knowledge) (h : Holdings) (of : AreHoldingsOf k h) (call : Call) where
   -- ---- a call that is logged
 
   module _ (operation : Operation) (comes : run_part (part_of k) (decide h.own call) ≡ Known (Ok operation)) (o : Outcome) (at : OperationGoes (part_of k) h operation o) where

@@ -20,7 +20,7 @@ use Rattle.client_plan.specs.Holdings.{Holdings}
 use Rattle.client_plan.specs.CallPlan.{change_of, made_by}
 
 -- what a client has is of the client that knows this
-pub record IsOf (k : Knowledge) (h : Holdings) : Type 0 where
+pub record AreHoldingsOf (k : Knowledge) (h : Holdings) : Type 0 where
   pub own : h.own ≡ k.own
   pub numbers : (i : ℕ) → is_among i h.numbers ≡ true → k.granted i ≡ true
 

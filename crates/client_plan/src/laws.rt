@@ -30,7 +30,7 @@ ghost use Rattle.client_plan.specs.Holdings.{Holdings};
 ghost use Rattle.client_plan.specs.PlainWrite.{IsPlainWrite, write_logged};
 ghost use Rattle.client_plan.specs.CallPlan.{outcome, own_changed};
 ghost use Rattle.client_plan.specs.NeedEffects.{IsLacking, IsTooLong, longest_record, without_pin, with_pin, with_lease, with_number, with_units, with_room};
-ghost use Rattle.client_plan.specs.Steps.{IsAnswered, IsOf, IsReady, IsRefused};
+ghost use Rattle.client_plan.specs.Steps.{IsAnswered, AreHoldingsOf, IsReady, IsRefused};
 
 /// What a call is told to need the client lacks, and what it is to view it holds. So once it is served, the same call needs it no longer: not a pin that was given back, a lease
 /// that was taken, a copy or blocks that came, a number, units, however few were lacking, or a pin that was set.
@@ -52,8 +52,8 @@ pub fn room_for_the_longest_record_is_enough()
     ensures bound { (p : Part) (own : Own) (call : Call) (operation : Operation) (new : ℕ) (change : Record) → run_part p (decide own call) ≡ Known (Ok operation) → run_part p (effects_asked new operation) ≡ Known (Ok change.effects) → length (record_bytes change) ≤ longest_record }
     ensures write { (units i at : ℕ) (bytes : List ℕ) → length bytes ≡ MAX_TRANSFER → length (record_bytes (record { units = units; effects = Bytes i at bytes ∷ [] })) ≡ longest_record }
     ensures log { (p : Part) (h : Holdings) (call : Call) (change : Record) (reply : Reply) (made : Option ℕ) (descriptor : Option DescriptorChange) → outcome p h call ≡ outcomes.Log change reply made descriptor → length (record_bytes change) ≤ longest_record }
-    ensures fits { (k : Knowledge) (g : Graph) (held : Descriptors) (h : Holdings) (call : Call) (most : ℕ) → IsSound g held → IsWithinLimits (state_of g held).tree → Agrees k g held → IsOf k h → h.room ≡ Some most → longest_record ≤ most → ¬ (IsTooLong (part_of k) h call) }
-    ensures room { (k : Knowledge) (g : Graph) (held : Descriptors) (h : Holdings) (call : Call) (most : ℕ) → IsSound g held → IsWithinLimits (state_of g held).tree → Agrees k g held → IsOf k h → longest_record ≤ most → outcome (part_of k) (with_room h most) call ≢ outcomes.Need Room }
+    ensures fits { (k : Knowledge) (g : Graph) (held : Descriptors) (h : Holdings) (call : Call) (most : ℕ) → IsSound g held → IsWithinLimits (state_of g held).tree → Agrees k g held → AreHoldingsOf k h → h.room ≡ Some most → longest_record ≤ most → ¬ (IsTooLong (part_of k) h call) }
+    ensures room { (k : Knowledge) (g : Graph) (held : Descriptors) (h : Holdings) (call : Call) (most : ℕ) → IsSound g held → IsWithinLimits (state_of g held).tree → Agrees k g held → AreHoldingsOf k h → longest_record ≤ most → outcome (part_of k) (with_room h most) call ≢ outcomes.Need Room }
 {}
 
 /// A write for which nothing is lacking comes to its record, and is answered with the number of its bytes.
@@ -65,16 +65,16 @@ pub fn plain_write_is_logged()
 /// pinned. It is one step of the file tree, in every sound whole that agrees with what the client knows: the tree is answered so, nothing in the
 /// whole changes, and the client's descriptors are those after the step, with which the whole is sound again.
 pub fn answered_call_is_a_step()
-    ensures ready { (k : Knowledge) (h : Holdings) (call : Call) (reply : Reply) (change : Option DescriptorChange) → IsOf k h → outcome (part_of k) h call ≡ outcomes.Reply reply change → IsRefused k call reply change ⊎ IsAnswered k h call reply change }
-    ensures sound { (k : Knowledge) (g : Graph) (held : Descriptors) (h : Holdings) (call : Call) (reply : Reply) (change : Option DescriptorChange) → IsSound g held → Agrees k g held → IsOf k h → outcome (part_of k) h call ≡ outcomes.Reply reply change → IsSound g (with_own held k.client (own_changed k.own change)) }
-    ensures step { (k : Knowledge) (g : Graph) (held : Descriptors) (h : Holdings) (call : Call) (reply : Reply) (change : Option DescriptorChange) → IsSound g held → Agrees k g held → IsOf k h → outcome (part_of k) h call ≡ outcomes.Reply reply change → Step (state_of g held) k.client call reply (state_of g (with_own held k.client (own_changed k.own change))) }
+    ensures ready { (k : Knowledge) (h : Holdings) (call : Call) (reply : Reply) (change : Option DescriptorChange) → AreHoldingsOf k h → outcome (part_of k) h call ≡ outcomes.Reply reply change → IsRefused k call reply change ⊎ IsAnswered k h call reply change }
+    ensures sound { (k : Knowledge) (g : Graph) (held : Descriptors) (h : Holdings) (call : Call) (reply : Reply) (change : Option DescriptorChange) → IsSound g held → Agrees k g held → AreHoldingsOf k h → outcome (part_of k) h call ≡ outcomes.Reply reply change → IsSound g (with_own held k.client (own_changed k.own change)) }
+    ensures step { (k : Knowledge) (g : Graph) (held : Descriptors) (h : Holdings) (call : Call) (reply : Reply) (change : Option DescriptorChange) → IsSound g held → Agrees k g held → AreHoldingsOf k h → outcome (part_of k) h call ≡ outcomes.Reply reply change → Step (state_of g held) k.client call reply (state_of g (with_own held k.client (own_changed k.own change))) }
 {}
 
 /// A call that comes to a record has all that it needs as the record is begun. In every sound whole that agrees with what the client knows its
 /// reply is one step of the file tree, to the whole after the record's effects, which is sound again and has grown by the record's units.
 pub fn logged_call_is_a_step()
-    ensures ready { (k : Knowledge) (h : Holdings) (call : Call) (change : Record) (reply : Reply) (made : Option ℕ) (descriptor : Option DescriptorChange) → IsOf k h → outcome (part_of k) h call ≡ outcomes.Log change reply made descriptor → IsReady k h call change reply made descriptor }
-    ensures step { (k : Knowledge) (g : Graph) (held : Descriptors) (h : Holdings) (call : Call) (change : Record) (reply : Reply) (made : Option ℕ) (descriptor : Option DescriptorChange) → IsSound g held → Agrees k g held → IsOf k h → outcome (part_of k) h call ≡ outcomes.Log change reply made descriptor → Step (state_of g held) k.client call reply (state_of (after_effects g change.effects) (with_own held k.client (own_changed k.own descriptor))) }
-    ensures sound { (k : Knowledge) (g : Graph) (held : Descriptors) (h : Holdings) (call : Call) (change : Record) (reply : Reply) (made : Option ℕ) (descriptor : Option DescriptorChange) → IsSound g held → Agrees k g held → IsOf k h → outcome (part_of k) h call ≡ outcomes.Log change reply made descriptor → IsSound (after_effects g change.effects) (with_own held k.client (own_changed k.own descriptor)) }
-    ensures growth { (k : Knowledge) (g : Graph) (held : Descriptors) (h : Holdings) (call : Call) (change : Record) (reply : Reply) (made : Option ℕ) (descriptor : Option DescriptorChange) → IsSound g held → Agrees k g held → IsOf k h → outcome (part_of k) h call ≡ outcomes.Log change reply made descriptor → growth g change.effects ≡ change.units }
+    ensures ready { (k : Knowledge) (h : Holdings) (call : Call) (change : Record) (reply : Reply) (made : Option ℕ) (descriptor : Option DescriptorChange) → AreHoldingsOf k h → outcome (part_of k) h call ≡ outcomes.Log change reply made descriptor → IsReady k h call change reply made descriptor }
+    ensures step { (k : Knowledge) (g : Graph) (held : Descriptors) (h : Holdings) (call : Call) (change : Record) (reply : Reply) (made : Option ℕ) (descriptor : Option DescriptorChange) → IsSound g held → Agrees k g held → AreHoldingsOf k h → outcome (part_of k) h call ≡ outcomes.Log change reply made descriptor → Step (state_of g held) k.client call reply (state_of (after_effects g change.effects) (with_own held k.client (own_changed k.own descriptor))) }
+    ensures sound { (k : Knowledge) (g : Graph) (held : Descriptors) (h : Holdings) (call : Call) (change : Record) (reply : Reply) (made : Option ℕ) (descriptor : Option DescriptorChange) → IsSound g held → Agrees k g held → AreHoldingsOf k h → outcome (part_of k) h call ≡ outcomes.Log change reply made descriptor → IsSound (after_effects g change.effects) (with_own held k.client (own_changed k.own descriptor)) }
+    ensures growth { (k : Knowledge) (g : Graph) (held : Descriptors) (h : Holdings) (call : Call) (change : Record) (reply : Reply) (made : Option ℕ) (descriptor : Option DescriptorChange) → IsSound g held → Agrees k g held → AreHoldingsOf k h → outcome (part_of k) h call ≡ outcomes.Log change reply made descriptor → growth g change.effects ≡ change.units }
 {}

@@ -21,7 +21,7 @@ use Rattle.client_plan.specs.declared.outcome.DescriptorChange.{DescriptorChange
 use Rattle.client_plan.specs.declared.outcome.Outcome.TheVariants as outcomes
 use Rattle.client_plan.specs.Holdings.{Holdings}
 use Rattle.client_plan.specs.CallPlan.{change_of, outcome, own_changed}
-use Rattle.client_plan.specs.Steps.{IsOf}
+use Rattle.client_plan.specs.Steps.{AreHoldingsOf}
 use Rattle.client_plan.proofs.Stepping.{logged_ready}
 use Rattle.client_view.specs.AfterRecord.{knows_logged}
 use Rattle.client_view.proofs.Untouched.{untouched_block}
@@ -104,7 +104,7 @@ module _ (k : Knowledge) (new : ℕ) (operation : Operation) (es : List Effect) 
     by_made false off = less_agrees (knows_after k new operation es) (after_effects g es) held_after (agrees_after k g held call new operation es sound agrees plan) (knows_logged k es None change) (no_less off)
 
 -- a call that is logged
-pub logged_agrees : (k : Knowledge) (g : Graph) (held : Descriptors) (h : Holdings) (call : Call) (entry : Record) (reply : Reply) (made : Option ℕ) (change : Option DescriptorChange) → IsSound g held → Agrees k g held → IsOf k h → outcome (part_of k) h call ≡ outcomes.Log entry reply made change
+pub logged_agrees : (k : Knowledge) (g : Graph) (held : Descriptors) (h : Holdings) (call : Call) (entry : Record) (reply : Reply) (made : Option ℕ) (change : Option DescriptorChange) → IsSound g held → Agrees k g held → AreHoldingsOf k h → outcome (part_of k) h call ≡ outcomes.Log entry reply made change
     → Agrees (knows_logged k entry.effects made change) (after_effects g entry.effects) (with_own held k.client (own_changed k.own change))
 logged_agrees k g held h call entry reply made change sound agrees of comes =
     let r = logged_ready k h of call entry reply made change comes in

@@ -11,7 +11,7 @@ use Rattle.client_plan.specs.file_graph.Numbers.{is_inode}
 use Rattle.client_plan.specs.file_graph.declared.effect.Effect.{Effect}
 use Rattle.client_plan.specs.file_graph.declared.effect.Effect.TheVariants as effect
 use Rattle.client_plan.specs.file_graph.declared.effect.Kind.TheVariants as kind
-use Rattle.client_plan.specs.log_record.Grammar.{Fits, IsRecord}
+use Rattle.client_plan.specs.log_record.Grammar.{FitsLimits, IsRecord}
 use Rattle.client_plan.specs.log_record.declared.format.Record.{Record}
 use Rattle.world_invariant.specs.call_effects.Knowledge.{Knowledge, part_of}
 use Rattle.world_invariant.specs.call_effects.Records.{effects_asked}
@@ -19,15 +19,15 @@ use Rattle.client_plan.specs.declared.outcome.DescriptorChange.{DescriptorChange
 use Rattle.client_plan.specs.declared.outcome.Outcome.TheVariants as outcomes
 use Rattle.client_plan.specs.Holdings.{Holdings}
 use Rattle.client_plan.specs.CallPlan.{made_by, outcome}
-use Rattle.client_plan.specs.Steps.{IsOf, IsReady}
+use Rattle.client_plan.specs.Steps.{AreHoldingsOf, IsReady}
 use Rattle.client_plan.proofs.Stepping.{logged_ready}
 use Rattle.client_view.proofs.Inodes.{inode_is}
 
 -- the node that an operation makes has a number of an inode, where its record has a spelling
-first_fits : (e : Effect) (rest es : List Effect) → e ∷ rest ≡ es → AllByRecursion Fits es → Fits e
-first_fits e rest es is fit = (subst (AllByRecursion Fits) (sym is) fit).0
+first_fits : (e : Effect) (rest es : List Effect) → e ∷ rest ≡ es → AllByRecursion FitsLimits es → FitsLimits e
+first_fits e rest es is fit = (subst (AllByRecursion FitsLimits) (sym is) fit).0
 
-made_inode : (p : Part) (operation : Operation) (new : ℕ) (es : List Effect) (n : ℕ) → run_part p (effects_asked new operation) ≡ Known (Ok es) → AllByRecursion Fits es → made_by new operation ≡ Some n → is_inode n ≡ true
+made_inode : (p : Part) (operation : Operation) (new : ℕ) (es : List Effect) (n : ℕ) → run_part p (effects_asked new operation) ≡ Known (Ok es) → AllByRecursion FitsLimits es → made_by new operation ≡ Some n → is_inode n ≡ true
 unfolding run_part ◌>>=◌
 made_inode p (NewDir at) new es n told fit made =
     let same : effect.Make new kind.Directory ∷ (effect.Enter at.parent new kind.Directory at.name ∷ effect.Names new 1 ∷ []) ≡ es = cc in
@@ -47,7 +47,7 @@ made_inode p (AddName at i) new es n told fit made = absurd (cc)
 made_inode p (DropName at i) new es n told fit made = absurd (cc)
 made_inode p (Move from to i is_dir replaced) new es n told fit made = absurd (cc)
 
-module _ (k : Knowledge) (h : Holdings) (of : IsOf k h) (c : Call) (entry : Record) (reply : Reply) (made : Option ℕ) (change : Option DescriptorChange) (comes : outcome (part_of k) h c ≡ outcomes.Log entry reply made change) where
+module _ (k : Knowledge) (h : Holdings) (of : AreHoldingsOf k h) (c : Call) (entry : Record) (reply : Reply) (made : Option ℕ) (change : Option DescriptorChange) (comes : outcome (part_of k) h c ≡ outcomes.Log entry reply made change) where
   ready : IsReady k h c entry reply made change
   ready = logged_ready k h of c entry reply made change comes
 

@@ -11,7 +11,7 @@ use Rattle.world_invariant.specs.call_effects.Knowledge.{Knowledge, part_of}
 use Rattle.client_plan.specs.declared.outcome.Outcome.TheVariants as outcomes
 use Rattle.client_plan.specs.Holdings.{Holdings}
 use Rattle.client_plan.specs.CallPlan.{outcome}
-use Rattle.client_plan.specs.Steps.{IsOf, IsReady}
+use Rattle.client_plan.specs.Steps.{AreHoldingsOf, IsReady}
 use Rattle.client_plan.proofs.Stepping.{logged_ready}
 use Rattle.client_view.specs.AfterRecord.{is_made, with_made}
 use Rattle.client_view.specs.Preparation.{AreReady, IsPreparedFor, IsRoomOf, names_known}
@@ -30,7 +30,7 @@ still_ready rooms es before after same was n e inside is there =
     let one = same n e inside is in
     subst (λ c. IsRoomOf e (names_known c + n) (get_or rooms n None)) one (was n e inside is (subst IsSome (sym one) there))
 
-module _ (k more : Knowledge) (h : Holdings) (call : Call) (reply : Reply) (c : OwnChange) (of : IsOf k h) (comes : outcome (part_of k) h call ≡ outcomes.Log c.logged reply c.made c.descriptor) (kept : (i : ℕ) (copy : Option NodeView) → k.copies i ≡ Some copy → more.copies i ≡ Some copy) where
+module _ (k more : Knowledge) (h : Holdings) (call : Call) (reply : Reply) (c : OwnChange) (of : AreHoldingsOf k h) (comes : outcome (part_of k) h call ≡ outcomes.Log c.logged reply c.made c.descriptor) (kept : (i : ℕ) (copy : Option NodeView) → k.copies i ≡ Some copy → more.copies i ≡ Some copy) where
   ready : IsReady k h call c.logged reply c.made c.descriptor
   ready = logged_ready k h of call c.logged reply c.made c.descriptor comes
 

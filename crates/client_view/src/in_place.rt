@@ -2,7 +2,7 @@
 ghost use Rattle.std.specs.Prelude.{◌≡◌, ◌<◌, false, Some, IsSome, option_map};
 ghost use Rattle.std.specs.FinMap as fin;
 ghost use Rattle.client_plan.specs.file_graph.Plain.{is_drop};
-ghost use Rattle.client_plan.specs.log_record.Grammar.{Fits};
+ghost use Rattle.client_plan.specs.log_record.Grammar.{FitsLimits};
 ghost use Rattle.world_invariant.specs.call_effects.NodeView.{in_entries, view_acted};
 ghost use Rattle.record_validation.specs.Memory.{is_enter};
 ghost use Rattle.client_view.specs.Preparation.{IsRoomOf, names_known};
@@ -15,7 +15,7 @@ use std::alloc::Global;
 
 /// An effect is done to what is known of its inode, if something is, in the room that was taken ahead where it enters a name. It takes no memory.
 pub fn act_on(alloc: Global, slot: &mut Slot, effect: &Effect, room: Option<EnterRoom>)
-    requires fits { Fits effect.now }
+    requires fits { FitsLimits effect.now }
     requires room { IsSome slot.old → IsRoomOf effect.now (names_known slot.old) room }
     ensures { slot.new ≡ option_map (view_acted effect.now) slot.old }
 {
@@ -30,7 +30,7 @@ fn act_within(
     effect: &Effect,
     room: Option<EnterRoom>,
 )
-    requires fits { Fits effect.now }
+    requires fits { FitsLimits effect.now }
     requires room { IsRoomOf effect.now (names_known (Some node.old)) room }
     ensures { node.new ≡ view_acted effect.now node.old }
 {
@@ -55,7 +55,7 @@ fn enter(node: &mut Option<NodeSummary>, room: EntryRoom<Child>, name: Name, chi
 
 // An effect that enters no name takes no memory.
 fn act_alone(alloc: Global, node: &mut Option<NodeSummary>, effect: &Effect)
-    requires fits { Fits effect.now }
+    requires fits { FitsLimits effect.now }
     requires room { is_enter effect.now ≡ false }
     ensures { node.new ≡ view_acted effect.now node.old }
 {
@@ -74,7 +74,7 @@ fn act_alone(alloc: Global, node: &mut Option<NodeSummary>, effect: &Effect)
 
 // The same to a node that is there and stays.
 fn act_there(alloc: Global, summary: &mut NodeSummary, effect: &Effect)
-    requires fits { Fits effect.now }
+    requires fits { FitsLimits effect.now }
     requires kept { is_drop effect.now ≡ false }
     requires room { is_enter effect.now ≡ false }
     ensures { Some summary.new ≡ view_acted effect.now (Some summary.old) }

@@ -19,7 +19,7 @@ ghost use Rattle.client_plan.specs.declared.outcome.DescriptorChange.{Descriptor
 ghost use Rattle.client_plan.specs.declared.outcome.Outcome.TheVariants as outcomes;
 ghost use Rattle.client_plan.specs.Holdings.{Holdings};
 ghost use Rattle.client_plan.specs.CallPlan.{change_of, made_by, outcome, own_changed};
-ghost use Rattle.client_plan.specs.Steps.{IsOf};
+ghost use Rattle.client_plan.specs.Steps.{AreHoldingsOf};
 ghost use Rattle.client_view.specs.AfterRecord.{knows_logged};
 ghost use Rattle.client_view.specs.Preparation.{IsPreparedFor};
 ghost use Rattle.client_view.specs.declared.own_change.OwnChange.{OwnChange};
@@ -40,13 +40,13 @@ pub fn used_blocks_are_known_as_before()
 
 /// The record that a call comes to has a spelling, and the node that it makes has the number of an inode, as `prepare` demands.
 pub fn logged_call_can_be_prepared()
-    ensures spelled { (k : Knowledge) (h : Holdings) (call : Call) (entry : Record) (reply : Reply) (made : Option ℕ) (change : Option DescriptorChange) → IsOf k h → outcome (part_of k) h call ≡ outcomes.Log entry reply made change → IsRecord entry }
-    ensures made { (k : Knowledge) (h : Holdings) (call : Call) (entry : Record) (reply : Reply) (made : Option ℕ) (change : Option DescriptorChange) → IsOf k h → outcome (part_of k) h call ≡ outcomes.Log entry reply made change → ForSome made (λ n. is_inode n ≡ true) }
+    ensures spelled { (k : Knowledge) (h : Holdings) (call : Call) (entry : Record) (reply : Reply) (made : Option ℕ) (change : Option DescriptorChange) → AreHoldingsOf k h → outcome (part_of k) h call ≡ outcomes.Log entry reply made change → IsRecord entry }
+    ensures made { (k : Knowledge) (h : Holdings) (call : Call) (entry : Record) (reply : Reply) (made : Option ℕ) (change : Option DescriptorChange) → AreHoldingsOf k h → outcome (part_of k) h call ≡ outcomes.Log entry reply made change → ForSome made (λ n. is_inode n ≡ true) }
 {}
 
 /// What was prepared for a call's record is right as long as the client keeps the copies that it had then, whatever else it gets or loses.
 pub fn prepared_change_stays()
-    ensures { (k more : Knowledge) (h : Holdings) (call : Call) (reply : Reply) (c : OwnChange) → IsOf k h → outcome (part_of k) h call ≡ outcomes.Log c.logged reply c.made c.descriptor → ((i : ℕ) (copy : Option NodeView) → k.copies i ≡ Some copy → more.copies i ≡ Some copy) → IsPreparedFor k c → IsPreparedFor more c }
+    ensures { (k more : Knowledge) (h : Holdings) (call : Call) (reply : Reply) (c : OwnChange) → AreHoldingsOf k h → outcome (part_of k) h call ≡ outcomes.Log c.logged reply c.made c.descriptor → ((i : ℕ) (copy : Option NodeView) → k.copies i ≡ Some copy → more.copies i ≡ Some copy) → IsPreparedFor k c → IsPreparedFor more c }
 {}
 
 /// What a client knows once its change is committed is what it knows after the operation's effects, with a copy of the node that is made, less
@@ -59,5 +59,5 @@ pub fn committed_change_adds_no_more_than_the_effects()
 /// What a client knows once its change is committed agrees with the whole after the record's effects, where what it knew before agreed with
 /// the whole before them.
 pub fn logged_call_keeps_agreement()
-    ensures { (k : Knowledge) (g : Graph) (held : Descriptors) (h : Holdings) (call : Call) (entry : Record) (reply : Reply) (made : Option ℕ) (change : Option DescriptorChange) → IsSound g held → Agrees k g held → IsOf k h → outcome (part_of k) h call ≡ outcomes.Log entry reply made change → Agrees (knows_logged k entry.effects made change) (after_effects g entry.effects) (with_own held k.client (own_changed k.own change)) }
+    ensures { (k : Knowledge) (g : Graph) (held : Descriptors) (h : Holdings) (call : Call) (entry : Record) (reply : Reply) (made : Option ℕ) (change : Option DescriptorChange) → IsSound g held → Agrees k g held → AreHoldingsOf k h → outcome (part_of k) h call ≡ outcomes.Log entry reply made change → Agrees (knows_logged k entry.effects made change) (after_effects g entry.effects) (with_own held k.client (own_changed k.own change)) }
 {}

@@ -4,7 +4,7 @@ ghost use Rattle.std.specs.Option.{ForSome};
 ghost use Rattle.std.specs.List.{AllByRecursion};
 ghost use Rattle.client_plan.specs.file_graph.Numbers.{is_inode};
 ghost use Rattle.client_plan.specs.file_graph.Subject.{subject};
-ghost use Rattle.client_plan.specs.log_record.Grammar.{Fits, IsRecord};
+ghost use Rattle.client_plan.specs.log_record.Grammar.{FitsLimits, IsRecord};
 ghost use Rattle.client_plan.specs.CallPlan.{OpensInRange};
 ghost use Rattle.client_view.specs.KnowledgeTables.{knows};
 ghost use Rattle.client_view.specs.AfterRecord.{knows_logged, with_change, with_effects, with_made, without_made, without_touched};
@@ -89,7 +89,7 @@ impl ClientCopies {
 
     // Effects are done to the copies in their place, each with what was taken for it, and no block of what they touch stays.
     fn act_each(&mut self, effects: &[Effect], rooms: &mut Vec<Option<EnterRoom>>)
-        requires fit { AllByRecursion Fits effects.now }
+        requires fit { AllByRecursion FitsLimits effects.now }
         requires ready { AreReady rooms.old.items effects.now (knows self.old).copies }
         ensures known { knows self.new ≡ with_effects (knows self.old) effects.now }
         ensures order { self.new.blocks ≡ without_touched self.old.blocks effects.now }
@@ -102,7 +102,7 @@ impl ClientCopies {
 
     // What is known of an effect's inode is as the effect leaves it, without moving it, and no block of it stays.
     fn act_in_place(&mut self, effect: &Effect, room: Option<EnterRoom>)
-        requires fits { Fits effect.now }
+        requires fits { FitsLimits effect.now }
         requires room { IsSome ((knows self.old).copies (subject effect.now)) → IsRoomOf effect.now (names_known ((knows self.old).copies (subject effect.now))) room }
         ensures known { knows self.new ≡ with_effects (knows self.old) (effect.now ∷ []) }
         ensures order { self.new.blocks ≡ without_touched self.old.blocks (effect.now ∷ []) }

@@ -2,7 +2,7 @@
 ghost use Rattle.std.specs.Prelude.{◌≡◌, ◌≤◌, ◌<◌, ◌+◌, ◌-◌, ◌*◌, ◌&&◌, ◌||◌, ℕ, [], ◌∷◌, false, min, nat_lt, if◌then◌else◌};
 ghost use Rattle.std.specs.List.{AllByRecursion};
 ghost use Rattle.client_plan.specs.posix_calls.declared.limits.TheConstants.{UNIT_BYTES};
-ghost use Rattle.client_plan.specs.log_record.Grammar.{Fits};
+ghost use Rattle.client_plan.specs.log_record.Grammar.{FitsLimits};
 ghost use Rattle.client_view.specs.RecordReach.{IsReachOf, may_change};
 
 use client_plan::{Effect, UNIT_BYTES};
@@ -23,7 +23,7 @@ pub enum RecordReach {
 impl RecordReach {
     /// Finds what effects reach.
     pub fn of(effects: &[Effect]) -> Self
-        requires { AllByRecursion Fits effects.now }
+        requires { AllByRecursion FitsLimits effects.now }
         ensures { IsReachOf effects.now result }
     {
         match effects {
@@ -89,7 +89,7 @@ fn place_of(block: u64, first: u32, limit: usize) -> usize
 }
 
 fn reach_of(effect: &Effect) -> RecordReach
-    requires { Fits effect.now }
+    requires { FitsLimits effect.now }
     ensures { IsReachOf (effect.now ∷ []) result }
 {
     match effect {

@@ -13,7 +13,7 @@ use Rattle.log_record.specs.file_graph.declared.effect.Effect.{Effect}
 use Rattle.log_record.specs.file_graph.declared.effect.Effect.TheVariants as effect
 use Rattle.graph_change.specs.Change.{subject, span}
 use Rattle.log_record.specs.declared.format.Record.{Record}
-use Rattle.log_record.specs.Grammar.{Fits, IsRecord}
+use Rattle.log_record.specs.Grammar.{FitsLimits, IsRecord}
 use Rattle.coalescer.specs.declared.weight.TheConstants.{CHUNK_IMAGES, CHUNK_BLOCKS}
 use Rattle.coalescer.specs.Records.{effects_in}
 use Rattle.coalescer.specs.Weight.{is_entry, file_blocks, same_block, images, blocks, fits_chunk, IsLongestRun}
@@ -41,7 +41,7 @@ short_span at count few =
     let len = length-range_with_len (at / UNIT_BYTES) ((at + count - 1) / UNIT_BYTES + 1 - at / UNIT_BYTES) in
     either_way (count == 0) (range_with_len (at / UNIT_BYTES) ((at + count - 1) / UNIT_BYTES + 1 - at / UNIT_BYTES)) 17 (omega (arith, len, few))
 
-effect_blocks : (e : Effect) → Fits e → length (file_blocks e) ≤ 17
+effect_blocks : (e : Effect) → FitsLimits e → length (file_blocks e) ≤ 17
 effect_blocks (effect.Make i kind) fit = omega arith
 effect_blocks (effect.Enter d i kind name) fit = omega arith
 effect_blocks (effect.Leave d name) fit = omega arith
@@ -53,7 +53,7 @@ effect_blocks (effect.Bytes i at bytes) fit =
     omega (arith, each, short)
 effect_blocks (effect.Drop i) fit = omega arith
 
-few_blocks : (es : List Effect) → AllByRecursion Fits es → length (flat_map file_blocks es) ≤ 17 * length es
+few_blocks : (es : List Effect) → AllByRecursion FitsLimits es → length (flat_map file_blocks es) ≤ 17 * length es
 few_blocks [] fit = omega arith
 few_blocks (e ∷ es) fit =
     let sum = length-append (file_blocks e) (flat_map file_blocks es) in

@@ -7,7 +7,7 @@ use Rattle.update_log.specs.file_graph.Graph.{is_among, subjects, touches}
 use Rattle.update_log.specs.file_graph.declared.effect.Effect.{Effect}
 use Rattle.update_log.specs.file_graph.declared.effect.Effect.TheVariants as effect
 use Rattle.update_log.specs.log_record.declared.format.Record.{Record}
-use Rattle.update_log.specs.log_record.Grammar.{◌>>=◌, IsInode, Fits, fits, fields_at, effect_at, effects_at, header_at, record_at, record_of}
+use Rattle.update_log.specs.log_record.Grammar.{◌>>=◌, IsInode, FitsLimits, fits, fields_at, effect_at, effects_at, header_at, record_at, record_of}
 use Rattle.world_invariant.proofs.call_effects_lemmas.log_record_lemmas.Fields.{bind_some, test_some, some_is}
 use Rattle.world_invariant.proofs.call_effects_lemmas.log_record_lemmas.Effects.{Fits-from_fits}
 use Rattle.update_log.specs.Frames.{payloads, records, spelled_records}
@@ -27,7 +27,7 @@ alone_inode j is i there = elim (or_cases (eqb j i) false there) [
   | inr never ↦ absurd (false≢true never)
 ]
 
-subject_inode : (e : Effect) → Fits e → AreInodes (subjects e)
+subject_inode : (e : Effect) → FitsLimits e → AreInodes (subjects e)
 subject_inode (effect.Make i k) fit = alone_inode i fit
 subject_inode (effect.Enter d i k name) fit = alone_inode d fit.0
 subject_inode (effect.Leave d name) fit = alone_inode d fit.0
@@ -44,12 +44,12 @@ both_inodes is js first second i there = elim (or_cases (is_among i is) (is_amon
 
 -- ---- what is read
 
-effect_fits : (bytes : List ℕ) (x : Effect × List ℕ) → effect_at bytes ≡ Some x → Fits x.0
+effect_fits : (bytes : List ℕ) (x : Effect × List ℕ) → effect_at bytes ≡ Some x → FitsLimits x.0
 unfolding effect_at
 effect_fits bytes x e =
     let a = bind_some (fields_at bytes) (λ f. cond (fits f.0) (Some f) None) x e in
     let g = test_some (fits a.0.0) a.0 x a.2 in
-    subst (λ (y : Effect × List ℕ). Fits y.0) g.1 (Fits-from_fits a.0.0 g.0)
+    subst (λ (y : Effect × List ℕ). FitsLimits y.0) g.1 (Fits-from_fits a.0.0 g.0)
 
 effects_inodes : (n : ℕ) (bytes : List ℕ) (x : List Effect × List ℕ) → effects_at n bytes ≡ Some x → AreInodes (touches x.0)
 unfolding effects_at

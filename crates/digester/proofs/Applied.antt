@@ -18,7 +18,7 @@ use Rattle.coalescer.proofs.graph_change_lemmas.Bounding.{bounded_coalesced}
 use Rattle.coalescer.proofs.graph_change_lemmas.Law.{coalesced_law}
 use Rattle.coalescer.proofs.graph_change_lemmas.Touched.{coalesces}
 use Rattle.update_log.specs.log_record.declared.format.Record.{Record}
-use Rattle.update_log.specs.log_record.Grammar.{Fits, IsInode}
+use Rattle.update_log.specs.log_record.Grammar.{FitsLimits, IsInode}
 use Rattle.shared_area.specs.call_effects.NodeView.{view_at, view_of_node}
 use Rattle.shared_area.specs.layout.declared.places.TheConstants.{SPARE_BLOCKS}
 use Rattle.coalescer.specs.declared.weight.TheConstants.{CHUNK_IMAGES, CHUNK_BLOCKS}
@@ -53,7 +53,7 @@ fit_blocks es bs fit are = let most = few_blocks es fit in let its = blocks_with
 inode_fits : (i : ℕ) → IsInode i → is_inode i ≡ true
 inode_fits i fit = and_from (nat_le 1 i) (nat_le i MAX_INODE) (le-leb 1 i fit.0) (le-leb i MAX_INODE fit.1)
 
-one_bounded : (e : Effect) → Fits e → is_bounded e ≡ true
+one_bounded : (e : Effect) → FitsLimits e → is_bounded e ≡ true
 one_bounded (effect.Make i kind) fit = inode_fits i fit
 one_bounded (effect.Enter d i kind name) fit = and_from (is_inode d) (is_inode i) (inode_fits d fit.0) (inode_fits i fit.1)
 one_bounded (effect.Leave d name) fit = inode_fits d fit.0
@@ -62,7 +62,7 @@ one_bounded (effect.Size i size) fit = and_from (is_inode i) (nat_le size MAX_FI
 one_bounded (effect.Bytes i at bytes) fit = and_from (is_inode i) (nat_le (at + length bytes) MAX_FILE) (inode_fits i fit.0) (le-leb (at + length bytes) MAX_FILE fit.3)
 one_bounded (effect.Drop i) fit = inode_fits i fit
 
-bounded_then : (es fs : List Effect) → AllByRecursion Fits es → AllByRecursion (λ e. is_bounded e ≡ true) fs → AllByRecursion (λ e. is_bounded e ≡ true) (es ++ fs)
+bounded_then : (es fs : List Effect) → AllByRecursion FitsLimits es → AllByRecursion (λ e. is_bounded e ≡ true) fs → AllByRecursion (λ e. is_bounded e ≡ true) (es ++ fs)
 bounded_then [] fs fit rest = rest
 bounded_then (e ∷ es) fs fit rest = (one_bounded e fit.0, bounded_then es fs fit.1 rest)
 

@@ -4,7 +4,7 @@ use mathlib.Core.Logic.{dite}
 use mathlib.Core.Option.{some, some-injective, some-ne-none}
 use native.Mathlib.Decide.{ℕ_discrete}
 use lib.ListN.{get_elem?}
-use Rattle.handoff.specs.Book.{Holds, AreApart, overlay, Carries, IsBooked, lone_of, rest_of}
+use Rattle.handoff.specs.Book.{HoldsPart, AreApart, overlay, Carries, IsBooked, lone_of, rest_of}
 
 -- an element of a list with one more at its end
 get_snoc : {A : Type 0} → (l : List A) (x a : A) (j : ℕ) → get_elem? (l ++ x ∷ []) j ≡ some a → (get_elem? l j ≡ some a) ⊎ ((j ≡ length l) × (x ≡ a))
@@ -40,20 +40,20 @@ but_other {A} f k c q ne = ap (λ b. cond {A = A} b q (f c)) (ne_eqb c k ne)
 
 module _ {P : Type 0} (place : P → ℕ) where
   -- an overlay has the parts themselves at their places
-  pub overlay_at : (w : List P) (f : ℕ → P) (p : P) → AreApart place w → Holds w p → overlay place w f (place p) ≡ p
+  pub overlay_at : (w : List P) (f : ℕ → P) (p : P) → AreApart place w → HoldsPart w p → overlay place w f (place p) ≡ p
   overlay_at [] f p d h = absurd h
   overlay_at (q ∷ qs) f p d h = ⊎_elim
       (λ (e : q ≡ p). ap (λ b. cond {A = P} b q (overlay place qs f (place p))) (eq-eqb (place q) (place p) (ap place e)) ∙ e)
-      (λ (t : Holds qs p). ap (λ b. cond {A = P} b q (overlay place qs f (place p))) (ne_eqb (place q) (place p) (d.0 p t)) ∙ overlay_at qs f p d.1 t)
+      (λ (t : HoldsPart qs p). ap (λ b. cond {A = P} b q (overlay place qs f (place p))) (ne_eqb (place q) (place p) (d.0 p t)) ∙ overlay_at qs f p d.1 t)
       h
 
   -- and elsewhere what stood there
-  pub overlay_else : (w : List P) (f : ℕ → P) (c : ℕ) → ((p : P) → Holds w p → place p ≢ c) → overlay place w f c ≡ f c
+  pub overlay_else : (w : List P) (f : ℕ → P) (c : ℕ) → ((p : P) → HoldsPart w p → place p ≢ c) → overlay place w f c ≡ f c
   overlay_else [] f c off = refl
   overlay_else (q ∷ qs) f c off = ap (λ b. cond {A = P} b q (overlay place qs f c)) (ne_eqb (place q) c (off q (inl refl))) ∙ overlay_else qs f c (λ p h. off p (inr h))
 
   -- an overlay of what stands there already changes nothing
-  overlay_again : (w : List P) (f : ℕ → P) → ((p : P) → Holds w p → f (place p) ≡ p) → (c : ℕ) → overlay place w f c ≡ f c
+  overlay_again : (w : List P) (f : ℕ → P) → ((p : P) → HoldsPart w p → f (place p) ≡ p) → (c : ℕ) → overlay place w f c ≡ f c
   overlay_again [] f there c = refl
   overlay_again (q ∷ qs) f there c = dite (ℕ_discrete (place q) c)
       (λ e. ap (λ b. cond {A = P} b q (overlay place qs f c)) (eq-eqb (place q) c e) ∙ sym (there q (inl refl)) ∙ ap f e)
@@ -61,34 +61,34 @@ module _ {P : Type 0} (place : P → ℕ) where
 
   -- each part of w stands where one of v stood
   abbrev pub StandWhere : List P → List P → Type 0
-  StandWhere v w = (p : P) → Holds w p → (q : P) × Holds v q × (place q ≡ place p)
+  StandWhere v w = (p : P) → HoldsPart w p → (q : P) × HoldsPart v q × (place q ≡ place p)
 
   -- whether one of these parts has the place k
   abbrev pub among : List P → ℕ → Bool
   among [] k = false
   among (p ∷ ps) k = cond (eqb (place p) k) true (among ps k)
 
-  among_has : (ps : List P) (p : P) → Holds ps p → among ps (place p) ≡ true
+  among_has : (ps : List P) (p : P) → HoldsPart ps p → among ps (place p) ≡ true
   among_has [] p h = absurd h
   among_has (q ∷ qs) p h = ⊎_elim
       (λ (e : q ≡ p). ap (λ b. cond {A = Bool} b true (among qs (place p))) (eq-eqb (place q) (place p) (ap place e)))
-      (λ (t : Holds qs p). dite (ℕ_discrete (place q) (place p))
+      (λ (t : HoldsPart qs p). dite (ℕ_discrete (place q) (place p))
       (λ e. ap (λ b. cond {A = Bool} b true (among qs (place p))) (eq-eqb (place q) (place p) e))
       (λ ne. ap (λ b. cond {A = Bool} b true (among qs (place p))) (ne_eqb (place q) (place p) ne) ∙ among_has qs p t))
       h
 
-  pub among_not : (ps : List P) (k : ℕ) → ((p : P) → Holds ps p → place p ≢ k) → among ps k ≡ false
+  pub among_not : (ps : List P) (k : ℕ) → ((p : P) → HoldsPart ps p → place p ≢ k) → among ps k ≡ false
   among_not [] k off = refl
   among_not (q ∷ qs) k off = ap (λ b. cond {A = Bool} b true (among qs k)) (ne_eqb (place q) k (off q (inl refl))) ∙ among_not qs k (λ p h. off p (inr h))
 
-  holds_append : (v w : List P) (p : P) → Holds (v ++ w) p → Holds v p ⊎ Holds w p
+  holds_append : (v w : List P) (p : P) → HoldsPart (v ++ w) p → HoldsPart v p ⊎ HoldsPart w p
   holds_append [] w p h = inr h
-  holds_append (q ∷ qs) w p h = ⊎_elim (λ (e : q ≡ p). inl (inl e)) (λ (t : Holds (qs ++ w) p). ⊎_elim (λ (a : Holds qs p). inl (inr a)) (λ (b : Holds w p). inr b) (holds_append qs w p t)) h
+  holds_append (q ∷ qs) w p h = ⊎_elim (λ (e : q ≡ p). inl (inl e)) (λ (t : HoldsPart (qs ++ w) p). ⊎_elim (λ (a : HoldsPart qs p). inl (inr a)) (λ (b : HoldsPart w p). inr b) (holds_append qs w p t)) h
 
-  apart_append : (v w : List P) → AreApart place v → AreApart place w → ((p q : P) → Holds v p → Holds w q → place p ≢ place q) → AreApart place (v ++ w)
+  apart_append : (v w : List P) → AreApart place v → AreApart place w → ((p q : P) → HoldsPart v p → HoldsPart w q → place p ≢ place q) → AreApart place (v ++ w)
   apart_append [] w dv dw cross = dw
   apart_append (x ∷ xs) w dv dw cross = (
-    (λ p has. ⊎_elim (λ (a : Holds xs p). dv.0 p a) (λ (b : Holds w p). cross x p (inl refl) b) (holds_append xs w p has)),
+    (λ p has. ⊎_elim (λ (a : HoldsPart xs p). dv.0 p a) (λ (b : HoldsPart w p). cross x p (inl refl) b) (holds_append xs w p has)),
     apart_append xs w dv.1 dw (λ p q hp hq. cross p q (inr hp) hq),
   )
 
@@ -123,7 +123,7 @@ module _ {P : Type 0} (place : P → ℕ) where
         (λ ne. but_other r.whole (place p) c q ne ∙ sym (overlay_again ps r.whole (λ u has. (mine.1 u (inr has)).1) c)
         ∙ sym (ap (λ b. cond {A = P} b q (overlay place ps r.whole c)) (ne_eqb (place q) c (λ e. ne (sym e ∙ stands))))) in
         steps x y views r id (p ∷ ps) (q ∷ ps) at apart
-        (λ u has. ⊎_elim (λ (e : q ≡ u). (p, inl refl, sym stands ∙ ap place e)) (λ (t : Holds ps u). (u, inr t, refl)) has)
+        (λ u has. ⊎_elim (λ (e : q ≡ u). (p, inl refl, sym stands ∙ ap place e)) (λ (t : HoldsPart ps u). (u, inr t, refl)) has)
         (subst (law y) (λ k c. same c k) now)
 
     -- a look changes nothing
@@ -134,7 +134,7 @@ module _ {P : Type 0} (place : P → ℕ) where
 
     -- the parts `left` stay and `right` goes to a new seat. The parts of `right` may change on the way
     pub splits : (x : X) (views : List (List P)) (r : B x views) (id : ℕ) (v left right : List P) → get_elem? views id ≡ some v → AreApart place left → AreApart place right
-        → ((p : P) → Holds left p → Holds v p × (among right (place p) ≡ false)) → StandWhere v right → law x (overlay place right r.whole)
+        → ((p : P) → HoldsPart left p → HoldsPart v p × (among right (place p) ≡ false)) → StandWhere v right → law x (overlay place right r.whole)
         → B x (set views id left ++ right ∷ [])
     splits x views r id v left right at dl dr keep new_ones now =
         let mine = r.carried id v at in
@@ -156,7 +156,7 @@ module _ {P : Type 0} (place : P → ℕ) where
               (λ (h : (j ≢ id) × (get_elem? views j ≡ some u)). let c = r.carried j u h.1 in (
                 c.0,
                 λ p has. let k = c.1 p has in
-                    let off : (q : P) → Holds right q → place q ≢ place p = λ q hq e'. let q' = new_ones q hq in h.0 (sym k.0 ∙ (ap r.home (sym e' ∙ sym q'.2) ∙ (mine.1 q'.0 q'.1).0)) in
+                    let off : (q : P) → HoldsPart right q → place q ≢ place p = λ q hq e'. let q' = new_ones q hq in h.0 (sym k.0 ∙ (ap r.home (sym e' ∙ sym q'.2) ∙ (mine.1 q'.0 q'.1).0)) in
                     (else' p (among_not right (place p) off) ∙ k.0, overlay_else right r.whole (place p) off ∙ k.1),
               ))
               (at_set views id left j u old))
@@ -167,7 +167,7 @@ module _ {P : Type 0} (place : P → ℕ) where
 
     -- the same of parts that go as they are
     pub splits_as_they_are : (x : X) (views : List (List P)) (r : B x views) (id : ℕ) (v left right : List P) → get_elem? views id ≡ some v → AreApart place left → AreApart place right
-        → ((p : P) → Holds left p → Holds v p × (among right (place p) ≡ false)) → ((p : P) → Holds right p → Holds v p)
+        → ((p : P) → HoldsPart left p → HoldsPart v p × (among right (place p) ≡ false)) → ((p : P) → HoldsPart right p → HoldsPart v p)
         → B x (set views id left ++ right ∷ [])
     splits_as_they_are x views r id v left right at dl dr keep go = splits x views r id v left right at dl dr keep (λ p has. (p, go p has, refl))
         (subst (law x) (λ k c. sym (overlay_again right r.whole (λ p has. ((r.carried id v at).1 p (go p has)).1) c) k) r.lawful)
@@ -191,8 +191,8 @@ module _ {P : Type 0} (place : P → ℕ) where
               (λ (k : (j ≡ id) × (v ++ w ≡ u)). subst (λ (z : ℕ × List P). Carries place home r.whole z.0 z.1) (λ t. (sym k.0 t, k.1 t)) (
                 apart_append v w cv.0 cw.0 (λ p q hp hq e'. apart (sym (cw.1 q hq).0 ∙ (ap r.home (sym e') ∙ (cv.1 p hp).0))),
                 λ p has. ⊎_elim
-                    (λ (a : Holds v p). let c = cv.1 p a in (stay (place p) (λ z. apart (sym z ∙ c.0)) ∙ c.0, c.1))
-                    (λ (b : Holds w p). let c = cw.1 p b in (go (place p) c.0, c.1))
+                    (λ (a : HoldsPart v p). let c = cv.1 p a in (stay (place p) (λ z. apart (sym z ∙ c.0)) ∙ c.0, c.1))
+                    (λ (b : HoldsPart w p). let c = cw.1 p b in (go (place p) c.0, c.1))
                     (holds_append v w p has),
               ))
               (λ (k : (j ≢ id) × (get_elem? views j ≡ some u)). let c = r.carried j u k.1 in (c.0, λ p has. let d = c.1 p has in (stay (place p) (λ z. h.0 (sym d.0 ∙ z)) ∙ d.0, d.1)))
@@ -213,7 +213,7 @@ module _ {P : Type 0} (place : P → ℕ) where
     splits_nothing x views r id v at = splits_as_they_are x views r id v v [] at (r.carried id v at).0 tt (λ p h. (h, refl)) (λ p h. absurd h)
 
     -- one seat carries all parts that there are
-    pub begins : (x : X) (v : List P) (whole : ℕ → P) → law x whole → AreApart place v → ((p : P) → Holds v p → whole (place p) ≡ p) → B x (v ∷ [])
+    pub begins : (x : X) (v : List P) (whole : ℕ → P) → law x whole → AreApart place v → ((p : P) → HoldsPart v p → whole (place p) ≡ p) → B x (v ∷ [])
     begins x v whole now apart is = record { home = λ _. 0; whole = whole; lawful = now; carried = one }
       where
         one : (id : ℕ) (u : List P) → get_elem? (v ∷ []) id ≡ some u → Carries place (λ _. 0) whole id u

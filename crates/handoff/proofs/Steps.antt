@@ -6,7 +6,7 @@ use native.Mathlib.Decide.{ℕ_discrete}
 use lib.ListN.{get_elem?}
 use Rattle.std.proofs.lemmas.List.{drop-append-le}
 use Rattle.crossbeam_queue.specs.Fifo.{Pushes, Pops, Forks, Merges, Learns}
-use Rattle.handoff.specs.Book.{Holds, AreApart, lone_of, rest_of}
+use Rattle.handoff.specs.Book.{HoldsPart, AreApart, lone_of, rest_of}
 use Rattle.handoff.proofs.Book.{but, but_same, but_other, first_steps, splits_first, joins, begins}
 use Rattle.handoff.specs.declared.hand.Hand.{Hand}
 use Rattle.handoff.specs.Hands.{place_of, empty_hand, hands_from, hands}
@@ -71,26 +71,26 @@ module _ {T : Type 0} where
       put_by = by;
       taken_by = l.taken_by;
       put = λ c y has. dite (ℕ_discrete c h.place)
-          (λ e. let has' : Holds q.put y = subst (λ (u : Hand T). Holds u.put y) (but_same whole h.place c q e) has in ⊎_elim
+          (λ e. let has' : HoldsPart q.put y = subst (λ (u : Hand T). HoldsPart u.put y) (but_same whole h.place c q e) has in ⊎_elim
           (λ (new : (n, x) ≡ y). subst (λ (z : ℕ × T). At (l.all ++ x ∷ []) z.0 z.1 × (by z.0 ≡ c)) new (at_end l.all x, but_same l.put_by n n h.place refl ∙ sym e))
-          (λ (old : Holds h.put y). let o = l.put h.place y (subst (λ (u : Hand T). Holds u.put y) (sym is) old) in let lt = at_lt l.all y.0 y.1 o.0 in
+          (λ (old : HoldsPart h.put y). let o = l.put h.place y (subst (λ (u : Hand T). HoldsPart u.put y) (sym is) old) in let lt = at_lt l.all y.0 y.1 o.0 in
           (at_left l.all (x ∷ []) y.0 y.1 o.0, but_other l.put_by n y.0 h.place (λ z. omega arith) ∙ o.1 ∙ sym e))
           has')
-          (λ ne. let o = l.put c y (subst (λ (u : Hand T). Holds u.put y) (but_other whole h.place c q ne) has) in let lt = at_lt l.all y.0 y.1 o.0 in
+          (λ ne. let o = l.put c y (subst (λ (u : Hand T). HoldsPart u.put y) (but_other whole h.place c q ne) has) in let lt = at_lt l.all y.0 y.1 o.0 in
           (at_left l.all (x ∷ []) y.0 y.1 o.0, but_other l.put_by n y.0 h.place (λ z. omega arith) ∙ o.1));
       was_put = λ k y a. ⊎_elim
           (λ (old : At l.all k y). let lt = at_lt l.all k y old in let o = l.was_put k y old in
-          subst (λ (c : ℕ). Holds (but whole h.place q c).put (k, y)) (sym (but_other l.put_by n k h.place (λ z. omega arith)))
+          subst (λ (c : ℕ). HoldsPart (but whole h.place q c).put (k, y)) (sym (but_other l.put_by n k h.place (λ z. omega arith)))
           (dite (ℕ_discrete (l.put_by k) h.place)
-          (λ e. subst (λ (u : Hand T). Holds u.put (k, y)) (sym (but_same whole h.place (l.put_by k) q e)) (inr (subst (λ (u : Hand T). Holds u.put (k, y)) (ap whole e ∙ is) o)))
-          (λ ne. subst (λ (u : Hand T). Holds u.put (k, y)) (sym (but_other whole h.place (l.put_by k) q ne)) o)))
+          (λ e. subst (λ (u : Hand T). HoldsPart u.put (k, y)) (sym (but_same whole h.place (l.put_by k) q e)) (inr (subst (λ (u : Hand T). HoldsPart u.put (k, y)) (ap whole e ∙ is) o)))
+          (λ ne. subst (λ (u : Hand T). HoldsPart u.put (k, y)) (sym (but_other whole h.place (l.put_by k) q ne)) o)))
           (λ (new : (k ≡ n) × (x ≡ y)).
-          subst (λ (c : ℕ). Holds (but whole h.place q c).put (k, y)) (sym (but_same l.put_by n k h.place new.0))
-          (subst (λ (u : Hand T). Holds u.put (k, y)) (sym (but_same whole h.place h.place q refl)) (inl (λ i. (sym new.0 i, new.1 i)))))
+          subst (λ (c : ℕ). HoldsPart (but whole h.place q c).put (k, y)) (sym (but_same l.put_by n k h.place new.0))
+          (subst (λ (u : Hand T). HoldsPart u.put (k, y)) (sym (but_same whole h.place h.place q refl)) (inl (λ i. (sym new.0 i, new.1 i)))))
           (at_snoc l.all x k y a);
-      taken = λ c y has. let o = l.taken c y (subst (λ (u : List (ℕ × T)). Holds u y) (same_taken c) has) in (o.0, at_left l.all (x ∷ []) y.0 y.1 o.1, o.2);
+      taken = λ c y has. let o = l.taken c y (subst (λ (u : List (ℕ × T)). HoldsPart u y) (same_taken c) has) in (o.0, at_left l.all (x ∷ []) y.0 y.1 o.1, o.2);
       was_taken = λ k y lt a. ⊎_elim
-          (λ (old : At l.all k y). subst (λ (u : List (ℕ × T)). Holds u (k, y)) (sym (same_taken (l.taken_by k))) (l.was_taken k y lt old))
+          (λ (old : At l.all k y). subst (λ (u : List (ℕ × T)). HoldsPart u (k, y)) (sym (same_taken (l.taken_by k))) (l.was_taken k y lt old))
           (λ (new : (k ≡ n) × (x ≡ y)). let w = l.within in let e = new.0 in absurd (omega arith))
           (at_snoc l.all x k y a);
       falls = λ c. dite (ℕ_discrete c h.place)
@@ -104,7 +104,7 @@ module _ {T : Type 0} where
     }
       where
         below : AreBelow (length l.all) h.put
-        below y has = at_lt l.all y.0 y.1 (l.put h.place y (subst (λ (u : Hand T). Holds u.put y) (sym is) has)).0
+        below y has = at_lt l.all y.0 y.1 (l.put h.place y (subst (λ (u : Hand T). HoldsPart u.put y) (sym is) has)).0
 
         same_taken : (c : ℕ) → (but whole h.place (record h { put = (length l.all, x) ∷ h.put }) c).taken ≡ (whole c).taken
         same_taken c = dite (ℕ_discrete c h.place)
@@ -121,24 +121,24 @@ module _ {T : Type 0} where
           left = first.1;
           put_by = l.put_by;
           taken_by = by;
-          put = λ c y has. l.put c y (subst (λ (u : List (ℕ × T)). Holds u y) (same_put c) has);
-          was_put = λ k y a. subst (λ (u : List (ℕ × T)). Holds u (k, y)) (sym (same_put (l.put_by k))) (l.was_put k y a);
+          put = λ c y has. l.put c y (subst (λ (u : List (ℕ × T)). HoldsPart u y) (same_put c) has);
+          was_put = λ k y a. subst (λ (u : List (ℕ × T)). HoldsPart u (k, y)) (sym (same_put (l.put_by k))) (l.was_put k y a);
           taken = λ c y has. dite (ℕ_discrete c h.place)
-              (λ e. let has' : Holds q.taken y = subst (λ (u : Hand T). Holds u.taken y) (but_same whole h.place c q e) has in ⊎_elim
+              (λ e. let has' : HoldsPart q.taken y = subst (λ (u : Hand T). HoldsPart u.taken y) (but_same whole h.place c q e) has in ⊎_elim
               (λ (new : (n, x) ≡ y). subst (λ (z : ℕ × T). (z.0 < suc n) × At l.all z.0 z.1 × (by z.0 ≡ c)) new (omega arith, first.0, but_same l.taken_by n n h.place refl ∙ sym e))
-              (λ (old : Holds h.taken y). let o = l.taken h.place y (subst (λ (u : Hand T). Holds u.taken y) (sym is) old) in let lt = o.0 in
+              (λ (old : HoldsPart h.taken y). let o = l.taken h.place y (subst (λ (u : Hand T). HoldsPart u.taken y) (sym is) old) in let lt = o.0 in
               (omega arith, o.1, but_other l.taken_by n y.0 h.place (λ z. omega arith) ∙ o.2 ∙ sym e))
               has')
-              (λ ne. let o = l.taken c y (subst (λ (u : Hand T). Holds u.taken y) (but_other whole h.place c q ne) has) in let lt = o.0 in
+              (λ ne. let o = l.taken c y (subst (λ (u : Hand T). HoldsPart u.taken y) (but_other whole h.place c q ne) has) in let lt = o.0 in
               (omega arith, o.1, but_other l.taken_by n y.0 h.place (λ z. omega arith) ∙ o.2));
           was_taken = λ k y lt a. dite (ℕ_discrete k n)
-              (λ e. subst (λ (c : ℕ). Holds (but whole h.place q c).taken (k, y)) (sym (but_same l.taken_by n k h.place e))
-              (subst (λ (u : Hand T). Holds u.taken (k, y)) (sym (but_same whole h.place h.place q refl)) (inl (λ i. (sym e i, at_same l.all n x y first.0 (subst (λ (z : ℕ). At l.all z y) e a) i)))))
+              (λ e. subst (λ (c : ℕ). HoldsPart (but whole h.place q c).taken (k, y)) (sym (but_same l.taken_by n k h.place e))
+              (subst (λ (u : Hand T). HoldsPart u.taken (k, y)) (sym (but_same whole h.place h.place q refl)) (inl (λ i. (sym e i, at_same l.all n x y first.0 (subst (λ (z : ℕ). At l.all z y) e a) i)))))
               (λ ne. let o = l.was_taken k y (omega arith) a in
-              subst (λ (c : ℕ). Holds (but whole h.place q c).taken (k, y)) (sym (but_other l.taken_by n k h.place ne))
+              subst (λ (c : ℕ). HoldsPart (but whole h.place q c).taken (k, y)) (sym (but_other l.taken_by n k h.place ne))
               (dite (ℕ_discrete (l.taken_by k) h.place)
-              (λ e. subst (λ (u : Hand T). Holds u.taken (k, y)) (sym (but_same whole h.place (l.taken_by k) q e)) (inr (subst (λ (u : Hand T). Holds u.taken (k, y)) (ap whole e ∙ is) o)))
-              (λ ne'. subst (λ (u : Hand T). Holds u.taken (k, y)) (sym (but_other whole h.place (l.taken_by k) q ne')) o)));
+              (λ e. subst (λ (u : Hand T). HoldsPart u.taken (k, y)) (sym (but_same whole h.place (l.taken_by k) q e)) (inr (subst (λ (u : Hand T). HoldsPart u.taken (k, y)) (ap whole e ∙ is) o)))
+              (λ ne'. subst (λ (u : Hand T). HoldsPart u.taken (k, y)) (sym (but_other whole h.place (l.taken_by k) q ne')) o)));
           falls = λ c. dite (ℕ_discrete c h.place)
               (λ e. let f = subst (λ (u : Hand T). Fall u.put × Fall u.taken) is (l.falls h.place) in
               subst (λ (u : Hand T). Fall u.put × Fall u.taken) (sym (but_same whole h.place c q e)) (f.0, (below, f.1)))
@@ -150,7 +150,7 @@ module _ {T : Type 0} where
         }
       where
         below : AreBelow l.gone h.taken
-        below y has = (l.taken h.place y (subst (λ (u : Hand T). Holds u.taken y) (sym is) has)).0
+        below y has = (l.taken h.place y (subst (λ (u : Hand T). HoldsPart u.taken y) (sym is) has)).0
 
         same_put : (c : ℕ) → (but whole h.place (record h { taken = (l.gone, x) ∷ h.taken }) c).put ≡ (whole c).put
         same_put c = dite (ℕ_discrete c h.place)
@@ -159,10 +159,10 @@ module _ {T : Type 0} where
 
     -- what it put lies below the number that comes next
     pub put_below : AreBelow (length l.all) h.put
-    put_below y has = at_lt l.all y.0 y.1 (l.put h.place y (subst (λ (u : Hand T). Holds u.put y) (sym is) has)).0
+    put_below y has = at_lt l.all y.0 y.1 (l.put h.place y (subst (λ (u : Hand T). HoldsPart u.put y) (sym is) has)).0
 
     pub taken_below : AreBelow l.gone h.taken
-    taken_below y has = (l.taken h.place y (subst (λ (u : Hand T). Holds u.taken y) (sym is) has)).0
+    taken_below y has = (l.taken h.place y (subst (λ (u : Hand T). HoldsPart u.taken y) (sym is) has)).0
 
   pub puts : (n pass : ℕ) (v : List (Hand T)) (x : T) → HasHand v → Pushes IsInLine n pass v x (λ w. HasPut v x w)
   puts n pass [] x has items views lt r at = absurd has
@@ -185,11 +185,11 @@ module _ {T : Type 0} where
   -- what all hands of a pass come to
   pub closes : (pass : ℕ) (v : List (Hand T)) → Learns IsInLine pass v (λ items. EndsLine v items)
   closes pass v items views r at = let l : Line items r.whole = r.lawful in let c = r.carried pass v at in
-      let put_at : (h : Hand T) (k : ℕ) (x : T) → Holds v h → Holds h.put (k, x) → At l.all k x × (l.put_by k ≡ h.place) =
-      λ h k x has there. l.put h.place (k, x) (subst (λ (u : Hand T). Holds u.put (k, x)) (sym (c.1 h has).1) there) in
-      let taken_at : (h : Hand T) (k : ℕ) (x : T) → Holds v h → Holds h.taken (k, x) → (k < l.gone) × At l.all k x × (l.taken_by k ≡ h.place) =
-      λ h k x has there. l.taken h.place (k, x) (subst (λ (u : Hand T). Holds u.taken (k, x)) (sym (c.1 h has).1) there) in
-      let same : (h j : Hand T) → Holds v h → Holds v j → h.place ≡ j.place → h ≡ j = λ h j a b e. sym (c.1 h a).1 ∙ ap r.whole e ∙ (c.1 j b).1 in record {
+      let put_at : (h : Hand T) (k : ℕ) (x : T) → HoldsPart v h → HoldsPart h.put (k, x) → At l.all k x × (l.put_by k ≡ h.place) =
+      λ h k x has there. l.put h.place (k, x) (subst (λ (u : Hand T). HoldsPart u.put (k, x)) (sym (c.1 h has).1) there) in
+      let taken_at : (h : Hand T) (k : ℕ) (x : T) → HoldsPart v h → HoldsPart h.taken (k, x) → (k < l.gone) × At l.all k x × (l.taken_by k ≡ h.place) =
+      λ h k x has there. l.taken h.place (k, x) (subst (λ (u : Hand T). HoldsPart u.taken (k, x)) (sym (c.1 h has).1) there) in
+      let same : (h j : Hand T) → HoldsPart v h → HoldsPart v j → h.place ≡ j.place → h ≡ j = λ h j a b e. sym (c.1 h a).1 ∙ ap r.whole e ∙ (c.1 j b).1 in record {
         all = l.all;
         gone = l.gone;
         left = l.left;
@@ -199,9 +199,9 @@ module _ {T : Type 0} where
         taken_once = λ h j k x y a b p q. let o = taken_at h k x a p in let o' = taken_at j k y b q in (same h j a b (sym o.2 ∙ o'.2), at_same l.all k x y o.1 o'.1);
         falls = λ h has. subst (λ (u : Hand T). Fall u.put × Fall u.taken) (c.1 h has).1 (l.falls h.place);
         was_put = λ k x a all. let f = all (l.put_by k) (l.few_put k (at_lt l.all k x a)) in
-            (f.0, f.1, subst (λ (u : Hand T). Holds u.put (k, x)) (ap r.whole (sym f.2) ∙ (c.1 f.0 f.1).1) (l.was_put k x a));
+            (f.0, f.1, subst (λ (u : Hand T). HoldsPart u.put (k, x)) (ap r.whole (sym f.2) ∙ (c.1 f.0 f.1).1) (l.was_put k x a));
         was_taken = λ k x lt a all. let f = all (l.taken_by k) (l.few_taken k lt) in
-            (f.0, f.1, subst (λ (u : Hand T). Holds u.taken (k, x)) (ap r.whole (sym f.2) ∙ (c.1 f.0 f.1).1) (l.was_taken k x lt a));
+            (f.0, f.1, subst (λ (u : Hand T). HoldsPart u.taken (k, x)) (ap r.whole (sym f.2) ∙ (c.1 f.0 f.1).1) (l.was_taken k x lt a));
       }
 
   pub forks : (pass : ℕ) (v : List (Hand T)) → Forks IsInLine pass v (lone_of v) (rest_of v)
@@ -211,11 +211,11 @@ module _ {T : Type 0} where
   merges pass v other w items views r at apart at' = joins place_of Line items views r pass v other w at apart at'
 
 module _ (T : Type 0) where
-  has_from : (k n : ℕ) (h : Hand T) → Holds (hands_from k n) h → (k < suc h.place) × (empty_hand h.place ≡ h)
+  has_from : (k n : ℕ) (h : Hand T) → HoldsPart (hands_from k n) h → (k < suc h.place) × (empty_hand h.place ≡ h)
   has_from k zero h has = absurd has
   has_from k (suc n) h has = ⊎_elim
       (λ (e : empty_hand k ≡ h). subst (λ (q : Hand T). (k < suc q.place) × (empty_hand q.place ≡ q)) e (omega arith, refl))
-      (λ (t : Holds (hands_from (suc k) n) h). let r = has_from (suc k) n h t in let a = r.0 in (omega arith, r.1))
+      (λ (t : HoldsPart (hands_from (suc k) n) h). let r = has_from (suc k) n h t in let a = r.0 in (omega arith, r.1))
       has
 
   apart_from : (k n : ℕ) → AreApart (place_of {T = T}) (hands_from k n)

@@ -1,6 +1,6 @@
 -- The line of all that was ever put: who put what at which number, and who took it.
 use Rattle.std.specs.Prelude.{◌≡◌, ℕ, zero, suc, ◌<◌, ◌≤◌, List, [], ◌∷◌, length, drop}
-use Rattle.handoff.specs.Book.{Holds, IsBooked}
+use Rattle.handoff.specs.Book.{HoldsPart, IsBooked}
 use Rattle.handoff.specs.declared.hand.Hand.{Hand}
 use Rattle.handoff.specs.Hands.{place_of}
 
@@ -13,7 +13,7 @@ module _ {T : Type 0} where
 
   -- the number of each of these is below n; and they fall
   abbrev pub AreBelow : ℕ → List (ℕ × T) → Type 0
-  AreBelow n xs = (x : ℕ × T) → Holds xs x → x.0 < n
+  AreBelow n xs = (x : ℕ × T) → HoldsPart xs x → x.0 < n
 
   abbrev pub Fall : List (ℕ × T) → Type 0
   Fall [] = Unit {0}
@@ -27,10 +27,10 @@ module _ {T : Type 0} where
     pub left : items ≡ drop gone all
     pub put_by : ℕ → ℕ
     pub taken_by : ℕ → ℕ
-    pub put : (c : ℕ) (x : ℕ × T) → Holds (whole c).put x → At all x.0 x.1 × (put_by x.0 ≡ c)
-    pub was_put : (k : ℕ) (x : T) → At all k x → Holds (whole (put_by k)).put (k, x)
-    pub taken : (c : ℕ) (x : ℕ × T) → Holds (whole c).taken x → (x.0 < gone) × At all x.0 x.1 × (taken_by x.0 ≡ c)
-    pub was_taken : (k : ℕ) (x : T) → k < gone → At all k x → Holds (whole (taken_by k)).taken (k, x)
+    pub put : (c : ℕ) (x : ℕ × T) → HoldsPart (whole c).put x → At all x.0 x.1 × (put_by x.0 ≡ c)
+    pub was_put : (k : ℕ) (x : T) → At all k x → HoldsPart (whole (put_by k)).put (k, x)
+    pub taken : (c : ℕ) (x : ℕ × T) → HoldsPart (whole c).taken x → (x.0 < gone) × At all x.0 x.1 × (taken_by x.0 ≡ c)
+    pub was_taken : (k : ℕ) (x : T) → k < gone → At all k x → HoldsPart (whole (taken_by k)).taken (k, x)
     pub falls : (c : ℕ) → Fall (whole c).put × Fall (whole c).taken
     pub few_put : (k : ℕ) → k < length all → put_by k < 17
     pub few_taken : (k : ℕ) → k < gone → taken_by k < 17
@@ -51,14 +51,14 @@ module _ {T : Type 0} where
 
   -- what one of these hands put, or took
   abbrev pub IsPutBy : List (Hand T) → ℕ → T → Type 0
-  IsPutBy hs k x = (h : Hand T) × Holds hs h × Holds h.put (k, x)
+  IsPutBy hs k x = (h : Hand T) × HoldsPart hs h × HoldsPart h.put (k, x)
 
   abbrev pub IsTakenBy : List (Hand T) → ℕ → T → Type 0
-  IsTakenBy hs k x = (h : Hand T) × Holds hs h × Holds h.taken (k, x)
+  IsTakenBy hs k x = (h : Hand T) × HoldsPart hs h × HoldsPart h.taken (k, x)
 
   -- there is one of each place
   abbrev pub HasAll : List (Hand T) → Type 0
-  HasAll hs = (c : ℕ) → c < 17 → (h : Hand T) × Holds hs h × (h.place ≡ c)
+  HasAll hs = (c : ℕ) → c < 17 → (h : Hand T) × HoldsPart hs h × (h.place ≡ c)
 
   -- the pass carries a hand of its own, of one of the places
   abbrev pub HasHand : List (Hand T) → Type 0
@@ -72,9 +72,9 @@ module _ {T : Type 0} where
     pub left : items ≡ drop gone all
     pub put : (k : ℕ) (x : T) → IsPutBy hs k x → At all k x
     pub taken : (k : ℕ) (x : T) → IsTakenBy hs k x → (k < gone) × At all k x
-    pub put_once : (h j : Hand T) (k : ℕ) (x y : T) → Holds hs h → Holds hs j → Holds h.put (k, x) → Holds j.put (k, y) → (h ≡ j) × (x ≡ y)
-    pub taken_once : (h j : Hand T) (k : ℕ) (x y : T) → Holds hs h → Holds hs j → Holds h.taken (k, x) → Holds j.taken (k, y) → (h ≡ j) × (x ≡ y)
-    pub falls : (h : Hand T) → Holds hs h → Fall h.put × Fall h.taken
+    pub put_once : (h j : Hand T) (k : ℕ) (x y : T) → HoldsPart hs h → HoldsPart hs j → HoldsPart h.put (k, x) → HoldsPart j.put (k, y) → (h ≡ j) × (x ≡ y)
+    pub taken_once : (h j : Hand T) (k : ℕ) (x y : T) → HoldsPart hs h → HoldsPart hs j → HoldsPart h.taken (k, x) → HoldsPart j.taken (k, y) → (h ≡ j) × (x ≡ y)
+    pub falls : (h : Hand T) → HoldsPart hs h → Fall h.put × Fall h.taken
     -- where all places are among them, nothing was lost
     pub was_put : (k : ℕ) (x : T) → At all k x → HasAll hs → IsPutBy hs k x
     pub was_taken : (k : ℕ) (x : T) → k < gone → At all k x → HasAll hs → IsTakenBy hs k x

@@ -7,11 +7,8 @@ ghost use Rattle.area_commit.specs.graph_change.View.{new_length};
 ghost use Rattle.area_commit.specs.tree_blocks.FileBlock.{is_cut_off};
 ghost use Rattle.inode_plan.specs.MapChange.{IsCutBy};
 
-use area_commit::{BLOCK, BlockMap, NodeLength};
+use area_commit::{BLOCK, BlockMap, FILE_BLOCKS, NodeLength};
 use std::alloc::AllocError;
-
-/// How many blocks a file has at most.
-pub const FILE_BLOCKS: u32 = 256;
 
 // How many blocks begin before an end.
 fn blocks_before(end: u64) -> u64

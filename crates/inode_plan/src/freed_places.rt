@@ -14,9 +14,9 @@ ghost use Rattle.area_commit.specs.Release.{AreUsed, IsInUse};
 ghost use Rattle.inode_plan.specs.BlockWrites.{AreNumbers};
 ghost use Rattle.inode_plan.specs.MapChange.{AreLeft, AreAll, places_below};
 
-use crate::file_cut::{FILE_BLOCKS, first_cut};
+use crate::file_cut::first_cut;
 use crate::places_in;
-use area_commit::{BlockMap, NodeChange, Run, Tier};
+use area_commit::{BlockMap, FILE_BLOCKS, NodeChange, Run, Tier};
 use std::alloc::{AllocError, Global};
 
 // Adds the place of a block, where it is less than a number and lies in the tier.

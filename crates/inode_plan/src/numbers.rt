@@ -12,8 +12,7 @@ ghost use Rattle.area_commit.specs.extent_tree.Map.{lies_at, LieBelow};
 ghost use Rattle.area_commit.specs.InodeChange.{is_mapped, writes_over};
 ghost use Rattle.inode_plan.specs.BlockWrites.{AreNumbers, AreKeys, Rise, HasOneMore};
 
-use crate::file_cut::FILE_BLOCKS;
-use area_commit::{BLOCK, BlockChange, BlockMap, NodeChange, NodeLength};
+use area_commit::{BLOCK, BlockChange, BlockMap, FILE_BLOCKS, NodeChange, NodeLength};
 use std::alloc::{AllocError, Global};
 use std::collections::BTreeMap;
 

@@ -9,12 +9,12 @@ use Rattle.world_invariant.specs.LeaseSteps.{also, without}
 use Rattle.world_invariant.specs.Machine.{Sealed, IsRunning, account_after}
 use Rattle.world_invariant.specs.World.{Account, at}
 use Rattle.world_invariant.proofs.Machines.{accepted_runs, digested_runs, pin_booked_runs, pin_unbooked_runs, buried_runs, reclaimed_runs}
-use Rattle.kernel_fs.specs.Run.{Entry, Refill, GiveBack, Pin, Unpin, Bury, Accept, Digest, Reclaim, RunState, MayTake, Stands, LeadsBy, IsRun, generation_accepted_last, after_entry, generation_after}
+use Rattle.kernel_fs.specs.Run.{Entry, Refill, GiveBack, Pin, Unpin, Bury, Accept, Digest, Reclaim, RunState, MayTake, StandsInMachine, LeadsBy, IsRun, generation_accepted_last, after_entry, generation_after}
 use Rattle.kernel_fs.proofs.BookSteps.{same_mark}
 use Rattle.kernel_fs.proofs.Machines.{grant_runs, take_back_runs}
 use Rattle.kernel_fs.proofs.MarksGo.{none_in}
 
-one_entry : (r : RunState) (e : Entry) → IsRunning r.machine → MayTake r e → Stands r.machine e → IsRunning (after_entry r e).machine
+one_entry : (r : RunState) (e : Entry) → IsRunning r.machine → MayTake r e → StandsInMachine r.machine e → IsRunning (after_entry r e).machine
 one_entry r (Refill c units numbers) runs may stands = grant_runs r.machine runs c may.0 units numbers may.1 may.2
 one_entry r (GiveBack c units numbers) runs may stands = take_back_runs r.machine runs c may units numbers
 one_entry r (Pin c i) runs may stands = pin_booked_runs r.machine runs c may i
@@ -24,11 +24,11 @@ one_entry r (Accept c g s) runs may stands = accepted_runs r.machine runs c may.
 one_entry r (Digest c g s first rest) runs may stands = digested_runs r.machine runs c s first rest stands may.0
 one_entry r (Reclaim i) runs may stands = reclaimed_runs r.machine i runs may
 
-pub run_holds : (first : RunState) (es : List Entry) (last : RunState) → IsRunning first.machine → LeadsBy (λ r e. MayTake r e × Stands r.machine e) first es last → IsRunning last.machine
+pub run_holds : (first : RunState) (es : List Entry) (last : RunState) → IsRunning first.machine → LeadsBy (λ r e. MayTake r e × StandsInMachine r.machine e) first es last → IsRunning last.machine
 run_holds first [] last runs leads = subst (λ (r : RunState). IsRunning r.machine) (sym leads) runs
 run_holds first (e ∷ es) last runs leads = subst (λ (r : RunState). IsRunning r.machine) (sym leads.3) (one_entry leads.0 e (run_holds first es leads.0 runs leads.1) leads.2.0 leads.2.1)
 
-pub run_is : (first : RunState) (es : List Entry) (last : RunState) → LeadsBy (λ r e. MayTake r e × Stands r.machine e) first es last → IsRun first es last
+pub run_is : (first : RunState) (es : List Entry) (last : RunState) → LeadsBy (λ r e. MayTake r e × StandsInMachine r.machine e) first es last → IsRun first es last
 run_is first [] last leads = leads
 run_is first (e ∷ es) last leads = (leads.0, run_is first es leads.0 leads.1, leads.2.0, leads.3)
 

@@ -14,7 +14,7 @@ opened_run g s marks = record { machine = opened_machine (graph g s) g.units mar
 
 -- These entries lead from the opening over the media, where so many records of each client were ever digested, to a state whose machine the kernel stands for, and whose generations the marks of its media
 -- name. The last entry stands first.
-pub record Ends {M : Type 0} (device : Ghosts M) (k : KernelView M) (marks : ℕ → ℕ) : Type 0 where
+pub record EndsHistory {M : Type 0} (device : Ghosts M) (k : KernelView M) (marks : ℕ → ℕ) : Type 0 where
   pub entries : List Entry
   pub last : RunState
   pub run : IsRun (opened_run k.opening.geometry (disk device k.opening) marks) entries last
@@ -23,7 +23,7 @@ pub record Ends {M : Type 0} (device : Ghosts M) (k : KernelView M) (marks : ℕ
 
 -- Some run from the opening ends here, however many records were digested before it.
 abbrev pub HasRun : {M : Type 0} → Ghosts M → KernelView M → Type 0
-HasRun device k = (marks : ℕ → ℕ) → ∥ Ends device k marks ∥₁
+HasRun device k = (marks : ℕ → ℕ) → ∥ EndsHistory device k marks ∥₁
 
 -- One does where each mark stood before a region when the media were opened.
 abbrev pub EndsRun : {M : Type 0} → Ghosts M → KernelView M → Type 0

@@ -57,15 +57,15 @@ MayTake r (Digest c g s first rest) = CanDigestNext r.machine c s first rest × 
 MayTake r (Reclaim i) = CanReclaim r.machine.kernel i
 
 -- What is digested stands in the machine; of other entries nothing is asked.
-abbrev pub Stands : Machine → Entry → Type 0
-Stands m (Refill c units numbers) = Unit {0}
-Stands m (GiveBack c units numbers) = Unit {0}
-Stands m (Pin c i) = Unit {0}
-Stands m (Unpin c i) = Unit {0}
-Stands m (Bury c) = Unit {0}
-Stands m (Accept c g s) = Unit {0}
-Stands m (Digest c g s first rest) = StandsSealed m.kernel.shared (m.kernel.accounts c) s
-Stands m (Reclaim i) = Unit {0}
+abbrev pub StandsInMachine : Machine → Entry → Type 0
+StandsInMachine m (Refill c units numbers) = Unit {0}
+StandsInMachine m (GiveBack c units numbers) = Unit {0}
+StandsInMachine m (Pin c i) = Unit {0}
+StandsInMachine m (Unpin c i) = Unit {0}
+StandsInMachine m (Bury c) = Unit {0}
+StandsInMachine m (Accept c g s) = Unit {0}
+StandsInMachine m (Digest c g s first rest) = StandsSealed m.kernel.shared (m.kernel.accounts c) s
+StandsInMachine m (Reclaim i) = Unit {0}
 
 -- These entries, the last one first, lead from one state to the other, and each is so of the state that takes it.
 abbrev pub LeadsBy : (RunState → Entry → Type 0) → RunState → List Entry → RunState → Type 0

@@ -15,7 +15,7 @@ ghost use Rattle.kernel_fs.specs.Free.{count_of};
 ghost use Rattle.kernel_fs.specs.Inodes.{has, members};
 ghost use Rattle.kernel_fs.specs.Marks.{AreMarksAfter, AreMarksOf, IsWaiting};
 ghost use Rattle.kernel_fs.specs.Nodes.{AreNodes};
-ghost use Rattle.kernel_fs.specs.Run.{Entry, RunState, MayTake, Stands, LeadsBy, IsRun};
+ghost use Rattle.kernel_fs.specs.Run.{Entry, RunState, MayTake, StandsInMachine, LeadsBy, IsRun};
 ghost use Rattle.kernel_fs.specs.Steps.{book_numbers, grant, opened_machine, take_back, unbook_numbers};
 
 /// What a book tells of its machine: units fit there where they fit beside those that are out; a number may be granted there where it is free; and a file that has no name may
@@ -55,8 +55,8 @@ pub fn grants_keep_the_book()
 
 /// A run of the machine keeps what holds of it, where each region that is digested stands when it is; and a run in which each stands is a run.
 pub fn runs_keep_what_holds()
-    ensures runs { (first last : RunState) (es : List Entry) → IsRunning first.machine → LeadsBy (λ r e. MayTake r e × Stands r.machine e) first es last → IsRunning last.machine }
-    ensures is { (first last : RunState) (es : List Entry) → LeadsBy (λ r e. MayTake r e × Stands r.machine e) first es last → IsRun first es last }
+    ensures runs { (first last : RunState) (es : List Entry) → IsRunning first.machine → LeadsBy (λ r e. MayTake r e × StandsInMachine r.machine e) first es last → IsRunning last.machine }
+    ensures is { (first last : RunState) (es : List Entry) → LeadsBy (λ r e. MayTake r e × StandsInMachine r.machine e) first es last → IsRun first es last }
 {}
 
 /// The marks of the media go with the machine's: they are those of a machine that was opened over them, where each stands before a region; they stay where a region is accepted; and those after a digest are

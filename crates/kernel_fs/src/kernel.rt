@@ -154,7 +154,7 @@ impl<M: Media> Kernel<M> {
     /// Whether each mark stood before a region as the kernel was opened. Where they did, the kernel stands at the end of a run of its machine, from the one that was opened over the media as they were then. An entry that
     /// accepts or digests names its region, by client and generation, and may be taken only while that client's mark names it. The run is a fact of the value: no list of entries is kept, and nothing grows with them.
     /// It makes no device call.
-    pub fn history(&self) -> bool
+    pub fn has_history(&self) -> bool
         ensures before { IsTrue result ↔ StandBeforeRegions (disk M.Media self.now.opening) }
         ensures run { IsTrue result → self.now.area.failed ≡ false → HasRun M.Media self.now }
     {
@@ -422,8 +422,8 @@ impl<M: Media> Kernel<M> {
     }
 
     /// Picks what is to be moved to a tier next: of the files with a block in the tier next above it the one with the least touch number, of several the one with the least inode, with its first run there, of 256
-    /// blocks at most. `None` where no file has a block there, and for the fast tier. Changes nothing; reads the slot and the extents of each inode. Refused: `DeviceFault`, and `Memory` where there was none for an
-    /// extent block.
+    /// blocks at most. `None` where no file has a block there, and for the fast tier. Changes nothing; reads the slots of all inodes and the extents of some, as `migrator::pick` says. Refused: `Failed` exactly where a
+    /// device of the kernel had failed before, `DeviceFault` where one fails now, `Memory` where there was none for an extent block.
     pub fn pick(&mut self, to: Tier) -> Result<Option<FileRun>, KernelError<AreaError>>
         ensures picked { IfOk result (IsPicked self.old.area.geometry (disk M.Media self.old.area) to) }
         ensures may_be_moved { IfOk result (λ x. IfSome x (MayBeMoved self.old.area.geometry (disk M.Media self.old.area) to)) }

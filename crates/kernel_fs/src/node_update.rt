@@ -3,7 +3,7 @@
 ghost use Rattle.std.specs.Prelude.{◌≡◌, ℕ};
 ghost use Rattle.std.specs.List.{AllByRecursion};
 ghost use Rattle.digester.specs.file_graph.Graph.{Graph, after_effect, after_effects};
-ghost use Rattle.digester.specs.log_record.Grammar.{Fits, IsRecord};
+ghost use Rattle.digester.specs.log_record.Grammar.{FitsLimits, IsRecord};
 ghost use Rattle.world_invariant.specs.Logs.{after_records};
 ghost use Rattle.kernel_fs.specs.Inodes.{has};
 ghost use Rattle.kernel_fs.specs.Nodes.{AreNodes};
@@ -24,7 +24,7 @@ impl InodeSet {
 
     // The same of effects.
     fn follow_effects(&mut self, effects: &[Effect])
-        requires { AllByRecursion Fits effects.now }
+        requires { AllByRecursion FitsLimits effects.now }
         ensures { (g : Graph) → AreNodes g (has self.old) → AreNodes (after_effects g effects.now) (has self.new) }
     {
         'effects: for effect in effects {
@@ -34,7 +34,7 @@ impl InodeSet {
 
     // Of one effect: a Make puts its inode in, and a Drop takes it out.
     fn follow_effect(&mut self, effect: &Effect)
-        requires { Fits effect.now }
+        requires { FitsLimits effect.now }
         ensures { (g : Graph) → AreNodes g (has self.old) → AreNodes (after_effect g effect.now) (has self.new) }
     {
         match effect {

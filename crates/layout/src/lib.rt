@@ -40,9 +40,9 @@ pub use laws::{
 pub use marks::{CLIENTS, Mark, Marks};
 pub use numbers::{format_has_its_bytes, format_has_its_limits, format_has_its_places};
 pub use places::{
-    BLOCK, FIRST_IMAGE_BLOCK, FIRST_NODE_BLOCK, FIRST_SLOT_BLOCK, GATE_BLOCK, HEAD_BLOCK,
-    MARKS_BLOCK, MAX_DATA_BLOCKS, MAX_IMAGES, MAX_UNITS, MIN_UNITS, SLOT_SIZE, SLOTS_IN_BLOCK,
-    SUPER_BLOCK, slot_block, slot_byte,
+    BLOCK, FILE_BLOCKS, FIRST_IMAGE_BLOCK, FIRST_NODE_BLOCK, FIRST_SLOT_BLOCK, GATE_BLOCK,
+    HEAD_BLOCK, MARKS_BLOCK, MAX_DATA_BLOCKS, MAX_IMAGES, MAX_UNITS, MIN_UNITS, SLOT_SIZE,
+    SLOTS_IN_BLOCK, SUPER_BLOCK, slot_block, slot_byte,
 };
 pub use slot::Slot;
 pub use superblock::Super;

@@ -9,7 +9,7 @@ use Rattle.lease_manager.specs.declared.view.LeaseMode.{LeaseMode}
 use Rattle.lease_manager.specs.declared.view.LeaseMode.TheVariants.{Free}
 use Rattle.lease_manager.specs.declared.view.Part.{Part}
 use Rattle.lease_manager.specs.Marks.{read_mark, write_mark, is_lease, Shows}
-use Rattle.lease_manager.specs.Book.{Holds, AreApart, Carries}
+use Rattle.lease_manager.specs.Book.{HoldsPart, AreApart, Carries}
 use Rattle.lease_manager.specs.Parts.{place_of, mode_at, blank, blanks}
 use Rattle.lease_manager.specs.Law.{IsRuled}
 use Rattle.lease_manager.specs.Passes.{places}
@@ -50,11 +50,11 @@ abbrev from : ℕ → ℕ → List Part
 from k zero = []
 from k (suc n) = blank k ∷ from (suc k) n
 
-has_from : (k n : ℕ) (p : Part) → Holds (from k n) p → (k < suc p.place) × (blank p.place ≡ p)
+has_from : (k n : ℕ) (p : Part) → HoldsPart (from k n) p → (k < suc p.place) × (blank p.place ≡ p)
 has_from k zero p h = absurd h
 has_from k (suc n) p h = ⊎_elim
     (λ (e : blank k ≡ p). subst (λ (q : Part). (k < suc q.place) × (blank q.place ≡ q)) e (omega arith, refl))
-    (λ (t : Holds (from (suc k) n) p). let r = has_from (suc k) n p t in let a = r.0 in (omega arith, r.1))
+    (λ (t : HoldsPart (from (suc k) n) p). let r = has_from (suc k) n p t in let a = r.0 in (omega arith, r.1))
     h
 
 apart_from : (k n : ℕ) → AreApart place_of (from k n)

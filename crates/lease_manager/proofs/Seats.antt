@@ -4,7 +4,7 @@ use mathlib.Core.Option.{none}
 use Rattle.atomic_table.specs.Table.{step, keeps, stepped, Allows, Splits, Joins}
 use Rattle.lease_manager.specs.declared.view.Part.{Part}
 use Rattle.lease_manager.specs.Marks.{is_lease}
-use Rattle.lease_manager.specs.Book.{Holds, AreApart}
+use Rattle.lease_manager.specs.Book.{HoldsPart, AreApart}
 use Rattle.lease_manager.specs.Parts.{place_of, mode_at, first_part, other_parts}
 use Rattle.lease_manager.specs.Law.{TableState, SeatState, Law, IsRuled}
 use Rattle.lease_manager.specs.Plays.{AllCompatible, Met}
@@ -26,7 +26,7 @@ pub joins_together : (id : ℕ) (v : List Part) (other : ℕ) (w : List Part) �
 joins_together id v other w = joins place_of Law id v other w
 
 -- clients on one seat are compatible
-compatible : (s : TableState) (r : IsRuled s) (v : List Part) → AreApart place_of v → ((p : Part) → Holds v p → r.whole p.place ≡ p) → AllCompatible v
+compatible : (s : TableState) (r : IsRuled s) (v : List Part) → AreApart place_of v → ((p : Part) → HoldsPart v p → r.whole p.place ≡ p) → AllCompatible v
 compatible s r [] apart whole = tt
 compatible s r (p ∷ ps) apart whole = (
   (λ q has small small'. let a = whole p (inl refl) in let b = whole q (inr has) in let ne = apart.0 q has in (

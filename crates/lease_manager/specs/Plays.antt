@@ -5,7 +5,7 @@ use Rattle.lease_manager.specs.declared.view.LeaseMode.TheVariants.{Reading, Wri
 use Rattle.lease_manager.specs.declared.view.Event.TheVariants.{Refused, Looked, Asked, Heard}
 use Rattle.lease_manager.specs.declared.view.Part.{Part}
 use Rattle.lease_manager.specs.Marks.{ShowsOther, ShowsWriter, ShowsOwn}
-use Rattle.lease_manager.specs.Book.{Holds}
+use Rattle.lease_manager.specs.Book.{HoldsPart}
 use Rattle.lease_manager.specs.Parts.{mode_at, put_mode, put_event, put_lease, put_free, own_part, other_parts, AreCompatible, Continues, FindsUnheard, ShareHistory}
 use Rattle.lease_manager.specs.Law.{SeatState}
 
@@ -48,8 +48,8 @@ Listened st me found me' = (me' ≡ with_own me (put_event (own_part me.0) (Look
 -- any two of these parts that are clients' are compatible
 abbrev pub AllCompatible : List Part → Type 0
 AllCompatible [] = Unit {0}
-AllCompatible (p ∷ ps) = ((q : Part) → Holds ps q → p.place < 8 → q.place < 8 → AreCompatible p q) × AllCompatible ps
+AllCompatible (p ∷ ps) = ((q : Part) → HoldsPart ps q → p.place < 8 → q.place < 8 → AreCompatible p q) × AllCompatible ps
 
 -- nothing changed, and the clients on this seat are compatible and have one history
 abbrev pub Met : Step (Unit {0}) → SeatState → ℕ → SeatState → Type 0
-Met st me found me' = (me' ≡ me) × AllCompatible me.0 × ShareHistory (Holds me.0)
+Met st me found me' = (me' ≡ me) × AllCompatible me.0 × ShareHistory (HoldsPart me.0)

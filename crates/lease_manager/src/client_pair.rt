@@ -1,6 +1,6 @@
 // Two clients meet.
 ghost use Rattle.std.specs.Prelude.{◌≡◌, [], ◌∷◌};
-ghost use Rattle.lease_manager.specs.Book.{Holds};
+ghost use Rattle.lease_manager.specs.Book.{HoldsPart};
 ghost use Rattle.lease_manager.specs.Parts.{AreCompatible, ShareHistory};
 
 use crate::pass::Pass;
@@ -17,7 +17,7 @@ impl Leases {
         requires other { other.old.table ≡ self.now }
         ensures same { (one.new ≡ one.old) × (other.new ≡ other.old) }
         ensures leases { AreCompatible one.old.part other.old.part }
-        ensures history { ShareHistory (Holds (one.old.part ∷ other.old.part ∷ [])) }
+        ensures history { ShareHistory (HoldsPart (one.old.part ∷ other.old.part ∷ [])) }
     {
         let shared = self.words();
         let aside = shared.split_seat::<Aside>(&mut one.seat);

@@ -2,7 +2,7 @@
 ghost use Rattle.std.specs.Prelude.{◌≡◌, ◌+◌, ◌≤◌, ◌<◌, ◌^◌, ℕ, true, length};
 ghost use Rattle.std.specs.List.{AllByRecursion};
 ghost use Rattle.log_record.specs.file_graph.Graph.{is_among, touches};
-ghost use Rattle.log_record.specs.Grammar.{Fits, IsRecord};
+ghost use Rattle.log_record.specs.Grammar.{FitsLimits, IsRecord};
 ghost use Rattle.lease_manager.specs.declared.view.LeaseMode.TheVariants.{Writing};
 ghost use Rattle.lease_manager.specs.Words.{HasWord};
 ghost use Rattle.lease_manager.specs.Passes.{lease_of, records_of};
@@ -14,7 +14,7 @@ use log_record::{Effect, Record};
 /// Counts a record with these effects.
 pub fn note_effects(leases: &Leases, pass: &mut Pass, effects: &[Effect])
     requires table { pass.old.table ≡ leases.now }
-    requires fit { AllByRecursion Fits effects.now }
+    requires fit { AllByRecursion FitsLimits effects.now }
     requires held { (i : ℕ) → is_touched effects.now i ≡ true → lease_of pass.old i ≡ Writing }
     requires room { (i : ℕ) → HasWord i → records_of pass.old i + 1 < 2 ^ 64 }
     ensures { HasNoted pass.old effects.now pass.new }
@@ -32,7 +32,7 @@ pub fn note_effects(leases: &Leases, pass: &mut Pass, effects: &[Effect])
 /// Counts a record with these effects no longer.
 pub fn clean_effects(leases: &Leases, pass: &mut Pass, effects: &[Effect])
     requires table { pass.old.table ≡ leases.now }
-    requires fit { AllByRecursion Fits effects.now }
+    requires fit { AllByRecursion FitsLimits effects.now }
     requires there { (i : ℕ) → HasWord i → one_if (is_touched effects.now i) ≤ records_of pass.old i }
     ensures { HasUncounted pass.old effects.now pass.new }
 {

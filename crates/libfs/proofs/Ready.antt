@@ -23,7 +23,7 @@ use Rattle.client_view.specs.client_plan.declared.plain_writes.PlainWrite.{Plain
 use Rattle.client_view.specs.client_plan.Holdings.{Holdings}
 use Rattle.client_view.specs.client_plan.PlainWrite.{IsPlainWrite, write_logged, written_by}
 use Rattle.client_view.specs.client_plan.CallPlan.{outcome, OpensInRange, change_in}
-use Rattle.client_view.specs.client_plan.Steps.{IsOf, IsReady}
+use Rattle.client_view.specs.client_plan.Steps.{AreHoldingsOf, IsReady}
 use Rattle.lease_manager.specs.declared.view.LeaseMode.{LeaseMode}
 use Rattle.lease_manager.specs.declared.view.LeaseMode.TheVariants.{Free, Reading, Writing, Trying}
 use Rattle.lease_manager.specs.Words.{HasWord}
@@ -39,7 +39,7 @@ use Rattle.libfs.specs.CallStart.{IsReadyToBegin, MayGoOn}
 use Rattle.libfs.proofs.Kept.{known_still}
 
 -- what a client has is of what it knows
-pub has_of : {M : Type 0} (device : Ghosts M) (v : ClientView M) → IsOf (known_to v) (holdings_of device v)
+pub has_of : {M : Type 0} (device : Ghosts M) (v : ClientView M) → AreHoldingsOf (known_to v) (holdings_of device v)
 has_of device v = record { own = refl; numbers = λ i is. is }
 
 -- what is known, or made, is known once the number of the node that is made is used
@@ -51,8 +51,8 @@ known_or_made k made i (inr is) =
 
 -- so what a call comes to may be begun, if it comes to a record
 pub may_go_on : {M : Type 0} (device : Ghosts M) (v : ClientView M) (call : Call) (o : Outcome) → o ≡ outcome_for device v call → ForSome (change_in o) OpensInRange
-    → ((k : Knowledge) (h : Holdings) (c : Call) (change : Record) (reply : Reply) (made : Option ℕ) (descriptor : Option DescriptorChange) → IsOf k h → outcome (part_of k) h c ≡ outcomes.Log change reply made descriptor → IsReady k h c change reply made descriptor)
-    → ((k : Knowledge) (h : Holdings) (c : Call) (entry : Record) (reply : Reply) (made : Option ℕ) (change : Option DescriptorChange) → IsOf k h → outcome (part_of k) h c ≡ outcomes.Log entry reply made change → ForSome made (λ n. is_inode n ≡ true))
+    → ((k : Knowledge) (h : Holdings) (c : Call) (change : Record) (reply : Reply) (made : Option ℕ) (descriptor : Option DescriptorChange) → AreHoldingsOf k h → outcome (part_of k) h c ≡ outcomes.Log change reply made descriptor → IsReady k h c change reply made descriptor)
+    → ((k : Knowledge) (h : Holdings) (c : Call) (entry : Record) (reply : Reply) (made : Option ℕ) (change : Option DescriptorChange) → AreHoldingsOf k h → outcome (part_of k) h c ≡ outcomes.Log entry reply made change → ForSome made (λ n. is_inode n ≡ true))
     → MayGoOn device v o
 may_go_on device v call (outcomes.Reply reply change) is number ready makes = number
 may_go_on device v call (outcomes.Need need) is number ready makes = tt
@@ -80,8 +80,8 @@ module _ {M : Type 0} (device : Ghosts M) (v : ClientView M) (number at : ℕ) (
 
   -- and its record may be begun
   pub plain_ready : outcome_for device v (Pwrite number at bytes) ≡ write_logged w at bytes
-      → ((k : Knowledge) (h : Holdings) (c : Call) (change : Record) (reply : Reply) (made : Option ℕ) (descriptor : Option DescriptorChange) → IsOf k h → outcome (part_of k) h c ≡ outcomes.Log change reply made descriptor → IsReady k h c change reply made descriptor)
-      → ((k : Knowledge) (h : Holdings) (c : Call) (entry : Record) (reply : Reply) (made : Option ℕ) (change : Option DescriptorChange) → IsOf k h → outcome (part_of k) h c ≡ outcomes.Log entry reply made change → ForSome made (λ n. is_inode n ≡ true))
+      → ((k : Knowledge) (h : Holdings) (c : Call) (change : Record) (reply : Reply) (made : Option ℕ) (descriptor : Option DescriptorChange) → AreHoldingsOf k h → outcome (part_of k) h c ≡ outcomes.Log change reply made descriptor → IsReady k h c change reply made descriptor)
+      → ((k : Knowledge) (h : Holdings) (c : Call) (entry : Record) (reply : Reply) (made : Option ℕ) (change : Option DescriptorChange) → AreHoldingsOf k h → outcome (part_of k) h c ≡ outcomes.Log entry reply made change → ForSome made (λ n. is_inode n ≡ true))
       → IsReadyToBegin device v (written_by w at bytes) None None
   plain_ready logged ready makes = may_go_on device v (Pwrite number at bytes) (write_logged w at bytes) (sym logged) (λ x e. absurd (cc)) ready makes
 

@@ -1,5 +1,5 @@
 -- What a client has once the kernel served it.
-use Rattle.std.specs.Prelude.{◌≡◌, ◌≢◌, ◌⊎◌, ℕ, ◌+◌, ◌<◌, ◌≤◌, ◌==◌, ◌&&◌, ◌||◌, ◌++◌, not, drop, min, take, length, get_or, Bool, false, List, [], ◌∷◌, Option, Some, None, Result, Ok, Err, IsSome, OnErr, if◌then◌else◌}
+use Rattle.std.specs.Prelude.{◌≡◌, ◌≢◌, ◌⊎◌, ℕ, ◌+◌, ◌<◌, ◌≤◌, ◌==◌, ◌&&◌, ◌||◌, ◌++◌, not, drop, min, take, length, get_or, Bool, true, false, List, [], ◌∷◌, Option, Some, None, Result, Ok, Err, IsSome, OnErr, if◌then◌else◌}
 use Rattle.std.specs.List.{filter}
 use Rattle.client_log.specs.tier_device.declared.media.Media.{Ghosts}
 use Rattle.lease_manager.specs.posix_calls.Content.{with_length}
@@ -190,6 +190,17 @@ pub record HasGivenBack {M S : Type 0} (device : Ghosts S) (k : KernelView S) (o
   pub out : out_of after.book + min old.spare (units_of k.book (client_of old.pass)) ≡ out_of k.book
 
 -- ---- any need
+
+-- the inode of which it asks for a copy
+abbrev pub copy_needed : Need → Option ℕ
+copy_needed (needs.View i) = Some i
+copy_needed _ = None
+
+-- whether the kernel only reads for it
+abbrev pub is_read : Need → Bool
+is_read (needs.View i) = true
+is_read (needs.Blocks i first count) = true
+is_read _ = false
 
 -- how many units it asks for, and how many numbers
 abbrev pub units_needed : Need → ℕ

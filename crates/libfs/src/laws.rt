@@ -18,7 +18,7 @@ ghost use Rattle.client_view.specs.client_plan.declared.outcome.DescriptorChange
 ghost use Rattle.client_view.specs.client_plan.declared.outcome.Outcome.TheVariants as outcomes;
 ghost use Rattle.client_view.specs.client_plan.CallPlan.{own_changed};
 ghost use Rattle.client_view.specs.client_plan.NeedEffects.{longest_record};
-ghost use Rattle.client_view.specs.client_plan.Steps.{IsAnswered, IsOf, IsReady, IsRefused};
+ghost use Rattle.client_view.specs.client_plan.Steps.{IsAnswered, AreHoldingsOf, IsReady, IsRefused};
 ghost use Rattle.client_view.specs.block_cache.declared.blocks.TheConstants.{MOST_BLOCKS};
 ghost use Rattle.client_view.specs.AfterRecord.{knows_logged, with_change};
 ghost use Rattle.client_log.specs.Steps.{most_of};
@@ -45,7 +45,7 @@ use client_view::{
 /// one does, and with that the whole is sound and agrees with what the client knows as before. By what the client knows the call is refused, or comes to an operation without effects, and what that
 /// opens is pinned.
 pub fn answered_start_is_a_step<M: Media>()
-    ensures has { (v : ClientView M) → IsOf (known_to v) (holdings_of M.Media v) }
+    ensures has { (v : ClientView M) → AreHoldingsOf (known_to v) (holdings_of M.Media v) }
     ensures ready { (v : ClientView M) (call : Call) (reply : Reply) (change : Option DescriptorChange) → outcome_for M.Media v call ≡ outcomes.Reply reply change
         → IsRefused (known_to v) call reply change ⊎ IsAnswered (known_to v) (holdings_of M.Media v) call reply change }
     ensures sound { (v : ClientView M) (g : Graph) (held : Descriptors) (call : Call) (reply : Reply) (change : Option DescriptorChange) → IsSound g held → Agrees (known_to v) g held → outcome_for M.Media v call ≡ outcomes.Reply reply change

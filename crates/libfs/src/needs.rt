@@ -1,5 +1,5 @@
 //! What a call needs of the kernel, whichever it is.
-ghost use Rattle.std.specs.Prelude.{◌≡◌, ◌≢◌, ◌⊎◌, ◌<◌, ◌≤◌, ◌+◌, ◌^◌, ◌↔◌, true, false, OnErr, OnOk, IfErr, IsErrOf, IsTrue};
+ghost use Rattle.std.specs.Prelude.{◌≡◌, ◌≢◌, ◌⊎◌, ◌<◌, ◌≤◌, ◌+◌, ◌^◌, ◌↔◌, true, false, None, is_some, Ok, Err, OnErr, OnOk, IfErr, IfSome, IsErrOf, IsTrue};
 ghost use Rattle.lease_manager.specs.Passes.{lease_of};
 ghost use Rattle.lease_manager.specs.Words.{HasWord};
 ghost use Rattle.lease_manager.specs.declared.view.LeaseMode.TheVariants.{Free};
@@ -7,8 +7,11 @@ ghost use Rattle.lease_manager.specs.file_graph.Units.{charge};
 ghost use Rattle.kernel_fs.specs.Book.{is_free, out_of};
 ghost use Rattle.kernel_fs.specs.Free.{count_of};
 ghost use Rattle.kernel_fs.specs.Nodes.{nodes_in};
+ghost use Rattle.kernel_fs.specs.area_image.Map.{WantsMemory};
+ghost use Rattle.kernel_fs.specs.area_image.Store.{disk};
 ghost use Rattle.libfs.specs.declared.denial.Denied.TheVariants as denied;
-ghost use Rattle.libfs.specs.NeedService.{HasNotServed, HasServed, IsServable, LeavesKernel, MayBeDenied, inodes_needed, shared_by, units_needed};
+ghost use Rattle.libfs.specs.ClientHoldings.{known_to};
+ghost use Rattle.libfs.specs.NeedService.{HasNotServed, HasServed, IsServable, LeavesKernel, MayBeDenied, copy_needed, inodes_needed, is_read, shared_by, units_needed};
 
 use crate::client::Client;
 use crate::denial::Denied;
@@ -18,7 +21,7 @@ use kernel_fs::Kernel;
 use lease_manager::{LeaseMode, is_inode};
 
 impl<M: Media> Client<M> {
-    /// Has what a call needs served by the kernel: all but a lease, which a client takes by its own pass, and room in its region.
+    /// Has what a call needs served by the kernel: all but a lease, which a client takes by its own pass, and room in its region. Where a `View` asks for a copy that the client has, that stays, and the kernel reads nothing.
     ///
     /// Refused as `fetch`, `fetch_blocks`, `refill`, `pin` and `unpin` are: `KernelFailed` where a device of the kernel had failed before; `Device` where one fails now, as copies are read; `NoUnits`
     /// and `NoInode` where the book has no more; `Memory` where there was none. Nothing has changed then of the client but for blocks that had come; what is refused can be told to the call by `deny`.
@@ -31,12 +34,15 @@ impl<M: Media> Client<M> {
         ensures going { OnOk result (kernel.old.area.failed ≡ false) }
         ensures failed { IsErrOf result denied.KernelFailed → kernel.old.area.failed ≡ true }
         ensures untouched { kernel.old.area.failed ≡ true → (self.new ≡ self.old) × (kernel.new ≡ kernel.old) }
+        ensures read { kernel.old.area.failed ≡ true → is_read need.now ≡ true → result ≡ Err denied.KernelFailed }
         // A kernel that has failed tells just that, where there is memory.
         ensures stopped { kernel.old.area.failed ≡ true → IfErr result (λ e. (e ≡ denied.KernelFailed) ⊎ (e ≡ denied.Memory)) }
         ensures no_units { IsErrOf result denied.NoUnits → (kernel.old.area.failed ≡ false) × (kernel.old.area.geometry.units < charge (shared_by S.Media kernel.old) + out_of kernel.old.book + units_needed need.now) }
         ensures no_inode { IsErrOf result denied.NoInode → (kernel.old.area.failed ≡ false) × (charge (shared_by S.Media kernel.old) + out_of kernel.old.book + units_needed need.now ≤ kernel.old.area.geometry.units)
             × (count_of (is_free kernel.old.book (nodes_in (shared_by S.Media kernel.old))) < inodes_needed need.now) }
         ensures only { IfErr result (MayBeDenied need.now) }
+        ensures there { IfSome (copy_needed need.now) (λ i. kernel.old.area.failed ≡ false → is_some ((known_to self.old).copies i) ≡ true → (result ≡ Ok tt) × (self.new ≡ self.old) × (kernel.new ≡ kernel.old)) }
+        ensures memory { IfSome (copy_needed need.now) (λ i. IsErrOf result denied.Memory → ((known_to self.old).copies i ≡ None) × WantsMemory kernel.old.area.geometry (disk S.Media kernel.old.area) i) }
     {
         match *need {
             Need::View { inode } => self.fetch(kernel, inode),

@@ -7,7 +7,7 @@ use Rattle.file_graph.specs.declared.effect.Effect.{Effect}
 use Rattle.file_graph.specs.declared.effect.Effect.TheVariants as effect
 use Rattle.file_graph.specs.posix_calls.Name.{is_name}
 use Rattle.log_record.specs.declared.format.TheConstants.{MAKE, ENTER, LEAVE, NAMES, SIZE, BYTES, DROP}
-use Rattle.log_record.specs.Grammar.{◌>>=◌, AreBytes, IsInode, Fits, is_inode, is_write, fits, u32, u64, effect_bytes, byte_at, run_at, number_at, make_at, enter_at, leave_at, names_at, size_at, bytes_at, dropped_at, fields_at, effect_at}
+use Rattle.log_record.specs.Grammar.{◌>>=◌, AreBytes, IsInode, FitsLimits, is_inode, is_write, fits, u32, u64, effect_bytes, byte_at, run_at, number_at, make_at, enter_at, leave_at, names_at, size_at, bytes_at, dropped_at, fields_at, effect_at}
 use Rattle.file_graph.specs.Kinds.{kind_byte, kind_field}
 use Rattle.log_record.proofs.Fields.{AreBytes-rest, bind_some, chosen, test_some, some_is, Takes, Takes-then, Takes-cons, u32_takes, u64_takes, u32_again, u64_again, run_takes, run_again, byte_takes, kind_takes}
 
@@ -25,7 +25,7 @@ inode_from i e =
 inode_fits : (i : ℕ) → IsInode i → is_inode i ≡ true
 inode_fits i h = and_from _ _ (le-leb _ _ h.0) (le-leb _ _ h.1)
 
-pub Fits-from_fits : (e : Effect) → fits e ≡ true → Fits e
+pub Fits-from_fits : (e : Effect) → fits e ≡ true → FitsLimits e
 Fits-from_fits (effect.Make i k) e = inode_from i e
 Fits-from_fits (effect.Enter d i k name) e =
     let p = and_parts (is_inode d && is_inode i) (is_name name) e in
@@ -47,7 +47,7 @@ Fits-from_fits (effect.Bytes i at new) e =
     (inode_from i p.0, leb-true _ _ r.0, leb-true _ _ r.1, leb-true _ _ q.1)
 Fits-from_fits (effect.Drop i) e = inode_from i e
 
-pub fits-from_Fits : (e : Effect) → Fits e → fits e ≡ true
+pub fits-from_Fits : (e : Effect) → FitsLimits e → fits e ≡ true
 fits-from_Fits (effect.Make i k) h = inode_fits i h
 fits-from_Fits (effect.Enter d i k name) h = and_from _ _ (and_from _ _ (inode_fits d h.0) (inode_fits i h.1)) h.2
 fits-from_Fits (effect.Leave d name) h = and_from _ _ (inode_fits d h.0) h.1
@@ -192,12 +192,12 @@ fields_take (tag ∷ bytes) x are e =
       ]
     ]
 
-pub effect_takes : (bytes : List ℕ) (x : Effect × List ℕ) → AreBytes bytes → effect_at bytes ≡ Some x → Takes bytes (effect_bytes x.0) x.1 × Fits x.0
+pub effect_takes : (bytes : List ℕ) (x : Effect × List ℕ) → AreBytes bytes → effect_at bytes ≡ Some x → Takes bytes (effect_bytes x.0) x.1 × FitsLimits x.0
 unfolding effect_at
 effect_takes bytes x are e =
     let a = bind_some (fields_at bytes) (λ y. cond (fits y.0) (Some y) None) x e in
     let g = test_some (fits a.0.0) a.0 x a.2 in
-    subst (λ (y : Effect × List ℕ). Takes bytes (effect_bytes y.0) y.1 × Fits y.0) g.1 (fields_take bytes a.0 are a.1, Fits-from_fits a.0.0 g.0)
+    subst (λ (y : Effect × List ℕ). Takes bytes (effect_bytes y.0) y.1 × FitsLimits y.0) g.1 (fields_take bytes a.0 are a.1, Fits-from_fits a.0.0 g.0)
 
 -- ---- what is spelled is read again
 
@@ -231,7 +231,7 @@ bytes_again : (i at : ℕ) (new rest : List ℕ) → i < 2 ^ 32 → at < 2 ^ 64 
 unfolding bytes_at
 bytes_again i at new rest small low few = rw (u32_again i (u64 at ++ (u32 (length new) ++ (new ++ rest))) small, u64_again at (u32 (length new) ++ (new ++ rest)) low, u32_again (length new) (new ++ rest) few, run_again new rest) refl
 
-fields_again : (e : Effect) (rest : List ℕ) → Fits e → fields_at (effect_bytes e ++ rest) ≡ Some (e, rest)
+fields_again : (e : Effect) (rest : List ℕ) → FitsLimits e → fields_at (effect_bytes e ++ rest) ≡ Some (e, rest)
 unfolding fields_at
 fields_again (effect.Make i k) rest h = ap make_at (append_assoc (u32 i) (kind_byte k ∷ []) rest) ∙ make_again i k rest (omega (arith, h.1))
 fields_again (effect.Enter d i k name) rest h =
@@ -245,6 +245,6 @@ fields_again (effect.Bytes i at new) rest h =
     ap bytes_at (append_assoc (u32 i) (u64 at ++ (u32 (length new) ++ new)) rest ∙ ap (λ (t : List ℕ). u32 i ++ t) (append_assoc (u64 at) (u32 (length new) ++ new) rest ∙ ap (λ (t : List ℕ). u64 at ++ t) (append_assoc (u32 (length new)) new rest)))
     ∙ bytes_again i at new rest (omega (arith, h.0.1)) (omega (arith, h.3)) (omega (arith, h.2))
 
-pub effect_again : (e : Effect) (rest : List ℕ) → Fits e → effect_at (effect_bytes e ++ rest) ≡ Some (e, rest)
+pub effect_again : (e : Effect) (rest : List ℕ) → FitsLimits e → effect_at (effect_bytes e ++ rest) ≡ Some (e, rest)
 unfolding effect_at
 effect_again e rest h = rw (fields_again e rest h, fits-from_Fits e h) refl

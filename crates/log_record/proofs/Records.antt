@@ -7,7 +7,7 @@ use Rattle.std.proofs.lemmas.List.Concat.{flat_map-cons}
 use Rattle.file_graph.specs.declared.effect.Effect.{Effect}
 use Rattle.log_record.specs.declared.format.Record.{Record}
 use Rattle.log_record.specs.declared.format.TheConstants.{MAX_EFFECTS}
-use Rattle.log_record.specs.Grammar.{◌>>=◌, AreBytes, Fits, IsRecord, record_bytes, u32, effect_bytes, byte_at, number_at, effect_at, effects_at, header_at, record_at, record_of, Begins, NoneBegins}
+use Rattle.log_record.specs.Grammar.{◌>>=◌, AreBytes, FitsLimits, IsRecord, record_bytes, u32, effect_bytes, byte_at, number_at, effect_at, effects_at, header_at, record_at, record_of, Begins, NoneBegins}
 use Rattle.std.specs.Prelude.{option_map, is_some, ◌-◌}
 use Rattle.log_record.proofs.Fields.{bind_some, test_some, some_is, Takes, Takes-then, u32_takes, u32_again, byte_takes}
 use Rattle.log_record.proofs.Effects.{and_parts, effect_takes, effect_again}
@@ -17,7 +17,7 @@ use Rattle.log_record.proofs.Effects.{and_parts, effect_takes, effect_again}
 pub record TakesAll (n : ℕ) (bytes : List ℕ) (es : List Effect) (rest : List ℕ) : Type 0 where
   pub takes : Takes bytes (flat_map effect_bytes es) rest
   pub count : length es ≡ n
-  pub fit : AllByRecursion Fits es
+  pub fit : AllByRecursion FitsLimits es
 
 effects_take : (n : ℕ) (bytes : List ℕ) (x : List Effect × List ℕ) → AreBytes bytes → effects_at n bytes ≡ Some x → TakesAll n bytes x.0 x.1
 unfolding effects_at
@@ -31,7 +31,7 @@ effects_take (suc n) bytes x are e =
     let made : List Effect × List ℕ = (a.0.0 ∷ b.0.0, b.0.1) in
     subst (λ (y : List Effect × List ℕ). TakesAll (suc n) bytes y.0 y.1) (some_is made x b.2) (record { takes = rw flat_map-cons both; count = ap suc second.count; fit = (first.1, second.fit) })
 
-effects_again : (es : List Effect) (rest : List ℕ) → AllByRecursion Fits es → effects_at (length es) (flat_map effect_bytes es ++ rest) ≡ Some (es, rest)
+effects_again : (es : List Effect) (rest : List ℕ) → AllByRecursion FitsLimits es → effects_at (length es) (flat_map effect_bytes es ++ rest) ≡ Some (es, rest)
 unfolding effects_at
 effects_again [] rest h = refl
 effects_again (e ∷ es) rest h =

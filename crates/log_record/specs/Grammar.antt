@@ -21,21 +21,21 @@ abbrev pub IsInode : ℕ → Type 0
 IsInode i = (1 ≤ i) × (i ≤ MAX_INODE)
 
 -- what keeps the limits: inodes and names as they may be, and a size or the end of a write of some bytes within the greatest file
-abbrev pub Fits : Effect → Type 0
-Fits (effect.Make i k) = IsInode i
-Fits (effect.Enter d i k name) = IsInode d × IsInode i × (is_name name ≡ true)
-Fits (effect.Leave d name) = IsInode d × (is_name name ≡ true)
-Fits (effect.Names i n) = IsInode i × (n ≤ MAX_NAMES)
-Fits (effect.Size i size) = IsInode i × (size ≤ MAX_FILE)
-Fits (effect.Bytes i at new) = IsInode i × (1 ≤ length new) × (length new ≤ MAX_TRANSFER) × (at + length new ≤ MAX_FILE)
-Fits (effect.Drop i) = IsInode i
+abbrev pub FitsLimits : Effect → Type 0
+FitsLimits (effect.Make i k) = IsInode i
+FitsLimits (effect.Enter d i k name) = IsInode d × IsInode i × (is_name name ≡ true)
+FitsLimits (effect.Leave d name) = IsInode d × (is_name name ≡ true)
+FitsLimits (effect.Names i n) = IsInode i × (n ≤ MAX_NAMES)
+FitsLimits (effect.Size i size) = IsInode i × (size ≤ MAX_FILE)
+FitsLimits (effect.Bytes i at new) = IsInode i × (1 ≤ length new) × (length new ≤ MAX_TRANSFER) × (at + length new ≤ MAX_FILE)
+FitsLimits (effect.Drop i) = IsInode i
 
 -- a record that has a spelling: a u32 of units, and 1 to 8 effects that keep the limits
 pub record IsRecord (r : Record) : Type 0 where
   pub units : r.units < 2 ^ 32
   pub some : 1 ≤ length r.effects
   pub few : length r.effects ≤ MAX_EFFECTS
-  pub fit : AllByRecursion Fits r.effects
+  pub fit : AllByRecursion FitsLimits r.effects
 
 -- ---- the spelling
 

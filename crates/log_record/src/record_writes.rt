@@ -2,7 +2,7 @@ ghost use Rattle.std.specs.Prelude.{◌≡◌, ◌≤◌, ◌↔◌, ◌++◌, �
 ghost use Rattle.std.specs.List.{All, AllByRecursion, flat_map};
 ghost use Rattle.file_graph.specs.declared.effect.Effect.TheVariants as effect;
 ghost use Rattle.log_record.specs.Outcome.{Extends};
-ghost use Rattle.log_record.specs.Grammar.{u32 as bytes_4, u64 as bytes_8, effect_bytes, record_bytes, Fits, fits, IsRecord};
+ghost use Rattle.log_record.specs.Grammar.{u32 as bytes_4, u64 as bytes_8, effect_bytes, record_bytes, FitsLimits, fits, IsRecord};
 ghost use Rattle.file_graph.specs.Kinds.{kind_byte};
 
 use crate::effect_ref::lend;
@@ -37,7 +37,7 @@ impl Record {
 
 fn effects_len(effects: &[Effect]) -> usize
     requires few { length effects.now ≤ MAX_EFFECTS }
-    requires fit { AllByRecursion Fits effects.now }
+    requires fit { AllByRecursion FitsLimits effects.now }
     ensures is { result ≡ length (flat_map effect_bytes effects.now) }
     ensures short { result ≤ 65553 * length effects.now }
 {
@@ -50,7 +50,7 @@ fn effects_len(effects: &[Effect]) -> usize
 
 #[tactic(auto, using(crate::proofs::Lengths::lengths))]
 fn effect_len(effect: &Effect) -> usize
-    requires { Fits effect.now }
+    requires { FitsLimits effect.now }
     ensures is { result ≡ length (effect_bytes effect.now) }
     ensures short { result ≤ 65553 }
 {
@@ -120,7 +120,7 @@ fn push_record(out: &mut Vec<u8>, logged: &Record) -> Result<(), AllocError>
 
 #[tactic(auto, using(std::proofs::lemmas::List::append_assoc, crate::proofs::Extends::extending))]
 fn push_effects(out: &mut Vec<u8>, effects: &[Effect]) -> Result<(), AllocError>
-    requires { AllByRecursion Fits effects.now }
+    requires { AllByRecursion FitsLimits effects.now }
     ensures written { OnOk result (out.new.items ≡ out.old.items ++ flat_map effect_bytes effects.now) }
     ensures extends { Extends out.old.items out.new.items }
     ensures len { OnOk result (vec_len out.new ≡ vec_len out.old + length (flat_map effect_bytes effects.now)) }
@@ -134,7 +134,7 @@ fn push_effects(out: &mut Vec<u8>, effects: &[Effect]) -> Result<(), AllocError>
 }
 
 fn push_effect(out: &mut Vec<u8>, effect: &Effect) -> Result<(), AllocError>
-    requires { Fits effect.now }
+    requires { FitsLimits effect.now }
     ensures written { OnOk result (out.new.items ≡ out.old.items ++ effect_bytes effect.now) }
     ensures extends { Extends out.old.items out.new.items }
     ensures len { OnOk result (vec_len out.new ≡ vec_len out.old + length (effect_bytes effect.now)) }

@@ -1,6 +1,6 @@
 -- The best of the inodes so far.
 use Rattle.std.proofs.Common.{◌≡◌, ◌≤◌, ◌<◌, ◌+◌, ℕ, inl, inr, arith, false, refl, sym, ap, subst, Option, Some, None, IsSome}
-use Rattle.std.specs.Prelude.{nat_le}
+use Rattle.std.specs.Prelude.{nat_le, IfSome}
 use Rattle.std.proofs.lemmas.Bool.{cases_lt, and_parts, leb-true, false_from_ne_true}
 use Rattle.shared_area.specs.tier_device.declared.media.Tier.{Tier}
 use Rattle.shared_area.specs.layout.Places.{Sizes, is_inode}
@@ -9,10 +9,15 @@ use Rattle.shared_area.specs.FirstRun.{file_lies, FindsRun}
 use Rattle.shared_area.proofs.FirstRuns.{no_inode_lies}
 use Rattle.shared_area.specs.block_alloc.declared.runs.Run.{Run}
 use Rattle.migrator.specs.declared.run_choice.TheConstants.{MOST_BLOCKS}
-use Rattle.migrator.specs.RunChoice.{LiesIn, last_digest, ComesBefore, IsPickedIn, FoundFile, pick_of, IsBestBelow, IsCandidate, IsFirstOf}
+use Rattle.migrator.specs.RunChoice.{LiesIn, last_digest, ComesBefore, HasLastDigest, IsPickedAmong, IsPickedIn, FoundFile, pick_of, IsBestBelow}
 
 past_is_none : (j : ℕ) → 1025 ≤ j → is_inode j ≡ false
 past_is_none j past = false_from_ne_true (is_inode j) (λ is. let p = and_parts (nat_le 1 j) (nat_le j 1024) is in let low = leb-true j 1024 p.1 in omega (arith, low, past))
+
+-- the file at an inode, none where it has no block in the tier
+pub record IsCandidate (g : Sizes) (s : Store) (t : Tier) (i : ℕ) (x : Option FoundFile) : Type 0 where
+  pub picked : IsPickedAmong g s t (λ j. j ≡ i) (pick_of x)
+  pub touch : HasLastDigest g s x
 
 module _ (g : Sizes) (s : Store) (t : Tier) where
   -- a file with its first run there, where one is found
@@ -39,16 +44,15 @@ module _ (g : Sizes) (s : Store) (t : Tier) where
     touch = tt;
   }
 
-  before_here : (i : ℕ) (best found : FoundFile) → best.0 ≡ last_digest g s best.1.inode → found.0 ≡ last_digest g s found.1.inode → best.0 ≤ found.0 → best.1.inode < i → (j : ℕ) → j ≡ i → ComesBefore g s found.1.inode j → ComesBefore g s best.1.inode j
-  before_here i best found is_best is_found le low j here (inl less) = inl (omega (arith, is_best, is_found, le, less))
-  before_here i best found is_best is_found le low j here (inr both) = elim (cases_lt best.0 found.0) [
-    | inl less ↦ (let same = both.0 in inl (omega (arith, is_best, is_found, less, same)))
-    | inr ge ↦ (let same = both.0 in inr (omega (arith, is_best, is_found, le, ge, same), omega (arith, low, here)))
+  here_comes_later : (i : ℕ) (best : FoundFile) → best.0 ≡ last_digest g s best.1.inode → best.0 ≤ last_digest g s i → best.1.inode < i → ComesBefore g s best.1.inode i
+  here_comes_later i best is le low = elim (cases_lt (last_digest g s best.1.inode) (last_digest g s i)) [
+    | inl less ↦ inl less
+    | inr ge ↦ inr (omega (arith, is, le, ge), omega (arith, low))
   ]
 
-  found_first : (best found : FoundFile) → best.0 ≡ last_digest g s best.1.inode → found.0 ≡ last_digest g s found.1.inode → found.0 < best.0 → (j : ℕ) → ComesBefore g s best.1.inode j → ComesBefore g s found.1.inode j
-  found_first best found is_best is_found less j (inl first) = inl (omega (arith, is_best, is_found, less, first))
-  found_first best found is_best is_found less j (inr both) = (let same = both.0 in inl (omega (arith, is_best, is_found, less, same)))
+  earlier_comes_first : (best found : FoundFile) → best.0 ≡ last_digest g s best.1.inode → found.0 ≡ last_digest g s found.1.inode → found.0 < best.0 → (j : ℕ) → ComesBefore g s best.1.inode j → ComesBefore g s found.1.inode j
+  earlier_comes_first best found is_best is_found less j (inl first) = inl (omega (arith, is_best, is_found, less, first))
+  earlier_comes_first best found is_best is_found less j (inr both) = (let same = both.0 in inl (omega (arith, is_best, is_found, less, same)))
 
   -- below one inode more
   pub best_stays : (i : ℕ) (best : Option FoundFile) → IsBestBelow g s t i best → IsCandidate g s t i None → IsBestBelow g s t (i + 1) best
@@ -71,8 +75,23 @@ module _ (g : Sizes) (s : Store) (t : Tier) where
     touch = b.touch;
   }
 
-  pub best_or_found : (i : ℕ) (best : Option FoundFile) (found x : FoundFile) → IsBestBelow g s t i best → IsCandidate g s t i (Some found) → IsFirstOf best found x → IsBestBelow g s t (i + 1) (Some x)
-  best_or_found i None found x b c is = subst (λ (y : FoundFile). IsBestBelow g s t (i + 1) (Some y)) (sym is) (record {
+  -- .. one that was touched no earlier, wherever it lies
+  pub best_comes_first : (i : ℕ) (best : FoundFile) → IsBestBelow g s t i (Some best) → best.0 ≤ last_digest g s i → IsBestBelow g s t (i + 1) (Some best)
+  best_comes_first i best b le = record {
+    picked = record {
+      inside = (let lt = b.picked.inside in omega (arith, lt));
+      run = b.picked.run;
+      least = λ j lt lies. elim (cases_lt j i) [
+        | inl before ↦ b.picked.least j before lies
+        | inr ge ↦ subst (λ (k : ℕ). ComesBefore g s best.1.inode k) (omega (arith, lt, ge)) (here_comes_later i best b.touch le b.picked.inside)
+      ];
+    };
+    touch = b.touch;
+  }
+
+  -- one that was digested before it, or the first one that is found
+  pub found_is_best : (i : ℕ) (best : Option FoundFile) (found : FoundFile) → IsBestBelow g s t i best → IsCandidate g s t i (Some found) → IfSome best (λ x. found.0 < x.0) → IsBestBelow g s t (i + 1) (Some found)
+  found_is_best i None found b c less = record {
     picked = record {
       inside = (let here = c.picked.inside in omega (arith, here));
       run = c.picked.run;
@@ -82,29 +101,18 @@ module _ (g : Sizes) (s : Store) (t : Tier) where
       ];
     };
     touch = c.touch;
-  })
-  best_or_found i (Some best) found x b c (inl first) = subst (λ (y : FoundFile). IsBestBelow g s t (i + 1) (Some y)) (sym first.1) (record {
-    picked = record {
-      inside = (let lt = b.picked.inside in omega (arith, lt));
-      run = b.picked.run;
-      least = λ j lt lies. elim (cases_lt j i) [
-        | inl before ↦ b.picked.least j before lies
-        | inr ge ↦ before_here i best found b.touch c.touch first.0 b.picked.inside j (omega (arith, lt, ge)) ((c.picked.least j (omega (arith, lt, ge)) lies))
-      ];
-    };
-    touch = b.touch;
-  })
-  best_or_found i (Some best) found x b c (inr later) = subst (λ (y : FoundFile). IsBestBelow g s t (i + 1) (Some y)) (sym later.1) (record {
+  }
+  found_is_best i (Some best) found b c less = record {
     picked = record {
       inside = (let here = c.picked.inside in omega (arith, here));
       run = c.picked.run;
       least = λ j lt lies. elim (cases_lt j i) [
-        | inl before ↦ found_first best found b.touch c.touch later.0 j (b.picked.least j before lies)
+        | inl before ↦ earlier_comes_first best found b.touch c.touch less j (b.picked.least j before lies)
         | inr ge ↦ c.picked.least j (omega (arith, lt, ge)) lies
       ];
     };
     touch = c.touch;
-  })
+  }
 
   nobody : (j : ℕ) → j ≡ 0 → LiesIn g s t j → ⊥
   nobody j zero lies = not_some (file_lies g s j t lies.0) (no_inode_lies g s j t (ap is_inode zero) lies.0) lies.1

@@ -65,13 +65,3 @@ HasLastDigest g s (Some x) = x.0 ≡ last_digest g s x.1.inode
 pub record IsBestBelow (g : Sizes) (s : Store) (t : Tier) (end : ℕ) (x : Option FoundFile) : Type 0 where
   pub picked : IsPickedAmong g s t (λ j. j < end) (pick_of x)
   pub touch : HasLastDigest g s x
-
--- The file at an inode, none where it has no block in the tier.
-pub record IsCandidate (g : Sizes) (s : Store) (t : Tier) (i : ℕ) (x : Option FoundFile) : Type 0 where
-  pub picked : IsPickedAmong g s t (λ j. j ≡ i) (pick_of x)
-  pub touch : HasLastDigest g s x
-
--- The one that was touched first: the first of the two, where both were at once.
-abbrev pub IsFirstOf : Option FoundFile → FoundFile → FoundFile → Type 0
-IsFirstOf None found x = x ≡ found
-IsFirstOf (Some best) found x = ((best.0 ≤ found.0) × (x ≡ best)) ⊎ ((found.0 < best.0) × (x ≡ found))

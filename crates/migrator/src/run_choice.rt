@@ -1,13 +1,11 @@
 // Which run is moved down next.
-ghost use Rattle.std.specs.Prelude.{◌≡◌, ◌≤◌, ◌<◌, ◌+◌, ℕ, Option, Some, None, IfOk, IfErr, IfSome, IfNone};
-ghost use Rattle.shared_area.specs.tier_device.declared.media.Tier.{Tier};
-ghost use Rattle.shared_area.specs.layout.Places.{Sizes};
-ghost use Rattle.shared_area.specs.area_image.Store.{Store, disk};
+ghost use Rattle.std.specs.Prelude.{◌≡◌, ◌≤◌, ◌<◌, ◌+◌, ℕ, Some, None, false, IfOk, IfErr, IfSome, IsTrue};
+ghost use Rattle.shared_area.specs.area_image.Store.{disk};
 ghost use Rattle.shared_area.specs.area_image.Looks.{Looks};
 ghost use Rattle.shared_area.specs.area_image.Map.{WantsMemory};
 ghost use Rattle.shared_area.specs.area_image.declared.error.AreaError.TheVariants.{DeviceFault, Memory};
 ghost use Rattle.shared_area.specs.Parts.{IsNoDamage};
-ghost use Rattle.migrator.specs.RunChoice.{IsCandidate, IsBestBelow, IsFirstOf, IsPicked, IsPickedIn, MayBeMoved, pick_of};
+ghost use Rattle.migrator.specs.RunChoice.{FoundFile, IsBestBelow, IsPicked, IsPickedIn, MayBeMoved, pick_of};
 
 use shared_area::{AreaError, MAX_INODE, Media, Run, Shared, Tier};
 
@@ -22,8 +20,10 @@ pub struct FileRun {
 }
 
 /// Picks what is to be moved to a tier next: of the files with a block in the tier next above it the one with the least touch number, of several the one with the least inode,
-/// with its first run there, of 256 blocks at most, which may be moved. `None` where no file has a block there, and for the fast tier. Changes nothing; reads the slots and the
-/// extents of inodes. Refused: `DeviceFault`, and `Memory` where there was none for an extent block.
+/// with its first run there, of 256 blocks at most, which may be moved. `None` where no file has a block there, and for the fast tier. Changes nothing.
+///
+/// Reads the slot of each inode, and extents only of a file that has an extent block of that tier and a lesser touch number than every file with a smaller inode that has a block there. For the fast tier it reads nothing.
+/// Refused: `DeviceFault`, and `Memory` where there was none for an extent block.
 pub fn pick<M: Media>(area: &mut Shared<M>, to: Tier) -> Result<Option<FileRun>, AreaError>
     ensures picked { IfOk result (IsPicked area.old.geometry (disk M.Media area.old) to) }
     ensures may_be_moved { IfOk result (λ x. IfSome x (MayBeMoved area.old.geometry (disk M.Media area.old) to)) }
@@ -67,7 +67,7 @@ fn pick_in<M: Media>(area: &mut Shared<M>, tier: Tier) -> Result<Option<FileRun>
     Ok(best_run(best))
 }
 
-// The better one of what was best so far and the file at one more inode.
+// The better one of what was best so far and the file at one more inode. The extents of a file that was digested no earlier are not read.
 fn next_best<M: Media>(
     area: &mut Shared<M>,
     tier: Tier,
@@ -80,36 +80,26 @@ fn next_best<M: Media>(
     ensures memory { IfErr result (λ e. e ≡ Memory → WantsMemory area.old.geometry (disk M.Media area.old) inode) }
     ensures looks { Looks M.Media area.old area.new result }
 {
-    match candidate(area, tier, inode)? {
-        Some(found) => Ok(Some(first_of(best, found))),
+    let Some(touch) = area.touch_in(inode, tier)? else {
+        return Ok(best);
+    };
+    if is_no_later(&best, touch) {
+        return Ok(best);
+    }
+    match area.first_run(inode, tier, MOST_BLOCKS)? {
+        Some(run) => Ok(Some((touch, FileRun { inode, run }))),
         None => Ok(best),
     }
 }
 
-// The file at an inode, where it has a block in the tier.
-fn candidate<M: Media>(
-    area: &mut Shared<M>,
-    tier: Tier,
-    inode: u32,
-) -> Result<Option<(u64, FileRun)>, AreaError>
-    ensures found { IfOk result (IsCandidate area.old.geometry (disk M.Media area.old) tier inode) }
-    ensures only { IfErr result IsNoDamage }
-    ensures memory { IfErr result (λ e. e ≡ Memory → WantsMemory area.old.geometry (disk M.Media area.old) inode) }
-    ensures looks { Looks M.Media area.old area.new result }
-{
-    match area.first_run(inode, tier, MOST_BLOCKS)? {
-        Some(run) => Ok(Some((area.touch(inode)?, FileRun { inode, run }))),
-        None => Ok(None),
-    }
-}
-
-// The one that was touched first; the first of two that were touched at once.
-fn first_of(best: Option<(u64, FileRun)>, found: (u64, FileRun)) -> (u64, FileRun)
-    ensures { IsFirstOf best found result }
+// Whether what was best so far has that touch number or a lesser one; false where there is none.
+fn is_no_later(best: &Option<(u64, FileRun)>, touch: u64) -> bool
+    ensures yes { IsTrue result → (x : FoundFile) × (best.now ≡ Some x) × (x.0 ≤ touch) }
+    ensures no { result ≡ false → IfSome best.now (λ x. touch < x.0) }
 {
     match best {
-        Some(before) if before.0 <= found.0 => before,
-        _ => found,
+        Some(before) => before.0 <= touch,
+        None => false,
     }
 }
 

@@ -12,7 +12,7 @@ use Rattle.call_effects.specs.file_graph.declared.effect.Effect.TheVariants as e
 use Rattle.call_effects.specs.file_graph.Graph.{Graph, Node, FileBody, DirBody, after_effects, touches, subjects, is_among, cost, body_cost}
 use Rattle.call_effects.specs.file_graph.Units.{rise, growth, charge}
 use Rattle.call_effects.proofs.file_graph_lemmas.Touches.{untouched}
-use Rattle.call_effects.specs.log_record.Grammar.{Fits, IsInode}
+use Rattle.call_effects.specs.log_record.Grammar.{FitsLimits, IsInode}
 use Rattle.call_effects.specs.NodeView.{NodeView, view_at, view_of_node, view_of_body}
 use Rattle.call_effects.proofs.NodeViews.{viewed_after}
 use Rattle.call_effects.proofs.Rises.{same_sums}
@@ -69,7 +69,7 @@ one_inode d i e at = elim (eqb_tells d i) [
   | inr apart ↦ absurd (false≢true (sym (ap (λ b. b || false) apart.0) ∙ e))
 ]
 
-subject_fits : (e : Effect) → Fits e → (i : ℕ) → is_among i (subjects e) ≡ true → IsInode i
+subject_fits : (e : Effect) → FitsLimits e → (i : ℕ) → is_among i (subjects e) ≡ true → IsInode i
 subject_fits (effect.Make d k) fit i e = one_inode d i e fit
 subject_fits (effect.Enter d j k name) fit i e = one_inode d i e fit.0
 subject_fits (effect.Leave d name) fit i e = one_inode d i e fit.0
@@ -85,7 +85,7 @@ joined i (d ∷ is) js P e l r = elim (d == i) as (λ b. (b || is_among i (is ++
   | false ↦ λ all first. joined i is js P all first r
 ] e l
 
-pub touched_fit : (es : List Effect) → AllByRecursion Fits es → (i : ℕ) → is_among i (touches es) ≡ true → IsInode i
+pub touched_fit : (es : List Effect) → AllByRecursion FitsLimits es → (i : ℕ) → is_among i (touches es) ≡ true → IsInode i
 touched_fit [] fit i e = absurd (false≢true e)
 touched_fit (e ∷ es) fit i among = joined i (subjects e) (touches es) (IsInode i) (ap (is_among i) (sym (flat_map-cons subjects e es)) ∙ among) (subject_fits e fit.0 i) (touched_fit es fit.1 i)
 
@@ -101,7 +101,7 @@ rise_told g es known i is =
     ∙ ap (λ n. counts_cost (counts_after es i (known i)) - n) (cost_counted (g i) ∙ ap (λ v. counts_cost (option_map counts_of v)) is)
 
 -- whatever the rest of the graph is
-pub growth_told : (g : Graph) (es : List Effect) (known : ℕ → Option NodeView) → AllByRecursion Fits es → ((i : ℕ) → is_among i (touches es) ≡ true → view_at g i ≡ known i) → growth g es ≡ sum_distinct (view_rise es known) (touches es)
+pub growth_told : (g : Graph) (es : List Effect) (known : ℕ → Option NodeView) → AllByRecursion FitsLimits es → ((i : ℕ) → is_among i (touches es) ≡ true → view_at g i ≡ known i) → growth g es ≡ sum_distinct (view_rise es known) (touches es)
 unfolding growth
 growth_told g es known fit same =
     same_sums 1024 (λ i. cond (is_among i (touches es)) (rise g (after_effects g es) i) 0) (λ i. cond (is_among i (touches es)) (view_rise es known i) 0)
@@ -122,7 +122,7 @@ moved : (b : Bool) (old new : ℕ) → (b ≡ false → new ≡ old) → new + c
 moved true old new same = omega arith
 moved false old new same = let e : new ≡ old = same refl in omega (arith, e)
 
-pub charge_told : (g : Graph) (es : List Effect) (known : ℕ → Option NodeView) → AllByRecursion Fits es → ((i : ℕ) → is_among i (touches es) ≡ true → view_at g i ≡ known i) → charge (after_effects g es) + sum_distinct (view_cost known) (touches es) ≡ charge g + sum_distinct (view_cost_after es known) (touches es)
+pub charge_told : (g : Graph) (es : List Effect) (known : ℕ → Option NodeView) → AllByRecursion FitsLimits es → ((i : ℕ) → is_among i (touches es) ≡ true → view_at g i ≡ known i) → charge (after_effects g es) + sum_distinct (view_cost known) (touches es) ≡ charge g + sum_distinct (view_cost_after es known) (touches es)
 unfolding charge
 charge_told g es known fit same =
     let inodes = touched_fit es fit in

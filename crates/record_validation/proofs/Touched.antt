@@ -10,7 +10,7 @@ use Rattle.std.proofs.lemmas.Option.{none-some}
 use Rattle.call_effects.specs.file_graph.declared.effect.Effect.{Effect}
 use Rattle.call_effects.specs.file_graph.Graph.{Graph, after_effects, touches, subjects, is_among}
 use Rattle.call_effects.specs.file_graph.Units.{growth, charge}
-use Rattle.call_effects.specs.log_record.Grammar.{Fits}
+use Rattle.call_effects.specs.log_record.Grammar.{FitsLimits}
 use Rattle.call_effects.specs.NodeView.{NodeView, view_at}
 use Rattle.record_validation.specs.KnownNodes.{Known, ViewsAgree, known_at, first_unknown, is_unknown}
 use Rattle.record_validation.specs.Rises.{view_rise, view_cost, view_cost_after, sum_distinct}
@@ -59,8 +59,8 @@ at_some (Some v) w same there = same v refl
 pub as_known : (m : Known) (g : Graph) (es : List Effect) → first_unknown m es ≡ None → ViewsAgree m g → (i : ℕ) → is_among i (touches es) ≡ true → view_at g i ≡ known_at m i
 as_known m g es none agrees i among = at_some (get nat_cmp m i) (view_at g i) (agrees i) (all_known m (touches es) none i among)
 
-pub growth_known : (m : Known) (g : Graph) (es : List Effect) → first_unknown m es ≡ None → AllByRecursion Fits es → ViewsAgree m g → growth g es ≡ sum_distinct (view_rise es (known_at m)) (touches es)
+pub growth_known : (m : Known) (g : Graph) (es : List Effect) → first_unknown m es ≡ None → AllByRecursion FitsLimits es → ViewsAgree m g → growth g es ≡ sum_distinct (view_rise es (known_at m)) (touches es)
 growth_known m g es none fit agrees = growth_told g es (known_at m) fit (as_known m g es none agrees)
 
-pub charge_known : (m : Known) (g : Graph) (es : List Effect) → first_unknown m es ≡ None → AllByRecursion Fits es → ViewsAgree m g → charge (after_effects g es) + sum_distinct (view_cost (known_at m)) (touches es) ≡ charge g + sum_distinct (view_cost_after es (known_at m)) (touches es)
+pub charge_known : (m : Known) (g : Graph) (es : List Effect) → first_unknown m es ≡ None → AllByRecursion FitsLimits es → ViewsAgree m g → charge (after_effects g es) + sum_distinct (view_cost (known_at m)) (touches es) ≡ charge g + sum_distinct (view_cost_after es (known_at m)) (touches es)
 charge_known m g es none fit agrees = charge_told g es (known_at m) fit (as_known m g es none agrees)

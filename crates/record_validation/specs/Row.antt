@@ -10,12 +10,12 @@ use Rattle.record_validation.specs.declared.verdict.Verdict.TheVariants as verdi
 use Rattle.record_validation.specs.KnownNodes.{ViewsAgree, is_unknown, known_after}
 
 -- a check stands over a graph that is as it knows it, and has the charge that it knows
-abbrev pub Stands : RecordCheck → Graph → Type 0
-Stands c g = ViewsAgree c.known g × (charge g ≡ c.charge)
+abbrev pub IsCheckOver : RecordCheck → Graph → Type 0
+IsCheckOver c g = ViewsAgree c.known g × (charge g ≡ c.charge)
 
 -- a check that began over one graph has come to another: of what it does not know, nothing has changed
 abbrev pub HasCome : RecordCheck → Graph → Graph → Type 0
-HasCome c first now = Stands c now × ((i : ℕ) → is_unknown c.known i ≡ true → view_at now i ≡ view_at first i)
+HasCome c first now = IsCheckOver c now × ((i : ℕ) → is_unknown c.known i ≡ true → view_at now i ≡ view_at first i)
 
 -- the graph after a record that was tested: a good one is done, another is not
 abbrev pub left_by : Verdict → Graph → Record → Graph

@@ -4,7 +4,7 @@ ghost use Rattle.std.specs.Prelude.{◌≡◌, ◌+◌, ◌-◌, ◌<◌, ◌≤
 ghost use Rattle.std.specs.List.{AllByRecursion, list_all};
 ghost use Rattle.call_effects.specs.file_graph.Graph.{Graph, after_effects, is_among, touches};
 ghost use Rattle.call_effects.specs.file_graph.Units.{charge, growth};
-ghost use Rattle.call_effects.specs.log_record.Grammar.{Fits};
+ghost use Rattle.call_effects.specs.log_record.Grammar.{FitsLimits};
 ghost use Rattle.call_effects.specs.log_record.declared.format.TheConstants.{MAX_EFFECTS};
 ghost use Rattle.record_validation.specs.Counts.{counts_of, counts_after, counts_cost};
 ghost use Rattle.record_validation.specs.Good.{is_within, keeps};
@@ -37,7 +37,7 @@ pub fn record_costs(
     effects: &[Effect],
 ) -> Result<RecordCosts, u32>
     requires few { length effects.now ≤ MAX_EFFECTS }
-    requires fit { AllByRecursion Fits effects.now }
+    requires fit { AllByRecursion FitsLimits effects.now }
     ensures growth { IfOk result (λ c. (g : Graph) → ViewsAgree known.now g → growth g effects.now ≡ c.growth) }
     ensures charge { IfOk result (λ c. (g : Graph) → ViewsAgree known.now g → charge (after_effects g effects.now) + c.before ≡ charge g + c.after) }
     ensures small { IfOk result (λ c. (c.before < 2 ^ 64) × (c.after < 2 ^ 64)) }
@@ -61,7 +61,7 @@ pub fn tally_record(
     effects: &[Effect],
 ) -> Result<RecordTally, u32>
     requires few { length effects.now ≤ MAX_EFFECTS }
-    requires fit { AllByRecursion Fits effects.now }
+    requires fit { AllByRecursion FitsLimits effects.now }
     ensures growth { IfOk result (λ t. (g : Graph) → ViewsAgree known.now g → growth g effects.now ≡ t.costs.growth) }
     ensures charge { IfOk result (λ t. (g : Graph) → ViewsAgree known.now g → charge (after_effects g effects.now) + t.costs.before ≡ charge g + t.costs.after) }
     ensures small { IfOk result (λ t. (t.costs.before < 2 ^ 64) × (t.costs.after < 2 ^ 64)) }
@@ -76,7 +76,7 @@ pub fn tally_record(
 // What the inodes that effects touch cost, each once, and whether each keeps the limits.
 fn tally(known: &BTreeMap<u32, Option<NodeSummary>>, effects: &[Effect]) -> Result<RecordTally, u32>
     requires few { length effects.now ≤ MAX_EFFECTS }
-    requires fit { AllByRecursion Fits effects.now }
+    requires fit { AllByRecursion FitsLimits effects.now }
     ensures growth { IfOk result (λ t. t.costs.growth ≡ sum_distinct (view_rise effects.now (known_at known.now)) (touches effects.now)) }
     ensures before { IfOk result (λ t. t.costs.before ≡ sum_distinct (view_cost (known_at known.now)) (touches effects.now)) }
     ensures after { IfOk result (λ t. t.costs.after ≡ sum_distinct (view_cost_after effects.now (known_at known.now)) (touches effects.now)) }
@@ -115,7 +115,7 @@ fn tally_once(
     behind: &[Effect],
 ) -> Result<RecordTally, u32>
     requires few { length effects.now ≤ MAX_EFFECTS }
-    requires fit { AllByRecursion Fits effects.now }
+    requires fit { AllByRecursion FitsLimits effects.now }
     ensures growth { IfOk result (λ t. sum_distinct (view_rise effects.now (known_at known.now)) (touches (effect.now ∷ behind.now)) ≡ t.costs.growth + sum_distinct (view_rise effects.now (known_at known.now)) (touches behind.now)) }
     ensures before { IfOk result (λ t. sum_distinct (view_cost (known_at known.now)) (touches (effect.now ∷ behind.now)) ≡ t.costs.before + sum_distinct (view_cost (known_at known.now)) (touches behind.now)) }
     ensures after { IfOk result (λ t. sum_distinct (view_cost_after effects.now (known_at known.now)) (touches (effect.now ∷ behind.now)) ≡ t.costs.after + sum_distinct (view_cost_after effects.now (known_at known.now)) (touches behind.now)) }
@@ -137,7 +137,7 @@ fn tally_once(
 // What one inode costs before effects and after them, by what stood there.
 fn tally_of(old: Option<&NodeSummary>, effects: &[Effect], inode: u32) -> RecordTally
     requires few { length effects.now ≤ MAX_EFFECTS }
-    requires fit { AllByRecursion Fits effects.now }
+    requires fit { AllByRecursion FitsLimits effects.now }
     ensures growth { result.costs.growth ≡ counts_cost (counts_after effects.now inode (option_map (λ n. n.now) old.entry)) - counts_cost (option_map counts_of (option_map (λ n. n.now) old.entry)) }
     ensures before { result.costs.before ≡ counts_cost (option_map counts_of (option_map (λ n. n.now) old.entry)) }
     ensures after { result.costs.after ≡ counts_cost (counts_after effects.now inode (option_map (λ n. n.now) old.entry)) }

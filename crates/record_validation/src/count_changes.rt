@@ -5,7 +5,7 @@ ghost use Rattle.std.specs.Ordering.{nat_cmp, eq_by_cmp};
 ghost use Rattle.std.specs.Cmp.Lexicographic.{slice_cmp};
 ghost use Rattle.std.specs.List.{AllByRecursion};
 ghost use Rattle.call_effects.specs.file_graph.Graph.{subjects, is_among};
-ghost use Rattle.call_effects.specs.log_record.Grammar.{Fits};
+ghost use Rattle.call_effects.specs.log_record.Grammar.{FitsLimits};
 ghost use Rattle.call_effects.specs.log_record.declared.format.TheConstants.{MAX_EFFECTS};
 ghost use Rattle.call_effects.specs.NodeView.{view_after};
 ghost use Rattle.record_validation.specs.Counts.{counts_of, counts_after, entry_count, entry_in, entry_acted, entry_after, empty_entry, is_named};
@@ -20,7 +20,7 @@ use std::cmp::Ordering;
 #[tactic(auto, using(crate::proofs::Steps::next_taken))]
 pub fn counts_after(effects: &[Effect], inode: u32, old: Option<&NodeSummary>) -> Option<NodeCounts>
     requires few { length effects.now ≤ MAX_EFFECTS }
-    requires fit { AllByRecursion Fits effects.now }
+    requires fit { AllByRecursion FitsLimits effects.now }
     ensures { result ≡ counts_after effects.now inode (option_map (λ n. n.now) old.entry) }
 {
     let mut counts = counts_of(old);
@@ -52,7 +52,7 @@ fn counts_more(
     inode: u32,
     old: Option<&NodeSummary>,
 ) -> Option<NodeCounts>
-    requires fits { Fits effect.now }
+    requires fits { FitsLimits effect.now }
     requires few { entry_count counts ≤ 4294967303 }
     requires is { counts ≡ counts_after before.now inode (option_map (λ n. n.now) old) }
     ensures is { result ≡ counts_after (before.now ++ effect.now ∷ []) inode (option_map (λ n. n.now) old.entry) }

@@ -6,7 +6,7 @@ ghost use Rattle.std.specs.BTreeMap.{get};
 ghost use Rattle.std.specs.List.{AllByRecursion};
 ghost use Rattle.call_effects.specs.file_graph.Graph.{Graph, after_effects};
 ghost use Rattle.call_effects.specs.file_graph.Plain.{is_drop};
-ghost use Rattle.call_effects.specs.log_record.Grammar.{Fits};
+ghost use Rattle.call_effects.specs.log_record.Grammar.{FitsLimits};
 ghost use Rattle.call_effects.specs.NodeView.{view_acted};
 ghost use Rattle.record_validation.specs.KnownNodes.{ViewsAgree, known_after, known_acted};
 ghost use Rattle.record_validation.specs.Memory.{enters_known, is_directory, is_enter, want_room};
@@ -24,7 +24,7 @@ pub fn take_effects(
     known: &mut BTreeMap<u32, Option<NodeSummary>>,
     effects: &[Effect],
 ) -> Result<(), AllocError>
-    requires fit { AllByRecursion Fits effects.now }
+    requires fit { AllByRecursion FitsLimits effects.now }
     ensures known { OnOk result (get nat_cmp known.new ≡ known_after effects.now (get nat_cmp known.old)) }
     ensures agrees { OnOk result ((g : Graph) → ViewsAgree known.old g → ViewsAgree known.new (after_effects g effects.now)) }
     ensures memory { OnErr result (want_room effects.now (get nat_cmp known.old) ≡ true) }
@@ -40,7 +40,7 @@ fn take_effect(
     known: &mut BTreeMap<u32, Option<NodeSummary>>,
     effect: &Effect,
 ) -> Result<(), AllocError>
-    requires fits { Fits effect.now }
+    requires fits { FitsLimits effect.now }
     ensures known { OnOk result (get nat_cmp known.new ≡ known_acted effect.now (get nat_cmp known.old)) }
     ensures memory { OnErr result (enters_known effect.now (get nat_cmp known.old) ≡ true) }
 {
@@ -53,7 +53,7 @@ fn take_effect(
 
 // What an effect on an inode makes of what is known of it.
 fn act(alloc: Global, node: &mut Option<NodeSummary>, effect: &Effect) -> Result<(), AllocError>
-    requires fits { Fits effect.now }
+    requires fits { FitsLimits effect.now }
     ensures acted { OnOk result (node.new ≡ view_acted effect.now node.old) }
     ensures memory { OnErr result (is_enter effect.now ≡ true) }
     ensures directory { OnErr result (is_directory (Some node.old) ≡ true) }

@@ -5,7 +5,7 @@ ghost use Rattle.call_effects.specs.file_graph.declared.effect.Effect.{Effect};
 ghost use Rattle.call_effects.specs.file_graph.Graph.{Graph, Node, subject_after, after_effects, touches, is_among};
 ghost use Rattle.std.specs.List.{AllByRecursion};
 ghost use Rattle.call_effects.specs.file_graph.Units.{charge, growth};
-ghost use Rattle.call_effects.specs.log_record.Grammar.{Fits};
+ghost use Rattle.call_effects.specs.log_record.Grammar.{FitsLimits};
 ghost use Rattle.record_validation.specs.Counts.{counts_of, counts_acted, is_named, entry_in, entry_after};
 ghost use Rattle.record_validation.specs.Rises.{sum_distinct, view_cost, view_cost_after, view_rise};
 ghost use Rattle.call_effects.specs.NodeView.{NodeView, view_of_node, view_at, view_acted, view_after};
@@ -19,8 +19,8 @@ pub fn summary_is_of_the_node_after()
 /// The growth of effects that keep the limits of the format, and the charge after them, are told by the nodes that they touch, each
 /// counted once, whatever stands elsewhere in the graph.
 pub fn growth_follows_what_is_touched()
-    ensures growth { (g : Graph) (es : List Effect) (known : ℕ → Option NodeView) → AllByRecursion Fits es → ((i : ℕ) → is_among i (touches es) ≡ true → view_at g i ≡ known i) → growth g es ≡ sum_distinct (view_rise es known) (touches es) }
-    ensures charge { (g : Graph) (es : List Effect) (known : ℕ → Option NodeView) → AllByRecursion Fits es → ((i : ℕ) → is_among i (touches es) ≡ true → view_at g i ≡ known i) → charge (after_effects g es) + sum_distinct (view_cost known) (touches es) ≡ charge g + sum_distinct (view_cost_after es known) (touches es) }
+    ensures growth { (g : Graph) (es : List Effect) (known : ℕ → Option NodeView) → AllByRecursion FitsLimits es → ((i : ℕ) → is_among i (touches es) ≡ true → view_at g i ≡ known i) → growth g es ≡ sum_distinct (view_rise es known) (touches es) }
+    ensures charge { (g : Graph) (es : List Effect) (known : ℕ → Option NodeView) → AllByRecursion FitsLimits es → ((i : ℕ) → is_among i (touches es) ≡ true → view_at g i ≡ known i) → charge (after_effects g es) + sum_distinct (view_cost known) (touches es) ≡ charge g + sum_distinct (view_cost_after es known) (touches es) }
 {}
 
 /// The numbers of a node after an effect are told by its numbers before it, and by whether there was an entry of the name that the

@@ -1,6 +1,6 @@
 ghost use Rattle.std.specs.Prelude.{◌≡◌, ◌+◌, ◌-◌, ◌≤◌, ◌<◌, ◌^◌, Some, max, option_map, if◌then◌else◌};
 ghost use Rattle.call_effects.specs.posix_calls.Units.{file_units, directory_units};
-ghost use Rattle.call_effects.specs.log_record.Grammar.{Fits};
+ghost use Rattle.call_effects.specs.log_record.Grammar.{FitsLimits};
 ghost use Rattle.record_validation.specs.Good.{is_within};
 ghost use Rattle.record_validation.specs.Counts.{counts_acted, counts_cost, empty_counts, entry_count, in_count, in_length, with_count};
 
@@ -56,7 +56,7 @@ fn directory_units(entries: u64) -> u64
 /// The numbers after an effect on the inode, where it is told whether there was an entry of the name that the effect enters or
 /// takes out.
 pub fn apply_effect(counts: Option<NodeCounts>, effect: &Effect, was: bool) -> Option<NodeCounts>
-    requires fits { Fits effect.now }
+    requires fits { FitsLimits effect.now }
     requires few { entry_count counts ≤ 4294967303 }
     ensures is { result ≡ counts_acted effect.now was counts }
     ensures few { entry_count result ≤ entry_count counts + 1 }

@@ -1,7 +1,7 @@
 ghost use Rattle.std.specs.Prelude.{◌≡◌, ◌<◌, ◌^◌, ℕ, true, false, Some, OnOk, OnErr, max};
 ghost use Rattle.std.specs.FinMap as fin;
 ghost use Rattle.call_effects.specs.file_graph.Plain.{is_drop};
-ghost use Rattle.call_effects.specs.log_record.Grammar.{Fits};
+ghost use Rattle.call_effects.specs.log_record.Grammar.{FitsLimits};
 ghost use Rattle.call_effects.specs.NodeView.{FileView, DirView, empty_view, in_entries, in_size, view_acted, view_is_dir};
 ghost use Rattle.record_validation.specs.Memory.{is_enter};
 ghost use Rattle.record_validation.specs.Summary.{view_of_summary};
@@ -113,7 +113,7 @@ impl NodeSummary {
     /// Does what an effect other than a Drop does to the node, where the effect keeps the limits of the format. Where there is no
     /// memory for it, the summary stays as it was; none is asked for but to enter a name into a directory.
     pub fn act(&mut self, alloc: Global, effect: &Effect) -> Result<(), AllocError>
-        requires fits { Fits effect.now }
+        requires fits { FitsLimits effect.now }
         requires kept { is_drop effect.now ≡ false }
         ensures ok { OnOk result (Some self.new ≡ view_acted effect.now (Some self.old)) }
         ensures err { OnErr result (self.new ≡ self.old) }

@@ -11,7 +11,7 @@ ghost use Rattle.call_effects.specs.NodeView.{view_at};
 ghost use Rattle.record_validation.specs.Good.{IsGood, IsVerdict, asked_inode};
 ghost use Rattle.record_validation.specs.KnownNodes.{first_unknown, is_unknown};
 ghost use Rattle.record_validation.specs.Memory.{want_room};
-ghost use Rattle.record_validation.specs.Row.{HasCome, Stands, known_by, left_by, with_known};
+ghost use Rattle.record_validation.specs.Row.{HasCome, IsCheckOver, known_by, left_by, with_known};
 
 use crate::effect_steps::take_effects;
 use crate::node_summary::NodeSummary;
@@ -47,7 +47,7 @@ impl RecordCheck {
     #[tactic(auto, using(crate::proofs::Row::learned, crate::proofs::Row::learned_first))]
     pub fn learn(&mut self, inode: u32, node: Option<NodeSummary>) -> Result<(), AllocError>
         ensures known { OnOk result ((i : ℕ) → get nat_cmp self.new.known i ≡ with_known inode node (get nat_cmp self.old.known) i) }
-        ensures stands { OnOk result ((g : Graph) → Stands self.old g → view_at g inode ≡ node → Stands self.new g) }
+        ensures stands { OnOk result ((g : Graph) → IsCheckOver self.old g → view_at g inode ≡ node → IsCheckOver self.new g) }
         ensures first { OnOk result ((g h : Graph) → HasCome self.old g h → is_unknown self.old.known inode ≡ true → view_at g inode ≡ node → HasCome self.new g h) }
         ensures charge { self.new.charge ≡ self.old.charge }
         ensures err { OnErr result (get nat_cmp self.new.known ≡ get nat_cmp self.old.known) }
@@ -69,13 +69,13 @@ impl RecordCheck {
     ) -> Result<Verdict, AllocError>
         requires spelled { IsRecord next.now }
         requires rising { IsNonDecreasing held.now }
-        ensures answer { IfOk result (λ v. (g : Graph) → Stands self.old g → IsVerdict held.now capacity g next.now v) }
+        ensures answer { IfOk result (λ v. (g : Graph) → IsCheckOver self.old g → IsVerdict held.now capacity g next.now v) }
         ensures unknown { IfOk result (λ v. asked_inode v ≡ first_unknown self.old.known next.now.effects) }
         ensures known { IfOk result (λ v. get nat_cmp self.new.known ≡ known_by v next.now (get nat_cmp self.old.known)) }
-        ensures stands { IfOk result (λ v. (g : Graph) → Stands self.old g → Stands self.new (left_by v g next.now)) }
+        ensures stands { IfOk result (λ v. (g : Graph) → IsCheckOver self.old g → IsCheckOver self.new (left_by v g next.now)) }
         ensures first { IfOk result (λ v. (g h : Graph) → HasCome self.old g h → HasCome self.new g (left_by v h next.now)) }
         ensures memory { IfErr result (λ _. want_room next.now.effects (get nat_cmp self.old.known) ≡ true) }
-        ensures good { IfErr result (λ _. (g : Graph) → Stands self.old g → IsGood held.now capacity g next.now) }
+        ensures good { IfErr result (λ _. (g : Graph) → IsCheckOver self.old g → IsGood held.now capacity g next.now) }
         ensures seen { IfErr result (λ _. first_unknown self.old.known next.now.effects ≡ None) }
     {
         let verdict = test_record(&self.known, self.charge, capacity, held, next);

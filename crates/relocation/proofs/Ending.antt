@@ -26,7 +26,7 @@ use Rattle.inode_plan.proofs.area_commit_lemmas.Course.{Rests}
 use Rattle.inode_plan.proofs.area_commit_lemmas.Moments.{rest_loose}
 use Rattle.relocation.specs.declared.run_search.MovableRun.{MovableRun}
 use Rattle.relocation.specs.MovedFile.{IsMovePlan, IsPlanOfMove}
-use Rattle.relocation.specs.RunMove.{AreLowestFree, IsSettled, IsMovedStore, IsMovedOrNot, Moves, MovesInFewCalls, StaysStill, Ends}
+use Rattle.relocation.specs.RunMove.{AreLowestFree, IsSettled, IsMovedStore, IsMovedOrNot, Moves, MovesInFewCalls, StaysStill, EndsMove}
 
 -- ---- answers
 
@@ -163,7 +163,7 @@ module _ {M : Type 0} (device : Ghosts M)
     })
 
     abbrev EndsAt : JournalView M → JournalView M → PoolsView → Result (Unit {0}) AreaError → Type 0
-    EndsAt old new pools r = Ends device i first count to old new pools r
+    EndsAt old new pools r = EndsMove device i first count to old new pools r
 
     back : (old new : JournalView M) → StillAt old new → (m : ℕ) → device.moment old.media ≤ m → m ≤ device.moment new.media → (t : Tier) (c : List ℕ) → device.left new.media m t c → device.left old.media (device.moment old.media) t c
     back old new still m lo hi t c l = subst (λ (n : ℕ). device.left old.media n t c) (omega (arith, lo, hi, still.clock)) (still.past m t c (omega (arith, hi, still.clock)) l)

@@ -66,7 +66,7 @@ MovesInFewCalls g s to count before now = (now ≤ before) ⊎ MovesInCalls g s 
 
 -- How a move ends: at each moment a stop leaves the run where it lay, or moved; after Ok it is moved; after a refusal beside a device fault nothing has moved; and all is settled
 -- where no device has failed.
-pub record Ends {M : Type 0} (device : Ghosts M) (i first count : ℕ) (to : Tier) (old new : JournalView M) (pools : PoolsView) (result : Result (Unit {0}) AreaError) : Type 0 where
+pub record EndsMove {M : Type 0} (device : Ghosts M) (i first count : ℕ) (to : Tier) (old new : JournalView M) (pools : PoolsView) (result : Result (Unit {0}) AreaError) : Type 0 where
   pub any_moment : Moves old.geometry (disk device old) i first count to (device.moment old.media) (device.moment new.media) (device.left old.media) (device.left new.media)
   pub moved : OnOk result (IsMovedStore old.geometry (disk device old) i first count to (disk device new))
   pub settled : new.failed ≡ false → IsSettled new.geometry (device.seen new.media) (device.left new.media (device.moment new.media)) pools

@@ -13,7 +13,7 @@ ghost use Rattle.inode_plan.specs.Lists.{HoldsRun};
 ghost use Rattle.inode_plan.specs.area_image.declared.error.AreaError.TheVariants.{DeviceFault, NoBlock, Memory};
 ghost use Rattle.inode_plan.specs.area_commit.Room.{AreReadyFor};
 ghost use Rattle.relocation.specs.MovedFile.{IsReadRun, IsReadyMove, IsPlanOfMove, HasRoomFor, AreReadyToMove};
-ghost use Rattle.relocation.specs.RunMove.{IsSettled, Ends};
+ghost use Rattle.relocation.specs.RunMove.{IsSettled, EndsMove};
 
 use crate::freed_places::lost_places;
 use crate::laws::{carried_out_move_moves, move_is_planned};
@@ -45,7 +45,7 @@ fn write_move<M: Media>(
     requires rests { (t : Tier) → AtRest (M.seen journal.old.media) (M.left journal.old.media (M.moment journal.old.media)) t }
     requires plan { (i : ℕ) × (first : ℕ) × (count : ℕ) × (to : Tier) × IsPlanOfMove journal.old.geometry (disk M.Media journal.old) i first count to plan }
     requires pools { AreReadyFor journal.old.geometry (disk M.Media journal.old) pools.old plan }
-    ensures ends { (i first count : ℕ) (to : Tier) → IsPlanOfMove journal.old.geometry (disk M.Media journal.old) i first count to plan → Ends M.Media i first count to journal.old journal.new pools.new result }
+    ensures ends { (i first count : ℕ) (to : Tier) → IsPlanOfMove journal.old.geometry (disk M.Media journal.old) i first count to plan → EndsMove M.Media i first count to journal.old journal.new pools.new result }
     ensures undone { OnErr result (WasReleased pools.old pools.new plan.taken) }
     ensures only { IfErr result (λ e. (e ≡ DeviceFault) ⊎ (e ≡ Memory)) }
 {
@@ -72,7 +72,7 @@ fn carry<M: Media>(
     requires rests { (t : Tier) → AtRest (M.seen journal.old.media) (M.left journal.old.media (M.moment journal.old.media)) t }
     requires ready { IsReadyMove journal.old.geometry (disk M.Media journal.old) moved.inode moved.to moved.file moved.bytes.items moved.lost taken }
     requires pools { AreReadyToMove journal.old.geometry (disk M.Media journal.old) pools.old taken moved.lost }
-    ensures ends { Ends M.Media moved.inode moved.file.run.first moved.file.run.count moved.to journal.old journal.new pools.new result }
+    ensures ends { EndsMove M.Media moved.inode moved.file.run.first moved.file.run.count moved.to journal.old journal.new pools.new result }
     ensures undone { OnErr result (WasReleased pools.old pools.new taken) }
     ensures only { IfErr result (λ e. (e ≡ DeviceFault) ⊎ (e ≡ Memory)) }
 {
@@ -99,7 +99,7 @@ fn allocate_run<M: Media>(
     requires settled { IsSettled journal.old.geometry (M.seen journal.old.media) (M.left journal.old.media (M.moment journal.old.media)) pools.old }
     requires run { IsReadRun journal.old.geometry (disk M.Media journal.old) moved.inode moved.to moved.file moved.bytes.items moved.lost }
     requires room { HasRoomFor pools.old moved.lost }
-    ensures ends { Ends M.Media moved.inode moved.file.run.first moved.file.run.count moved.to journal.old journal.new pools.new result }
+    ensures ends { EndsMove M.Media moved.inode moved.file.run.first moved.file.run.count moved.to journal.old journal.new pools.new result }
     ensures same { OnErr result (SameFree pools.old pools.new) }
     ensures enough { OnOk result (moved.file.run.count ≤ length (data_pool pools.old moved.to).free) }
     ensures few { IsErrOf result NoBlock → length (data_pool pools.old moved.to).free < moved.file.run.count }
@@ -125,7 +125,7 @@ fn move_bytes<M: Media>(
     requires file { IsMovableRun journal.old.geometry (disk M.Media journal.old) moved.inode moved.file.run.first moved.file.run.count moved.to moved.file }
     requires holds { HoldsRun (logical_block journal.old.geometry (disk M.Media journal.old) moved.inode) moved.file.run.first moved.file.run.count bytes.items }
     requires size { length bytes.items ≡ BLOCK * moved.file.run.count }
-    ensures ends { Ends M.Media moved.inode moved.file.run.first moved.file.run.count moved.to journal.old journal.new pools.new result }
+    ensures ends { EndsMove M.Media moved.inode moved.file.run.first moved.file.run.count moved.to journal.old journal.new pools.new result }
     ensures same { OnErr result (SameFree pools.old pools.new) }
     ensures enough { OnOk result (moved.file.run.count ≤ length (data_pool pools.old moved.to).free) }
     ensures few { IsErrOf result NoBlock → length (data_pool pools.old moved.to).free < moved.file.run.count }
@@ -155,7 +155,7 @@ pub fn move_run<M: Media>(
     requires going { journal.old.failed ≡ false }
     requires settled { IsSettled journal.old.geometry (M.seen journal.old.media) (M.left journal.old.media (M.moment journal.old.media)) pools.old }
     requires file { IsMovableRun journal.old.geometry (disk M.Media journal.old) moved.inode moved.file.run.first moved.file.run.count moved.to moved.file }
-    ensures ends { Ends M.Media moved.inode moved.file.run.first moved.file.run.count moved.to journal.old journal.new pools.new result }
+    ensures ends { EndsMove M.Media moved.inode moved.file.run.first moved.file.run.count moved.to journal.old journal.new pools.new result }
     ensures same { OnErr result (SameFree pools.old pools.new) }
     ensures enough { OnOk result (moved.file.run.count ≤ length (data_pool pools.old moved.to).free) }
     ensures few { IsErrOf result NoBlock → length (data_pool pools.old moved.to).free < moved.file.run.count }

@@ -8,7 +8,7 @@ ghost use Rattle.inode_plan.specs.area_commit.Allocations.{SameFree};
 ghost use Rattle.relocation.specs.MovableFile.{HasFileRun};
 ghost use Rattle.relocation.specs.TierMove.{CanMove};
 ghost use Rattle.inode_plan.specs.area_image.declared.error.AreaError.TheVariants.{DeviceFault, NotMapped, NoBlock, Memory};
-ghost use Rattle.relocation.specs.RunMove.{IsSettled, IsMovedStore, Moves, MovesInFewCalls, StaysStill, Ends};
+ghost use Rattle.relocation.specs.RunMove.{IsSettled, IsMovedStore, Moves, MovesInFewCalls, StaysStill, EndsMove};
 
 use crate::run_move::{FileMove, move_run};
 use crate::{RunRequest, find_run};
@@ -25,7 +25,7 @@ fn move_found<M: Media>(
 ) -> Result<(), AreaError>
     requires going { journal.old.failed ≡ false }
     requires settled { IsSettled journal.old.geometry (M.seen journal.old.media) (M.left journal.old.media (M.moment journal.old.media)) pools.old }
-    ensures ends { Ends M.Media run.inode run.first run.count to journal.old journal.new pools.new result }
+    ensures ends { EndsMove M.Media run.inode run.first run.count to journal.old journal.new pools.new result }
     ensures same { OnErr result (SameFree pools.old pools.new) }
     ensures can { OnOk result (CanMove journal.old.geometry (disk M.Media journal.old) run.inode run.first run.count to × (run.count ≤ length (data_pool pools.old to).free)) }
     ensures not_mapped { IsErrOf result NotMapped → CanMove journal.old.geometry (disk M.Media journal.old) run.inode run.first run.count to → ⊥ }

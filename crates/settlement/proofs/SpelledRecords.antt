@@ -5,7 +5,7 @@ use Rattle.std.specs.List.{AllByRecursion, cons_option}
 use Rattle.std.proofs.lemmas.Bool.{cases_Bool, cond-false, cond-true, leb-true}
 use Rattle.recovery_laws.specs.update_log.Frames.{is_whole, payload_length, payload_of, payloads, payloads_from, records, spelled_records}
 use Rattle.recovery_laws.specs.update_log.file_graph.declared.effect.Effect.{Effect}
-use Rattle.recovery_laws.specs.update_log.log_record.Grammar.{◌>>=◌, Fits, byte_at, effect_at, effects_at, fields_at, fits, header_at, number_at, record_at, record_of}
+use Rattle.recovery_laws.specs.update_log.log_record.Grammar.{◌>>=◌, FitsLimits, byte_at, effect_at, effects_at, fields_at, fits, header_at, number_at, record_at, record_of}
 use Rattle.recovery_laws.specs.update_log.log_record.declared.format.Record.{Record}
 use Rattle.recovery_laws.proofs.kernel_fs_lemmas.world_invariant_lemmas.call_effects_lemmas.log_record_lemmas.Effects.{Fits-from_fits, and_parts}
 use Rattle.recovery_laws.proofs.kernel_fs_lemmas.world_invariant_lemmas.call_effects_lemmas.log_record_lemmas.Fields.{bind_some, some_is, test_some}
@@ -13,22 +13,22 @@ use Rattle.settlement.specs.SpelledRecords.{HasSpelledEffects}
 
 -- ---- what is read
 
-effect_fits : (bytes : List ℕ) (x : Effect × List ℕ) → effect_at bytes ≡ Some x → Fits x.0
+effect_fits : (bytes : List ℕ) (x : Effect × List ℕ) → effect_at bytes ≡ Some x → FitsLimits x.0
 unfolding effect_at
 effect_fits bytes x e =
     let a = bind_some (fields_at bytes) (λ f. cond (fits f.0) (Some f) None) x e in
     let g = test_some (fits a.0.0) a.0 x a.2 in
-    subst (λ (y : Effect × List ℕ). Fits y.0) g.1 (Fits-from_fits a.0.0 g.0)
+    subst (λ (y : Effect × List ℕ). FitsLimits y.0) g.1 (Fits-from_fits a.0.0 g.0)
 
-effects_fit : (n : ℕ) (bytes : List ℕ) (x : List Effect × List ℕ) → effects_at n bytes ≡ Some x → (length x.0 ≡ n) × AllByRecursion Fits x.0
+effects_fit : (n : ℕ) (bytes : List ℕ) (x : List Effect × List ℕ) → effects_at n bytes ≡ Some x → (length x.0 ≡ n) × AllByRecursion FitsLimits x.0
 unfolding effects_at
-effects_fit zero bytes x e = subst (λ (y : List Effect × List ℕ). (length y.0 ≡ 0) × AllByRecursion Fits y.0) (some_is ([], bytes) x e) (refl, tt)
+effects_fit zero bytes x e = subst (λ (y : List Effect × List ℕ). (length y.0 ≡ 0) × AllByRecursion FitsLimits y.0) (some_is ([], bytes) x e) (refl, tt)
 effects_fit (suc n) bytes x e =
     let a = bind_some (effect_at bytes) (λ first. effects_at n first.1 >>= λ others. Some (first.0 ∷ others.0, others.1)) x e in
     let b = bind_some (effects_at n a.0.1) (λ others. Some (a.0.0 ∷ others.0, others.1)) x a.2 in
     let made : List Effect × List ℕ = (a.0.0 ∷ b.0.0, b.0.1) in
     let rest = effects_fit n a.0.1 b.0 b.1 in
-    subst (λ (y : List Effect × List ℕ). (length y.0 ≡ suc n) × AllByRecursion Fits y.0) (some_is made x b.2) (ap suc rest.0, (effect_fits bytes a.0 a.1, rest.1))
+    subst (λ (y : List Effect × List ℕ). (length y.0 ≡ suc n) × AllByRecursion FitsLimits y.0) (some_is made x b.2) (ap suc rest.0, (effect_fits bytes a.0 a.1, rest.1))
 
 count_is : (bytes : List ℕ) (x : (ℕ × ℕ) × List ℕ) → header_at bytes ≡ Some x → (1 ≤ x.0.1) × (x.0.1 ≤ 8)
 unfolding header_at

@@ -1,7 +1,7 @@
 -- Records whose effects have a spelling.
 use Rattle.std.specs.Prelude.{◌≤◌, length}
 use Rattle.std.specs.List.{AllByRecursion}
-use Rattle.recovery_laws.specs.update_log.log_record.Grammar.{Fits}
+use Rattle.recovery_laws.specs.update_log.log_record.Grammar.{FitsLimits}
 use Rattle.recovery_laws.specs.update_log.log_record.declared.format.Record.{Record}
 use Rattle.recovery_laws.specs.update_log.log_record.declared.format.TheConstants.{MAX_EFFECTS}
 
@@ -9,4 +9,4 @@ use Rattle.recovery_laws.specs.update_log.log_record.declared.format.TheConstant
 pub record HasSpelledEffects (r : Record) : Type 0 where
   pub some : 1 ≤ length r.effects
   pub few : length r.effects ≤ MAX_EFFECTS
-  pub fit : AllByRecursion Fits r.effects
+  pub fit : AllByRecursion FitsLimits r.effects

@@ -21,7 +21,7 @@ use Rattle.change_plan.specs.area_image.Format.{IsOpenable}
 use Rattle.change_plan.proofs.area_image_lemmas.Frames.{loose_graph, loose_marks}
 use Rattle.change_plan.specs.area_commit.Value.{PoolsView, free_data, on_tier, AreInOrder, HasRanges, AreFree}
 use Rattle.change_plan.specs.area_commit.StableState.{IsSettled, StaysStill}
-use Rattle.shared_area.specs.ChangeApply.{IsAppliedStore, MakesFewCalls, Applies, Ends}
+use Rattle.shared_area.specs.ChangeApply.{IsAppliedStore, MakesFewCalls, Applies, EndsChange}
 use Rattle.change_plan.specs.area_image.declared.error.AreaError.TheVariants.{DeviceFault}
 use Rattle.shared_area.specs.Ready.{IsReady}
 use Rattle.shared_area.specs.GraphUpdate.{HasTooFewData, StaysOrChanges, AppliesOrStays}
@@ -77,7 +77,7 @@ module _ {M : Type 0} (device : Ghosts M)
     AppliesTo old new = Applies old.geometry (disk device old) cs v (device.moment old.media) (device.moment new.media) (device.left old.media) (device.left new.media)
 
     abbrev EndsAt : JournalView M → JournalView M → PoolsView → Result (Unit {0}) AreaError → Type 0
-    EndsAt old new pools r = Ends device cs v old new pools r
+    EndsAt old new pools r = EndsChange device cs v old new pools r
 
     failed_now : {A B C : Type 0} → A × (B ⊎ C) → (B → ⊥) → A × C
     failed_now p never = (p.0, elim p.1 [ inl b ↦ absurd (never b) | inr c ↦ c ])

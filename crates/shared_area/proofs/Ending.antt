@@ -24,7 +24,7 @@ use Rattle.change_plan.specs.area_commit.PlanOutcome.{IsCarriedOut, AllOrNothing
 use Rattle.change_plan.specs.area_commit.StableState.{IsSettled, StaysStill}
 use Rattle.change_plan.proofs.area_commit_lemmas.Course.{Rests}
 use Rattle.change_plan.proofs.area_commit_lemmas.Moments.{rest_loose}
-use Rattle.shared_area.specs.ChangeApply.{IsAppliedStore, IsAppliedOrNot, MakesFewCalls, Applies, Ends}
+use Rattle.shared_area.specs.ChangeApply.{IsAppliedStore, IsAppliedOrNot, MakesFewCalls, Applies, EndsChange}
 use Rattle.shared_area.specs.Errors.{IsForced}
 use Rattle.shared_area.proofs.Calls.{few_behind}
 
@@ -100,7 +100,7 @@ module _ {M : Type 0} (device : Ghosts M)
     MakesFew old new = MakesFewCalls old.geometry (disk device old) cs (device.moment old.media) (device.moment new.media) (device.left old.media) (device.left new.media)
 
     abbrev EndsAt : {R : Type 0} → JournalView M → JournalView M → PoolsView → Result R AreaError → Type 0
-    EndsAt old new pools r = Ends device cs v old new pools r
+    EndsAt old new pools r = EndsChange device cs v old new pools r
 
     back : (old new : JournalView M) → StillAt old new → (m : ℕ) → device.moment old.media ≤ m → m ≤ device.moment new.media → (t : Tier) (c : List ℕ) → device.left new.media m t c → device.left old.media (device.moment old.media) t c
     back old new still m lo hi t c l = subst (λ (n : ℕ). device.left old.media n t c) (omega (arith, lo, hi, still.clock)) (still.past m t c (omega (arith, hi, still.clock)) l)

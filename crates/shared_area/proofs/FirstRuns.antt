@@ -1,19 +1,21 @@
 -- The first run of a file's blocks, by its slot and its extents.
-use Rattle.std.proofs.Common.{◌≡◌, ◌≢◌, ◌<◌, ◌∙◌, ℕ, false, refl, sym, ap, subst, Option, Some, None}
-use Rattle.std.specs.Prelude.{IsSome, is_some}
+use Rattle.std.proofs.Common.{◌≡◌, ◌≢◌, ◌⊎◌, inl, inr, ◌<◌, ◌∙◌, ℕ, Bool, true, false, refl, sym, ap, subst, Option, Some, None}
+use Rattle.std.specs.Prelude.{◌==◌, if◌then◌else◌, IsSome, is_some}
 use Rattle.change_plan.specs.tier_device.declared.media.Tier.{Tier}
 use Rattle.change_plan.specs.layout.declared.slot.Slot.{Slot}
+use Rattle.change_plan.specs.layout.declared.slot.Slot.TheVariants as slots
 use Rattle.change_plan.specs.layout.Places.{Sizes, is_inode}
 use Rattle.change_plan.specs.block_alloc.declared.runs.Run.{Run}
-use Rattle.change_plan.specs.area_image.Store.{Store, place, length_of}
+use Rattle.change_plan.specs.area_image.Store.{Store, place, slot, slot_read, root_of, touch_of, length_of}
 use Rattle.change_plan.specs.area_image.Map.{place_by, IsOnceAt}
 use Rattle.change_plan.specs.area_image.Format.{IsOpenable}
 use Rattle.change_plan.specs.area_image.declared.tiers.InodeExtents.{InodeExtents}
 use Rattle.change_plan.specs.area_image.declared.inode.InodeParts.{InodeParts}
+use Rattle.change_plan.proofs.area_image_lemmas.Complete.{root_some}
 use Rattle.change_plan.proofs.area_image_lemmas.Parts.{slot_as}
 use Rattle.change_plan.proofs.area_image_lemmas.Tails.{place_is, placed_by}
 use Rattle.shared_area.specs.Parts.{HasParts}
-use Rattle.shared_area.specs.FirstRun.{FindsRun, file_place, file_lies}
+use Rattle.shared_area.specs.FirstRun.{FindsRun, file_place, file_lies, touch_in}
 use Rattle.shared_area.proofs.Sound.{no_slot}
 
 none_from : (o : Option ℕ) → (IsSome o → ⊥) → o ≡ None
@@ -52,3 +54,23 @@ module _ (g : Sizes) (s : Store) (i : ℕ) (x : InodeParts) (has : HasParts g s 
 
 pub no_inode_lies : (g : Sizes) (s : Store) (i : ℕ) (t : Tier) → is_inode i ≡ false → (k : ℕ) → file_lies g s i t k ≡ None
 no_inode_lies g s i t none k = ap (λ (y : Slot). file_place y (place g s i t k)) (no_slot g s i none)
+
+none_placed : (x : Slot) → file_place x None ≡ None
+none_placed slots.Free = refl
+none_placed (slots.File names size touch fast block slow) = refl
+none_placed (slots.Directory names entries touch root) = refl
+
+-- where a slot has no extent block of a tier, or is no file's, no block of a file lies there
+pub no_root_lies : (g : Sizes) (s : Store) (i : ℕ) (t : Tier) (x : Slot) → slot_read g s i ≡ Some x → (root_of x t ≡ 0) ⊎ ((at : Option ℕ) → file_place x at ≡ None) → (k : ℕ) → file_lies g s i t k ≡ None
+no_root_lies g s i t x is (inl none) k = ap (λ (o : Option ℕ). file_place (slot g s i) o) (none_from (place g s i t k) (λ there. root_some g s i t k there (ap (λ (y : Slot). root_of y t) (slot_as g s i x is) ∙ none))) ∙ none_placed (slot g s i)
+no_root_lies g s i t x is (inr file) k = ap (λ (y : Slot). file_place y (place g s i t k)) (slot_as g s i x is) ∙ file (place g s i t k)
+
+some_if : (b : Bool) (touch n : ℕ) → (if b then None else Some touch) ≡ Some n → n ≡ touch
+some_if true touch n is = absurd (cc)
+some_if false touch n is = cc
+
+-- the number that a slot has for a tier is its own
+pub own_touch : (x : Slot) (t : Tier) (n : ℕ) → touch_in x t ≡ Some n → n ≡ touch_of x
+own_touch slots.Free t n is = absurd (cc)
+own_touch (slots.File names size touch fast block slow) t n is = some_if (root_of (slots.File names size touch fast block slow) t == 0) touch n is
+own_touch (slots.Directory names entries touch root) t n is = absurd (cc)

@@ -88,7 +88,7 @@ pub record Applies (g : Sizes) (s : Store) (cs : Changes) (v : Marks) (before no
 
 -- How a change ends: at each moment a stop leaves the store from before, or all of the change; after Ok it is made; after a refusal beside a device fault nothing has moved; and all is
 -- settled where no device has failed.
-pub record Ends {M R : Type 0} (device : Ghosts M) (cs : Changes) (v : Marks) (old new : JournalView M) (pools : PoolsView) (result : Result R AreaError) : Type 0 where
+pub record EndsChange {M R : Type 0} (device : Ghosts M) (cs : Changes) (v : Marks) (old new : JournalView M) (pools : PoolsView) (result : Result R AreaError) : Type 0 where
   pub any_moment : Applies old.geometry (disk device old) cs v (device.moment old.media) (device.moment new.media) (device.left old.media) (device.left new.media)
   pub applied : OnOk result (IsAppliedStore old.geometry (disk device old) cs v (disk device new))
   pub settled : new.failed ≡ false → IsSettled new.geometry (device.seen new.media) (device.left new.media (device.moment new.media)) pools

@@ -1,11 +1,11 @@
 -- The first run of a file's logical blocks in a tier.
-use Rattle.std.specs.Prelude.{◌≡◌, ◌⊎◌, ◌<◌, ◌≤◌, ◌+◌, ℕ, Option, Some, None, IsSome}
+use Rattle.std.specs.Prelude.{◌≡◌, ◌⊎◌, ◌<◌, ◌≤◌, ◌+◌, ◌==◌, if◌then◌else◌, ℕ, Option, Some, None, IsSome}
 use Rattle.change_plan.specs.tier_device.declared.media.Tier.{Tier}
 use Rattle.change_plan.specs.layout.Places.{Sizes}
 use Rattle.change_plan.specs.layout.declared.slot.Slot.{Slot}
 use Rattle.change_plan.specs.layout.declared.slot.Slot.TheVariants as slots
 use Rattle.change_plan.specs.block_alloc.declared.runs.Run.{Run}
-use Rattle.change_plan.specs.area_image.Store.{Store, slot, place}
+use Rattle.change_plan.specs.area_image.Store.{Store, slot, place, root_of}
 
 -- The blocks of a run lie somewhere, and none before it does; it has as many as it may, or the block behind it lies nowhere.
 pub record IsFirstRun (lies : ℕ → Option ℕ) (most : ℕ) (run : Run) : Type 0 where
@@ -29,3 +29,9 @@ file_place (slots.Directory names entries touch root) at = None
 -- where a logical block of the file at an inode lies in a tier; nowhere, where there is no file
 abbrev pub file_lies : Sizes → Store → ℕ → Tier → ℕ → Option ℕ
 file_lies g s i t k = file_place (slot g s i) (place g s i t k)
+
+-- the number of the last digest that wrote a file, by its slot, where that names an extent block of a tier
+abbrev pub touch_in : Slot → Tier → Option ℕ
+touch_in slots.Free t = None
+touch_in (slots.File names size touch fast block slow) t = if root_of (slots.File names size touch fast block slow) t == 0 then None else Some touch
+touch_in (slots.Directory names entries touch root) t = None

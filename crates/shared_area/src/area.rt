@@ -1,4 +1,4 @@
-ghost use Rattle.std.specs.Prelude.{◌≡◌, ◌≢◌, ◌≤◌, ◌<◌, ◌+◌, ◌-◌, ℕ, List, min, length, true, false, Some, OnOk, OnErr, IfOk, IfErr, IsErrOf, option_map};
+ghost use Rattle.std.specs.Prelude.{◌≡◌, ◌≢◌, ◌≤◌, ◌<◌, ◌+◌, ◌-◌, ℕ, List, min, length, true, false, None, Some, OnOk, OnErr, IfOk, IfErr, IsErrOf, option_map};
 ghost use Rattle.std.specs.FinMap as fin;
 ghost use Rattle.change_plan.specs.tier_device.declared.media.Tier.{Tier};
 ghost use Rattle.change_plan.specs.tier_device.declared.media.Tier.TheVariants.{Fast};
@@ -38,10 +38,10 @@ ghost use Rattle.shared_area.specs.GraphUpdate.{HasTooFewData, StaysOrChanges, A
 ghost use Rattle.shared_area.specs.TierMoves.{HasTooFew, HasEnough, StaysOpen, MovesOrStays};
 ghost use Rattle.shared_area.specs.FileReads.{bytes_of_inode, IsReadFrom};
 ghost use Rattle.shared_area.specs.Parts.{IsNoDamage, IsTierOf};
-ghost use Rattle.shared_area.specs.FirstRun.{FindsRun, file_lies};
+ghost use Rattle.shared_area.specs.FirstRun.{FindsRun, file_lies, touch_in};
 
 use crate::block_search::find_tier;
-use crate::digest_number::find_touch;
+use crate::digest_number::{find_touch, find_touch_in};
 use crate::file_read::read_file;
 use crate::graph_update::{MarkedChange, make_change};
 use crate::media_contents::{journal_fault, read_contents};
@@ -203,6 +203,17 @@ impl<M: Media> Shared<M> {
         ensures looks { Looks M.Media self.old self.new result }
     {
         find_touch(&mut self.journal, inode)
+    }
+
+    /// The number of the last digest that wrote the file at an inode, where its slot names an extent block of the tier. Else `None`, also for a directory and where there is no such inode: no block of a file at that
+    /// inode lies in the tier then. Reads the slot alone, and takes no memory. Refused: `DeviceFault`.
+    pub fn touch_in(&mut self, inode: u32, tier: Tier) -> Result<Option<u64>, AreaError>
+        ensures touch { IfOk result (λ x. x ≡ touch_in (slot self.old.geometry (disk M.Media self.old) inode) tier) }
+        ensures none { IfOk result (λ x. x ≡ None → (k : ℕ) → file_lies self.old.geometry (disk M.Media self.old) inode tier k ≡ None) }
+        ensures only { IfErr result (λ e. e ≡ DeviceFault) }
+        ensures looks { Looks M.Media self.old self.new result }
+    {
+        find_touch_in(&mut self.journal, inode, tier)
     }
 
     /// Moves a run of a file's logical blocks, `count` of them from block `first` on, to a tier that is slower than those in which they lie, into its lowest data blocks that are

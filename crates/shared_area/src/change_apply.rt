@@ -12,7 +12,7 @@ ghost use Rattle.change_plan.specs.area_image.Store.{disk, graph};
 ghost use Rattle.change_plan.specs.area_commit.Value.{PoolsView, free_data, AreInOrder};
 ghost use Rattle.change_plan.specs.area_commit.Allocations.{WereTaken, CanRelease, SameFree, taken_data};
 ghost use Rattle.change_plan.specs.area_commit.StableState.{IsSettled, StaysStill};
-ghost use Rattle.shared_area.specs.ChangeApply.{CanApply, IsAppliedStore, Applies, Ends, MakesFewCalls};
+ghost use Rattle.shared_area.specs.ChangeApply.{CanApply, IsAppliedStore, Applies, EndsChange, MakesFewCalls};
 ghost use Rattle.shared_area.specs.Costs.{IsCostOf, units_in};
 ghost use Rattle.shared_area.specs.Errors.{IsForced};
 ghost use Rattle.change_plan.specs.First.{PlansNothing};
@@ -81,7 +81,7 @@ fn plan_change<M: Media>(
     requires nothing { PlansNothing plan }
     requires wants { WantsBlocks journal.old.geometry (disk M.Media journal.old) (changes_of read.now.change.now) (length (taken_data plan.taken)) }
     requires slots { HaveSlots journal.old.geometry (disk M.Media journal.old) (fin.keys (changes_of read.now.change.now)) read.now.slots.now }
-    ensures ends { Ends M.Media (changes_of read.now.change.now) marks journal.old journal.new pools.new result }
+    ensures ends { EndsChange M.Media (changes_of read.now.change.now) marks journal.old journal.new pools.new result }
     ensures units { IfOk result (λ units. units ≡ units_in journal.old.geometry (disk M.Media journal.new) (fin.keys (changes_of read.now.change.now))) }
     ensures same { (before : PoolsView) → AreInOrder before → WereTaken before pools.old plan.taken → OnErr result (SameFree before pools.new) }
     ensures only { IfErr result IsForced }
@@ -113,7 +113,7 @@ fn allocate_blocks<M: Media>(
     requires can { CanApply journal.old.geometry (disk M.Media journal.old) (changes_of read.now.change.now) marks }
     requires wants { WantsBlocks journal.old.geometry (disk M.Media journal.old) (changes_of read.now.change.now) count }
     requires slots { HaveSlots journal.old.geometry (disk M.Media journal.old) (fin.keys (changes_of read.now.change.now)) read.now.slots.now }
-    ensures ends { Ends M.Media (changes_of read.now.change.now) marks journal.old journal.new pools.new result }
+    ensures ends { EndsChange M.Media (changes_of read.now.change.now) marks journal.old journal.new pools.new result }
     ensures units { IfOk result (λ units. units ≡ units_in journal.old.geometry (disk M.Media journal.new) (fin.keys (changes_of read.now.change.now))) }
     ensures same { OnErr result (SameFree pools.old pools.new) }
     ensures few { IsErrOf result NoBlock → length (free_data pools.old) < count }
@@ -151,7 +151,7 @@ fn apply_counted<M: Media>(
     requires settled { IsSettled journal.old.geometry (M.seen journal.old.media) (M.left journal.old.media (M.moment journal.old.media)) pools.old }
     requires can { CanApply journal.old.geometry (disk M.Media journal.old) (changes_of read.now.change.now) marks }
     requires slots { HaveSlots journal.old.geometry (disk M.Media journal.old) (fin.keys (changes_of read.now.change.now)) read.now.slots.now }
-    ensures ends { Ends M.Media (changes_of read.now.change.now) marks journal.old journal.new pools.new result }
+    ensures ends { EndsChange M.Media (changes_of read.now.change.now) marks journal.old journal.new pools.new result }
     ensures units { IfOk result (λ units. units ≡ units_in journal.old.geometry (disk M.Media journal.new) (fin.keys (changes_of read.now.change.now))) }
     ensures same { OnErr result (SameFree pools.old pools.new) }
     ensures few { IsErrOf result NoBlock → (n : ℕ) × WantsBlocks journal.old.geometry (disk M.Media journal.old) (changes_of read.now.change.now) n × (length (free_data pools.old) < n) }
@@ -173,7 +173,7 @@ fn apply_read<M: Media>(
     requires going { journal.old.failed ≡ false }
     requires settled { IsSettled journal.old.geometry (M.seen journal.old.media) (M.left journal.old.media (M.moment journal.old.media)) pools.old }
     requires can { CanApply journal.old.geometry (disk M.Media journal.old) (changes_of change.now) marks }
-    ensures ends { Ends M.Media (changes_of change.now) marks journal.old journal.new pools.new result }
+    ensures ends { EndsChange M.Media (changes_of change.now) marks journal.old journal.new pools.new result }
     ensures cost { IfOk result (IsCostOf journal.old.geometry (disk M.Media journal.old) (disk M.Media journal.new) (changes_of change.now)) }
     ensures same { OnErr result (SameFree pools.old pools.new) }
     ensures few { IsErrOf result NoBlock → (n : ℕ) × WantsBlocks journal.old.geometry (disk M.Media journal.old) (changes_of change.now) n × (length (free_data pools.old) < n) }

@@ -1,11 +1,13 @@
 // The number of the last digest that wrote an inode.
-ghost use Rattle.std.specs.Prelude.{◌≡◌, false, IfOk, IfErr};
-ghost use Rattle.change_plan.specs.area_image.Store.{disk, slot, touch_of};
+ghost use Rattle.std.specs.Prelude.{◌≡◌, ◌⊎◌, ℕ, Option, None, false, IfOk, IfErr};
+ghost use Rattle.change_plan.specs.area_image.Store.{disk, root_of, slot, touch_of};
 ghost use Rattle.change_plan.specs.area_image.Format.{IsOpenable};
 ghost use Rattle.change_plan.specs.area_image.Looks.{Looks};
 ghost use Rattle.change_plan.specs.area_image.declared.error.AreaError.TheVariants.{DeviceFault};
+ghost use Rattle.shared_area.specs.FirstRun.{file_lies, file_place, touch_in};
 
-use change_plan::{AreaError, Journal, Media, Slot, read_slot};
+use area_image::root_of;
+use change_plan::{AreaError, Journal, Media, Slot, Tier, read_slot};
 use record_validation::is_inode;
 
 // The touch number that a slot tells.
@@ -34,4 +36,40 @@ pub fn find_touch<M: Media>(journal: &mut Journal<M>, inode: u32) -> Result<u64,
     }
     let slot = read_slot(journal, inode)?;
     Ok(touch_of(&slot))
+}
+
+/// The touch number of a file whose slot names an extent block of a tier. `None` where the slot names none: then no block of a file at that inode lies there.
+pub fn find_touch_in<M: Media>(
+    journal: &mut Journal<M>,
+    inode: u32,
+    tier: Tier,
+) -> Result<Option<u64>, AreaError>
+    requires { journal.old.failed ≡ false → IsOpenable journal.old.geometry (disk M.Media journal.old) }
+    ensures touch { IfOk result (λ x. x ≡ touch_in (slot journal.old.geometry (disk M.Media journal.old) inode) tier) }
+    ensures none { IfOk result (λ x. x ≡ None → (k : ℕ) → file_lies journal.old.geometry (disk M.Media journal.old) inode tier k ≡ None) }
+    ensures only { IfErr result (λ e. e ≡ DeviceFault) }
+    ensures looks { Looks M.Media journal.old journal.new result }
+{
+    if journal.has_failed() {
+        return Err(AreaError::DeviceFault);
+    }
+    if !is_inode(inode) {
+        return Ok(None);
+    }
+    let slot = read_slot(journal, inode)?;
+    Ok(touch_in(&slot, tier))
+}
+
+// The touch number that a file's slot tells, if it has an extent block of a tier.
+fn touch_in(slot: &Slot, tier: Tier) -> Option<u64>
+    ensures touch { result ≡ touch_in slot.now tier }
+    ensures none { result ≡ None → (root_of slot.now tier ≡ 0) ⊎ ((at : Option ℕ) → file_place slot.now at ≡ None) }
+{
+    let root = root_of(slot, tier);
+    match *slot {
+        Slot::File { touch, .. } if root != 0 => Some(touch),
+        Slot::File { .. } => None,
+        Slot::Free => None,
+        Slot::Directory { .. } => None,
+    }
 }

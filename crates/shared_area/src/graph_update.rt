@@ -11,7 +11,7 @@ ghost use Rattle.change_plan.specs.layout.Marks.{fits_marks};
 ghost use Rattle.change_plan.specs.area_image.Store.{disk, graph};
 ghost use Rattle.change_plan.specs.area_commit.Value.{free_data};
 ghost use Rattle.change_plan.specs.area_commit.StableState.{IsSettled};
-ghost use Rattle.shared_area.specs.ChangeApply.{CanApply, IsAppliedStore, Ends, MakesFewCalls};
+ghost use Rattle.shared_area.specs.ChangeApply.{CanApply, IsAppliedStore, EndsChange, MakesFewCalls};
 ghost use Rattle.change_plan.specs.Next.{HasFewEntries};
 ghost use Rattle.change_plan.specs.BlockDemand.{images_for, AreWritten};
 ghost use Rattle.change_plan.specs.area_image.declared.error.AreaError.TheVariants.{NoBlock};
@@ -44,7 +44,7 @@ fn apply_running<M: Media>(
     requires settled { IsSettled journal.old.geometry (M.seen journal.old.media) (M.left journal.old.media (M.moment journal.old.media)) pools.old }
     requires charged { units.old ≡ charge (graph journal.old.geometry (disk M.Media journal.old)) }
     requires can { CanApply journal.old.geometry (disk M.Media journal.old) (changes_of marked.now.change.now) marked.now.marks }
-    ensures ends { Ends M.Media (changes_of marked.now.change.now) marked.now.marks journal.old journal.new pools.new result }
+    ensures ends { EndsChange M.Media (changes_of marked.now.change.now) marked.now.marks journal.old journal.new pools.new result }
     ensures charged { OnOk result (units.new ≡ charge (graph journal.new.geometry (disk M.Media journal.new))) }
     ensures kept { OnErr result (units.new ≡ units.old) }
     ensures no_block { IsErrOf result NoBlock → (bs : List (ℕ × ℕ)) × AreWritten journal.old.geometry (disk M.Media journal.old) (changes_of marked.now.change.now) bs × (length (free_data pools.old) < length bs) }

@@ -10,7 +10,7 @@ ghost use Rattle.change_plan.specs.area_commit.Value.{PoolsView, data_pool, AreI
 ghost use Rattle.change_plan.specs.area_commit.Allocations.{WereTaken, SameFree, taken_data};
 ghost use Rattle.change_plan.specs.area_commit.Plan.{lost_in};
 ghost use Rattle.change_plan.specs.PlanAddition.{HasTaken};
-ghost use Rattle.shared_area.specs.ChangeApply.{CanApply, Ends};
+ghost use Rattle.shared_area.specs.ChangeApply.{CanApply, EndsChange};
 ghost use Rattle.shared_area.specs.Costs.{units_in};
 ghost use Rattle.shared_area.specs.Errors.{IsForced};
 ghost use Rattle.change_plan.specs.First.{IsWhole};
@@ -43,7 +43,7 @@ fn write_change<M: Media>(
     requires first { AreFirstFree journal.old.geometry (disk M.Media journal.old) (taken_data plan.taken) }
     requires nodes_room { length plan.lost.nodes.items ≤ pools.old.nodes.room }
     requires room { (t : Tier) → length (lost_in plan.lost t) ≤ (data_pool pools.old t).room }
-    ensures ends { Ends M.Media (changes_of change.now) marks journal.old journal.new pools.new result }
+    ensures ends { EndsChange M.Media (changes_of change.now) marks journal.old journal.new pools.new result }
     ensures slots { OnOk result (HaveSlots journal.old.geometry (disk M.Media journal.new) (fin.keys (changes_of change.now)) plan.slots.items) }
     ensures same { (before : PoolsView) → AreInOrder before → WereTaken before pools.old plan.taken → OnErr result (SameFree before pools.new) }
     ensures only { IfErr result IsForced }
@@ -75,7 +75,7 @@ pub fn reserve_blocks<M: Media>(
     requires whole { IsWhole journal.old.geometry (disk M.Media journal.old) (changes_of change.now) marks.digests plan plan.taken (Some marks) }
     requires took { HasTaken journal.old.geometry (disk M.Media journal.old) pools.old plan.taken }
     requires first { AreFirstFree journal.old.geometry (disk M.Media journal.old) (taken_data plan.taken) }
-    ensures ends { Ends M.Media (changes_of change.now) marks journal.old journal.new pools.new result }
+    ensures ends { EndsChange M.Media (changes_of change.now) marks journal.old journal.new pools.new result }
     ensures slots { OnOk result (HaveSlots journal.old.geometry (disk M.Media journal.new) (fin.keys (changes_of change.now)) plan.slots.items) }
     ensures same { (before : PoolsView) → AreInOrder before → WereTaken before pools.old plan.taken → OnErr result (SameFree before pools.new) }
     ensures only { IfErr result IsForced }
@@ -111,7 +111,7 @@ pub fn write_counted<M: Media>(
     requires whole { IsWhole journal.old.geometry (disk M.Media journal.old) (changes_of change.now) marks.digests plan plan.taken (Some marks) }
     requires took { HasTaken journal.old.geometry (disk M.Media journal.old) pools.old plan.taken }
     requires first { AreFirstFree journal.old.geometry (disk M.Media journal.old) (taken_data plan.taken) }
-    ensures ends { Ends M.Media (changes_of change.now) marks journal.old journal.new pools.new result }
+    ensures ends { EndsChange M.Media (changes_of change.now) marks journal.old journal.new pools.new result }
     ensures units { IfOk result (λ units. units ≡ units_in journal.old.geometry (disk M.Media journal.new) (fin.keys (changes_of change.now))) }
     ensures same { (before : PoolsView) → AreInOrder before → WereTaken before pools.old plan.taken → OnErr result (SameFree before pools.new) }
     ensures only { IfErr result IsForced }

@@ -1,5 +1,5 @@
 -- Why a region is refused, from what is known of the call that refused it.
-use Rattle.std.proofs.Common.{◌≡◌, ◌⊎◌, inl, inr, Ok, Err, Result, OnOk, IfErr, sym, ap, subst}
+use Rattle.std.proofs.Common.{◌≡◌, ◌⊎◌, inl, inr, Ok, Err, sym, ap, subst}
 use Rattle.libfs.specs.tier_device.declared.media.Media.{Ghosts}
 use Rattle.libfs.specs.tier_device.Media.{Rose}
 use Rattle.libfs.specs.client_log.declared.error.LogError.{LogError}

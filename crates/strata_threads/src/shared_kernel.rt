@@ -2,7 +2,7 @@ use libfs::{Kernel, Media};
 use std::sync::{Mutex, MutexGuard, Wait};
 
 /// The kernel of all threads, under a lock. Whoever holds the lock finds it at the end of a run of its machine, until a device has failed, where each mark stood before a region as the media were opened: whether they
-/// did `Kernel::history` answers.
+/// did `Kernel::has_history` answers.
 #[derive(Drop)]
 pub struct SharedKernel<M: Media> {
     lock: Mutex<Kernel<M>>,

@@ -27,7 +27,7 @@ use Rattle.event_steps.specs.libfs.declared.denial.Denied.{Denied}
 use Rattle.event_steps.specs.libfs.file_graph.Graph.{Graph, Node, is_among}
 use Rattle.event_steps.specs.libfs.file_graph.Numbers.{is_inode}
 use Rattle.event_steps.specs.libfs.log_record.declared.format.Record.{Record}
-use Rattle.event_steps.specs.libfs.world_invariant.ClientParts.{Stands}
+use Rattle.event_steps.specs.libfs.world_invariant.ClientParts.{IsSoundPart}
 use Rattle.event_steps.specs.libfs.world_invariant.ClientSteps.{with_client}
 use Rattle.event_steps.specs.libfs.world_invariant.Invariant.{IsCoherent}
 use Rattle.event_steps.specs.libfs.world_invariant.World.{Account, Client, World, has_lease, log_of, held_descriptors, undigested_records, whole_graph, world_state}
@@ -68,7 +68,7 @@ use Rattle.system_world.proofs.Supplies.{client_with, supplied}
 
 -- ---- a client's records behind its mark
 
-module _ {M : Type 0} (device : Ghosts M) (s : SeatView M) (g : Graph) (a : Account) (c accepted : ℕ) (call : Option Call) (p : Client) (m : Mark) (of : IsClientOf device s call p) (marked : StandsMarked m s a accepted p) (seated : IsSeated device s.client s.away) (stands : Stands g a c p) where
+module _ {M : Type 0} (device : Ghosts M) (s : SeatView M) (g : Graph) (a : Account) (c accepted : ℕ) (call : Option Call) (p : Client) (m : Mark) (of : IsClientOf device s call p) (marked : StandsMarked m s a accepted p) (seated : IsSeated device s.client s.away) (stands : IsSoundPart g a c p) where
   -- the records of the region that is away are those that it keeps
   kept_records : away_records device s.away ≡ s.client.sealed
   kept_records = elim (s.away) as (λ o. IsSeated device s.client o → away_records device o ≡ s.client.sealed) [

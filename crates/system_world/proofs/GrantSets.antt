@@ -7,7 +7,7 @@ use Rattle.event_steps.specs.call_effects.Knowledge.{Agrees}
 use Rattle.event_steps.specs.libfs.NeedService.{with_numbers}
 use Rattle.event_steps.specs.libfs.file_graph.Units.{charge}
 use Rattle.event_steps.specs.libfs.world_invariant.BookSteps.{HasRoom, IsUnbooked}
-use Rattle.event_steps.specs.libfs.world_invariant.ClientParts.{IsBooked, Stands}
+use Rattle.event_steps.specs.libfs.world_invariant.ClientParts.{IsBooked, IsSoundPart}
 use Rattle.event_steps.specs.libfs.world_invariant.Invariant.{IsCoherent}
 use Rattle.event_steps.specs.libfs.world_invariant.Logs.{is_made_in, units_in}
 use Rattle.event_steps.specs.libfs.world_invariant.World.{Account, Client, World, at, held_descriptors, log_of, moved_world, records_of, whole_graph, world_state}
@@ -46,7 +46,7 @@ module _ (w : World) (c : ℕ) (h : IsCoherent w) (is_c : is_client c ≡ true) 
   abbrev p : Client
   p = w.clients c
 
-  s : Stands w.kernel.shared a c p
+  s : IsSoundPart w.kernel.shared a c p
   s = h.stands c is_c
 
   pub sums : (units : ℕ) (numbers pins : ℕ → Bool) → sum_up_to 8 (λ d. (at w.kernel.accounts c (account_with a units numbers pins) d).units) + a.units ≡ sum_up_to 8 (λ d. (w.kernel.accounts d).units) + units
@@ -83,7 +83,7 @@ module _ (w : World) (c : ℕ) (h : IsCoherent w) (is_c : is_client c ≡ true) 
         by true made = absurd (false≢true (sym ((free i got).nobody c is_c) ∙ s.numbered.made i made))
         by false made = refl
 
-    still_stands : Stands w.kernel.shared richer c served
+    still_stands : IsSoundPart w.kernel.shared richer c served
     still_stands =
         let were : p.spare + units_in (records_of a p) ≤ a.units = s.units in
         record {
@@ -135,7 +135,7 @@ module _ (w : World) (c : ℕ) (h : IsCoherent w) (is_c : is_client c ≡ true) 
     abbrev bare_world : World
     bare_world = moved_world w c w.kernel.shared poorer bare
 
-    bare_stands : Stands w.kernel.shared poorer c bare
+    bare_stands : IsSoundPart w.kernel.shared poorer c bare
     bare_stands =
         let were : p.spare + units_in (records_of a p) ≤ a.units = s.units in
         record {

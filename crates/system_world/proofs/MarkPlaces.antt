@@ -17,7 +17,7 @@ use Rattle.event_steps.specs.libfs.client_log.HasTurn.{region_at}
 use Rattle.event_steps.specs.libfs.client_log.Turns.{place_of}
 use Rattle.event_steps.specs.libfs.client_log.View.{current_records}
 use Rattle.event_steps.specs.libfs.SealedRegion.{SealedRegionView}
-use Rattle.event_steps.specs.libfs.world_invariant.ClientParts.{Stands}
+use Rattle.event_steps.specs.libfs.world_invariant.ClientParts.{IsSoundPart}
 use Rattle.event_steps.specs.libfs.world_invariant.World.{Account, Client, undigested_records}
 use Rattle.event_steps.specs.libfs.world_invariant.World as world
 use Rattle.event_steps.specs.Sound.{IsAwayFrom, IsSeated}
@@ -99,7 +99,7 @@ module _ {M : Type 0} (device : Ghosts M) (s : SeatView M) (a : Account) (p : Cl
   -- ---- where it stands
 
   -- as the client's part of the world stands
-  pub mark_now : (m : Mark) (g : Graph) (c accepted : ℕ) → StandsMarked m s a accepted p → Stands g a c p → IsMarkBy device m s a p
+  pub mark_now : (m : Mark) (g : Graph) (c accepted : ℕ) → StandsMarked m s a accepted p → IsSoundPart g a c p → IsMarkBy device m s a p
   mark_now m g c accepted marked stands =
       elim (s.away) as (λ o. s.away ≡ o → IsMarkBy device m s a p) [
         | None ↦ λ is. inr (record {

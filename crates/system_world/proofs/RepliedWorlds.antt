@@ -12,7 +12,7 @@ use Rattle.event_steps.specs.call_effects.Knowledge.{Agrees, IsForgetful, Knowle
 use Rattle.event_steps.specs.call_effects.NodeView.{NodeView, view_after}
 use Rattle.event_steps.specs.client_plan.CallPlan.{change_of, made_by}
 use Rattle.event_steps.specs.libfs.client_view.AfterRecord.{knows_logged}
-use Rattle.event_steps.specs.libfs.world_invariant.ClientParts.{IsPending, Stands}
+use Rattle.event_steps.specs.libfs.world_invariant.ClientParts.{IsPending, IsSoundPart}
 use Rattle.event_steps.specs.libfs.world_invariant.ClientSteps.{IsBegun, after_reply, with_client}
 use Rattle.event_steps.specs.libfs.world_invariant.Invariant.{IsCoherent}
 use Rattle.event_steps.specs.libfs.world_invariant.Logs.{is_touched, is_written}
@@ -81,7 +81,7 @@ module _ (w : World) (c : ℕ) (b : Begun) (h : IsCoherent w) (is : IsBegun w c 
   abbrev kept : Knowledge
   kept = kept_by was.knows b
 
-  stood : Stands w.kernel.shared (w.kernel.accounts c) c was
+  stood : IsSoundPart w.kernel.shared (w.kernel.accounts c) c was
   stood = h.stands c is.client
 
   pending : IsPending was.status was.knows was.pins b
@@ -96,8 +96,8 @@ module _ (w : World) (c : ℕ) (b : Begun) (h : IsCoherent w) (is : IsBegun w c 
   there : then.clients c ≡ logged
   there = at_there w.clients c logged
 
-  stands_then : Stands then.kernel.shared (then.kernel.accounts c) c logged
-  stands_then = subst (λ (p : Client). Stands then.kernel.shared (then.kernel.accounts c) c p) there (then_holds.stands c is.client)
+  stands_then : IsSoundPart then.kernel.shared (then.kernel.accounts c) c logged
+  stands_then = subst (λ (p : Client). IsSoundPart then.kernel.shared (then.kernel.accounts c) c p) there (then_holds.stands c is.client)
 
   new_touched : makes b.operation ≡ true → is_among b.new (touches es) ≡ true
   new_touched m = subst (λ (fs : List Effect). is_among b.new (touches fs) ≡ true) (planned_answer was.knows (whole_graph w) (held_descriptors w) b.call b.new b.operation es h.sound (h.agrees c is.client) pending.planned).1

@@ -9,7 +9,7 @@ use Rattle.call_effects.specs.file_graph.Units.{charge}
 use Rattle.world_invariant.specs.World.{Account, Client, World, undigested_records, has_lease, log_of, whole_graph, held_descriptors, at, moved_world}
 use Rattle.world_invariant.specs.ClientParts.{IsBooked, IsBeside}
 use Rattle.world_invariant.specs.Invariant.{IsCoherent}
-use Rattle.world_invariant.specs.Parts.{BookPart, HoldsIn, ClientPart, HoldsOf, WorldPart, Book, Each, LeasesLegal, WholeSound, WholeKnown, Holds}
+use Rattle.world_invariant.specs.Parts.{BookPart, HoldsIn, ClientPart, HoldsOf, WorldPart, Book, Each, LeasesLegal, WholeSound, WholeKnown, HoldsOfWorld}
 use Rattle.world_invariant.proofs.Kernels.{each}
 use Rattle.world_invariant.proofs.Moved.{each_client, both_same, whole_same, held_same, units_moved, booked_moved, before_less, after_less}
 use Rattle.world_invariant.proofs.Parts.{book_parts, client_parts}
@@ -30,11 +30,11 @@ module _ (part : WorldPart) (w : World) (c : ℕ) (g : Graph) (a : Account) (p :
   pub moved_others : ((q : BookPart) → Book q ≢ part → HoldsIn q (moved_world w c g a p).kernel)
       → ((q : ClientPart) → Each q ≢ part → HoldsOf q g a c p)
       → OthersStand part w c g
-      → (LeasesLegal ≢ part → Holds LeasesLegal w)
+      → (LeasesLegal ≢ part → HoldsOfWorld LeasesLegal w)
       → (LeasesLegal ≢ part → IsLegalBeside w c p)
       → (WholeSound ≢ part → IsSound (whole_graph (moved_world w c g a p)) (held_descriptors (moved_world w c g a p)))
       → (WholeKnown ≢ part → AllKnow w c p (moved_world w c g a p))
-      → (q : WorldPart) → q ≢ part → Holds q (moved_world w c g a p)
+      → (q : WorldPart) → q ≢ part → HoldsOfWorld q (moved_world w c g a p)
   moved_others book own others were legal sound known (Book q) off = book q off
   moved_others book own others were legal sound known (Each q) off = λ d is_d. each_client w c g a p (λ e b r. is_client e ≡ true → HoldsOf q g b e r) (λ is. own q off) (λ e other is. others q off e is other) d is_d
   moved_others book own others were legal sound known LeasesLegal off = λ d e is_d is_e apart. beside d e is_d is_e apart
@@ -57,7 +57,7 @@ module _ (part : WorldPart) (w : World) (c : ℕ) (a : Account) (p : Client) (h 
       → ((q : ClientPart) → Each q ≢ part → HoldsOf q w.kernel.shared a c p)
       → (LeasesLegal ≢ part → IsLegalBeside w c p)
       → (WholeKnown ≢ part → Agrees p.knows (whole_graph w) (held_descriptors w))
-      → (q : WorldPart) → q ≢ part → Holds q now
+      → (q : WorldPart) → q ≢ part → HoldsOfWorld q now
   quiet_others book own legal known = moved_others part w c w.kernel.shared a p is_c book own
       (λ q off d is_d other. client_parts w.kernel.shared (w.kernel.accounts d) d (w.clients d) (h.stands d is_d) q)
       (λ off. h.beside) legal
@@ -100,7 +100,7 @@ module _ (part : WorldPart) (w : World) (c : ℕ) (a : Account) (p : Client) (h 
 
   pub less_others : ((q : ClientPart) → Each q ≢ part → HoldsOf q w.kernel.shared a c p)
       → (WholeKnown ≢ part → Agrees p.knows (whole_graph w) (held_descriptors w))
-      → (q : WorldPart) → q ≢ part → Holds q (moved_world w c w.kernel.shared a p)
+      → (q : WorldPart) → q ≢ part → HoldsOfWorld q (moved_world w c w.kernel.shared a p)
   less_others own known = quiet_others part w c a p h is_c less.log less.own
       (λ q off. book_parts (moved_world w c w.kernel.shared a p).kernel booked_less q) own
       (λ off d is_d other. (before_less w c p h is_c less.writes d is_d other, after_less w c p h is_c less.leases d is_d other)) known

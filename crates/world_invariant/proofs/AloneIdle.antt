@@ -13,7 +13,7 @@ use Rattle.world_invariant.specs.Limits.{AreWithin}
 use Rattle.world_invariant.specs.Logs.{after_records, after_clients}
 use Rattle.world_invariant.specs.World.{Account, Client, World, undigested_records, whole_graph, held_descriptors, at, moved_world}
 use Rattle.world_invariant.specs.FormatWorld.{knows_nothing, idle_client, idle_account, idle_world}
-use Rattle.world_invariant.specs.Parts.{BookPart, NumbersFree, NumbersInRange, NumbersInOneHand, NodesWithin, UnitsFit, HoldsIn, ClientPart, HoldsOf, WorldPart, Book, Each, Holds}
+use Rattle.world_invariant.specs.Parts.{BookPart, NumbersFree, NumbersInRange, NumbersInOneHand, NodesWithin, UnitsFit, HoldsIn, ClientPart, HoldsOf, WorldPart, Book, Each, HoldsOfWorld}
 use Rattle.world_invariant.proofs.Alone.{moved_others}
 use Rattle.world_invariant.proofs.Idle.{none_some, idle_held, idle_stands}
 use Rattle.world_invariant.proofs.Kernels.{each}
@@ -73,7 +73,7 @@ module _ (part : WorldPart) (capacity : ℕ) (g : Graph) (a : Account) (p : Clie
   one_known : (k : Knowledge) → Agrees k (after_records g (undigested_records a p)) nobody → Agrees k (whole_graph one) (held_descriptors one)
   one_known k agrees = both_same (λ s o. Agrees k s o) one_whole one_held agrees
 
-  pub one_others : (q : WorldPart) → q ≢ part → Holds q one
+  pub one_others : (q : WorldPart) → q ≢ part → HoldsOfWorld q one
   one_others = moved_others part (idle_world capacity g) 1 g a p refl one_book is.own
       (λ q off d is_d other. client_parts g (idle_account 0) d (idle_client d 0) (idle_stands g d 0) q)
       (λ off c d is_c is_d other i e. refl)

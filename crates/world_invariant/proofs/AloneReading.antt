@@ -17,7 +17,7 @@ use Rattle.world_invariant.specs.Invariant.{IsCoherent}
 use Rattle.world_invariant.specs.LeaseSteps.{CanRead, CanForgetBlocks, blocks_forgotten}
 use Rattle.world_invariant.specs.PairWalk.{written_world}
 use Rattle.world_invariant.specs.BrokenWorlds.{read_ready, begun_read, begun_reading}
-use Rattle.world_invariant.specs.Parts.{ClientPart, UnwipedIsIdle, RecordsPaid, RecordsNameNone, RecordsKeepLimits, UnitsBooked, BegunPlanned, BegunHasEffects, BegunPinned, SettledIdle, HoldsOf, Each, Holds, BreaksAlone}
+use Rattle.world_invariant.specs.Parts.{ClientPart, UnwipedIsIdle, RecordsPaid, RecordsNameNone, RecordsKeepLimits, UnitsBooked, BegunPlanned, BegunHasEffects, BegunPinned, SettledIdle, HoldsOf, Each, HoldsOfWorld, BreaksAlone}
 use Rattle.world_invariant.proofs.Alone.{less_others, same_less}
 use Rattle.world_invariant.proofs.Fetches.{blocks_fetched_hold}
 use Rattle.world_invariant.proofs.Idle.{none_some}
@@ -95,5 +95,5 @@ read_unknown : run_part (part_of forgotten) (pread forgotten.own 0 0 1) ≡ Unkn
 unfolding pread
 read_unknown = simp parts refl
 
-pub reading_lost : Holds (Each BegunPlanned) (blocks_forgotten begun_reading 1 (λ i b. None)) → ⊥
+pub reading_lost : HoldsOfWorld (Each BegunPlanned) (blocks_forgotten begun_reading 1 (λ i b. None)) → ⊥
 reading_lost is = absurd (let clash : Unknown (blocks_missing 2 0 1) ≡ Known (Ok begun_read.operation) = sym read_unknown ∙ (is 1 refl begun_read refl).comes in cc)

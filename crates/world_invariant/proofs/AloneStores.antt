@@ -12,7 +12,7 @@ use Rattle.world_invariant.specs.Limits.{AreWithin}
 use Rattle.world_invariant.specs.World.{whole_graph}
 use Rattle.world_invariant.specs.FormatWorld.{idle_client, idle_account, idle_world}
 use Rattle.world_invariant.specs.BrokenWorlds.{unpaid_record, one_file, rootless, with_bytes, large_file, overfull}
-use Rattle.world_invariant.specs.Parts.{NumbersFree, NumbersInRange, NumbersInOneHand, NodesWithin, UnitsFit, WorldPart, Book, Each, LeasesLegal, WholeSound, WholeKnown, Holds, BreaksAlone}
+use Rattle.world_invariant.specs.Parts.{NumbersFree, NumbersInRange, NumbersInOneHand, NodesWithin, UnitsFit, WorldPart, Book, Each, LeasesLegal, WholeSound, WholeKnown, HoldsOfWorld, BreaksAlone}
 use Rattle.world_invariant.proofs.Idle.{idle_stands, idle_agrees, idle_whole, idle_held}
 use Rattle.world_invariant.proofs.Parts.{client_parts}
 use Rattle.world_invariant.proofs.NewNodes.{file_sound, file_within, makes_file}
@@ -22,7 +22,7 @@ use Rattle.world_invariant.proofs.BrokenStores.{rootless_broken}
 
 -- all parts but one of such a world
 module _ (part : WorldPart) (capacity : ℕ) (g : Graph) (fits : Book UnitsFit ≢ part → charge g ≤ capacity) (sound : WholeSound ≢ part → IsSound g nobody) (within : Book NodesWithin ≢ part → AreWithin g) where
-  pub idle_others : (q : WorldPart) → q ≢ part → Holds q (idle_world capacity g)
+  pub idle_others : (q : WorldPart) → q ≢ part → HoldsOfWorld q (idle_world capacity g)
   idle_others (Book NumbersFree) off = λ c i is_c e. absurd (false≢true e)
   idle_others (Book NumbersInRange) off = λ c i is_c e. absurd (false≢true e)
   idle_others (Book NumbersInOneHand) off = λ c d i is_c is_d other e. refl

@@ -10,7 +10,7 @@ use Rattle.call_effects.proofs.Rises.{growth_local}
 use Rattle.world_invariant.specs.Logs.{after_records, is_written, is_touched, units_in, IsPaid, ArePaid, IsNameless, Keeps, NamesNone, NameNone, KeepLimits}
 use Rattle.world_invariant.specs.Limits.{IsWithin}
 use Rattle.world_invariant.specs.World.{Begun, Failed, Status, Client, Account, World, undigested_records, records_of, change_of, log_of, whole_graph, held_descriptors, world_state, moved_world}
-use Rattle.world_invariant.specs.ClientParts.{is_settled, IsPending, Stands}
+use Rattle.world_invariant.specs.ClientParts.{is_settled, IsPending, IsSoundPart}
 use Rattle.world_invariant.specs.Invariant.{IsCoherent}
 use Rattle.world_invariant.specs.ClientSteps.{CanBegin, call_begun, IsBegun, given_up, with_client}
 use Rattle.world_invariant.proofs.Records.{either, both, append_nil, front_written, written_append, or_neither, units_append}
@@ -38,7 +38,7 @@ module _ (w : World) (c : ℕ) (b : Begun) (h : IsCoherent w) (can : CanBegin w 
   abbrev account : Account
   account = w.kernel.accounts c
 
-  s : Stands w.kernel.shared account c old
+  s : IsSoundPart w.kernel.shared account c old
   s = h.stands c can.client
 
   log_leased : (i : ℕ) → is_written i (log_of w c ++ (b.change ∷ [])) ≡ true → old.writes i ≡ true
@@ -113,7 +113,7 @@ module _ (w : World) (c : ℕ) (b : Begun) (h : IsCoherent w) (is : IsBegun w c 
   abbrev its : Account
   its = w.kernel.accounts c
 
-  stood : Stands w.kernel.shared its c was
+  stood : IsSoundPart w.kernel.shared its c was
   stood = h.stands c is.client
 
   abbrev less : Client

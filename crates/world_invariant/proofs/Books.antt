@@ -10,7 +10,7 @@ use Rattle.call_effects.specs.Fits.{IsNew}
 use Rattle.call_effects.proofs.Served.{less_agrees}
 use Rattle.world_invariant.specs.Logs.{is_made_in, units_in}
 use Rattle.world_invariant.specs.World.{Client, Account, World, records_of, log_of, whole_graph, held_descriptors, world_state, at, moved_world}
-use Rattle.world_invariant.specs.ClientParts.{IsBooked, Stands}
+use Rattle.world_invariant.specs.ClientParts.{IsBooked, IsSoundPart}
 use Rattle.world_invariant.specs.Invariant.{IsCoherent}
 use Rattle.world_invariant.specs.LeaseSteps.{also, without}
 use Rattle.world_invariant.specs.BookSteps.{HasRoom, units_granted, units_returned, IsUnbooked, number_granted, CanReturn, number_returned, inode_pinned, CanUnpin, after_unpin}
@@ -61,7 +61,7 @@ module _ (w : World) (c units : ℕ) (h : IsCoherent w) (is_c : is_client c ≡ 
   abbrev account : Account
   account = w.kernel.accounts c
 
-  s : Stands w.kernel.shared account c old
+  s : IsSoundPart w.kernel.shared account c old
   s = h.stands c is_c
 
   abbrev richer : Account
@@ -116,7 +116,7 @@ module _ (w : World) (c i : ℕ) (h : IsCoherent w) (is_c : is_client c ≡ true
   abbrev its : Account
   its = w.kernel.accounts c
 
-  stood : Stands w.kernel.shared its c was
+  stood : IsSoundPart w.kernel.shared its c was
   stood = h.stands c is_c
 
   abbrev with_number : Client
@@ -177,7 +177,7 @@ module _ (w : World) (c i : ℕ) (h : IsCoherent w) (can : CanReturn w c i) wher
   abbrev book : Account
   book = w.kernel.accounts c
 
-  has : Stands w.kernel.shared book c had
+  has : IsSoundPart w.kernel.shared book c had
   has = h.stands c can.client
 
   abbrev without_number : Client

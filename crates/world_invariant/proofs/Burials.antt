@@ -14,7 +14,7 @@ use Rattle.call_effects.specs.Knowledge.{Agrees}
 use Rattle.world_invariant.specs.World.{Region, Wiped, Away, Status, Alive, Settled, Buried, Client, Account, World, undigested_records, log_of, whole_graph, held_descriptors, world_state, at, moved_world}
 use Rattle.world_invariant.specs.Invariant.{IsCoherent}
 use Rattle.world_invariant.specs.FormatWorld.{knows_nothing, idle_client, idle_account}
-use Rattle.world_invariant.specs.ClientParts.{Stands, is_settled}
+use Rattle.world_invariant.specs.ClientParts.{IsSoundPart, is_settled}
 use Rattle.world_invariant.specs.Burial.{CanDepart, after_departure, CanBury, client_buried, CanJoin, client_joined}
 use Rattle.world_invariant.proofs.Idle.{none_some, idle_stands, nothing_left}
 use Rattle.world_invariant.proofs.Begins.{tree_same}
@@ -59,10 +59,10 @@ module _ (w : World) (c : ℕ) (h : IsCoherent w) (can : CanDepart w c) where
   held_is : held_descriptors (after_departure w c) ≡ without_client (held_descriptors w) c
   held_is = held_moved w c w.kernel.shared account leaver can.client
 
-  s : Stands w.kernel.shared account c (w.clients c)
+  s : IsSoundPart w.kernel.shared account c (w.clients c)
   s = h.stands c can.client
 
-  departed_stands : Stands w.kernel.shared account c leaver
+  departed_stands : IsSoundPart w.kernel.shared account c leaver
   departed_stands = record {
     number = s.number;
     rests = record { closed = λ e n. refl; idle = λ e. can.idle };
@@ -150,7 +150,7 @@ module _ (w : World) (c : ℕ) (other : Region) (ready : Bool) (status : Status)
     granted = λ i e. absurd (false≢true e);
   }
 
-  grave_stands : Stands w.kernel.shared empty c grave
+  grave_stands : IsSoundPart w.kernel.shared empty c grave
   grave_stands = let idle = idle_stands w.kernel.shared c mark in record {
     number = idle.number;
     rests = record { closed = λ e n. refl; idle = λ e. refl };

@@ -9,7 +9,7 @@ use Rattle.call_effects.specs.log_record.declared.format.Record.{Record}
 use Rattle.world_invariant.specs.Logs.{after_records, is_written, is_made_in, IsMadeOnce, units_in, IsPaid, ArePaid, Keeps, NamesNone, NameNone, KeepLimits}
 use Rattle.world_invariant.specs.Limits.{IsWithin}
 use Rattle.world_invariant.specs.World.{Client, Account, undigested_records, records_of, change_of}
-use Rattle.world_invariant.specs.ClientParts.{Stands}
+use Rattle.world_invariant.specs.ClientParts.{IsSoundPart}
 use Rattle.world_invariant.specs.Machine.{account_after}
 use Rattle.world_invariant.proofs.Records.{either, both, rest_written, units_append}
 use Rattle.world_invariant.proofs.Made.{front_unmade, rest_made, rest_unmade, once_rest, once_apart, made_append}
@@ -28,7 +28,7 @@ both_of true false e = (refl, refl)
 both_of true true e = absurd (false≢true e)
 both_of false b e = absurd (false≢true e)
 
-module _ (g : Graph) (a : Account) (c : ℕ) (p : Client) (first rest : List Record) (s : Stands g a c p) (split : drop (a.mark - p.past) p.sealed ≡ first ++ rest) where
+module _ (g : Graph) (a : Account) (c : ℕ) (p : Client) (first rest : List Record) (s : IsSoundPart g a c p) (split : drop (a.mark - p.past) p.sealed ≡ first ++ rest) where
   abbrev after : Account
   after = account_after a first
 
@@ -92,7 +92,7 @@ module _ (g : Graph) (a : Account) (c : ℕ) (p : Client) (first rest : List Rec
     | inr clean ↦ clean
   ]
 
-  pub digested_stands : Stands shared after c p
+  pub digested_stands : IsSoundPart shared after c p
   digested_stands = record {
     number = s.number;
     rests = s.rests;

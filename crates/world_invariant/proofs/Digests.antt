@@ -11,7 +11,7 @@ use Rattle.call_effects.specs.Knowledge.{Agrees}
 use Rattle.world_invariant.specs.Logs.{after_records, is_written, is_made_in, units_in, IsPaid, Keeps}
 use Rattle.world_invariant.specs.Limits.{IsWithin}
 use Rattle.world_invariant.specs.World.{Client, Account, World, undigested_records, records_of, change_of, log_of, all_of, whole_graph, held_descriptors, world_state, at}
-use Rattle.world_invariant.specs.ClientParts.{IsBooked, Stands}
+use Rattle.world_invariant.specs.ClientParts.{IsBooked, IsSoundPart}
 use Rattle.world_invariant.specs.Invariant.{IsCoherent}
 use Rattle.world_invariant.specs.KernelSteps.{CanDigest, records_digested}
 use Rattle.world_invariant.proofs.Records.{either, both, records_stay, front_unwritten}
@@ -42,7 +42,7 @@ module _ (w : World) (c : ℕ) (first rest : List Record) (h : IsCoherent w) (ca
   abbrev later : List Record
   later = rest ++ p.current
 
-  s : Stands w.kernel.shared account c p
+  s : IsSoundPart w.kernel.shared account c p
   s = h.stands c can.client
 
   log_was : log_of w c ≡ first ++ later

@@ -19,7 +19,7 @@ use Rattle.call_effects.proofs.KnownMissing.{stays_known}
 use Rattle.call_effects.proofs.PutBack.{stands_back}
 use Rattle.call_effects.proofs.Served.{copy_agrees, blocks_agree}
 use Rattle.world_invariant.specs.World.{Begun, Client, World, has_lease, log_of, whole_graph, held_descriptors, world_state}
-use Rattle.world_invariant.specs.ClientParts.{IsPending, Stands}
+use Rattle.world_invariant.specs.ClientParts.{IsPending, IsSoundPart}
 use Rattle.world_invariant.specs.Invariant.{IsCoherent}
 use Rattle.world_invariant.specs.LeaseSteps.{own_view, CanFetch, after_fetch, CanRead, blocks_fetched}
 use Rattle.world_invariant.proofs.Owners.{whole_at}
@@ -53,7 +53,7 @@ module _ (w : World) (c i : ℕ) (h : IsCoherent w) (can : CanFetch w c i) where
   abbrev p : Client
   p = record (w.clients c) { knows = more }
 
-  s : Stands w.kernel.shared (w.kernel.accounts c) c (w.clients c)
+  s : IsSoundPart w.kernel.shared (w.kernel.accounts c) c (w.clients c)
   s = h.stands c can.client
 
   seen : whole_graph w i ≡ own_view w c i
@@ -105,7 +105,7 @@ module _ (w : World) (c i first count names : ℕ) (bytes : List ℕ) (h : IsCoh
   abbrev reader : Client
   reader = record (w.clients c) { knows = knows }
 
-  stood : Stands w.kernel.shared (w.kernel.accounts c) c (w.clients c)
+  stood : IsSoundPart w.kernel.shared (w.kernel.accounts c) c (w.clients c)
   stood = h.stands c can.client
 
   file_is : whole_graph w i ≡ Some (record { names = names; body = FileBody bytes })

@@ -4,7 +4,7 @@ use Rattle.call_effects.specs.Blocks.{range_by}
 use Rattle.call_effects.specs.Knowledge.{Knowledge, part_of}
 use Rattle.call_effects.proofs.Served.{less_agrees}
 use Rattle.world_invariant.specs.World.{Begun, Client, World, whole_graph, held_descriptors, world_state}
-use Rattle.world_invariant.specs.ClientParts.{IsPending, Stands}
+use Rattle.world_invariant.specs.ClientParts.{IsPending, IsSoundPart}
 use Rattle.world_invariant.specs.Invariant.{IsCoherent}
 use Rattle.world_invariant.specs.LeaseSteps.{CanForget, forget_world, CanForgetBlocks, blocks_forgotten}
 use Rattle.world_invariant.proofs.Idle.{none_some}
@@ -16,7 +16,7 @@ module _ (w : World) (c : ℕ) (less : Knowledge) (h : IsCoherent w) (can : CanF
   abbrev p : Client
   p = record (w.clients c) { knows = less }
 
-  s : Stands w.kernel.shared (w.kernel.accounts c) c (w.clients c)
+  s : IsSoundPart w.kernel.shared (w.kernel.accounts c) c (w.clients c)
   s = h.stands c can.client
 
   own_same : less.own ≡ (w.clients c).knows.own
@@ -41,7 +41,7 @@ module _ (w : World) (c : ℕ) (fewer : ℕ → ℕ → Option (List ℕ)) (h : 
   abbrev q : Client
   q = record (w.clients c) { knows = left }
 
-  t : Stands w.kernel.shared (w.kernel.accounts c) c (w.clients c)
+  t : IsSoundPart w.kernel.shared (w.kernel.accounts c) c (w.clients c)
   t = h.stands c can.client
 
   still_pending : (b : Begun) → (w.clients c).begun ≡ Some b → IsPending (w.clients c).status left (w.clients c).pins b

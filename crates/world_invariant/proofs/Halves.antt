@@ -8,7 +8,7 @@ use Rattle.call_effects.specs.Fits.{IsNew}
 use Rattle.call_effects.proofs.Served.{less_agrees}
 use Rattle.world_invariant.specs.Logs.{is_made_in, units_in}
 use Rattle.world_invariant.specs.World.{Client, Account, World, records_of, log_of, whole_graph, held_descriptors, world_state, at}
-use Rattle.world_invariant.specs.ClientParts.{Stands}
+use Rattle.world_invariant.specs.ClientParts.{IsSoundPart}
 use Rattle.world_invariant.specs.Invariant.{IsCoherent}
 use Rattle.world_invariant.specs.LeaseSteps.{also, without}
 use Rattle.world_invariant.specs.BookSteps.{HasRoom, IsUnbooked, CanReturn, CanUnpin}
@@ -33,7 +33,7 @@ module _ (w : World) (c units : ℕ) (h : IsCoherent w) (is_c : is_client c ≡ 
   abbrev a : Account
   a = w.kernel.accounts c
 
-  s : Stands w.kernel.shared a c p
+  s : IsSoundPart w.kernel.shared a c p
   s = h.stands c is_c
 
   abbrev richer : Account
@@ -101,7 +101,7 @@ module _ (w : World) (c i : ℕ) (h : IsCoherent w) (is_c : is_client c ≡ true
   abbrev b : Account
   b = w.kernel.accounts c
 
-  t : Stands w.kernel.shared b c q
+  t : IsSoundPart w.kernel.shared b c q
   t = h.stands c is_c
 
   abbrev with_it : Account
@@ -194,7 +194,7 @@ module _ (w : World) (c i : ℕ) (h : IsCoherent w) (is_c : is_client c ≡ true
   abbrev e : Account
   e = w.kernel.accounts c
 
-  u : Stands w.kernel.shared e c r
+  u : IsSoundPart w.kernel.shared e c r
   u = h.stands c is_c
 
   abbrev with_pin : Account

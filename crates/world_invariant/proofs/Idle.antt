@@ -12,7 +12,7 @@ use Rattle.call_effects.specs.log_record.declared.format.Record.{Record}
 use Rattle.world_invariant.specs.Limits.{AreWithin}
 use Rattle.world_invariant.specs.Logs.{after_clients, is_written, ArePaid, NameNone, KeepLimits, units_in, is_made_in, IsMadeOnce}
 use Rattle.world_invariant.specs.World.{records_of, whole_graph, held_descriptors, world_state}
-use Rattle.world_invariant.specs.ClientParts.{Stands}
+use Rattle.world_invariant.specs.ClientParts.{IsSoundPart}
 use Rattle.world_invariant.specs.Invariant.{IsCoherent}
 use Rattle.call_effects.specs.Knowledge.{Agrees}
 use Rattle.world_invariant.specs.FormatWorld.{knows_nothing, idle_client, idle_account, idle_world}
@@ -40,7 +40,7 @@ pub nothing_left : (k : ℕ) → drop {A = Record} k [] ++ [] ≡ []
 nothing_left zero = refl
 nothing_left (suc k) = refl
 
-pub idle_stands : (g : Graph) (c past : ℕ) → Stands g (idle_account past) c (idle_client c past)
+pub idle_stands : (g : Graph) (c past : ℕ) → IsSoundPart g (idle_account past) c (idle_client c past)
 idle_stands g c past = record {
   number = refl;
   rests = record { closed = λ e n. refl; idle = λ e. refl };

@@ -6,12 +6,12 @@ use Rattle.call_effects.specs.Fits.{IsNew}
 use Rattle.call_effects.specs.Knowledge.{Agrees}
 use Rattle.world_invariant.specs.Logs.{is_made_in}
 use Rattle.world_invariant.specs.World.{World, log_of, whole_graph, held_descriptors}
-use Rattle.world_invariant.specs.Parts.{BookPart, NumbersFree, NumbersInRange, NumbersInOneHand, HoldsIn, ClientPart, OwnNumber, MadeBooked, GrantedBooked, GrantedUnused, HoldsOf, WorldPart, Book, Each, WholeKnown, Holds, HasTrueCopies}
+use Rattle.world_invariant.specs.Parts.{BookPart, NumbersFree, NumbersInRange, NumbersInOneHand, HoldsIn, ClientPart, OwnNumber, MadeBooked, GrantedBooked, GrantedUnused, HoldsOf, WorldPart, Book, Each, WholeKnown, HoldsOfWorld, HasTrueCopies}
 use Rattle.world_invariant.proofs.Made.{clients_none}
 use Rattle.world_invariant.proofs.Owners.{client_is}
 use Rattle.world_invariant.proofs.Records.{still_false}
 
-module _ (w : World) (has : (q : WorldPart) → q ≢ WholeKnown → Holds q w) (c : ℕ) (is_c : is_client c ≡ true) where
+module _ (w : World) (has : (q : WorldPart) → q ≢ WholeKnown → HoldsOfWorld q w) (c : ℕ) (is_c : is_client c ≡ true) where
   of_client : (q : ClientPart) (d : ℕ) → is_client d ≡ true → HoldsOf q w.kernel.shared (w.kernel.accounts d) d (w.clients d)
   of_client q = has (Each q) (λ e. absurd (cc))
 

@@ -8,7 +8,7 @@ use Rattle.call_effects.specs.Knowledge.{Knowledge, IsForgetful}
 use Rattle.call_effects.proofs.Served.{less_agrees}
 use Rattle.world_invariant.specs.Logs.{is_written}
 use Rattle.world_invariant.specs.World.{Client, World, records_of, has_lease, whole_graph, held_descriptors, world_state}
-use Rattle.world_invariant.specs.ClientParts.{Stands}
+use Rattle.world_invariant.specs.ClientParts.{IsSoundPart}
 use Rattle.world_invariant.specs.Invariant.{IsCoherent}
 use Rattle.world_invariant.specs.LeaseSteps.{also, without, IsUnwritten, IsUnheld, read_taken, write_taken, CanGive, without_copies, after_give}
 use Rattle.world_invariant.proofs.Records.{both, or_first, or_rest, or_neither, in_first, in_rest}
@@ -30,7 +30,7 @@ module _ (w : World) (c i : ℕ) (h : IsCoherent w) (is_c : is_client c ≡ true
   abbrev writer : Client
   writer = record (w.clients c) { reads = without (w.clients c).reads i; writes = also (w.clients c).writes i }
 
-  s : Stands w.kernel.shared (w.kernel.accounts c) c (w.clients c)
+  s : IsSoundPart w.kernel.shared (w.kernel.accounts c) c (w.clients c)
   s = h.stands c is_c
 
   reader_holds : (j : ℕ) → has_lease (w.clients c) j ≡ true → has_lease reader j ≡ true
@@ -108,7 +108,7 @@ module _ (w : World) (c i : ℕ) (h : IsCoherent w) (can : CanGive w c i) where
   abbrev giver : Client
   giver = record (w.clients c) { reads = without (w.clients c).reads i; writes = without (w.clients c).writes i; knows = without_copies (w.clients c).knows i }
 
-  stood : Stands w.kernel.shared (w.kernel.accounts c) c (w.clients c)
+  stood : IsSoundPart w.kernel.shared (w.kernel.accounts c) c (w.clients c)
   stood = h.stands c can.client
 
   still : (has : ℕ → Bool) (j : ℕ) → j ≢ i → without has i j ≡ has j

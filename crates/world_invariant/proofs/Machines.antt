@@ -14,7 +14,7 @@ use Rattle.call_effects.specs.log_record.declared.format.Record.{Record}
 use Rattle.world_invariant.specs.Limits.{IsWithin}
 use Rattle.world_invariant.specs.Logs.{after_records, is_written, is_made_in, IsMadeOnce, units_in, IsPaid, Along, Keeps, NamesNone}
 use Rattle.world_invariant.specs.World.{Account, Client, Kernel, undigested_records, records_of, change_of, at}
-use Rattle.world_invariant.specs.ClientParts.{IsLogged, Stands}
+use Rattle.world_invariant.specs.ClientParts.{IsLogged, IsSoundPart}
 use Rattle.world_invariant.specs.FormatWorld.{idle_account}
 use Rattle.world_invariant.specs.LeaseSteps.{also, without}
 use Rattle.world_invariant.specs.BookSteps.{HasRoom, IsUnbooked}
@@ -33,7 +33,7 @@ use Rattle.world_invariant.proofs.Reclaims.{charge_less}
 -- ---- what is sealed
 
 -- a client's sealed region, as a part of its own
-pub sealed_stands : (g : Graph) (a : Account) (c : ℕ) (p : Client) → Stands g a c p → StandsSealed g a (sealed_of p)
+pub sealed_stands : (g : Graph) (a : Account) (c : ℕ) (p : Client) → IsSoundPart g a c p → StandsSealed g a (sealed_of p)
 sealed_stands g a c p s =
     let units : units_in ((drop (a.mark - p.past) p.sealed ++ p.current) ++ change_of p.begun) ≡ units_in (drop (a.mark - p.past) p.sealed ++ p.current) + units_in (change_of p.begun) = units_append (drop (a.mark - p.past) p.sealed ++ p.current) (change_of p.begun) in
     let parts : units_in (drop (a.mark - p.past) p.sealed ++ p.current) ≡ units_in (drop (a.mark - p.past) p.sealed) + units_in p.current = units_append (drop (a.mark - p.past) p.sealed) p.current in

@@ -10,7 +10,7 @@ use Rattle.call_effects.specs.log_record.declared.format.Record.{Record}
 use Rattle.world_invariant.specs.Limits.{IsWithin}
 use Rattle.world_invariant.specs.Logs.{after_records, after_clients}
 use Rattle.world_invariant.specs.World.{Account, Kernel, World, undigested_records, log_of, whole_graph, held_descriptors, world_state}
-use Rattle.world_invariant.specs.ClientParts.{Stands, IsBooked}
+use Rattle.world_invariant.specs.ClientParts.{IsSoundPart, IsBooked}
 use Rattle.world_invariant.specs.Invariant.{IsCoherent}
 use Rattle.world_invariant.specs.KernelSteps.{IsMigrated, run_migrated}
 use Rattle.world_invariant.specs.Machine.{Machine, IsRunning, migrate}
@@ -74,7 +74,7 @@ module _ (w : World) (after : Kernel) (is : IsMigrated w.kernel after) where
   pub migrated_holds : IsCoherent w → IsCoherent (run_migrated w after)
   migrated_holds h = record {
     booked = booked_still w.kernel after is h.booked;
-    stands = λ c is_c. subst (λ g. Stands g (after.accounts c) c (w.clients c)) (sym (shared_same w.kernel after is)) (subst (λ a. Stands w.kernel.shared a c (w.clients c)) (sym (is.accounts c is_c)) (h.stands c is_c));
+    stands = λ c is_c. subst (λ g. IsSoundPart g (after.accounts c) c (w.clients c)) (sym (shared_same w.kernel after is)) (subst (λ a. IsSoundPart w.kernel.shared a c (w.clients c)) (sym (is.accounts c is_c)) (h.stands c is_c));
     beside = h.beside;
     sound = subst (λ g. IsSound g (held_descriptors w)) (sym migrated_whole) h.sound;
     agrees = λ c is_c. subst (λ g. Agrees (w.clients c).knows g (held_descriptors w)) (sym migrated_whole) (h.agrees c is_c);

@@ -10,7 +10,7 @@ use Rattle.call_effects.specs.Knowledge.{Agrees}
 use Rattle.world_invariant.specs.Limits.{AreWithin}
 use Rattle.world_invariant.specs.Logs.{after_clients}
 use Rattle.world_invariant.specs.World.{Client, Account, World, undigested_records, records_of, has_lease, log_of, all_of, whole_graph, held_descriptors, at, moved_world}
-use Rattle.world_invariant.specs.ClientParts.{Stands, IsBooked, IsBeside}
+use Rattle.world_invariant.specs.ClientParts.{IsSoundPart, IsBooked, IsBeside}
 use Rattle.world_invariant.specs.Invariant.{IsCoherent}
 use Rattle.world_invariant.proofs.Kernels.{each}
 use Rattle.world_invariant.proofs.Kernels as kernels
@@ -74,8 +74,8 @@ at_same {A} f c = λ t d. there d t
 
 module _ (w : World) (c : ℕ) (g : Graph) (a : Account) (p : Client) (h : IsCoherent w) (is_c : is_client c ≡ true) where
   pub holds_moved : IsBooked (moved_world w c g a p).kernel
-      → Stands g a c p
-      → ((d : ℕ) → is_client d ≡ true → d ≢ c → Stands g (w.kernel.accounts d) d (w.clients d))
+      → IsSoundPart g a c p
+      → ((d : ℕ) → is_client d ≡ true → d ≢ c → IsSoundPart g (w.kernel.accounts d) d (w.clients d))
       → ((d : ℕ) → is_client d ≡ true → d ≢ c → IsBeside p (w.clients d))
       → ((d : ℕ) → is_client d ≡ true → d ≢ c → IsBeside (w.clients d) p)
       → IsSound (whole_graph (moved_world w c g a p)) (held_descriptors (moved_world w c g a p))
@@ -84,7 +84,7 @@ module _ (w : World) (c : ℕ) (g : Graph) (a : Account) (p : Client) (h : IsCoh
       → IsCoherent (moved_world w c g a p)
   holds_moved booked own others before after sound own_agrees agrees = record {
     booked = booked;
-    stands = each_client w c g a p (λ d b q. is_client d ≡ true → Stands g b d q) (λ is. own) (λ d other is_d. others d is_d other);
+    stands = each_client w c g a p (λ d b q. is_client d ≡ true → IsSoundPart g b d q) (λ is. own) (λ d other is_d. others d is_d other);
     beside = λ d e is_d is_e apart. beside d e is_d is_e apart;
     sound = sound;
     agrees = each w.clients c p (λ d q. is_client d ≡ true → Agrees q.knows (whole_graph (moved_world w c g a p)) (held_descriptors (moved_world w c g a p))) (λ is. own_agrees) (λ d other is_d. agrees d is_d other);
@@ -112,14 +112,14 @@ module _ (w : World) (c : ℕ) (g : Graph) (a : Account) (p : Client) (h : IsCoh
 
   -- The whole and what is open stay, and the client holds no more than before.
   pub quiet : g ≡ w.kernel.shared → undigested_records a p ≡ log_of w c → p.knows.own ≡ (w.clients c).knows.own
-      → IsBooked (moved_world w c g a p).kernel → Stands g a c p
+      → IsBooked (moved_world w c g a p).kernel → IsSoundPart g a c p
       → ((d : ℕ) → is_client d ≡ true → d ≢ c → IsBeside p (w.clients d))
       → ((d : ℕ) → is_client d ≡ true → d ≢ c → IsBeside (w.clients d) p)
       → Agrees p.knows (whole_graph w) (held_descriptors w) → IsCoherent (moved_world w c g a p)
   quiet shared log own booked stands before after agrees =
       let same : whole_graph (moved_world w c g a p) ≡ whole_graph w = whole_same w c g a p log shared in
       let open_same : held_descriptors (moved_world w c g a p) ≡ held_descriptors w = held_same w c g a p own in
-      holds_moved booked stands (λ d is_d other. subst (λ s. Stands s (w.kernel.accounts d) d (w.clients d)) (sym shared) (h.stands d is_d)) before after
+      holds_moved booked stands (λ d is_d other. subst (λ s. IsSoundPart s (w.kernel.accounts d) d (w.clients d)) (sym shared) (h.stands d is_d)) before after
       (both_same (λ s o. IsSound s o) same open_same h.sound)
       (both_same (λ s o. Agrees p.knows s o) same open_same agrees)
       (λ d is_d other. both_same (λ s o. Agrees (w.clients d).knows s o) same open_same (h.agrees d is_d))

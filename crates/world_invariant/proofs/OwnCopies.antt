@@ -11,7 +11,7 @@ use Rattle.call_effects.specs.Knowledge.{Knowledge, IsGone, IsPutBack, Agrees}
 use Rattle.world_invariant.specs.Logs.{after_records, is_written, is_made_in, IsNameless, NameNone}
 use Rattle.world_invariant.specs.World.{Account, Client, World, undigested_records, change_of, has_lease, log_of, whole_graph, held_descriptors}
 use Rattle.world_invariant.specs.ClientParts.{IsLeased}
-use Rattle.world_invariant.specs.Parts.{ClientPart, RecordsLeased, CopiesLeased, BlocksLeased, HoldsOf, WorldPart, Each, LeasesLegal, WholeKnown, Holds, HasTrueCopies}
+use Rattle.world_invariant.specs.Parts.{ClientPart, RecordsLeased, CopiesLeased, BlocksLeased, HoldsOf, WorldPart, Each, LeasesLegal, WholeKnown, HoldsOfWorld, HasTrueCopies}
 use Rattle.world_invariant.specs.Copies.{HasOwnCopies}
 use Rattle.world_invariant.specs.Invariant.{IsCoherent}
 use Rattle.world_invariant.specs.LeaseSteps.{own_view}
@@ -57,7 +57,7 @@ own_copies w c h is_c =
     copies_move (w.clients c).knows (has_lease (w.clients c)) (whole_graph w) (own_view w c) (h.stands c is_c).leased (λ i e. view_is w c i h is_c e)
     (record { back = known.back; put_back = known.put_back; copies = known.copies; blocks = known.blocks })
 
-module _ (w : World) (has : (q : WorldPart) → q ≢ WholeKnown → Holds q w) (c : ℕ) (is_c : is_client c ≡ true) where
+module _ (w : World) (has : (q : WorldPart) → q ≢ WholeKnown → HoldsOfWorld q w) (c : ℕ) (is_c : is_client c ≡ true) where
   of_each : (q : ClientPart) (d : ℕ) → is_client d ≡ true → HoldsOf q w.kernel.shared (w.kernel.accounts d) d (w.clients d)
   of_each q = has (Each q) (λ e. absurd (cc))
 

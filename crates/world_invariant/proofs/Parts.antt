@@ -2,9 +2,9 @@
 use Rattle.std.proofs.Common.{ℕ}
 use Rattle.call_effects.specs.file_graph.Graph.{Graph}
 use Rattle.world_invariant.specs.World.{Account, Client, Kernel, World}
-use Rattle.world_invariant.specs.ClientParts.{IsBooked, Stands}
+use Rattle.world_invariant.specs.ClientParts.{IsBooked, IsSoundPart}
 use Rattle.world_invariant.specs.Invariant.{IsCoherent}
-use Rattle.world_invariant.specs.Parts.{BookPart, NumbersFree, NumbersInRange, NumbersInOneHand, NodesWithin, UnitsFit, HoldsIn, ClientPart, OwnNumber, MarkNotBefore, MarkNotPast, AwayHasRecords, BackHasNone, UnwipedHasNone, UnwipedIsIdle, RecordsLeased, RecordsPaid, RecordsNameNone, RecordsKeepLimits, UnitsBooked, MadeBooked, MadeOnce, GrantedBooked, GrantedUnused, CopiesLeased, BlocksLeased, OpenPinned, PinsBooked, BegunPlanned, BegunHasEffects, BegunPinned, SettledClosed, SettledIdle, HoldsOf, WorldPart, Book, Each, LeasesLegal, WholeSound, WholeKnown, Holds}
+use Rattle.world_invariant.specs.Parts.{BookPart, NumbersFree, NumbersInRange, NumbersInOneHand, NodesWithin, UnitsFit, HoldsIn, ClientPart, OwnNumber, MarkNotBefore, MarkNotPast, AwayHasRecords, BackHasNone, UnwipedHasNone, UnwipedIsIdle, RecordsLeased, RecordsPaid, RecordsNameNone, RecordsKeepLimits, UnitsBooked, MadeBooked, MadeOnce, GrantedBooked, GrantedUnused, CopiesLeased, BlocksLeased, OpenPinned, PinsBooked, BegunPlanned, BegunHasEffects, BegunPinned, SettledClosed, SettledIdle, HoldsOf, WorldPart, Book, Each, LeasesLegal, WholeSound, WholeKnown, HoldsOfWorld}
 
 pub book_parts : (k : Kernel) → IsBooked k → (q : BookPart) → HoldsIn q k
 book_parts k b NumbersFree = b.free
@@ -13,7 +13,7 @@ book_parts k b NumbersInOneHand = b.alone
 book_parts k b NodesWithin = b.limits
 book_parts k b UnitsFit = b.fits
 
-pub client_parts : (g : Graph) (a : Account) (c : ℕ) (p : Client) → Stands g a c p → (q : ClientPart) → HoldsOf q g a c p
+pub client_parts : (g : Graph) (a : Account) (c : ℕ) (p : Client) → IsSoundPart g a c p → (q : ClientPart) → HoldsOf q g a c p
 client_parts g a c p s OwnNumber = s.number
 client_parts g a c p s MarkNotBefore = s.marked.low
 client_parts g a c p s MarkNotPast = s.marked.high
@@ -40,14 +40,14 @@ client_parts g a c p s BegunPinned = λ b e. (s.pending b e).pinned
 client_parts g a c p s SettledClosed = s.rests.closed
 client_parts g a c p s SettledIdle = s.rests.idle
 
-pub parts_of : (w : World) → IsCoherent w → (q : WorldPart) → Holds q w
+pub parts_of : (w : World) → IsCoherent w → (q : WorldPart) → HoldsOfWorld q w
 parts_of w h (Book q) = book_parts w.kernel h.booked q
 parts_of w h (Each q) = λ c is_c. client_parts w.kernel.shared (w.kernel.accounts c) c (w.clients c) (h.stands c is_c) q
 parts_of w h LeasesLegal = h.beside
 parts_of w h WholeSound = h.sound
 parts_of w h WholeKnown = h.agrees
 
-pub all_parts : (w : World) → ((q : WorldPart) → Holds q w) → IsCoherent w
+pub all_parts : (w : World) → ((q : WorldPart) → HoldsOfWorld q w) → IsCoherent w
 all_parts w has = record {
   booked = record { free = has (Book NumbersFree); range = has (Book NumbersInRange); alone = has (Book NumbersInOneHand); limits = has (Book NodesWithin); fits = has (Book UnitsFit) };
   stands = λ c is_c. record {

@@ -5,7 +5,7 @@ use Rattle.call_effects.specs.log_record.declared.format.Record.{Record}
 use Rattle.world_invariant.specs.Limits.{IsWithin}
 use Rattle.world_invariant.specs.Logs.{is_written, is_made_in, IsMadeOnce, units_in, IsNameless}
 use Rattle.world_invariant.specs.World.{Account, Client, undigested_records, records_of, change_of}
-use Rattle.world_invariant.specs.ClientParts.{IsMarked, IsLogged, IsNumbered, Stands}
+use Rattle.world_invariant.specs.ClientParts.{IsMarked, IsLogged, IsNumbered, IsSoundPart}
 use Rattle.world_invariant.specs.Machine.{Sealed, undigested_sealed, StandsSealed}
 use Rattle.world_invariant.proofs.Paid.{paid_same}
 use Rattle.world_invariant.proofs.Keeping.{keep_same, keep_less}
@@ -27,10 +27,10 @@ logged_less i g h writes rs gone same unmade s = record {
   limits = keep_less IsWithin i rs g h gone same unmade s.limits;
 }
 
-pub stands_same : (g h : Graph) (a : Account) (c : ℕ) (p : Client) → ((i : ℕ) → is_written i (records_of a p) ≡ true → g i ≡ h i) → Stands g a c p → Stands h a c p
+pub stands_same : (g h : Graph) (a : Account) (c : ℕ) (p : Client) → ((i : ℕ) → is_written i (records_of a p) ≡ true → g i ≡ h i) → IsSoundPart g a c p → IsSoundPart h a c p
 stands_same g h a c p same s = record { number = s.number; marked = s.marked; starts = s.starts; logged = logged_same g h p.writes (records_of a p) same s.logged; units = s.units; numbered = s.numbered; leased = s.leased; pinned = s.pinned; pending = s.pending; rests = s.rests }
 
-pub stands_less : (i : ℕ) (g h : Graph) (a : Account) (c : ℕ) (p : Client) → h i ≡ None → ((j : ℕ) → j ≢ i → h j ≡ g j) → is_made_in i (records_of a p) ≡ false → Stands g a c p → Stands h a c p
+pub stands_less : (i : ℕ) (g h : Graph) (a : Account) (c : ℕ) (p : Client) → h i ≡ None → ((j : ℕ) → j ≢ i → h j ≡ g j) → is_made_in i (records_of a p) ≡ false → IsSoundPart g a c p → IsSoundPart h a c p
 stands_less i g h a c p gone same unmade s = record { number = s.number; marked = s.marked; starts = s.starts; logged = logged_less i g h p.writes (records_of a p) gone same unmade s.logged; units = s.units; numbered = s.numbered; leased = s.leased; pinned = s.pinned; pending = s.pending; rests = s.rests }
 
 pub sealed_same : (g h : Graph) (a : Account) (s : Sealed) → ((i : ℕ) → is_written i (undigested_sealed a s) ≡ true → g i ≡ h i) → StandsSealed g a s → StandsSealed h a s
@@ -40,7 +40,7 @@ pub sealed_less : (i : ℕ) (g h : Graph) (a : Account) (s : Sealed) → h i ≡
 sealed_less i g h a s gone same unmade t = record { low = t.low; high = t.high; logged = logged_less i g h s.writes (undigested_sealed a s) gone same unmade t.logged; units = t.units; made = t.made; once = t.once }
 
 -- ---- on the account by what the part needs of it
-pub stands_account : (g : Graph) (a b : Account) (c : ℕ) (p : Client) → b.mark ≡ a.mark → p.spare + units_in (records_of a p) ≤ b.units → ((i : ℕ) → p.knows.granted i ≡ true → b.numbers i ≡ true) → ((i : ℕ) → is_made_in i (undigested_records a p) ≡ true → b.numbers i ≡ true) → ((i : ℕ) → p.pins i ≡ true → b.pins i ≡ true) → Stands g a c p → Stands g b c p
+pub stands_account : (g : Graph) (a b : Account) (c : ℕ) (p : Client) → b.mark ≡ a.mark → p.spare + units_in (records_of a p) ≤ b.units → ((i : ℕ) → p.knows.granted i ≡ true → b.numbers i ≡ true) → ((i : ℕ) → is_made_in i (undigested_records a p) ≡ true → b.numbers i ≡ true) → ((i : ℕ) → p.pins i ≡ true → b.pins i ≡ true) → IsSoundPart g a c p → IsSoundPart g b c p
 stands_account g a b c p mark enough granted made pinned s = record {
   number = s.number;
   marked = subst (λ n. IsMarked n p.past p.sealed p.other) (sym mark) s.marked;

@@ -6,7 +6,7 @@ use Rattle.call_effects.specs.posix_calls.Operations.{is_client}
 use Rattle.call_effects.specs.log_record.declared.format.Record.{Record}
 use Rattle.world_invariant.specs.Logs.{units_in}
 use Rattle.world_invariant.specs.World.{Region, Wiped, Away, Back, Client, World, records_of, change_of, log_of, world_state}
-use Rattle.world_invariant.specs.ClientParts.{IsMarked, StartsWiped, IsLogged, IsNumbered, Stands}
+use Rattle.world_invariant.specs.ClientParts.{IsMarked, StartsWiped, IsLogged, IsNumbered, IsSoundPart}
 use Rattle.world_invariant.specs.Invariant.{IsCoherent}
 use Rattle.world_invariant.specs.ClientSteps.{with_client}
 use Rattle.world_invariant.specs.RegionSteps.{CanSeal, region_sealed, CanTakeBack, taken_back, is_wiped, other_wiped, current_wiped}
@@ -30,7 +30,7 @@ module _ (w : World) (c : ℕ) (h : IsCoherent w) (is_c : is_client c ≡ true) 
   abbrev p : Client
   p = record (w.clients c) { past = past; sealed = newly; current = current; other = other; ready = ready }
 
-  s : Stands w.kernel.shared (w.kernel.accounts c) c (w.clients c)
+  s : IsSoundPart w.kernel.shared (w.kernel.accounts c) c (w.clients c)
   s = h.stands c is_c
 
   all : records_of (w.kernel.accounts c) p ≡ records_of (w.kernel.accounts c) (w.clients c)

@@ -16,7 +16,7 @@ use Rattle.call_effects.specs.Knowledge.{Agrees, IsPlanned, part_of, knows_after
 use Rattle.call_effects.proofs.KnownSteps.{planned_step, refused_step}
 use Rattle.world_invariant.specs.Logs.{is_written, is_touched, is_made, is_made_in, units_in, ArePaid, NameNone, KeepLimits, LogsAreApart}
 use Rattle.world_invariant.specs.World.{Begun, Client, Account, World, undigested_records, records_of, change_of, log_of, all_of, whole_graph, held_descriptors, world_state}
-use Rattle.world_invariant.specs.ClientParts.{is_settled, IsNumbered, Stands}
+use Rattle.world_invariant.specs.ClientParts.{is_settled, IsNumbered, IsSoundPart}
 use Rattle.world_invariant.specs.Invariant.{IsCoherent}
 use Rattle.world_invariant.specs.ClientSteps.{CanAnswer, after_answer, IsBegun, after_reply}
 use Rattle.world_invariant.proofs.Records.{either, both, append_nil, front_written, rest_written, in_first}
@@ -92,7 +92,7 @@ module _ (w : World) (c : ℕ) (b : Begun) (h : IsCoherent w) (is : IsBegun w c 
   abbrev logged : Client
   logged = record was { begun = None; current = was.current ++ (b.change ∷ []); knows = knows_after was.knows b.new b.operation b.change.effects }
 
-  s : Stands w.kernel.shared account c was
+  s : IsSoundPart w.kernel.shared account c was
   s = h.stands c is.client
 
   planned : IsPlanned was.knows b.call b.new b.operation b.change.effects

@@ -77,7 +77,7 @@ pub record RestsOnceSettled (status : Status) (own : Own) (begun : Option Begun)
   pub idle : is_settled status ≡ true → begun ≡ None
 
 -- all that holds of one client's part beside the kernel's
-pub record Stands (g : Graph) (a : Account) (c : ℕ) (p : Client) : Type 0 where
+pub record IsSoundPart (g : Graph) (a : Account) (c : ℕ) (p : Client) : Type 0 where
   pub number : p.knows.client ≡ c
   pub marked : IsMarked a.mark p.past p.sealed p.other
   pub starts : StartsWiped p.ready p.current p.begun

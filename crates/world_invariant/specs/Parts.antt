@@ -101,17 +101,17 @@ pub data WorldPart : Type 0 where
   WholeSound : WorldPart
   WholeKnown : WorldPart
 
-abbrev pub Holds : WorldPart → World → Type 0
-Holds (Book q) w = HoldsIn q w.kernel
-Holds (Each q) w = (c : ℕ) → is_client c ≡ true → HoldsOf q w.kernel.shared (w.kernel.accounts c) c (w.clients c)
-Holds LeasesLegal w = (c d : ℕ) → is_client c ≡ true → is_client d ≡ true → d ≢ c → IsBeside (w.clients c) (w.clients d)
-Holds WholeSound w = IsSound (whole_graph w) (held_descriptors w)
-Holds WholeKnown w = (c : ℕ) → is_client c ≡ true → Agrees (w.clients c).knows (whole_graph w) (held_descriptors w)
+abbrev pub HoldsOfWorld : WorldPart → World → Type 0
+HoldsOfWorld (Book q) w = HoldsIn q w.kernel
+HoldsOfWorld (Each q) w = (c : ℕ) → is_client c ≡ true → HoldsOf q w.kernel.shared (w.kernel.accounts c) c (w.clients c)
+HoldsOfWorld LeasesLegal w = (c d : ℕ) → is_client c ≡ true → is_client d ≡ true → d ≢ c → IsBeside (w.clients c) (w.clients d)
+HoldsOfWorld WholeSound w = IsSound (whole_graph w) (held_descriptors w)
+HoldsOfWorld WholeKnown w = (c : ℕ) → is_client c ≡ true → Agrees (w.clients c).knows (whole_graph w) (held_descriptors w)
 
 -- a world that lacks one part of the invariant, and has all others
 pub record BreaksAlone (part : WorldPart) (w : World) : Type 0 where
-  pub broken : Holds part w → ⊥
-  pub others : (q : WorldPart) → q ≢ part → Holds q w
+  pub broken : HoldsOfWorld part w → ⊥
+  pub others : (q : WorldPart) → q ≢ part → HoldsOfWorld q w
 
 -- the copies and blocks that a client has are as the whole is, but for files that are gone
 pub record HasTrueCopies (k : Knowledge) (g : Graph) : Type 0 where

@@ -8,7 +8,7 @@ ghost use Rattle.call_effects.specs.Wholes.{IsSound};
 ghost use Rattle.world_invariant.specs.Logs.{after_each, LogsAreApart};
 ghost use Rattle.world_invariant.specs.World.{log_of, all_of, whole_graph, held_descriptors, world_state};
 ghost use Rattle.world_invariant.specs.ClientParts.{RestsOnceSettled, StartsWiped, IsNumbered, IsBooked};
-ghost use Rattle.world_invariant.specs.Parts.{WorldPart, Book, Each, LeasesLegal, WholeKnown, CopiesLeased, BlocksLeased, BegunHasEffects, Holds, NumbersFree, NumbersInRange, RecordsLeased, RecordsPaid, RecordsNameNone, RecordsKeepLimits, UnitsBooked, MadeOnce, GrantedUnused, WholeSound, NumbersInOneHand, NodesWithin, UnitsFit, OwnNumber, MadeBooked, GrantedBooked, OpenPinned, PinsBooked, BegunPlanned, BegunPinned, SettledClosed, SettledIdle, MarkNotPast, MarkNotBefore, AwayHasRecords, BackHasNone, UnwipedHasNone, UnwipedIsIdle, BreaksAlone};
+ghost use Rattle.world_invariant.specs.Parts.{WorldPart, Book, Each, LeasesLegal, WholeKnown, CopiesLeased, BlocksLeased, BegunHasEffects, HoldsOfWorld, NumbersFree, NumbersInRange, RecordsLeased, RecordsPaid, RecordsNameNone, RecordsKeepLimits, UnitsBooked, MadeOnce, GrantedUnused, WholeSound, NumbersInOneHand, NodesWithin, UnitsFit, OwnNumber, MadeBooked, GrantedBooked, OpenPinned, PinsBooked, BegunPlanned, BegunPinned, SettledClosed, SettledIdle, MarkNotPast, MarkNotBefore, AwayHasRecords, BackHasNone, UnwipedHasNone, UnwipedIsIdle, BreaksAlone};
 ghost use Rattle.world_invariant.specs.Machine.{CanAccept, sealed_of};
 ghost use Rattle.world_invariant.specs.ClientSteps.{CanAnswer, after_answer, CanBegin, IsBegun, after_reply};
 ghost use Rattle.world_invariant.specs.LeaseSteps.{IsUnheld, CanFetch, CanForgetBlocks, write_taken, after_fetch, blocks_forgotten};
@@ -279,5 +279,5 @@ pub fn block_without_a_lease_goes_stale()
 pub fn call_without_an_effect_loses_its_plan()
     ensures alone { BreaksAlone (Each BegunHasEffects) begun_reading }
     ensures can { CanForgetBlocks begun_reading 1 (λ i b. None) }
-    ensures lost { Holds (Each BegunPlanned) (blocks_forgotten begun_reading 1 (λ i b. None)) → ⊥ }
+    ensures lost { HoldsOfWorld (Each BegunPlanned) (blocks_forgotten begun_reading 1 (λ i b. None)) → ⊥ }
 {}

@@ -8,7 +8,7 @@ ghost use Rattle.call_effects.specs.Knowledge.{Agrees};
 ghost use Rattle.world_invariant.specs.Logs.{after_records, is_made_in, IsNameless, NameNone};
 ghost use Rattle.world_invariant.specs.World.{Account, Client, World, undigested_records, has_lease, whole_graph, held_descriptors};
 ghost use Rattle.world_invariant.specs.ClientParts.{IsLeased};
-ghost use Rattle.world_invariant.specs.Parts.{WorldPart, WholeKnown, Holds};
+ghost use Rattle.world_invariant.specs.Parts.{WorldPart, WholeKnown, HoldsOfWorld};
 ghost use Rattle.world_invariant.specs.Copies.{HasOwnCopies};
 ghost use Rattle.world_invariant.specs.Machine.{Machine, IsRunning, Sealed, sealed_of, StandsSealed, CanDigestNext, account_after};
 ghost use Rattle.world_invariant.specs.Invariant.{IsCoherent};
@@ -17,7 +17,7 @@ ghost use Rattle.world_invariant.specs.Invariant.{IsCoherent};
 /// other parts of the invariant all that the client knows follows from it.
 pub fn copies_are_of_the_own_records()
     ensures own { (w : World) (c : ℕ) → IsCoherent w → is_client c ≡ true → HasOwnCopies w.kernel.shared (w.kernel.accounts c) (w.clients c) }
-    ensures all { (w : World) → ((q : WorldPart) → q ≢ WholeKnown → Holds q w) → (c : ℕ) → is_client c ≡ true → HasOwnCopies w.kernel.shared (w.kernel.accounts c) (w.clients c) → Agrees (w.clients c).knows (whole_graph w) (held_descriptors w) }
+    ensures all { (w : World) → ((q : WorldPart) → q ≢ WholeKnown → HoldsOfWorld q w) → (c : ℕ) → is_client c ≡ true → HasOwnCopies w.kernel.shared (w.kernel.accounts c) (w.clients c) → Agrees (w.clients c).knows (whole_graph w) (held_descriptors w) }
 {}
 
 /// It stays so where the shared graph changes at inodes alone that the client doesn't hold, as by a digest of another client's records;

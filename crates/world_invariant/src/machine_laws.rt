@@ -6,7 +6,7 @@ ghost use Rattle.call_effects.specs.file_graph.Graph.{Graph};
 ghost use Rattle.call_effects.specs.log_record.declared.format.Record.{Record};
 ghost use Rattle.world_invariant.specs.Logs.{after_records, is_written, is_made_in, units_in};
 ghost use Rattle.world_invariant.specs.World.{Account, Away, Client, Kernel, World, at, undigested_records, records_of};
-ghost use Rattle.world_invariant.specs.ClientParts.{Stands};
+ghost use Rattle.world_invariant.specs.ClientParts.{IsSoundPart};
 ghost use Rattle.world_invariant.specs.BookSteps.{HasRoom, IsUnbooked};
 ghost use Rattle.world_invariant.specs.KernelSteps.{CanDigest, CanReclaim, IsMigrated, records_digested, after_reclaim, run_migrated};
 ghost use Rattle.world_invariant.specs.Halves.{units_booked, units_unbooked, number_booked, number_unbooked, pin_booked, pin_unbooked};
@@ -34,8 +34,8 @@ pub fn kernel_keeps_its_book()
 /// A client's sealed region is a part of its own, beside the shared graph and the client's account. A digest of its next records keeps
 /// what is said of it, and of its client's whole part, and leaves the shared graph as it was wherever its client holds nothing for writing.
 pub fn digest_keeps_what_is_sealed()
-    ensures sealed { (g : Graph) (a : Account) (c : ℕ) (p : Client) → Stands g a c p → StandsSealed g a (sealed_of p) }
-    ensures client { (m : Machine) (c : ℕ) (p : Client) (first rest : List Record) → IsRunning m → Stands m.kernel.shared (m.kernel.accounts c) c p → CanDigestNext m c (sealed_of p) first rest → Stands (after_records m.kernel.shared first) (account_after (m.kernel.accounts c) first) c p }
+    ensures sealed { (g : Graph) (a : Account) (c : ℕ) (p : Client) → IsSoundPart g a c p → StandsSealed g a (sealed_of p) }
+    ensures client { (m : Machine) (c : ℕ) (p : Client) (first rest : List Record) → IsRunning m → IsSoundPart m.kernel.shared (m.kernel.accounts c) c p → CanDigestNext m c (sealed_of p) first rest → IsSoundPart (after_records m.kernel.shared first) (account_after (m.kernel.accounts c) first) c p }
     ensures own { (m : Machine) (c : ℕ) (s : Sealed) (first rest : List Record) → IsRunning m → StandsSealed m.kernel.shared (m.kernel.accounts c) s → CanDigestNext m c s first rest → StandsSealed (after_records m.kernel.shared first) (account_after (m.kernel.accounts c) first) s }
     ensures beside { (m : Machine) (c : ℕ) (s : Sealed) (first rest : List Record) → IsRunning m → StandsSealed m.kernel.shared (m.kernel.accounts c) s → CanDigestNext m c s first rest → (others : List Record) → ((i : ℕ) → is_written i others ≡ true → s.writes i ≡ false) → (i : ℕ) → is_written i others ≡ true → m.kernel.shared i ≡ after_records m.kernel.shared first i }
 {}
@@ -45,9 +45,9 @@ pub fn digest_keeps_what_is_sealed()
 /// mark that has the units of the records and the spare ones, the numbers and the pins; and a sealed region may stand under other leases that
 /// still have what its records write.
 pub fn parts_stand_where_they_write()
-    ensures client { (g h : Graph) (a : Account) (c : ℕ) (p : Client) → ((i : ℕ) → is_written i (records_of a p) ≡ true → g i ≡ h i) → Stands g a c p → Stands h a c p }
-    ensures client_less { (i : ℕ) (g h : Graph) (a : Account) (c : ℕ) (p : Client) → h i ≡ None → ((j : ℕ) → j ≢ i → h j ≡ g j) → is_made_in i (records_of a p) ≡ false → Stands g a c p → Stands h a c p }
-    ensures client_account { (g : Graph) (a b : Account) (c : ℕ) (p : Client) → b.mark ≡ a.mark → p.spare + units_in (records_of a p) ≤ b.units → ((i : ℕ) → p.knows.granted i ≡ true → b.numbers i ≡ true) → ((i : ℕ) → is_made_in i (undigested_records a p) ≡ true → b.numbers i ≡ true) → ((i : ℕ) → p.pins i ≡ true → b.pins i ≡ true) → Stands g a c p → Stands g b c p }
+    ensures client { (g h : Graph) (a : Account) (c : ℕ) (p : Client) → ((i : ℕ) → is_written i (records_of a p) ≡ true → g i ≡ h i) → IsSoundPart g a c p → IsSoundPart h a c p }
+    ensures client_less { (i : ℕ) (g h : Graph) (a : Account) (c : ℕ) (p : Client) → h i ≡ None → ((j : ℕ) → j ≢ i → h j ≡ g j) → is_made_in i (records_of a p) ≡ false → IsSoundPart g a c p → IsSoundPart h a c p }
+    ensures client_account { (g : Graph) (a b : Account) (c : ℕ) (p : Client) → b.mark ≡ a.mark → p.spare + units_in (records_of a p) ≤ b.units → ((i : ℕ) → p.knows.granted i ≡ true → b.numbers i ≡ true) → ((i : ℕ) → is_made_in i (undigested_records a p) ≡ true → b.numbers i ≡ true) → ((i : ℕ) → p.pins i ≡ true → b.pins i ≡ true) → IsSoundPart g a c p → IsSoundPart g b c p }
     ensures sealed { (g h : Graph) (a : Account) (s : Sealed) → ((i : ℕ) → is_written i (undigested_sealed a s) ≡ true → g i ≡ h i) → StandsSealed g a s → StandsSealed h a s }
     ensures sealed_less { (i : ℕ) (g h : Graph) (a : Account) (s : Sealed) → h i ≡ None → ((j : ℕ) → j ≢ i → h j ≡ g j) → is_made_in i (undigested_sealed a s) ≡ false → StandsSealed g a s → StandsSealed h a s }
     ensures sealed_account { (g : Graph) (a b : Account) (s : Sealed) → b.mark ≡ a.mark → units_in (undigested_sealed a s) ≤ b.units → ((i : ℕ) → is_made_in i (undigested_sealed a s) ≡ true → b.numbers i ≡ true) → StandsSealed g a s → StandsSealed g b s }
@@ -70,7 +70,7 @@ pub fn kernel_entries_are_steps_of_the_world()
 
 /// A region that is away may be accepted, if all before it are digested and none of it is accepted yet.
 pub fn region_that_is_away_may_be_accepted()
-    ensures { (m : Machine) (c : ℕ) (p : Client) → is_client c ≡ true → Stands m.kernel.shared (m.kernel.accounts c) c p → p.other ≡ Away → (m.kernel.accounts c).mark ≡ p.past → m.accepted c ≡ p.past → CanAccept m c (sealed_of p) }
+    ensures { (m : Machine) (c : ℕ) (p : Client) → is_client c ≡ true → IsSoundPart m.kernel.shared (m.kernel.accounts c) c p → p.other ≡ Away → (m.kernel.accounts c).mark ≡ p.past → m.accepted c ≡ p.past → CanAccept m c (sealed_of p) }
 {}
 
 /// A digest of the kernel, unlike its other entries, rests on what a client sealed: what the kernel may digest of that the world may, and

@@ -1,6 +1,6 @@
 use Rattle.std.proofs.Common.{◌≡◌, ◌<◌, ◌+◌, ◌∙◌, Some, None, sym, subst, ℕ, arith}
 use Rattle.area_image.specs.Store.{length_of}
-use Rattle.area_image.specs.BlockMarks.{UsedMarks, Takes}
+use Rattle.area_image.specs.BlockMarks.{UsedMarks, TakesBlocks}
 use Rattle.area_image.specs.Parts.{part_block, IsPlace}
 use Rattle.area_image.proofs.Uses.{place_found, place_room, places_none, places_more, places_skip, places_clash}
 use Rattle.area_image.proofs.inode_marks.mark_places.Goals as goal
@@ -30,10 +30,10 @@ places-preserved c =
       | in-Some+else-mark w ↦
           let at = place_found x c.args.tier k c.extents_in-found.result.now c.place_in.result (Some w.in-Some.place) c.extents_in-found.ensures c.place_in.ensures w.in-Some.is in
           let more = places_more c.args.used.now c.places.used w.mark.new.self x c.args.tier k w.in-Some.place c.places.invariant at (sym w.mark.ensures.was ∙ w.if-mark.false) w.mark.ensures.marks in
-          subst (λ (m : UsedMarks). Takes c.args.used.now m (part_block x) (IsPlace c.args.tier (k + 1))) (sym w.used-is) more
+          subst (λ (m : UsedMarks). TakesBlocks c.args.used.now m (part_block x) (IsPlace c.args.tier (k + 1))) (sym w.used-is) more
       | in_default w ↦
           let none = place_found x c.args.tier k c.extents_in-found.result.now c.place_in.result None c.extents_in-found.ensures c.place_in.ensures w.in_default.is in
-          subst (λ (m : UsedMarks). Takes c.args.used.now m (part_block x) (IsPlace c.args.tier (k + 1))) (sym w.used-is) (places_skip c.args.used.now c.places.used x c.args.tier k c.places.invariant none)
+          subst (λ (m : UsedMarks). TakesBlocks c.args.used.now m (part_block x) (IsPlace c.args.tier (k + 1))) (sym w.used-is) (places_skip c.args.used.now c.places.used x c.args.tier k c.places.invariant none)
     ]
 
 pub returns : goal.returns
@@ -43,4 +43,4 @@ returns c =
     let within = c.places.auto.block-end in
     let end : c.length_of-block-end.result ≡ length_of x.slot = c.length_of-block-end.ensures in
     let all : c.places.block ≡ c.length_of-block-end.result = omega (arith, past, within) in
-    subst (λ (n : ℕ). Takes c.args.used.now c.places.used (part_block x) (IsPlace c.args.tier n)) (all ∙ end) c.places.invariant
+    subst (λ (n : ℕ). TakesBlocks c.args.used.now c.places.used (part_block x) (IsPlace c.args.tier n)) (all ∙ end) c.places.invariant

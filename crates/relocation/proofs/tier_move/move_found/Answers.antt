@@ -7,7 +7,7 @@ use Rattle.inode_plan.specs.area_commit.Value.{data_pool}
 use Rattle.inode_plan.proofs.area_commit_lemmas.Course.{Rests}
 use Rattle.relocation.specs.MovableFile.{IsMovableRun}
 use Rattle.inode_plan.specs.area_image.declared.error.AreaError.TheVariants.{NotMapped, NoBlock, Memory}
-use Rattle.relocation.specs.RunMove.{Ends}
+use Rattle.relocation.specs.RunMove.{EndsMove}
 use Rattle.relocation.proofs.Ending.{mapped_fault, mapped_memory, mapped_block, block_fault, block_memory, err_same, ok_with, forced_change, never_mapped, change_move, sound_forced, forced_only, settled_still, ends_refused, ends_told, ends_on}
 use Rattle.relocation.proofs.Pooled.{same_self, own_run, found_run}
 use Rattle.relocation.proofs.tier_move.move_found.Goals as goal
@@ -39,8 +39,8 @@ returns-in-Some-clause-ends g c =
     let is = found_run old.geometry (disk g.M.Media old) c.args.run.inode c.args.run.first c.args.run.count c.args.to c.in_ok-file.field-0 c.in-Some.file c.in-Some.is c.in_ok-file.ensures.found in
     let looks = c.in_ok-file.ensures.looks in
     let ends = ends_on m g.met.M.Media.sized c.args.run.inode f.run.first f.run.count c.args.to old c.find_run.new.journal new c.move_run.new.pools c.move_run.result looks.unmoved looks.geometry looks.quiet c.move_run.ensures.ends in
-    subst (λ (n : ℕ). Ends m c.args.run.inode c.args.run.first n c.args.to old new c.move_run.new.pools c.move_run.result) is.count_is (
-    subst (λ (n : ℕ). Ends m c.args.run.inode n f.run.count c.args.to old new c.move_run.new.pools c.move_run.result) is.first_is ends
+    subst (λ (n : ℕ). EndsMove m c.args.run.inode c.args.run.first n c.args.to old new c.move_run.new.pools c.move_run.result) is.count_is (
+    subst (λ (n : ℕ). EndsMove m c.args.run.inode n f.run.count c.args.to old new c.move_run.new.pools c.move_run.result) is.first_is ends
     )
 
 pub returns-in-Some-clause-can : goal.returns-in-Some-clause-can

@@ -2,7 +2,7 @@ use Rattle.std.proofs.Common.{List, refl, sym, subst}
 use Rattle.std.specs.List.{AllByRecursion}
 use Rattle.digester.specs.file_graph.declared.effect.Effect.{Effect}
 use Rattle.digester.specs.file_graph.Graph.{after_effects}
-use Rattle.digester.specs.log_record.Grammar.{Fits, IsRecord}
+use Rattle.digester.specs.log_record.Grammar.{FitsLimits, IsRecord}
 use Rattle.world_invariant.specs.Logs.{after_records}
 use Rattle.kernel_fs.specs.Inodes.{has}
 use Rattle.kernel_fs.specs.Nodes.{AreNodes}
@@ -14,7 +14,7 @@ records-init c = λ g are. begins after_records g c.args.records.now (has c.args
 
 pub follow_effects-requires : goal.follow_effects-requires
 follow_effects-requires c =
-    subst (AllByRecursion Fits) (sym c.as_slice.ensures)
+    subst (AllByRecursion FitsLimits) (sym c.as_slice.ensures)
     (subst IsRecord (sym c.record-item.is) (all_at IsRecord c.args.records.now c.records.record-index c.record-item.result c.requires c.records-test.true)).fit
 
 pub records-preserved : goal.records-preserved

@@ -1,6 +1,6 @@
 use Rattle.std.proofs.Common.{refl, sym, subst}
 use Rattle.digester.specs.file_graph.Graph.{after_effect, after_effects}
-use Rattle.digester.specs.log_record.Grammar.{Fits}
+use Rattle.digester.specs.log_record.Grammar.{FitsLimits}
 use Rattle.kernel_fs.specs.Inodes.{has}
 use Rattle.kernel_fs.proofs.Leading.{all_at, begins, ends, goes_on}
 use Rattle.kernel_fs.proofs.inode_set.InodeSet.follow_effects.Goals as goal
@@ -9,7 +9,7 @@ pub effects-init : goal.effects-init
 effects-init c = λ g are. begins after_effects g c.args.effects.now (has c.args.self.now) (has c.args.self.now) are
 
 pub follow_effect-requires : goal.follow_effect-requires
-follow_effect-requires c = subst Fits (sym c.effect-item.is) (all_at Fits c.args.effects.now c.effects.effect-index c.effect-item.result c.requires c.effects-test.true)
+follow_effect-requires c = subst FitsLimits (sym c.effect-item.is) (all_at FitsLimits c.args.effects.now c.effects.effect-index c.effect-item.result c.requires c.effects-test.true)
 
 pub effects-preserved : goal.effects-preserved
 effects-preserved c = λ g are.

@@ -2,15 +2,15 @@ use Rattle.std.proofs.Common.{◌≡◌, ℕ, zero, suc, ◌≤◌, length, true
 use Rattle.std.specs.List.{All, AllByRecursion}
 use Rattle.std.proofs.lemmas.List.Elements.{All-from_recursion, recursion_from_All, All-weaker}
 use Rattle.file_graph.specs.declared.effect.Effect.{Effect}
-use Rattle.log_record.specs.Grammar.{Fits, fits}
+use Rattle.log_record.specs.Grammar.{FitsLimits, fits}
 use Rattle.log_record.proofs.Effects.{Fits-from_fits, fits-from_Fits}
 use Rattle.log_record.proofs.format.Record.has_spelling.Goals as goal
 
-fitting : (es : List Effect) → All (λ e. fits e ≡ true) es → AllByRecursion Fits es
-fitting es all = recursion_from_All Fits es (All-weaker (λ e. fits e ≡ true) Fits Fits-from_fits es all)
+fitting : (es : List Effect) → All (λ e. fits e ≡ true) es → AllByRecursion FitsLimits es
+fitting es all = recursion_from_All FitsLimits es (All-weaker (λ e. fits e ≡ true) FitsLimits Fits-from_fits es all)
 
-tested : (es : List Effect) → AllByRecursion Fits es → All (λ e. fits e ≡ true) es
-tested es fit = All-weaker Fits (λ e. fits e ≡ true) fits-from_Fits es (All-from_recursion Fits es fit)
+tested : (es : List Effect) → AllByRecursion FitsLimits es → All (λ e. fits e ≡ true) es
+tested es fit = All-weaker FitsLimits (λ e. fits e ≡ true) fits-from_Fits es (All-from_recursion FitsLimits es fit)
 
 not_none : (n : ℕ) → eqb n 0 ≡ false → 1 ≤ n
 not_none zero e = absurd cc

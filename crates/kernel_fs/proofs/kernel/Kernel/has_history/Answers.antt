@@ -4,7 +4,7 @@ use Rattle.digester.specs.area_image.Store.{disk}
 use Rattle.kernel_fs.specs.History.{HasRun}
 use Rattle.kernel_fs.specs.KernelView.{KernelView}
 use Rattle.kernel_fs.specs.MachineState.{StandBeforeRegions}
-use Rattle.kernel_fs.proofs.kernel.Kernel.history.Goals as goal
+use Rattle.kernel_fs.proofs.kernel.Kernel.has_history.Goals as goal
 
 pub returns-clause-before : goal.returns-clause-before
 returns-clause-before g c =
