@@ -8,9 +8,9 @@ that keep a world, a new one or none; `strata_first` with and without stops; and
 says what it says with all memory there. It does not where it answers anything else: damage, no such entry, or fewer bytes. Nor does a
 row that tells a want of memory while no allocation failed. How each program tells it stands at its function below.
 
-The programs are built by `rt run`; `tools/failing_allocations.c` makes their allocations fail. It takes four minutes, and those that a
-build takes; the gate does not run it. With --quick only each seventh allocation of a run fails; with --rows only the first N of the rows
-of each table. Exit status: 0 where all runs ended as they should, else 1.
+The programs are built by `rt run` (`layer_rows` without a proof, by `tools/more_tests --program`); `tools/failing_allocations.c` makes their
+allocations fail. It takes four minutes, and those that a build takes; the gate does not run it. With --quick only each seventh allocation of a
+run fails; with --rows only the first N of the rows of each table. Exit status: 0 where all runs ended as they should, else 1.
 
 Named `growths`, it holds five rows of `strata_sh` to more: each growth of each of their lines is refused in turn. The line in which one is
 answers as before, or ENOMEM, or by the refusal or fault 15; or as where a write or fence of a medium fails, since a medium grows to note a
@@ -69,12 +69,15 @@ def path_of(name):
     """Where the program stands once it is built; STRATA_SH in the environment names another build of the shell."""
     if name == "strata_sh" and os.environ.get("STRATA_SH"):
         return os.path.abspath(os.environ["STRATA_SH"])
-    return f"{CRATES}/{name}/out/{name}"
+    return f"{ROOM.name}/{name}" if name == "layer_rows" else f"{CRATES}/{name}/out/{name}"
 
 
 def build(name):
     """Proves the program where it changed, and links it. Another build is taken as it is."""
     if path_of(name) == os.path.abspath(os.environ.get("STRATA_SH") or "."):
+        return
+    if name == "layer_rows":
+        subprocess.run([f"{TOP}/tools/more_tests", "--program", path_of(name), name], check=True)
         return
     ran = subprocess.run(["rt", "run", "--jobs", "1"], cwd=f"{CRATES}/{name}", stdin=subprocess.DEVNULL, capture_output=True, text=True, check=False)
     if f"rt: running out/{name}" not in ran.stderr:
@@ -625,7 +628,7 @@ def row_ends_well(run):
 
 def run_row(section, text):
     """A row of a section of layer_rows, in the folder of its files."""
-    whole, runs = all_of("layer_rows", f"%% {section}\n{text}", folder=f"{CRATES}/layer_rows/data")
+    whole, runs = all_of("layer_rows", f"%% {section}\n{text}", folder=f"{TOP}/tests/layer_rows/data")
     name = text.partition(": ")[0]
     if whole.status or said_of(whole) != HOLDS:
         return Tally(0, 0, [f"the row itself: {name}"])
@@ -634,7 +637,7 @@ def run_row(section, text):
 
 def rows_of(section):
     """The rows of a section of layer_rows, each as its lines: one that begins with two spaces goes on with the row above it."""
-    with open(f"{CRATES}/layer_rows/stdin", encoding="utf-8") as file:
+    with open(f"{TOP}/tests/layer_rows/stdin", encoding="utf-8") as file:
         tables = dict(it.split("\n", 1) for it in file.read().removeprefix("%% ").split("\n%% "))
     rows = []
     for line in tables[section].splitlines():

@@ -18,6 +18,7 @@ use Rattle.libfs.specs.View.{ClientView}
 use Rattle.libfs.specs.declared.denial.Denied.{Denied}
 use Rattle.libfs.specs.declared.denial.Denied.TheVariants as denied
 use Rattle.strata_threads.specs.ClientCalls.{IsAnswered}
+use Rattle.strata_threads.specs.WaitedTurns.{IsTurnFor, WaitedView}
 
 -- whether it is for the kernel to serve: all but a lease and room in the region
 abbrev pub is_for_kernel : Need → Bool
@@ -29,6 +30,10 @@ module _ {M : Type 0} (device : Ghosts M) where
   -- A call needs this first; no device of the client has failed.
   abbrev pub NeedsFirst : ClientView M → Call → Need → Type 0
   NeedsFirst v call need = (v.log.failed ≡ false) × (outcome_for device v call ≡ outcomes.Need need)
+
+  -- A call that was started came to a need, and a turn was waited for that; or none was waited.
+  abbrev pub HasTakenTurn : Call → WaitedView → WaitedView → Type 0
+  HasTakenTurn call old new = (new.turns ≡ old.turns) × ((new ≡ old) ⊎ ((v : ClientView M) × (need : Need) × NeedsFirst v call need × IsTurnFor need old new))
 
   -- There was no memory to seal the region, in which the call needs room.
   abbrev pub LacksMemoryToSeal : ClientView M → Need → Denied → ClientView M → Type 0

@@ -6,10 +6,10 @@ ghost use Rattle.libfs.specs.View.{is_pending};
 ghost use Rattle.libfs.specs.declared.now.Now.TheVariants as now;
 ghost use Rattle.libfs.specs.declared.denial.Denied.{Denied};
 ghost use Rattle.libfs.specs.declared.denial.Denied.TheVariants as denied;
-ghost use Rattle.strata_threads.specs.CallDenials.{HasUnmetNeed, IsAnsweredOrDenied, IsUnmet, NeedsFirst};
+ghost use Rattle.strata_threads.specs.CallDenials.{HasTakenTurn, HasUnmetNeed, IsAnsweredOrDenied, IsUnmet, NeedsFirst};
 ghost use Rattle.strata_threads.specs.ClientCalls.{IsAnswered, IsEnded, IsFinished, IsStarted, KeepsCall, owner_of};
 ghost use Rattle.strata_threads.specs.LeaseReturn.{KeepsLeases};
-ghost use Rattle.strata_threads.specs.WaitedTurns.{HasWaited, IsWithinTurns, reply_of};
+ghost use Rattle.strata_threads.specs.WaitedTurns.{HasWaitedFor, IsWithinTurns, reply_of};
 
 use crate::gate_point::GatePoint;
 use crate::shared_kernel::SharedKernel;
@@ -59,7 +59,7 @@ impl<M: Media + Drop> ThreadClient<M> {
         ensures given { self.new.waited.turns ≡ turns }
     {
         self.waited = Waited::none_of(turns);
-        self.listen_to(rt, self.rows);
+        self.listen_to(rt, shared, self.rows);
         for turn in rt.forever() {
             if self.waited.is_over() {
                 return Err(Denied::Turns);
@@ -81,7 +81,7 @@ impl<M: Media + Drop> ThreadClient<M> {
     ) -> Result<Option<Reply>, Denied>
         requires left { self.old.waited.count < self.old.waited.turns }
         ensures owner { owner_of self.new.client ≡ owner_of self.old.client }
-        ensures waited { HasWaited self.old.waited self.new.waited }
+        ensures waited { HasTakenTurn M.Media call.now self.old.waited self.new.waited }
         ensures answered { IfOk result (λ r. IfSome r (λ reply. IsAnswered M.Media call.now reply self.new.client)) }
         ensures at_once { IfOk result (λ r. IfSome r (λ _. self.new.waited ≡ self.old.waited)) }
         ensures unmet { IfErr result (λ e. HasUnmetNeed M.Media call.now e self.new.client) }
@@ -111,7 +111,7 @@ impl<M: Media + Drop> ThreadClient<M> {
         requires needed { NeedsFirst M.Media self.old.client call.now need.now }
         ensures unmet { IfErr result (λ e. HasUnmetNeed M.Media call.now e self.new.client) }
         ensures kept { KeepsCall self.old.client self.new.client }
-        ensures waited { HasWaited self.old.waited self.new.waited }
+        ensures waited { HasTakenTurn M.Media call.now self.old.waited self.new.waited }
         ensures refused { OnErr result (self.new.waited ≡ self.old.waited) }
         ensures only { IfErr result (λ e. e ≢ denied.Turns) }
     {
@@ -130,17 +130,17 @@ impl<M: Media + Drop> ThreadClient<M> {
     ) -> Result<(), Denied>
         requires left { self.old.waited.count < self.old.waited.turns }
         ensures kept { KeepsCall self.old.client self.new.client }
-        ensures waited { HasWaited self.old.waited self.new.waited }
+        ensures waited { HasWaitedFor need.now self.old.waited self.new.waited }
         ensures unmet { IfErr result (λ e. IsUnmet M.Media self.old.client need.now e self.new.client) }
         ensures refused { OnErr result (self.new.waited ≡ self.old.waited) }
         ensures only { IfErr result (λ e. e ≢ denied.Turns) }
     {
         match *need {
             Need::Lease { inode, mode } => {
-                self.take_lease(rt, inode, mode);
+                self.take_lease(rt, shared, inode, mode);
                 Ok(())
             }
-            Need::Room => self.make_room(rt, gate),
+            Need::Room => self.make_room(rt, shared, gate),
             _ => self.ask_kernel(rt, shared, need),
         }
     }

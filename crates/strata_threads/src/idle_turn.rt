@@ -12,6 +12,7 @@ ghost use Rattle.strata_threads.specs.HeardQuestions.{AreGivenOrAsked, AreHeldAn
 ghost use Rattle.strata_threads.specs.LeaseReturn.{HasNoneToGive, HasOnlyGiven};
 ghost use Rattle.strata_threads.specs.RegionHandover.{HandsOver, HasComeBack, HasListened, HasLookedForRegion, HasReceived, HasSealedOrNot, HasSentOrKept};
 
+use crate::shared_kernel::SharedKernel;
 use crate::thread_client::ThreadClient;
 use libfs::{Client, INODES, LeaseMode, Media, SealedRegion};
 use std::alloc::AllocError;
@@ -23,31 +24,31 @@ const ROWS: u32 = 16;
 impl<M: Media + Drop> ThreadClient<M> {
     /// Takes the region back that a worker has digested, and gives each inode back that others ask for. Where a record that is not digested is in the way, the current region is sealed and handed over. Who has nothing else
     /// to do listens all the time, since nobody else gives what it holds. All 16 rows of 64 inodes are heard.
-    pub fn listen<R: Wait>(&mut self, rt: &R)
+    pub fn listen<R: Wait>(&mut self, rt: &R, shared: &SharedKernel<M>)
         ensures listened { HasListened M.Media 16 self.old.client self.old.asked self.new.client self.new.asked }
         ensures rows { self.new.rows ≡ self.old.rows }
         ensures kept { KeepsCall self.old.client self.new.client }
         ensures waited { self.new.waited ≡ self.old.waited }
     {
-        self.listen_to(rt, ROWS);
+        self.listen_to(rt, shared, ROWS);
     }
 
     // The same, but hears and gives of the first `rows` rows of inodes alone.
-    pub(crate) fn listen_to<R: Wait>(&mut self, rt: &R, rows: u32)
+    pub(crate) fn listen_to<R: Wait>(&mut self, rt: &R, shared: &SharedKernel<M>, rows: u32)
         ensures listened { HasListened M.Media (min rows 16) self.old.client self.old.asked self.new.client self.new.asked }
         ensures rows { self.new.rows ≡ self.old.rows }
         ensures kept { KeepsCall self.old.client self.new.client }
         ensures waited { self.new.waited ≡ self.old.waited }
     {
-        self.take_back(rt);
+        self.take_back(rt, shared);
         hear(&mut self.client, &mut self.asked, rows);
         if give_asked(&mut self.client, &mut self.asked, rows) {
-            let _ = self.hand_over(rt);
+            let _ = self.hand_over(rt, shared);
         }
     }
 
     // Takes the region back that came by the queue, if one is away. One that the queue to the workers had no room for goes first.
-    fn take_back<R: Wait>(&mut self, rt: &R)
+    fn take_back<R: Wait>(&mut self, rt: &R, shared: &SharedKernel<M>)
         ensures back { HasComeBack M.Media self.old.client self.new.client }
         ensures looked { self.old.client.log.other ≡ None → self.old.kept ≡ None → HasLookedForRegion M.Media self.old.client self.old.tasks self.old.returns self.new.client self.new.tasks self.new.returns self.new.kept }
         ensures rows { self.new.rows ≡ self.old.rows }
@@ -58,18 +59,18 @@ impl<M: Media + Drop> ThreadClient<M> {
         if !self.client.is_region_away() {
             return;
         }
-        self.put_kept(rt);
+        self.put_kept(rt, shared);
         if self.kept.is_some() {
             return;
         }
         match self.returns.take(rt) {
-            Some(region) => self.receive(rt, region),
+            Some(region) => self.receive(rt, shared, region),
             None => {}
         }
     }
 
     // Takes a region back that is digested whole; any other one goes to the workers once more.
-    fn receive<R: Wait>(&mut self, rt: &R, region: SealedRegion<M>)
+    fn receive<R: Wait>(&mut self, rt: &R, shared: &SharedKernel<M>, region: SealedRegion<M>)
         requires free { self.old.kept ≡ None }
         ensures received { HasReceived M.Media self.old.client self.old.tasks region self.new.client self.new.tasks self.new.kept }
         ensures returns { self.new.returns ≡ self.old.returns }
@@ -80,12 +81,16 @@ impl<M: Media + Drop> ThreadClient<M> {
     {
         match self.client.take_back(region) {
             Ok(()) => {}
-            Err(region) => self.send(rt, region),
+            Err(region) => self.send(rt, shared, region),
         }
     }
 
     // Seals the current region and sends it to the workers, where it has records and no other one is away. An error is want of memory, with nothing changed.
-    pub(crate) fn hand_over<R: Wait>(&mut self, rt: &R) -> Result<(), AllocError>
+    pub(crate) fn hand_over<R: Wait>(
+        &mut self,
+        rt: &R,
+        shared: &SharedKernel<M>,
+    ) -> Result<(), AllocError>
         ensures handed { OnOk result (HandsOver M.Media self.old.kept self.old.client self.old.tasks self.new.client self.new.tasks self.new.kept) }
         ensures memory { OnErr result (CanBeSealed M.Media self.old.client.log × (self.new.client ≡ self.old.client) × (self.new.tasks ≡ self.old.tasks) × (self.new.kept ≡ self.old.kept)) }
         ensures sealed { HasSealedOrNot M.Media self.old.client self.new.client }
@@ -100,7 +105,7 @@ impl<M: Media + Drop> ThreadClient<M> {
         }
         match self.client.seal()? {
             Some(region) => {
-                self.send(rt, region);
+                self.send(rt, shared, region);
                 Ok(())
             }
             None => Ok(()),
@@ -108,7 +113,7 @@ impl<M: Media + Drop> ThreadClient<M> {
     }
 
     // Sends the region for which the queue had no room.
-    fn put_kept<R: Wait>(&mut self, rt: &R)
+    fn put_kept<R: Wait>(&mut self, rt: &R, shared: &SharedKernel<M>)
         ensures sent { IfSome self.old.kept (λ region. HasSentOrKept self.old.tasks region self.new.tasks self.new.kept) }
         ensures none { IfNone self.old.kept ((self.new.tasks ≡ self.old.tasks) × (self.new.kept ≡ None)) }
         ensures returns { self.new.returns ≡ self.old.returns }
@@ -118,13 +123,13 @@ impl<M: Media + Drop> ThreadClient<M> {
         ensures waited { self.new.waited ≡ self.old.waited }
     {
         match self.kept.take() {
-            Some(region) => self.send(rt, region),
+            Some(region) => self.send(rt, shared, region),
             None => {}
         }
     }
 
     // Sends a region to the workers; where the queue is full it is kept. No other one is kept, which would be lost.
-    fn send<R: Wait>(&mut self, rt: &R, region: SealedRegion<M>)
+    fn send<R: Wait>(&mut self, rt: &R, shared: &SharedKernel<M>, region: SealedRegion<M>)
         requires free { self.old.kept ≡ None }
         ensures sent { HasSentOrKept self.old.tasks region self.new.tasks self.new.kept }
         ensures returns { self.new.returns ≡ self.old.returns }
@@ -134,23 +139,23 @@ impl<M: Media + Drop> ThreadClient<M> {
         ensures waited { self.new.waited ≡ self.old.waited }
     {
         match self.tasks.put(rt, region) {
-            Ok(()) => {}
+            Ok(()) => shared.wake_worker(),
             Err(region) => self.kept = Some(region),
         }
     }
 
     /// Has all that the client logged digested, in at most `rounds` rounds, in which it listens. It answers whether no record of it is left that is not known to be digested.
-    pub fn clear_log<R: Wait>(&mut self, rt: &R, rounds: u64) -> bool
+    pub fn clear_log<R: Wait>(&mut self, rt: &R, shared: &SharedKernel<M>, rounds: u64) -> bool
         ensures cleared { IsTrue result ↔ (self.new.client.sealed ++ current_records M.Media self.new.client.log ≡ []) }
         ensures kept { KeepsCall self.old.client self.new.client }
         ensures waited { self.new.waited ≡ self.old.waited }
     {
         for round in 0..rounds {
-            self.listen(rt);
+            self.listen(rt, shared);
             if self.is_clear() {
                 return true;
             }
-            let _ = self.hand_over(rt);
+            let _ = self.hand_over(rt, shared);
             thread::yield_now();
         }
         self.is_clear()

@@ -12,13 +12,14 @@ ghost use Rattle.strata_threads.specs.CallDenials.{IsUnmet};
 ghost use Rattle.strata_threads.specs.ClientCalls.{KeepsCall};
 ghost use Rattle.strata_threads.specs.HeardQuestions.{row_of};
 ghost use Rattle.strata_threads.specs.LeaseReturn.{IsLeased, KeepsLeases};
-ghost use Rattle.strata_threads.specs.RegionHandover.{HandsOver};
-ghost use Rattle.strata_threads.specs.WaitedTurns.{HasWaited, busy_turn, taken_mode};
+ghost use Rattle.strata_threads.specs.RegionHandover.{HandsOver, HasListened};
+ghost use Rattle.strata_threads.specs.WaitedTurns.{HasWaitedFor, away_turn, taken_mode};
 
 use crate::gate_point::GatePoint;
 use crate::idle_turn::row_count;
+use crate::shared_kernel::SharedKernel;
 use crate::thread_client::ThreadClient;
-use libfs::{CLIENTS, Client, Denied, LeaseMode, Media, Mode, is_inode};
+use libfs::{CLIENTS, Client, Denied, LeaseMode, Media, Mode, client_index, is_inode};
 use std::sync::Wait;
 use std::thread;
 
@@ -28,16 +29,24 @@ const WIPE_STEPS: u32 = 8;
 // The turns up to which a client that waits lets others go longer and longer
 const MOST_YIELDS: u64 = 64;
 
+// The turns up to which one that waits for its region does not sleep: to be woken costs more than most digests leave to wait
+const MOST_PAUSES: u64 = 16;
+
 impl<M: Media + Drop> ThreadClient<M> {
     // Takes a lease, for writing where the call waited to write the inode. Where it is busy each holder is asked for it, and the turn is waited.
-    pub(crate) fn take_lease<R: Wait>(&mut self, rt: &R, inode: u32, mode: Mode)
+    pub(crate) fn take_lease<R: Wait>(
+        &mut self,
+        rt: &R,
+        shared: &SharedKernel<M>,
+        inode: u32,
+        mode: Mode,
+    )
         requires left { self.old.waited.count < self.old.waited.turns }
         ensures kept { KeepsCall self.old.client self.new.client }
-        ensures waited { HasWaited self.old.waited self.new.waited }
+        ensures waited { HasWaitedFor (needs.Lease inode mode) self.old.waited self.new.waited }
         ensures got { self.new.waited ≡ self.old.waited → HasWord inode → IsLeased (taken_mode self.old.waited inode mode) self.new.client inode }
         ensures lease { self.new.waited ≡ self.old.waited → HasWord inode → lease_of self.old.client.pass inode ≡ Free → lease_of self.new.client.pass inode ≡ mode_of (taken_mode self.old.waited inode mode) }
         ensures others { self.new.waited ≡ self.old.waited → (i : ℕ) → HasWord i → i ≢ inode → lease_of self.new.client.pass i ≡ lease_of self.old.client.pass i }
-        ensures busy { self.new.waited ≢ self.old.waited → self.new.waited ≡ busy_turn self.old.waited inode (taken_mode self.old.waited inode mode) }
         ensures raised { HasWord inode → self.new.rows ≡ max self.old.rows (row_of inode + 1) }
         ensures rows { (HasWord inode → ⊥) → self.new.rows ≡ self.old.rows }
     {
@@ -51,7 +60,7 @@ impl<M: Media + Drop> ThreadClient<M> {
             Err(word) => {
                 self.waited.count_busy(&self.client, inode, mode, word);
                 ask_holders(&mut self.client, inode, word);
-                self.let_go(rt);
+                self.let_go(rt, shared);
             }
         }
     }
@@ -60,6 +69,7 @@ impl<M: Media + Drop> ThreadClient<M> {
     pub(crate) fn make_room<R: Wait, G: GatePoint>(
         &mut self,
         rt: &R,
+        shared: &SharedKernel<M>,
         gate: &G,
     ) -> Result<(), Denied>
         requires left { self.old.waited.count < self.old.waited.turns }
@@ -67,27 +77,33 @@ impl<M: Media + Drop> ThreadClient<M> {
         ensures unmet { IfErr result (λ e. IsUnmet M.Media self.old.client needs.Room e self.new.client) }
         ensures only { IfErr result (λ e. e ≡ denied.Memory) }
         ensures kept { KeepsCall self.old.client self.new.client }
-        ensures waited { HasWaited self.old.waited self.new.waited }
-        ensures away { self.new.waited ≢ self.old.waited → self.new.waited ≡ record self.old.waited { count = self.old.waited.count + 1 } }
+        ensures waited { HasWaitedFor needs.Room self.old.waited self.new.waited }
+        ensures away { self.old.client.log.other ≡ None → (self.new.waited ≡ away_turn self.old.waited) × HasListened M.Media 16 self.old.client self.old.asked self.new.client self.new.asked }
+        ensures freed { self.old.client.log.other ≢ None → self.new.waited ≡ self.old.waited }
         ensures refused { OnErr result (self.new.waited ≡ self.old.waited) }
     {
         if self.client.is_region_away() {
             self.waited.count_away(&self.client);
-            self.let_go(rt);
+            self.wait_for_region(rt, shared);
             return Ok(());
         }
-        self.free_region(rt, gate)
+        self.free_region(rt, shared, gate)
     }
 
     // Hands the current region over, and wipes what is to be wiped of the regions.
-    fn free_region<R: Wait, G: GatePoint>(&mut self, rt: &R, gate: &G) -> Result<(), Denied>
+    fn free_region<R: Wait, G: GatePoint>(
+        &mut self,
+        rt: &R,
+        shared: &SharedKernel<M>,
+        gate: &G,
+    ) -> Result<(), Denied>
         ensures handed { OnOk result ((sealed : ClientView M) × HandsOver M.Media self.old.kept self.old.client self.old.tasks sealed self.new.tasks self.new.kept × (self.new.client ≡ record sealed { log = self.new.client.log })) }
         ensures unmet { IfErr result (λ e. IsUnmet M.Media self.old.client needs.Room e self.new.client) }
         ensures only { IfErr result (λ e. e ≡ denied.Memory) }
         ensures kept { KeepsCall self.old.client self.new.client }
         ensures waited { self.new.waited ≡ self.old.waited }
     {
-        match self.hand_over(rt) {
+        match self.hand_over(rt, shared) {
             Ok(()) => {
                 wipe_regions(&mut self.client, gate);
                 Ok(())
@@ -96,13 +112,32 @@ impl<M: Media + Drop> ThreadClient<M> {
         }
     }
 
-    // Listens in a turn that was waited, and lets other threads go. Only there: what a call was given is its own until it is answered or waits, else clients that ask for one another's leases would never hold all that they need.
-    fn let_go<R: Wait>(&mut self, rt: &R)
+    // Listens in a turn in which the region is away, and lets other threads go; behind some turns it sleeps until a worker has sent it back, or a while.
+    fn wait_for_region<R: Wait>(&mut self, rt: &R, shared: &SharedKernel<M>)
+        ensures listened { HasListened M.Media 16 self.old.client self.old.asked self.new.client self.new.asked }
         ensures rows { self.new.rows ≡ self.old.rows }
         ensures kept { KeepsCall self.old.client self.new.client }
         ensures waited { self.new.waited ≡ self.old.waited }
     {
-        self.listen(rt);
+        if self.waited.count() < MOST_PAUSES {
+            self.let_go(rt, shared);
+            return;
+        }
+        self.listen(rt, shared);
+        if !self.client.is_region_away() {
+            return;
+        }
+        shared.sleep(rt, client_index(self.client.client()));
+    }
+
+    // Listens in a turn that was waited, and lets other threads go. Only there: what a call was given is its own until it is answered or waits, else clients that ask for one another's leases would never hold all that they need.
+    fn let_go<R: Wait>(&mut self, rt: &R, shared: &SharedKernel<M>)
+        ensures listened { HasListened M.Media 16 self.old.client self.old.asked self.new.client self.new.asked }
+        ensures rows { self.new.rows ≡ self.old.rows }
+        ensures kept { KeepsCall self.old.client self.new.client }
+        ensures waited { self.new.waited ≡ self.old.waited }
+    {
+        self.listen(rt, shared);
         pause(self.waited.count(), self.client.client());
     }
 }

@@ -8,9 +8,6 @@ use libfs::{Kernel, Media, Tier};
 use std::sync::Wait;
 use std::thread;
 
-// How often the migrator lets others go before it looks again.
-const PAUSE: u32 = 1024;
-
 /// Moves the run that is to be moved next to a tier, if there is one, under the lock. It answers whether one was moved.
 pub fn migrate<M: Media, R: Wait>(rt: &R, shared: &SharedKernel<M>, to: Tier) -> bool {
     let mut kernel = shared.lock(rt);
@@ -44,20 +41,20 @@ fn move_run<M: Media>(kernel: &mut Kernel<M>, inode: u32, first: u64, count: u32
     }
 }
 
-/// Moves runs to the block tier and to the slow one, until the flag is set.
+/// Moves runs to the block tier and to the slow one, until the flag is set. Where none was moved, since there is none or the look or the move was refused, it sleeps until a worker has had a region.
 pub fn run_migrator<M: Media, R: Wait>(rt: &R, shared: &SharedKernel<M>, stop: &StopFlag) {
     for round in rt.forever() {
+        // Before it looks: what is digested behind that wakes it.
+        let digest = shared.expect_digest();
         if stop.is_set() {
             return;
         }
-        let _ = migrate(rt, shared, Tier::Block);
-        let _ = migrate(rt, shared, Tier::Slow);
-        pause();
-    }
-}
-
-fn pause() {
-    for time in 0..PAUSE {
-        thread::yield_now();
+        let to_block = migrate(rt, shared, Tier::Block);
+        let to_slow = migrate(rt, shared, Tier::Slow);
+        if to_block || to_slow {
+            thread::yield_now();
+        } else {
+            digest.wait(rt);
+        }
     }
 }

@@ -1,3 +1,5 @@
+use crate::shared_kernel::SharedKernel;
+use libfs::Media;
 use std::sync::atomic::AtomicU64;
 use std::sync::atomic::Ordering::SeqCst;
 
@@ -15,9 +17,10 @@ impl StopFlag {
         }
     }
 
-    /// Sets it, for good.
-    pub fn set(&self) {
+    /// Sets it, for good, and wakes the workers and the migrator of that kernel.
+    pub fn set<M: Media>(&self, shared: &SharedKernel<M>) {
         self.is_set.store(1, SeqCst);
+        shared.wake_all();
     }
 
     /// Whether it is set.

@@ -1,7 +1,7 @@
-ghost use Rattle.std.specs.Prelude.{◌≡◌, ◌==◌, ◌<◌, ◌+◌, None, false, [], ◌∷◌};
+ghost use Rattle.std.specs.Prelude.{◌≡◌, ◌==◌, ◌<◌, None, false, [], ◌∷◌};
 ghost use Rattle.libfs.specs.lease_manager.Marks.{ShowsOther};
 ghost use Rattle.libfs.specs.lease_manager.Words.{HasWord};
-ghost use Rattle.strata_threads.specs.WaitedTurns.{busy_turn, is_to_write, taken_mode, with_inode};
+ghost use Rattle.strata_threads.specs.WaitedTurns.{away_turn, busy_turn, is_to_write, taken_mode, with_inode};
 
 use libfs::{Client, Media, Mode};
 use std::marker::Model;
@@ -110,7 +110,7 @@ impl Waited {
     pub(crate) fn count_away<M: Media>(&mut self, client: &Client<M>)
         requires left { self.old.count < self.old.turns }
         requires away { client.now.log.other ≡ None }
-        ensures { self.new ≡ record self.old { count = self.old.count + 1 } }
+        ensures { self.new ≡ away_turn self.old }
     {
         // For the proof: it stands in the contract alone: a turn counts only if the client's other region was away.
         let _ = client;

@@ -1,4 +1,6 @@
-ghost use Rattle.std.specs.Prelude.{◌≡◌, ◌-◌, true, false, length};
+ghost use Rattle.std.specs.Prelude.{◌≡◌, ◌-◌, List, true, false, length};
+ghost use Rattle.handoff.specs.Line.{EndsLine};
+ghost use Rattle.libfs.specs.SealedRegion.{SealedRegionView};
 ghost use Rattle.strata_threads.specs.RegionHandover.{HasReturned, HasSent, HasSentAt};
 
 use crate::gate_point::GatePoint;
@@ -21,7 +23,7 @@ pub struct Worker<M: Media + Drop> {
 }
 
 impl<M: Media + Drop> Worker<M> {
-    /// Digests region after region, until the flag is set and none is left.
+    /// Digests region after region, until the flag is set and none is left. It sleeps while there is none.
     pub fn run<R: Wait, G: GatePoint>(
         &mut self,
         rt: &R,
@@ -30,17 +32,19 @@ impl<M: Media + Drop> Worker<M> {
         gate: &G,
     ) {
         for round in rt.forever() {
+            // Before it looks: what comes behind that wakes it.
+            let handover = shared.expect_handover();
             let is_last = stop.is_set();
             if !self.digest_one(rt, shared, gate) {
                 if is_last {
                     return;
                 }
-                thread::yield_now();
+                handover.wait(rt);
             }
         }
     }
 
-    /// Digests a region, if one is there, and sends it back to its client, digested whole or not. It answers whether one was there.
+    /// Digests a region, if one is there, and sends it back to its client, digested whole or not; both the client and the migrator are woken. It answers whether one was there.
     pub fn digest_one<R: Wait, G: GatePoint>(
         &mut self,
         rt: &R,
@@ -48,6 +52,7 @@ impl<M: Media + Drop> Worker<M> {
         gate: &G,
     ) -> bool
         ensures none { result ≡ false → (self.new.tasks ≡ self.old.tasks) × (self.new.returns ≡ self.old.returns) }
+        ensures empty { result ≡ false → (items : List (SealedRegionView M)) × (length items ≡ 0) × EndsLine self.old.tasks.hands items }
         ensures returned { result ≡ true → HasReturned M.Media self.old.tasks self.new.tasks self.old.returns.items self.new.returns.items }
     {
         let Some(region) = self.tasks.take(rt) else {
@@ -55,12 +60,13 @@ impl<M: Media + Drop> Worker<M> {
         };
         let mut region = region;
         let _ = digest_region(rt, self.alloc, shared, &mut region, gate);
-        self.send_back(rt, region);
+        self.send_back(rt, shared, region);
+        shared.wake_migrator();
         true
     }
 
     // Sends a region back to its client, of which no other one is away: so the queue has room.
-    fn send_back<R: Wait>(&mut self, rt: &R, region: SealedRegion<M>)
+    fn send_back<R: Wait>(&mut self, rt: &R, shared: &SharedKernel<M>, region: SealedRegion<M>)
         ensures tasks { self.new.tasks ≡ self.old.tasks }
         ensures sent { HasSentAt self.old.returns.items (region.client - 1) region self.new.returns.items }
     {
@@ -68,6 +74,7 @@ impl<M: Media + Drop> Worker<M> {
         region.left_now();
         let index = client_index(region.client());
         send(rt, &mut self.returns[index], region);
+        shared.wake_client(index);
     }
 }
 

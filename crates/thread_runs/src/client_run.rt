@@ -64,13 +64,13 @@ impl ClientRun<'_> {
             }
         }
         if !self.tree.has_stopped() {
-            self.leave(rt);
+            self.leave(rt, shared);
         }
     }
 
     /// Has its log digested, and gives all leases back.
-    pub fn leave<R: Wait>(&mut self, rt: &R) {
-        let _ = self.client.clear_log(rt, ROUNDS);
+    pub fn leave<R: Wait>(&mut self, rt: &R, shared: &SharedKernel<RunMedium>) {
+        let _ = self.client.clear_log(rt, shared, ROUNDS);
         self.client.give_all();
     }
 
@@ -140,7 +140,7 @@ impl ClientRun<'_> {
                 return reply;
             }
             self.retries = self.retries.saturating_sub(1);
-            let _ = self.client.clear_log(rt, ROUNDS);
+            let _ = self.client.clear_log(rt, shared, ROUNDS);
         }
         self.client.posix(rt, shared, call, TURNS, &OpenGate)
     }

@@ -98,7 +98,7 @@ fn open_file<R: Threads + Wait + AllocGlobal + Sync>(
         rt,
         || {
             let end = create_file(rt, shared, client);
-            flag.set();
+            flag.set(shared);
             end
         },
         || work(rt, shared, workers, flag),
@@ -113,7 +113,7 @@ fn create_file<R: Wait + AllocGlobal>(
     client: &mut ThreadClient<RunMedium>,
 ) -> Result<(), RunError> {
     let answer = ask(rt, shared, client, "1 open /f rwc");
-    let is_clear = client.clear_log(rt, ROUNDS);
+    let is_clear = client.clear_log(rt, shared, ROUNDS);
     client.give_all();
     match answer {
         Ok(Answer::Done) if is_clear => Ok(()),

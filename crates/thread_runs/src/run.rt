@@ -174,8 +174,8 @@ fn ask_opening<R: Threads + Wait + Sync>(
         rt,
         || {
             let end = run.ask_all(rt, shared, stops, lines);
-            run.leave(rt);
-            flag.set();
+            run.leave(rt, shared);
+            flag.set(shared);
             end
         },
         || work(rt, shared, workers, flag),
@@ -220,7 +220,7 @@ fn make_all_turns<R: Threads + Wait + Sync>(
         rt,
         || {
             make_turns(rt, shared, stops, runs, options);
-            flag.set();
+            flag.set(shared);
         },
         || thread::join(
             rt,

@@ -44,7 +44,14 @@ fn migrate<S: Events + Running>(
         count: blocks_of(count),
         to: tier_of(to),
     };
-    match system.play(&event) {
+    answer_move(count, system.play(&event))
+}
+
+// What is answered of a move of so many blocks that came to an outcome.
+fn answer_move(count: u64, outcome: Outcome) -> Answer
+    ensures { result ≡ move_answer count outcome }
+{
+    match outcome {
         Outcome::Stepped => Answer::Moved(count),
         Outcome::Refused { refusal } => Answer::Refused(refusal),
         _ => Answer::Idle,
