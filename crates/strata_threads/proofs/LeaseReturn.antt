@@ -1,5 +1,5 @@
 -- A client that gives leases back holds no more than before, and in the end none that can be given.
-use Rattle.std.proofs.Common.{◌≡◌, ◌≢◌, ◌⊎◌, inl, inr, ⊎_elim, ℕ, ◌+◌, ◌≤◌, List, refl, sym, ap, ◌∙◌, subst, arith}
+use Rattle.std.proofs.Common.{◌≡◌, ◌≢◌, ◌⊎◌, inl, inr, ⊎_elim, ℕ, ◌+◌, ◌≤◌, List, [], ◌∷◌, ◌++◌, append_assoc, refl, sym, ap, ◌∙◌, subst, arith}
 use Rattle.std.specs.Prelude.{◌↔◌, Bool, true, false, IsTrue, length, slice_index}
 use Rattle.std.proofs.lemmas.Bool.{cases_lt, false≢true}
 use Rattle.std.proofs.lemmas.Bool.Decides.{eqb_tells}
@@ -7,11 +7,12 @@ use Rattle.std.proofs.lemmas.List.{get_or-set_same, get_or-set_other, get_or_pas
 use Rattle.libfs.specs.lease_manager.Passes.{PassView, client_of, lease_of, with_event, without_lease}
 use Rattle.libfs.specs.lease_manager.Words.{HasWord, lease_place}
 use Rattle.libfs.specs.lease_manager.declared.view.Event.{Event}
+use Rattle.libfs.specs.lease_manager.declared.view.Event.TheVariants.{Gave}
 use Rattle.libfs.specs.lease_manager.declared.view.LeaseMode.TheVariants.{Free}
 use Rattle.libfs.specs.LeaseCalls.{CanBeGiven, HasGiven}
 use Rattle.libfs.specs.View.{ClientView, is_pending}
 use Rattle.strata_threads.specs.ClientCalls.{KeepsCall}
-use Rattle.strata_threads.specs.LeaseReturn.{HasNoneToGive, HasOnlyGiven}
+use Rattle.strata_threads.specs.LeaseReturn.{HasNoneToGive, HasOnlyGiven, KeepsSteps}
 
 -- a lease that is given is free from then on
 freed : (p : PassView) (i : ℕ) → lease_of p i ≢ Free → lease_of (without_lease p i) i ≡ Free
@@ -25,8 +26,24 @@ apart : (i j : ℕ) → HasWord i → HasWord j → j ≢ i → lease_place j �
 apart i j one other off same = off (omega (arith, one.0, other.0, same))
 
 module _ {M : Type 0} where
+  -- ---- the steps that it has made
+
+  keeps_steps : (v : ClientView M) → KeepsSteps v v
+  keeps_steps v = record { since = []; behind = refl }
+
+  makes_step : (old new : ClientView M) (e : Event) → new.pass ≡ with_event old.pass e → KeepsSteps old new
+  makes_step old new e is = record { since = e ∷ []; behind = ap (λ (p : PassView). p.part.events) is }
+
+  keeps_both_steps : (old between new : ClientView M) → KeepsSteps old between → KeepsSteps between new → KeepsSteps old new
+  keeps_both_steps old between new one two = record {
+    since = two.since ++ one.since;
+    behind = two.behind ∙ ap (λ (es : List Event). two.since ++ es) one.behind ∙ sym (append_assoc two.since one.since old.pass.part.events);
+  }
+
+  -- ---- the leases
+
   pub gives_nothing : (v : ClientView M) → HasOnlyGiven v v
-  gives_nothing v = record { leases = λ i word. inl refl; records = refl; table = refl; client = refl; numbers = refl; rest = refl }
+  gives_nothing v = record { leases = λ i word. inl refl; steps = keeps_steps v; records = refl; table = refl; client = refl; numbers = refl; rest = refl }
 
   -- as it is known of the client that is left
   pub gives_nothing_of : (old new : ClientView M) → new ≡ old → HasOnlyGiven old new
@@ -45,6 +62,7 @@ module _ {M : Type 0} where
   pub gives_both : (old between new : ClientView M) → HasOnlyGiven old between → HasOnlyGiven between new → HasOnlyGiven old new
   gives_both old between new one two = record {
     leases = λ i word. leases i word (one.leases i word) (two.leases i word);
+    steps = keeps_both_steps old between new one.steps two.steps;
     records = two.records ∙ one.records;
     table = two.table ∙ one.table;
     client = two.client ∙ one.client;
@@ -64,6 +82,7 @@ module _ {M : Type 0} where
   pub hears : (old new : ClientView M) (e : Event) → new ≡ record old { pass = with_event old.pass e } → HasOnlyGiven old new
   hears old new e is = record {
     leases = λ i word. inl (ap (λ (v : ClientView M). lease_of v.pass i) is);
+    steps = makes_step old new e (ap (λ (v : ClientView M). v.pass) is);
     records = ap (λ (v : ClientView M). v.pass.records) is;
     table = ap (λ (v : ClientView M). v.pass.table) is;
     client = ap (λ (v : ClientView M). client_of v.pass) is;
@@ -75,6 +94,7 @@ module _ {M : Type 0} where
   pub gives_one : (old new : ClientView M) (i : ℕ) → CanBeGiven old i → HasGiven old i new → HasOnlyGiven old new
   gives_one old new i can given = record {
     leases = leases;
+    steps = record { since = Gave (lease_place i) ∷ []; behind = ap (λ (p : PassView). p.part.events) given.lease };
     records = ap (λ (p : PassView). p.records) given.lease;
     table = ap (λ (p : PassView). p.table) given.lease;
     client = ap client_of given.lease;

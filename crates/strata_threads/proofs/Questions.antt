@@ -172,9 +172,9 @@ module _ {M : Type 0} where
       ∙ heard_later n old heard.0 asked heard.1 heard.3 row (omega (arith, past))
 
   pub answers_rows : (rows : ℕ) (old heard new : ClientView M) (asked first known left last : List ℕ) → first ≡ asked → last ≡ left → HasHeardRows rows old first heard known
-      → RowsAreGivenOrAsked rows new known left → RowsAreHeld rows new known left → HasGivenAskedRows rows known heard new
+      → RowsAreGivenOrAsked rows new known left → RowsAreHeld rows new known left → HasOnlyGiven heard new → HasGivenAskedRows rows known heard new
       → ((row : ℕ) → rows ≤ row → slice_index left row ≡ slice_index known row) → HasAnsweredRows rows old asked new last
-  answers_rows rows old heard new asked first known left last is stays hears answered only unasked later =
+  answers_rows rows old heard new asked first known left last is stays hears answered only given unasked later =
       subst (λ (l : List ℕ). HasAnsweredRows rows old asked new l) (sym stays)
       (subst (λ (a : List ℕ). HasAnsweredRows rows old a new left) is (record {
         heard = heard;
@@ -182,6 +182,7 @@ module _ {M : Type 0} where
         hears = hears;
         answered = answered;
         only = only;
+        given = given;
         unasked = unasked;
         later = λ row past. later row past ∙ heard_later rows old heard first known hears row past;
       }))

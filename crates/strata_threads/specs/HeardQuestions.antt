@@ -7,6 +7,7 @@ use Rattle.libfs.specs.lease_manager.declared.view.Event.TheVariants.{Heard, Loo
 use Rattle.libfs.specs.lease_manager.declared.view.LeaseMode.TheVariants.{Free}
 use Rattle.libfs.specs.LeaseCalls.{CanBeGiven}
 use Rattle.libfs.specs.View.{ClientView}
+use Rattle.strata_threads.specs.LeaseReturn.{HasOnlyGiven}
 
 -- the row of an inode
 abbrev pub row_of : ℕ → ℕ
@@ -69,13 +70,14 @@ module _ {M : Type 0} where
   abbrev pub HasGivenAskedRows : ℕ → List ℕ → ClientView M → ClientView M → Type 0
   HasGivenAskedRows rows asked old new = (i : ℕ) → HasWord i → (lease_of new.pass i ≡ lease_of old.pass i) ⊎ ((row : ℕ) × (row < rows) × IsAskedOf row (slice_index asked row) i)
 
--- It heard the first rows, and of what it was asked there, then or before, each inode is given, or it is held and asked still since it can't be given. No other lease has changed, and what is asked of other rows stays.
+-- It heard the first rows, has only given since, and of what it was asked there, then or before, each inode is given, or it is held and asked still since it can't be given. No other lease has changed, and what is asked of other rows stays.
 pub record HasAnsweredRows {M : Type 0} (rows : ℕ) (old : ClientView M) (asked : List ℕ) (new : ClientView M) (left : List ℕ) : Type 0 where
   pub heard : ClientView M
   pub known : List ℕ
   pub hears : HasHeardRows rows old asked heard known
   pub answered : (row : ℕ) → row < rows → AreGivenOrAsked new row (slice_index known row) (slice_index left row)
   pub only : (row : ℕ) → row < rows → AreHeldAndAsked new row (slice_index known row) (slice_index left row)
+  pub given : HasOnlyGiven heard new
   pub unasked : HasGivenAskedRows rows known heard new
   pub later : (row : ℕ) → rows ≤ row → slice_index left row ≡ slice_index asked row
 

@@ -1,6 +1,7 @@
 pub mod CallDenials
 pub mod ClientCalls
 pub mod HeardQuestions
+pub mod HolderQuestions
 pub mod LeaseReturn
 pub mod RegionHandover
 pub mod RegionRefusals

@@ -8,6 +8,7 @@ ghost use Rattle.libfs.specs.declared.denial.Denied.{Denied};
 ghost use Rattle.libfs.specs.declared.denial.Denied.TheVariants as denied;
 ghost use Rattle.strata_threads.specs.CallDenials.{HasTakenTurn, HasUnmetNeed, IsAnsweredOrDenied, IsUnmet, NeedsFirst};
 ghost use Rattle.strata_threads.specs.ClientCalls.{IsAnswered, IsEnded, IsFinished, IsStarted, KeepsCall, owner_of};
+ghost use Rattle.strata_threads.specs.HolderQuestions.{HasAskedFor};
 ghost use Rattle.strata_threads.specs.LeaseReturn.{KeepsLeases};
 ghost use Rattle.strata_threads.specs.WaitedTurns.{HasWaitedFor, IsWithinTurns, reply_of};
 
@@ -112,6 +113,7 @@ impl<M: Media + Drop> ThreadClient<M> {
         ensures unmet { IfErr result (λ e. HasUnmetNeed M.Media call.now e self.new.client) }
         ensures kept { KeepsCall self.old.client self.new.client }
         ensures waited { HasTakenTurn M.Media call.now self.old.waited self.new.waited }
+        ensures asked { self.new.waited ≢ self.old.waited → HasAskedFor M.Media need.now self.old.client self.old.asked self.new.client self.new.asked }
         ensures refused { OnErr result (self.new.waited ≡ self.old.waited) }
         ensures only { IfErr result (λ e. e ≢ denied.Turns) }
     {
@@ -131,6 +133,7 @@ impl<M: Media + Drop> ThreadClient<M> {
         requires left { self.old.waited.count < self.old.waited.turns }
         ensures kept { KeepsCall self.old.client self.new.client }
         ensures waited { HasWaitedFor need.now self.old.waited self.new.waited }
+        ensures asked { self.new.waited ≢ self.old.waited → HasAskedFor M.Media need.now self.old.client self.old.asked self.new.client self.new.asked }
         ensures unmet { IfErr result (λ e. IsUnmet M.Media self.old.client need.now e self.new.client) }
         ensures refused { OnErr result (self.new.waited ≡ self.old.waited) }
         ensures only { IfErr result (λ e. e ≢ denied.Turns) }

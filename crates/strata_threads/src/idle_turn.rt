@@ -1,5 +1,5 @@
 //! What a client does between its turns: it gives what others ask for, and takes its region back.
-ghost use Rattle.std.specs.Prelude.{◌≡◌, ◌≢◌, ◌<◌, ◌≤◌, ◌+◌, ◌*◌, ◌++◌, ◌↔◌, ℕ, min, true, false, [], None, IfNone, IfSome, IsTrue, OnErr, OnOk, slice_index};
+ghost use Rattle.std.specs.Prelude.{◌≡◌, ◌≢◌, ◌==◌, ◌<◌, ◌≤◌, ◌+◌, ◌*◌, ◌++◌, ◌↔◌, ℕ, min, true, false, [], None, IfNone, IfSome, IsTrue, OnErr, OnOk, slice_index};
 ghost use Rattle.std.specs.Int.{bit_at};
 ghost use Rattle.libfs.specs.client_log.Steps.{CanBeSealed};
 ghost use Rattle.libfs.specs.client_log.View.{current_records};
@@ -139,7 +139,7 @@ impl<M: Media + Drop> ThreadClient<M> {
         ensures waited { self.new.waited ≡ self.old.waited }
     {
         match self.tasks.put(rt, region) {
-            Ok(()) => shared.wake_worker(),
+            Ok(()) => shared.wake_ups.wake_worker(),
             Err(region) => self.kept = Some(region),
         }
     }
@@ -335,9 +335,10 @@ fn give_bit<M: Media>(client: &mut Client<M>, row: u32, bits: u64, bit: u32, lef
 }
 
 // Whether a bit is set.
-fn has_bit(bits: u64, bit: u32) -> bool
+pub(crate) fn has_bit(bits: u64, bit: u32) -> bool
     requires { bit < 64 }
-    ensures { IsTrue result ↔ (bit_at bits bit ≡ 1) }
+    ensures value { result ≡ (bit_at bits bit == 1) }
+    ensures exact { IsTrue result ↔ (bit_at bits bit ≡ 1) }
 {
     bits >> bit & 1 == 1
 }

@@ -11,12 +11,13 @@ ghost use Rattle.libfs.specs.client_view.client_plan.declared.need.Need.TheVaria
 ghost use Rattle.strata_threads.specs.CallDenials.{IsUnmet};
 ghost use Rattle.strata_threads.specs.ClientCalls.{KeepsCall};
 ghost use Rattle.strata_threads.specs.HeardQuestions.{row_of};
+ghost use Rattle.strata_threads.specs.HolderQuestions.{HasAskedHolders, IsBarred, shows_mark, with_question_for, with_questions};
 ghost use Rattle.strata_threads.specs.LeaseReturn.{IsLeased, KeepsLeases};
 ghost use Rattle.strata_threads.specs.RegionHandover.{HandsOver, HasListened};
 ghost use Rattle.strata_threads.specs.WaitedTurns.{HasWaitedFor, away_turn, taken_mode};
 
 use crate::gate_point::GatePoint;
-use crate::idle_turn::row_count;
+use crate::idle_turn::{has_bit, row_count};
 use crate::shared_kernel::SharedKernel;
 use crate::thread_client::ThreadClient;
 use libfs::{CLIENTS, Client, Denied, LeaseMode, Media, Mode, client_index, is_inode};
@@ -47,6 +48,7 @@ impl<M: Media + Drop> ThreadClient<M> {
         ensures got { self.new.waited ≡ self.old.waited → HasWord inode → IsLeased (taken_mode self.old.waited inode mode) self.new.client inode }
         ensures lease { self.new.waited ≡ self.old.waited → HasWord inode → lease_of self.old.client.pass inode ≡ Free → lease_of self.new.client.pass inode ≡ mode_of (taken_mode self.old.waited inode mode) }
         ensures others { self.new.waited ≡ self.old.waited → (i : ℕ) → HasWord i → i ≢ inode → lease_of self.new.client.pass i ≡ lease_of self.old.client.pass i }
+        ensures asked { self.new.waited ≢ self.old.waited → HasAskedHolders M.Media inode self.old.client self.old.asked self.new.client self.new.asked }
         ensures raised { HasWord inode → self.new.rows ≡ max self.old.rows (row_of inode + 1) }
         ensures rows { (HasWord inode → ⊥) → self.new.rows ≡ self.old.rows }
     {
@@ -59,10 +61,21 @@ impl<M: Media + Drop> ThreadClient<M> {
             Ok(()) => {}
             Err(word) => {
                 self.waited.count_busy(&self.client, inode, mode, word);
-                ask_holders(&mut self.client, inode, word);
-                self.let_go(rt, shared);
+                self.ask_holders(rt, shared, inode, word);
             }
         }
+    }
+
+    // Asks each holder of an inode for it, whose mark its word shows, and listens.
+    fn ask_holders<R: Wait>(&mut self, rt: &R, shared: &SharedKernel<M>, inode: u32, word: u64)
+        requires inode { HasWord inode }
+        ensures listened { HasListened M.Media 16 (with_questions 8 self.old.client inode word) self.old.asked self.new.client self.new.asked }
+        ensures rows { self.new.rows ≡ self.old.rows }
+        ensures kept { KeepsCall self.old.client self.new.client }
+        ensures waited { self.new.waited ≡ self.old.waited }
+    {
+        ask_others(&mut self.client, inode, word);
+        self.let_go(rt, shared);
     }
 
     // Makes room: the current region is handed over, and what is to be wiped of the regions is wiped. Where the other one is away the turn is waited. Where there is no memory to seal one, that is why the call is denied.
@@ -79,6 +92,7 @@ impl<M: Media + Drop> ThreadClient<M> {
         ensures kept { KeepsCall self.old.client self.new.client }
         ensures waited { HasWaitedFor needs.Room self.old.waited self.new.waited }
         ensures away { self.old.client.log.other ≡ None → (self.new.waited ≡ away_turn self.old.waited) × HasListened M.Media 16 self.old.client self.old.asked self.new.client self.new.asked }
+        ensures heard { self.new.waited ≢ self.old.waited → HasListened M.Media 16 self.old.client self.old.asked self.new.client self.new.asked }
         ensures freed { self.old.client.log.other ≢ None → self.new.waited ≡ self.old.waited }
         ensures refused { OnErr result (self.new.waited ≡ self.old.waited) }
     {
@@ -127,7 +141,9 @@ impl<M: Media + Drop> ThreadClient<M> {
         if !self.client.is_region_away() {
             return;
         }
-        shared.sleep(rt, client_index(self.client.client()));
+        shared
+            .wake_ups
+            .sleep(rt, client_index(self.client.client()));
     }
 
     // Listens in a turn that was waited, and lets other threads go. Only there: what a call was given is its own until it is answered or waits, else clients that ask for one another's leases would never hold all that they need.
@@ -151,6 +167,7 @@ fn request_lease<M: Media>(client: &mut Client<M>, inode: u32, mode: Mode) -> Re
     ensures lease { OnOk result (lease_of client.old.pass inode ≡ Free → lease_of client.new.pass inode ≡ mode_of mode) }
     ensures others { (i : ℕ) → HasWord i → i ≢ inode → lease_of client.new.pass i ≡ lease_of client.old.pass i }
     ensures refused { OnErr result (KeepsLeases client.old client.new) }
+    ensures barred { IfErr result (λ word. IsBarred client.old inode word client.new) }
     ensures busy { IfErr result (λ word. ShowsOther client.new.pass.part.place word) }
 {
     match client.holds(inode) {
@@ -167,17 +184,37 @@ fn request_lease<M: Media>(client: &mut Client<M>, inode: u32, mode: Mode) -> Re
 }
 
 // Asks each other client whose mark the word shows.
-fn ask_holders<M: Media>(client: &mut Client<M>, inode: u32, word: u64)
+fn ask_others<M: Media>(client: &mut Client<M>, inode: u32, word: u64)
     requires inode { HasWord inode }
+    ensures asked { client.new ≡ with_questions 8 client.old inode word }
     ensures kept { KeepsCall client.old client.new }
     ensures leases { KeepsLeases client.old client.new }
 {
     let own = client.client();
     for place in 0..CLIENTS {
-        if (word >> place) & 0x101 != 0 && place + 1 != own {
-            client.ask_back(inode, place + 1);
-        }
+        ask_other(client, own, inode, word, place);
     }
+}
+
+// Asks the client at a place, if the word shows a mark of it and it is not client `own`.
+fn ask_other<M: Media>(client: &mut Client<M>, own: u32, inode: u32, word: u64, place: u32)
+    requires inode { HasWord inode }
+    requires place { place < 8 }
+    ensures asked { client.new ≡ with_question_for client.old own inode word place }
+    ensures kept { KeepsCall client.old client.new }
+    ensures leases { KeepsLeases client.old client.new }
+{
+    if has_mark(word, place) && place + 1 != own {
+        client.ask_back(inode, place + 1);
+    }
+}
+
+// Whether a lease word shows a mark of the client at a place.
+fn has_mark(word: u64, place: u32) -> bool
+    requires { place < 8 }
+    ensures { result ≡ shows_mark place word }
+{
+    has_bit(word, place) || has_bit(word, 8 + place)
 }
 
 // Wipes what is to be wiped, and passes the gate before each device call. A device that fails then is reported when the call is started again.

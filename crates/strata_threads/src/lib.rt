@@ -23,6 +23,7 @@ mod stop_flag;
 mod thread_client;
 mod thread_set;
 mod waited;
+mod wake_ups;
 mod worker;
 
 pub use gate_point::{GatePoint, OpenGate};

@@ -45,7 +45,7 @@ fn move_run<M: Media>(kernel: &mut Kernel<M>, inode: u32, first: u64, count: u32
 pub fn run_migrator<M: Media, R: Wait>(rt: &R, shared: &SharedKernel<M>, stop: &StopFlag) {
     for round in rt.forever() {
         // Before it looks: what is digested behind that wakes it.
-        let digest = shared.expect_digest();
+        let digest = shared.wake_ups.expect_digest();
         if stop.is_set() {
             return;
         }

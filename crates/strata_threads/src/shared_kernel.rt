@@ -1,23 +1,13 @@
-ghost use Rattle.std.specs.Prelude.{◌<◌};
-
-use crossbeam_utils::sync::{EventCount, Key};
+use crate::wake_ups::WakeUps;
 use libfs::{Kernel, Media};
 use std::sync::{Mutex, MutexGuard, Wait};
-use std::thread::Parker;
-use std::time::Duration;
-
-// How long a client sleeps at most, in microseconds: so long it hears nobody
-const NAP: u64 = 100;
 
 /// The kernel of all threads, under a lock. Whoever holds the lock finds it at the end of a run of its machine, until a device has failed, where each mark stood before a region as the media were opened: whether they
 /// did `Kernel::has_history` answers. Beside it is what wakes the workers, the migrator and the clients of its set: who waits with the kernel of another set is not woken.
 #[derive(Drop)]
 pub struct SharedKernel<M: Media> {
     lock: Mutex<Kernel<M>>,
-    handovers: EventCount,
-    digests: EventCount,
-    // Of each client
-    parkers: [Parker; 8],
+    pub(crate) wake_ups: WakeUps,
 }
 
 impl<M: Media> SharedKernel<M> {
@@ -25,18 +15,7 @@ impl<M: Media> SharedKernel<M> {
     pub fn new(kernel: Kernel<M>) -> SharedKernel<M> {
         SharedKernel {
             lock: Mutex::new(kernel),
-            handovers: EventCount::new(),
-            digests: EventCount::new(),
-            parkers: [
-                Parker::new(),
-                Parker::new(),
-                Parker::new(),
-                Parker::new(),
-                Parker::new(),
-                Parker::new(),
-                Parker::new(),
-                Parker::new(),
-            ],
+            wake_ups: WakeUps::new(),
         }
     }
 
@@ -48,45 +27,5 @@ impl<M: Media> SharedKernel<M> {
     /// The kernel, once no thread shares it any more.
     pub fn into_kernel(self) -> Kernel<M> {
         self.lock.into_inner()
-    }
-
-    // A worker asks for it before it looks for a region: it may sleep then until one is handed over behind that.
-    pub(crate) fn expect_handover(&self) -> Key<'_> {
-        self.handovers.prepare_wait()
-    }
-
-    // Wakes a worker, if one sleeps, once a region was handed over.
-    pub(crate) fn wake_worker(&self) {
-        self.handovers.notify_one();
-    }
-
-    // A migrator asks for it before it looks for a run: it may sleep then until a region is digested behind that.
-    pub(crate) fn expect_digest(&self) -> Key<'_> {
-        self.digests.prepare_wait()
-    }
-
-    // Wakes the migrator, if it sleeps, once a region was digested.
-    pub(crate) fn wake_migrator(&self) {
-        self.digests.notify_one();
-    }
-
-    // Sleeps until a region is sent back to the client with this index, or a while; not at all where one was since it slept last.
-    pub(crate) fn sleep<R: Wait>(&self, rt: &R, index: usize)
-        requires { index < 8 }
-    {
-        self.parkers[index].park_timeout(rt, Duration::from_micros(NAP));
-    }
-
-    // Wakes the client with this index, if it sleeps, once a region was sent back to it.
-    pub(crate) fn wake_client(&self, index: usize)
-        requires { index < 8 }
-    {
-        self.parkers[index].unpark();
-    }
-
-    // Wakes all workers and the migrator, to look whether they are to stop.
-    pub(crate) fn wake_all(&self) {
-        self.handovers.notify_all();
-        self.digests.notify_all();
     }
 }

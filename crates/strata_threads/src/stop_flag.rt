@@ -20,7 +20,7 @@ impl StopFlag {
     /// Sets it, for good, and wakes the workers and the migrator of that kernel.
     pub fn set<M: Media>(&self, shared: &SharedKernel<M>) {
         self.is_set.store(1, SeqCst);
-        shared.wake_all();
+        shared.wake_ups.wake_all();
     }
 
     /// Whether it is set.

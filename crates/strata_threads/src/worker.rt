@@ -33,7 +33,7 @@ impl<M: Media + Drop> Worker<M> {
     ) {
         for round in rt.forever() {
             // Before it looks: what comes behind that wakes it.
-            let handover = shared.expect_handover();
+            let handover = shared.wake_ups.expect_handover();
             let is_last = stop.is_set();
             if !self.digest_one(rt, shared, gate) {
                 if is_last {
@@ -61,7 +61,7 @@ impl<M: Media + Drop> Worker<M> {
         let mut region = region;
         let _ = digest_region(rt, self.alloc, shared, &mut region, gate);
         self.send_back(rt, shared, region);
-        shared.wake_migrator();
+        shared.wake_ups.wake_migrator();
         true
     }
 
@@ -74,7 +74,7 @@ impl<M: Media + Drop> Worker<M> {
         region.left_now();
         let index = client_index(region.client());
         send(rt, &mut self.returns[index], region);
-        shared.wake_client(index);
+        shared.wake_ups.wake_client(index);
     }
 }
 

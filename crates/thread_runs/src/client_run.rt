@@ -28,7 +28,7 @@ pub struct ClientRun<'a> {
 }
 
 /// The runs of these clients, each beside its tree.
-pub fn runs_of<'a>(
+pub(crate) fn runs_of<'a>(
     alloc: Global,
     clients: &'a mut [ThreadClient<RunMedium>],
     trees: &'a mut [ClientTree],
@@ -46,7 +46,7 @@ pub fn runs_of<'a>(
 
 impl ClientRun<'_> {
     /// Makes all turns; then its log is digested, and it gives all leases back. Where a region stops it ends there.
-    pub fn make_turns<R: Wait>(
+    pub(crate) fn make_turns<R: Wait>(
         &mut self,
         rt: &R,
         shared: &SharedKernel<RunMedium>,
@@ -69,7 +69,7 @@ impl ClientRun<'_> {
     }
 
     /// Has its log digested, and gives all leases back.
-    pub fn leave<R: Wait>(&mut self, rt: &R, shared: &SharedKernel<RunMedium>) {
+    pub(crate) fn leave<R: Wait>(&mut self, rt: &R, shared: &SharedKernel<RunMedium>) {
         let _ = self.client.clear_log(rt, shared, ROUNDS);
         self.client.give_all();
     }
@@ -95,7 +95,7 @@ impl ClientRun<'_> {
     }
 
     /// Asks line after line, up to the first call that is refused.
-    pub fn ask_all<R: Wait>(
+    pub(crate) fn ask_all<R: Wait>(
         &mut self,
         rt: &R,
         shared: &SharedKernel<RunMedium>,
@@ -168,7 +168,7 @@ impl ClientTree {
 }
 
 /// The call of a line.
-pub fn call_of(alloc: Global, line: &str) -> Result<Call, RunError> {
+pub(crate) fn call_of(alloc: Global, line: &str) -> Result<Call, RunError> {
     match read_line(line.as_bytes()) {
         Some(Line::Asks { call, .. }) => Ok(call.to_call(alloc)?),
         _ => Err(RunError::Damaged),
@@ -176,7 +176,7 @@ pub fn call_of(alloc: Global, line: &str) -> Result<Call, RunError> {
 }
 
 /// Whether two replies are printed alike.
-pub fn are_alike(alloc: Global, one: &Reply, other: &Reply) -> Result<bool, RunError> {
+pub(crate) fn are_alike(alloc: Global, one: &Reply, other: &Reply) -> Result<bool, RunError> {
     let text = text_of(alloc, one)?;
     is_text_of(alloc, &text, other)
 }

@@ -20,7 +20,7 @@ pub struct ClientTree {
 
 impl ClientTree {
     /// The tree of a client that has made no call.
-    pub fn new(alloc: Global, number: u32) -> Result<ClientTree, RunError> {
+    pub(crate) fn new(alloc: Global, number: u32) -> Result<ClientTree, RunError> {
         let tree = PlainTree::new(alloc)?;
         Ok(ClientTree {
             alloc,
@@ -32,13 +32,13 @@ impl ClientTree {
     }
 
     /// Whether a stop ended the client's run.
-    pub fn has_stopped(&self) -> bool {
+    pub(crate) fn has_stopped(&self) -> bool {
         matches!(self.end, Some((_, RunEnd::Stopped)))
     }
 }
 
 /// The trees of clients 1 to 8, each of which has made no call.
-pub fn new_trees(alloc: Global) -> Result<Vec<ClientTree>, RunError> {
+pub(crate) fn new_trees(alloc: Global) -> Result<Vec<ClientTree>, RunError> {
     let mut trees = Vec::new(alloc);
     for before in 0..CLIENTS as u32 {
         add_tree(&mut trees, alloc, before + 1)?;

@@ -6,14 +6,14 @@ pub struct Draws {
 
 impl Draws {
     /// The draws of a client.
-    pub fn new(start: u64, client: u32) -> Draws {
+    pub(crate) fn new(start: u64, client: u32) -> Draws {
         Draws {
             last: start.wrapping_add(client as u64),
         }
     }
 
     /// The next one, of 31 bits.
-    pub fn draw(&mut self) -> u64 {
+    pub(crate) fn draw(&mut self) -> u64 {
         self.last = self
             .last
             .wrapping_mul(6_364_136_223_846_793_005)

@@ -20,7 +20,7 @@ use world_files::{
 const BLOCKS: [u32; 3] = [512, 1_024, 1_024];
 
 /// The empty file system over media in memory, for eight clients and `workers` workers. The counts of its regions are added to `stops`, not armed.
-pub fn fresh_set(
+pub(crate) fn fresh_set(
     alloc: Global,
     units: u32,
     workers: usize,
@@ -138,7 +138,7 @@ fn parts_of(shared: RunMedium, regions: Vec<RunMedium>) -> Result<Parts<RunMediu
 }
 
 /// The world that is recovered from what the media of a set hold behind a stop.
-pub fn recover_set<R: Wait + AllocGlobal>(
+pub(crate) fn recover_set<R: Wait + AllocGlobal>(
     rt: &R,
     set: ThreadSet<RunMedium>,
 ) -> Result<World<MemMedia>, RunError> {
@@ -152,7 +152,7 @@ pub fn recover_set<R: Wait + AllocGlobal>(
 }
 
 /// The media of all clients' regions, client by client and the even one first.
-pub fn region_media<R: Wait + AllocGlobal>(
+pub(crate) fn region_media<R: Wait + AllocGlobal>(
     rt: &R,
     clients: Vec<ThreadClient<RunMedium>>,
 ) -> Result<Vec<RunMedium>, RunError> {
@@ -253,7 +253,7 @@ fn medium_at_rest(medium: RunMedium) -> Result<MemMedia, RunError>
 }
 
 /// What a medium holds behind a stop, or behind one now.
-pub fn medium_after_stop(medium: RunMedium) -> Result<MemMedia, RunError>
+pub(crate) fn medium_after_stop(medium: RunMedium) -> Result<MemMedia, RunError>
     ensures at_rest { IfOk result IsAtRest }
     ensures allowed { IfOk result (λ rest. MayBeLeft medium (memory_seen rest Fast)) }
 {

@@ -50,7 +50,7 @@ pub struct CallEnd {
 }
 
 /// Makes both calls, and does what client 1 logged where it was answered. It prints nothing, so that it is the same whatever is printed to.
-pub fn make_both_calls<R: Threads + Wait + AllocGlobal + Sync>(
+pub(crate) fn make_both_calls<R: Threads + Wait + AllocGlobal + Sync>(
     rt: &R,
     stop: Option<RegionStop>,
 ) -> Result<CallEnd, RunError> {

@@ -5,7 +5,7 @@ use script::WordsError;
 use std::alloc::{AllocError, Global};
 
 /// The stop that the words of `strata_first` ask for, if they ask for one. The first word is the program's name.
-pub fn first_stop<'a>(
+pub(crate) fn first_stop<'a>(
     alloc: Global,
     words: &'a [&'a str],
 ) -> Result<Option<RegionStop>, WordsError> {

@@ -14,7 +14,7 @@ use script::{Media, PlainGraph, Record, Region, RunError};
 use std::alloc::Global;
 
 /// Stops the regions of two clients, and does in the graph what both then hold, but for the records of the first one that are done.
-pub fn recover_both(
+pub(crate) fn recover_both(
     alloc: Global,
     first: RunMedium,
     second: RunMedium,

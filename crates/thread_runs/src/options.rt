@@ -22,7 +22,7 @@ pub struct Options {
 }
 
 /// What the words ask for. The first word is the program's name.
-pub fn read_options<'a>(alloc: Global, words: &'a [&'a str]) -> Result<Options, WordsError> {
+pub(crate) fn read_options<'a>(alloc: Global, words: &'a [&'a str]) -> Result<Options, WordsError> {
     let matches = command(alloc)?.try_get_matches_from(words)?;
     let stop = stop_of(&matches)?;
     match options_of(&matches, stop) {

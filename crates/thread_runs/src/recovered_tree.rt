@@ -8,7 +8,7 @@ use std::alloc::Global;
 
 impl ClientTree {
     /// Whether a recovered world has what the tree has, without the call that has no answer or with it.
-    pub fn is_in(&mut self, world: &mut World<MemMedia>) -> Result<bool, RunError> {
+    pub(crate) fn is_in(&mut self, world: &mut World<MemMedia>) -> Result<bool, RunError> {
         if self.is_in_now(world)? {
             return Ok(true);
         }
@@ -20,7 +20,7 @@ impl ClientTree {
     }
 
     /// Asks the tree a line as a client does.
-    pub fn follow(&mut self, client: u32, line: &str) -> Result<(), RunError> {
+    pub(crate) fn follow(&mut self, client: u32, line: &str) -> Result<(), RunError> {
         let call = call_of(self.alloc, line)?;
         let _ = self.tree.ask(client, &call);
         Ok(())

@@ -15,7 +15,7 @@ pub struct RegionStops {
 
 impl RegionStops {
     /// The counts of no region. Where one stops, what it has written and not fenced is as this stop says.
-    pub fn new(alloc: Global, stop: Option<RegionStop>) -> RegionStops {
+    pub(crate) fn new(alloc: Global, stop: Option<RegionStop>) -> RegionStops {
         let fill = match stop {
             Some(stop) => Fill::Byte(stop.byte),
             None => Fill::New,
@@ -27,7 +27,11 @@ impl RegionStops {
     }
 
     /// A region's medium over one in memory, with a count of its own, which is not armed.
-    pub fn add_region(&mut self, alloc: Global, inner: MemMedia) -> Result<RunMedium, AllocError> {
+    pub(crate) fn add_region(
+        &mut self,
+        alloc: Global,
+        inner: MemMedia,
+    ) -> Result<RunMedium, AllocError> {
         let trip = self.add_trip(alloc)?;
         let mut medium = StopMedia::new(inner);
         medium.stop_with(trip, self.fill);
@@ -43,7 +47,7 @@ impl RegionStops {
     }
 
     /// Has each region stop within the write or fence that is asked for, of those from now on on it, if one is.
-    pub fn arm(&self, stop: Option<RegionStop>) {
+    pub(crate) fn arm(&self, stop: Option<RegionStop>) {
         let Some(stop) = stop else {
             return;
         };
@@ -53,7 +57,7 @@ impl RegionStops {
     }
 
     /// Whether a region of this client has stopped.
-    pub fn has_stopped(&self, client: u32) -> bool {
+    pub(crate) fn has_stopped(&self, client: u32) -> bool {
         let first = 2 * (client as usize).saturating_sub(1);
         for trip in self.trips.iter().skip(first).take(2) {
             if trip.has_run_out() {
@@ -64,7 +68,7 @@ impl RegionStops {
     }
 
     /// Whether a region has stopped.
-    pub fn have_stopped(&self) -> bool {
+    pub(crate) fn have_stopped(&self) -> bool {
         for trip in &self.trips {
             if trip.has_run_out() {
                 return true;

@@ -140,7 +140,7 @@ fn make_calls<R: Threads + Wait + AllocGlobal + Sync>(
 }
 
 /// Client 1 makes what the clients work in, has it digested, and gives its leases back.
-pub fn open_tree<R: Threads + Wait + AllocGlobal + Sync>(
+pub(crate) fn open_tree<R: Threads + Wait + AllocGlobal + Sync>(
     rt: &R,
     shared: &SharedKernel<RunMedium>,
     stops: &RegionStops,
@@ -196,7 +196,7 @@ fn follow(run: &mut ClientRun<'_>, lines: &str) -> Result<(), RunError> {
 }
 
 /// Workers digest, each in a thread of its own, until the flag is set and nothing is left.
-pub fn work<R: Threads + Wait + Sync>(
+pub(crate) fn work<R: Threads + Wait + Sync>(
     rt: &R,
     shared: &SharedKernel<RunMedium>,
     workers: &mut [Worker<RunMedium>],

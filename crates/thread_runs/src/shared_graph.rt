@@ -10,7 +10,7 @@ use std::alloc::Global;
 pub const FILE: u32 = 2;
 
 /// A root with the empty file `/f`.
-pub fn first_graph(alloc: Global) -> Result<PlainGraph, RunError>
+pub(crate) fn first_graph(alloc: Global) -> Result<PlainGraph, RunError>
     ensures { IfOk result (λ graph. graph_of graph ≡ root_with_f) }
 {
     let name = file_name(alloc)?;
@@ -55,7 +55,7 @@ fn file_name(alloc: Global) -> Result<Name, RunError>
 }
 
 /// Does what a client logged where its call was answered, and answers how many records of its region are done.
-pub fn apply_answered(
+pub(crate) fn apply_answered(
     graph: &mut PlainGraph,
     logged: &[Record],
     is_answered: bool,
@@ -71,7 +71,11 @@ pub fn apply_answered(
 }
 
 /// Does the effects of records that are not done yet.
-pub fn replay(graph: &mut PlainGraph, records: &[Record], done: usize) -> Result<(), RunError>
+pub(crate) fn replay(
+    graph: &mut PlainGraph,
+    records: &[Record],
+    done: usize,
+) -> Result<(), RunError>
     ensures { OnOk result (graph_of graph.new ≡ after_replay (graph_of graph.old) (drop done records.now)) }
 {
     let rest = records.get(done..).unwrap_or(&[]);

@@ -18,7 +18,7 @@ pub struct RegionStop {
 }
 
 /// The option by which regions stop.
-pub fn stop_arg<'a>(alloc: Global) -> Result<Arg<'a>, AllocError> {
+pub(crate) fn stop_arg<'a>(alloc: Global) -> Result<Arg<'a>, AllocError> {
     option(
         alloc,
         "stop",
@@ -30,7 +30,7 @@ pub fn stop_arg<'a>(alloc: Global) -> Result<Arg<'a>, AllocError> {
 }
 
 /// The option that says what a stop leaves.
-pub fn fill_arg<'a>(alloc: Global) -> Result<Arg<'a>, AllocError> {
+pub(crate) fn fill_arg<'a>(alloc: Global) -> Result<Arg<'a>, AllocError> {
     option(
         alloc,
         "fill",
@@ -41,7 +41,7 @@ pub fn fill_arg<'a>(alloc: Global) -> Result<Arg<'a>, AllocError> {
 }
 
 /// An option with a value.
-pub fn option<'a>(alloc: Global, name: &'a str, value: &'a str, help: &'a str) -> Arg<'a> {
+pub(crate) fn option<'a>(alloc: Global, name: &'a str, value: &'a str, help: &'a str) -> Arg<'a> {
     Arg::new(alloc, name)
         .long(name)
         .value_name(value)
@@ -50,7 +50,7 @@ pub fn option<'a>(alloc: Global, name: &'a str, value: &'a str, help: &'a str) -
 }
 
 /// The stop that is asked for, whose byte is the one that the value of `--fill` spells.
-pub fn stop_of(matches: &ArgMatches<'_>) -> Result<Option<RegionStop>, WordsError>
+pub(crate) fn stop_of(matches: &ArgMatches<'_>) -> Result<Option<RegionStop>, WordsError>
     ensures { IfOk result (λ stop. IfSome stop (λ s. IsFill (found_of matches.now) s.byte)) }
 {
     let Some(call) = matches.get_one::<u64>("stop") else {

@@ -5,7 +5,7 @@ use std::alloc::{AllocError, Global};
 const LENGTH: u64 = 8_192;
 
 /// The lines of a turn. What the turn is was drawn, and which name it is about.
-pub fn turn_lines(
+pub(crate) fn turn_lines(
     alloc: Global,
     client: u32,
     turn: u64,
@@ -46,7 +46,7 @@ fn file_lines(
 }
 
 /// The lines by which a client writes its place of the file that all clients write, and reads it back.
-pub fn log_lines(alloc: Global, client: u32, turn: u64) -> Result<String, AllocError> {
+pub(crate) fn log_lines(alloc: Global, client: u32, turn: u64) -> Result<String, AllocError> {
     let at = 16 * (client as u64).saturating_sub(1);
     format!(in alloc;
         "{client} open /s/log rw\n{client} pwrite 0 {at} {:02x}x16\n{client} pread 0 {at} 16\n{client} close 0",
@@ -55,7 +55,7 @@ pub fn log_lines(alloc: Global, client: u32, turn: u64) -> Result<String, AllocE
 }
 
 /// The lines by which client 1 makes what the clients work in.
-pub fn opening_lines(alloc: Global, clients: u32) -> Result<String, AllocError> {
+pub(crate) fn opening_lines(alloc: Global, clients: u32) -> Result<String, AllocError> {
     let mut lines = String::from_str(alloc, "1 mkdir /s\n1 open /s/log rwc\n1 close 0")?;
     for before in 0..clients {
         write!(lines, "\n1 mkdir /c{}", before + 1)?;
@@ -64,13 +64,13 @@ pub fn opening_lines(alloc: Global, clients: u32) -> Result<String, AllocError> 
 }
 
 /// The line that reads a client's place of the file that all clients write.
-pub fn log_line(alloc: Global, client: u32) -> Result<String, AllocError> {
+pub(crate) fn log_line(alloc: Global, client: u32) -> Result<String, AllocError> {
     let at = 16 * (client as u64).saturating_sub(1);
     format!(in alloc; "1 pread 0 {at} 16")
 }
 
 /// The lines that ask for all that a client's tree has in its own directory. They change nothing.
-pub fn tree_lines(alloc: Global, client: u32) -> Result<String, AllocError> {
+pub(crate) fn tree_lines(alloc: Global, client: u32) -> Result<String, AllocError> {
     let mut lines = format!(in alloc; "1 list /c{client}")?;
     for name in 0..4u64 {
         add_name_lines(&mut lines, client, name)?;

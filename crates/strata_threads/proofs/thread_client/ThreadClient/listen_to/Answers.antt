@@ -12,7 +12,7 @@ returns-then-give_asked-clause-listened g c =
       c.give_asked.new.client,
       c.take_back.ensures.back,
       gives_both back.client c.hear.new.client c.give_asked.new.client c.hear.ensures.given asks.given,
-      answers_rows (min c.args.rows 16) back.client c.hear.new.client c.give_asked.new.client c.args.self.now.asked back.asked c.hear.new.asked c.give_asked.new.asked c.hand_over.new.self.asked c.take_back.ensures.asked c.hand_over.ensures.asked c.hear.ensures.heard asks.answered asks.only asks.unasked asks.later,
+      answers_rows (min c.args.rows 16) back.client c.hear.new.client c.give_asked.new.client c.args.self.now.asked back.asked c.hear.new.asked c.give_asked.new.asked c.hand_over.new.self.asked c.take_back.ensures.asked c.hand_over.ensures.asked c.hear.ensures.heard asks.answered asks.only asks.given asks.unasked asks.later,
       c.hand_over.ensures.sealed,
     )
 
@@ -24,6 +24,6 @@ returns-else-give_asked-clause-listened g c =
       c.give_asked.new.client,
       c.take_back.ensures.back,
       gives_both back.client c.hear.new.client c.give_asked.new.client c.hear.ensures.given asks.given,
-      answers_rows (min c.args.rows 16) back.client c.hear.new.client c.give_asked.new.client c.args.self.now.asked back.asked c.hear.new.asked c.give_asked.new.asked c.give_asked.new.asked c.take_back.ensures.asked refl c.hear.ensures.heard asks.answered asks.only asks.unasked asks.later,
+      answers_rows (min c.args.rows 16) back.client c.hear.new.client c.give_asked.new.client c.args.self.now.asked back.asked c.hear.new.asked c.give_asked.new.asked c.give_asked.new.asked c.take_back.ensures.asked refl c.hear.ensures.heard asks.answered asks.only asks.given asks.unasked asks.later,
       inl refl,
     )
