@@ -52,49 +52,54 @@ fn number(matches: &ArgMatches<'_>, name: &str, default: u32) -> u32 {
     matches.get_one::<u32>(name).unwrap_or(default)
 }
 
+// The name of an option with a number, the least that it takes and the least that it does not, and what it is for.
+type NumberRow = (&'static str, i64, i64, &'static str);
+
+const NUMBERS: [NumberRow; 5] = [
+    (
+        "client",
+        1,
+        9,
+        "The client of the world that the mount is, 1 to 8; 1 if left out",
+    ),
+    (
+        "units",
+        2,
+        65_537,
+        "How many units the tree may cost, 2 to 65536; 1024 if left out",
+    ),
+    (
+        "fast",
+        0,
+        65_537,
+        "Data blocks of the fast tier, up to 65536; 512 if left out",
+    ),
+    (
+        "block",
+        0,
+        65_537,
+        "Data blocks of the block tier; 1024 if left out",
+    ),
+    (
+        "slow",
+        0,
+        65_537,
+        "Data blocks of the slow tier; 1024 if left out",
+    ),
+];
+
 fn command<'a>(alloc: Global) -> Result<Command<'a>, AllocError> {
-    Command::new(alloc, "strata_fuse")
+    let mut command = Command::new(alloc, "strata_fuse")
         .about("Serves a mount over a world that lives in a file")
         .override_usage(
             "strata_fuse --disk FILE [--client N] [--units N] [--fast N] [--block N] [--slow N]",
         )
         .after_help(HELP)
-        .arg(disk(alloc))?
-        .arg(size(
-            alloc,
-            "client",
-            1,
-            9,
-            "The client of the world that the mount is, 1 to 8; 1 if left out",
-        ))?
-        .arg(size(
-            alloc,
-            "units",
-            2,
-            65_537,
-            "How many units the tree may cost, 2 to 65536; 1024 if left out",
-        ))?
-        .arg(size(
-            alloc,
-            "fast",
-            0,
-            65_537,
-            "Data blocks of the fast tier, up to 65536; 512 if left out",
-        ))?
-        .arg(size(
-            alloc,
-            "block",
-            0,
-            65_537,
-            "Data blocks of the block tier; 1024 if left out",
-        ))?
-        .arg(size(
-            alloc,
-            "slow",
-            0,
-            65_537,
-            "Data blocks of the slow tier; 1024 if left out",
-        ))
+        .arg(disk(alloc))?;
+    for row in NUMBERS {
+        command = command.arg(size(alloc, row))?;
+    }
+    Ok(command)
 }
 
 fn disk<'a>(alloc: Global) -> Arg<'a> {
@@ -105,8 +110,8 @@ fn disk<'a>(alloc: Global) -> Arg<'a> {
         .action(ArgAction::Set)
 }
 
-// An option with a number from a least one up to one below `end`.
-fn size<'a>(alloc: Global, name: &'a str, least: i64, end: i64, help: &'a str) -> Arg<'a> {
+fn size<'a>(alloc: Global, row: NumberRow) -> Arg<'a> {
+    let (name, least, end, help) = row;
     Arg::new(alloc, name)
         .long(name)
         .value_name("N")

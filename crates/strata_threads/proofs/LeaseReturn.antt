@@ -12,7 +12,7 @@ use Rattle.libfs.specs.lease_manager.declared.view.LeaseMode.TheVariants.{Free}
 use Rattle.libfs.specs.LeaseCalls.{CanBeGiven, HasGiven}
 use Rattle.libfs.specs.View.{ClientView, is_pending}
 use Rattle.strata_threads.specs.ClientCalls.{KeepsCall}
-use Rattle.strata_threads.specs.LeaseReturn.{HasNoneToGive, HasOnlyGiven, KeepsSteps}
+use Rattle.strata_threads.specs.LeaseReturn.{HasNoneToGive, HasOnlyGiven, TakesNoLease, gifts}
 
 -- a lease that is given is free from then on
 freed : (p : PassView) (i : ℕ) → lease_of p i ≢ Free → lease_of (without_lease p i) i ≡ Free
@@ -25,44 +25,29 @@ freed p i held = elim (cases_lt (lease_place i) (length p.part.modes)) [
 apart : (i j : ℕ) → HasWord i → HasWord j → j ≢ i → lease_place j ≢ lease_place i
 apart i j one other off same = off (omega (arith, one.0, other.0, same))
 
+gifts_of_both : (is js : List ℕ) → gifts (is ++ js) ≡ gifts is ++ gifts js
+gifts_of_both [] js = refl
+gifts_of_both (i ∷ is) js = ap (λ (es : List Event). Gave (lease_place i) ∷ es) (gifts_of_both is js)
+
 module _ {M : Type 0} where
-  -- ---- the steps that it has made
+  -- ---- the leases that are taken: none
 
-  keeps_steps : (v : ClientView M) → KeepsSteps v v
-  keeps_steps v = record { since = []; behind = refl }
-
-  makes_step : (old new : ClientView M) (e : Event) → new.pass ≡ with_event old.pass e → KeepsSteps old new
-  makes_step old new e is = record { since = e ∷ []; behind = ap (λ (p : PassView). p.part.events) is }
-
-  keeps_both_steps : (old between new : ClientView M) → KeepsSteps old between → KeepsSteps between new → KeepsSteps old new
-  keeps_both_steps old between new one two = record {
-    since = two.since ++ one.since;
-    behind = two.behind ∙ ap (λ (es : List Event). two.since ++ es) one.behind ∙ sym (append_assoc two.since one.since old.pass.part.events);
-  }
-
-  -- ---- the leases
-
-  pub gives_nothing : (v : ClientView M) → HasOnlyGiven v v
-  gives_nothing v = record { leases = λ i word. inl refl; steps = keeps_steps v; records = refl; table = refl; client = refl; numbers = refl; rest = refl }
-
-  -- as it is known of the client that is left
-  pub gives_nothing_of : (old new : ClientView M) → new ≡ old → HasOnlyGiven old new
-  gives_nothing_of old new is = subst (HasOnlyGiven old) (sym is) (gives_nothing old)
+  pub takes_nothing : (v : ClientView M) → TakesNoLease v v
+  takes_nothing v = record { leases = λ i word. inl refl; records = refl; table = refl; client = refl; numbers = refl; rest = refl }
 
   -- what can be given could be given before
-  pub can_before : (old new : ClientView M) → HasOnlyGiven old new → (i : ℕ) → CanBeGiven new i → CanBeGiven old i
-  can_before old new given i can = record {
+  pub can_before : (old new : ClientView M) → TakesNoLease old new → (i : ℕ) → CanBeGiven new i → CanBeGiven old i
+  can_before old new none i can = record {
     inode = can.inode;
-    held = ⊎_elim (λ same. λ free. can.held (same ∙ free)) (λ gone. absurd (can.held gone.0)) (given.leases i can.inode);
-    digested = ap (λ (rs : List ℕ). slice_index rs (lease_place i)) (sym given.records) ∙ can.digested;
-    idle = sym (ap is_pending given.rest) ∙ can.idle;
-    going = sym (ap (λ (v : ClientView M). v.log.failed) given.rest) ∙ can.going;
+    held = ⊎_elim (λ same. λ free. can.held (same ∙ free)) (λ gone. absurd (can.held gone.0)) (none.leases i can.inode);
+    digested = ap (λ (rs : List ℕ). slice_index rs (lease_place i)) (sym none.records) ∙ can.digested;
+    idle = sym (ap is_pending none.rest) ∙ can.idle;
+    going = sym (ap (λ (v : ClientView M). v.log.failed) none.rest) ∙ can.going;
   }
 
-  pub gives_both : (old between new : ClientView M) → HasOnlyGiven old between → HasOnlyGiven between new → HasOnlyGiven old new
-  gives_both old between new one two = record {
+  pub takes_no_more : (old between new : ClientView M) → TakesNoLease old between → TakesNoLease between new → TakesNoLease old new
+  takes_no_more old between new one two = record {
     leases = λ i word. leases i word (one.leases i word) (two.leases i word);
-    steps = keeps_both_steps old between new one.steps two.steps;
     records = two.records ∙ one.records;
     table = two.table ∙ one.table;
     client = two.client ∙ one.client;
@@ -79,10 +64,9 @@ module _ {M : Type 0} where
       leases i word before (inr then) = inr (then.0, can_before old between one i then.1)
 
   -- what others ask for was heard
-  pub hears : (old new : ClientView M) (e : Event) → new ≡ record old { pass = with_event old.pass e } → HasOnlyGiven old new
+  pub hears : (old new : ClientView M) (e : Event) → new ≡ record old { pass = with_event old.pass e } → TakesNoLease old new
   hears old new e is = record {
     leases = λ i word. inl (ap (λ (v : ClientView M). lease_of v.pass i) is);
-    steps = makes_step old new e (ap (λ (v : ClientView M). v.pass) is);
     records = ap (λ (v : ClientView M). v.pass.records) is;
     table = ap (λ (v : ClientView M). v.pass.table) is;
     client = ap (λ (v : ClientView M). client_of v.pass) is;
@@ -90,16 +74,36 @@ module _ {M : Type 0} where
     rest = is ∙ ap (λ (v : ClientView M). record old { pass = v.pass; copies = v.copies }) (sym is);
   }
 
+  -- ---- the leases that are given
+
+  pub gives_nothing : (v : ClientView M) → HasOnlyGiven v v
+  gives_nothing v = record { none = takes_nothing v; inodes = []; steps = refl }
+
+  -- as it is known of the client that is left
+  pub gives_nothing_of : (old new : ClientView M) → new ≡ old → HasOnlyGiven old new
+  gives_nothing_of old new is = subst (HasOnlyGiven old) (sym is) (gives_nothing old)
+
+  pub gives_both : (old between new : ClientView M) → HasOnlyGiven old between → HasOnlyGiven between new → HasOnlyGiven old new
+  gives_both old between new one two = record {
+    none = takes_no_more old between new one.none two.none;
+    inodes = two.inodes ++ one.inodes;
+    steps = two.steps ∙ ap (λ (es : List Event). gifts two.inodes ++ es) one.steps ∙ sym (append_assoc (gifts two.inodes) (gifts one.inodes) old.pass.part.events)
+        ∙ ap (λ (es : List Event). es ++ old.pass.part.events) (sym (gifts_of_both two.inodes one.inodes));
+  }
+
   -- one inode was given
   pub gives_one : (old new : ClientView M) (i : ℕ) → CanBeGiven old i → HasGiven old i new → HasOnlyGiven old new
   gives_one old new i can given = record {
-    leases = leases;
-    steps = record { since = Gave (lease_place i) ∷ []; behind = ap (λ (p : PassView). p.part.events) given.lease };
-    records = ap (λ (p : PassView). p.records) given.lease;
-    table = ap (λ (p : PassView). p.table) given.lease;
-    client = ap client_of given.lease;
-    numbers = given.numbers;
-    rest = given.rest;
+    none = record {
+      leases = leases;
+      records = ap (λ (p : PassView). p.records) given.lease;
+      table = ap (λ (p : PassView). p.table) given.lease;
+      client = ap client_of given.lease;
+      numbers = given.numbers;
+      rest = given.rest;
+    };
+    inodes = i ∷ [];
+    steps = ap (λ (p : PassView). p.part.events) given.lease;
   }
     where
       leases : (j : ℕ) → HasWord j → (lease_of new.pass j ≡ lease_of old.pass j) ⊎ ((lease_of new.pass j ≡ Free) × CanBeGiven old j)
@@ -143,7 +147,7 @@ module _ {M : Type 0} where
   pub one_more : (old new : ClientView M) (n : ℕ) → HasOnlyGiven old new → HasNoneUpTo n old → (CanBeGiven new (n + 1) → ⊥) → HasNoneUpTo (n + 1) new
   one_more old new n given none last i word low can = elim (eqb_tells i (n + 1)) [
     | inl same ↦ last (subst (CanBeGiven new) same.1 can)
-    | inr other ↦ none i word (below i n low other.1) (can_before old new given i can)
+    | inr other ↦ none i word (below i n low other.1) (can_before old new given.none i can)
   ]
     where
       below : (i n : ℕ) → i ≤ n + 1 → i ≢ n + 1 → i ≤ n

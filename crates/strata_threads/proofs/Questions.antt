@@ -47,8 +47,8 @@ module _ {M : Type 0} where
   -- what was answered stays so while leases are given alone
   answered_then : (old new : ClientView M) (row left bit : ℕ) → row < 16 → bit < 64 → HasOnlyGiven old new → IsGivenOrAsked old row left bit → IsGivenOrAsked new row left bit
   answered_then old new row left bit few low given (inl free) =
-      inl (⊎_elim (λ same. same ∙ free) (λ gone. gone.0) (given.leases (64 * row + bit + 1) (has_word row bit few low)))
-  answered_then old new row left bit few low given (inr kept) = inr (kept.0, λ can. kept.1 (can_before old new given (64 * row + bit + 1) can))
+      inl (⊎_elim (λ same. same ∙ free) (λ gone. gone.0) (given.none.leases (64 * row + bit + 1) (has_word row bit few low)))
+  answered_then old new row left bit few low given (inr kept) = inr (kept.0, λ can. kept.1 (can_before old new given.none (64 * row + bit + 1) can))
 
   -- ---- the bits of a row
 

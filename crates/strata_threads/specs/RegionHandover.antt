@@ -9,7 +9,7 @@ use Rattle.libfs.specs.RegionSeal.{HasSealed, HasTakenBack, MayTakeBack}
 use Rattle.libfs.specs.SealedRegion.{SealedRegionView}
 use Rattle.libfs.specs.View.{ClientView}
 use Rattle.strata_threads.specs.HeardQuestions.{HasAnsweredRows}
-use Rattle.strata_threads.specs.LeaseReturn.{HasOnlyGiven}
+use Rattle.strata_threads.specs.LeaseReturn.{TakesNoLease}
 
 module _ {T : Type 0} where
   -- it was put at this end
@@ -51,7 +51,7 @@ module _ {M : Type 0} (device : Ghosts M) where
 
   -- A client listened to the first rows: a region may have come back, then it heard them and gave what is asked of them, and took no lease, then the current region may have been sealed.
   abbrev pub HasListened : ℕ → ClientView M → List ℕ → ClientView M → List ℕ → Type 0
-  HasListened rows old asked new left = (back : ClientView M) × (given : ClientView M) × HasComeBack old back × HasOnlyGiven back given × HasAnsweredRows rows back asked given left × HasSealedOrNot given new
+  HasListened rows old asked new left = (back : ClientView M) × (given : ClientView M) × HasComeBack old back × TakesNoLease back given × HasAnsweredRows rows back asked given left × HasSealedOrNot given new
 
   -- A worker had a region: it is the same one, which was at most read, and no fewer of its records are digested.
   pub record IsWorkedOn (old new : SealedRegionView M) : Type 0 where

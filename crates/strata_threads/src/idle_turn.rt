@@ -9,7 +9,7 @@ ghost use Rattle.libfs.specs.lease_manager.declared.view.LeaseMode.TheVariants.{
 ghost use Rattle.libfs.specs.LeaseCalls.{CanBeGiven};
 ghost use Rattle.strata_threads.specs.ClientCalls.{KeepsCall};
 ghost use Rattle.strata_threads.specs.HeardQuestions.{AreGivenOrAsked, AreHeldAndAsked, HasGivenAsked, HasGivenAskedRows, HasHeardRow, HasHeardRows, HoldsWithin, IsGivenOrAsked, IsHeldAndAsked, IsSomeLeft, NeedsRows, heard_of, looked_at, row_of};
-ghost use Rattle.strata_threads.specs.LeaseReturn.{HasNoneToGive, HasOnlyGiven};
+ghost use Rattle.strata_threads.specs.LeaseReturn.{HasNoneToGive, HasOnlyGiven, TakesNoLease};
 ghost use Rattle.strata_threads.specs.RegionHandover.{HandsOver, HasComeBack, HasListened, HasLookedForRegion, HasReceived, HasSealedOrNot, HasSentOrKept};
 
 use crate::shared_kernel::SharedKernel;
@@ -185,7 +185,7 @@ impl<M: Media + Drop> ThreadClient<M> {
 // Hears what others ask for of the first rows of inodes.
 fn hear<M: Media>(client: &mut Client<M>, asked: &mut [u64; 16], rows: u32)
     ensures heard { HasHeardRows (min rows 16) client.old asked.old client.new asked.new }
-    ensures given { HasOnlyGiven client.old client.new }
+    ensures leases { TakesNoLease client.old client.new }
     ensures kept { KeepsCall client.old client.new }
 {
     for row in 0..rows.min(ROWS) {
@@ -195,11 +195,11 @@ fn hear<M: Media>(client: &mut Client<M>, asked: &mut [u64; 16], rows: u32)
 }
 
 // What others ask for of a row of inodes. It is emptied only where it shows something, which is seldom: a swap costs some ten times a load.
-#[tactic(auto, using(crate::proofs::LeaseReturn::gives_nothing, crate::proofs::LeaseReturn::gives_both))]
+#[tactic(auto, using(crate::proofs::LeaseReturn::takes_nothing, crate::proofs::LeaseReturn::takes_no_more))]
 fn hear_row<M: Media>(client: &mut Client<M>, row: u32) -> u64
     requires row { row < 16 }
     ensures heard { HasHeardRow client.old row result client.new }
-    ensures given { HasOnlyGiven client.old client.new }
+    ensures leases { TakesNoLease client.old client.new }
     ensures kept { KeepsCall client.old client.new }
 {
     if !has_questions(client, row) {
@@ -234,7 +234,7 @@ pub(crate) fn row_count(inode: u32) -> u32
 fn has_questions<M: Media>(client: &mut Client<M>, row: u32) -> bool
     requires row { row < 16 }
     ensures looked { (shown : ℕ) × (IsTrue result ↔ (shown ≢ 0)) × (client.new ≡ looked_at client.old row shown) }
-    ensures given { HasOnlyGiven client.old client.new }
+    ensures leases { TakesNoLease client.old client.new }
     ensures kept { KeepsCall client.old client.new }
 {
     client.unheard_questions(row) != 0
@@ -244,7 +244,7 @@ fn has_questions<M: Media>(client: &mut Client<M>, row: u32) -> bool
 fn empty_row<M: Media>(client: &mut Client<M>, row: u32) -> u64
     requires row { row < 16 }
     ensures heard { client.new ≡ heard_of client.old row result }
-    ensures given { HasOnlyGiven client.old client.new }
+    ensures leases { TakesNoLease client.old client.new }
     ensures kept { KeepsCall client.old client.new }
 {
     client.asked_back(row)

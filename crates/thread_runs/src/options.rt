@@ -1,6 +1,6 @@
 // The words of `strata_run`.
 use crate::stop_words::{RegionStop, fill_arg, option, stop_arg, stop_of};
-use clap::{ArgMatches, Command, Error, value_parser};
+use clap::{Arg, ArgMatches, Command, value_parser};
 use script::WordsError;
 use std::alloc::{AllocError, Global};
 
@@ -42,37 +42,68 @@ fn options_of(matches: &ArgMatches<'_>, stop: Option<RegionStop>) -> Option<Opti
     })
 }
 
+// What an option's number is: one of a range, or any.
+#[derive(Clone, Copy)]
+enum Value {
+    Below(i64, i64),
+    Any,
+}
+
+// An option's name, what stands for its number, what that is, and what it is for.
+type OptionRow = (&'static str, &'static str, Value, &'static str);
+
+const OPTIONS: [OptionRow; 5] = [
+    (
+        "clients",
+        "C",
+        Value::Below(1, 9),
+        "How many clients make calls, 1 to 8",
+    ),
+    (
+        "turns",
+        "T",
+        Value::Any,
+        "How many turns each of them makes",
+    ),
+    ("start", "N", Value::Any, "Where the draws start"),
+    (
+        "workers",
+        "W",
+        Value::Below(1, 9),
+        "How many workers digest, 1 to 8; 2 if left out",
+    ),
+    (
+        "units",
+        "U",
+        Value::Below(2, 65_537),
+        "How many units the tree may cost, 2 to 65536; 1024 if left out",
+    ),
+];
+
 fn command<'a>(alloc: Global) -> Result<Command<'a>, AllocError> {
-    Command::new(alloc, "strata_run")
+    let mut command = Command::new(alloc, "strata_run")
         .about(
             "Clients make calls in threads of their own, beside workers and a migrator, and compare the answers with those of a plain tree",
         )
         .override_usage(
             "strata_run --clients C --turns T --start N [--workers W] [--units U] [--stop K --fill HH]",
-        )
-        .arg(option(alloc, "clients", "C", "How many clients make calls, 1 to 8").value_parser(
-            value_parser!(u32).range(1..9),
-        ))?
-        .arg(option(alloc, "turns", "T", "How many turns each of them makes").value_parser(
-            value_parser!(u64).range(0..),
-        ))?
-        .arg(option(alloc, "start", "N", "Where the draws start").value_parser(value_parser!(
-            u64
-        ).range(0..)))?
-        .arg(option(
-            alloc,
-            "workers",
-            "W",
-            "How many workers digest, 1 to 8; 2 if left out",
-        )
-        .value_parser(value_parser!(u32).range(1..9)))?
-        .arg(option(
-            alloc,
-            "units",
-            "U",
-            "How many units the tree may cost, 2 to 65536; 1024 if left out",
-        )
-        .value_parser(value_parser!(u32).range(2..65_537)))?
-        .arg(stop_arg(alloc)?)?
-        .arg(fill_arg(alloc)?)
+        );
+    for row in OPTIONS {
+        command = command.arg(argument(alloc, row))?;
+    }
+    with_stop(alloc, command)
+}
+
+fn argument<'a>(alloc: Global, row: OptionRow) -> Arg<'a> {
+    let (name, letter, value, help) = row;
+    let argument = option(alloc, name, letter, help);
+    match value {
+        Value::Below(least, end) => argument.value_parser(value_parser!(u32).range(least..end)),
+        Value::Any => argument.value_parser(value_parser!(u64).range(0..)),
+    }
+}
+
+fn with_stop<'a>(alloc: Global, command: Command<'a>) -> Result<Command<'a>, AllocError> {
+    let fill = fill_arg(alloc)?;
+    command.arg(stop_arg(alloc)?)?.arg(fill)
 }
