@@ -10,7 +10,7 @@ use area_image::{AllocatorError, FreeRuns, Run};
 use std::alloc::{AllocError, Global};
 
 /// Blocks that were taken, as runs: of the node pool, and of the data blocks of each tier. The runs of a pool rise, and none touches the next.
-#[derive(Debug, Drop)]
+#[derive(Drop)]
 pub struct Allocation {
     pub nodes: Vec<Run>,
     pub fast: Vec<Run>,

@@ -11,7 +11,7 @@ use std::collections::BTreeMap;
 use std::marker::Model;
 
 // The bytes of a block.
-#[derive(Debug, Drop)]
+#[derive(Drop)]
 struct BlockImage {
     bytes: Vec<u8>,
 }
@@ -57,7 +57,7 @@ impl BlockImage {
 }
 
 /// Images of blocks, each with its block's number; at most one for a block. Contracts see them as the list of (number, image), whose numbers rise.
-#[derive(Debug, Drop)]
+#[derive(Drop)]
 pub struct NodeImages {
     alloc: Global,
     images: BTreeMap<u32, BlockImage>,

@@ -2,7 +2,7 @@ use crate::{Allocation, ChangedSlot, NodeImages};
 use area_image::{Marks, Run};
 
 /// Blocks that are given up, as runs: of the node pool, and of the data blocks of each tier.
-#[derive(Debug, Drop)]
+#[derive(Drop)]
 pub struct FreedBlocks {
     pub nodes: Vec<Run>,
     pub fast: Vec<Run>,
@@ -11,7 +11,7 @@ pub struct FreedBlocks {
 }
 
 /// What is to be written of some inodes, in memory: nothing of it is on the media yet.
-#[derive(Debug, Drop)]
+#[derive(Drop)]
 pub struct Rewrite {
     /// The new slots, by rising inodes.
     pub slots: Vec<ChangedSlot>,

@@ -18,7 +18,7 @@ use std::marker::Model;
 
 /// The free blocks of the shared media: those of the node pool, which extent blocks and directory blocks share, and the data blocks of each tier. Contracts see each
 /// pool as `FreeRuns` is seen: its range, its free blocks as a rising list, and how many runs can be given without memory.
-#[derive(Debug, Drop)]
+#[derive(Drop)]
 pub struct Pools {
     alloc: Global,
     nodes: FreeRuns,

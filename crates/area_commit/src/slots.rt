@@ -6,7 +6,7 @@ ghost use Rattle.area_commit.specs.Slots.{RiseIn, with_slot, with_slots};
 use area_image::{SLOT_SIZE, SLOTS_IN_BLOCK, Slot, slot_byte};
 
 /// What the slot of an inode is to tell.
-#[derive(Clone, Copy, Debug, PartialEq, Eq)]
+#[derive(Clone, Copy, PartialEq, Eq)]
 pub struct ChangedSlot {
     pub inode: u32,
     pub slot: Slot,

@@ -16,7 +16,7 @@ use batch_journal::{Journal, MAX_INODE, Media, Slot};
 use std::alloc::Global;
 
 /// The slot of an inode, and its extent blocks.
-#[derive(Debug, Drop)]
+#[derive(Drop)]
 pub struct InodeParts {
     pub slot: Slot,
     pub extents: InodeExtents,

@@ -14,7 +14,7 @@ use batch_journal::{ExtentBlock, Journal, Media, Slot, Tier};
 use std::alloc::Global;
 
 /// The extent blocks of an inode, where it has one in the tier.
-#[derive(Debug, Drop)]
+#[derive(Drop)]
 pub struct InodeExtents {
     pub fast: Option<ExtentBlock>,
     pub block: Option<ExtentBlock>,

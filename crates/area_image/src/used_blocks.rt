@@ -14,7 +14,7 @@ use std::alloc::{AllocError, Global};
 use std::marker::Model;
 
 /// A mark for each block of each tier, the journal's and the slots' among them.
-#[derive(Debug, Drop)]
+#[derive(Drop)]
 pub struct UsedBlocks {
     fast: Vec<bool>,
     block: Vec<bool>,

@@ -18,7 +18,7 @@ use std::marker::Model;
 ///
 /// Contracts see it as the list of (number, image). It takes up to 1,023 images, as many as a head block has places for
 /// numbers; a journal commits up to 256.
-#[derive(Debug, Drop)]
+#[derive(Drop)]
 pub struct Batch {
     bytes: Vec<u8>,
     count: usize,

@@ -33,7 +33,7 @@ use std::marker::Model;
 ///
 /// A call makes no device call behind one that failed, so it meets one fault at most. It makes the journal answer `DeviceFault` to
 /// each later call, with nothing changed, until the medium is opened again.
-#[derive(Debug, Drop)]
+#[derive(Drop)]
 pub struct Journal<M: Media> {
     media: M,
     geometry: Geometry,

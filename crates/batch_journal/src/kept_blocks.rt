@@ -14,14 +14,14 @@ use std::alloc::Global;
 pub const MOST_KEPT: usize = 256;
 
 /// A block's number and its bytes. No batch may write the gate's block, so that number says that none is kept here.
-#[derive(Clone, Copy, Debug)]
+#[derive(Clone, Copy)]
 pub struct KeptBlock {
     number: u32,
     bytes: [u8; BLOCK],
 }
 
 /// Blocks as they stand, each at its number modulo the count of places; there is no place where memory was refused.
-#[derive(Debug, Drop)]
+#[derive(Drop)]
 pub struct KeptBlocks {
     places: Vec<KeptBlock>,
 }

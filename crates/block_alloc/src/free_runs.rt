@@ -10,7 +10,7 @@ use std::marker::Model;
 
 /// The free blocks of one pool: a range of blocks, of which those that are free are kept as runs. Contracts see the range, the
 /// free blocks as a rising list, and how many runs can be given before memory is needed.
-#[derive(Debug, Drop)]
+#[derive(Drop)]
 pub struct FreeRuns {
     alloc: Global,
     first: u32,

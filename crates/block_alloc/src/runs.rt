@@ -6,7 +6,7 @@ ghost use Rattle.block_alloc.specs.Runs.{run_blocks, blocks_of, unmarked_blocks,
 use std::alloc::{AllocError, Global};
 
 /// Blocks that stand one after the other: the first of them, and how many there are.
-#[derive(Clone, Copy, Debug, PartialEq, Eq)]
+#[derive(Clone, Copy, PartialEq, Eq)]
 pub struct Run {
     pub first: u32,
     pub count: u32,

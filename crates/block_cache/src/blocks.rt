@@ -16,7 +16,7 @@ use std::num::NonZeroUsize;
 pub const MOST_BLOCKS: usize = 256;
 
 /// Which block it is: of which file, and which one in the file.
-#[derive(Clone, Copy, Debug, PartialEq, Eq, Hash)]
+#[derive(Clone, Copy, PartialEq, Eq, Hash)]
 pub struct Place {
     pub inode: u32,
     pub block: u32,

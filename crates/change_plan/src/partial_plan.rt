@@ -1,7 +1,7 @@
 use inode_plan::{Allocation, ChangedSlot, FreedBlocks, NodeImages};
 
 /// The plans of the inodes of a change that are made so far, one behind the other, with the blocks that were taken for them.
-#[derive(Debug, Drop)]
+#[derive(Drop)]
 pub struct PartialPlan {
     /// The data blocks for the whole change, and the blocks of the node pool that were taken so far. Whoever gives the plan up gives them back.
     pub taken: Allocation,

@@ -31,7 +31,7 @@ use update_log::{Media, Progress, Record, Region, RegionError, Stage, WipeProgre
 ///
 /// Contracts see both regions, the current generation, whether each region that is here is wiped to its generation, and whether a device has failed. A log of
 /// which a device has failed makes no device call any more, answers `DeviceFault` in place of each, and hands nothing over. Generations are counted modulo 2^64.
-#[derive(Debug, Drop)]
+#[derive(Drop)]
 pub struct ClientLog<M: Media> {
     alloc: Global,
     generation: u64,

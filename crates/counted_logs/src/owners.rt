@@ -17,7 +17,7 @@ pub struct SharedInode {
 }
 
 /// Which client's records touch each inode: a table that is filled client by client.
-#[derive(Debug, Drop)]
+#[derive(Drop)]
 pub struct Owners {
     // One for each number from 0 to the highest inode's.
     clients: Vec<Option<u32>>,

@@ -55,39 +55,3 @@ pub fn play_list(
 {
     play_all(alloc, draft, events)
 }
-
-// Plays three events, of which the last has nothing to do: whether each has its outcome.
-#[cfg(test)]
-fn play_three_events(alloc: Global) -> Result<bool, AllocError> {
-    let mut draft = GatedDraft::Fresh;
-    let outcomes = play_list(
-        alloc,
-        &mut draft,
-        &[DraftEvent::Draft, DraftEvent::Commit, DraftEvent::Commit],
-    )?;
-    let is_each = outcomes.as_slice()
-        == [
-            DraftOutcome::Pending,
-            DraftOutcome::Done,
-            DraftOutcome::Idle,
-        ]
-        .as_slice();
-    Ok(is_each && draft == GatedDraft::Open)
-}
-
-// Plays no event: whether nothing has changed.
-#[cfg(test)]
-fn play_no_event(alloc: Global) -> Result<bool, AllocError> {
-    let mut draft = GatedDraft::Fresh;
-    let outcomes = play_list(alloc, &mut draft, &[])?;
-    Ok(outcomes.is_empty() && draft == GatedDraft::Fresh)
-}
-
-// No contract says that a list is played where there is memory: one that always refuses meets it.
-#[test]
-fn lists_are_played(rt: HostRuntime) -> Result<(), AllocError> {
-    let alloc = rt.alloc();
-    assert!(rt; play_no_event(alloc)?);
-    assert!(rt; play_three_events(alloc)?);
-    Ok(())
-}

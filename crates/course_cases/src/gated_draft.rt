@@ -2,7 +2,7 @@
 // the draft counts.
 
 /// How far it is.
-#[derive(Clone, Copy, Debug, PartialEq, Eq)]
+#[derive(Clone, Copy, PartialEq, Eq)]
 pub enum GatedDraft {
     Fresh,
     Drafted,
@@ -14,14 +14,14 @@ pub enum GatedDraft {
 }
 
 /// What may happen to it next.
-#[derive(Clone, Copy, Debug, PartialEq, Eq)]
+#[derive(Clone, Copy, PartialEq, Eq)]
 pub enum DraftEvent {
     Draft,
     Commit,
 }
 
 /// What comes of an event.
-#[derive(Clone, Copy, Debug, PartialEq, Eq)]
+#[derive(Clone, Copy, PartialEq, Eq)]
 pub enum DraftOutcome {
     Pending,
     Done,

@@ -19,7 +19,7 @@ use std::alloc::Global;
 use update_log::Record;
 
 /// What a test of some records found.
-#[derive(Clone, Copy, Debug, PartialEq, Eq)]
+#[derive(Clone, Copy, PartialEq, Eq)]
 pub enum Found {
     /// Each is good: so many units are the charge of the graph after them.
     AllGood { charge: u64 },

@@ -4,7 +4,7 @@ ghost use Rattle.event_steps.specs.Refusals.{has_refusal, no_refusals, with_refu
 use libfs::Denied;
 
 /// What the kernel refused a client since its last reply.
-#[derive(Clone, Copy, Debug, PartialEq, Eq)]
+#[derive(Clone, Copy, PartialEq, Eq)]
 pub struct Refusals {
     pub units: bool,
     pub inode: bool,

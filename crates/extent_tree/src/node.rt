@@ -23,7 +23,7 @@ impl Model for Node {
 }
 
 /// What a search came to: the entry that has the block, where there is one, and how many entries were compared with it.
-#[derive(Clone, Copy, Debug, PartialEq, Eq)]
+#[derive(Clone, Copy, PartialEq, Eq)]
 pub struct Found {
     pub extent: Option<Extent>,
     pub compared: u64,

@@ -17,7 +17,7 @@ use std::marker::Model;
 
 /// Which blocks of a tier hold which logical blocks of an inode: a map from logical block to place, as a tree of nodes of at most `N` entries. Each node but
 /// the root has a quarter of that at least. Runs that go on where others end, in blocks and in places, are one. `N` is 8 at least.
-#[derive(Debug, Drop)]
+#[derive(Drop)]
 pub struct Extents<const N: usize> {
     alloc: Global,
     leaves: Vec<Node>,
@@ -37,7 +37,7 @@ impl<const N: usize> Model for Extents<N> {
 }
 
 /// Where a block lies, and how many entries were compared to find it.
-#[derive(Clone, Copy, Debug, PartialEq, Eq)]
+#[derive(Clone, Copy, PartialEq, Eq)]
 pub struct Counted {
     pub place: Option<u32>,
     pub compared: u64,

@@ -11,7 +11,7 @@ use std::alloc::{AllocError, Global};
 use std::marker::Model;
 
 /// The nodes of one level, in their order.
-#[derive(Debug, Drop)]
+#[derive(Drop)]
 pub struct Level {
     nodes: Vec<Node>,
 }

@@ -50,13 +50,34 @@ pub fn serve_stream<T: Tree, R: Read, W: Write>(
     output: &mut W,
 ) -> Result<(), StreamError> {
     let mut server = Server::new(alloc)?;
+    serve_input(alloc, &mut server, tree, input, output)
+}
+
+fn serve_input<T: Tree, R: Read, W: Write>(
+    alloc: Global,
+    server: &mut Server,
+    tree: &mut T,
+    input: &mut R,
+    output: &mut W,
+) -> Result<(), StreamError> {
     let mut inbox = Inbox::new(alloc)?;
     let mut reply = Vec::with_capacity(alloc, MAX_MESSAGE)?;
+    serve_messages(server, tree, &mut inbox, &mut reply, input, output)
+}
+
+fn serve_messages<T: Tree, R: Read, W: Write>(
+    server: &mut Server,
+    tree: &mut T,
+    inbox: &mut Inbox,
+    reply: &mut Vec<u8>,
+    input: &mut R,
+    output: &mut W,
+) -> Result<(), StreamError> {
     for _ in 0..u64::MAX {
         if !inbox.receive(input)? {
             return inbox.end();
         }
-        serve_inbox(&mut server, tree, &mut inbox, &mut reply, output)?;
+        serve_inbox(server, tree, inbox, reply, output)?;
     }
     Ok(())
 }
@@ -71,17 +92,33 @@ fn serve_inbox<T: Tree, W: Write>(
 ) -> Result<(), StreamError> {
     let mut at = 0;
     for _ in 0..inbox.len {
-        let message = match next_message(inbox.bytes_from(at)) {
-            Ok(Some(message)) => message,
-            Ok(None) => break,
-            Err(error) => return Err(StreamError::Message(error)),
-        };
-        serve_message(server, tree, message, reply, output)?;
-        at = at.saturating_add(message.len());
+        let len = serve_first(server, tree, inbox.bytes_from(at), reply, output)?;
+        if len == 0 {
+            break;
+        }
+        at = at.saturating_add(len);
         tree.use_idle_time();
     }
     inbox.drop_front(at);
     Ok(())
+}
+
+// Serves the first whole message of these bytes, and answers its length: 0 where its end is still to come.
+fn serve_first<T: Tree, W: Write>(
+    server: &mut Server,
+    tree: &mut T,
+    bytes: &[u8],
+    reply: &mut Vec<u8>,
+    output: &mut W,
+) -> Result<usize, StreamError> {
+    match next_message(bytes) {
+        Ok(Some(message)) => {
+            serve_message(server, tree, message, reply, output)?;
+            Ok(message.len())
+        }
+        Ok(None) => Ok(0),
+        Err(error) => Err(StreamError::Message(error)),
+    }
 }
 
 fn serve_message<T: Tree, W: Write>(

@@ -10,7 +10,7 @@ use std::alloc::AllocError;
 pub const MAX_DIRENTS: usize = 65_536;
 
 /// What an entry of a folder is, as far as the folder says.
-#[derive(Clone, Copy, Debug, PartialEq, Eq)]
+#[derive(Clone, Copy)]
 pub enum DirentKind {
     /// DT_UNKNOWN: the kernel asks when it needs to know.
     Unknown,
@@ -21,7 +21,7 @@ pub enum DirentKind {
 }
 
 /// An entry of a folder (`struct fuse_dirent`).
-#[derive(Clone, Copy, Debug)]
+#[derive(Clone, Copy)]
 pub struct Dirent<'a> {
     /// The number that readdir(3) shows.
     pub inode: u64,

@@ -1,7 +1,7 @@
 use thiserror::Error;
 
 /// Why bytes spell no request.
-#[derive(Clone, Copy, Debug, PartialEq, Eq, Error)]
+#[derive(Clone, Copy, Debug, Error)]
 pub enum WireError {
     /// They are fewer than the 40 of a header.
     #[error("the message is shorter than its header")]

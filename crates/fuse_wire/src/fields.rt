@@ -6,7 +6,7 @@ ghost use Rattle.fuse_wire.specs.Fields.{u16 as bytes_2, u32 as bytes_4, u64 as 
 use byteorder::{ByteOrder, LittleEndian};
 
 /// A number of two, four or eight bytes.
-#[derive(Clone, Copy, Debug)]
+#[derive(Clone, Copy)]
 pub enum Field {
     Two(u16),
     Four(u32),

@@ -12,7 +12,7 @@ pub const HEADER_LEN: usize = 40;
 pub const MAX_MESSAGE: usize = 69_632;
 
 /// What each request begins with.
-#[derive(Clone, Copy, Debug, PartialEq, Eq)]
+#[derive(Clone, Copy)]
 pub struct Header {
     /// Which request it is (`enum fuse_opcode`).
     pub opcode: u32,

@@ -37,7 +37,7 @@ pub const MAX_BACKGROUND: u16 = 12;
 pub const CONGESTION: u16 = 9;
 
 /// The first request of a mount (`struct fuse_init_in`).
-#[derive(Clone, Copy, Debug, PartialEq, Eq)]
+#[derive(Clone, Copy)]
 pub struct Init {
     /// The version that the kernel speaks.
     pub major: u32,
@@ -49,7 +49,7 @@ pub struct Init {
 }
 
 /// The reply to it (`struct fuse_init_out`).
-#[derive(Clone, Copy, Debug, PartialEq, Eq)]
+#[derive(Clone, Copy)]
 pub struct InitReply {
     /// The version that is spoken from now on.
     pub major: u32,
@@ -71,7 +71,7 @@ pub struct InitReply {
 }
 
 /// The kernel speaks an older protocol than 7.23.
-#[derive(Clone, Copy, Debug, PartialEq, Eq, Error)]
+#[derive(Clone, Copy, Debug, Error)]
 #[error("the kernel speaks FUSE {major}.{minor}, and 7.23 is the oldest that is served")]
 pub struct OldProtocol {
     pub major: u32,

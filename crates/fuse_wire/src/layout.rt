@@ -9,7 +9,7 @@ use crate::names::behind_names;
 use crate::opcode::Opcode;
 
 /// What the body of a request consists of.
-#[derive(Clone, Copy, Debug, PartialEq, Eq)]
+#[derive(Clone, Copy)]
 pub enum Body {
     /// `fields` bytes of fields, and behind them `names` names, each with a zero byte.
     Named {

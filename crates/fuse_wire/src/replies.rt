@@ -7,14 +7,14 @@ use crate::fields::Field;
 use crate::init::InitReply;
 
 /// A time, or a span of time: seconds, and nanoseconds below 1,000,000,000.
-#[derive(Clone, Copy, Debug, PartialEq, Eq)]
+#[derive(Clone, Copy)]
 pub struct Time {
     pub seconds: u64,
     pub nanoseconds: u32,
 }
 
 /// The attributes of a node (`struct fuse_attr`): 88 bytes.
-#[derive(Clone, Copy, Debug, PartialEq, Eq)]
+#[derive(Clone, Copy)]
 pub struct Attr {
     /// The number that stat(2) shows.
     pub inode: u64,
@@ -38,7 +38,7 @@ pub struct Attr {
 }
 
 /// What has a name (`struct fuse_entry_out`): 128 bytes.
-#[derive(Clone, Copy, Debug, PartialEq, Eq)]
+#[derive(Clone, Copy)]
 pub struct Entry {
     pub node: u64,
     /// With the node it names one file for as long as the mount lasts.
@@ -50,7 +50,7 @@ pub struct Entry {
 }
 
 /// A file or folder that was opened (`struct fuse_open_out`): 16 bytes.
-#[derive(Clone, Copy, Debug, PartialEq, Eq)]
+#[derive(Clone, Copy)]
 pub struct OpenFile {
     /// By which the kernel names it from now on.
     pub handle: u64,
@@ -59,7 +59,7 @@ pub struct OpenFile {
 }
 
 /// What statfs(2) shows (`struct fuse_kstatfs`): 80 bytes.
-#[derive(Clone, Copy, Debug, PartialEq, Eq)]
+#[derive(Clone, Copy)]
 pub struct StatFs {
     /// In units of `block_size` bytes: all, those that are free, and those that are free for every user.
     pub blocks: u64,

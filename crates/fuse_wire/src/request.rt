@@ -5,7 +5,7 @@ use crate::fields::u64_at;
 use crate::init::Init;
 
 /// What the kernel asks for. The header's node is the one it is about; names and data are lent from the message.
-#[derive(Clone, Copy, Debug)]
+#[derive(Clone, Copy)]
 pub enum Request<'a> {
     /// The first request, which settles the version.
     Init(Init),
@@ -118,7 +118,7 @@ pub enum Request<'a> {
 }
 
 /// Which attributes of a node are to change. Of the mode, the owner and the times the flags alone are read.
-#[derive(Clone, Copy, Debug, PartialEq, Eq)]
+#[derive(Clone, Copy)]
 pub struct SetAttr {
     /// Which fields count (`FATTR_MODE` and the like).
     pub valid: u32,

@@ -9,7 +9,7 @@ use std::alloc::{AllocError, Global};
 use std::marker::Model;
 
 /// The bytes that are put into one block of a file, and at which places of it. Bytes that are put at once are shared with whoever else has them, until others are put over some of them.
-#[derive(Debug, Drop)]
+#[derive(Drop)]
 pub struct BlockChange {
     kept: Kept,
 }

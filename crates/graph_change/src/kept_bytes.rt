@@ -11,7 +11,7 @@ use file_graph::UNIT_BYTES;
 use std::alloc::{AllocError, Global};
 
 /// How what is put into a block is kept.
-#[derive(Debug, Drop)]
+#[derive(Drop)]
 pub enum Kept {
     Nothing,
     /// Bytes at a place of the block, which others share.

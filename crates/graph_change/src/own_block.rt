@@ -13,7 +13,7 @@ use std::marker::Model;
 const ROOM: usize = 2 * UNIT_BYTES as usize;
 
 /// The bytes that are put into one block of a file, and at which places of it, kept as the block's own.
-#[derive(Debug, Drop)]
+#[derive(Drop)]
 pub struct OwnBlock {
     // The bytes of the block, once some are put. Behind them stands the mark of each, where some are put and not all; else nothing there says anything, and no mark is written. Both are in one vector, so
     // that memory is asked for once.

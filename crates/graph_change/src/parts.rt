@@ -5,7 +5,7 @@ ghost use Rattle.graph_change.specs.View.{new_length};
 use file_graph::Kind;
 
 /// What the rest of a change starts from.
-#[derive(Clone, Copy, Debug, PartialEq, Eq)]
+#[derive(Clone, Copy, PartialEq, Eq)]
 pub enum NodeBase {
     /// The node that was there.
     Kept,
@@ -16,7 +16,7 @@ pub enum NodeBase {
 }
 
 /// The length that a file gets, in bytes.
-#[derive(Clone, Copy, Debug, PartialEq, Eq)]
+#[derive(Clone, Copy, PartialEq, Eq)]
 pub enum NodeLength {
     /// Not cut, and at least so long.
     Grown { to: u64 },

@@ -5,7 +5,7 @@ use std::alloc::AllocError;
 use std::marker::Model;
 
 /// A part of bytes that several owners share. Contracts see it as its list.
-#[derive(Debug, Drop)]
+#[derive(Drop)]
 pub struct SharedPart {
     bytes: SharedBytes,
     // Where the part begins among the bytes.

@@ -24,7 +24,7 @@ use tier_device::{Tiers, lies_within};
 ///
 /// Media of one file share its syncs: a fence of one has the system keep what all of them wrote, and after a sync that failed,
 /// whichever medium asked for it, no other one succeeds, until the file is opened again.
-#[derive(Debug, Drop)]
+#[derive(Drop)]
 pub struct DiskFile {
     pub(crate) shared: Arc<SharedFile>,
     len: usize,

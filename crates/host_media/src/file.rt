@@ -21,7 +21,7 @@ use tier_device::{Media, MediaError, Tier, Tiers, lies_within};
 ///
 /// Several media may lie in one file (`DiskFile`). After a sync that failed for another one it fails in the same way, at its next
 /// fence that has something to sync.
-#[derive(Debug, Drop)]
+#[derive(Drop)]
 pub struct FileMedia {
     inner: Mirrored,
     faults: u64,

@@ -13,7 +13,7 @@ use tier_device::{Tier, Tiers};
 
 /// Three tiers in a file, the fast one first, from a place of it on. Their past has each write that the system was given and each
 /// sync that it answered with success, which is a fence of all tiers. After a call that failed it is given no other.
-#[derive(Debug, Drop)]
+#[derive(Drop)]
 pub(crate) struct Host {
     file: Arc<SharedFile>,
     pub(crate) begin: usize,

@@ -20,7 +20,7 @@ use tier_device::{Tier, Tiers};
 
 /// Tiers of an open file with their mirror. `past` has the calls of the medium, and the host's the calls that the system got:
 /// what the file may hold after a stop by those, it may hold by these.
-#[derive(Debug, Drop)]
+#[derive(Drop)]
 pub(crate) struct Mirrored {
     host: Host,
     pub(crate) tiers: Tiers,

@@ -8,7 +8,7 @@ use std::marker::Model;
 use tier_device::{Tier, Tiers};
 
 /// One call that moves the clock of a medium.
-#[derive(Clone, Copy, Debug)]
+#[derive(Clone, Copy)]
 pub(crate) enum Note<'a> {
     Write {
         tier: Tier,
@@ -21,7 +21,7 @@ pub(crate) enum Note<'a> {
 }
 
 /// What three tiers held at first, and the calls since. It has no bytes: no memory holds a call.
-#[derive(Debug, Drop)]
+#[derive(Drop)]
 pub struct Past {
     pub ghost history: { History },
 }

@@ -6,7 +6,7 @@ ghost use Rattle.tier_device.specs.declared.media.Tier.{Tier};
 use tier_device::Tier;
 
 /// For each tier, whether anything of it was written since the last sync of the file.
-#[derive(Clone, Copy, Debug)]
+#[derive(Clone, Copy)]
 pub(crate) struct Pending {
     fast: bool,
     block: bool,

@@ -14,7 +14,7 @@ use tier_device::{Media, MediaError, Tier, Tiers, lies_within};
 
 /// A medium in memory. It keeps the bytes of its tiers, and nothing of a call once that has returned: its past, of which the
 /// clauses speak, stands in the proof alone. It never fails.
-#[derive(Debug, Drop)]
+#[derive(Drop)]
 pub struct RamMedia {
     tiers: Tiers,
     past: Past,

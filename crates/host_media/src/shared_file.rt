@@ -2,7 +2,7 @@
 use std::fs::File;
 use std::sync::atomic::AtomicU64;
 use std::sync::atomic::Ordering::SeqCst;
-use std::{fmt, hint, io};
+use std::{hint, io};
 
 // What the word of a file says of its syncs: none is under way, one is, or one has failed.
 const IDLE: u64 = 0;
@@ -19,12 +19,6 @@ const FAILED: u64 = 2;
 pub(crate) struct SharedFile {
     file: File,
     word: AtomicU64,
-}
-
-impl fmt::Debug for SharedFile {
-    fn fmt<W: fmt::Write>(&self, f: &mut fmt::Formatter<W>) -> fmt::Result {
-        f.write_str("SharedFile")
-    }
 }
 
 impl SharedFile {

@@ -11,7 +11,7 @@ use crate::inode_set::InodeSet;
 use digester::{Effect, Record};
 
 /// What the book has of one client.
-#[derive(Debug, Drop)]
+#[derive(Drop)]
 pub struct ClientAccount {
     /// The units that it was given and that are not digested.
     pub units: u64,

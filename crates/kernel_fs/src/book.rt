@@ -20,7 +20,7 @@ use std::marker::Model;
 const CLIENTS: usize = MAX_CLIENTS as usize;
 
 /// The accounts of clients 1 to 8, which are counted from 1 in each call. It has a constant size, and takes no memory.
-#[derive(Debug, Drop)]
+#[derive(Drop)]
 pub struct Book {
     accounts: [ClientAccount; CLIENTS],
     out: u64,
@@ -39,7 +39,7 @@ impl Model for Book {
 }
 
 /// How the units stand: `charge` of them is what the shared graph costs, and `capacity` is how many there are in all.
-#[derive(Clone, Copy, Debug)]
+#[derive(Clone, Copy)]
 pub struct UnitUse {
     pub charge: u64,
     pub capacity: u64,

@@ -23,7 +23,7 @@ use digester::{Chunk, DigestError, Media, Record, SealedLog, Shared, digest_chun
 use std::alloc::Global;
 
 /// What becomes of a chunk that the kernel is to digest.
-#[derive(Clone, Copy, Debug, PartialEq, Eq)]
+#[derive(Clone, Copy, PartialEq, Eq)]
 pub enum Digestion {
     /// It is digested.
     Digested,

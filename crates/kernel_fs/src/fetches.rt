@@ -24,7 +24,7 @@ pub struct Fetched {
 }
 
 /// How many bytes of a file a client fetched.
-#[derive(Clone, Copy, Debug, PartialEq, Eq)]
+#[derive(Clone, Copy, PartialEq, Eq)]
 pub struct FetchedBytes {
     /// The bytes at the front of the buffer that were read.
     pub count: usize,

@@ -3,7 +3,6 @@
 ghost use Rattle.std.specs.Prelude.{◌≡◌};
 ghost use Rattle.std.specs.Borrow.{ftrue};
 
-use std::fmt;
 use std::marker::{Model, PhantomData};
 
 /// What a value was when this was made. It has no bytes.
@@ -28,11 +27,5 @@ impl<T> OpenedFrom<T> {
         ensures { result.value ≡ _value.now }
     {
         OpenedFrom { of: PhantomData }
-    }
-}
-
-impl<T> fmt::Debug for OpenedFrom<T> {
-    fn fmt<W: fmt::Write>(&self, f: &mut fmt::Formatter<W>) -> fmt::Result {
-        f.write_str("Began")
     }
 }

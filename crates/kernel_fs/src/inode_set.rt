@@ -9,7 +9,7 @@ use std::marker::Model;
 const ROWS: usize = 16;
 
 /// A set of inodes, which are numbered from 1 to 1,024. It has a constant size, and takes no memory.
-#[derive(Debug, Drop)]
+#[derive(Drop)]
 pub struct InodeSet {
     rows: [u64; ROWS],
 }

@@ -58,7 +58,7 @@ use std::alloc::Global;
 use std::marker::Model;
 
 /// How the units stand.
-#[derive(Clone, Copy, Debug, PartialEq, Eq)]
+#[derive(Clone, Copy, PartialEq, Eq)]
 pub struct Figures {
     /// What the shared graph costs.
     pub charge: u64,
@@ -70,7 +70,7 @@ pub struct Figures {
 
 /// The kernel: the shared media, and what each client was given of them. Whoever has it has one client's call after the other.
 /// Contracts see the shared area and the accounts. Clients are numbered from 1.
-#[derive(Debug, Drop)]
+#[derive(Drop)]
 pub struct Kernel<M: Media> {
     // the media at the opening, and how their marks stood
     began: Opening<M>,

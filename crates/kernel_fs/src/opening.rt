@@ -10,7 +10,7 @@ use digester::{MAX_CLIENTS, Marks, Media, Shared, mark_of};
 use std::marker::Model;
 
 /// What the shared media were when a kernel was opened over them, and whether each client's mark stood before a region then. Contracts see the media.
-#[derive(Debug, Drop)]
+#[derive(Drop)]
 pub struct Opening<M: Media> {
     area: OpenedFrom<Shared<M>>,
     before: bool,

@@ -18,7 +18,7 @@ use file_graph::{is_inode, u32_of};
 use std::marker::Model;
 
 /// The entries that a block spells, read in place: at most 56, no two of one name. Nothing is copied.
-#[derive(Debug, Drop)]
+#[derive(Drop)]
 pub struct DirEntries<'a> {
     owner: u32,
     count: usize,

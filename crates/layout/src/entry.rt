@@ -13,7 +13,7 @@ use file_graph::{Kind, MAX_NAME, Name, byte_of, is_inode, kind_byte, read_kind, 
 use std::alloc::{AllocError, Global};
 
 /// An entry whose name lies elsewhere.
-#[derive(Clone, Copy, Debug, PartialEq, Eq)]
+#[derive(Clone, Copy, PartialEq, Eq)]
 pub struct EntryRef<'a> {
     pub inode: u32,
     pub kind: Kind,

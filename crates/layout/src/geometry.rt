@@ -9,7 +9,7 @@ use std::marker::Model;
 use tier_device::Tier;
 
 /// Where the blocks of a node's content lie.
-#[derive(Clone, Copy, Debug, PartialEq, Eq)]
+#[derive(Clone, Copy, PartialEq, Eq)]
 pub enum Space {
     /// Those of a directory: in the node pool.
     Nodes,

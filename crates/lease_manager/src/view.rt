@@ -2,7 +2,7 @@
 use std::collections::LinkedList;
 
 /// How one client stands to one inode.
-#[derive(Debug, Drop, Clone, Copy, PartialEq, Eq)]
+#[derive(Drop, Clone, Copy, PartialEq, Eq)]
 pub enum LeaseMode {
     Free,
     Reading,

@@ -10,7 +10,7 @@ use std::marker::Model;
 const MOST: usize = MAX_EFFECTS as usize;
 
 /// The inodes that a record touches, one for each of its effects, in their order.
-#[derive(Debug, Drop)]
+#[derive(Drop)]
 pub struct TouchedInodes {
     count: usize,
     inodes: [u32; MOST],

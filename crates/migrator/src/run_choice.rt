@@ -13,7 +13,7 @@ use shared_area::{AreaError, MAX_INODE, Media, Run, Shared, Tier};
 pub const MOST_BLOCKS: u32 = 256;
 
 /// A run of a file's logical blocks.
-#[derive(Clone, Copy, Debug, PartialEq, Eq)]
+#[derive(Clone, Copy, PartialEq, Eq)]
 pub struct FileRun {
     pub inode: u32,
     pub run: Run,

@@ -28,7 +28,7 @@ use recovery_laws::{
 use std::alloc::Global;
 
 /// What is found of a client's log.
-#[derive(Clone, Copy, Debug, PartialEq, Eq)]
+#[derive(Clone, Copy, PartialEq, Eq)]
 pub struct FoundLog {
     /// Which records of its two regions count, and in which order.
     pub counted: CountedLogs,

@@ -59,7 +59,7 @@ use std::marker::Model;
 /// Contracts see the medium, its geometry, and whether a device has failed. What its blocks spell is `graph` and `marks` of the store that is read.
 ///
 /// A call that meets a device fault makes the area answer `DeviceFault` to each later call, with nothing changed, until the medium is opened again.
-#[derive(Debug, Drop)]
+#[derive(Drop)]
 pub struct Shared<M: Media> {
     alloc: Global,
     journal: Journal<M>,

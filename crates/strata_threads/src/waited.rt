@@ -7,7 +7,7 @@ use libfs::{Client, Media, Mode};
 use std::marker::Model;
 
 /// How many turns of a call were waited, of those that it is given, and which inodes it waited to write. Contracts see all of it (`specs/WaitedTurns.antt`). A turn is counted only by what was waited for.
-#[derive(Debug, Drop)]
+#[derive(Drop)]
 pub struct Waited {
     count: u64,
     turns: u64,

@@ -6,7 +6,7 @@ ghost use Rattle.tier_device.specs.Turn.{turn_of, one_less};
 use crate::trip::{Trip, Turn};
 
 /// A number of its own, or a trip that it shares with other media; and what was said of the last call.
-#[derive(Debug, Drop)]
+#[derive(Drop)]
 pub(crate) struct Count {
     more: Option<u64>,
     trip: Option<Trip>,

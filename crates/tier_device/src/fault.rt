@@ -12,7 +12,7 @@ use crate::{Media, MediaError, Tier, lies_within};
 /// A medium of which one chosen write or fence fails, once for each arming. Of the write that fails all bytes are written,
 /// though it says otherwise; a fence that fails keeps nothing. Writes and fences in range are counted, by a number of its own
 /// or by a shared trip; reads are not.
-#[derive(Debug, Drop)]
+#[derive(Drop)]
 pub struct FaultMedia<M> {
     inner: M,
     count: Count,

@@ -4,7 +4,7 @@ ghost use Rattle.tier_device.specs.Fill.{fill_at, left_byte, shift};
 use crate::Tier;
 
 /// What one byte that was written and not fenced holds after a stop.
-#[derive(Clone, Copy, Debug, PartialEq, Eq)]
+#[derive(Clone, Copy, PartialEq, Eq)]
 pub enum ByteFill {
     /// What it held at the tier's last fence.
     Old,
@@ -15,7 +15,7 @@ pub enum ByteFill {
 }
 
 /// What every byte that was written and not fenced holds after a stop, by its place.
-#[derive(Clone, Copy, Debug, PartialEq, Eq)]
+#[derive(Clone, Copy, PartialEq, Eq)]
 pub enum Fill {
     /// What it held at the tier's last fence.
     Old,

@@ -17,7 +17,7 @@ use std::alloc::{AllocError, AllocFailed, Global};
 /// A medium in memory. It keeps what it held at first and a record of its calls, from which what a stop may leave at each
 /// moment is stated: any bytes in each range that was written since the tier's last fence, and nothing less. Where the record
 /// can't grow, the call changes nothing, counts as failed and is a device fault.
-#[derive(Debug, Drop)]
+#[derive(Drop)]
 pub struct MemMedia {
     alloc: Global,
     tiers: Tiers,

@@ -8,7 +8,7 @@ use std::alloc::{AllocError, Global};
 use std::marker::Model;
 
 /// One call that moved the clock. The bytes of a write stand in the log, behind those of the writes before it.
-#[derive(Clone, Copy, Debug, PartialEq, Eq)]
+#[derive(Clone, Copy, PartialEq, Eq)]
 pub(crate) enum Entry {
     Write { tier: Tier, at: usize, len: usize },
     Fence { tier: Tier },
@@ -16,7 +16,7 @@ pub(crate) enum Entry {
 
 /// The calls that moved the clock, in their order. The bytes of all writes stand in one row, so a call takes no block of memory
 /// of its own. Contracts see the list of the calls.
-#[derive(Debug, Drop)]
+#[derive(Drop)]
 pub(crate) struct CallLog {
     entries: Vec<Entry>,
     bytes: Row,

@@ -11,7 +11,7 @@ const PIECE: usize = 65_536;
 
 /// Bytes that stand where they were put: a row that grows takes a piece of memory more, and copies nothing. Contracts see all
 /// bytes of the row, one after the other.
-#[derive(Debug, Drop)]
+#[derive(Drop)]
 pub(crate) struct Row {
     alloc: Global,
     full: Vec<Piece>,
@@ -28,7 +28,7 @@ impl Model for Row {
 }
 
 // Bytes in one piece of memory.
-#[derive(Debug, Drop)]
+#[derive(Drop)]
 struct Piece {
     bytes: Vec<u8>,
 }

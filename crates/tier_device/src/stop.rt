@@ -12,7 +12,7 @@ use crate::{Fill, Media, MediaError, MemMedia, Tier, lies_within};
 /// A medium in memory that stops within a chosen write or fence, or between two. A stop within a write counts its range as
 /// written; one within a fence leaves the tier unfenced. From then on each call in range is a device fault that changes
 /// nothing. Writes and fences in range are counted, by a number of its own or by a shared trip; reads are not.
-#[derive(Debug, Drop)]
+#[derive(Drop)]
 pub struct StopMedia {
     inner: MemMedia,
     count: Count,

@@ -9,7 +9,7 @@ use std::alloc::{AllocError, Global};
 use std::marker::Model;
 
 /// The bytes of three tiers.
-#[derive(Debug, Drop)]
+#[derive(Drop)]
 pub struct Tiers {
     fast: Vec<u8>,
     block: Vec<u8>,

@@ -2,13 +2,12 @@
 ghost use Rattle.std.specs.Prelude.{◌≤◌};
 
 use std::alloc::{AllocError, Global};
-use std::fmt;
 use std::sync::Arc;
 use std::sync::atomic::AtomicU64;
 use std::sync::atomic::Ordering::SeqCst;
 
 /// What a count says of a call that it counts.
-#[derive(Clone, Copy, Debug, PartialEq, Eq)]
+#[derive(Clone, Copy, PartialEq, Eq)]
 pub enum Turn {
     /// The count has not run out.
     Passes,
@@ -26,12 +25,6 @@ const GONE: u64 = u64::MAX;
 #[derive(Drop)]
 pub struct Trip {
     word: Arc<AtomicU64>,
-}
-
-impl fmt::Debug for Trip {
-    fn fmt<W: fmt::Write>(&self, f: &mut fmt::Formatter<W>) -> fmt::Result {
-        f.write_str("Trip")
-    }
 }
 
 impl Trip {

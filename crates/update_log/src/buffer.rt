@@ -16,7 +16,7 @@ use std::marker::Model;
 use tier_device::{Media, MediaError, Tier};
 
 /// Bytes, in memory that has a place for as many as a region has. All of it is taken when the buffer is made.
-#[derive(Debug, Drop)]
+#[derive(Drop)]
 pub struct Buffer {
     bytes: Vec<u8>,
 }

@@ -32,7 +32,7 @@ use tier_device::{Media, Tier};
 ///
 /// A record is appended by `begin`, which makes no device call, and four times `step`, each of which makes one. Contracts
 /// see a region by its header, the records that are appended, and the one that is begun.
-#[derive(Debug, Drop)]
+#[derive(Drop)]
 pub struct Region<M: Media> {
     media: M,
     alloc: Global,

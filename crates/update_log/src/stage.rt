@@ -1,7 +1,7 @@
 ghost use Rattle.std.specs.Prelude.{◌≡◌};
 
 /// How far an append or a wipe has come.
-#[derive(Clone, Copy, Debug, PartialEq, Eq)]
+#[derive(Clone, Copy, PartialEq, Eq)]
 pub enum Stage {
     /// Nothing is begun: the gate behind the records is closed, and nothing is pending on the device.
     Resting,
@@ -28,7 +28,7 @@ pub enum Stage {
 }
 
 /// How far one device call has brought an append.
-#[derive(Clone, Copy, Debug, PartialEq, Eq)]
+#[derive(Clone, Copy, PartialEq, Eq)]
 pub enum Progress {
     /// Further calls are needed.
     Going,
@@ -37,7 +37,7 @@ pub enum Progress {
 }
 
 /// How far one device call has brought a wipe.
-#[derive(Clone, Copy, Debug, PartialEq, Eq)]
+#[derive(Clone, Copy, PartialEq, Eq)]
 pub enum WipeProgress {
     /// Further calls are needed.
     Going,

@@ -24,7 +24,7 @@ pub enum SizeRule {
 }
 
 /// How large a world is made: the units that its tree may cost, and the data blocks, of 4,096 bytes, of each tier.
-#[derive(Clone, Copy, Debug, PartialEq, Eq)]
+#[derive(Clone, Copy, PartialEq, Eq)]
 pub struct WorldSizes {
     pub units: u32,
     pub fast: u32,
