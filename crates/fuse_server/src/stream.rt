@@ -53,6 +53,7 @@ pub fn serve_stream<T: Tree, R: Read, W: Write>(
     serve_input(alloc, &mut server, tree, input, output)
 }
 
+// Makes room for what comes and for a reply, and serves. Who owns it lends it on: the check of borrows grows with what a function owns.
 fn serve_input<T: Tree, R: Read, W: Write>(
     alloc: Global,
     server: &mut Server,
@@ -65,6 +66,7 @@ fn serve_input<T: Tree, R: Read, W: Write>(
     serve_messages(server, tree, &mut inbox, &mut reply, input, output)
 }
 
+// Reads and serves, up to the end of the input or of the mount.
 fn serve_messages<T: Tree, R: Read, W: Write>(
     server: &mut Server,
     tree: &mut T,
@@ -103,7 +105,7 @@ fn serve_inbox<T: Tree, W: Write>(
     Ok(())
 }
 
-// Serves the first whole message of these bytes, and answers its length: 0 where its end is still to come.
+// Serves the first whole message of these bytes, and answers its length, which is 40 at least: 0 where its end is still to come.
 fn serve_first<T: Tree, W: Write>(
     server: &mut Server,
     tree: &mut T,
