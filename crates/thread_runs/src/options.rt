@@ -24,8 +24,12 @@ pub struct Options {
 /// What the words ask for. The first word is the program's name.
 pub(crate) fn read_options<'a>(alloc: Global, words: &'a [&'a str]) -> Result<Options, WordsError> {
     let matches = command(alloc)?.try_get_matches_from(words)?;
-    let stop = stop_of(&matches)?;
-    match options_of(&matches, stop) {
+    options_in(&matches)
+}
+
+fn options_in(matches: &ArgMatches<'_>) -> Result<Options, WordsError> {
+    let stop = stop_of(matches)?;
+    match options_of(matches, stop) {
         Some(options) => Ok(options),
         None => Err(WordsError::Value("--clients, --turns and --start are needed")),
     }
@@ -81,17 +85,26 @@ const OPTIONS: [OptionRow; 5] = [
 ];
 
 fn command<'a>(alloc: Global) -> Result<Command<'a>, AllocError> {
-    let mut command = Command::new(alloc, "strata_run")
+    let command = with_options(alloc, bare_command(alloc))?;
+    with_stop(alloc, command)
+}
+
+fn bare_command<'a>(alloc: Global) -> Command<'a> {
+    Command::new(alloc, "strata_run")
         .about(
             "Clients make calls in threads of their own, beside workers and a migrator, and compare the answers with those of a plain tree",
         )
         .override_usage(
             "strata_run --clients C --turns T --start N [--workers W] [--units U] [--stop K --fill HH]",
-        );
+        )
+}
+
+fn with_options<'a>(alloc: Global, command: Command<'a>) -> Result<Command<'a>, AllocError> {
+    let mut command = command;
     for row in OPTIONS {
         command = command.arg(argument(alloc, row))?;
     }
-    with_stop(alloc, command)
+    Ok(command)
 }
 
 fn argument<'a>(alloc: Global, row: OptionRow) -> Arg<'a> {
@@ -104,6 +117,11 @@ fn argument<'a>(alloc: Global, row: OptionRow) -> Arg<'a> {
 }
 
 fn with_stop<'a>(alloc: Global, command: Command<'a>) -> Result<Command<'a>, AllocError> {
+    let stop = stop_arg(alloc)?;
+    with_fill(alloc, command.arg(stop)?)
+}
+
+fn with_fill<'a>(alloc: Global, command: Command<'a>) -> Result<Command<'a>, AllocError> {
     let fill = fill_arg(alloc)?;
-    command.arg(stop_arg(alloc)?)?.arg(fill)
+    command.arg(fill)
 }
