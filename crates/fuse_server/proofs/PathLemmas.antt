@@ -1,5 +1,5 @@
 -- Paths, step by step from a directory up to the root.
-use Rattle.std.proofs.Common.{◌≡◌, ◌≢◌, ℕ, zero, suc, ◌-◌, ◌++◌, [], ◌∷◌, List, Option, Some, None, refl, arith, sub-one, true, append_assoc}
+use Rattle.std.proofs.Common.{◌≡◌, ◌≢◌, ℕ, zero, suc, ◌-◌, ◌++◌, [], ◌∷◌, List, Option, Some, None, refl, arith, sub-one, true, false, append_assoc}
 use Rattle.std.specs.Option.{option_map}
 use Rattle.std.proofs.lemmas.Bool.{ne_eqb}
 use Rattle.std.proofs.lemmas.Option.{same_Some, none-some}
@@ -64,3 +64,10 @@ named_path nodes id known other named = rw (ne_eqb id 1 other, named) refl
 
 pub name_has_path : (nodes : Nodes) (folder : ℕ) (name copy path : List ℕ) → is_name name ≡ true → copy ≡ name → path_below nodes folder copy ≡ Some path → name_path nodes folder name ≡ Some path
 name_has_path nodes folder name copy path valid same below = rw (valid, ← same) below
+
+-- no name, or one below what has no path, has none
+pub no_name : (nodes : Nodes) (folder : ℕ) (name : List ℕ) → is_name name ≡ false → name_path nodes folder name ≡ None
+no_name nodes folder name bad = rw bad refl
+
+pub name_has_no_path : (nodes : Nodes) (folder : ℕ) (name copy : List ℕ) → is_name name ≡ true → copy ≡ name → path_below nodes folder copy ≡ None → name_path nodes folder name ≡ None
+name_has_no_path nodes folder name copy valid same none = rw (valid, ← same) none

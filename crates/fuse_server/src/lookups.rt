@@ -1,10 +1,11 @@
 // Names are looked up, and made.
-ghost use Rattle.std.specs.Prelude.{◌≡◌, ◌⊎◌, true, false, Ok, Err, IfOk, IfErr};
+ghost use Rattle.std.specs.Prelude.{◌≡◌, ◌⊎◌, true, false, Some, None, Ok, Err, IfOk, IfErr};
 ghost use Rattle.file_graph.specs.posix_calls.Name.{is_name};
 ghost use Rattle.file_graph.specs.posix_calls.declared.call.Call.TheVariants as call;
 ghost use Rattle.fuse_server.specs.Calls.{description_of, done_of, Answers, MayAsk};
 ghost use Rattle.fuse_server.specs.Creations.{MakesAt, creation};
 ghost use Rattle.fuse_server.specs.Nodes.{Finds, LooksUp, MakesDir, DescribesNode};
+ghost use Rattle.fuse_server.specs.Paths.{name_path};
 ghost use Rattle.fuse_server.specs.Refusals.{IsMemory};
 ghost use Rattle.fuse_server.specs.Upkeep.{Upkeep};
 
@@ -28,9 +29,18 @@ impl Tables {
     ) -> Result<Attributes, Refusal>
         ensures { LooksUp T.Tree self.old.nodes folder name.now result tree.old tree.new }
     {
-        let name = read_name(self.alloc, name)?;
-        let path = path_below(self.alloc, &self.nodes, folder, name.as_slice())?;
+        let (name, path) = self.read_place(folder, name)?;
         self.tell_of(tree, folder, &name, &path)
+    }
+
+    /// The name that bytes of a request are, and its path in a directory.
+    pub(crate) fn read_place(&self, folder: u64, bytes: &[u8]) -> Result<(Name, Vec<u8>), Refusal>
+        ensures place { IfOk result (λ place. (place.0 ≡ bytes.now) × (name_path self.now.nodes folder bytes.now ≡ Some place.1.items)) }
+        ensures unknown { IfErr result (λ e. IsMemory e ⊎ (name_path self.now.nodes folder bytes.now ≡ None)) }
+    {
+        let name = read_name(self.alloc, bytes)?;
+        let path = path_below(self.alloc, &self.nodes, folder, name.as_slice())?;
+        Ok((name, path))
     }
 
     /// Makes a file that was not there, and closes it.
@@ -42,8 +52,7 @@ impl Tables {
     ) -> Result<Attributes, Refusal>
         ensures { MakesAt T.Tree self.old.nodes folder name.now (creation true false) result tree.old tree.new }
     {
-        let name = read_name(self.alloc, name)?;
-        let path = path_below(self.alloc, &self.nodes, folder, name.as_slice())?;
+        let (name, path) = self.read_place(folder, name)?;
         let number = self.open_path(tree, &path, creation(true, false))?;
         close_number(tree, number);
         self.mark_changed(folder);
@@ -60,8 +69,7 @@ impl Tables {
     ) -> Result<Attributes, Refusal>
         ensures { MakesAt T.Tree self.old.nodes folder name.now flags result tree.old tree.new }
     {
-        let name = read_name(self.alloc, name)?;
-        let path = path_below(self.alloc, &self.nodes, folder, name.as_slice())?;
+        let (name, path) = self.read_place(folder, name)?;
         let number = self.open_path(tree, &path, flags)?;
         self.mark_changed(folder);
         let found = self.tell_of(tree, folder, &name, &path);
@@ -110,8 +118,7 @@ impl Tables {
     ) -> Result<Attributes, Refusal>
         ensures { MakesDir T.Tree self.old.nodes folder name.now result tree.old tree.new }
     {
-        let name = read_name(self.alloc, name)?;
-        let path = path_below(self.alloc, &self.nodes, folder, name.as_slice())?;
+        let (name, path) = self.read_place(folder, name)?;
         make_dir_at(self.alloc, tree, &path)?;
         self.mark_changed(folder);
         self.tell_of(tree, folder, &name, &path)

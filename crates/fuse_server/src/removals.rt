@@ -7,7 +7,7 @@ ghost use Rattle.fuse_server.specs.Nodes.{RemovesDir};
 ghost use Rattle.fuse_server.specs.Upkeep.{IsLost, KeepsUp};
 
 use crate::attributes::{Attributes, attributes_of, stat};
-use crate::lookups::{check_done, read_name};
+use crate::lookups::check_done;
 use crate::open_files::READ_WRITE;
 use crate::paths::{path_below, path_of};
 use crate::tables::Tables;
@@ -124,14 +124,13 @@ impl Tables {
         tree: &mut T,
         id: u64,
         folder: u64,
-        name: &[u8],
+        bytes: &[u8],
     ) -> Result<Attributes, Refusal>
-        ensures { Links T.Tree self.old.nodes id folder name.now result tree.old tree.new }
+        ensures { Links T.Tree self.old.nodes id folder bytes.now result tree.old tree.new }
     {
         let old = path_of(self.alloc, &self.nodes, id)?;
-        let name = read_name(self.alloc, name)?;
-        let new = path_below(self.alloc, &self.nodes, folder, name.as_slice())?;
-        if self.nodes.child(folder, name.as_slice()).is_some() {
+        let (name, new) = self.read_place(folder, bytes)?;
+        if self.nodes.child(folder, bytes).is_some() {
             return Err(Refusal::Posix(Errno::Exists));
         }
         self.enter_link(tree, (id, folder, &name), &old, &new)?;

@@ -1,8 +1,9 @@
 // Names move.
-ghost use Rattle.std.specs.Prelude.{◌≡◌, ◌⊎◌, false, IfSome};
+ghost use Rattle.std.specs.Prelude.{◌≡◌, ◌⊎◌, false, IfErr, IfSome};
 ghost use Rattle.file_graph.specs.posix_calls.Name.{is_name};
 ghost use Rattle.file_graph.specs.posix_calls.declared.call.Call.TheVariants as call;
 ghost use Rattle.fuse_server.specs.Calls.{Answers, Asks, IsUnasked, MayAsk, done_of};
+ghost use Rattle.fuse_server.specs.Refusals.{IsMemory};
 ghost use Rattle.fuse_server.specs.Renames.{IsUnmoved, Moves, Renames, absent_of};
 ghost use Rattle.fuse_server.specs.Upkeep.{Behind, IsLost};
 
@@ -73,12 +74,7 @@ impl Tables {
         check_depth(self.alloc, tree, &from, to.len())?;
         let from = Bytes::from_vec(from);
         let to = Bytes::from_vec(to);
-        self.move_name(
-            tree,
-            places.0,
-            places.1,
-            Call::Rename { old: from, new: to },
-        )
+        self.move_name(tree, places.0, places.1, (from, to))
     }
 
     fn move_name<T: Tree>(
@@ -86,13 +82,13 @@ impl Tables {
         tree: &mut T,
         old: Place<'_>,
         new: Place<'_>,
-        call: Call,
+        paths: (Bytes, Bytes),
     ) -> Result<(), Refusal>
-        ensures { Behind T.Tree (IsUnmoved self.old.nodes (old.entry.folder, old.entry.name.now) (new.entry.folder, new.entry.name.now)) (MayAsk T.Tree call done_of Answers) result tree.old tree.new }
+        ensures { Behind T.Tree (IsUnmoved self.old.nodes (old.entry.folder, old.entry.name.now) (new.entry.folder, new.entry.name.now)) (MayAsk T.Tree (call.Rename paths.0 paths.1) done_of Answers) result tree.old tree.new }
     {
         let replaced = self.nodes.child(new.folder, new.name);
         match self.nodes.child(old.folder, old.name) {
-            Some(moved) => self.move_child(tree, moved, (old, new), replaced, call),
+            Some(moved) => self.move_child(tree, moved, (old, new), replaced, paths),
             None => Err(Refusal::StaleNode),
         }
     }
@@ -104,15 +100,15 @@ impl Tables {
         moved: u64,
         places: (Place<'_>, Place<'_>),
         replaced: Option<u64>,
-        call: Call,
+        paths: (Bytes, Bytes),
     ) -> Result<(), Refusal>
-        ensures { Behind T.Tree ((is_name places.entry.1.name.now ≡ false) ⊎ IfSome replaced (λ id. IsLost self.old.nodes id)) (MayAsk T.Tree call done_of Answers) result tree.old tree.new }
+        ensures { Behind T.Tree ((is_name places.entry.1.name.now ≡ false) ⊎ IfSome replaced (λ id. IsLost self.old.nodes id)) (MayAsk T.Tree (call.Rename paths.0 paths.1) done_of Answers) result tree.old tree.new }
     {
         if replaced == Some(moved) {
-            return check_done(tree.call(call));
+            return rename_paths(tree, paths);
         }
         self.hold_open(tree, replaced)?;
-        self.move_known(tree, moved, places, replaced, call)
+        self.move_known(tree, moved, places, replaced, paths)
     }
 
     // Moves a name of a known node. It is entered before the call, so that no memory is wanted behind it.
@@ -122,22 +118,38 @@ impl Tables {
         moved: u64,
         places: (Place<'_>, Place<'_>),
         replaced: Option<u64>,
-        call: Call,
+        paths: (Bytes, Bytes),
     ) -> Result<(), Refusal>
-        ensures { IsUnasked (is_name places.entry.1.name.now ≡ false) result tree.old tree.new ⊎ Asks T.Tree call done_of Answers result tree.old tree.new }
+        ensures { IsUnasked (is_name places.entry.1.name.now ≡ false) result tree.old tree.new ⊎ Asks T.Tree (call.Rename paths.0 paths.1) done_of Answers result tree.old tree.new }
     {
-        let (old, new) = places;
+        let name = self.enter_moved(moved, places.1)?;
+        let end = rename_paths(tree, paths);
+        self.settle_move(moved, places, replaced, name, end.is_ok());
+        end
+    }
+
+    // Enters the new name of a node, and answers it.
+    fn enter_moved(&mut self, moved: u64, new: Place<'_>) -> Result<Name, Refusal>
+        ensures { IfErr result (λ e. IsMemory e ⊎ (is_name new.entry.name.now ≡ false)) }
+    {
         let name = read_name(self.alloc, new.name)?;
         self.nodes.enter(new.folder, &name, moved)?;
-        match check_done(tree.call(call)) {
-            Ok(()) => {
-                self.end_move(moved, old, new, replaced);
-                Ok(())
-            }
-            Err(refusal) => {
-                self.undo_move(moved, new, name, replaced);
-                Err(refusal)
-            }
+        Ok(name)
+    }
+
+    // Notes a move that was done, or takes back what was entered for one that was not.
+    fn settle_move(
+        &mut self,
+        moved: u64,
+        places: (Place<'_>, Place<'_>),
+        replaced: Option<u64>,
+        name: Name,
+        done: bool,
+    ) {
+        if done {
+            self.end_move(moved, places.0, places.1, replaced);
+        } else {
+            self.undo_move(moved, places.1, name, replaced);
         }
     }
 
@@ -162,6 +174,14 @@ impl Tables {
             None => self.nodes.remove_child(new.folder, new.name),
         }
     }
+}
+
+// Moves what is at a path to another.
+fn rename_paths<T: Tree>(tree: &mut T, paths: (Bytes, Bytes)) -> Result<(), Refusal>
+    ensures { Asks T.Tree (call.Rename paths.0 paths.1) done_of Answers result tree.old tree.new }
+{
+    let (old, new) = paths;
+    check_done(tree.call(Call::Rename { old, new }))
 }
 
 // `Exists` where something is at a path.

@@ -30,7 +30,7 @@ const INTERRUPT: u32 = 36;
 const BATCH_FORGET: u32 = 42;
 
 /// Why a message has no answer.
-#[derive(Clone, Copy, Debug)]
+#[derive(Clone, Copy)]
 pub enum ServeError {
     /// The bytes are no whole message.
     Message(WireError),

@@ -5,7 +5,7 @@ ghost use Rattle.fuse_wire.specs.declared.errno.Refusal.TheVariants as refusal;
 use posix_calls::Errno;
 
 /// Why a request is refused.
-#[derive(Clone, Copy, Debug)]
+#[derive(Clone, Copy)]
 pub enum Refusal {
     /// The tree refuses the call.
     Posix(Errno),

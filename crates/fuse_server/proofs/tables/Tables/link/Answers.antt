@@ -1,21 +1,16 @@
-use Rattle.std.proofs.Common.{◌≡◌, ◌∙◌, inr}
+use Rattle.std.proofs.Common.{inr}
 use Rattle.std.proofs.lemmas.Result.{err_from_is_err_and}
 use Rattle.fuse_server.proofs.CallLemmas.{asked_err, asked_then}
-use Rattle.fuse_server.proofs.PathLemmas.{name_has_path}
 use Rattle.fuse_server.proofs.tables.Tables.link.Goals as goal
 
 pub returns-in_err-enter_link : goal.returns-in_err-enter_link
 returns-in_err-enter_link g c =
-    let same : c.as_slice.result.now ≡ c.args.name.now = c.as_slice.ensures.bytes ∙ c.in_ok-name.ensures.name.0 in
-    let path = name_has_path c.args.self.now.nodes c.args.folder c.args.name.now c.as_slice.result.now _ c.in_ok-name.ensures.name.1 same c.in_ok-new.ensures.path in
     let linked = rw (c.deref.ensures.value, c.deref-2.ensures.value) at c.in_err-enter_link.ensures in
     let p = err_from_is_err_and c.from_residual-in_err-enter_link.result c.from_residual-in_err-enter_link.ensures.1 in
-    rw (p.1, p.2) (inr (c.in_ok-old.old.items, c.in_ok-old.ensures.path, inr (c.in_ok-new.new.items, path, inr (asked_err g.T.Tree _ _ _ _ _ _ linked))))
+    rw (p.1, p.2) (inr (c.in_ok-old.old.items, c.in_ok-old.ensures.path, inr (_, c.in_ok-name.ensures.place.1, inr (asked_err g.T.Tree _ _ _ _ _ _ linked))))
 
 pub returns : goal.returns
 returns g c =
-    let same : c.as_slice.result.now ≡ c.args.name.now = c.as_slice.ensures.bytes ∙ c.in_ok-name.ensures.name.0 in
-    let path = name_has_path c.args.self.now.nodes c.args.folder c.args.name.now c.as_slice.result.now _ c.in_ok-name.ensures.name.1 same c.in_ok-new.ensures.path in
     let linked = rw (c.deref.ensures.value, c.deref-2.ensures.value) at c.in_ok-enter_link.ensures in
     let told = rw c.deref-3.ensures.value at c.tell_again.ensures in
-    inr (c.in_ok-old.old.items, c.in_ok-old.ensures.path, inr (c.in_ok-new.new.items, path, inr (asked_then g.T.Tree _ _ _ _ _ _ _ _ linked told)))
+    inr (c.in_ok-old.old.items, c.in_ok-old.ensures.path, inr (_, c.in_ok-name.ensures.place.1, inr (asked_then g.T.Tree _ _ _ _ _ _ _ _ linked told)))

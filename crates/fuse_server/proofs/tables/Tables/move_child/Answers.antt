@@ -1,9 +1,9 @@
 use Rattle.std.proofs.Common.{◌≡◌, ◌⊎◌, inl, inr, false, IfSome}
 use Rattle.std.proofs.lemmas.Result.{err_from_is_err_and}
 use Rattle.file_graph.specs.posix_calls.Name.{is_name}
+use Rattle.file_graph.specs.posix_calls.declared.call.Call.TheVariants as call
 use Rattle.fuse_server.specs.Calls.{done_of}
 use Rattle.fuse_server.specs.Upkeep.{IsLost}
-use Rattle.fuse_server.proofs.CallLemmas.{ends_so}
 use Rattle.fuse_server.proofs.RenameLemmas.{asked_behind, refusal_since}
 use Rattle.fuse_server.proofs.UpkeepLemmas.{upkeep_none}
 use Rattle.fuse_server.proofs.tables.Tables.move_child.Goals as goal
@@ -18,8 +18,8 @@ pub returns : goal.returns
 returns g c =
     let lost : Type 0 = IfSome c.args.replaced (λ id. IsLost c.args.self.now.nodes id) in
     let bad : Type 0 = is_name c.args.places.1.name.now ≡ false in
-    asked_behind g.T.Tree c.args.call done_of bad (bad ⊎ lost) _ _ _ _ (λ h. inl h) c.in_ok-hold_open.ensures c.move_known.ensures
+    asked_behind g.T.Tree (call.Rename c.args.paths.0 c.args.paths.1) done_of bad (bad ⊎ lost) _ _ _ _ (λ h. inl h) c.in_ok-hold_open.ensures c.move_known.ensures
 
 pub returns-then-eq : goal.returns-then-eq
 returns-then-eq g c =
-    rw c.check_done.ensures (inl (c.args.tree.now, upkeep_none g.T.Tree c.args.tree.now, inr (c.call.result, c.call.new.self, c.call.ensures, ends_so (done_of c.call.result) c.call.new.self)))
+    inl (c.args.tree.now, upkeep_none g.T.Tree c.args.tree.now, inr c.rename_paths.ensures)

@@ -1,5 +1,6 @@
 use Rattle.std.proofs.Common.{◌≡◌, ◌⊎◌, ◌∙◌, inl, inr, sym, false, IfSome}
 use Rattle.file_graph.specs.posix_calls.Name.{is_name}
+use Rattle.file_graph.specs.posix_calls.declared.call.Call.TheVariants as call
 use Rattle.fuse_server.specs.Calls.{Answers, MayAsk, done_of}
 use Rattle.fuse_server.specs.Renames.{IsUnmoved}
 use Rattle.fuse_server.specs.Upkeep.{IsLost, child_at}
@@ -14,7 +15,7 @@ returns-in-Some g c =
     let why : Type 0 = (is_name c.args.new.name.now ≡ false) ⊎ lost in
     let then : Type 0 = IsUnmoved nodes (c.args.old.folder, c.args.old.name.now) (c.args.new.folder, c.args.new.name.now) in
     let moved = rw c.child-replaced.ensures at c.move_child.ensures in
-    behind_since g.T.Tree why then (MayAsk g.T.Tree c.args.call done_of Answers) _ _ _ (λ h. inr h) moved
+    behind_since g.T.Tree why then (MayAsk g.T.Tree (call.Rename c.args.paths.0 c.args.paths.1) done_of Answers) _ _ _ (λ h. inr h) moved
 
 pub returns-in-None : goal.returns-in-None
 returns-in-None g c = inr (inl (inr (inl (sym c.child.ensures ∙ c.in-None.is)), upkeep_none g.T.Tree _))
