@@ -1,5 +1,6 @@
 // A file in which media lie one behind the other.
-ghost use Rattle.std.specs.Prelude.{◌≡◌, ◌≢◌, ◌≤◌, ◌<◌, ◌+◌, ◌^◌, [], ◌∷◌, ◌++◌, All, map, sum_by, length, true, false, IfOk, OnOk, IsErrOf};
+ghost use Rattle.std.specs.Prelude.{◌≡◌, ◌≢◌, ◌≤◌, ◌<◌, ◌+◌, ◌^◌, [], ◌∷◌, ◌++◌, All, map, sum_by, length, replicate, true, false, IfOk, OnOk, IsErrOf};
+ghost use Rattle.tier_device.specs.declared.media.Tier.{Tier};
 ghost use Rattle.tier_device.specs.declared.media.Tier.TheVariants.{Fast, Block, Slow};
 ghost use Rattle.tier_device.specs.Rows.{row};
 ghost use Rattle.host_media.specs.declared.error.FileProblem.TheVariants.{Length, TooLarge};
@@ -198,13 +199,23 @@ impl DiskFile {
         ensures opened { IfOk result IsOpened }
         ensures zeros { is_blank self.now ≡ true → IfOk result IsZero }
     {
-        let tiers = if self.is_blank {
-            zeros(alloc, sizes)?
-        } else {
-            self.read_medium(alloc, begin, sizes)?
-        };
+        let tiers = self.make_tiers(alloc, begin, sizes)?;
         let shared = Arc::try_clone(&self.shared)?;
         Ok(FileMedia::of(shared, begin, tiers))
+    }
+
+    // The tiers of these sizes whose bytes begin at a place of the file, which are zeros where it was made.
+    fn make_tiers(&self, alloc: Global, begin: usize, sizes: Sizes) -> Result<Tiers, FileProblem>
+        requires fits { begin + byte_count sizes ≤ disk_len self.now }
+        ensures fast { IfOk result (λ tiers. length (row tiers Fast) ≡ sizes.fast) }
+        ensures block { IfOk result (λ tiers. length (row tiers Block) ≡ sizes.block) }
+        ensures slow { IfOk result (λ tiers. length (row tiers Slow) ≡ sizes.slow) }
+        ensures zeros { is_blank self.now ≡ true → IfOk result (λ tiers. (t : Tier) → row tiers t ≡ replicate (length (row tiers t)) 0) }
+    {
+        if !self.is_blank {
+            return self.read_medium(alloc, begin, sizes);
+        }
+        Ok(zeros(alloc, sizes)?)
     }
 
     // The tiers of these sizes whose bytes begin at a place of the file, where they are written back.

@@ -7,7 +7,7 @@ ghost use Rattle.host_media.specs.Images.{content_bytes, content_sizes, media_by
 
 use crate::error::FileProblem;
 use crate::sizes::Sizes;
-use std::alloc::Global;
+use std::alloc::{AllocError, Global};
 use std::io;
 use tier_device::{Media, MemMedia, Tier};
 
@@ -48,13 +48,11 @@ fn take_media(
     Ok(media)
 }
 
-fn push(media: &mut Vec<MemMedia>, one: MemMedia) -> Result<(), FileProblem>
+fn push(media: &mut Vec<MemMedia>, one: MemMedia) -> Result<(), AllocError>
     ensures { OnOk result (media.new.items ≡ media.old.items ++ one ∷ []) }
 {
-    match media.push(one) {
-        Ok(()) => Ok(()),
-        Err(_) => Err(FileProblem::Memory),
-    }
+    media.push(one)?;
+    Ok(())
 }
 
 // Takes the medium of these sizes whose tiers stand at the front.
