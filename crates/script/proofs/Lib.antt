@@ -4,4 +4,5 @@ pub mod Parts
 pub mod Paths
 pub mod RunLaws
 pub mod FillLaws
+pub mod Names
 mod LineLemmas

@@ -109,19 +109,22 @@ pub fn read_line(line: &[u8]) -> Option<Line<'_>>
 pub fn verb_of(word: &[u8]) -> Option<Verb>
     ensures { result ≡ verb word.now }
 {
-    match word {
-        b"open" => Some(Verb::Open),
-        b"close" => Some(Verb::Close),
-        b"pread" => Some(Verb::Pread),
-        b"pwrite" => Some(Verb::Pwrite),
-        b"truncate" => Some(Verb::Truncate),
-        b"mkdir" => Some(Verb::Mkdir),
-        b"rmdir" => Some(Verb::Rmdir),
-        b"link" => Some(Verb::Link),
-        b"unlink" => Some(Verb::Unlink),
-        b"rename" => Some(Verb::Rename),
-        b"list" => Some(Verb::List),
-        b"stat" => Some(Verb::Stat),
+    let Ok(name) = str::from_utf8(word) else {
+        return None;
+    };
+    match name {
+        "open" => Some(Verb::Open),
+        "close" => Some(Verb::Close),
+        "pread" => Some(Verb::Pread),
+        "pwrite" => Some(Verb::Pwrite),
+        "truncate" => Some(Verb::Truncate),
+        "mkdir" => Some(Verb::Mkdir),
+        "rmdir" => Some(Verb::Rmdir),
+        "link" => Some(Verb::Link),
+        "unlink" => Some(Verb::Unlink),
+        "rename" => Some(Verb::Rename),
+        "list" => Some(Verb::List),
+        "stat" => Some(Verb::Stat),
         _ => None,
     }
 }

@@ -1,7 +1,7 @@
 // What a line asks of a running system.
 ghost use Rattle.std.specs.Prelude.{◌≡◌, [], ◌∷◌, Some, option_map};
 ghost use Rattle.script.specs.Script.{parts};
-ghost use Rattle.script.specs.SystemLines.{manner, event, running_event, stop_event, lower_tier, asks, asks_event, asks_call, asks_in, asks_numbered, system_line};
+ghost use Rattle.script.specs.SystemLines.{manner, event, lower_tier, asks, asks_event, asks_call, asks_in, asks_numbered, system_line};
 ghost use Rattle.script.specs.LineValues.{system_line_seen};
 ghost use Rattle.script.specs.declared.system_line.EventWord.TheVariants as events;
 
@@ -149,29 +149,18 @@ fn single_of(word: &[u8]) -> Option<SystemLine<'_>>
 fn event_of(word: &[u8]) -> Option<EventWord>
     ensures { result ≡ event word.now }
 {
-    running_event_of(word).or(stop_event_of(word))
-}
-
-fn running_event_of(word: &[u8]) -> Option<EventWord>
-    ensures { result ≡ running_event word.now }
-{
-    match word {
-        b"step" => Some(EventWord::Step),
-        b"digest" => Some(EventWord::Digest),
-        b"wipe" => Some(EventWord::Wipe),
-        b"migrate" => Some(EventWord::Migrate),
-        b"where" => Some(EventWord::Where),
-        _ => None,
-    }
-}
-
-fn stop_event_of(word: &[u8]) -> Option<EventWord>
-    ensures { result ≡ stop_event word.now }
-{
-    match word {
-        b"stop" => Some(EventWord::Stop),
-        b"halt" => Some(EventWord::Halt),
-        b"fail" => Some(EventWord::Fail),
+    let Ok(name) = str::from_utf8(word) else {
+        return None;
+    };
+    match name {
+        "step" => Some(EventWord::Step),
+        "digest" => Some(EventWord::Digest),
+        "wipe" => Some(EventWord::Wipe),
+        "migrate" => Some(EventWord::Migrate),
+        "where" => Some(EventWord::Where),
+        "stop" => Some(EventWord::Stop),
+        "halt" => Some(EventWord::Halt),
+        "fail" => Some(EventWord::Fail),
         _ => None,
     }
 }
