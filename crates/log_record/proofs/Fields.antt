@@ -1,5 +1,5 @@
 -- Fields of a record, beside what file_graph proves of numbers, bytes and kinds.
-use Rattle.std.proofs.Common.{◌≡◌, ℕ, ◌^◌, ◌<◌, List, [], ◌∷◌, ◌++◌, length, Option, Some, None, cond, eqb, refl, ap, subst, inl, inr}
+use Rattle.std.proofs.Common.{◌≡◌, ℕ, ◌^◌, ◌<◌, List, ◌∷◌, ◌++◌, length, Some, refl, ap}
 use Rattle.file_graph.proofs.Fields as fields
 use Rattle.file_graph.proofs.Fields.{number_small}
 pub use Rattle.file_graph.proofs.Fields.{AreBytes-rest, bind_some, chosen, test_some, some_is, Takes, Takes-then, TakesRun, u64_takes, u32_again, u64_again, run_takes, byte_takes, kind_takes, kind_again}

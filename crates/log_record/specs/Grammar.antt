@@ -3,8 +3,6 @@ use Rattle.std.specs.Prelude.{◌≡◌, ℕ, zero, suc, ◌+◌, ◌^◌, ◌<�
 use Rattle.std.specs.List.{flat_map, AllByRecursion}
 use Rattle.file_graph.specs.posix_calls.Name.{is_name}
 use Rattle.file_graph.specs.posix_calls.declared.limits.TheConstants.{MAX_TRANSFER, MAX_INODE, MAX_NAMES, MAX_FILE}
-use Rattle.file_graph.specs.declared.effect.Kind.{Kind}
-use Rattle.file_graph.specs.declared.effect.Kind.TheVariants as kind
 use Rattle.file_graph.specs.declared.effect.Effect.{Effect}
 use Rattle.file_graph.specs.declared.effect.Effect.TheVariants as effect
 pub use Rattle.file_graph.specs.Numbers.{is_inode}
@@ -61,6 +59,12 @@ make_at bytes = do
   i ← number_at 4 bytes
   k ← kind_field i.1
   Some (effect.Make i.0 k.0, k.1)
+
+-- a name behind its length
+abbrev pub name_at : Field (List ℕ)
+name_at bytes = do
+  n ← byte_at bytes
+  run_at n.0 n.1
 
 -- the fields of an Enter: the directory, the inode, the kind, and the name behind its length
 unfoldable pub enter_at : Field Effect

@@ -1,5 +1,5 @@
 -- What a reader of the code answers, against what the grammar reads.
-use Rattle.std.specs.Prelude.{◌≡◌, ℕ, List, length, take, Option, Some, None, Result, Ok, Err}
+use Rattle.std.specs.Prelude.{◌≡◌, Option, Some, None, Result, Ok, Err}
 use Rattle.file_graph.specs.declared.effect.Effect.{Effect}
 use Rattle.file_graph.specs.declared.effect.Effect.TheVariants as effect
 use Rattle.log_record.specs.declared.effect_ref.EffectRef.{EffectRef}
@@ -26,7 +26,3 @@ Fails NoRecord read = read ≡ None
 abbrev pub Gives : {X Y : Type 0} → (X → Y) → Result X RecordError → Option Y → Type 0
 Gives view (Ok x) read = read ≡ Some (view x)
 Gives view (Err e) read = Fails e read
-
--- the new bytes begin with the old ones
-unfoldable pub Extends : List ℕ → List ℕ → Type 0
-Extends old new = take (length old) new ≡ old

@@ -1,6 +1,6 @@
 ghost use Rattle.std.specs.Prelude.{◌≡◌, ◌≤◌, IfOk, IfSome, drop, option_map, is_some, true};
 ghost use Rattle.log_record.specs.Outcome.{Gives, owned_effect};
-ghost use Rattle.log_record.specs.Grammar.{Begins, NoneBegins, IsRecord, record_bytes, make_at, enter_at, leave_at, names_at, size_at, bytes_at, dropped_at, fields_at, effect_at, effects_at, header_at, record_at, record_of};
+ghost use Rattle.log_record.specs.Grammar.{Begins, NoneBegins, IsRecord, record_bytes, make_at, name_at, enter_at, leave_at, names_at, size_at, bytes_at, dropped_at, fields_at, effect_at, effects_at, header_at, record_at, record_of};
 
 use crate::effect_ref::EffectRef;
 use crate::format::{
@@ -18,6 +18,14 @@ fn make_of(bytes: &[u8]) -> Option<(EffectRef<'_>, &[u8])>
     Some((EffectRef::Make { inode, kind }, rest))
 }
 
+// A name behind its length.
+fn name_of(bytes: &[u8]) -> Option<(&[u8], &[u8])>
+    ensures { option_map (λ x. (x.0.now, x.1.now)) result ≡ name_at bytes.now }
+{
+    let (count, rest) = byte_of(bytes)?;
+    run_of(count as usize, rest)
+}
+
 #[tactic(auto, unfolding(crate::specs::Grammar::enter_at))]
 fn enter_of(bytes: &[u8]) -> Option<(EffectRef<'_>, &[u8])>
     ensures { option_map (λ x. (owned_effect x.0, x.1.now)) result ≡ enter_at bytes.now }
@@ -25,8 +33,7 @@ fn enter_of(bytes: &[u8]) -> Option<(EffectRef<'_>, &[u8])>
     let (directory, rest) = u32_of(bytes)?;
     let (inode, rest) = u32_of(rest)?;
     let (kind, rest) = read_kind(rest)?;
-    let (count, rest) = byte_of(rest)?;
-    let (name, rest) = run_of(count as usize, rest)?;
+    let (name, rest) = name_of(rest)?;
     Some((
         EffectRef::Enter {
             directory,
@@ -43,8 +50,7 @@ fn leave_of(bytes: &[u8]) -> Option<(EffectRef<'_>, &[u8])>
     ensures { option_map (λ x. (owned_effect x.0, x.1.now)) result ≡ leave_at bytes.now }
 {
     let (directory, rest) = u32_of(bytes)?;
-    let (count, rest) = byte_of(rest)?;
-    let (name, rest) = run_of(count as usize, rest)?;
+    let (name, rest) = name_of(rest)?;
     Some((EffectRef::Leave { directory, name }, rest))
 }
 

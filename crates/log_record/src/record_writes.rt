@@ -1,7 +1,6 @@
-ghost use Rattle.std.specs.Prelude.{◌≡◌, ◌≤◌, ◌↔◌, ◌++◌, ◌∷◌, ◌+◌, ◌*◌, length, vec_len, vec_capacity, IfOk, OnOk, OnErr, IsOk, IsTrue, true};
+ghost use Rattle.std.specs.Prelude.{◌≡◌, ◌≤◌, ◌↔◌, ◌++◌, ◌∷◌, ◌+◌, ◌*◌, [], length, vec_len, vec_capacity, IfOk, OnOk, OnErr, IsOk, IsTrue, true};
 ghost use Rattle.std.specs.List.{All, AllByRecursion, flat_map};
 ghost use Rattle.file_graph.specs.declared.effect.Effect.TheVariants as effect;
-ghost use Rattle.log_record.specs.Outcome.{Extends};
 ghost use Rattle.log_record.specs.Grammar.{u32 as bytes_4, u64 as bytes_8, effect_bytes, record_bytes, FitsLimits, fits, IsRecord};
 ghost use Rattle.file_graph.specs.Kinds.{kind_byte};
 
@@ -83,7 +82,6 @@ pub fn write_record(alloc: Global, logged: &Record) -> Result<Vec<u8>, AllocErro
 
 /// Puts the one spelling of a record behind what stands in `out`. Where memory runs out, `out` is as it was; where it has room
 /// for the spelling, none is asked for.
-#[tactic(auto, unfolding(crate::specs::Outcome::Extends))]
 pub fn write_behind(out: &mut Vec<u8>, logged: &Record) -> Result<(), AllocError>
     requires { IsRecord logged.now }
     ensures written { OnOk result (out.new.items ≡ out.old.items ++ record_bytes logged.now) }
@@ -92,53 +90,43 @@ pub fn write_behind(out: &mut Vec<u8>, logged: &Record) -> Result<(), AllocError
     ensures room { vec_len out.old + length (record_bytes logged.now) ≤ vec_capacity out.old → IsOk result }
     ensures capacity { vec_capacity out.old ≤ vec_capacity out.new }
 {
-    let begin = out.len();
-    match push_record(out, logged) {
-        Ok(()) => Ok(()),
-        Err(error) => {
-            out.truncate(begin);
-            Err(error)
-        }
-    }
-}
-
-#[tactic(auto, using(std::proofs::lemmas::List::append_assoc, crate::proofs::Extends::extending))]
-fn push_record(out: &mut Vec<u8>, logged: &Record) -> Result<(), AllocError>
-    requires { IsRecord logged.now }
-    ensures written { OnOk result (out.new.items ≡ out.old.items ++ record_bytes logged.now) }
-    ensures extends { Extends out.old.items out.new.items }
-    ensures len { OnOk result (vec_len out.new ≡ vec_len out.old + length (record_bytes logged.now)) }
-    ensures room { vec_len out.old + length (record_bytes logged.now) ≤ vec_capacity out.old → IsOk result }
-    ensures capacity { vec_capacity out.old ≤ vec_capacity out.new }
-{
     out.reserve(logged.spelled_len())?;
-    push_u32(out, logged.units)?;
-    let effects = logged.effects.as_slice();
-    out.push(effects.len() as u8)?;
-    push_effects(out, effects)
-}
-
-#[tactic(auto, using(std::proofs::lemmas::List::append_assoc, crate::proofs::Extends::extending))]
-fn push_effects(out: &mut Vec<u8>, effects: &[Effect]) -> Result<(), AllocError>
-    requires { AllByRecursion FitsLimits effects.now }
-    ensures written { OnOk result (out.new.items ≡ out.old.items ++ flat_map effect_bytes effects.now) }
-    ensures extends { Extends out.old.items out.new.items }
-    ensures len { OnOk result (vec_len out.new ≡ vec_len out.old + length (flat_map effect_bytes effects.now)) }
-    ensures room { vec_len out.old + length (flat_map effect_bytes effects.now) ≤ vec_capacity out.old → IsOk result }
-    ensures capacity { vec_capacity out.old ≤ vec_capacity out.new }
-{
-    for effect in effects {
-        push_effect(out, effect)?;
-    }
+    push_record(out, logged);
     Ok(())
 }
 
-fn push_effect(out: &mut Vec<u8>, effect: &Effect) -> Result<(), AllocError>
-    requires { FitsLimits effect.now }
-    ensures written { OnOk result (out.new.items ≡ out.old.items ++ effect_bytes effect.now) }
-    ensures extends { Extends out.old.items out.new.items }
-    ensures len { OnOk result (vec_len out.new ≡ vec_len out.old + length (effect_bytes effect.now)) }
-    ensures room { vec_len out.old + length (effect_bytes effect.now) ≤ vec_capacity out.old → IsOk result }
+// Puts the spelling of a record behind what stands in `out`, which has room for it.
+#[tactic(auto, using(std::proofs::lemmas::List::append_assoc, crate::proofs::Lengths::lengths))]
+fn push_record(out: &mut Vec<u8>, logged: &Record)
+    requires spelled { IsRecord logged.now }
+    requires room { vec_len out.old + length (record_bytes logged.now) ≤ vec_capacity out.old }
+    ensures written { out.new.items ≡ out.old.items ++ record_bytes logged.now }
+    ensures len { vec_len out.new ≡ vec_len out.old + length (record_bytes logged.now) }
+    ensures capacity { vec_capacity out.old ≤ vec_capacity out.new }
+{
+    let effects = logged.effects.as_slice();
+    push_u32(out, logged.units);
+    push_byte(out, effects.len() as u8);
+    push_effects(out, effects);
+}
+
+fn push_effects(out: &mut Vec<u8>, effects: &[Effect])
+    requires fit { AllByRecursion FitsLimits effects.now }
+    requires room { vec_len out.old + length (flat_map effect_bytes effects.now) ≤ vec_capacity out.old }
+    ensures written { out.new.items ≡ out.old.items ++ flat_map effect_bytes effects.now }
+    ensures len { vec_len out.new ≡ vec_len out.old + length (flat_map effect_bytes effects.now) }
+    ensures capacity { vec_capacity out.old ≤ vec_capacity out.new }
+{
+    for effect in effects {
+        push_effect(out, effect);
+    }
+}
+
+fn push_effect(out: &mut Vec<u8>, effect: &Effect)
+    requires fits { FitsLimits effect.now }
+    requires room { vec_len out.old + length (effect_bytes effect.now) ≤ vec_capacity out.old }
+    ensures written { out.new.items ≡ out.old.items ++ effect_bytes effect.now }
+    ensures len { vec_len out.new ≡ vec_len out.old + length (effect_bytes effect.now) }
     ensures capacity { vec_capacity out.old ≤ vec_capacity out.new }
 {
     match effect {
@@ -153,146 +141,146 @@ fn push_effect(out: &mut Vec<u8>, effect: &Effect) -> Result<(), AllocError>
         Effect::Names { inode, names } => push_names(out, *inode, *names),
         Effect::Size { inode, size } => push_size(out, *inode, *size),
         Effect::Bytes { inode, at, bytes } => push_bytes(out, *inode, *at, bytes.as_slice()),
-        Effect::Drop { inode } => push_drop(out, *inode),
+        Effect::Drop { inode } => push_head(out, DROP, *inode),
     }
 }
 
-#[tactic(auto, using(std::proofs::lemmas::List::append_assoc, crate::proofs::Extends::extending))]
-fn push_make(out: &mut Vec<u8>, inode: u32, kind: Kind) -> Result<(), AllocError>
-    ensures written { OnOk result (out.new.items ≡ out.old.items ++ effect_bytes (effect.Make inode kind)) }
-    ensures extends { Extends out.old.items out.new.items }
-    ensures len { OnOk result (vec_len out.new ≡ vec_len out.old + 6) }
-    ensures room { vec_len out.old + 6 ≤ vec_capacity out.old → IsOk result }
+#[tactic(auto, using(std::proofs::lemmas::List::append_assoc))]
+fn push_make(out: &mut Vec<u8>, inode: u32, kind: Kind)
+    requires room { vec_len out.old + 6 ≤ vec_capacity out.old }
+    ensures written { out.new.items ≡ out.old.items ++ effect_bytes (effect.Make inode kind) }
+    ensures len { vec_len out.new ≡ vec_len out.old + 6 }
     ensures capacity { vec_capacity out.old ≤ vec_capacity out.new }
 {
-    out.push(MAKE)?;
-    push_u32(out, inode)?;
-    out.push(kind_byte(kind))?;
-    Ok(())
+    push_head(out, MAKE, inode);
+    push_byte(out, kind_byte(kind));
 }
 
-#[tactic(auto, using(std::proofs::lemmas::List::append_assoc, crate::proofs::Extends::extending))]
-fn push_enter(
-    out: &mut Vec<u8>,
-    directory: u32,
-    inode: u32,
-    kind: Kind,
-    name: &[u8],
-) -> Result<(), AllocError>
-    requires { length name.now ≤ 64 }
-    ensures written { OnOk result (out.new.items ≡ out.old.items ++ effect_bytes (effect.Enter directory inode kind name.now)) }
-    ensures extends { Extends out.old.items out.new.items }
-    ensures len { OnOk result (vec_len out.new ≡ vec_len out.old + (11 + length name.now)) }
-    ensures room { vec_len out.old + (11 + length name.now) ≤ vec_capacity out.old → IsOk result }
+#[tactic(auto, using(std::proofs::lemmas::List::append_assoc))]
+fn push_enter(out: &mut Vec<u8>, directory: u32, inode: u32, kind: Kind, name: &[u8])
+    requires short { length name.now ≤ 64 }
+    requires room { vec_len out.old + (11 + length name.now) ≤ vec_capacity out.old }
+    ensures written { out.new.items ≡ out.old.items ++ effect_bytes (effect.Enter directory inode kind name.now) }
+    ensures len { vec_len out.new ≡ vec_len out.old + (11 + length name.now) }
     ensures capacity { vec_capacity out.old ≤ vec_capacity out.new }
 {
-    out.push(ENTER)?;
-    push_u32(out, directory)?;
-    push_u32(out, inode)?;
-    out.push(kind_byte(kind))?;
-    out.push(name.len() as u8)?;
-    out.extend_from_slice(name)?;
-    Ok(())
+    push_head(out, ENTER, directory);
+    push_u32(out, inode);
+    push_byte(out, kind_byte(kind));
+    push_name(out, name);
 }
 
-#[tactic(auto, using(std::proofs::lemmas::List::append_assoc, crate::proofs::Extends::extending))]
-fn push_leave(out: &mut Vec<u8>, directory: u32, name: &[u8]) -> Result<(), AllocError>
-    requires { length name.now ≤ 64 }
-    ensures written { OnOk result (out.new.items ≡ out.old.items ++ effect_bytes (effect.Leave directory name.now)) }
-    ensures extends { Extends out.old.items out.new.items }
-    ensures len { OnOk result (vec_len out.new ≡ vec_len out.old + (6 + length name.now)) }
-    ensures room { vec_len out.old + (6 + length name.now) ≤ vec_capacity out.old → IsOk result }
+#[tactic(auto, using(std::proofs::lemmas::List::append_assoc))]
+fn push_leave(out: &mut Vec<u8>, directory: u32, name: &[u8])
+    requires short { length name.now ≤ 64 }
+    requires room { vec_len out.old + (6 + length name.now) ≤ vec_capacity out.old }
+    ensures written { out.new.items ≡ out.old.items ++ effect_bytes (effect.Leave directory name.now) }
+    ensures len { vec_len out.new ≡ vec_len out.old + (6 + length name.now) }
     ensures capacity { vec_capacity out.old ≤ vec_capacity out.new }
 {
-    out.push(LEAVE)?;
-    push_u32(out, directory)?;
-    out.push(name.len() as u8)?;
-    out.extend_from_slice(name)?;
-    Ok(())
+    push_head(out, LEAVE, directory);
+    push_name(out, name);
 }
 
-#[tactic(auto, using(std::proofs::lemmas::List::append_assoc, crate::proofs::Extends::extending))]
-fn push_names(out: &mut Vec<u8>, inode: u32, names: u32) -> Result<(), AllocError>
-    ensures written { OnOk result (out.new.items ≡ out.old.items ++ effect_bytes (effect.Names inode names)) }
-    ensures extends { Extends out.old.items out.new.items }
-    ensures len { OnOk result (vec_len out.new ≡ vec_len out.old + 9) }
-    ensures room { vec_len out.old + 9 ≤ vec_capacity out.old → IsOk result }
+#[tactic(auto, using(std::proofs::lemmas::List::append_assoc))]
+fn push_names(out: &mut Vec<u8>, inode: u32, names: u32)
+    requires room { vec_len out.old + 9 ≤ vec_capacity out.old }
+    ensures written { out.new.items ≡ out.old.items ++ effect_bytes (effect.Names inode names) }
+    ensures len { vec_len out.new ≡ vec_len out.old + 9 }
     ensures capacity { vec_capacity out.old ≤ vec_capacity out.new }
 {
-    out.push(NAMES)?;
-    push_u32(out, inode)?;
-    push_u32(out, names)?;
-    Ok(())
+    push_head(out, NAMES, inode);
+    push_u32(out, names);
 }
 
-#[tactic(auto, using(std::proofs::lemmas::List::append_assoc, crate::proofs::Extends::extending))]
-fn push_size(out: &mut Vec<u8>, inode: u32, size: u64) -> Result<(), AllocError>
-    ensures written { OnOk result (out.new.items ≡ out.old.items ++ effect_bytes (effect.Size inode size)) }
-    ensures extends { Extends out.old.items out.new.items }
-    ensures len { OnOk result (vec_len out.new ≡ vec_len out.old + 13) }
-    ensures room { vec_len out.old + 13 ≤ vec_capacity out.old → IsOk result }
+#[tactic(auto, using(std::proofs::lemmas::List::append_assoc))]
+fn push_size(out: &mut Vec<u8>, inode: u32, size: u64)
+    requires room { vec_len out.old + 13 ≤ vec_capacity out.old }
+    ensures written { out.new.items ≡ out.old.items ++ effect_bytes (effect.Size inode size) }
+    ensures len { vec_len out.new ≡ vec_len out.old + 13 }
     ensures capacity { vec_capacity out.old ≤ vec_capacity out.new }
 {
-    out.push(SIZE)?;
-    push_u32(out, inode)?;
-    push_u64(out, size)?;
-    Ok(())
+    push_head(out, SIZE, inode);
+    push_u64(out, size);
 }
 
-#[tactic(auto, using(std::proofs::lemmas::List::append_assoc, crate::proofs::Extends::extending))]
-fn push_bytes(out: &mut Vec<u8>, inode: u32, at: u64, bytes: &[u8]) -> Result<(), AllocError>
-    requires { length bytes.now ≤ 65536 }
-    ensures written { OnOk result (out.new.items ≡ out.old.items ++ effect_bytes (effect.Bytes inode at bytes.now)) }
-    ensures extends { Extends out.old.items out.new.items }
-    ensures len { OnOk result (vec_len out.new ≡ vec_len out.old + (17 + length bytes.now)) }
-    ensures room { vec_len out.old + (17 + length bytes.now) ≤ vec_capacity out.old → IsOk result }
+#[tactic(auto, using(std::proofs::lemmas::List::append_assoc))]
+fn push_bytes(out: &mut Vec<u8>, inode: u32, at: u64, bytes: &[u8])
+    requires short { length bytes.now ≤ 65536 }
+    requires room { vec_len out.old + (17 + length bytes.now) ≤ vec_capacity out.old }
+    ensures written { out.new.items ≡ out.old.items ++ effect_bytes (effect.Bytes inode at bytes.now) }
+    ensures len { vec_len out.new ≡ vec_len out.old + (17 + length bytes.now) }
     ensures capacity { vec_capacity out.old ≤ vec_capacity out.new }
 {
-    out.push(BYTES)?;
-    push_u32(out, inode)?;
-    push_u64(out, at)?;
-    push_u32(out, bytes.len() as u32)?;
-    out.extend_from_slice(bytes)?;
-    Ok(())
+    push_head(out, BYTES, inode);
+    push_u64(out, at);
+    push_u32(out, bytes.len() as u32);
+    push_run(out, bytes);
 }
 
-#[tactic(auto, using(std::proofs::lemmas::List::append_assoc, crate::proofs::Extends::extending))]
-fn push_drop(out: &mut Vec<u8>, inode: u32) -> Result<(), AllocError>
-    ensures written { OnOk result (out.new.items ≡ out.old.items ++ effect_bytes (effect.Drop inode)) }
-    ensures extends { Extends out.old.items out.new.items }
-    ensures len { OnOk result (vec_len out.new ≡ vec_len out.old + 5) }
-    ensures room { vec_len out.old + 5 ≤ vec_capacity out.old → IsOk result }
+// The tag of an effect, and its first field.
+#[tactic(auto, using(std::proofs::lemmas::List::append_assoc))]
+fn push_head(out: &mut Vec<u8>, tag: u8, inode: u32)
+    requires room { vec_len out.old + 5 ≤ vec_capacity out.old }
+    ensures written { out.new.items ≡ out.old.items ++ tag ∷ bytes_4 inode }
+    ensures len { vec_len out.new ≡ vec_len out.old + 5 }
     ensures capacity { vec_capacity out.old ≤ vec_capacity out.new }
 {
-    out.push(DROP)?;
-    push_u32(out, inode)?;
-    Ok(())
+    push_byte(out, tag);
+    push_u32(out, inode);
 }
 
-#[tactic(auto, using(crate::proofs::Extends::extending), unfolding(crate::specs::Grammar::u32))]
-fn push_u32(out: &mut Vec<u8>, n: u32) -> Result<(), AllocError>
-    ensures written { OnOk result (out.new.items ≡ out.old.items ++ bytes_4 n) }
-    ensures extends { Extends out.old.items out.new.items }
-    ensures len { OnOk result (vec_len out.new ≡ vec_len out.old + 4) }
-    ensures room { vec_len out.old + 4 ≤ vec_capacity out.old → IsOk result }
+// A name behind its length.
+#[tactic(auto, using(std::proofs::lemmas::List::append_assoc))]
+fn push_name(out: &mut Vec<u8>, name: &[u8])
+    requires short { length name.now ≤ 64 }
+    requires room { vec_len out.old + (1 + length name.now) ≤ vec_capacity out.old }
+    ensures written { out.new.items ≡ out.old.items ++ length name.now ∷ name.now }
+    ensures len { vec_len out.new ≡ vec_len out.old + (1 + length name.now) }
+    ensures capacity { vec_capacity out.old ≤ vec_capacity out.new }
+{
+    push_byte(out, name.len() as u8);
+    push_run(out, name);
+}
+
+#[tactic(auto, unfolding(crate::specs::Grammar::u32))]
+fn push_u32(out: &mut Vec<u8>, n: u32)
+    requires room { vec_len out.old + 4 ≤ vec_capacity out.old }
+    ensures written { out.new.items ≡ out.old.items ++ bytes_4 n }
+    ensures len { vec_len out.new ≡ vec_len out.old + 4 }
     ensures capacity { vec_capacity out.old ≤ vec_capacity out.new }
 {
     let mut bytes = [0; 4];
     LittleEndian::write_u32(&mut bytes, n);
-    out.extend_from_slice(&bytes)?;
-    Ok(())
+    push_run(out, &bytes);
 }
 
-#[tactic(auto, using(crate::proofs::Extends::extending), unfolding(crate::specs::Grammar::u64))]
-fn push_u64(out: &mut Vec<u8>, n: u64) -> Result<(), AllocError>
-    ensures written { OnOk result (out.new.items ≡ out.old.items ++ bytes_8 n) }
-    ensures extends { Extends out.old.items out.new.items }
-    ensures len { OnOk result (vec_len out.new ≡ vec_len out.old + 8) }
-    ensures room { vec_len out.old + 8 ≤ vec_capacity out.old → IsOk result }
+#[tactic(auto, unfolding(crate::specs::Grammar::u64))]
+fn push_u64(out: &mut Vec<u8>, n: u64)
+    requires room { vec_len out.old + 8 ≤ vec_capacity out.old }
+    ensures written { out.new.items ≡ out.old.items ++ bytes_8 n }
+    ensures len { vec_len out.new ≡ vec_len out.old + 8 }
     ensures capacity { vec_capacity out.old ≤ vec_capacity out.new }
 {
     let mut bytes = [0; 8];
     LittleEndian::write_u64(&mut bytes, n);
-    out.extend_from_slice(&bytes)?;
-    Ok(())
+    push_run(out, &bytes);
+}
+
+fn push_byte(out: &mut Vec<u8>, byte: u8)
+    requires room { vec_len out.old + 1 ≤ vec_capacity out.old }
+    ensures written { out.new.items ≡ out.old.items ++ byte ∷ [] }
+    ensures len { vec_len out.new ≡ vec_len out.old + 1 }
+    ensures capacity { vec_capacity out.old ≤ vec_capacity out.new }
+{
+    out.push(byte).unwrap();
+}
+
+fn push_run(out: &mut Vec<u8>, bytes: &[u8])
+    requires room { vec_len out.old + length bytes.now ≤ vec_capacity out.old }
+    ensures written { out.new.items ≡ out.old.items ++ bytes.now }
+    ensures len { vec_len out.new ≡ vec_len out.old + length bytes.now }
+    ensures capacity { vec_capacity out.old ≤ vec_capacity out.new }
+{
+    out.extend_from_slice(bytes).unwrap();
 }
