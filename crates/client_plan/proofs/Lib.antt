@@ -3,6 +3,7 @@ pub mod Courses
 pub mod Ends
 pub mod Lacks
 pub mod Outcomes
+mod Parted
 pub mod WriteLogged
 pub mod RecordLengths
 pub mod Room

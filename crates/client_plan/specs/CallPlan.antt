@@ -54,6 +54,14 @@ record_of_plan p h new operation units = do
   es ← look_step p h (effects_asked new operation)
   Goes (record { units = units; effects = es })
 
+-- the record, where there is room for it
+abbrev pub fitting_record : Part → Holdings → ℕ → Operation → ℕ → PlanSteps Record
+fitting_record p h new operation units = do
+  most ← roomy h.room
+  made ← record_of_plan p h new operation units
+  _ ← room_step most made
+  Goes made
+
 -- the record is logged, where there is room for it
 abbrev pub log_outcome : Part → Holdings → ℕ → Operation → ℕ → PlanSteps Outcome
 log_outcome p h new operation units = do
@@ -65,6 +73,15 @@ log_outcome p h new operation units = do
 -- only what changes something is logged
 abbrev pub settle_outcome : Part → Holdings → ℕ → Operation → ℕ → PlanSteps Outcome
 settle_outcome p h new operation units = if changes operation then log_outcome p h new operation units else Goes (answer_outcome new operation)
+
+-- the units that the record may need, once the leases, the units and the pin are there
+abbrev pub grant_step : Part → Holdings → ℕ → Operation → PlanSteps ℕ
+grant_step p h new operation = do
+  _ ← write_step p h new operation (subjects_of new operation)
+  units ← look_step p h (units_asked operation)
+  _ ← unit_step h.spare units
+  _ ← pin_step h.pins (opens new operation)
+  Goes units
 
 -- what follows once a call has come to its operation
 abbrev pub plan_outcome : Part → Holdings → Operation → PlanSteps Outcome

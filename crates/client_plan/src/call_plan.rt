@@ -16,7 +16,7 @@ ghost use Rattle.client_plan.specs.PlanSteps.{Comes, Goes};
 ghost use Rattle.client_plan.specs.declared.stop.Stop.TheVariants.{Refused, Lacks, Memory};
 ghost use Rattle.client_plan.specs.Holdings.{first_unused};
 ghost use Rattle.client_plan.specs.NeedOrder.{root_alone, not_refused, given_back, unpin_step, first_look, look_step, number_step, lease_step, write_step, unit_step, pin_step, is_record, stop_at};
-ghost use Rattle.client_plan.specs.CallPlan.{OpensInRange, change_in, change_of, course, plan_outcome, record_of_plan, log_outcome, outcome, record_in};
+ghost use Rattle.client_plan.specs.CallPlan.{OpensInRange, change_in, change_of, course, fitting_record, grant_step, plan_outcome, record_of_plan, log_outcome, settle_outcome, outcome, record_in};
 ghost use Rattle.client_plan.specs.Memory.{wants_memory};
 
 use crate::need::{Mode, Need};
@@ -175,11 +175,45 @@ fn plan<T: TreeAnswers, S: Supplies>(
     ensures memory { result ≡ Err Memory → changes operation ≡ true }
 {
     let new = number_for(has.numbers(), operation.makes_node())?;
-    let inodes = subjects(&operation, new);
-    hold_all(tree, has, &operation, new, inodes.as_slice())?;
-    let units = growth(tree, has, &operation)?;
+    match grant(tree, has, &operation, new) {
+        Ok(units) => settle(alloc, tree, has, operation, new, units),
+        Err(stop) => Err(stop),
+    }
+}
+
+// What an operation needs beside a number: the units that its record may take, once all is there.
+fn grant<T: TreeAnswers, S: Supplies>(
+    tree: &T,
+    has: &S,
+    operation: &Operation,
+    new: u32,
+) -> Result<u32, Stop>
+    ensures comes { Comes (grant_step (T.part tree.now) (S.holdings has.now) new operation.now) result }
+    ensures memory { result ≢ Err Memory }
+{
+    let inodes = subjects(operation, new);
+    hold_all(tree, has, operation, new, inodes.as_slice())?;
+    let units = growth(tree, has, operation)?;
     pay(has.spare(), units)?;
-    pin(has.pins(), &operation, new)?;
+    pin(has.pins(), operation, new)?;
+    Ok(units)
+}
+
+// An operation that has all that it needs is answered, or logged.
+fn settle<T: TreeAnswers, S: Supplies>(
+    alloc: Global,
+    tree: &T,
+    has: &S,
+    operation: Operation,
+    new: u32,
+    units: u32,
+) -> Result<Outcome, Stop>
+    requires { IsInRange operation }
+    ensures comes { Comes (settle_outcome (T.part tree.now) (S.holdings has.now) new operation units) result }
+    ensures spelled { IfOk result (λ o. IfSome (record_in o) IsRecord) }
+    ensures number { IfOk result (λ o. ForSome (change_in o) OpensInRange) }
+    ensures memory { result ≡ Err Memory → changes operation ≡ true }
+{
     if !writes_record(&operation) {
         let change = change_of(&operation, new);
         return Ok(Outcome::Reply {
@@ -336,9 +370,6 @@ fn log<T: TreeAnswers, S: Supplies>(
     ensures spelled { IfOk result (λ o. IfSome (record_in o) IsRecord) }
     ensures number { IfOk result (λ o. ForSome (change_in o) OpensInRange) }
 {
-    let Some(most) = has.room() else {
-        return Err(Stop::Lacks { need: Need::Room });
-    };
     let change = change_of(&operation, new);
     let made = if operation.makes_node() {
         Some(new)
@@ -346,16 +377,38 @@ fn log<T: TreeAnswers, S: Supplies>(
         None
     };
     let reply = operation.reply().unwrap_or(Reply::Done);
+    match fitting_record(alloc, tree, has, operation, new, units) {
+        Ok(record) => Ok(Outcome::Log {
+            record,
+            reply,
+            made,
+            change,
+        }),
+        Err(stop) => Err(stop),
+    }
+}
+
+// The record of an operation, where there is room for it.
+fn fitting_record<T: TreeAnswers, S: Supplies>(
+    alloc: Global,
+    tree: &T,
+    has: &S,
+    operation: Operation,
+    new: u32,
+    units: u32,
+) -> Result<Record, Stop>
+    requires { changes operation ≡ true }
+    ensures comes { Comes (fitting_record (T.part tree.now) (S.holdings has.now) new operation units) result }
+    ensures spelled { IfOk result IsRecord }
+{
+    let Some(most) = has.room() else {
+        return Err(Stop::Lacks { need: Need::Room });
+    };
     let record = record_for(alloc, tree, has, operation, new, units)?;
     if !fits(&record, most) {
         return Err(Stop::Lacks { need: Need::Room });
     }
-    Ok(Outcome::Log {
-        record,
-        reply,
-        made,
-        change,
-    })
+    Ok(record)
 }
 
 fn record_for<T: TreeAnswers, S: Supplies>(
@@ -370,15 +423,15 @@ fn record_for<T: TreeAnswers, S: Supplies>(
     ensures comes { Comes (record_of_plan (T.part tree.now) (S.holdings has.now) new operation units) result }
 {
     match record_of(alloc, tree, operation, new, units) {
-        Ok(made) => match made {
-            Some(entry) => Ok(entry),
-            None => unreachable!(),
-        },
-        Err(back) => {
-            let (why, _operation) = back;
-            Err(stop_at(has, why))
-        }
+        Ok(made) => Ok(made.unwrap()),
+        Err(back) => Err(stop_given_back(has, back)),
     }
+}
+
+fn stop_given_back<S: Supplies>(has: &S, back: (DecideError, Operation)) -> Stop
+    ensures { result ≡ stop_at (S.holdings has.now) back.0 }
+{
+    stop_at(has, back.0)
 }
 
 fn fits(logged: &Record, most: usize) -> bool

@@ -1,8 +1,10 @@
 -- What is learned of an inode is as the graph is; what is not known, no record has touched.
-use Rattle.std.proofs.Common.{◌≡◌, inl, inr, ℕ, true, false, cond, not, List, Option, Some, None, refl, ap, sym, subst, ◌∙◌}
+use Rattle.std.proofs.Common.{◌≡◌, ◌≢◌, inl, inr, ℕ, true, false, cond, not, List, Option, Some, None, refl, ap, sym, subst, ◌∙◌}
 use Rattle.std.specs.Prelude.{unwrap_or, option_map, is_some}
-use Rattle.std.specs.Ordering.{nat_cmp}
-use Rattle.std.specs.BTreeMap.{get}
+use Rattle.std.specs.Ordering.{nat_cmp, is_eq}
+use Rattle.std.specs.declared.cmp.Ordering.TheVariants.{Less, Equal, Greater}
+use Rattle.std.specs.Cmp.{ranked}
+use Rattle.std.specs.BTreeMap.{get, Updates}
 use Rattle.std.proofs.lemmas.Bool.Decides.{eqb_tells}
 use Rattle.std.proofs.lemmas.Bool.{false≢true}
 use Rattle.call_effects.specs.file_graph.declared.effect.Effect.{Effect}
@@ -13,6 +15,23 @@ use Rattle.call_effects.specs.NodeView.{NodeView, view_at, view_of_node, view_af
 use Rattle.record_validation.specs.KnownNodes.{Known, ViewsAgree, first_unknown, is_unknown, known_after}
 use Rattle.record_validation.specs.Row.{with_known}
 use Rattle.record_validation.proofs.Touched.{all_known}
+
+-- ---- what is learned
+
+off : (j d : ℕ) → j ≢ d → is_eq (nat_cmp j d) ≡ false
+off j d apart =
+    elim (nat_cmp j d) as (λ r. nat_cmp j d ≡ r → is_eq r ≡ false) [
+      | Less ↦ λ e. refl
+      | Equal ↦ λ e. absurd (apart (ranked j d Equal (sym e)))
+      | Greater ↦ λ e. refl
+    ] refl
+
+-- what a map has once this is put in at an inode
+pub put_in : (m n : Known) (inode : ℕ) (v : Option NodeView) → Updates nat_cmp m n inode (Some v) → (i : ℕ) → get nat_cmp n i ≡ with_known inode v (get nat_cmp m) i
+put_in m n inode v u i = elim (eqb_tells i inode) [
+  | inl here ↦ ap (get nat_cmp n) here.1 ∙ u.1 ∙ sym (ap (λ b. cond b (Some v) (get nat_cmp m i)) here.0)
+  | inr apart ↦ u.2 i (off inode i (λ e. apart.1 (sym e))) ∙ sym (ap (λ b. cond b (Some v) (get nat_cmp m i)) apart.0)
+]
 
 pub learned : (m n : Known) (g : Graph) (inode : ℕ) (v : Option NodeView) → ((i : ℕ) → get nat_cmp n i ≡ with_known inode v (get nat_cmp m) i) → view_at g inode ≡ v → ViewsAgree m g → ViewsAgree n g
 learned m n g inode v is stands agrees i w at = elim (eqb_tells i inode) [

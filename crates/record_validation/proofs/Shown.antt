@@ -1,5 +1,5 @@
 -- What a node that is known without its bytes shows a call.
-use Rattle.std.proofs.Common.{◌≡◌, ◌<◌, ℕ, List, [], true, Some, None, map, length, refl, ap, sym, ◌∙◌, arith, ◌∷◌}
+use Rattle.std.proofs.Common.{◌≡◌, ◌<◌, ℕ, List, [], true, None, map, length, refl, ap, sym, ◌∙◌, arith, ◌∷◌}
 use Rattle.std.specs.Prelude.{option_map, nat_lt}
 use Rattle.std.specs.FinMap as fin
 use Rattle.std.specs.Ordering.{nat_cmp}

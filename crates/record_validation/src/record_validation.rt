@@ -44,7 +44,6 @@ impl RecordCheck {
 
     /// Takes in what stands at an inode; of one that is not known, that is what stood there at first. Where there is no memory for
     /// it, what was known stays; none is asked for where something was known of that inode.
-    #[tactic(auto, using(crate::proofs::Row::learned, crate::proofs::Row::learned_first))]
     pub fn learn(&mut self, inode: u32, node: Option<NodeSummary>) -> Result<(), AllocError>
         ensures known { OnOk result ((i : ℕ) → get nat_cmp self.new.known i ≡ with_known inode node (get nat_cmp self.old.known) i) }
         ensures stands { OnOk result ((g : Graph) → IsCheckOver self.old g → view_at g inode ≡ node → IsCheckOver self.new g) }
