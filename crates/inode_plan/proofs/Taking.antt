@@ -1,9 +1,13 @@
 -- Blocks of runs, one after the other, as places.
-use Rattle.std.proofs.Common.{◌≡◌, ◌≤◌, ◌+◌, ◌-◌, ◌∙◌, ℕ, zero, suc, List, [], ◌∷◌, ◌++◌, ap, sym, arith}
-use Rattle.std.specs.List.{range_with_len}
-use Rattle.std.proofs.lemmas.List.{append_assoc, map-append}
+use Rattle.std.proofs.Common.{◌≡◌, ◌≤◌, ◌<◌, ◌+◌, ◌-◌, ◌∙◌, ℕ, zero, suc, List, [], ◌∷◌, ◌++◌, length, take, get_or, ap, sym, arith}
+use Rattle.std.specs.List.{flat_map, range_with_len}
+use Rattle.std.proofs.lemmas.List.{append_assoc, map-append, take_more}
+use Rattle.std.proofs.lemmas.List.Concat.{flat_map-append}
 use Rattle.area_commit.specs.tier_device.declared.media.Tier.{Tier}
 use Rattle.area_commit.specs.Value.{on_tier}
+use Rattle.area_commit.specs.block_alloc.declared.runs.Run.{Run}
+use Rattle.area_commit.specs.block_alloc.Runs.{run_blocks, blocks_of}
+use Rattle.area_commit.proofs.block_alloc_lemmas.Blocks.{blocks-push}
 use Rattle.area_commit.specs.extent_tree.declared.map.Place.{Place}
 use Rattle.inode_plan.specs.PlannedFile.{pair_of, pairs_of}
 
@@ -23,3 +27,20 @@ place_more tier first block start out new le is was =
     ap pairs_of is ∙ map-append pair_of out (record { tier = tier; block = block } ∷ []) ∙ ap (λ (xs : List (Tier × ℕ)). xs ++ (tier, block) ∷ []) was
     ∙ append_assoc (pairs_of start) (on_tier tier old) ((tier, block) ∷ [])
     ∙ ap (λ (xs : List (Tier × ℕ)). pairs_of start ++ xs) (sym (ap (on_tier tier) grown ∙ map-append (λ (k : ℕ). (tier, k)) old (block ∷ [])))
+
+-- one run more
+pub run_more : (tier : Tier) (runs : List Run) (i : ℕ) (d : Run) (start out new : List (Tier × ℕ)) → i < length runs → new ≡ out ++ on_tier tier (run_blocks (get_or runs i d)) → out ≡ start ++ on_tier tier (blocks_of (take i runs)) → new ≡ start ++ on_tier tier (blocks_of (take (i + 1) runs))
+run_more tier runs i d start out new below is was =
+    let front = blocks_of (take i runs) in
+    let last = run_blocks (get_or runs i d) in
+    let more : blocks_of (take (i + 1) runs) ≡ front ++ last = ap blocks_of (take_more runs i d below) ∙ blocks-push (take i runs) (get_or runs i d) in
+    is ∙ ap (λ (xs : List (Tier × ℕ)). xs ++ on_tier tier last) was ∙ append_assoc start (on_tier tier front) (on_tier tier last)
+    ∙ ap (λ (xs : List (Tier × ℕ)). start ++ xs) (sym (ap (on_tier tier) more ∙ map-append (λ (k : ℕ). (tier, k)) front last))
+
+-- what one number more adds
+pub adds_more : (f : ℕ → List ℕ) (xs : List ℕ) (i d : ℕ) (start out new : List ℕ) → i < length xs → new ≡ out ++ flat_map f (get_or xs i d ∷ []) → out ≡ start ++ flat_map f (take i xs) → new ≡ start ++ flat_map f (take (i + 1) xs)
+adds_more f xs i d start out new below is was =
+    let one = flat_map f (get_or xs i d ∷ []) in
+    let front = flat_map f (take i xs) in
+    is ∙ ap (λ (ys : List ℕ). ys ++ one) was ∙ append_assoc start front one
+    ∙ ap (λ (ys : List ℕ). start ++ ys) (sym (ap (flat_map f) (take_more xs i d below) ∙ flat_map-append f (take i xs) (get_or xs i d ∷ [])))

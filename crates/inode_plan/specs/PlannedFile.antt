@@ -11,12 +11,19 @@ use Rattle.area_commit.specs.extent_tree.declared.map.Place.{Place}
 use Rattle.area_commit.specs.area_image.Store.{Store, place}
 use Rattle.area_commit.specs.InodeChange.{place_from}
 use Rattle.inode_plan.specs.declared.file_plan.FilePlan.{FilePlan}
+use Rattle.inode_plan.specs.declared.file_plan.LeftRuns.{LeftRuns}
 
 -- the runs of a tier that a planned file leaves
 abbrev pub left_in : FilePlan → Tier → List Run
 left_in plan tiers.Fast = plan.fast.items
 left_in plan tiers.Block = plan.block.items
 left_in plan tiers.Slow = plan.slow.items
+
+-- the same, before the plan is made
+abbrev pub runs_left : LeftRuns → Tier → List Run
+runs_left left tiers.Fast = left.fast.items
+runs_left left tiers.Block = left.block.items
+runs_left left tiers.Slow = left.slow.items
 
 -- a place, as the tier and the block
 abbrev pub pair_of : Place → Tier × ℕ

@@ -16,7 +16,7 @@ ghost use Rattle.inode_plan.specs.Lists.{AreListsOf};
 ghost use Rattle.inode_plan.specs.PlacedFile.{PlacesFit};
 ghost use Rattle.inode_plan.specs.BlockWrites.{AreNumbers};
 ghost use Rattle.inode_plan.specs.MapChange.{IsMapAfter, AreLeft};
-ghost use Rattle.inode_plan.specs.PlannedFile.{left_in};
+ghost use Rattle.inode_plan.specs.PlannedFile.{left_in, runs_left};
 
 use crate::extents_of;
 use crate::file_places::change_map;
@@ -33,6 +33,68 @@ pub struct FilePlan {
     pub fast: Vec<Run>,
     pub block: Vec<Run>,
     pub slow: Vec<Run>,
+}
+
+// The runs of data blocks of each tier that a file leaves.
+#[derive(Drop)]
+struct LeftRuns {
+    fast: Vec<Run>,
+    block: Vec<Run>,
+    slow: Vec<Run>,
+}
+
+// The runs of each tier that a change of a file whose blocks lie so leaves.
+fn left_runs(
+    alloc: Global,
+    map: &BlockMap,
+    change: &NodeChange,
+    numbers: &[u64],
+) -> Result<LeftRuns, AllocError>
+    requires tidy { IsTidyChange (change_of change.now) }
+    requires bounded { end (change_of change.now).length ≤ MAX_FILE }
+    requires numbers { AreNumbers (lies_at map.now) (change_of change.now) numbers.now }
+    requires below { LieBelow FILE_BLOCKS map.now }
+    ensures left { (t : Tier) → IfOk result (λ runs. AreLeft (change_of change.now) map.now t (blocks_of (runs_left runs t))) }
+    ensures used { (t : Tier) (p : FreeBlocks) → IsOneToOne (runs_in map.now t) → ((k b : ℕ) → lies_at map.now t k ≡ Some b → IsInUse p b) → IfOk result (λ runs. AreUsed p (runs_left runs t)) }
+{
+    let fast = places_left(alloc, map, Tier::Fast, change, numbers)?;
+    let block = places_left(alloc, map, Tier::Block, change, numbers)?;
+    let slow = places_left(alloc, map, Tier::Slow, change, numbers)?;
+    Ok(LeftRuns { fast, block, slow })
+}
+
+// The lists of a changed file, and the runs that it leaves.
+#[derive(Drop)]
+struct ChangedFile {
+    lists: InodeExtents,
+    left: LeftRuns,
+}
+
+// Makes of where the blocks of a file lie where they lie after a change, and tells the lists then.
+fn change_places(
+    alloc: Global,
+    inode: u32,
+    map: &mut BlockMap,
+    change: &NodeChange,
+    numbers: &[u64],
+    places: &[Place],
+) -> Result<ChangedFile, AllocError>
+    requires tidy { IsTidyChange (change_of change.now) }
+    requires bounded { end (change_of change.now).length ≤ MAX_FILE }
+    requires numbers { AreNumbers (lies_at map.old) (change_of change.now) numbers.now }
+    requires enough { length numbers.now ≤ length places.now }
+    requires fit { PlacesFit places.now }
+    requires below { LieBelow FILE_BLOCKS map.old }
+    ensures map { OnOk result (IsMapAfter (change_of change.now) numbers.now places.now map.old map.new) }
+    ensures lists { IfOk result (λ file. AreListsOf inode map.new file.lists) }
+    ensures normal { OnOk result ((t : Tier) → IsNormal (runs_in map.new t)) }
+    ensures left { (t : Tier) → IfOk result (λ file. AreLeft (change_of change.now) map.old t (blocks_of (runs_left file.left t))) }
+    ensures used { (t : Tier) (p : FreeBlocks) → IsOneToOne (runs_in map.old t) → ((k b : ℕ) → lies_at map.old t k ≡ Some b → IsInUse p b) → IfOk result (λ file. AreUsed p (runs_left file.left t)) }
+{
+    let left = left_runs(alloc, map, change, numbers)?;
+    change_map(map, change, numbers, places)?;
+    let lists = extents_of(map, inode)?;
+    Ok(ChangedFile { lists, left })
 }
 
 /// The plan of a change of a file whose blocks lie so, which is nowhere where it is made: the blocks that the change writes, of these numbers, go each to its own place. `slot_after`
@@ -58,16 +120,12 @@ pub fn plan_file(
     ensures used { (t : Tier) (p : FreeBlocks) → IsOneToOne (runs_in map t) → ((k b : ℕ) → lies_at map t k ≡ Some b → IsInUse p b) → IfOk result (λ plan. AreUsed p (left_in plan t)) }
 {
     let mut map = map;
-    let fast = places_left(alloc, &map, Tier::Fast, change, numbers)?;
-    let block = places_left(alloc, &map, Tier::Block, change, numbers)?;
-    let slow = places_left(alloc, &map, Tier::Slow, change, numbers)?;
-    change_map(&mut map, change, numbers, places)?;
-    let lists = extents_of(&map, inode)?;
+    let file = change_places(alloc, inode, &mut map, change, numbers, places)?;
     Ok(FilePlan {
         map,
-        lists,
-        fast,
-        block,
-        slow,
+        lists: file.lists,
+        fast: file.left.fast,
+        block: file.left.block,
+        slow: file.left.slow,
     })
 }

@@ -1,4 +1,4 @@
-use Rattle.std.proofs.Common.{◌∙◌, ◌++◌, ℕ, List, IfSome, ap}
+use Rattle.std.proofs.Common.{◌∙◌, ◌++◌, ℕ, List, IfSome, ap, arith}
 use Rattle.std.proofs.lemmas.List.{append_assoc}
 use Rattle.std.proofs.lemmas.Result.{err_from_is_err_and}
 use Rattle.area_commit.specs.layout.Places.{Sizes}
@@ -46,3 +46,9 @@ returns-in_err-add_block-clause-refused g c =
     let more = c.in_err-add_block.ensures.refused in
     let p = err_from_is_err_and c.from_residual.result c.from_residual.ensures.1 in
     rw p.1 (before.0 ++ more.0, more.1 ∙ ap (λ xs. xs ++ more.0) before.1 ∙ append_assoc c.args.out.now.items before.0 more.0)
+
+pub returns-in_err-add_block-clause-memory : goal.returns-in_err-add_block-clause-memory
+returns-in_err-add_block-clause-memory g c =
+    let some = c.each-test.true in
+    let p = err_from_is_err_and c.from_residual.result c.from_residual.ensures.1 in
+    rw p.1 (λ is. omega (arith, some))

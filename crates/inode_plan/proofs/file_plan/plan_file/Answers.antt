@@ -1,14 +1,12 @@
-use Rattle.area_commit.specs.tier_device.declared.media.Tier.{Tier}
 use Rattle.area_commit.specs.tier_device.declared.media.Tier.TheVariants.{Fast, Block, Slow}
 use Rattle.inode_plan.proofs.file_plan.plan_file.Goals as goal
 
-by_tier : (P : Tier → Type 0) → P Fast → P Block → P Slow → (t : Tier) → P t
-by_tier P fast block slow Fast = fast
-by_tier P fast block slow Block = block
-by_tier P fast block slow Slow = slow
-
 pub returns-clause-left : goal.returns-clause-left
-returns-clause-left c = by_tier _ c.in_ok-fast.ensures.left c.in_ok-block.ensures.left c.in_ok-slow.ensures.left
+returns-clause-left c Fast = c.in_ok-file.ensures.left Fast
+returns-clause-left c Block = c.in_ok-file.ensures.left Block
+returns-clause-left c Slow = c.in_ok-file.ensures.left Slow
 
 pub returns-clause-used : goal.returns-clause-used
-returns-clause-used c = by_tier _ c.in_ok-fast.ensures.used c.in_ok-block.ensures.used c.in_ok-slow.ensures.used
+returns-clause-used c Fast = c.in_ok-file.ensures.used Fast
+returns-clause-used c Block = c.in_ok-file.ensures.used Block
+returns-clause-used c Slow = c.in_ok-file.ensures.used Slow
