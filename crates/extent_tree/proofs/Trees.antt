@@ -111,3 +111,10 @@ some-above width (suc k) ns [] is le some = absurd (omega (arith, le))
 some-above width (suc k) ns (level ∷ higher) is le some =
     let covers = ap length is.1 ∙ length-summaries 0 ns in
     some-above width k level higher is.4 (omega (arith, le)) (omega (arith, covers, is.0))
+
+-- levels that stay do not grow
+pub grown-same : (width : ℕ) (ns ms : List (List Extent)) (inner : List (List (List Extent))) → GrownByNeed width (record { runs = flat ns; levels = counts ns inner; leaves = ns }) (record { runs = flat ms; levels = counts ms inner; leaves = ms })
+grown-same width ns ms inner more = absurd (omega (arith, more))
+
+pub one-same : (width : ℕ) (ns ms : List (List Extent)) (inner : List (List (List Extent))) → StaysOne width (record { runs = flat ns; levels = counts ns inner; leaves = ns }) (record { runs = flat ms; levels = counts ms inner; leaves = ms })
+one-same width ns ms inner one few = one

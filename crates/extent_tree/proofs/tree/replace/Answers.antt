@@ -1,10 +1,10 @@
-use Rattle.std.proofs.Common.{◌-◌, ◌∙◌, length, sym, ap, subst, take, drop}
+use Rattle.std.proofs.Common.{◌-◌, ◌∙◌, length, sym, ap, subst, take, drop, arith}
 use Rattle.extent_tree.specs.Places.{place_of}
 use Rattle.extent_tree.specs.Normal.{IsRising, IsNormal}
 use Rattle.extent_tree.specs.Nodes.{flat}
-use Rattle.extent_tree.specs.Tree.{IsLevel, IsNeeded, IsTree}
+use Rattle.extent_tree.specs.Tree.{IsLevel, IsNeeded, IsTree, IsExtentTree}
 use Rattle.extent_tree.specs.Value.{OthersStay}
-use Rattle.extent_tree.proofs.Trees.{grown-by-need, stays-one}
+use Rattle.extent_tree.proofs.Trees.{grown-by-need, stays-one, grown-same, one-same}
 use Rattle.extent_tree.proofs.Rewrites.{told, slices, flat-three, rewritten-normal, rewritten-at, rewritten-level, rewritten-needed}
 use Rattle.extent_tree.proofs.Choices.{all-stay, others-stay}
 use Rattle.extent_tree.proofs.tree.replace.Goals as goal
@@ -92,3 +92,48 @@ pub returns-in_err-splice-clause-others : goal.returns-in_err-splice-clause-othe
 returns-in_err-splice-clause-others g c =
     let old = c.args.leaves.now.items in
     subst (λ l. OthersStay c.args.run.first c.args.run.count old l) (sym c.in_err-splice.ensures.err) (all-stay c.args.run.first c.args.run.count old)
+
+pub returns-in_err-splice-clause-sound : goal.returns-in_err-splice-clause-sound
+returns-in_err-splice-clause-sound g c = subst (λ l. IsExtentTree g.row.N l c.args.inner.now.items) (sym c.in_err-splice.ensures.err) c.requires.sound
+
+pub returns-in_err-splice-clause-grown : goal.returns-in_err-splice-clause-grown
+returns-in_err-splice-clause-grown g c = grown-same g.row.N c.args.leaves.now.items c.splice.new.leaves.items c.args.inner.now.items
+
+pub returns-in_err-splice-clause-one : goal.returns-in_err-splice-clause-one
+returns-in_err-splice-clause-one g c = one-same g.row.N c.args.leaves.now.items c.splice.new.leaves.items c.args.inner.now.items
+
+pub returns-then-run-eq0-clause-grown : goal.returns-then-run-eq0-clause-grown
+returns-then-run-eq0-clause-grown g c = grown-same g.row.N c.args.leaves.now.items c.args.leaves.now.items c.args.inner.now.items
+
+pub returns-in_err-chosen-clause-grown : goal.returns-in_err-chosen-clause-grown
+returns-in_err-chosen-clause-grown g c = grown-same g.row.N c.args.leaves.now.items c.args.leaves.now.items c.args.inner.now.items
+
+pub returns-in_err-packed-clause-grown : goal.returns-in_err-packed-clause-grown
+returns-in_err-packed-clause-grown g c = grown-same g.row.N c.args.leaves.now.items c.args.leaves.now.items c.args.inner.now.items
+
+pub returns-in_err-above-clause-grown : goal.returns-in_err-above-clause-grown
+returns-in_err-above-clause-grown g c = grown-same g.row.N c.args.leaves.now.items c.args.leaves.now.items c.args.inner.now.items
+
+pub returns-then-run-eq0-clause-one : goal.returns-then-run-eq0-clause-one
+returns-then-run-eq0-clause-one g c one few = one
+
+pub returns-in_err-chosen-clause-one : goal.returns-in_err-chosen-clause-one
+returns-in_err-chosen-clause-one g c one few = one
+
+pub returns-in_err-packed-clause-one : goal.returns-in_err-packed-clause-one
+returns-in_err-packed-clause-one g c one few = one
+
+pub returns-in_err-above-clause-one : goal.returns-in_err-above-clause-one
+returns-in_err-above-clause-one g c one few = one
+
+pub choose-requires : goal.choose-requires
+choose-requires g c =
+    let sound = subst (λ l. IsExtentTree g.row.N l c.args.inner.now.items) (sym c.deref.ensures.value) c.requires.sound in
+    record {
+      some = (let some = c.if-run-eq0.false in omega (arith, some));
+      fits = c.requires.fits;
+      places = c.requires.places;
+      normal = sound.normal;
+      filled = sound.level.filled;
+      quarter = sound.level.quarter;
+    }
