@@ -1,7 +1,8 @@
-use Rattle.std.proofs.Common.{ap, arith}
+use Rattle.std.proofs.Common.{refl, inl, inr, ap, arith}
 use Rattle.batch_journal.specs.tier_device.declared.media.Tier.TheVariants.{Fast}
 use Rattle.batch_journal.specs.layout.Places.{Sizes}
 use Rattle.area_image.proofs.Damages.{is_some_at}
+use Rattle.area_image.proofs.Looked.{looks_answer}
 use Rattle.area_image.proofs.area_open.read_inodes.Goals as goal
 
 pub returns-clause-openable : goal.returns-clause-openable
@@ -23,3 +24,14 @@ returns-clause-openable g c =
           omega (arith, over, told, same, here)
           );
     }
+
+pub returns-clause-looks : goal.returns-clause-looks
+returns-clause-looks g c = looks_answer g.M.Media c.args.journal.now c.read_area.new.journal c.in_ok-charge.charge _ c.in_ok-charge.ensures.looks
+
+pub returns-then-units-charge-clause-damaged : goal.returns-then-units-charge-clause-damaged
+returns-then-units-charge-clause-damaged g c =
+    let over = c.if-units-charge.true in
+    let told = c.units.ensures.units in
+    let same = ap (λ (x : Sizes). x.units) c.geometry-geometry.ensures in
+    let here = c.in_ok-charge.ensures.units in
+    inr (inr (inr (inr (inr (inl (record { structure = refl; at = refl; more = omega (arith, over, told, same, here) }))))))
