@@ -1,4 +1,4 @@
-use Rattle.std.proofs.Common.{◌≡◌, ◌++◌, ◌∷◌, [], length, inl, inr, refl, arith}
+use Rattle.std.proofs.Common.{◌≡◌, ◌≤◌, ◌++◌, ◌∷◌, [], length, inl, inr, refl, arith}
 use Rattle.std.proofs.lemmas.Result.{err_from_is_err_and}
 use Rattle.fuse_server.proofs.ReadLemmas.{full_piece, is_next_read, piece_is_asked, pieces_more, refusal_is_asked}
 use Rattle.fuse_server.proofs.files.read_pieces.Goals as goal
@@ -27,3 +27,13 @@ loop-turn-preserved g c =
     let more = pieces_more g.T.Tree c.args.number c.args.at c.args.wanted c.loop-turn.invariant.0 [] c.loop-turn.bytes.items c.in_ok-piece.piece _ _ _ c.loop-turn.invariant.1 asked in
     let reached = full_piece c.loop-turn.turn c.args.wanted c.min-count.result c.len-len.result c.loop-turn.bytes.items c.in_ok-piece.piece (omega arith) (omega arith) (omega arith) c.loop-turn.invariant.2 in
     (c.loop-turn.invariant.0 ++ c.in_ok-piece.piece ∷ [], rw c.in_ok-add_piece.ensures more, rw c.in_ok-add_piece.ensures reached)
+
+pub returns-then-count-eq0 : goal.returns-then-count-eq0
+returns-then-count-eq0 g c =
+    let all : c.args.wanted ≤ length c.loop-turn.bytes.items = omega (arith, c.loop-turn.bytes.ok.0, c.min-count.ensures, c.saturating_sub.ensures, c.if-count-eq0.true) in
+    (c.loop-turn.invariant.0, c.loop-turn.bytes.items, c.loop-turn.tree, c.loop-turn.invariant.1, inl (all, c.from_vec.ensures, refl))
+
+pub returns : goal.returns
+returns g c =
+    let all : c.args.wanted ≤ length c.loop-turn.bytes.items = elim c.loop-turn.invariant.2 [ inl reached ↦ omega (arith, reached) | inr enough ↦ enough ] in
+    (c.loop-turn.invariant.0, c.loop-turn.bytes.items, c.loop-turn.tree, c.loop-turn.invariant.1, inl (all, c.from_vec-2.ensures, refl))
