@@ -13,5 +13,6 @@ pub mod Overs
 pub mod Patches
 pub mod Pieces
 pub mod Runs
+pub mod Kepts
 pub mod Tidying
 pub mod Touched

@@ -14,7 +14,7 @@ use crate::changed_blocks::{changed_blocks, set_blocks};
 use crate::made_blocks::make_blocks;
 use crate::parts::{NodeBase, NodeLength};
 use crate::shared_part::SharedPart;
-use file_graph::{Effect, Kind, NameMap, SharedBytes, UNIT_BYTES};
+use file_graph::{Effect, Kind, Name, NameMap, SharedBytes, UNIT_BYTES};
 use std::alloc::{AllocError, Global};
 use std::collections::BTreeMap;
 
@@ -55,7 +55,7 @@ impl NodeChange {
     {
         match effect {
             Effect::Make { kind, .. } => {
-                *self = NodeChange::new(alloc, NodeBase::Made { kind: *kind });
+                self.begin_anew(alloc, NodeBase::Made { kind: *kind });
                 Ok(())
             }
             Effect::Enter {
@@ -63,8 +63,8 @@ impl NodeChange {
                 kind,
                 name,
                 ..
-            } => self.entries.put(name.copy(alloc)?, Some((*inode, *kind))),
-            Effect::Leave { name, .. } => self.entries.put(name.copy(alloc)?, None),
+            } => put_entry(alloc, &mut self.entries, name, Some((*inode, *kind))),
+            Effect::Leave { name, .. } => put_entry(alloc, &mut self.entries, name, None),
             Effect::Names { names, .. } => {
                 self.names = Some(*names);
                 Ok(())
@@ -82,11 +82,31 @@ impl NodeChange {
                 bytes,
             ),
             Effect::Drop { .. } => {
-                *self = NodeChange::new(alloc, NodeBase::Gone);
+                self.begin_anew(alloc, NodeBase::Gone);
                 Ok(())
             }
         }
     }
+
+    // Nothing but what the rest starts from, in place of what is in it.
+    fn begin_anew(&mut self, alloc: Global, base: NodeBase)
+        ensures { change_of self.new ≡ new_change (base_of base) }
+    {
+        *self = NodeChange::new(alloc, base);
+    }
+}
+
+// Says what stands at a name from now on. Where there is no memory for the name, the entries stay.
+fn put_entry(
+    alloc: Global,
+    entries: &mut NameMap<Option<(u32, Kind)>>,
+    name: &Name,
+    entry: Option<(u32, Kind)>,
+) -> Result<(), AllocError>
+    ensures put { OnOk result (entries.new ≡ fin.insert entries.old name.now entry) }
+    ensures refused { OnErr result (entries.new ≡ entries.old) }
+{
+    entries.put(name.copy(alloc)?, entry)
 }
 
 // Puts bytes at an offset of the file. A write that would end past all numbers finds no memory; nothing changes then.
