@@ -7,3 +7,4 @@ pub mod PassFacts
 pub mod Waiting
 pub mod Cleaned
 pub mod WrittenInodes
+pub mod OneEffect
