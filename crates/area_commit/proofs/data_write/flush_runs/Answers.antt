@@ -72,3 +72,21 @@ returns-clause-turn g c =
     let one = c.write_all.new.journal.media in
     let new = c.fence_all.new.journal.media in
     turn_fenced c.args.fast.now c.args.block.now c.args.slow.now (m.moment old) (m.moment one) (m.moment new) (m.left old) (m.left one) (m.left new) c.write_all.ensures.turn c.in_ok-write_all.ensures.calls c.fence_all.ensures.turn
+
+pub returns-clause-at_most : goal.returns-clause-at_most
+returns-clause-at_most g c = omega (arith, c.in_ok-fence_all.ensures.calls, c.in_ok-write_all.ensures.calls)
+
+pub returns-clause-calls : goal.returns-clause-calls
+returns-clause-calls g c = omega (arith, c.in_ok-fence_all.ensures.calls, c.in_ok-write_all.ensures.calls)
+
+pub returns-in_err-fence_all-clause-at_most : goal.returns-in_err-fence_all-clause-at_most
+returns-in_err-fence_all-clause-at_most g c = omega (arith, c.fence_all.ensures.at_most, c.in_ok-write_all.ensures.calls)
+
+pub returns-in_err-write_all-clause-at_most : goal.returns-in_err-write_all-clause-at_most
+returns-in_err-write_all-clause-at_most g c = omega (arith, c.write_all.ensures.at_most)
+
+pub returns-clause-lengths : goal.returns-clause-lengths
+returns-clause-lengths g c t = c.fence_all.ensures.lengths t ∙ c.write_all.ensures.lengths t
+
+pub returns-in_err-fence_all-clause-lengths : goal.returns-in_err-fence_all-clause-lengths
+returns-in_err-fence_all-clause-lengths g c t = c.fence_all.ensures.lengths t ∙ c.write_all.ensures.lengths t

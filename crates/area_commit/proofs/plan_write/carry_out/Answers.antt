@@ -23,3 +23,32 @@ returns-in-Ok-clause-free g c =
     let allowed : IsAllowed old.geometry = subst IsAllowed c.geometry.ensures c.units-units.ensures.allowed in
     c.pools_have_the_free_blocks.ensures.free old.geometry (disk g.M.Media old) plan.0 plan.1 c.args.plan (disk g.M.Media new) c.args.pools.now c.release_blocks.new.pools
     allowed c.requires.spelled plan.2 c.in-Ok.ensures.done c.requires.pools c.release_blocks.ensures.nodes c.release_blocks.ensures.per_tier
+
+pub release_blocks-requires-clause-nodes_room : goal.release_blocks-requires-clause-nodes_room
+release_blocks-requires-clause-nodes_room g c = c.requires.pools.nodes_room
+
+pub release_blocks-requires-clause-room : goal.release_blocks-requires-clause-room
+release_blocks-requires-clause-room g c = c.requires.pools.room
+
+pub release-requires : goal.release-requires
+release-requires g c = c.requires.pools.undo
+
+pub returns-in-Ok-clause-ranges : goal.returns-in-Ok-clause-ranges
+returns-in-Ok-clause-ranges g c =
+    let old = c.args.journal.now in
+    c.pools_have_the_free_blocks.ensures.ranges old.geometry (disk g.M.Media old) c.args.plan c.args.pools.now c.release_blocks.new.pools c.requires.pools c.release_blocks.ensures.nodes c.release_blocks.ensures.per_tier
+
+pub returns-in-Ok-clause-done : goal.returns-in-Ok-clause-done
+returns-in-Ok-clause-done g c = c.in-Ok.ensures.done
+
+pub returns-in-Ok-clause-rests : goal.returns-in-Ok-clause-rests
+returns-in-Ok-clause-rests g c = c.in-Ok.ensures.rests
+
+pub returns-in-Ok-clause-any_moment : goal.returns-in-Ok-clause-any_moment
+returns-in-Ok-clause-any_moment g c = c.write_all.ensures.any_moment
+
+pub returns-in-Ok-clause-turn : goal.returns-in-Ok-clause-turn
+returns-in-Ok-clause-turn g c = c.write_all.ensures.turn
+
+pub returns-in-Ok-clause-at_most : goal.returns-in-Ok-clause-at_most
+returns-in-Ok-clause-at_most g c = c.write_all.ensures.at_most

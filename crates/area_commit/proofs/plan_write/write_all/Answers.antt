@@ -1,4 +1,5 @@
-use Rattle.std.proofs.Common.{◌∙◌, List, length, sym, ap, subst, arith}
+use Rattle.std.proofs.Common.{◌∙◌, ℕ, List, length, sym, ap, subst, arith}
+use Rattle.area_image.specs.tier_device.Media.{Rose}
 use Rattle.area_image.specs.layout.Places.{Sizes}
 use Rattle.area_image.proofs.batch_journal_lemmas.Courses.{left_before}
 use Rattle.area_image.specs.Store.{Store, disk}
@@ -85,3 +86,46 @@ returns-in_err-batch-clause-turn g c =
     let taken = c.args.plan.now.taken in
     let un = c.batch_of.ensures.looks.unmoved in
     no_turn taken.fast.items taken.block.items taken.slow.items (m.moment old) (m.moment new) (m.left old) (m.left new) (omega (arith, un.clock)) un.past
+
+pub returns-in-Ok-clause-at_most : goal.returns-in-Ok-clause-at_most
+returns-in-Ok-clause-at_most g c = omega (arith, c.write_plan.ensures.at_most, c.batch_of.ensures.looks.unmoved.clock, c.in_ok-batch.ensures.few, c.in_ok-batch.ensures.few_blocks, ap length c.deref.ensures.value)
+
+pub returns-clause-at_most : goal.returns-clause-at_most
+returns-clause-at_most g c = omega (arith, c.write_plan.ensures.at_most, c.batch_of.ensures.looks.unmoved.clock, c.in_ok-batch.ensures.few, c.in_ok-batch.ensures.few_blocks, ap length c.deref.ensures.value)
+
+pub returns-in_err-batch-clause-at_most : goal.returns-in_err-batch-clause-at_most
+returns-in_err-batch-clause-at_most g c = omega (arith, c.batch_of.ensures.looks.unmoved.clock)
+
+pub returns-in-Ok-clause-geometry : goal.returns-in-Ok-clause-geometry
+returns-in-Ok-clause-geometry g c = c.write_plan.ensures.went.geometry ∙ c.batch_of.ensures.looks.geometry
+
+pub returns-clause-geometry : goal.returns-clause-geometry
+returns-clause-geometry g c = c.write_plan.ensures.went.geometry ∙ c.batch_of.ensures.looks.geometry
+
+pub returns-in-Ok-clause-faults : goal.returns-in-Ok-clause-faults
+returns-in-Ok-clause-faults g c = omega (arith, c.write_plan.ensures.went.more_faults, c.in_ok-batch.ensures.looks.quiet)
+
+pub returns-clause-faults : goal.returns-clause-faults
+returns-clause-faults g c = omega (arith, c.write_plan.ensures.went.more_faults, c.in_ok-batch.ensures.looks.quiet)
+
+pub returns-in-Ok-clause-one_fault : goal.returns-in-Ok-clause-one_fault
+returns-in-Ok-clause-one_fault g c = omega (arith, c.write_plan.ensures.went.one_fault, c.in_ok-batch.ensures.looks.quiet)
+
+pub returns-clause-one_fault : goal.returns-clause-one_fault
+returns-clause-one_fault g c = omega (arith, c.write_plan.ensures.went.one_fault, c.in_ok-batch.ensures.looks.quiet)
+
+pub returns-in-Ok-clause-rests : goal.returns-in-Ok-clause-rests
+returns-in-Ok-clause-rests g c = c.in-Ok.ensures.rests
+
+pub returns-in-Ok-clause-quiet : goal.returns-in-Ok-clause-quiet
+returns-in-Ok-clause-quiet g c = c.in-Ok.ensures.went.quiet ∙ c.in_ok-batch.ensures.looks.quiet
+
+pub returns-in-Ok-clause-going : goal.returns-in-Ok-clause-going
+returns-in-Ok-clause-going g c = c.in-Ok.ensures.went.going
+
+pub returns-clause-fault : goal.returns-clause-fault
+returns-clause-fault g c is =
+    let m = g.M.Media in
+    let new = c.write_plan.new.journal in
+    let fault = c.in-Err.ensures.went.fault in
+    (fault.0, subst (λ (n : ℕ). Rose n (m.faults new.media)) c.in_ok-batch.ensures.looks.quiet fault.1)
