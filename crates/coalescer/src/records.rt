@@ -25,6 +25,7 @@ pub fn coalesce(alloc: Global, records: &[Record]) -> Result<GraphChange, AllocE
 
 /// Adds the effects of a record behind those that are in the change. Where there is no memory for it, nothing is said of what is left: it
 /// is to be dropped. A record without an effect wants none.
+#[tactic(auto, using(crate::proofs::Folds::effect_added))]
 pub fn add_record(
     alloc: Global,
     change: &mut GraphChange,
