@@ -175,6 +175,7 @@ fn plan<T: TreeAnswers, S: Supplies>(
     ensures memory { result ≡ Err Memory → changes operation ≡ true }
 {
     let new = number_for(has.numbers(), operation.makes_node())?;
+    // Not by `?`, which would drop the operation on its way out, and costs seconds in the check.
     match grant(tree, has, &operation, new) {
         Ok(units) => settle(alloc, tree, has, operation, new, units),
         Err(stop) => Err(stop),
@@ -377,6 +378,7 @@ fn log<T: TreeAnswers, S: Supplies>(
         None
     };
     let reply = operation.reply().unwrap_or(Reply::Done);
+    // Not by `?`, as above: it would drop the reply and the change.
     match fitting_record(alloc, tree, has, operation, new, units) {
         Ok(record) => Ok(Outcome::Log {
             record,
