@@ -29,6 +29,7 @@ pub use survival::recover_after_stop;
 
 // Passed on to the crates above, which so need not list those below.
 pub use settlement::{
-    AreaError, BLOCK, CLIENTS, Event, Figures, Geometry, KernelError, LeaseMode, Mode, Need,
-    NodeSummary, Outcome, REGION_SIZE, RecoveryError, Refusal, Shared, Super, What, World, play,
+    AreaError, BLOCK, CLIENTS, ClientSlot, Event, Figures, Geometry, KernelError, LeaseMode, Mode,
+    Need, NodeSummary, Outcome, REGION_SIZE, RecoveryError, Refusal, Shared, Super, What, World,
+    play,
 };

@@ -1,6 +1,7 @@
 // What the mains of the programs have in common.
 use crate::run_error::RunError;
-use crate::usage::{WordsError, tell_fault, tell_words};
+use crate::usage::{tell_fault, tell_words};
+use command_line::WordsError;
 use std::alloc::Global;
 use std::env;
 use std::io::{self, ErrorKind, Write};

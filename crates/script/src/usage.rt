@@ -1,34 +1,7 @@
 // What is printed about the words of a command line.
 use crate::run_error::RunError;
-use clap::Error;
-use clap::error::ErrorKind;
-use std::alloc::AllocError;
+use command_line::{UsageError, WordsError};
 use std::io::Write;
-
-/// Why words can't be read.
-#[derive(Drop)]
-pub enum WordsError {
-    /// What `clap` has to say of them: its help, too.
-    Usage(Error),
-    /// The value of an option is not of its form.
-    Value(&'static str),
-    Memory,
-}
-
-impl From<AllocError> for WordsError {
-    fn from(_e: AllocError) -> WordsError {
-        WordsError::Memory
-    }
-}
-
-impl From<Error> for WordsError {
-    fn from(error: Error) -> WordsError {
-        match error.kind() {
-            ErrorKind::OutOfMemory => WordsError::Memory,
-            _ => WordsError::Usage(error),
-        }
-    }
-}
 
 /// Prints what is wrong with the words, or their help, and answers the exit status: 0 for the help, 2 for words that can't be read,
 /// and 3 after a fault.
@@ -57,7 +30,7 @@ pub fn tell_words<E: Write>(error: WordsError, err: &mut E) -> u8 {
     }
 }
 
-fn print_help<O: Write>(help: Error, out: &mut O) -> Result<(), RunError> {
+fn print_help<O: Write>(help: UsageError, out: &mut O) -> Result<(), RunError> {
     write!(out, "{help}")?;
     out.flush()?;
     Ok(())

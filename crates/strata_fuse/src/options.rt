@@ -1,8 +1,11 @@
 // The words of `strata_fuse`.
-use clap::{Arg, ArgAction, ArgMatches, Command, value_parser};
-use script::WordsError;
-use std::alloc::{AllocError, Global};
-use world_files::WorldSizes;
+ghost use Rattle.std.specs.Prelude.{IfErr, IfOk};
+ghost use Rattle.script.specs.command_line.Options.{Asks, IsValue, rows};
+ghost use Rattle.strata_fuse.specs.MountOptions.{AreMountOptions, HasBadValue, mount};
+
+use script::{OptionMatches, OptionValue, Program, ProgramOption, WordsError, read_words};
+use std::alloc::Global;
+use world_files::{BLOCK_OPTION, FAST_OPTION, SLOW_OPTION, UNITS_OPTION, WorldSizes, sizes_in};
 
 /// The text behind the options.
 const HELP: &str = "\
@@ -26,96 +29,53 @@ pub struct Options<'a> {
     pub sizes: WorldSizes,
 }
 
-/// What the words ask for. The first word is the program's name.
-pub fn read_options<'a>(alloc: Global, words: &'a [&'a str]) -> Result<Options<'a>, WordsError> {
-    let matches = command(alloc)?.try_get_matches_from(words)?;
-    let Some(disk) = matches.get_str("disk") else {
+const MOUNT: Program = Program {
+    name: "strata_fuse",
+    about: "Serves a mount over a world that lives in a file",
+    usage: "strata_fuse --disk FILE [--client N] [--units N] [--fast N] [--block N] [--slow N]",
+    after_help: Some(HELP),
+};
+
+const OPTIONS: [ProgramOption; 6] = [
+    ProgramOption {
+        name: "disk",
+        value: OptionValue::Text,
+        value_name: "FILE",
+        help: "Keeps the world in FILE, which is made where it is not there",
+    },
+    ProgramOption {
+        name: "client",
+        value: OptionValue::Number32 { least: 1, most: 8 },
+        value_name: "N",
+        help: "The client of the world that the mount is, 1 to 8; 1 if left out",
+    },
+    UNITS_OPTION,
+    FAST_OPTION,
+    BLOCK_OPTION,
+    SLOW_OPTION,
+];
+
+/// Reads what the words ask for. The first word is the program's name.
+///
+/// Refused where `clap` finds a fault in the words, or they ask for help, where `--disk` is missing, where a number does not fit in 32 bits,
+/// and where memory is wanting.
+pub fn read_options<'a>(alloc: Global, words: &'a [&'a str]) -> Result<Options<'a>, WordsError>
+    ensures { Asks mount words.entry.now AreMountOptions HasBadValue result }
+{
+    let matches = read_words(alloc, MOUNT, &OPTIONS, words)?;
+    options_in(&matches)
+}
+
+fn options_in<'a>(matches: &OptionMatches<'a>) -> Result<Options<'a>, WordsError>
+    ensures read { IfOk result (AreMountOptions (rows matches.now)) }
+    ensures refused { IfErr result (λ e. IsValue e × HasBadValue (rows matches.now)) }
+{
+    let Some(disk) = matches.text("disk") else {
         return Err(WordsError::Value("--disk FILE is missing"));
     };
     Ok(Options {
         disk,
-        client: number(&matches, "client", 1),
-        sizes: sizes_of(&matches),
+        client: matches.number32_or("client", 1)?,
+        sizes: sizes_in(matches)?,
     })
-}
-
-fn sizes_of(matches: &ArgMatches<'_>) -> WorldSizes {
-    WorldSizes {
-        units: number(matches, "units", 1_024),
-        fast: number(matches, "fast", 512),
-        block: number(matches, "block", 1_024),
-        slow: number(matches, "slow", 1_024),
-    }
-}
-
-fn number(matches: &ArgMatches<'_>, name: &str, default: u32) -> u32 {
-    matches.get_one::<u32>(name).unwrap_or(default)
-}
-
-// The name of an option with a number, the least that it takes and the least that it does not, and what it is for.
-type NumberRow = (&'static str, i64, i64, &'static str);
-
-const NUMBERS: [NumberRow; 5] = [
-    (
-        "client",
-        1,
-        9,
-        "The client of the world that the mount is, 1 to 8; 1 if left out",
-    ),
-    (
-        "units",
-        2,
-        65_537,
-        "How many units the tree may cost, 2 to 65536; 1024 if left out",
-    ),
-    (
-        "fast",
-        0,
-        65_537,
-        "Data blocks of the fast tier, up to 65536; 512 if left out",
-    ),
-    (
-        "block",
-        0,
-        65_537,
-        "Data blocks of the block tier; 1024 if left out",
-    ),
-    (
-        "slow",
-        0,
-        65_537,
-        "Data blocks of the slow tier; 1024 if left out",
-    ),
-];
-
-fn command<'a>(alloc: Global) -> Result<Command<'a>, AllocError> {
-    let mut command = Command::new(alloc, "strata_fuse")
-        .about("Serves a mount over a world that lives in a file")
-        .override_usage(
-            "strata_fuse --disk FILE [--client N] [--units N] [--fast N] [--block N] [--slow N]",
-        )
-        .after_help(HELP)
-        .arg(disk(alloc))?;
-    for row in NUMBERS {
-        command = command.arg(size(alloc, row))?;
-    }
-    Ok(command)
-}
-
-fn disk<'a>(alloc: Global) -> Arg<'a> {
-    Arg::new(alloc, "disk")
-        .long("disk")
-        .value_name("FILE")
-        .help("Keeps the world in FILE, which is made where it is not there")
-        .action(ArgAction::Set)
-}
-
-fn size<'a>(alloc: Global, row: NumberRow) -> Arg<'a> {
-    let (name, least, end, help) = row;
-    Arg::new(alloc, name)
-        .long(name)
-        .value_name("N")
-        .help(help)
-        .action(ArgAction::Set)
-        .value_parser(value_parser!(u32).range(least..end))
 }

@@ -8,7 +8,7 @@ use Rattle.script.specs.file_graph.declared.effect.Kind.TheVariants as kind
 use Rattle.script.specs.log_record.declared.format.Record.{Record}
 use Rattle.script.specs.tier_device.declared.media.Tier.TheVariants.{Fast}
 use Rattle.script.specs.tier_device.declared.stop.StopMedia.{StopMedia}
-use Rattle.script.specs.tier_device.Memory.{memory_left, memory_moment}
+use Rattle.script.specs.tier_device.Memory.{IsAtRest, memory_left, memory_moment}
 use Rattle.script.specs.tier_device.Stop.{medium_of}
 use Rattle.script.specs.update_log.Frames.{records}
 use Rattle.thread_runs.specs.declared.shared_graph.TheConstants.{FILE}
@@ -25,6 +25,10 @@ root_with_f = after_effects fresh (file_effects (codes "f"))
 abbrev pub after_replay : Graph → List Record → Graph
 after_replay g [] = g
 after_replay g (r ∷ rs) = after_replay (after_effects g r.effects) rs
+
+-- nothing is pending on a medium of a run
+abbrev pub IsRunAtRest : StopMedia → Type 0
+IsRunAtRest medium = IsAtRest (medium_of medium)
 
 -- a stop now may leave this of a region's medium
 abbrev pub MayBeLeft : StopMedia → List ℕ → Type 0

@@ -1,2 +1,3 @@
 pub mod FirstPath
+pub mod RunOptions
 pub mod StopWords

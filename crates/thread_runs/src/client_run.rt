@@ -119,11 +119,8 @@ impl ClientRun<'_> {
         line: &str,
     ) -> Result<bool, RunEnd> {
         let call = call_of(self.tree.alloc, line)?;
-        let found = self.answer_call(rt, shared, stops, &call);
-        if is_unanswered(&found, self.tree.number, stops) {
-            return self.tree.stop_at(line);
-        }
-        self.tree.judge(&call, &found)
+        let reply = self.answer_call(rt, shared, stops, &call);
+        self.tree.take_reply(stops, line, &call, &reply)
     }
 
     // What is wanting may come: the call is asked again once the client's log is digested.
@@ -147,6 +144,20 @@ impl ClientRun<'_> {
 }
 
 impl ClientTree {
+    // Judges what the client was replied, and answers whether it is refused; where a stop left the call without an answer the run ends.
+    fn take_reply(
+        &mut self,
+        stops: &RegionStops,
+        line: &str,
+        call: &Call,
+        reply: &Reply,
+    ) -> Result<bool, RunEnd> {
+        if is_unanswered(reply, self.number, stops) {
+            return self.stop_at(line);
+        }
+        self.judge(call, reply)
+    }
+
     // The call that a stop left without an answer is not asked of the tree.
     fn stop_at(&mut self, line: &str) -> Result<bool, RunEnd> {
         self.unanswered = Some(String::from_str(self.alloc, line)?);

@@ -2,9 +2,11 @@
 ghost use Rattle.std.specs.Prelude.{◌≡◌, ◌≤◌, ◌∷◌, [], All, IfOk, length};
 ghost use Rattle.std.specs.Vec.{vec_capacity};
 ghost use Rattle.script.specs.tier_device.declared.media.Tier.TheVariants.{Fast};
+ghost use Rattle.strata_threads.specs.SharedClients.{ShareTable};
 ghost use Rattle.script.specs.tier_device.Memory.{IsAtRest, memory_seen};
-ghost use Rattle.thread_runs.specs.FirstPath.{MayBeLeft};
+ghost use Rattle.thread_runs.specs.FirstPath.{IsRunAtRest, MayBeLeft};
 ghost use Rattle.world_files.specs.recovery.Parts.{AreAtRest, part_medium};
+ghost use Rattle.world_files.specs.recovery.event_steps.Sound.{AreSeats};
 
 use crate::region_stops::{RegionStops, RunMedium};
 use script::{Media, MemMedia, Region, RunError, StopMedia};
@@ -12,8 +14,8 @@ use std::alloc::Global;
 use std::sync::Wait;
 use strata_threads::{Client, SealedRegion, ThreadClient, ThreadSet};
 use world_files::{
-    CLIENTS, Geometry, Parts, REGION_SIZE, REGIONS, RecoveryError, World, WorldSizes, format,
-    recover, tier_lens,
+    CLIENTS, ClientSlot, Geometry, Parts, REGION_SIZE, REGIONS, RecoveryError, World, WorldSizes,
+    format, recover, tier_lens,
 };
 
 // Data blocks of the three tiers.
@@ -42,16 +44,30 @@ fn share_out(
     requires room { 8 ≤ vec_capacity room }
     ensures eight { IfOk result (λ set. length set.clients.items ≡ 8) }
 {
-    let (kernel, slots) = world.into_system().into_parts();
-    let mut clients = room;
-    for slot in slots {
-        let (client, _) = slot.into_parts();
-        clients.push_reserved(client);
-    }
-    match ThreadSet::open(alloc, kernel, clients, workers) {
+    let (kernel, seats) = world.into_system().into_parts();
+    match ThreadSet::open(alloc, kernel, clients_of(seats, room), workers) {
         Ok(set) => Ok(set),
         Err(_) => Err(RunError::Memory),
     }
+}
+
+// The clients of these seats, put into `room`: it has room for them.
+fn clients_of(
+    seats: Vec<ClientSlot<RunMedium>>,
+    room: Vec<Client<RunMedium>>,
+) -> Vec<Client<RunMedium>>
+    requires seats { AreSeats seats.items }
+    requires empty { room.items ≡ [] }
+    requires room { 8 ≤ vec_capacity room }
+    ensures table { ShareTable result.items }
+    ensures eight { length result.items ≡ 8 }
+{
+    let mut clients = room;
+    for seat in seats {
+        let (client, _) = seat.into_parts();
+        clients.push_reserved(client);
+    }
+    clients
 }
 
 fn fresh_world(
@@ -130,7 +146,10 @@ fn zero_medium(alloc: Global, lens: [usize; 3]) -> Result<MemMedia, RunError> {
     }
 }
 
-fn parts_of(shared: RunMedium, regions: Vec<RunMedium>) -> Result<Parts<RunMedium>, RunError> {
+// The parts that these media are, at rest where each of them is.
+fn parts_of(shared: RunMedium, regions: Vec<RunMedium>) -> Result<Parts<RunMedium>, RunError>
+    ensures { IfOk result (λ parts. All IsRunAtRest (shared ∷ regions.items) → AreAtRest ⟦<StopMedia as Media>⟧ (part_medium parts)) }
+{
     match Parts::new(shared, regions) {
         Ok(parts) => Ok(parts),
         Err(_) => Err(RunError::Damaged),
@@ -141,7 +160,7 @@ fn parts_of(shared: RunMedium, regions: Vec<RunMedium>) -> Result<Parts<RunMediu
 pub(crate) fn recover_set<R: Wait + AllocGlobal>(
     rt: &R,
     set: ThreadSet<RunMedium>,
-) -> Result<World<MemMedia>, RunError> {
+) -> Result<World<RunMedium>, RunError> {
     let ThreadSet {
         shared,
         clients,
@@ -195,39 +214,28 @@ fn recover_media(
     alloc: Global,
     shared: RunMedium,
     regions: Vec<RunMedium>,
-) -> Result<World<MemMedia>, RunError> {
+) -> Result<World<RunMedium>, RunError> {
     let shared = medium_at_rest(shared)?;
     recover_parts(alloc, shared, rest_regions(alloc, regions)?)
 }
 
 fn recover_parts(
     alloc: Global,
-    shared: MemMedia,
-    regions: Vec<MemMedia>,
-) -> Result<World<MemMedia>, RunError>
-    requires rest { All IsAtRest (shared ∷ regions.items) }
+    shared: RunMedium,
+    regions: Vec<RunMedium>,
+) -> Result<World<RunMedium>, RunError>
+    requires rest { All IsRunAtRest (shared ∷ regions.items) }
 {
-    let parts = parts_at_rest(shared, regions)?;
+    let parts = parts_of(shared, regions)?;
     match recover(alloc, parts) {
         Ok(world) => Ok(world),
         Err((error, _)) => Err(recovery_fault(error)),
     }
 }
 
-// The parts that these media are.
-fn parts_at_rest(shared: MemMedia, regions: Vec<MemMedia>) -> Result<Parts<MemMedia>, RunError>
-    requires rest { All IsAtRest (shared ∷ regions.items) }
-    ensures { IfOk result (λ parts. AreAtRest ⟦<MemMedia as Media>⟧ (part_medium parts)) }
-{
-    match Parts::new(shared, regions) {
-        Ok(parts) => Ok(parts),
-        Err(_) => Err(RunError::Damaged),
-    }
-}
-
 // What the media of the regions hold behind a stop.
-fn rest_regions(alloc: Global, regions: Vec<RunMedium>) -> Result<Vec<MemMedia>, RunError>
-    ensures { IfOk result (λ media. All IsAtRest media.items) }
+fn rest_regions(alloc: Global, regions: Vec<RunMedium>) -> Result<Vec<RunMedium>, RunError>
+    ensures { IfOk result (λ media. All IsRunAtRest media.items) }
 {
     let mut media = Vec::new(alloc);
     for region in regions {
@@ -236,20 +244,20 @@ fn rest_regions(alloc: Global, regions: Vec<RunMedium>) -> Result<Vec<MemMedia>,
     Ok(media)
 }
 
-fn add(media: &mut Vec<MemMedia>, medium: MemMedia) -> Result<(), RunError>
-    requires rest { All IsAtRest media.old.items }
-    requires one { IsAtRest medium }
-    ensures rest { All IsAtRest media.new.items }
+fn add(media: &mut Vec<RunMedium>, medium: RunMedium) -> Result<(), RunError>
+    requires rest { All IsRunAtRest media.old.items }
+    requires one { IsRunAtRest medium }
+    ensures rest { All IsRunAtRest media.new.items }
 {
     media.push(medium)?;
     Ok(())
 }
 
-// What a medium holds behind a stop.
-fn medium_at_rest(medium: RunMedium) -> Result<MemMedia, RunError>
-    ensures { IfOk result IsAtRest }
+// A medium with what one holds behind a stop, which runs.
+fn medium_at_rest(medium: RunMedium) -> Result<RunMedium, RunError>
+    ensures { IfOk result IsRunAtRest }
 {
-    medium_after_stop(medium)
+    Ok(StopMedia::new(medium_after_stop(medium)?))
 }
 
 /// What a medium holds behind a stop, or behind one now.

@@ -1,10 +1,9 @@
 // The two calls of `strata_first`, each in a thread of its own, over a fresh file system.
 use crate::client_run::call_of;
 use crate::file_system::{fresh_set, region_media};
-use crate::region_stops::{RegionStops, RunMedium};
+use crate::region_stops::{RegionStop, RegionStops, RunMedium};
 use crate::run::work;
 use crate::shared_graph::{apply_answered, first_graph};
-use crate::stop_words::RegionStop;
 use script::{Errno, PlainGraph, Record, Reply, RunError};
 use std::alloc::Global;
 use std::sync::Wait;

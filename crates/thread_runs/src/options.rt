@@ -1,8 +1,12 @@
 // The words of `strata_run`.
-use crate::stop_words::{RegionStop, fill_arg, option, stop_arg, stop_of};
-use clap::{Arg, ArgMatches, Command, value_parser};
-use script::WordsError;
-use std::alloc::{AllocError, Global};
+ghost use Rattle.std.specs.Prelude.{IfErr, IfOk};
+ghost use Rattle.script.specs.command_line.Options.{Asks, IsValue, rows};
+ghost use Rattle.thread_runs.specs.RunOptions.{AreRunOptions, HasBadRun, run};
+
+use crate::region_stops::RegionStop;
+use crate::stop_words::{FILL, STOP, stop_in};
+use script::{OptionMatches, OptionValue, Program, ProgramOption, WordsError, read_words};
+use std::alloc::Global;
 
 /// What the words ask for.
 #[derive(Clone, Copy)]
@@ -21,107 +25,79 @@ pub struct Options {
     pub stop: Option<RegionStop>,
 }
 
-/// What the words ask for. The first word is the program's name.
-pub(crate) fn read_options<'a>(alloc: Global, words: &'a [&'a str]) -> Result<Options, WordsError> {
-    let matches = command(alloc)?.try_get_matches_from(words)?;
+const RUN: Program = Program {
+    name: "strata_run",
+    about: "Clients make calls in threads of their own, beside workers and a migrator, and compare the answers with those of a plain tree",
+    usage: "strata_run --clients C --turns T --start N [--workers W] [--units U] [--stop K --fill HH]",
+    after_help: None,
+};
+
+const OPTIONS: [ProgramOption; 7] = [
+    ProgramOption {
+        name: "clients",
+        value: OptionValue::Number32 { least: 1, most: 8 },
+        value_name: "C",
+        help: "How many clients make calls, 1 to 8",
+    },
+    ProgramOption {
+        name: "turns",
+        value: OptionValue::Number64 { least: 0 },
+        value_name: "T",
+        help: "How many turns each of them makes",
+    },
+    ProgramOption {
+        name: "start",
+        value: OptionValue::Number64 { least: 0 },
+        value_name: "N",
+        help: "Where the draws start",
+    },
+    ProgramOption {
+        name: "workers",
+        value: OptionValue::Number32 { least: 1, most: 8 },
+        value_name: "W",
+        help: "How many workers digest, 1 to 8; 2 if left out",
+    },
+    ProgramOption {
+        name: "units",
+        value: OptionValue::Number32 {
+            least: 2,
+            most: 65_536,
+        },
+        value_name: "U",
+        help: "How many units the tree may cost, 2 to 65536; 1024 if left out",
+    },
+    STOP,
+    FILL,
+];
+
+/// Reads what the words ask for. The first word is the program's name.
+///
+/// Refused where `clap` finds a fault in the words, or they ask for help, where `--clients`, `--turns` or `--start` is missing, where a
+/// number has too many bits, as `stop_in` is, and where memory is wanting.
+pub(crate) fn read_options<'a>(alloc: Global, words: &'a [&'a str]) -> Result<Options, WordsError>
+    ensures { Asks run words.entry.now AreRunOptions HasBadRun result }
+{
+    let matches = read_words(alloc, RUN, &OPTIONS, words)?;
     options_in(&matches)
 }
 
-fn options_in(matches: &ArgMatches<'_>) -> Result<Options, WordsError> {
-    let stop = stop_of(matches)?;
-    match options_of(matches, stop) {
-        Some(options) => Ok(options),
-        None => Err(WordsError::Value("--clients, --turns and --start are needed")),
-    }
-}
-
-fn options_of(matches: &ArgMatches<'_>, stop: Option<RegionStop>) -> Option<Options> {
-    Some(Options {
-        clients: matches.get_one::<u32>("clients")?,
-        turns: matches.get_one::<u64>("turns")?,
-        start: matches.get_one::<u64>("start")?,
-        workers: matches.get_one::<u32>("workers").unwrap_or(2),
-        units: matches.get_one::<u32>("units").unwrap_or(1_024),
-        stop,
+fn options_in(matches: &OptionMatches<'_>) -> Result<Options, WordsError>
+    ensures read { IfOk result (AreRunOptions (rows matches.now)) }
+    ensures refused { IfErr result (λ e. IsValue e × HasBadRun (rows matches.now)) }
+{
+    let (Some(clients), Some(turns), Some(start)) = (
+        matches.number32("clients")?,
+        matches.number64("turns")?,
+        matches.number64("start")?,
+    ) else {
+        return Err(WordsError::Value("--clients, --turns and --start are needed"));
+    };
+    Ok(Options {
+        clients,
+        turns,
+        start,
+        workers: matches.number32_or("workers", 2)?,
+        units: matches.number32_or("units", 1_024)?,
+        stop: stop_in(matches)?,
     })
-}
-
-// What an option's number is: one of a range, or any.
-#[derive(Clone, Copy)]
-enum Value {
-    Below(i64, i64),
-    Any,
-}
-
-// An option's name, what stands for its number, what that is, and what it is for.
-type OptionRow = (&'static str, &'static str, Value, &'static str);
-
-const OPTIONS: [OptionRow; 5] = [
-    (
-        "clients",
-        "C",
-        Value::Below(1, 9),
-        "How many clients make calls, 1 to 8",
-    ),
-    (
-        "turns",
-        "T",
-        Value::Any,
-        "How many turns each of them makes",
-    ),
-    ("start", "N", Value::Any, "Where the draws start"),
-    (
-        "workers",
-        "W",
-        Value::Below(1, 9),
-        "How many workers digest, 1 to 8; 2 if left out",
-    ),
-    (
-        "units",
-        "U",
-        Value::Below(2, 65_537),
-        "How many units the tree may cost, 2 to 65536; 1024 if left out",
-    ),
-];
-
-fn command<'a>(alloc: Global) -> Result<Command<'a>, AllocError> {
-    let command = with_options(alloc, bare_command(alloc))?;
-    with_stop(alloc, command)
-}
-
-fn bare_command<'a>(alloc: Global) -> Command<'a> {
-    Command::new(alloc, "strata_run")
-        .about(
-            "Clients make calls in threads of their own, beside workers and a migrator, and compare the answers with those of a plain tree",
-        )
-        .override_usage(
-            "strata_run --clients C --turns T --start N [--workers W] [--units U] [--stop K --fill HH]",
-        )
-}
-
-fn with_options<'a>(alloc: Global, command: Command<'a>) -> Result<Command<'a>, AllocError> {
-    let mut command = command;
-    for row in OPTIONS {
-        command = command.arg(argument(alloc, row))?;
-    }
-    Ok(command)
-}
-
-fn argument<'a>(alloc: Global, row: OptionRow) -> Arg<'a> {
-    let (name, letter, value, help) = row;
-    let argument = option(alloc, name, letter, help);
-    match value {
-        Value::Below(least, end) => argument.value_parser(value_parser!(u32).range(least..end)),
-        Value::Any => argument.value_parser(value_parser!(u64).range(0..)),
-    }
-}
-
-fn with_stop<'a>(alloc: Global, command: Command<'a>) -> Result<Command<'a>, AllocError> {
-    let stop = stop_arg(alloc)?;
-    with_fill(alloc, command.arg(stop)?)
-}
-
-fn with_fill<'a>(alloc: Global, command: Command<'a>) -> Result<Command<'a>, AllocError> {
-    let fill = fill_arg(alloc)?;
-    command.arg(fill)
 }

@@ -1,14 +1,15 @@
 //! What was recovered is compared with the clients' plain trees.
 use crate::client_run::{are_alike, call_of};
 use crate::client_tree::ClientTree;
+use crate::region_stops::RunMedium;
 use crate::turns::{log_line, tree_lines};
 use call_driver::{CallResult, World, serve_call};
-use script::{MemMedia, Reply, RunError};
+use script::{Reply, RunError};
 use std::alloc::Global;
 
 impl ClientTree {
     /// Whether a recovered world has what the tree has, without the call that has no answer or with it.
-    pub(crate) fn is_in(&mut self, world: &mut World<MemMedia>) -> Result<bool, RunError> {
+    pub(crate) fn is_in(&mut self, world: &mut World<RunMedium>) -> Result<bool, RunError> {
         if self.is_in_now(world)? {
             return Ok(true);
         }
@@ -27,7 +28,7 @@ impl ClientTree {
     }
 
     // Both are asked the same, to the end, which leaves both as they were.
-    fn is_in_now(&mut self, world: &mut World<MemMedia>) -> Result<bool, RunError> {
+    fn is_in_now(&mut self, world: &mut World<RunMedium>) -> Result<bool, RunError> {
         let lines = tree_lines(self.alloc, self.number)?;
         let mut is_same = true;
         for line in lines.split('\n') {
@@ -39,7 +40,7 @@ impl ClientTree {
     }
 
     // A client that wrote nothing to the file of all clients knows nothing of it: others may have made it longer.
-    fn has_log(&mut self, world: &mut World<MemMedia>) -> Result<bool, RunError> {
+    fn has_log(&mut self, world: &mut World<RunMedium>) -> Result<bool, RunError> {
         let line = log_line(self.alloc, self.number)?;
         let _ = self.agrees(world, "1 open /s/log r", true)?;
         let has_place = self.agrees(world, &line, false)?;
@@ -50,7 +51,7 @@ impl ClientTree {
     // Whether the tree and the world answer a line alike; also where the tree reads no byte, unless that has to agree too. The tree is asked for a client that has no file open in it.
     fn agrees(
         &mut self,
-        world: &mut World<MemMedia>,
+        world: &mut World<RunMedium>,
         line: &str,
         with_none: bool,
     ) -> Result<bool, RunError> {
@@ -76,7 +77,7 @@ fn reads_nothing(reply: &Reply) -> bool {
 // Whether the world answers a line of client 1 so.
 fn is_answer(
     alloc: Global,
-    world: &mut World<MemMedia>,
+    world: &mut World<RunMedium>,
     line: &str,
     wanted: &Reply,
 ) -> Result<bool, RunError> {

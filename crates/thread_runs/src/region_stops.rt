@@ -1,7 +1,18 @@
 //! The media of the regions, each of which may stop within a write or fence of its own.
-use crate::stop_words::RegionStop;
+ghost use Rattle.std.specs.Prelude.{◌≤◌};
+
 use script::{Fill, MemMedia, StopMedia, Trip};
 use std::alloc::{AllocError, Global};
+
+/// A stop of each region.
+#[derive(Clone, Copy)]
+pub struct RegionStop {
+    /// Within which of its writes and fences a region stops, from 1.
+    pub call: u64,
+    /// What each byte holds then that was written and not fenced.
+    pub byte: u8,
+    ghost counted: { 1 ≤ call },
+}
 
 /// A medium of a run.
 pub type RunMedium = StopMedia;

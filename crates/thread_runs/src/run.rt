@@ -7,7 +7,7 @@ use crate::region_stops::{RegionStops, RunMedium};
 use crate::run_end::RunEnd;
 use crate::turns::opening_lines;
 use call_driver::World;
-use script::{MemMedia, RunError, tell, tell_fault};
+use script::{RunError, tell, tell_fault};
 use std::io::Write;
 use std::sync::Wait;
 use std::thread;
@@ -95,7 +95,7 @@ fn report_recovery<R: Wait + AllocGlobal, O: Write>(
 }
 
 fn report_trees<O: Write>(
-    world: &mut World<MemMedia>,
+    world: &mut World<RunMedium>,
     trees: &mut [ClientTree],
     options: &Options,
     out: &mut O,
@@ -263,7 +263,7 @@ fn first_difference(trees: &[ClientTree]) -> Result<Option<Difference>, RunError
 }
 
 fn compare_trees(
-    world: &mut World<MemMedia>,
+    world: &mut World<RunMedium>,
     trees: &mut [ClientTree],
     options: &Options,
 ) -> Result<Option<Difference>, RunError> {

@@ -1,71 +1,52 @@
 // The words that ask for a stop of the regions: `--stop K --fill HH`.
-ghost use Rattle.std.specs.Prelude.{◌≡◌, ◌≤◌, IfOk, IfSome};
-ghost use Rattle.clap.specs.Matches.{found_of};
-ghost use Rattle.thread_runs.specs.StopWords.{fill_in, IsFill};
+ghost use Rattle.std.specs.Prelude.{◌≡◌, ◌⊎◌, IfErr, IfOk, None, Some};
+ghost use Rattle.script.specs.command_line.Options.{IsValue, rows};
+ghost use Rattle.thread_runs.specs.StopWords.{HasBadStop, IsStopIn, fill_in};
 
-use clap::{Arg, ArgAction, ArgMatches, value_parser};
-use script::{WordsError, hex_byte};
-use std::alloc::{AllocError, Global};
-
-/// A stop of each region.
-#[derive(Clone, Copy)]
-pub struct RegionStop {
-    /// Within which of its writes and fences a region stops, from 1.
-    pub call: u64,
-    /// What each byte holds then that was written and not fenced.
-    pub byte: u8,
-    ghost counted: { 1 ≤ call },
-}
+use crate::region_stops::RegionStop;
+use script::{OptionMatches, OptionValue, ProgramOption, WordsError, hex_byte};
 
 /// The option by which regions stop.
-pub(crate) fn stop_arg<'a>(alloc: Global) -> Result<Arg<'a>, AllocError> {
-    option(
-        alloc,
-        "stop",
-        "K",
-        "Stop each region within its K-th write or fence, K from 1 on",
-    )
-    .value_parser(value_parser!(u64).range(1..))
-    .requires_arg("fill")
-}
+pub(crate) const STOP: ProgramOption = ProgramOption {
+    name: "stop",
+    value: OptionValue::Number64 { least: 1 },
+    value_name: "K",
+    help: "Stop each region within its K-th write or fence, K from 1 on",
+};
 
 /// The option that says what a stop leaves.
-pub(crate) fn fill_arg<'a>(alloc: Global) -> Result<Arg<'a>, AllocError> {
-    option(
-        alloc,
-        "fill",
-        "HH",
-        "What each byte that was written and not fenced then holds: two digits of 0 to 9 and a to f",
-    )
-    .requires_arg("stop")
-}
+pub(crate) const FILL: ProgramOption = ProgramOption {
+    name: "fill",
+    value: OptionValue::Text,
+    value_name: "HH",
+    help: "What each byte that was written and not fenced then holds: two digits of 0 to 9 and a to f",
+};
 
-/// An option with a value.
-pub(crate) fn option<'a>(alloc: Global, name: &'a str, value: &'a str, help: &'a str) -> Arg<'a> {
-    Arg::new(alloc, name)
-        .long(name)
-        .value_name(value)
-        .help(help)
-        .action(ArgAction::Set)
-}
-
-/// The stop that is asked for, whose byte is the one that the value of `--fill` spells.
-pub(crate) fn stop_of(matches: &ArgMatches<'_>) -> Result<Option<RegionStop>, WordsError>
-    ensures { IfOk result (λ stop. IfSome stop (λ s. IsFill (found_of matches.now) s.byte)) }
+/// The stop that the words ask for, if they ask for one.
+///
+/// Refused where `--stop` and `--fill` do not stand together, and where one has no value of its form.
+pub(crate) fn stop_in(matches: &OptionMatches<'_>) -> Result<Option<RegionStop>, WordsError>
+    ensures read { IfOk result (IsStopIn (rows matches.now)) }
+    ensures refused { IfErr result (λ e. IsValue e × HasBadStop (rows matches.now)) }
 {
-    let Some(call) = matches.get_one::<u64>("stop") else {
-        return Ok(None);
-    };
-    let Some(digits) = matches.get_str("fill") else {
-        return Ok(None);
-    };
+    match (matches.number64("stop")?, matches.text("fill")) {
+        (None, None) => Ok(None),
+        (Some(call), Some(digits)) => Ok(Some(stop_of(call, digits)?)),
+        _ => Err(WordsError::Value("--stop K and --fill HH go together")),
+    }
+}
+
+fn stop_of(call: u64, digits: &str) -> Result<RegionStop, WordsError>
+    ensures read { IfOk result (λ stop. (stop.call ≡ call) × (fill_in digits.now ≡ Some stop.byte)) }
+    ensures refused { IfErr result (λ e. IsValue e × ((call ≡ 0) ⊎ (fill_in digits.now ≡ None))) }
+{
     let Some(byte) = fill_of(digits.as_bytes()) else {
         return Err(WordsError::Value("--fill takes two digits of 0 to 9 and a to f, as --fill a5"));
     };
     if call < 1 {
         return Err(WordsError::Value("--stop takes a number from 1 on"));
     }
-    Ok(Some(RegionStop { call, byte }))
+    Ok(RegionStop { call, byte })
 }
 
 // The byte of two digits.

@@ -1,5 +1,5 @@
 -- Bytes that are put into an image, one after the other.
-use Rattle.std.proofs.Common.{◌≡◌, ◌∙◌, ◌+◌, ◌<◌, ◌≤◌, ℕ, suc, List, ◌∷◌, cond, drop, drop-cons, add-one, get_or, length, sym, ap}
+use Rattle.std.proofs.Common.{◌≡◌, ◌∙◌, ◌+◌, ◌<◌, ◌≤◌, ℕ, suc, List, ◌∷◌, drop, drop-cons, add-one, get_or, length, sym, ap}
 use Rattle.std.proofs.lemmas.Bool.{cond-false, cond-true, le-leb, lt-leb}
 use Rattle.std.specs.Prelude.{nat_le, None}
 use Rattle.script.specs.declared.patch.Patch.{Patch}

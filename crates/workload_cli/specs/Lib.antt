@@ -13,3 +13,4 @@ pub mod Sessions
 pub mod Patches
 pub mod FreshWorlds
 pub mod ImageRuns
+pub mod ShellOptions

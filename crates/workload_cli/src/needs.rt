@@ -2,7 +2,6 @@
 use crate::answer::write_answer;
 use crate::fresh_parts::fresh_world;
 use crate::need_notes::Noting;
-use crate::options::DEFAULT_SIZES;
 use crate::script_media::ScriptMedium;
 use crate::shell::answer_line;
 use crate::system_queries::Running;
@@ -10,7 +9,7 @@ use call_driver::{CallResult, Events, serve_call};
 use script::{Call, SystemLine, read_system_line, write_reply};
 use std::alloc::Global;
 use std::io::Write;
-use world_files::{World, WorldFileError};
+use world_files::{DEFAULT_SIZES, World, WorldFileError};
 
 /// Answers a script over a fresh system. Before what a call is answered stands what it needed, need by need. It answers status 3 where there is no system.
 pub fn run_needs(alloc: Global, script: &[u8], out: &mut Vec<u8>) -> u8 {

@@ -1,8 +1,11 @@
 // The words of `strata_sh`.
-use clap::{Arg, ArgAction, ArgMatches, Command, Error, value_parser};
-use script::{Patch, WordsError};
-use std::alloc::{AllocError, Global};
-use world_files::WorldSizes;
+ghost use Rattle.std.specs.Prelude.{IfErr, IfOk};
+ghost use Rattle.script.specs.command_line.Options.{Asks, IsValue, rows};
+ghost use Rattle.workload_cli.specs.ShellOptions.{AreShellOptions, HasBadValue, IsHomeIn, NamesTwoHomes, shell};
+
+use script::{OptionMatches, OptionValue, Patch, Program, ProgramOption, WordsError, read_words};
+use std::alloc::Global;
+use world_files::{BLOCK_OPTION, FAST_OPTION, SLOW_OPTION, UNITS_OPTION, WorldSizes, sizes_in};
 
 /// The language of scripts, as `strata_sh --help` teaches it.
 const LANGUAGE: &str = "\
@@ -45,14 +48,6 @@ Example, with what its lines print:
   2 stat /f            file 3 1
   digest 2             digested 0";
 
-/// The sizes of a world of which the words say nothing.
-pub const DEFAULT_SIZES: WorldSizes = WorldSizes {
-    units: 1_024,
-    fast: 512,
-    block: 1_024,
-    slow: 1_024,
-};
-
 /// Where the world is kept.
 #[derive(Clone, Copy)]
 pub enum Home<'a> {
@@ -79,119 +74,82 @@ pub struct Options<'a> {
     pub explains: bool,
 }
 
-/// What the words ask for. The first word is the program's name.
-pub fn read_options<'a>(alloc: Global, words: &'a [&'a str]) -> Result<Options<'a>, WordsError> {
-    let matches = command(alloc)?.try_get_matches_from(words)?;
+const SHELL: Program = Program {
+    name: "strata_sh",
+    about: "Answers a script of file system calls, read from standard input line by line",
+    usage: "strata_sh [--units N] [--fast N] [--block N] [--slow N] [--image FILE | --disk FILE] [--echo] [--explain] [--rows] < SCRIPT",
+    after_help: Some(LANGUAGE),
+};
+
+const OPTIONS: [ProgramOption; 9] = [
+    UNITS_OPTION,
+    FAST_OPTION,
+    BLOCK_OPTION,
+    SLOW_OPTION,
+    ProgramOption {
+        name: "image",
+        value: OptionValue::Text,
+        value_name: "FILE",
+        help: "Reads the world from FILE, where there is one, and keeps it there at the end",
+    },
+    ProgramOption {
+        name: "disk",
+        value: OptionValue::Text,
+        value_name: "FILE",
+        help: "Keeps the world in FILE, each answer once it is printed",
+    },
+    ProgramOption {
+        name: "echo",
+        value: OptionValue::Nothing,
+        value_name: "",
+        help: "Prints each line before its answer",
+    },
+    ProgramOption {
+        name: "explain",
+        value: OptionValue::Nothing,
+        value_name: "",
+        help: "Tells before a fault, on another line, why there is no world",
+    },
+    ProgramOption {
+        name: "rows",
+        value: OptionValue::Nothing,
+        value_name: "",
+        help: "Reads a table of scripts, each with what it is to print, and tells what differs",
+    },
+];
+
+/// Reads what the words ask for. The first word is the program's name.
+///
+/// Refused where `clap` finds a fault in the words, or they ask for help, where a size does not fit in 32 bits, where `--image` and `--disk`
+/// stand together, and where memory is wanting.
+pub fn read_options<'a>(alloc: Global, words: &'a [&'a str]) -> Result<Options<'a>, WordsError>
+    ensures { Asks shell words.entry.now AreShellOptions HasBadValue result }
+{
+    let matches = read_words(alloc, SHELL, &OPTIONS, words)?;
+    options_in(&matches)
+}
+
+fn options_in<'a>(matches: &OptionMatches<'a>) -> Result<Options<'a>, WordsError>
+    ensures read { IfOk result (AreShellOptions (rows matches.now)) }
+    ensures refused { IfErr result (λ e. IsValue e × HasBadValue (rows matches.now)) }
+{
     Ok(Options {
-        sizes: sizes_of(&matches),
-        home: home_of(&matches)?,
-        is_table: matches.get_flag("rows"),
-        echoes: matches.get_flag("echo"),
-        explains: matches.get_flag("explain"),
+        sizes: sizes_in(matches)?,
+        home: home_in(matches)?,
+        is_table: matches.has("rows"),
+        echoes: matches.has("echo"),
+        explains: matches.has("explain"),
     })
 }
 
-fn sizes_of(matches: &ArgMatches<'_>) -> WorldSizes {
-    WorldSizes {
-        units: number(matches, "units", DEFAULT_SIZES.units),
-        fast: number(matches, "fast", DEFAULT_SIZES.fast),
-        block: number(matches, "block", DEFAULT_SIZES.block),
-        slow: number(matches, "slow", DEFAULT_SIZES.slow),
-    }
-}
-
-fn home_of<'a>(matches: &ArgMatches<'a>) -> Result<Home<'a>, WordsError> {
-    match (matches.get_str("image"), matches.get_str("disk")) {
+fn home_in<'a>(matches: &OptionMatches<'a>) -> Result<Home<'a>, WordsError>
+    ensures read { IfOk result (IsHomeIn (rows matches.now)) }
+    ensures refused { IfErr result (λ e. IsValue e × NamesTwoHomes (rows matches.now)) }
+{
+    match (matches.text("image"), matches.text("disk")) {
         (None, None) => Ok(Home::Nowhere),
         (Some(path), None) => Ok(Home::Image(path)),
         (None, Some(path)) => Ok(Home::Disk(path)),
         _ => Err(WordsError::Value("--image and --disk do not go together")),
-    }
-}
-
-fn number(matches: &ArgMatches<'_>, name: &str, default: u32) -> u32 {
-    matches.get_one::<u32>(name).unwrap_or(default)
-}
-
-// What an option has behind it.
-#[derive(Clone, Copy)]
-enum Value {
-    // A number, from this one to 65,536.
-    Number(i64),
-    // A file's path.
-    File,
-    Nothing,
-}
-
-// An option's name, what it has behind it, and what it is for.
-type OptionRow = (&'static str, Value, &'static str);
-
-const OPTIONS: [OptionRow; 9] = [
-    (
-        "units",
-        Value::Number(2),
-        "How many units the tree may cost, 2 to 65536; 1024 if left out",
-    ),
-    (
-        "fast",
-        Value::Number(0),
-        "Data blocks of the fast tier, up to 65536; 512 if left out",
-    ),
-    (
-        "block",
-        Value::Number(0),
-        "Data blocks of the block tier; 1024 if left out",
-    ),
-    (
-        "slow",
-        Value::Number(0),
-        "Data blocks of the slow tier; 1024 if left out",
-    ),
-    (
-        "image",
-        Value::File,
-        "Reads the world from FILE, where there is one, and keeps it there at the end",
-    ),
-    (
-        "disk",
-        Value::File,
-        "Keeps the world in FILE, each answer once it is printed",
-    ),
-    ("echo", Value::Nothing, "Prints each line before its answer"),
-    (
-        "explain",
-        Value::Nothing,
-        "Tells before a fault, on another line, why there is no world",
-    ),
-    (
-        "rows",
-        Value::Nothing,
-        "Reads a table of scripts, each with what it is to print, and tells what differs",
-    ),
-];
-
-fn command<'a>(alloc: Global) -> Result<Command<'a>, AllocError> {
-    let mut command = Command::new(alloc, "strata_sh")
-        .about("Answers a script of file system calls, read from standard input line by line")
-        .override_usage(
-            "strata_sh [--units N] [--fast N] [--block N] [--slow N] [--image FILE | --disk FILE] [--echo] [--explain] [--rows] < SCRIPT",
-        )
-        .after_help(LANGUAGE);
-    for row in OPTIONS {
-        command = command.arg(argument(alloc, row))?;
-    }
-    Ok(command)
-}
-
-fn argument<'a>(alloc: Global, row: OptionRow) -> Arg<'a> {
-    let (name, value, help) = row;
-    let argument = Arg::new(alloc, name).long(name).help(help);
-    match value {
-        Value::Number(least) => argument
-            .value_name("N")
-            .action(ArgAction::Set)
-            .value_parser(value_parser!(u32).range(least..65_537)),
-        Value::File => argument.value_name("FILE").action(ArgAction::Set),
-        Value::Nothing => argument.action(ArgAction::SetTrue),
     }
 }

@@ -14,6 +14,7 @@ mod image;
 mod image_file;
 mod parts;
 mod read_at;
+mod size_options;
 mod sizes;
 mod structures;
 
@@ -22,13 +23,16 @@ pub use error::WorldFileError;
 pub use geometry::{image_len, read_geometry, tier_lens};
 pub use image::{image_bytes, read_parts, zero_parts};
 pub use image_file::ImageFile;
+pub use size_options::{
+    BLOCK_OPTION, DEFAULT_SIZES, FAST_OPTION, SLOW_OPTION, UNITS_OPTION, sizes_in,
+};
 pub use sizes::{SizeRule, WorldSizes};
 pub use structures::structure_name;
 
 // Passed on to the crates above, which so need not list those below.
 pub use host_media::{FileMedia, FileProblem, RamMedia};
 pub use recovery::{
-    AreaError, BLOCK, CLIENTS, Event, Figures, Geometry, KernelError, LeaseMode, Mode, Need,
-    NodeSummary, Outcome, Parts, REGION_SIZE, REGIONS, RecoveryError, Refusal, Shared, Super, What,
-    World, format, play, recover, take_apart,
+    AreaError, BLOCK, CLIENTS, ClientSlot, Event, Figures, Geometry, KernelError, LeaseMode, Mode,
+    Need, NodeSummary, Outcome, Parts, REGION_SIZE, REGIONS, RecoveryError, Refusal, Shared, Super,
+    What, World, format, play, recover, take_apart,
 };

@@ -4,7 +4,7 @@ use Rattle.std.specs.Prelude.{Result, Ok, Err, OnErr, OnOk, slice_get}
 use Rattle.world_files.specs.recovery.Parts.{PartsView, part_medium}
 use Rattle.workload_cli.specs.Fills.{AreRestBy}
 use Rattle.workload_cli.specs.Rests.{LeaveNoMore}
-use Rattle.workload_cli.specs.Trips.{PartsCount, RegionsCount}
+use Rattle.workload_cli.specs.Trips.{PartsCount}
 use Rattle.workload_cli.proofs.RestingMedia.{each_leaves_no_more, each_rests}
 use Rattle.workload_cli.proofs.media_rest.rest_parts.Goals as goal
 

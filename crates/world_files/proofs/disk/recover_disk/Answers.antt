@@ -1,7 +1,5 @@
-use Rattle.std.proofs.Common.{inl, inr, subst, sym}
+use Rattle.std.proofs.Common.{inr}
 use Rattle.std.proofs.lemmas.Result.{IfErr-weaker}
-use Rattle.recovery.proofs.settlement_lemmas.SettlementPhases.{passed_on}
-use Rattle.world_files.specs.FileErrors.{IsOfFile}
 use Rattle.world_files.proofs.disk.recover_disk.Goals as goal
 
 pub returns-clause-refused : goal.returns-clause-refused

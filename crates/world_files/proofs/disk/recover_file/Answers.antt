@@ -1,4 +1,3 @@
-use Rattle.std.proofs.Common.{◌∙◌, ◌≡◌, ap, inl, inr, sym}
 use Rattle.host_media.specs.contracts.file.FileMediaMedia.TheImpl.{ghosts as device}
 use Rattle.recovery.proofs.settlement_lemmas.SettlementPhases.{passed_on}
 use Rattle.recovery.specs.Parts.{part_medium}

@@ -1,4 +1,4 @@
-use Rattle.std.proofs.Common.{◌≡◌, ℕ, List, ◌∷◌, ap, slice_index_or}
+use Rattle.std.proofs.Common.{ℕ, List, ◌∷◌, ap, slice_index_or}
 use Rattle.std.specs.Prelude.{replicate}
 use Rattle.host_media.specs.declared.sizes.Sizes.{Sizes}
 use Rattle.world_files.specs.PartSizes.{region_sizes}

@@ -1,4 +1,4 @@
-use Rattle.std.proofs.Common.{rules, ◌≡◌, ℕ, ◌<◌, List, take, length, None, false, refl, arith, nat_eq}
+use Rattle.std.proofs.Common.{rules, ◌≡◌, ℕ, ◌<◌, List, length, None, false, refl, arith, nat_eq}
 use Rattle.std.proofs.lemmas.Bool.{ne_eqb}
 use Rattle.std.proofs.lemmas.List.{take_all}
 use Rattle.recovery.specs.layout.Super.{super_of}

@@ -1,6 +1,6 @@
 use Rattle.std.proofs.Common.{◌∙◌, ap}
 use Rattle.std.specs.Prelude.{replicate}
-use Rattle.host_media.specs.Images.{media_bytes, medium_sizes}
+use Rattle.host_media.specs.Images.{media_bytes}
 use Rattle.host_media.specs.tier_device.Memory.{memory_seen}
 use Rattle.host_media.specs.tier_device.contracts.memory.MemMediaMedia.TheImpl.{ghosts as memory}
 use Rattle.world_files.proofs.PartsEach.{as_many, parts_rest}

@@ -1,6 +1,6 @@
-use Rattle.std.proofs.Common.{◌∙◌, ap, map, refl, sym, arith}
+use Rattle.std.proofs.Common.{◌∙◌, ap, map, refl}
 use Rattle.std.specs.Prelude.{slice_set}
-use Rattle.std.proofs.lemmas.List.{length-map, map-set, set_past}
+use Rattle.std.proofs.lemmas.List.{map-set}
 use Rattle.workload_cli.specs.Trips.{call_of}
 use Rattle.workload_cli.proofs.script_media.Trips.arm_failure.Goals as goal
 

@@ -1,4 +1,4 @@
-use Rattle.std.proofs.Common.{◌≤◌, ◌++◌, ◌∙◌, drop, length, sym, arith}
+use Rattle.std.proofs.Common.{◌≤◌, ◌++◌, ◌∙◌, drop, length, arith}
 use Rattle.std.proofs.lemmas.List.{length-append, length-take-le}
 use Rattle.world_files.proofs.image_file.ImageFile.read.Goals as goal
 

@@ -1,0 +1,5 @@
+mod OptionReads
+mod OptionSources
+mod OptionTables
+mod WordsFaults
+pub mod Asking
