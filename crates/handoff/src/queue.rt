@@ -1,4 +1,4 @@
-ghost use Rattle.std.specs.Prelude.{◌≡◌, List, ◌++◌, IfOk, MatchOption, MatchResult};
+ghost use Rattle.std.specs.Prelude.{◌≡◌, List, ◌++◌, IfOk, IsTrue, MatchOption, MatchResult};
 ghost use Rattle.std.specs.Arc.{arc_value};
 ghost use Rattle.atomic_table.specs.Seated.{TableId};
 ghost use Rattle.crossbeam_queue.specs.Fifo.{Held};
@@ -86,7 +86,19 @@ impl<T: Drop> QueueEnd<T> {
         ensures queue { self.new.queue ≡ self.old.queue }
         ensures taken { MatchOption result ((self.new.hands ≡ self.old.hands) × Held 0 (EndsLine self.old.hands)) (λ x. HasTaken self.old.hands x self.new.hands) }
     {
+        // Who waits for an item looks often, and a look costs less than a try.
+        if self.is_empty() {
+            return None;
+        }
         self.queue.pop_as::<Takes, R>(rt, &mut self.pass)
+    }
+
+    // Whether no item was left of the line at one moment of the call.
+    fn is_empty(&mut self) -> bool
+        ensures same { self.new ≡ self.old }
+        ensures empty { IsTrue result → Held 0 (EndsLine self.old.hands) }
+    {
+        self.queue.is_empty_as::<Line>(&mut self.pass)
     }
 
     /// Takes in the hands of another end of the same queue.

@@ -1,7 +1,7 @@
 -- A region that was sealed, and its log in memory.
 use Rattle.std.proofs.Common.{◌≡◌, ◌≤◌, ℕ, Bool, true, false, cond, List, [], take, Option, Some, None, refl, sym, ◌∙◌, ap, subst, arith}
 use Rattle.std.proofs.lemmas.Bool.Decides.{nat_tests}
-use Rattle.std.specs.Prelude.{◌≢◌, Result, Ok, Err, IfOk, OnErr, is_some}
+use Rattle.std.specs.Prelude.{◌≢◌, Result, Ok, Err, IfOk, OnErr}
 use Rattle.client_log.specs.tier_device.declared.media.Media.{Ghosts}
 use Rattle.client_log.specs.tier_device.declared.media.Tier.TheVariants.{Fast}
 use Rattle.client_log.specs.tier_device.Media.{Keeps}
@@ -16,7 +16,7 @@ use Rattle.kernel_fs.specs.digester.declared.error.DigestError.{DigestError}
 use Rattle.kernel_fs.specs.declared.chunk_digest.Digestion.{Digestion}
 use Rattle.kernel_fs.specs.declared.chunk_digest.Digestion.TheVariants.{Digested, NotNext, NotAccepted}
 use Rattle.kernel_fs.specs.declared.error.KernelError.{KernelError}
-use Rattle.libfs.specs.SealedRegion.{SealedRegionView, IsKept, IsLogOf, done_in, held_in, log_of}
+use Rattle.libfs.specs.SealedRegion.{SealedRegionView, IsKept, IsLogOf, done_in, is_read_in, log_of}
 
 client_low_high : (c : ℕ) → 1 ≤ c → c ≤ 8 → is_client c ≡ true
 client_low_high c low high = grind (arith, nat_tests)
@@ -54,24 +54,25 @@ module _ {M : Type 0} (device : Ghosts M) where
     | false ↦ λ none. absurd (none refl)
   ] some
 
-module _ {M : Type 0} (device : Ghosts M) (client generation : ℕ) (region : RegionView M) (held : List ℕ) (count : ℕ) (accepted : Bool) where
+module _ {M : Type 0} (device : Ghosts M) (client generation : ℕ) (region : RegionView M) (held : List ℕ) (count : ℕ) (freed : Option ℕ) (accepted : Bool) where
   -- the region as contracts see it, with this log in memory
   abbrev pub seen_with : Option SealedView → SealedRegionView M
-  seen_with log = record { client = client; generation = generation; region = region; held = held_in held log; read = is_some log; accepted = accepted; done = done_in log }
+  seen_with log = record { client = client; generation = generation; region = region; held = held; read = is_read_in log freed; accepted = accepted; done = done_in log freed }
 
   -- the log in memory is that of the region
-  pub log_is : (x : SealedView) → IsLogOf client generation (records_of device region) x → x ≡ log_of device (seen_with (Some x))
-  log_is x of = λ i. record { client = of.client_is i; generation = of.generation_is i; done = x.done; held = x.held; records = of.records_are i }
+  pub log_is : (x : SealedView) → IsLogOf client generation held (records_of device region) x → x ≡ log_of device (seen_with (Some x))
+  log_is x of = λ i. record { client = of.client_is i; generation = of.generation_is i; done = x.done; held = of.held_is i; records = of.records_are i }
 
-  pub log_there : (log : Option SealedView) (x : SealedView) → IsKept device client generation region held count log accepted → log ≡ Some x → x ≡ log_of device (seen_with log)
+  pub log_there : (log : Option SealedView) (x : SealedView) → IsKept device client generation region held count log freed accepted → log ≡ Some x → x ≡ log_of device (seen_with log)
   log_there log x kept is = subst (λ (o : Option SealedView). x ≡ log_of device (seen_with o)) (sym is) (log_is x (kept.its_log x is))
 
-  pub kept_on : (x y : SealedView) → IsKept device client generation region held count (Some x) accepted → y ≡ done_to y.done x → IsKept device client generation region held count (Some y) accepted
+  pub kept_on : (x y : SealedView) → IsKept device client generation region held count (Some x) freed accepted → y ≡ done_to y.done x → IsKept device client generation region held count (Some y) freed accepted
   kept_on x y kept is =
       let of = kept.its_log x refl in
-      let own : IsLogOf client generation (records_of device region) y = record {
+      let own : IsLogOf client generation held (records_of device region) y = record {
         client_is = ap (λ (z : SealedView). z.client) is ∙ of.client_is;
         generation_is = ap (λ (z : SealedView). z.generation) is ∙ of.generation_is;
+        held_is = ap (λ (z : SealedView). z.held) is ∙ of.held_is;
         records_are = ap (λ (z : SealedView). z.records) is ∙ of.records_are;
       } in
       record {
@@ -80,7 +81,8 @@ module _ {M : Type 0} (device : Ghosts M) (client generation : ℕ) (region : Re
         rising = kept.rising;
         spelled = kept.spelled;
         counted = kept.counted;
-        its_log = λ z e. subst (IsLogOf client generation (records_of device region)) (same_some y z e) own;
+        whole = kept.whole;
+        its_log = λ z e. subst (IsLogOf client generation held (records_of device region)) (same_some y z e) own;
         read = λ _. refl;
       }
 

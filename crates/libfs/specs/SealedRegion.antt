@@ -1,5 +1,5 @@
 -- A region that a client sealed, until it is taken back.
-use Rattle.std.specs.Prelude.{◌≡◌, ◌≢◌, ◌↔◌, ◌≤◌, ◌+◌, ℕ, Bool, List, true, false, length, take, Option, Some, None, Result, IfErr, IfOk, IsErrOf, OnErr, OnOk, is_some}
+use Rattle.std.specs.Prelude.{◌≡◌, ◌≢◌, ◌↔◌, ◌≤◌, ◌+◌, ◌||◌, ℕ, Bool, List, true, false, length, take, Option, Some, None, Result, IfErr, IfOk, IsErrOf, OnErr, OnOk, is_some}
 use Rattle.std.specs.List.{AllByRecursion}
 use Rattle.std.specs.List.Sorted.{IsStrictlyIncreasing}
 use Rattle.std.specs.Option.{ForSome}
@@ -40,7 +40,7 @@ pub record SealedRegionView (M : Type 0) : Type 0 where
   pub region : RegionView M
   -- the inodes, rising and each once, that the client held for writing then
   pub held : List ℕ
-  -- whether its records are in memory, and whether the kernel has accepted it
+  -- whether its records were read, and whether the kernel has accepted it
   pub read : Bool
   pub accepted : Bool
   -- how many of its records are digested
@@ -58,30 +58,33 @@ pub record IsUntouched {M : Type 0} (r : SealedRegionView M) : Type 0 where
 
 -- ---- in memory
 
--- of a log in memory, if it is there: how many records are digested, and the inodes, which lie in the log then
-abbrev pub done_in : Option SealedView → ℕ
-done_in None = 0
-done_in (Some x) = x.done
+-- from the log in memory, if it is there, and from what was noted as its memory was freed: whether the records were read, and how many are digested
+abbrev pub is_read_in : Option SealedView → Option ℕ → Bool
+is_read_in log freed = is_some log || is_some freed
 
-abbrev pub held_in : List ℕ → Option SealedView → List ℕ
-held_in held None = held
-held_in held (Some x) = x.held
+abbrev pub done_in : Option SealedView → Option ℕ → ℕ
+done_in (Some x) freed = x.done
+done_in None (Some n) = n
+done_in None None = 0
 
 -- A log in memory is that of a region.
-pub record IsLogOf (client generation : ℕ) (records : List Record) (x : SealedView) : Type 0 where
+pub record IsLogOf (client generation : ℕ) (held : List ℕ) (records : List Record) (x : SealedView) : Type 0 where
   pub client_is : x.client ≡ client
   pub generation_is : x.generation ≡ generation
+  pub held_is : x.held ≡ held
   pub records_are : x.records ≡ records
 
--- What holds of a sealed region and of what is kept beside it: it is a client's, each record has a spelling, and its log in memory is its log. What was accepted was read.
-pub record IsKept {M : Type 0} (device : Ghosts M) (client generation : ℕ) (region : RegionView M) (held : List ℕ) (count : ℕ) (log : Option SealedView) (accepted : Bool) : Type 0 where
+-- What holds of a sealed region and of what is kept beside it: it is a client's, each record has a spelling, and its log in memory is its log. The memory of the records is freed only once
+-- all are digested. What was accepted was read.
+pub record IsKept {M : Type 0} (device : Ghosts M) (client generation : ℕ) (region : RegionView M) (held : List ℕ) (count : ℕ) (log : Option SealedView) (freed : Option ℕ) (accepted : Bool) : Type 0 where
   pub number : is_client client ≡ true
   pub sealed : IsSealedRegion device generation region
   pub rising : IsStrictlyIncreasing held
   pub spelled : AllByRecursion IsRecord (records_of device region)
   pub counted : count ≡ length (records_of device region)
-  pub its_log : ForSome log (IsLogOf client generation (records_of device region))
-  pub read : accepted ≡ true → is_some log ≡ true
+  pub its_log : ForSome log (IsLogOf client generation held (records_of device region))
+  pub whole : ForSome freed (λ n. n ≡ length (records_of device region))
+  pub read : accepted ≡ true → is_read_in log freed ≡ true
 
 -- ---- accepted and digested
 

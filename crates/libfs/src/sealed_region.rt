@@ -24,33 +24,34 @@ use kernel_fs::{
 };
 use std::alloc::Global;
 use std::marker::Model;
-use std::mem;
 
 /// A region that its client sealed, with all its records, until the client takes it back: its records are read, the kernel accepts it, and it is digested chunk by chunk. Nothing is
 /// written to it meanwhile.
 ///
-/// Contracts see `SealedRegionView` (`specs/SealedRegion.antt`). `read_records` and `prepare` ask no kernel.
+/// Contracts see `SealedRegionView` (`specs/SealedRegion.antt`). `read_records`, `prepare` and `free_records` ask no kernel.
 #[derive(Drop)]
 pub struct SealedRegion<M: Media> {
     client: u32,
     generation: u64,
     region: Region<M>,
-    // the inodes that the client held for writing, until the records are read: then the log has them
+    // the inodes that the client held for writing
     held: Vec<u32>,
     count: usize,
+    // its records, from when they are read until their memory is freed
     log: Option<SealedLog>,
+    // how many were digested, once the memory of the records was freed
+    freed: Option<u32>,
     accepted: bool,
 }
 
 impl<M: Media> Model for SealedRegion<M> {
-    ghost use Rattle.std.specs.Prelude.{is_some};
-    ghost use Rattle.libfs.specs.SealedRegion.{SealedRegionView, IsKept, done_in, held_in};
+    ghost use Rattle.libfs.specs.SealedRegion.{SealedRegionView, IsKept, done_in, is_read_in};
 
     ghost Value = { SealedRegionView M };
 
-    ghost view = { λ r. record { client = r.client; generation = r.generation; region = r.region; held = held_in r.held.items r.log; read = is_some r.log; accepted = r.accepted; done = done_in r.log } };
+    ghost view = { λ r. record { client = r.client; generation = r.generation; region = r.region; held = r.held.items; read = is_read_in r.log r.freed; accepted = r.accepted; done = done_in r.log r.freed } };
 
-    ghost invariant = { λ r. IsKept M.Media r.client r.generation r.region r.held.items r.count r.log r.accepted };
+    ghost invariant = { λ r. IsKept M.Media r.client r.generation r.region r.held.items r.count r.log r.freed r.accepted };
 }
 
 impl<M: Media> SealedRegion<M> {
@@ -76,6 +77,7 @@ impl<M: Media> SealedRegion<M> {
             held,
             count,
             log: None,
+            freed: None,
             accepted: false,
         }
     }
@@ -107,7 +109,7 @@ impl<M: Media> SealedRegion<M> {
     {
         match &self.log {
             Some(log) => log.digested_count(),
-            None => 0,
+            None => self.freed.unwrap_or(0),
         }
     }
 
@@ -122,7 +124,7 @@ impl<M: Media> SealedRegion<M> {
     pub fn is_read(&self) -> bool
         ensures { result ≡ self.now.read }
     {
-        self.log.is_some()
+        self.log.is_some() || self.freed.is_some()
     }
 
     /// Whether the kernel has accepted it.
@@ -149,7 +151,7 @@ impl<M: Media> SealedRegion<M> {
         }
     }
 
-    /// Reads the records from the medium into memory, where they are not there yet, and changes nothing on it. It asks no kernel.
+    /// Reads the records from the medium into memory, where they were not read yet, and changes nothing on it. It asks no kernel.
     ///
     /// `DeviceFault` where the device fails, `Memory` for want of memory; it may be asked again after either.
     pub fn read_records(&mut self, alloc: Global) -> Result<(), LogError>
@@ -162,20 +164,23 @@ impl<M: Media> SealedRegion<M> {
         ensures fault { IsErrOf result logs.DeviceFault → Rose (M.faults self.old.region.media) (M.faults self.new.region.media) }
         ensures quiet { IsErrOf result logs.DeviceFault ⊎ (M.faults self.new.region.media ≡ M.faults self.old.region.media) }
     {
-        if self.log.is_some() {
+        if self.is_read() {
             return Ok(());
         }
         left_of_sealed(&self.region, self.generation);
+        let Ok(held) = self.held.to_vec(alloc) else {
+            return Err(LogError::Memory);
+        };
         let records = read_sealed(&mut self.region, self.generation)?;
-        let held = mem::replace(&mut self.held, Vec::new(alloc));
         let log = SealedLog::new(self.client, self.generation, held, records);
         self.log = Some(log);
         Ok(())
     }
 
-    // The log, once the records are read.
+    // The log, once the records are read and while one of them is not digested.
     fn log(&self) -> &SealedLog
         requires read { self.now.read ≡ true }
+        requires some { HasUndigested (log_of M.Media self.now) }
         ensures { result.now ≡ log_of M.Media self.now }
     {
         match &self.log {
@@ -230,6 +235,17 @@ impl<M: Media> SealedRegion<M> {
         match &mut self.log {
             Some(log) => kernel.digest(log, chunk),
             None => unreachable!(),
+        }
+    }
+
+    /// Frees the memory of the records, if they all are digested: the thread that has read them has it back then, and the client, which takes the region back, need not free it. Contracts
+    /// see no change.
+    pub fn free_records(&mut self)
+        ensures { self.new ≡ self.old }
+    {
+        if self.log.is_some() && self.is_digested() {
+            self.freed = Some(self.digested_count());
+            self.log = None;
         }
     }
 

@@ -30,8 +30,8 @@ const WIPE_STEPS: u32 = 8;
 // The turns up to which a client that waits lets others go longer and longer
 const MOST_YIELDS: u64 = 64;
 
-// The turns up to which one that waits for its region does not sleep: to be woken costs more than most digests leave to wait
-const MOST_PAUSES: u64 = 16;
+// The turn of a call from which on it sleeps while it waits for its region: to be woken costs more than many digests leave to wait
+const FIRST_NAP: u64 = 16;
 
 impl<M: Media + Drop> ThreadClient<M> {
     // Takes a lease, for writing where the call waited to write the inode. Where it is busy each holder is asked for it, and the turn is waited.
@@ -126,19 +126,19 @@ impl<M: Media + Drop> ThreadClient<M> {
         }
     }
 
-    // Listens in a turn in which the region is away, and lets other threads go; behind some turns it sleeps until a worker has sent it back, or a while.
+    // Listens in a turn in which the region is away. If it is still away, the client lets other threads go once, and in a later turn of its call it sleeps until a worker has sent it back, or a while.
     fn wait_for_region<R: Wait>(&mut self, rt: &R, shared: &SharedKernel<M>)
         ensures listened { HasListened M.Media 16 self.old.client self.old.asked self.new.client self.new.asked }
         ensures rows { self.new.rows ≡ self.old.rows }
         ensures kept { KeepsCall self.old.client self.new.client }
         ensures waited { self.new.waited ≡ self.old.waited }
     {
-        if self.waited.count() < MOST_PAUSES {
-            self.let_go(rt, shared);
-            return;
-        }
         self.listen(rt, shared);
         if !self.client.is_region_away() {
+            return;
+        }
+        if self.waited.count() < FIRST_NAP {
+            thread::yield_now();
             return;
         }
         shared

@@ -60,6 +60,8 @@ impl<M: Media + Drop> Worker<M> {
         };
         let mut region = region;
         let _ = digest_region(rt, self.alloc, shared, &mut region, gate);
+        // Here, not where the client takes it back: this thread has the memory for its next region then, and takes no lock of the allocator for it.
+        region.free_records();
         self.send_back(rt, shared, region);
         shared.wake_ups.wake_migrator();
         true
