@@ -2,20 +2,20 @@
 use Rattle.std.proofs.Common.{◌≡◌, ◌≢◌, inl, inr, ℕ, List, true, refl, sym, ap, ◌∙◌, subst, arith, Option, Some, None}
 use Rattle.std.specs.Prelude.{◌==◌, nat_le, is_some, IsSome, IfSome, option_map}
 use Rattle.std.proofs.lemmas.Bool.{true≢false, false≢true, and_from, le-leb, ne_eqb, cond-false}
-use Rattle.area_image.specs.tier_device.declared.media.Tier.{Tier}
-use Rattle.area_image.specs.tier_device.declared.media.Tier.TheVariants.{Fast}
-use Rattle.area_image.specs.layout.declared.marks.Marks.{Marks}
-use Rattle.area_image.specs.layout.declared.slot.Slot.{Slot}
-use Rattle.area_image.specs.layout.Marks.{fits_marks, marks_of, marks_spelling}
-use Rattle.area_image.specs.layout.Places.{Sizes, is_inode, is_node}
-use Rattle.area_image.specs.layout.Slot.{slot_spelling}
-use Rattle.area_image.specs.batch_journal.Images.{image_for, or_else, with_images}
-use Rattle.area_image.specs.extent_tree.Map.{TierRuns, runs_in}
-use Rattle.area_image.specs.Store.{Store, slot_bytes, root_of, marks}
-use Rattle.area_image.specs.Reads.{Free}
-use Rattle.area_image.specs.Format.{IsSpelled}
-use Rattle.area_image.proofs.Rewriting.{free_unused}
-use Rattle.area_image.proofs.Shown.{slot_limits}
+use Rattle.tier_device.specs.declared.media.Tier.{Tier}
+use Rattle.tier_device.specs.declared.media.Tier.TheVariants.{Fast}
+use Rattle.layout.specs.declared.marks.Marks.{Marks}
+use Rattle.layout.specs.declared.slot.Slot.{Slot}
+use Rattle.layout.specs.Marks.{fits_marks, marks_of, marks_spelling}
+use Rattle.layout.specs.Places.{Sizes, is_inode, is_node}
+use Rattle.layout.specs.Slot.{slot_spelling}
+use Rattle.batch_journal.specs.Images.{image_for, or_else, with_images}
+use Rattle.extent_tree.specs.Map.{TierRuns, runs_in}
+use Rattle.area_reader.specs.Store.{Store, slot_bytes, root_of, marks}
+use Rattle.area_reader.specs.Reads.{Free}
+use Rattle.area_reader.specs.Format.{IsSpelled}
+use Rattle.area_reader.proofs.Rewriting.{free_unused}
+use Rattle.area_reader.proofs.Shown.{slot_limits}
 use Rattle.area_commit.specs.InodeRewrite.{IsWritten, IsListed, block_by}
 use Rattle.area_commit.specs.StoreRewrite.{MayTake, KeepOrTakeFree, TakeFreeOnce, AreWrittenAnew}
 use Rattle.area_commit.proofs.TakenPlaces.{kept_apart, kept_taken}

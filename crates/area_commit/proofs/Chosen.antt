@@ -4,15 +4,15 @@ use Rattle.std.specs.Prelude.{◌==◌, nat_le, nat_lt}
 use Rattle.std.specs.List.{Contains}
 use Rattle.std.proofs.lemmas.Bool.{or_cases, or_left, or_right, eqb-true, eq-eqb, and_parts, leb-true, ltb-true, false≢true}
 use Rattle.std.proofs.lemmas.List.Elements.{Contains-append_cases}
-use Rattle.area_image.specs.tier_device.declared.media.Tier.{Tier}
-use Rattle.area_image.specs.tier_device.declared.media.Tier.TheVariants.{Fast, Block, Slow}
-use Rattle.area_image.specs.layout.Places.{Sizes, is_inode, is_node, node_end, data_first, tier_blocks}
-use Rattle.area_image.specs.block_alloc.Runs.{blocks_of, Rising}
-use Rattle.area_image.proofs.block_alloc_lemmas.Blocks.{normal-rising}
-use Rattle.area_image.specs.Store.{Store}
-use Rattle.area_image.specs.Reads.{IsRoom, Free}
-use Rattle.area_image.specs.Format.{Use, used_block}
-use Rattle.area_image.proofs.Rewriting.{free_unused}
+use Rattle.tier_device.specs.declared.media.Tier.{Tier}
+use Rattle.tier_device.specs.declared.media.Tier.TheVariants.{Fast, Block, Slow}
+use Rattle.layout.specs.Places.{Sizes, is_inode, is_node, node_end, data_first, tier_blocks}
+use Rattle.block_alloc.specs.Runs.{blocks_of, Rising}
+use Rattle.block_alloc.proofs.Blocks.{normal-rising}
+use Rattle.area_reader.specs.Store.{Store}
+use Rattle.area_reader.specs.Reads.{IsRoom, Free}
+use Rattle.area_reader.specs.Format.{Use, used_block}
+use Rattle.area_reader.proofs.Rewriting.{free_unused}
 use Rattle.area_commit.specs.declared.slots.ChangedSlot.{ChangedSlot}
 use Rattle.area_commit.specs.Slots.{RiseIn}
 use Rattle.area_commit.specs.Value.{on_tier}

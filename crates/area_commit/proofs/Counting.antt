@@ -4,7 +4,7 @@ use Rattle.std.specs.List.{Contains}
 use Rattle.std.proofs.lemmas.Bool.{cases_eq}
 use Rattle.std.proofs.lemmas.List.{length-append}
 use Rattle.std.proofs.lemmas.List.Elements.{Contains-append_left, Contains-append_right}
-use Rattle.area_image.specs.posix_calls.Tree.{sum_up_to}
+use Rattle.posix_calls.specs.Tree.{sum_up_to}
 use Rattle.area_commit.proofs.Members.{cons_cases, cons_here, cons_there, nothing}
 
 -- ---- lists of numbers

@@ -1,16 +1,16 @@
 -- A plan is written: its data, and then its batch.
 use Rattle.std.proofs.Common.{◌≡◌, ◌≢◌, ◌≤◌, ◌*◌, ℕ, List, length, sym, ◌∙◌, arith}
-use Rattle.area_image.specs.tier_device.declared.media.Media.{Ghosts}
-use Rattle.area_image.specs.tier_device.declared.media.Tier.{Tier}
-use Rattle.area_image.specs.tier_device.declared.media.Tier.TheVariants.{Fast}
-use Rattle.area_image.specs.tier_device.AfterStop.{AtRest}
-use Rattle.area_image.specs.layout.declared.slot.Slot.{Slot}
-use Rattle.area_image.specs.layout.Places.{Sizes, tier_blocks}
-use Rattle.area_image.specs.batch_journal.Blocks.{home, after_batch}
-use Rattle.area_image.specs.batch_journal.Course.{Since, SameLengths, BeforeOrAfter}
-use Rattle.area_image.specs.extent_tree.Map.{TierRuns}
-use Rattle.area_image.specs.Store.{store_of}
-use Rattle.area_image.specs.Reads.{Loose}
+use Rattle.tier_device.specs.declared.media.Media.{Ghosts}
+use Rattle.tier_device.specs.declared.media.Tier.{Tier}
+use Rattle.tier_device.specs.declared.media.Tier.TheVariants.{Fast}
+use Rattle.tier_device.specs.AfterStop.{AtRest}
+use Rattle.layout.specs.declared.slot.Slot.{Slot}
+use Rattle.layout.specs.Places.{Sizes, tier_blocks}
+use Rattle.batch_journal.specs.Blocks.{home, after_batch}
+use Rattle.batch_journal.specs.Course.{Since, SameLengths, BeforeOrAfter}
+use Rattle.extent_tree.specs.Map.{TierRuns}
+use Rattle.area_reader.specs.Store.{store_of}
+use Rattle.area_reader.specs.Reads.{Loose}
 use Rattle.area_commit.specs.Batches.{IsBatchOf}
 use Rattle.area_commit.specs.Allocations.{taken_data}
 use Rattle.area_commit.specs.DataWrite.{HoldData, IsJournalLeft, StaysLoose}

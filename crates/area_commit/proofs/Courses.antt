@@ -1,15 +1,15 @@
 -- What may be left while data is written to free blocks.
 use Rattle.std.proofs.Common.{◌≡◌, ◌≢◌, ◌≤◌, inl, inr, ◌⊎◌, ℕ, ◌*◌, List, sym, ◌∙◌, refl, arith, subst}
 use Rattle.std.proofs.lemmas.Bool.{cases_lt}
-use Rattle.area_image.specs.tier_device.declared.media.Tier.{Tier}
-use Rattle.area_image.specs.tier_device.declared.media.Tier.TheVariants.{Fast, Block, Slow}
-use Rattle.area_image.specs.tier_device.StopsSince.{LeftSince}
-use Rattle.area_image.specs.layout.Places.{Sizes}
-use Rattle.area_image.specs.batch_journal.Course.{Since, TornFrom, OutsideRunFrom}
-use Rattle.area_image.proofs.batch_journal_lemmas.Views.{which}
-use Rattle.area_image.specs.Store.{Store, store_of, content_blocks}
-use Rattle.area_image.specs.Reads.{Loose, LooseIn, IsFreeRun}
-use Rattle.area_image.proofs.Torn.{torn_data, torn_fast, loose_left}
+use Rattle.tier_device.specs.declared.media.Tier.{Tier}
+use Rattle.tier_device.specs.declared.media.Tier.TheVariants.{Fast, Block, Slow}
+use Rattle.tier_device.specs.StopsSince.{LeftSince}
+use Rattle.layout.specs.Places.{Sizes}
+use Rattle.batch_journal.specs.Course.{Since, TornFrom, OutsideRunFrom}
+use Rattle.batch_journal.proofs.Views.{which}
+use Rattle.area_reader.specs.Store.{Store, store_of, content_blocks}
+use Rattle.area_reader.specs.Reads.{Loose, LooseIn, IsFreeRun}
+use Rattle.area_reader.proofs.Torn.{torn_data, torn_fast, loose_left}
 use Rattle.area_commit.specs.DataWrite.{IsLooseLeft, IsJournalLeft, StaysLoose}
 
 module _ (g : Sizes) (s : Store) where

@@ -3,13 +3,13 @@ use Rattle.std.proofs.Common.{◌≡◌, ◌≤◌, ◌<◌, ◌+◌, ℕ, List,
 use Rattle.std.specs.List.{Contains}
 use Rattle.std.proofs.lemmas.List.{length-append, length-map}
 use Rattle.std.proofs.lemmas.List.Elements.{Contains-append_left, Contains-append_right}
-use Rattle.area_image.specs.tier_device.declared.media.Tier.{Tier}
-use Rattle.area_image.specs.tier_device.declared.media.Tier.TheVariants.{Fast, Block, Slow}
-use Rattle.area_image.specs.file_graph.Units.{charge}
-use Rattle.area_image.specs.layout.Places.{Sizes, is_inode, slot_block, node_end, data_first, data_blocks, tier_blocks}
-use Rattle.area_image.specs.Store.{Store, slot, root_of, graph}
-use Rattle.area_image.specs.Reads.{InodeReads, IsRoom}
-use Rattle.area_image.specs.Format.{IsSpelled, KeepsUnits}
+use Rattle.tier_device.specs.declared.media.Tier.{Tier}
+use Rattle.tier_device.specs.declared.media.Tier.TheVariants.{Fast, Block, Slow}
+use Rattle.file_graph.specs.Units.{charge}
+use Rattle.layout.specs.Places.{Sizes, is_inode, slot_block, node_end, data_first, data_blocks, tier_blocks}
+use Rattle.area_reader.specs.Store.{Store, slot, root_of, graph}
+use Rattle.area_reader.specs.Reads.{InodeReads, IsRoom}
+use Rattle.area_reader.specs.Format.{IsSpelled, KeepsUnits}
 use Rattle.area_commit.specs.Value.{PoolsView, data_pool, on_tier, free_data, AreFree}
 use Rattle.area_commit.proofs.Counting.{in_or_not, covers}
 use Rattle.area_commit.proofs.RoomHeld.{inode_low, root_within, held, is_held, held_few}

@@ -4,16 +4,16 @@ use Rattle.std.specs.Prelude.{◌↔◌}
 use Rattle.std.specs.List.{Contains}
 use Rattle.std.proofs.lemmas.Bool.{cases_eq, cases_lt}
 use Rattle.std.proofs.lemmas.List.Elements.{Contains-append_left, Contains-append_right, Contains-append_cases}
-use Rattle.area_image.specs.tier_device.declared.media.Tier.{Tier}
-use Rattle.area_image.specs.layout.Places.{Sizes, tier_blocks}
-use Rattle.area_image.specs.block_alloc.declared.runs.Run.{Run}
-use Rattle.area_image.specs.block_alloc.Runs.{blocks_of, AreNormalRuns, Rising}
-use Rattle.area_image.specs.block_alloc.Value.{FreeBlocks, InOrder}
-use Rattle.area_image.specs.batch_journal.Blocks.{Blocks}
-use Rattle.area_image.specs.Store.{Store}
-use Rattle.area_image.specs.Reads.{Free, IsRoom, LooseIn, first_room}
-use Rattle.area_image.specs.Format.{Use, used_block}
-use Rattle.area_image.proofs.Rewriting.{free_unused}
+use Rattle.tier_device.specs.declared.media.Tier.{Tier}
+use Rattle.layout.specs.Places.{Sizes, tier_blocks}
+use Rattle.block_alloc.specs.declared.runs.Run.{Run}
+use Rattle.block_alloc.specs.Runs.{blocks_of, AreNormalRuns, Rising}
+use Rattle.block_alloc.specs.Value.{FreeBlocks, InOrder}
+use Rattle.batch_journal.specs.Blocks.{Blocks}
+use Rattle.area_reader.specs.Store.{Store}
+use Rattle.area_reader.specs.Reads.{Free, IsRoom, LooseIn, first_room}
+use Rattle.area_reader.specs.Format.{Use, used_block}
+use Rattle.area_reader.proofs.Rewriting.{free_unused}
 use Rattle.area_commit.specs.Value.{PoolsView, data_pool, HasRanges, AreFree}
 use Rattle.area_commit.specs.declared.allocation.Allocation.{Allocation}
 use Rattle.area_commit.specs.Allocations.{WasTaken, WereTaken, runs_of}

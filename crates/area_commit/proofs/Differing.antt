@@ -3,17 +3,17 @@ use Rattle.std.proofs.Common.{◌≡◌, ◌≢◌, ◌≤◌, ◌+◌, ◌==◌
 use Rattle.std.specs.List.{sum_by}
 use Rattle.std.proofs.lemmas.Bool.{cases_Bool, cases_eq, cond-true, cond-false, eq-eqb, ne_eqb, true≢false}
 use Rattle.std.proofs.lemmas.List.Sums.{sum_by-cons}
-use Rattle.area_image.specs.posix_calls.Tree.{sum_up_to}
-use Rattle.area_image.proofs.posix_calls_lemmas.Sums.{one_changes}
-use Rattle.area_image.specs.file_graph.Graph.{Graph, cost, is_among}
-use Rattle.area_image.specs.file_graph.Units.{charge}
-use Rattle.area_image.specs.layout.Places.{Sizes}
-use Rattle.area_image.specs.tree_blocks.Inode.{Inode, node_of}
-use Rattle.area_image.specs.Store.{Store, slot, inode, graph}
-use Rattle.area_image.specs.Format.{IsSpelled}
-use Rattle.area_image.specs.Units.{slot_units}
-use Rattle.area_image.specs.Rewrites.{Rewrites}
-use Rattle.area_image.proofs.Rewriting.{new_spelled, other_inode}
+use Rattle.posix_calls.specs.Tree.{sum_up_to}
+use Rattle.posix_calls.proofs.Sums.{one_changes}
+use Rattle.file_graph.specs.Graph.{Graph, cost, is_among}
+use Rattle.file_graph.specs.Units.{charge}
+use Rattle.layout.specs.Places.{Sizes}
+use Rattle.tree_blocks.specs.Inode.{Inode, node_of}
+use Rattle.area_reader.specs.Store.{Store, slot, inode, graph}
+use Rattle.area_reader.specs.Format.{IsSpelled}
+use Rattle.area_reader.specs.Units.{slot_units}
+use Rattle.area_reader.specs.Rewrites.{Rewrites}
+use Rattle.area_reader.proofs.Rewriting.{new_spelled, other_inode}
 use Rattle.area_commit.specs.BlockExchange.{AreInodesOnce}
 use Rattle.area_commit.proofs.Counting.{sum_same}
 use Rattle.area_commit.proofs.RoomHeld.{inode_low, charge_is, cost_told}

@@ -4,16 +4,16 @@ use Rattle.std.specs.Prelude.{◌==◌, option_map}
 use Rattle.std.specs.List.{Contains}
 use Rattle.std.proofs.lemmas.Bool.{cases_Bool, cond-true, cond-false, eqb-false, true≢false}
 use Rattle.std.proofs.lemmas.List.Elements.{Contains-append_left}
-use Rattle.area_image.specs.tier_device.declared.media.Tier.{Tier}
-use Rattle.area_image.specs.tier_device.declared.media.Tier.TheVariants.{Fast}
-use Rattle.area_image.specs.layout.Places.{Sizes, node_end, data_first}
-use Rattle.area_image.specs.block_alloc.Runs.{blocks_of}
-use Rattle.area_image.specs.block_alloc.Value.{InOrder}
-use Rattle.area_image.specs.Store.{Store, slot, root_of, place}
-use Rattle.area_image.specs.Reads.{IsRoom, Free}
-use Rattle.area_image.specs.Format.{Use, used_block, AreUsedOnce, IsSpelled}
-use Rattle.area_image.proofs.Lists.{place_placed}
-use Rattle.area_image.proofs.Rewriting.{free_unused}
+use Rattle.tier_device.specs.declared.media.Tier.{Tier}
+use Rattle.tier_device.specs.declared.media.Tier.TheVariants.{Fast}
+use Rattle.layout.specs.Places.{Sizes, node_end, data_first}
+use Rattle.block_alloc.specs.Runs.{blocks_of}
+use Rattle.block_alloc.specs.Value.{InOrder}
+use Rattle.area_reader.specs.Store.{Store, slot, root_of, place}
+use Rattle.area_reader.specs.Reads.{IsRoom, Free}
+use Rattle.area_reader.specs.Format.{Use, used_block, AreUsedOnce, IsSpelled}
+use Rattle.area_reader.proofs.Lists.{place_placed}
+use Rattle.area_reader.proofs.Rewriting.{free_unused}
 use Rattle.area_commit.specs.Value.{PoolsView, data_pool, AreInOrder, AreFree}
 use Rattle.area_commit.specs.declared.allocation.Allocation.{Allocation}
 use Rattle.area_commit.specs.Allocations.{WereTaken, runs_of}

@@ -4,10 +4,10 @@ use Rattle.std.specs.Prelude.{Result, Ok, Err, IsOk, OnOk}
 use Rattle.std.specs.List.{range_with_len}
 use Rattle.std.proofs.lemmas.List.{take_more}
 use Rattle.std.proofs.lemmas.Bool.{true≢false}
-use Rattle.area_image.specs.block_alloc.declared.runs.Run.{Run}
-use Rattle.area_image.specs.block_alloc.Runs.{run_blocks, blocks_of, AreNormalRuns, Rising, Apart, PutIn}
-use Rattle.area_image.specs.block_alloc.Value.{FreeBlocks, IsUsed, InOrder, SamePool}
-use Rattle.area_image.proofs.block_alloc_lemmas.Blocks.{rising-weaker, blocks-push}
+use Rattle.block_alloc.specs.declared.runs.Run.{Run}
+use Rattle.block_alloc.specs.Runs.{run_blocks, blocks_of, AreNormalRuns, Rising, Apart, PutIn}
+use Rattle.block_alloc.specs.Value.{FreeBlocks, IsUsed, InOrder, SamePool}
+use Rattle.block_alloc.proofs.Blocks.{rising-weaker, blocks-push}
 use Rattle.area_commit.specs.Allocations.{WasTaken, CanGive, WasGiven, SameBlocks}
 
 -- ---- rising lists

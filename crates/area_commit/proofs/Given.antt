@@ -4,10 +4,10 @@ use Rattle.std.specs.List.{Contains, AllByRecursion, range_with_len}
 use Rattle.std.proofs.lemmas.Bool.{cases_lt}
 use Rattle.std.proofs.lemmas.List.{take_more}
 use Rattle.std.proofs.lemmas.List.Elements.{Contains-append_left, Contains-append_right, Contains-append_cases}
-use Rattle.area_image.specs.block_alloc.declared.runs.Run.{Run}
-use Rattle.area_image.specs.block_alloc.Runs.{run_blocks, blocks_of}
-use Rattle.area_image.specs.block_alloc.Value.{FreeBlocks, IsUsed}
-use Rattle.area_image.proofs.block_alloc_lemmas.Blocks.{blocks-push}
+use Rattle.block_alloc.specs.declared.runs.Run.{Run}
+use Rattle.block_alloc.specs.Runs.{run_blocks, blocks_of}
+use Rattle.block_alloc.specs.Value.{FreeBlocks, IsUsed}
+use Rattle.block_alloc.proofs.Blocks.{blocks-push}
 use Rattle.area_commit.specs.Value.{GivesRun}
 use Rattle.area_commit.specs.Release.{AreUsed, WereAdded}
 

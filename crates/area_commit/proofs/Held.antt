@@ -6,14 +6,14 @@ use Rattle.std.proofs.lemmas.List.{drop-drop, take_more, drop_more, append-nil}
 use Rattle.std.proofs.lemmas.List.Concat.{flat_map-append}
 use Rattle.std.proofs.lemmas.List.Elements.{Contains-append_left, Contains-append_right}
 use Rattle.std.proofs.Math.Seq.{take-add}
-use Rattle.area_image.specs.tier_device.Media.{overwritten}
-use Rattle.area_image.specs.tier_device.RecordLaws.{torn_overwritten}
-use Rattle.area_image.specs.batch_journal.Images.{slice}
-use Rattle.area_image.specs.batch_journal.Blocks.{Blocks, block_of}
-use Rattle.area_image.proofs.batch_journal_lemmas.Bytes.{slice_apart, slice_written}
-use Rattle.area_image.specs.block_alloc.declared.runs.Run.{Run}
-use Rattle.area_image.specs.block_alloc.Runs.{run_blocks, blocks_of, Rising, AreNormalRuns}
-use Rattle.area_image.proofs.block_alloc_lemmas.Blocks.{blocks-push, split_blocks, normal-rising, length-blocks-more, length-blocks-le}
+use Rattle.tier_device.specs.Media.{overwritten}
+use Rattle.tier_device.specs.RecordLaws.{torn_overwritten}
+use Rattle.batch_journal.specs.Images.{slice}
+use Rattle.batch_journal.specs.Blocks.{Blocks, block_of}
+use Rattle.batch_journal.proofs.Bytes.{slice_apart, slice_written}
+use Rattle.block_alloc.specs.declared.runs.Run.{Run}
+use Rattle.block_alloc.specs.Runs.{run_blocks, blocks_of, Rising, AreNormalRuns}
+use Rattle.block_alloc.proofs.Blocks.{blocks-push, split_blocks, normal-rising, length-blocks-more, length-blocks-le}
 use Rattle.area_commit.proofs.Fronts.{normal_each}
 use Rattle.area_commit.proofs.Members.{cons_here, cons_there}
 

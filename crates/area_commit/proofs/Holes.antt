@@ -4,11 +4,11 @@ use Rattle.std.specs.Prelude.{◌&&◌, is_some, not, nat_le, unwrap_or}
 use Rattle.std.specs.FinMap as fin
 use Rattle.std.proofs.lemmas.Bool.{false≢true, and_parts, or_parts, or_left, or_right, eqb-true, leb-true, cases_Bool}
 use Rattle.std.proofs.lemmas.Bool.Decides.{eqb_tells}
-use Rattle.area_image.specs.tier_device.declared.media.Tier.{Tier}
-use Rattle.area_image.specs.tier_device.declared.media.Tier.TheVariants.{Fast, Block, Slow}
-use Rattle.area_image.specs.graph_change.Bytes.{Length, Grown, Cut}
-use Rattle.area_image.specs.graph_change.Change.{Change, Patch, blank, patch_at, cuts_within, writes_block}
-use Rattle.area_image.specs.tree_blocks.FileBlock.{is_cut_off}
+use Rattle.tier_device.specs.declared.media.Tier.{Tier}
+use Rattle.tier_device.specs.declared.media.Tier.TheVariants.{Fast, Block, Slow}
+use Rattle.graph_change.specs.Bytes.{Length, Grown, Cut}
+use Rattle.graph_change.specs.Change.{Change, Patch, blank, patch_at, cuts_within, writes_block}
+use Rattle.tree_blocks.specs.FileBlock.{is_cut_off}
 use Rattle.area_commit.specs.InodeChange.{is_mapped, writes_over}
 
 -- ---- choices

@@ -3,9 +3,9 @@ use Rattle.std.proofs.Common.{◌≤◌, ◌<◌, ◌⊎◌, inl, inr, ℕ, ◌+
 use Rattle.std.specs.List.{Contains}
 use Rattle.std.proofs.lemmas.List.Concat.{flat_map-append}
 use Rattle.std.proofs.lemmas.List.Elements.{Contains-append_left, Contains-append_right, Contains-append_cases}
-use Rattle.area_image.specs.block_alloc.declared.runs.Run.{Run}
-use Rattle.area_image.specs.block_alloc.Runs.{Apart, run_blocks, blocks_of}
-use Rattle.area_image.specs.block_alloc.Value.{FreeBlocks}
+use Rattle.block_alloc.specs.declared.runs.Run.{Run}
+use Rattle.block_alloc.specs.Runs.{Apart, run_blocks, blocks_of}
+use Rattle.block_alloc.specs.Value.{FreeBlocks}
 use Rattle.area_commit.specs.Release.{AreUsed}
 use Rattle.area_commit.proofs.Members.{cons_cases, nothing}
 use Rattle.area_commit.proofs.Given.{all_from}

@@ -40,11 +40,3 @@ mod Found
 pub mod Holes
 pub mod Given
 pub mod GivenUp
--- Passed on to the crates above, which so need not list those below.
-pub use Rattle.area_image.proofs as area_image_lemmas
-pub use Rattle.area_image.proofs.batch_journal_lemmas
-pub use Rattle.area_image.proofs.block_alloc_lemmas
-pub use Rattle.area_image.proofs.extent_tree_lemmas
-pub use Rattle.area_image.proofs.graph_change_lemmas
-pub use Rattle.area_image.proofs.layout_lemmas
-pub use Rattle.area_image.proofs.tree_blocks_lemmas

@@ -5,15 +5,15 @@ use Rattle.std.specs.List.{Contains}
 use Rattle.std.proofs.lemmas.Bool.{true≢false, false_from_ne_true, cases_eq}
 use Rattle.std.proofs.lemmas.List.{take-append-drop}
 use Rattle.std.proofs.lemmas.List.Elements.{Contains-append_left, Contains-append_right, Contains-append_cases}
-use Rattle.area_image.specs.tier_device.declared.media.Tier.{Tier}
-use Rattle.area_image.specs.tier_device.declared.media.Tier.TheVariants.{Fast, Block, Slow}
-use Rattle.area_image.specs.layout.Places.{Sizes, node_end, data_first, tier_blocks}
-use Rattle.area_image.specs.block_alloc.Runs.{unmarked_blocks, PutIn}
-use Rattle.area_image.specs.block_alloc.Value.{FreeBlocks}
-use Rattle.area_image.specs.Store.{Store}
-use Rattle.area_image.specs.Reads.{Free, IsRoom}
-use Rattle.area_image.specs.BlockMarks.{UsedMarks, is_marked}
-use Rattle.area_image.proofs.Rewriting.{free_unused}
+use Rattle.tier_device.specs.declared.media.Tier.{Tier}
+use Rattle.tier_device.specs.declared.media.Tier.TheVariants.{Fast, Block, Slow}
+use Rattle.layout.specs.Places.{Sizes, node_end, data_first, tier_blocks}
+use Rattle.block_alloc.specs.Runs.{unmarked_blocks, PutIn}
+use Rattle.block_alloc.specs.Value.{FreeBlocks}
+use Rattle.area_reader.specs.Store.{Store}
+use Rattle.area_reader.specs.Reads.{Free, IsRoom}
+use Rattle.area_reader.specs.BlockMarks.{UsedMarks, is_marked}
+use Rattle.area_reader.proofs.Rewriting.{free_unused}
 use Rattle.area_commit.specs.Value.{PoolsView, data_pool, HasRanges, AreFree, HasUnmarked, MarksAll}
 
 -- ---- lists

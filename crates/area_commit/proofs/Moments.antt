@@ -1,17 +1,17 @@
 -- What a stop leaves while a plan is carried out.
 use Rattle.std.proofs.Common.{◌≡◌, ◌≢◌, ◌≤◌, ◌<◌, ◌*◌, inl, inr, ℕ, List, Option, length, refl, ap, ◌∙◌, subst, arith}
 use Rattle.std.proofs.lemmas.Bool.{cases_lt}
-use Rattle.area_image.specs.tier_device.declared.media.Tier.{Tier}
-use Rattle.area_image.specs.tier_device.declared.media.Tier.TheVariants.{Fast, Block, Slow}
-use Rattle.area_image.specs.tier_device.AfterStop.{AtRest}
-use Rattle.area_image.specs.layout.declared.marks.Marks.{Marks}
-use Rattle.area_image.specs.layout.declared.slot.Slot.{Slot}
-use Rattle.area_image.specs.layout.Places.{Sizes, tier_blocks}
-use Rattle.area_image.specs.batch_journal.Blocks.{Blocks, block_of, home, after_batch}
-use Rattle.area_image.specs.batch_journal.Course.{Since, Unmoved, BeforeOrAfter}
-use Rattle.area_image.specs.extent_tree.Map.{TierRuns}
-use Rattle.area_image.specs.Store.{Store, store_of, content_blocks}
-use Rattle.area_image.specs.Reads.{Loose}
+use Rattle.tier_device.specs.declared.media.Tier.{Tier}
+use Rattle.tier_device.specs.declared.media.Tier.TheVariants.{Fast, Block, Slow}
+use Rattle.tier_device.specs.AfterStop.{AtRest}
+use Rattle.layout.specs.declared.marks.Marks.{Marks}
+use Rattle.layout.specs.declared.slot.Slot.{Slot}
+use Rattle.layout.specs.Places.{Sizes, tier_blocks}
+use Rattle.batch_journal.specs.Blocks.{Blocks, block_of, home, after_batch}
+use Rattle.batch_journal.specs.Course.{Since, Unmoved, BeforeOrAfter}
+use Rattle.extent_tree.specs.Map.{TierRuns}
+use Rattle.area_reader.specs.Store.{Store, store_of, content_blocks}
+use Rattle.area_reader.specs.Reads.{Loose}
 use Rattle.area_commit.specs.declared.slots.ChangedSlot.{ChangedSlot}
 use Rattle.area_commit.specs.Slots.{RiseIn}
 use Rattle.area_commit.specs.Batches.{IsBatchOf, IsPutIn}

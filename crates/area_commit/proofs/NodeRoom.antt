@@ -3,21 +3,21 @@ use Rattle.std.proofs.Common.{◌≡◌, ◌≢◌, ◌≤◌, ◌<◌, ◌+◌,
 use Rattle.std.specs.List.{Contains}
 use Rattle.std.proofs.lemmas.List.{length-append}
 use Rattle.std.proofs.lemmas.List.Elements.{Contains-append_left, Contains-append_right}
-use Rattle.area_image.specs.posix_calls.Tree.{sum_up_to}
-use Rattle.area_image.specs.tier_device.declared.media.Tier.{Tier}
-use Rattle.area_image.specs.tier_device.declared.media.Tier.TheVariants.{Fast, Block, Slow}
-use Rattle.area_image.specs.file_graph.Graph.{cost}
-use Rattle.area_image.specs.file_graph.Units.{charge}
-use Rattle.area_image.specs.layout.declared.geometry.Space.TheVariants as space
-use Rattle.area_image.specs.layout.declared.slot.Slot.{Slot}
-use Rattle.area_image.specs.layout.declared.slot.Slot.TheVariants as slots
-use Rattle.area_image.specs.layout.Places.{Sizes, is_inode, slot_block, node_blocks, node_end}
-use Rattle.area_image.specs.Store.{Store, slot, root_of, length_of, space_of, place, graph}
-use Rattle.area_image.specs.Reads.{InodeReads}
-use Rattle.area_image.specs.Format.{IsSpelled, KeepsUnits}
-use Rattle.area_image.specs.Units.{slot_units}
-use Rattle.area_image.proofs.Complete.{root_inode}
-use Rattle.area_image.proofs.Lists.{place_placed}
+use Rattle.posix_calls.specs.Tree.{sum_up_to}
+use Rattle.tier_device.specs.declared.media.Tier.{Tier}
+use Rattle.tier_device.specs.declared.media.Tier.TheVariants.{Fast, Block, Slow}
+use Rattle.file_graph.specs.Graph.{cost}
+use Rattle.file_graph.specs.Units.{charge}
+use Rattle.layout.specs.declared.geometry.Space.TheVariants as space
+use Rattle.layout.specs.declared.slot.Slot.{Slot}
+use Rattle.layout.specs.declared.slot.Slot.TheVariants as slots
+use Rattle.layout.specs.Places.{Sizes, is_inode, slot_block, node_blocks, node_end}
+use Rattle.area_reader.specs.Store.{Store, slot, root_of, length_of, space_of, place, graph}
+use Rattle.area_reader.specs.Reads.{InodeReads}
+use Rattle.area_reader.specs.Format.{IsSpelled, KeepsUnits}
+use Rattle.area_reader.specs.Units.{slot_units}
+use Rattle.area_reader.proofs.Complete.{root_inode}
+use Rattle.area_reader.proofs.Lists.{place_placed}
 use Rattle.area_commit.specs.Value.{PoolsView, AreFree}
 use Rattle.area_commit.proofs.Members.{cons_here, cons_there}
 use Rattle.area_commit.proofs.Counting.{in_or_not, covers, pieces, in_pieces, pieces_few, sum_more, sum_times}

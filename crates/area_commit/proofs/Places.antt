@@ -1,12 +1,12 @@
 -- Logical blocks, by where they lie.
 use Rattle.std.proofs.Common.{◌≡◌, ◌≢◌, ◌≤◌, ◌<◌, ℕ, List, [], refl, ap, ◌∙◌, arith, Option, Some, None}
 use Rattle.std.specs.Prelude.{is_some}
-use Rattle.area_image.specs.tier_device.declared.media.Tier.{Tier}
-use Rattle.area_image.specs.tier_device.declared.media.Tier.TheVariants.{Fast, Block, Slow}
-use Rattle.area_image.specs.layout.Places.{Sizes}
-use Rattle.area_image.specs.batch_journal.Blocks.{Blocks}
-use Rattle.area_image.specs.extent_tree.Map.{TierRuns, lies_at, LieOnce}
-use Rattle.area_image.specs.Store.{Store, place, at_or, logical_block}
+use Rattle.tier_device.specs.declared.media.Tier.{Tier}
+use Rattle.tier_device.specs.declared.media.Tier.TheVariants.{Fast, Block, Slow}
+use Rattle.layout.specs.Places.{Sizes}
+use Rattle.batch_journal.specs.Blocks.{Blocks}
+use Rattle.extent_tree.specs.Map.{TierRuns, lies_at, LieOnce}
+use Rattle.area_reader.specs.Store.{Store, place, at_or, logical_block}
 use Rattle.area_commit.specs.InodeRewrite.{logical_by}
 
 -- a block in the first of three tiers where it lies

@@ -3,16 +3,16 @@ use Rattle.std.proofs.Common.{◌≡◌, ◌≢◌, ◌≤◌, ◌<◌, ℕ, Lis
 use Rattle.std.specs.Prelude.{is_some, option_map}
 use Rattle.std.specs.List.{Contains}
 use Rattle.std.proofs.lemmas.List.Elements.{Contains-get_or}
-use Rattle.area_image.specs.tier_device.declared.media.Tier.{Tier}
-use Rattle.area_image.specs.tier_device.declared.media.Tier.TheVariants.{Fast, Block, Slow}
-use Rattle.area_image.specs.layout.declared.slot.Slot.{Slot}
-use Rattle.area_image.specs.layout.Marks.{marks_spelling}
-use Rattle.area_image.specs.layout.Places.{Sizes, is_inode, slot_block, slot_byte, node_end, data_first}
-use Rattle.area_image.specs.batch_journal.Blocks.{Blocks}
-use Rattle.area_image.specs.batch_journal.Images.{slice, image_for, or_else}
-use Rattle.area_image.specs.extent_tree.Map.{TierRuns}
-use Rattle.area_image.specs.Store.{Store, slot_bytes}
-use Rattle.area_image.specs.Reads.{IsRoom, Free, Loose}
+use Rattle.tier_device.specs.declared.media.Tier.{Tier}
+use Rattle.tier_device.specs.declared.media.Tier.TheVariants.{Fast, Block, Slow}
+use Rattle.layout.specs.declared.slot.Slot.{Slot}
+use Rattle.layout.specs.Marks.{marks_spelling}
+use Rattle.layout.specs.Places.{Sizes, is_inode, slot_block, slot_byte, node_end, data_first}
+use Rattle.batch_journal.specs.Blocks.{Blocks}
+use Rattle.batch_journal.specs.Images.{slice, image_for, or_else}
+use Rattle.extent_tree.specs.Map.{TierRuns}
+use Rattle.area_reader.specs.Store.{Store, slot_bytes}
+use Rattle.area_reader.specs.Reads.{IsRoom, Free, Loose}
 use Rattle.area_commit.specs.Batches.{IsPutIn}
 use Rattle.area_commit.specs.Allocations.{taken_data}
 use Rattle.area_commit.specs.DataWrite.{block_at, HoldData}

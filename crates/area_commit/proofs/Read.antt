@@ -1,14 +1,14 @@
 -- A plan is written once the blocks of its slots are read.
 use Rattle.std.proofs.Common.{◌≡◌, ◌≤◌, ℕ, List, length, ap}
 use Rattle.std.specs.Prelude.{Result}
-use Rattle.area_image.specs.tier_device.declared.media.Media.{Ghosts}
-use Rattle.area_image.specs.tier_device.declared.media.Tier.{Tier}
-use Rattle.area_image.specs.layout.Places.{Sizes}
-use Rattle.area_image.specs.batch_journal.View.{JournalView}
-use Rattle.area_image.specs.declared.error.AreaError.{AreaError}
-use Rattle.area_image.specs.Store.{Store, disk}
-use Rattle.area_image.specs.Looks.{Looks}
-use Rattle.area_image.proofs.Looked.{carried_back}
+use Rattle.tier_device.specs.declared.media.Media.{Ghosts}
+use Rattle.tier_device.specs.declared.media.Tier.{Tier}
+use Rattle.layout.specs.Places.{Sizes}
+use Rattle.batch_journal.specs.View.{JournalView}
+use Rattle.area_reader.specs.declared.error.AreaError.{AreaError}
+use Rattle.area_reader.specs.Store.{Store, disk}
+use Rattle.area_reader.specs.Looks.{Looks}
+use Rattle.area_reader.proofs.Looked.{carried_back}
 use Rattle.area_commit.specs.declared.plan.Rewrite.{Rewrite}
 use Rattle.area_commit.specs.PlanOutcome.{IsCarriedOut, AllOrNothing}
 use Rattle.area_commit.proofs.Course.{Rests, data_written}

@@ -3,22 +3,22 @@ use Rattle.std.proofs.Common.{◌≡◌, ◌≢◌, ◌≤◌, ◌<◌, ◌+◌,
 use Rattle.std.specs.Prelude.{nat_le, nat_lt, option_map}
 use Rattle.std.specs.List.{Contains}
 use Rattle.std.proofs.lemmas.Bool.{and_parts, leb-true, ltb-true}
-use Rattle.area_image.specs.posix_calls.Tree.{sum_up_to}
-use Rattle.area_image.specs.tier_device.declared.media.Tier.{Tier}
-use Rattle.area_image.specs.tier_device.declared.media.Tier.TheVariants.{Fast, Block, Slow}
-use Rattle.area_image.specs.file_graph.Graph.{Graph, cost}
-use Rattle.area_image.specs.file_graph.Units.{charge}
-use Rattle.area_image.specs.layout.declared.slot.Slot.{Slot}
-use Rattle.area_image.specs.layout.declared.slot.Slot.TheVariants as slots
-use Rattle.area_image.specs.layout.Places.{Sizes, is_inode, node_end}
-use Rattle.area_image.specs.Store.{Store, slot, root_of, length_of, place, graph}
-use Rattle.area_image.specs.Format.{IsSpelled}
-use Rattle.area_image.specs.Units.{slot_units}
-use Rattle.area_image.proofs.Complete.{used_root, root_inode}
-use Rattle.area_image.proofs.Costs.{units_told}
-use Rattle.area_image.proofs.Damages.{is_some_at}
-use Rattle.area_image.proofs.Lists.{place_placed, slot_here_fits}
-use Rattle.area_image.proofs.Shown.{slot_limits, inode_is}
+use Rattle.posix_calls.specs.Tree.{sum_up_to}
+use Rattle.tier_device.specs.declared.media.Tier.{Tier}
+use Rattle.tier_device.specs.declared.media.Tier.TheVariants.{Fast, Block, Slow}
+use Rattle.file_graph.specs.Graph.{Graph, cost}
+use Rattle.file_graph.specs.Units.{charge}
+use Rattle.layout.specs.declared.slot.Slot.{Slot}
+use Rattle.layout.specs.declared.slot.Slot.TheVariants as slots
+use Rattle.layout.specs.Places.{Sizes, is_inode, node_end}
+use Rattle.area_reader.specs.Store.{Store, slot, root_of, length_of, place, graph}
+use Rattle.area_reader.specs.Format.{IsSpelled}
+use Rattle.area_reader.specs.Units.{slot_units}
+use Rattle.area_reader.proofs.Complete.{used_root, root_inode}
+use Rattle.area_reader.proofs.Costs.{units_told}
+use Rattle.area_reader.proofs.Damages.{is_some_at}
+use Rattle.area_reader.proofs.Lists.{place_placed, slot_here_fits}
+use Rattle.area_reader.proofs.Shown.{slot_limits, inode_is}
 use Rattle.area_commit.proofs.Members.{cons_here}
 use Rattle.area_commit.proofs.Counting.{pieces, in_pieces, pieces_few, three_few, sum_ones}
 

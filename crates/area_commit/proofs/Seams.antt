@@ -5,12 +5,12 @@ use Rattle.std.specs.List.{range_with_len}
 use Rattle.std.proofs.lemmas.Bool.{cases_lt}
 use Rattle.std.proofs.lemmas.List.{take_all, take_more, set_at, append-nil, length-take-le, take-append-drop}
 use Rattle.std.proofs.lemmas.List.Concat.{flat_map-append}
-use Rattle.area_image.specs.tier_device.declared.media.Tier.{Tier}
-use Rattle.area_image.specs.block_alloc.declared.runs.Run.{Run}
-use Rattle.area_image.specs.block_alloc.Runs.{run_blocks, blocks_of, AreNormalRuns, Rising}
-use Rattle.area_image.specs.block_alloc.Value.{FreeBlocks, SamePool}
-use Rattle.area_image.proofs.block_alloc_lemmas.Blocks.{range-split, blocks-push}
-use Rattle.area_image.proofs.block_alloc_lemmas.Joins.{normal-two, last-replaced, last-within, normal-wider, length-run}
+use Rattle.tier_device.specs.declared.media.Tier.{Tier}
+use Rattle.block_alloc.specs.declared.runs.Run.{Run}
+use Rattle.block_alloc.specs.Runs.{run_blocks, blocks_of, AreNormalRuns, Rising}
+use Rattle.block_alloc.specs.Value.{FreeBlocks, SamePool}
+use Rattle.block_alloc.proofs.Blocks.{range-split, blocks-push}
+use Rattle.block_alloc.proofs.Joins.{normal-two, last-replaced, last-within, normal-wider, length-run}
 use Rattle.area_commit.specs.Value.{PoolsView, data_pool}
 use Rattle.area_commit.specs.declared.allocation.Allocation.{Allocation}
 use Rattle.area_commit.specs.Allocations.{CanGive, CanRelease, SameBlocks, WasTaken, TakesMore, runs_of}

@@ -3,16 +3,16 @@ use Rattle.std.proofs.Common.{◌≡◌, ◌≢◌, ◌⊎◌, inl, inr, ℕ, ze
 use Rattle.std.specs.List.{Contains}
 use Rattle.std.proofs.lemmas.Bool.{cases_Bool, cases_order, cond-true, cond-false, eq-eqb, eqb-true, or_left, or_right}
 use Rattle.std.proofs.lemmas.List.{length-append, length-replicate}
-use Rattle.area_image.specs.tier_device.Media.{Torn}
-use Rattle.area_image.specs.tier_device.RecordLaws.{torn_overwritten}
-use Rattle.area_image.proofs.file_graph_lemmas.Fields.{u32_long, u64_long}
-use Rattle.area_image.specs.layout.declared.slot.Slot.{Slot}
-use Rattle.area_image.specs.layout.declared.slot_fields.SlotFields.{SlotFields}
-use Rattle.area_image.specs.layout.Places.{slot_block, slot_byte}
-use Rattle.area_image.specs.layout.Bytes.{u32, u64, padded_text, zeros}
-use Rattle.area_image.specs.layout.Slot.{slot_fields, slot_text, slot_spelling}
-use Rattle.area_image.specs.batch_journal.Images.{slice}
-use Rattle.area_image.proofs.batch_journal_lemmas.Bytes.{slice_apart, slice_written}
+use Rattle.tier_device.specs.Media.{Torn}
+use Rattle.tier_device.specs.RecordLaws.{torn_overwritten}
+use Rattle.file_graph.proofs.Fields.{u32_long, u64_long}
+use Rattle.layout.specs.declared.slot.Slot.{Slot}
+use Rattle.layout.specs.declared.slot_fields.SlotFields.{SlotFields}
+use Rattle.layout.specs.Places.{slot_block, slot_byte}
+use Rattle.layout.specs.Bytes.{u32, u64, padded_text, zeros}
+use Rattle.layout.specs.Slot.{slot_fields, slot_text, slot_spelling}
+use Rattle.batch_journal.specs.Images.{slice}
+use Rattle.batch_journal.proofs.Bytes.{slice_apart, slice_written}
 use Rattle.area_commit.specs.declared.slots.ChangedSlot.{ChangedSlot}
 use Rattle.area_commit.specs.Slots.{RiseIn, has_slot, with_slot, with_slots}
 

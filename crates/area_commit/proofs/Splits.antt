@@ -2,9 +2,9 @@
 use Rattle.std.proofs.Common.{◌≡◌, ◌<◌, ℕ, ◌+◌, List, [], ◌∷◌, ◌++◌, length, take, drop, sym, ap, ◌∙◌, refl, arith, subst, append_assoc, length-append}
 use Rattle.std.specs.Prelude.{Result, Ok, Err, IfOk, OnOk}
 use Rattle.std.proofs.lemmas.List.{take_at, drop_at, append-nil, map-append, length-map}
-use Rattle.area_image.specs.tier_device.declared.media.Tier.{Tier}
-use Rattle.area_image.specs.tier_device.declared.media.Tier.TheVariants.{Fast, Block, Slow}
-use Rattle.area_image.specs.block_alloc.Runs.{blocks_of}
+use Rattle.tier_device.specs.declared.media.Tier.{Tier}
+use Rattle.tier_device.specs.declared.media.Tier.TheVariants.{Fast, Block, Slow}
+use Rattle.block_alloc.specs.Runs.{blocks_of}
 use Rattle.area_commit.specs.Value.{PoolsView, on_tier, free_data}
 use Rattle.area_commit.specs.Allocations.{taken_data, WereTaken}
 use Rattle.area_commit.specs.declared.allocation.Allocation.{Allocation}

@@ -5,15 +5,15 @@ use Rattle.std.specs.Prelude.{◌||◌, nat_lt}
 use Rattle.std.proofs.lemmas.Bool.{le-leb}
 use Rattle.std.proofs.lemmas.List.{take-append-drop, take_at, drop_at, drop-drop, length-take-le, length-drop}
 use Rattle.std.proofs.lemmas.List.Concat.{flat_map-append}
-use Rattle.area_image.specs.tier_device.declared.media.Tier.{Tier}
-use Rattle.area_image.specs.tier_device.declared.media.Tier.TheVariants.{Fast, Block, Slow}
-use Rattle.area_image.specs.layout.Places.{Sizes, data_first, tier_blocks, node_end}
-use Rattle.area_image.specs.block_alloc.declared.runs.Run.{Run}
-use Rattle.area_image.specs.block_alloc.Runs.{blocks_of, AreNormalRuns, Rising}
-use Rattle.area_image.proofs.block_alloc_lemmas.Blocks.{normal-rising}
-use Rattle.area_image.specs.batch_journal.Images.{slice}
-use Rattle.area_image.specs.batch_journal.Blocks.{block_of, home, is_home}
-use Rattle.area_image.specs.Store.{Store, store_of}
+use Rattle.tier_device.specs.declared.media.Tier.{Tier}
+use Rattle.tier_device.specs.declared.media.Tier.TheVariants.{Fast, Block, Slow}
+use Rattle.layout.specs.Places.{Sizes, data_first, tier_blocks, node_end}
+use Rattle.block_alloc.specs.declared.runs.Run.{Run}
+use Rattle.block_alloc.specs.Runs.{blocks_of, AreNormalRuns, Rising}
+use Rattle.block_alloc.proofs.Blocks.{normal-rising}
+use Rattle.batch_journal.specs.Images.{slice}
+use Rattle.batch_journal.specs.Blocks.{block_of, home, is_home}
+use Rattle.area_reader.specs.Store.{Store, store_of}
 use Rattle.area_commit.specs.Value.{on_tier}
 use Rattle.area_commit.specs.Allocations.{tier_places}
 use Rattle.area_commit.specs.DataWrite.{block_at, HoldParts, HoldData}

@@ -2,17 +2,17 @@
 use Rattle.std.proofs.Common.{◌≡◌, ◌↔◌, inl, inr, ℕ, Bool, true, false, refl, sym, ap, ◌∙◌, subst, Option, Some, None}
 use Rattle.std.specs.Prelude.{◌==◌, option_map}
 use Rattle.std.proofs.lemmas.Bool.{true≢false, ne_eqb, cond-false}
-use Rattle.area_image.specs.tier_device.declared.media.Tier.{Tier}
-use Rattle.area_image.specs.tier_device.declared.media.Tier.TheVariants.{Fast}
-use Rattle.area_image.specs.layout.declared.slot.Slot.{Slot}
-use Rattle.area_image.specs.layout.Places.{Sizes, is_inode}
-use Rattle.area_image.specs.extent_tree.Map.{TierRuns}
-use Rattle.area_image.specs.Store.{Store, slot, root_of}
-use Rattle.area_image.specs.Reads.{IsRoom, Untouched}
-use Rattle.area_image.specs.Format.{Use, used_block, IsSpelled}
-use Rattle.area_image.proofs.Frames.{block_for-kept}
-use Rattle.area_image.proofs.Lists.{place_placed, slot_here_fits}
-use Rattle.area_image.proofs.Shown.{slot_limits}
+use Rattle.tier_device.specs.declared.media.Tier.{Tier}
+use Rattle.tier_device.specs.declared.media.Tier.TheVariants.{Fast}
+use Rattle.layout.specs.declared.slot.Slot.{Slot}
+use Rattle.layout.specs.Places.{Sizes, is_inode}
+use Rattle.extent_tree.specs.Map.{TierRuns}
+use Rattle.area_reader.specs.Store.{Store, slot, root_of}
+use Rattle.area_reader.specs.Reads.{IsRoom, Untouched}
+use Rattle.area_reader.specs.Format.{Use, used_block, IsSpelled}
+use Rattle.area_reader.proofs.Frames.{block_for-kept}
+use Rattle.area_reader.proofs.Lists.{place_placed, slot_here_fits}
+use Rattle.area_reader.proofs.Shown.{slot_limits}
 use Rattle.area_commit.specs.InodeRewrite.{IsWritten, IsFit, block_by}
 use Rattle.area_commit.specs.StoreRewrite.{MayTake, AreWrittenAnew}
 use Rattle.area_commit.proofs.TakenPlaces.{LieInPools, use_room}

@@ -1,10 +1,10 @@
 -- Data goes to three tiers in turn.
 use Rattle.std.proofs.Common.{◌≡◌, ◌≢◌, ◌≤◌, ◌<◌, ◌+◌, ◌∙◌, inl, inr, ℕ, List, [], ◌∷◌, length, refl, sym, subst, arith}
 use Rattle.std.proofs.lemmas.Bool.{cases_lt}
-use Rattle.area_image.specs.tier_device.declared.media.Tier.{Tier}
-use Rattle.area_image.specs.tier_device.declared.media.Tier.TheVariants.{Fast, Block, Slow}
-use Rattle.area_image.specs.tier_device.AfterStop.{AtRest}
-use Rattle.area_image.specs.block_alloc.declared.runs.Run.{Run}
+use Rattle.tier_device.specs.declared.media.Tier.{Tier}
+use Rattle.tier_device.specs.declared.media.Tier.TheVariants.{Fast, Block, Slow}
+use Rattle.tier_device.specs.AfterStop.{AtRest}
+use Rattle.block_alloc.specs.declared.runs.Run.{Run}
 use Rattle.area_commit.specs.DataWrite.{IsKept, WritesIn, FencesInTurn, GoesInTurn, fences_of}
 
 -- a tier in which runs are written is fenced once

@@ -1,10 +1,10 @@
 -- What is taken from the pools.
 use Rattle.std.specs.Prelude.{◌≡◌, ◌<◌, ◌≤◌, ◌+◌, ◌++◌, ℕ, List, [], length}
-use Rattle.area_image.specs.tier_device.declared.media.Tier.{Tier}
-use Rattle.area_image.specs.tier_device.declared.media.Tier.TheVariants as tiers
-use Rattle.area_image.specs.block_alloc.declared.runs.Run.{Run}
-use Rattle.area_image.specs.block_alloc.Runs.{blocks_of, AreNormalRuns, Rising}
-use Rattle.area_image.specs.block_alloc.Value.{FreeBlocks, SamePool}
+use Rattle.tier_device.specs.declared.media.Tier.{Tier}
+use Rattle.tier_device.specs.declared.media.Tier.TheVariants as tiers
+use Rattle.block_alloc.specs.declared.runs.Run.{Run}
+use Rattle.block_alloc.specs.Runs.{blocks_of, AreNormalRuns, Rising}
+use Rattle.block_alloc.specs.Value.{FreeBlocks, SamePool}
 use Rattle.area_commit.specs.Value.{PoolsView, data_pool, on_tier, AreInOrder}
 use Rattle.area_commit.specs.declared.allocation.Allocation.{Allocation}
 

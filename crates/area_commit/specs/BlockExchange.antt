@@ -1,13 +1,13 @@
 -- What becomes of the blocks of inodes that are rewritten.
 use Rattle.std.specs.Prelude.{◌≡◌, ◌<◌, ◌≤◌, ◌↔◌, ◌⊎◌, ℕ, Bool, true, false, List, [], ◌∷◌, Some}
 use Rattle.std.specs.List.{Contains}
-use Rattle.area_image.specs.tier_device.declared.media.Tier.{Tier}
-use Rattle.area_image.specs.tier_device.declared.media.Tier.TheVariants.{Fast}
-use Rattle.area_image.specs.file_graph.Graph.{is_among}
-use Rattle.area_image.specs.layout.Places.{Sizes, is_inode, node_end, data_first}
-use Rattle.area_image.specs.block_alloc.Runs.{blocks_of}
-use Rattle.area_image.specs.Store.{Store}
-use Rattle.area_image.specs.Format.{Use, used_block}
+use Rattle.tier_device.specs.declared.media.Tier.{Tier}
+use Rattle.tier_device.specs.declared.media.Tier.TheVariants.{Fast}
+use Rattle.file_graph.specs.Graph.{is_among}
+use Rattle.layout.specs.Places.{Sizes, is_inode, node_end, data_first}
+use Rattle.block_alloc.specs.Runs.{blocks_of}
+use Rattle.area_reader.specs.Store.{Store}
+use Rattle.area_reader.specs.Format.{Use, used_block}
 use Rattle.area_commit.specs.Value.{PoolsView, data_pool}
 use Rattle.area_commit.specs.declared.allocation.Allocation.{Allocation}
 use Rattle.area_commit.specs.Allocations.{runs_of}

@@ -1,23 +1,23 @@
 -- What a journal is while data is written to free blocks.
 use Rattle.std.specs.Prelude.{◌≡◌, ◌≤◌, ◌<◌, ◌+◌, ◌*◌, ℕ, List, [], ◌∷◌, take, drop, get_or, length, true, false, Result, OnOk, IfErr}
 use Rattle.std.specs.List.{Contains, flat_map}
-use Rattle.area_image.specs.tier_device.declared.media.Media.{Ghosts}
-use Rattle.area_image.specs.tier_device.declared.media.Tier.{Tier}
-use Rattle.area_image.specs.tier_device.declared.media.Tier.TheVariants.{Fast, Block, Slow}
-use Rattle.area_image.specs.tier_device.Media.{Rose}
-use Rattle.area_image.specs.tier_device.AfterStop.{AtRest}
-use Rattle.area_image.specs.layout.Places.{Sizes, data_first, tier_blocks}
-use Rattle.area_image.specs.block_alloc.declared.runs.Run.{Run}
-use Rattle.area_image.specs.block_alloc.Runs.{blocks_of, AreNormalRuns}
-use Rattle.area_image.specs.batch_journal.Images.{slice}
-use Rattle.area_image.specs.batch_journal.Blocks.{block_of}
-use Rattle.area_image.specs.batch_journal.Course.{Since}
-use Rattle.area_image.specs.batch_journal.View.{JournalView}
-use Rattle.area_image.specs.batch_journal.Volume.{IsJournal}
-use Rattle.area_image.specs.batch_journal.declared.error.JournalError.{JournalError}
-use Rattle.area_image.specs.batch_journal.declared.error.JournalError.TheVariants.{DeviceFault}
-use Rattle.area_image.specs.Store.{Store, content_blocks}
-use Rattle.area_image.specs.Reads.{Free, LooseIn}
+use Rattle.tier_device.specs.declared.media.Media.{Ghosts}
+use Rattle.tier_device.specs.declared.media.Tier.{Tier}
+use Rattle.tier_device.specs.declared.media.Tier.TheVariants.{Fast, Block, Slow}
+use Rattle.tier_device.specs.Media.{Rose}
+use Rattle.tier_device.specs.AfterStop.{AtRest}
+use Rattle.layout.specs.Places.{Sizes, data_first, tier_blocks}
+use Rattle.block_alloc.specs.declared.runs.Run.{Run}
+use Rattle.block_alloc.specs.Runs.{blocks_of, AreNormalRuns}
+use Rattle.batch_journal.specs.Images.{slice}
+use Rattle.batch_journal.specs.Blocks.{block_of}
+use Rattle.batch_journal.specs.Course.{Since}
+use Rattle.batch_journal.specs.View.{JournalView}
+use Rattle.batch_journal.specs.Volume.{IsJournal}
+use Rattle.batch_journal.specs.declared.error.JournalError.{JournalError}
+use Rattle.batch_journal.specs.declared.error.JournalError.TheVariants.{DeviceFault}
+use Rattle.area_reader.specs.Store.{Store, content_blocks}
+use Rattle.area_reader.specs.Reads.{Free, LooseIn}
 use Rattle.area_commit.specs.declared.allocation.Allocation.{Allocation}
 use Rattle.area_commit.specs.Allocations.{runs_of}
 

@@ -1,19 +1,19 @@
 -- What is to be written of some inodes, and in which blocks.
 use Rattle.std.specs.Prelude.{◌≡◌, ◌≤◌, ◌<◌, ◌+◌, ◌*◌, ◌==◌, ◌↔◌, ◌⊎◌, min, ℕ, Bool, true, List, [], ◌∷◌, length, Option, Some, IsSome, IfSome}
 use Rattle.std.specs.List.{Contains, list_any}
-use Rattle.area_image.specs.posix_calls.declared.limits.TheConstants.{MAX_INODE}
-use Rattle.area_image.specs.tier_device.declared.media.Tier.{Tier}
-use Rattle.area_image.specs.tier_device.declared.media.Tier.TheVariants as tiers
-use Rattle.area_image.specs.layout.declared.slot.Slot.{Slot}
-use Rattle.area_image.specs.layout.Marks.{fits_marks}
-use Rattle.area_image.specs.layout.Places.{Sizes, node_end, data_first}
-use Rattle.area_image.specs.block_alloc.declared.runs.Run.{Run}
-use Rattle.area_image.specs.block_alloc.Runs.{Apart, blocks_of}
-use Rattle.area_image.specs.batch_journal.Images.{image_for, with_images}
-use Rattle.area_image.specs.extent_tree.Map.{TierRuns, runs_in}
-use Rattle.area_image.specs.Store.{Store, root_of}
-use Rattle.area_image.specs.Reads.{Free}
-use Rattle.area_image.specs.Format.{Use, used_block}
+use Rattle.posix_calls.specs.declared.limits.TheConstants.{MAX_INODE}
+use Rattle.tier_device.specs.declared.media.Tier.{Tier}
+use Rattle.tier_device.specs.declared.media.Tier.TheVariants as tiers
+use Rattle.layout.specs.declared.slot.Slot.{Slot}
+use Rattle.layout.specs.Marks.{fits_marks}
+use Rattle.layout.specs.Places.{Sizes, node_end, data_first}
+use Rattle.block_alloc.specs.declared.runs.Run.{Run}
+use Rattle.block_alloc.specs.Runs.{Apart, blocks_of}
+use Rattle.batch_journal.specs.Images.{image_for, with_images}
+use Rattle.extent_tree.specs.Map.{TierRuns, runs_in}
+use Rattle.area_reader.specs.Store.{Store, root_of}
+use Rattle.area_reader.specs.Reads.{Free}
+use Rattle.area_reader.specs.Format.{Use, used_block}
 use Rattle.area_commit.specs.InodeRewrite.{IsFit, IsListed, block_by}
 use Rattle.area_commit.specs.StoreRewrite.{HasBlockFor}
 use Rattle.area_commit.specs.declared.slots.ChangedSlot.{ChangedSlot}

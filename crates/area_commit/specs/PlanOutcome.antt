@@ -1,17 +1,17 @@
 -- What holds once a plan is carried out, and at each moment before that.
 use Rattle.std.specs.Prelude.{◌≡◌, ◌≢◌, ◌≤◌, ◌⊎◌, true, ℕ, List, Some, None, option_map}
 use Rattle.std.specs.List.{Contains}
-use Rattle.area_image.specs.tier_device.declared.media.Tier.{Tier}
-use Rattle.area_image.specs.tier_device.declared.media.Tier.TheVariants as tiers
-use Rattle.area_image.specs.tier_device.AfterStop.{Left}
-use Rattle.area_image.specs.layout.declared.places.TheConstants.{SUPER_BLOCK, MARKS_BLOCK}
-use Rattle.area_image.specs.layout.Marks.{marks_spelling}
-use Rattle.area_image.specs.layout.Places.{Sizes, is_inode}
-use Rattle.area_image.specs.layout.Slot.{slot_spelling}
-use Rattle.area_image.specs.batch_journal.Images.{image_for, or_else}
-use Rattle.area_image.specs.batch_journal.Volume.{IsVolume}
-use Rattle.area_image.specs.Store.{Store, store_of, slot_bytes}
-use Rattle.area_image.specs.Reads.{IsRoom, Free, Loose}
+use Rattle.tier_device.specs.declared.media.Tier.{Tier}
+use Rattle.tier_device.specs.declared.media.Tier.TheVariants as tiers
+use Rattle.tier_device.specs.AfterStop.{Left}
+use Rattle.layout.specs.declared.places.TheConstants.{SUPER_BLOCK, MARKS_BLOCK}
+use Rattle.layout.specs.Marks.{marks_spelling}
+use Rattle.layout.specs.Places.{Sizes, is_inode}
+use Rattle.layout.specs.Slot.{slot_spelling}
+use Rattle.batch_journal.specs.Images.{image_for, or_else}
+use Rattle.batch_journal.specs.Volume.{IsVolume}
+use Rattle.area_reader.specs.Store.{Store, store_of, slot_bytes}
+use Rattle.area_reader.specs.Reads.{IsRoom, Free, Loose}
 use Rattle.area_commit.specs.declared.slots.ChangedSlot.{ChangedSlot}
 use Rattle.area_commit.specs.Allocations.{taken_data}
 use Rattle.area_commit.specs.DataWrite.{HoldData}

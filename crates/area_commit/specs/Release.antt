@@ -1,9 +1,9 @@
 -- Runs of blocks that are given back to a pool.
 use Rattle.std.specs.Prelude.{◌↔◌, ◌⊎◌, ◌≤◌, ◌<◌, ℕ, List, [], ◌∷◌}
 use Rattle.std.specs.List.{Contains}
-use Rattle.area_image.specs.block_alloc.declared.runs.Run.{Run}
-use Rattle.area_image.specs.block_alloc.Runs.{Apart, blocks_of}
-use Rattle.area_image.specs.block_alloc.Value.{FreeBlocks, IsUsed, SamePool}
+use Rattle.block_alloc.specs.declared.runs.Run.{Run}
+use Rattle.block_alloc.specs.Runs.{Apart, blocks_of}
+use Rattle.block_alloc.specs.Value.{FreeBlocks, IsUsed, SamePool}
 
 -- Each of the runs has a block or more of the pool's range, none of which is free or of another of the runs.
 abbrev pub AreUsed : FreeBlocks → List Run → Type 0

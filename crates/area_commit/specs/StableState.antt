@@ -1,13 +1,13 @@
 -- What stands between two changes of the media, and after one that is not made.
 use Rattle.std.specs.Prelude.{◌≡◌, ℕ, List, false}
-use Rattle.area_image.specs.tier_device.declared.media.Media.{Ghosts}
-use Rattle.area_image.specs.tier_device.declared.media.Tier.{Tier}
-use Rattle.area_image.specs.tier_device.AfterStop.{AtRest}
-use Rattle.area_image.specs.layout.Places.{Sizes}
-use Rattle.area_image.specs.batch_journal.Course.{Unmoved}
-use Rattle.area_image.specs.batch_journal.View.{JournalView}
-use Rattle.area_image.specs.Store.{store_of}
-use Rattle.area_image.specs.Format.{IsOpenable}
+use Rattle.tier_device.specs.declared.media.Media.{Ghosts}
+use Rattle.tier_device.specs.declared.media.Tier.{Tier}
+use Rattle.tier_device.specs.AfterStop.{AtRest}
+use Rattle.layout.specs.Places.{Sizes}
+use Rattle.batch_journal.specs.Course.{Unmoved}
+use Rattle.batch_journal.specs.View.{JournalView}
+use Rattle.area_reader.specs.Store.{store_of}
+use Rattle.area_reader.specs.Format.{IsOpenable}
 use Rattle.area_commit.specs.Value.{PoolsView, HasRanges, AreFree}
 
 -- The media spell a graph, and nothing is pending on them; the pools have the free blocks.

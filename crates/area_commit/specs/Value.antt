@@ -1,17 +1,17 @@
 -- The free blocks of four pools, as callers see them.
 use Rattle.std.specs.Prelude.{◌≡◌, ◌<◌, ◌≤◌, ◌↔◌, ◌⊎◌, ◌+◌, ◌++◌, ◌^◌, ℕ, List, false, Some, map}
 use Rattle.std.specs.List.{Contains}
-use Rattle.area_image.specs.tier_device.declared.media.Tier.{Tier}
-use Rattle.area_image.specs.tier_device.declared.media.Tier.TheVariants as tiers
-use Rattle.area_image.specs.layout.declared.places.TheConstants.{FIRST_NODE_BLOCK}
-use Rattle.area_image.specs.layout.Places.{Sizes, node_end, data_first, tier_blocks}
-use Rattle.area_image.specs.block_alloc.declared.runs.Run.{Run}
-use Rattle.area_image.specs.block_alloc.Runs.{run_blocks}
-use Rattle.area_image.specs.block_alloc.Value.{FreeBlocks, InOrder, SamePool}
-use Rattle.area_image.specs.Store.{Store}
-use Rattle.area_image.specs.Reads.{Free}
-use Rattle.area_image.specs.Format.{Use, used_block}
-use Rattle.area_image.specs.BlockMarks.{UsedMarks, is_marked, IsMarked}
+use Rattle.tier_device.specs.declared.media.Tier.{Tier}
+use Rattle.tier_device.specs.declared.media.Tier.TheVariants as tiers
+use Rattle.layout.specs.declared.places.TheConstants.{FIRST_NODE_BLOCK}
+use Rattle.layout.specs.Places.{Sizes, node_end, data_first, tier_blocks}
+use Rattle.block_alloc.specs.declared.runs.Run.{Run}
+use Rattle.block_alloc.specs.Runs.{run_blocks}
+use Rattle.block_alloc.specs.Value.{FreeBlocks, InOrder, SamePool}
+use Rattle.area_reader.specs.Store.{Store}
+use Rattle.area_reader.specs.Reads.{Free}
+use Rattle.area_reader.specs.Format.{Use, used_block}
+use Rattle.area_reader.specs.BlockMarks.{UsedMarks, is_marked, IsMarked}
 
 -- the node pool, and the data blocks of each tier
 pub record PoolsView : Type 0 where

@@ -1,12 +1,12 @@
 // Taking runs of one pool, and giving them back.
 ghost use Rattle.std.specs.Prelude.{◌≡◌, ◌≢◌, ◌≤◌, ◌<◌, ◌+◌, ◌-◌, ◌++◌, ◌^◌, ℕ, [], length, take, drop, false, IsTrue, IfOk, OnOk, OnErr, IsErrOf, IfErr, ◌↔◌, vec_len, vec_capacity, slice_index_or};
-ghost use Rattle.area_image.specs.block_alloc.Runs.{blocks_of, AreNormalRuns, Rising};
-ghost use Rattle.area_image.specs.block_alloc.Value.{InOrder, IsUsed, SamePool};
+ghost use Rattle.block_alloc.specs.Runs.{blocks_of, AreNormalRuns, Rising};
+ghost use Rattle.block_alloc.specs.Value.{InOrder, IsUsed, SamePool};
 ghost use Rattle.area_commit.specs.Value.{GivesRun};
-ghost use Rattle.area_image.specs.block_alloc.declared.error.AllocatorError.TheVariants.{NoBlock, Memory};
+ghost use Rattle.block_alloc.specs.declared.error.AllocatorError.TheVariants.{NoBlock, Memory};
 ghost use Rattle.area_commit.specs.Allocations.{WasTaken, CanGive, WasGiven, SameBlocks};
 
-use area_image::{AllocatorError, FreeRuns, Run};
+use block_alloc::{AllocatorError, FreeRuns, Run};
 use std::alloc::{AllocError, Global};
 
 /// Blocks that were taken, as runs: of the node pool, and of the data blocks of each tier. The runs of a pool rise, and none touches the next.

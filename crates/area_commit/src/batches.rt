@@ -1,25 +1,25 @@
 // The images of a batch.
 ghost use Rattle.std.specs.Prelude.{◌≡◌, ◌≤◌, ◌<◌, ◌+◌, ◌-◌, ◌*◌, ◌⊎◌, ℕ, List, [], ◌∷◌, ◌++◌, Option, length, true, false, OnOk, IfOk, IfErr};
-ghost use Rattle.area_image.specs.posix_calls.declared.limits.TheConstants.{MAX_INODE};
-ghost use Rattle.area_image.specs.tier_device.declared.media.Tier.TheVariants.{Fast};
-ghost use Rattle.area_image.specs.layout.declared.places.TheConstants.{BLOCK, SLOTS_IN_BLOCK, MARKS_BLOCK, FIRST_NODE_BLOCK};
-ghost use Rattle.area_image.specs.layout.Places.{Sizes};
-ghost use Rattle.area_image.specs.batch_journal.Images.{next_of};
-ghost use Rattle.area_image.specs.batch_journal.Blocks.{AreJournaled};
-ghost use Rattle.area_image.specs.batch_journal.Volume.{KeepsGeometry};
-ghost use Rattle.area_image.specs.Store.{disk};
-ghost use Rattle.area_image.specs.Damage.{OnDamage};
-ghost use Rattle.area_image.specs.Looks.{Looks};
+ghost use Rattle.posix_calls.specs.declared.limits.TheConstants.{MAX_INODE};
+ghost use Rattle.tier_device.specs.declared.media.Tier.TheVariants.{Fast};
+ghost use Rattle.layout.specs.declared.places.TheConstants.{BLOCK, SLOTS_IN_BLOCK, MARKS_BLOCK, FIRST_NODE_BLOCK};
+ghost use Rattle.layout.specs.Places.{Sizes};
+ghost use Rattle.batch_journal.specs.Images.{next_of};
+ghost use Rattle.batch_journal.specs.Blocks.{AreJournaled};
+ghost use Rattle.batch_journal.specs.Volume.{KeepsGeometry};
+ghost use Rattle.area_reader.specs.Store.{disk};
+ghost use Rattle.area_reader.specs.Damage.{OnDamage};
+ghost use Rattle.area_reader.specs.Looks.{Looks};
 ghost use Rattle.area_commit.specs.Slots.{RiseIn, has_slot};
 ghost use Rattle.area_commit.specs.Batches.{AreNodes, HasSlotImages, images_for, marks_images, IsBatchOf};
 
 use crate::nodes::NodeImages;
 use crate::slots::{ChangedSlot, count_up_to, put_slots};
-use area_image::{
-    AreaError, Batch, FIRST_SLOT_BLOCK, Journal, MARKS_BLOCK, Marks, Media, Tier, blank_block,
-    read_block,
-};
+use area_reader::{AreaError, blank_block, read_block};
+use batch_journal::{Batch, Journal};
+use layout::{FIRST_SLOT_BLOCK, MARKS_BLOCK, Marks};
 use std::alloc::{AllocError, Global};
+use tier_device::{Media, Tier};
 
 /// Makes the batch that changes the slots of some inodes, the marks, if there are new ones, and blocks of the node pool. The blocks in which changed slots stand are read
 /// for it; nothing is written. `Memory` where there was none for the images.

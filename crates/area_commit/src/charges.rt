@@ -2,15 +2,15 @@
 
 ghost use Rattle.std.specs.Prelude.{◌≡◌, ◌+◌, ℕ, Bool, List, false, if◌then◌else◌};
 ghost use Rattle.std.specs.List.{sum_by};
-ghost use Rattle.area_image.specs.posix_calls.Tree.{sum_up_to};
-ghost use Rattle.area_image.specs.posix_calls.declared.limits.TheConstants.{MAX_INODE};
-ghost use Rattle.area_image.specs.file_graph.Graph.{Graph, cost, is_among};
-ghost use Rattle.area_image.specs.file_graph.Units.{charge};
-ghost use Rattle.area_image.specs.layout.Places.{Sizes};
-ghost use Rattle.area_image.specs.Store.{Store, slot, inode, graph};
-ghost use Rattle.area_image.specs.Format.{IsSpelled};
-ghost use Rattle.area_image.specs.Units.{slot_units};
-ghost use Rattle.area_image.specs.Rewrites.{Rewrites};
+ghost use Rattle.posix_calls.specs.Tree.{sum_up_to};
+ghost use Rattle.posix_calls.specs.declared.limits.TheConstants.{MAX_INODE};
+ghost use Rattle.file_graph.specs.Graph.{Graph, cost, is_among};
+ghost use Rattle.file_graph.specs.Units.{charge};
+ghost use Rattle.layout.specs.Places.{Sizes};
+ghost use Rattle.area_reader.specs.Store.{Store, slot, inode, graph};
+ghost use Rattle.area_reader.specs.Format.{IsSpelled};
+ghost use Rattle.area_reader.specs.Units.{slot_units};
+ghost use Rattle.area_reader.specs.Rewrites.{Rewrites};
 ghost use Rattle.area_commit.specs.BlockExchange.{AreInodesOnce};
 
 /// Where some inodes change, the charge falls by what they cost before, and rises by what they cost now. Of a store the slots tell what inodes cost.

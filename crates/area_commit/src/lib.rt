@@ -65,15 +65,3 @@ pub use rewrite_laws::{
 pub use room::{data_never_runs_out, nodes_never_run_out, small_changes_find_blocks};
 pub use slots::ChangedSlot;
 pub use store_laws::{changed_store_spells_the_graph_after, moved_store_spells_the_same_graph};
-
-// Passed on to the crates above, which so need not list those below.
-pub use area_image::{
-    AllocatorError, AreaError, BLOCK, BlockChange, BlockMap, CLIENTS, DirBlock, DirEntries,
-    DirEntry, Directory, EnterError, EntryRef, Extent, ExtentBlock, FILE_BLOCKS, Geometry,
-    GraphChange, InodeExtents, InodeParts, Journal, JournalError, Kind, MARKS_BLOCK, Mark, Marks,
-    Media, NodeBase, NodeChange, NodeLength, Place, Run, SLOT_SIZE, Slot, Super, Tier, What,
-    WrittenBlocks, blank_block, block_number, block_spells_a_map, bounded_entries_lead_to_inodes,
-    change_block, few_blocks_are_few_runs, first_place, is_inode, length_of, open_area, push,
-    read_all_extents, read_block, read_parts, read_slot, rewritten_inodes_are_spelled, root_of,
-    units_of,
-};

@@ -1,13 +1,15 @@
 // The images of an inode's extent blocks.
 ghost use Rattle.std.specs.Prelude.{◌≤◌, ◌+◌, length, OnOk, IfSome};
-ghost use Rattle.area_image.specs.tier_device.declared.media.Tier.{Tier};
-ghost use Rattle.area_image.specs.layout.declared.extents.TheConstants.{MAX_EXTENTS};
-ghost use Rattle.area_image.specs.Map.{in_tier};
+ghost use Rattle.tier_device.specs.declared.media.Tier.{Tier};
+ghost use Rattle.layout.specs.declared.extents.TheConstants.{MAX_EXTENTS};
+ghost use Rattle.area_reader.specs.Map.{in_tier};
 ghost use Rattle.area_commit.specs.Lists.{PutsList, PutsLists};
 
 use crate::nodes::NodeImages;
-use area_image::{ExtentBlock, InodeExtents, Slot, Tier, root_of};
+use area_reader::{InodeExtents, root_of};
+use layout::{ExtentBlock, Slot};
 use std::alloc::AllocError;
+use tier_device::Tier;
 
 // Puts the image of a tier's extents, where it has some.
 fn put_list(

@@ -1,14 +1,14 @@
 // A plan is written: data first, then the batch, then what was given up is free.
 ghost use Rattle.std.specs.Prelude.{◌≡◌, ◌≤◌, ◌+◌, ◌⊎◌, min, true, false, length, OnOk, OnErr, IfErr, IsErrOf};
-ghost use Rattle.area_image.specs.tier_device.declared.media.Tier.{Tier};
-ghost use Rattle.area_image.specs.tier_device.Media.{Rose};
-ghost use Rattle.area_image.specs.tier_device.AfterStop.{AtRest};
-ghost use Rattle.area_image.specs.batch_journal.Blocks.{AreJournaled};
-ghost use Rattle.area_image.specs.batch_journal.Volume.{KeepsGeometry};
-ghost use Rattle.area_image.specs.Store.{disk};
-ghost use Rattle.area_image.specs.Format.{IsSpelled};
-ghost use Rattle.area_image.specs.Looks.{Looks};
-ghost use Rattle.area_image.specs.declared.error.AreaError.TheVariants.{DeviceFault, Memory};
+ghost use Rattle.tier_device.specs.declared.media.Tier.{Tier};
+ghost use Rattle.tier_device.specs.Media.{Rose};
+ghost use Rattle.tier_device.specs.AfterStop.{AtRest};
+ghost use Rattle.batch_journal.specs.Blocks.{AreJournaled};
+ghost use Rattle.batch_journal.specs.Volume.{KeepsGeometry};
+ghost use Rattle.area_reader.specs.Store.{disk};
+ghost use Rattle.area_reader.specs.Format.{IsSpelled};
+ghost use Rattle.area_reader.specs.Looks.{Looks};
+ghost use Rattle.area_reader.specs.declared.error.AreaError.TheVariants.{DeviceFault, Memory};
 ghost use Rattle.area_commit.specs.Batches.{IsBatchOf, marks_images};
 ghost use Rattle.area_commit.specs.Value.{HasRanges, AreFree};
 ghost use Rattle.area_commit.specs.Allocations.{WasReleased};
@@ -21,8 +21,10 @@ use crate::laws::{freed_blocks_return, pools_have_the_free_blocks};
 use crate::plan::Rewrite;
 use crate::release::release_blocks;
 use crate::{Pools, batch_is_put, batch_of, write_data};
-use area_image::{AreaError, Batch, Journal, JournalError, Media};
+use area_reader::AreaError;
+use batch_journal::{Batch, Journal, JournalError};
 use std::alloc::Global;
+use tier_device::Media;
 
 // Writes the data of a plan, and then its batch: no block of the batch before all data is kept.
 fn write_plan<M: Media>(

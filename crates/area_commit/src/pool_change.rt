@@ -2,12 +2,12 @@
 
 ghost use Rattle.std.specs.Prelude.{ℕ, List, Bool};
 ghost use Rattle.std.specs.List.{Contains};
-ghost use Rattle.area_image.specs.tier_device.declared.media.Tier.{Tier};
-ghost use Rattle.area_image.specs.tier_device.declared.media.Tier.TheVariants.{Fast};
-ghost use Rattle.area_image.specs.layout.Places.{Sizes};
-ghost use Rattle.area_image.specs.Store.{Store};
-ghost use Rattle.area_image.specs.Reads.{IsRoom, Free};
-ghost use Rattle.area_image.specs.Format.{IsSpelled};
+ghost use Rattle.tier_device.specs.declared.media.Tier.{Tier};
+ghost use Rattle.tier_device.specs.declared.media.Tier.TheVariants.{Fast};
+ghost use Rattle.layout.specs.Places.{Sizes};
+ghost use Rattle.area_reader.specs.Store.{Store};
+ghost use Rattle.area_reader.specs.Reads.{IsRoom, Free};
+ghost use Rattle.area_reader.specs.Format.{IsSpelled};
 ghost use Rattle.area_commit.specs.Value.{PoolsView, data_pool, AreInOrder, AreFree};
 ghost use Rattle.area_commit.specs.declared.allocation.Allocation.{Allocation};
 ghost use Rattle.area_commit.specs.Allocations.{WereTaken};

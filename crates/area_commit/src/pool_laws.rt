@@ -2,15 +2,15 @@
 
 ghost use Rattle.std.specs.Prelude.{◌≡◌, ◌↔◌, ℕ, List, Some};
 ghost use Rattle.std.specs.List.{Contains};
-ghost use Rattle.area_image.specs.tier_device.declared.media.Tier.{Tier};
-ghost use Rattle.area_image.specs.layout.Places.{Sizes, node_end};
-ghost use Rattle.area_image.specs.block_alloc.declared.runs.Run.{Run};
-ghost use Rattle.area_image.specs.block_alloc.Runs.{blocks_of};
-ghost use Rattle.area_image.specs.block_alloc.Value.{FreeBlocks, InOrder};
-ghost use Rattle.area_image.specs.batch_journal.Blocks.{Blocks};
-ghost use Rattle.area_image.specs.Store.{Store};
-ghost use Rattle.area_image.specs.Reads.{Free, LooseIn};
-ghost use Rattle.area_image.specs.Format.{Use, used_block};
+ghost use Rattle.tier_device.specs.declared.media.Tier.{Tier};
+ghost use Rattle.layout.specs.Places.{Sizes, node_end};
+ghost use Rattle.block_alloc.specs.declared.runs.Run.{Run};
+ghost use Rattle.block_alloc.specs.Runs.{blocks_of};
+ghost use Rattle.block_alloc.specs.Value.{FreeBlocks, InOrder};
+ghost use Rattle.batch_journal.specs.Blocks.{Blocks};
+ghost use Rattle.area_reader.specs.Store.{Store};
+ghost use Rattle.area_reader.specs.Reads.{Free, LooseIn};
+ghost use Rattle.area_reader.specs.Format.{Use, used_block};
 ghost use Rattle.area_commit.specs.Value.{PoolsView, HasRanges, AreFree};
 ghost use Rattle.area_commit.specs.declared.allocation.Allocation.{Allocation};
 ghost use Rattle.area_commit.specs.Allocations.{WasTaken, WereTaken, runs_of};

@@ -1,20 +1,23 @@
 ghost use Rattle.std.specs.Prelude.{◌≡◌, ◌≢◌, ◌≤◌, ◌<◌, ◌+◌, ◌++◌, ◌^◌, ◌⊎◌, ◌↔◌, ℕ, [], false, length, take, drop, get_or, OnOk, OnErr, IfOk, IfErr, IsErrOf};
-ghost use Rattle.area_image.specs.tier_device.declared.media.Tier.{Tier};
-ghost use Rattle.area_image.specs.tier_device.declared.media.Tier.TheVariants.{Fast};
-ghost use Rattle.area_image.specs.layout.declared.places.TheConstants.{FIRST_NODE_BLOCK};
-ghost use Rattle.area_image.specs.layout.Places.{node_end, data_first, tier_blocks};
-ghost use Rattle.area_image.specs.Store.{Store};
-ghost use Rattle.area_image.specs.BlockMarks.{UsedMarks, marks_in, is_marked};
-ghost use Rattle.area_image.specs.block_alloc.Value.{InOrder, IsUsed};
-ghost use Rattle.area_image.specs.block_alloc.Runs.{blocks_of};
-ghost use Rattle.area_image.specs.block_alloc.declared.error.AllocatorError.TheVariants.{NoBlock, Memory};
+ghost use Rattle.tier_device.specs.declared.media.Tier.{Tier};
+ghost use Rattle.tier_device.specs.declared.media.Tier.TheVariants.{Fast};
+ghost use Rattle.layout.specs.declared.places.TheConstants.{FIRST_NODE_BLOCK};
+ghost use Rattle.layout.specs.Places.{node_end, data_first, tier_blocks};
+ghost use Rattle.area_reader.specs.Store.{Store};
+ghost use Rattle.area_reader.specs.BlockMarks.{UsedMarks, marks_in, is_marked};
+ghost use Rattle.block_alloc.specs.Value.{InOrder, IsUsed};
+ghost use Rattle.block_alloc.specs.Runs.{blocks_of};
+ghost use Rattle.block_alloc.specs.declared.error.AllocatorError.TheVariants.{NoBlock, Memory};
 ghost use Rattle.area_commit.specs.Value.{data_pool, free_data, AreInOrder, HasRanges, AreFree, GivesRun, HasUnmarked, MarksAll};
 ghost use Rattle.area_commit.specs.Allocations.{taken_data, runs_of, WereTaken, LeavesRoom, CanRelease, TakesMore, WasReleased, IsNone, SameFree, KeepsRoom};
 
 use crate::allocation::{Allocation, give_run, give_runs, take_more, take_runs};
-use area_image::{AllocatorError, FIRST_NODE_BLOCK, FreeRuns, Geometry, Run, Tier, UsedBlocks};
+use area_reader::UsedBlocks;
+use block_alloc::{AllocatorError, FreeRuns, Run};
+use layout::{FIRST_NODE_BLOCK, Geometry};
 use std::alloc::{AllocError, Global};
 use std::marker::Model;
+use tier_device::Tier;
 
 /// The free blocks of the shared media: those of the node pool, which extent blocks and directory blocks share, and the data blocks of each tier. Contracts see each
 /// pool as `FreeRuns` is seen: its range, its free blocks as a rising list, and how many runs can be given without memory.

@@ -1,14 +1,14 @@
 // What a plan gives up goes back to the pools.
 ghost use Rattle.std.specs.Prelude.{◌≤◌, length};
-ghost use Rattle.area_image.specs.tier_device.declared.media.Tier.{Tier};
-ghost use Rattle.area_image.specs.block_alloc.Runs.{blocks_of};
+ghost use Rattle.tier_device.specs.declared.media.Tier.{Tier};
+ghost use Rattle.block_alloc.specs.Runs.{blocks_of};
 ghost use Rattle.area_commit.specs.Value.{data_pool};
 ghost use Rattle.area_commit.specs.Release.{AreUsed, WereAdded};
 ghost use Rattle.area_commit.specs.Plan.{lost_in};
 
 use crate::plan::FreedBlocks;
 use crate::{Pools, give_data, give_nodes};
-use area_image::Tier;
+use tier_device::Tier;
 
 /// Gives back the runs of the node pool and of each tier, without memory.
 pub fn release_blocks(pools: &mut Pools, lost: &FreedBlocks)

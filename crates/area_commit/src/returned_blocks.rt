@@ -1,12 +1,13 @@
 // Blocks that are given up go back to their pools.
 ghost use Rattle.std.specs.Prelude.{◌≡◌, ◌≢◌, ◌≤◌, ◌+◌, length};
-ghost use Rattle.area_image.specs.tier_device.declared.media.Tier.{Tier};
-ghost use Rattle.area_image.specs.block_alloc.Runs.{blocks_of};
+ghost use Rattle.tier_device.specs.declared.media.Tier.{Tier};
+ghost use Rattle.block_alloc.specs.Runs.{blocks_of};
 ghost use Rattle.area_commit.specs.Value.{data_pool};
 ghost use Rattle.area_commit.specs.Release.{AreUsed, WereAdded};
 
 use crate::Pools;
-use area_image::{Run, Tier};
+use block_alloc::Run;
+use tier_device::Tier;
 
 /// Gives back runs of data blocks of a tier, none of which is free or stands in two of the runs. It takes no memory: there has to be room for them.
 pub fn give_data(pools: &mut Pools, tier: Tier, runs: &[Run])

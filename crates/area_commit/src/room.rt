@@ -1,12 +1,12 @@
 //! How many blocks are free.
 
 ghost use Rattle.std.specs.Prelude.{◌≤◌, ◌<◌, ◌+◌, ◌*◌, ◌⊎◌, ℕ, length};
-ghost use Rattle.area_image.specs.file_graph.Units.{charge};
-ghost use Rattle.area_image.specs.layout.declared.places.TheConstants.{SPARE_BLOCKS};
-ghost use Rattle.area_image.specs.layout.Places.{Sizes, node_blocks};
-ghost use Rattle.area_image.specs.posix_calls.declared.limits.TheConstants.{MAX_INODE};
-ghost use Rattle.area_image.specs.Store.{Store, graph};
-ghost use Rattle.area_image.specs.Format.{IsSpelled, KeepsUnits};
+ghost use Rattle.file_graph.specs.Units.{charge};
+ghost use Rattle.layout.specs.declared.places.TheConstants.{SPARE_BLOCKS};
+ghost use Rattle.layout.specs.Places.{Sizes, node_blocks};
+ghost use Rattle.posix_calls.specs.declared.limits.TheConstants.{MAX_INODE};
+ghost use Rattle.area_reader.specs.Store.{Store, graph};
+ghost use Rattle.area_reader.specs.Format.{IsSpelled, KeepsUnits};
 ghost use Rattle.area_commit.specs.Value.{PoolsView, free_data, HasRanges, AreFree};
 
 /// Each data block is free, or there is a unit for it: no more of them are in use than the graph costs. So at least the spare blocks of the format are free where the graph

@@ -1,7 +1,7 @@
 -- Slices of a torn tier.
 use Rattle.std.proofs.Common.{◌≡◌, ◌⊎◌, inl, inr, ℕ, zero, suc, ◌+◌, ◌-◌, ◌≤◌, List, [], ◌∷◌, ◌++◌, length, take, drop, refl, sym, ◌∙◌, ap, arith, append_assoc}
 use Rattle.std.proofs.lemmas.List.{take_at, drop_at, drop-drop, drop-take, length-take-le}
-use Rattle.layout.specs.tier_device.Media.{overwritten, Torn}
+use Rattle.tier_device.specs.Media.{overwritten, Torn}
 use Rattle.batch_journal.specs.Images.{slice}
 
 pub take_shorter : (m n : ℕ) (c : List ℕ) → m ≤ n → take m (take n c) ≡ take m c

@@ -3,10 +3,10 @@ use Rattle.std.proofs.Common.{◌≡◌, ◌≢◌, ◌⊎◌, inl, inr, ℕ, ze
 use Rattle.std.proofs.lemmas.List.{length-take-le, length-drop, take_rest}
 use Rattle.std.proofs.lemmas.Bool.{cases_lt, cases_eq}
 use Rattle.std.proofs.lemmas.Bool.Decides.{eqb_tells}
-use Rattle.layout.specs.tier_device.Media.{overwritten, Torn}
-use Rattle.layout.specs.tier_device.RecordLaws.{torn_overwritten, length-overwritten}
+use Rattle.tier_device.specs.Media.{overwritten, Torn}
+use Rattle.tier_device.specs.RecordLaws.{torn_overwritten, length-overwritten}
 use Rattle.byteorder.specs.Endian.{little_number}
-use Rattle.layout.specs.tier_device.declared.media.Tier.TheVariants.{Fast}
+use Rattle.tier_device.specs.declared.media.Tier.TheVariants.{Fast}
 use Rattle.layout.specs.Places.{Sizes, is_journaled, tier_blocks}
 use Rattle.batch_journal.specs.Course.{Doing, IsPut, Beside}
 use Rattle.batch_journal.specs.Images.{slice, image_count, target_at, image_at, images_from, images_of, image_for, or_else, with_images, Rises}

@@ -4,7 +4,7 @@ use Rattle.std.proofs.lemmas.List.{take-append-drop, drop-append-le, take-append
 use Rattle.std.proofs.lemmas.Bool.{cases_Bool, false≢true}
 use Rattle.byteorder.specs.Endian.{little_number}
 use Rattle.byteorder.specs.Numbers.{little_from-append}
-use Rattle.layout.specs.tier_device.Media.{overwritten, Torn}
+use Rattle.tier_device.specs.Media.{overwritten, Torn}
 use Rattle.batch_journal.specs.Images.{slice, image_count, target_at, image_at, images_from, images_of, rest_of_head, image_for, or_else, with_images}
 use Rattle.layout.specs.Bytes.{are_zero}
 use Rattle.batch_journal.specs.Blocks.{Blocks, block_of, gate_of, rest_of_gate, is_gate_open, area_of, is_home, home, RisesJournaled, after_batch, ShowsHome}

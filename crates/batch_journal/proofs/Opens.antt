@@ -2,10 +2,10 @@
 use Rattle.std.proofs.Common.{◌≡◌, ◌≢◌, ◌⊎◌, inl, inr, Bool, ℕ, zero, suc, ◌+◌, ◌-◌, ◌*◌, ◌≤◌, ◌<◌, List, length, drop, refl, sym, ◌∙◌, ap, subst, arith, true, false, cond, ◌==◌, Result, Ok, Err, IfOk, IfErr}
 use Rattle.std.proofs.lemmas.Bool.{false≢true, cases_Bool}
 use Rattle.byteorder.specs.Endian.{little_number}
-use Rattle.layout.specs.tier_device.declared.media.Tier.{Tier}
-use Rattle.layout.specs.tier_device.declared.media.Tier.TheVariants.{Fast}
-use Rattle.layout.specs.tier_device.Media.{Rose}
-use Rattle.layout.specs.tier_device.AfterStop.{AtRest}
+use Rattle.tier_device.specs.declared.media.Tier.{Tier}
+use Rattle.tier_device.specs.declared.media.Tier.TheVariants.{Fast}
+use Rattle.tier_device.specs.Media.{Rose}
+use Rattle.tier_device.specs.AfterStop.{AtRest}
 use Rattle.layout.specs.Places.{Sizes, is_journaled}
 use Rattle.layout.specs.Bytes.{are_zero}
 use Rattle.layout.specs.declared.error.What.{What}

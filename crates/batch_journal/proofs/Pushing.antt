@@ -7,8 +7,8 @@ use Rattle.batch_journal.specs.Blocks.{AreJournaled}
 use Rattle.batch_journal.proofs.Images.{some_none}
 use Rattle.byteorder.specs.Endian.{little_number, little_bytes}
 use Rattle.byteorder.specs.Numbers.{little_from-take, little_number-reads_back, length-bytes_low_first}
-use Rattle.layout.specs.tier_device.Media.{overwritten, Torn}
-use Rattle.layout.specs.tier_device.RecordLaws.{torn_overwritten}
+use Rattle.tier_device.specs.Media.{overwritten, Torn}
+use Rattle.tier_device.specs.RecordLaws.{torn_overwritten}
 use Rattle.batch_journal.specs.Images.{slice, image_count, target_at, image_at, images_from, images_of, rest_of_head, image_for, Rises, next_from, next_of}
 use Rattle.layout.specs.Bytes.{are_zero}
 use Rattle.batch_journal.specs.View.{IsBatch}

@@ -1,7 +1,7 @@
 -- What the writes of a batch leave to read.
 use Rattle.std.proofs.Common.{◌≡◌, ◌≤◌, ◌+◌, ◌*◌, inl, inr, ℕ, List, [], ◌∷◌, length, get_or, ◌==◌, true, false, sym, ◌∙◌, ap, subst, arith}
-use Rattle.layout.specs.tier_device.Media.{Torn, overwritten}
-use Rattle.layout.specs.tier_device.RecordLaws.{torn_overwritten}
+use Rattle.tier_device.specs.Media.{Torn, overwritten}
+use Rattle.tier_device.specs.RecordLaws.{torn_overwritten}
 use Rattle.batch_journal.specs.Images.{image_count, images_of}
 use Rattle.batch_journal.specs.Blocks.{area_of, gate_of, is_gate_open}
 use Rattle.batch_journal.specs.Volume.{SameJournal, IsAfter}

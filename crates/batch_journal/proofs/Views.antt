@@ -1,11 +1,11 @@
 -- A journal and the calls of it.
 use Rattle.std.proofs.Common.{◌≡◌, ◌≢◌, ◌⊎◌, inl, inr, ℕ, ◌+◌, ◌*◌, ◌≤◌, List, length, refl, sym, ◌∙◌, ap, subst, arith, false}
 use Rattle.layout.specs.Places.{Sizes, data_first, node_end}
-use Rattle.layout.specs.tier_device.declared.media.Tier.{Tier}
-use Rattle.layout.specs.tier_device.declared.media.Tier.TheVariants as tiers
-use Rattle.layout.specs.tier_device.declared.media.Tier.TheVariants.{Fast}
-use Rattle.layout.specs.tier_device.Media.{Torn, overwritten}
-use Rattle.layout.specs.tier_device.RecordLaws.{torn_overwritten}
+use Rattle.tier_device.specs.declared.media.Tier.{Tier}
+use Rattle.tier_device.specs.declared.media.Tier.TheVariants as tiers
+use Rattle.tier_device.specs.declared.media.Tier.TheVariants.{Fast}
+use Rattle.tier_device.specs.Media.{Torn, overwritten}
+use Rattle.tier_device.specs.RecordLaws.{torn_overwritten}
 use Rattle.batch_journal.specs.Images.{images_of}
 use Rattle.batch_journal.specs.Blocks.{home, is_gate_open, AreJournaled}
 use Rattle.batch_journal.specs.Volume.{IsHead, IsJournal, KeepsGeometry, IsAfter}

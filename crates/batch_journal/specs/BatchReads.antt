@@ -1,6 +1,6 @@
 -- Head and images of an open journal, as they are read.
 use Rattle.std.specs.Prelude.{◌≡◌, ◌≢◌, ℕ, ◌+◌, ◌*◌, ◌≤◌, List, length, ◌==◌, if◌then◌else◌, Result, OnOk, IfErr}
-use Rattle.layout.specs.tier_device.Media.{Rose}
+use Rattle.tier_device.specs.Media.{Rose}
 use Rattle.batch_journal.specs.declared.error.JournalError.{JournalError}
 use Rattle.batch_journal.specs.declared.error.JournalError.TheVariants as errors
 use Rattle.batch_journal.specs.Images.{image_count, target_at, image_at, images_of, rest_of_head}

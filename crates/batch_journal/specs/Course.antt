@@ -1,7 +1,7 @@
 -- What holds at each moment of several device calls.
 use Rattle.std.specs.Prelude.{◌≡◌, ◌≢◌, ℕ, ◌≤◌, ◌<◌, ◌+◌, ◌*◌, ◌⊎◌, List, length, true, None}
-use Rattle.layout.specs.tier_device.declared.media.Tier.{Tier}
-use Rattle.layout.specs.tier_device.Media.{Torn}
+use Rattle.tier_device.specs.declared.media.Tier.{Tier}
+use Rattle.tier_device.specs.Media.{Torn}
 use Rattle.layout.specs.Places.{Sizes}
 use Rattle.batch_journal.specs.Images.{images_of, images_from, image_for, with_images}
 use Rattle.batch_journal.specs.Blocks.{block_of, is_home, gate_of, rest_of_gate, area_of, home, after_batch, Fit}

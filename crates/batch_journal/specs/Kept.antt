@@ -2,8 +2,8 @@
 use Rattle.std.specs.Prelude.{◌≡◌, ◌<◌, ◌%◌, ℕ, List, length, true, get_or}
 use Rattle.layout.specs.Places.{Sizes, is_journaled}
 use Rattle.batch_journal.specs.declared.kept_blocks.KeptBlock.{KeptBlock}
-use Rattle.layout.specs.tier_device.declared.media.Tier.{Tier}
-use Rattle.layout.specs.tier_device.declared.media.Tier.TheVariants.{Fast}
+use Rattle.tier_device.specs.declared.media.Tier.{Tier}
+use Rattle.tier_device.specs.declared.media.Tier.TheVariants.{Fast}
 use Rattle.batch_journal.specs.Blocks.{Blocks, home}
 use Rattle.batch_journal.specs.View.{IsShut}
 

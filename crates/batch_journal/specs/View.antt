@@ -1,6 +1,6 @@
 -- A journal and a batch, as their callers see them.
 use Rattle.std.specs.Prelude.{Bool, ℕ, List, ◌≡◌, ◌≤◌, ◌+◌, ◌*◌, length, true, false}
-use Rattle.layout.specs.tier_device.declared.media.Tier.{Tier}
+use Rattle.tier_device.specs.declared.media.Tier.{Tier}
 use Rattle.layout.specs.Places.{Sizes}
 use Rattle.batch_journal.specs.Images.{images_of, image_count, rest_of_head, Rises, next_of}
 use Rattle.layout.specs.Bytes.{are_zero}

@@ -1,7 +1,7 @@
 -- The contents that a journal can be opened from.
 use Rattle.std.specs.Prelude.{◌≡◌, ℕ, ◌*◌, ◌≤◌, List, length, Some, true, IfSome}
-use Rattle.layout.specs.tier_device.declared.media.Tier.{Tier}
-use Rattle.layout.specs.tier_device.declared.media.Tier.TheVariants.{Fast}
+use Rattle.tier_device.specs.declared.media.Tier.{Tier}
+use Rattle.tier_device.specs.declared.media.Tier.TheVariants.{Fast}
 use Rattle.layout.specs.Places.{Sizes, tier_blocks}
 use Rattle.layout.specs.Super.{super_of}
 use Rattle.batch_journal.specs.Images.{image_count, images_of, image_for, rest_of_head}

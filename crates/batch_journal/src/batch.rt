@@ -5,7 +5,7 @@ ghost use Rattle.batch_journal.specs.Blocks.{AreJournaled};
 ghost use Rattle.batch_journal.specs.Volume.{KeepsGeometry};
 ghost use Rattle.batch_journal.specs.View.{IsBatch};
 ghost use Rattle.byteorder.specs.Endian.{little_bytes};
-ghost use Rattle.layout.specs.tier_device.Media.{overwritten};
+ghost use Rattle.tier_device.specs.Media.{overwritten};
 
 use crate::head::{is_rising, keeps_geometry};
 use byteorder::{ByteOrder, LittleEndian};

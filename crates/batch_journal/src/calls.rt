@@ -1,14 +1,14 @@
 // Device calls as the journal makes them: each says what a stop may leave from its start on.
 ghost use Rattle.std.specs.Prelude.{◌≡◌, ◌≢◌, ◌≤◌, ◌<◌, ◌+◌, ◌*◌, List, ℕ, length, OnOk, OnErr};
-ghost use Rattle.layout.specs.tier_device.declared.media.Tier.{Tier};
-ghost use Rattle.layout.specs.tier_device.declared.media.Tier.TheVariants.{Fast};
-ghost use Rattle.layout.specs.tier_device.Media.{overwritten, Rose};
-ghost use Rattle.layout.specs.tier_device.AfterStop.{AtRest};
+ghost use Rattle.tier_device.specs.declared.media.Tier.{Tier};
+ghost use Rattle.tier_device.specs.declared.media.Tier.TheVariants.{Fast};
+ghost use Rattle.tier_device.specs.Media.{overwritten, Rose};
+ghost use Rattle.tier_device.specs.AfterStop.{AtRest};
 ghost use Rattle.batch_journal.specs.Images.{target_at, image_at, slice};
 ghost use Rattle.batch_journal.specs.Course.{Since, TornFrom, SameLengths, Unmoved};
 
 use byteorder::{ByteOrder, LittleEndian};
-use layout::{Media, Tier};
+use tier_device::{Media, Tier};
 
 /// A device has failed.
 #[derive(Clone, Copy, Debug, PartialEq, Eq)]

@@ -1,10 +1,10 @@
 ghost use Rattle.std.specs.Prelude.{◌≡◌, ◌≢◌, ◌<◌, ◌≤◌, ◌+◌, ◌*◌, ◌⊎◌, ℕ, List, length, true, false, OnOk, OnErr, IfOk, IfErr, IsErrOf};
 ghost use Rattle.layout.specs.Places.{Sizes, tier_blocks, data_first};
-ghost use Rattle.layout.specs.tier_device.declared.media.Tier.{Tier};
-ghost use Rattle.layout.specs.tier_device.declared.media.Tier.TheVariants.{Fast};
-ghost use Rattle.layout.specs.tier_device.Media.{Puts, Rose, overwritten};
-ghost use Rattle.layout.specs.tier_device.AfterStop.{AtRest};
-ghost use Rattle.layout.specs.tier_device.StopsSince.{LeftSince};
+ghost use Rattle.tier_device.specs.declared.media.Tier.{Tier};
+ghost use Rattle.tier_device.specs.declared.media.Tier.TheVariants.{Fast};
+ghost use Rattle.tier_device.specs.Media.{Puts, Rose, overwritten};
+ghost use Rattle.tier_device.specs.AfterStop.{AtRest};
+ghost use Rattle.tier_device.specs.StopsSince.{LeftSince};
 ghost use Rattle.batch_journal.specs.Images.{slice};
 ghost use Rattle.batch_journal.specs.Blocks.{home, after_batch, block_of, is_home, is_gate_open, IsShutGate, AreJournaled, opening_calls, ShowsHome};
 ghost use Rattle.batch_journal.specs.Volume.{IsJournal, IsVolume, KeepsGeometry, SameJournal};
@@ -19,9 +19,10 @@ use crate::journal_open::open_medium;
 use crate::kept_blocks::KeptBlocks;
 use crate::kept_reads::fetch_kept;
 use crate::replay::write_batch;
-use layout::{BLOCK, Geometry, MAX_IMAGES, Media, Tier};
+use layout::{BLOCK, Geometry, MAX_IMAGES};
 use std::alloc::Global;
 use std::marker::Model;
+use tier_device::{Media, Tier};
 
 /// The shared medium behind its journal.
 ///
@@ -43,7 +44,7 @@ pub struct Journal<M: Media> {
 
 impl<M: Media> Model for Journal<M> {
     ghost use Rattle.std.specs.Prelude.{◌≡◌, false};
-    ghost use Rattle.layout.specs.tier_device.declared.media.Tier.TheVariants.{Fast};
+    ghost use Rattle.tier_device.specs.declared.media.Tier.TheVariants.{Fast};
     ghost use Rattle.batch_journal.specs.View.{JournalView};
     ghost use Rattle.batch_journal.specs.Kept.{IsGoing};
 

@@ -1,7 +1,7 @@
 // A medium is opened: an open journal is replayed, and the superblock tells the geometry.
 ghost use Rattle.std.specs.Prelude.{◌≡◌, ◌≤◌, length, true, IfOk, IfErr};
-ghost use Rattle.layout.specs.tier_device.declared.media.Tier.TheVariants.{Fast};
-ghost use Rattle.layout.specs.tier_device.AfterStop.{AtRest};
+ghost use Rattle.tier_device.specs.declared.media.Tier.TheVariants.{Fast};
+ghost use Rattle.tier_device.specs.AfterStop.{AtRest};
 ghost use Rattle.layout.specs.Bytes.{are_zero};
 ghost use Rattle.batch_journal.specs.Images.{image_count};
 ghost use Rattle.batch_journal.specs.Blocks.{area_of, is_gate_open, rest_of_gate};
@@ -17,8 +17,9 @@ use crate::replay::{END, HEAD, replay};
 use crate::tier_reads::{
     blank_block, read_gate, read_geometry, read_head, read_run, superblock_in,
 };
-use layout::{BLOCK, Geometry, HEAD_BLOCK, Media, SUPER_BLOCK, Tier, What};
+use layout::{BLOCK, Geometry, HEAD_BLOCK, SUPER_BLOCK, What};
 use std::alloc::Global;
+use tier_device::{Media, Tier};
 
 /// The geometry of a medium with an open gate, and how many images are to be replayed. It takes no memory.
 fn read_volume<M: Media>(media: &mut M) -> Result<(Geometry, usize), JournalError>

@@ -1,8 +1,8 @@
 // Reads that make no device call where a block is kept.
 ghost use Rattle.std.specs.Prelude.{◌≡◌, ◌≤◌, ◌+◌, ◌*◌, length, true, false, OnOk, OnErr, IfSome};
 ghost use Rattle.layout.specs.Places.{Sizes, is_journaled};
-ghost use Rattle.layout.specs.tier_device.declared.media.Tier.TheVariants.{Fast};
-ghost use Rattle.layout.specs.tier_device.Media.{Rose};
+ghost use Rattle.tier_device.specs.declared.media.Tier.TheVariants.{Fast};
+ghost use Rattle.tier_device.specs.Media.{Rose};
 ghost use Rattle.batch_journal.specs.Images.{slice};
 ghost use Rattle.batch_journal.specs.Blocks.{Blocks, home, is_home, is_gate_open};
 ghost use Rattle.batch_journal.specs.Volume.{HasSizes};
@@ -12,7 +12,8 @@ ghost use Rattle.batch_journal.specs.Kept.{Shows};
 use crate::calls::{Failed, fetch};
 use crate::kept_blocks::KeptBlocks;
 use crate::tier_reads::blank_block;
-use layout::{BLOCK, Geometry, Media, Tier};
+use layout::{BLOCK, Geometry};
+use tier_device::{Media, Tier};
 
 /// One read, as `fetch` makes it. A part of a block that a batch may write is taken from the block as it is kept, or else the
 /// block is read whole, and kept.

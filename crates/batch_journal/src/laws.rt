@@ -1,7 +1,7 @@
 //! What holds of all media.
 
 ghost use Rattle.std.specs.Prelude.{◌≡◌, ℕ, List};
-ghost use Rattle.layout.specs.tier_device.declared.media.Tier.{Tier};
+ghost use Rattle.tier_device.specs.declared.media.Tier.{Tier};
 ghost use Rattle.layout.specs.Places.{Sizes};
 ghost use Rattle.layout.specs.declared.error.What.{What};
 ghost use Rattle.batch_journal.specs.Volume.{IsVolume};

@@ -23,13 +23,3 @@ pub use error::JournalError;
 pub use journal::Journal;
 pub use laws::damage_has_one_name;
 pub use numbers::journal_has_its_numbers;
-
-// Passed on to the crates above, which so need not list those below.
-pub use layout::{
-    BLOCK, CLIENTS, DirBlock, DirEntries, DirEntry, EntryRef, Extent, ExtentBlock, FILE_BLOCKS,
-    FIRST_IMAGE_BLOCK, FIRST_NODE_BLOCK, FIRST_SLOT_BLOCK, GATE_BLOCK, Geometry, HEAD_BLOCK, Image,
-    Kind, LayoutError, MARKS_BLOCK, MAX_IMAGES, MAX_IN_BLOCK, MAX_INODE, Mark, Marks, Media,
-    SLOT_SIZE, SLOTS_IN_BLOCK, SUPER_BLOCK, Slot, Space, Super, Tier, What, are_zero,
-    extents_are_read, is_inode, marks_are_read, slot_block, slot_byte, slot_is_read,
-    slot_is_spelled,
-};

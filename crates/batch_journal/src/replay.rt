@@ -1,16 +1,16 @@
 // The device calls of a batch, and of the replay of an open journal.
 ghost use Rattle.std.specs.Prelude.{◌≡◌, ◌≢◌, ◌≤◌, ◌<◌, ◌+◌, ◌*◌, List, ℕ, length, OnOk, OnErr, true, false};
-ghost use Rattle.layout.specs.tier_device.declared.media.Tier.{Tier};
-ghost use Rattle.layout.specs.tier_device.declared.media.Tier.TheVariants.{Fast};
-ghost use Rattle.layout.specs.tier_device.Media.{Rose};
-ghost use Rattle.layout.specs.tier_device.AfterStop.{AtRest};
+ghost use Rattle.tier_device.specs.declared.media.Tier.{Tier};
+ghost use Rattle.tier_device.specs.declared.media.Tier.TheVariants.{Fast};
+ghost use Rattle.tier_device.specs.Media.{Rose};
+ghost use Rattle.tier_device.specs.AfterStop.{AtRest};
 ghost use Rattle.batch_journal.specs.Images.{image_count, images_of, rest_of_head};
 ghost use Rattle.batch_journal.specs.Blocks.{area_of, is_gate_open, IsShutGate, home, after_batch, Fit};
 ghost use Rattle.batch_journal.specs.Volume.{SameJournal, IsAfter};
 ghost use Rattle.batch_journal.specs.Course.{Since, BesideFrom, SameOrAfter, IsPut, SameLengths};
 
 use crate::calls::{Failed, keep, put_image, settle};
-use layout::{Media, Tier};
+use tier_device::{Media, Tier};
 
 /// Where the gate stands.
 pub const GATE: usize = 139_264;

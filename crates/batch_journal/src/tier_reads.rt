@@ -1,6 +1,6 @@
 // Reads of the fast tier, for an opening. They take no memory but for a run of any length.
 ghost use Rattle.std.specs.Prelude.{◌≡◌, ◌≢◌, ◌<◌, ◌≤◌, ◌+◌, ◌*◌, ◌⊎◌, ◌^◌, ℕ, List, length, true, false, drop, get_or, ◌==◌, OnSome, IfSome, IfNone, IfOk, IfErr, IsTrue, ◌↔◌, if◌then◌else◌};
-ghost use Rattle.layout.specs.tier_device.declared.media.Tier.TheVariants.{Fast};
+ghost use Rattle.tier_device.specs.declared.media.Tier.TheVariants.{Fast};
 ghost use Rattle.layout.specs.Places.{tier_blocks};
 ghost use Rattle.layout.specs.Bytes.{are_zero};
 ghost use Rattle.layout.specs.declared.places.TheConstants.{BLOCK};
@@ -18,10 +18,9 @@ use crate::error::JournalError;
 use crate::head::number_in;
 use crate::replay::{GATE, HEAD, OPEN};
 use byteorder::{ByteOrder, LittleEndian};
-use layout::{
-    BLOCK, GATE_BLOCK, Geometry, HEAD_BLOCK, Media, SUPER_BLOCK, Super, Tier, What, are_zero,
-};
+use layout::{BLOCK, GATE_BLOCK, Geometry, HEAD_BLOCK, SUPER_BLOCK, Super, What, are_zero};
 use std::alloc::Global;
+use tier_device::{Media, Tier};
 
 /// So many bytes of the fast tier.
 pub fn read_run<M: Media>(

@@ -1,14 +1,14 @@
 -- A call, from its start to its answer.
 use Rattle.std.specs.Prelude.{◌≡◌, ◌≢◌, ◌⊎◌, ◌≤◌, ◌*◌, ℕ, zero, suc, Bool, true, false, Option, Result, Ok, Err}
-use Rattle.world.specs.system_world.event_steps.posix_calls.declared.call.Call.{Call}
-use Rattle.world.specs.system_world.event_steps.client_plan.declared.need.Need.{Need}
-use Rattle.world.specs.system_world.event_steps.lease_manager.declared.layout.TheConstants.{INODES}
-use Rattle.world.specs.system_world.event_steps.lease_manager.declared.view.LeaseMode.{LeaseMode}
-use Rattle.world.specs.system_world.event_steps.libfs.declared.denial.Denied.{Denied}
-use Rattle.world.specs.system_world.event_steps.declared.event.Event.{Event}
-use Rattle.world.specs.system_world.event_steps.declared.event.Event.TheVariants as event
-use Rattle.world.specs.system_world.event_steps.declared.outcome.Outcome.{Outcome}
-use Rattle.world.specs.system_world.event_steps.declared.outcome.Outcome.TheVariants as outcome
+use Rattle.posix_calls.specs.declared.call.Call.{Call}
+use Rattle.client_plan.specs.declared.need.Need.{Need}
+use Rattle.lease_manager.specs.declared.layout.TheConstants.{INODES}
+use Rattle.lease_manager.specs.declared.view.LeaseMode.{LeaseMode}
+use Rattle.libfs.specs.declared.denial.Denied.{Denied}
+use Rattle.event_steps.specs.declared.event.Event.{Event}
+use Rattle.event_steps.specs.declared.event.Event.TheVariants as event
+use Rattle.event_steps.specs.declared.outcome.Outcome.{Outcome}
+use Rattle.event_steps.specs.declared.outcome.Outcome.TheVariants as outcome
 use Rattle.call_driver.specs.Needs.{IsServed}
 use Rattle.call_driver.specs.EventOwner.{after_deny, after_start, after_step}
 use Rattle.call_driver.specs.declared.call_result.CallResult.{CallResult}

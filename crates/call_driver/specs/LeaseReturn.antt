@@ -1,13 +1,13 @@
 -- Other clients give back what a call needs.
 use Rattle.std.specs.Prelude.{◌≡◌, ◌≢◌, ◌⊎◌, ◌<◌, ℕ, zero, suc, Bool, true, false}
-use Rattle.world.specs.system_world.event_steps.lease_manager.declared.layout.TheConstants.{CLIENTS}
-use Rattle.world.specs.system_world.event_steps.lease_manager.declared.view.LeaseMode.{LeaseMode}
-use Rattle.world.specs.system_world.event_steps.lease_manager.declared.view.LeaseMode.TheVariants.{Free}
-use Rattle.world.specs.system_world.event_steps.declared.event.Event.{Event}
-use Rattle.world.specs.system_world.event_steps.declared.event.Event.TheVariants as event
-use Rattle.world.specs.system_world.event_steps.declared.outcome.Outcome.{Outcome}
-use Rattle.world.specs.system_world.event_steps.declared.outcome.Refusal.{Refusal}
-use Rattle.world.specs.system_world.event_steps.declared.outcome.Refusal.TheVariants as refusals
+use Rattle.lease_manager.specs.declared.layout.TheConstants.{CLIENTS}
+use Rattle.lease_manager.specs.declared.view.LeaseMode.{LeaseMode}
+use Rattle.lease_manager.specs.declared.view.LeaseMode.TheVariants.{Free}
+use Rattle.event_steps.specs.declared.event.Event.{Event}
+use Rattle.event_steps.specs.declared.event.Event.TheVariants as event
+use Rattle.event_steps.specs.declared.outcome.Outcome.{Outcome}
+use Rattle.event_steps.specs.declared.outcome.Refusal.{Refusal}
+use Rattle.event_steps.specs.declared.outcome.Refusal.TheVariants as refusals
 use Rattle.call_driver.specs.EventResults.{CameTo, IsRefusedIn}
 use Rattle.call_driver.specs.Digests.{HasDigested}
 use Rattle.call_driver.specs.EventOwner.{IsDigesting}

@@ -1,14 +1,14 @@
 -- A system in memory, as one that plays events.
 use Rattle.std.specs.Prelude.{◌≡◌, ℕ, Bool, false}
-use Rattle.world.specs.system_world.event_steps.tier_device.declared.media.Media.{Ghosts}
-use Rattle.world.specs.system_world.event_steps.tier_device.declared.media.Tier.{Tier}
-use Rattle.world.specs.system_world.event_steps.libfs.View.{is_pending}
-use Rattle.world.specs.system_world.event_steps.Effects.{Carries, Plays}
-use Rattle.world.specs.system_world.event_steps.Turns.{CanPlay}
-use Rattle.world.specs.system_world.event_steps.View.{SystemView, undigested_on}
-use Rattle.world.specs.Leases.{at_client}
-use Rattle.world.specs.system_world.event_steps.declared.event.Event.{Event}
-use Rattle.world.specs.system_world.event_steps.declared.outcome.Outcome.{Outcome}
+use Rattle.tier_device.specs.declared.media.Media.{Ghosts}
+use Rattle.tier_device.specs.declared.media.Tier.{Tier}
+use Rattle.libfs.specs.View.{is_pending}
+use Rattle.event_steps.specs.Effects.{Carries, Plays}
+use Rattle.event_steps.specs.Turns.{CanPlay}
+use Rattle.event_steps.specs.View.{SystemView, undigested_on}
+use Rattle.interleavings.specs.Leases.{at_client}
+use Rattle.event_steps.specs.declared.event.Event.{Event}
+use Rattle.event_steps.specs.declared.outcome.Outcome.{Outcome}
 
 -- an event has nothing to do, and changes nothing, or it makes of the system what it is to make
 abbrev pub plays_in : {M : Type 0} → Ghosts M → SystemView M → Event → Outcome → SystemView M → Type 0

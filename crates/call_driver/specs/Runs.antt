@@ -1,9 +1,9 @@
 -- Events of a running system, one after the other.
 use Rattle.std.specs.Prelude.{◌≡◌, List, [], ◌∷◌}
-use Rattle.world.specs.system_world.event_steps.declared.event.Event.{Event}
-use Rattle.world.specs.system_world.event_steps.declared.outcome.Outcome.{Outcome}
-use Rattle.world.specs.system_world.event_steps.declared.outcome.Outcome.TheVariants as outcome
-use Rattle.world.specs.system_world.event_steps.posix_calls.declared.call.Reply.{Reply}
+use Rattle.event_steps.specs.declared.event.Event.{Event}
+use Rattle.event_steps.specs.declared.outcome.Outcome.{Outcome}
+use Rattle.event_steps.specs.declared.outcome.Outcome.TheVariants as outcome
+use Rattle.posix_calls.specs.declared.call.Reply.{Reply}
 
 -- these events, each of this kind, lead from one system to another
 abbrev pub IsRun : {S : Type 0} → (S → Event → Outcome → S → Type 0) → (Event → Type 0) → S → List Event → S → Type 0

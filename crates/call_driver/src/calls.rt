@@ -1,8 +1,8 @@
 // A call, from its start to its answer.
 ghost use Rattle.std.specs.Prelude.{◌≡◌, ◌⊎◌, true, Ok};
-ghost use Rattle.world.specs.system_world.event_steps.posix_calls.declared.call.Call.{Call};
-ghost use Rattle.world.specs.system_world.event_steps.posix_calls.declared.call.Reply.{Reply};
-ghost use Rattle.world.specs.system_world.event_steps.declared.event.Event.TheVariants as kinds;
+ghost use Rattle.posix_calls.specs.declared.call.Call.{Call};
+ghost use Rattle.posix_calls.specs.declared.call.Reply.{Reply};
+ghost use Rattle.event_steps.specs.declared.event.Event.TheVariants as kinds;
 ghost use Rattle.call_driver.specs.Runs.{Leads, IsLast};
 ghost use Rattle.call_driver.specs.Calls.{IsBegunCall, IsCarriedOn, IsServedCall, IsReadyCall};
 ghost use Rattle.call_driver.specs.EventOwner.{IsOfClient, IsServing, IsAsking};
@@ -10,7 +10,10 @@ ghost use Rattle.call_driver.specs.EventOwner.{IsOfClient, IsServing, IsAsking};
 use crate::call_result::{CallResult, deny, start, step_call};
 use crate::events::Events;
 use crate::needs::{NeedResult, serve_need};
-use world::{Call, Denied, Event, INODES};
+use event_steps::Event;
+use lease_manager::INODES;
+use libfs::Denied;
+use posix_calls::Call;
 
 // More turns than any call has needs. An inode may be needed in five ways: unpinned, leased for reading and for writing, fetched and pinned, and a lease is asked for again once others have handed it over: that
 // is seven turns for each inode. What is left stands for the blocks of a read, numbers, units and room.

@@ -1,9 +1,10 @@
 ghost use Rattle.std.specs.Prelude.{◌≡◌, ℕ, Bool};
-ghost use Rattle.world.specs.system_world.event_steps.declared.event.Event.{Event};
-ghost use Rattle.world.specs.system_world.event_steps.declared.outcome.Outcome.{Outcome};
-ghost use Rattle.world.specs.system_world.event_steps.lease_manager.declared.view.LeaseMode.{LeaseMode};
+ghost use Rattle.event_steps.specs.declared.event.Event.{Event};
+ghost use Rattle.event_steps.specs.declared.outcome.Outcome.{Outcome};
+ghost use Rattle.lease_manager.specs.declared.view.LeaseMode.{LeaseMode};
 
-use world::{Event, LeaseMode, Outcome};
+use event_steps::{Event, Outcome};
+use lease_manager::LeaseMode;
 
 /// A running system, one event after the other. Clients are numbered from 1 to 8.
 pub trait Events {

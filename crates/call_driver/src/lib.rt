@@ -15,6 +15,3 @@ pub use call_result::{CallResult, step_call};
 pub use calls::{begin_call, serve_call};
 pub use digests::{clear_client, digest_all, wipe_all};
 pub use events::Events;
-
-// Passed on to the crates above, which so need not list those below.
-pub use world::{Event, LeaseMode, Outcome, World};

@@ -1,10 +1,13 @@
 // A system in memory plays its events.
 use crate::events::Events;
-use world::{Event, LeaseMode, Outcome, System, TierDeviceMedia as Media, lease_in};
+use event_steps::{Event, Outcome, System};
+use interleavings::lease_in;
+use lease_manager::LeaseMode;
+use tier_device::Media;
 
 impl<M: Media + Drop> Events for System<M> {
     ghost use Rattle.call_driver.specs.OfSystem.{failed_in, plays_in, undigested_in, waits_in};
-    ghost use Rattle.world.specs.Leases.{lease_in};
+    ghost use Rattle.interleavings.specs.Leases.{lease_in};
 
     ghost plays = { plays_in M.Media };
 

@@ -1,12 +1,16 @@
 //! The events of calls that are served, played on a world.
 
 use crate::events::Events;
-use world::{Event, LeaseMode, Outcome, Steps, TierDeviceMedia as Media, World, lease_in};
+use event_lists::Steps;
+use event_steps::{Event, Outcome};
+use interleavings::{World, lease_in};
+use lease_manager::LeaseMode;
+use tier_device::Media;
 
 impl<M: Media + Drop> Events for World<M> {
     ghost use Rattle.call_driver.specs.OfSystem.{failed_in, undigested_in, waits_in};
-    ghost use Rattle.world.specs.Leases.{lease_in};
-    ghost use Rattle.world.specs.system_world.Steps.{MakesOrStays};
+    ghost use Rattle.interleavings.specs.Leases.{lease_in};
+    ghost use Rattle.system_laws.specs.Steps.{MakesOrStays};
 
     ghost plays = { MakesOrStays M.Media };
 

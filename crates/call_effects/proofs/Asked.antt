@@ -1,8 +1,8 @@
 -- What it tells that questions came to a result.
 use Rattle.std.proofs.Common.{◌≡◌, ℕ, Bool, true, false, refl, Option, Ok}
-use Rattle.log_record.specs.posix_calls.declared.errno.Errno.{Errno}
-use Rattle.log_record.specs.posix_calls.Query.{Seen, Query, Gives, Refuses, IsDir, Look, Range, ◌>>=◌, View, run}
-use Rattle.log_record.specs.posix_calls.Walk.{refuse}
+use Rattle.posix_calls.specs.declared.errno.Errno.{Errno}
+use Rattle.posix_calls.specs.Query.{Seen, Query, Gives, Refuses, IsDir, Look, Range, ◌>>=◌, View, run}
+use Rattle.posix_calls.specs.Walk.{refuse}
 
 pub bind_ok : {A B : Type 0} (v : View) (q : Query A) (f : A → Query B) (b : B) → run v (q >>= f) ≡ Ok b → (a : A) × (run v q ≡ Ok a) × (run v (f a) ≡ Ok b)
 unfolding run ◌>>=◌

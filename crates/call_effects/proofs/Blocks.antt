@@ -3,8 +3,8 @@ use Rattle.std.proofs.Common.{◌≡◌, ℕ, zero, suc, ◌+◌, ◌-◌, ◌*�
 use Rattle.std.specs.Prelude.{◌/◌, min, replicate, option_map}
 use Rattle.std.proofs.Math.Seq.{drop-nil}
 use Rattle.std.proofs.lemmas.List.{take-take, drop-drop, drop-take}
-use Rattle.log_record.specs.posix_calls.Content.{with_length, with_bytes, range}
-use Rattle.log_record.specs.posix_calls.Part.{blocks_touched}
+use Rattle.posix_calls.specs.Content.{with_length, with_bytes, range}
+use Rattle.posix_calls.specs.Part.{blocks_touched}
 use Rattle.call_effects.specs.Blocks.{block_of, joined_bytes, blocks_joined, range_by, block_resized, block_written}
 
 -- ---- bytes cut and grown, and bytes put over others, element by element

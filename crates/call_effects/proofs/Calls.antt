@@ -4,24 +4,24 @@ use Rattle.std.specs.Prelude.{◌&&◌, not, nat_lt}
 use Rattle.std.specs.List.{list_any}
 use Rattle.std.proofs.lemmas.Bool.{ltb-false, eq-eqb}
 use Rattle.std.specs.FinMap as fin
-use Rattle.log_record.specs.posix_calls.Content.{Entries}
-use Rattle.log_record.specs.posix_calls.Tree.{Descriptors, Own, is_open}
-use Rattle.log_record.specs.posix_calls.declared.descriptor.Descriptor.{Descriptor}
-use Rattle.log_record.specs.posix_calls.declared.errno.Errno.TheVariants as errno
-use Rattle.log_record.specs.posix_calls.declared.call.Flags.{Flags}
-use Rattle.log_record.specs.posix_calls.declared.call.Reply.TheVariants as replies
-use Rattle.log_record.specs.posix_calls.declared.call.Call.{Call}
-use Rattle.log_record.specs.posix_calls.declared.call.Call.TheVariants as call
-use Rattle.log_record.specs.posix_calls.declared.operation.Operation.{Operation}
-use Rattle.log_record.specs.posix_calls.declared.operation.Operation.TheVariants.{Tell, Resize}
-use Rattle.log_record.specs.posix_calls.declared.operation.Replaced.{Replaced}
-use Rattle.log_record.specs.posix_calls.declared.operation.Replaced.TheVariants.{OldFile}
-use Rattle.log_record.specs.posix_calls.Query.{Seen, File, Dir, Gives, Refuses, Look, View, run}
-use Rattle.log_record.specs.posix_calls.Walk.{Place, is_root, leads_to, is_there, is_true, there, prefix, entries_seen, entries_at, kind_at}
-use Rattle.log_record.specs.posix_calls.Decide.{open_inode, open_there, lowest_free, number_or, replaced_at, replacing_dir, rename_to, write_at, node_description, mkdir, unlink, rmdir, link, rename, truncate, pwrite, pread, close, open_path, list_path, stat, decide}
-use Rattle.log_record.proofs.posix_calls_lemmas.Open as opens
-use Rattle.log_record.specs.file_graph.Graph.{Graph}
-use Rattle.log_record.specs.file_graph.declared.effect.Kind.TheVariants as kind
+use Rattle.posix_calls.specs.Content.{Entries}
+use Rattle.posix_calls.specs.Tree.{Descriptors, Own, is_open}
+use Rattle.posix_calls.specs.declared.descriptor.Descriptor.{Descriptor}
+use Rattle.posix_calls.specs.declared.errno.Errno.TheVariants as errno
+use Rattle.posix_calls.specs.declared.call.Flags.{Flags}
+use Rattle.posix_calls.specs.declared.call.Reply.TheVariants as replies
+use Rattle.posix_calls.specs.declared.call.Call.{Call}
+use Rattle.posix_calls.specs.declared.call.Call.TheVariants as call
+use Rattle.posix_calls.specs.declared.operation.Operation.{Operation}
+use Rattle.posix_calls.specs.declared.operation.Operation.TheVariants.{Tell, Resize}
+use Rattle.posix_calls.specs.declared.operation.Replaced.{Replaced}
+use Rattle.posix_calls.specs.declared.operation.Replaced.TheVariants.{OldFile}
+use Rattle.posix_calls.specs.Query.{Seen, File, Dir, Gives, Refuses, Look, View, run}
+use Rattle.posix_calls.specs.Walk.{Place, is_root, leads_to, is_there, is_true, there, prefix, entries_seen, entries_at, kind_at}
+use Rattle.posix_calls.specs.Decide.{open_inode, open_there, lowest_free, number_or, replaced_at, replacing_dir, rename_to, write_at, node_description, mkdir, unlink, rmdir, link, rename, truncate, pwrite, pread, close, open_path, list_path, stat, decide}
+use Rattle.posix_calls.proofs.Open as opens
+use Rattle.file_graph.specs.Graph.{Graph}
+use Rattle.file_graph.specs.declared.effect.Kind.TheVariants as kind
 use Rattle.call_effects.specs.Effects.{kind_if}
 use Rattle.call_effects.specs.Wholes.{without_kinds, kind_of, tree_of, reachable_graph, graph_view}
 use Rattle.call_effects.specs.Fits.{IsEntry, IsUsedFile, IsEmptyDir, IsClear, IsNumber, OperationFits, FitsReplaced}

@@ -4,20 +4,20 @@ use Rattle.std.proofs.lemmas.Bool.Decides.{eqb_tells}
 use Rattle.std.proofs.lemmas.Bool.{eq-eqb}
 use Rattle.std.specs.Prelude.{option_map}
 use Rattle.std.specs.FinMap as fin
-use Rattle.log_record.specs.posix_calls.Content.{Entries}
-use Rattle.log_record.specs.posix_calls.Tree.{Tree, Descriptors, names_of, names_in, is_open, entries_of}
-use Rattle.log_record.specs.posix_calls.Tree as tree
-use Rattle.log_record.specs.file_graph.Graph.{Graph, Node, Body, FileBody, DirBody, after_effect, subject_after, subjects, is_among}
-use Rattle.log_record.specs.file_graph.declared.effect.Kind.{Kind}
-use Rattle.log_record.specs.file_graph.declared.effect.Kind.TheVariants as kind
-use Rattle.log_record.specs.file_graph.declared.effect.Effect.{Effect}
-use Rattle.log_record.specs.file_graph.declared.effect.Effect.TheVariants as effect
+use Rattle.posix_calls.specs.Content.{Entries}
+use Rattle.posix_calls.specs.Tree.{Tree, Descriptors, names_of, names_in, is_open, entries_of}
+use Rattle.posix_calls.specs.Tree as tree
+use Rattle.file_graph.specs.Graph.{Graph, Node, Body, FileBody, DirBody, after_effect, subject_after, subjects, is_among}
+use Rattle.file_graph.specs.declared.effect.Kind.{Kind}
+use Rattle.file_graph.specs.declared.effect.Kind.TheVariants as kind
+use Rattle.file_graph.specs.declared.effect.Effect.{Effect}
+use Rattle.file_graph.specs.declared.effect.Effect.TheVariants as effect
 use Rattle.call_effects.specs.Effects.{stored_count}
 use Rattle.call_effects.specs.Wholes.{without_kinds, tree_of, tree_node, keep, reachable_graph, kind_of, one_if, IsTyped, IsSound, AreReached}
-use Rattle.log_record.specs.posix_calls.declared.descriptor.Descriptor.{Descriptor}
-use Rattle.log_record.specs.posix_calls.Operations.{with_entry, without_entry}
-use Rattle.log_record.proofs.posix_calls_lemmas.Sums.{names_of-set_node}
-use Rattle.log_record.proofs.posix_calls_lemmas.Counts.{counted, counted_is, counted_insert, counted_remove}
+use Rattle.posix_calls.specs.declared.descriptor.Descriptor.{Descriptor}
+use Rattle.posix_calls.specs.Operations.{with_entry, without_entry}
+use Rattle.posix_calls.proofs.Sums.{names_of-set_node}
+use Rattle.posix_calls.proofs.Counts.{counted, counted_is, counted_insert, counted_remove}
 use Rattle.call_effects.proofs.Puts.{put, put_other, put_through, put_through_at}
 use Rattle.call_effects.proofs.Inodes.{get_inodes, inodes_insert, inodes_remove}
 

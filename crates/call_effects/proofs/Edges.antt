@@ -3,19 +3,19 @@ use Rattle.std.proofs.Common.{◌≡◌, ◌≢◌, inl, inr, ℕ, ◌+◌, ◌-
 use Rattle.std.specs.Prelude.{option_map, ◌&&◌, not}
 use Rattle.std.proofs.lemmas.Bool.Decides.{eqb_tells}
 use Rattle.std.specs.FinMap as fin
-use Rattle.log_record.specs.posix_calls.Content.{Entries, with_length, with_bytes}
-use Rattle.log_record.specs.posix_calls.Tree.{Tree, Descriptors, names_of, names_in, is_open, entries_of, bytes_of}
-use Rattle.log_record.specs.posix_calls.Tree as tree
-use Rattle.log_record.specs.file_graph.Graph.{Graph, Node, FileBody, after_effect, after_effects, subject_after}
-use Rattle.log_record.specs.file_graph.declared.effect.Kind.{Kind}
-use Rattle.log_record.specs.file_graph.declared.effect.Kind.TheVariants as kind
-use Rattle.log_record.specs.file_graph.declared.effect.Effect.TheVariants as effect
+use Rattle.posix_calls.specs.Content.{Entries, with_length, with_bytes}
+use Rattle.posix_calls.specs.Tree.{Tree, Descriptors, names_of, names_in, is_open, entries_of, bytes_of}
+use Rattle.posix_calls.specs.Tree as tree
+use Rattle.file_graph.specs.Graph.{Graph, Node, FileBody, after_effect, after_effects, subject_after}
+use Rattle.file_graph.specs.declared.effect.Kind.{Kind}
+use Rattle.file_graph.specs.declared.effect.Kind.TheVariants as kind
+use Rattle.file_graph.specs.declared.effect.Effect.TheVariants as effect
 use Rattle.call_effects.specs.Effects.{stored_count, remove_effects}
 use Rattle.call_effects.specs.Wholes.{without_kinds, tree_of, tree_node, reachable_graph, kind_of, one_if, IsTyped}
-use Rattle.log_record.specs.posix_calls.declared.operation.Location.{Location}
-use Rattle.log_record.specs.posix_calls.Operations.{with_entry, without_entry, less_unused}
-use Rattle.log_record.proofs.posix_calls_lemmas.Counts.{counted, counted_is, counted_empty, get_inserted, get_left, none_of_no_entries}
-use Rattle.log_record.proofs.posix_calls_lemmas.Changes.{off_one, on_one}
+use Rattle.posix_calls.specs.declared.operation.Location.{Location}
+use Rattle.posix_calls.specs.Operations.{with_entry, without_entry, less_unused}
+use Rattle.posix_calls.proofs.Counts.{counted, counted_is, counted_empty, get_inserted, get_left, none_of_no_entries}
+use Rattle.posix_calls.proofs.Changes.{off_one, on_one}
 use Rattle.call_effects.specs.Fits.{IsRoom, IsEntry}
 use Rattle.call_effects.proofs.Puts.{put, put_there, put_other, put_same}
 use Rattle.call_effects.proofs.Inodes.{inodes_empty}

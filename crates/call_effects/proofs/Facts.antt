@@ -4,17 +4,17 @@ use Rattle.std.specs.Prelude.{option_map, ◌&&◌, not}
 use Rattle.std.specs.List.{list_any}
 use Rattle.std.proofs.lemmas.Bool.Decides.{eqb_tells}
 use Rattle.std.specs.FinMap as fin
-use Rattle.log_record.specs.posix_calls.Content.{Entries}
-use Rattle.log_record.specs.posix_calls.Tree.{Tree, Descriptors, is_open, set_node, entries_of}
-use Rattle.log_record.specs.posix_calls.Query.{Seen, Query, Gives, Refuses, IsDir, Look, ◌>>=◌, View, run}
-use Rattle.log_record.specs.posix_calls.Query as query
-use Rattle.log_record.specs.posix_calls.declared.operation.Location.{Location}
-use Rattle.log_record.specs.posix_calls.Walk.{Place, root_place, entries_seen, directory, directory_if, walk}
-use Rattle.log_record.proofs.posix_calls_lemmas.Reached.{Chain, chain_path}
-use Rattle.log_record.proofs.posix_calls_lemmas.Changes.{set_other}
-use Rattle.log_record.specs.file_graph.Graph.{Graph, Node, FileBody, DirBody}
-use Rattle.log_record.specs.file_graph.declared.effect.Kind.{Kind}
-use Rattle.log_record.specs.file_graph.declared.effect.Kind.TheVariants as kind
+use Rattle.posix_calls.specs.Content.{Entries}
+use Rattle.posix_calls.specs.Tree.{Tree, Descriptors, is_open, set_node, entries_of}
+use Rattle.posix_calls.specs.Query.{Seen, Query, Gives, Refuses, IsDir, Look, ◌>>=◌, View, run}
+use Rattle.posix_calls.specs.Query as query
+use Rattle.posix_calls.specs.declared.operation.Location.{Location}
+use Rattle.posix_calls.specs.Walk.{Place, root_place, entries_seen, directory, directory_if, walk}
+use Rattle.posix_calls.proofs.Reached.{Chain, chain_path}
+use Rattle.posix_calls.proofs.Changes.{set_other}
+use Rattle.file_graph.specs.Graph.{Graph, Node, FileBody, DirBody}
+use Rattle.file_graph.specs.declared.effect.Kind.{Kind}
+use Rattle.file_graph.specs.declared.effect.Kind.TheVariants as kind
 use Rattle.call_effects.specs.Effects.{stored_count}
 use Rattle.call_effects.specs.Wholes.{without_kinds, tree_of, keep, reachable_graph, kind_of, body_kind, one_if, graph_view, node_is_dir, node_seen}
 use Rattle.call_effects.specs.Fits.{IsRoom, IsEntry, IsClear}

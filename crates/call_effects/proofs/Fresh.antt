@@ -5,18 +5,18 @@ use Rattle.std.specs.FinMap as fin
 use Rattle.std.specs.Ordering.{nat_cmp}
 use Rattle.std.specs.Cmp.Lexicographic.{slice_cmp}
 use Rattle.std.proofs.lemmas.Bool.Decides.{eqb_tells}
-use Rattle.log_record.specs.posix_calls.Content.{Entries}
-use Rattle.log_record.specs.posix_calls.Tree.{Descriptors, names_in, names_of, is_open}
-use Rattle.log_record.specs.posix_calls.EmptyTree.{empty_state}
-use Rattle.log_record.specs.posix_calls.Tree as tree
-use Rattle.log_record.specs.posix_calls.Resolve.{resolve, resolve_from}
-use Rattle.log_record.specs.posix_calls.WellFormed.{IsDirectory, IsWithinLimits}
-use Rattle.log_record.proofs.posix_calls_lemmas.Bounds.{opening_within}
-use Rattle.log_record.proofs.posix_calls_lemmas.Sums.{all_zero}
-use Rattle.log_record.proofs.posix_calls_lemmas.Counts.{counted, counted_is, counted_empty}
-use Rattle.log_record.specs.file_graph.Graph.{Node, DirBody, fresh}
-use Rattle.log_record.specs.file_graph.declared.effect.Kind.{Kind}
-use Rattle.log_record.specs.file_graph.declared.effect.Kind.TheVariants as kind
+use Rattle.posix_calls.specs.Content.{Entries}
+use Rattle.posix_calls.specs.Tree.{Descriptors, names_in, names_of, is_open}
+use Rattle.posix_calls.specs.EmptyTree.{empty_state}
+use Rattle.posix_calls.specs.Tree as tree
+use Rattle.posix_calls.specs.Resolve.{resolve, resolve_from}
+use Rattle.posix_calls.specs.WellFormed.{IsDirectory, IsWithinLimits}
+use Rattle.posix_calls.proofs.Bounds.{opening_within}
+use Rattle.posix_calls.proofs.Sums.{all_zero}
+use Rattle.posix_calls.proofs.Counts.{counted, counted_is, counted_empty}
+use Rattle.file_graph.specs.Graph.{Node, DirBody, fresh}
+use Rattle.file_graph.specs.declared.effect.Kind.{Kind}
+use Rattle.file_graph.specs.declared.effect.Kind.TheVariants as kind
 use Rattle.call_effects.specs.Effects.{stored_count}
 use Rattle.call_effects.specs.Wholes.{tree_of, tree_node, keep, state_of, kind_of, one_if, without_kinds, IsSound}
 use Rattle.call_effects.proofs.Inodes.{inodes_empty}

@@ -7,24 +7,24 @@ use Rattle.std.specs.Ordering.{is_lt}
 use Rattle.std.specs.Cmp.Lexicographic.{nat_list_cmp_total}
 use Rattle.std.specs.FinMap as fin
 use Rattle.std.specs.FinMap.Entries.{below_all}
-use Rattle.log_record.specs.posix_calls.Content.{Entries, with_bytes, with_length}
-use Rattle.log_record.specs.posix_calls.Units.{file_units, directory_units}
-use Rattle.log_record.specs.posix_calls.Tree.{Descriptors, Own}
-use Rattle.log_record.specs.posix_calls.Query.{Gives, ◌>>=◌, View, run}
-use Rattle.log_record.specs.posix_calls.Walk.{entries_seen, size_seen, size_at}
-use Rattle.log_record.specs.posix_calls.declared.operation.Location.{Location}
-use Rattle.log_record.specs.posix_calls.declared.operation.Operation.{Operation}
-use Rattle.log_record.specs.posix_calls.declared.operation.Operation.TheVariants.{Tell, NewDir, NewFile, OpenFile, CloseFile, Write, Resize, RemoveDir, AddName, DropName, Move}
-use Rattle.log_record.specs.posix_calls.declared.operation.Replaced.TheVariants.{Nothing, OldFile, OldDir}
-use Rattle.log_record.specs.posix_calls.Operations.{makes}
-use Rattle.log_record.proofs.posix_calls_lemmas.Directory.{names_same}
-use Rattle.log_record.proofs.posix_calls_lemmas.Counts.{order}
-use Rattle.log_record.proofs.posix_calls_lemmas.Within.{resized_length}
-use Rattle.log_record.specs.file_graph.Graph.{Graph, Node, after_effect, cost}
-use Rattle.log_record.specs.file_graph.Units.{growth}
-use Rattle.log_record.specs.file_graph.declared.effect.Kind.{Kind}
-use Rattle.log_record.specs.file_graph.declared.effect.Kind.TheVariants as kind
-use Rattle.log_record.specs.file_graph.declared.effect.Effect.TheVariants as effect
+use Rattle.posix_calls.specs.Content.{Entries, with_bytes, with_length}
+use Rattle.posix_calls.specs.Units.{file_units, directory_units}
+use Rattle.posix_calls.specs.Tree.{Descriptors, Own}
+use Rattle.posix_calls.specs.Query.{Gives, ◌>>=◌, View, run}
+use Rattle.posix_calls.specs.Walk.{entries_seen, size_seen, size_at}
+use Rattle.posix_calls.specs.declared.operation.Location.{Location}
+use Rattle.posix_calls.specs.declared.operation.Operation.{Operation}
+use Rattle.posix_calls.specs.declared.operation.Operation.TheVariants.{Tell, NewDir, NewFile, OpenFile, CloseFile, Write, Resize, RemoveDir, AddName, DropName, Move}
+use Rattle.posix_calls.specs.declared.operation.Replaced.TheVariants.{Nothing, OldFile, OldDir}
+use Rattle.posix_calls.specs.Operations.{makes}
+use Rattle.posix_calls.proofs.Directory.{names_same}
+use Rattle.posix_calls.proofs.Counts.{order}
+use Rattle.posix_calls.proofs.Within.{resized_length}
+use Rattle.file_graph.specs.Graph.{Graph, Node, after_effect, cost}
+use Rattle.file_graph.specs.Units.{growth}
+use Rattle.file_graph.specs.declared.effect.Kind.{Kind}
+use Rattle.file_graph.specs.declared.effect.Kind.TheVariants as kind
+use Rattle.file_graph.specs.declared.effect.Effect.TheVariants as effect
 use Rattle.call_effects.specs.Effects.{stored_count, make_effects, remove_effects, kind_if, effects_of}
 use Rattle.call_effects.specs.Records.{growth_asked, entry_rise, file_rise, move_rise}
 use Rattle.call_effects.specs.Wholes.{IsSound, without_kinds, graph_view, kind_of}

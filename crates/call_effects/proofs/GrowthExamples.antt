@@ -2,23 +2,23 @@
 use Rattle.std.proofs.Common.{◌≡◌, ◌≢◌, ℕ, ◌+◌, ◌-◌, List, [], ◌∷◌, length, None, refl, ap, ◌∙◌, arith}
 use Rattle.std.specs.Prelude.{nat_le, option_map, Ok, max, Bool}
 use Rattle.std.specs.FinMap as fin
-use Rattle.log_record.specs.posix_calls.Units.{directory_units}
-use Rattle.log_record.specs.posix_calls.Tree.{Descriptors}
-use Rattle.log_record.specs.posix_calls.declared.operation.Location.{Location}
-use Rattle.log_record.specs.posix_calls.declared.operation.Operation.TheVariants.{NewDir, Write, AddName, Move}
-use Rattle.log_record.specs.posix_calls.declared.operation.Replaced.TheVariants.{Nothing}
-use Rattle.log_record.proofs.posix_calls_lemmas.Counts.{order}
-use Rattle.log_record.specs.file_graph.Graph.{Graph, fresh}
-use Rattle.log_record.specs.file_graph.Units.{growth}
-use Rattle.log_record.specs.file_graph.declared.effect.Kind.{Kind}
-use Rattle.log_record.specs.file_graph.declared.effect.Kind.TheVariants as kind
+use Rattle.posix_calls.specs.Units.{directory_units}
+use Rattle.posix_calls.specs.Tree.{Descriptors}
+use Rattle.posix_calls.specs.declared.operation.Location.{Location}
+use Rattle.posix_calls.specs.declared.operation.Operation.TheVariants.{NewDir, Write, AddName, Move}
+use Rattle.posix_calls.specs.declared.operation.Replaced.TheVariants.{Nothing}
+use Rattle.posix_calls.proofs.Counts.{order}
+use Rattle.file_graph.specs.Graph.{Graph, fresh}
+use Rattle.file_graph.specs.Units.{growth}
+use Rattle.file_graph.specs.declared.effect.Kind.{Kind}
+use Rattle.file_graph.specs.declared.effect.Kind.TheVariants as kind
 use Rattle.call_effects.specs.Effects.{stored_count, kind_if, effects_of}
 use Rattle.call_effects.specs.Records.{file_rise}
-use Rattle.log_record.specs.posix_calls.Query.{Gives, ◌>>=◌, run}
-use Rattle.log_record.specs.posix_calls.declared.errno.Errno.TheVariants as errno
-use Rattle.log_record.specs.posix_calls.Walk.{refuse, walk, is_there}
-use Rattle.log_record.specs.posix_calls.Decide.{mkdir}
-use Rattle.log_record.specs.posix_calls.declared.call.Call.TheVariants as call
+use Rattle.posix_calls.specs.Query.{Gives, ◌>>=◌, run}
+use Rattle.posix_calls.specs.declared.errno.Errno.TheVariants as errno
+use Rattle.posix_calls.specs.Walk.{refuse, walk, is_there}
+use Rattle.posix_calls.specs.Decide.{mkdir}
+use Rattle.posix_calls.specs.declared.call.Call.TheVariants as call
 use Rattle.call_effects.specs.Calls.{answer_over}
 use Rattle.call_effects.proofs.Inodes.{get_inodes}
 use Rattle.call_effects.specs.Wholes.{IsSound, without_kinds, graph_view}

@@ -2,17 +2,17 @@
 use Rattle.std.proofs.Common.{◌≡◌, ◌≢◌, inl, inr, ℕ, ◌-◌, ◌<◌, ◌≤◌, [], refl, Some, None, Option, cond, ap, sym, ◌∙◌, subst, true, false, Bool, arith, ◌==◌}
 use Rattle.std.specs.Prelude.{option_map, ◌&&◌, not}
 use Rattle.std.proofs.lemmas.Bool.Decides.{eqb_tells}
-use Rattle.log_record.specs.posix_calls.Content.{with_length}
-use Rattle.log_record.specs.posix_calls.Tree.{Descriptors, Own, is_open, any_up_to, refers_to, set_own, with_own, names_of}
-use Rattle.log_record.specs.posix_calls.declared.descriptor.Descriptor.{Descriptor}
-use Rattle.log_record.specs.posix_calls.Tree as tree
-use Rattle.log_record.specs.posix_calls.declared.operation.Operation.{Operation}
-use Rattle.log_record.specs.posix_calls.declared.operation.Operation.TheVariants.{Tell, NewDir, NewFile, OpenFile, CloseFile, Write, Resize, RemoveDir, AddName, DropName, Move}
-use Rattle.log_record.specs.posix_calls.Operations.{tree_after, makes, held_after, less_unused}
-use Rattle.log_record.proofs.posix_calls_lemmas.Open.{own_cases, own_there, open_there}
-use Rattle.log_record.proofs.posix_calls_lemmas.Steps.{with_same}
-use Rattle.log_record.specs.file_graph.Graph.{Graph, Node, after_effects}
-use Rattle.log_record.specs.file_graph.declared.effect.Kind.TheVariants as kind
+use Rattle.posix_calls.specs.Content.{with_length}
+use Rattle.posix_calls.specs.Tree.{Descriptors, Own, is_open, any_up_to, refers_to, set_own, with_own, names_of}
+use Rattle.posix_calls.specs.declared.descriptor.Descriptor.{Descriptor}
+use Rattle.posix_calls.specs.Tree as tree
+use Rattle.posix_calls.specs.declared.operation.Operation.{Operation}
+use Rattle.posix_calls.specs.declared.operation.Operation.TheVariants.{Tell, NewDir, NewFile, OpenFile, CloseFile, Write, Resize, RemoveDir, AddName, DropName, Move}
+use Rattle.posix_calls.specs.Operations.{tree_after, makes, held_after, less_unused}
+use Rattle.posix_calls.proofs.Open.{own_cases, own_there, open_there}
+use Rattle.posix_calls.proofs.Steps.{with_same}
+use Rattle.file_graph.specs.Graph.{Graph, Node, after_effects}
+use Rattle.file_graph.specs.declared.effect.Kind.TheVariants as kind
 use Rattle.call_effects.specs.Effects.{effects_of, stored_count}
 use Rattle.call_effects.specs.Wholes.{tree_of, tree_node, keep, reachable_graph, kind_of}
 use Rattle.call_effects.specs.Fits.{IsNew, IsUsedFile, IsNumber, IsHeld, OperationFits}

@@ -4,10 +4,10 @@ use Rattle.std.specs.Prelude.{option_map, map}
 use Rattle.std.specs.Ordering.{eq_by_cmp}
 use Rattle.std.specs.Cmp.Lexicographic.{nat_list_cmp_total}
 use Rattle.std.specs.FinMap as fin
-use Rattle.log_record.specs.posix_calls.Content.{Entries}
-use Rattle.log_record.proofs.posix_calls_lemmas.Directory.{entries-empty, names_same}
-use Rattle.log_record.proofs.posix_calls_lemmas.Counts.{order}
-use Rattle.log_record.specs.file_graph.declared.effect.Kind.{Kind}
+use Rattle.posix_calls.specs.Content.{Entries}
+use Rattle.posix_calls.proofs.Directory.{entries-empty, names_same}
+use Rattle.posix_calls.proofs.Counts.{order}
+use Rattle.file_graph.specs.declared.effect.Kind.{Kind}
 use Rattle.call_effects.specs.Wholes.{without_kinds}
 
 abbrev first : ℕ × Kind → ℕ

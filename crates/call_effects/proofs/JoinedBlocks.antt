@@ -1,7 +1,7 @@
 -- Which blocks have to be known for a range of a file's bytes.
 use Rattle.std.proofs.Common.{◌≡◌, ℕ, zero, suc, ◌+◌, ◌≤◌, ◌<◌, List, ◌++◌, refl, Some, None, Option, ap, ◌∙◌, arith}
 use Rattle.std.specs.Prelude.{◌/◌, option_map}
-use Rattle.log_record.specs.posix_calls.Part.{blocks_touched}
+use Rattle.posix_calls.specs.Part.{blocks_touched}
 use Rattle.call_effects.specs.Blocks.{joined_bytes, blocks_joined, range_by}
 use Rattle.call_effects.proofs.Blocks.{mapped, both_known}
 

@@ -3,24 +3,24 @@ use Rattle.std.proofs.Common.{◌≡◌, ℕ, zero, suc, ◌+◌, ◌-◌, ◌�
 use Rattle.std.specs.Prelude.{min, nat_lt}
 use Rattle.std.proofs.lemmas.Bool.{ltb-false}
 use Rattle.std.specs.FinMap as fin
-use Rattle.log_record.specs.posix_calls.Content.{Entries}
-use Rattle.log_record.specs.posix_calls.Path.{path_names}
-use Rattle.log_record.specs.posix_calls.Tree.{Own}
-use Rattle.log_record.specs.posix_calls.declared.descriptor.Descriptor.{Descriptor}
-use Rattle.log_record.specs.posix_calls.declared.errno.Errno.{Errno}
-use Rattle.log_record.specs.posix_calls.declared.errno.Errno.TheVariants as errno
-use Rattle.log_record.specs.posix_calls.declared.call.Flags.{Flags}
-use Rattle.log_record.specs.posix_calls.declared.call.Call.{Call}
-use Rattle.log_record.specs.posix_calls.declared.call.Call.TheVariants as call
-use Rattle.log_record.specs.posix_calls.declared.call.Reply.TheVariants as reply
-use Rattle.log_record.specs.posix_calls.declared.operation.Operation.{Operation}
-use Rattle.log_record.specs.posix_calls.declared.operation.Operation.TheVariants.{Tell, CloseFile}
-use Rattle.log_record.specs.posix_calls.declared.operation.Replaced.TheVariants.{OldFile}
-use Rattle.log_record.specs.posix_calls.declared.operation.Missing.TheVariants as missing
-use Rattle.log_record.specs.posix_calls.Query.{Seen, File, Dir, Query, Gives, Refuses, IsDir, Look, Range, ◌>>=◌}
-use Rattle.log_record.specs.posix_calls.Part.{Part, Found, Known, Unknown, blocks_missing, run_part}
-use Rattle.log_record.specs.posix_calls.Walk.{Place, root_place, refuse, read_or_error, entries_at, size_at, kind_at, directory, directory_if, walk, prefix, leads_to, there}
-use Rattle.log_record.specs.posix_calls.Decide.{open_inode, number_or, empties, open_there, bytes_from, write_at, replaced_at, replacing_dir, rename_to, node_description, open_path, close, pread, pwrite, truncate, mkdir, rmdir, link, unlink, rename, list_path, stat, decide}
+use Rattle.posix_calls.specs.Content.{Entries}
+use Rattle.posix_calls.specs.Path.{path_names}
+use Rattle.posix_calls.specs.Tree.{Own}
+use Rattle.posix_calls.specs.declared.descriptor.Descriptor.{Descriptor}
+use Rattle.posix_calls.specs.declared.errno.Errno.{Errno}
+use Rattle.posix_calls.specs.declared.errno.Errno.TheVariants as errno
+use Rattle.posix_calls.specs.declared.call.Flags.{Flags}
+use Rattle.posix_calls.specs.declared.call.Call.{Call}
+use Rattle.posix_calls.specs.declared.call.Call.TheVariants as call
+use Rattle.posix_calls.specs.declared.call.Reply.TheVariants as reply
+use Rattle.posix_calls.specs.declared.operation.Operation.{Operation}
+use Rattle.posix_calls.specs.declared.operation.Operation.TheVariants.{Tell, CloseFile}
+use Rattle.posix_calls.specs.declared.operation.Replaced.TheVariants.{OldFile}
+use Rattle.posix_calls.specs.declared.operation.Missing.TheVariants as missing
+use Rattle.posix_calls.specs.Query.{Seen, File, Dir, Query, Gives, Refuses, IsDir, Look, Range, ◌>>=◌}
+use Rattle.posix_calls.specs.Part.{Part, Found, Known, Unknown, blocks_missing, run_part}
+use Rattle.posix_calls.specs.Walk.{Place, root_place, refuse, read_or_error, entries_at, size_at, kind_at, directory, directory_if, walk, prefix, leads_to, there}
+use Rattle.posix_calls.specs.Decide.{open_inode, number_or, empties, open_there, bytes_from, write_at, replaced_at, replacing_dir, rename_to, node_description, open_path, close, pread, pwrite, truncate, mkdir, rmdir, link, unlink, rename, list_path, stat, decide}
 
 -- each inode that is asked of, for its kind, to be looked at, or for a range of bytes, passes, as the part answers what comes before
 unfoldable pub QueryAll : {A : Type 0} → Part → (ℕ → Type 0) → (ℕ → Type 0) → (ℕ → ℕ → ℕ → Type 0) → Query A → Type 0

@@ -1,16 +1,16 @@
 -- An operation's effects and growth as they are asked for, and over the whole.
 use Rattle.std.proofs.Common.{◌≡◌, ℕ, ◌+◌, length, refl, Some, None, Option, Ok, cond, ap, sym, ◌∙◌, subst, true, false, ◌==◌}
 use Rattle.std.specs.Prelude.{max}
-use Rattle.log_record.specs.posix_calls.Tree.{Descriptors, Own}
-use Rattle.log_record.specs.posix_calls.declared.operation.Location.{Location}
-use Rattle.log_record.specs.posix_calls.declared.operation.Operation.{Operation}
-use Rattle.log_record.specs.posix_calls.declared.operation.Operation.TheVariants.{Tell, NewDir, NewFile, OpenFile, CloseFile, Write, Resize, RemoveDir, AddName, DropName, Move}
-use Rattle.log_record.specs.posix_calls.declared.operation.Replaced.{Replaced}
-use Rattle.log_record.specs.posix_calls.declared.operation.Replaced.TheVariants.{Nothing, OldFile, OldDir}
-use Rattle.log_record.specs.posix_calls.Query.{Gives, ◌>>=◌, run}
-use Rattle.log_record.specs.posix_calls.Part.{Part, whole_part}
-use Rattle.log_record.specs.posix_calls.Walk.{names_seen, size_at}
-use Rattle.log_record.specs.file_graph.Graph.{Graph}
+use Rattle.posix_calls.specs.Tree.{Descriptors, Own}
+use Rattle.posix_calls.specs.declared.operation.Location.{Location}
+use Rattle.posix_calls.specs.declared.operation.Operation.{Operation}
+use Rattle.posix_calls.specs.declared.operation.Operation.TheVariants.{Tell, NewDir, NewFile, OpenFile, CloseFile, Write, Resize, RemoveDir, AddName, DropName, Move}
+use Rattle.posix_calls.specs.declared.operation.Replaced.{Replaced}
+use Rattle.posix_calls.specs.declared.operation.Replaced.TheVariants.{Nothing, OldFile, OldDir}
+use Rattle.posix_calls.specs.Query.{Gives, ◌>>=◌, run}
+use Rattle.posix_calls.specs.Part.{Part, whole_part}
+use Rattle.posix_calls.specs.Walk.{names_seen, size_at}
+use Rattle.file_graph.specs.Graph.{Graph}
 use Rattle.call_effects.specs.Effects.{stored_count, stored_at, recounted_file, replaced_file, effects_by, effects_of}
 use Rattle.call_effects.specs.Records.{names_if, effects_asked, file_rise, entry_rise, move_rise, growth_asked}
 use Rattle.call_effects.specs.Wholes.{kind_of, graph_view}

@@ -2,20 +2,20 @@
 use Rattle.std.proofs.Common.{◌≡◌, ℕ, List, refl, Some, None, Option, Ok, cond, ap, sym, ◌∙◌, subst, true, false, Bool}
 use Rattle.std.specs.Prelude.{option_map, ◌&&◌, not, ◌==◌}
 use Rattle.std.specs.FinMap as fin
-use Rattle.log_record.specs.posix_calls.Content.{Entries, range}
-use Rattle.log_record.specs.posix_calls.Tree.{Descriptors, is_open}
-use Rattle.log_record.specs.posix_calls.declared.descriptor.Descriptor.{Descriptor}
-use Rattle.log_record.specs.posix_calls.declared.call.Call.{Call}
-use Rattle.log_record.specs.posix_calls.declared.operation.Missing.{Missing}
-use Rattle.log_record.specs.posix_calls.declared.operation.Missing.TheVariants as missing
-use Rattle.log_record.specs.posix_calls.Query.{Query, Gives, Refuses, IsDir, Look, Range, View, run}
-use Rattle.log_record.specs.posix_calls.Part.{Part, Found, Known, Unknown, blocks_missing, IsPart, run_part, whole_part}
-use Rattle.log_record.specs.posix_calls.Walk.{entries_seen, entries_at}
-use Rattle.log_record.specs.posix_calls.Decide.{decide}
-use Rattle.log_record.proofs.posix_calls_lemmas.Counts.{order}
-use Rattle.log_record.specs.file_graph.Graph.{Graph, Node, FileBody, DirBody}
-use Rattle.log_record.specs.file_graph.declared.effect.Kind.{Kind}
-use Rattle.log_record.specs.file_graph.declared.effect.Kind.TheVariants as kind
+use Rattle.posix_calls.specs.Content.{Entries, range}
+use Rattle.posix_calls.specs.Tree.{Descriptors, is_open}
+use Rattle.posix_calls.specs.declared.descriptor.Descriptor.{Descriptor}
+use Rattle.posix_calls.specs.declared.call.Call.{Call}
+use Rattle.posix_calls.specs.declared.operation.Missing.{Missing}
+use Rattle.posix_calls.specs.declared.operation.Missing.TheVariants as missing
+use Rattle.posix_calls.specs.Query.{Query, Gives, Refuses, IsDir, Look, Range, View, run}
+use Rattle.posix_calls.specs.Part.{Part, Found, Known, Unknown, blocks_missing, IsPart, run_part, whole_part}
+use Rattle.posix_calls.specs.Walk.{entries_seen, entries_at}
+use Rattle.posix_calls.specs.Decide.{decide}
+use Rattle.posix_calls.proofs.Counts.{order}
+use Rattle.file_graph.specs.Graph.{Graph, Node, FileBody, DirBody}
+use Rattle.file_graph.specs.declared.effect.Kind.{Kind}
+use Rattle.file_graph.specs.declared.effect.Kind.TheVariants as kind
 use Rattle.call_effects.specs.Wholes.{keep, reachable_graph, kind_of, graph_view, node_is_dir, node_seen, node_bytes, without_kinds}
 use Rattle.call_effects.specs.Knowledge.{IsPutBack, stored_view}
 use Rattle.call_effects.specs.Fits.{IsUsedFile}

@@ -6,18 +6,18 @@ use Rattle.std.specs.Ordering.{eq_by_cmp}
 use Rattle.std.specs.FinMap as fin
 use Rattle.std.proofs.lemmas.Bool.{eq-eqb}
 use Rattle.std.proofs.lemmas.Bool.Decides.{eqb_tells}
-use Rattle.log_record.specs.posix_calls.Content.{Entries}
-use Rattle.log_record.specs.posix_calls.Tree.{Descriptors}
-use Rattle.log_record.proofs.posix_calls_lemmas.Counts.{order}
-use Rattle.log_record.proofs.posix_calls_lemmas.Sums.{any_there}
-use Rattle.log_record.specs.file_graph.Graph.{Graph}
-use Rattle.log_record.specs.file_graph.declared.effect.Kind.{Kind}
-use Rattle.log_record.specs.file_graph.declared.effect.Kind.TheVariants as kind
+use Rattle.posix_calls.specs.Content.{Entries}
+use Rattle.posix_calls.specs.Tree.{Descriptors}
+use Rattle.posix_calls.proofs.Counts.{order}
+use Rattle.posix_calls.proofs.Sums.{any_there}
+use Rattle.file_graph.specs.Graph.{Graph}
+use Rattle.file_graph.specs.declared.effect.Kind.{Kind}
+use Rattle.file_graph.specs.declared.effect.Kind.TheVariants as kind
 use Rattle.call_effects.specs.Effects.{kind_if}
 use Rattle.call_effects.specs.Wholes.{kind_of, node_is_dir}
 use Rattle.call_effects.specs.Knowledge.{Knowledge, Agrees, IsCopiedEntry, copy_of, same_kind, lists_as, is_listed, is_dir_by, part_of}
 use Rattle.call_effects.specs.NodeView.{DirView}
-use Rattle.log_record.specs.posix_calls.declared.operation.Location.{Location}
+use Rattle.posix_calls.specs.declared.operation.Location.{Location}
 use Rattle.call_effects.proofs.Changes.{IsFair}
 use Rattle.call_effects.proofs.KnownTold.{dir_copied, dir_stands, file_stands, part_is}
 use Rattle.call_effects.proofs.KnownMissing.{Answers, by_dir, by_file}

@@ -2,17 +2,17 @@
 use Rattle.std.proofs.Common.{◌≡◌, ℕ, List, refl, Some, None, Option, Ok, ap, sym, ◌∙◌, subst, true}
 use Rattle.std.specs.Prelude.{option_map}
 use Rattle.std.specs.FinMap as fin
-use Rattle.log_record.specs.posix_calls.Content.{Entries}
-use Rattle.log_record.specs.posix_calls.Tree.{Own, Descriptors}
-use Rattle.log_record.specs.posix_calls.declared.call.Call.{Call}
-use Rattle.log_record.specs.posix_calls.declared.operation.Missing.TheVariants as missing
-use Rattle.log_record.specs.posix_calls.declared.operation.Operation.{Operation}
-use Rattle.log_record.specs.posix_calls.Query.{Seen, File, Dir, Query, Gives, Refuses, IsDir, Look, Range, run}
-use Rattle.log_record.specs.posix_calls.Part.{Part, Found, Known, Unknown, blocks_missing, run_part}
-use Rattle.log_record.specs.posix_calls.Walk.{entries_seen, entries_at}
-use Rattle.log_record.specs.posix_calls.Decide.{decide}
-use Rattle.log_record.proofs.posix_calls_lemmas.Counts.{order}
-use Rattle.log_record.specs.file_graph.Graph.{Graph}
+use Rattle.posix_calls.specs.Content.{Entries}
+use Rattle.posix_calls.specs.Tree.{Own, Descriptors}
+use Rattle.posix_calls.specs.declared.call.Call.{Call}
+use Rattle.posix_calls.specs.declared.operation.Missing.TheVariants as missing
+use Rattle.posix_calls.specs.declared.operation.Operation.{Operation}
+use Rattle.posix_calls.specs.Query.{Seen, File, Dir, Query, Gives, Refuses, IsDir, Look, Range, run}
+use Rattle.posix_calls.specs.Part.{Part, Found, Known, Unknown, blocks_missing, run_part}
+use Rattle.posix_calls.specs.Walk.{entries_seen, entries_at}
+use Rattle.posix_calls.specs.Decide.{decide}
+use Rattle.posix_calls.proofs.Counts.{order}
+use Rattle.file_graph.specs.Graph.{Graph}
 use Rattle.call_effects.specs.NodeView.{NodeView, FileView, DirView, view_seen}
 use Rattle.call_effects.specs.Wholes.{without_kinds}
 use Rattle.call_effects.specs.Knowledge.{Knowledge, Agrees, IsLookedAtNext, part_of}

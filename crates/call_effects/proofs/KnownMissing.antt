@@ -3,16 +3,16 @@ use Rattle.std.proofs.Common.{◌≡◌, inl, inr, ℕ, ◌+◌, ◌≤◌, ◌<
 use Rattle.std.specs.Prelude.{unwrap_or, option_map, ◌&&◌, nat_lt}
 use Rattle.std.proofs.lemmas.Bool.{eq-eqb, le-leb, lt-ltb}
 use Rattle.std.proofs.lemmas.Bool.Decides.{eqb_tells}
-use Rattle.log_record.specs.posix_calls.Tree.{Descriptors}
-use Rattle.log_record.specs.posix_calls.declared.errno.Errno.{Errno}
-use Rattle.log_record.specs.posix_calls.declared.operation.Missing.TheVariants as missing
-use Rattle.log_record.specs.posix_calls.Query.{Seen, Query, Gives, Refuses, IsDir, Look, Range}
-use Rattle.log_record.specs.posix_calls.Part.{Part, Found, Known, Unknown, IsBeyond, blocks_missing, run_part}
-use Rattle.log_record.proofs.posix_calls_lemmas.Parts.{missing_is_left}
-use Rattle.log_record.proofs.posix_calls_lemmas.Sums.{any_is, any_there}
-use Rattle.log_record.specs.file_graph.Graph.{Graph}
-use Rattle.log_record.specs.file_graph.declared.effect.Kind.{Kind}
-use Rattle.log_record.specs.file_graph.declared.effect.Kind.TheVariants as kind
+use Rattle.posix_calls.specs.Tree.{Descriptors}
+use Rattle.posix_calls.specs.declared.errno.Errno.{Errno}
+use Rattle.posix_calls.specs.declared.operation.Missing.TheVariants as missing
+use Rattle.posix_calls.specs.Query.{Seen, Query, Gives, Refuses, IsDir, Look, Range}
+use Rattle.posix_calls.specs.Part.{Part, Found, Known, Unknown, IsBeyond, blocks_missing, run_part}
+use Rattle.posix_calls.proofs.Parts.{missing_is_left}
+use Rattle.posix_calls.proofs.Sums.{any_is, any_there}
+use Rattle.file_graph.specs.Graph.{Graph}
+use Rattle.file_graph.specs.declared.effect.Kind.{Kind}
+use Rattle.file_graph.specs.declared.effect.Kind.TheVariants as kind
 use Rattle.call_effects.specs.Blocks.{blocks_joined}
 use Rattle.call_effects.specs.NodeView.{NodeView, view_seen}
 use Rattle.call_effects.specs.Wholes.{node_is_dir}

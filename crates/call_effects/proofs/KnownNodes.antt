@@ -1,14 +1,14 @@
 -- An operation's effects and its growth miss nothing but nodes: they ask for no bytes.
 use Rattle.std.proofs.Common.{◌≡◌, ℕ, Some, None, Option, cond, true, false, ◌==◌, refl, ap, ◌∙◌}
-use Rattle.log_record.specs.posix_calls.Query.{Seen, Query, Gives, Refuses, IsDir, Look, Range, ◌>>=◌}
-use Rattle.log_record.specs.posix_calls.Part.{Part, Found, Unknown, run_part}
-use Rattle.log_record.specs.posix_calls.declared.operation.Location.{Location}
-use Rattle.log_record.specs.posix_calls.declared.operation.Missing.{Missing}
-use Rattle.log_record.specs.posix_calls.declared.operation.Missing.TheVariants as missing
-use Rattle.log_record.specs.posix_calls.declared.operation.Operation.{Operation}
-use Rattle.log_record.specs.posix_calls.declared.operation.Operation.TheVariants.{Tell, NewDir, NewFile, OpenFile, CloseFile, Write, Resize, RemoveDir, AddName, DropName, Move}
-use Rattle.log_record.specs.posix_calls.declared.operation.Replaced.{Replaced}
-use Rattle.log_record.specs.posix_calls.declared.operation.Replaced.TheVariants.{Nothing, OldFile, OldDir}
+use Rattle.posix_calls.specs.Query.{Seen, Query, Gives, Refuses, IsDir, Look, Range, ◌>>=◌}
+use Rattle.posix_calls.specs.Part.{Part, Found, Unknown, run_part}
+use Rattle.posix_calls.specs.declared.operation.Location.{Location}
+use Rattle.posix_calls.specs.declared.operation.Missing.{Missing}
+use Rattle.posix_calls.specs.declared.operation.Missing.TheVariants as missing
+use Rattle.posix_calls.specs.declared.operation.Operation.{Operation}
+use Rattle.posix_calls.specs.declared.operation.Operation.TheVariants.{Tell, NewDir, NewFile, OpenFile, CloseFile, Write, Resize, RemoveDir, AddName, DropName, Move}
+use Rattle.posix_calls.specs.declared.operation.Replaced.{Replaced}
+use Rattle.posix_calls.specs.declared.operation.Replaced.TheVariants.{Nothing, OldFile, OldDir}
 use Rattle.call_effects.specs.Effects.{recounted_file}
 use Rattle.call_effects.specs.Records.{names_if, effects_asked, entry_rise, move_rise, growth_asked}
 use Rattle.call_effects.specs.Knowledge.{Knowledge, IsNodeMissing, part_of}

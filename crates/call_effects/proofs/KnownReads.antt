@@ -1,14 +1,14 @@
 -- Where bytes are missing, a call reads a range of a file of which its client has a copy, and not all blocks.
 use Rattle.std.proofs.Common.{◌≡◌, ℕ, zero, suc, ◌+◌, ◌*◌, ◌<◌, ◌≤◌, arith, refl, Some, None, Option, Ok, ap, sym, ◌∙◌, subst}
 use Rattle.std.specs.Prelude.{option_map, ◌/◌}
-use Rattle.log_record.specs.posix_calls.declared.call.Call.{Call}
-use Rattle.log_record.specs.posix_calls.declared.descriptor.Descriptor.{Descriptor}
-use Rattle.log_record.specs.posix_calls.declared.operation.Missing.TheVariants as missing
-use Rattle.log_record.specs.posix_calls.declared.operation.Operation.{Operation}
-use Rattle.log_record.specs.posix_calls.Query.{Seen, File, Dir, Query, Gives, Refuses, IsDir, Look, Range, run}
-use Rattle.log_record.specs.posix_calls.Part.{Part, Found, Known, Unknown, blocks_missing, blocks_touched, run_part}
-use Rattle.log_record.specs.posix_calls.Walk.{size_seen, size_at}
-use Rattle.log_record.specs.posix_calls.Decide.{decide}
+use Rattle.posix_calls.specs.declared.call.Call.{Call}
+use Rattle.posix_calls.specs.declared.descriptor.Descriptor.{Descriptor}
+use Rattle.posix_calls.specs.declared.operation.Missing.TheVariants as missing
+use Rattle.posix_calls.specs.declared.operation.Operation.{Operation}
+use Rattle.posix_calls.specs.Query.{Seen, File, Dir, Query, Gives, Refuses, IsDir, Look, Range, run}
+use Rattle.posix_calls.specs.Part.{Part, Found, Known, Unknown, blocks_missing, blocks_touched, run_part}
+use Rattle.posix_calls.specs.Walk.{size_seen, size_at}
+use Rattle.posix_calls.specs.Decide.{decide}
 use Rattle.call_effects.specs.NodeView.{NodeView, FileView, DirView, view_seen}
 use Rattle.call_effects.specs.Wholes.{without_kinds}
 use Rattle.call_effects.specs.Knowledge.{Knowledge, IsReadNext, AreBlocksMissing, part_of}

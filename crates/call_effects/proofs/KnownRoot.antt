@@ -1,14 +1,14 @@
 -- Calls on the root are refused by whoever knows that it is a directory.
 use Rattle.std.proofs.Common.{◌≡◌, ℕ, List, [], true, false, Some, Ok, Err, cond, Bool}
 use Rattle.std.specs.Prelude.{◌&&◌}
-use Rattle.log_record.specs.posix_calls.Path.{path_names}
-use Rattle.log_record.specs.posix_calls.Tree.{Own}
-use Rattle.log_record.specs.posix_calls.declared.errno.Errno.TheVariants as errno
-use Rattle.log_record.specs.posix_calls.declared.call.Flags.{Flags}
-use Rattle.log_record.specs.posix_calls.Query.{◌>>=◌}
-use Rattle.log_record.specs.posix_calls.Part.{Part, Known, run_part}
-use Rattle.log_record.specs.posix_calls.Walk.{is_root, walk}
-use Rattle.log_record.specs.posix_calls.Decide.{is_senseless, lowest_free, open_path, truncate, mkdir, rmdir, link, unlink, rename}
+use Rattle.posix_calls.specs.Path.{path_names}
+use Rattle.posix_calls.specs.Tree.{Own}
+use Rattle.posix_calls.specs.declared.errno.Errno.TheVariants as errno
+use Rattle.posix_calls.specs.declared.call.Flags.{Flags}
+use Rattle.posix_calls.specs.Query.{◌>>=◌}
+use Rattle.posix_calls.specs.Part.{Part, Known, run_part}
+use Rattle.posix_calls.specs.Walk.{is_root, walk}
+use Rattle.posix_calls.specs.Decide.{is_senseless, lowest_free, open_path, truncate, mkdir, rmdir, link, unlink, rename}
 use Rattle.call_effects.proofs.KnownKinds.{or_true}
 
 module _ (p : Part) where

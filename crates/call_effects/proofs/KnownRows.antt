@@ -4,26 +4,26 @@ use Rattle.std.specs.Prelude.{codes, option_map, ◌&&◌}
 use Rattle.std.proofs.lemmas.Bool.Decides.{eqb_tells}
 use Rattle.std.proofs.lemmas.Bool.{eqb-true}
 use Rattle.std.specs.FinMap as fin
-use Rattle.log_record.specs.posix_calls.Content.{Entries, range}
-use Rattle.log_record.specs.posix_calls.Tree.{Own, Descriptors, any_up_to, with_own}
-use Rattle.log_record.specs.posix_calls.declared.errno.Errno.TheVariants as errno
-use Rattle.log_record.specs.posix_calls.declared.call.Call.TheVariants as call
-use Rattle.log_record.specs.posix_calls.declared.operation.Operation.{Operation}
-use Rattle.log_record.specs.posix_calls.declared.operation.Operation.TheVariants.{Tell, NewDir, DropName}
-use Rattle.log_record.specs.posix_calls.declared.call.Reply.TheVariants as reply
-use Rattle.log_record.specs.posix_calls.declared.operation.Missing.{Missing}
-use Rattle.log_record.specs.posix_calls.declared.operation.Missing.TheVariants as missing
-use Rattle.log_record.specs.posix_calls.Query.{Seen, Query, IsDir, Look, Range}
-use Rattle.log_record.specs.posix_calls.Part.{Part, Found, Known, Unknown, blocks_missing, run_part}
-use Rattle.log_record.specs.posix_calls.Walk.{walk}
-use Rattle.log_record.specs.posix_calls.Decide.{mkdir, unlink, stat, pread}
-use Rattle.log_record.proofs.posix_calls_lemmas.Chain.{part_bind, part_gives, part_refuses}
-use Rattle.log_record.proofs.posix_calls_lemmas.Directory.{lists}
-use Rattle.log_record.specs.file_graph.Graph.{Graph, fresh, set_node, after_effects}
-use Rattle.log_record.specs.file_graph.declared.effect.Kind.{Kind}
-use Rattle.log_record.specs.file_graph.declared.effect.Kind.TheVariants as kind
-use Rattle.log_record.specs.file_graph.declared.effect.Effect.{Effect}
-use Rattle.log_record.specs.file_graph.declared.effect.Effect.TheVariants as effect
+use Rattle.posix_calls.specs.Content.{Entries, range}
+use Rattle.posix_calls.specs.Tree.{Own, Descriptors, any_up_to, with_own}
+use Rattle.posix_calls.specs.declared.errno.Errno.TheVariants as errno
+use Rattle.posix_calls.specs.declared.call.Call.TheVariants as call
+use Rattle.posix_calls.specs.declared.operation.Operation.{Operation}
+use Rattle.posix_calls.specs.declared.operation.Operation.TheVariants.{Tell, NewDir, DropName}
+use Rattle.posix_calls.specs.declared.call.Reply.TheVariants as reply
+use Rattle.posix_calls.specs.declared.operation.Missing.{Missing}
+use Rattle.posix_calls.specs.declared.operation.Missing.TheVariants as missing
+use Rattle.posix_calls.specs.Query.{Seen, Query, IsDir, Look, Range}
+use Rattle.posix_calls.specs.Part.{Part, Found, Known, Unknown, blocks_missing, run_part}
+use Rattle.posix_calls.specs.Walk.{walk}
+use Rattle.posix_calls.specs.Decide.{mkdir, unlink, stat, pread}
+use Rattle.posix_calls.proofs.Chain.{part_bind, part_gives, part_refuses}
+use Rattle.posix_calls.proofs.Directory.{lists}
+use Rattle.file_graph.specs.Graph.{Graph, fresh, set_node, after_effects}
+use Rattle.file_graph.specs.declared.effect.Kind.{Kind}
+use Rattle.file_graph.specs.declared.effect.Kind.TheVariants as kind
+use Rattle.file_graph.specs.declared.effect.Effect.{Effect}
+use Rattle.file_graph.specs.declared.effect.Effect.TheVariants as effect
 use Rattle.call_effects.specs.Records.{effects_asked}
 use Rattle.call_effects.specs.Fits.{IsNew}
 use Rattle.call_effects.specs.Blocks.{block_at}

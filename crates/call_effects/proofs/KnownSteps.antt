@@ -1,21 +1,21 @@
 -- What a client finds by what it knows is what the whole comes to, in every whole that agrees.
 use Rattle.std.specs.Prelude.{IsSome, is_some}
 use Rattle.std.proofs.Common.{◌≡◌, ℕ, List, Ok, Err, Result, cond, ap, sym, ◌∙◌, subst}
-use Rattle.log_record.specs.posix_calls.Tree.{Own, Descriptors, with_own}
-use Rattle.log_record.specs.posix_calls.Query.{run}
-use Rattle.log_record.specs.posix_calls.Part.{Known, Unknown, run_part}
-use Rattle.log_record.specs.posix_calls.declared.operation.Missing.{Missing}
-use Rattle.log_record.specs.posix_calls.declared.operation.Missing.TheVariants as missing
-use Rattle.log_record.specs.posix_calls.Decide.{decide}
-use Rattle.log_record.specs.posix_calls.Operations.{Step, reply_of, own_after}
-use Rattle.log_record.specs.posix_calls.declared.operation.Operation.{Operation}
-use Rattle.log_record.specs.posix_calls.declared.errno.Errno.{Errno}
-use Rattle.log_record.specs.posix_calls.declared.errno.Errno.TheVariants as errno
-use Rattle.log_record.specs.posix_calls.declared.call.Call.{Call}
-use Rattle.log_record.specs.posix_calls.declared.call.Reply.TheVariants as reply
-use Rattle.log_record.proofs.posix_calls_lemmas.Parts.{known_is_run}
-use Rattle.log_record.specs.file_graph.Graph.{Graph, after_effects}
-use Rattle.log_record.specs.file_graph.declared.effect.Effect.{Effect}
+use Rattle.posix_calls.specs.Tree.{Own, Descriptors, with_own}
+use Rattle.posix_calls.specs.Query.{run}
+use Rattle.posix_calls.specs.Part.{Known, Unknown, run_part}
+use Rattle.posix_calls.specs.declared.operation.Missing.{Missing}
+use Rattle.posix_calls.specs.declared.operation.Missing.TheVariants as missing
+use Rattle.posix_calls.specs.Decide.{decide}
+use Rattle.posix_calls.specs.Operations.{Step, reply_of, own_after}
+use Rattle.posix_calls.specs.declared.operation.Operation.{Operation}
+use Rattle.posix_calls.specs.declared.errno.Errno.{Errno}
+use Rattle.posix_calls.specs.declared.errno.Errno.TheVariants as errno
+use Rattle.posix_calls.specs.declared.call.Call.{Call}
+use Rattle.posix_calls.specs.declared.call.Reply.TheVariants as reply
+use Rattle.posix_calls.proofs.Parts.{known_is_run}
+use Rattle.file_graph.specs.Graph.{Graph, after_effects}
+use Rattle.file_graph.specs.declared.effect.Effect.{Effect}
 use Rattle.call_effects.specs.Calls.{answer_over}
 use Rattle.call_effects.specs.Effects.{effects_of}
 use Rattle.call_effects.specs.Records.{effects_asked, growth_asked}

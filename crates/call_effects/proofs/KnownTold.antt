@@ -10,16 +10,16 @@ use Rattle.std.specs.declared.cmp.Ordering.TheVariants.{Less, Equal, Greater}
 use Rattle.std.specs.FinMap as fin
 use Rattle.std.specs.FinMap.Entries.{below_all}
 use Rattle.std.proofs.lemmas.Bool.Decides.{eqb_tells}
-use Rattle.log_record.specs.posix_calls.Content.{Entries, range}
-use Rattle.log_record.specs.posix_calls.Tree.{Descriptors}
-use Rattle.log_record.specs.posix_calls.Query.{Seen}
-use Rattle.log_record.specs.posix_calls.Part.{IsPart}
-use Rattle.log_record.proofs.posix_calls_lemmas.Counts.{order}
-use Rattle.log_record.proofs.posix_calls_lemmas.Directory.{names_same}
-use Rattle.log_record.proofs.posix_calls_lemmas.Sums.{any_is}
-use Rattle.log_record.specs.file_graph.Graph.{Graph, FileBody, DirBody}
-use Rattle.log_record.specs.file_graph.declared.effect.Kind.{Kind}
-use Rattle.log_record.specs.file_graph.declared.effect.Kind.TheVariants as kind
+use Rattle.posix_calls.specs.Content.{Entries, range}
+use Rattle.posix_calls.specs.Tree.{Descriptors}
+use Rattle.posix_calls.specs.Query.{Seen}
+use Rattle.posix_calls.specs.Part.{IsPart}
+use Rattle.posix_calls.proofs.Counts.{order}
+use Rattle.posix_calls.proofs.Directory.{names_same}
+use Rattle.posix_calls.proofs.Sums.{any_is}
+use Rattle.file_graph.specs.Graph.{Graph, FileBody, DirBody}
+use Rattle.file_graph.specs.declared.effect.Kind.{Kind}
+use Rattle.file_graph.specs.declared.effect.Kind.TheVariants as kind
 use Rattle.call_effects.specs.Blocks.{range_by}
 use Rattle.call_effects.specs.NodeView.{NodeView, FileView, DirView, view_seen, view_is_dir}
 use Rattle.call_effects.specs.Wholes.{kind_of, node_is_dir, node_seen, node_bytes}

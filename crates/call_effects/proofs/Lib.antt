@@ -47,7 +47,3 @@ pub mod SubjectsMissing
 pub mod Limits
 pub mod Nodes
 pub mod Whole
--- Passed on to the crates above, which so need not list those below.
-pub use Rattle.log_record.proofs.file_graph_lemmas
-pub use Rattle.log_record.proofs as log_record_lemmas
-pub use Rattle.log_record.proofs.posix_calls_lemmas

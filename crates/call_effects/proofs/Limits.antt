@@ -3,19 +3,19 @@ use Rattle.std.proofs.Common.{◌≡◌, ℕ, ◌+◌, ◌≤◌, List, [], ◌�
 use Rattle.std.specs.Prelude.{option_map, ◌&&◌, not, IsSome}
 use Rattle.std.specs.List.{AllByRecursion}
 use Rattle.std.proofs.lemmas.Bool.Decides.{eqb_tells}
-use Rattle.log_record.specs.posix_calls.Tree.{Descriptors, names_of}
-use Rattle.log_record.specs.posix_calls.Tree as tree
-use Rattle.log_record.specs.posix_calls.Operations.{makes, reply_of, held_after}
-use Rattle.log_record.specs.posix_calls.WellFormed.{IsWithinLimits}
-use Rattle.log_record.specs.posix_calls.declared.call.Call.{Call}
-use Rattle.log_record.specs.posix_calls.declared.operation.Operation.{Operation}
-use Rattle.log_record.proofs.posix_calls_lemmas.Able.{nodes_of}
-use Rattle.log_record.proofs.posix_calls_lemmas.Passing.{step_within}
-use Rattle.log_record.proofs.posix_calls_lemmas.Within.{IsNodeWithin, file_within, none_within}
-use Rattle.log_record.specs.file_graph.Graph.{Graph, Node, FileBody, DirBody, subjects, is_among, set_node, after_effects}
-use Rattle.log_record.specs.file_graph.declared.effect.Kind.TheVariants as kind
-use Rattle.log_record.specs.file_graph.declared.effect.Effect.{Effect}
-use Rattle.log_record.specs.file_graph.declared.effect.Effect.TheVariants as effect
+use Rattle.posix_calls.specs.Tree.{Descriptors, names_of}
+use Rattle.posix_calls.specs.Tree as tree
+use Rattle.posix_calls.specs.Operations.{makes, reply_of, held_after}
+use Rattle.posix_calls.specs.WellFormed.{IsWithinLimits}
+use Rattle.posix_calls.specs.declared.call.Call.{Call}
+use Rattle.posix_calls.specs.declared.operation.Operation.{Operation}
+use Rattle.posix_calls.proofs.Able.{nodes_of}
+use Rattle.posix_calls.proofs.Passing.{step_within}
+use Rattle.posix_calls.proofs.Within.{IsNodeWithin, file_within, none_within}
+use Rattle.file_graph.specs.Graph.{Graph, Node, FileBody, DirBody, subjects, is_among, set_node, after_effects}
+use Rattle.file_graph.specs.declared.effect.Kind.TheVariants as kind
+use Rattle.file_graph.specs.declared.effect.Effect.{Effect}
+use Rattle.file_graph.specs.declared.effect.Effect.TheVariants as effect
 use Rattle.log_record.specs.Grammar as grammar
 use Rattle.call_effects.specs.Calls.{answer_over}
 use Rattle.call_effects.specs.ChangeTest.{changes}

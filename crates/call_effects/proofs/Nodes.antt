@@ -5,15 +5,15 @@ use Rattle.std.specs.FinMap as fin
 use Rattle.std.specs.FinMap.Entries.{below_all}
 use Rattle.std.specs.Ordering.{nat_cmp, is_lt}
 use Rattle.std.specs.Cmp.Lexicographic.{slice_cmp, nat_list_cmp_total}
-use Rattle.log_record.specs.posix_calls.Content.{Entries}
-use Rattle.log_record.specs.posix_calls.Query.{Dir}
-use Rattle.log_record.specs.posix_calls.Walk.{entries_seen}
-use Rattle.log_record.specs.posix_calls.Answers.{entry_in, count_in, listed_in}
-use Rattle.log_record.proofs.posix_calls_lemmas.Directory.{entries-empty, names_same}
-use Rattle.log_record.proofs.posix_calls_lemmas.Counts.{order}
-use Rattle.log_record.specs.file_graph.Graph.{Node, FileBody, DirBody, directory_entries}
-use Rattle.log_record.specs.file_graph.declared.effect.Kind.{Kind}
-use Rattle.log_record.specs.file_graph.Plain.{PlainEntry, pairs}
+use Rattle.posix_calls.specs.Content.{Entries}
+use Rattle.posix_calls.specs.Query.{Dir}
+use Rattle.posix_calls.specs.Walk.{entries_seen}
+use Rattle.posix_calls.specs.Answers.{entry_in, count_in, listed_in}
+use Rattle.posix_calls.proofs.Directory.{entries-empty, names_same}
+use Rattle.posix_calls.proofs.Counts.{order}
+use Rattle.file_graph.specs.Graph.{Node, FileBody, DirBody, directory_entries}
+use Rattle.file_graph.specs.declared.effect.Kind.{Kind}
+use Rattle.file_graph.specs.Plain.{PlainEntry, pairs}
 use Rattle.std.proofs.lemmas.List.{length-map}
 use Rattle.call_effects.specs.Wholes.{without_kinds, node_is_dir, node_seen}
 use Rattle.call_effects.proofs.Inodes.{get_inodes}

@@ -1,7 +1,7 @@
 -- Functions on numbers that are changed at one place.
 use Rattle.std.proofs.Common.{◌≡◌, ◌≢◌, inl, inr, ℕ, ◌==◌, if◌then◌else◌, cond, Bool, true, false, refl, ap, sym, ◌∙◌}
 use Rattle.std.proofs.lemmas.Bool.Decides.{eqb_tells}
-use Rattle.log_record.proofs.posix_calls_lemmas.Sums.{same_if, there_if}
+use Rattle.posix_calls.proofs.Sums.{same_if, there_if}
 
 abbrev pub put : {A : Type 0} → (ℕ → A) → ℕ → A → ℕ → A
 put g i x j = if j == i then x else g j

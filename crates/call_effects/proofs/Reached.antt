@@ -2,21 +2,21 @@
 use Rattle.std.proofs.Common.{◌≡◌, ◌≢◌, ℕ, ◌≤◌, List, [], refl, Some, None, Option, cond, ap, sym, ◌∙◌, subst, true, false, Bool, ◌==◌, if◌then◌else◌}
 use Rattle.std.specs.Prelude.{option_map, ◌&&◌, not}
 use Rattle.std.specs.FinMap as fin
-use Rattle.log_record.specs.posix_calls.Content.{with_bytes, with_length}
-use Rattle.log_record.specs.posix_calls.Tree.{Tree, Descriptors, set_node, entries_of, bytes_of, names_of, is_open}
-use Rattle.log_record.specs.posix_calls.Tree as tree
-use Rattle.log_record.specs.posix_calls.Query.{dir_test}
-use Rattle.log_record.specs.posix_calls.WellFormed.{IsDirectory, IsFile}
-use Rattle.log_record.specs.posix_calls.declared.operation.Location.{Location}
-use Rattle.log_record.specs.posix_calls.declared.operation.Operation.{Operation}
-use Rattle.log_record.specs.posix_calls.declared.operation.Operation.TheVariants.{Tell, NewDir, NewFile, OpenFile, CloseFile, Write, Resize, RemoveDir, AddName, DropName, Move}
-use Rattle.log_record.specs.posix_calls.declared.operation.Replaced.TheVariants.{Nothing, OldFile, OldDir}
-use Rattle.log_record.specs.posix_calls.Operations.{with_entry, without_entry, less_unused, tree_after, makes, held_after, state_after}
-use Rattle.log_record.proofs.posix_calls_lemmas.Changes.{entry, IsBare, bare_file, bare_same, set_other, left_kind, left_here, left_none, left_keeps}
-use Rattle.log_record.proofs.posix_calls_lemmas.Reached as way
-use Rattle.log_record.specs.file_graph.Graph.{Graph, Node, FileBody, DirBody}
-use Rattle.log_record.specs.file_graph.declared.effect.Kind.{Kind}
-use Rattle.log_record.specs.file_graph.declared.effect.Kind.TheVariants as kind
+use Rattle.posix_calls.specs.Content.{with_bytes, with_length}
+use Rattle.posix_calls.specs.Tree.{Tree, Descriptors, set_node, entries_of, bytes_of, names_of, is_open}
+use Rattle.posix_calls.specs.Tree as tree
+use Rattle.posix_calls.specs.Query.{dir_test}
+use Rattle.posix_calls.specs.WellFormed.{IsDirectory, IsFile}
+use Rattle.posix_calls.specs.declared.operation.Location.{Location}
+use Rattle.posix_calls.specs.declared.operation.Operation.{Operation}
+use Rattle.posix_calls.specs.declared.operation.Operation.TheVariants.{Tell, NewDir, NewFile, OpenFile, CloseFile, Write, Resize, RemoveDir, AddName, DropName, Move}
+use Rattle.posix_calls.specs.declared.operation.Replaced.TheVariants.{Nothing, OldFile, OldDir}
+use Rattle.posix_calls.specs.Operations.{with_entry, without_entry, less_unused, tree_after, makes, held_after, state_after}
+use Rattle.posix_calls.proofs.Changes.{entry, IsBare, bare_file, bare_same, set_other, left_kind, left_here, left_none, left_keeps}
+use Rattle.posix_calls.proofs.Reached as way
+use Rattle.file_graph.specs.Graph.{Graph, Node, FileBody, DirBody}
+use Rattle.file_graph.specs.declared.effect.Kind.{Kind}
+use Rattle.file_graph.specs.declared.effect.Kind.TheVariants as kind
 use Rattle.call_effects.specs.Effects.{kind_if}
 use Rattle.call_effects.specs.Wholes.{IsSound, tree_of, tree_node, tree_body, keep, reachable_graph, state_of, without_kinds}
 use Rattle.call_effects.specs.Fits.{IsNew, IsRoom, IsEntry, IsUsedFile, IsEmptyDir, OperationFits}

@@ -3,7 +3,7 @@ use Rattle.std.proofs.Common.{◌≡◌, Err, Result, ap, sym, ◌∙◌, subst}
 use Rattle.std.specs.Prelude.{IfErr}
 use Rattle.std.specs.Result.{IsErrAnd}
 use Rattle.std.proofs.lemmas.Result.{err_from_is_err_and}
-use Rattle.log_record.specs.posix_calls.declared.operation.DecideError.{DecideError}
+use Rattle.posix_calls.specs.declared.operation.DecideError.{DecideError}
 use Rattle.call_effects.specs.Rises.{IsOfNode}
 
 -- the exit of a `?` ends in the error that was told there

@@ -4,18 +4,18 @@ use Rattle.std.specs.Prelude.{is_some}
 use Rattle.std.proofs.lemmas.Bool.Decides.{eqb_tells}
 use Rattle.std.specs.Cmp.Lexicographic.{nat_list_cmp_total}
 use Rattle.std.specs.FinMap as fin
-use Rattle.log_record.specs.posix_calls.Content.{Entries}
-use Rattle.log_record.specs.posix_calls.Units.{file_units, directory_units}
-use Rattle.log_record.specs.posix_calls.Tree.{sum_up_to}
-use Rattle.log_record.proofs.posix_calls_lemmas.Counts.{order}
-use Rattle.log_record.proofs.posix_calls_lemmas.Sums.{one_changes, all_zero}
-use Rattle.log_record.specs.file_graph.Graph.{Graph, Node, FileBody, DirBody, after_effect, after_effects, touches, subjects, is_among, subject_after, in_directory, body_cost, cost}
-use Rattle.log_record.specs.file_graph.Units.{rise, growth}
-use Rattle.log_record.proofs.file_graph_lemmas.Touches.{untouched}
-use Rattle.log_record.specs.file_graph.declared.effect.Kind.{Kind}
-use Rattle.log_record.specs.file_graph.declared.effect.Kind.TheVariants as kind
-use Rattle.log_record.specs.file_graph.declared.effect.Effect.{Effect}
-use Rattle.log_record.specs.file_graph.declared.effect.Effect.TheVariants as effect
+use Rattle.posix_calls.specs.Content.{Entries}
+use Rattle.posix_calls.specs.Units.{file_units, directory_units}
+use Rattle.posix_calls.specs.Tree.{sum_up_to}
+use Rattle.posix_calls.proofs.Counts.{order}
+use Rattle.posix_calls.proofs.Sums.{one_changes, all_zero}
+use Rattle.file_graph.specs.Graph.{Graph, Node, FileBody, DirBody, after_effect, after_effects, touches, subjects, is_among, subject_after, in_directory, body_cost, cost}
+use Rattle.file_graph.specs.Units.{rise, growth}
+use Rattle.file_graph.proofs.Touches.{untouched}
+use Rattle.file_graph.specs.declared.effect.Kind.{Kind}
+use Rattle.file_graph.specs.declared.effect.Kind.TheVariants as kind
+use Rattle.file_graph.specs.declared.effect.Effect.{Effect}
+use Rattle.file_graph.specs.declared.effect.Effect.TheVariants as effect
 use Rattle.call_effects.specs.Wholes.{kind_of, body_kind}
 use Rattle.call_effects.proofs.Changes.{dir, one_subject, leave_is}
 use Rattle.call_effects.proofs.Facts.{dir_of_kind}

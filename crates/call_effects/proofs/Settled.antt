@@ -4,18 +4,18 @@ use Rattle.std.specs.Prelude.{option_map, ◌&&◌, ◌||◌, not, nat_lt}
 use Rattle.std.proofs.lemmas.Bool.{lt-ltb}
 use Rattle.std.proofs.lemmas.Bool.Decides.{eqb_tells}
 use Rattle.std.specs.FinMap as fin
-use Rattle.log_record.specs.posix_calls.Content.{Entries}
-use Rattle.log_record.specs.posix_calls.Tree.{Descriptors, State, is_open, any_up_to, names_of}
-use Rattle.log_record.specs.posix_calls.Run.{settled, settled_tree}
-use Rattle.log_record.specs.posix_calls.WellFormed.{IsWellFormed, IsWithinLimits}
-use Rattle.log_record.specs.posix_calls.Tree as tree
-use Rattle.log_record.specs.posix_calls.declared.descriptor.Descriptor.{Descriptor}
-use Rattle.log_record.proofs.posix_calls_lemmas.Able.{nodes_of}
-use Rattle.log_record.proofs.posix_calls_lemmas.Open.{open_there, open_at, is_open_by}
-use Rattle.log_record.proofs.posix_calls_lemmas.Within.{IsNodeWithin, none_within}
-use Rattle.log_record.specs.file_graph.Graph.{Graph, Node, FileBody, DirBody}
-use Rattle.log_record.specs.file_graph.declared.effect.Kind.{Kind}
-use Rattle.log_record.specs.file_graph.declared.effect.Kind.TheVariants as kind
+use Rattle.posix_calls.specs.Content.{Entries}
+use Rattle.posix_calls.specs.Tree.{Descriptors, State, is_open, any_up_to, names_of}
+use Rattle.posix_calls.specs.Run.{settled, settled_tree}
+use Rattle.posix_calls.specs.WellFormed.{IsWellFormed, IsWithinLimits}
+use Rattle.posix_calls.specs.Tree as tree
+use Rattle.posix_calls.specs.declared.descriptor.Descriptor.{Descriptor}
+use Rattle.posix_calls.proofs.Able.{nodes_of}
+use Rattle.posix_calls.proofs.Open.{open_there, open_at, is_open_by}
+use Rattle.posix_calls.proofs.Within.{IsNodeWithin, none_within}
+use Rattle.file_graph.specs.Graph.{Graph, Node, FileBody, DirBody}
+use Rattle.file_graph.specs.declared.effect.Kind.{Kind}
+use Rattle.file_graph.specs.declared.effect.Kind.TheVariants as kind
 use Rattle.call_effects.specs.Effects.{stored_count}
 use Rattle.call_effects.specs.ClosedGraph.{nobody, settled_graph, without_client, IsFewer, used_tree, left_with}
 use Rattle.call_effects.specs.Wholes.{IsSound, state_of, tree_of, tree_node, keep, reachable_graph, kind_of, body_kind, one_if}

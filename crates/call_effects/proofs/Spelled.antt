@@ -3,27 +3,27 @@ use Rattle.std.proofs.Common.{◌≡◌, ℕ, ◌-◌, ◌^◌, ◌<◌, ◌≤�
 use Rattle.std.specs.Prelude.{option_map, if◌then◌else◌}
 use Rattle.std.specs.List.{AllByRecursion}
 use Rattle.std.specs.FinMap as fin
-use Rattle.log_record.specs.posix_calls.Name.{is_name}
-use Rattle.log_record.specs.posix_calls.Tree.{Tree, Descriptors, Own, names_of, entries_of}
-use Rattle.log_record.specs.posix_calls.Query.{run, view_of}
-use Rattle.log_record.specs.posix_calls.Decide.{decide}
-use Rattle.log_record.specs.posix_calls.Operations.{is_client, answer, makes}
-use Rattle.log_record.specs.posix_calls.WellFormed.{IsWithinLimits}
-use Rattle.log_record.specs.posix_calls.declared.call.Call.{Call}
-use Rattle.log_record.specs.posix_calls.declared.errno.Errno.TheVariants as errno
-use Rattle.log_record.specs.posix_calls.declared.operation.Location.{Location}
-use Rattle.log_record.specs.posix_calls.declared.operation.Operation.{Operation}
-use Rattle.log_record.specs.posix_calls.declared.operation.Operation.TheVariants.{Tell, NewDir, NewFile, OpenFile, CloseFile, Write, Resize, RemoveDir, AddName, DropName, Move}
-use Rattle.log_record.specs.posix_calls.declared.operation.Replaced.{Replaced}
-use Rattle.log_record.specs.posix_calls.declared.operation.Replaced.TheVariants.{Nothing, OldFile, OldDir}
-use Rattle.log_record.proofs.posix_calls_lemmas.Able.{Able}
-use Rattle.log_record.proofs.posix_calls_lemmas.Lasting.{IsAnswered, answered}
-use Rattle.log_record.proofs.posix_calls_lemmas.Passing.{decide_able}
-use Rattle.log_record.specs.file_graph.Graph.{Graph}
-use Rattle.log_record.specs.file_graph.Units.{growth}
-use Rattle.log_record.specs.file_graph.declared.effect.Kind.{Kind}
-use Rattle.log_record.specs.file_graph.declared.effect.Kind.TheVariants as kind
-use Rattle.log_record.specs.file_graph.declared.effect.Effect.{Effect}
+use Rattle.posix_calls.specs.Name.{is_name}
+use Rattle.posix_calls.specs.Tree.{Tree, Descriptors, Own, names_of, entries_of}
+use Rattle.posix_calls.specs.Query.{run, view_of}
+use Rattle.posix_calls.specs.Decide.{decide}
+use Rattle.posix_calls.specs.Operations.{is_client, answer, makes}
+use Rattle.posix_calls.specs.WellFormed.{IsWithinLimits}
+use Rattle.posix_calls.specs.declared.call.Call.{Call}
+use Rattle.posix_calls.specs.declared.errno.Errno.TheVariants as errno
+use Rattle.posix_calls.specs.declared.operation.Location.{Location}
+use Rattle.posix_calls.specs.declared.operation.Operation.{Operation}
+use Rattle.posix_calls.specs.declared.operation.Operation.TheVariants.{Tell, NewDir, NewFile, OpenFile, CloseFile, Write, Resize, RemoveDir, AddName, DropName, Move}
+use Rattle.posix_calls.specs.declared.operation.Replaced.{Replaced}
+use Rattle.posix_calls.specs.declared.operation.Replaced.TheVariants.{Nothing, OldFile, OldDir}
+use Rattle.posix_calls.proofs.Able.{Able}
+use Rattle.posix_calls.proofs.Lasting.{IsAnswered, answered}
+use Rattle.posix_calls.proofs.Passing.{decide_able}
+use Rattle.file_graph.specs.Graph.{Graph}
+use Rattle.file_graph.specs.Units.{growth}
+use Rattle.file_graph.specs.declared.effect.Kind.{Kind}
+use Rattle.file_graph.specs.declared.effect.Kind.TheVariants as kind
+use Rattle.file_graph.specs.declared.effect.Effect.{Effect}
 use Rattle.log_record.specs.Grammar as grammar
 use Rattle.call_effects.specs.Calls.{answer_over}
 use Rattle.call_effects.specs.ChangeTest.{changes}

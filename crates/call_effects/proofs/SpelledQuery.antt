@@ -3,21 +3,21 @@ use Rattle.std.proofs.Common.{◌≡◌, ℕ, ◌+◌, ◌-◌, ◌≤◌, List,
 use Rattle.std.specs.Prelude.{max, min, nat_lt}
 use Rattle.std.proofs.lemmas.Bool.Decides.{nat_tests}
 use Rattle.std.specs.FinMap as fin
-use Rattle.log_record.specs.posix_calls.Units.{file_units, directory_units}
-use Rattle.log_record.specs.posix_calls.Path.{path_names}
-use Rattle.log_record.specs.posix_calls.Tree.{Own}
-use Rattle.log_record.specs.posix_calls.Query.{Seen, File, Dir, Query, Gives, Refuses, IsDir, Look, Range, ◌>>=◌, View, run}
-use Rattle.log_record.specs.posix_calls.Walk.{Place, leads_to, refuse, read_or_error, entries_at, size_at, names_at, kind_at, prefix, there, entries_seen, size_seen}
-use Rattle.log_record.specs.posix_calls.Decide.{open_inode, lowest_free, number_or, empties, open_there, open_path, close, bytes_from, pread, write_at, pwrite, truncate, mkdir, rmdir, link, unlink, replaced_at, rename_to, rename, list_path, node_description, stat, decide}
-use Rattle.log_record.specs.posix_calls.declared.errno.Errno.TheVariants as errno
-use Rattle.log_record.specs.posix_calls.declared.limits.TheConstants.{MAX_TRANSFER}
-use Rattle.log_record.specs.posix_calls.declared.call.Flags.{Flags}
-use Rattle.log_record.specs.posix_calls.declared.call.Call.{Call}
-use Rattle.log_record.specs.posix_calls.declared.call.Call.TheVariants as call
-use Rattle.log_record.specs.posix_calls.declared.call.Reply.{Reply}
-use Rattle.log_record.specs.posix_calls.declared.operation.Operation.{Operation}
-use Rattle.log_record.specs.posix_calls.declared.operation.Operation.TheVariants.{Tell, NewDir, NewFile, OpenFile, CloseFile, Write, Resize, RemoveDir, AddName, DropName, Move}
-use Rattle.log_record.specs.posix_calls.declared.operation.Replaced.TheVariants.{Nothing, OldFile, OldDir}
+use Rattle.posix_calls.specs.Units.{file_units, directory_units}
+use Rattle.posix_calls.specs.Path.{path_names}
+use Rattle.posix_calls.specs.Tree.{Own}
+use Rattle.posix_calls.specs.Query.{Seen, File, Dir, Query, Gives, Refuses, IsDir, Look, Range, ◌>>=◌, View, run}
+use Rattle.posix_calls.specs.Walk.{Place, leads_to, refuse, read_or_error, entries_at, size_at, names_at, kind_at, prefix, there, entries_seen, size_seen}
+use Rattle.posix_calls.specs.Decide.{open_inode, lowest_free, number_or, empties, open_there, open_path, close, bytes_from, pread, write_at, pwrite, truncate, mkdir, rmdir, link, unlink, replaced_at, rename_to, rename, list_path, node_description, stat, decide}
+use Rattle.posix_calls.specs.declared.errno.Errno.TheVariants as errno
+use Rattle.posix_calls.specs.declared.limits.TheConstants.{MAX_TRANSFER}
+use Rattle.posix_calls.specs.declared.call.Flags.{Flags}
+use Rattle.posix_calls.specs.declared.call.Call.{Call}
+use Rattle.posix_calls.specs.declared.call.Call.TheVariants as call
+use Rattle.posix_calls.specs.declared.call.Reply.{Reply}
+use Rattle.posix_calls.specs.declared.operation.Operation.{Operation}
+use Rattle.posix_calls.specs.declared.operation.Operation.TheVariants.{Tell, NewDir, NewFile, OpenFile, CloseFile, Write, Resize, RemoveDir, AddName, DropName, Move}
+use Rattle.posix_calls.specs.declared.operation.Replaced.TheVariants.{Nothing, OldFile, OldDir}
 use Rattle.call_effects.specs.Records.{entry_rise, file_rise, growth_asked}
 
 -- this holds of each result

@@ -2,16 +2,16 @@
 use Rattle.std.proofs.Common.{◌≡◌, inl, ℕ, ◌≤◌, refl, Ok, Err, cond, ap, sym, ◌∙◌, subst, true, false, Bool}
 use Rattle.std.specs.Prelude.{option_map, ◌&&◌, nat_le}
 use Rattle.std.proofs.lemmas.Bool.{leb-true}
-use Rattle.log_record.specs.posix_calls.Tree.{Descriptors, is_open}
-use Rattle.log_record.specs.posix_calls.Query.{run}
-use Rattle.log_record.specs.posix_calls.Decide.{decide}
-use Rattle.log_record.specs.posix_calls.Operations.{is_client, answer, Follows, Step, makes, reply_of, held_after}
-use Rattle.log_record.specs.posix_calls.declared.operation.Operation.{Operation}
-use Rattle.log_record.specs.posix_calls.declared.errno.Errno.{Errno}
-use Rattle.log_record.specs.posix_calls.declared.errno.Errno.TheVariants as errno
-use Rattle.log_record.specs.posix_calls.declared.call.Call.{Call}
-use Rattle.log_record.specs.posix_calls.declared.call.Reply.TheVariants as reply
-use Rattle.log_record.specs.file_graph.Graph.{Graph}
+use Rattle.posix_calls.specs.Tree.{Descriptors, is_open}
+use Rattle.posix_calls.specs.Query.{run}
+use Rattle.posix_calls.specs.Decide.{decide}
+use Rattle.posix_calls.specs.Operations.{is_client, answer, Follows, Step, makes, reply_of, held_after}
+use Rattle.posix_calls.specs.declared.operation.Operation.{Operation}
+use Rattle.posix_calls.specs.declared.errno.Errno.{Errno}
+use Rattle.posix_calls.specs.declared.errno.Errno.TheVariants as errno
+use Rattle.posix_calls.specs.declared.call.Call.{Call}
+use Rattle.posix_calls.specs.declared.call.Reply.TheVariants as reply
+use Rattle.file_graph.specs.Graph.{Graph}
 use Rattle.call_effects.specs.Wholes.{IsSound, state_of, graph_view, tree_node, keep}
 use Rattle.call_effects.specs.Fits.{IsNew, OperationFits}
 use Rattle.call_effects.specs.Calls.{answer_over}

@@ -1,15 +1,15 @@
 -- What is missing for an operation's record or growth is a node that the operation changes.
 use Rattle.std.proofs.Common.{◌≡◌, ℕ, List, [], ◌∷◌, refl, Some, None, Option, Bool, true, false, ap, sym, ◌∙◌, subst, cond, ◌==◌, ◌||◌, ◌+◌}
 use Rattle.std.proofs.lemmas.Bool.{eq-eqb}
-use Rattle.log_record.specs.posix_calls.declared.operation.Missing.{Missing}
-use Rattle.log_record.specs.posix_calls.declared.operation.Missing.TheVariants as missing
-use Rattle.log_record.specs.posix_calls.declared.operation.Location.{Location}
-use Rattle.log_record.specs.posix_calls.declared.operation.Operation.{Operation}
-use Rattle.log_record.specs.posix_calls.declared.operation.Operation.TheVariants.{Tell, NewDir, NewFile, OpenFile, CloseFile, Write, Resize, RemoveDir, AddName, DropName, Move}
-use Rattle.log_record.specs.posix_calls.declared.operation.Replaced.TheVariants.{Nothing, OldFile, OldDir}
-use Rattle.log_record.specs.posix_calls.Query.{Seen, Query, Gives, Look, ◌>>=◌}
-use Rattle.log_record.specs.posix_calls.Part.{Part, Found, Known, Unknown, run_part}
-use Rattle.log_record.specs.file_graph.Graph.{is_among}
+use Rattle.posix_calls.specs.declared.operation.Missing.{Missing}
+use Rattle.posix_calls.specs.declared.operation.Missing.TheVariants as missing
+use Rattle.posix_calls.specs.declared.operation.Location.{Location}
+use Rattle.posix_calls.specs.declared.operation.Operation.{Operation}
+use Rattle.posix_calls.specs.declared.operation.Operation.TheVariants.{Tell, NewDir, NewFile, OpenFile, CloseFile, Write, Resize, RemoveDir, AddName, DropName, Move}
+use Rattle.posix_calls.specs.declared.operation.Replaced.TheVariants.{Nothing, OldFile, OldDir}
+use Rattle.posix_calls.specs.Query.{Seen, Query, Gives, Look, ◌>>=◌}
+use Rattle.posix_calls.specs.Part.{Part, Found, Known, Unknown, run_part}
+use Rattle.file_graph.specs.Graph.{is_among}
 use Rattle.call_effects.specs.Effects.{recounted_file}
 use Rattle.call_effects.specs.Records.{names_if, effects_asked, growth_asked, entry_rise, move_rise}
 use Rattle.call_effects.specs.Subjects.{sorted_inodes, subjects_of, IsSubjectMissing}

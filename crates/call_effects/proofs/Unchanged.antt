@@ -1,10 +1,10 @@
 -- An operation that changes nothing asks nothing, and has no effects.
 use Rattle.std.proofs.Common.{◌≡◌, ℕ, [], true, false, Ok}
-use Rattle.log_record.specs.posix_calls.Answers.{IsAnswer}
-use Rattle.log_record.specs.posix_calls.Part.{Part}
-use Rattle.log_record.specs.posix_calls.declared.operation.Operation.{Operation}
-use Rattle.log_record.specs.posix_calls.declared.operation.Operation.TheVariants.{Tell, NewDir, NewFile, OpenFile, CloseFile, Write, Resize, RemoveDir, AddName, DropName, Move}
-use Rattle.log_record.proofs.posix_calls_lemmas.Chain.{bind_gives, gives}
+use Rattle.posix_calls.specs.Answers.{IsAnswer}
+use Rattle.posix_calls.specs.Part.{Part}
+use Rattle.posix_calls.specs.declared.operation.Operation.{Operation}
+use Rattle.posix_calls.specs.declared.operation.Operation.TheVariants.{Tell, NewDir, NewFile, OpenFile, CloseFile, Write, Resize, RemoveDir, AddName, DropName, Move}
+use Rattle.posix_calls.proofs.Chain.{bind_gives, gives}
 use Rattle.call_effects.specs.ChangeTest.{changes}
 use Rattle.call_effects.specs.Records.{effects_asked}
 

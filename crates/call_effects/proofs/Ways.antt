@@ -3,15 +3,15 @@ use Rattle.std.proofs.Common.{◌≡◌, ◌≢◌, inl, inr, ℕ, List, [], ◌
 use Rattle.std.specs.Prelude.{option_map, ◌&&◌, not}
 use Rattle.std.proofs.lemmas.Bool.Decides.{eqb_tells}
 use Rattle.std.specs.FinMap as fin
-use Rattle.log_record.specs.posix_calls.Tree.{Tree, File, Dir, Descriptors, set_node, entries_of, names_of, is_open}
-use Rattle.log_record.specs.posix_calls.Query.{dir_test}
-use Rattle.log_record.specs.posix_calls.WellFormed.{IsDirectory, IsFile}
-use Rattle.log_record.specs.posix_calls.declared.operation.Location.{Location}
-use Rattle.log_record.specs.posix_calls.Operations.{with_entry, without_entry, less_unused}
-use Rattle.log_record.proofs.posix_calls_lemmas.Changes.{entry, IsBare, bare_entry, bare_file, bare_same, bare_entries, set_there, set_other, entered_kind, entered_here, entered_keeps, left_kind, left_keeps}
-use Rattle.log_record.proofs.posix_calls_lemmas.Reached.{Edge, Chain, Avoids, path_chain, chain_path, chain_moves, chain_stays, reached_moved, reached_beside, reached_new}
-use Rattle.log_record.proofs.posix_calls_lemmas.Reached as way
-use Rattle.log_record.proofs.posix_calls_lemmas.Kept.{dirs_set, not_both}
+use Rattle.posix_calls.specs.Tree.{Tree, File, Dir, Descriptors, set_node, entries_of, names_of, is_open}
+use Rattle.posix_calls.specs.Query.{dir_test}
+use Rattle.posix_calls.specs.WellFormed.{IsDirectory, IsFile}
+use Rattle.posix_calls.specs.declared.operation.Location.{Location}
+use Rattle.posix_calls.specs.Operations.{with_entry, without_entry, less_unused}
+use Rattle.posix_calls.proofs.Changes.{entry, IsBare, bare_entry, bare_file, bare_same, bare_entries, set_there, set_other, entered_kind, entered_here, entered_keeps, left_kind, left_keeps}
+use Rattle.posix_calls.proofs.Reached.{Edge, Chain, Avoids, path_chain, chain_path, chain_moves, chain_stays, reached_moved, reached_beside, reached_new}
+use Rattle.posix_calls.proofs.Reached as way
+use Rattle.posix_calls.proofs.Kept.{dirs_set, not_both}
 use Rattle.call_effects.specs.Wholes.{AreReached}
 use Rattle.call_effects.specs.Fits.{IsClear}
 

@@ -3,13 +3,13 @@
 -- A block has the bytes that the file has there, so the last one may be short, and one past the end has none: then blocks put one
 -- behind the other are the file's bytes, also where its size is not at hand, and an effect acts on a block as it does on a file.
 use Rattle.std.specs.Prelude.{ℕ, zero, suc, ◌+◌, ◌-◌, ◌*◌, ◌/◌, min, List, [], ◌∷◌, ◌++◌, take, drop, Option, Some, None, option_map, if◌then◌else◌}
-use Rattle.log_record.specs.posix_calls.Content.{with_length, with_bytes, range}
-use Rattle.log_record.specs.posix_calls.Part.{blocks_touched}
-use Rattle.log_record.specs.posix_calls.declared.limits.TheConstants.{UNIT_BYTES}
-use Rattle.log_record.specs.file_graph.Graph.{Graph, subjects, is_among, file_bytes}
-use Rattle.log_record.specs.file_graph.declared.effect.Kind.TheVariants as kind
-use Rattle.log_record.specs.file_graph.declared.effect.Effect.{Effect}
-use Rattle.log_record.specs.file_graph.declared.effect.Effect.TheVariants as effect
+use Rattle.posix_calls.specs.Content.{with_length, with_bytes, range}
+use Rattle.posix_calls.specs.Part.{blocks_touched}
+use Rattle.posix_calls.specs.declared.limits.TheConstants.{UNIT_BYTES}
+use Rattle.file_graph.specs.Graph.{Graph, subjects, is_among, file_bytes}
+use Rattle.file_graph.specs.declared.effect.Kind.TheVariants as kind
+use Rattle.file_graph.specs.declared.effect.Effect.{Effect}
+use Rattle.file_graph.specs.declared.effect.Effect.TheVariants as effect
 
 -- the bytes of a file in one of its blocks
 abbrev pub block_of : ℕ → List ℕ → List ℕ

@@ -1,14 +1,14 @@
 -- The outcome of a client's call over a graph and descriptors.
 use Rattle.std.specs.Prelude.{ℕ, Result, Err, if◌then◌else◌}
-use Rattle.log_record.specs.posix_calls.Tree.{Descriptors}
-use Rattle.log_record.specs.posix_calls.Query.{run}
-use Rattle.log_record.specs.posix_calls.Decide.{decide}
-use Rattle.log_record.specs.posix_calls.Operations.{is_client}
-use Rattle.log_record.specs.posix_calls.declared.operation.Operation.{Operation}
-use Rattle.log_record.specs.posix_calls.declared.errno.Errno.{Errno}
-use Rattle.log_record.specs.posix_calls.declared.errno.Errno.TheVariants as errno
-use Rattle.log_record.specs.posix_calls.declared.call.Call.{Call}
-use Rattle.log_record.specs.file_graph.Graph.{Graph}
+use Rattle.posix_calls.specs.Tree.{Descriptors}
+use Rattle.posix_calls.specs.Query.{run}
+use Rattle.posix_calls.specs.Decide.{decide}
+use Rattle.posix_calls.specs.Operations.{is_client}
+use Rattle.posix_calls.specs.declared.operation.Operation.{Operation}
+use Rattle.posix_calls.specs.declared.errno.Errno.{Errno}
+use Rattle.posix_calls.specs.declared.errno.Errno.TheVariants as errno
+use Rattle.posix_calls.specs.declared.call.Call.{Call}
+use Rattle.file_graph.specs.Graph.{Graph}
 use Rattle.call_effects.specs.Wholes.{graph_view}
 
 -- the outcome of a call by the stored counts of names; who is no client is refused before all else

@@ -1,7 +1,7 @@
 -- Which operations change the graph.
 use Rattle.std.specs.Prelude.{Bool, true, false}
-use Rattle.log_record.specs.posix_calls.declared.operation.Operation.{Operation}
-use Rattle.log_record.specs.posix_calls.declared.operation.Operation.TheVariants.{Tell, OpenFile, CloseFile}
+use Rattle.posix_calls.specs.declared.operation.Operation.{Operation}
+use Rattle.posix_calls.specs.declared.operation.Operation.TheVariants.{Tell, OpenFile, CloseFile}
 
 -- whether an operation has effects; to answer, to open a file as it is and to close one have none
 abbrev pub changes : Operation → Bool

@@ -2,23 +2,23 @@
 use Rattle.std.specs.Prelude.{◌≡◌, ◌⊎◌, ℕ, ◌+◌, ◌*◌, ◌<◌, ◌≤◌, ◌==◌, ◌&&◌, ◌||◌, List, Bool, true, false, Option, Some, None, Ok, not, unwrap_or, option_map, if◌then◌else◌}
 use Rattle.std.specs.List.{list_any}
 use Rattle.std.specs.FinMap as fin
-use Rattle.log_record.specs.posix_calls.Content.{Entries, range}
-use Rattle.log_record.specs.posix_calls.Tree.{Own, Descriptors, any_up_to}
-use Rattle.log_record.specs.posix_calls.Query.{Seen, Query, Look, Range, View, run}
-use Rattle.log_record.specs.posix_calls.Part.{Part, Known, IsPart, blocks_missing, run_part}
-use Rattle.log_record.specs.posix_calls.Decide.{decide}
-use Rattle.log_record.specs.posix_calls.Operations.{is_client, makes, own_after}
-use Rattle.log_record.specs.posix_calls.declared.operation.Location.{Location}
-use Rattle.log_record.specs.posix_calls.declared.operation.Operation.{Operation}
-use Rattle.log_record.specs.posix_calls.declared.operation.Missing.{Missing}
-use Rattle.log_record.specs.posix_calls.declared.operation.Missing.TheVariants as missing
-use Rattle.log_record.specs.posix_calls.declared.call.Call.{Call}
-use Rattle.log_record.specs.posix_calls.declared.limits.TheConstants.{ROOT, MAX_INODE, UNIT_BYTES}
-use Rattle.log_record.specs.file_graph.Graph.{Graph, Node, FileBody}
-pub use Rattle.log_record.specs.file_graph.Numbers.{in_run}
-use Rattle.log_record.specs.file_graph.declared.effect.Kind.{Kind}
-use Rattle.log_record.specs.file_graph.declared.effect.Kind.TheVariants as kind
-use Rattle.log_record.specs.file_graph.declared.effect.Effect.{Effect}
+use Rattle.posix_calls.specs.Content.{Entries, range}
+use Rattle.posix_calls.specs.Tree.{Own, Descriptors, any_up_to}
+use Rattle.posix_calls.specs.Query.{Seen, Query, Look, Range, View, run}
+use Rattle.posix_calls.specs.Part.{Part, Known, IsPart, blocks_missing, run_part}
+use Rattle.posix_calls.specs.Decide.{decide}
+use Rattle.posix_calls.specs.Operations.{is_client, makes, own_after}
+use Rattle.posix_calls.specs.declared.operation.Location.{Location}
+use Rattle.posix_calls.specs.declared.operation.Operation.{Operation}
+use Rattle.posix_calls.specs.declared.operation.Missing.{Missing}
+use Rattle.posix_calls.specs.declared.operation.Missing.TheVariants as missing
+use Rattle.posix_calls.specs.declared.call.Call.{Call}
+use Rattle.posix_calls.specs.declared.limits.TheConstants.{ROOT, MAX_INODE, UNIT_BYTES}
+use Rattle.file_graph.specs.Graph.{Graph, Node, FileBody}
+pub use Rattle.file_graph.specs.Numbers.{in_run}
+use Rattle.file_graph.specs.declared.effect.Kind.{Kind}
+use Rattle.file_graph.specs.declared.effect.Kind.TheVariants as kind
+use Rattle.file_graph.specs.declared.effect.Effect.{Effect}
 use Rattle.call_effects.specs.Blocks.{block_at, block_after, range_by}
 use Rattle.call_effects.specs.Fits.{IsNew}
 use Rattle.call_effects.specs.NodeView.{NodeView, FileView, DirView, view_at, view_seen, view_is_dir, view_after}

@@ -1,13 +1,13 @@
 -- What holds of a record that was made, or of an operation that was handed back.
 use Rattle.std.specs.Prelude.{ℕ, List, [], ◌∷◌, Option, Some, None, Result, Ok, Err}
-use Rattle.log_record.specs.posix_calls.declared.operation.Location.{Location}
-use Rattle.log_record.specs.posix_calls.declared.operation.Operation.{Operation}
-use Rattle.log_record.specs.posix_calls.declared.operation.Operation.TheVariants.{Move}
-use Rattle.log_record.specs.posix_calls.declared.operation.DecideError.{DecideError}
-use Rattle.log_record.specs.posix_calls.declared.operation.Replaced.{Replaced}
-use Rattle.log_record.specs.posix_calls.declared.operation.Replaced.TheVariants.{Nothing, OldFile, OldDir}
-use Rattle.log_record.specs.file_graph.declared.effect.Effect.{Effect}
-use Rattle.log_record.specs.file_graph.declared.effect.Effect.TheVariants as effect
+use Rattle.posix_calls.specs.declared.operation.Location.{Location}
+use Rattle.posix_calls.specs.declared.operation.Operation.{Operation}
+use Rattle.posix_calls.specs.declared.operation.Operation.TheVariants.{Move}
+use Rattle.posix_calls.specs.declared.operation.DecideError.{DecideError}
+use Rattle.posix_calls.specs.declared.operation.Replaced.{Replaced}
+use Rattle.posix_calls.specs.declared.operation.Replaced.TheVariants.{Nothing, OldFile, OldDir}
+use Rattle.file_graph.specs.declared.effect.Effect.{Effect}
+use Rattle.file_graph.specs.declared.effect.Effect.TheVariants as effect
 use Rattle.log_record.specs.declared.format.Record.{Record}
 
 -- the effects of a record, which are none where there is no record, or why none was made

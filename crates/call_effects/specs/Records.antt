@@ -1,16 +1,16 @@
 -- The record of an operation, as questions: the effects that it has, and by how many units they may raise the graph.
 use Rattle.std.specs.Prelude.{ℕ, ◌+◌, ◌-◌, ◌==◌, max, min, List, length, Bool, true, Option, Some, None, is_some, option_map, if◌then◌else◌}
 use Rattle.std.specs.FinMap as fin
-use Rattle.log_record.specs.posix_calls.Units.{file_units, directory_units}
-use Rattle.log_record.specs.posix_calls.Query.{Query, Gives, ◌>>=◌}
-use Rattle.log_record.specs.posix_calls.Part.{Part}
-use Rattle.log_record.specs.posix_calls.Walk.{entries_at, size_at, names_at, names_seen}
-use Rattle.log_record.specs.posix_calls.declared.operation.Location.{Location}
-use Rattle.log_record.specs.posix_calls.declared.operation.Operation.{Operation}
-use Rattle.log_record.specs.posix_calls.declared.operation.Operation.TheVariants.{NewDir, NewFile, Write, Resize, AddName, Move}
-use Rattle.log_record.specs.posix_calls.declared.operation.Replaced.{Replaced}
-use Rattle.log_record.specs.posix_calls.declared.operation.Replaced.TheVariants.{Nothing, OldFile, OldDir}
-use Rattle.log_record.specs.file_graph.declared.effect.Effect.{Effect}
+use Rattle.posix_calls.specs.Units.{file_units, directory_units}
+use Rattle.posix_calls.specs.Query.{Query, Gives, ◌>>=◌}
+use Rattle.posix_calls.specs.Part.{Part}
+use Rattle.posix_calls.specs.Walk.{entries_at, size_at, names_at, names_seen}
+use Rattle.posix_calls.specs.declared.operation.Location.{Location}
+use Rattle.posix_calls.specs.declared.operation.Operation.{Operation}
+use Rattle.posix_calls.specs.declared.operation.Operation.TheVariants.{NewDir, NewFile, Write, Resize, AddName, Move}
+use Rattle.posix_calls.specs.declared.operation.Replaced.{Replaced}
+use Rattle.posix_calls.specs.declared.operation.Replaced.TheVariants.{Nothing, OldFile, OldDir}
+use Rattle.file_graph.specs.declared.effect.Effect.{Effect}
 use Rattle.call_effects.specs.Effects.{recounted_file, effects_by}
 
 -- how many names a file has, if there is one to ask for

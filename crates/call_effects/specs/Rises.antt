@@ -1,10 +1,10 @@
 -- The rises of which an operation's growth is made, as questions.
 use Rattle.std.specs.Prelude.{◌≡◌, ℕ, ◌+◌}
-use Rattle.log_record.specs.posix_calls.Query.{Query, Gives, ◌>>=◌}
-use Rattle.log_record.specs.posix_calls.Walk.{size_at}
-use Rattle.log_record.specs.posix_calls.declared.operation.DecideError.{DecideError}
-use Rattle.log_record.specs.posix_calls.declared.operation.DecideError.TheVariants as why
-use Rattle.log_record.specs.posix_calls.declared.operation.Missing.TheVariants as missing
+use Rattle.posix_calls.specs.Query.{Query, Gives, ◌>>=◌}
+use Rattle.posix_calls.specs.Walk.{size_at}
+use Rattle.posix_calls.specs.declared.operation.DecideError.{DecideError}
+use Rattle.posix_calls.specs.declared.operation.DecideError.TheVariants as why
+use Rattle.posix_calls.specs.declared.operation.Missing.TheVariants as missing
 use Rattle.call_effects.specs.Records.{file_rise, entry_rise}
 
 -- the units of a new node, and the rise of the directory that it gets a name in

@@ -1,13 +1,13 @@
 -- The inodes that an operation changes, as they are known before its effects are made.
 use Rattle.std.specs.Prelude.{◌≡◌, ℕ, ◌==◌, nat_lt, List, [], ◌∷◌, true, None, if◌then◌else◌}
-use Rattle.log_record.specs.posix_calls.Part.{Part}
-use Rattle.log_record.specs.posix_calls.declared.operation.Missing.{Missing}
-use Rattle.log_record.specs.posix_calls.declared.operation.Missing.TheVariants as missing
-use Rattle.log_record.specs.file_graph.Graph.{is_among}
-use Rattle.log_record.specs.posix_calls.declared.operation.Operation.{Operation}
-use Rattle.log_record.specs.posix_calls.declared.operation.Operation.TheVariants.{Tell, NewDir, NewFile, OpenFile, CloseFile, Write, Resize, RemoveDir, AddName, DropName, Move}
-use Rattle.log_record.specs.posix_calls.declared.operation.Replaced.{Replaced}
-use Rattle.log_record.specs.posix_calls.declared.operation.Replaced.TheVariants.{Nothing, OldFile, OldDir}
+use Rattle.posix_calls.specs.Part.{Part}
+use Rattle.posix_calls.specs.declared.operation.Missing.{Missing}
+use Rattle.posix_calls.specs.declared.operation.Missing.TheVariants as missing
+use Rattle.file_graph.specs.Graph.{is_among}
+use Rattle.posix_calls.specs.declared.operation.Operation.{Operation}
+use Rattle.posix_calls.specs.declared.operation.Operation.TheVariants.{Tell, NewDir, NewFile, OpenFile, CloseFile, Write, Resize, RemoveDir, AddName, DropName, Move}
+use Rattle.posix_calls.specs.declared.operation.Replaced.{Replaced}
+use Rattle.posix_calls.specs.declared.operation.Replaced.TheVariants.{Nothing, OldFile, OldDir}
 
 -- an inode put among rising ones, unless it is one of them
 abbrev pub put_in : ℕ → List ℕ → List ℕ

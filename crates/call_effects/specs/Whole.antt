@@ -1,10 +1,10 @@
 -- What a plain graph answers as a file tree that is known whole.
 use Rattle.std.specs.Prelude.{ℕ, Bool, nat_lt, Option, Some, None, option_map, if◌then◌else◌}
-use Rattle.log_record.specs.posix_calls.Content.{range}
-use Rattle.log_record.specs.posix_calls.Query.{Seen}
-use Rattle.log_record.specs.posix_calls.Part.{Part}
-use Rattle.log_record.specs.posix_calls.Answers.{count_in}
-use Rattle.log_record.specs.file_graph.Graph.{Graph}
+use Rattle.posix_calls.specs.Content.{range}
+use Rattle.posix_calls.specs.Query.{Seen}
+use Rattle.posix_calls.specs.Part.{Part}
+use Rattle.posix_calls.specs.Answers.{count_in}
+use Rattle.file_graph.specs.Graph.{Graph}
 use Rattle.call_effects.specs.Wholes.{node_is_dir, node_seen, node_bytes}
 
 -- what stands at an inode, as a call sees it

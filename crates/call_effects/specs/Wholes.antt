@@ -1,17 +1,17 @@
 -- The state that a graph and descriptors stand for, what a call sees of it, and when the two are sound.
 use Rattle.std.specs.Prelude.{◌≡◌, ℕ, ◌+◌, ◌<◌, ◌≤◌, List, [], map, length, Bool, true, false, ◌&&◌, not, ◌==◌, Option, Some, None, Ok, option_map, if◌then◌else◌}
 use Rattle.std.specs.FinMap as fin
-use Rattle.log_record.specs.posix_calls.Content.{Entries, range}
-use Rattle.log_record.specs.posix_calls.Tree.{Tree, Descriptors, State, names_of, is_open}
-use Rattle.log_record.specs.posix_calls.declared.descriptor.Descriptor.{Descriptor}
-use Rattle.log_record.specs.posix_calls.Tree as tree
-use Rattle.log_record.specs.posix_calls.Query.{View, Seen, File, Dir}
-use Rattle.log_record.specs.posix_calls.Resolve.{resolve}
-use Rattle.log_record.specs.posix_calls.WellFormed.{IsDirectory}
-use Rattle.log_record.specs.posix_calls.declared.limits.TheConstants.{ROOT, MAX_INODE, MAX_CLIENTS, MAX_DESCRIPTORS}
-use Rattle.log_record.specs.file_graph.Graph.{Graph, Node, Body, FileBody, DirBody}
-use Rattle.log_record.specs.file_graph.declared.effect.Kind.{Kind}
-use Rattle.log_record.specs.file_graph.declared.effect.Kind.TheVariants as kind
+use Rattle.posix_calls.specs.Content.{Entries, range}
+use Rattle.posix_calls.specs.Tree.{Tree, Descriptors, State, names_of, is_open}
+use Rattle.posix_calls.specs.declared.descriptor.Descriptor.{Descriptor}
+use Rattle.posix_calls.specs.Tree as tree
+use Rattle.posix_calls.specs.Query.{View, Seen, File, Dir}
+use Rattle.posix_calls.specs.Resolve.{resolve}
+use Rattle.posix_calls.specs.WellFormed.{IsDirectory}
+use Rattle.posix_calls.specs.declared.limits.TheConstants.{ROOT, MAX_INODE, MAX_CLIENTS, MAX_DESCRIPTORS}
+use Rattle.file_graph.specs.Graph.{Graph, Node, Body, FileBody, DirBody}
+use Rattle.file_graph.specs.declared.effect.Kind.{Kind}
+use Rattle.file_graph.specs.declared.effect.Kind.TheVariants as kind
 use Rattle.call_effects.specs.Effects.{stored_count}
 
 -- ---- a graph as a file tree

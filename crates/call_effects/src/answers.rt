@@ -1,10 +1,11 @@
-ghost use Rattle.log_record.specs.file_graph.Graph.{graph_of};
+ghost use Rattle.file_graph.specs.Graph.{graph_of};
 ghost use Rattle.call_effects.specs.Whole.{whole_of};
 
 use crate::node_reads::{
     child, describe, entry_count, file_names, file_size, is_counted, is_dir, names, read,
 };
-use log_record::{Bytes, Description, NamedInode, Names, PlainGraph, TreeAnswers};
+use file_graph::PlainGraph;
+use posix_calls::{Bytes, Description, NamedInode, Names, TreeAnswers};
 use std::alloc::{AllocError, Global};
 
 /// A plain graph as a file tree that is known whole. A directory of more entries than 32 bits count is not known: no call makes one.

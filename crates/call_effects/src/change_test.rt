@@ -2,7 +2,7 @@ ghost use Rattle.std.specs.Prelude.{◌≡◌, ℕ, nat_lt, length};
 ghost use Rattle.call_effects.specs.ChangeTest.{changes};
 ghost use Rattle.call_effects.specs.Effects.{effects_by};
 
-use log_record::Operation;
+use posix_calls::Operation;
 
 /// Whether an operation changes the graph: an answer alone, a file that is opened as it is, and one that is closed change nothing.
 pub fn has_effects(operation: &Operation) -> bool

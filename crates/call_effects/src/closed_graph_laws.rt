@@ -1,10 +1,10 @@
 //! What holds of every sound graph once nobody has a file open, as after a stop, or once one client is gone.
 
 ghost use Rattle.std.specs.Prelude.{◌≡◌, ℕ};
-ghost use Rattle.log_record.specs.posix_calls.Tree.{Descriptors};
-ghost use Rattle.log_record.specs.posix_calls.Run.{settled};
-ghost use Rattle.log_record.specs.posix_calls.WellFormed.{IsWellFormed, IsWithinLimits};
-ghost use Rattle.log_record.specs.file_graph.Graph.{Graph};
+ghost use Rattle.posix_calls.specs.Tree.{Descriptors};
+ghost use Rattle.posix_calls.specs.Run.{settled};
+ghost use Rattle.posix_calls.specs.WellFormed.{IsWellFormed, IsWithinLimits};
+ghost use Rattle.file_graph.specs.Graph.{Graph};
 ghost use Rattle.call_effects.specs.ClosedGraph.{nobody, settled_graph, without_client, left_with};
 ghost use Rattle.call_effects.specs.Wholes.{IsSound, state_of, reachable_graph};
 

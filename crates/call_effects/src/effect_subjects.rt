@@ -1,17 +1,17 @@
 ghost use Rattle.std.specs.Prelude.{◌≡◌, ◌+◌, ◌<◌, ◌≤◌, ℕ, [], ◌∷◌, length, false, IfSome, IfNone, insert, if◌then◌else◌};
 ghost use Rattle.std.specs.List.Sorted.{IsStrictlyIncreasing};
 ghost use Rattle.arrayvec.specs.ArrayVec.{array_vec_len};
-ghost use Rattle.log_record.specs.posix_calls.Part.{Part, Unknown, run_part};
-ghost use Rattle.log_record.specs.posix_calls.declared.operation.Missing.{Missing};
-ghost use Rattle.log_record.specs.posix_calls.declared.operation.Operation.{Operation};
-ghost use Rattle.log_record.specs.file_graph.Graph.{is_among, touches};
+ghost use Rattle.posix_calls.specs.Part.{Part, Unknown, run_part};
+ghost use Rattle.posix_calls.specs.declared.operation.Missing.{Missing};
+ghost use Rattle.posix_calls.specs.declared.operation.Operation.{Operation};
+ghost use Rattle.file_graph.specs.Graph.{is_among, touches};
 ghost use Rattle.call_effects.specs.ChangeTest.{changes};
 ghost use Rattle.call_effects.specs.Effects.{effects_by};
 ghost use Rattle.call_effects.specs.Records.{effects_asked, growth_asked};
 ghost use Rattle.call_effects.specs.Subjects.{put_in, sorted_inodes, replaced_inode, subjects_of, IsSubjectMissing};
 
 use arrayvec::ArrayVec;
-use log_record::{Operation, Replaced};
+use posix_calls::{Operation, Replaced};
 
 /// No operation changes more inodes.
 pub const MAX_SUBJECTS: usize = 3;

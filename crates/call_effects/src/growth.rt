@@ -1,10 +1,10 @@
 ghost use Rattle.std.specs.Prelude.{◌≡◌, ◌+◌, ◌^◌, ◌<◌, IfOk, IfErr, max};
-ghost use Rattle.log_record.specs.posix_calls.Answers.{IsAnswer};
-ghost use Rattle.log_record.specs.posix_calls.Units.{file_units, directory_units};
+ghost use Rattle.posix_calls.specs.Answers.{IsAnswer};
+ghost use Rattle.posix_calls.specs.Units.{file_units, directory_units};
 ghost use Rattle.call_effects.specs.Records.{file_rise, entry_rise, move_rise, growth_asked, units_asked};
 ghost use Rattle.call_effects.specs.Rises.{IsOfNode, new_rise, size_rise};
 
-use log_record::{
+use posix_calls::{
     DecideError, Location, Missing, Operation, Replaced, TreeAnswers, UNIT_BYTES, UNIT_ENTRIES,
     known_or_missing,
 };

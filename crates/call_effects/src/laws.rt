@@ -1,17 +1,17 @@
 //! What holds of every sound graph.
 
 ghost use Rattle.std.specs.Prelude.{◌≡◌, ℕ, ◌≤◌, None, IsSome, Ok, Err, true};
-ghost use Rattle.log_record.specs.posix_calls.Tree.{Descriptors};
-ghost use Rattle.log_record.specs.posix_calls.EmptyTree.{empty_state};
-ghost use Rattle.log_record.specs.posix_calls.Query.{view_of};
-ghost use Rattle.log_record.specs.posix_calls.Operations.{makes, reply_of, held_after, state_after, Step};
-ghost use Rattle.log_record.specs.posix_calls.WellFormed.{IsWellFormed, IsWithinLimits};
-ghost use Rattle.log_record.specs.posix_calls.declared.operation.Operation.{Operation};
-ghost use Rattle.log_record.specs.posix_calls.declared.call.Call.{Call};
-ghost use Rattle.log_record.specs.posix_calls.declared.call.Reply.TheVariants.{Failed};
-ghost use Rattle.log_record.specs.posix_calls.declared.errno.Errno.{Errno};
-ghost use Rattle.log_record.specs.posix_calls.declared.limits.TheConstants.{MAX_CLIENTS, MAX_INODE, MAX_NAMES, ROOT};
-ghost use Rattle.log_record.specs.file_graph.Graph.{Graph, fresh, after_effects, set_node};
+ghost use Rattle.posix_calls.specs.Tree.{Descriptors};
+ghost use Rattle.posix_calls.specs.EmptyTree.{empty_state};
+ghost use Rattle.posix_calls.specs.Query.{view_of};
+ghost use Rattle.posix_calls.specs.Operations.{makes, reply_of, held_after, state_after, Step};
+ghost use Rattle.posix_calls.specs.WellFormed.{IsWellFormed, IsWithinLimits};
+ghost use Rattle.posix_calls.specs.declared.operation.Operation.{Operation};
+ghost use Rattle.posix_calls.specs.declared.call.Call.{Call};
+ghost use Rattle.posix_calls.specs.declared.call.Reply.TheVariants.{Failed};
+ghost use Rattle.posix_calls.specs.declared.errno.Errno.{Errno};
+ghost use Rattle.posix_calls.specs.declared.limits.TheConstants.{MAX_CLIENTS, MAX_INODE, MAX_NAMES, ROOT};
+ghost use Rattle.file_graph.specs.Graph.{Graph, fresh, after_effects, set_node};
 ghost use Rattle.call_effects.specs.Calls.{answer_over};
 ghost use Rattle.call_effects.specs.Effects.{stored_count, effects_of};
 ghost use Rattle.call_effects.specs.Wholes.{IsSound, state_of, tree_of, graph_view};

@@ -44,12 +44,3 @@ pub use record_laws::{
     answered_operations_have_spellings, asked_effects_are_the_operations,
     asked_growth_is_the_effects_growth, growth_is_local,
 };
-
-// Passed on to the crates above, which so need not list those below.
-pub use log_record::{
-    Bytes, Call, Child, DecideError, Description, Descriptor, Effect, EntryRoom, Errno,
-    FileGraphEffects, Kind, MAX_CLIENTS, MAX_ENTRIES, MAX_FILE, MAX_INODE, MAX_NAMES, MAX_TRANSFER,
-    Missing, Name, NameMap, NamedInode, Names, Operation, OwnDescriptors, Path, PlainEntry,
-    PlainGraph, ROOT, Record, RecordError, Reply, SharedBytes, TreeAnswers, UNIT_BYTES,
-    UNIT_ENTRIES, decide, is_inode, is_payload, read_payload, read_record,
-};

@@ -1,15 +1,15 @@
 //! What holds of every record: of the effects and the growth that someone who knows a part of the tree asks for.
 
 ghost use Rattle.std.specs.Prelude.{◌≡◌, ◌<◌, ◌≤◌, ◌^◌, ℕ, List, [], Ok, true, false};
-ghost use Rattle.log_record.specs.posix_calls.Tree.{Descriptors, Own};
-ghost use Rattle.log_record.specs.posix_calls.Query.{run};
-ghost use Rattle.log_record.specs.posix_calls.Operations.{makes};
-ghost use Rattle.log_record.specs.posix_calls.WellFormed.{IsWithinLimits};
-ghost use Rattle.log_record.specs.posix_calls.declared.call.Call.{Call};
-ghost use Rattle.log_record.specs.posix_calls.declared.operation.Operation.{Operation};
-ghost use Rattle.log_record.specs.file_graph.declared.effect.Effect.{Effect};
-ghost use Rattle.log_record.specs.file_graph.Graph.{Graph, touches, is_among};
-ghost use Rattle.log_record.specs.file_graph.Units.{growth};
+ghost use Rattle.posix_calls.specs.Tree.{Descriptors, Own};
+ghost use Rattle.posix_calls.specs.Query.{run};
+ghost use Rattle.posix_calls.specs.Operations.{makes};
+ghost use Rattle.posix_calls.specs.WellFormed.{IsWithinLimits};
+ghost use Rattle.posix_calls.specs.declared.call.Call.{Call};
+ghost use Rattle.posix_calls.specs.declared.operation.Operation.{Operation};
+ghost use Rattle.file_graph.specs.declared.effect.Effect.{Effect};
+ghost use Rattle.file_graph.specs.Graph.{Graph, touches, is_among};
+ghost use Rattle.file_graph.specs.Units.{growth};
 ghost use Rattle.log_record.specs.Grammar.{IsRecord};
 ghost use Rattle.call_effects.specs.Calls.{answer_over};
 ghost use Rattle.call_effects.specs.ChangeTest.{changes};

@@ -31,12 +31,3 @@ pub mod Walked
 pub mod Slotted
 mod WrittenBlocks
 mod Lying
--- Passed on to the crates above, which so need not list those below.
-pub use Rattle.inode_plan.proofs.area_commit_lemmas
-pub use Rattle.inode_plan.proofs.area_image_lemmas
-pub use Rattle.inode_plan.proofs.batch_journal_lemmas
-pub use Rattle.inode_plan.proofs.block_alloc_lemmas
-pub use Rattle.inode_plan.proofs.graph_change_lemmas
-pub use Rattle.inode_plan.proofs as inode_plan_lemmas
-pub use Rattle.inode_plan.proofs.layout_lemmas
-pub use Rattle.inode_plan.proofs.tree_blocks_lemmas

@@ -2,18 +2,18 @@
 use Rattle.std.proofs.Common.{◌≡◌, ◌⊎◌, ◌∙◌, inl, inr, ℕ, Some, None, refl, ap, subst}
 use Rattle.std.specs.Prelude.{IsSome}
 use Rattle.std.proofs.lemmas.Bool.{false≢true}
-use Rattle.inode_plan.specs.tier_device.declared.media.Tier.{Tier}
-use Rattle.inode_plan.specs.tier_device.declared.media.Tier.TheVariants as tiers
-use Rattle.inode_plan.specs.layout.Places.{Sizes, slot_block}
-use Rattle.inode_plan.specs.layout.declared.slot.Slot.{Slot}
-use Rattle.inode_plan.specs.area_image.Damage.{OnDamage}
-use Rattle.inode_plan.specs.area_image.Map.{HasNoExtents}
-use Rattle.inode_plan.specs.area_image.Format.{SpellsInode}
-use Rattle.inode_plan.specs.area_image.Store.{Store, slot_read, extents_read, extents_by}
-use Rattle.inode_plan.specs.area_image.declared.error.AreaError.{AreaError}
-use Rattle.inode_plan.specs.area_image.declared.error.AreaError.TheVariants as errors
-use Rattle.inode_plan.specs.layout.declared.error.What.TheVariants as what
-use Rattle.inode_plan.proofs.area_image_lemmas.Parts.{slot_as}
+use Rattle.tier_device.specs.declared.media.Tier.{Tier}
+use Rattle.tier_device.specs.declared.media.Tier.TheVariants as tiers
+use Rattle.layout.specs.Places.{Sizes, slot_block}
+use Rattle.layout.specs.declared.slot.Slot.{Slot}
+use Rattle.area_reader.specs.Damage.{OnDamage}
+use Rattle.area_reader.specs.Map.{HasNoExtents}
+use Rattle.area_reader.specs.Format.{SpellsInode}
+use Rattle.area_reader.specs.Store.{Store, slot_read, extents_read, extents_by}
+use Rattle.area_reader.specs.declared.error.AreaError.{AreaError}
+use Rattle.area_reader.specs.declared.error.AreaError.TheVariants as errors
+use Rattle.layout.specs.declared.error.What.TheVariants as what
+use Rattle.area_reader.proofs.Parts.{slot_as}
 
 extents_here : (g : Sizes) (s : Store) (i : ℕ) (x : Slot) (t : Tier) → slot_read g s i ≡ Some x → extents_read g s i t ≡ extents_by g (s tiers.Fast) i x t
 unfolding extents_read

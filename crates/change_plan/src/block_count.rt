@@ -1,18 +1,18 @@
 // How many data blocks a change wants.
 ghost use Rattle.std.specs.Prelude.{◌≡◌, ◌⊎◌, ℕ, List, Some, true, false, length, IfOk, IfErr, OnErr};
 ghost use Rattle.std.specs.FinMap as fin;
-ghost use Rattle.inode_plan.specs.graph_change.Bounds.{AreBounded};
-ghost use Rattle.inode_plan.specs.graph_change.Change.{Changes, change_at, writes_block};
-ghost use Rattle.inode_plan.specs.graph_change.Tidy.{AreTidyChanges};
-ghost use Rattle.inode_plan.specs.graph_change.View.{change_of, changes_of};
-ghost use Rattle.inode_plan.specs.layout.Places.{Sizes, is_inode};
-ghost use Rattle.inode_plan.specs.area_image.Store.{Store, disk, slot_read};
-ghost use Rattle.inode_plan.specs.area_image.Format.{IsSpelled};
-ghost use Rattle.inode_plan.specs.area_image.Looks.{Looks};
-ghost use Rattle.inode_plan.specs.area_image.declared.error.AreaError.TheVariants.{DeviceFault, Memory};
-ghost use Rattle.inode_plan.specs.layout.declared.places.TheConstants.{FILE_BLOCKS};
-ghost use Rattle.inode_plan.specs.extent_tree.Map.{lies_at, LieBelow};
-ghost use Rattle.inode_plan.specs.area_commit.InodeChange.{places_from, writes_over};
+ghost use Rattle.graph_change.specs.Bounds.{AreBounded};
+ghost use Rattle.graph_change.specs.Change.{Changes, change_at, writes_block};
+ghost use Rattle.graph_change.specs.Tidy.{AreTidyChanges};
+ghost use Rattle.graph_change.specs.View.{change_of, changes_of};
+ghost use Rattle.layout.specs.Places.{Sizes, is_inode};
+ghost use Rattle.area_reader.specs.Store.{Store, disk, slot_read};
+ghost use Rattle.area_reader.specs.Format.{IsSpelled};
+ghost use Rattle.area_reader.specs.Looks.{Looks};
+ghost use Rattle.area_reader.specs.declared.error.AreaError.TheVariants.{DeviceFault, Memory};
+ghost use Rattle.layout.specs.declared.places.TheConstants.{FILE_BLOCKS};
+ghost use Rattle.extent_tree.specs.Map.{lies_at, LieBelow};
+ghost use Rattle.area_commit.specs.InodeChange.{places_from, writes_over};
 ghost use Rattle.change_plan.specs.FileLayout.{LeavesFile};
 ghost use Rattle.change_plan.specs.Next.{WantsData};
 ghost use Rattle.change_plan.specs.BlockDemand.{WantsBlocks, AreWritten};
@@ -22,10 +22,15 @@ use crate::file_part::start_file;
 use crate::file_start::StartedFile;
 use crate::kinds::kind_from;
 use crate::read_change::ReadChange;
-use inode_plan::{
-    AreaError, BlockMap, Journal, Kind, Media, NodeChange, Slot, cut_alone, written_numbers,
-};
+use area_reader::AreaError;
+use batch_journal::Journal;
+use extent_tree::BlockMap;
+use file_graph::Kind;
+use graph_change::NodeChange;
+use inode_plan::{cut_alone, written_numbers};
+use layout::Slot;
 use std::alloc::Global;
+use tier_device::Media;
 
 // Where the blocks of a file lie that a change starts from, as far as that decides which of them it writes: its extents are read only
 // where the change cuts within a block into which no bytes were put.

@@ -1,18 +1,18 @@
 // All inodes of a change, planned one after the other.
 ghost use Rattle.std.specs.Prelude.{◌≡◌, ◌≤◌, ◌⊎◌, ℕ, [], Option, true, false, length, OnOk, IfErr, IfSome};
 ghost use Rattle.std.specs.FinMap as fin;
-ghost use Rattle.inode_plan.specs.graph_change.Bounds.{AreBounded};
-ghost use Rattle.inode_plan.specs.graph_change.Change.{changed_graph};
-ghost use Rattle.inode_plan.specs.graph_change.Tidy.{AreTidyChanges};
-ghost use Rattle.inode_plan.specs.graph_change.View.{changes_of};
-ghost use Rattle.inode_plan.specs.layout.declared.marks.Marks.{Marks};
-ghost use Rattle.inode_plan.specs.layout.Marks.{fits_marks};
-ghost use Rattle.inode_plan.specs.layout.Places.{IsAllowed};
-ghost use Rattle.inode_plan.specs.area_image.Store.{disk, graph};
-ghost use Rattle.inode_plan.specs.area_image.Format.{IsSpelled};
-ghost use Rattle.inode_plan.specs.area_image.Looks.{Looks};
-ghost use Rattle.inode_plan.specs.area_image.declared.error.AreaError.TheVariants.{DeviceFault, Memory};
-ghost use Rattle.inode_plan.specs.area_commit.Allocations.{taken_data};
+ghost use Rattle.graph_change.specs.Bounds.{AreBounded};
+ghost use Rattle.graph_change.specs.Change.{changed_graph};
+ghost use Rattle.graph_change.specs.Tidy.{AreTidyChanges};
+ghost use Rattle.graph_change.specs.View.{changes_of};
+ghost use Rattle.layout.specs.declared.marks.Marks.{Marks};
+ghost use Rattle.layout.specs.Marks.{fits_marks};
+ghost use Rattle.layout.specs.Places.{IsAllowed};
+ghost use Rattle.area_reader.specs.Store.{disk, graph};
+ghost use Rattle.area_reader.specs.Format.{IsSpelled};
+ghost use Rattle.area_reader.specs.Looks.{Looks};
+ghost use Rattle.area_reader.specs.declared.error.AreaError.TheVariants.{DeviceFault, Memory};
+ghost use Rattle.area_commit.specs.Allocations.{taken_data};
 ghost use Rattle.change_plan.specs.PlanAddition.{HasTaken, TakesMoreNodes};
 ghost use Rattle.change_plan.specs.First.{PlansNothing, IsWhole};
 ghost use Rattle.change_plan.specs.Next.{HasFewEntries};
@@ -23,8 +23,12 @@ use crate::changed_inode::ChangedInode;
 use crate::inode_part::plan_inode;
 use crate::partial_plan::PartialPlan;
 use crate::read_change::ReadChange;
-use inode_plan::{AreaError, Journal, Media, Pools, taken_places};
+use area_commit::Pools;
+use area_reader::AreaError;
+use batch_journal::Journal;
+use inode_plan::taken_places;
 use std::alloc::Global;
+use tier_device::Media;
 
 /// Plans all inodes of a change, in the order of their numbers, each with this touch number, by the slots that they have, over the data blocks that were taken, as many as it wants; blocks
 /// of the node pool are taken as they are wanted. `Memory` where there was none; `DeviceFault` where a device fails. After a refusal nothing is said of the plan but what was taken for it, which can be given back.

@@ -1,4 +1,5 @@
-use inode_plan::{NodeChange, Slot};
+use graph_change::NodeChange;
+use layout::Slot;
 
 /// An inode of a change that is to be planned.
 #[derive(Clone, Copy)]

@@ -1,25 +1,25 @@
 // What a change makes of a file, as the part of its inode.
 ghost use Rattle.std.specs.Prelude.{◌≡◌, ◌≤◌, ◌<◌, ◌+◌, ◌^◌, ◌⊎◌, ◌++◌, ℕ, List, Some, true, false, length, take, IfOk, IfErr, OnOk, IfSome};
-ghost use Rattle.inode_plan.specs.tier_device.declared.media.Tier.{Tier};
-ghost use Rattle.inode_plan.specs.file_graph.declared.effect.Kind.TheVariants as kind;
-ghost use Rattle.inode_plan.specs.graph_change.Bounds.{IsBounded};
-ghost use Rattle.inode_plan.specs.graph_change.Bytes.{end};
-ghost use Rattle.inode_plan.specs.graph_change.Net.{Kept};
-ghost use Rattle.inode_plan.specs.graph_change.Tidy.{IsTidyChange};
-ghost use Rattle.inode_plan.specs.graph_change.View.{base_of, change_of};
-ghost use Rattle.inode_plan.specs.layout.declared.extents.TheConstants.{MAX_EXTENTS};
-ghost use Rattle.inode_plan.specs.layout.Places.{Sizes, is_inode};
-ghost use Rattle.inode_plan.specs.layout.Slot.{fits_slot};
-ghost use Rattle.inode_plan.specs.block_alloc.Runs.{blocks_of};
-ghost use Rattle.inode_plan.specs.tree_blocks.After.{start_node};
-ghost use Rattle.inode_plan.specs.area_image.Store.{Store, disk, slot_read, logical_block, inode as inode_in};
-ghost use Rattle.inode_plan.specs.area_image.Checks.{HasFound, IsOnce};
-ghost use Rattle.inode_plan.specs.area_image.Map.{in_tier};
-ghost use Rattle.inode_plan.specs.area_image.Format.{IsSpelled};
-ghost use Rattle.inode_plan.specs.area_image.Looks.{Looks};
-ghost use Rattle.inode_plan.specs.area_image.declared.error.AreaError.TheVariants.{DeviceFault, Memory};
-ghost use Rattle.inode_plan.specs.area_commit.Value.{PoolsView, AreInOrder};
-ghost use Rattle.inode_plan.specs.area_commit.Allocations.{WereTaken, CanRelease};
+ghost use Rattle.tier_device.specs.declared.media.Tier.{Tier};
+ghost use Rattle.file_graph.specs.declared.effect.Kind.TheVariants as kind;
+ghost use Rattle.graph_change.specs.Bounds.{IsBounded};
+ghost use Rattle.graph_change.specs.Bytes.{end};
+ghost use Rattle.graph_change.specs.Net.{Kept};
+ghost use Rattle.graph_change.specs.Tidy.{IsTidyChange};
+ghost use Rattle.graph_change.specs.View.{base_of, change_of};
+ghost use Rattle.layout.specs.declared.extents.TheConstants.{MAX_EXTENTS};
+ghost use Rattle.layout.specs.Places.{Sizes, is_inode};
+ghost use Rattle.layout.specs.Slot.{fits_slot};
+ghost use Rattle.block_alloc.specs.Runs.{blocks_of};
+ghost use Rattle.tree_blocks.specs.After.{start_node};
+ghost use Rattle.area_reader.specs.Store.{Store, disk, slot_read, logical_block, inode as inode_in};
+ghost use Rattle.area_reader.specs.Checks.{HasFound, IsOnce};
+ghost use Rattle.area_reader.specs.Map.{in_tier};
+ghost use Rattle.area_reader.specs.Format.{IsSpelled};
+ghost use Rattle.area_reader.specs.Looks.{Looks};
+ghost use Rattle.area_reader.specs.declared.error.AreaError.TheVariants.{DeviceFault, Memory};
+ghost use Rattle.area_commit.specs.Value.{PoolsView, AreInOrder};
+ghost use Rattle.area_commit.specs.Allocations.{WereTaken, CanRelease};
 ghost use Rattle.inode_plan.specs.Bytes.{AddsBlocks, blocks_from};
 ghost use Rattle.inode_plan.specs.Roots.{roots_wanted};
 ghost use Rattle.change_plan.specs.PlanAddition.{AddsPart, TakesMoreNodes};
@@ -35,12 +35,16 @@ use crate::files::{next_nodes_were_free, placed_file_is_planned, planned_file_is
 use crate::inode_drop::all_blocks_of;
 use crate::partial_plan::PartialPlan;
 use crate::spares::take_spares;
-use inode_plan::{
-    Allocation, AreaError, FreedBlocks, InodeExtents, Journal, Media, NodeBase, NodeChange,
-    NodeImages, Place, Pools, Run, Slot, changed_map_is_fit, few_blocks_are_few_runs, read_changed,
-    roots_wanted, written_numbers,
-};
+use area_commit::{Allocation, FreedBlocks, NodeImages, Pools};
+use area_reader::{AreaError, InodeExtents};
+use batch_journal::Journal;
+use block_alloc::Run;
+use extent_tree::{Place, few_blocks_are_few_runs};
+use graph_change::{NodeBase, NodeChange};
+use inode_plan::{changed_map_is_fit, read_changed, roots_wanted, written_numbers};
+use layout::Slot;
 use std::alloc::{AllocError, Global};
+use tier_device::Media;
 
 /// A file whose blocks have their places after a change, with the numbers of those that the change writes.
 #[derive(Drop)]

@@ -1,18 +1,18 @@
 // What is given up where the node of an inode goes.
 ghost use Rattle.std.specs.Prelude.{◌≡◌, ◌≤◌, ◌⊎◌, ◌++◌, ◌∷◌, [], ℕ, List, Some, None, true, false, IfOk, IfErr, OnOk};
-ghost use Rattle.inode_plan.specs.tier_device.declared.media.Tier.{Tier};
-ghost use Rattle.inode_plan.specs.graph_change.Change.{Change};
-ghost use Rattle.inode_plan.specs.layout.declared.places.TheConstants.{FILE_BLOCKS};
-ghost use Rattle.inode_plan.specs.layout.Places.{is_inode};
-ghost use Rattle.inode_plan.specs.layout.Slot.{fits_slot};
-ghost use Rattle.inode_plan.specs.extent_tree.BlockFormat.{LiesWithin};
-ghost use Rattle.inode_plan.specs.extent_tree.Map.{runs_in, LieBelow};
-ghost use Rattle.inode_plan.specs.extent_tree.declared.map.Place.{Place};
-ghost use Rattle.inode_plan.specs.tree_blocks.After.{start_node};
-ghost use Rattle.inode_plan.specs.area_image.Store.{disk, slot_read, space_of, inode as inode_in};
-ghost use Rattle.inode_plan.specs.area_image.Format.{IsSpelled};
-ghost use Rattle.inode_plan.specs.area_image.Looks.{Looks};
-ghost use Rattle.inode_plan.specs.area_image.declared.error.AreaError.TheVariants.{DeviceFault, Memory};
+ghost use Rattle.tier_device.specs.declared.media.Tier.{Tier};
+ghost use Rattle.graph_change.specs.Change.{Change};
+ghost use Rattle.layout.specs.declared.places.TheConstants.{FILE_BLOCKS};
+ghost use Rattle.layout.specs.Places.{is_inode};
+ghost use Rattle.layout.specs.Slot.{fits_slot};
+ghost use Rattle.extent_tree.specs.BlockFormat.{LiesWithin};
+ghost use Rattle.extent_tree.specs.Map.{runs_in, LieBelow};
+ghost use Rattle.extent_tree.specs.declared.map.Place.{Place};
+ghost use Rattle.tree_blocks.specs.After.{start_node};
+ghost use Rattle.area_reader.specs.Store.{disk, slot_read, space_of, inode as inode_in};
+ghost use Rattle.area_reader.specs.Format.{IsSpelled};
+ghost use Rattle.area_reader.specs.Looks.{Looks};
+ghost use Rattle.area_reader.specs.declared.error.AreaError.TheVariants.{DeviceFault, Memory};
 ghost use Rattle.inode_plan.specs.Lists.{LieAsIn};
 ghost use Rattle.change_plan.specs.Parts.{LoseBoth};
 ghost use Rattle.change_plan.specs.PlanAddition.{GivesAll, AddsAll, AddsPart};
@@ -20,11 +20,15 @@ ghost use Rattle.change_plan.specs.FreedRuns.{IsSorted, AreAllBlocks};
 
 use crate::part_laws::gone_inode_is_a_part;
 use crate::partial_plan::PartialPlan;
-use inode_plan::{
-    AreaError, BlockMap, ChangedSlot, FreedBlocks, Journal, Media, Run, Slot, Tier, all_places,
-    map_of, read_all_extents, roots_left,
-};
+use area_commit::{ChangedSlot, FreedBlocks};
+use area_reader::{AreaError, read_all_extents};
+use batch_journal::Journal;
+use block_alloc::Run;
+use extent_tree::BlockMap;
+use inode_plan::{all_places, map_of, roots_left};
+use layout::Slot;
 use std::alloc::{AllocError, Global};
+use tier_device::{Media, Tier};
 
 // Where the blocks of an inode lie that has this slot.
 fn read_map<M: Media>(

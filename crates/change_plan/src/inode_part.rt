@@ -1,9 +1,9 @@
 // One inode of a change, whatever it is, as a part of the plan for all.
 ghost use Rattle.std.specs.Prelude.{◌≡◌, ◌⊎◌, false, IfOk, IfErr};
-ghost use Rattle.inode_plan.specs.graph_change.View.{change_of};
-ghost use Rattle.inode_plan.specs.area_image.Store.{disk};
-ghost use Rattle.inode_plan.specs.area_image.Looks.{Looks};
-ghost use Rattle.inode_plan.specs.area_image.declared.error.AreaError.TheVariants.{DeviceFault, Memory};
+ghost use Rattle.graph_change.specs.View.{change_of};
+ghost use Rattle.area_reader.specs.Store.{disk};
+ghost use Rattle.area_reader.specs.Looks.{Looks};
+ghost use Rattle.area_reader.specs.declared.error.AreaError.TheVariants.{DeviceFault, Memory};
 ghost use Rattle.change_plan.specs.PlanAddition.{TakesMoreNodes};
 ghost use Rattle.change_plan.specs.Next.{IsNext, HasPlaces, PlansInode};
 
@@ -13,8 +13,13 @@ use crate::file_part::plan_file_part;
 use crate::inode_drop::plan_gone_part;
 use crate::kinds::kind_from;
 use crate::partial_plan::PartialPlan;
-use inode_plan::{AreaError, Journal, Kind, Media, Place, Pools};
+use area_commit::Pools;
+use area_reader::AreaError;
+use batch_journal::Journal;
+use extent_tree::Place;
+use file_graph::Kind;
 use std::alloc::Global;
+use tier_device::Media;
 
 /// Plans an inode by what the rest of its change starts from: a file over the first of these places and some blocks of the node pool, a directory over such blocks alone, or none. It
 /// tells how many of the places it uses. `Memory` where there was none; `DeviceFault` where a device fails. After a refusal nothing is said of the plan but what was taken for it: blocks of

@@ -47,13 +47,3 @@ pub use prefix_laws::{
 };
 pub use read_change::{ReadChange, read_slots};
 pub use spares::{last_blocks, take_spares};
-
-// Passed on to the crates above, which so need not list those below.
-pub use inode_plan::{
-    Allocation, AllocatorError, AreaError, BLOCK, CLIENTS, ChangedSlot, DirBlock, DirEntries,
-    DirEntry, EntryRef, Extent, ExtentBlock, FreedBlocks, Geometry, GraphChange, InodeExtents,
-    InodeParts, Journal, JournalError, MARKS_BLOCK, Mark, Marks, Media, NodeImages, Place, Pools,
-    Run, SLOT_SIZE, Slot, Super, Tier, What, blank_block, block_number, carried_out_marks,
-    carry_out, charge_after_change, first_place, length_of, nodes_never_run_out, open_area,
-    read_parts, read_slot, small_changes_find_blocks, taken_places, units_of,
-};

@@ -1,4 +1,4 @@
-use inode_plan::{Allocation, ChangedSlot, FreedBlocks, NodeImages};
+use area_commit::{Allocation, ChangedSlot, FreedBlocks, NodeImages};
 
 /// The plans of the inodes of a change that are made so far, one behind the other, with the blocks that were taken for them.
 #[derive(Drop)]

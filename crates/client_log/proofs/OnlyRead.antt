@@ -1,11 +1,11 @@
 -- A region that was only read is as it was.
 use Rattle.std.specs.Prelude.{is_some}
 use Rattle.std.proofs.Common.{◌≡◌, ◌⊎◌, ◌<◌, ℕ, Bool, List, take, refl, sym, ◌∙◌, ap, subst, arith}
-use Rattle.update_log.specs.tier_device.declared.media.Media.{Ghosts}
-use Rattle.update_log.specs.tier_device.declared.media.Tier.{Tier}
-use Rattle.update_log.specs.tier_device.declared.media.Tier.TheVariants.{Fast}
-use Rattle.update_log.specs.tier_device.Media.{Keeps}
-use Rattle.update_log.specs.log_record.declared.format.Record.{Record}
+use Rattle.tier_device.specs.declared.media.Media.{Ghosts}
+use Rattle.tier_device.specs.declared.media.Tier.{Tier}
+use Rattle.tier_device.specs.declared.media.Tier.TheVariants.{Fast}
+use Rattle.tier_device.specs.Media.{Keeps}
+use Rattle.log_record.specs.declared.format.Record.{Record}
 use Rattle.update_log.specs.declared.format.TheConstants.{REGION_SIZE}
 use Rattle.update_log.specs.Frames.{before_gate, end_behind, header, spelled_records}
 use Rattle.update_log.specs.Stage.{IsAppending}

@@ -1,10 +1,10 @@
 -- The records of a region stand within it.
 use Rattle.std.proofs.Common.{◌≡◌, ◌<◌, ◌≤◌, ◌+◌, ◌^◌, ℕ, List, sym, subst, arith}
 use Rattle.std.specs.Prelude.{zero, suc, [], ◌∷◌, ◌++◌, Option, length}
-use Rattle.update_log.specs.tier_device.declared.media.Media.{Ghosts}
-use Rattle.update_log.specs.tier_device.declared.media.Tier.{Tier}
-use Rattle.update_log.specs.log_record.declared.format.Record.{Record}
-use Rattle.update_log.specs.log_record.Grammar.{record_bytes}
+use Rattle.tier_device.specs.declared.media.Media.{Ghosts}
+use Rattle.tier_device.specs.declared.media.Tier.{Tier}
+use Rattle.log_record.specs.declared.format.Record.{Record}
+use Rattle.log_record.specs.Grammar.{record_bytes}
 use Rattle.update_log.specs.Frames.{end_behind, taken_length, with_record}
 use Rattle.update_log.specs.View.{RegionView, records_of}
 use Rattle.update_log.specs.declared.format.TheConstants.{REGION_SIZE}

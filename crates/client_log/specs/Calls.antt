@@ -1,10 +1,10 @@
 -- What one call makes of a region.
 use Rattle.std.specs.Prelude.{◌≡◌, ◌≤◌, ◌+◌, ℕ, List, [], get_or, None, Result, IfOk, IfErr, OnOk, OnErr}
-use Rattle.update_log.specs.tier_device.declared.media.Media.{Ghosts}
-use Rattle.update_log.specs.tier_device.declared.media.Tier.{Tier}
-use Rattle.update_log.specs.tier_device.declared.media.Tier.TheVariants.{Fast}
-use Rattle.update_log.specs.tier_device.Media.{Keeps, Puts, Rose}
-use Rattle.update_log.specs.tier_device.StopsSince.{LeftSince}
+use Rattle.tier_device.specs.declared.media.Media.{Ghosts}
+use Rattle.tier_device.specs.declared.media.Tier.{Tier}
+use Rattle.tier_device.specs.declared.media.Tier.TheVariants.{Fast}
+use Rattle.tier_device.specs.Media.{Keeps, Puts, Rose}
+use Rattle.tier_device.specs.StopsSince.{LeftSince}
 use Rattle.update_log.specs.RecordCounts.{records_under}
 use Rattle.update_log.specs.Moments.{PastStays}
 use Rattle.update_log.specs.View.{RegionView, records_of}

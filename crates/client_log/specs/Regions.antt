@@ -1,8 +1,8 @@
 -- What the log knows of each of its regions.
 use Rattle.std.specs.Prelude.{◌≡◌, ◌≢◌, ◌⊎◌, ◌<◌, ◌^◌, ◌%◌, ◌==◌, ℕ, Bool, true, false, List, [], Option, Some, None, is_some, if◌then◌else◌}
-use Rattle.update_log.specs.tier_device.declared.media.Media.{Ghosts}
-use Rattle.update_log.specs.tier_device.declared.media.Tier.{Tier}
-use Rattle.update_log.specs.tier_device.declared.media.Tier.TheVariants.{Fast}
+use Rattle.tier_device.specs.declared.media.Media.{Ghosts}
+use Rattle.tier_device.specs.declared.media.Tier.{Tier}
+use Rattle.tier_device.specs.declared.media.Tier.TheVariants.{Fast}
 use Rattle.update_log.specs.RecordCounts.{next_generation, records_under}
 use Rattle.update_log.specs.Frames.{end_behind, with_record}
 use Rattle.update_log.specs.Stage.{IsAppending}

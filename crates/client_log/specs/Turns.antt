@@ -1,8 +1,8 @@
 -- The steps of two regions in turn, over what a client's log has, as plain data.
 use Rattle.std.specs.Prelude.{◌≡◌, ◌≢◌, ℕ, Bool, true, false, List, [], ◌∷◌, ◌++◌, Option, Some, None}
-use Rattle.update_log.specs.tier_device.declared.media.Media.{Ghosts}
-use Rattle.update_log.specs.tier_device.declared.media.Tier.{Tier}
-use Rattle.update_log.specs.log_record.declared.format.Record.{Record}
+use Rattle.tier_device.specs.declared.media.Media.{Ghosts}
+use Rattle.tier_device.specs.declared.media.Tier.{Tier}
+use Rattle.log_record.specs.declared.format.Record.{Record}
 use Rattle.update_log.specs.View.{RegionView}
 use Rattle.client_log.specs.View.{LogView, current_records}
 

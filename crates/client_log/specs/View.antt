@@ -1,8 +1,8 @@
 -- A client's log, as its callers see it.
 use Rattle.std.specs.Prelude.{ℕ, Bool, List, [], Option, if◌then◌else◌}
-use Rattle.update_log.specs.tier_device.declared.media.Media.{Ghosts}
-use Rattle.update_log.specs.tier_device.declared.media.Tier.{Tier}
-use Rattle.update_log.specs.log_record.declared.format.Record.{Record}
+use Rattle.tier_device.specs.declared.media.Media.{Ghosts}
+use Rattle.tier_device.specs.declared.media.Tier.{Tier}
+use Rattle.log_record.specs.declared.format.Record.{Record}
 use Rattle.update_log.specs.View.{RegionView, records_of}
 
 pub record LogView (M : Type 0) : Type 0 where

@@ -22,6 +22,3 @@ pub use turn_laws::{
     appended_record_is_a_step, begun_record_is_in_the_turn, sealed_log_is_a_step,
     taken_back_region_is_a_step, wiped_region_is_a_step,
 };
-
-// Passed on to the crates above, which so need not list those below.
-pub use update_log::{Media, Progress, Region, Tier, WipeProgress};

@@ -1,7 +1,7 @@
 // What the log does with one of its regions.
 ghost use Rattle.std.specs.Prelude.{◌≡◌, ◌≢◌, ◌≤◌, ◌<◌, ◌+◌, ◌^◌, ◌%◌, ℕ, [], IfOk, IfErr, IsTrue, OnOk, OnErr, ◌↔◌, true, false};
-ghost use Rattle.update_log.specs.tier_device.declared.media.Tier.TheVariants.{Fast};
-ghost use Rattle.update_log.specs.tier_device.Media.{Rose};
+ghost use Rattle.tier_device.specs.declared.media.Tier.TheVariants.{Fast};
+ghost use Rattle.tier_device.specs.Media.{Rose};
 ghost use Rattle.update_log.specs.RecordCounts.{next_generation};
 ghost use Rattle.update_log.specs.View.{records_of};
 ghost use Rattle.update_log.specs.declared.stage.Stage.TheVariants as stages;
@@ -10,7 +10,8 @@ ghost use Rattle.client_log.specs.Calls.{IsOnlyRead, IsWipeCall};
 ghost use Rattle.client_log.specs.Regions.{AreWiped, CountsNothing, IsStale, IsWiped, in_turn, is_pending};
 
 use crate::error::LogError;
-use update_log::{HEADER, Media, REGION_SIZE, Region, Stage, WipeProgress};
+use tier_device::Media;
+use update_log::{HEADER, REGION_SIZE, Region, Stage, WipeProgress};
 
 /// The generation after this one: they are counted modulo 2^64.
 pub fn next_generation(generation: u64) -> u64

@@ -1,7 +1,7 @@
 // A region that a log sealed, until it is taken back.
 ghost use Rattle.std.specs.Prelude.{◌≡◌, ◌⊎◌, ◌<◌, ◌^◌, length, ℕ, List, IfErr, IfOk, IsErrOf};
-ghost use Rattle.update_log.specs.tier_device.declared.media.Tier.TheVariants.{Fast};
-ghost use Rattle.update_log.specs.tier_device.Media.{Rose};
+ghost use Rattle.tier_device.specs.declared.media.Tier.TheVariants.{Fast};
+ghost use Rattle.tier_device.specs.Media.{Rose};
 ghost use Rattle.update_log.specs.Frames.{records};
 ghost use Rattle.update_log.specs.View.{records_of};
 ghost use Rattle.update_log.specs.WipeStops.{generation as named_in};
@@ -10,7 +10,9 @@ ghost use Rattle.client_log.specs.Calls.{IsOnlyRead};
 ghost use Rattle.client_log.specs.Regions.{IsSealedRegion};
 
 use crate::error::LogError;
-use update_log::{Media, Record, Region, RegionError};
+use log_record::Record;
+use tier_device::Media;
+use update_log::{Region, RegionError};
 
 /// Reads the records of a sealed region from its medium, in their order, and changes nothing.
 ///

@@ -1,6 +1,6 @@
 // The steps of a client's log, as steps of the world.
 ghost use Rattle.std.specs.Prelude.{◌≡◌, ◌+◌, ℕ, true, false, length};
-ghost use Rattle.update_log.specs.posix_calls.Operations.{is_client};
+ghost use Rattle.posix_calls.specs.Operations.{is_client};
 ghost use Rattle.world_invariant.specs.World.{Begun, World};
 ghost use Rattle.world_invariant.specs.ClientSteps.{call_begun, after_reply};
 ghost use Rattle.world_invariant.specs.RegionSteps as world;

@@ -1,14 +1,14 @@
 -- What is unknown of a node or of bytes, and that an operation's record and growth are never refused.
 use Rattle.std.proofs.Common.{◌≡◌, ◌⊎◌, inl, inr, ℕ, refl, Some, None, Option, Err, Bool, true, false, cond, ap, sym, ◌∙◌, ◌==◌}
-use Rattle.call_effects.specs.posix_calls.declared.errno.Errno.{Errno}
-use Rattle.call_effects.specs.posix_calls.declared.operation.Missing.TheVariants as missing
-use Rattle.call_effects.specs.posix_calls.declared.operation.Operation.{Operation}
-use Rattle.call_effects.specs.posix_calls.declared.operation.Operation.TheVariants.{Tell, NewDir, NewFile, OpenFile, CloseFile, Write, Resize, RemoveDir, AddName, DropName, Move}
-use Rattle.call_effects.specs.posix_calls.declared.operation.Replaced.TheVariants.{Nothing, OldFile, OldDir}
-use Rattle.call_effects.specs.posix_calls.Query.{Seen, Query, Gives, Refuses, IsDir, Look, Range, ◌>>=◌}
-use Rattle.call_effects.specs.posix_calls.Part.{Part, Found, Known, Unknown, IsBeyond, blocks_missing, run_part}
-use Rattle.call_effects.proofs.posix_calls_lemmas.Parts.{missing_is_left}
-use Rattle.call_effects.specs.posix_calls.Walk.{entries_seen, entries_at, size_seen, size_at, names_seen}
+use Rattle.posix_calls.specs.declared.errno.Errno.{Errno}
+use Rattle.posix_calls.specs.declared.operation.Missing.TheVariants as missing
+use Rattle.posix_calls.specs.declared.operation.Operation.{Operation}
+use Rattle.posix_calls.specs.declared.operation.Operation.TheVariants.{Tell, NewDir, NewFile, OpenFile, CloseFile, Write, Resize, RemoveDir, AddName, DropName, Move}
+use Rattle.posix_calls.specs.declared.operation.Replaced.TheVariants.{Nothing, OldFile, OldDir}
+use Rattle.posix_calls.specs.Query.{Seen, Query, Gives, Refuses, IsDir, Look, Range, ◌>>=◌}
+use Rattle.posix_calls.specs.Part.{Part, Found, Known, Unknown, IsBeyond, blocks_missing, run_part}
+use Rattle.posix_calls.proofs.Parts.{missing_is_left}
+use Rattle.posix_calls.specs.Walk.{entries_seen, entries_at, size_seen, size_at, names_seen}
 use Rattle.call_effects.specs.Effects.{recounted_file}
 use Rattle.call_effects.specs.Records.{names_if, effects_asked, growth_asked, units_asked, entry_rise}
 use Rattle.client_plan.specs.NeedEffects.{AreUnread}

@@ -2,12 +2,12 @@
 use Rattle.std.proofs.Common.{◌≡◌, ◌⊎◌, inl, inr, Bool, true, false, refl, Result, Ok, Err, ap, sym, ◌∙◌, subst}
 use Rattle.std.specs.Result.{IsErrAnd}
 use Rattle.std.proofs.lemmas.Result.{err_from_is_err_and}
-use Rattle.call_effects.specs.posix_calls.declared.errno.Errno.{Errno}
-use Rattle.call_effects.specs.posix_calls.declared.operation.DecideError.{DecideError}
-use Rattle.call_effects.specs.posix_calls.declared.operation.DecideError.TheVariants as why
-use Rattle.call_effects.specs.posix_calls.Query.{Query}
-use Rattle.call_effects.specs.posix_calls.Part.{Part}
-use Rattle.call_effects.specs.posix_calls.Answers.{IsAnswer}
+use Rattle.posix_calls.specs.declared.errno.Errno.{Errno}
+use Rattle.posix_calls.specs.declared.operation.DecideError.{DecideError}
+use Rattle.posix_calls.specs.declared.operation.DecideError.TheVariants as why
+use Rattle.posix_calls.specs.Query.{Query}
+use Rattle.posix_calls.specs.Part.{Part}
+use Rattle.posix_calls.specs.Answers.{IsAnswer}
 use Rattle.client_plan.specs.declared.need.Need.{Need}
 use Rattle.client_plan.specs.declared.stop.Stop.{Stop}
 use Rattle.client_plan.specs.declared.stop.Stop.TheVariants as stop

@@ -13,5 +13,3 @@ pub mod Spelled
 pub mod Stepping
 pub mod Whole
 pub mod WriteAsked
--- Passed on to the crates above, which so need not list those below.
-pub use Rattle.call_effects.proofs.posix_calls_lemmas

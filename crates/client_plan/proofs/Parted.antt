@@ -1,13 +1,13 @@
 -- A course is its first part and then the rest.
 use Rattle.std.proofs.Common.{◌≡◌, ℕ, List, Bool, Option, Some, None, Result, Ok, Err, cond, true, refl, ap, sym, ◌∙◌}
 use Rattle.std.specs.Prelude.{unwrap_or}
-use Rattle.call_effects.specs.posix_calls.declared.call.Reply.{Reply}
-use Rattle.call_effects.specs.posix_calls.declared.operation.Operation.{Operation}
-use Rattle.call_effects.specs.posix_calls.declared.operation.Operation.TheVariants.{Tell}
-use Rattle.call_effects.specs.posix_calls.Part.{Part}
-use Rattle.call_effects.specs.posix_calls.Operations.{makes, reply_of}
-use Rattle.call_effects.specs.posix_calls.Kinds.{is_query, opens}
-use Rattle.call_effects.specs.log_record.declared.format.Record.{Record}
+use Rattle.posix_calls.specs.declared.call.Reply.{Reply}
+use Rattle.posix_calls.specs.declared.operation.Operation.{Operation}
+use Rattle.posix_calls.specs.declared.operation.Operation.TheVariants.{Tell}
+use Rattle.posix_calls.specs.Part.{Part}
+use Rattle.posix_calls.specs.Operations.{makes, reply_of}
+use Rattle.posix_calls.specs.Kinds.{is_query, opens}
+use Rattle.log_record.specs.declared.format.Record.{Record}
 use Rattle.call_effects.specs.ChangeTest.{changes}
 use Rattle.call_effects.specs.Records.{units_asked}
 use Rattle.call_effects.specs.Subjects.{subjects_of}

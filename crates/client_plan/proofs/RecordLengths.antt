@@ -5,29 +5,29 @@ use Rattle.std.specs.List.{flat_map, list_any}
 use Rattle.std.specs.FinMap as fin
 use Rattle.std.proofs.lemmas.Bool.{and_parts, leb-true}
 use Rattle.std.proofs.lemmas.List.Concat.{flat_map-cons}
-use Rattle.call_effects.specs.posix_calls.Name.{is_name}
-use Rattle.call_effects.specs.posix_calls.Path.{is_dots, path_names}
-use Rattle.call_effects.specs.posix_calls.Tree.{Own}
-use Rattle.call_effects.specs.posix_calls.Query.{Seen, File, Dir, Query, Gives, Refuses, IsDir, Look, Range, ◌>>=◌}
-use Rattle.call_effects.specs.posix_calls.Part.{Part, Found, Known, Unknown, blocks_missing, run_part}
-use Rattle.call_effects.specs.posix_calls.Walk.{Place, leads_to, read_or_error, entries_at, size_at, names_at, kind_at, directory, walk, prefix, there}
-use Rattle.call_effects.specs.posix_calls.Decide.{open_inode, lowest_free, number_or, empties, open_there, open_path, close, bytes_from, pread, write_at, pwrite, truncate, mkdir, rmdir, link, unlink, replaced_at, rename_to, rename, list_path, node_description, stat, decide}
-use Rattle.call_effects.specs.posix_calls.declared.limits.TheConstants.{MAX_NAME, MAX_TRANSFER}
-use Rattle.call_effects.specs.posix_calls.declared.call.Flags.{Flags}
-use Rattle.call_effects.specs.posix_calls.declared.call.Call.{Call}
-use Rattle.call_effects.specs.posix_calls.declared.call.Call.TheVariants as call
-use Rattle.call_effects.specs.posix_calls.declared.call.Reply.{Reply}
-use Rattle.call_effects.specs.posix_calls.declared.operation.Location.{Location}
-use Rattle.call_effects.specs.posix_calls.declared.operation.Missing.TheVariants as missing
-use Rattle.call_effects.specs.posix_calls.declared.operation.Operation.{Operation}
-use Rattle.call_effects.specs.posix_calls.declared.operation.Operation.TheVariants.{Tell, NewDir, NewFile, OpenFile, CloseFile, Write, Resize, RemoveDir, AddName, DropName, Move}
-use Rattle.call_effects.specs.posix_calls.declared.operation.Replaced.TheVariants.{Nothing, OldFile, OldDir}
-use Rattle.call_effects.proofs.posix_calls_lemmas.Readings.{AreNames, reading_names}
-use Rattle.call_effects.specs.file_graph.declared.effect.Effect.{Effect}
-use Rattle.call_effects.specs.file_graph.declared.effect.Effect.TheVariants.{Bytes}
-use Rattle.call_effects.specs.log_record.Grammar.{u32, effect_bytes, record_bytes}
-use Rattle.call_effects.specs.log_record.declared.format.Record.{Record}
-use Rattle.call_effects.proofs.log_record_lemmas.Lengths.{length-u32, effect_size, length-effect_bytes}
+use Rattle.posix_calls.specs.Name.{is_name}
+use Rattle.posix_calls.specs.Path.{is_dots, path_names}
+use Rattle.posix_calls.specs.Tree.{Own}
+use Rattle.posix_calls.specs.Query.{Seen, File, Dir, Query, Gives, Refuses, IsDir, Look, Range, ◌>>=◌}
+use Rattle.posix_calls.specs.Part.{Part, Found, Known, Unknown, blocks_missing, run_part}
+use Rattle.posix_calls.specs.Walk.{Place, leads_to, read_or_error, entries_at, size_at, names_at, kind_at, directory, walk, prefix, there}
+use Rattle.posix_calls.specs.Decide.{open_inode, lowest_free, number_or, empties, open_there, open_path, close, bytes_from, pread, write_at, pwrite, truncate, mkdir, rmdir, link, unlink, replaced_at, rename_to, rename, list_path, node_description, stat, decide}
+use Rattle.posix_calls.specs.declared.limits.TheConstants.{MAX_NAME, MAX_TRANSFER}
+use Rattle.posix_calls.specs.declared.call.Flags.{Flags}
+use Rattle.posix_calls.specs.declared.call.Call.{Call}
+use Rattle.posix_calls.specs.declared.call.Call.TheVariants as call
+use Rattle.posix_calls.specs.declared.call.Reply.{Reply}
+use Rattle.posix_calls.specs.declared.operation.Location.{Location}
+use Rattle.posix_calls.specs.declared.operation.Missing.TheVariants as missing
+use Rattle.posix_calls.specs.declared.operation.Operation.{Operation}
+use Rattle.posix_calls.specs.declared.operation.Operation.TheVariants.{Tell, NewDir, NewFile, OpenFile, CloseFile, Write, Resize, RemoveDir, AddName, DropName, Move}
+use Rattle.posix_calls.specs.declared.operation.Replaced.TheVariants.{Nothing, OldFile, OldDir}
+use Rattle.posix_calls.proofs.Readings.{AreNames, reading_names}
+use Rattle.file_graph.specs.declared.effect.Effect.{Effect}
+use Rattle.file_graph.specs.declared.effect.Effect.TheVariants.{Bytes}
+use Rattle.log_record.specs.Grammar.{u32, effect_bytes, record_bytes}
+use Rattle.log_record.specs.declared.format.Record.{Record}
+use Rattle.log_record.proofs.Lengths.{length-u32, effect_size, length-effect_bytes}
 use Rattle.call_effects.specs.Effects.{recounted_file, effects_by}
 use Rattle.call_effects.specs.Records.{names_if, effects_asked, growth_asked, units_asked}
 use Rattle.call_effects.proofs.KnownAsking.{bind_known, result_is}

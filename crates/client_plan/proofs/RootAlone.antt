@@ -2,19 +2,19 @@
 use Rattle.std.proofs.Common.{◌≡◌, inl, inr, ℕ, List, Bool, true, false, refl, Some, None, Option, Result, Ok, Err, cond, ap, sym, ◌∙◌, subst}
 use Rattle.std.proofs.lemmas.Bool.Decides.{eqb_tells}
 use Rattle.std.specs.Prelude.{◌&&◌, ◌||◌, nat_le}
-use Rattle.call_effects.specs.posix_calls.declared.errno.Errno.{Errno}
-use Rattle.call_effects.specs.posix_calls.declared.operation.Missing.TheVariants as missing
-use Rattle.call_effects.specs.posix_calls.declared.descriptor.Descriptor.{Descriptor}
-use Rattle.call_effects.specs.posix_calls.declared.call.Call.{Call}
-use Rattle.call_effects.specs.posix_calls.declared.call.Call.TheVariants as call
-use Rattle.call_effects.specs.posix_calls.declared.limits.TheConstants.{MAX_TRANSFER}
-use Rattle.call_effects.specs.posix_calls.Path.{path_names}
-use Rattle.call_effects.specs.posix_calls.FirstName.{comes_to_name}
-use Rattle.call_effects.specs.posix_calls.Tree.{Own}
-use Rattle.call_effects.specs.posix_calls.Walk.{is_root}
-use Rattle.call_effects.specs.posix_calls.Query.{Query, Gives, Refuses, IsDir, Look, Range}
-use Rattle.call_effects.specs.posix_calls.Part.{Part, Found, Known, Unknown, run_part}
-use Rattle.call_effects.specs.posix_calls.Memory.{takes_memory, reads_bytes, lists_root}
+use Rattle.posix_calls.specs.declared.errno.Errno.{Errno}
+use Rattle.posix_calls.specs.declared.operation.Missing.TheVariants as missing
+use Rattle.posix_calls.specs.declared.descriptor.Descriptor.{Descriptor}
+use Rattle.posix_calls.specs.declared.call.Call.{Call}
+use Rattle.posix_calls.specs.declared.call.Call.TheVariants as call
+use Rattle.posix_calls.specs.declared.limits.TheConstants.{MAX_TRANSFER}
+use Rattle.posix_calls.specs.Path.{path_names}
+use Rattle.posix_calls.specs.FirstName.{comes_to_name}
+use Rattle.posix_calls.specs.Tree.{Own}
+use Rattle.posix_calls.specs.Walk.{is_root}
+use Rattle.posix_calls.specs.Query.{Query, Gives, Refuses, IsDir, Look, Range}
+use Rattle.posix_calls.specs.Part.{Part, Found, Known, Unknown, run_part}
+use Rattle.posix_calls.specs.Memory.{takes_memory, reads_bytes, lists_root}
 use Rattle.client_plan.specs.NeedOrder.{root_alone}
 
 root_answer : (i : ℕ) (o : Option Bool) → root_alone.is_dir i ≡ Some o → (i ≡ 1) × (o ≡ Some true)

@@ -2,23 +2,23 @@
 use Rattle.std.proofs.Common.{◌≡◌, ◌⊎◌, inl, inr, ℕ, ◌≤◌, ◌==◌, ◌||◌, List, [], length, refl, Some, None, Option, Ok, Err, Bool, true, false, cond, ap, sym, ◌∙◌, subst}
 use Rattle.std.specs.Prelude.{◌&&◌, nat_le, is_some, IsSome, option_map}
 use Rattle.std.proofs.lemmas.Bool.{and_parts, eqb-true, leb-true}
-use Rattle.call_effects.specs.posix_calls.declared.call.Call.{Call}
-use Rattle.call_effects.specs.posix_calls.declared.call.Reply.{Reply}
-use Rattle.call_effects.specs.posix_calls.declared.descriptor.Descriptor.{Descriptor}
-use Rattle.call_effects.specs.posix_calls.declared.operation.Operation.{Operation}
-use Rattle.call_effects.specs.posix_calls.declared.operation.Operation.TheVariants.{Tell, NewDir, NewFile, OpenFile, CloseFile, Write, Resize, RemoveDir, AddName, DropName, Move}
-use Rattle.call_effects.specs.posix_calls.Tree.{Own, Descriptors, with_own}
-use Rattle.call_effects.specs.posix_calls.Query.{Gives}
-use Rattle.call_effects.specs.posix_calls.Part.{Known, run_part}
-use Rattle.call_effects.specs.posix_calls.Decide.{decide}
-use Rattle.call_effects.specs.posix_calls.Operations.{makes, reply_of, own_after, Step}
-use Rattle.call_effects.specs.posix_calls.Kinds.{opens}
-use Rattle.call_effects.proofs.posix_calls_lemmas.Steps.{with_same}
-use Rattle.call_effects.specs.file_graph.Graph.{Graph, is_among, touches, after_effects}
-use Rattle.call_effects.specs.file_graph.Units.{growth}
-use Rattle.call_effects.specs.file_graph.declared.effect.Effect.{Effect}
-use Rattle.call_effects.specs.log_record.Grammar.{record_bytes}
-use Rattle.call_effects.specs.log_record.declared.format.Record.{Record}
+use Rattle.posix_calls.specs.declared.call.Call.{Call}
+use Rattle.posix_calls.specs.declared.call.Reply.{Reply}
+use Rattle.posix_calls.specs.declared.descriptor.Descriptor.{Descriptor}
+use Rattle.posix_calls.specs.declared.operation.Operation.{Operation}
+use Rattle.posix_calls.specs.declared.operation.Operation.TheVariants.{Tell, NewDir, NewFile, OpenFile, CloseFile, Write, Resize, RemoveDir, AddName, DropName, Move}
+use Rattle.posix_calls.specs.Tree.{Own, Descriptors, with_own}
+use Rattle.posix_calls.specs.Query.{Gives}
+use Rattle.posix_calls.specs.Part.{Known, run_part}
+use Rattle.posix_calls.specs.Decide.{decide}
+use Rattle.posix_calls.specs.Operations.{makes, reply_of, own_after, Step}
+use Rattle.posix_calls.specs.Kinds.{opens}
+use Rattle.posix_calls.proofs.Steps.{with_same}
+use Rattle.file_graph.specs.Graph.{Graph, is_among, touches, after_effects}
+use Rattle.file_graph.specs.Units.{growth}
+use Rattle.file_graph.specs.declared.effect.Effect.{Effect}
+use Rattle.log_record.specs.Grammar.{record_bytes}
+use Rattle.log_record.specs.declared.format.Record.{Record}
 use Rattle.call_effects.specs.ChangeTest.{changes}
 use Rattle.call_effects.specs.Effects.{recounted_file, effects_by}
 use Rattle.call_effects.specs.Knowledge.{Knowledge, Agrees, IsPlanned, part_of}

@@ -1,9 +1,9 @@
 -- The course of a call is what is left of it where no pin is to be given back.
 use Rattle.std.proofs.Common.{◌≡◌, refl, Some, true, Ok, Err, ap, sym}
-use Rattle.call_effects.specs.posix_calls.declared.call.Call.{Call}
-use Rattle.call_effects.specs.posix_calls.declared.operation.Operation.{Operation}
-use Rattle.call_effects.specs.posix_calls.Part.{Part, Found, Known, Unknown, run_part}
-use Rattle.call_effects.specs.posix_calls.Decide.{decide}
+use Rattle.posix_calls.specs.declared.call.Call.{Call}
+use Rattle.posix_calls.specs.declared.operation.Operation.{Operation}
+use Rattle.posix_calls.specs.Part.{Part, Found, Known, Unknown, run_part}
+use Rattle.posix_calls.specs.Decide.{decide}
 use Rattle.client_plan.specs.declared.outcome.Outcome.{Outcome}
 use Rattle.client_plan.specs.PlanSteps.{PlanSteps, Goes, ◌>>=◌}
 use Rattle.client_plan.specs.Holdings.{Holdings}

@@ -1,17 +1,17 @@
 -- What a write of some bytes comes to, and what is asked for its record.
 use Rattle.std.proofs.Common.{◌≡◌, ℕ, ◌+◌, ◌≤◌, List, [], ◌∷◌, length, refl, Some, None, Option, Ok, true, false, cond, ap, ◌∙◌, arith}
 use Rattle.std.specs.Prelude.{nat_lt, max, min}
-use Rattle.call_effects.specs.posix_calls.declared.descriptor.Descriptor.{Descriptor}
-use Rattle.call_effects.specs.posix_calls.declared.errno.Errno.TheVariants as errno
-use Rattle.call_effects.specs.posix_calls.declared.limits.TheConstants.{MAX_FILE, MAX_TRANSFER}
-use Rattle.call_effects.specs.posix_calls.declared.operation.Missing.TheVariants as missing
-use Rattle.call_effects.specs.posix_calls.declared.operation.Operation.TheVariants.{Write}
-use Rattle.call_effects.specs.posix_calls.Decide.{open_inode, pwrite, write_at}
-use Rattle.call_effects.specs.posix_calls.Query.{Seen, Gives, Refuses, ◌>>=◌}
-use Rattle.call_effects.specs.posix_calls.Part.{Part, Known, Unknown, run_part}
-use Rattle.call_effects.specs.posix_calls.Tree.{Own}
-use Rattle.call_effects.specs.posix_calls.Walk.{refuse, size_seen}
-use Rattle.call_effects.specs.file_graph.declared.effect.Effect.TheVariants.{Bytes}
+use Rattle.posix_calls.specs.declared.descriptor.Descriptor.{Descriptor}
+use Rattle.posix_calls.specs.declared.errno.Errno.TheVariants as errno
+use Rattle.posix_calls.specs.declared.limits.TheConstants.{MAX_FILE, MAX_TRANSFER}
+use Rattle.posix_calls.specs.declared.operation.Missing.TheVariants as missing
+use Rattle.posix_calls.specs.declared.operation.Operation.TheVariants.{Write}
+use Rattle.posix_calls.specs.Decide.{open_inode, pwrite, write_at}
+use Rattle.posix_calls.specs.Query.{Seen, Gives, Refuses, ◌>>=◌}
+use Rattle.posix_calls.specs.Part.{Part, Known, Unknown, run_part}
+use Rattle.posix_calls.specs.Tree.{Own}
+use Rattle.posix_calls.specs.Walk.{refuse, size_seen}
+use Rattle.file_graph.specs.declared.effect.Effect.TheVariants.{Bytes}
 use Rattle.call_effects.specs.Records.{effects_asked, units_asked, file_rise}
 
 opened_gives : (o : Option Descriptor) (d : Descriptor) → o ≡ Some d → d.writes ≡ true → open_inode (λ d. d.writes) o ≡ Gives d.inode

@@ -3,18 +3,18 @@ use Rattle.std.proofs.Common.{◌≡◌, ℕ, ◌+◌, ◌-◌, ◌≤◌, List,
 use Rattle.std.specs.Prelude.{◌&&◌, ◌||◌, nat_le, min, is_some}
 use Rattle.std.proofs.lemmas.Bool.{and_parts, and_from, leb-true, le-leb, le-ltb}
 use Rattle.std.proofs.Math.Nat.{min-eq_left}
-use Rattle.call_effects.specs.posix_calls.declared.call.Call.TheVariants as call
-use Rattle.call_effects.specs.posix_calls.declared.operation.Operation.{Operation}
-use Rattle.call_effects.specs.posix_calls.declared.operation.Operation.TheVariants.{Write}
-use Rattle.call_effects.specs.posix_calls.declared.limits.TheConstants.{MAX_FILE, MAX_TRANSFER}
-use Rattle.call_effects.specs.posix_calls.Decide.{pwrite}
-use Rattle.call_effects.specs.posix_calls.Query.{Query, Gives}
-use Rattle.call_effects.specs.posix_calls.Part.{Part, run_part}
-use Rattle.call_effects.specs.file_graph.declared.effect.Effect.TheVariants.{Bytes}
+use Rattle.posix_calls.specs.declared.call.Call.TheVariants as call
+use Rattle.posix_calls.specs.declared.operation.Operation.{Operation}
+use Rattle.posix_calls.specs.declared.operation.Operation.TheVariants.{Write}
+use Rattle.posix_calls.specs.declared.limits.TheConstants.{MAX_FILE, MAX_TRANSFER}
+use Rattle.posix_calls.specs.Decide.{pwrite}
+use Rattle.posix_calls.specs.Query.{Query, Gives}
+use Rattle.posix_calls.specs.Part.{Part, run_part}
+use Rattle.file_graph.specs.declared.effect.Effect.TheVariants.{Bytes}
 use Rattle.call_effects.specs.Records.{units_asked}
-use Rattle.call_effects.specs.log_record.Grammar.{IsRecord, u32, effect_bytes, record_bytes}
-use Rattle.call_effects.proofs.log_record_lemmas.Effects.{Fits-from_fits}
-use Rattle.call_effects.proofs.log_record_lemmas.Lengths.{length-u32, length-effect_bytes}
+use Rattle.log_record.specs.Grammar.{IsRecord, u32, effect_bytes, record_bytes}
+use Rattle.log_record.proofs.Effects.{Fits-from_fits}
+use Rattle.log_record.proofs.Lengths.{length-u32, length-effect_bytes}
 use Rattle.client_plan.specs.declared.need.Need.{Need}
 use Rattle.client_plan.specs.declared.need.Need.TheVariants.{Lease, View, Units, Room}
 use Rattle.client_plan.specs.declared.need.Mode.TheVariants as mode

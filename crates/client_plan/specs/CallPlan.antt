@@ -1,15 +1,15 @@
 -- What a call comes to, by what a client knows and has.
 use Rattle.std.specs.Prelude.{ℕ, ◌<◌, Option, Some, None, IsSome, if◌then◌else◌}
-use Rattle.call_effects.specs.posix_calls.Tree.{Own, set_own}
-use Rattle.call_effects.specs.posix_calls.Part.{Part, run_part}
-use Rattle.call_effects.specs.posix_calls.Decide.{decide}
-use Rattle.call_effects.specs.posix_calls.Operations.{makes, reply_of}
-use Rattle.call_effects.specs.posix_calls.Kinds.{opens}
-use Rattle.call_effects.specs.posix_calls.declared.call.Call.{Call}
-use Rattle.call_effects.specs.posix_calls.declared.limits.TheConstants.{MAX_DESCRIPTORS}
-use Rattle.call_effects.specs.posix_calls.declared.operation.Operation.{Operation}
-use Rattle.call_effects.specs.posix_calls.declared.operation.Operation.TheVariants.{NewFile, OpenFile, CloseFile}
-use Rattle.call_effects.specs.log_record.declared.format.Record.{Record}
+use Rattle.posix_calls.specs.Tree.{Own, set_own}
+use Rattle.posix_calls.specs.Part.{Part, run_part}
+use Rattle.posix_calls.specs.Decide.{decide}
+use Rattle.posix_calls.specs.Operations.{makes, reply_of}
+use Rattle.posix_calls.specs.Kinds.{opens}
+use Rattle.posix_calls.specs.declared.call.Call.{Call}
+use Rattle.posix_calls.specs.declared.limits.TheConstants.{MAX_DESCRIPTORS}
+use Rattle.posix_calls.specs.declared.operation.Operation.{Operation}
+use Rattle.posix_calls.specs.declared.operation.Operation.TheVariants.{NewFile, OpenFile, CloseFile}
+use Rattle.log_record.specs.declared.format.Record.{Record}
 use Rattle.call_effects.specs.ChangeTest.{changes}
 use Rattle.call_effects.specs.Records.{effects_asked, units_asked}
 use Rattle.call_effects.specs.Subjects.{subjects_of}

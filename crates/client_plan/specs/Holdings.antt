@@ -1,6 +1,6 @@
 -- What a client has for its calls, beside what it knows of the tree.
 use Rattle.std.specs.Prelude.{ℕ, List, [], ◌∷◌, Bool, ◌||◌, Option, Some, None, if◌then◌else◌}
-use Rattle.call_effects.specs.posix_calls.Tree.{Own, has_open}
+use Rattle.posix_calls.specs.Tree.{Own, has_open}
 
 pub record Holdings : Type 0 where
   -- what it has open

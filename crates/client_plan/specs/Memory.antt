@@ -1,11 +1,11 @@
 -- Which calls take memory as they are planned.
 use Rattle.std.specs.Prelude.{Bool, false, ◌||◌, Ok, Err}
-use Rattle.call_effects.specs.posix_calls.Tree.{Own}
-use Rattle.call_effects.specs.posix_calls.Part.{Part, Found, Known, Unknown, run_part}
-use Rattle.call_effects.specs.posix_calls.Decide.{decide}
-use Rattle.call_effects.specs.posix_calls.Memory.{takes_memory}
-use Rattle.call_effects.specs.posix_calls.declared.call.Call.{Call}
-use Rattle.call_effects.specs.posix_calls.declared.operation.Operation.{Operation}
+use Rattle.posix_calls.specs.Tree.{Own}
+use Rattle.posix_calls.specs.Part.{Part, Found, Known, Unknown, run_part}
+use Rattle.posix_calls.specs.Decide.{decide}
+use Rattle.posix_calls.specs.Memory.{takes_memory}
+use Rattle.posix_calls.specs.declared.call.Call.{Call}
+use Rattle.posix_calls.specs.declared.operation.Operation.{Operation}
 use Rattle.call_effects.specs.ChangeTest.{changes}
 
 -- whether a call has come to an operation that changes something

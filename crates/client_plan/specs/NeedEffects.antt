@@ -1,16 +1,16 @@
 -- What each need says of a client, and what the client has once it is served.
 use Rattle.std.specs.Prelude.{◌≡◌, ◌⊎◌, ℕ, ◌+◌, ◌<◌, ◌==◌, ◌||◌, ◌&&◌, nat_le, List, [], ◌∷◌, length, true, false, Some, None, Ok, if◌then◌else◌}
-use Rattle.call_effects.specs.posix_calls.Tree.{has_open}
-use Rattle.call_effects.specs.posix_calls.Part.{Part, Known, blocks_missing, run_part}
-use Rattle.call_effects.specs.posix_calls.Decide.{decide}
-use Rattle.call_effects.specs.posix_calls.Operations.{makes}
-use Rattle.call_effects.specs.posix_calls.declared.call.Call.{Call}
-use Rattle.call_effects.specs.posix_calls.declared.limits.TheConstants.{MAX_TRANSFER}
-use Rattle.call_effects.specs.posix_calls.declared.operation.Missing.TheVariants as missing
-use Rattle.call_effects.specs.posix_calls.declared.operation.Operation.{Operation}
-use Rattle.call_effects.specs.file_graph.Graph.{is_among}
-use Rattle.call_effects.specs.log_record.Grammar.{record_bytes}
-use Rattle.call_effects.specs.log_record.declared.format.Record.{Record}
+use Rattle.posix_calls.specs.Tree.{has_open}
+use Rattle.posix_calls.specs.Part.{Part, Known, blocks_missing, run_part}
+use Rattle.posix_calls.specs.Decide.{decide}
+use Rattle.posix_calls.specs.Operations.{makes}
+use Rattle.posix_calls.specs.declared.call.Call.{Call}
+use Rattle.posix_calls.specs.declared.limits.TheConstants.{MAX_TRANSFER}
+use Rattle.posix_calls.specs.declared.operation.Missing.TheVariants as missing
+use Rattle.posix_calls.specs.declared.operation.Operation.{Operation}
+use Rattle.file_graph.specs.Graph.{is_among}
+use Rattle.log_record.specs.Grammar.{record_bytes}
+use Rattle.log_record.specs.declared.format.Record.{Record}
 use Rattle.call_effects.specs.ChangeTest.{changes}
 use Rattle.call_effects.specs.Records.{effects_asked, units_asked}
 use Rattle.client_plan.specs.declared.need.Need.{Need}

@@ -1,22 +1,22 @@
 -- What a call needs of a client, in the order in which it is asked for.
 use Rattle.std.specs.Prelude.{ℕ, ◌-◌, ◌==◌, ◌&&◌, ◌||◌, nat_le, nat_lt, List, [], ◌∷◌, length, Bool, true, false, Option, Some, None, is_some, Ok, Err, if◌then◌else◌}
-use Rattle.call_effects.specs.posix_calls.Query.{Query}
-use Rattle.call_effects.specs.posix_calls.Part.{Part, Found, Known, Unknown, run_part}
-use Rattle.call_effects.specs.posix_calls.Operations.{makes}
-use Rattle.call_effects.specs.posix_calls.declared.descriptor.Descriptor.{Descriptor}
-use Rattle.call_effects.specs.posix_calls.declared.call.Call.{Call}
-use Rattle.call_effects.specs.posix_calls.declared.call.Call.TheVariants as call
-use Rattle.call_effects.specs.posix_calls.declared.operation.Missing.{Missing}
-use Rattle.call_effects.specs.posix_calls.declared.operation.Missing.TheVariants as missing
-use Rattle.call_effects.specs.posix_calls.declared.operation.DecideError.{DecideError}
-use Rattle.call_effects.specs.posix_calls.declared.operation.DecideError.TheVariants as why
-use Rattle.call_effects.specs.posix_calls.declared.operation.Operation.{Operation}
-use Rattle.call_effects.specs.posix_calls.declared.limits.TheConstants.{ROOT}
-use Rattle.call_effects.specs.file_graph.Graph.{is_among}
-use Rattle.call_effects.specs.file_graph.declared.effect.Effect.{Effect}
-use Rattle.call_effects.specs.log_record.Grammar.{fits, record_bytes}
-use Rattle.call_effects.specs.log_record.declared.format.Record.{Record}
-use Rattle.call_effects.specs.log_record.declared.format.TheConstants.{MAX_EFFECTS}
+use Rattle.posix_calls.specs.Query.{Query}
+use Rattle.posix_calls.specs.Part.{Part, Found, Known, Unknown, run_part}
+use Rattle.posix_calls.specs.Operations.{makes}
+use Rattle.posix_calls.specs.declared.descriptor.Descriptor.{Descriptor}
+use Rattle.posix_calls.specs.declared.call.Call.{Call}
+use Rattle.posix_calls.specs.declared.call.Call.TheVariants as call
+use Rattle.posix_calls.specs.declared.operation.Missing.{Missing}
+use Rattle.posix_calls.specs.declared.operation.Missing.TheVariants as missing
+use Rattle.posix_calls.specs.declared.operation.DecideError.{DecideError}
+use Rattle.posix_calls.specs.declared.operation.DecideError.TheVariants as why
+use Rattle.posix_calls.specs.declared.operation.Operation.{Operation}
+use Rattle.posix_calls.specs.declared.limits.TheConstants.{ROOT}
+use Rattle.file_graph.specs.Graph.{is_among}
+use Rattle.file_graph.specs.declared.effect.Effect.{Effect}
+use Rattle.log_record.specs.Grammar.{fits, record_bytes}
+use Rattle.log_record.specs.declared.format.Record.{Record}
+use Rattle.log_record.specs.declared.format.TheConstants.{MAX_EFFECTS}
 use Rattle.client_plan.specs.declared.stop.Stop.{Stop}
 use Rattle.client_plan.specs.declared.stop.Stop.TheVariants as stop
 use Rattle.client_plan.specs.declared.need.Need.{Need}

@@ -1,14 +1,14 @@
 -- A write for which nothing is lacking.
 use Rattle.std.specs.Prelude.{◌≡◌, ℕ, ◌+◌, ◌<◌, ◌≤◌, ◌^◌, max, nat_le, List, [], ◌∷◌, length, Bool, true, false, Option, Some, None}
-use Rattle.call_effects.specs.posix_calls.declared.descriptor.Descriptor.{Descriptor}
-use Rattle.call_effects.specs.posix_calls.declared.call.Reply.TheVariants.{Wrote}
-use Rattle.call_effects.specs.posix_calls.Query.{Seen}
-use Rattle.call_effects.specs.posix_calls.Part.{Part}
-use Rattle.call_effects.specs.posix_calls.Walk.{size_seen}
-use Rattle.call_effects.specs.file_graph.Numbers.{is_inode}
-use Rattle.call_effects.specs.file_graph.declared.effect.Effect.TheVariants.{Bytes}
-use Rattle.call_effects.specs.log_record.Grammar.{is_write}
-use Rattle.call_effects.specs.log_record.declared.format.Record.{Record}
+use Rattle.posix_calls.specs.declared.descriptor.Descriptor.{Descriptor}
+use Rattle.posix_calls.specs.declared.call.Reply.TheVariants.{Wrote}
+use Rattle.posix_calls.specs.Query.{Seen}
+use Rattle.posix_calls.specs.Part.{Part}
+use Rattle.posix_calls.specs.Walk.{size_seen}
+use Rattle.file_graph.specs.Numbers.{is_inode}
+use Rattle.file_graph.specs.declared.effect.Effect.TheVariants.{Bytes}
+use Rattle.log_record.specs.Grammar.{is_write}
+use Rattle.log_record.specs.declared.format.Record.{Record}
 use Rattle.call_effects.specs.Records.{file_rise}
 use Rattle.client_plan.specs.declared.outcome.Outcome.{Outcome}
 use Rattle.client_plan.specs.declared.outcome.Outcome.TheVariants.{Log}

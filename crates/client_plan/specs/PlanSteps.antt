@@ -1,7 +1,7 @@
 -- A call's conditions, one after the other: the first that does not hold ends it.
 use Rattle.std.specs.Prelude.{◌≡◌, Bool, true, false, None, Result, Ok, Err}
-use Rattle.call_effects.specs.posix_calls.declared.errno.Errno.{Errno}
-use Rattle.call_effects.specs.posix_calls.declared.call.Reply.TheVariants as reply
+use Rattle.posix_calls.specs.declared.errno.Errno.{Errno}
+use Rattle.posix_calls.specs.declared.call.Reply.TheVariants as reply
 use Rattle.client_plan.specs.declared.need.Need.{Need}
 use Rattle.client_plan.specs.declared.outcome.Outcome.{Outcome}
 use Rattle.client_plan.specs.declared.outcome.Outcome.TheVariants as outcome

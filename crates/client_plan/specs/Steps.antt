@@ -1,18 +1,18 @@
 -- How what a client has stands to what it knows, and a call that is answered or logged.
 use Rattle.std.specs.Prelude.{◌≡◌, ◌⊎◌, ℕ, ◌≤◌, [], length, true, Option, Some, None, IsSome, Ok, Err}
-use Rattle.call_effects.specs.posix_calls.Part.{Known, run_part}
-use Rattle.call_effects.specs.posix_calls.Decide.{decide}
-use Rattle.call_effects.specs.posix_calls.Operations.{reply_of}
-use Rattle.call_effects.specs.posix_calls.Kinds.{opens}
-use Rattle.call_effects.specs.posix_calls.declared.call.Call.{Call}
-use Rattle.call_effects.specs.posix_calls.declared.call.Reply.{Reply}
-use Rattle.call_effects.specs.posix_calls.declared.call.Reply.TheVariants.{Failed}
-use Rattle.call_effects.specs.posix_calls.declared.descriptor.Descriptor.{Descriptor}
-use Rattle.call_effects.specs.posix_calls.declared.errno.Errno.{Errno}
-use Rattle.call_effects.specs.posix_calls.declared.operation.Operation.{Operation}
-use Rattle.call_effects.specs.file_graph.Graph.{is_among, touches}
-use Rattle.call_effects.specs.log_record.Grammar.{IsRecord, record_bytes}
-use Rattle.call_effects.specs.log_record.declared.format.Record.{Record}
+use Rattle.posix_calls.specs.Part.{Known, run_part}
+use Rattle.posix_calls.specs.Decide.{decide}
+use Rattle.posix_calls.specs.Operations.{reply_of}
+use Rattle.posix_calls.specs.Kinds.{opens}
+use Rattle.posix_calls.specs.declared.call.Call.{Call}
+use Rattle.posix_calls.specs.declared.call.Reply.{Reply}
+use Rattle.posix_calls.specs.declared.call.Reply.TheVariants.{Failed}
+use Rattle.posix_calls.specs.declared.descriptor.Descriptor.{Descriptor}
+use Rattle.posix_calls.specs.declared.errno.Errno.{Errno}
+use Rattle.posix_calls.specs.declared.operation.Operation.{Operation}
+use Rattle.file_graph.specs.Graph.{is_among, touches}
+use Rattle.log_record.specs.Grammar.{IsRecord, record_bytes}
+use Rattle.log_record.specs.declared.format.Record.{Record}
 use Rattle.call_effects.specs.Knowledge.{Knowledge, IsPlanned, part_of}
 use Rattle.call_effects.specs.Records.{units_asked}
 use Rattle.client_plan.specs.declared.outcome.DescriptorChange.{DescriptorChange}

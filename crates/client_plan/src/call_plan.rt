@@ -1,14 +1,14 @@
 ghost use Rattle.std.specs.Prelude.{◌≡◌, ◌≢◌, ◌&&◌, nat_le, length, Some, Ok, Err, IfOk, IfErr, IfSome, true};
 ghost use Rattle.std.specs.Option.{ForSome};
-ghost use Rattle.call_effects.specs.posix_calls.Kinds.{opens};
-ghost use Rattle.call_effects.specs.posix_calls.Exact.{IsInRange};
-ghost use Rattle.call_effects.specs.posix_calls.Own.{own_of};
-ghost use Rattle.call_effects.specs.posix_calls.Part.{Known, run_part};
-ghost use Rattle.call_effects.specs.posix_calls.Decide.{decide};
-ghost use Rattle.call_effects.specs.posix_calls.Memory.{takes_memory};
-ghost use Rattle.call_effects.specs.posix_calls.declared.errno.Errno.{Errno};
+ghost use Rattle.posix_calls.specs.Kinds.{opens};
+ghost use Rattle.posix_calls.specs.Exact.{IsInRange};
+ghost use Rattle.posix_calls.specs.Own.{own_of};
+ghost use Rattle.posix_calls.specs.Part.{Known, run_part};
+ghost use Rattle.posix_calls.specs.Decide.{decide};
+ghost use Rattle.posix_calls.specs.Memory.{takes_memory};
+ghost use Rattle.posix_calls.specs.declared.errno.Errno.{Errno};
 ghost use Rattle.client_plan.specs.declared.need.Need.{Need};
-ghost use Rattle.call_effects.specs.log_record.Grammar.{IsRecord, record_bytes};
+ghost use Rattle.log_record.specs.Grammar.{IsRecord, record_bytes};
 ghost use Rattle.call_effects.specs.ChangeTest.{changes};
 ghost use Rattle.call_effects.specs.Records.{units_asked};
 ghost use Rattle.client_plan.specs.PlanSteps as course_of;
@@ -24,9 +24,10 @@ use crate::outcome::{DescriptorChange, Outcome};
 use crate::stop::Stop;
 use crate::supplies::Supplies;
 use crate::words::WordsAlone;
-use call_effects::{
-    Call, DecideError, Missing, Operation, OwnDescriptors, ROOT, Record, Reply, TreeAnswers,
-    decide, growth_of, record_of, subjects,
+use call_effects::{growth_of, record_of, subjects};
+use log_record::Record;
+use posix_calls::{
+    Call, DecideError, Missing, Operation, OwnDescriptors, ROOT, Reply, TreeAnswers, decide,
 };
 use std::alloc::{AllocError, Global};
 

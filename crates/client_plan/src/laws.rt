@@ -1,21 +1,21 @@
 //! What holds of every client and every call.
 
 ghost use Rattle.std.specs.Prelude.{◌≡◌, ◌≢◌, ◌⊎◌, ◌<◌, ◌≤◌, ℕ, List, [], ◌∷◌, Option, Some, Ok, length};
-ghost use Rattle.call_effects.specs.posix_calls.Tree.{Descriptors, Own, with_own};
-ghost use Rattle.call_effects.specs.posix_calls.Part.{Known, Part, run_part};
-ghost use Rattle.call_effects.specs.posix_calls.Decide.{decide};
-ghost use Rattle.call_effects.specs.posix_calls.Operations.{Step};
-ghost use Rattle.call_effects.specs.posix_calls.WellFormed.{IsWithinLimits};
-ghost use Rattle.call_effects.specs.posix_calls.declared.limits.TheConstants.{MAX_TRANSFER};
-ghost use Rattle.call_effects.specs.posix_calls.declared.operation.Operation.{Operation};
-ghost use Rattle.call_effects.specs.posix_calls.declared.call.Call.{Call};
-ghost use Rattle.call_effects.specs.posix_calls.declared.call.Call.TheVariants as calls;
-ghost use Rattle.call_effects.specs.posix_calls.declared.call.Reply.{Reply};
-ghost use Rattle.call_effects.specs.file_graph.Graph.{Graph, after_effects};
-ghost use Rattle.call_effects.specs.file_graph.Units.{growth};
-ghost use Rattle.call_effects.specs.file_graph.declared.effect.Effect.TheVariants.{Bytes};
-ghost use Rattle.call_effects.specs.log_record.Grammar.{record_bytes};
-ghost use Rattle.call_effects.specs.log_record.declared.format.Record.{Record};
+ghost use Rattle.posix_calls.specs.Tree.{Descriptors, Own, with_own};
+ghost use Rattle.posix_calls.specs.Part.{Known, Part, run_part};
+ghost use Rattle.posix_calls.specs.Decide.{decide};
+ghost use Rattle.posix_calls.specs.Operations.{Step};
+ghost use Rattle.posix_calls.specs.WellFormed.{IsWithinLimits};
+ghost use Rattle.posix_calls.specs.declared.limits.TheConstants.{MAX_TRANSFER};
+ghost use Rattle.posix_calls.specs.declared.operation.Operation.{Operation};
+ghost use Rattle.posix_calls.specs.declared.call.Call.{Call};
+ghost use Rattle.posix_calls.specs.declared.call.Call.TheVariants as calls;
+ghost use Rattle.posix_calls.specs.declared.call.Reply.{Reply};
+ghost use Rattle.file_graph.specs.Graph.{Graph, after_effects};
+ghost use Rattle.file_graph.specs.Units.{growth};
+ghost use Rattle.file_graph.specs.declared.effect.Effect.TheVariants.{Bytes};
+ghost use Rattle.log_record.specs.Grammar.{record_bytes};
+ghost use Rattle.log_record.specs.declared.format.Record.{Record};
 ghost use Rattle.call_effects.specs.Records.{effects_asked};
 ghost use Rattle.call_effects.specs.Knowledge.{Knowledge, Agrees, part_of, with_copy, with_blocks};
 ghost use Rattle.call_effects.specs.NodeView.{NodeView};

@@ -23,9 +23,3 @@ pub use need::{Mode, Need};
 pub use outcome::{DescriptorChange, Outcome};
 pub use plain_writes::{PlainWrite, plain_write, record_of_write};
 pub use supplies::Supplies;
-
-// Passed on to the crates above, which so need not list those below.
-pub use call_effects::{
-    Bytes, Child, Description, Descriptor, Effect, FileGraphEffects as Effects, Kind, MAX_INODE,
-    NameMap, NamedInode, Names, OwnDescriptors, PlainEntry, ROOT, Record, TreeAnswers, UNIT_BYTES,
-};

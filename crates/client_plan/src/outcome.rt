@@ -1,5 +1,6 @@
 use crate::need::Need;
-use call_effects::{Descriptor, Record, Reply};
+use log_record::Record;
+use posix_calls::{Descriptor, Reply};
 
 /// What becomes of one of a client's descriptors: something is open at the number, or nothing any more.
 #[derive(Clone, Copy)]

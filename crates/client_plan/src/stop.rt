@@ -1,5 +1,5 @@
 use crate::need::Need;
-use call_effects::Errno;
+use posix_calls::Errno;
 
 // Why a call does not go on.
 #[derive(Clone, Copy)]

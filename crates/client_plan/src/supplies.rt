@@ -1,8 +1,8 @@
 ghost use Rattle.std.specs.Prelude.{◌≡◌};
-ghost use Rattle.call_effects.specs.posix_calls.Own.{own_of};
+ghost use Rattle.posix_calls.specs.Own.{own_of};
 ghost use Rattle.client_plan.specs.Holdings.{Holdings, may_read};
 
-use call_effects::OwnDescriptors;
+use posix_calls::OwnDescriptors;
 
 /// Who has what a client needs for its calls, beside what it knows of the tree: descriptors, leases, pins, granted numbers and units, and
 /// room in the region that it writes.

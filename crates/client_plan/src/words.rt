@@ -1,7 +1,7 @@
 ghost use Rattle.std.specs.Prelude.{◌≡◌};
 ghost use Rattle.client_plan.specs.NeedOrder.{root_alone};
 
-use call_effects::{Bytes, Description, NamedInode, Names, ROOT, TreeAnswers};
+use posix_calls::{Bytes, Description, NamedInode, Names, ROOT, TreeAnswers};
 use std::alloc::{AllocError, Global};
 
 /// Who knows of a tree that the root is a directory, and nothing else: what it decides, the call's own words and the client's

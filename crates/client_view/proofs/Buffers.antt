@@ -3,8 +3,8 @@ use Rattle.std.proofs.Common.{◌≡◌, ◌<◌, ◌≤◌, ℕ, ◌+◌, ◌-�
 use Rattle.std.proofs.Math.Decide.{dec_le}
 use Rattle.std.proofs.Math.Seq.{take-append-add}
 use Rattle.std.proofs.lemmas.List.{take-take, take_all, take_at, take-append-le, take-replicate, drop_all, drop-take, length-take-le, length-replicate, length-append, length-drop}
-use Rattle.client_plan.specs.posix_calls.Content.{with_length, with_bytes}
-use Rattle.client_plan.proofs.posix_calls_lemmas.Within.{resized_length}
+use Rattle.posix_calls.specs.Content.{with_length, with_bytes}
+use Rattle.posix_calls.proofs.Within.{resized_length}
 
 -- ---- zeros behind the front
 

@@ -1,9 +1,9 @@
 -- Blocks put one behind the other, where all are there.
 use Rattle.std.proofs.Common.{◌≡◌, ℕ, zero, suc, ◌+◌, ◌-◌, ◌*◌, ◌/◌, ◌%◌, ◌<◌, List, [], ◌∷◌, ◌++◌, length, take, drop, Option, Some, None, refl, ap, sym, ◌∙◌, true, arith, append_assoc, append-nil}
 use Rattle.std.specs.Prelude.{is_some, option_map}
-use Rattle.client_plan.specs.posix_calls.Content.{range}
-use Rattle.client_plan.specs.posix_calls.Part.{blocks_touched}
-use Rattle.world_invariant.specs.call_effects.Blocks.{joined_bytes, blocks_joined, range_by}
+use Rattle.posix_calls.specs.Content.{range}
+use Rattle.posix_calls.specs.Part.{blocks_touched}
+use Rattle.call_effects.specs.Blocks.{joined_bytes, blocks_joined, range_by}
 
 -- the first block, and what follows it
 split : (block : List ℕ) (o : Option (List ℕ)) (joined : List ℕ) → joined_bytes (Some block) o ≡ Some joined → (more : List ℕ) × (o ≡ Some more) × (joined ≡ block ++ more)

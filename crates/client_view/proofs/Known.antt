@@ -5,11 +5,11 @@ use Rattle.std.proofs.lemmas.List.{get_or-set_same, get_or-set_other}
 use Rattle.std.proofs.lemmas.Bool.{cases_eq, eq-eqb, ne_eqb, cond-true, cond-false}
 use Rattle.block_cache.specs.CacheList.{Block, without_file}
 use Rattle.block_cache.proofs.Found.{file_gone, others_stay}
-use Rattle.world_invariant.specs.call_effects.NodeView.{NodeView}
-use Rattle.world_invariant.specs.call_effects.Knowledge.{with_copy}
-use Rattle.client_plan.specs.posix_calls.Own.{own_of}
-use Rattle.client_plan.specs.posix_calls.Tree.{set_own}
-use Rattle.client_plan.specs.posix_calls.declared.descriptor.Descriptor.{Descriptor}
+use Rattle.call_effects.specs.NodeView.{NodeView}
+use Rattle.call_effects.specs.Knowledge.{with_copy}
+use Rattle.posix_calls.specs.Own.{own_of}
+use Rattle.posix_calls.specs.Tree.{set_own}
+use Rattle.posix_calls.specs.declared.descriptor.Descriptor.{Descriptor}
 use Rattle.client_view.specs.KnowledgeTables.{Held, copy_at, size_known, kept_at, block_by, block_known, knows}
 use Rattle.client_view.specs.KnowledgeChanges.{with_descriptor, without_blocks, without_inode}
 

@@ -1,20 +1,20 @@
 -- A call that is logged comes to a change that can be prepared.
 use Rattle.std.proofs.Common.{◌≡◌, ℕ, true, List, [], ◌∷◌, Option, Some, Ok, ap, sym, ◌∙◌, subst}
 use Rattle.std.specs.List.{AllByRecursion}
-use Rattle.client_plan.specs.posix_calls.Query.{◌>>=◌}
-use Rattle.client_plan.specs.posix_calls.Part.{Part, Known, run_part}
-use Rattle.client_plan.specs.posix_calls.declared.call.Call.{Call}
-use Rattle.client_plan.specs.posix_calls.declared.call.Reply.{Reply}
-use Rattle.client_plan.specs.posix_calls.declared.operation.Operation.{Operation}
-use Rattle.client_plan.specs.posix_calls.declared.operation.Operation.TheVariants.{Tell, NewDir, NewFile, OpenFile, CloseFile, Write, Resize, RemoveDir, AddName, DropName, Move}
-use Rattle.client_plan.specs.file_graph.Numbers.{is_inode}
-use Rattle.client_plan.specs.file_graph.declared.effect.Effect.{Effect}
-use Rattle.client_plan.specs.file_graph.declared.effect.Effect.TheVariants as effect
-use Rattle.client_plan.specs.file_graph.declared.effect.Kind.TheVariants as kind
-use Rattle.client_plan.specs.log_record.Grammar.{FitsLimits, IsRecord}
-use Rattle.client_plan.specs.log_record.declared.format.Record.{Record}
-use Rattle.world_invariant.specs.call_effects.Knowledge.{Knowledge, part_of}
-use Rattle.world_invariant.specs.call_effects.Records.{effects_asked}
+use Rattle.posix_calls.specs.Query.{◌>>=◌}
+use Rattle.posix_calls.specs.Part.{Part, Known, run_part}
+use Rattle.posix_calls.specs.declared.call.Call.{Call}
+use Rattle.posix_calls.specs.declared.call.Reply.{Reply}
+use Rattle.posix_calls.specs.declared.operation.Operation.{Operation}
+use Rattle.posix_calls.specs.declared.operation.Operation.TheVariants.{Tell, NewDir, NewFile, OpenFile, CloseFile, Write, Resize, RemoveDir, AddName, DropName, Move}
+use Rattle.file_graph.specs.Numbers.{is_inode}
+use Rattle.file_graph.specs.declared.effect.Effect.{Effect}
+use Rattle.file_graph.specs.declared.effect.Effect.TheVariants as effect
+use Rattle.file_graph.specs.declared.effect.Kind.TheVariants as kind
+use Rattle.log_record.specs.Grammar.{FitsLimits, IsRecord}
+use Rattle.log_record.specs.declared.format.Record.{Record}
+use Rattle.call_effects.specs.Knowledge.{Knowledge, part_of}
+use Rattle.call_effects.specs.Records.{effects_asked}
 use Rattle.client_plan.specs.declared.outcome.DescriptorChange.{DescriptorChange}
 use Rattle.client_plan.specs.declared.outcome.Outcome.TheVariants as outcomes
 use Rattle.client_plan.specs.Holdings.{Holdings}

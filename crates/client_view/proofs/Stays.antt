@@ -2,12 +2,12 @@
 use Rattle.std.proofs.Common.{◌≡◌, ◌⊎◌, ◌<◌, ◌+◌, inl, inr, ℕ, List, length, get_or, true, cond, Option, Some, None, refl, ap, sym, ◌∙◌, subst}
 use Rattle.std.specs.Prelude.{IsSome}
 use Rattle.std.proofs.lemmas.Bool.{eq-eqb}
-use Rattle.client_plan.specs.posix_calls.declared.call.Call.{Call}
-use Rattle.client_plan.specs.posix_calls.declared.call.Reply.{Reply}
-use Rattle.client_plan.specs.file_graph.Subject.{subject}
-use Rattle.client_plan.specs.file_graph.declared.effect.Effect.{Effect}
-use Rattle.world_invariant.specs.call_effects.NodeView.{NodeView}
-use Rattle.world_invariant.specs.call_effects.Knowledge.{Knowledge, part_of}
+use Rattle.posix_calls.specs.declared.call.Call.{Call}
+use Rattle.posix_calls.specs.declared.call.Reply.{Reply}
+use Rattle.file_graph.specs.Subject.{subject}
+use Rattle.file_graph.specs.declared.effect.Effect.{Effect}
+use Rattle.call_effects.specs.NodeView.{NodeView}
+use Rattle.call_effects.specs.Knowledge.{Knowledge, part_of}
 use Rattle.client_plan.specs.declared.outcome.Outcome.TheVariants as outcomes
 use Rattle.client_plan.specs.Holdings.{Holdings}
 use Rattle.client_plan.specs.CallPlan.{outcome}

@@ -1,10 +1,10 @@
 -- What a client knows once it has forgotten some of it, used a number, or opened or closed a file.
 use Rattle.std.specs.Prelude.{ℕ, ◌==◌, ◌&&◌, not, List, Option, None, if◌then◌else◌}
-use Rattle.client_plan.specs.posix_calls.Tree.{set_own}
-use Rattle.client_plan.specs.posix_calls.declared.descriptor.Descriptor.{Descriptor}
-use Rattle.client_plan.specs.file_graph.Graph.{is_among, touches}
-use Rattle.client_plan.specs.file_graph.declared.effect.Effect.{Effect}
-use Rattle.world_invariant.specs.call_effects.Knowledge.{Knowledge}
+use Rattle.posix_calls.specs.Tree.{set_own}
+use Rattle.posix_calls.specs.declared.descriptor.Descriptor.{Descriptor}
+use Rattle.file_graph.specs.Graph.{is_among, touches}
+use Rattle.file_graph.specs.declared.effect.Effect.{Effect}
+use Rattle.call_effects.specs.Knowledge.{Knowledge}
 
 -- no block of an inode
 abbrev pub without_blocks : Knowledge → ℕ → Knowledge

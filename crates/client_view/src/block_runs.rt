@@ -1,12 +1,13 @@
 //! Runs of blocks of a file after records.
 ghost use Rattle.std.specs.Prelude.{◌≡◌, ◌≢◌, ◌⊎◌, ◌≤◌, ◌<◌, ◌+◌, ◌^◌, ℕ, length};
-ghost use Rattle.client_plan.specs.posix_calls.declared.limits.TheConstants.{UNIT_BYTES};
+ghost use Rattle.posix_calls.specs.declared.limits.TheConstants.{UNIT_BYTES};
 ghost use Rattle.client_view.specs.After.{run_after, run_laid};
 ghost use Rattle.client_view.specs.RecordReach.{AreReaches, AreShort, AreWhole, IsReachOf};
 
 use crate::fetched_block::FetchedBlock;
 use crate::record_reach::RecordReach;
-use client_plan::{Record, UNIT_BYTES};
+use log_record::Record;
+use posix_calls::UNIT_BYTES;
 
 /// Lays records over a run of blocks of a file from a first one on, each record with what it reaches. It looks at each record once, and of
 /// the blocks that are known to be whole at those alone that the record may change. It takes no memory.

@@ -7,8 +7,8 @@ ghost use Rattle.client_view.specs.Preparation.{AreReady, IsRoomFor, IsRoomOf, a
 use crate::enter_room::EnterRoom;
 use crate::in_place::is_enter;
 use crate::slots::{Slot, slot_at};
-use client_plan::Effect;
-use record_validation::{EntryRoom, Name};
+use file_graph::{Effect, EntryRoom};
+use posix_calls::Name;
 use std::alloc::{AllocError, Global};
 
 // No room is asked for behind more names than this, so that a `u32` counts it.

@@ -1,12 +1,13 @@
 //! A block of a file in memory, over which records are laid.
 ghost use Rattle.std.specs.Prelude.{◌≡◌, ◌≤◌, List, Option, Some, length, take, option_map};
-ghost use Rattle.client_plan.specs.posix_calls.declared.limits.TheConstants.{UNIT_BYTES};
-ghost use Rattle.world_invariant.specs.call_effects.Blocks.{block_after};
+ghost use Rattle.posix_calls.specs.declared.limits.TheConstants.{UNIT_BYTES};
+ghost use Rattle.call_effects.specs.Blocks.{block_after};
 ghost use Rattle.client_view.specs.RecordReach.{IsReachOf, block_length};
 
 use crate::blocks::take_effects;
 use crate::record_reach::RecordReach;
-use client_plan::{Record, UNIT_BYTES};
+use log_record::Record;
+use posix_calls::UNIT_BYTES;
 use std::marker::Model;
 
 /// A block of a file in a buffer of 4,096 bytes. It has the bytes that the file has there, so it is short where the file ends in it, and empty behind the end; nothing is known of it
@@ -20,7 +21,7 @@ pub struct FetchedBlock {
 impl Model for FetchedBlock {
     ghost use Rattle.std.specs.Prelude.{◌≡◌, ◌≤◌, ℕ, List, Option, length, take, option_map};
     ghost use Rattle.std.specs.Option.{ForSome};
-    ghost use Rattle.client_plan.specs.posix_calls.declared.limits.TheConstants.{UNIT_BYTES};
+    ghost use Rattle.posix_calls.specs.declared.limits.TheConstants.{UNIT_BYTES};
 
     ghost Value = { Option (List ℕ) };
 

@@ -1,13 +1,13 @@
 // What is read of a file whose blocks are kept.
 ghost use Rattle.std.specs.Prelude.{◌≡◌, ◌<◌, ◌+◌, ◌-◌, ◌*◌, ◌^◌, ◌++◌, ℕ, List, true, IfOk, IfErr, IfSome, OnOk, Some, None, is_some, option_map, take};
-ghost use Rattle.client_plan.specs.posix_calls.Content.{range};
-ghost use Rattle.client_plan.specs.posix_calls.Part.{blocks_touched};
-ghost use Rattle.world_invariant.specs.call_effects.Blocks.{blocks_joined, range_by};
-ghost use Rattle.client_plan.specs.posix_calls.declared.limits.TheConstants.{UNIT_BYTES};
+ghost use Rattle.posix_calls.specs.Content.{range};
+ghost use Rattle.posix_calls.specs.Part.{blocks_touched};
+ghost use Rattle.call_effects.specs.Blocks.{blocks_joined, range_by};
+ghost use Rattle.posix_calls.specs.declared.limits.TheConstants.{UNIT_BYTES};
 ghost use Rattle.client_view.specs.KnowledgeTables.{block_by, file_block};
 
 use block_cache::Blocks;
-use client_plan::{Bytes, UNIT_BYTES};
+use posix_calls::{Bytes, UNIT_BYTES};
 use std::alloc::{AllocError, Global};
 
 // How many blocks 32 bits number.

@@ -49,11 +49,3 @@ pub use laws::{
 pub use own_change::OwnChange;
 pub use own_record_laws::{laid_block_agrees, records_are_laid_as_the_graph_has_them};
 pub use own_records::OwnRecords;
-
-// Passed on to the crates above, which so need not list those below.
-pub use client_plan::{
-    DescriptorChange, Mode, Need, Outcome, PlainWrite, Supplies, answered_call_is_a_step,
-    logged_call_is_a_step, plain_write, plain_write_is_logged, plan_call, record_of_write,
-    room_for_the_longest_record_is_enough, served_need_is_lacking_no_longer,
-};
-pub use record_validation::{NodeCounts, NodeSummary};

@@ -1,13 +1,13 @@
 //! That a block that a client fetches agrees with the whole, once its own records are laid over it.
 
 ghost use Rattle.std.specs.Prelude.{◌≡◌, ◌-◌, ◌*◌, ℕ, min, length, List, Some};
-ghost use Rattle.client_plan.specs.posix_calls.Tree.{Descriptors};
-ghost use Rattle.client_plan.specs.posix_calls.declared.limits.TheConstants.{UNIT_BYTES};
-ghost use Rattle.client_plan.specs.file_graph.Graph.{Graph, file_bytes};
-ghost use Rattle.client_plan.specs.log_record.declared.format.Record.{Record};
-ghost use Rattle.world_invariant.specs.call_effects.Blocks.{block_of};
-ghost use Rattle.world_invariant.specs.call_effects.Knowledge.{Knowledge, Agrees, IsForgetful, with_blocks};
-ghost use Rattle.world_invariant.specs.call_effects.NodeView.{FileView};
+ghost use Rattle.posix_calls.specs.Tree.{Descriptors};
+ghost use Rattle.posix_calls.specs.declared.limits.TheConstants.{UNIT_BYTES};
+ghost use Rattle.file_graph.specs.Graph.{Graph, file_bytes};
+ghost use Rattle.log_record.specs.declared.format.Record.{Record};
+ghost use Rattle.call_effects.specs.Blocks.{block_of};
+ghost use Rattle.call_effects.specs.Knowledge.{Knowledge, Agrees, IsForgetful, with_blocks};
+ghost use Rattle.call_effects.specs.NodeView.{FileView};
 ghost use Rattle.world_invariant.specs.Logs.{after_records};
 ghost use Rattle.client_view.specs.After.{block_laid, bytes_at};
 

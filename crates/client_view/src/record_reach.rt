@@ -1,11 +1,12 @@
 //! Which blocks of files a record may change, so that a block is laid over without looking at the effects of records that leave it as it is.
 ghost use Rattle.std.specs.Prelude.{◌≡◌, ◌≤◌, ◌<◌, ◌+◌, ◌-◌, ◌*◌, ◌&&◌, ◌||◌, ℕ, [], ◌∷◌, false, min, nat_lt, if◌then◌else◌};
 ghost use Rattle.std.specs.List.{AllByRecursion};
-ghost use Rattle.client_plan.specs.posix_calls.declared.limits.TheConstants.{UNIT_BYTES};
-ghost use Rattle.client_plan.specs.log_record.Grammar.{FitsLimits};
+ghost use Rattle.posix_calls.specs.declared.limits.TheConstants.{UNIT_BYTES};
+ghost use Rattle.log_record.specs.Grammar.{FitsLimits};
 ghost use Rattle.client_view.specs.RecordReach.{IsReachOf, may_change};
 
-use client_plan::{Effect, UNIT_BYTES};
+use file_graph::Effect;
+use posix_calls::UNIT_BYTES;
 
 const UNIT: u64 = UNIT_BYTES as u64;
 

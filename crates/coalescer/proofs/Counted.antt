@@ -13,8 +13,8 @@ use Rattle.std.proofs.lemmas.List.FromFn.{map-range_with_len_more, length-range_
 use Rattle.std.proofs.lemmas.List.Concat.{flat_map-append}
 use Rattle.std.proofs.lemmas.List.Sums.{sum_by_push}
 use Rattle.std.proofs.lemmas.Bool.Decides.{nat_tests}
-use Rattle.log_record.specs.file_graph.declared.effect.Effect.{Effect}
-use Rattle.graph_change.specs.posix_calls.declared.limits.TheConstants.{UNIT_BYTES}
+use Rattle.file_graph.specs.declared.effect.Effect.{Effect}
+use Rattle.posix_calls.specs.declared.limits.TheConstants.{UNIT_BYTES}
 use Rattle.graph_change.specs.Change.{subject, span}
 use Rattle.coalescer.specs.declared.estimate.Estimate.{Estimate}
 use Rattle.coalescer.specs.declared.weight.Weight.{Weight}

@@ -1,9 +1,9 @@
 -- An exchange of what two names of directories lead to, and the two parts of a change that it would stand between.
 use Rattle.std.specs.Prelude.{ℕ, List, [], ◌∷◌, Option, Some, None, map}
 use Rattle.std.specs.FinMap as fin
-use Rattle.graph_change.specs.posix_calls.Content.{Entries}
-use Rattle.log_record.specs.file_graph.declared.effect.Effect.TheVariants as effect
-use Rattle.log_record.specs.file_graph.Graph.{Node, FileBody, DirBody, Graph, after_effects}
+use Rattle.posix_calls.specs.Content.{Entries}
+use Rattle.file_graph.specs.declared.effect.Effect.TheVariants as effect
+use Rattle.file_graph.specs.Graph.{Node, FileBody, DirBody, Graph, after_effects}
 use Rattle.graph_change.specs.Bytes.{Grown}
 use Rattle.graph_change.specs.Net.{Kept, Child}
 use Rattle.graph_change.specs.Change.{Change, Changes}

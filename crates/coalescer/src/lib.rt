@@ -23,9 +23,3 @@ pub use laws::{
 pub use records::{add_record, coalesce};
 pub use run::longest_run;
 pub use weight::{CHUNK_BLOCKS, CHUNK_IMAGES};
-
-// Passed on to the crates above, which so need not list those below.
-pub use graph_change::{
-    BlockChange, GraphChange, NodeBase, NodeChange, NodeLength, changes_are_the_effects,
-    changes_keep_to_the_limits,
-};

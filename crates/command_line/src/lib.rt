@@ -13,4 +13,3 @@ pub use option_table::{OptionValue, Program, ProgramOption, read_words};
 pub use words_error::WordsError;
 
 /// What `clap` has to say of words: what is wrong with them, or their help.
-pub use clap::Error as UsageError;

@@ -39,14 +39,3 @@ pub use record_test::{Found, test_records};
 pub use run_plan::{NextRun, next_run};
 pub use run_test::capacity_of;
 pub use sealed_log::SealedLog;
-
-// Passed on to the crates above, which so need not list those below.
-pub use coalescer::{GraphChange, changes_are_the_effects, changes_keep_to_the_limits, coalesce};
-pub use shared_area::{
-    AreaError, BLOCK, DirBlock, DirEntry, Extent, ExtentBlock, Geometry, MARKS_BLOCK, Mark, Marks,
-    NodeCounts, NodeSummary, SLOT_SIZE, Shared, Slot, Super,
-};
-pub use update_log::{
-    Effect, Effects, FaultMedia, Fill, Kind, MAX_CLIENTS, MAX_INODE, Media, MemMedia, Name, ROOT,
-    Record, SharedBytes, StopMedia, Tier, UNIT_BYTES, client_index,
-};

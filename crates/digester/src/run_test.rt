@@ -3,18 +3,20 @@
 ghost use Rattle.std.specs.Prelude.{◌≡◌, ◌≢◌, ◌<◌, false, IfErr, IfOk, length};
 ghost use Rattle.std.specs.List.{AllByRecursion};
 ghost use Rattle.std.specs.List.Sorted.{IsNonDecreasing};
-ghost use Rattle.update_log.specs.file_graph.Units.{charge};
-ghost use Rattle.update_log.specs.log_record.Grammar.{IsRecord};
-ghost use Rattle.shared_area.specs.area_image.declared.error.AreaError.TheVariants.{DeviceFault};
-ghost use Rattle.shared_area.specs.area_image.Store.{disk, graph};
-ghost use Rattle.shared_area.specs.area_image.Looks.{Looks};
+ghost use Rattle.file_graph.specs.Units.{charge};
+ghost use Rattle.log_record.specs.Grammar.{IsRecord};
+ghost use Rattle.area_reader.specs.declared.error.AreaError.TheVariants.{DeviceFault};
+ghost use Rattle.area_reader.specs.Store.{disk, graph};
+ghost use Rattle.area_reader.specs.Looks.{Looks};
 ghost use Rattle.shared_area.specs.Parts.{IsNoDamage};
 ghost use Rattle.digester.specs.Plan.{Finds};
 
 use crate::{Found, PlanError, test_records};
-use shared_area::{AreaError, Shared};
+use area_reader::AreaError;
+use log_record::Record;
+use shared_area::Shared;
 use std::alloc::Global;
-use update_log::{Media, Record};
+use tier_device::Media;
 
 /// What a test of records finds over the graph of the shared area and within its units, where their client holds the inodes `held` for
 /// writing, listed rising. It asks the area for nodes that these records touch, and changes no device.

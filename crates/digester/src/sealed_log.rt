@@ -1,14 +1,14 @@
 ghost use Rattle.std.specs.Prelude.{◌≡◌, ◌↔◌, ◌<◌, ◌≤◌, ◌^◌, ◌==◌, true, length};
 ghost use Rattle.std.specs.List.{AllByRecursion};
 ghost use Rattle.std.specs.List.Sorted.{IsStrictlyIncreasing};
-ghost use Rattle.update_log.specs.posix_calls.Operations.{is_client};
-ghost use Rattle.update_log.specs.log_record.Grammar.{IsRecord};
+ghost use Rattle.posix_calls.specs.Operations.{is_client};
+ghost use Rattle.log_record.specs.Grammar.{IsRecord};
 ghost use Rattle.digester.specs.SealedLog.{IsSealed, StandsAt, done_to};
 
 use crate::digest_marks::{is_mark, mark_after, mark_of};
-use shared_area::Marks;
+use layout::Marks;
+use log_record::Record;
 use std::marker::Model;
-use update_log::Record;
 
 /// The records of a region that its client sealed, in memory, and how many of them are digested.
 ///

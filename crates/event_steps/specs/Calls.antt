@@ -1,15 +1,15 @@
 -- What an event makes of a client's call.
 use Rattle.std.specs.Prelude.{◌≡◌, ◌⊎◌, ℕ, List, true, false, Option, IfSome, is_some}
-use Rattle.libfs.specs.tier_device.declared.media.Media.{Ghosts}
-use Rattle.libfs.specs.posix_calls.declared.call.Call.{Call}
-use Rattle.libfs.specs.posix_calls.declared.call.Reply.{Reply}
-use Rattle.libfs.specs.posix_calls.declared.call.Reply.TheVariants as replies
-use Rattle.libfs.specs.posix_calls.declared.errno.Errno.TheVariants.{IoError}
-use Rattle.libfs.specs.update_log.Stage.{next, progress}
-use Rattle.libfs.specs.update_log.declared.stage.Progress.TheVariants.{Going, Appended}
-use Rattle.libfs.specs.client_log.Calls.{IsMovedOnce}
-use Rattle.libfs.specs.client_log.Counts.{AreLeft, CountOf}
-use Rattle.libfs.specs.client_log.View.{current_records}
+use Rattle.tier_device.specs.declared.media.Media.{Ghosts}
+use Rattle.posix_calls.specs.declared.call.Call.{Call}
+use Rattle.posix_calls.specs.declared.call.Reply.{Reply}
+use Rattle.posix_calls.specs.declared.call.Reply.TheVariants as replies
+use Rattle.posix_calls.specs.declared.errno.Errno.TheVariants.{IoError}
+use Rattle.update_log.specs.Stage.{next, progress}
+use Rattle.update_log.specs.declared.stage.Progress.TheVariants.{Going, Appended}
+use Rattle.client_log.specs.Calls.{IsMovedOnce}
+use Rattle.client_log.specs.Counts.{AreLeft, CountOf}
+use Rattle.client_log.specs.View.{current_records}
 use Rattle.libfs.specs.Denial.{errno_of}
 use Rattle.libfs.specs.ClientHoldings.{outcome_for}
 use Rattle.libfs.specs.CallStart.{HasStarted, IsOutOfMemory}

@@ -1,6 +1,6 @@
 -- The outcomes of events.
 use Rattle.std.specs.Prelude.{ℕ, Option, Some, None, Result, Ok, Err}
-use Rattle.libfs.specs.posix_calls.declared.call.Reply.{Reply}
+use Rattle.posix_calls.specs.declared.call.Reply.{Reply}
 use Rattle.libfs.specs.declared.denial.Denied.{Denied}
 use Rattle.libfs.specs.declared.now.Now.{Now}
 use Rattle.libfs.specs.declared.now.Now.TheVariants as now

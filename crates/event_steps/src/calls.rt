@@ -9,7 +9,9 @@ ghost use Rattle.event_steps.specs.Refusals.{has_refusal};
 use crate::client_slot::ClientSlot;
 use crate::outcome::Outcome;
 use crate::refusals::Refusals;
-use libfs::{Call, Denied, Media, Now};
+use libfs::{Denied, Now};
+use posix_calls::Call;
+use tier_device::Media;
 
 impl<M: Media> ClientSlot<M> {
     /// Starts a call: it is answered, or needs something, or its record is begun. `Idle`, with nothing changed, while an

@@ -4,8 +4,10 @@ ghost use Rattle.event_steps.specs.Stops.{SeatLeaves};
 ghost use Rattle.event_steps.specs.View.{done_of, undigested_on};
 
 use crate::refusals::Refusals;
-use libfs::{Client, Media, Record, SealedRegion};
+use libfs::{Client, SealedRegion};
+use log_record::Record;
 use std::marker::Model;
+use tier_device::Media;
 
 /// A client, the region that it sealed and handed over, until it takes that back, and what the kernel refused it since its last reply.
 #[derive(Drop)]
@@ -17,7 +19,7 @@ pub struct ClientSlot<M: Media> {
 
 impl<M: Media> Model for ClientSlot<M> {
     ghost use Rattle.std.specs.Coded.{codes};
-    ghost use Rattle.libfs.specs.client_view.KnowledgeTables.{held_code};
+    ghost use Rattle.client_view.specs.KnowledgeTables.{held_code};
     ghost use Rattle.libfs.specs.contracts.begun_record.Begun as begun_call;
     ghost use Rattle.event_steps.specs.View.{SeatView};
     ghost use Rattle.event_steps.specs.Sound.{IsSeated};

@@ -11,8 +11,10 @@ use crate::migrations::{migrate, reclaim};
 use crate::numbers::is_client;
 use crate::outcome::Outcome;
 use crate::system::System;
-use libfs::{Kernel, Media, client_index};
+use kernel_fs::Kernel;
+use posix_calls::client_index;
 use std::alloc::Global;
+use tier_device::Media;
 
 impl<M: Media + Drop> System<M> {
     /// Carries out one event.

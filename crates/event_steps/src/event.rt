@@ -1,4 +1,7 @@
-use libfs::{Call, Denied, Mode, Tier};
+use client_plan::Mode;
+use libfs::Denied;
+use posix_calls::Call;
+use tier_device::Tier;
 
 /// What may happen next in a running system. Clients are numbered from 1 to 8, inodes from 1 to 1,024; an event of any other client or inode has nothing to do.
 #[derive(Drop)]

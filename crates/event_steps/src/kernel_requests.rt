@@ -1,6 +1,6 @@
 //! What a client asks of the kernel.
 ghost use Rattle.std.specs.Prelude.{◌≡◌, ◌↔◌, ◌+◌, ◌<◌, ◌≤◌, ◌^◌, true, false, IsTrue, ⊤};
-ghost use Rattle.libfs.specs.lease_manager.Words.{HasWord};
+ghost use Rattle.lease_manager.specs.Words.{HasWord};
 ghost use Rattle.libfs.specs.View.{is_pending};
 ghost use Rattle.libfs.specs.declared.denial.Denied.TheVariants as denied;
 ghost use Rattle.event_steps.specs.KernelRequests.{AreFetched, IsFetched, IsGivenBack, IsPinned, IsRefilled, IsUnpinned};
@@ -13,7 +13,10 @@ ghost use Rattle.event_steps.specs.Turns.{CanBeUnpinned, IsHeld};
 use crate::client_slot::ClientSlot;
 use crate::outcome::{Outcome, Refusal};
 use crate::refusals::Refusals;
-use libfs::{Denied, Kernel, LeaseMode, Media, is_inode};
+use kernel_fs::Kernel;
+use lease_manager::{LeaseMode, is_inode};
+use libfs::Denied;
+use tier_device::Media;
 
 impl<M: Media> ClientSlot<M> {
     /// Fetches a copy of what stands at an inode, where the client has none; one that it has stays, and the kernel reads

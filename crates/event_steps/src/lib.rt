@@ -23,12 +23,3 @@ pub use client_slot::ClientSlot;
 pub use event::Event;
 pub use outcome::{Outcome, Refusal};
 pub use system::System;
-
-// Passed on to the crates above, which so need not list those below.
-pub use libfs::{
-    AreaError, CLIENTS, Call, Child, Client, ClientLog, Denied, Effect, Fetched, FetchedBytes,
-    Figures, FileRun, INODES, Kernel, KernelError, Kind, LeaseMode, Leases as LeaseManagerLeases,
-    LogError, Media as TierDeviceMedia, Mode, NameMap, Need, NodeCounts, NodeSummary, Opened, Pass,
-    PlainGraph, Record, Reply, Shared, SharedBytes, Tier, answered_start_is_a_step,
-    begun_record_is_a_step,
-};

@@ -1,12 +1,15 @@
 //! The kernel accepts the region that a client sealed.
 ghost use Rattle.std.specs.Prelude.{◌≡◌, false, true, IfErr, OnErr, OnOk};
 ghost use Rattle.libfs.specs.SealedRegion.{log_of};
-ghost use Rattle.libfs.specs.digester.SealedLog.{HasUndigested};
+ghost use Rattle.digester.specs.SealedLog.{HasUndigested};
 ghost use Rattle.event_steps.specs.Regions.{IsAccepted, IsAwayRead, IsNotAcceptedFor, IsNotReadFor, refusal_to_accept, refusal_to_read};
 
 use crate::outcome::Refusal;
-use libfs::{AcceptError, Kernel, KernelError, LogError, Media, SealedRegion};
+use client_log::LogError;
+use kernel_fs::{AcceptError, Kernel, KernelError};
+use libfs::SealedRegion;
 use std::alloc::Global;
+use tier_device::Media;
 
 /// Has the kernel accept a region that is away, unless it did before: its records are read for that.
 pub fn accept_region<M: Media>(

@@ -4,7 +4,9 @@ ghost use Rattle.event_steps.specs.declared.outcome.Outcome.TheVariants as outco
 ghost use Rattle.event_steps.specs.Media.{IsMovedIn, IsReclaimedIn};
 
 use crate::outcome::{Outcome, Refusal};
-use libfs::{AreaError, Kernel, KernelError, Media, ReclaimError, Tier};
+use area_reader::AreaError;
+use kernel_fs::{Kernel, KernelError, ReclaimError};
+use tier_device::{Media, Tier};
 
 /// Deletes a file that has no name and no pin. Refused: `KernelFailed`, `InUse`, `Memory`, `DeviceFault`.
 pub fn reclaim<M: Media>(kernel: &mut Kernel<M>, inode: u32) -> Outcome

@@ -16,5 +16,3 @@ pub mod Levels
 pub mod Runs
 pub mod GivenUp
 pub mod Moved
--- Passed on to the crates above, which so need not list those below.
-pub use Rattle.block_alloc.proofs as block_alloc_lemmas

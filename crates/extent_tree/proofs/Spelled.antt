@@ -4,7 +4,7 @@ use Rattle.std.specs.Prelude.{nat_le, ◌==◌}
 use Rattle.std.specs.List.{list_all}
 use Rattle.std.proofs.lemmas.Bool.{cases_Bool, and_parts, and_from, leb-true, leb-false, le-leb, eq-eqb, cases_lt, false≢true}
 use Rattle.std.proofs.lemmas.Option.{none-some, same_Some}
-use Rattle.layout.specs.tier_device.declared.media.Tier.TheVariants as tiers
+use Rattle.tier_device.specs.declared.media.Tier.TheVariants as tiers
 use Rattle.layout.specs.declared.extents.Extent.{Extent}
 use Rattle.layout.specs.declared.extents.TheConstants.{MAX_EXTENTS}
 use Rattle.layout.specs.declared.geometry.Space.{Space}

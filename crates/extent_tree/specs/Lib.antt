@@ -8,5 +8,3 @@ pub mod Changes
 pub mod Nodes
 pub mod BlockFormat
 pub mod Map
--- Passed on to the crates above, which so need not list those below.
-pub use Rattle.block_alloc.specs as block_alloc

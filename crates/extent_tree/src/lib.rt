@@ -29,6 +29,3 @@ pub use node_laws::{block_spells_a_map, map_is_spelled_by_a_block, normal_form_i
 pub use node_pack::{pack, push_entries, push_summaries};
 pub use node_search::{nodes_before, nodes_up_to};
 pub use tree::{Counted, Extents};
-
-// Passed on to the crates above, which so need not list those below.
-pub use block_alloc::{AllocatorError, FreeRuns, Run};

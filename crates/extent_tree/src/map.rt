@@ -1,7 +1,7 @@
 ghost use Rattle.std.specs.Prelude.{◌≡◌, ◌≢◌, ◌≤◌, ◌<◌, ◌+◌, ◌^◌, ◌++◌, ◌⊎◌, [], ℕ, Some, None, IfSome, IfNone, IfOk, OnOk, nat_le, if◌then◌else◌};
 ghost use Rattle.std.specs.List.{AllByRecursion};
-ghost use Rattle.layout.specs.tier_device.declared.media.Tier.{Tier};
-ghost use Rattle.layout.specs.tier_device.declared.media.Tier.TheVariants as tiers;
+ghost use Rattle.tier_device.specs.declared.media.Tier.{Tier};
+ghost use Rattle.tier_device.specs.declared.media.Tier.TheVariants as tiers;
 ghost use Rattle.extent_tree.specs.Changes.{after};
 ghost use Rattle.extent_tree.specs.Normal.{IsRising, PlacesFit, IsNormal};
 ghost use Rattle.extent_tree.specs.Places.{place_of, SamePlaces};
@@ -11,9 +11,10 @@ ghost use Rattle.extent_tree.specs.Map.{runs_in, lies_at, ArePut, AreCut, places
 use crate::Extents;
 use crate::freed_places::push_places;
 use block_alloc::Run;
-use layout::{Extent, ExtentBlock, MAX_EXTENTS, Tier};
+use layout::{Extent, ExtentBlock, MAX_EXTENTS};
 use std::alloc::{AllocError, Global};
 use std::marker::Model;
+use tier_device::Tier;
 
 /// Where the logical blocks of one inode lie, tier by tier. After a call that finds no memory, nothing is said of where they lie: it is to be dropped.
 #[derive(Drop)]

@@ -6,7 +6,7 @@ ghost use Rattle.layout.specs.Extents.{fits_extents};
 ghost use Rattle.layout.specs.Places.{Sizes, is_inode, is_run, blocks_in};
 ghost use Rattle.layout.specs.declared.geometry.Space.{Space};
 ghost use Rattle.extent_tree.specs.BlockFormat.{LiesWithin, IsOneToOne};
-ghost use Rattle.layout.specs.tier_device.declared.media.Tier.{Tier};
+ghost use Rattle.tier_device.specs.declared.media.Tier.{Tier};
 ghost use Rattle.layout.specs.declared.extents.Extent.{Extent};
 ghost use Rattle.extent_tree.specs.Places.{place_of, end_of, in_run};
 ghost use Rattle.extent_tree.specs.Normal.{IsNormal};

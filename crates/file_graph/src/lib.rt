@@ -26,11 +26,3 @@ pub use name_map::{EntryRoom, NameMap, NamedEntry};
 pub use node::PlainEntry;
 pub use numbers::is_inode;
 pub use plain::PlainGraph;
-
-// Passed on to the crates above, which so need not list those below.
-pub use posix_calls::{
-    Bytes, Call, DecideError, Description, Descriptor, Errno, Flags, Location, MAX_CLIENTS,
-    MAX_DESCRIPTORS, MAX_ENTRIES, MAX_FILE, MAX_INODE, MAX_NAME, MAX_NAMES, MAX_TRANSFER, Missing,
-    Name, NamedInode, Names, Operation, OwnDescriptors, Path, ROOT, Replaced, Reply, SharedBytes,
-    TreeAnswers, UNIT_BYTES, UNIT_ENTRIES, client_index, decide, known_or_missing,
-};

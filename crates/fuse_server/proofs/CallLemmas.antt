@@ -1,7 +1,7 @@
 -- One call behind another.
 use Rattle.std.proofs.Common.{◌≡◌, inl, inr, refl, sym, subst, Result, Ok, Err}
-use Rattle.fuse_wire.specs.posix_calls.declared.call.Call.{Call}
-use Rattle.fuse_wire.specs.posix_calls.declared.call.Reply.{Reply}
+use Rattle.posix_calls.specs.declared.call.Call.{Call}
+use Rattle.posix_calls.specs.declared.call.Reply.{Reply}
 use Rattle.fuse_wire.specs.declared.errno.Refusal.{Refusal}
 use Rattle.fuse_server.specs.declared.tree.Tree.{Ghosts}
 use Rattle.fuse_server.specs.Calls.{Answers, GoesOn, MayAsk}

@@ -3,7 +3,7 @@ use Rattle.std.proofs.Common.{◌≡◌, ◌<◌, ◌≤◌, ◌+◌, ◌-◌, �
 use Rattle.std.proofs.lemmas.Bool.{cases_lt}
 use Rattle.std.proofs.lemmas.List.{get_or-drop, get_or-set_other, get_or_append_left, get_or_past, get_or_push, length-drop, length_push, take_min, take_more}
 use Rattle.std.proofs.lemmas.Option.{get_or_from_slice_get, none-some, same_Some, slice_get_read, slice_get_within}
-use Rattle.fuse_wire.specs.posix_calls.declared.call.Call.TheVariants as call
+use Rattle.posix_calls.specs.declared.call.Call.TheVariants as call
 use Rattle.fuse_wire.specs.declared.errno.Refusal.{Refusal}
 use Rattle.fuse_server.specs.declared.listings.Listing.{Listing}
 use Rattle.fuse_server.specs.declared.nodes.Nodes.{Nodes}

@@ -3,7 +3,7 @@ use Rattle.std.proofs.Common.{◌≡◌, ◌≢◌, ℕ, zero, suc, ◌-◌, ◌
 use Rattle.std.specs.Option.{option_map}
 use Rattle.std.proofs.lemmas.Bool.{ne_eqb}
 use Rattle.std.proofs.lemmas.Option.{same_Some, none-some}
-use Rattle.file_graph.specs.posix_calls.Name.{is_name}
+use Rattle.posix_calls.specs.Name.{is_name}
 use Rattle.fuse_server.specs.declared.node.NodeName.{NodeName}
 use Rattle.fuse_server.specs.declared.nodes.Nodes.{Nodes}
 use Rattle.fuse_server.specs.Paths.{first_name, folder_path, name_path, path_below, path_of}

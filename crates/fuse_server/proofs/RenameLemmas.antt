@@ -1,9 +1,9 @@
 -- What goes before a name moves.
 use Rattle.std.proofs.Common.{◌≡◌, ◌⊎◌, ◌<◌, ◌-◌, ℕ, List, inl, inr, refl, sym, subst, length, false, Option, Some, None, IfErr, IfSome, Result, Ok, Err}
-use Rattle.fuse_wire.specs.posix_calls.declared.call.Call.{Call}
-use Rattle.fuse_wire.specs.posix_calls.declared.call.Call.TheVariants as call
-use Rattle.fuse_wire.specs.posix_calls.declared.call.Reply.{Reply}
-use Rattle.fuse_wire.specs.posix_calls.declared.call.Reply.TheVariants as reply
+use Rattle.posix_calls.specs.declared.call.Call.{Call}
+use Rattle.posix_calls.specs.declared.call.Call.TheVariants as call
+use Rattle.posix_calls.specs.declared.call.Reply.{Reply}
+use Rattle.posix_calls.specs.declared.call.Reply.TheVariants as reply
 use Rattle.fuse_wire.specs.declared.errno.Refusal.{Refusal}
 use Rattle.fuse_server.specs.declared.nodes.Nodes.{Nodes}
 use Rattle.fuse_server.specs.declared.tree.Tree.{Ghosts}

@@ -1,12 +1,12 @@
 -- Upkeep, and what it is refused for.
 use Rattle.std.proofs.Common.{◌≡◌, ◌++◌, List, [], ◌∷◌, ℕ, inl, inr, refl, sym, subst, Result, Ok, Err}
-use Rattle.fuse_wire.specs.posix_calls.declared.call.Call.{Call}
-use Rattle.fuse_wire.specs.posix_calls.declared.call.Call.TheVariants as call
-use Rattle.fuse_wire.specs.posix_calls.declared.call.Flags.{Flags}
-use Rattle.fuse_wire.specs.posix_calls.declared.call.Reply.{Reply}
-use Rattle.fuse_wire.specs.posix_calls.declared.call.Reply.TheVariants as reply
-use Rattle.fuse_wire.specs.posix_calls.declared.operation.Description.{Description}
-use Rattle.fuse_wire.specs.posix_calls.declared.errno.Errno.TheVariants as errno
+use Rattle.posix_calls.specs.declared.call.Call.{Call}
+use Rattle.posix_calls.specs.declared.call.Call.TheVariants as call
+use Rattle.posix_calls.specs.declared.call.Flags.{Flags}
+use Rattle.posix_calls.specs.declared.call.Reply.{Reply}
+use Rattle.posix_calls.specs.declared.call.Reply.TheVariants as reply
+use Rattle.posix_calls.specs.declared.operation.Description.{Description}
+use Rattle.posix_calls.specs.declared.errno.Errno.TheVariants as errno
 use Rattle.fuse_wire.specs.declared.errno.Refusal.{Refusal}
 use Rattle.fuse_wire.specs.declared.errno.Refusal.TheVariants as refusal
 use Rattle.fuse_server.specs.declared.tree.Tree.{Ghosts}

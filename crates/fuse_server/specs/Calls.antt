@@ -1,11 +1,11 @@
 -- What a request asks of the tree, call by call, and what it makes of the replies.
 use Rattle.std.specs.Prelude.{◌≡◌, ◌⊎◌, ℕ, List, Option, Some, None, Result, Ok, Err, IsErrAnd}
-use Rattle.fuse_wire.specs.posix_calls.declared.call.Call.{Call}
-use Rattle.fuse_wire.specs.posix_calls.declared.call.Reply.{Reply}
-use Rattle.fuse_wire.specs.posix_calls.declared.call.Reply.TheVariants as reply
-use Rattle.fuse_wire.specs.posix_calls.declared.errno.Errno.TheVariants as errno
-use Rattle.fuse_wire.specs.posix_calls.declared.operation.Description.{Description}
-use Rattle.fuse_wire.specs.posix_calls.declared.operation.Description.TheVariants as description
+use Rattle.posix_calls.specs.declared.call.Call.{Call}
+use Rattle.posix_calls.specs.declared.call.Reply.{Reply}
+use Rattle.posix_calls.specs.declared.call.Reply.TheVariants as reply
+use Rattle.posix_calls.specs.declared.errno.Errno.TheVariants as errno
+use Rattle.posix_calls.specs.declared.operation.Description.{Description}
+use Rattle.posix_calls.specs.declared.operation.Description.TheVariants as description
 use Rattle.fuse_wire.specs.declared.errno.Refusal.{Refusal}
 use Rattle.fuse_wire.specs.declared.errno.Refusal.TheVariants as refusal
 use Rattle.fuse_server.specs.declared.tree.Tree.{Ghosts}

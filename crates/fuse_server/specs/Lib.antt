@@ -12,6 +12,3 @@ pub mod Creations
 pub mod Sizes
 pub mod Replies
 pub mod Requests
--- Passed on to the crates above, which so need not list those below.
-pub use Rattle.file_graph.specs as file_graph
-pub use Rattle.fuse_wire.specs as fuse_wire

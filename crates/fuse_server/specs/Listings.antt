@@ -1,8 +1,8 @@
 -- Directories that are open, and the entries that replies list of them.
 use Rattle.std.specs.Prelude.{◌≡◌, ◌≢◌, ◌<◌, ◌+◌, ◌/◌, ℕ, List, [], ◌∷◌, Option, Some, None, Result, IsSome, OnErr, MatchResult, codes, drop, map, min, slice_index_or, take, if◌then◌else◌}
 use Rattle.std.specs.Option.{option_map_or}
-use Rattle.fuse_wire.specs.posix_calls.declared.call.Call.TheVariants as call
-use Rattle.fuse_wire.specs.posix_calls.declared.errno.Errno.TheVariants as errno
+use Rattle.posix_calls.specs.declared.call.Call.TheVariants as call
+use Rattle.posix_calls.specs.declared.errno.Errno.TheVariants as errno
 use Rattle.fuse_wire.specs.declared.dirents.Dirent.{Dirent}
 use Rattle.fuse_wire.specs.declared.dirents.DirentKind.{DirentKind}
 use Rattle.fuse_wire.specs.declared.dirents.DirentKind.TheVariants as dirent_kind

@@ -1,13 +1,13 @@
 -- The attributes of nodes.
 use Rattle.std.specs.Prelude.{◌≡◌, ◌⊎◌, ℕ, List, true, false, Option, Some, None, Result, Ok, Err, IfErr}
 use Rattle.std.specs.Option.{option_map}
-use Rattle.fuse_wire.specs.posix_calls.declared.call.Call.TheVariants as call
-use Rattle.fuse_wire.specs.posix_calls.declared.operation.Description.{Description}
-use Rattle.fuse_wire.specs.posix_calls.declared.operation.Description.TheVariants as description
-use Rattle.fuse_wire.specs.posix_calls.declared.errno.Errno.{Errno}
+use Rattle.posix_calls.specs.declared.call.Call.TheVariants as call
+use Rattle.posix_calls.specs.declared.operation.Description.{Description}
+use Rattle.posix_calls.specs.declared.operation.Description.TheVariants as description
+use Rattle.posix_calls.specs.declared.errno.Errno.{Errno}
 use Rattle.fuse_wire.specs.declared.errno.Refusal.{Refusal}
 use Rattle.fuse_wire.specs.declared.errno.Refusal.TheVariants as refusal
-use Rattle.fuse_wire.specs.posix_calls.Path.{path_names}
+use Rattle.posix_calls.specs.Path.{path_names}
 use Rattle.fuse_server.specs.declared.attributes.Attributes.{Attributes}
 use Rattle.fuse_server.specs.declared.nodes.Nodes.{Nodes}
 use Rattle.fuse_server.specs.declared.tree.Tree.{Ghosts}

@@ -1,7 +1,7 @@
 -- The paths by which nodes are reached.
 use Rattle.std.specs.Prelude.{ℕ, zero, suc, ◌==◌, ◌&&◌, not, is_none, Bool, List, [], ◌∷◌, ◌++◌, Option, Some, None, option_and_then, slice_get, if◌then◌else◌}
 use Rattle.std.specs.Option.{option_map}
-use Rattle.fuse_wire.specs.posix_calls.Name.{is_name}
+use Rattle.posix_calls.specs.Name.{is_name}
 use Rattle.fuse_server.specs.declared.node.Node.{Node}
 use Rattle.fuse_server.specs.declared.node.NodeName.{NodeName}
 use Rattle.fuse_server.specs.declared.nodes.Nodes.{Nodes}

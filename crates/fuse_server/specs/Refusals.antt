@@ -1,6 +1,6 @@
 -- Why a message has no answer, and why a request is refused.
 use Rattle.std.specs.Prelude.{◌≡◌, List, ℕ}
-use Rattle.fuse_wire.specs.posix_calls.declared.errno.Errno.TheVariants as errno
+use Rattle.posix_calls.specs.declared.errno.Errno.TheVariants as errno
 use Rattle.fuse_wire.specs.declared.errno.Refusal.{Refusal}
 use Rattle.fuse_wire.specs.declared.errno.Refusal.TheVariants as refusal
 use Rattle.fuse_wire.specs.Reasons.{IsWrong}

@@ -1,10 +1,10 @@
 -- Names move.
 use Rattle.std.specs.Prelude.{◌≡◌, ◌⊎◌, ◌<◌, ◌≤◌, ◌+◌, ◌-◌, ℕ, List, Contains, false, None, Result, Ok, Err, IfSome, IsErrAnd, MatchResult, length}
-use Rattle.fuse_wire.specs.posix_calls.Name.{is_name}
-use Rattle.fuse_wire.specs.posix_calls.declared.call.Call.TheVariants as call
-use Rattle.fuse_wire.specs.posix_calls.declared.call.Reply.{Reply}
-use Rattle.fuse_wire.specs.posix_calls.declared.call.Reply.TheVariants as reply
-use Rattle.fuse_wire.specs.posix_calls.declared.errno.Errno.TheVariants as errno
+use Rattle.posix_calls.specs.Name.{is_name}
+use Rattle.posix_calls.specs.declared.call.Call.TheVariants as call
+use Rattle.posix_calls.specs.declared.call.Reply.{Reply}
+use Rattle.posix_calls.specs.declared.call.Reply.TheVariants as reply
+use Rattle.posix_calls.specs.declared.errno.Errno.TheVariants as errno
 use Rattle.fuse_wire.specs.declared.errno.Refusal.{Refusal}
 use Rattle.fuse_wire.specs.declared.errno.Refusal.TheVariants as refusal
 use Rattle.fuse_server.specs.declared.nodes.Nodes.{Nodes}

@@ -1,10 +1,10 @@
 -- Files get sizes.
 use Rattle.std.specs.Prelude.{◌≡◌, ◌⊎◌, ◌<◌, ◌≤◌, ◌+◌, ◌-◌, ℕ, List, [], ◌∷◌, true, false, min, max, Option, Some, None, Result, Ok, Err, MatchResult, nat_lt, replicate, if◌then◌else◌}
-use Rattle.fuse_wire.specs.posix_calls.declared.call.Call.{Call}
-use Rattle.fuse_wire.specs.posix_calls.declared.call.Call.TheVariants as call
-use Rattle.fuse_wire.specs.posix_calls.declared.call.Reply.{Reply}
-use Rattle.fuse_wire.specs.posix_calls.declared.call.Reply.TheVariants as reply
-use Rattle.fuse_wire.specs.posix_calls.declared.errno.Errno.TheVariants as errno
+use Rattle.posix_calls.specs.declared.call.Call.{Call}
+use Rattle.posix_calls.specs.declared.call.Call.TheVariants as call
+use Rattle.posix_calls.specs.declared.call.Reply.{Reply}
+use Rattle.posix_calls.specs.declared.call.Reply.TheVariants as reply
+use Rattle.posix_calls.specs.declared.errno.Errno.TheVariants as errno
 use Rattle.fuse_wire.specs.declared.errno.Refusal.{Refusal}
 use Rattle.fuse_wire.specs.declared.errno.Refusal.TheVariants as refusal
 use Rattle.fuse_server.specs.declared.attributes.Attributes.{Attributes}

@@ -1,7 +1,7 @@
 use crate::attributes::Attributes;
 use crate::tree::Usage;
-use file_graph::Bytes;
 use fuse_wire::{InitReply, Refusal};
+use posix_calls::Bytes;
 
 /// What a request is answered.
 #[derive(Drop)]

@@ -1,6 +1,6 @@
 // The attributes of a node, and what the tree answers of it.
 ghost use Rattle.std.specs.Prelude.{◌≡◌, Some, None, Ok, IfOk, IfErr, OnErr};
-ghost use Rattle.file_graph.specs.posix_calls.declared.call.Call.TheVariants as call;
+ghost use Rattle.posix_calls.specs.declared.call.Call.TheVariants as call;
 ghost use Rattle.fuse_server.specs.Calls.{description_of, Answers, AtPath, MayAsk};
 ghost use Rattle.fuse_server.specs.Nodes.{attributes_of, kept_attributes, Describes};
 ghost use Rattle.fuse_server.specs.Paths.{node_at, path_of};
@@ -9,8 +9,8 @@ use crate::node::Node;
 use crate::paths::{is_unnamed, path_of};
 use crate::tables::Tables;
 use crate::tree::Tree;
-use file_graph::{Bytes, Call, Description, Errno, Reply};
 use fuse_wire::Refusal;
+use posix_calls::{Bytes, Call, Description, Errno, Reply};
 use std::alloc::Global;
 
 /// The attributes of a node.

@@ -1,6 +1,6 @@
 // How long the paths below a directory get where it moves.
 ghost use Rattle.std.specs.Prelude.{◌≡◌, ◌+◌, ◌-◌, ◌<◌, ◌⊎◌, length, IfErr};
-ghost use Rattle.fuse_wire.specs.posix_calls.declared.errno.Errno.TheVariants as errno;
+ghost use Rattle.posix_calls.specs.declared.errno.Errno.TheVariants as errno;
 ghost use Rattle.fuse_wire.specs.declared.errno.Refusal.TheVariants as refusal;
 ghost use Rattle.fuse_server.specs.Refusals.{IsMemory};
 ghost use Rattle.fuse_server.specs.Renames.{HasTooLong, LooksBelow};
@@ -8,8 +8,8 @@ ghost use Rattle.fuse_server.specs.Renames.{HasTooLong, LooksBelow};
 use crate::attributes::stat;
 use crate::listings::list;
 use crate::tree::Tree;
-use file_graph::{Description, Errno, Name};
-use fuse_wire::{MAX_PATH, Refusal};
+use fuse_wire::Refusal;
+use posix_calls::{Description, Errno, MAX_PATH, Name};
 use std::alloc::Global;
 
 /// Refuses, by `NameTooLong`, that what is at a path gets one of `len` bytes, where a path below it would pass 1,024 bytes.

@@ -1,4 +1,4 @@
-use file_graph::MAX_DESCRIPTORS;
+use posix_calls::MAX_DESCRIPTORS;
 
 /// Which node has each of the client's descriptors, of which there are fewer than a mount has files open.
 #[derive(Drop)]

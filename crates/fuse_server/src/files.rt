@@ -1,6 +1,6 @@
 // Files are opened, read, written, resized and closed.
 ghost use Rattle.std.specs.Prelude.{◌≡◌, ◌≤◌, ◌++◌, Some, None, IfOk, IfErr, OnOk, OnErr, replicate};
-ghost use Rattle.file_graph.specs.posix_calls.declared.call.Call.TheVariants as call;
+ghost use Rattle.posix_calls.specs.declared.call.Call.TheVariants as call;
 ghost use Rattle.fuse_server.specs.Calls.{Answers, Asks, AtPath, MayAsk, description_of, done_of, read_of, wrote_of};
 ghost use Rattle.fuse_server.specs.Files.{Closes, DescribesAgain, Releases, Writes, handle_of};
 ghost use Rattle.fuse_server.specs.Paths.{node_at, path_of};
@@ -12,8 +12,8 @@ use crate::lookups::check_done;
 use crate::paths::{is_unnamed, path_of};
 use crate::tables::Tables;
 use crate::tree::Tree;
-use file_graph::{Bytes, Call, Errno, MAX_FILE, MAX_TRANSFER, Reply, SharedBytes};
 use fuse_wire::Refusal;
+use posix_calls::{Bytes, Call, Errno, MAX_FILE, MAX_TRANSFER, Reply, SharedBytes};
 use std::alloc::{AllocError, Global};
 
 /// How many zeros are written at once.

@@ -29,7 +29,3 @@ mod tree;
 pub use server::{ServeError, Server};
 pub use stream::{StreamError, serve_stream};
 pub use tree::{Tree, Usage};
-
-// Passed on to the crates above, which so need not list those below.
-pub use file_graph::{Bytes, Call, Errno, MAX_INODE, Path, ROOT, Reply};
-pub use fuse_wire::{MAX_MESSAGE, WireError, message_length};

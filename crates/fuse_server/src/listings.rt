@@ -1,7 +1,7 @@
 // Directories are read as they were when they were opened.
 ghost use Rattle.std.specs.Prelude.{◌≡◌, ◌+◌, ◌^◌, ◌<◌, ◌≤◌, ℕ, Some, None, IsSome, IfOk, OnOk, OnErr, if◌then◌else◌, length, map, slice_get};
 ghost use Rattle.std.specs.Option.{option_map};
-ghost use Rattle.file_graph.specs.posix_calls.declared.call.Call.TheVariants as call;
+ghost use Rattle.posix_calls.specs.declared.call.Call.TheVariants as call;
 ghost use Rattle.fuse_server.specs.Calls.{Answers, MayAsk, listed_of};
 ghost use Rattle.fuse_server.specs.Listings.{ClosesListing, OpensDir, SameBeside, all_entries, dir_entry, entries_from, folder_above, folder_entry, kind_of, listing_at, named_entry};
 
@@ -9,8 +9,8 @@ use crate::nodes::Nodes;
 use crate::paths::{first_name, path_of};
 use crate::server::Server;
 use crate::tree::Tree;
-use file_graph::{Bytes, Call, Errno, Name, Names, Reply};
 use fuse_wire::{Dirent, DirentKind, Refusal};
+use posix_calls::{Bytes, Call, Errno, Name, Names, Reply};
 use std::alloc::{AllocError, Global};
 
 /// The number in an entry whose node is not known.

@@ -1,7 +1,7 @@
 // Names are looked up, and made.
 ghost use Rattle.std.specs.Prelude.{◌≡◌, ◌⊎◌, true, false, Some, None, Ok, Err, IfOk, IfErr};
-ghost use Rattle.file_graph.specs.posix_calls.Name.{is_name};
-ghost use Rattle.file_graph.specs.posix_calls.declared.call.Call.TheVariants as call;
+ghost use Rattle.posix_calls.specs.Name.{is_name};
+ghost use Rattle.posix_calls.specs.declared.call.Call.TheVariants as call;
 ghost use Rattle.fuse_server.specs.Calls.{description_of, done_of, Answers, MayAsk};
 ghost use Rattle.fuse_server.specs.Creations.{MakesAt, creation};
 ghost use Rattle.fuse_server.specs.Nodes.{Finds, LooksUp, MakesDir, DescribesNode};
@@ -15,8 +15,8 @@ use crate::open_files::close_number;
 use crate::paths::path_below;
 use crate::tables::Tables;
 use crate::tree::Tree;
-use file_graph::{Bytes, Call, Description, Errno, Flags, MAX_NAME, Name, Path, Reply};
 use fuse_wire::Refusal;
+use posix_calls::{Bytes, Call, Description, Errno, Flags, MAX_NAME, Name, Path, Reply};
 use std::alloc::{AllocError, Global};
 
 impl Tables {

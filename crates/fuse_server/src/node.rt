@@ -1,6 +1,7 @@
 ghost use Rattle.std.specs.Prelude.{◌<◌, length, IfSome};
 
-use file_graph::{Name, NameMap};
+use file_graph::NameMap;
+use posix_calls::Name;
 use std::alloc::{AllocError, Global};
 
 /// A name by which a node is known.

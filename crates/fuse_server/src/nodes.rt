@@ -4,7 +4,7 @@ ghost use Rattle.fuse_server.specs.Paths.{node_at};
 ghost use Rattle.fuse_server.specs.Upkeep.{child_at};
 
 use crate::node::Node;
-use file_graph::Name;
+use posix_calls::Name;
 use std::alloc::{AllocError, Global};
 
 /// The node of the root.

@@ -1,6 +1,6 @@
 // Files are opened where a request needs a descriptor: one that is known by name gives its descriptor up where another wants one.
 ghost use Rattle.std.specs.Prelude.{◌≡◌, MatchResult};
-ghost use Rattle.file_graph.specs.posix_calls.declared.call.Call.TheVariants as call;
+ghost use Rattle.posix_calls.specs.declared.call.Call.TheVariants as call;
 ghost use Rattle.fuse_server.specs.Calls.{Answers, MayAsk, opened_of};
 ghost use Rattle.fuse_server.specs.Files.{TakesDescriptor};
 ghost use Rattle.fuse_server.specs.Upkeep.{Opens, Upkeep};
@@ -8,8 +8,8 @@ ghost use Rattle.fuse_server.specs.Upkeep.{Opens, Upkeep};
 use crate::paths::path_of;
 use crate::tables::Tables;
 use crate::tree::Tree;
-use file_graph::{Bytes, Call, Errno, Flags, MAX_DESCRIPTORS, Reply};
 use fuse_wire::Refusal;
+use posix_calls::{Bytes, Call, Errno, Flags, MAX_DESCRIPTORS, Reply};
 use std::alloc::Global;
 
 /// How a file is opened that is there.

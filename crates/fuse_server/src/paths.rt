@@ -6,8 +6,8 @@ ghost use Rattle.fuse_server.specs.Refusals.{IsMemory};
 
 use crate::node::NodeName;
 use crate::nodes::{Nodes, ROOT_NODE};
-use file_graph::{Bytes, Errno};
-use fuse_wire::{MAX_PATH, Refusal};
+use fuse_wire::Refusal;
+use posix_calls::{Bytes, Errno, MAX_PATH};
 use std::alloc::{AllocError, Global};
 
 /// The path of a node, by the first name that is known of it. `Stale` where none is.

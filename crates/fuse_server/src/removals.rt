@@ -1,6 +1,6 @@
 // Names go, and move.
 ghost use Rattle.std.specs.Prelude.{◌≡◌, IfSome, OnErr};
-ghost use Rattle.file_graph.specs.posix_calls.declared.call.Call.TheVariants as call;
+ghost use Rattle.posix_calls.specs.declared.call.Call.TheVariants as call;
 ghost use Rattle.fuse_server.specs.Calls.{Answers, MayAsk, description_of, done_of};
 ghost use Rattle.fuse_server.specs.Files.{Links, DescribesAgain, Unlinks};
 ghost use Rattle.fuse_server.specs.Nodes.{RemovesDir};
@@ -12,8 +12,8 @@ use crate::open_files::READ_WRITE;
 use crate::paths::{path_below, path_of};
 use crate::tables::Tables;
 use crate::tree::Tree;
-use file_graph::{Bytes, Call, Errno, Name};
 use fuse_wire::Refusal;
+use posix_calls::{Bytes, Call, Errno, Name};
 use std::alloc::Global;
 
 impl Tables {

@@ -1,7 +1,7 @@
 // Names move.
 ghost use Rattle.std.specs.Prelude.{◌≡◌, ◌⊎◌, false, IfErr, IfSome};
-ghost use Rattle.file_graph.specs.posix_calls.Name.{is_name};
-ghost use Rattle.file_graph.specs.posix_calls.declared.call.Call.TheVariants as call;
+ghost use Rattle.posix_calls.specs.Name.{is_name};
+ghost use Rattle.posix_calls.specs.declared.call.Call.TheVariants as call;
 ghost use Rattle.fuse_server.specs.Calls.{Answers, Asks, IsUnasked, MayAsk, done_of};
 ghost use Rattle.fuse_server.specs.Refusals.{IsMemory};
 ghost use Rattle.fuse_server.specs.Renames.{IsUnmoved, Moves, Renames, absent_of};
@@ -12,8 +12,8 @@ use crate::lookups::{check_done, read_name};
 use crate::paths::path_below;
 use crate::tables::Tables;
 use crate::tree::Tree;
-use file_graph::{Bytes, Call, Errno, Name, Reply};
 use fuse_wire::Refusal;
+use posix_calls::{Bytes, Call, Errno, Name, Reply};
 use std::alloc::Global;
 
 /// The flag of RENAME2 by which nothing may have the new name.

@@ -1,6 +1,6 @@
 // What is answered, as the messages of the protocol carry it.
 ghost use Rattle.std.specs.Prelude.{◌≡◌, ◌+◌, ◌<◌, ◌≤◌, length, OnOk, IsOk, vec_capacity};
-ghost use Rattle.fuse_wire.specs.posix_calls.declared.errno.Errno.TheVariants as errno;
+ghost use Rattle.posix_calls.specs.declared.errno.Errno.TheVariants as errno;
 ghost use Rattle.fuse_wire.specs.declared.errno.Refusal.TheVariants as refusal;
 ghost use Rattle.fuse_wire.specs.Errno.{refusal_number};
 ghost use Rattle.fuse_wire.specs.Replies.{error_bytes, reply_bytes};
@@ -13,12 +13,12 @@ use crate::attributes::Attributes;
 use crate::listings::Listing;
 use crate::server::Server;
 use crate::tree::Usage;
-use file_graph::{Errno, MAX_FILE, MAX_INODE, MAX_NAME, UNIT_BYTES};
 use fuse_wire::{
     Attr, Entry, Header, OpenFile, Refusal, StatFs, Time, write_absence, write_attr, write_count,
     write_create, write_data, write_dirents, write_empty, write_entry, write_error, write_init,
     write_open, write_statfs,
 };
+use posix_calls::{Errno, MAX_FILE, MAX_INODE, MAX_NAME, UNIT_BYTES};
 use std::alloc::AllocError;
 
 /// How long the kernel may keep a reply: for as long as the mount lasts, since nothing else changes the tree.

@@ -12,8 +12,8 @@ use crate::renames::Place;
 use crate::server::Server;
 use crate::tables::Tables;
 use crate::tree::Tree;
-use file_graph::{Bytes, Errno, Flags};
 use fuse_wire::{Header, Init, Refusal, Request, forget_at, negotiate};
+use posix_calls::{Bytes, Errno, Flags};
 
 /// The lowest of the four bits of a mode that say what kind of node it is, and what they are of a file.
 const KIND: u32 = 0o10000;

@@ -1,7 +1,7 @@
 ghost use Rattle.std.specs.Prelude.{◌≡◌, [], Err, OnOk, IfOk, IfErr, vec_capacity};
 ghost use Rattle.fuse_wire.specs.declared.error.WireError.{WireError};
 ghost use Rattle.fuse_wire.specs.declared.errno.Refusal.TheVariants as refusal;
-ghost use Rattle.fuse_wire.specs.posix_calls.declared.errno.Errno.TheVariants as errno;
+ghost use Rattle.posix_calls.specs.declared.errno.Errno.TheVariants as errno;
 ghost use Rattle.fuse_wire.specs.Errno.{refusal_number};
 ghost use Rattle.fuse_wire.specs.Replies.{error_bytes};
 ghost use Rattle.fuse_wire.specs.declared.header.Header.{Header};
@@ -18,8 +18,8 @@ use crate::listings::Listing;
 use crate::replies::write_refusal;
 use crate::tables::Tables;
 use crate::tree::Tree;
-use file_graph::Errno;
 use fuse_wire::{Header, Refusal, WireError, read_header, read_request};
+use posix_calls::Errno;
 use std::alloc::{AllocError, Global};
 
 /// The messages that take no reply, by their opcodes: the kernel forgets a node or several, or interrupts a request.

@@ -1,10 +1,10 @@
 ghost use Rattle.std.specs.Prelude.{List, ℕ, Result};
-ghost use Rattle.file_graph.specs.posix_calls.declared.call.Call.{Call};
-ghost use Rattle.file_graph.specs.posix_calls.declared.call.Reply.{Reply};
-ghost use Rattle.file_graph.specs.posix_calls.declared.errno.Errno.{Errno};
+ghost use Rattle.posix_calls.specs.declared.call.Call.{Call};
+ghost use Rattle.posix_calls.specs.declared.call.Reply.{Reply};
+ghost use Rattle.posix_calls.specs.declared.errno.Errno.{Errno};
 ghost use Rattle.fuse_server.specs.declared.tree.Usage.{Usage};
 
-use file_graph::{Call, Errno, Path, Reply};
+use posix_calls::{Call, Errno, Path, Reply};
 
 /// How much there is of a tree, and how much of that is free.
 #[derive(Clone, Copy)]

@@ -8,5 +8,3 @@ pub mod Replies
 pub mod Contents
 pub mod Errno
 pub mod Negotiation
--- Passed on to the crates above, which so need not list those below.
-pub use Rattle.posix_calls.specs as posix_calls

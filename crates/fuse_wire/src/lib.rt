@@ -39,6 +39,3 @@ pub use reply_writes::{
 };
 pub use request::{Request, SetAttr, forget_at};
 pub use request_reads::read_request;
-
-// Passed on to the crates above, which so need not list those below.
-pub use posix_calls::{Errno, MAX_PATH};

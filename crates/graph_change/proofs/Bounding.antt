@@ -9,8 +9,8 @@ use Rattle.std.specs.FinMap as fin
 use Rattle.std.specs.FinMap.Entries.{put, by_order}
 use Rattle.std.proofs.lemmas.Bool.{false≢true, leb-true}
 use Rattle.std.proofs.lemmas.Bool.Decides.{eqb_tells}
-use Rattle.file_graph.proofs.posix_calls_lemmas.Directory.{entries-empty}
-use Rattle.file_graph.specs.posix_calls.declared.limits.TheConstants.{MAX_FILE, MAX_NAMES}
+use Rattle.posix_calls.proofs.Directory.{entries-empty}
+use Rattle.posix_calls.specs.declared.limits.TheConstants.{MAX_FILE, MAX_NAMES}
 use Rattle.file_graph.specs.Numbers.{is_inode}
 use Rattle.file_graph.specs.declared.effect.Effect.{Effect}
 use Rattle.file_graph.specs.declared.effect.Effect.TheVariants as effect

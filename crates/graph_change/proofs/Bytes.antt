@@ -6,7 +6,7 @@ use Rattle.std.proofs.lemmas.Bool.Decides.{nat_tests}
 use Rattle.std.proofs.lemmas.List.{get_or-drop, get_or_append_left, get_or-append_right, get_or_past, ext_get_or}
 use Rattle.std.proofs.lemmas.List.FromFn.{length-map-range_with_len, get_or-map-range_with_len}
 use Rattle.std.proofs.lemmas.Grind.{common_steps}
-use Rattle.file_graph.specs.posix_calls.Content.{with_length, with_bytes}
+use Rattle.posix_calls.specs.Content.{with_length, with_bytes}
 use Rattle.graph_change.specs.Bytes.{BytesChange, Length, Grown, Cut, end, length_after, kept_byte, no_bytes, byte_after, bytes_after, grown_to, sized_to, in_run, with_write, with_size, IsOrdered, IsTidy}
 
 length_resized : (n : ℕ) (bs : List ℕ) → length (with_length n bs) ≡ n

@@ -9,7 +9,7 @@ use Rattle.std.proofs.lemmas.Bool.Decides.{eqb_tells, nat_tests}
 use Rattle.std.proofs.lemmas.Grind.{common_steps}
 use Rattle.std.proofs.lemmas.List.{get_or_append_left, get_or-take, length-append, take-append-le, take_all}
 use Rattle.std.proofs.Math.Seq.{get_or-append_seam}
-use Rattle.file_graph.specs.posix_calls.declared.limits.TheConstants.{UNIT_BYTES}
+use Rattle.posix_calls.specs.declared.limits.TheConstants.{UNIT_BYTES}
 use Rattle.graph_change.specs.Bytes.{in_run}
 use Rattle.graph_change.specs.Change.{Patch, Patches, patch_at, span, put_patch, over_patch, put_blocks}
 use Rattle.graph_change.specs.BlockChanges.{block_at, ChangedFrom, SetFrom}

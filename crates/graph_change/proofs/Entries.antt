@@ -3,7 +3,7 @@ use Rattle.std.proofs.Common.{◌≡◌, ℕ, cond, Bool, true, false, List, [],
 use Rattle.std.specs.Ordering.{nat_cmp, eq_by_cmp}
 use Rattle.std.specs.Cmp.Lexicographic.{slice_cmp, nat_list_cmp_total}
 use Rattle.std.specs.FinMap as fin
-use Rattle.file_graph.specs.posix_calls.Content.{Entries}
+use Rattle.posix_calls.specs.Content.{Entries}
 use Rattle.graph_change.specs.Net.{Child, EntryChanges, with_entry, with_entries, entries_after}
 
 names_same : fin.IsAntisymmetric (slice_cmp nat_cmp)

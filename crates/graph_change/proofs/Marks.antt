@@ -9,7 +9,7 @@ use Rattle.std.proofs.lemmas.Grind.{common_steps}
 use Rattle.std.proofs.lemmas.List.{append-nil, drop-drop, length-append, drop-append-le, drop-map, drop-replicate, drop_all, ext_get_or, get_or-replicate, get_or_past, length-drop, length-map, length-replicate, length-take-le, map-append, take-append-le, take-map, take_all}
 use Rattle.std.proofs.lemmas.List.Folds.{sum_by-replicate}
 use Rattle.std.proofs.lemmas.List.Sums.{count_by-le-length, sum_by-append, sum_by-take-drop}
-use Rattle.file_graph.specs.posix_calls.declared.limits.TheConstants.{UNIT_BYTES}
+use Rattle.posix_calls.specs.declared.limits.TheConstants.{UNIT_BYTES}
 use Rattle.graph_change.specs.Bytes.{in_run}
 use Rattle.graph_change.specs.Change.{patched_bytes, put_patch, cut_patch, IsWhole}
 use Rattle.graph_change.specs.KeptBytes.{bytes_in, is_set, kept_marks, marks_in, IsKept}

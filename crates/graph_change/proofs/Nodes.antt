@@ -1,7 +1,7 @@
 -- The net change with one more effect is the net change and then the effect, of every node, of any kind or none.
 use Rattle.std.proofs.Common.{◌≡◌, ℕ, List, refl, Some, None, Option, ap}
 use Rattle.std.specs.Prelude.{option_map}
-use Rattle.file_graph.specs.posix_calls.Content.{with_length, with_bytes}
+use Rattle.posix_calls.specs.Content.{with_length, with_bytes}
 use Rattle.file_graph.specs.declared.effect.Effect.{Effect}
 use Rattle.file_graph.specs.declared.effect.Effect.TheVariants as effect
 use Rattle.std.specs.FinMap as fin

@@ -2,7 +2,7 @@
 use Rattle.std.specs.Prelude.{◌≡◌, ℕ, ◌+◌, ◌≤◌, nat_le, Bool, true, ◌&&◌, List, length, Option, IfSome}
 use Rattle.std.specs.List.{AllByRecursion}
 use Rattle.std.specs.FinMap as fin
-use Rattle.file_graph.specs.posix_calls.declared.limits.TheConstants.{MAX_FILE, MAX_NAMES}
+use Rattle.posix_calls.specs.declared.limits.TheConstants.{MAX_FILE, MAX_NAMES}
 use Rattle.file_graph.specs.Numbers.{is_inode}
 use Rattle.file_graph.specs.declared.effect.Effect.{Effect}
 use Rattle.file_graph.specs.declared.effect.Effect.TheVariants as effect

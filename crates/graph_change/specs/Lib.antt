@@ -8,5 +8,3 @@ pub mod Net
 pub mod Runs
 pub mod Tidy
 pub mod View
--- Passed on to the crates above, which so need not list those below.
-pub use Rattle.file_graph.specs.posix_calls

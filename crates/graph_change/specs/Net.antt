@@ -1,7 +1,7 @@
 -- The sum of effects at one inode, whatever stood there before.
 use Rattle.std.specs.Prelude.{ℕ, List, [], ◌∷◌, Option, Some, None, option_map}
 use Rattle.std.specs.FinMap as fin
-use Rattle.file_graph.specs.posix_calls.Content.{Entries}
+use Rattle.posix_calls.specs.Content.{Entries}
 use Rattle.file_graph.specs.Graph.{Node, Body, FileBody, DirBody, empty_body}
 use Rattle.file_graph.specs.declared.effect.Kind.{Kind}
 use Rattle.file_graph.specs.declared.effect.Effect.{Effect}

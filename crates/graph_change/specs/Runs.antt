@@ -1,6 +1,6 @@
 -- How what is put into a block is kept: as a run of bytes that others share, or as bytes of its own.
 use Rattle.std.specs.Prelude.{ℕ, ◌+◌, ◌≤◌, List, [], ◌++◌, length, Bool, true, false, replicate}
-use Rattle.file_graph.specs.posix_calls.declared.limits.TheConstants.{UNIT_BYTES}
+use Rattle.posix_calls.specs.declared.limits.TheConstants.{UNIT_BYTES}
 use Rattle.graph_change.specs.declared.kept_bytes.Kept.{Kept}
 use Rattle.graph_change.specs.declared.kept_bytes.Kept.TheVariants.{Nothing, Run, Own}
 

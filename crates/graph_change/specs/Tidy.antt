@@ -1,6 +1,6 @@
 -- What holds of every change that effects sum up to, whatever stood there before.
 use Rattle.std.specs.Prelude.{◌≡◌, ℕ, ◌*◌, ◌<◌, true}
-use Rattle.file_graph.specs.posix_calls.declared.limits.TheConstants.{UNIT_BYTES}
+use Rattle.posix_calls.specs.declared.limits.TheConstants.{UNIT_BYTES}
 use Rattle.graph_change.specs.Bytes.{IsTidy, end}
 use Rattle.graph_change.specs.Change.{Change, Changes, net_of, writes_block, change_at}
 

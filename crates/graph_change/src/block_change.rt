@@ -1,7 +1,7 @@
 ghost use Rattle.std.specs.Prelude.{◌≡◌, ◌≤◌, ◌+◌, ℕ, None, IsSome, length, get_or, Some, IfSome, IfOk, OnOk, OnErr, IsTrue, ◌↔◌, ◌<◌};
 ghost use Rattle.graph_change.specs.Change.{blank, cut_patch, put_patch, patched_bytes, IsWhole};
 ghost use Rattle.graph_change.specs.View.{patch_of};
-ghost use Rattle.file_graph.specs.posix_calls.declared.limits.TheConstants.{UNIT_BYTES};
+ghost use Rattle.posix_calls.specs.declared.limits.TheConstants.{UNIT_BYTES};
 
 use crate::kept_bytes::Kept;
 use crate::shared_part::SharedPart;

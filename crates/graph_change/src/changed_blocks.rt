@@ -5,11 +5,11 @@ ghost use Rattle.std.specs.FinMap as fin;
 ghost use Rattle.graph_change.specs.Change.{over_patch, patch_at};
 ghost use Rattle.graph_change.specs.BlockChanges.{ChangedFrom, SetFrom};
 ghost use Rattle.graph_change.specs.View.{patch_of, patches_of};
-ghost use Rattle.file_graph.specs.posix_calls.declared.limits.TheConstants.{UNIT_BYTES};
+ghost use Rattle.posix_calls.specs.declared.limits.TheConstants.{UNIT_BYTES};
 
 use crate::block_change::BlockChange;
 use crate::shared_part::SharedPart;
-use file_graph::{SharedBytes, UNIT_BYTES};
+use posix_calls::{SharedBytes, UNIT_BYTES};
 use std::alloc::{AllocError, Global};
 use std::collections::BTreeMap;
 

@@ -3,11 +3,11 @@ ghost use Rattle.graph_change.specs.Bytes.{in_run};
 ghost use Rattle.graph_change.specs.Change.{blank, cut_patch, put_patch, patched_bytes, IsWhole};
 ghost use Rattle.graph_change.specs.Runs.{kept_view, IsWithin};
 ghost use Rattle.graph_change.specs.View.{patch_of};
-ghost use Rattle.file_graph.specs.posix_calls.declared.limits.TheConstants.{UNIT_BYTES};
+ghost use Rattle.posix_calls.specs.declared.limits.TheConstants.{UNIT_BYTES};
 
 use crate::own_block::OwnBlock;
 use crate::shared_part::SharedPart;
-use file_graph::UNIT_BYTES;
+use posix_calls::UNIT_BYTES;
 use std::alloc::{AllocError, Global};
 
 /// How what is put into a block is kept.

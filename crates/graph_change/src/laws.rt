@@ -13,7 +13,7 @@ ghost use Rattle.graph_change.specs.Net.{Base, Gone, node_after};
 ghost use Rattle.graph_change.specs.Tidy.{IsTidyChange, AreTidyChanges};
 ghost use Rattle.graph_change.specs.View.{change_of, nodes_of, patch_of, patches_of};
 ghost use Rattle.graph_change.specs.declared.node_change.NodeChange.{NodeChange};
-ghost use Rattle.file_graph.specs.posix_calls.declared.limits.TheConstants.{UNIT_BYTES};
+ghost use Rattle.posix_calls.specs.declared.limits.TheConstants.{UNIT_BYTES};
 
 /// The changes of a list of effects make of every graph what the effects make of it, one after the other. The inodes in it are those that the effects are on; each of
 /// them and each block of a file is changed at most once, and no block that the effects leave alone.

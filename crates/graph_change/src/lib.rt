@@ -32,6 +32,3 @@ pub use laws::{
 pub use node_change::NodeChange;
 pub use parts::{NodeBase, NodeLength};
 pub use shared_part::SharedPart;
-
-// Passed on to the crates above, which so need not list those below.
-pub use file_graph::{MAX_ENTRIES, UNIT_BYTES};

@@ -4,7 +4,7 @@ ghost use Rattle.std.specs.Ordering.{nat_cmp};
 ghost use Rattle.std.specs.BTreeMap.{get, btree_map_len};
 ghost use Rattle.std.specs.FinMap as fin;
 ghost use Rattle.graph_change.specs.Bytes.{grown_to};
-ghost use Rattle.file_graph.specs.posix_calls.declared.limits.TheConstants.{UNIT_BYTES};
+ghost use Rattle.posix_calls.specs.declared.limits.TheConstants.{UNIT_BYTES};
 ghost use Rattle.graph_change.specs.Change.{new_change, change_after, patch_at, put_patch, put_blocks, span, cut_last, cut_patches};
 ghost use Rattle.graph_change.specs.Memory.{takes_memory};
 ghost use Rattle.graph_change.specs.View.{base_of, new_length, patches_of, change_of};
@@ -14,7 +14,8 @@ use crate::changed_blocks::{changed_blocks, set_blocks};
 use crate::made_blocks::make_blocks;
 use crate::parts::{NodeBase, NodeLength};
 use crate::shared_part::SharedPart;
-use file_graph::{Effect, Kind, Name, NameMap, SharedBytes, UNIT_BYTES};
+use file_graph::{Effect, Kind, NameMap};
+use posix_calls::{Name, SharedBytes, UNIT_BYTES};
 use std::alloc::{AllocError, Global};
 use std::collections::BTreeMap;
 

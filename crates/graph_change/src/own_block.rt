@@ -3,9 +3,9 @@ ghost use Rattle.std.specs.List.{count_by};
 ghost use Rattle.graph_change.specs.Change.{cut_patch, put_patch, patched_bytes, IsWhole};
 ghost use Rattle.graph_change.specs.View.{patch_of};
 ghost use Rattle.graph_change.specs.KeptBytes.{IsKept, bytes_in, is_set, kept_marks, marks_in};
-ghost use Rattle.file_graph.specs.posix_calls.declared.limits.TheConstants.{UNIT_BYTES};
+ghost use Rattle.posix_calls.specs.declared.limits.TheConstants.{UNIT_BYTES};
 
-use file_graph::UNIT_BYTES;
+use posix_calls::UNIT_BYTES;
 use std::alloc::{AllocError, Global};
 use std::marker::Model;
 

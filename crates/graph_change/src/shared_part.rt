@@ -1,6 +1,6 @@
 ghost use Rattle.std.specs.Prelude.{◌≡◌, ◌≤◌, ◌+◌, length, take, drop, min, IfOk};
 
-use file_graph::SharedBytes;
+use posix_calls::SharedBytes;
 use std::alloc::AllocError;
 use std::marker::Model;
 

@@ -10,5 +10,3 @@ pub mod Marks
 pub mod ListGrows
 pub mod AskedOn
 pub mod Whole
--- Passed on to the crates above, which so need not list those below.
-pub use Rattle.record_validation.proofs.call_effects_lemmas

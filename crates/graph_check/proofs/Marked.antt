@@ -2,21 +2,21 @@
 use Rattle.std.proofs.Common.{◌≡◌, ℕ, zero, suc, ◌+◌, ◌<◌, ◌≤◌, ◌==◌, List, [], ◌∷◌, ◌++◌, refl, Some, None, Option, Ok, ap, sym, ◌∙◌, subst, true, false, Bool, arith, if◌then◌else◌}
 use Rattle.std.specs.Prelude.{◌&&◌, nat_le, nat_lt, option_map}
 use Rattle.std.specs.FinMap as fin
-use Rattle.record_validation.specs.posix_calls.Content.{Entries}
-use Rattle.record_validation.specs.posix_calls.Tree.{Tree, entries_of, sum_up_to}
-use Rattle.record_validation.specs.posix_calls.Tree as tree
-use Rattle.record_validation.specs.posix_calls.Resolve.{resolve}
-use Rattle.record_validation.specs.posix_calls.WellFormed.{IsDirectory}
-use Rattle.record_validation.specs.file_graph.Graph.{Graph, Node, FileBody, DirBody}
-use Rattle.record_validation.specs.file_graph.declared.effect.Kind.{Kind}
-use Rattle.record_validation.specs.file_graph.declared.effect.Kind.TheVariants.{File, Directory}
-use Rattle.record_validation.specs.call_effects.Wholes.{tree_of, tree_node, kind_of, one_if, AreReached}
-use Rattle.record_validation.specs.call_effects.NodeView.{view_at}
-use Rattle.record_validation.specs.call_effects.log_record.Grammar.{IsInode}
-use Rattle.record_validation.proofs.call_effects_lemmas.Inodes.{get_inodes}
-use Rattle.record_validation.proofs.call_effects_lemmas.Ways.{paths}
-use Rattle.record_validation.proofs.call_effects_lemmas.posix_calls_lemmas.Changes.{no_entry}
-use Rattle.record_validation.proofs.call_effects_lemmas.posix_calls_lemmas.Reached.{Edge, Chain, path_chain}
+use Rattle.posix_calls.specs.Content.{Entries}
+use Rattle.posix_calls.specs.Tree.{Tree, entries_of, sum_up_to}
+use Rattle.posix_calls.specs.Tree as tree
+use Rattle.posix_calls.specs.Resolve.{resolve}
+use Rattle.posix_calls.specs.WellFormed.{IsDirectory}
+use Rattle.file_graph.specs.Graph.{Graph, Node, FileBody, DirBody}
+use Rattle.file_graph.specs.declared.effect.Kind.{Kind}
+use Rattle.file_graph.specs.declared.effect.Kind.TheVariants.{File, Directory}
+use Rattle.call_effects.specs.Wholes.{tree_of, tree_node, kind_of, one_if, AreReached}
+use Rattle.call_effects.specs.NodeView.{view_at}
+use Rattle.log_record.specs.Grammar.{IsInode}
+use Rattle.call_effects.proofs.Inodes.{get_inodes}
+use Rattle.call_effects.proofs.Ways.{paths}
+use Rattle.posix_calls.proofs.Changes.{no_entry}
+use Rattle.posix_calls.proofs.Reached.{Edge, Chain, path_chain}
 use Rattle.graph_check.specs.Defects.{HasInodesAlone, HasDirectory}
 use Rattle.graph_check.specs.Marks.{is_directory, parent, is_marked, Climbs, AllClimb, IsClosed}
 use Rattle.graph_check.specs.Rows.{EntriesFit, CountsFit}

@@ -2,7 +2,7 @@
 use Rattle.std.proofs.Common.{◌≡◌, ℕ, zero, suc, ◌<◌, ◌≤◌, refl, ap, sym, ◌∙◌, subst, true, false, Bool, arith, if◌then◌else◌}
 use Rattle.std.specs.Prelude.{nat_lt}
 use Rattle.std.proofs.Math.Decide.{dec_le}
-use Rattle.record_validation.specs.posix_calls.Tree.{sum_up_to}
+use Rattle.posix_calls.specs.Tree.{sum_up_to}
 use Rattle.graph_check.specs.Tables.{last_up_to}
 
 -- one of the numbers

@@ -5,7 +5,7 @@ ghost use Rattle.graph_check.specs.Marks.{is_directory};
 ghost use Rattle.graph_check.specs.Tables.{same_kind, head_kind};
 
 use crate::tables::NodeHead;
-use record_validation::Kind;
+use file_graph::Kind;
 
 /// Whether two kinds are the same.
 pub fn same_kind(a: Kind, b: Kind) -> bool

@@ -24,9 +24,3 @@ mod tables;
 pub use check::check_graph;
 pub use defect::{Defect, GraphError};
 pub use laws::graph_with_a_defect_is_unsound;
-
-// Passed on to the crates above, which so need not list those below.
-pub use record_validation::{
-    Child, Kind, MAX_INODE, NameMap, NodeSummary, Nodes, PlainEntry, ROOT, RecordCheck, Verdict,
-    is_inode,
-};

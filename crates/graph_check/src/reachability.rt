@@ -1,9 +1,9 @@
 //! Directories are marked as reached: the root, and each whose parent is marked.
 
 ghost use Rattle.std.specs.Prelude.{◌≡◌, ◌+◌, ◌<◌, ◌≤◌, ℕ, true, false, Some, IfErr, OnOk, length, slice_set, if◌then◌else◌};
-ghost use Rattle.record_validation.specs.posix_calls.declared.limits.TheConstants.{ROOT, MAX_INODE};
-ghost use Rattle.record_validation.specs.file_graph.Graph.{Graph};
-ghost use Rattle.record_validation.specs.call_effects.log_record.Grammar.{IsInode};
+ghost use Rattle.posix_calls.specs.declared.limits.TheConstants.{ROOT, MAX_INODE};
+ghost use Rattle.file_graph.specs.Graph.{Graph};
+ghost use Rattle.log_record.specs.Grammar.{IsInode};
 ghost use Rattle.graph_check.specs.declared.defect.Defect.TheVariants.{Unreachable};
 ghost use Rattle.graph_check.specs.Defects.{HasDirectory};
 ghost use Rattle.graph_check.specs.Marks.{is_marked, parent_in, AllClimb, IsClosed, IsClosedAt, HasMarkedParent, unmarked_count};
@@ -12,7 +12,7 @@ ghost use Rattle.graph_check.specs.Tables.{HasPlaces, IsRead};
 use crate::defect::{Defect, Finding};
 use crate::kinds::is_directory;
 use crate::tables::{Row, Tables};
-use record_validation::{MAX_INODE, ROOT};
+use posix_calls::{MAX_INODE, ROOT};
 
 /// Marks the directories to which steps from parent to child lead from the root; none is marked before.
 pub fn mark_reached(tables: &Tables, marks: &mut [bool])

@@ -11,5 +11,3 @@ pub mod File
 pub mod Sizes
 pub mod DiskFile
 pub mod Images
--- Passed on to the crates above, which so need not list those below.
-pub use Rattle.tier_device.specs as tier_device

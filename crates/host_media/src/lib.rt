@@ -24,6 +24,3 @@ pub use image::{image_of, read_image};
 pub use past::Past;
 pub use ram::RamMedia;
 pub use sizes::Sizes;
-
-// Passed on to the crates above, which so need not list those below.
-pub use tier_device::{FaultMedia, Fill, Media, MediaError, MemMedia, StopMedia, Tier, Trip};

@@ -3,8 +3,8 @@ use Rattle.std.proofs.Common.{◌≡◌, ◌≢◌, ◌≤◌, ◌<◌, ◌+◌,
 use Rattle.std.specs.List.{Contains, AllByRecursion}
 use Rattle.std.proofs.lemmas.Bool.{cases_lt}
 use Rattle.std.proofs.lemmas.List.{get_or_default}
-use Rattle.area_commit.specs.block_alloc.Runs.{blocks_of}
-use Rattle.area_commit.specs.block_alloc.Value.{FreeBlocks, IsUsed}
+use Rattle.block_alloc.specs.Runs.{blocks_of}
+use Rattle.block_alloc.specs.Value.{FreeBlocks, IsUsed}
 use Rattle.area_commit.specs.Release.{AreUsed, IsInUse}
 use Rattle.area_commit.proofs.Given.{all_from, cons_here, cons_there}
 use Rattle.inode_plan.specs.Blocks.{nth_block, HaveOwnPlaces, one_block}

@@ -5,11 +5,11 @@ use Rattle.std.specs.List.{Contains}
 use Rattle.std.proofs.lemmas.Bool.{cases_lt, cases_eq, eq-eqb, ne_eqb}
 use Rattle.std.proofs.lemmas.List.{length-append, get_or_append_left, get_or-append_right}
 use Rattle.std.proofs.lemmas.List.Elements.{Contains-append_left, Contains-append_right, Contains-append_cases}
-use Rattle.area_commit.specs.tier_device.declared.media.Tier.TheVariants.{Fast}
-use Rattle.area_commit.specs.layout.Places.{Sizes}
-use Rattle.area_commit.specs.block_alloc.declared.runs.Run.{Run}
-use Rattle.area_commit.specs.block_alloc.Runs.{blocks_of}
-use Rattle.area_commit.specs.block_alloc.Value.{FreeBlocks}
+use Rattle.tier_device.specs.declared.media.Tier.TheVariants.{Fast}
+use Rattle.layout.specs.Places.{Sizes}
+use Rattle.block_alloc.specs.declared.runs.Run.{Run}
+use Rattle.block_alloc.specs.Runs.{blocks_of}
+use Rattle.block_alloc.specs.Value.{FreeBlocks}
 use Rattle.area_commit.specs.Release.{AreUsed, IsInUse}
 use Rattle.inode_plan.specs.Blocks.{nth_block, HaveOwnPlaces, AreSound, use_on_fast, use_of, root_blocks, one_block}
 use Rattle.inode_plan.specs.declared.blocks.DirectoryBlocks.{DirectoryBlocks}

@@ -25,11 +25,3 @@ mod Given
 mod Fits
 mod Standing
 mod Gone
--- Passed on to the crates above, which so need not list those below.
-pub use Rattle.area_commit.proofs as area_commit_lemmas
-pub use Rattle.area_commit.proofs.area_image_lemmas
-pub use Rattle.area_commit.proofs.batch_journal_lemmas
-pub use Rattle.area_commit.proofs.block_alloc_lemmas
-pub use Rattle.area_commit.proofs.graph_change_lemmas
-pub use Rattle.area_commit.proofs.layout_lemmas
-pub use Rattle.area_commit.proofs.tree_blocks_lemmas

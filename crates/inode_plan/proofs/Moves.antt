@@ -2,12 +2,12 @@
 use Rattle.std.proofs.Common.{◌≡◌, ◌≢◌, ◌<◌, ◌≤◌, ◌+◌, ◌-◌, ◌∙◌, ◌⊎◌, refl, ℕ, zero, suc, List, [], ◌∷◌, length, get_or, true, false, Some, None, arith, inl, inr, sym, ap, subst}
 use Rattle.std.specs.Prelude.{nat_le, nat_lt}
 use Rattle.std.proofs.lemmas.Bool.{cases_lt, and_parts, and_from, leb-true, ltb-true, le-leb, lt-ltb, cond-true, cond-false, false_from_ne_true}
-use Rattle.area_commit.specs.tier_device.declared.media.Tier.{Tier}
-use Rattle.area_commit.specs.tier_device.declared.media.Tier.TheVariants.{Fast, Block, Slow}
-use Rattle.area_commit.specs.block_alloc.Runs.{Rising}
-use Rattle.area_commit.specs.extent_tree.Places.{in_run, place_of}
-use Rattle.area_commit.specs.extent_tree.Map.{TierRuns, runs_in, lies_at, ArePut}
-use Rattle.area_commit.specs.extent_tree.declared.map.Place.{Place}
+use Rattle.tier_device.specs.declared.media.Tier.{Tier}
+use Rattle.tier_device.specs.declared.media.Tier.TheVariants.{Fast, Block, Slow}
+use Rattle.block_alloc.specs.Runs.{Rising}
+use Rattle.extent_tree.specs.Places.{in_run, place_of}
+use Rattle.extent_tree.specs.Map.{TierRuns, runs_in, lies_at, ArePut}
+use Rattle.extent_tree.specs.declared.map.Place.{Place}
 use Rattle.inode_plan.specs.PlacedFile.{nth_number, nth_place, GoOn, LiesBehind, NumbersArePlaced}
 
 -- a later number is greater

@@ -3,10 +3,10 @@ use Rattle.std.proofs.Common.{◌≤◌, ◌<◌, ◌⊎◌, inl, inr, ℕ, ◌+
 use Rattle.std.specs.List.{Contains, AllByRecursion}
 use Rattle.std.proofs.lemmas.Bool.{cases_lt}
 use Rattle.std.proofs.lemmas.List.Elements.{Contains-append_left, Contains-append_right}
-use Rattle.area_commit.specs.block_alloc.declared.runs.Run.{Run}
-use Rattle.area_commit.specs.block_alloc.Runs.{run_blocks, blocks_of}
-use Rattle.area_commit.specs.block_alloc.Value.{FreeBlocks, IsUsed}
-use Rattle.area_commit.specs.extent_tree.Map.{HasBlock}
+use Rattle.block_alloc.specs.declared.runs.Run.{Run}
+use Rattle.block_alloc.specs.Runs.{run_blocks, blocks_of}
+use Rattle.block_alloc.specs.Value.{FreeBlocks, IsUsed}
+use Rattle.extent_tree.specs.Map.{HasBlock}
 use Rattle.area_commit.specs.Release.{AreUsed, IsInUse}
 use Rattle.area_commit.proofs.Given.{all_from, cons_cases, nothing, in_range}
 

@@ -9,7 +9,7 @@ use Rattle.std.specs.Cmp.{ranked}
 use Rattle.std.proofs.lemmas.Bool.{cases_lt}
 use Rattle.std.proofs.lemmas.List.{take-append-drop}
 use Rattle.std.proofs.lemmas.List.Elements.{Contains-append_left, Contains-append_right, Contains-append_cases, Contains-get_or}
-use Rattle.area_commit.specs.block_alloc.Runs.{Rising}
+use Rattle.block_alloc.specs.Runs.{Rising}
 use Rattle.area_commit.proofs.Given.{cons_cases, cons_here, cons_there}
 use Rattle.inode_plan.specs.BlockWrites.{Rise, HasOneMore}
 use Rattle.inode_plan.proofs.Moves.{later_is_greater}

@@ -3,12 +3,12 @@ use Rattle.std.proofs.Common.{◌≡◌, ◌≤◌, ◌<◌, ◌+◌, ◌-◌, �
 use Rattle.std.specs.List.{flat_map, range_with_len}
 use Rattle.std.proofs.lemmas.List.{append_assoc, map-append, take_more}
 use Rattle.std.proofs.lemmas.List.Concat.{flat_map-append}
-use Rattle.area_commit.specs.tier_device.declared.media.Tier.{Tier}
+use Rattle.tier_device.specs.declared.media.Tier.{Tier}
 use Rattle.area_commit.specs.Value.{on_tier}
-use Rattle.area_commit.specs.block_alloc.declared.runs.Run.{Run}
-use Rattle.area_commit.specs.block_alloc.Runs.{run_blocks, blocks_of}
-use Rattle.area_commit.proofs.block_alloc_lemmas.Blocks.{blocks-push}
-use Rattle.area_commit.specs.extent_tree.declared.map.Place.{Place}
+use Rattle.block_alloc.specs.declared.runs.Run.{Run}
+use Rattle.block_alloc.specs.Runs.{run_blocks, blocks_of}
+use Rattle.block_alloc.proofs.Blocks.{blocks-push}
+use Rattle.extent_tree.specs.declared.map.Place.{Place}
 use Rattle.inode_plan.specs.PlannedFile.{pair_of, pairs_of}
 
 range_more : (a n : ℕ) → range_with_len a (n + 1) ≡ range_with_len a n ++ (a + n) ∷ []

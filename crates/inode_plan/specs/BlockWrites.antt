@@ -3,9 +3,9 @@ use Rattle.std.specs.Prelude.{◌≡◌, ◌↔◌, ◌⊎◌, ℕ, List, Bool, 
 use Rattle.std.specs.List.{Contains}
 use Rattle.std.specs.Ordering.{nat_cmp}
 use Rattle.std.specs.BTreeMap.{BTreeMap, get}
-use Rattle.area_commit.specs.block_alloc.Runs.{Rising}
-use Rattle.area_commit.specs.tier_device.declared.media.Tier.{Tier}
-use Rattle.area_commit.specs.graph_change.Change.{Change}
+use Rattle.block_alloc.specs.Runs.{Rising}
+use Rattle.tier_device.specs.declared.media.Tier.{Tier}
+use Rattle.graph_change.specs.Change.{Change}
 use Rattle.area_commit.specs.InodeChange.{writes_over}
 
 -- The numbers rise.

@@ -11,15 +11,3 @@ pub mod PlannedDirectory
 pub mod Blocks
 pub mod DirectoryStart
 pub mod Spare
--- Passed on to the crates above, which so need not list those below.
-pub use Rattle.area_commit.specs as area_commit
-pub use Rattle.area_commit.specs.area_image
-pub use Rattle.area_commit.specs.batch_journal
-pub use Rattle.area_commit.specs.block_alloc
-pub use Rattle.area_commit.specs.extent_tree
-pub use Rattle.area_commit.specs.file_graph
-pub use Rattle.area_commit.specs.graph_change
-pub use Rattle.area_commit.specs.layout
-pub use Rattle.area_commit.specs.posix_calls
-pub use Rattle.area_commit.specs.tier_device
-pub use Rattle.area_commit.specs.tree_blocks

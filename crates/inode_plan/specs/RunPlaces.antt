@@ -1,11 +1,11 @@
 -- Where the blocks of an inode lie in memory once a run of them is moved.
 use Rattle.std.specs.Prelude.{◌≡◌, ◌≢◌, ◌+◌, ◌-◌, ◌<◌, ◌^◌, ℕ, List, length, get_or, Bool, true, false, Option, Some, None, IsSome, if◌then◌else◌}
 use Rattle.std.specs.List.{AllByRecursion}
-use Rattle.area_commit.specs.tier_device.declared.media.Tier.{Tier}
-use Rattle.area_commit.specs.tier_device.declared.media.Tier.TheVariants as tiers
-use Rattle.area_commit.specs.block_alloc.declared.runs.Run.{Run}
-use Rattle.area_commit.specs.extent_tree.Places.{in_run}
-use Rattle.area_commit.specs.extent_tree.Map.{TierRuns, lies_at}
+use Rattle.tier_device.specs.declared.media.Tier.{Tier}
+use Rattle.tier_device.specs.declared.media.Tier.TheVariants as tiers
+use Rattle.block_alloc.specs.declared.runs.Run.{Run}
+use Rattle.extent_tree.specs.Places.{in_run}
+use Rattle.extent_tree.specs.Map.{TierRuns, lies_at}
 
 -- ---- before
 

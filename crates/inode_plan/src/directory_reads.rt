@@ -1,16 +1,19 @@
 // The blocks of a directory as they stand on the medium.
 ghost use Rattle.std.specs.Prelude.{◌≡◌, ◌≢◌, ◌⊎◌, ◌<◌, ◌++◌, ◌∷◌, [], true, false, length, IfOk, IfErr, OnOk};
-ghost use Rattle.area_commit.specs.layout.Places.{is_node};
-ghost use Rattle.area_commit.specs.tier_device.declared.media.Tier.TheVariants as tiers;
-ghost use Rattle.area_commit.specs.layout.Slot.{is_root_block};
-ghost use Rattle.area_commit.specs.area_image.Store.{disk};
-ghost use Rattle.area_commit.specs.area_image.Looks.{Looks};
-ghost use Rattle.area_commit.specs.area_image.declared.error.AreaError.TheVariants.{DeviceFault, Memory};
+ghost use Rattle.layout.specs.Places.{is_node};
+ghost use Rattle.tier_device.specs.declared.media.Tier.TheVariants as tiers;
+ghost use Rattle.layout.specs.Slot.{is_root_block};
+ghost use Rattle.area_reader.specs.Store.{disk};
+ghost use Rattle.area_reader.specs.Looks.{Looks};
+ghost use Rattle.area_reader.specs.declared.error.AreaError.TheVariants.{DeviceFault, Memory};
 ghost use Rattle.inode_plan.specs.Blocks.{AreNodeBlocks};
 ghost use Rattle.inode_plan.specs.DirectoryStart.{HoldPlaces};
 
-use area_commit::{AreaError, BLOCK, Journal, Media, Tier, blank_block, read_block};
+use area_reader::{AreaError, blank_block, read_block};
+use batch_journal::Journal;
+use layout::BLOCK;
 use std::alloc::Global;
+use tier_device::{Media, Tier};
 
 // What stands in a block of the node pool.
 fn read_node<M: Media>(journal: &mut Journal<M>, block: u32) -> Result<[u8; BLOCK], AreaError>

@@ -2,7 +2,7 @@
 ghost use Rattle.std.specs.Prelude.{◌≡◌, ◌++◌, map, length, IfOk};
 ghost use Rattle.inode_plan.specs.Blocks.{root_blocks, one_block};
 
-use area_commit::Run;
+use block_alloc::Run;
 use std::alloc::{AllocError, Global};
 
 /// Blocks that are given up, each as a run of its own: these, and behind them a root, where there is one.

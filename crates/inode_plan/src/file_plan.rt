@@ -1,16 +1,16 @@
 // What a file is after a change of it.
 ghost use Rattle.std.specs.Prelude.{◌≡◌, ◌≤◌, ℕ, Some, length, OnOk, IfOk};
-ghost use Rattle.area_commit.specs.tier_device.declared.media.Tier.{Tier};
-ghost use Rattle.area_commit.specs.posix_calls.declared.limits.TheConstants.{MAX_FILE};
-ghost use Rattle.area_commit.specs.layout.declared.places.TheConstants.{FILE_BLOCKS};
-ghost use Rattle.area_commit.specs.block_alloc.Runs.{blocks_of};
-ghost use Rattle.area_commit.specs.block_alloc.Value.{FreeBlocks};
-ghost use Rattle.area_commit.specs.extent_tree.Normal.{IsNormal};
-ghost use Rattle.area_commit.specs.extent_tree.BlockFormat.{IsOneToOne};
-ghost use Rattle.area_commit.specs.extent_tree.Map.{runs_in, lies_at, LieBelow};
-ghost use Rattle.area_commit.specs.graph_change.Bytes.{end};
-ghost use Rattle.area_commit.specs.graph_change.Tidy.{IsTidyChange};
-ghost use Rattle.area_commit.specs.graph_change.View.{change_of};
+ghost use Rattle.tier_device.specs.declared.media.Tier.{Tier};
+ghost use Rattle.posix_calls.specs.declared.limits.TheConstants.{MAX_FILE};
+ghost use Rattle.layout.specs.declared.places.TheConstants.{FILE_BLOCKS};
+ghost use Rattle.block_alloc.specs.Runs.{blocks_of};
+ghost use Rattle.block_alloc.specs.Value.{FreeBlocks};
+ghost use Rattle.extent_tree.specs.Normal.{IsNormal};
+ghost use Rattle.extent_tree.specs.BlockFormat.{IsOneToOne};
+ghost use Rattle.extent_tree.specs.Map.{runs_in, lies_at, LieBelow};
+ghost use Rattle.graph_change.specs.Bytes.{end};
+ghost use Rattle.graph_change.specs.Tidy.{IsTidyChange};
+ghost use Rattle.graph_change.specs.View.{change_of};
 ghost use Rattle.area_commit.specs.Release.{AreUsed, IsInUse};
 ghost use Rattle.inode_plan.specs.Lists.{AreListsOf};
 ghost use Rattle.inode_plan.specs.PlacedFile.{PlacesFit};
@@ -21,8 +21,12 @@ ghost use Rattle.inode_plan.specs.PlannedFile.{left_in, runs_left};
 use crate::extents_of;
 use crate::file_places::change_map;
 use crate::freed_places::places_left;
-use area_commit::{BlockMap, InodeExtents, NodeChange, Place, Run, Tier};
+use area_reader::InodeExtents;
+use block_alloc::Run;
+use extent_tree::{BlockMap, Place};
+use graph_change::NodeChange;
 use std::alloc::{AllocError, Global};
+use tier_device::Tier;
 
 /// What a file is after a change: where its blocks lie, the extents of each tier, to be listed in a block where there are some, and the runs of data blocks of each tier that
 /// it leaves.

@@ -59,19 +59,3 @@ pub use place_list::taken_places;
 pub use plan::{DirectoryPlan, plan_directory};
 pub use run_places::put_runs;
 pub use slot_change::{roots_wanted, slot_after};
-
-// Passed on to the crates above, which so need not list those below.
-pub use area_commit::{
-    Allocation, AllocatorError, AreaError, BLOCK, BlockMap, CLIENTS, ChangedSlot, DirBlock,
-    DirEntries, DirEntry, EntryRef, Extent, ExtentBlock, FreedBlocks, Geometry, GraphChange,
-    InodeExtents, InodeParts, Journal, JournalError, Kind, MARKS_BLOCK, Mark, Marks, Media,
-    NodeBase, NodeChange, NodeImages, Place, Pools, Rewrite, Run, SLOT_SIZE, Slot, Super, Tier,
-    What, blank_block, block_number, bounded_entries_lead_to_inodes,
-    carried_out_inodes_are_written_anew, carried_out_marks, carry_out,
-    changed_store_spells_the_graph_after, charge_after_change, few_blocks_are_few_runs,
-    first_place, is_inode, length_of, moved_store_spells_the_same_graph, nodes_never_run_out,
-    open_area, put_lists, read_all_extents, read_block, read_parts, read_slot,
-    rewritten_inodes_are_spelled, root_of, runs_lie_apart, small_changes_find_blocks,
-    taken_blocks_were_free, units_of, written_directory_is_rewritten, written_file_is_rewritten,
-    written_free_slot_is_inode_after, written_inode_is_read,
-};

@@ -1,12 +1,16 @@
 // The places that a run leaves.
 ghost use Rattle.std.specs.Prelude.{◌≡◌, ◌≤◌, ◌<◌, ◌+◌, ◌^◌, ◌++◌, length, OnOk, IfOk};
 ghost use Rattle.std.specs.List.{AllByRecursion};
-ghost use Rattle.area_commit.specs.block_alloc.Runs.{blocks_of};
-ghost use Rattle.area_commit.specs.extent_tree.Map.{runs_in, places_of, HasBlock};
+ghost use Rattle.block_alloc.specs.Runs.{blocks_of};
+ghost use Rattle.extent_tree.specs.Map.{runs_in, places_of, HasBlock};
 ghost use Rattle.inode_plan.specs.Lists.{root_left, roots_left};
 
-use area_commit::{BlockMap, Run, Slot, Tier, root_of};
+use area_reader::root_of;
+use block_alloc::Run;
+use extent_tree::BlockMap;
+use layout::Slot;
 use std::alloc::{AllocError, Global};
+use tier_device::Tier;
 
 /// The places that a run has in a tier, as runs: no more than it has blocks, and none of them empty.
 pub fn places_in(

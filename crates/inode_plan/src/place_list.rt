@@ -1,14 +1,17 @@
 // The blocks that were taken, as places.
 ghost use Rattle.std.specs.Prelude.{◌≡◌, ◌++◌, ◌+◌, ◌<◌, ◌^◌, OnOk, IfOk};
-ghost use Rattle.area_commit.specs.tier_device.declared.media.Tier.{Tier};
-ghost use Rattle.area_commit.specs.block_alloc.Runs.{run_blocks, blocks_of};
+ghost use Rattle.tier_device.specs.declared.media.Tier.{Tier};
+ghost use Rattle.block_alloc.specs.Runs.{run_blocks, blocks_of};
 ghost use Rattle.area_commit.specs.Allocations.{runs_of, taken_data};
 ghost use Rattle.area_commit.specs.Value.{on_tier};
 ghost use Rattle.inode_plan.specs.RunPlaces.{EndsFit};
 ghost use Rattle.inode_plan.specs.PlannedFile.{pairs_of};
 
-use area_commit::{Allocation, Place, Run, Tier};
+use area_commit::Allocation;
+use block_alloc::Run;
+use extent_tree::Place;
 use std::alloc::{AllocError, Global};
+use tier_device::Tier;
 
 // Adds the blocks of a run of a tier.
 fn push_run(tier: Tier, run: Run, out: &mut Vec<Place>) -> Result<(), AllocError>

@@ -1,10 +1,12 @@
 // New places for a run.
 ghost use Rattle.std.specs.Prelude.{◌≡◌, ◌+◌, ◌<◌, ◌^◌, length, OnOk};
-ghost use Rattle.area_commit.specs.block_alloc.Runs.{blocks_of};
+ghost use Rattle.block_alloc.specs.Runs.{blocks_of};
 ghost use Rattle.inode_plan.specs.RunPlaces.{ArePlaced, EndsFit};
 
-use area_commit::{BlockMap, Run, Tier};
+use block_alloc::Run;
+use extent_tree::BlockMap;
 use std::alloc::AllocError;
+use tier_device::Tier;
 
 /// Puts as many blocks from a first one on as some runs of a tier have to the blocks of these runs, in order.
 pub fn put_runs(map: &mut BlockMap, first: u32, tier: Tier, runs: &[Run]) -> Result<(), AllocError>

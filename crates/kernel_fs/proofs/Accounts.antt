@@ -3,9 +3,9 @@ use Rattle.std.proofs.Common.{◌≡◌, ◌≢◌, inl, inr, ℕ, zero, suc, �
 use Rattle.std.proofs.lemmas.Bool.Decides.{eqb_tells, nat_tests}
 use Rattle.std.proofs.Math.Decide.{dec_le}
 use Rattle.std.proofs.lemmas.List.{get_or-set_same, get_or-set_other, get_or_default, length-set}
-use Rattle.digester.specs.posix_calls.Tree.{any_up_to, sum_up_to}
-use Rattle.digester.specs.posix_calls.Operations.{is_client}
-use Rattle.digester.proofs.posix_calls_lemmas.Sums.{same_if, there_if}
+use Rattle.posix_calls.specs.Tree.{any_up_to, sum_up_to}
+use Rattle.posix_calls.specs.Operations.{is_client}
+use Rattle.posix_calls.proofs.Sums.{same_if, there_if}
 use Rattle.world_invariant.specs.World.{Account, at}
 use Rattle.world_invariant.specs.Machine.{Machine}
 use Rattle.world_invariant.proofs.Owners.{is_low, is_high}

@@ -1,9 +1,9 @@
 -- Runs of the machine keep what holds of it, and digest what they accepted last.
 use Rattle.std.proofs.Common.{◌≡◌, ◌⊎◌, inl, inr, ℕ, ◌+◌, ◌-◌, ◌≤◌, ◌||◌, ◌&&◌, not, List, [], ◌∷◌, length, Bool, cond, Some, refl, ap, sym, ◌∙◌, subst, arith}
 use Rattle.std.proofs.lemmas.Bool.Decides.{eqb_tells}
-use Rattle.digester.proofs.posix_calls_lemmas.Sums.{same_if, there_if}
-use Rattle.digester.specs.log_record.declared.format.Record.{Record}
-use Rattle.digester.specs.update_log.RecordCounts.{next_generation}
+use Rattle.posix_calls.proofs.Sums.{same_if, there_if}
+use Rattle.log_record.specs.declared.format.Record.{Record}
+use Rattle.update_log.specs.RecordCounts.{next_generation}
 use Rattle.world_invariant.specs.FormatWorld.{idle_account}
 use Rattle.world_invariant.specs.LeaseSteps.{also, without}
 use Rattle.world_invariant.specs.Machine.{Sealed, IsRunning, account_after}

@@ -3,12 +3,12 @@ use Rattle.std.proofs.Common.{◌≡◌, ◌≢◌, inl, inr, ℕ, zero, suc, �
 use Rattle.std.proofs.lemmas.Bool.{false≢true}
 use Rattle.std.proofs.Math.Decide.{dec_le}
 use Rattle.std.proofs.lemmas.Bool.Decides.{eqb_tells}
-use Rattle.digester.specs.posix_calls.Tree.{sum_up_to}
+use Rattle.posix_calls.specs.Tree.{sum_up_to}
 use Rattle.world_invariant.specs.LeaseSteps.{also}
 use Rattle.kernel_fs.specs.Free.{AreLowest, count_of, is_absent}
 use Rattle.kernel_fs.specs.Inodes.{IsInode, is_inode}
 use Rattle.kernel_fs.proofs.Rows.{inode_is, inside}
-use Rattle.digester.proofs.posix_calls_lemmas.Sums.{one_changes, all_zero}
+use Rattle.posix_calls.proofs.Sums.{one_changes, all_zero}
 
 -- ---- counts
 

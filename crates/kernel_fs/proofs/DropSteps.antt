@@ -1,11 +1,11 @@
 -- A file is dropped, and the machine that the kernel stands for.
 use Rattle.std.proofs.Common.{◌≡◌, inl, inr, ℕ, Bool, false, cond, None, ap, sym, ◌∙◌, subst}
 use Rattle.std.proofs.lemmas.Bool.Decides.{eqb_tells}
-use Rattle.digester.specs.tier_device.declared.media.Media.{Ghosts}
-use Rattle.digester.specs.file_graph.Graph.{Graph, set_node}
-use Rattle.digester.specs.layout.Places.{Sizes}
-use Rattle.digester.specs.batch_journal.View.{JournalView}
-use Rattle.digester.specs.area_image.Store.{disk, graph}
+use Rattle.tier_device.specs.declared.media.Media.{Ghosts}
+use Rattle.file_graph.specs.Graph.{Graph, set_node}
+use Rattle.layout.specs.Places.{Sizes}
+use Rattle.batch_journal.specs.View.{JournalView}
+use Rattle.area_reader.specs.Store.{disk, graph}
 use Rattle.world_invariant.specs.KernelSteps.{CanReclaim}
 use Rattle.world_invariant.specs.Logs.{IsNameless}
 use Rattle.world_invariant.specs.LeaseSteps.{without}

@@ -2,16 +2,16 @@
 use Rattle.std.proofs.Common.{◌≡◌, ◌≢◌, inl, inr, ℕ, ◌+◌, ◌-◌, ◌≤◌, List, length, take, Bool, true, cond, Option, ap, sym, ◌∙◌, arith}
 use Rattle.std.proofs.lemmas.Bool.Decides.{eqb_tells}
 use Rattle.std.proofs.lemmas.List.{length-drop, length-take-le, get_or-set_other}
-use Rattle.digester.specs.tier_device.declared.media.Media.{Ghosts}
-use Rattle.digester.specs.posix_calls.Operations.{is_client}
-use Rattle.digester.specs.layout.declared.marks.Mark.{Mark}
-use Rattle.digester.specs.layout.declared.marks.Marks.{Marks}
-use Rattle.digester.specs.log_record.declared.format.Record.{Record}
-use Rattle.digester.specs.batch_journal.View.{JournalView}
-use Rattle.digester.specs.area_image.Store.{Store, disk, marks}
+use Rattle.tier_device.specs.declared.media.Media.{Ghosts}
+use Rattle.posix_calls.specs.Operations.{is_client}
+use Rattle.layout.specs.declared.marks.Mark.{Mark}
+use Rattle.layout.specs.declared.marks.Marks.{Marks}
+use Rattle.log_record.specs.declared.format.Record.{Record}
+use Rattle.batch_journal.specs.View.{JournalView}
+use Rattle.area_reader.specs.Store.{Store, disk, marks}
 use Rattle.digester.specs.DigestStep.{IsDigested}
 use Rattle.digester.specs.MarkMoves.{mark_after}
-use Rattle.digester.specs.update_log.RecordCounts.{next_generation}
+use Rattle.update_log.specs.RecordCounts.{next_generation}
 use Rattle.digester.specs.SealedLog.{SealedView, HasUndigested, IsSealed, StandsAtMark, done_to, mark_then, undone}
 use Rattle.world_invariant.specs.Machine.{Machine}
 use Rattle.world_invariant.specs.World.{at}

@@ -21,7 +21,3 @@ pub mod Rows
 pub mod Leading
 pub mod Members
 pub mod MarksGo
--- Passed on to the crates above, which so need not list those below.
-pub use Rattle.digester.proofs.area_image_lemmas
-pub use Rattle.digester.proofs as digester_lemmas
-pub use Rattle.world_invariant.proofs as world_invariant_lemmas

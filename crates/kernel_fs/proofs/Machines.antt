@@ -2,11 +2,11 @@
 use Rattle.std.proofs.Common.{◌≡◌, ◌⊎◌, inl, inr, ℕ, zero, suc, ◌+◌, ◌-◌, ◌≤◌, Bool, true, false, ◌||◌, ◌&&◌, not, nat_le, Option, Some, None, refl, ap, sym, ◌∙◌, subst, arith}
 use Rattle.std.proofs.lemmas.Bool.{false≢true}
 use Rattle.std.proofs.lemmas.Bool.Decides.{nat_tests}
-use Rattle.digester.specs.posix_calls.Tree.{any_up_to, sum_up_to}
-use Rattle.digester.specs.posix_calls.Operations.{is_client}
-use Rattle.digester.proofs.posix_calls_lemmas.Sums.{any_there, any_is}
-use Rattle.digester.specs.file_graph.Graph.{Node}
-use Rattle.digester.specs.file_graph.Units.{charge}
+use Rattle.posix_calls.specs.Tree.{any_up_to, sum_up_to}
+use Rattle.posix_calls.specs.Operations.{is_client}
+use Rattle.posix_calls.proofs.Sums.{any_there, any_is}
+use Rattle.file_graph.specs.Graph.{Node}
+use Rattle.file_graph.specs.Units.{charge}
 use Rattle.world_invariant.specs.World.{Account, Kernel, at}
 use Rattle.world_invariant.specs.BookSteps.{HasRoom, IsUnbooked}
 use Rattle.world_invariant.specs.Machine.{Machine, IsRunning}

@@ -1,15 +1,15 @@
 -- The media change, and the machine that the kernel stands for.
 use Rattle.std.proofs.Common.{◌≡◌, ℕ, Bool, true, Some, refl, ap, sym, ◌∙◌, subst, arith}
 use Rattle.std.specs.Prelude.{◌↔◌, IsTrue}
-use Rattle.digester.specs.tier_device.declared.media.Media.{Ghosts}
-use Rattle.digester.specs.tier_device.declared.media.Tier.{Tier}
-use Rattle.digester.specs.posix_calls.Operations.{is_client}
-use Rattle.digester.specs.file_graph.Graph.{Graph}
-use Rattle.digester.specs.layout.declared.marks.Marks.{Marks}
-use Rattle.digester.specs.layout.Places.{Sizes}
-use Rattle.digester.specs.batch_journal.View.{JournalView}
-use Rattle.digester.proofs.batch_journal_lemmas.Courses.{tiers_same}
-use Rattle.digester.specs.area_image.Store.{Store, disk, store_of, graph, marks}
+use Rattle.tier_device.specs.declared.media.Media.{Ghosts}
+use Rattle.tier_device.specs.declared.media.Tier.{Tier}
+use Rattle.posix_calls.specs.Operations.{is_client}
+use Rattle.file_graph.specs.Graph.{Graph}
+use Rattle.layout.specs.declared.marks.Marks.{Marks}
+use Rattle.layout.specs.Places.{Sizes}
+use Rattle.batch_journal.specs.View.{JournalView}
+use Rattle.batch_journal.proofs.Courses.{tiers_same}
+use Rattle.area_reader.specs.Store.{Store, disk, store_of, graph, marks}
 use Rattle.world_invariant.specs.Machine.{Machine}
 use Rattle.kernel_fs.specs.Book.{Accounts, IsBookOf}
 use Rattle.kernel_fs.specs.Nodes.{AreNodes}

@@ -2,8 +2,8 @@
 use Rattle.std.proofs.Common.{◌≡◌, inl, inr, ℕ, zero, suc, ◌+◌, ◌≤◌, ◌==◌, ◌||◌, List, ◌∷◌, length, Bool, true, false, cond, refl, ap, sym, ◌∙◌, arith}
 use Rattle.std.proofs.lemmas.Bool.{false≢true}
 use Rattle.std.proofs.lemmas.Bool.Decides.{eqb_tells}
-use Rattle.digester.specs.posix_calls.Tree.{sum_up_to}
-use Rattle.digester.specs.file_graph.Graph.{is_among}
+use Rattle.posix_calls.specs.Tree.{sum_up_to}
+use Rattle.file_graph.specs.Graph.{is_among}
 use Rattle.kernel_fs.specs.Inodes.{is_inode, has, passing_numbers, members}
 use Rattle.kernel_fs.proofs.Rows.{inode_tells, inside, has_none}
 

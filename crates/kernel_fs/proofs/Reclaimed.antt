@@ -2,16 +2,16 @@
 use Rattle.std.proofs.Common.{◌≡◌, ◌≢◌, inl, inr, ℕ, false, refl, ap, sym, ◌∙◌, subst, arith}
 use Rattle.std.specs.Prelude.{Option, Result, Ok, Err}
 use Rattle.std.proofs.lemmas.Bool.{true≢false}
-use Rattle.digester.specs.tier_device.declared.media.Media.{Ghosts}
-use Rattle.digester.specs.tier_device.Media.{Rose}
-use Rattle.digester.specs.batch_journal.View.{JournalView}
-use Rattle.digester.proofs.batch_journal_lemmas.Courses.{unmoved_on}
-use Rattle.digester.specs.area_image.declared.error.AreaError.{AreaError}
-use Rattle.digester.specs.area_image.declared.error.AreaError.TheVariants as area
-use Rattle.digester.specs.shared_area.GraphUpdate.{AppliesOrStays}
-use Rattle.digester.specs.area_image.Looks.{Looks}
+use Rattle.tier_device.specs.declared.media.Media.{Ghosts}
+use Rattle.tier_device.specs.Media.{Rose}
+use Rattle.batch_journal.specs.View.{JournalView}
+use Rattle.batch_journal.proofs.Courses.{unmoved_on}
+use Rattle.area_reader.specs.declared.error.AreaError.{AreaError}
+use Rattle.area_reader.specs.declared.error.AreaError.TheVariants as area
+use Rattle.shared_area.specs.GraphUpdate.{AppliesOrStays}
+use Rattle.area_reader.specs.Looks.{Looks}
 use Rattle.digester.specs.Errors.{IsAreaError}
-use Rattle.digester.specs.file_graph.Graph.{Node}
+use Rattle.file_graph.specs.Graph.{Node}
 use Rattle.world_invariant.specs.Logs.{IsNameless}
 use Rattle.kernel_fs.specs.Nodes.{is_node}
 use Rattle.kernel_fs.specs.Reclaim.{ReclaimsOrStays}

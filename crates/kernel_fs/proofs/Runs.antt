@@ -4,18 +4,18 @@ use Rattle.std.specs.Prelude.{Err}
 use Rattle.std.proofs.Math.Logic.{∥∥₁_map}
 use Rattle.std.proofs.lemmas.Bool.{false≢true, true≢false}
 use Rattle.std.proofs.lemmas.List.{length-drop}
-use Rattle.digester.specs.tier_device.declared.media.Media.{Ghosts}
-use Rattle.digester.specs.tier_device.declared.media.Tier.{Tier}
-use Rattle.digester.specs.posix_calls.Operations.{is_client}
-use Rattle.digester.specs.file_graph.Graph.{Graph}
-use Rattle.digester.specs.file_graph.Units.{charge}
-use Rattle.digester.specs.layout.declared.marks.Marks.{Marks}
-use Rattle.digester.specs.batch_journal.View.{JournalView}
-use Rattle.digester.proofs.batch_journal_lemmas.Courses.{tiers_same}
-use Rattle.digester.specs.area_image.Store.{disk, store_of, graph, marks}
-use Rattle.digester.specs.shared_area.TierMoves.{MovesOrStays}
-use Rattle.digester.specs.area_image.declared.error.AreaError.{AreaError}
-use Rattle.digester.specs.area_image.declared.error.AreaError.TheVariants as moves
+use Rattle.tier_device.specs.declared.media.Media.{Ghosts}
+use Rattle.tier_device.specs.declared.media.Tier.{Tier}
+use Rattle.posix_calls.specs.Operations.{is_client}
+use Rattle.file_graph.specs.Graph.{Graph}
+use Rattle.file_graph.specs.Units.{charge}
+use Rattle.layout.specs.declared.marks.Marks.{Marks}
+use Rattle.batch_journal.specs.View.{JournalView}
+use Rattle.batch_journal.proofs.Courses.{tiers_same}
+use Rattle.area_reader.specs.Store.{disk, store_of, graph, marks}
+use Rattle.shared_area.specs.TierMoves.{MovesOrStays}
+use Rattle.area_reader.specs.declared.error.AreaError.{AreaError}
+use Rattle.area_reader.specs.declared.error.AreaError.TheVariants as moves
 use Rattle.digester.specs.DigestStep.{DigestsOrStays}
 use Rattle.digester.specs.SealedLog.{SealedView, HasUndigested, IsSealed, StandsAtMark, undone}
 use Rattle.digester.specs.declared.error.DigestError.{DigestError}

@@ -1,8 +1,8 @@
 -- What the book has of each client, and the machine whose accounts it keeps.
 use Rattle.std.specs.Prelude.{◌≡◌, ℕ, ◌-◌, ◌≤◌, List, [], get_or, Bool, true, ◌&&◌, ◌||◌, not, nat_le}
-use Rattle.digester.specs.posix_calls.Tree.{any_up_to, sum_up_to}
-use Rattle.digester.specs.posix_calls.Operations.{is_client}
-use Rattle.digester.specs.posix_calls.declared.limits.TheConstants.{MAX_INODE, MAX_CLIENTS}
+use Rattle.posix_calls.specs.Tree.{any_up_to, sum_up_to}
+use Rattle.posix_calls.specs.Operations.{is_client}
+use Rattle.posix_calls.specs.declared.limits.TheConstants.{MAX_INODE, MAX_CLIENTS}
 use Rattle.world_invariant.specs.Machine.{Machine}
 use Rattle.kernel_fs.specs.Account.{IsAccountOf}
 use Rattle.kernel_fs.specs.Inodes.{has}

@@ -1,7 +1,7 @@
 -- Which numbers may be given to new nodes, and which of them are given next.
 use Rattle.std.specs.Prelude.{◌≡◌, ℕ, ◌<◌, Bool, true, false, ◌&&◌, not, nat_le, if◌then◌else◌}
-use Rattle.digester.specs.posix_calls.Tree.{sum_up_to}
-use Rattle.digester.specs.posix_calls.declared.limits.TheConstants.{MAX_INODE}
+use Rattle.posix_calls.specs.Tree.{sum_up_to}
+use Rattle.posix_calls.specs.declared.limits.TheConstants.{MAX_INODE}
 
 -- inodes that are not among these
 abbrev pub is_absent : (ℕ → Bool) → ℕ → Bool

@@ -1,7 +1,7 @@
 -- Sets of inodes.
 use Rattle.std.specs.Prelude.{ℕ, zero, suc, ◌-◌, ◌/◌, ◌%◌, ◌≤◌, List, [], ◌∷◌, get_or, Bool, ◌&&◌, ◌==◌, nat_le, if◌then◌else◌}
 use Rattle.std.specs.Int.{bit_at}
-use Rattle.digester.specs.posix_calls.declared.limits.TheConstants.{MAX_INODE}
+use Rattle.posix_calls.specs.declared.limits.TheConstants.{MAX_INODE}
 
 -- inodes are numbered from 1 to 1,024
 abbrev pub IsInode : ℕ → Type 0

@@ -1,13 +1,13 @@
 -- Which machine the kernel stands for.
 use Rattle.std.specs.Prelude.{◌≡◌, ℕ, true, Option, Some, None}
-use Rattle.digester.specs.tier_device.declared.media.Media.{Ghosts}
-use Rattle.digester.specs.posix_calls.Operations.{is_client}
-use Rattle.digester.specs.layout.declared.marks.Mark.{Mark}
-use Rattle.digester.specs.layout.declared.marks.Marks.{Marks}
-use Rattle.digester.specs.area_image.Store.{Store, disk, graph, marks}
+use Rattle.tier_device.specs.declared.media.Media.{Ghosts}
+use Rattle.posix_calls.specs.Operations.{is_client}
+use Rattle.layout.specs.declared.marks.Mark.{Mark}
+use Rattle.layout.specs.declared.marks.Marks.{Marks}
+use Rattle.area_reader.specs.Store.{Store, disk, graph, marks}
 use Rattle.digester.specs.MarkMoves.{mark_of}
 use Rattle.world_invariant.specs.Machine.{Machine}
-use Rattle.digester.specs.batch_journal.View.{JournalView}
+use Rattle.batch_journal.specs.View.{JournalView}
 use Rattle.kernel_fs.specs.Book.{Accounts, IsBookOf}
 use Rattle.kernel_fs.specs.Marks.{AreMarksOf}
 use Rattle.kernel_fs.specs.KernelView.{KernelView}

@@ -1,8 +1,8 @@
 -- The mark that media keep of a client, beside the numbers of the kernel's machine. The media count by the region: a generation, and how many of that region's records are digested; with the last of
 -- them the mark moves to the next generation, and to none. The machine counts all records of a client, for ever.
 use Rattle.std.specs.Prelude.{◌≡◌, ◌≢◌, ℕ, ◌+◌, ◌≤◌, true, List, length}
-use Rattle.digester.specs.posix_calls.Operations.{is_client}
-use Rattle.digester.specs.log_record.declared.format.Record.{Record}
+use Rattle.posix_calls.specs.Operations.{is_client}
+use Rattle.log_record.specs.declared.format.Record.{Record}
 use Rattle.world_invariant.specs.Machine.{Machine, Sealed}
 
 -- By the mark of the media so many records of the region are digested, where so many were ever digested, and accepted.

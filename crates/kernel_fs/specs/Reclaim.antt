@@ -1,20 +1,20 @@
 -- When a file is dropped, and what is left of the media meanwhile.
 use Rattle.std.specs.Prelude.{◌≡◌, ◌≢◌, ◌⊎◌, ◌≤◌, ◌+◌, ℕ, List, true, false, Option, Some, None, Result, OnOk, IfErr, IsErrOf}
-use Rattle.digester.specs.tier_device.declared.media.Media.{Ghosts}
-use Rattle.digester.specs.tier_device.declared.media.Tier.{Tier}
-use Rattle.digester.specs.tier_device.Media.{Rose}
-use Rattle.digester.specs.tier_device.AfterStop.{Left}
-use Rattle.digester.specs.file_graph.Graph.{Graph, set_node}
-use Rattle.digester.specs.layout.Places.{Sizes}
-use Rattle.digester.specs.batch_journal.Course.{Unmoved}
-use Rattle.digester.specs.batch_journal.View.{JournalView}
-use Rattle.digester.specs.batch_journal.Volume.{IsVolume}
-use Rattle.digester.specs.area_image.Store.{Store, store_of, slot, place, graph, marks}
-use Rattle.digester.specs.area_image.Reads.{Loose}
-use Rattle.digester.specs.area_image.Format.{IsOpenable}
-use Rattle.digester.specs.shared_area.Ready.{OpensAs}
-use Rattle.digester.specs.record_validation.declared.node_counts.NodeCounts.{NodeCounts}
-use Rattle.digester.specs.record_validation.declared.node_counts.NodeCounts.TheVariants as counts
+use Rattle.tier_device.specs.declared.media.Media.{Ghosts}
+use Rattle.tier_device.specs.declared.media.Tier.{Tier}
+use Rattle.tier_device.specs.Media.{Rose}
+use Rattle.tier_device.specs.AfterStop.{Left}
+use Rattle.file_graph.specs.Graph.{Graph, set_node}
+use Rattle.layout.specs.Places.{Sizes}
+use Rattle.batch_journal.specs.Course.{Unmoved}
+use Rattle.batch_journal.specs.View.{JournalView}
+use Rattle.batch_journal.specs.Volume.{IsVolume}
+use Rattle.area_reader.specs.Store.{Store, store_of, slot, place, graph, marks}
+use Rattle.area_reader.specs.Reads.{Loose}
+use Rattle.area_reader.specs.Format.{IsOpenable}
+use Rattle.shared_area.specs.Ready.{OpensAs}
+use Rattle.record_validation.specs.declared.node_counts.NodeCounts.{NodeCounts}
+use Rattle.record_validation.specs.declared.node_counts.NodeCounts.TheVariants as counts
 use Rattle.world_invariant.specs.Logs.{IsNameless}
 use Rattle.kernel_fs.specs.Book.{Accounts, is_pinned}
 use Rattle.kernel_fs.specs.declared.error.ReclaimError.{ReclaimError}

@@ -2,12 +2,12 @@
 
 ghost use Rattle.std.specs.Prelude.{◌≡◌, ◌≤◌, ◌<◌, ◌+◌, ◌↔◌, ℕ, length, take, true, false, IsTrue, IfErr, OnOk, OnErr};
 ghost use Rattle.std.specs.List.{AllByRecursion};
-ghost use Rattle.digester.specs.posix_calls.Operations.{is_client};
-ghost use Rattle.digester.specs.file_graph.Graph.{Graph};
-ghost use Rattle.digester.specs.graph_change.View.{changes_of};
-ghost use Rattle.digester.specs.log_record.Grammar.{IsRecord};
-ghost use Rattle.digester.specs.shared_area.ChangeApply.{MakesFewCalls};
-ghost use Rattle.digester.specs.area_image.Store.{disk};
+ghost use Rattle.posix_calls.specs.Operations.{is_client};
+ghost use Rattle.file_graph.specs.Graph.{Graph};
+ghost use Rattle.graph_change.specs.View.{changes_of};
+ghost use Rattle.log_record.specs.Grammar.{IsRecord};
+ghost use Rattle.shared_area.specs.ChangeApply.{MakesFewCalls};
+ghost use Rattle.area_reader.specs.Store.{disk};
 ghost use Rattle.digester.specs.Chunk.{IsChunkOf, is_next};
 ghost use Rattle.digester.specs.DigestStep.{IsDigested, NamesFirstBad, StaysOrDigests, DigestsOrStays};
 ghost use Rattle.digester.specs.SealedLog.{HasUndigested, IsDoneBy, StandsAtMark, undone};
@@ -19,8 +19,11 @@ ghost use Rattle.kernel_fs.specs.Nodes.{AreNodes};
 ghost use Rattle.kernel_fs.specs.RegionAccept.{BeginsAtMark, HasAsManyWaiting};
 
 use crate::{Book, InodeSet};
-use digester::{Chunk, DigestError, Media, Record, SealedLog, Shared, digest_chunk};
+use digester::{Chunk, DigestError, SealedLog, digest_chunk};
+use log_record::Record;
+use shared_area::Shared;
 use std::alloc::Global;
+use tier_device::Media;
 
 /// What becomes of a chunk that the kernel is to digest.
 #[derive(Clone, Copy, PartialEq, Eq)]

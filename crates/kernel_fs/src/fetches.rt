@@ -1,18 +1,24 @@
 //! What a client fetches of the shared graph, with the mark up to which its records were digested then.
 
 ghost use Rattle.std.specs.Prelude.{◌≡◌, ◌-◌, ◌*◌, ℕ, min, length, true, false, OnErr, IfOk, IfErr};
-ghost use Rattle.digester.specs.posix_calls.Operations.{is_client};
-ghost use Rattle.digester.specs.posix_calls.declared.limits.TheConstants.{UNIT_BYTES};
-ghost use Rattle.world_invariant.specs.call_effects.NodeView.{view_at};
-ghost use Rattle.digester.specs.area_image.Store.{disk, graph};
-ghost use Rattle.digester.specs.area_image.Looks.{Looks};
-ghost use Rattle.digester.specs.area_image.Map.{WantsMemory};
-ghost use Rattle.digester.specs.area_image.declared.error.AreaError.TheVariants.{Memory};
-ghost use Rattle.digester.specs.shared_area.Parts.{IsNoDamage};
-ghost use Rattle.digester.specs.shared_area.FileReads.{bytes_of_inode, IsReadFrom};
+ghost use Rattle.posix_calls.specs.Operations.{is_client};
+ghost use Rattle.posix_calls.specs.declared.limits.TheConstants.{UNIT_BYTES};
+ghost use Rattle.call_effects.specs.NodeView.{view_at};
+ghost use Rattle.area_reader.specs.Store.{disk, graph};
+ghost use Rattle.area_reader.specs.Looks.{Looks};
+ghost use Rattle.area_reader.specs.Map.{WantsMemory};
+ghost use Rattle.area_reader.specs.declared.error.AreaError.TheVariants.{Memory};
+ghost use Rattle.shared_area.specs.Parts.{IsNoDamage};
+ghost use Rattle.shared_area.specs.FileReads.{bytes_of_inode, IsReadFrom};
 ghost use Rattle.kernel_fs.specs.MachineState.{IsMarkIn};
 
-use digester::{AreaError, Mark, Media, NodeSummary, Shared, UNIT_BYTES, mark_of};
+use area_reader::AreaError;
+use digester::mark_of;
+use layout::Mark;
+use posix_calls::UNIT_BYTES;
+use record_validation::NodeSummary;
+use shared_area::Shared;
+use tier_device::Media;
 
 /// What stands at an inode of the shared graph, as a client fetches it.
 #[derive(Drop)]

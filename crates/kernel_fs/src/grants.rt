@@ -1,8 +1,8 @@
 // What the kernel grants its clients, takes back and pins.
 ghost use Rattle.std.specs.Prelude.{◌≡◌, ◌↔◌, ◌≤◌, ◌<◌, ◌+◌, ◌-◌, min, true, false, Err, OnOk, OnErr, IfOk, IsErrOf};
-ghost use Rattle.digester.specs.posix_calls.Operations.{is_client};
-ghost use Rattle.digester.specs.file_graph.Units.{charge};
-ghost use Rattle.digester.specs.area_image.Store.{disk, graph};
+ghost use Rattle.posix_calls.specs.Operations.{is_client};
+ghost use Rattle.file_graph.specs.Units.{charge};
+ghost use Rattle.area_reader.specs.Store.{disk, graph};
 ghost use Rattle.world_invariant.specs.Machine.{Machine, book_pin, unbook_pin, bury as buried};
 ghost use Rattle.kernel_fs.specs.Book.{units_of, out_of, is_free, IsBookOf};
 ghost use Rattle.kernel_fs.specs.Free.{AreLowest, count_of};
@@ -15,7 +15,8 @@ ghost use Rattle.kernel_fs.specs.declared.error.KernelError.TheVariants.{Failed,
 
 use crate::error::{KernelError, KernelFailed};
 use crate::{InodeSet, Kernel, RefillError, UnitUse};
-use digester::{Media, capacity_of};
+use digester::capacity_of;
+use tier_device::Media;
 
 impl<M: Media> Kernel<M> {
     /// Grants a client units and the lowest inode numbers that are free: those from 2 on that are no node of the shared graph and in no account. It makes no device call.

@@ -2,7 +2,7 @@ ghost use Rattle.std.specs.Prelude.{◌≡◌, ◌<◌, ◌||◌, ◌&&◌, ◌�
 ghost use Rattle.world_invariant.specs.LeaseSteps.{also, without};
 ghost use Rattle.kernel_fs.specs.Inodes.{IsInode, is_inode, has};
 
-use digester::MAX_INODE;
+use posix_calls::MAX_INODE;
 use std::marker::Model;
 
 // Rows of 64 inodes each.

@@ -1,28 +1,28 @@
 ghost use Rattle.std.specs.Prelude.{◌≡◌, ◌≢◌, ◌↔◌, ◌≤◌, ◌<◌, ◌+◌, ◌-◌, ◌*◌, ℕ, List, [], ◌∷◌, min, length, take, true, false, None, Err, OnOk, OnErr, IfOk, IfErr, IfSome, IsErrOf, IsTrue};
-ghost use Rattle.digester.specs.batch_journal.Course.{Unmoved};
-ghost use Rattle.digester.specs.posix_calls.Operations.{is_client};
-ghost use Rattle.digester.specs.posix_calls.declared.limits.TheConstants.{UNIT_BYTES};
-ghost use Rattle.digester.specs.file_graph.Graph.{is_among};
-ghost use Rattle.digester.specs.file_graph.Units.{charge};
-ghost use Rattle.digester.specs.file_graph.declared.effect.Effect.TheVariants as effect;
-ghost use Rattle.digester.specs.graph_change.Change.{coalesced_changes};
-ghost use Rattle.digester.specs.graph_change.View.{changes_of};
-ghost use Rattle.world_invariant.specs.call_effects.NodeView.{view_at};
-ghost use Rattle.digester.specs.tier_device.declared.media.Tier.{Tier};
-ghost use Rattle.digester.specs.tier_device.AfterStop.{AtRest, Left};
-ghost use Rattle.digester.specs.area_image.Format.{IsOpenable};
-ghost use Rattle.digester.specs.area_image.Store.{disk, graph};
-ghost use Rattle.digester.specs.area_image.Looks.{Looks, call_answer};
-ghost use Rattle.digester.specs.shared_area.ChangeApply.{MakesFewCalls};
-ghost use Rattle.digester.specs.area_image.Map.{WantsMemory};
-ghost use Rattle.digester.specs.area_image.Refusals.{IsMoveRefusal};
-ghost use Rattle.digester.specs.area_image.declared.error.AreaError.TheVariants.{DeviceFault, NoBlock, NotMapped, Memory};
-ghost use Rattle.digester.specs.shared_area.Parts.{IsNoDamage, IsTierOf};
-ghost use Rattle.digester.specs.shared_area.Ready.{HasFree, OpensAs};
-ghost use Rattle.digester.specs.shared_area.FileReads.{bytes_of_inode, IsReadFrom};
-ghost use Rattle.digester.specs.relocation.TierMove.{CanMove, IsMoved};
-ghost use Rattle.digester.specs.relocation.MovableFile.{HasFileRun};
-ghost use Rattle.digester.specs.shared_area.TierMoves.{HasTooFew, HasEnough, StaysOpen, MovesOrStays};
+ghost use Rattle.batch_journal.specs.Course.{Unmoved};
+ghost use Rattle.posix_calls.specs.Operations.{is_client};
+ghost use Rattle.posix_calls.specs.declared.limits.TheConstants.{UNIT_BYTES};
+ghost use Rattle.file_graph.specs.Graph.{is_among};
+ghost use Rattle.file_graph.specs.Units.{charge};
+ghost use Rattle.file_graph.specs.declared.effect.Effect.TheVariants as effect;
+ghost use Rattle.graph_change.specs.Change.{coalesced_changes};
+ghost use Rattle.graph_change.specs.View.{changes_of};
+ghost use Rattle.call_effects.specs.NodeView.{view_at};
+ghost use Rattle.tier_device.specs.declared.media.Tier.{Tier};
+ghost use Rattle.tier_device.specs.AfterStop.{AtRest, Left};
+ghost use Rattle.area_reader.specs.Format.{IsOpenable};
+ghost use Rattle.area_reader.specs.Store.{disk, graph};
+ghost use Rattle.area_reader.specs.Looks.{Looks, call_answer};
+ghost use Rattle.shared_area.specs.ChangeApply.{MakesFewCalls};
+ghost use Rattle.area_reader.specs.Map.{WantsMemory};
+ghost use Rattle.area_reader.specs.Refusals.{IsMoveRefusal};
+ghost use Rattle.area_reader.specs.declared.error.AreaError.TheVariants.{DeviceFault, NoBlock, NotMapped, Memory};
+ghost use Rattle.shared_area.specs.Parts.{IsNoDamage, IsTierOf};
+ghost use Rattle.shared_area.specs.Ready.{HasFree, OpensAs};
+ghost use Rattle.shared_area.specs.FileReads.{bytes_of_inode, IsReadFrom};
+ghost use Rattle.relocation.specs.TierMove.{CanMove, IsMoved};
+ghost use Rattle.relocation.specs.MovableFile.{HasFileRun};
+ghost use Rattle.shared_area.specs.TierMoves.{HasTooFew, HasEnough, StaysOpen, MovesOrStays};
 ghost use Rattle.digester.specs.Chunk.{IsChunkOf, is_next};
 ghost use Rattle.digester.specs.DigestStep.{IsDigested, NamesFirstBad, StaysOrDigests, DigestsOrStays};
 ghost use Rattle.digester.specs.SealedLog.{HasUndigested, IsDoneBy, StandsAtMark, undone};
@@ -52,10 +52,13 @@ use crate::log_reads::{has_as_many_waiting, undigested_count};
 use crate::node_scan::nodes_of;
 use crate::opening::Opening;
 use crate::{Book, InodeSet};
-use digester::{AreaError, Chunk, DigestError, Media, SealedLog, Shared, Tier, capacity_of};
+use area_reader::AreaError;
+use digester::{Chunk, DigestError, SealedLog, capacity_of};
 use migrator::{FileRun, migrate, pick};
+use shared_area::Shared;
 use std::alloc::Global;
 use std::marker::Model;
+use tier_device::{Media, Tier};
 
 /// How the units stand.
 #[derive(Clone, Copy, PartialEq, Eq)]
@@ -83,8 +86,8 @@ pub struct Kernel<M: Media> {
 
 impl<M: Media> Model for Kernel<M> {
     ghost use Rattle.std.specs.Prelude.{◌≡◌, false, ℕ, List};
-    ghost use Rattle.digester.specs.tier_device.declared.media.Tier.{Tier};
-    ghost use Rattle.digester.specs.area_image.Store.{disk, graph};
+    ghost use Rattle.tier_device.specs.declared.media.Tier.{Tier};
+    ghost use Rattle.area_reader.specs.Store.{disk, graph};
     ghost use Rattle.kernel_fs.specs.Inodes.{has};
     ghost use Rattle.kernel_fs.specs.Nodes.{AreNodes};
     ghost use Rattle.kernel_fs.specs.History.{EndsRun};

@@ -2,11 +2,11 @@
 
 ghost use Rattle.std.specs.Prelude.{◌≡◌, ◌<◌, ◌≤◌, ◌+◌, ℕ, Bool, List, ◌∷◌, Some, true, length, take, drop};
 ghost use Rattle.std.specs.List.{AllByRecursion};
-ghost use Rattle.digester.specs.file_graph.Graph.{Graph, after_effects, is_among};
-ghost use Rattle.digester.specs.log_record.Grammar.{IsRecord};
-ghost use Rattle.digester.specs.log_record.declared.format.Record.{Record};
-ghost use Rattle.digester.specs.batch_journal.Course.{Unmoved};
-ghost use Rattle.digester.specs.coalescer.Records.{effects_in};
+ghost use Rattle.file_graph.specs.Graph.{Graph, after_effects, is_among};
+ghost use Rattle.log_record.specs.Grammar.{IsRecord};
+ghost use Rattle.log_record.specs.declared.format.Record.{Record};
+ghost use Rattle.batch_journal.specs.Course.{Unmoved};
+ghost use Rattle.coalescer.specs.Records.{effects_in};
 ghost use Rattle.digester.specs.RecordCover.{AreCovered, units_of};
 ghost use Rattle.digester.specs.Plan.{IsFirstBad};
 ghost use Rattle.digester.specs.SealedLog.{SealedView, IsSealed, done_to, undone};
@@ -20,7 +20,7 @@ ghost use Rattle.kernel_fs.specs.Run.{Entry, Digest, RunState, IsRun, generation
 ghost use Rattle.kernel_fs.specs.KernelView.{KernelView};
 ghost use Rattle.kernel_fs.specs.MachineState.{IsKernelOf};
 
-use digester::Media;
+use tier_device::Media;
 
 /// What the effects of records make of a graph is what the records make of it, one after the other.
 pub fn effects_of_records_are_the_records()

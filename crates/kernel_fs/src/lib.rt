@@ -61,11 +61,3 @@ pub use laws::{
     sealed_records_are_covered, units_of_records_are_one_number,
     unmoved_kernel_stands_for_its_machine,
 };
-
-// Passed on to the crates above, which so need not list those below.
-pub use digester::{
-    AreaError, BLOCK, Chunk, DigestError, Geometry, GraphChange, MAX_INODE, Mark, Marks, Media,
-    SealedLog, Shared, Tier, changes_are_the_effects, changes_keep_to_the_limits, client_index,
-    digest_chunk, mark_of, marks_can_be_written, moved_mark_leaves_the_rest, prepare,
-};
-pub use migrator::FileRun;

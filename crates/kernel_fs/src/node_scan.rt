@@ -1,15 +1,18 @@
 //! Which inodes are nodes of the shared graph, read once.
 
 ghost use Rattle.std.specs.Prelude.{◌≡◌, ◌≤◌, ◌<◌, ◌+◌, ℕ, false, IfOk, IfErr};
-ghost use Rattle.digester.specs.area_image.Store.{disk, graph};
-ghost use Rattle.digester.specs.area_image.declared.error.AreaError.TheVariants.{DeviceFault};
-ghost use Rattle.digester.specs.area_image.Looks.{Looks};
+ghost use Rattle.area_reader.specs.Store.{disk, graph};
+ghost use Rattle.area_reader.specs.declared.error.AreaError.TheVariants.{DeviceFault};
+ghost use Rattle.area_reader.specs.Looks.{Looks};
 ghost use Rattle.kernel_fs.specs.Inodes.{IsInode, has};
 ghost use Rattle.kernel_fs.specs.Nodes.{AreNodes, is_node};
 ghost use Rattle.kernel_fs.specs.NodeScan.{AreNodesBelow};
 
 use crate::InodeSet;
-use digester::{AreaError, MAX_INODE, Media, Shared};
+use area_reader::AreaError;
+use posix_calls::MAX_INODE;
+use shared_area::Shared;
+use tier_device::Media;
 
 // Whether an inode is a node, as its slot tells.
 fn is_there<M: Media>(area: &mut Shared<M>, inode: u32) -> Result<bool, AreaError>

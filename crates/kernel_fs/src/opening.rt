@@ -1,13 +1,17 @@
 //! What a kernel knows of its opening.
 
 ghost use Rattle.std.specs.Prelude.{◌≡◌, ◌↔◌, ℕ, IsTrue, Some, true};
-ghost use Rattle.digester.specs.posix_calls.Operations.{is_client};
-ghost use Rattle.digester.specs.area_image.Store.{disk, marks as marks_of};
+ghost use Rattle.posix_calls.specs.Operations.{is_client};
+ghost use Rattle.area_reader.specs.Store.{disk, marks as marks_of};
 ghost use Rattle.kernel_fs.specs.MachineState.{StandBeforeRegions, done_in};
 
 use crate::initial_value::OpenedFrom;
-use digester::{MAX_CLIENTS, Marks, Media, Shared, mark_of};
+use digester::mark_of;
+use layout::Marks;
+use posix_calls::MAX_CLIENTS;
+use shared_area::Shared;
 use std::marker::Model;
+use tier_device::Media;
 
 /// What the shared media were when a kernel was opened over them, and whether each client's mark stood before a region then. Contracts see the media.
 #[derive(Drop)]
@@ -18,8 +22,8 @@ pub struct Opening<M: Media> {
 
 impl<M: Media> Model for Opening<M> {
     ghost use Rattle.std.specs.Prelude.{◌↔◌, IsTrue};
-    ghost use Rattle.digester.specs.batch_journal.View.{JournalView};
-    ghost use Rattle.digester.specs.area_image.Store.{disk};
+    ghost use Rattle.batch_journal.specs.View.{JournalView};
+    ghost use Rattle.area_reader.specs.Store.{disk};
     ghost use Rattle.kernel_fs.specs.MachineState.{StandBeforeRegions};
 
     ghost Value = { JournalView M };

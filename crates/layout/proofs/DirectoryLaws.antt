@@ -4,7 +4,7 @@ use Rattle.std.specs.List.{flat_map, list_all}
 use Rattle.std.specs.Prelude.{not}
 use Rattle.std.proofs.lemmas.Bool.{and_from, leb-true, le-leb}
 use Rattle.std.proofs.lemmas.List.{length-append, length-take, take_at, drop_at, take-append-drop}
-use Rattle.file_graph.specs.posix_calls.Name.{is_name}
+use Rattle.posix_calls.specs.Name.{is_name}
 use Rattle.layout.specs.declared.directory.DirEntry.{DirEntry}
 use Rattle.layout.specs.Places.{is_inode}
 use Rattle.layout.specs.Bytes.{AreBytes, u32, zeros, padded_text, byte_at, run_at, number_at, text_at, items_at, are_zero, within}

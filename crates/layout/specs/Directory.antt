@@ -2,8 +2,8 @@
 use Rattle.std.specs.Prelude.{◌≡◌, ◌≤◌, ◌==◌, ◌&&◌, true, not, nat_le, unwrap_or, slice_set, slice_index_or, ◌-◌, Bool, List, [], ◌∷◌, ◌++◌, length, take, drop, ℕ, Option, Some, None, if◌then◌else◌}
 use Rattle.std.specs.List.{flat_map, list_all, swap_remove}
 use Rattle.std.specs.Str.{bytes_eq}
-use Rattle.file_graph.specs.posix_calls.declared.limits.TheConstants.{MAX_NAME}
-use Rattle.file_graph.specs.posix_calls.Name.{is_name}
+use Rattle.posix_calls.specs.declared.limits.TheConstants.{MAX_NAME}
+use Rattle.posix_calls.specs.Name.{is_name}
 use Rattle.layout.specs.declared.places.TheConstants.{BLOCK}
 use Rattle.layout.specs.declared.directory.TheConstants.{MAX_IN_BLOCK, FIRST_ENTRY_AT, HEAD_GAP}
 use Rattle.file_graph.specs.Kinds.{kind_byte, kind_field}

@@ -8,7 +8,3 @@ pub mod Places
 pub mod Slot
 pub mod Super
 pub mod Rows
--- Passed on to the crates above, which so need not list those below.
-pub use Rattle.file_graph.specs as file_graph
-pub use Rattle.file_graph.specs.posix_calls
-pub use Rattle.tier_device.specs as tier_device

@@ -1,6 +1,6 @@
 -- Inode slots: what a node is, how large it is, and the roots of its blocks.
 use Rattle.std.specs.Prelude.{◌==◌, ◌^◌, ◌&&◌, ◌||◌, not, nat_lt, nat_le, Bool, true, List, ◌++◌, ℕ, Option, Some, None, if◌then◌else◌}
-use Rattle.file_graph.specs.posix_calls.declared.limits.TheConstants.{MAX_NAMES, MAX_FILE, MAX_ENTRIES}
+use Rattle.posix_calls.specs.declared.limits.TheConstants.{MAX_NAMES, MAX_FILE, MAX_ENTRIES}
 use Rattle.layout.specs.declared.places.TheConstants.{SLOT_SIZE}
 use Rattle.file_graph.specs.declared.kinds.TheConstants.{FILE_KIND, DIRECTORY_KIND}
 use Rattle.layout.specs.declared.slot.Slot.{Slot}

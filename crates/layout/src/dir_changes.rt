@@ -2,7 +2,7 @@
 ghost use Rattle.std.specs.Prelude.{◌≡◌, ◌<◌, ◌≤◌, ◌+◌, ◌*◌, ◌-◌, ◌∷◌, [], length, take, drop, true, None, IfSome, IfNone};
 ghost use Rattle.std.specs.List.{list_all, position};
 ghost use Rattle.std.specs.Str.{bytes_eq};
-ghost use Rattle.file_graph.specs.posix_calls.declared.limits.TheConstants.{MAX_NAME};
+ghost use Rattle.posix_calls.specs.declared.limits.TheConstants.{MAX_NAME};
 ghost use Rattle.layout.specs.Bytes.{u32 as bytes_4, zeros, with_text};
 ghost use Rattle.layout.specs.Directory.{EntryList, AreEntries, block_entries, are_distinct, entry_text, entries_spelling, fits_entry, fits_entries, entry_of, with_entry_at, with_last, with_target, without_entry, without_last};
 ghost use Rattle.file_graph.specs.Kinds.{kind_byte};

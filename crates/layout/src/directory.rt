@@ -10,7 +10,8 @@ use crate::error::{LayoutError, What};
 use crate::field_writes::{clear, put_u32};
 use crate::image::Image;
 use crate::places::BLOCK;
-use file_graph::{Kind, MAX_NAME, Name};
+use file_graph::Kind;
+use posix_calls::{MAX_NAME, Name};
 use std::alloc::{AllocError, Global};
 use std::marker::Model;
 

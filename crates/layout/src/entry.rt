@@ -4,12 +4,13 @@ ghost use Rattle.layout.specs.Bytes.{zeros, padded_text, with_text};
 ghost use Rattle.layout.specs.Directory.{front_of, fields_at, entry_at, entry_text};
 ghost use Rattle.file_graph.specs.Kinds.{kind_byte};
 ghost use Rattle.layout.specs.LentEntry.{owned_entry};
-ghost use Rattle.file_graph.specs.posix_calls.Name.{is_name};
+ghost use Rattle.posix_calls.specs.Name.{is_name};
 
 use crate::directory::DirEntry;
 use crate::field_reads::{are_zero, text_of};
 use crate::field_writes::{put, put_u32};
-use file_graph::{Kind, MAX_NAME, Name, byte_of, is_inode, kind_byte, read_kind, run_of, u32_of};
+use file_graph::{Kind, byte_of, is_inode, kind_byte, read_kind, run_of, u32_of};
+use posix_calls::{MAX_NAME, Name};
 use std::alloc::{AllocError, Global};
 
 /// An entry whose name lies elsewhere.

@@ -46,7 +46,3 @@ pub use places::{
 };
 pub use slot::Slot;
 pub use superblock::Super;
-
-// Passed on to the crates above, which so need not list those below.
-pub use file_graph::{Kind, MAX_INODE, NameMap, NamedEntry, is_inode};
-pub use tier_device::{Media, Tier};

@@ -9,7 +9,8 @@ use crate::field_reads::are_zero;
 use crate::field_writes::{clear, put_u32, put_u64};
 use crate::image::Image;
 use crate::places::{BLOCK, MARKS_BLOCK};
-use file_graph::{MAX_CLIENTS, u32_of, u64_of};
+use file_graph::{u32_of, u64_of};
+use posix_calls::MAX_CLIENTS;
 
 /// How many clients have a mark.
 pub const CLIENTS: usize = MAX_CLIENTS as usize;

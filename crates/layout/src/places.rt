@@ -1,7 +1,7 @@
 ghost use Rattle.std.specs.Prelude.{◌≡◌, ◌≤◌, ◌<◌};
 ghost use Rattle.layout.specs.Places.{slot_block, slot_byte};
 
-use file_graph::MAX_INODE;
+use posix_calls::MAX_INODE;
 
 /// The bytes of a block.
 pub const BLOCK: usize = 4_096;

@@ -8,7 +8,8 @@ use crate::error::{LayoutError, What};
 use crate::geometry::Geometry;
 use crate::places::{SLOT_SIZE, slot_block};
 use crate::slot_fields::SlotFields;
-use file_graph::{DIRECTORY_KIND, FILE_KIND, MAX_ENTRIES, MAX_FILE, MAX_INODE, MAX_NAMES};
+use file_graph::{DIRECTORY_KIND, FILE_KIND};
+use posix_calls::{MAX_ENTRIES, MAX_FILE, MAX_INODE, MAX_NAMES};
 
 /// What the slot of an inode holds. A root is the extent block that maps a tier's blocks, or 0 where there is none.
 #[derive(Clone, Copy, Debug, PartialEq, Eq)]

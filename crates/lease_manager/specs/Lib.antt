@@ -9,7 +9,3 @@ pub mod Passes
 pub mod RecordCounts
 pub mod PassLeases
 pub mod LeaseCounts
--- Passed on to the crates above, which so need not list those below.
-pub use Rattle.log_record.specs.file_graph
-pub use Rattle.log_record.specs as log_record
-pub use Rattle.log_record.specs.posix_calls

@@ -2,7 +2,7 @@
 ghost use Rattle.std.specs.Prelude.{◌≡◌, ◌+◌, ◌-◌, ◌*◌, ◌/◌, ◌^◌, ◌<◌};
 ghost use Rattle.lease_manager.specs.Words.{HasWord, IsClient, asked_word, asked_bit, both_marks};
 
-use log_record::{MAX_CLIENTS, MAX_INODE};
+use posix_calls::{MAX_CLIENTS, MAX_INODE};
 
 /// Inodes are numbered from 1 to this.
 pub const INODES: u32 = MAX_INODE;

@@ -32,9 +32,3 @@ pub use pass::{Busy, Pass};
 pub use pass_leases::{is_inode, reads, writes, written_inodes};
 pub use table::{Leases, Opened};
 pub use view::{Event, LeaseMode, Part};
-
-// Passed on to the crates above, which so need not list those below.
-pub use log_record::{
-    Call, Child, Effect, Errno, Kind, MAX_FILE, MAX_INODE, MAX_TRANSFER, NameMap, OwnDescriptors,
-    PlainGraph, Record, Reply, SharedBytes, UNIT_BYTES,
-};

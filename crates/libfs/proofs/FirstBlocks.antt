@@ -3,7 +3,7 @@ use Rattle.std.proofs.Common.{◌≡◌, ℕ, zero, suc, ◌<◌, ◌≤◌, Boo
 use Rattle.std.specs.Prelude.{◌==◌, ◌&&◌, not}
 use Rattle.std.specs.List.{filter}
 use Rattle.std.proofs.lemmas.Bool.{and_parts, and_from, eqb-true, eq-eqb, cond-true, cond-false}
-use Rattle.client_view.specs.block_cache.CacheList.{Block, bytes_at, in_front, is_at, put_block, without}
+use Rattle.block_cache.specs.CacheList.{Block, bytes_at, in_front, is_at, put_block, without}
 
 -- ---- more of the first ones
 

@@ -2,17 +2,17 @@
 use Rattle.std.proofs.Common.{◌≡◌, ◌≤◌, ℕ, Bool, true, false, cond, List, [], take, Option, Some, None, refl, sym, ◌∙◌, ap, subst, arith}
 use Rattle.std.proofs.lemmas.Bool.Decides.{nat_tests}
 use Rattle.std.specs.Prelude.{◌≢◌, Result, Ok, Err, IfOk, OnErr}
-use Rattle.client_log.specs.tier_device.declared.media.Media.{Ghosts}
-use Rattle.client_log.specs.tier_device.declared.media.Tier.TheVariants.{Fast}
-use Rattle.client_log.specs.tier_device.Media.{Keeps}
-use Rattle.client_log.specs.update_log.Frames.{before_gate, spelled_records}
-use Rattle.client_log.specs.update_log.View.{RegionView, records_of}
+use Rattle.tier_device.specs.declared.media.Media.{Ghosts}
+use Rattle.tier_device.specs.declared.media.Tier.TheVariants.{Fast}
+use Rattle.tier_device.specs.Media.{Keeps}
+use Rattle.update_log.specs.Frames.{before_gate, spelled_records}
+use Rattle.update_log.specs.View.{RegionView, records_of}
 use Rattle.client_log.specs.Calls.{IsOnlyRead}
 use Rattle.client_log.specs.View.{LogView, current_records}
-use Rattle.lease_manager.specs.posix_calls.Operations.{is_client}
+use Rattle.posix_calls.specs.Operations.{is_client}
 use Rattle.lease_manager.specs.Words.{IsClient}
-use Rattle.kernel_fs.specs.digester.SealedLog.{SealedView, IsDoneBy, done_to}
-use Rattle.kernel_fs.specs.digester.declared.error.DigestError.{DigestError}
+use Rattle.digester.specs.SealedLog.{SealedView, IsDoneBy, done_to}
+use Rattle.digester.specs.declared.error.DigestError.{DigestError}
 use Rattle.kernel_fs.specs.declared.chunk_digest.Digestion.{Digestion}
 use Rattle.kernel_fs.specs.declared.chunk_digest.Digestion.TheVariants.{Digested, NotNext, NotAccepted}
 use Rattle.kernel_fs.specs.declared.error.KernelError.{KernelError}

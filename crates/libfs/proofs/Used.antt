@@ -2,14 +2,14 @@
 use Rattle.std.proofs.Common.{◌≡◌, ◌∙◌, ap, ℕ, List, ◌/◌}
 use Rattle.std.specs.Prelude.{Option, length}
 use Rattle.std.specs.Option.{option_map_or}
-use Rattle.lease_manager.specs.posix_calls.Tree.{Own}
-use Rattle.lease_manager.specs.posix_calls.declared.call.Call.{Call}
-use Rattle.lease_manager.specs.posix_calls.declared.call.Call.TheVariants.{Pread}
-use Rattle.lease_manager.specs.posix_calls.declared.call.Reply.{Reply}
-use Rattle.lease_manager.specs.posix_calls.declared.call.Reply.TheVariants.{Read}
-use Rattle.lease_manager.specs.posix_calls.declared.descriptor.Descriptor.{Descriptor}
-use Rattle.lease_manager.specs.posix_calls.declared.limits.TheConstants.{UNIT_BYTES}
-use Rattle.client_view.specs.block_cache.CacheList.{Block, used_run}
+use Rattle.posix_calls.specs.Tree.{Own}
+use Rattle.posix_calls.specs.declared.call.Call.{Call}
+use Rattle.posix_calls.specs.declared.call.Call.TheVariants.{Pread}
+use Rattle.posix_calls.specs.declared.call.Reply.{Reply}
+use Rattle.posix_calls.specs.declared.call.Reply.TheVariants.{Read}
+use Rattle.posix_calls.specs.declared.descriptor.Descriptor.{Descriptor}
+use Rattle.posix_calls.specs.declared.limits.TheConstants.{UNIT_BYTES}
+use Rattle.block_cache.specs.CacheList.{Block, used_run}
 use Rattle.libfs.specs.BlockUse.{blocks_read, used_by}
 
 module _ (call : Call) (reply : Reply) (own : Own) (bs : List Block) (d at count : ℕ) (bytes : List ℕ) where

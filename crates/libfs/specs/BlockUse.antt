@@ -1,14 +1,14 @@
 -- Which of its blocks a client uses as it answers a call.
 use Rattle.std.specs.Prelude.{ℕ, ◌/◌, ◌&&◌, nat_le, List, length, if◌then◌else◌}
 use Rattle.std.specs.Option.{option_map_or}
-use Rattle.lease_manager.specs.posix_calls.Part.{blocks_touched}
-use Rattle.lease_manager.specs.posix_calls.Tree.{Own}
-use Rattle.lease_manager.specs.posix_calls.declared.call.Call.{Call}
-use Rattle.lease_manager.specs.posix_calls.declared.call.Call.TheVariants as calls
-use Rattle.lease_manager.specs.posix_calls.declared.call.Reply.{Reply}
-use Rattle.lease_manager.specs.posix_calls.declared.call.Reply.TheVariants as replies
-use Rattle.lease_manager.specs.posix_calls.declared.limits.TheConstants.{MAX_FILE, MAX_TRANSFER, UNIT_BYTES}
-use Rattle.client_view.specs.block_cache.CacheList.{Block, used_run}
+use Rattle.posix_calls.specs.Part.{blocks_touched}
+use Rattle.posix_calls.specs.Tree.{Own}
+use Rattle.posix_calls.specs.declared.call.Call.{Call}
+use Rattle.posix_calls.specs.declared.call.Call.TheVariants as calls
+use Rattle.posix_calls.specs.declared.call.Reply.{Reply}
+use Rattle.posix_calls.specs.declared.call.Reply.TheVariants as replies
+use Rattle.posix_calls.specs.declared.limits.TheConstants.{MAX_FILE, MAX_TRANSFER, UNIT_BYTES}
+use Rattle.block_cache.specs.CacheList.{Block, used_run}
 
 -- how many blocks so many bytes of a file from an offset on lie in; no file has bytes past the greatest one, and no read tells more than MAX_TRANSFER
 abbrev pub blocks_read : ℕ → ℕ → ℕ

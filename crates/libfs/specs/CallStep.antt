@@ -1,9 +1,9 @@
 -- What a device call of a begun record makes of its client.
 use Rattle.std.specs.Prelude.{◌≡◌, Bool, true, false, Option, Some, None, Result, Ok, Err}
-use Rattle.client_log.specs.tier_device.declared.media.Media.{Ghosts}
-use Rattle.lease_manager.specs.posix_calls.declared.call.Reply.{Reply}
-use Rattle.lease_manager.specs.posix_calls.declared.call.Reply.TheVariants as replies
-use Rattle.lease_manager.specs.posix_calls.declared.errno.Errno.TheVariants.{IoError}
+use Rattle.tier_device.specs.declared.media.Media.{Ghosts}
+use Rattle.posix_calls.specs.declared.call.Reply.{Reply}
+use Rattle.posix_calls.specs.declared.call.Reply.TheVariants as replies
+use Rattle.posix_calls.specs.declared.errno.Errno.TheVariants.{IoError}
 use Rattle.client_log.specs.Turns.{turn_of, record_appended}
 use Rattle.client_log.specs.declared.error.LogError.{LogError}
 use Rattle.client_log.specs.declared.error.LogError.TheVariants.{DeviceFault}

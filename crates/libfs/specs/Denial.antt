@@ -1,6 +1,6 @@
 -- What a call is answered whose need was denied.
-use Rattle.lease_manager.specs.posix_calls.declared.errno.Errno.{Errno}
-use Rattle.lease_manager.specs.posix_calls.declared.errno.Errno.TheVariants.{Again, IoError, NoMemory, NoSpace}
+use Rattle.posix_calls.specs.declared.errno.Errno.{Errno}
+use Rattle.posix_calls.specs.declared.errno.Errno.TheVariants.{Again, IoError, NoMemory, NoSpace}
 use Rattle.libfs.specs.declared.denial.Denied.{Denied}
 use Rattle.libfs.specs.declared.denial.Denied.TheVariants.{NoUnits, NoInode, Device, KernelFailed, Memory, Turns}
 

@@ -1,14 +1,14 @@
 -- What the calls on a lease make of a client.
 use Rattle.std.specs.Prelude.{◌≡◌, ◌≢◌, ℕ, false}
-use Rattle.client_view.specs.client_plan.declared.need.Mode.{Mode}
-use Rattle.client_view.specs.client_plan.declared.need.Mode.TheVariants.{Read, Write}
+use Rattle.client_plan.specs.declared.need.Mode.{Mode}
+use Rattle.client_plan.specs.declared.need.Mode.TheVariants.{Read, Write}
 use Rattle.lease_manager.specs.declared.view.LeaseMode.{LeaseMode}
 use Rattle.lease_manager.specs.declared.view.LeaseMode.TheVariants.{Free, Reading, Writing}
 use Rattle.lease_manager.specs.Words.{HasWord}
 use Rattle.lease_manager.specs.Marks.{ShowsOther, ShowsWriter}
 use Rattle.lease_manager.specs.Passes.{PassView, lease_of, records_of, without_lease, refused_at, tried_at}
 use Rattle.client_view.specs.KnowledgeChanges.{without_inode}
-use Rattle.client_view.specs.block_cache.CacheList.{without_file}
+use Rattle.block_cache.specs.CacheList.{without_file}
 use Rattle.libfs.specs.View.{ClientView, is_pending}
 use Rattle.libfs.specs.ClientHoldings.{known_to}
 

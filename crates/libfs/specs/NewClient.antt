@@ -1,6 +1,6 @@
 -- A client as it begins.
 use Rattle.std.specs.Prelude.{◌≡◌, ℕ, false, [], None, is_some, true}
-use Rattle.client_log.specs.tier_device.declared.media.Media.{Ghosts}
+use Rattle.tier_device.specs.declared.media.Media.{Ghosts}
 use Rattle.lease_manager.specs.Passes.{PassView, client_of}
 use Rattle.client_log.specs.View.{LogView, current_records}
 use Rattle.libfs.specs.View.{ClientView}

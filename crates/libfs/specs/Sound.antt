@@ -2,8 +2,8 @@
 use Rattle.std.specs.Prelude.{◌≡◌, ◌++◌, Bool, true, [], Option, is_some}
 use Rattle.std.specs.Option.{ForSome}
 use Rattle.atomic_table.specs.Seated.{TableId}
-use Rattle.client_log.specs.tier_device.declared.media.Media.{Ghosts}
-use Rattle.client_log.specs.update_log.Frames.{with_record}
+use Rattle.tier_device.specs.declared.media.Media.{Ghosts}
+use Rattle.update_log.specs.Frames.{with_record}
 use Rattle.lease_manager.specs.Passes.{PassView, client_of}
 use Rattle.client_log.specs.View.{LogView, current_records}
 use Rattle.client_view.specs.KnowledgeTables.{Held, knows}

@@ -1,5 +1,5 @@
 use client_view::OwnChange;
-use lease_manager::Reply;
+use posix_calls::Reply;
 
 /// A call whose record is begun in the client's log.
 #[derive(Drop)]

@@ -1,16 +1,16 @@
 ghost use Rattle.std.specs.Prelude.{◌≡◌, ◌≤◌, ◌⊎◌, ◌/◌, length, true, false, None, IfOk, IfErr, IfSome};
-ghost use Rattle.lease_manager.specs.posix_calls.declared.call.Call.TheVariants as calls;
-ghost use Rattle.lease_manager.specs.posix_calls.declared.call.Reply.TheVariants as replies;
-ghost use Rattle.lease_manager.specs.posix_calls.declared.errno.Errno.TheVariants.{IoError, NoMemory};
-ghost use Rattle.client_log.specs.call_effects.Knowledge.{part_of};
-ghost use Rattle.client_view.specs.client_plan.Memory.{wants_memory};
-ghost use Rattle.client_view.specs.client_plan.PlainWrite.{write_logged, written_by};
+ghost use Rattle.posix_calls.specs.declared.call.Call.TheVariants as calls;
+ghost use Rattle.posix_calls.specs.declared.call.Reply.TheVariants as replies;
+ghost use Rattle.posix_calls.specs.declared.errno.Errno.TheVariants.{IoError, NoMemory};
+ghost use Rattle.call_effects.specs.Knowledge.{part_of};
+ghost use Rattle.client_plan.specs.Memory.{wants_memory};
+ghost use Rattle.client_plan.specs.PlainWrite.{write_logged, written_by};
 ghost use Rattle.client_view.specs.KnowledgeTables.{knows};
 ghost use Rattle.client_view.specs.Preparation.{IsPreparedFor};
 ghost use Rattle.libfs.specs.declared.now.Now.TheVariants as now;
-ghost use Rattle.lease_manager.specs.posix_calls.declared.call.Reply.{Reply};
-ghost use Rattle.lease_manager.specs.posix_calls.declared.limits.TheConstants.{MAX_TRANSFER, UNIT_BYTES};
-ghost use Rattle.client_view.specs.block_cache.CacheList.{used_run};
+ghost use Rattle.posix_calls.specs.declared.call.Reply.{Reply};
+ghost use Rattle.posix_calls.specs.declared.limits.TheConstants.{MAX_TRANSFER, UNIT_BYTES};
+ghost use Rattle.block_cache.specs.CacheList.{used_run};
 ghost use Rattle.libfs.specs.BlockUse.{blocks_read, used_by};
 ghost use Rattle.libfs.specs.View.{is_pending, pass_answered};
 ghost use Rattle.libfs.specs.ClientHoldings.{holdings_of, known_to, outcome_for};
@@ -19,16 +19,18 @@ ghost use Rattle.libfs.specs.CallStart.{HasBegun, HasStarted, IsOutOfMemory, IsR
 use crate::begun_record::Begun;
 use crate::client::Client;
 use crate::now::Now;
-use client_log::Media;
+use client_plan::{
+    DescriptorChange, Outcome, PlainWrite, logged_call_is_a_step, plain_write,
+    plain_write_is_logged, plan_call, record_of_write,
+};
 use client_view::{
-    ClientCopies, DescriptorChange, Outcome, OwnChange, PlainWrite, logged_call_can_be_prepared,
-    logged_call_is_a_step, plain_write, plain_write_is_logged, plan_call, record_of_write,
-    used_blocks_are_known_as_before,
+    ClientCopies, OwnChange, logged_call_can_be_prepared, used_blocks_are_known_as_before,
 };
-use lease_manager::{
-    Call, Errno, MAX_FILE, MAX_TRANSFER, Record, Reply, SharedBytes, UNIT_BYTES, note_effects,
-};
+use lease_manager::note_effects;
+use log_record::Record;
+use posix_calls::{Call, Errno, MAX_FILE, MAX_TRANSFER, Reply, SharedBytes, UNIT_BYTES};
 use std::alloc::AllocError;
+use tier_device::Media;
 
 impl<M: Media> Client<M> {
     /// Starts a call, where none waits for its answer: answers it at once, or names what is lacking first and changes nothing, or begins its record, whose device calls `step` makes. Which of these, `plan_call`

@@ -1,11 +1,11 @@
 ghost use Rattle.std.specs.Prelude.{◌≡◌};
-ghost use Rattle.lease_manager.specs.posix_calls.declared.call.Reply.TheVariants as replies;
+ghost use Rattle.posix_calls.specs.declared.call.Reply.TheVariants as replies;
 ghost use Rattle.libfs.specs.Denial.{errno_of};
 ghost use Rattle.libfs.specs.View.{pass_answered};
 
 use crate::client::Client;
-use client_log::Media;
-use lease_manager::{Call, Errno, Reply};
+use posix_calls::{Call, Errno, Reply};
+use tier_device::Media;
 
 /// Why what a call needs can't be had.
 #[derive(Clone, Copy, Debug, PartialEq, Eq)]

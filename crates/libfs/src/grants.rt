@@ -1,16 +1,16 @@
 //! Units, numbers and pins, which the kernel's book has of each client.
 ghost use Rattle.std.specs.Prelude.{◌≡◌, ◌⊎◌, ◌<◌, ◌≤◌, ◌+◌, ◌^◌, ◌||◌, ◌&&◌, ◌==◌, ℕ, None, true, false, OnOk, OnErr, IfOk, IfErr, IsErrOf, vec_len, vec_capacity};
-ghost use Rattle.lease_manager.specs.posix_calls.declared.limits.TheConstants.{MAX_INODE};
-ghost use Rattle.lease_manager.specs.posix_calls.Tree.{has_open};
-ghost use Rattle.lease_manager.specs.file_graph.Graph.{is_among};
-ghost use Rattle.lease_manager.specs.file_graph.Numbers.{is_inode};
-ghost use Rattle.lease_manager.specs.file_graph.Units.{charge};
+ghost use Rattle.posix_calls.specs.declared.limits.TheConstants.{MAX_INODE};
+ghost use Rattle.posix_calls.specs.Tree.{has_open};
+ghost use Rattle.file_graph.specs.Graph.{is_among};
+ghost use Rattle.file_graph.specs.Numbers.{is_inode};
+ghost use Rattle.file_graph.specs.Units.{charge};
 ghost use Rattle.kernel_fs.specs.Book.{out_of, is_free};
 ghost use Rattle.kernel_fs.specs.Free.{count_of};
 ghost use Rattle.kernel_fs.specs.Inodes.{IsInode, has};
 ghost use Rattle.kernel_fs.specs.Nodes.{nodes_in};
 ghost use Rattle.kernel_fs.specs.MachineState.{IsKernelOf};
-ghost use Rattle.client_log.specs.world_invariant.Machine.{Machine, book_pin, unbook_pin};
+ghost use Rattle.world_invariant.specs.Machine.{Machine, book_pin, unbook_pin};
 ghost use Rattle.lease_manager.specs.Passes.{client_of};
 ghost use Rattle.libfs.specs.declared.denial.Denied.TheVariants as denied;
 ghost use Rattle.libfs.specs.ClientHoldings.{known_to};
@@ -18,10 +18,11 @@ ghost use Rattle.libfs.specs.NeedService.{HasGivenBack, HasRefilled, with_pin, r
 
 use crate::client::Client;
 use crate::denial::Denied;
-use client_log::Media;
 use kernel_fs::{InodeSet, Kernel, KernelError, RefillError};
-use lease_manager::{MAX_INODE, is_inode};
+use lease_manager::is_inode;
+use posix_calls::MAX_INODE;
 use std::alloc::AllocError;
+use tier_device::Media;
 
 impl<M: Media> Client<M> {
     /// Is granted units, and so many of the lowest numbers for new nodes that are free.

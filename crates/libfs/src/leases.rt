@@ -10,9 +10,9 @@ ghost use Rattle.lease_manager.specs.LeaseCounts.{CountsAs};
 ghost use Rattle.libfs.specs.LeaseCalls.{CanBeGiven, HasGiven, ShowsBar, mode_of, refused_pass};
 
 use crate::client::Client;
-use client_log::Media;
-use client_view::Mode;
+use client_plan::Mode;
 use lease_manager::{Busy, LeaseMode, Leases, Pass, is_inode, raise, take_read, take_write};
+use tier_device::Media;
 
 impl<M: Media> Client<M> {
     /// Takes a lease of an inode of which the client holds none. `Busy` has the number found in its word, which showed another client's mark; then the client holds what it held.

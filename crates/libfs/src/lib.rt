@@ -38,15 +38,3 @@ pub use laws::{
 };
 pub use now::Now;
 pub use sealed_region::SealedRegion;
-
-// Passed on to the crates above, which so need not list those below.
-pub use client_log::{ClientLog, LogError, Media, Region, Tier, WipeProgress};
-pub use client_view::{Mode, Need, NodeCounts, NodeSummary};
-pub use kernel_fs::{
-    AcceptError, AreaError, Chunk, DigestError, Digestion, Fetched, FetchedBytes, Figures, FileRun,
-    Kernel, KernelError, ReclaimError, SealedLog, Shared, client_index,
-};
-pub use lease_manager::{
-    CLIENTS, Call, Child, Effect, INODES, Kind, LeaseMode, Leases, NameMap, Opened, Pass,
-    PlainGraph, Record, Reply, SharedBytes, is_inode,
-};

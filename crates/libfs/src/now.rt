@@ -1,5 +1,5 @@
-use client_view::Need;
-use lease_manager::Reply;
+use client_plan::Need;
+use posix_calls::Reply;
 
 /// What becomes of a call as it is started.
 #[derive(Drop)]

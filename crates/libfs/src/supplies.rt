@@ -3,9 +3,10 @@ ghost use Rattle.std.specs.Prelude.{◌≡◌};
 ghost use Rattle.libfs.specs.ClientHoldings.{holdings_of};
 
 use crate::client::Client;
-use client_log::Media;
-use client_view::Supplies;
-use lease_manager::{OwnDescriptors, reads, writes};
+use client_plan::Supplies;
+use lease_manager::{reads, writes};
+use posix_calls::OwnDescriptors;
+use tier_device::Media;
 
 impl<M: Media> Supplies for Client<M> {
     ghost holdings = { holdings_of M.Media };

@@ -5,7 +5,7 @@ use Rattle.file_graph.specs.declared.effect.Kind.{Kind}
 use Rattle.file_graph.specs.declared.effect.Kind.TheVariants as kind
 use Rattle.file_graph.specs.declared.effect.Effect.{Effect}
 use Rattle.file_graph.specs.declared.effect.Effect.TheVariants as effect
-use Rattle.file_graph.specs.posix_calls.Name.{is_name}
+use Rattle.posix_calls.specs.Name.{is_name}
 use Rattle.log_record.specs.declared.format.TheConstants.{MAKE, ENTER, LEAVE, NAMES, SIZE, BYTES, DROP}
 use Rattle.log_record.specs.Grammar.{◌>>=◌, AreBytes, IsInode, FitsLimits, is_inode, is_write, fits, u32, u64, effect_bytes, byte_at, run_at, number_at, make_at, enter_at, leave_at, names_at, size_at, bytes_at, dropped_at, fields_at, effect_at}
 use Rattle.file_graph.specs.Kinds.{kind_byte, kind_field}

@@ -1,8 +1,8 @@
 -- Records, the bytes that spell each, and the record that bytes spell.
 use Rattle.std.specs.Prelude.{◌≡◌, ℕ, zero, suc, ◌+◌, ◌^◌, ◌<◌, ◌≤◌, ◌==◌, Bool, true, ◌&&◌, nat_le, List, [], ◌∷◌, ◌++◌, length, drop, Option, Some, None, if◌then◌else◌}
 use Rattle.std.specs.List.{flat_map, AllByRecursion}
-use Rattle.file_graph.specs.posix_calls.Name.{is_name}
-use Rattle.file_graph.specs.posix_calls.declared.limits.TheConstants.{MAX_TRANSFER, MAX_INODE, MAX_NAMES, MAX_FILE}
+use Rattle.posix_calls.specs.Name.{is_name}
+use Rattle.posix_calls.specs.declared.limits.TheConstants.{MAX_TRANSFER, MAX_INODE, MAX_NAMES, MAX_FILE}
 use Rattle.file_graph.specs.declared.effect.Effect.{Effect}
 use Rattle.file_graph.specs.declared.effect.Effect.TheVariants as effect
 pub use Rattle.file_graph.specs.Numbers.{is_inode}

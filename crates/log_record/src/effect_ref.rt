@@ -4,7 +4,8 @@ ghost use Rattle.log_record.specs.Outcome.{Gives, owned_effect};
 ghost use Rattle.log_record.specs.Grammar.{fits, is_write};
 
 use crate::format::RecordError;
-use file_graph::{Effect, Kind, MAX_FILE, MAX_NAMES, MAX_TRANSFER, Name, SharedBytes, is_inode};
+use file_graph::{Effect, Kind, is_inode};
+use posix_calls::{MAX_FILE, MAX_NAMES, MAX_TRANSFER, Name, SharedBytes};
 use std::alloc::Global;
 
 /// An effect whose name or bytes lie elsewhere.

@@ -22,13 +22,3 @@ pub use numbers::record_has_its_numbers;
 pub use record_reads::{is_payload, read_payload, read_record};
 pub use record_writes::{write_behind, write_record};
 pub use touched_inodes::{TouchedInodes, read_touched_inodes};
-
-// Passed on to the crates above, which so need not list those below.
-pub use file_graph::{
-    Bytes, Call, Child, DIRECTORY_KIND, DecideError, Description, Descriptor, Effect,
-    Effects as FileGraphEffects, EntryRoom, Errno, Flags, Kind, Location, MAX_CLIENTS, MAX_ENTRIES,
-    MAX_FILE, MAX_INODE, MAX_NAMES, MAX_TRANSFER, Missing, Name, NameMap, NamedInode, Names,
-    Operation, OwnDescriptors, Path, PlainEntry, PlainGraph, ROOT, Replaced, Reply, SharedBytes,
-    TreeAnswers, UNIT_BYTES, UNIT_ENTRIES, client_index, decide, is_inode, known_or_missing,
-    u32_of,
-};

@@ -3,7 +3,7 @@
 ghost use Rattle.std.specs.Prelude.{◌≡◌, ◌∷◌, []};
 ghost use Rattle.file_graph.specs.declared.effect.Kind.TheVariants as kind;
 ghost use Rattle.file_graph.specs.declared.effect.Effect.TheVariants as effect;
-ghost use Rattle.file_graph.specs.posix_calls.declared.limits.TheConstants.{MAX_NAME, MAX_TRANSFER, MAX_FILE, MAX_NAMES, MAX_INODE};
+ghost use Rattle.posix_calls.specs.declared.limits.TheConstants.{MAX_NAME, MAX_TRANSFER, MAX_FILE, MAX_NAMES, MAX_INODE};
 ghost use Rattle.log_record.specs.Grammar.{effect_bytes, record_bytes};
 
 use crate::format::MAX_EFFECTS;

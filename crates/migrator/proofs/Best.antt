@@ -2,12 +2,12 @@
 use Rattle.std.proofs.Common.{◌≡◌, ◌≤◌, ◌<◌, ◌+◌, ℕ, inl, inr, arith, false, refl, sym, ap, subst, Option, Some, None, IsSome}
 use Rattle.std.specs.Prelude.{nat_le, IfSome}
 use Rattle.std.proofs.lemmas.Bool.{cases_lt, and_parts, leb-true, false_from_ne_true}
-use Rattle.shared_area.specs.tier_device.declared.media.Tier.{Tier}
-use Rattle.shared_area.specs.layout.Places.{Sizes, is_inode}
-use Rattle.shared_area.specs.area_image.Store.{Store}
+use Rattle.tier_device.specs.declared.media.Tier.{Tier}
+use Rattle.layout.specs.Places.{Sizes, is_inode}
+use Rattle.area_reader.specs.Store.{Store}
 use Rattle.shared_area.specs.FirstRun.{file_lies, FindsRun}
 use Rattle.shared_area.proofs.FirstRuns.{no_inode_lies}
-use Rattle.shared_area.specs.block_alloc.declared.runs.Run.{Run}
+use Rattle.block_alloc.specs.declared.runs.Run.{Run}
 use Rattle.migrator.specs.declared.run_choice.TheConstants.{MOST_BLOCKS}
 use Rattle.migrator.specs.RunChoice.{LiesIn, last_digest, ComesBefore, HasLastDigest, IsPickedAmong, IsPickedIn, FoundFile, pick_of, IsBestBelow}
 

@@ -2,13 +2,13 @@
 use Rattle.std.proofs.Common.{◌≡◌, ℕ, List, [], Option, Some, None, false, length, ltb, refl, ap, sym, ◌∙◌}
 use Rattle.std.specs.Prelude.{option_map}
 use Rattle.std.specs.FinMap as fin
-use Rattle.file_graph.proofs.posix_calls_lemmas.Counts.{order}
-use Rattle.file_graph.proofs.posix_calls_lemmas.Directory.{entries-empty}
-use Rattle.file_graph.specs.posix_calls.Tree.{Node, File, Dir, entries_of}
-use Rattle.file_graph.specs.posix_calls.declared.operation.Missing.{Missing}
-use Rattle.file_graph.specs.posix_calls.Query.{Query, Gives, Refuses, IsDir, Look, Range, View, run, seen_node}
-use Rattle.file_graph.specs.posix_calls.Part.{Found, Known, Unknown, run_part, whole_part}
-use Rattle.file_graph.specs.posix_calls.Walk.{entries_seen}
+use Rattle.posix_calls.proofs.Counts.{order}
+use Rattle.posix_calls.proofs.Directory.{entries-empty}
+use Rattle.posix_calls.specs.Tree.{Node, File, Dir, entries_of}
+use Rattle.posix_calls.specs.declared.operation.Missing.{Missing}
+use Rattle.posix_calls.specs.Query.{Query, Gives, Refuses, IsDir, Look, Range, View, run, seen_node}
+use Rattle.posix_calls.specs.Part.{Found, Known, Unknown, run_part, whole_part}
+use Rattle.posix_calls.specs.Walk.{entries_seen}
 use Rattle.plain_tree.specs.Plain.{stored_tree}
 use Rattle.std.proofs.lemmas.Bool.{ltb-false}
 use Rattle.std.proofs.lemmas.List.{get_or_past}

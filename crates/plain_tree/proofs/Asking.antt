@@ -3,26 +3,26 @@ use Rattle.std.proofs.Common.{◌≡◌, ℕ, zero, suc, ◌<◌, ◌≤◌, ◌
 use Rattle.std.specs.Prelude.{if◌then◌else◌}
 use Rattle.std.proofs.lemmas.Bool.Decides.{nat_tests}
 use Rattle.std.proofs.lemmas.List.{get_or_default}
-use Rattle.file_graph.specs.posix_calls.Tree.{Own, State}
-use Rattle.file_graph.specs.posix_calls.Own.{own_of}
-use Rattle.file_graph.specs.posix_calls.Query.{run, view_of}
-use Rattle.file_graph.specs.posix_calls.Part.{Known, run_part, whole_part}
-use Rattle.file_graph.specs.posix_calls.Decide.{decide}
-use Rattle.file_graph.specs.posix_calls.Operations.{answer, Follows, Step, makes, is_client}
-use Rattle.file_graph.specs.posix_calls.Exact.{IsLowest, IsAnswered, IsGivenUp}
+use Rattle.posix_calls.specs.Tree.{Own, State}
+use Rattle.posix_calls.specs.Own.{own_of}
+use Rattle.posix_calls.specs.Query.{run, view_of}
+use Rattle.posix_calls.specs.Part.{Known, run_part, whole_part}
+use Rattle.posix_calls.specs.Decide.{decide}
+use Rattle.posix_calls.specs.Operations.{answer, Follows, Step, makes, is_client}
+use Rattle.posix_calls.specs.Exact.{IsLowest, IsAnswered, IsGivenUp}
 use Rattle.plain_tree.specs.Plain.{Stored, IsConsistent, stored_tree, held_of, stored_state, IsDone, IsDropped, takes_room}
-use Rattle.file_graph.specs.posix_calls.declared.operation.Operation.{Operation}
-use Rattle.file_graph.specs.posix_calls.declared.call.Call.{Call}
-use Rattle.file_graph.specs.posix_calls.declared.call.Reply.{Reply}
-use Rattle.file_graph.specs.posix_calls.declared.call.Reply.TheVariants.{Failed}
-use Rattle.file_graph.specs.posix_calls.declared.descriptor.Descriptor.{Descriptor}
-use Rattle.file_graph.specs.posix_calls.declared.errno.Errno.{Errno}
-use Rattle.file_graph.specs.posix_calls.declared.errno.Errno.TheVariants as errno
+use Rattle.posix_calls.specs.declared.operation.Operation.{Operation}
+use Rattle.posix_calls.specs.declared.call.Call.{Call}
+use Rattle.posix_calls.specs.declared.call.Reply.{Reply}
+use Rattle.posix_calls.specs.declared.call.Reply.TheVariants.{Failed}
+use Rattle.posix_calls.specs.declared.descriptor.Descriptor.{Descriptor}
+use Rattle.posix_calls.specs.declared.errno.Errno.{Errno}
+use Rattle.posix_calls.specs.declared.errno.Errno.TheVariants as errno
 use Rattle.plain_tree.proofs.Answering.{whole_knows, known_of}
 use Rattle.plain_tree.proofs.Taking.{taken}
-use Rattle.file_graph.specs.posix_calls.Memory.{takes_memory}
-use Rattle.file_graph.proofs.posix_calls_lemmas.Lasting.{step_fine}
-use Rattle.file_graph.proofs.posix_calls_lemmas.Passing.{step_within}
+use Rattle.posix_calls.specs.Memory.{takes_memory}
+use Rattle.posix_calls.proofs.Lasting.{step_fine}
+use Rattle.posix_calls.proofs.Passing.{step_within}
 
 abbrev Row : Type 0
 Row = List (Option Descriptor)

@@ -1,15 +1,15 @@
 -- What operations make of the nodes and the rows of a plain tree.
 use Rattle.std.proofs.Common.{◌≡◌, ℕ, List, Option, None, Some, true, false, if◌then◌else◌, refl, sym, ap, ◌∙◌}
-use Rattle.file_graph.specs.posix_calls.Tree.{Node, Tree, Descriptors, with_own, State}
-use Rattle.file_graph.specs.posix_calls.Operations.{tree_after, own_after, held_after, state_after, reply_of}
-use Rattle.file_graph.specs.posix_calls.Kinds.{opens, is_query}
-use Rattle.file_graph.specs.posix_calls.Exact.{IsInRange}
-use Rattle.file_graph.proofs.posix_calls_lemmas.Steps.{with_same}
+use Rattle.posix_calls.specs.Tree.{Node, Tree, Descriptors, with_own, State}
+use Rattle.posix_calls.specs.Operations.{tree_after, own_after, held_after, state_after, reply_of}
+use Rattle.posix_calls.specs.Kinds.{opens, is_query}
+use Rattle.posix_calls.specs.Exact.{IsInRange}
+use Rattle.posix_calls.proofs.Steps.{with_same}
 use Rattle.plain_tree.specs.Plain.{stored_tree, held_of, state_in, with_opened, HasNumber, IsDone}
-use Rattle.file_graph.specs.posix_calls.declared.operation.Operation.{Operation}
-use Rattle.file_graph.specs.posix_calls.declared.operation.Operation.TheVariants.{Tell, NewDir, NewFile, OpenFile, CloseFile, Write, Resize, RemoveDir, AddName, DropName, Move}
-use Rattle.file_graph.specs.posix_calls.declared.descriptor.Descriptor.{Descriptor}
-use Rattle.file_graph.specs.posix_calls.declared.call.Reply.{Reply}
+use Rattle.posix_calls.specs.declared.operation.Operation.{Operation}
+use Rattle.posix_calls.specs.declared.operation.Operation.TheVariants.{Tell, NewDir, NewFile, OpenFile, CloseFile, Write, Resize, RemoveDir, AddName, DropName, Move}
+use Rattle.posix_calls.specs.declared.descriptor.Descriptor.{Descriptor}
+use Rattle.posix_calls.specs.declared.call.Reply.{Reply}
 
 pub same_state : (t u : Tree) (h k : Descriptors) → t ≡ u → h ≡ k → ◌≡◌ {A = State} (record { tree = t; descriptors = h }) (record { tree = u; descriptors = k })
 same_state t u h k p q = λ i. record { tree = p i; descriptors = q i }

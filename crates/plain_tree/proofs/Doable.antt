@@ -1,23 +1,22 @@
 -- What a call comes to in a sound state can be done.
 use Rattle.std.proofs.Common.{◌≡◌, ℕ, true, Some, None, Ok, refl, sym, ap, ◌∙◌}
 use Rattle.std.specs.Prelude.{option_map}
-use Rattle.file_graph.specs.posix_calls.Tree.{Own, State}
-use Rattle.file_graph.specs.posix_calls.WellFormed.{IsBare}
-use Rattle.file_graph.specs.posix_calls.Query.{run, view_of, dir_test}
-use Rattle.file_graph.specs.posix_calls.Decide.{decide}
-use Rattle.file_graph.specs.posix_calls.Exact.{IsInRange}
+use Rattle.posix_calls.specs.Tree.{Own, State}
+use Rattle.posix_calls.specs.WellFormed.{IsBare, IsDirectory}
+use Rattle.posix_calls.specs.Query.{run, view_of, dir_test}
+use Rattle.posix_calls.specs.Decide.{decide}
+use Rattle.posix_calls.specs.Exact.{IsInRange}
 use Rattle.plain_tree.specs.Plain.{IsConsistent, IsHeld, Replaces, IsPlaced, IsDoable}
-use Rattle.file_graph.specs.posix_calls.WellFormed.{IsDirectory}
-use Rattle.file_graph.specs.posix_calls.declared.operation.Location.{Location}
-use Rattle.file_graph.specs.posix_calls.declared.operation.Operation.{Operation}
-use Rattle.file_graph.specs.posix_calls.declared.operation.Operation.TheVariants.{Tell, NewDir, NewFile, OpenFile, CloseFile, Write, Resize, RemoveDir, AddName, DropName, Move}
-use Rattle.file_graph.specs.posix_calls.declared.operation.Replaced.{Replaced}
-use Rattle.file_graph.specs.posix_calls.declared.operation.Replaced.TheVariants.{Nothing, OldFile, OldDir}
-use Rattle.file_graph.specs.posix_calls.declared.call.Call.{Call}
-use Rattle.file_graph.proofs.posix_calls_lemmas.Changes.{entry, entry_parent, bare_file}
-use Rattle.file_graph.proofs.posix_calls_lemmas.Trees.{tree_of, range_of}
-use Rattle.file_graph.proofs.posix_calls_lemmas.Fits.{Fits, FitsReplaced}
-use Rattle.file_graph.proofs.posix_calls_lemmas.Calls.{decide_fits}
+use Rattle.posix_calls.specs.declared.operation.Location.{Location}
+use Rattle.posix_calls.specs.declared.operation.Operation.{Operation}
+use Rattle.posix_calls.specs.declared.operation.Operation.TheVariants.{Tell, NewDir, NewFile, OpenFile, CloseFile, Write, Resize, RemoveDir, AddName, DropName, Move}
+use Rattle.posix_calls.specs.declared.operation.Replaced.{Replaced}
+use Rattle.posix_calls.specs.declared.operation.Replaced.TheVariants.{Nothing, OldFile, OldDir}
+use Rattle.posix_calls.specs.declared.call.Call.{Call}
+use Rattle.posix_calls.proofs.Changes.{entry, entry_parent, bare_file}
+use Rattle.posix_calls.proofs.Trees.{tree_of, range_of}
+use Rattle.posix_calls.proofs.Fits.{Fits, FitsReplaced}
+use Rattle.posix_calls.proofs.Calls.{decide_fits}
 
 module _ (s : State) (sound : IsConsistent s) where
   -- a name's directory is there, and has an inode number

@@ -1,12 +1,12 @@
 -- A node that is made and its name come in either order.
 use Rattle.std.proofs.Common.{◌≡◌, ◌≢◌, ℕ, Option, sym, ap, ◌∙◌}
 use Rattle.std.specs.FinMap as fin
-use Rattle.file_graph.specs.posix_calls.Tree.{Node, Tree, Dir, set_node, entries_of}
-use Rattle.file_graph.specs.posix_calls.Operations.{with_entry, IsFree}
+use Rattle.posix_calls.specs.Tree.{Node, Tree, Dir, set_node, entries_of}
+use Rattle.posix_calls.specs.Operations.{with_entry, IsFree}
 use Rattle.plain_tree.specs.Plain.{IsHeld}
-use Rattle.file_graph.specs.posix_calls.declared.operation.Location.{Location}
+use Rattle.posix_calls.specs.declared.operation.Location.{Location}
 use Rattle.std.specs.Prelude.{Some}
-use Rattle.file_graph.proofs.posix_calls_lemmas.Changes.{set_other}
+use Rattle.posix_calls.proofs.Changes.{set_other}
 use Rattle.plain_tree.proofs.Moves.{set_swap}
 
 pub named_after : (t : Tree) (at : Location) (i : ℕ) (x : Option Node) → at.parent ≢ i → set_node (with_entry t at i) i x ≡ with_entry (set_node t i x) at i

@@ -5,18 +5,18 @@ use Rattle.std.specs.Cmp.Lexicographic.{nat_list_cmp_total}
 use Rattle.std.specs.FinMap as fin
 use Rattle.std.proofs.lemmas.Bool.{cases_eq}
 use Rattle.std.proofs.lemmas.Bool.Decides.{nat_tests}
-use Rattle.file_graph.specs.posix_calls.Content.{Entries}
-use Rattle.file_graph.specs.posix_calls.Tree.{Node, Tree, Dir, set_node, entries_of, names_in, names_of, sum_up_to, is_open, Descriptors}
-use Rattle.file_graph.specs.posix_calls.Operations.{with_entry, without_entry, less_replaced}
+use Rattle.posix_calls.specs.Content.{Entries}
+use Rattle.posix_calls.specs.Tree.{Node, Tree, Dir, set_node, entries_of, names_in, names_of, sum_up_to, is_open, Descriptors}
+use Rattle.posix_calls.specs.Operations.{with_entry, without_entry, less_replaced}
 use Rattle.plain_tree.specs.Plain.{less_put_out, at_location, IsMovable}
-use Rattle.file_graph.specs.posix_calls.declared.operation.Location.{Location}
-use Rattle.file_graph.specs.posix_calls.declared.operation.Replaced.{Replaced}
-use Rattle.file_graph.specs.posix_calls.declared.operation.Replaced.TheVariants.{Nothing, OldFile, OldDir}
-use Rattle.file_graph.specs.posix_calls.declared.limits.TheConstants.{MAX_INODE}
-use Rattle.file_graph.proofs.posix_calls_lemmas.Directory.{names_same}
-use Rattle.file_graph.proofs.posix_calls_lemmas.Counts.{order, counted, counted_is, counted_insert, alike, put_back}
-use Rattle.file_graph.proofs.posix_calls_lemmas.Counts as counts
-use Rattle.file_graph.proofs.posix_calls_lemmas.Changes.{set_there, set_other, off_one}
+use Rattle.posix_calls.specs.declared.operation.Location.{Location}
+use Rattle.posix_calls.specs.declared.operation.Replaced.{Replaced}
+use Rattle.posix_calls.specs.declared.operation.Replaced.TheVariants.{Nothing, OldFile, OldDir}
+use Rattle.posix_calls.specs.declared.limits.TheConstants.{MAX_INODE}
+use Rattle.posix_calls.proofs.Directory.{names_same}
+use Rattle.posix_calls.proofs.Counts.{order, counted, counted_is, counted_insert, alike, put_back}
+use Rattle.posix_calls.proofs.Counts as counts
+use Rattle.posix_calls.proofs.Changes.{set_there, set_other, off_one}
 
 -- ---- nodes that are set
 

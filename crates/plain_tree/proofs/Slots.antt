@@ -2,8 +2,8 @@
 use Rattle.std.proofs.Common.{◌≡◌, ℕ, zero, suc, ◌<◌, ◌≤◌, List, [], ◌∷◌, ◌++◌, length, get_or, set, Option, None, refl, sym, ap, ◌∙◌, inl, inr, arith}
 use Rattle.std.proofs.lemmas.Bool.{cases_eq}
 use Rattle.std.proofs.lemmas.List.{get_or-set_same, get_or-set_other, get_or_past, get_or_default}
-use Rattle.file_graph.specs.posix_calls.Tree.{Node, Tree, set_node}
-use Rattle.file_graph.proofs.posix_calls_lemmas.Changes.{set_there, set_other}
+use Rattle.posix_calls.specs.Tree.{Node, Tree, set_node}
+use Rattle.posix_calls.proofs.Changes.{set_there, set_other}
 use Rattle.plain_tree.specs.Plain.{stored_tree}
 
 -- the default at the end changes nothing

@@ -3,11 +3,10 @@ use Rattle.std.proofs.Common.{◌≡◌, ◌≢◌, ℕ, zero, suc, ◌<◌, ◌
 use Rattle.std.proofs.lemmas.Bool.{cases_eq}
 use Rattle.std.proofs.lemmas.Bool.Decides.{nat_tests}
 use Rattle.std.proofs.lemmas.List.{get_or-set_same, get_or-set_other, get_or_default}
-use Rattle.file_graph.specs.posix_calls.Tree.{Own, Descriptors, set_own, with_own}
-use Rattle.file_graph.specs.posix_calls.Own.{set_descriptor}
-use Rattle.file_graph.specs.posix_calls.Own.{own_of}
+use Rattle.posix_calls.specs.Tree.{Own, Descriptors, set_own, with_own}
+use Rattle.posix_calls.specs.Own.{set_descriptor, own_of}
 use Rattle.plain_tree.specs.Plain.{held_of}
-use Rattle.file_graph.specs.posix_calls.declared.descriptor.Descriptor.{Descriptor}
+use Rattle.posix_calls.specs.declared.descriptor.Descriptor.{Descriptor}
 
 own_here : (held : Descriptors) (client c n : ℕ) (own : Own) → c ≡ client → with_own held client own c n ≡ own n
 own_here held client c n own e = grind (arith, nat_tests)

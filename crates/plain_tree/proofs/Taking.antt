@@ -3,23 +3,23 @@ use Rattle.std.proofs.Common.{◌≡◌, ◌<◌, ◌≤◌, ◌⊎◌, inl, inr
 use Rattle.std.specs.Prelude.{◌&&◌, ◌||◌, not, is_none, nat_lt, nat_le, option_map, if◌then◌else◌}
 use Rattle.std.specs.Option.{option_or}
 use Rattle.std.proofs.lemmas.Bool.Decides.{nat_tests}
-use Rattle.file_graph.specs.posix_calls.declared.errno.Errno.{Errno}
-use Rattle.file_graph.specs.posix_calls.declared.errno.Errno.TheVariants as errno
-use Rattle.file_graph.specs.posix_calls.declared.call.Flags.{Flags}
-use Rattle.file_graph.specs.posix_calls.declared.call.Call.{Call}
-use Rattle.file_graph.specs.posix_calls.declared.call.Call.TheVariants as call
-use Rattle.file_graph.specs.posix_calls.declared.descriptor.Descriptor.{Descriptor}
-use Rattle.file_graph.specs.posix_calls.declared.operation.Operation.{Operation}
-use Rattle.file_graph.specs.posix_calls.Tree.{State, Own}
-use Rattle.file_graph.specs.posix_calls.Path.{components, fault, first_fault, unless, reading_behind, reading_short, path_names}
-use Rattle.file_graph.specs.posix_calls.FirstName.{first_is_faultless, name_behind, name_first, comes_to_name}
-use Rattle.file_graph.specs.posix_calls.Query.{Seen, File, Dir, Gives, Refuses, View, run, view_of, dir_test}
-use Rattle.file_graph.specs.posix_calls.Part.{whole_part}
-use Rattle.file_graph.specs.posix_calls.Walk.{Place, read_or_error, prefix, is_root, is_there, is_true, kind_at, walk}
-use Rattle.file_graph.specs.posix_calls.Decide.{open_inode, node_description, write_at, open_path, close, pread, pwrite, truncate, mkdir, rmdir, link, unlink, rename, list_path, stat, decide}
-use Rattle.file_graph.specs.posix_calls.Memory.{writes_bytes, takes_memory}
-use Rattle.file_graph.specs.posix_calls.WellFormed.{IsWellFormed}
-use Rattle.file_graph.proofs.posix_calls_lemmas.Comes.{bind_ok, no_bit, not_refused, given}
+use Rattle.posix_calls.specs.declared.errno.Errno.{Errno}
+use Rattle.posix_calls.specs.declared.errno.Errno.TheVariants as errno
+use Rattle.posix_calls.specs.declared.call.Flags.{Flags}
+use Rattle.posix_calls.specs.declared.call.Call.{Call}
+use Rattle.posix_calls.specs.declared.call.Call.TheVariants as call
+use Rattle.posix_calls.specs.declared.descriptor.Descriptor.{Descriptor}
+use Rattle.posix_calls.specs.declared.operation.Operation.{Operation}
+use Rattle.posix_calls.specs.Tree.{State, Own}
+use Rattle.posix_calls.specs.Path.{components, fault, first_fault, unless, reading_behind, reading_short, path_names}
+use Rattle.posix_calls.specs.FirstName.{first_is_faultless, name_behind, name_first, comes_to_name}
+use Rattle.posix_calls.specs.Query.{Seen, File, Dir, Gives, Refuses, View, run, view_of, dir_test}
+use Rattle.posix_calls.specs.Part.{whole_part}
+use Rattle.posix_calls.specs.Walk.{Place, read_or_error, prefix, is_root, is_there, is_true, kind_at, walk}
+use Rattle.posix_calls.specs.Decide.{open_inode, node_description, write_at, open_path, close, pread, pwrite, truncate, mkdir, rmdir, link, unlink, rename, list_path, stat, decide}
+use Rattle.posix_calls.specs.Memory.{writes_bytes, takes_memory}
+use Rattle.posix_calls.specs.WellFormed.{IsWellFormed}
+use Rattle.posix_calls.proofs.Comes.{bind_ok, no_bit, not_refused, given}
 use Rattle.plain_tree.specs.Plain.{takes_room}
 
 -- ---- paths that were read

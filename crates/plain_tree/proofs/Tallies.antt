@@ -5,18 +5,18 @@ use Rattle.std.specs.declared.alloc.AllocError.{AllocError}
 use Rattle.std.proofs.lemmas.Bool.{cases_lt}
 use Rattle.std.proofs.lemmas.List.{get_or_past}
 use Rattle.std.specs.FinMap as fin
-use Rattle.file_graph.specs.posix_calls.Tree.{Node, Tree, Dir, set_node, entries_of, names_in, names_of}
-use Rattle.file_graph.specs.posix_calls.WellFormed.{IsBare}
-use Rattle.file_graph.specs.posix_calls.Operations.{with_entry, without_entry}
+use Rattle.posix_calls.specs.Tree.{Node, Tree, Dir, set_node, entries_of, names_in, names_of}
+use Rattle.posix_calls.specs.WellFormed.{IsBare}
+use Rattle.posix_calls.specs.Operations.{with_entry, without_entry}
 use Rattle.plain_tree.specs.Plain.{stored_tree, count_at, one_for, at_location, IsBareReplaced, HasPlace, AreNameCounts, Replaces}
-use Rattle.file_graph.specs.posix_calls.declared.operation.Replaced.{Replaced}
-use Rattle.file_graph.specs.posix_calls.declared.operation.Replaced.TheVariants.{Nothing, OldFile, OldDir}
-use Rattle.file_graph.specs.posix_calls.Content.{Entries}
-use Rattle.file_graph.specs.posix_calls.declared.operation.Location.{Location}
-use Rattle.file_graph.specs.posix_calls.declared.limits.TheConstants.{MAX_INODE}
-use Rattle.file_graph.proofs.posix_calls_lemmas.Sums.{names_of-set_node, all_zero}
-use Rattle.file_graph.proofs.posix_calls_lemmas.Counts.{counted, counted_is, absent}
-use Rattle.file_graph.proofs.posix_calls_lemmas.Changes.{in_node, bare_names, entered_names, left_names, left_here, on_one, set_other, set_there}
+use Rattle.posix_calls.specs.declared.operation.Replaced.{Replaced}
+use Rattle.posix_calls.specs.declared.operation.Replaced.TheVariants.{Nothing, OldFile, OldDir}
+use Rattle.posix_calls.specs.Content.{Entries}
+use Rattle.posix_calls.specs.declared.operation.Location.{Location}
+use Rattle.posix_calls.specs.declared.limits.TheConstants.{MAX_INODE}
+use Rattle.posix_calls.proofs.Sums.{names_of-set_node, all_zero}
+use Rattle.posix_calls.proofs.Counts.{counted, counted_is, absent}
+use Rattle.posix_calls.proofs.Changes.{in_node, bare_names, entered_names, left_names, left_here, on_one, set_other, set_there}
 use Rattle.plain_tree.proofs.Slots.{pushed_at}
 use Rattle.plain_tree.proofs.Moves.{renewed, off_parent}
 use Rattle.plain_tree.proofs.Answering.{get_nothing}

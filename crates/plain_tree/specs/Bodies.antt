@@ -2,7 +2,7 @@
 use Rattle.std.specs.Prelude.{Option, Some, None}
 use Rattle.plain_tree.specs.declared.node.PlainBody.{PlainBody}
 use Rattle.plain_tree.specs.declared.node.PlainBody.TheVariants as plain
-use Rattle.file_graph.specs.posix_calls.Tree.{Node, File, Dir}
+use Rattle.posix_calls.specs.Tree.{Node, File, Dir}
 
 -- a body without where it lies in memory
 abbrev pub node_of : PlainBody → Option Node

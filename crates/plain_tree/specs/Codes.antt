@@ -3,8 +3,8 @@ use Rattle.std.specs.Prelude.{◌≡◌, ℕ, List, refl, ◌⊎◌}
 use Rattle.std.proofs.Common.{inl, inr}
 use Rattle.std.specs.FinMap as fin
 use Rattle.std.specs.Coded.{Coded, code_by, coded_ℕ, coded_list, coded⊎}
-use Rattle.file_graph.specs.posix_calls.Content.{Entries}
-use Rattle.file_graph.specs.posix_calls.Tree.{Node, File, Dir}
+use Rattle.posix_calls.specs.Content.{Entries}
+use Rattle.posix_calls.specs.Tree.{Node, File, Dir}
 
 -- entries are stored as the map from names
 abbrev pub plain_entries_code : Coded (Entries ℕ)

@@ -1,24 +1,21 @@
 -- The state that a plain tree stores.
 use Rattle.std.specs.Prelude.{◌≡◌, ◌≢◌, ◌⊎◌, Bool, true, false, ℕ, zero, suc, ◌<◌, ◌≤◌, ◌==◌, List, [], get_or, Option, Some, None, if◌then◌else◌}
 use Rattle.std.specs.FinMap as fin
-use Rattle.file_graph.specs.posix_calls.Tree.{Node, Tree, set_node, entries_of, names_of, Descriptors, State}
-use Rattle.file_graph.specs.posix_calls.Own.{set_descriptor}
-use Rattle.file_graph.specs.posix_calls.WellFormed.{IsBare}
-use Rattle.file_graph.specs.posix_calls.Own.{own_of}
-use Rattle.file_graph.specs.posix_calls.Operations.{less_unused, makes, reply_of, state_after}
-use Rattle.file_graph.specs.posix_calls.Exact.{IsInRange}
-use Rattle.file_graph.specs.posix_calls.Exact.{IsLowest, IsTaken}
-use Rattle.file_graph.specs.posix_calls.declared.operation.Location.{Location}
-use Rattle.file_graph.specs.posix_calls.declared.operation.Replaced.{Replaced}
-use Rattle.file_graph.specs.posix_calls.declared.operation.Replaced.TheVariants.{Nothing, OldFile, OldDir}
-use Rattle.file_graph.specs.posix_calls.declared.operation.Operation.{Operation}
-use Rattle.file_graph.specs.posix_calls.declared.operation.Operation.TheVariants.{Tell, NewDir, NewFile, OpenFile, CloseFile, Write, Resize, RemoveDir, AddName, DropName, Move}
-use Rattle.file_graph.specs.posix_calls.WellFormed.{IsWellFormed, IsWithinLimits}
-use Rattle.file_graph.specs.posix_calls.declared.call.Reply.{Reply}
-use Rattle.file_graph.specs.posix_calls.declared.call.Reply.TheVariants.{Failed}
-use Rattle.file_graph.specs.posix_calls.declared.errno.Errno.TheVariants as errno
-use Rattle.file_graph.specs.posix_calls.declared.limits.TheConstants.{ROOT, MAX_INODE, MAX_DESCRIPTORS, MAX_NAMES}
-use Rattle.file_graph.specs.posix_calls.declared.descriptor.Descriptor.{Descriptor}
+use Rattle.posix_calls.specs.Tree.{Node, Tree, set_node, entries_of, names_of, Descriptors, State}
+use Rattle.posix_calls.specs.Own.{set_descriptor, own_of}
+use Rattle.posix_calls.specs.WellFormed.{IsBare, IsWellFormed, IsWithinLimits}
+use Rattle.posix_calls.specs.Operations.{less_unused, makes, reply_of, state_after}
+use Rattle.posix_calls.specs.Exact.{IsInRange, IsLowest, IsTaken}
+use Rattle.posix_calls.specs.declared.operation.Location.{Location}
+use Rattle.posix_calls.specs.declared.operation.Replaced.{Replaced}
+use Rattle.posix_calls.specs.declared.operation.Replaced.TheVariants.{Nothing, OldFile, OldDir}
+use Rattle.posix_calls.specs.declared.operation.Operation.{Operation}
+use Rattle.posix_calls.specs.declared.operation.Operation.TheVariants.{Tell, NewDir, NewFile, OpenFile, CloseFile, Write, Resize, RemoveDir, AddName, DropName, Move}
+use Rattle.posix_calls.specs.declared.call.Reply.{Reply}
+use Rattle.posix_calls.specs.declared.call.Reply.TheVariants.{Failed}
+use Rattle.posix_calls.specs.declared.errno.Errno.TheVariants as errno
+use Rattle.posix_calls.specs.declared.limits.TheConstants.{ROOT, MAX_INODE, MAX_DESCRIPTORS, MAX_NAMES}
+use Rattle.posix_calls.specs.declared.descriptor.Descriptor.{Descriptor}
 
 -- the tree with these nodes, from inode 0 on
 abbrev pub stored_tree : List (Option Node) → Tree

@@ -1,10 +1,10 @@
 -- How the state of a plain tree is stored.
 use Rattle.std.specs.Prelude.{ℕ, Bool, List, Option, refl}
 use Rattle.std.specs.Coded.{Coded, code_by, coded×, coded_ℕ, coded_bool, coded_list, coded_option}
-use Rattle.file_graph.specs.posix_calls.Tree.{Node}
+use Rattle.posix_calls.specs.Tree.{Node}
 use Rattle.plain_tree.specs.Codes.{plain_node_code}
 use Rattle.plain_tree.specs.Plain.{Stored}
-use Rattle.file_graph.specs.posix_calls.declared.descriptor.Descriptor.{Descriptor}
+use Rattle.posix_calls.specs.declared.descriptor.Descriptor.{Descriptor}
 
 -- a descriptor is stored as its parts
 abbrev pub descriptor_code : Coded Descriptor

@@ -11,6 +11,3 @@ mod operations;
 mod plain;
 
 pub use plain::PlainTree;
-
-// Passed on to the crates above, which so need not list those below.
-pub use file_graph::{Call, Effect, Effects, Kind, PlainEntry, PlainGraph, Reply, is_inode};

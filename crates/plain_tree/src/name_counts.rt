@@ -1,6 +1,6 @@
 ghost use Rattle.std.specs.Prelude.{◌≡◌, ◌≤◌, ◌<◌, ◌+◌, ℕ, Some, length, OnOk};
 ghost use Rattle.plain_tree.specs.Plain.{count_at, one_for};
-ghost use Rattle.file_graph.specs.posix_calls.declared.limits.TheConstants.{MAX_NAMES};
+ghost use Rattle.posix_calls.specs.declared.limits.TheConstants.{MAX_NAMES};
 
 use std::alloc::AllocError;
 

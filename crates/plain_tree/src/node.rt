@@ -1,11 +1,12 @@
 ghost use Rattle.std.specs.Prelude.{◌≡◌, ℕ, Option, None, Some, length, take, drop, map, option_map, [], ◌<◌, IfOk, IfErr, OnOk, OnErr};
 ghost use Rattle.std.specs.FinMap as fin;
-ghost use Rattle.file_graph.specs.posix_calls.Content.{with_length, with_bytes};
-ghost use Rattle.file_graph.specs.posix_calls.Tree.{File, Dir, bytes_of, entries_of};
-ghost use Rattle.file_graph.specs.posix_calls.Query.{dir_test};
+ghost use Rattle.posix_calls.specs.Content.{with_length, with_bytes};
+ghost use Rattle.posix_calls.specs.Tree.{File, Dir, bytes_of, entries_of};
+ghost use Rattle.posix_calls.specs.Query.{dir_test};
 ghost use Rattle.plain_tree.specs.Bodies.{node_of};
 
-use file_graph::{Bytes, FileBytes, Name, NameMap, Names};
+use file_graph::{FileBytes, NameMap};
+use posix_calls::{Bytes, Name, Names};
 use std::alloc::{AllocError, Global};
 use std::marker::Model;
 
@@ -26,7 +27,7 @@ pub enum PlainBody {
 impl Model for PlainNode {
     ghost use Rattle.std.specs.Prelude.{Option};
     ghost use Rattle.std.specs.Coded.{coded_option};
-    ghost use Rattle.file_graph.specs.posix_calls.Tree.{Node};
+    ghost use Rattle.posix_calls.specs.Tree.{Node};
     ghost use Rattle.plain_tree.specs.Codes.{plain_node_code};
 
     ghost Value = { Option Node };

@@ -1,16 +1,16 @@
 ghost use Rattle.std.specs.Prelude.{◌≡◌, ◌≤◌, ◌<◌, ℕ, [], Option, None, Some, length, OnOk, OnErr, get_or, MatchOption, IsTrue, ◌↔◌};
-ghost use Rattle.file_graph.specs.posix_calls.Content.{with_length, with_bytes};
-ghost use Rattle.file_graph.specs.posix_calls.Tree.{File, bytes_of, set_node, has_open, names_of, is_open};
-ghost use Rattle.file_graph.specs.posix_calls.WellFormed.{IsBare};
-ghost use Rattle.file_graph.specs.posix_calls.Operations.{with_entry, without_entry, less_unused};
-ghost use Rattle.file_graph.specs.posix_calls.Own.{own_of};
-ghost use Rattle.file_graph.specs.posix_calls.Exact.{IsLowest, IsTaken};
+ghost use Rattle.posix_calls.specs.Content.{with_length, with_bytes};
+ghost use Rattle.posix_calls.specs.Tree.{File, bytes_of, set_node, has_open, names_of, is_open};
+ghost use Rattle.posix_calls.specs.WellFormed.{IsBare};
+ghost use Rattle.posix_calls.specs.Operations.{with_entry, without_entry, less_unused};
+ghost use Rattle.posix_calls.specs.Own.{own_of};
+ghost use Rattle.posix_calls.specs.Exact.{IsLowest, IsTaken};
 ghost use Rattle.plain_tree.specs.Plain.{stored_tree, held_of, at_location, HasPlace};
-ghost use Rattle.file_graph.specs.posix_calls.declared.limits.TheConstants.{MAX_NAMES};
+ghost use Rattle.posix_calls.specs.declared.limits.TheConstants.{MAX_NAMES};
 
 use crate::name_counts::{make_counts, name_came, name_count, name_went};
 use crate::node::PlainNode;
-use file_graph::{Location, MAX_CLIENTS, MAX_INODE, OwnDescriptors, ROOT};
+use posix_calls::{Location, MAX_CLIENTS, MAX_INODE, OwnDescriptors, ROOT};
 use std::alloc::{AllocError, Global};
 use std::marker::Model;
 
@@ -25,7 +25,7 @@ pub struct PlainNodes {
 impl Model for PlainNodes {
     ghost use Rattle.std.specs.Prelude.{List, Option};
     ghost use Rattle.std.specs.Coded.{coded_list, coded_option};
-    ghost use Rattle.file_graph.specs.posix_calls.Tree.{Node};
+    ghost use Rattle.posix_calls.specs.Tree.{Node};
     ghost use Rattle.plain_tree.specs.Codes.{plain_node_code};
     ghost use Rattle.plain_tree.specs.Plain.{AreNameCounts};
 

@@ -1,14 +1,14 @@
 ghost use Rattle.std.specs.Prelude.{◌≡◌, ◌≢◌, ◌≤◌, ◌<◌, ℕ, [], None, Some, length, OnOk, OnErr, if◌then◌else◌};
-ghost use Rattle.file_graph.specs.posix_calls.Tree.{File, set_node, names_of};
-ghost use Rattle.file_graph.specs.posix_calls.Own.{set_descriptor};
-ghost use Rattle.file_graph.specs.posix_calls.WellFormed.{IsBare};
-ghost use Rattle.file_graph.specs.posix_calls.Operations.{with_entry, without_entry, less_unused, less_replaced};
+ghost use Rattle.posix_calls.specs.Tree.{File, set_node, names_of};
+ghost use Rattle.posix_calls.specs.Own.{set_descriptor};
+ghost use Rattle.posix_calls.specs.WellFormed.{IsBare};
+ghost use Rattle.posix_calls.specs.Operations.{with_entry, without_entry, less_unused, less_replaced};
 ghost use Rattle.plain_tree.specs.Plain.{stored_tree, held_of, less_put_out, HasPlace, IsBareReplaced, IsMovable, HasNumber, with_opened};
-ghost use Rattle.file_graph.specs.posix_calls.declared.limits.TheConstants.{MAX_NAMES};
+ghost use Rattle.posix_calls.specs.declared.limits.TheConstants.{MAX_NAMES};
 
 use crate::node::PlainNode;
 use crate::nodes::PlainNodes;
-use file_graph::{Descriptor, Location, MAX_DESCRIPTORS, OwnDescriptors, Replaced};
+use posix_calls::{Descriptor, Location, MAX_DESCRIPTORS, OwnDescriptors, Replaced};
 use std::alloc::{AllocError, Global};
 
 /// A node is made, and gets a name. The name is put in first, since that may want memory; where there is none, the tree stays

@@ -1,22 +1,22 @@
 ghost use Rattle.std.specs.Prelude.{◌≡◌, ◌⊎◌, ◌≤◌, ◌<◌, ℕ, true, false, Ok, Some, length, option_map, IfOk, IfErr, OnOk, OnErr, MatchOption, None};
 ghost use Rattle.std.specs.FinMap as fin;
-ghost use Rattle.file_graph.specs.posix_calls.Tree.{entries_of};
-ghost use Rattle.file_graph.specs.posix_calls.EmptyTree.{empty_state, empty_tree};
-ghost use Rattle.file_graph.specs.posix_calls.Query.{dir_test, view_of};
-ghost use Rattle.file_graph.specs.posix_calls.Part.{whole_part};
-ghost use Rattle.file_graph.specs.posix_calls.Answers.{description_of};
-ghost use Rattle.file_graph.specs.posix_calls.Operations.{Step, makes, reply_of, state_after, tree_after};
-ghost use Rattle.file_graph.specs.posix_calls.Kinds.{is_query};
-ghost use Rattle.file_graph.specs.posix_calls.Exact.{IsAnswered, IsGivenUp, IsLowest, IsTaken};
+ghost use Rattle.posix_calls.specs.Tree.{entries_of};
+ghost use Rattle.posix_calls.specs.EmptyTree.{empty_state, empty_tree};
+ghost use Rattle.posix_calls.specs.Query.{dir_test, view_of};
+ghost use Rattle.posix_calls.specs.Part.{whole_part};
+ghost use Rattle.posix_calls.specs.Answers.{description_of};
+ghost use Rattle.posix_calls.specs.Operations.{Step, makes, reply_of, state_after, tree_after};
+ghost use Rattle.posix_calls.specs.Kinds.{is_query};
+ghost use Rattle.posix_calls.specs.Exact.{IsAnswered, IsGivenUp, IsLowest, IsTaken};
 ghost use Rattle.plain_tree.specs.Plain.{stored_tree, held_of, stored_state, state_in, IsNoClose, IsDoable, IsDone, IsDropped, takes_room};
-ghost use Rattle.file_graph.specs.posix_calls.declared.call.Reply.TheVariants.{Failed};
+ghost use Rattle.posix_calls.specs.declared.call.Reply.TheVariants.{Failed};
 
 use crate::node::PlainNode;
 use crate::nodes::{PlainNodes, lowest_free};
 use crate::operations::{
     Destination, close_at, drop_name, empty_if, make, move_name, open_if, remove_dir,
 };
-use file_graph::{
+use posix_calls::{
     Bytes, Call, DecideError, Description, Errno, MAX_CLIENTS, NamedInode, Names, Operation,
     OwnDescriptors, ROOT, Reply, TreeAnswers, decide,
 };

@@ -16,13 +16,12 @@ use Rattle.posix_calls.specs.declared.limits.TheConstants.{ROOT}
 use Rattle.posix_calls.specs.Query.{Seen, Query, Gives, Look, ◌>>=◌, run, view_of, seen_node, dir_test}
 use Rattle.posix_calls.specs.Part.{Part, Found, Known, Unknown, run_part}
 use Rattle.posix_calls.specs.Walk.{Place, root_place, walk, prefix, directory, directory_if, entries_seen, leads_to, there, kind_at}
-use Rattle.posix_calls.specs.Resolve.{walk_inode}
+use Rattle.posix_calls.specs.Resolve.{walk_inode, entry_or, child, then_from, resolve_from}
 use Rattle.posix_calls.specs.Answers.{IsAnswer, entry_in, count_in, last_name, landing_of, landing, without_kind, place_at, child_at}
 use Rattle.posix_calls.proofs.Chain.{then_found, part_bind, part_gives, tells_ok, tells_err, tells_missing, tells_memory, tells_same, bind_stops, gives, look_missing}
 use Rattle.std.specs.FinMap as fin
 use Rattle.posix_calls.specs.Content.{Entries}
 use Rattle.posix_calls.specs.Tree.{Tree, Node, File, Dir, names_of}
-use Rattle.posix_calls.specs.Resolve.{entry_or, child, then_from, resolve_from}
 
 -- ---- the walk leads where the path does
 

@@ -1,8 +1,7 @@
 ghost use Rattle.std.specs.List.{list_any};
 ghost use Rattle.std.specs.Prelude.{◌≡◌, ◌⊎◌, ◌==◌, ◌||◌, List, ℕ, true, false, None, Some, Err, IfOk, IfErr, IsTrue};
 ghost use Rattle.posix_calls.specs.Name.{is_name};
-ghost use Rattle.posix_calls.specs.Path.{is_dots};
-ghost use Rattle.posix_calls.specs.Path.{fault};
+ghost use Rattle.posix_calls.specs.Path.{is_dots, fault};
 ghost use Rattle.posix_calls.specs.FirstName.{has_no_slash};
 
 use crate::errno::Errno;

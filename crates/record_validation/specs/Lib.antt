@@ -6,7 +6,3 @@ pub mod Rises
 pub mod Row
 pub mod NodeAnswers
 pub mod Summary
--- Passed on to the crates above, which so need not list those below.
-pub use Rattle.call_effects.specs as call_effects
-pub use Rattle.call_effects.specs.file_graph
-pub use Rattle.call_effects.specs.posix_calls

@@ -1,9 +1,9 @@
 -- What a call sees of a node that is known without its bytes.
 use Rattle.std.specs.Prelude.{ℕ, Option, Some, None}
 use Rattle.std.specs.FinMap as fin
-use Rattle.call_effects.specs.posix_calls.Content.{Entries}
-use Rattle.call_effects.specs.posix_calls.Query.{Seen}
-use Rattle.call_effects.specs.file_graph.declared.effect.Kind.{Kind}
+use Rattle.posix_calls.specs.Content.{Entries}
+use Rattle.posix_calls.specs.Query.{Seen}
+use Rattle.file_graph.specs.declared.effect.Kind.{Kind}
 use Rattle.call_effects.specs.NodeView.{NodeView, FileView, DirView, view_seen}
 
 -- a node as a call sees it

@@ -35,8 +35,3 @@ pub use node_summary::{NodeSummary, SummaryBody};
 pub use nodes::Nodes;
 pub use record_validation::RecordCheck;
 pub use verdict::{Verdict, test_record};
-
-// Passed on to the crates above, which so need not list those below.
-pub use call_effects::{
-    Child, EntryRoom, Kind, MAX_INODE, Name, NameMap, PlainEntry, ROOT, is_inode,
-};

@@ -4,42 +4,42 @@ use Rattle.std.specs.List.{AllByRecursion, AllZip}
 use Rattle.std.specs.Prelude.{◌==◌, slice_get, Option, Some}
 use Rattle.std.proofs.lemmas.Bool.{cases_lt, cond-false}
 use Rattle.std.proofs.lemmas.Option.{slice_get-get_or, slice_get_within}
-use Rattle.settlement.specs.recovery_laws.fresh_media.Fresh.{fresh_fast, fresh_region, fresh_tiers, no_marks}
-use Rattle.settlement.proofs.recovery_laws_lemmas.AreaBytes.{zeros_behind}
-use Rattle.settlement.specs.recovery_laws.fresh_media.layout.Bytes.{zeros}
-use Rattle.settlement.specs.recovery_laws.shared_area.AreaOpen.{SpellsNone}
-use Rattle.settlement.specs.recovery_laws.shared_area.area_image.Format.{IsOpenable}
-use Rattle.settlement.specs.recovery_laws.shared_area.area_image.Store.{disk, graph, marks, store_of}
-use Rattle.settlement.specs.recovery_laws.shared_area.batch_journal.Blocks.{home, is_gate_open, opening_calls}
-use Rattle.settlement.specs.recovery_laws.shared_area.batch_journal.View.{JournalView}
-use Rattle.settlement.specs.recovery_laws.shared_area.batch_journal.Volume.{IsVolume, Spells}
-use Rattle.settlement.specs.recovery_laws.shared_area.layout.Places.{Sizes}
-use Rattle.settlement.specs.recovery_laws.shared_area.layout.declared.marks.Mark.{Mark}
-use Rattle.settlement.specs.recovery_laws.shared_area.layout.declared.marks.Marks.{Marks}
-use Rattle.settlement.specs.recovery_laws.shared_area.layout.declared.superblock.Super.{Super}
-use Rattle.settlement.specs.recovery_laws.shared_area.file_graph.Graph.{fresh}
-use Rattle.settlement.specs.recovery_laws.update_log.Frames.{end_behind, records}
-use Rattle.settlement.specs.recovery_laws.update_log.Moments.{PastStays}
-use Rattle.settlement.specs.recovery_laws.update_log.View.{HasSize, RegionView}
-use Rattle.settlement.specs.recovery_laws.update_log.WipeStops.{generation}
-use Rattle.settlement.specs.recovery_laws.update_log.declared.format.TheConstants.{CLOSED, HEADER, OPEN}
-use Rattle.settlement.specs.recovery_laws.update_log.tier_device.declared.media.Media.{Ghosts}
-use Rattle.settlement.specs.recovery_laws.update_log.tier_device.declared.media.Tier.{Tier}
-use Rattle.settlement.specs.recovery_laws.update_log.tier_device.declared.media.Tier.TheVariants.{Fast, Block, Slow}
-use Rattle.settlement.specs.world.system_world.event_steps.call_effects.ClosedGraph.{nobody}
-use Rattle.settlement.specs.world.system_world.event_steps.call_effects.Wholes.{IsSound}
-use Rattle.settlement.specs.world.system_world.event_steps.kernel_fs.digester.MarkMoves.{mark_of}
-use Rattle.settlement.proofs.recovery_laws_lemmas.graph_check_lemmas.call_effects_lemmas.Fresh.{fresh_sound}
-use Rattle.settlement.specs.declared.error.RecoveryError.{RecoveryError}
-use Rattle.settlement.specs.declared.error.RecoveryError.TheVariants as errors
+use Rattle.recovery_laws.specs.Fresh.{fresh_fast, fresh_region, fresh_tiers, no_marks}
+use Rattle.recovery_laws.proofs.AreaBytes.{zeros_behind}
+use Rattle.layout.specs.Bytes.{zeros}
+use Rattle.shared_area.specs.AreaOpen.{SpellsNone}
+use Rattle.area_reader.specs.Format.{IsOpenable}
+use Rattle.area_reader.specs.Store.{disk, graph, marks, store_of}
+use Rattle.batch_journal.specs.Blocks.{home, is_gate_open, opening_calls}
+use Rattle.batch_journal.specs.View.{JournalView}
+use Rattle.batch_journal.specs.Volume.{IsVolume, Spells}
+use Rattle.layout.specs.Places.{Sizes}
+use Rattle.layout.specs.declared.marks.Mark.{Mark}
+use Rattle.layout.specs.declared.marks.Marks.{Marks}
+use Rattle.layout.specs.declared.superblock.Super.{Super}
+use Rattle.file_graph.specs.Graph.{fresh}
+use Rattle.update_log.specs.Frames.{end_behind, records}
+use Rattle.update_log.specs.Moments.{PastStays}
+use Rattle.update_log.specs.View.{HasSize, RegionView}
+use Rattle.update_log.specs.WipeStops.{generation}
+use Rattle.update_log.specs.declared.format.TheConstants.{CLOSED, HEADER, OPEN}
+use Rattle.tier_device.specs.declared.media.Media.{Ghosts}
+use Rattle.tier_device.specs.declared.media.Tier.{Tier}
+use Rattle.tier_device.specs.declared.media.Tier.TheVariants.{Fast, Block, Slow}
+use Rattle.call_effects.specs.ClosedGraph.{nobody}
+use Rattle.call_effects.specs.Wholes.{IsSound}
+use Rattle.digester.specs.MarkMoves.{mark_of}
+use Rattle.call_effects.proofs.Fresh.{fresh_sound}
+use Rattle.area_recovery.specs.declared.error.RecoveryError.{RecoveryError}
+use Rattle.area_recovery.specs.declared.error.RecoveryError.TheVariants as errors
 use Rattle.recovery.specs.Assembly.{AreReadyRegions, IsReadyArea}
-use Rattle.settlement.specs.Errors.{IsOfArea, OnDamage}
-use Rattle.settlement.specs.FaultOrMemory.{IsFaultOrMemory}
+use Rattle.area_recovery.specs.Errors.{IsOfArea, OnDamage}
+use Rattle.area_recovery.specs.FaultOrMemory.{IsFaultOrMemory}
 use Rattle.recovery.specs.FreshContents.{AreFreshRegions, HoldsContent, IsLater}
-use Rattle.settlement.specs.Phases.{StaysRecovered, Whatever}
-use Rattle.settlement.specs.Recovers.{region_content}
-use Rattle.settlement.specs.Regions.{CanBeDenied, IsReopened, IsUntouched, Rests}
-use Rattle.settlement.specs.Silent.{IsWiped, wiped_name}
+use Rattle.area_recovery.specs.Phases.{StaysRecovered, Whatever}
+use Rattle.area_recovery.specs.Recovers.{region_content}
+use Rattle.area_recovery.specs.Regions.{CanBeDenied, IsReopened, IsUntouched, Rests}
+use Rattle.area_recovery.specs.Silent.{IsWiped, wiped_name}
 use Rattle.recovery.proofs.ChangedRows.{all_from_places}
 use Rattle.recovery.proofs.PartRows.{zip_at, zip_long}
 

@@ -1,17 +1,17 @@
 -- Media that hold fresh tiers.
 use Rattle.std.proofs.Common.{◌≡◌, ◌≢◌, ℕ, ◌*◌, ◌≤◌, List, [], ◌∷◌, length, refl, sym, ◌∙◌, arith}
 use Rattle.std.specs.Prelude.{Result, Ok, Err, OnOk}
-use Rattle.settlement.proofs.recovery_laws_lemmas.fresh_media_lemmas.Zeros.{padded_long}
-use Rattle.settlement.specs.recovery_laws.fresh_media.Fresh.{fresh_tiers}
-use Rattle.settlement.specs.recovery_laws.fresh_media.layout.Places.{Sizes, tier_blocks}
-use Rattle.settlement.proofs.recovery_laws_lemmas.AreaBytes.{fast_long}
-use Rattle.settlement.specs.recovery_laws.update_log.View.{HasSize}
-use Rattle.settlement.specs.recovery_laws.update_log.tier_device.declared.media.Media.{Ghosts}
-use Rattle.settlement.specs.recovery_laws.update_log.tier_device.declared.media.Tier.{Tier}
-use Rattle.settlement.specs.recovery_laws.update_log.tier_device.declared.media.Tier.TheVariants.{Fast, Block, Slow}
-use Rattle.settlement.specs.declared.error.RecoveryError.{RecoveryError}
+use Rattle.recovery_laws.proofs.Zeros.{padded_long}
+use Rattle.recovery_laws.specs.Fresh.{fresh_tiers}
+use Rattle.layout.specs.Places.{Sizes, tier_blocks}
+use Rattle.recovery_laws.proofs.AreaBytes.{fast_long}
+use Rattle.update_log.specs.View.{HasSize}
+use Rattle.tier_device.specs.declared.media.Media.{Ghosts}
+use Rattle.tier_device.specs.declared.media.Tier.{Tier}
+use Rattle.tier_device.specs.declared.media.Tier.TheVariants.{Fast, Block, Slow}
+use Rattle.area_recovery.specs.declared.error.RecoveryError.{RecoveryError}
 use Rattle.recovery.specs.FreshContents.{HoldsContent, IsLater, TierHolds}
-use Rattle.settlement.specs.Recovers.{region_content}
+use Rattle.area_recovery.specs.Recovers.{region_content}
 
 pub tier_long : (g : Sizes) (t : Tier) → length (fresh_tiers g t) ≡ 4096 * tier_blocks g t
 tier_long g Fast = fast_long g

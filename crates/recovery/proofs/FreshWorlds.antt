@@ -1,18 +1,18 @@
 -- The parts of the empty world, from what holds of its area and of its regions.
 use Rattle.std.proofs.Common.{◌≡◌, ℕ, ◌%◌, ◌<◌, ◌≤◌, List, length, sym, ◌∙◌}
 use Rattle.std.specs.List.{AllZip}
-use Rattle.settlement.specs.recovery_laws.fresh_media.Fresh.{fresh_region, fresh_tiers}
-use Rattle.settlement.specs.recovery_laws.shared_area.batch_journal.View.{JournalView}
-use Rattle.settlement.specs.recovery_laws.shared_area.layout.Places.{Sizes}
-use Rattle.settlement.specs.recovery_laws.update_log.View.{RegionView}
-use Rattle.settlement.specs.recovery_laws.update_log.tier_device.declared.media.Media.{Ghosts}
-use Rattle.settlement.specs.recovery_laws.update_log.tier_device.declared.media.Tier.{Tier}
-use Rattle.settlement.specs.world.system_world.courses.Courses.{PARTS}
+use Rattle.recovery_laws.specs.Fresh.{fresh_region, fresh_tiers}
+use Rattle.batch_journal.specs.View.{JournalView}
+use Rattle.layout.specs.Places.{Sizes}
+use Rattle.update_log.specs.View.{RegionView}
+use Rattle.tier_device.specs.declared.media.Media.{Ghosts}
+use Rattle.tier_device.specs.declared.media.Tier.{Tier}
+use Rattle.event_lists.specs.Courses.{PARTS}
 use Rattle.recovery.specs.FreshContents.{AreFreshRegions, AreLater, HoldsContent, IsLater, fresh_contents}
-use Rattle.settlement.specs.Parts.{part_medium}
-use Rattle.settlement.specs.PartMedia.{AreUntouched, media_beneath}
-use Rattle.settlement.specs.Recovers.{region_content}
-use Rattle.settlement.specs.Regions.{IsGivenBack, IsReopened, media_of}
+use Rattle.area_recovery.specs.Parts.{part_medium}
+use Rattle.area_recovery.specs.PartMedia.{AreUntouched, media_beneath}
+use Rattle.area_recovery.specs.Recovers.{region_content}
+use Rattle.area_recovery.specs.Regions.{IsGivenBack, IsReopened, media_of}
 use Rattle.recovery.proofs.FreshMedia.{holds_untouched, later_untouched}
 use Rattle.recovery.proofs.OpenedLists.{all_by_map}
 use Rattle.recovery.proofs.PartRows.{all_later_on, each_part, zip_at, zip_long}

@@ -2,45 +2,45 @@
 use Rattle.std.proofs.Common.{◌≡◌, ◌≤◌, ℕ, ◌+◌, ◌-◌, ◌*◌, ◌==◌, ◌++◌, cond, Bool, true, false, List, [], drop, Option, Some, None, Result, refl, ap, sym, ◌∙◌, subst, arith}
 use Rattle.std.proofs.lemmas.List.{get_or-replicate}
 use Rattle.atomic_table.specs.Seated.{TableId}
-use Rattle.settlement.proofs.recovery_laws_lemmas.digester_lemmas.batch_journal_lemmas.Courses.{tiers_same}
-use Rattle.settlement.specs.world.system_world.event_steps.View.{SeatView, SystemView, seat_of}
-use Rattle.settlement.specs.world.system_world.event_steps.lease_manager.Passes.{PassView, client_of, fresh, lease_of}
-use Rattle.settlement.specs.world.system_world.event_steps.lease_manager.Words.{HasWord, lease_place}
-use Rattle.settlement.specs.world.system_world.event_steps.lease_manager.declared.view.LeaseMode.TheVariants.{Free}
-use Rattle.settlement.specs.world.system_world.event_steps.libfs.SealedRegion.{SealedRegionView}
-use Rattle.settlement.specs.world.system_world.event_steps.libfs.client_log.Steps.{IsOpened}
-use Rattle.settlement.specs.world.system_world.event_steps.libfs.client_log.View.{current_records}
-use Rattle.settlement.specs.world.system_world.event_steps.libfs.file_graph.Graph.{Graph}
-use Rattle.settlement.specs.world.system_world.event_steps.libfs.log_record.declared.format.Record.{Record}
-use Rattle.settlement.specs.world.system_world.event_steps.libfs.world_invariant.Limits.{AreWithin}
-use Rattle.settlement.specs.recovery_laws.kernel_fs.KernelView.{KernelView}
-use Rattle.settlement.specs.recovery_laws.kernel_fs.MachineState.{IsKernelOf, StandBeforeRegions}
-use Rattle.settlement.specs.recovery_laws.kernel_fs.Steps.{opened_machine}
-use Rattle.settlement.specs.recovery_laws.shared_area.area_image.Format.{IsOpenable}
-use Rattle.settlement.specs.recovery_laws.shared_area.area_image.Looks.{Looks, call_answer}
-use Rattle.settlement.specs.recovery_laws.shared_area.area_image.Store.{Store, disk, graph, marks, store_of}
-use Rattle.settlement.specs.recovery_laws.shared_area.area_image.declared.error.AreaError.{AreaError}
-use Rattle.settlement.specs.recovery_laws.shared_area.batch_journal.View.{JournalView}
-use Rattle.settlement.specs.recovery_laws.shared_area.file_graph.Units.{charge}
-use Rattle.settlement.specs.recovery_laws.shared_area.layout.Places.{Sizes}
-use Rattle.settlement.specs.recovery_laws.shared_area.layout.declared.marks.Marks.{Marks}
-use Rattle.settlement.specs.recovery_laws.update_log.tier_device.declared.media.Media.{Ghosts}
-use Rattle.settlement.specs.recovery_laws.update_log.tier_device.declared.media.Tier.{Tier}
-use Rattle.settlement.specs.recovery_laws.update_log.View.{RegionView}
-use Rattle.settlement.specs.world.system_world.Contents.{mark_by}
-use Rattle.settlement.specs.world.system_world.Idle.{IsIdleKernel, IsIdleSeat, IsIdleSystem}
-use Rattle.settlement.specs.world.system_world.WorldTree.{away_records, log_by, log_of, opened_by, opened_in, records_behind, whole_graph, world_tree}
-use Rattle.settlement.specs.world.system_world.WorldView.{WorldView}
-use Rattle.settlement.specs.world.system_world.event_steps.call_effects.ClosedGraph.{nobody}
-use Rattle.settlement.specs.world.system_world.event_steps.call_effects.Wholes.{IsSound, state_of}
-use Rattle.settlement.specs.world.system_world.event_steps.kernel_fs.digester.MarkMoves.{mark_of}
-use Rattle.settlement.specs.world.system_world.event_steps.posix_calls.Operations.{is_client}
-use Rattle.settlement.specs.world.system_world.event_steps.posix_calls.Tree.{Descriptors}
-use Rattle.settlement.proofs.recovery_laws_lemmas.kernel_fs_lemmas.world_invariant_lemmas.Owners.{is_high, is_low}
+use Rattle.batch_journal.proofs.Courses.{tiers_same}
+use Rattle.event_steps.specs.View.{SeatView, SystemView, seat_of}
+use Rattle.lease_manager.specs.Passes.{PassView, client_of, fresh, lease_of}
+use Rattle.lease_manager.specs.Words.{HasWord, lease_place}
+use Rattle.lease_manager.specs.declared.view.LeaseMode.TheVariants.{Free}
+use Rattle.libfs.specs.SealedRegion.{SealedRegionView}
+use Rattle.client_log.specs.Steps.{IsOpened}
+use Rattle.client_log.specs.View.{current_records}
+use Rattle.file_graph.specs.Graph.{Graph}
+use Rattle.log_record.specs.declared.format.Record.{Record}
+use Rattle.world_invariant.specs.Limits.{AreWithin}
+use Rattle.kernel_fs.specs.KernelView.{KernelView}
+use Rattle.kernel_fs.specs.MachineState.{IsKernelOf, StandBeforeRegions}
+use Rattle.kernel_fs.specs.Steps.{opened_machine}
+use Rattle.area_reader.specs.Format.{IsOpenable}
+use Rattle.area_reader.specs.Looks.{Looks, call_answer}
+use Rattle.area_reader.specs.Store.{Store, disk, graph, marks, store_of}
+use Rattle.area_reader.specs.declared.error.AreaError.{AreaError}
+use Rattle.batch_journal.specs.View.{JournalView}
+use Rattle.file_graph.specs.Units.{charge}
+use Rattle.layout.specs.Places.{Sizes}
+use Rattle.layout.specs.declared.marks.Marks.{Marks}
+use Rattle.tier_device.specs.declared.media.Media.{Ghosts}
+use Rattle.tier_device.specs.declared.media.Tier.{Tier}
+use Rattle.update_log.specs.View.{RegionView}
+use Rattle.system_laws.specs.Contents.{mark_by}
+use Rattle.system_laws.specs.Idle.{IsIdleKernel, IsIdleSeat, IsIdleSystem}
+use Rattle.system_laws.specs.WorldTree.{away_records, log_by, log_of, opened_by, opened_in, records_behind, whole_graph, world_tree}
+use Rattle.system_laws.specs.WorldView.{WorldView}
+use Rattle.call_effects.specs.ClosedGraph.{nobody}
+use Rattle.call_effects.specs.Wholes.{IsSound, state_of}
+use Rattle.digester.specs.MarkMoves.{mark_of}
+use Rattle.posix_calls.specs.Operations.{is_client}
+use Rattle.posix_calls.specs.Tree.{Descriptors}
+use Rattle.world_invariant.proofs.Owners.{is_high, is_low}
 use Rattle.recovery.specs.Assembly.{AreOpenedSeats, AreReadyRegions, IsReadyArea}
-use Rattle.settlement.specs.Regions.{IsUntouched}
+use Rattle.area_recovery.specs.Regions.{IsUntouched}
 use Rattle.recovery.proofs.OpenedSeats.{HasOpened, as_long, opened_at}
-use Rattle.settlement.proofs.Recovering.{no_records_stay, same_graph}
+use Rattle.area_recovery.proofs.Recovering.{no_records_stay, same_graph}
 
 pub same_system : {M : Type 0} (w : SystemView M) (k : KernelView M) (seats : List (SeatView M)) → w.kernel ≡ k → w.seats ≡ seats → w ≡ record { kernel = k; seats = seats }
 same_system w k seats kernel_is seats_are = λ t. record { kernel = kernel_is t; seats = seats_are t }

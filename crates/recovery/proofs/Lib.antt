@@ -12,4 +12,3 @@ pub mod PartRows
 pub mod FreshMedia
 pub mod FreshWorlds
 pub mod OpenedParts
-pub use Rattle.settlement.proofs as settlement_lemmas

@@ -1,26 +1,26 @@
 -- A client's log over two regions that are wiped.
 use Rattle.std.proofs.Common.{◌≡◌, ℕ, ◌%◌, ◌==◌, cond, not, Bool, true, false, List, [], take, Option, Some, None, IsSome, is_some, inl, refl, ap, sym, ◌∙◌, subst}
-use Rattle.settlement.specs.world.system_world.event_steps.libfs.NewClient.{IsBlank, IsNew}
-use Rattle.settlement.specs.world.system_world.event_steps.libfs.client_log.Calls.{IsOnlyRead}
-use Rattle.settlement.specs.world.system_world.event_steps.libfs.client_log.Regions.{AreWiped, in_turn}
-use Rattle.settlement.specs.world.system_world.event_steps.libfs.client_log.Regions as logs
-use Rattle.settlement.specs.world.system_world.event_steps.libfs.client_log.Steps.{IsOpened}
-use Rattle.settlement.specs.world.system_world.event_steps.libfs.client_log.View.{LogView}
-use Rattle.settlement.specs.world.system_world.event_steps.View.{SeatView}
-use Rattle.settlement.specs.world.system_world.event_steps.lease_manager.Passes.{PassView}
-use Rattle.settlement.specs.recovery_laws.update_log.Frames.{before_gate, records, spelled_records}
-use Rattle.settlement.specs.recovery_laws.update_log.RecordCounts.{next_generation}
-use Rattle.settlement.specs.recovery_laws.update_log.Stage.{IsIdle}
-use Rattle.settlement.specs.recovery_laws.update_log.View.{RegionView, WithOrWithout, header_of, records_of}
-use Rattle.settlement.specs.recovery_laws.update_log.Wipe.{IsWiping}
-use Rattle.settlement.specs.recovery_laws.update_log.WipeStops.{generation}
-use Rattle.settlement.specs.recovery_laws.update_log.tier_device.declared.media.Media.{Ghosts}
-use Rattle.settlement.specs.recovery_laws.update_log.tier_device.declared.media.Tier.TheVariants.{Fast}
-use Rattle.settlement.proofs.recovery_laws_lemmas.update_log_lemmas.Counts.{header_tells}
-use Rattle.settlement.specs.world.system_world.event_steps.Refusals.{no_refusals}
+use Rattle.libfs.specs.NewClient.{IsBlank, IsNew}
+use Rattle.client_log.specs.Calls.{IsOnlyRead}
+use Rattle.client_log.specs.Regions.{AreWiped, in_turn}
+use Rattle.client_log.specs.Regions as logs
+use Rattle.client_log.specs.Steps.{IsOpened}
+use Rattle.client_log.specs.View.{LogView}
+use Rattle.event_steps.specs.View.{SeatView}
+use Rattle.lease_manager.specs.Passes.{PassView}
+use Rattle.update_log.specs.Frames.{before_gate, records, spelled_records}
+use Rattle.update_log.specs.RecordCounts.{next_generation}
+use Rattle.update_log.specs.Stage.{IsIdle}
+use Rattle.update_log.specs.View.{RegionView, WithOrWithout, header_of, records_of}
+use Rattle.update_log.specs.Wipe.{IsWiping}
+use Rattle.update_log.specs.WipeStops.{generation}
+use Rattle.tier_device.specs.declared.media.Media.{Ghosts}
+use Rattle.tier_device.specs.declared.media.Tier.TheVariants.{Fast}
+use Rattle.update_log.proofs.Counts.{header_tells}
+use Rattle.event_steps.specs.Refusals.{no_refusals}
 use Rattle.recovery.specs.Assembly.{IsOpenedSeat}
-use Rattle.settlement.specs.Regions.{IsUntouched}
-use Rattle.settlement.specs.Silent.{IsWiped, wiped_name}
+use Rattle.area_recovery.specs.Regions.{IsUntouched}
+use Rattle.area_recovery.specs.Silent.{IsWiped, wiped_name}
 use Rattle.recovery.proofs.OpenedSeats.{untouched_by_read}
 use Rattle.recovery.proofs.SystemParts.{parity}
 

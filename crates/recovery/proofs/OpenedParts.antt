@@ -2,32 +2,32 @@
 use Rattle.std.proofs.Common.{◌≡◌, ◌≢◌, ◌⊎◌, inl, inr, ℕ, zero, suc, ◌+◌, ◌/◌, ◌%◌, ◌<◌, ◌≤◌, true, List, [], ◌∷◌, length, refl, ap, sym, ◌∙◌, subst, arith}
 use Rattle.std.specs.Prelude.{slice_index_or}
 use Rattle.std.specs.List.{AllByRecursion, AllZip}
-use Rattle.settlement.specs.recovery_laws.update_log.tier_device.declared.media.Media.{Ghosts}
-use Rattle.settlement.specs.recovery_laws.update_log.tier_device.declared.media.Tier.{Tier}
-use Rattle.settlement.specs.recovery_laws.update_log.tier_device.declared.media.Tier.TheVariants.{Fast}
-use Rattle.settlement.specs.recovery_laws.update_log.tier_device.AfterStop.{AtRest}
-use Rattle.settlement.specs.recovery_laws.update_log.tier_device.Media.{Rose}
-use Rattle.settlement.specs.recovery_laws.update_log.View.{HasSize, RegionView}
-use Rattle.settlement.specs.world.system_world.Contents.{CanRecover, regions_in}
-use Rattle.settlement.specs.world.system_world.courses.Courses.{PARTS, part_of}
-use Rattle.settlement.specs.world.system_world.event_steps.kernel_fs.layout.Places.{Sizes}
-use Rattle.settlement.specs.world.system_world.event_steps.posix_calls.Operations.{is_client}
-use Rattle.settlement.specs.declared.error.RecoveryError.{RecoveryError}
-use Rattle.settlement.specs.declared.error.RecoveryError.TheVariants.{DeviceFault, RegionSize}
-use Rattle.settlement.specs.FaultOrMemory.{IsFaultOrMemory}
-use Rattle.settlement.specs.Parts.{AreAtRest, contents_of, part_medium}
-use Rattle.settlement.specs.Phases.{StaysRecovered, Whatever}
-use Rattle.settlement.specs.Recovers.{AreThese}
-use Rattle.settlement.specs.RecoveryStops.{AreGivenBack, StaysStored}
-use Rattle.settlement.specs.Regions.{CanBeDenied, HaveRisen, IsGivenBack, IsReopened, IsUntouched, REGIONS, Rests, media_of}
-use Rattle.settlement.specs.Settlement.{AreOpenRegions}
-use Rattle.settlement.proofs.JoinedWorlds.{all_by_place}
-use Rattle.settlement.proofs.ReadContents.{reopened_idle, reopened_sizes}
-use Rattle.settlement.proofs.RecoveredParts.{stays_for, untouched_rests, untouched_same}
-use Rattle.settlement.proofs.RisenFaults.{regions_rose, shared_rose}
-use Rattle.settlement.proofs.SilentRegions.{bounds_client, client_bounds}
-use Rattle.settlement.proofs.Staying.{SeenNow}
-use Rattle.settlement.proofs.StoredStays.{KeepsLengths, unmoved_regions_store}
+use Rattle.tier_device.specs.declared.media.Media.{Ghosts}
+use Rattle.tier_device.specs.declared.media.Tier.{Tier}
+use Rattle.tier_device.specs.declared.media.Tier.TheVariants.{Fast}
+use Rattle.tier_device.specs.AfterStop.{AtRest}
+use Rattle.tier_device.specs.Media.{Rose}
+use Rattle.update_log.specs.View.{HasSize, RegionView}
+use Rattle.system_laws.specs.Contents.{CanRecover, regions_in}
+use Rattle.event_lists.specs.Courses.{PARTS, part_of}
+use Rattle.layout.specs.Places.{Sizes}
+use Rattle.posix_calls.specs.Operations.{is_client}
+use Rattle.area_recovery.specs.declared.error.RecoveryError.{RecoveryError}
+use Rattle.area_recovery.specs.declared.error.RecoveryError.TheVariants.{DeviceFault, RegionSize}
+use Rattle.area_recovery.specs.FaultOrMemory.{IsFaultOrMemory}
+use Rattle.area_recovery.specs.Parts.{AreAtRest, contents_of, part_medium}
+use Rattle.area_recovery.specs.Phases.{StaysRecovered, Whatever}
+use Rattle.area_recovery.specs.Recovers.{AreThese}
+use Rattle.area_recovery.specs.RecoveryStops.{AreGivenBack, StaysStored}
+use Rattle.area_recovery.specs.Regions.{CanBeDenied, HaveRisen, IsGivenBack, IsReopened, IsUntouched, REGIONS, Rests, media_of}
+use Rattle.area_recovery.specs.Settlement.{AreOpenRegions}
+use Rattle.area_recovery.proofs.JoinedWorlds.{all_by_place}
+use Rattle.area_recovery.proofs.ReadContents.{reopened_idle, reopened_sizes}
+use Rattle.area_recovery.proofs.RecoveredParts.{stays_for, untouched_rests, untouched_same}
+use Rattle.area_recovery.proofs.RisenFaults.{regions_rose, shared_rose}
+use Rattle.area_recovery.proofs.SilentRegions.{bounds_client, client_bounds}
+use Rattle.area_recovery.proofs.Staying.{SeenNow}
+use Rattle.area_recovery.proofs.StoredStays.{KeepsLengths, unmoved_regions_store}
 
 -- two rows of media, which are as long, of which those at the same place are related
 abbrev pub AreRelated : {M : Type 0} → (M → M → Type 0) → List M → List M → Type 0

@@ -4,22 +4,22 @@ use Rattle.std.specs.Prelude.{slice_get}
 use Rattle.std.specs.List.{All, AllZip}
 use Rattle.std.proofs.lemmas.List.Elements.{All-pop}
 use Rattle.atomic_table.specs.Seated.{TableId}
-use Rattle.settlement.specs.world.system_world.event_steps.Sound.{AreFrom, AreOfTable, AreSeats}
-use Rattle.settlement.specs.world.system_world.event_steps.View.{SeatView}
-use Rattle.settlement.specs.world.system_world.event_steps.lease_manager.Passes.{PassView, client_of, fresh, places}
-use Rattle.settlement.specs.world.system_world.event_steps.libfs.client_log.Calls.{IsOnlyRead}
-use Rattle.settlement.specs.world.system_world.event_steps.libfs.client_log.Regions.{in_turn}
-use Rattle.settlement.specs.recovery_laws.update_log.tier_device.declared.media.Media.{Ghosts}
-use Rattle.settlement.specs.recovery_laws.update_log.tier_device.Media.{Rose}
-use Rattle.settlement.specs.recovery_laws.update_log.View.{RegionView}
-use Rattle.settlement.specs.recovery_laws.shared_area.layout.declared.marks.Marks.{Marks}
-use Rattle.settlement.specs.world.system_world.Parts.{region_beside, region_of}
-use Rattle.settlement.specs.declared.error.RecoveryError.{RecoveryError}
-use Rattle.settlement.specs.declared.error.RecoveryError.TheVariants.{DeviceFault}
+use Rattle.event_steps.specs.Sound.{AreFrom, AreOfTable, AreSeats}
+use Rattle.event_steps.specs.View.{SeatView}
+use Rattle.lease_manager.specs.Passes.{PassView, client_of, fresh, places}
+use Rattle.client_log.specs.Calls.{IsOnlyRead}
+use Rattle.client_log.specs.Regions.{in_turn}
+use Rattle.tier_device.specs.declared.media.Media.{Ghosts}
+use Rattle.tier_device.specs.Media.{Rose}
+use Rattle.update_log.specs.View.{RegionView}
+use Rattle.layout.specs.declared.marks.Marks.{Marks}
+use Rattle.system_laws.specs.Parts.{region_beside, region_of}
+use Rattle.area_recovery.specs.declared.error.RecoveryError.{RecoveryError}
+use Rattle.area_recovery.specs.declared.error.RecoveryError.TheVariants.{DeviceFault}
 use Rattle.recovery.specs.Assembly.{AreFresh, AreOnlyRead, AreOpenedSeats, AreWipedTo, IsOpenedSeat, RefusesSeat, SeatsLast, generation_at}
-use Rattle.settlement.specs.PartMedia.{regions_of_seats}
-use Rattle.settlement.specs.Regions.{HaveRisen, IsUntouched, SomeZip, media_of}
-use Rattle.settlement.specs.Silent.{IsWiped, wiped_name}
+use Rattle.area_recovery.specs.PartMedia.{regions_of_seats}
+use Rattle.area_recovery.specs.Regions.{HaveRisen, IsUntouched, SomeZip, media_of}
+use Rattle.area_recovery.specs.Silent.{IsWiped, wiped_name}
 use Rattle.recovery.proofs.OpenedLists.{some_left, zip_append}
 use Rattle.recovery.proofs.SystemParts.{parity}
 

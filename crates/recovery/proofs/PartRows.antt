@@ -4,13 +4,13 @@ use Rattle.std.specs.List.{AllZip}
 use Rattle.std.specs.Prelude.{slice_get, Some}
 use Rattle.std.proofs.lemmas.List.{drop_all, take_all}
 use Rattle.std.proofs.lemmas.Option.{get_or_from_slice_get, slice_get-get_or, slice_get_within}
-use Rattle.settlement.specs.recovery_laws.update_log.tier_device.declared.media.Media.{Ghosts}
-use Rattle.settlement.specs.recovery_laws.update_log.tier_device.Media.{Rose}
-use Rattle.settlement.specs.world.system_world.courses.Courses.{PARTS}
+use Rattle.tier_device.specs.declared.media.Media.{Ghosts}
+use Rattle.tier_device.specs.Media.{Rose}
+use Rattle.event_lists.specs.Courses.{PARTS}
 use Rattle.recovery.specs.FreshContents.{AreLater, IsLater}
-use Rattle.settlement.specs.Parts.{PartsView, part_medium}
-use Rattle.settlement.specs.PartMedia.{SomeRose}
-use Rattle.settlement.specs.Regions.{HaveRisen, SomeZip}
+use Rattle.area_recovery.specs.Parts.{PartsView, part_medium}
+use Rattle.area_recovery.specs.PartMedia.{SomeRose}
+use Rattle.area_recovery.specs.Regions.{HaveRisen, SomeZip}
 use Rattle.recovery.proofs.FreshTiers.{later_on, same_later}
 
 pub zip_long : {X Y : Type 0} (R : X → Y → Type 0) (xs : List X) (ys : List Y) → AllZip R xs ys → length xs ≡ length ys

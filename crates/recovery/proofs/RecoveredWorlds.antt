@@ -3,51 +3,51 @@ use Rattle.std.proofs.Common.{◌≡◌, inl, inr, ℕ, zero, suc, ◌+◌, ◌-
 use Rattle.std.specs.Prelude.{slice_get, slice_index, Some}
 use Rattle.std.proofs.lemmas.List.{length-map}
 use Rattle.std.proofs.lemmas.Option.{slice_get_within}
-use Rattle.settlement.specs.recovery_laws.update_log.tier_device.declared.media.Media.{Ghosts}
-use Rattle.settlement.specs.recovery_laws.update_log.tier_device.declared.media.Tier.{Tier}
-use Rattle.settlement.specs.recovery_laws.update_log.tier_device.AfterStop.{AtRest}
-use Rattle.settlement.specs.recovery_laws.update_log.View.{HasSize, RegionView}
-use Rattle.settlement.specs.recovery_laws.shared_area.batch_journal.View.{JournalView}
-use Rattle.settlement.specs.recovery_laws.shared_area.batch_journal.Volume.{IsVolume}
-use Rattle.settlement.specs.recovery_laws.shared_area.area_image.Format.{IsOpenable}
-use Rattle.settlement.specs.recovery_laws.shared_area.area_image.Store.{disk, graph, marks}
-use Rattle.settlement.specs.recovery_laws.shared_area.layout.declared.marks.Mark.{Mark}
-use Rattle.settlement.specs.recovery_laws.shared_area.layout.declared.marks.Marks.{Marks}
-use Rattle.settlement.specs.world.system_world.Contents.{log_in, regions_in, stored_state}
-use Rattle.settlement.specs.world.system_world.Idle.{IsIdleSystem}
-use Rattle.settlement.specs.world.system_world.KeptCalls.{no_calls}
-use Rattle.settlement.specs.world.system_world.Parts.{medium_of}
-use Rattle.settlement.specs.world.system_world.WorldTree.{world_tree}
-use Rattle.settlement.specs.world.system_world.WorldView.{WorldView}
-use Rattle.settlement.specs.world.system_world.courses.Courses.{PARTS}
-use Rattle.settlement.specs.world.system_world.event_steps.call_effects.ClosedGraph.{nobody}
-use Rattle.settlement.specs.world.system_world.event_steps.call_effects.Wholes.{state_of}
-use Rattle.settlement.specs.world.system_world.event_steps.kernel_fs.digester.MarkMoves.{mark_of}
-use Rattle.settlement.specs.world.system_world.event_steps.kernel_fs.layout.Places.{Sizes}
-use Rattle.settlement.specs.world.system_world.event_steps.posix_calls.Operations.{is_client}
-use Rattle.settlement.specs.declared.error.RecoveryError.{RecoveryError}
-use Rattle.settlement.specs.declared.error.RecoveryError.TheVariants.{DeviceFault}
+use Rattle.tier_device.specs.declared.media.Media.{Ghosts}
+use Rattle.tier_device.specs.declared.media.Tier.{Tier}
+use Rattle.tier_device.specs.AfterStop.{AtRest}
+use Rattle.update_log.specs.View.{HasSize, RegionView}
+use Rattle.batch_journal.specs.View.{JournalView}
+use Rattle.batch_journal.specs.Volume.{IsVolume}
+use Rattle.area_reader.specs.Format.{IsOpenable}
+use Rattle.area_reader.specs.Store.{disk, graph, marks}
+use Rattle.layout.specs.declared.marks.Mark.{Mark}
+use Rattle.layout.specs.declared.marks.Marks.{Marks}
+use Rattle.system_laws.specs.Contents.{log_in, regions_in, stored_state}
+use Rattle.system_laws.specs.Idle.{IsIdleSystem}
+use Rattle.system_laws.specs.KeptCalls.{no_calls}
+use Rattle.system_laws.specs.Parts.{medium_of}
+use Rattle.system_laws.specs.WorldTree.{world_tree}
+use Rattle.system_laws.specs.WorldView.{WorldView}
+use Rattle.event_lists.specs.Courses.{PARTS}
+use Rattle.call_effects.specs.ClosedGraph.{nobody}
+use Rattle.call_effects.specs.Wholes.{state_of}
+use Rattle.digester.specs.MarkMoves.{mark_of}
+use Rattle.layout.specs.Places.{Sizes}
+use Rattle.posix_calls.specs.Operations.{is_client}
+use Rattle.area_recovery.specs.declared.error.RecoveryError.{RecoveryError}
+use Rattle.area_recovery.specs.declared.error.RecoveryError.TheVariants.{DeviceFault}
 use Rattle.recovery.specs.Assembly.{AreReadyRegions, IsReadyArea}
-use Rattle.settlement.specs.FaultOrMemory.{IsFaultOrMemory}
-use Rattle.settlement.specs.Parts.{contents_of, part_medium}
-use Rattle.settlement.specs.PartMedia.{AreUntouched, SomeRose, media_beneath}
-use Rattle.settlement.specs.RecoveryStops.{AreGivenBack, IsRecoveredWorld, StoresTree}
-use Rattle.settlement.specs.Regions.{HaveRisen, IsOnlyRead, REGIONS, media_of, regions_read}
-use Rattle.settlement.specs.FoundLogs.{log_by}
-use Rattle.settlement.specs.Refusals.{IsStoredCause}
-use Rattle.settlement.specs.Settlement.{AreOpenRegions, RefusesArea, SettlesArea}
-use Rattle.settlement.specs.Silent.{IsWiped, StaysSilent, wiped_name}
-use Rattle.settlement.proofs.ReadContents.{sizes_still}
-use Rattle.settlement.proofs.RecoveredParts.{read_is, read_untouched, region_rests, settled_rests, settled_store, these_are, untouched_rests, untouched_same, wiped_store}
-use Rattle.settlement.proofs.RegionMedia.{part_at, some_is, zip_at, zip_length}
-use Rattle.settlement.proofs.RisenFaults.{regions_rose, shared_rose, some_earlier}
-use Rattle.settlement.proofs.SilentRegions.{bounds_client}
-use Rattle.settlement.proofs.Staying.{SeenNow}
-use Rattle.settlement.proofs.StoredStays.{KeepsLengths}
-use Rattle.settlement.proofs.RefusalCauses.{cause_same}
+use Rattle.area_recovery.specs.FaultOrMemory.{IsFaultOrMemory}
+use Rattle.area_recovery.specs.Parts.{contents_of, part_medium}
+use Rattle.area_recovery.specs.PartMedia.{AreUntouched, SomeRose, media_beneath}
+use Rattle.area_recovery.specs.RecoveryStops.{AreGivenBack, IsRecoveredWorld, StoresTree}
+use Rattle.area_recovery.specs.Regions.{HaveRisen, IsOnlyRead, REGIONS, media_of, regions_read}
+use Rattle.area_recovery.specs.FoundLogs.{log_by}
+use Rattle.area_recovery.specs.Refusals.{IsStoredCause}
+use Rattle.area_recovery.specs.Settlement.{AreOpenRegions, RefusesArea, SettlesArea}
+use Rattle.area_recovery.specs.Silent.{IsWiped, StaysSilent, wiped_name}
+use Rattle.area_recovery.proofs.ReadContents.{sizes_still}
+use Rattle.area_recovery.proofs.RecoveredParts.{read_is, read_untouched, region_rests, settled_rests, settled_store, these_are, untouched_rests, untouched_same, wiped_store}
+use Rattle.area_recovery.proofs.RegionMedia.{part_at, some_is, zip_at, zip_length}
+use Rattle.area_recovery.proofs.RisenFaults.{regions_rose, shared_rose, some_earlier}
+use Rattle.area_recovery.proofs.SilentRegions.{bounds_client}
+use Rattle.area_recovery.proofs.Staying.{SeenNow}
+use Rattle.area_recovery.proofs.StoredStays.{KeepsLengths}
+use Rattle.area_recovery.proofs.RefusalCauses.{cause_same}
 use Rattle.recovery.proofs.StoredTrees.{log_found, state_found, tree_is_stored}
-use Rattle.settlement.proofs.WholeContents.{whole_recovers}
-use Rattle.settlement.proofs.WipedRegions.{some_at}
+use Rattle.area_recovery.proofs.WholeContents.{whole_recovers}
+use Rattle.area_recovery.proofs.WipedRegions.{some_at}
 
 module _ {M : Type 0} (device : Ghosts M) (seen_now : SeenNow device) (lengths : KeepsLengths device) (area mid : JournalView M) (opened read : List (RegionView M)) (start : AreOpenRegions device opened) where
   abbrev pub old : ℕ → M

@@ -1,27 +1,27 @@
 -- The tree that parts store, by what is found of the clients' logs.
 use Rattle.std.proofs.Common.{◌≡◌, ℕ, true, ap, sym, ◌∙◌, subst}
 use Rattle.std.specs.Prelude.{Option, Some}
-use Rattle.settlement.specs.recovery_laws.shared_area.batch_journal.Volume.{IsVolume}
-use Rattle.settlement.specs.recovery_laws.shared_area.area_image.Format.{IsOpenable}
-use Rattle.settlement.specs.recovery_laws.shared_area.area_image.Store.{graph, marks, store_of}
-use Rattle.settlement.specs.recovery_laws.shared_area.layout.declared.marks.Marks.{Marks}
-use Rattle.settlement.specs.world.system_world.Contents.{log_in, mark_by, regions_in, stored_graph, stored_state}
-use Rattle.settlement.specs.world.system_world.courses.Courses.{WorldContent}
-use Rattle.settlement.specs.world.system_world.event_steps.call_effects.ClosedGraph.{nobody, settled_graph}
-use Rattle.settlement.specs.world.system_world.event_steps.call_effects.Wholes.{IsSound, state_of}
-use Rattle.settlement.specs.world.system_world.event_steps.kernel_fs.digester.MarkMoves.{mark_of}
-use Rattle.settlement.specs.world.system_world.event_steps.kernel_fs.layout.Places.{Sizes}
-use Rattle.settlement.specs.world.system_world.event_steps.libfs.file_graph.Graph.{Graph}
-use Rattle.settlement.specs.world.system_world.event_steps.libfs.world_invariant.Logs.{LogsAreApart, after_clients, is_written}
-use Rattle.settlement.specs.world.system_world.event_steps.posix_calls.Operations.{is_client}
-use Rattle.settlement.specs.DigestedLogs.{CanDigestAll}
-use Rattle.settlement.specs.FoundLogs.{log_by}
-use Rattle.settlement.specs.Recovers.{AreThese, Regions}
-use Rattle.settlement.specs.RecoveryStops.{StoresTree}
-use Rattle.settlement.proofs.DigestibleLogs.{digest_all_same}
-use Rattle.settlement.proofs.JoinedRegions.{counted_by}
-use Rattle.settlement.proofs.Recovering.{same_graph}
-use Rattle.settlement.proofs.WholeContents.{counted_alike}
+use Rattle.batch_journal.specs.Volume.{IsVolume}
+use Rattle.area_reader.specs.Format.{IsOpenable}
+use Rattle.area_reader.specs.Store.{graph, marks, store_of}
+use Rattle.layout.specs.declared.marks.Marks.{Marks}
+use Rattle.system_laws.specs.Contents.{log_in, mark_by, regions_in, stored_graph, stored_state}
+use Rattle.event_lists.specs.Courses.{WorldContent}
+use Rattle.call_effects.specs.ClosedGraph.{nobody, settled_graph}
+use Rattle.call_effects.specs.Wholes.{IsSound, state_of}
+use Rattle.digester.specs.MarkMoves.{mark_of}
+use Rattle.layout.specs.Places.{Sizes}
+use Rattle.file_graph.specs.Graph.{Graph}
+use Rattle.world_invariant.specs.Logs.{LogsAreApart, after_clients, is_written}
+use Rattle.posix_calls.specs.Operations.{is_client}
+use Rattle.area_recovery.specs.DigestedLogs.{CanDigestAll}
+use Rattle.area_recovery.specs.FoundLogs.{log_by}
+use Rattle.area_recovery.specs.Recovers.{AreThese, Regions}
+use Rattle.area_recovery.specs.RecoveryStops.{StoresTree}
+use Rattle.area_recovery.proofs.DigestibleLogs.{digest_all_same}
+use Rattle.area_recovery.proofs.JoinedRegions.{counted_by}
+use Rattle.area_recovery.proofs.Recovering.{same_graph}
+use Rattle.area_recovery.proofs.WholeContents.{counted_alike}
 
 module _ (g : Sizes) (c : WorldContent) (these : Regions) (alike : AreThese these (regions_in c)) (v : Marks) (is : marks (store_of (c 0)) ≡ Some v) where
   pub log_found : (d : ℕ) → is_client d ≡ true → log_in c d ≡ log_by v these d

@@ -1,25 +1,25 @@
 -- What is played and what is recovered meet in the contents: what a list leaves is what a recovery takes, and it stores the tree that the recovery gives.
 use Rattle.std.proofs.Common.{◌≡◌, ◌+◌, List, ap, sym, ◌∙◌, subst}
 use Rattle.std.specs.Prelude.{take, Result, Ok, Err, IfOk, IfErr}
-use Rattle.settlement.specs.recovery_laws.update_log.tier_device.declared.media.Media.{Ghosts}
-use Rattle.settlement.specs.world.system_world.Contents.{CanRecover, stored_state}
-use Rattle.settlement.specs.world.system_world.News.{news}
-use Rattle.settlement.specs.world.system_world.Steps.{recoverable}
-use Rattle.settlement.specs.world.system_world.WorldTree.{world_tree}
-use Rattle.settlement.specs.world.system_world.WorldView.{WorldView, calls_of}
-use Rattle.settlement.specs.world.system_world.courses.Courses.{AreMade, Ledger, WorldContent, ledger}
-use Rattle.settlement.specs.world.system_world.courses.Plays.{Leads, Plays}
-use Rattle.settlement.specs.world.system_world.event_steps.declared.event.Event.{Event}
-use Rattle.settlement.specs.world.system_world.event_steps.declared.outcome.Outcome.{Outcome}
-use Rattle.settlement.specs.world.system_world.event_steps.kernel_fs.layout.Places.{Sizes}
-use Rattle.settlement.specs.world.system_world.event_steps.posix_calls.Outcome.{IsOutcome}
-use Rattle.settlement.specs.world.system_world.event_steps.posix_calls.Tree.{State}
-use Rattle.settlement.specs.declared.error.RecoveryError.{RecoveryError}
-use Rattle.settlement.specs.FaultOrMemory.{IsFaultOrMemory}
-use Rattle.settlement.specs.Parts.{PartsView, contents_of, part_medium}
-use Rattle.settlement.specs.RecoveryStops.{StoresTree}
+use Rattle.tier_device.specs.declared.media.Media.{Ghosts}
+use Rattle.system_laws.specs.Contents.{CanRecover, stored_state}
+use Rattle.system_laws.specs.News.{news}
+use Rattle.system_laws.specs.Steps.{recoverable}
+use Rattle.system_laws.specs.WorldTree.{world_tree}
+use Rattle.system_laws.specs.WorldView.{WorldView, calls_of}
+use Rattle.event_lists.specs.Courses.{AreMade, Ledger, WorldContent, ledger}
+use Rattle.event_lists.specs.Plays.{Leads, Plays}
+use Rattle.event_steps.specs.declared.event.Event.{Event}
+use Rattle.event_steps.specs.declared.outcome.Outcome.{Outcome}
+use Rattle.layout.specs.Places.{Sizes}
+use Rattle.posix_calls.specs.Outcome.{IsOutcome}
+use Rattle.posix_calls.specs.Tree.{State}
+use Rattle.area_recovery.specs.declared.error.RecoveryError.{RecoveryError}
+use Rattle.area_recovery.specs.FaultOrMemory.{IsFaultOrMemory}
+use Rattle.area_recovery.specs.Parts.{PartsView, contents_of, part_medium}
+use Rattle.area_recovery.specs.RecoveryStops.{StoresTree}
 use Rattle.recovery.specs.Survival.{Answers, SurvivesAs, Survives}
-use Rattle.settlement.proofs.Staying.{one_geometry}
+use Rattle.area_recovery.proofs.Staying.{one_geometry}
 
 module _ {M N : Type 0} (device : Ghosts M) (other : Ghosts N) (old : WorldView M) (events : List Event) (outcomes : List Outcome) (new : WorldView M) (plays : Plays (recoverable device) old events outcomes new) (stopped : PartsView N) where
   abbrev contents : WorldContent

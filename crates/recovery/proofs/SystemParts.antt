@@ -3,17 +3,17 @@ use Rattle.std.proofs.Common.{◌≡◌, ℕ, zero, suc, ◌+◌, ◌-◌, ◌*�
 use Rattle.std.specs.Prelude.{slice_get, slice_index_or}
 use Rattle.std.specs.List.{AllZip}
 use Rattle.std.proofs.lemmas.List.{length-map}
-use Rattle.settlement.specs.world.system_world.event_steps.View.{SeatView, SystemView}
-use Rattle.settlement.specs.world.system_world.event_steps.libfs.SealedRegion.{SealedRegionView}
-use Rattle.settlement.specs.world.system_world.event_steps.libfs.View.{ClientView}
-use Rattle.settlement.specs.world.system_world.event_steps.libfs.client_log.Regions.{in_turn}
-use Rattle.settlement.specs.recovery_laws.update_log.tier_device.declared.media.Media.{Ghosts}
-use Rattle.settlement.specs.recovery_laws.update_log.tier_device.Media.{Rose}
-use Rattle.settlement.specs.recovery_laws.update_log.View.{RegionView}
-use Rattle.settlement.specs.world.system_world.Parts.{medium_of, region_beside, region_medium, region_of}
-use Rattle.settlement.specs.Parts.{PartsView, part_medium}
-use Rattle.settlement.specs.PartMedia.{AreUntouched, SomeRose, regions_of_seats}
-use Rattle.settlement.specs.Regions.{HaveRisen, IsUntouched, media_of}
+use Rattle.event_steps.specs.View.{SeatView, SystemView}
+use Rattle.libfs.specs.SealedRegion.{SealedRegionView}
+use Rattle.libfs.specs.View.{ClientView}
+use Rattle.client_log.specs.Regions.{in_turn}
+use Rattle.tier_device.specs.declared.media.Media.{Ghosts}
+use Rattle.tier_device.specs.Media.{Rose}
+use Rattle.update_log.specs.View.{RegionView}
+use Rattle.system_laws.specs.Parts.{medium_of, region_beside, region_medium, region_of}
+use Rattle.area_recovery.specs.Parts.{PartsView, part_medium}
+use Rattle.area_recovery.specs.PartMedia.{AreUntouched, SomeRose, regions_of_seats}
+use Rattle.area_recovery.specs.Regions.{HaveRisen, IsUntouched, media_of}
 
 odd_is : (r : ℕ) → r < 2 → (r == 1) ≡ not (r == 0)
 odd_is zero low = refl

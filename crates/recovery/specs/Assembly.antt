@@ -2,26 +2,26 @@
 use Rattle.std.specs.Prelude.{◌≡◌, ◌⊎◌, ℕ, ◌+◌, ◌++◌, ◌/◌, ◌%◌, true, false, List, [], ◌∷◌, length, slice_get, Some, None}
 use Rattle.std.specs.List.{AllZip}
 use Rattle.atomic_table.specs.Seated.{TableId}
-use Rattle.settlement.specs.recovery_laws.update_log.tier_device.declared.media.Media.{Ghosts}
-use Rattle.settlement.specs.recovery_laws.update_log.tier_device.Media.{Rose}
-use Rattle.settlement.specs.recovery_laws.update_log.View.{HasSize, RegionView}
-use Rattle.settlement.specs.recovery_laws.shared_area.batch_journal.View.{JournalView}
-use Rattle.settlement.specs.recovery_laws.shared_area.layout.declared.marks.Marks.{Marks}
-use Rattle.settlement.specs.recovery_laws.shared_area.area_image.Store.{disk, graph, marks}
-use Rattle.settlement.specs.world.system_world.event_steps.call_effects.ClosedGraph.{nobody}
-use Rattle.settlement.specs.world.system_world.event_steps.call_effects.Wholes.{IsSound}
-use Rattle.settlement.specs.world.system_world.event_steps.Refusals.{no_refusals}
-use Rattle.settlement.specs.world.system_world.event_steps.kernel_fs.digester.MarkMoves.{mark_of}
-use Rattle.settlement.specs.world.system_world.event_steps.posix_calls.Operations.{is_client}
-use Rattle.settlement.specs.world.system_world.event_steps.lease_manager.Passes.{PassView, fresh}
-use Rattle.settlement.specs.world.system_world.event_steps.libfs.client_log.Steps.{IsOpened}
-use Rattle.settlement.specs.world.system_world.event_steps.libfs.NewClient.{IsBlank, IsNew}
-use Rattle.settlement.specs.world.system_world.event_steps.View.{SeatView}
-use Rattle.settlement.specs.declared.error.RecoveryError.{RecoveryError}
-use Rattle.settlement.specs.declared.error.RecoveryError.TheVariants.{DeviceFault}
-use Rattle.settlement.specs.FaultOrMemory.{IsFaultOrMemory}
-use Rattle.settlement.specs.Regions.{REGIONS, IsUntouched}
-use Rattle.settlement.specs.Silent.{IsWiped, wiped_name}
+use Rattle.tier_device.specs.declared.media.Media.{Ghosts}
+use Rattle.tier_device.specs.Media.{Rose}
+use Rattle.update_log.specs.View.{HasSize, RegionView}
+use Rattle.batch_journal.specs.View.{JournalView}
+use Rattle.layout.specs.declared.marks.Marks.{Marks}
+use Rattle.area_reader.specs.Store.{disk, graph, marks}
+use Rattle.call_effects.specs.ClosedGraph.{nobody}
+use Rattle.call_effects.specs.Wholes.{IsSound}
+use Rattle.event_steps.specs.Refusals.{no_refusals}
+use Rattle.digester.specs.MarkMoves.{mark_of}
+use Rattle.posix_calls.specs.Operations.{is_client}
+use Rattle.lease_manager.specs.Passes.{PassView, fresh}
+use Rattle.client_log.specs.Steps.{IsOpened}
+use Rattle.libfs.specs.NewClient.{IsBlank, IsNew}
+use Rattle.event_steps.specs.View.{SeatView}
+use Rattle.area_recovery.specs.declared.error.RecoveryError.{RecoveryError}
+use Rattle.area_recovery.specs.declared.error.RecoveryError.TheVariants.{DeviceFault}
+use Rattle.area_recovery.specs.FaultOrMemory.{IsFaultOrMemory}
+use Rattle.area_recovery.specs.Regions.{REGIONS, IsUntouched}
+use Rattle.area_recovery.specs.Silent.{IsWiped, wiped_name}
 
 module _ {M : Type 0} (device : Ghosts M) where
   -- The area goes on, its graph is sound where nobody has a file open, and each mark stands before a region.

@@ -1,19 +1,19 @@
 -- What a format writes on parts, and which it refuses.
 use Rattle.std.specs.Prelude.{◌≡◌, ℕ, zero, suc, ◌≤◌, ◌<◌, ◌%◌, List, length, slice_get, Some}
 use Rattle.std.specs.List.{AllByRecursion}
-use Rattle.settlement.specs.recovery_laws.fresh_media.Fresh.{fresh_region, fresh_tiers}
-use Rattle.settlement.specs.recovery_laws.shared_area.batch_journal.Volume.{HasSizes}
-use Rattle.settlement.specs.recovery_laws.update_log.Moments.{PastStays}
-use Rattle.settlement.specs.recovery_laws.update_log.View.{HasSize}
-use Rattle.settlement.specs.recovery_laws.update_log.tier_device.declared.media.Media.{Ghosts}
-use Rattle.settlement.specs.recovery_laws.update_log.tier_device.declared.media.Tier.{Tier}
-use Rattle.settlement.specs.recovery_laws.update_log.tier_device.AfterStop.{AtRest}
-use Rattle.settlement.specs.world.system_world.courses.Courses.{Content, PARTS, WorldContent}
-use Rattle.settlement.specs.world.system_world.event_steps.kernel_fs.layout.Places.{Sizes}
-use Rattle.settlement.specs.declared.error.RecoveryError.{RecoveryError}
-use Rattle.settlement.specs.declared.error.RecoveryError.TheVariants as errors
-use Rattle.settlement.specs.Parts.{PartsView}
-use Rattle.settlement.specs.Recovers.{region_content}
+use Rattle.recovery_laws.specs.Fresh.{fresh_region, fresh_tiers}
+use Rattle.batch_journal.specs.Volume.{HasSizes}
+use Rattle.update_log.specs.Moments.{PastStays}
+use Rattle.update_log.specs.View.{HasSize}
+use Rattle.tier_device.specs.declared.media.Media.{Ghosts}
+use Rattle.tier_device.specs.declared.media.Tier.{Tier}
+use Rattle.tier_device.specs.AfterStop.{AtRest}
+use Rattle.event_lists.specs.Courses.{Content, PARTS, WorldContent}
+use Rattle.layout.specs.Places.{Sizes}
+use Rattle.area_recovery.specs.declared.error.RecoveryError.{RecoveryError}
+use Rattle.area_recovery.specs.declared.error.RecoveryError.TheVariants as errors
+use Rattle.area_recovery.specs.Parts.{PartsView}
+use Rattle.area_recovery.specs.Recovers.{region_content}
 
 -- what stands on the parts of the empty world: an area in which nothing stands but a root without entries, and regions without records, of generation 0 and of 1 in turn
 abbrev pub fresh_contents : Sizes → WorldContent

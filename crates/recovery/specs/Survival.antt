@@ -1,21 +1,21 @@
 -- Trusted: headline
 -- Every answered call survives: what holds of a list of events that is played, and of what is recovered after a stop.
 use Rattle.std.specs.Prelude.{◌≡◌, ◌↔◌, ℕ, ◌≤◌, ◌<◌, List, length, take, Result, Ok, Err}
-use Rattle.settlement.specs.recovery_laws.update_log.tier_device.declared.media.Media.{Ghosts}
-use Rattle.settlement.specs.world.system_world.courses.Courses.{PARTS, AreMade, Content, IsCourse, LeftAt, Ledger, Reading, ledger, pace_of}
-use Rattle.settlement.specs.world.system_world.event_steps.declared.event.Event.{Event}
-use Rattle.settlement.specs.world.system_world.event_steps.declared.outcome.Outcome.{Outcome}
-use Rattle.settlement.specs.world.system_world.event_steps.posix_calls.Outcome.{IsOutcome}
-use Rattle.settlement.specs.world.system_world.event_steps.posix_calls.Run.{Run}
-use Rattle.settlement.specs.world.system_world.event_steps.posix_calls.Tree.{State}
-use Rattle.settlement.specs.world.system_world.Moves.{EventMoves}
-use Rattle.settlement.specs.world.system_world.News.{news}
-use Rattle.settlement.specs.world.system_world.Clocks.{clocks_of, left_of}
-use Rattle.settlement.specs.world.system_world.WorldTree.{world_tree}
-use Rattle.settlement.specs.world.system_world.WorldView.{WorldView, calls_of}
-use Rattle.settlement.specs.declared.error.RecoveryError.{RecoveryError}
-use Rattle.settlement.specs.FaultOrMemory.{IsFaultOrMemory}
-use Rattle.settlement.specs.Parts.{PartsView, contents_of, part_medium}
+use Rattle.tier_device.specs.declared.media.Media.{Ghosts}
+use Rattle.event_lists.specs.Courses.{PARTS, AreMade, Content, IsCourse, LeftAt, Ledger, Reading, ledger, pace_of}
+use Rattle.event_steps.specs.declared.event.Event.{Event}
+use Rattle.event_steps.specs.declared.outcome.Outcome.{Outcome}
+use Rattle.posix_calls.specs.Outcome.{IsOutcome}
+use Rattle.posix_calls.specs.Run.{Run}
+use Rattle.posix_calls.specs.Tree.{State}
+use Rattle.system_laws.specs.Moves.{EventMoves}
+use Rattle.system_laws.specs.News.{news}
+use Rattle.system_laws.specs.Clocks.{clocks_of, left_of}
+use Rattle.system_laws.specs.WorldTree.{world_tree}
+use Rattle.system_laws.specs.WorldView.{WorldView, calls_of}
+use Rattle.area_recovery.specs.declared.error.RecoveryError.{RecoveryError}
+use Rattle.area_recovery.specs.FaultOrMemory.{IsFaultOrMemory}
+use Rattle.area_recovery.specs.Parts.{PartsView, contents_of, part_medium}
 
 module _ {M : Type 0} (device : Ghosts M) where
   -- One event, with its outcome, leads from the one world to the other: what it acknowledges is asked of the one file tree, and of no part the past changes.

@@ -1,27 +1,29 @@
 //! The shared medium is opened.
 
 ghost use Rattle.std.specs.Prelude.{◌≡◌, ◌≢◌, ◌≤◌, ◌+◌, false, Some, IfOk, IfErr};
-ghost use Rattle.settlement.specs.recovery_laws.shared_area.tier_device.declared.media.Tier.{Tier};
-ghost use Rattle.settlement.specs.recovery_laws.shared_area.tier_device.declared.media.Tier.TheVariants.{Fast};
-ghost use Rattle.settlement.specs.recovery_laws.shared_area.tier_device.Media.{Rose};
-ghost use Rattle.settlement.specs.recovery_laws.shared_area.tier_device.AfterStop.{AtRest};
-ghost use Rattle.settlement.specs.recovery_laws.shared_area.layout.Places.{Sizes};
-ghost use Rattle.settlement.specs.recovery_laws.shared_area.batch_journal.Blocks.{opening_calls};
-ghost use Rattle.settlement.specs.recovery_laws.shared_area.batch_journal.Course.{Unmoved};
-ghost use Rattle.settlement.specs.recovery_laws.shared_area.batch_journal.Damage.{AwaitsReplay};
-ghost use Rattle.settlement.specs.recovery_laws.shared_area.batch_journal.Volume.{IsVolume};
-ghost use Rattle.settlement.specs.recovery_laws.shared_area.area_image.Store.{disk, store_of};
-ghost use Rattle.settlement.specs.recovery_laws.shared_area.area_image.Format.{IsOpenable};
-ghost use Rattle.settlement.specs.recovery_laws.shared_area.AreaOpen.{SpellsNone, IsMediumDamage, TakesMemory};
-ghost use Rattle.settlement.specs.world.system_world.event_steps.posix_calls.Tree.{State};
-ghost use Rattle.settlement.specs.declared.error.RecoveryError.TheVariants.{DeviceFault, Memory};
-ghost use Rattle.settlement.specs.Errors.{OnDamage, IsOfArea};
-ghost use Rattle.settlement.specs.FaultOrMemory.{IsFaultOrMemory};
-ghost use Rattle.settlement.specs.Recovers.{Regions, Recovers};
-ghost use Rattle.settlement.specs.Phases.{StaysRecovered, Whatever};
+ghost use Rattle.tier_device.specs.declared.media.Tier.{Tier};
+ghost use Rattle.tier_device.specs.declared.media.Tier.TheVariants.{Fast};
+ghost use Rattle.tier_device.specs.Media.{Rose};
+ghost use Rattle.tier_device.specs.AfterStop.{AtRest};
+ghost use Rattle.layout.specs.Places.{Sizes};
+ghost use Rattle.batch_journal.specs.Blocks.{opening_calls};
+ghost use Rattle.batch_journal.specs.Course.{Unmoved};
+ghost use Rattle.batch_journal.specs.Damage.{AwaitsReplay};
+ghost use Rattle.batch_journal.specs.Volume.{IsVolume};
+ghost use Rattle.area_reader.specs.Store.{disk, store_of};
+ghost use Rattle.area_reader.specs.Format.{IsOpenable};
+ghost use Rattle.shared_area.specs.AreaOpen.{SpellsNone, IsMediumDamage, TakesMemory};
+ghost use Rattle.posix_calls.specs.Tree.{State};
+ghost use Rattle.area_recovery.specs.declared.error.RecoveryError.TheVariants.{DeviceFault, Memory};
+ghost use Rattle.area_recovery.specs.Errors.{OnDamage, IsOfArea};
+ghost use Rattle.area_recovery.specs.FaultOrMemory.{IsFaultOrMemory};
+ghost use Rattle.area_recovery.specs.Recovers.{Regions, Recovers};
+ghost use Rattle.area_recovery.specs.Phases.{StaysRecovered, Whatever};
 
-use settlement::{Media, RecoveryError, Shared, area_fault};
+use area_recovery::{RecoveryError, area_fault};
+use shared_area::Shared;
 use std::alloc::Global;
+use tier_device::Media;
 
 /// Opens the shared medium, at rest, as `Shared::reopen` does. Whatever a stop leaves meanwhile is recovered as what was read, with any regions.
 ///

@@ -3,38 +3,46 @@
 ghost use Rattle.std.specs.Prelude.{◌≡◌, ◌≤◌, ◌<◌, ◌+◌, ◌++◌, ◌⊎◌, ℕ, List, length, map, replicate, [], ◌∷◌, None, Some, IfErr, IfOk, OnErr};
 ghost use Rattle.std.specs.Vec.{vec_len, vec_capacity};
 ghost use Rattle.atomic_table.specs.Seated.{TableId};
-ghost use Rattle.settlement.specs.recovery_laws.update_log.tier_device.Media.{Rose};
-ghost use Rattle.settlement.specs.recovery_laws.update_log.View.{RegionView};
-ghost use Rattle.settlement.specs.recovery_laws.shared_area.layout.declared.marks.Marks.{Marks};
-ghost use Rattle.settlement.specs.recovery_laws.shared_area.area_image.Store.{disk, graph, marks as marks_of};
-ghost use Rattle.settlement.specs.world.system_world.event_steps.Sound.{AreSeats};
-ghost use Rattle.settlement.specs.world.system_world.event_steps.lease_manager.Passes.{fresh, places};
-ghost use Rattle.settlement.specs.world.system_world.event_steps.libfs.NewClient.{IsBlank, IsNew};
-ghost use Rattle.settlement.specs.world.system_world.event_steps.libfs.client_log.Steps.{IsOpened};
-ghost use Rattle.settlement.specs.world.system_world.Idle.{IsIdleSystem};
-ghost use Rattle.settlement.specs.world.system_world.KeptCalls.{no_calls};
-ghost use Rattle.settlement.specs.world.system_world.Parts.{medium_of};
-ghost use Rattle.settlement.specs.world.system_world.WorldTree.{world_tree};
-ghost use Rattle.settlement.specs.world.system_world.event_steps.call_effects.ClosedGraph.{nobody};
-ghost use Rattle.settlement.specs.world.system_world.event_steps.call_effects.Wholes.{state_of};
-ghost use Rattle.settlement.specs.declared.error.RecoveryError.TheVariants.{DeviceFault};
-ghost use Rattle.settlement.specs.world.system_world.event_steps.Refusals.{no_refusals};
+ghost use Rattle.tier_device.specs.Media.{Rose};
+ghost use Rattle.update_log.specs.View.{RegionView};
+ghost use Rattle.layout.specs.declared.marks.Marks.{Marks};
+ghost use Rattle.area_reader.specs.Store.{disk, graph, marks as marks_of};
+ghost use Rattle.event_steps.specs.Sound.{AreSeats};
+ghost use Rattle.lease_manager.specs.Passes.{fresh, places};
+ghost use Rattle.libfs.specs.NewClient.{IsBlank, IsNew};
+ghost use Rattle.client_log.specs.Steps.{IsOpened};
+ghost use Rattle.system_laws.specs.Idle.{IsIdleSystem};
+ghost use Rattle.system_laws.specs.KeptCalls.{no_calls};
+ghost use Rattle.system_laws.specs.Parts.{medium_of};
+ghost use Rattle.system_laws.specs.WorldTree.{world_tree};
+ghost use Rattle.call_effects.specs.ClosedGraph.{nobody};
+ghost use Rattle.call_effects.specs.Wholes.{state_of};
+ghost use Rattle.area_recovery.specs.declared.error.RecoveryError.TheVariants.{DeviceFault};
+ghost use Rattle.event_steps.specs.Refusals.{no_refusals};
 ghost use Rattle.recovery.specs.Assembly.{AreOnlyRead, AreOpenedSeats, AreReadyRegions, AreWipedTo, IsOpenedSeat, IsReadyArea, RefusesSeat, SeatsLast};
-ghost use Rattle.settlement.specs.FaultOrMemory.{IsFaultOrMemory};
-ghost use Rattle.settlement.specs.Parts.{part_medium};
-ghost use Rattle.settlement.specs.PartMedia.{AreUntouched, SomeRose, media_beneath};
-ghost use Rattle.settlement.specs.Regions.{REGIONS, HaveRisen, IsUntouched, media_of};
-ghost use Rattle.settlement.specs.Silent.{IsWiped, wiped_name};
+ghost use Rattle.area_recovery.specs.FaultOrMemory.{IsFaultOrMemory};
+ghost use Rattle.area_recovery.specs.Parts.{part_medium};
+ghost use Rattle.area_recovery.specs.PartMedia.{AreUntouched, SomeRose, media_beneath};
+ghost use Rattle.area_recovery.specs.Regions.{REGIONS, HaveRisen, IsUntouched, media_of};
+ghost use Rattle.area_recovery.specs.Silent.{IsWiped, wiped_name};
 
 use crate::disassembly::{parts_of, present, put_regions};
 use crate::parts::Parts;
 use crate::region_list::{put_first, put_last};
-use settlement::{
-    CLIENTS, Client, ClientLog, ClientSlot, Kernel, LeaseManagerLeases as Leases, Marks, Media,
-    Opened, Pass, RecoveryError, Region, Shared, System, World, area_fault,
-    idle_system_stands_for_a_world, openable_area_is_within_limits,
-};
+use area_recovery::{RecoveryError, area_fault};
+use client_log::ClientLog;
+use event_steps::{ClientSlot, System};
+use interleavings::World;
+use kernel_fs::Kernel;
+use layout::{CLIENTS, Marks};
+use lease_manager::{Leases, Opened, Pass};
+use libfs::Client;
+use recovery_laws::openable_area_is_within_limits;
+use shared_area::Shared;
 use std::alloc::Global;
+use system_laws::idle_system_stands_for_a_world;
+use tier_device::Media;
+use update_log::Region;
 
 /// The world of an area whose graph is sound and of regions that are wiped: nobody has a call started or a file open. The media are only read.
 ///

@@ -1,20 +1,20 @@
 //! The empty world.
 
 ghost use Rattle.std.specs.Prelude.{◌≡◌, ◌<◌, ℕ, length, IfErr, IfOk, OnOk};
-ghost use Rattle.settlement.specs.recovery_laws.fresh_media.Fresh.{fresh_tiers};
-ghost use Rattle.settlement.specs.recovery_laws.update_log.tier_device.declared.media.Tier.{Tier};
-ghost use Rattle.settlement.specs.world.system_world.KeptCalls.{no_calls};
-ghost use Rattle.settlement.specs.world.system_world.Parts.{medium_of};
-ghost use Rattle.settlement.specs.world.system_world.WorldTree.{world_tree};
-ghost use Rattle.settlement.specs.world.system_world.courses.Courses.{PARTS};
-ghost use Rattle.settlement.specs.world.system_world.event_steps.posix_calls.EmptyTree.{empty_state};
-ghost use Rattle.settlement.specs.declared.error.RecoveryError.TheVariants.{DeviceFault};
-ghost use Rattle.settlement.specs.FaultOrMemory.{IsFaultOrMemory};
+ghost use Rattle.recovery_laws.specs.Fresh.{fresh_tiers};
+ghost use Rattle.tier_device.specs.declared.media.Tier.{Tier};
+ghost use Rattle.system_laws.specs.KeptCalls.{no_calls};
+ghost use Rattle.system_laws.specs.Parts.{medium_of};
+ghost use Rattle.system_laws.specs.WorldTree.{world_tree};
+ghost use Rattle.event_lists.specs.Courses.{PARTS};
+ghost use Rattle.posix_calls.specs.EmptyTree.{empty_state};
+ghost use Rattle.area_recovery.specs.declared.error.RecoveryError.TheVariants.{DeviceFault};
+ghost use Rattle.area_recovery.specs.FaultOrMemory.{IsFaultOrMemory};
 ghost use Rattle.recovery.specs.FreshContents.{AreFreshRegions, AreLater, HaveSizes, HoldsContent, IsFormatError, IsSizeError, SizesAtRefusal, fresh_contents};
-ghost use Rattle.settlement.specs.RecoveryStops.{IsIdle};
-ghost use Rattle.settlement.specs.Parts.{AreAtRest, part_medium};
-ghost use Rattle.settlement.specs.PartMedia.{SomeRose};
-ghost use Rattle.settlement.specs.Regions.{REGIONS};
+ghost use Rattle.area_recovery.specs.RecoveryStops.{IsIdle};
+ghost use Rattle.area_recovery.specs.Parts.{AreAtRest, part_medium};
+ghost use Rattle.area_recovery.specs.PartMedia.{SomeRose};
+ghost use Rattle.area_recovery.specs.Regions.{REGIONS};
 
 use crate::area_open::open_area;
 use crate::assembly::assemble;
@@ -22,8 +22,12 @@ use crate::fresh_writes::write_parts;
 use crate::parts::Parts;
 use crate::region_list::reopen_regions;
 use crate::size_check::check_sizes;
-use settlement::{Geometry, Media, RecoveryError, World, fresh_area_opens, fresh_region_is_empty};
+use area_recovery::RecoveryError;
+use interleavings::World;
+use layout::Geometry;
+use recovery_laws::{fresh_area_opens, fresh_region_is_empty};
 use std::alloc::Global;
+use tier_device::Media;
 
 /// Writes the empty tree on all parts, whatever stands there, and makes its world. Nothing is pending on them then.
 ///

@@ -1,20 +1,23 @@
 // The bytes of the empty world are written on parts, and kept.
 ghost use Rattle.std.specs.Prelude.{◌≡◌, ◌≢◌, ◌*◌, ◌%◌, ◌⊎◌, ℕ, List, length, slice_get, Some, IfErr, IfOk, OnErr, OnOk};
-ghost use Rattle.settlement.specs.recovery_laws.fresh_media.Fresh.{fresh_region, fresh_tiers};
-ghost use Rattle.settlement.specs.recovery_laws.shared_area.batch_journal.Volume.{HasSizes};
-ghost use Rattle.settlement.specs.recovery_laws.shared_area.layout.Places.{tier_blocks};
-ghost use Rattle.settlement.specs.recovery_laws.shared_area.layout.declared.places.TheConstants.{BLOCK};
-ghost use Rattle.settlement.specs.recovery_laws.update_log.View.{HasSize};
-ghost use Rattle.settlement.specs.recovery_laws.update_log.tier_device.Media.{Rose};
-ghost use Rattle.settlement.specs.recovery_laws.update_log.tier_device.declared.media.Tier.{Tier};
-ghost use Rattle.settlement.specs.declared.error.RecoveryError.TheVariants.{DeviceFault};
-ghost use Rattle.settlement.specs.FaultOrMemory.{IsFaultOrMemory};
+ghost use Rattle.recovery_laws.specs.Fresh.{fresh_region, fresh_tiers};
+ghost use Rattle.batch_journal.specs.Volume.{HasSizes};
+ghost use Rattle.layout.specs.Places.{tier_blocks};
+ghost use Rattle.layout.specs.declared.places.TheConstants.{BLOCK};
+ghost use Rattle.update_log.specs.View.{HasSize};
+ghost use Rattle.tier_device.specs.Media.{Rose};
+ghost use Rattle.tier_device.specs.declared.media.Tier.{Tier};
+ghost use Rattle.area_recovery.specs.declared.error.RecoveryError.TheVariants.{DeviceFault};
+ghost use Rattle.area_recovery.specs.FaultOrMemory.{IsFaultOrMemory};
 ghost use Rattle.recovery.specs.FreshContents.{AreFreshRegions, HaveRegionSize, HoldsContent, IsLater, TierHolds};
-ghost use Rattle.settlement.specs.Recovers.{region_content};
-ghost use Rattle.settlement.specs.Regions.{HaveRisen};
+ghost use Rattle.area_recovery.specs.Recovers.{region_content};
+ghost use Rattle.area_recovery.specs.Regions.{HaveRisen};
 
-use settlement::{Geometry, Media, RecoveryError, Tier, empty_region, empty_tier, first_fast_tier};
+use area_recovery::RecoveryError;
+use layout::Geometry;
+use recovery_laws::{empty_region, empty_tier, first_fast_tier};
 use std::alloc::{AllocError, Global};
+use tier_device::{Media, Tier};
 
 /// Writes the fresh area on the shared medium and fresh regions on the others, and fences each tier that it writes.
 ///

@@ -2,8 +2,8 @@
 //! the media of one back.
 //!
 //! `recover` opens the shared medium (`area_open`) and the sixteen regions (`region_list`), brings the records that count into the area (the crate
-//! `settlement`), wipes the regions (`region_wipes`), and opens kernel and clients over them (`assembly`). Each of these phases says of every
-//! content that a stop in it may leave that it is recovered to the same state (`Recovers.antt` and `Phases.antt` of `settlement`).
+//! `area_recovery`), wipes the regions (`region_wipes`), and opens kernel and clients over them (`assembly`). Each of these phases says of every
+//! content that a stop in it may leave that it is recovered to the same state (`Recovers.antt` and `Phases.antt` of `area_recovery`).
 //!
 //! `recover_after_stop` is what all of this is for: every answered call survives (`specs/Survival.antt`).
 #![tactic(auto)]
@@ -26,10 +26,3 @@ pub use fresh_world::format;
 pub use part_recovery::recover;
 pub use parts::{Parts, REGIONS};
 pub use survival::recover_after_stop;
-
-// Passed on to the crates above, which so need not list those below.
-pub use settlement::{
-    AreaError, BLOCK, CLIENTS, ClientSlot, Event, Figures, Geometry, KernelError, LeaseMode, Mode,
-    Need, NodeSummary, Outcome, REGION_SIZE, RecoveryError, Refusal, Shared, Super, What, World,
-    play,
-};

@@ -2,30 +2,34 @@
 
 ghost use Rattle.std.specs.Prelude.{◌≡◌, ◌≢◌, ◌≤◌, [], false, IfErr, IfOk, OnOk};
 ghost use Rattle.std.specs.Vec.{vec_capacity};
-ghost use Rattle.settlement.specs.recovery_laws.shared_area.area_image.Store.{disk};
-ghost use Rattle.settlement.specs.recovery_laws.shared_area.batch_journal.Volume.{IsVolume};
-ghost use Rattle.settlement.specs.world.system_world.Contents.{CanRecover, log_in, stored_state};
-ghost use Rattle.settlement.specs.world.system_world.KeptCalls.{no_calls};
-ghost use Rattle.settlement.specs.world.system_world.Parts.{medium_of};
-ghost use Rattle.settlement.specs.world.system_world.WorldTree.{world_tree};
-ghost use Rattle.settlement.specs.world.system_world.event_steps.kernel_fs.layout.Places.{Sizes};
-ghost use Rattle.settlement.specs.declared.error.RecoveryError.TheVariants.{AreaSize, DeviceFault, RegionSize};
-ghost use Rattle.settlement.specs.Errors.{OnBadLog, OnDamage};
-ghost use Rattle.settlement.specs.FaultOrMemory.{IsFaultOrMemory};
-ghost use Rattle.settlement.specs.Parts.{AreAtRest, contents_of, part_medium};
-ghost use Rattle.settlement.specs.PartMedia.{SomeRose, media_beneath};
-ghost use Rattle.settlement.specs.RecoveryStops.{AreGivenBack, IsIdle, IsRecoveredWorld, StaysStored, StoresTree};
-ghost use Rattle.settlement.specs.Refusals.{HaveRegionSizes, IsCause, IsStoredCause, StoresBadLog, StoresDamage};
-ghost use Rattle.settlement.specs.Regions.{REGIONS};
-ghost use Rattle.settlement.specs.Settlement.{AreOpenRegions};
+ghost use Rattle.area_reader.specs.Store.{disk};
+ghost use Rattle.batch_journal.specs.Volume.{IsVolume};
+ghost use Rattle.system_laws.specs.Contents.{CanRecover, log_in, stored_state};
+ghost use Rattle.system_laws.specs.KeptCalls.{no_calls};
+ghost use Rattle.system_laws.specs.Parts.{medium_of};
+ghost use Rattle.system_laws.specs.WorldTree.{world_tree};
+ghost use Rattle.layout.specs.Places.{Sizes};
+ghost use Rattle.area_recovery.specs.declared.error.RecoveryError.TheVariants.{AreaSize, DeviceFault, RegionSize};
+ghost use Rattle.area_recovery.specs.Errors.{OnBadLog, OnDamage};
+ghost use Rattle.area_recovery.specs.FaultOrMemory.{IsFaultOrMemory};
+ghost use Rattle.area_recovery.specs.Parts.{AreAtRest, contents_of, part_medium};
+ghost use Rattle.area_recovery.specs.PartMedia.{SomeRose, media_beneath};
+ghost use Rattle.area_recovery.specs.RecoveryStops.{AreGivenBack, IsIdle, IsRecoveredWorld, StaysStored, StoresTree};
+ghost use Rattle.area_recovery.specs.Refusals.{HaveRegionSizes, IsCause, IsStoredCause, StoresBadLog, StoresDamage};
+ghost use Rattle.area_recovery.specs.Regions.{REGIONS};
+ghost use Rattle.area_recovery.specs.Settlement.{AreOpenRegions};
 
 use crate::area_open::open_area;
 use crate::assembly::assemble;
 use crate::parts::Parts;
 use crate::region_list::{hand_back, reopen_regions};
 use crate::region_wipes::wipe_regions;
-use settlement::{Media, RecoveryError, Region, Shared, World, settle_area};
+use area_recovery::{RecoveryError, settle_area};
+use interleavings::World;
+use shared_area::Shared;
 use std::alloc::Global;
+use tier_device::Media;
+use update_log::Region;
 
 /// The world of the tree that parts store, on which nothing may be pending: after the records that count, with the files that were open closed, and without
 /// those that have no name. Nobody uses it, and nothing is pending on its parts.

@@ -1,10 +1,10 @@
 //! The media of a world.
 
 ghost use Rattle.std.specs.Prelude.{◌≡◌, ◌≢◌, IfErr, IfOk, length, OnErr, OnOk};
-ghost use Rattle.settlement.specs.Regions.{REGIONS};
+ghost use Rattle.area_recovery.specs.Regions.{REGIONS};
 
-use settlement::Media;
 use std::marker::Model;
+use tier_device::Media;
 
 /// How many regions a world has: two for each of its eight clients.
 pub const REGIONS: usize = 16;
@@ -20,8 +20,8 @@ pub struct Parts<M: Media> {
 
 impl<M: Media> Model for Parts<M> {
     ghost use Rattle.std.specs.Prelude.{◌≡◌, length};
-    ghost use Rattle.settlement.specs.Parts.{PartsView};
-    ghost use Rattle.settlement.specs.Regions.{REGIONS};
+    ghost use Rattle.area_recovery.specs.Parts.{PartsView};
+    ghost use Rattle.area_recovery.specs.Regions.{REGIONS};
 
     ghost Value = { PartsView M };
 

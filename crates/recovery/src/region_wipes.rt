@@ -1,20 +1,20 @@
 // Regions that are wiped.
-ghost use Rattle.std.specs.Prelude.{◌≡◌, ◌≤◌, ◌%◌, ◌/◌, ℕ, List, length, slice_index, Some, IfErr, IfOk, OnErr, OnOk};
-ghost use Rattle.std.specs.Prelude.{slice_get};
-ghost use Rattle.settlement.specs.recovery_laws.update_log.tier_device.Media.{Keeps};
-ghost use Rattle.settlement.specs.recovery_laws.update_log.View.{RegionView};
-ghost use Rattle.settlement.specs.recovery_laws.update_log.Wipe.{wipe_next};
-ghost use Rattle.settlement.specs.recovery_laws.update_log.Moments.{PastStays};
-ghost use Rattle.settlement.specs.recovery_laws.update_log.tier_device.Media.{Rose};
-ghost use Rattle.settlement.specs.world.system_world.courses.Courses.{Content};
-ghost use Rattle.settlement.specs.world.system_world.event_steps.kernel_fs.layout.Places.{Sizes};
-ghost use Rattle.settlement.specs.world.system_world.event_steps.posix_calls.Tree.{State};
-ghost use Rattle.settlement.specs.declared.error.RecoveryError.TheVariants.{DeviceFault};
-ghost use Rattle.settlement.specs.Recovers.{Recovers, Regions};
-ghost use Rattle.settlement.specs.Regions.{HaveRisen, REGIONS, media_of};
-ghost use Rattle.settlement.specs.Silent.{AreLeftOf, AreMarked, AreSilent, GoesOn, IsSilent, IsWiped, IsWipingTo, LeftOfRegion, MayBeWiped, StaysSilent, wiped_name};
+ghost use Rattle.std.specs.Prelude.{◌≡◌, ◌≤◌, ◌%◌, ◌/◌, ℕ, List, length, slice_index, Some, IfErr, IfOk, OnErr, OnOk, slice_get};
+ghost use Rattle.tier_device.specs.Media.{Keeps, Rose};
+ghost use Rattle.update_log.specs.View.{RegionView};
+ghost use Rattle.update_log.specs.Wipe.{wipe_next};
+ghost use Rattle.update_log.specs.Moments.{PastStays};
+ghost use Rattle.event_lists.specs.Courses.{Content};
+ghost use Rattle.layout.specs.Places.{Sizes};
+ghost use Rattle.posix_calls.specs.Tree.{State};
+ghost use Rattle.area_recovery.specs.declared.error.RecoveryError.TheVariants.{DeviceFault};
+ghost use Rattle.area_recovery.specs.Recovers.{Recovers, Regions};
+ghost use Rattle.area_recovery.specs.Regions.{HaveRisen, REGIONS, media_of};
+ghost use Rattle.area_recovery.specs.Silent.{AreLeftOf, AreMarked, AreSilent, GoesOn, IsSilent, IsWiped, IsWipingTo, LeftOfRegion, MayBeWiped, StaysSilent, wiped_name};
 
-use settlement::{Media, RecoveryError, Region, RegionError, WipeProgress};
+use area_recovery::RecoveryError;
+use tier_device::Media;
+use update_log::{Region, RegionError, WipeProgress};
 
 /// Wipes the sixteen regions, in their order: those of a client to its generation and the next one. Of each client, neither region has a record that
 /// counts under its generation or the next.

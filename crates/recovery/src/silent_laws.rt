@@ -1,12 +1,12 @@
 // What regions store in which nothing counts.
 ghost use Rattle.std.specs.Prelude.{◌≡◌, ℕ, List, [], true};
-ghost use Rattle.settlement.specs.world.system_world.Contents.{log_in};
-ghost use Rattle.settlement.specs.world.system_world.event_steps.kernel_fs.layout.Places.{Sizes};
-ghost use Rattle.settlement.specs.world.system_world.event_steps.posix_calls.Operations.{is_client};
-ghost use Rattle.settlement.specs.world.system_world.event_steps.posix_calls.Tree.{State};
-ghost use Rattle.settlement.specs.world.system_world.courses.Courses.{Content};
-ghost use Rattle.settlement.specs.Recovers.{Recovers, Regions, joined};
-ghost use Rattle.settlement.specs.Silent.{AreMarked, AreSilent};
+ghost use Rattle.system_laws.specs.Contents.{log_in};
+ghost use Rattle.layout.specs.Places.{Sizes};
+ghost use Rattle.posix_calls.specs.Operations.{is_client};
+ghost use Rattle.posix_calls.specs.Tree.{State};
+ghost use Rattle.event_lists.specs.Courses.{Content};
+ghost use Rattle.area_recovery.specs.Recovers.{Recovers, Regions, joined};
+ghost use Rattle.area_recovery.specs.Silent.{AreMarked, AreSilent};
 
 /// Under marks of these generations, of which no record is done, regions in which nothing counts have no records: whatever stands in
 /// them, the same state is stored.

@@ -1,21 +1,24 @@
 //! Every answered call survives.
 
 ghost use Rattle.std.specs.Prelude.{◌≡◌, ◌≢◌, IfErr, IfOk, OnErr};
-ghost use Rattle.settlement.specs.world.system_world.Contents.{CanRecover};
-ghost use Rattle.settlement.specs.world.system_world.Steps.{recoverable};
-ghost use Rattle.settlement.specs.world.system_world.courses.Plays.{Plays};
-ghost use Rattle.settlement.specs.world.system_world.event_steps.kernel_fs.layout.Places.{Sizes};
-ghost use Rattle.settlement.specs.declared.error.RecoveryError.TheVariants.{DeviceFault};
-ghost use Rattle.settlement.specs.FaultOrMemory.{IsFaultOrMemory};
-ghost use Rattle.settlement.specs.Parts.{AreAtRest, contents_of, part_medium};
-ghost use Rattle.settlement.specs.PartMedia.{SomeRose};
-ghost use Rattle.settlement.specs.RecoveryStops.{IsRecoveredWorld, StaysStored};
+ghost use Rattle.system_laws.specs.Contents.{CanRecover};
+ghost use Rattle.system_laws.specs.Steps.{recoverable};
+ghost use Rattle.event_lists.specs.Plays.{Plays};
+ghost use Rattle.layout.specs.Places.{Sizes};
+ghost use Rattle.area_recovery.specs.declared.error.RecoveryError.TheVariants.{DeviceFault};
+ghost use Rattle.area_recovery.specs.FaultOrMemory.{IsFaultOrMemory};
+ghost use Rattle.area_recovery.specs.Parts.{AreAtRest, contents_of, part_medium};
+ghost use Rattle.area_recovery.specs.PartMedia.{SomeRose};
+ghost use Rattle.area_recovery.specs.RecoveryStops.{IsRecoveredWorld, StaysStored};
 ghost use Rattle.recovery.specs.Survival.{Survives};
 
 use crate::part_recovery::recover;
 use crate::parts::Parts;
-use settlement::{Event, Media, Outcome, RecoveryError, World, play};
+use area_recovery::RecoveryError;
+use event_steps::{Event, Outcome};
+use interleavings::{World, play};
 use std::alloc::{AllocError, Global};
+use tier_device::Media;
 
 /// Plays a list of events, and recovers parts: **every answered call survives**.
 ///

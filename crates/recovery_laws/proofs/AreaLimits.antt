@@ -4,22 +4,22 @@ use Rattle.std.specs.Prelude.{nat_le, nat_lt, unwrap_or}
 use Rattle.std.specs.FinMap as fin
 use Rattle.std.specs.List.{list_all}
 use Rattle.std.proofs.lemmas.Bool.{cases_Bool, cond-false, and_parts, leb-true}
-use Rattle.kernel_fs.specs.digester.posix_calls.Name.{is_name}
-use Rattle.kernel_fs.specs.digester.file_graph.declared.effect.Kind.{Kind}
-use Rattle.kernel_fs.specs.layout.Places.{Sizes, is_inode}
-use Rattle.kernel_fs.specs.layout.Slot.{slot_of, fits_slot, is_root_block, roots_apart}
-use Rattle.kernel_fs.specs.layout.declared.slot.Slot.{Slot}
-use Rattle.kernel_fs.specs.layout.declared.slot.Slot.TheVariants as slots
-use Rattle.kernel_fs.specs.layout.declared.directory.DirEntry.{DirEntry}
-use Rattle.kernel_fs.specs.layout.Directory.{EntryList, block_entries, no_entry, entry_of, fits_entry, are_distinct}
-use Rattle.kernel_fs.proofs.digester_lemmas.batch_journal_lemmas.layout_lemmas.Pairs.{all_at}
-use Rattle.kernel_fs.specs.area_image.tree_blocks.Inode.{LogicalBlocks, Entry, entry_at, named_entries, node_of, inode_of, IsConsistent, IsDirectoryBlock, AreDirectoryBlocks}
-use Rattle.kernel_fs.proofs.digester_lemmas.area_image_lemmas.tree_blocks_lemmas.Directories.{get_there, get_missing, len_named, place_of}
-use Rattle.kernel_fs.proofs.digester_lemmas.area_image_lemmas.tree_blocks_lemmas.Files.{length_file}
-use Rattle.kernel_fs.specs.area_image.Store.{Store, slot_bytes, slot_read, slot, logical_block, graph}
-use Rattle.kernel_fs.specs.area_image.Format.{IsOpenable}
-use Rattle.kernel_fs.proofs.digester_lemmas.area_image_lemmas.Lists.{slot_here_fits}
-use Rattle.counted_logs.specs.world_invariant.Limits.{AreEntriesWithin, IsWithin, AreWithin}
+use Rattle.posix_calls.specs.Name.{is_name}
+use Rattle.file_graph.specs.declared.effect.Kind.{Kind}
+use Rattle.layout.specs.Places.{Sizes, is_inode}
+use Rattle.layout.specs.Slot.{slot_of, fits_slot, is_root_block, roots_apart}
+use Rattle.layout.specs.declared.slot.Slot.{Slot}
+use Rattle.layout.specs.declared.slot.Slot.TheVariants as slots
+use Rattle.layout.specs.declared.directory.DirEntry.{DirEntry}
+use Rattle.layout.specs.Directory.{EntryList, block_entries, no_entry, entry_of, fits_entry, are_distinct}
+use Rattle.layout.proofs.Pairs.{all_at}
+use Rattle.tree_blocks.specs.Inode.{LogicalBlocks, Entry, entry_at, named_entries, node_of, inode_of, IsConsistent, IsDirectoryBlock, AreDirectoryBlocks}
+use Rattle.tree_blocks.proofs.Directories.{get_there, get_missing, len_named, place_of}
+use Rattle.tree_blocks.proofs.Files.{length_file}
+use Rattle.area_reader.specs.Store.{Store, slot_bytes, slot_read, slot, logical_block, graph}
+use Rattle.area_reader.specs.Format.{IsOpenable}
+use Rattle.area_reader.proofs.Lists.{slot_here_fits}
+use Rattle.world_invariant.specs.Limits.{AreEntriesWithin, IsWithin, AreWithin}
 
 -- ---- numbers
 

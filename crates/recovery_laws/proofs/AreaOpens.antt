@@ -4,33 +4,33 @@ use Rattle.std.specs.Prelude.{◌==◌, nat_le, replicate, unwrap_or, IsSome}
 use Rattle.std.specs.Option.{option_map}
 use Rattle.std.specs.FinMap as fin
 use Rattle.std.proofs.lemmas.Bool.{cases_Bool, cond-true, cond-false, and_parts, and_from, leb-true, le-leb, lt-ltb, eqb-true, eqb-false, eq-eqb, ne_eqb}
-use Rattle.fresh_media.specs.layout.file_graph.Graph.{fresh, cost}
-use Rattle.fresh_media.specs.layout.file_graph.Units.{charge}
-use Rattle.fresh_media.specs.layout.posix_calls.Tree.{sum_up_to}
-use Rattle.fresh_media.proofs.layout_lemmas.posix_calls_lemmas.Sums.{one_changes, all_zero}
-use Rattle.fresh_media.proofs.layout_lemmas.posix_calls_lemmas.Counts.{order}
-use Rattle.fresh_media.specs.layout.file_graph.declared.effect.Kind.{Kind}
-use Rattle.kernel_fs.specs.area_image.extent_tree.Places.{place_of}
-use Rattle.fresh_media.specs.layout.tier_device.declared.media.Tier.{Tier}
-use Rattle.fresh_media.specs.layout.tier_device.declared.media.Tier.TheVariants.{Fast, Block, Slow}
-use Rattle.fresh_media.specs.layout.Bytes.{u32, u64, zeros, padded_text, are_zero}
-use Rattle.fresh_media.specs.layout.declared.marks.Marks.{Marks}
-use Rattle.fresh_media.specs.layout.Marks.{fits_marks, marks_spelling, marks_of}
-use Rattle.fresh_media.specs.layout.Places.{Sizes, IsAllowed, allows, is_inode, slot_block, slot_byte, tier_blocks}
-use Rattle.fresh_media.specs.layout.declared.slot.Slot.{Slot}
-use Rattle.fresh_media.specs.layout.declared.slot.Slot.TheVariants as slots
-use Rattle.fresh_media.specs.layout.Slot.{fits_slot, slot_spelling, slot_of}
-use Rattle.fresh_media.specs.layout.declared.superblock.Super.{Super}
-use Rattle.fresh_media.specs.layout.Super.{fits_super, super_spelling, super_of}
-use Rattle.kernel_fs.specs.digester.MarkMoves.{mark_of}
-use Rattle.kernel_fs.specs.digester.batch_journal.Images.{slice}
-use Rattle.kernel_fs.specs.digester.batch_journal.Blocks.{home, block_of, is_home, is_gate_open}
-use Rattle.kernel_fs.specs.digester.batch_journal.Volume.{Spells, IsJournal, HasSizes, IsVolume}
-use Rattle.kernel_fs.specs.area_image.tree_blocks.Inode.{IsConsistent, inode_of, node_of}
-use Rattle.kernel_fs.specs.area_image.Store.{Store, store_of, slot_bytes, slot_read, slot, root_of, extents_read, place, logical_block, inode, graph, marks}
-use Rattle.kernel_fs.specs.area_image.Format.{SpellsInode, used_block, IsSpelled, IsOpenable}
-use Rattle.fresh_media.specs.Fresh.{bare_root, no_marks, fresh_fast, fresh_tiers}
-use Rattle.fresh_media.proofs.Zeros.{padded_long}
+use Rattle.file_graph.specs.Graph.{fresh, cost}
+use Rattle.file_graph.specs.Units.{charge}
+use Rattle.posix_calls.specs.Tree.{sum_up_to}
+use Rattle.posix_calls.proofs.Sums.{one_changes, all_zero}
+use Rattle.posix_calls.proofs.Counts.{order}
+use Rattle.file_graph.specs.declared.effect.Kind.{Kind}
+use Rattle.extent_tree.specs.Places.{place_of}
+use Rattle.tier_device.specs.declared.media.Tier.{Tier}
+use Rattle.tier_device.specs.declared.media.Tier.TheVariants.{Fast, Block, Slow}
+use Rattle.layout.specs.Bytes.{u32, u64, zeros, padded_text, are_zero}
+use Rattle.layout.specs.declared.marks.Marks.{Marks}
+use Rattle.layout.specs.Marks.{fits_marks, marks_spelling, marks_of}
+use Rattle.layout.specs.Places.{Sizes, IsAllowed, allows, is_inode, slot_block, slot_byte, tier_blocks}
+use Rattle.layout.specs.declared.slot.Slot.{Slot}
+use Rattle.layout.specs.declared.slot.Slot.TheVariants as slots
+use Rattle.layout.specs.Slot.{fits_slot, slot_spelling, slot_of}
+use Rattle.layout.specs.declared.superblock.Super.{Super}
+use Rattle.layout.specs.Super.{fits_super, super_spelling, super_of}
+use Rattle.digester.specs.MarkMoves.{mark_of}
+use Rattle.batch_journal.specs.Images.{slice}
+use Rattle.batch_journal.specs.Blocks.{home, block_of, is_home, is_gate_open}
+use Rattle.batch_journal.specs.Volume.{Spells, IsJournal, HasSizes, IsVolume}
+use Rattle.tree_blocks.specs.Inode.{IsConsistent, inode_of, node_of}
+use Rattle.area_reader.specs.Store.{Store, store_of, slot_bytes, slot_read, slot, root_of, extents_read, place, logical_block, inode, graph, marks}
+use Rattle.area_reader.specs.Format.{SpellsInode, used_block, IsSpelled, IsOpenable}
+use Rattle.recovery_laws.specs.Fresh.{bare_root, no_marks, fresh_fast, fresh_tiers}
+use Rattle.recovery_laws.proofs.Zeros.{padded_long}
 use Rattle.recovery_laws.proofs.Slices.{slice_slice}
 use Rattle.recovery_laws.proofs.AreaBytes.{fast_long, super_there, root_there, other_slots, marks_there, zeros_behind}
 

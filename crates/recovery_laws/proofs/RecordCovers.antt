@@ -3,27 +3,27 @@ use Rattle.std.proofs.Common.{◌≡◌, ℕ, ◌+◌, ◌≤◌, ◌||◌, inl,
 use Rattle.std.specs.List.{AllByRecursion}
 use Rattle.std.specs.Prelude.{nat_le, option_map}
 use Rattle.std.proofs.lemmas.Bool.{and_from, le-leb}
-use Rattle.kernel_fs.specs.digester.posix_calls.Operations.{is_client}
-use Rattle.kernel_fs.specs.digester.posix_calls.Tree.{sum_up_to}
-use Rattle.kernel_fs.specs.digester.file_graph.Graph.{Graph, Node, Body, FileBody, DirBody, after_effects, is_among}
-use Rattle.kernel_fs.specs.digester.file_graph.Units.{charge}
-use Rattle.kernel_fs.specs.layout.Places.{is_inode}
-use Rattle.kernel_fs.specs.digester.log_record.Grammar.{IsRecord, IsInode}
-use Rattle.kernel_fs.specs.digester.log_record.declared.format.Record.{Record}
-use Rattle.kernel_fs.specs.digester.call_effects.NodeView.{view_of_body, view_of_node}
-use Rattle.kernel_fs.specs.digester.record_validation.Good.{KeepsLimits}
-use Rattle.kernel_fs.specs.digester.RecordCover.{AreCovered, units_of}
-use Rattle.kernel_fs.specs.digester.Plan.{IsFirstBad}
-use Rattle.kernel_fs.proofs.digester_lemmas.Covered.{never_bad}
-use Rattle.kernel_fs.proofs.digester_lemmas.posix_calls_lemmas.Sums.{one_changes, same_if, there_if}
-use Rattle.kernel_fs.proofs.digester_lemmas.shared_area_lemmas.record_validation_lemmas.Rises.{touched_fit}
-use Rattle.counted_logs.specs.world_invariant.Limits.{IsBodyWithin, IsWithin, AreWithin}
-use Rattle.counted_logs.specs.world_invariant.Logs.{is_touched, is_written, units_in, IsPaid, ArePaid, Keeps, KeepLimits}
-use Rattle.counted_logs.specs.world_invariant.Recovery.{IsRecoverable}
-use Rattle.counted_logs.specs.world_invariant.World.{at}
-use Rattle.kernel_fs.proofs.world_invariant_lemmas.Along.{along_front}
-use Rattle.kernel_fs.proofs.world_invariant_lemmas.Owners.{is_low, is_high}
-use Rattle.kernel_fs.proofs.world_invariant_lemmas.Records.{either, in_first, in_rest, units_append}
+use Rattle.posix_calls.specs.Operations.{is_client}
+use Rattle.posix_calls.specs.Tree.{sum_up_to}
+use Rattle.file_graph.specs.Graph.{Graph, Node, Body, FileBody, DirBody, after_effects, is_among}
+use Rattle.file_graph.specs.Units.{charge}
+use Rattle.layout.specs.Places.{is_inode}
+use Rattle.log_record.specs.Grammar.{IsRecord, IsInode}
+use Rattle.log_record.specs.declared.format.Record.{Record}
+use Rattle.call_effects.specs.NodeView.{view_of_body, view_of_node}
+use Rattle.record_validation.specs.Good.{KeepsLimits}
+use Rattle.digester.specs.RecordCover.{AreCovered, units_of}
+use Rattle.digester.specs.Plan.{IsFirstBad}
+use Rattle.digester.proofs.Covered.{never_bad}
+use Rattle.posix_calls.proofs.Sums.{one_changes, same_if, there_if}
+use Rattle.record_validation.proofs.Rises.{touched_fit}
+use Rattle.world_invariant.specs.Limits.{IsBodyWithin, IsWithin, AreWithin}
+use Rattle.world_invariant.specs.Logs.{is_touched, is_written, units_in, IsPaid, ArePaid, Keeps, KeepLimits}
+use Rattle.world_invariant.specs.Recovery.{IsRecoverable}
+use Rattle.world_invariant.specs.World.{at}
+use Rattle.world_invariant.proofs.Along.{along_front}
+use Rattle.world_invariant.proofs.Owners.{is_low, is_high}
+use Rattle.world_invariant.proofs.Records.{either, in_first, in_rest, units_append}
 use Rattle.recovery_laws.specs.Inodes.{HasEveryInode}
 
 -- ---- what is within the limits keeps them

@@ -2,8 +2,8 @@
 use Rattle.std.proofs.Common.{◌≡◌, ℕ, ◌+◌, ◌-◌, ◌≤◌, List, ◌++◌, length, take, drop, ap, ◌∙◌, arith}
 use Rattle.std.proofs.Math.Seq.{drop-append-add}
 use Rattle.std.proofs.lemmas.List.{length-drop, take-append-le, drop-append-le, take-replicate, drop-replicate, drop-drop, drop-take, take-take, take_all}
-use Rattle.fresh_media.specs.layout.Bytes.{zeros}
-use Rattle.kernel_fs.specs.digester.batch_journal.Images.{slice}
+use Rattle.layout.specs.Bytes.{zeros}
+use Rattle.batch_journal.specs.Images.{slice}
 
 pub slice_zeros : (at n m : ℕ) → at + n ≤ m → slice at n (zeros m) ≡ zeros n
 unfolding zeros

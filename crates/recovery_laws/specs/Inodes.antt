@@ -1,7 +1,7 @@
 -- What a recovery holds for writing.
 use Rattle.std.specs.Prelude.{◌≡◌, ℕ, List, true}
-use Rattle.kernel_fs.specs.digester.file_graph.Graph.{is_among}
-use Rattle.kernel_fs.specs.layout.Places.{is_inode}
+use Rattle.file_graph.specs.Graph.{is_among}
+use Rattle.layout.specs.Places.{is_inode}
 
 -- every inode number is in the list
 abbrev pub HasEveryInode : List ℕ → Type 0

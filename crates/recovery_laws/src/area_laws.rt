@@ -1,9 +1,9 @@
 //! What a shared area gives to a recovery.
 
-ghost use Rattle.kernel_fs.specs.layout.Places.{Sizes};
-ghost use Rattle.kernel_fs.specs.area_image.Store.{Store, graph};
-ghost use Rattle.kernel_fs.specs.area_image.Format.{IsOpenable};
-ghost use Rattle.counted_logs.specs.world_invariant.Limits.{AreWithin};
+ghost use Rattle.layout.specs.Places.{Sizes};
+ghost use Rattle.area_reader.specs.Store.{Store, graph};
+ghost use Rattle.area_reader.specs.Format.{IsOpenable};
+ghost use Rattle.world_invariant.specs.Limits.{AreWithin};
 
 /// A medium that can be opened spells a graph within the limits: of each inode its number, its names and its bytes or entries, and of each entry its name and its inode number.
 pub fn openable_area_is_within_limits()

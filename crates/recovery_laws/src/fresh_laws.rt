@@ -1,15 +1,15 @@
 //! What the bytes of a fresh area stand for.
 
 ghost use Rattle.std.specs.Prelude.{◌≡◌, ℕ, Some};
-ghost use Rattle.kernel_fs.specs.area_image.Format.{IsOpenable};
-ghost use Rattle.kernel_fs.specs.area_image.Store.{store_of, graph, marks};
-ghost use Rattle.kernel_fs.specs.digester.batch_journal.Volume.{IsVolume};
-ghost use Rattle.kernel_fs.specs.digester.MarkMoves.{mark_of};
-ghost use Rattle.fresh_media.specs.Fresh.{no_marks, fresh_tiers};
-ghost use Rattle.fresh_media.specs.layout.Places.{Sizes, IsAllowed};
-ghost use Rattle.fresh_media.specs.layout.file_graph.Graph.{fresh};
+ghost use Rattle.area_reader.specs.Format.{IsOpenable};
+ghost use Rattle.area_reader.specs.Store.{store_of, graph, marks};
+ghost use Rattle.batch_journal.specs.Volume.{IsVolume};
+ghost use Rattle.digester.specs.MarkMoves.{mark_of};
+ghost use Rattle.recovery_laws.specs.Fresh.{no_marks, fresh_tiers};
+ghost use Rattle.layout.specs.Places.{Sizes, IsAllowed};
+ghost use Rattle.file_graph.specs.Graph.{fresh};
 
-use fresh_media::{marks_are_read, slot_is_read, super_is_read};
+use layout::{marks_are_read, slot_is_read, super_is_read};
 
 /// A fresh area is a volume of its geometry that can be opened. It spells the graph of a root without entries, and marks by which each client stands at generation 0 with no record digested.
 pub fn fresh_area_opens()

@@ -2,16 +2,16 @@
 
 ghost use Rattle.std.specs.Prelude.{◌≡◌, ◌≤◌, ◌+◌, ℕ, List, ◌++◌, true, take};
 ghost use Rattle.std.specs.List.{AllByRecursion};
-ghost use Rattle.kernel_fs.specs.digester.posix_calls.Operations.{is_client};
-ghost use Rattle.kernel_fs.specs.digester.file_graph.Graph.{Graph, is_among};
-ghost use Rattle.kernel_fs.specs.digester.file_graph.Units.{charge};
-ghost use Rattle.kernel_fs.specs.digester.log_record.Grammar.{IsRecord};
-ghost use Rattle.kernel_fs.specs.digester.log_record.declared.format.Record.{Record};
-ghost use Rattle.kernel_fs.specs.digester.Plan.{IsFirstBad};
-ghost use Rattle.kernel_fs.specs.digester.RecordCover.{AreCovered, units_of};
-ghost use Rattle.counted_logs.specs.world_invariant.Limits.{AreWithin};
-ghost use Rattle.counted_logs.specs.world_invariant.Logs.{is_written, ArePaid, KeepLimits};
-ghost use Rattle.counted_logs.specs.world_invariant.Recovery.{IsRecoverable};
+ghost use Rattle.posix_calls.specs.Operations.{is_client};
+ghost use Rattle.file_graph.specs.Graph.{Graph, is_among};
+ghost use Rattle.file_graph.specs.Units.{charge};
+ghost use Rattle.log_record.specs.Grammar.{IsRecord};
+ghost use Rattle.log_record.specs.declared.format.Record.{Record};
+ghost use Rattle.digester.specs.Plan.{IsFirstBad};
+ghost use Rattle.digester.specs.RecordCover.{AreCovered, units_of};
+ghost use Rattle.world_invariant.specs.Limits.{AreWithin};
+ghost use Rattle.world_invariant.specs.Logs.{is_written, ArePaid, KeepLimits};
+ghost use Rattle.world_invariant.specs.Recovery.{IsRecoverable};
 ghost use Rattle.recovery_laws.specs.Inodes.{HasEveryInode};
 
 /// Records that are spelled and paid for, and keep a graph within the limits, are covered by whoever holds every inode that they write, also where they give a name to a file that has none.

@@ -1,15 +1,19 @@
 // What a run gives up.
 ghost use Rattle.std.specs.Prelude.{◌≡◌, ◌≤◌, ◌<◌, ◌+◌, ◌^◌, [], length, OnOk, IfOk};
 ghost use Rattle.std.specs.List.{AllByRecursion};
-ghost use Rattle.inode_plan.specs.tier_device.declared.media.Tier.{Tier};
-ghost use Rattle.inode_plan.specs.block_alloc.Runs.{blocks_of};
-ghost use Rattle.inode_plan.specs.extent_tree.Map.{runs_in, places_of, HasBlock};
-ghost use Rattle.inode_plan.specs.area_commit.Value.{data_pool};
-ghost use Rattle.inode_plan.specs.area_commit.Allocations.{SameFree, KeepsRoom};
-ghost use Rattle.inode_plan.specs.area_commit.Plan.{lost_in};
+ghost use Rattle.tier_device.specs.declared.media.Tier.{Tier};
+ghost use Rattle.block_alloc.specs.Runs.{blocks_of};
+ghost use Rattle.extent_tree.specs.Map.{runs_in, places_of, HasBlock};
+ghost use Rattle.area_commit.specs.Value.{data_pool};
+ghost use Rattle.area_commit.specs.Allocations.{SameFree, KeepsRoom};
+ghost use Rattle.area_commit.specs.Plan.{lost_in};
 
-use inode_plan::{BlockMap, FreedBlocks, Pools, Run, Tier, places_in};
+use area_commit::{FreedBlocks, Pools};
+use block_alloc::Run;
+use extent_tree::BlockMap;
+use inode_plan::places_in;
 use std::alloc::{AllocError, Global};
+use tier_device::Tier;
 
 /// The places of a run, which are lost once it is moved, and no block of the node pool yet. There is room for them in the pools then, and for three blocks of the node pool.
 pub fn lost_places(

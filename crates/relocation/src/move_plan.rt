@@ -1,15 +1,16 @@
 // The plan of a move.
 ghost use Rattle.std.specs.Prelude.{◌≡◌, ◌≤◌, None, length, IfOk, IfErr};
-ghost use Rattle.inode_plan.specs.tier_device.declared.media.Tier.{Tier};
-ghost use Rattle.inode_plan.specs.layout.Places.{Sizes, IsAllowed};
-ghost use Rattle.inode_plan.specs.area_image.Store.{Store};
-ghost use Rattle.inode_plan.specs.area_commit.Plan.{lost_in};
+ghost use Rattle.tier_device.specs.declared.media.Tier.{Tier};
+ghost use Rattle.layout.specs.Places.{Sizes, IsAllowed};
+ghost use Rattle.area_reader.specs.Store.{Store};
+ghost use Rattle.area_commit.specs.Plan.{lost_in};
 ghost use Rattle.relocation.specs.MovedFile.{IsReadyMove, IsPlanOfMove};
 
 use crate::MovableRun;
 use crate::new_inode::{NewInode, moved_inode};
-use inode_plan::{Allocation, FreedBlocks, Rewrite, Tier};
+use area_commit::{Allocation, FreedBlocks, Rewrite};
 use std::alloc::Global;
+use tier_device::Tier;
 
 /// A run of the file at an inode that goes to a tier, with the run's bytes, which are read, and the places that it leaves.
 #[derive(Drop)]

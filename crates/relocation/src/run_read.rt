@@ -1,15 +1,20 @@
 // The bytes of a run.
 ghost use Rattle.std.specs.Prelude.{◌≡◌, ◌≤◌, ◌<◌, ◌+◌, ◌*◌, ◌^◌, ◌⊎◌, ℕ, false, length, OnOk, OnErr, IfOk, IfErr};
-ghost use Rattle.inode_plan.specs.layout.declared.places.TheConstants.{BLOCK};
-ghost use Rattle.inode_plan.specs.batch_journal.Images.{slice};
-ghost use Rattle.inode_plan.specs.area_image.Store.{disk, logical_block};
-ghost use Rattle.inode_plan.specs.area_image.Checks.{IsOnce};
-ghost use Rattle.inode_plan.specs.area_image.Looks.{Looks};
-ghost use Rattle.inode_plan.specs.area_image.declared.error.AreaError.TheVariants.{DeviceFault, Memory};
+ghost use Rattle.layout.specs.declared.places.TheConstants.{BLOCK};
+ghost use Rattle.batch_journal.specs.Images.{slice};
+ghost use Rattle.area_reader.specs.Store.{disk, logical_block};
+ghost use Rattle.area_reader.specs.Checks.{IsOnce};
+ghost use Rattle.area_reader.specs.Looks.{Looks};
+ghost use Rattle.area_reader.specs.declared.error.AreaError.TheVariants.{DeviceFault, Memory};
 ghost use Rattle.inode_plan.specs.Lists.{LiesSomewhere, HoldsRun, LieAsIn};
 
-use inode_plan::{AreaError, BLOCK, BlockMap, Journal, Media, Run, read_block};
+use area_reader::{AreaError, read_block};
+use batch_journal::Journal;
+use block_alloc::Run;
+use extent_tree::BlockMap;
+use layout::BLOCK;
 use std::alloc::Global;
+use tier_device::Media;
 
 // A logical block that lies somewhere.
 fn read_logical<M: Media>(

@@ -1,27 +1,31 @@
 // The file of which a run is to be moved.
 ghost use Rattle.std.specs.Prelude.{◌≡◌, ◌≤◌, ℕ, Some, None, true, false, IfSome, IfNone, IfOk, IfErr};
-ghost use Rattle.inode_plan.specs.tier_device.declared.media.Tier.{Tier};
-ghost use Rattle.inode_plan.specs.tier_device.declared.media.Tier.TheVariants as tiers;
-ghost use Rattle.inode_plan.specs.layout.Places.{is_inode};
-ghost use Rattle.inode_plan.specs.layout.Slot.{fits_slot};
-ghost use Rattle.inode_plan.specs.extent_tree.BlockFormat.{LiesWithin};
-ghost use Rattle.inode_plan.specs.extent_tree.Map.{runs_in};
-ghost use Rattle.inode_plan.specs.area_image.Store.{disk, slot_read, length_of, space_of};
-ghost use Rattle.inode_plan.specs.area_image.Format.{IsOpenable};
-ghost use Rattle.inode_plan.specs.area_image.Damage.{OnDamage};
-ghost use Rattle.inode_plan.specs.area_image.declared.error.AreaError.TheVariants.{Memory};
-ghost use Rattle.inode_plan.specs.area_image.Looks.{Looks};
-ghost use Rattle.inode_plan.specs.area_image.Map.{HasNoExtents};
+ghost use Rattle.tier_device.specs.declared.media.Tier.{Tier};
+ghost use Rattle.tier_device.specs.declared.media.Tier.TheVariants as tiers;
+ghost use Rattle.layout.specs.Places.{is_inode};
+ghost use Rattle.layout.specs.Slot.{fits_slot};
+ghost use Rattle.extent_tree.specs.BlockFormat.{LiesWithin};
+ghost use Rattle.extent_tree.specs.Map.{runs_in};
+ghost use Rattle.area_reader.specs.Store.{disk, slot_read, length_of, space_of};
+ghost use Rattle.area_reader.specs.Format.{IsOpenable};
+ghost use Rattle.area_reader.specs.Damage.{OnDamage};
+ghost use Rattle.area_reader.specs.declared.error.AreaError.TheVariants.{Memory};
+ghost use Rattle.area_reader.specs.Looks.{Looks};
+ghost use Rattle.area_reader.specs.Map.{HasNoExtents};
 ghost use Rattle.inode_plan.specs.Lists.{LieAsIn};
 ghost use Rattle.relocation.specs.TierMove.{CanMove};
 ghost use Rattle.relocation.specs.MovableFile.{IsWithinFile, IsMovableRun, HasFileRun};
 
 use crate::tier_test::lie_above;
-use inode_plan::{
-    AreaError, BlockMap, Journal, Media, Run, Slot, Tier, is_inode, length_of, map_of,
-    read_all_extents, read_slot,
-};
+use area_reader::{AreaError, length_of, read_all_extents, read_slot};
+use batch_journal::Journal;
+use block_alloc::Run;
+use extent_tree::BlockMap;
+use file_graph::is_inode;
+use inode_plan::map_of;
+use layout::Slot;
 use std::alloc::Global;
+use tier_device::{Media, Tier};
 
 /// A run of logical blocks of a file that is asked for: `count` of them, from block `first` on. What stands at the inode, and whether it has these blocks, is
 /// not known yet.

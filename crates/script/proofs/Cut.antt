@@ -3,10 +3,10 @@ use Rattle.std.proofs.Common.{◌≡◌, ℕ, ◌<◌, inl, inr, List, true, len
 use Rattle.std.specs.Prelude.{nat_lt}
 use Rattle.std.proofs.lemmas.List.{take_all, length-take}
 use Rattle.std.proofs.lemmas.Bool.{cases_lt, lt-ltb}
-use Rattle.update_log.specs.posix_calls.Tree.{Own}
-use Rattle.update_log.specs.posix_calls.Query.{◌>>=◌}
-use Rattle.update_log.specs.posix_calls.Decide.{pwrite}
-use Rattle.update_log.specs.posix_calls.declared.limits.TheConstants.{MAX_TRANSFER}
+use Rattle.posix_calls.specs.Tree.{Own}
+use Rattle.posix_calls.specs.Query.{◌>>=◌}
+use Rattle.posix_calls.specs.Decide.{pwrite}
+use Rattle.posix_calls.specs.declared.limits.TheConstants.{MAX_TRANSFER}
 use Rattle.script.specs.declared.runs.TheConstants.{MAX_DATA}
 
 pub over : (bytes : List ℕ) → MAX_TRANSFER < length bytes → MAX_TRANSFER < length (take MAX_DATA bytes)

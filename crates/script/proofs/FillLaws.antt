@@ -1,7 +1,7 @@
 -- How the words of fills come off from the left, and the media's fills one after the other.
 use Rattle.std.proofs.Common.{◌≡◌, ap, sym, ℕ, suc, ◌+◌, ◌-◌, ◌==◌, ◌<◌, ◌≤◌, true, false, Option, None, Some, is_some, List, [], ◌∷◌, ◌++◌, append_assoc, append-nil, refl, arith, option_map}
-use Rattle.update_log.specs.tier_device.declared.fill.Fill.{Fill}
-use Rattle.update_log.specs.tier_device.declared.fill.Fill.TheVariants as fills
+use Rattle.tier_device.specs.declared.fill.Fill.{Fill}
+use Rattle.tier_device.specs.declared.fill.Fill.TheVariants as fills
 use Rattle.script.specs.Script.{◌>>=◌}
 use Rattle.script.specs.Fills.{medium_with_fill, media_with_fills, fills_of, one_fill, medium_fill, fills_from, all_fills}
 

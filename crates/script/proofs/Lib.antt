@@ -6,5 +6,5 @@ pub mod RunLaws
 pub mod FillLaws
 pub mod Names
 mod LineLemmas
+
 -- Passed on to the programs above, which so need not list it.
-pub use Rattle.command_line.proofs as command_line_lemmas

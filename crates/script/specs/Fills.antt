@@ -1,8 +1,8 @@
 -- The media of a world and what a stop leaves in them, as the words of a line.
 use Rattle.std.specs.Prelude.{ℕ, zero, suc, ◌+◌, ◌==◌, List, [], ◌∷◌, Option, Some, None, if◌then◌else◌, option_map, codes}
 use Rattle.std.specs.Str.{bytes_eq}
-use Rattle.update_log.specs.tier_device.declared.fill.Fill.{Fill}
-use Rattle.update_log.specs.tier_device.declared.fill.Fill.TheVariants as fills
+use Rattle.tier_device.specs.declared.fill.Fill.{Fill}
+use Rattle.tier_device.specs.declared.fill.Fill.TheVariants as fills
 use Rattle.script.specs.Script.{◌>>=◌, parts, two, client, hex_byte}
 use Rattle.script.specs.declared.fills.TheConstants.{MEDIA}
 

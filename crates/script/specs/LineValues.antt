@@ -1,7 +1,7 @@
 -- What the texts of a line stand for.
 use Rattle.std.specs.Prelude.{ℕ, List, [], take, Option, Some, None}
-use Rattle.update_log.specs.posix_calls.declared.call.Call.{Call}
-use Rattle.update_log.specs.posix_calls.declared.call.Call.TheVariants as call
+use Rattle.posix_calls.specs.declared.call.Call.{Call}
+use Rattle.posix_calls.specs.declared.call.Call.TheVariants as call
 use Rattle.script.specs.declared.runs.TheConstants.{MAX_DATA}
 use Rattle.script.specs.Script.{path_bytes, repeated_bytes}
 use Rattle.script.specs.declared.path_text.PathText.{PathText}

@@ -1,8 +1,8 @@
 -- What a line of a script asks.
 use Rattle.std.specs.Prelude.{ℕ, ◌==◌, List, [], ◌∷◌, take, Option, Some, None, if◌then◌else◌, option_map, codes}
 use Rattle.std.specs.Str.{bytes_eq}
-use Rattle.update_log.specs.posix_calls.declared.call.Call.{Call}
-use Rattle.update_log.specs.posix_calls.declared.call.Call.TheVariants as call
+use Rattle.posix_calls.specs.declared.call.Call.{Call}
+use Rattle.posix_calls.specs.declared.call.Call.TheVariants as call
 use Rattle.script.specs.declared.runs.TheConstants.{MAX_DATA}
 use Rattle.script.specs.declared.call_text.Verb.{Verb}
 use Rattle.script.specs.declared.call_text.Verb.TheVariants as verbs

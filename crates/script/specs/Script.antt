@@ -2,8 +2,8 @@
 use Rattle.std.specs.Prelude.{ℕ, ◌+◌, ◌-◌, ◌*◌, ◌^◌, ◌==◌, Bool, false, ◌&&◌, not, nat_le, nat_lt, min, List, [], ◌∷◌, length, Option, Some, None, if◌then◌else◌, option_map}
 use Rattle.std.specs.List.{slice_split, list_all, flat_map}
 use Rattle.std.proofs.Math.ListN.{replicate}
-use Rattle.update_log.specs.posix_calls.declared.limits.TheConstants.{MAX_CLIENTS}
-use Rattle.update_log.specs.posix_calls.declared.call.Flags.{Flags}
+use Rattle.posix_calls.specs.declared.limits.TheConstants.{MAX_CLIENTS}
+use Rattle.posix_calls.specs.declared.call.Flags.{Flags}
 
 -- a step, and another on its value; none where either is none
 infixl 10 ◌>>=◌

@@ -2,8 +2,8 @@
 use Rattle.std.specs.Prelude.{ℕ, ◌==◌, List, [], ◌∷◌, Option, Some, None, if◌then◌else◌, option_map, codes}
 use Rattle.std.specs.Option.{option_or}
 use Rattle.std.specs.Str.{bytes_eq}
-use Rattle.update_log.specs.posix_calls.declared.call.Call.{Call}
-use Rattle.update_log.specs.tier_device.declared.fill.Fill.{Fill}
+use Rattle.posix_calls.specs.declared.call.Call.{Call}
+use Rattle.tier_device.specs.declared.fill.Fill.{Fill}
 use Rattle.script.specs.Script.{◌>>=◌, parts, one, two, four, number, ordinal, client, path_bytes}
 use Rattle.script.specs.Fills.{fill, medium, all_fills}
 use Rattle.script.specs.Lines.{verb, call_for}

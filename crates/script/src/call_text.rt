@@ -10,8 +10,8 @@ use crate::flags::flags_of;
 use crate::number::{client_of, descriptor_of, number_of};
 use crate::path_text::PathText;
 use crate::words::{cut, one_word, three_words, two_words};
+use posix_calls::{Call, Flags, SharedBytes};
 use std::alloc::{AllocError, Global};
-use update_log::{Call, Flags, SharedBytes};
 
 /// What a line of a script is.
 #[derive(Clone, Copy)]

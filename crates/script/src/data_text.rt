@@ -3,8 +3,8 @@ ghost use Rattle.std.specs.Prelude.{◌≡◌, IfOk, true, is_some, option_map, 
 ghost use Rattle.script.specs.Script.{repeated_bytes, is_dash};
 
 use crate::runs::{MAX_DATA, are_runs, first_run, push_run};
+use posix_calls::Bytes;
 use std::alloc::{AllocError, Global};
-use update_log::Bytes;
 
 /// Runs `hhxN` joined by `+`: a byte by two lower case hexadecimal digits, N times, N from 1 on. A `-` is no bytes.
 #[derive(Clone, Copy)]

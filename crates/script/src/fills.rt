@@ -6,7 +6,7 @@ ghost use Rattle.script.specs.Fills.{fill, medium, medium_with_fill, medium_fill
 use crate::hex::hex_byte;
 use crate::number::client_of;
 use crate::words::{cut, two_parts};
-use update_log::Fill;
+use tier_device::Fill;
 
 /// How many media a line can name: the shared one, which is 0, and each client's two regions together, by the client's number.
 pub const MEDIA: usize = 9;

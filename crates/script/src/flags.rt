@@ -2,7 +2,7 @@
 ghost use Rattle.std.specs.Prelude.{◌≡◌};
 ghost use Rattle.script.specs.Script.{front, text_behind, flags};
 
-use update_log::Flags;
+use posix_calls::Flags;
 
 /// The flags of some of the letters `rwcxt`, in this order: read, write, create, exclusive, truncate.
 pub fn flags_of(word: &[u8]) -> Option<Flags>

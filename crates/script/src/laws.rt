@@ -1,9 +1,9 @@
 //! What holds of every line of a script.
 ghost use Rattle.std.specs.Prelude.{◌≡◌, ℕ, ◌<◌, List, take, length};
-ghost use Rattle.update_log.specs.posix_calls.Tree.{Own};
-ghost use Rattle.update_log.specs.posix_calls.Decide.{decide};
-ghost use Rattle.update_log.specs.posix_calls.declared.limits.TheConstants.{MAX_TRANSFER};
-ghost use Rattle.update_log.specs.posix_calls.declared.call.Call.TheVariants.{Pwrite};
+ghost use Rattle.posix_calls.specs.Tree.{Own};
+ghost use Rattle.posix_calls.specs.Decide.{decide};
+ghost use Rattle.posix_calls.specs.declared.limits.TheConstants.{MAX_TRANSFER};
+ghost use Rattle.posix_calls.specs.declared.call.Call.TheVariants.{Pwrite};
 ghost use Rattle.script.specs.declared.runs.TheConstants.{MAX_DATA};
 
 /// The bytes that a line writes are cut to `MAX_DATA`, and no call is answered otherwise for it: what is cut is too much to write

@@ -55,13 +55,3 @@ pub use system_line::{LowerTier, Manner, SystemLine, read_system_line};
 pub use table_text::Spelled;
 pub use text::Text;
 pub use usage::{tell, tell_fault};
-
-// Passed on to the crates above, which so need not list those below.
-pub use command_line::{
-    OptionMatches, OptionValue, Program, ProgramOption, WordsError, read_words,
-};
-pub use update_log::{
-    Call, DIRECTORY_KIND, Effect, Effects, Errno, FaultMedia, Fill, HEADER, Kind, Media, MemMedia,
-    Name, NameMap, OPEN, Path, PlainGraph, REGION_SIZE, ROOT, Record, Region, RegionError, Reply,
-    SharedBytes, Stage, StopMedia, Tier, Trip, is_payload, u32_of,
-};

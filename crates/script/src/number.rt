@@ -2,7 +2,7 @@
 ghost use Rattle.std.specs.Prelude.{◌≡◌, option_map, min};
 ghost use Rattle.script.specs.Script.{digit, number, ordinal, client, descriptor};
 
-use update_log::MAX_CLIENTS;
+use posix_calls::MAX_CLIENTS;
 
 /// The number of some decimal digits, up to the greatest `u64`.
 pub fn number_of(word: &[u8]) -> Option<u64>

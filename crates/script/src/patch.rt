@@ -1,8 +1,8 @@
 // Bytes that a row puts into the image of its world.
 use crate::data_text::DataText;
 use crate::runs::MAX_DATA;
+use posix_calls::Bytes;
 use std::alloc::Global;
-use update_log::Bytes;
 
 /// Bytes that are put into an image before a run.
 #[derive(Drop)]

@@ -3,8 +3,8 @@ ghost use Rattle.std.specs.Prelude.{◌≡◌, IfOk, true, is_some, option_map};
 ghost use Rattle.script.specs.Script.{path_bytes, decoded_first};
 
 use crate::hex::hex_byte;
+use posix_calls::Bytes;
 use std::alloc::{AllocError, Global};
-use update_log::Bytes;
 
 /// A path in which `%hh` is the byte of two lower case hexadecimal digits, and any other byte is itself.
 #[derive(Clone, Copy)]

@@ -1,6 +1,7 @@
+use posix_calls::DecideError;
 use std::alloc::{AllocError, AllocFailed};
 use std::io::{self, ErrorKind};
-use update_log::{DecideError, RegionError};
+use update_log::RegionError;
 
 /// What ends a run before its end.
 #[derive(Clone, Copy)]

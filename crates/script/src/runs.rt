@@ -6,8 +6,8 @@ ghost use Rattle.script.specs.Runs.{pair_of, run_seen};
 use crate::hex::hex_byte;
 use crate::number::number_of;
 use crate::words::cut;
+use posix_calls::MAX_TRANSFER;
 use std::alloc::AllocError;
-use update_log::MAX_TRANSFER;
 
 /// The most bytes that are made of a line: one more than a call may write, so that the call is answered as with all of them.
 pub const MAX_DATA: usize = MAX_TRANSFER + 1;

@@ -10,7 +10,7 @@ use crate::fills::{MEDIA, fill_of, fills_of, medium_of};
 use crate::number::{client_of, number_of, ordinal_of};
 use crate::path_text::PathText;
 use crate::words::{cut, four_words, one_word, two_words};
-use update_log::Fill;
+use tier_device::Fill;
 
 /// How a client's call is asked.
 #[derive(Clone, Copy)]

@@ -1,6 +1,7 @@
 // What is printed about the words of a command line.
 use crate::run_error::RunError;
-use command_line::{UsageError, WordsError};
+use clap::Error as UsageError;
+use command_line::WordsError;
 use std::io::Write;
 
 /// Prints what is wrong with the words, or their help, and answers the exit status: 0 for the help, 2 for words that can't be read,

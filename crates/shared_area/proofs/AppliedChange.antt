@@ -3,26 +3,26 @@ use Rattle.std.proofs.Common.{◌≡◌, ◌≢◌, ◌≤◌, ◌<◌, ◌+◌,
 use Rattle.std.specs.Prelude.{Result, Ok, Err, OnOk, IfErr, IsErrOf}
 use Rattle.std.proofs.lemmas.Bool.{true≢false}
 use Rattle.std.proofs.lemmas.List.{length-append, length-map}
-use Rattle.change_plan.specs.tier_device.declared.media.Media.{Ghosts}
-use Rattle.change_plan.specs.tier_device.declared.media.Tier.{Tier}
-use Rattle.change_plan.specs.tier_device.declared.media.Tier.TheVariants.{Fast, Block, Slow}
-use Rattle.change_plan.specs.tier_device.Media.{Rose}
-use Rattle.record_validation.specs.file_graph.Units.{charge}
-use Rattle.change_plan.specs.graph_change.Change.{Changes}
-use Rattle.change_plan.specs.layout.declared.marks.Marks.{Marks}
-use Rattle.change_plan.specs.layout.Places.{Sizes}
-use Rattle.change_plan.specs.batch_journal.Course.{Unmoved}
-use Rattle.change_plan.specs.batch_journal.View.{JournalView}
-use Rattle.change_plan.proofs.batch_journal_lemmas.Courses.{tiers_same}
-use Rattle.change_plan.specs.area_image.declared.error.AreaError.{AreaError}
-use Rattle.change_plan.specs.area_image.Refusals.{IsChangeRefusal}
-use Rattle.change_plan.specs.area_image.Store.{Store, disk, store_of, graph, marks}
-use Rattle.change_plan.specs.area_image.Format.{IsOpenable}
-use Rattle.change_plan.proofs.area_image_lemmas.Frames.{loose_graph, loose_marks}
-use Rattle.change_plan.specs.area_commit.Value.{PoolsView, free_data, on_tier, AreInOrder, HasRanges, AreFree}
-use Rattle.change_plan.specs.area_commit.StableState.{IsSettled, StaysStill}
+use Rattle.tier_device.specs.declared.media.Media.{Ghosts}
+use Rattle.tier_device.specs.declared.media.Tier.{Tier}
+use Rattle.tier_device.specs.declared.media.Tier.TheVariants.{Fast, Block, Slow}
+use Rattle.tier_device.specs.Media.{Rose}
+use Rattle.file_graph.specs.Units.{charge}
+use Rattle.graph_change.specs.Change.{Changes}
+use Rattle.layout.specs.declared.marks.Marks.{Marks}
+use Rattle.layout.specs.Places.{Sizes}
+use Rattle.batch_journal.specs.Course.{Unmoved}
+use Rattle.batch_journal.specs.View.{JournalView}
+use Rattle.batch_journal.proofs.Courses.{tiers_same}
+use Rattle.area_reader.specs.declared.error.AreaError.{AreaError}
+use Rattle.area_reader.specs.Refusals.{IsChangeRefusal}
+use Rattle.area_reader.specs.Store.{Store, disk, store_of, graph, marks}
+use Rattle.area_reader.specs.Format.{IsOpenable}
+use Rattle.area_reader.proofs.Frames.{loose_graph, loose_marks}
+use Rattle.area_commit.specs.Value.{PoolsView, free_data, on_tier, AreInOrder, HasRanges, AreFree}
+use Rattle.area_commit.specs.StableState.{IsSettled, StaysStill}
 use Rattle.shared_area.specs.ChangeApply.{IsAppliedStore, MakesFewCalls, Applies, EndsChange}
-use Rattle.change_plan.specs.area_image.declared.error.AreaError.TheVariants.{DeviceFault}
+use Rattle.area_reader.specs.declared.error.AreaError.TheVariants.{DeviceFault}
 use Rattle.shared_area.specs.Ready.{IsReady}
 use Rattle.shared_area.specs.GraphUpdate.{HasTooFewData, StaysOrChanges, AppliesOrStays}
 use Rattle.shared_area.proofs.Counts.{data_count}

@@ -2,28 +2,28 @@
 use Rattle.std.proofs.Common.{◌≡◌, ◌≢◌, ◌≤◌, ◌⊎◌, inl, inr, ◌+◌, ◌∙◌, ℕ, List, length, true, false, refl, sym, ap, subst, arith}
 use Rattle.std.specs.Prelude.{Result, Ok, Err, OnErr, IfErr, IsErrOf}
 use Rattle.std.proofs.lemmas.Bool.{true≢false}
-use Rattle.change_plan.specs.tier_device.declared.media.Media.{Ghosts}
-use Rattle.change_plan.specs.tier_device.declared.media.Tier.{Tier}
-use Rattle.change_plan.specs.tier_device.declared.media.Tier.TheVariants.{Fast}
-use Rattle.change_plan.specs.tier_device.Media.{Rose}
-use Rattle.change_plan.specs.graph_change.Change.{Changes}
-use Rattle.change_plan.specs.layout.declared.marks.Marks.{Marks}
-use Rattle.change_plan.specs.layout.Places.{Sizes}
-use Rattle.change_plan.specs.batch_journal.Course.{Unmoved}
-use Rattle.change_plan.specs.batch_journal.View.{JournalView}
-use Rattle.change_plan.proofs.batch_journal_lemmas.Courses.{left_before, tiers_same, unmoved_on}
-use Rattle.change_plan.specs.area_image.declared.error.AreaError.{AreaError}
-use Rattle.change_plan.specs.area_image.declared.error.AreaError.TheVariants as errors
-use Rattle.change_plan.specs.area_image.Refusals.{IsChangeRefusal}
-use Rattle.change_plan.specs.area_image.Store.{Store, disk, store_of}
-use Rattle.change_plan.specs.area_image.Format.{IsOpenable}
-use Rattle.change_plan.specs.area_image.Looks.{Looks}
-use Rattle.change_plan.specs.area_commit.Value.{PoolsView, HasRanges, AreFree}
-use Rattle.change_plan.specs.area_commit.declared.plan.Rewrite.{Rewrite}
-use Rattle.change_plan.specs.area_commit.PlanOutcome.{IsCarriedOut, AllOrNothing}
-use Rattle.change_plan.specs.area_commit.StableState.{IsSettled, StaysStill}
-use Rattle.change_plan.proofs.area_commit_lemmas.Course.{Rests}
-use Rattle.change_plan.proofs.area_commit_lemmas.Moments.{rest_loose}
+use Rattle.tier_device.specs.declared.media.Media.{Ghosts}
+use Rattle.tier_device.specs.declared.media.Tier.{Tier}
+use Rattle.tier_device.specs.declared.media.Tier.TheVariants.{Fast}
+use Rattle.tier_device.specs.Media.{Rose}
+use Rattle.graph_change.specs.Change.{Changes}
+use Rattle.layout.specs.declared.marks.Marks.{Marks}
+use Rattle.layout.specs.Places.{Sizes}
+use Rattle.batch_journal.specs.Course.{Unmoved}
+use Rattle.batch_journal.specs.View.{JournalView}
+use Rattle.batch_journal.proofs.Courses.{left_before, tiers_same, unmoved_on}
+use Rattle.area_reader.specs.declared.error.AreaError.{AreaError}
+use Rattle.area_reader.specs.declared.error.AreaError.TheVariants as errors
+use Rattle.area_reader.specs.Refusals.{IsChangeRefusal}
+use Rattle.area_reader.specs.Store.{Store, disk, store_of}
+use Rattle.area_reader.specs.Format.{IsOpenable}
+use Rattle.area_reader.specs.Looks.{Looks}
+use Rattle.area_commit.specs.Value.{PoolsView, HasRanges, AreFree}
+use Rattle.area_commit.specs.declared.plan.Rewrite.{Rewrite}
+use Rattle.area_commit.specs.PlanOutcome.{IsCarriedOut, AllOrNothing}
+use Rattle.area_commit.specs.StableState.{IsSettled, StaysStill}
+use Rattle.area_commit.proofs.Course.{Rests}
+use Rattle.area_commit.proofs.Moments.{rest_loose}
 use Rattle.shared_area.specs.ChangeApply.{IsAppliedStore, IsAppliedOrNot, MakesFewCalls, Applies, EndsChange}
 use Rattle.shared_area.specs.Errors.{IsForced}
 use Rattle.shared_area.proofs.Calls.{few_behind}

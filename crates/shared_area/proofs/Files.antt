@@ -5,21 +5,21 @@ use Rattle.std.specs.List.{range_with_len}
 use Rattle.std.proofs.lemmas.Bool.{cases_lt}
 use Rattle.std.proofs.lemmas.List.{ext_get_or, get_or-take, get_or-drop, get_or_append_left, get_or-append_right, get_or-replicate, take_all, length-append, length-drop, length-take-le}
 use Rattle.std.proofs.lemmas.List.FromFn.{get_or-map-range_with_len, length-map-range_with_len}
-use Rattle.change_plan.specs.tier_device.declared.media.Tier.{Tier}
-use Rattle.change_plan.specs.tier_device.declared.media.Tier.TheVariants.{Fast, Block, Slow}
-use Rattle.record_validation.specs.file_graph.Graph.{file_bytes as bytes_of}
-use Rattle.change_plan.specs.layout.Places.{Sizes, is_inode}
-use Rattle.change_plan.specs.layout.declared.slot.Slot.{Slot}
-use Rattle.change_plan.specs.layout.declared.slot.Slot.TheVariants as slots
-use Rattle.change_plan.specs.batch_journal.Images.{slice}
-use Rattle.change_plan.specs.batch_journal.Blocks.{ShowsHome}
-use Rattle.change_plan.proofs.batch_journal_lemmas.Meaning.{slice_slice}
-use Rattle.change_plan.specs.tree_blocks.Inode.{LogicalBlocks, byte_of, bytes_of_blocks, inode_of, node_of}
-use Rattle.change_plan.specs.area_image.Store.{Store, store_of, slot_read, place, logical_block, graph}
-use Rattle.change_plan.specs.area_image.Reads.{IsRoom}
-use Rattle.change_plan.proofs.area_image_lemmas.Parts.{slot_as}
-use Rattle.change_plan.proofs.area_image_lemmas.Twins.{room_home}
-use Rattle.change_plan.proofs.area_image_lemmas.Damages.{at_none}
+use Rattle.tier_device.specs.declared.media.Tier.{Tier}
+use Rattle.tier_device.specs.declared.media.Tier.TheVariants.{Fast, Block, Slow}
+use Rattle.file_graph.specs.Graph.{file_bytes as bytes_of}
+use Rattle.layout.specs.Places.{Sizes, is_inode}
+use Rattle.layout.specs.declared.slot.Slot.{Slot}
+use Rattle.layout.specs.declared.slot.Slot.TheVariants as slots
+use Rattle.batch_journal.specs.Images.{slice}
+use Rattle.batch_journal.specs.Blocks.{ShowsHome}
+use Rattle.batch_journal.proofs.Meaning.{slice_slice}
+use Rattle.tree_blocks.specs.Inode.{LogicalBlocks, byte_of, bytes_of_blocks, inode_of, node_of}
+use Rattle.area_reader.specs.Store.{Store, store_of, slot_read, place, logical_block, graph}
+use Rattle.area_reader.specs.Reads.{IsRoom}
+use Rattle.area_reader.proofs.Parts.{slot_as}
+use Rattle.area_reader.proofs.Twins.{room_home}
+use Rattle.area_reader.proofs.Damages.{at_none}
 use Rattle.shared_area.specs.FileReads.{bytes_of_inode, ShowsBytes, IsReadUpTo, IsReadFrom}
 use Rattle.shared_area.proofs.Sound.{no_slot}
 

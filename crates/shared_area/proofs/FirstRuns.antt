@@ -1,19 +1,19 @@
 -- The first run of a file's blocks, by its slot and its extents.
 use Rattle.std.proofs.Common.{◌≡◌, ◌≢◌, ◌⊎◌, inl, inr, ◌<◌, ◌∙◌, ℕ, Bool, true, false, refl, sym, ap, subst, Option, Some, None}
 use Rattle.std.specs.Prelude.{◌==◌, if◌then◌else◌, IsSome, is_some}
-use Rattle.change_plan.specs.tier_device.declared.media.Tier.{Tier}
-use Rattle.change_plan.specs.layout.declared.slot.Slot.{Slot}
-use Rattle.change_plan.specs.layout.declared.slot.Slot.TheVariants as slots
-use Rattle.change_plan.specs.layout.Places.{Sizes, is_inode}
-use Rattle.change_plan.specs.block_alloc.declared.runs.Run.{Run}
-use Rattle.change_plan.specs.area_image.Store.{Store, place, slot, slot_read, root_of, touch_of, length_of}
-use Rattle.change_plan.specs.area_image.Map.{place_by, IsOnceAt}
-use Rattle.change_plan.specs.area_image.Format.{IsOpenable}
-use Rattle.change_plan.specs.area_image.declared.tiers.InodeExtents.{InodeExtents}
-use Rattle.change_plan.specs.area_image.declared.inode.InodeParts.{InodeParts}
-use Rattle.change_plan.proofs.area_image_lemmas.Complete.{root_some}
-use Rattle.change_plan.proofs.area_image_lemmas.Parts.{slot_as}
-use Rattle.change_plan.proofs.area_image_lemmas.Tails.{place_is, placed_by}
+use Rattle.tier_device.specs.declared.media.Tier.{Tier}
+use Rattle.layout.specs.declared.slot.Slot.{Slot}
+use Rattle.layout.specs.declared.slot.Slot.TheVariants as slots
+use Rattle.layout.specs.Places.{Sizes, is_inode}
+use Rattle.block_alloc.specs.declared.runs.Run.{Run}
+use Rattle.area_reader.specs.Store.{Store, place, slot, slot_read, root_of, touch_of, length_of}
+use Rattle.area_reader.specs.Map.{place_by, IsOnceAt}
+use Rattle.area_reader.specs.Format.{IsOpenable}
+use Rattle.area_reader.specs.declared.tiers.InodeExtents.{InodeExtents}
+use Rattle.area_reader.specs.declared.inode.InodeParts.{InodeParts}
+use Rattle.area_reader.proofs.Complete.{root_some}
+use Rattle.area_reader.proofs.Parts.{slot_as}
+use Rattle.area_reader.proofs.Tails.{place_is, placed_by}
 use Rattle.shared_area.specs.Parts.{HasParts}
 use Rattle.shared_area.specs.FirstRun.{FindsRun, file_place, file_lies, touch_in}
 use Rattle.shared_area.proofs.Sound.{no_slot}

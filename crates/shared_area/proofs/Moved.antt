@@ -2,21 +2,21 @@
 use Rattle.std.proofs.Common.{◌≡◌, ◌≢◌, ◌≤◌, ◌<◌, ◌+◌, ◌⊎◌, ◌∙◌, ℕ, List, Bool, true, false, refl, sym, ap, inl, inr}
 use Rattle.std.specs.Prelude.{Result, Ok, Err, OnOk, IfErr, IsErrOf}
 use Rattle.std.proofs.lemmas.Bool.{cases_Bool, true≢false}
-use Rattle.change_plan.specs.tier_device.declared.media.Media.{Ghosts}
-use Rattle.change_plan.specs.tier_device.declared.media.Tier.{Tier}
-use Rattle.change_plan.specs.tier_device.Media.{Rose}
-use Rattle.record_validation.specs.file_graph.Units.{charge}
-use Rattle.change_plan.specs.layout.declared.marks.Marks.{Marks}
-use Rattle.change_plan.specs.layout.Places.{Sizes}
-use Rattle.change_plan.specs.batch_journal.View.{JournalView}
-use Rattle.change_plan.proofs.batch_journal_lemmas.Courses.{tiers_same}
-use Rattle.change_plan.specs.area_image.Store.{Store, disk, store_of, graph, marks}
-use Rattle.change_plan.specs.area_image.Format.{IsOpenable}
-use Rattle.change_plan.proofs.area_image_lemmas.Frames.{loose_graph, loose_marks}
-use Rattle.change_plan.specs.area_commit.Value.{PoolsView}
+use Rattle.tier_device.specs.declared.media.Media.{Ghosts}
+use Rattle.tier_device.specs.declared.media.Tier.{Tier}
+use Rattle.tier_device.specs.Media.{Rose}
+use Rattle.file_graph.specs.Units.{charge}
+use Rattle.layout.specs.declared.marks.Marks.{Marks}
+use Rattle.layout.specs.Places.{Sizes}
+use Rattle.batch_journal.specs.View.{JournalView}
+use Rattle.batch_journal.proofs.Courses.{tiers_same}
+use Rattle.area_reader.specs.Store.{Store, disk, store_of, graph, marks}
+use Rattle.area_reader.specs.Format.{IsOpenable}
+use Rattle.area_reader.proofs.Frames.{loose_graph, loose_marks}
+use Rattle.area_commit.specs.Value.{PoolsView}
 use Rattle.relocation.specs.TierMove.{IsMoved}
-use Rattle.change_plan.specs.area_image.declared.error.AreaError.{AreaError}
-use Rattle.change_plan.specs.area_image.declared.error.AreaError.TheVariants.{DeviceFault, Damaged, NotMapped, NoBlock, Memory}
+use Rattle.area_reader.specs.declared.error.AreaError.{AreaError}
+use Rattle.area_reader.specs.declared.error.AreaError.TheVariants.{DeviceFault, Damaged, NotMapped, NoBlock, Memory}
 use Rattle.relocation.specs.RunMove.{LieInLowest, IsSettled, IsMovedStore, Moves, StaysStill}
 use Rattle.shared_area.specs.Ready.{IsReady, HasFree}
 use Rattle.shared_area.specs.TierMoves.{HasTooFew, HasEnough, StaysOpen, MovesOrStays}

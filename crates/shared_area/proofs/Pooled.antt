@@ -5,24 +5,24 @@ use Rattle.std.specs.Prelude.{◌↔◌, Ok, Err, IsErrOf, take, drop}
 use Rattle.std.specs.List.{Contains}
 use Rattle.std.proofs.lemmas.List.{length-append, length-map}
 use Rattle.std.proofs.lemmas.List.FromFn.{length-range_with_len}
-use Rattle.change_plan.specs.tier_device.declared.media.Tier.{Tier}
-use Rattle.change_plan.specs.tier_device.declared.media.Tier.TheVariants.{Fast, Block, Slow}
-use Rattle.change_plan.specs.layout.Places.{Sizes, IsAllowed, node_end, data_first, tier_blocks}
-use Rattle.change_plan.specs.block_alloc.declared.runs.Run.{Run}
-use Rattle.change_plan.specs.block_alloc.Runs.{run_blocks, blocks_of, AreNormalRuns, Rising}
-use Rattle.change_plan.specs.block_alloc.Value.{FreeBlocks, InOrder}
-use Rattle.change_plan.specs.block_alloc.declared.error.AllocatorError.{AllocatorError}
-use Rattle.change_plan.specs.block_alloc.declared.error.AllocatorError.TheVariants as refusal
-use Rattle.change_plan.proofs.block_alloc_lemmas.Blocks.{length-rising}
-use Rattle.change_plan.specs.area_image.declared.error.AreaError.{AreaError}
-use Rattle.change_plan.specs.area_image.declared.error.AreaError.TheVariants as errors
-use Rattle.change_plan.specs.area_image.Refusals.{IsChangeRefusal, area_error}
-use Rattle.change_plan.specs.area_image.Store.{Store, store_of}
-use Rattle.change_plan.specs.area_image.Reads.{Free}
-use Rattle.change_plan.specs.area_commit.Value.{PoolsView, data_pool, on_tier, free_data, AreInOrder, HasRanges}
-use Rattle.change_plan.specs.area_commit.declared.allocation.Allocation.{Allocation}
-use Rattle.change_plan.specs.area_commit.Allocations.{runs_of, WasTaken, CanGive, WereTaken, CanRelease, SameBlocks, SameFree, KeepsRoom}
-use Rattle.change_plan.specs.area_commit.StableState.{IsSettled}
+use Rattle.tier_device.specs.declared.media.Tier.{Tier}
+use Rattle.tier_device.specs.declared.media.Tier.TheVariants.{Fast, Block, Slow}
+use Rattle.layout.specs.Places.{Sizes, IsAllowed, node_end, data_first, tier_blocks}
+use Rattle.block_alloc.specs.declared.runs.Run.{Run}
+use Rattle.block_alloc.specs.Runs.{run_blocks, blocks_of, AreNormalRuns, Rising}
+use Rattle.block_alloc.specs.Value.{FreeBlocks, InOrder}
+use Rattle.block_alloc.specs.declared.error.AllocatorError.{AllocatorError}
+use Rattle.block_alloc.specs.declared.error.AllocatorError.TheVariants as refusal
+use Rattle.block_alloc.proofs.Blocks.{length-rising}
+use Rattle.area_reader.specs.declared.error.AreaError.{AreaError}
+use Rattle.area_reader.specs.declared.error.AreaError.TheVariants as errors
+use Rattle.area_reader.specs.Refusals.{IsChangeRefusal, area_error}
+use Rattle.area_reader.specs.Store.{Store, store_of}
+use Rattle.area_reader.specs.Reads.{Free}
+use Rattle.area_commit.specs.Value.{PoolsView, data_pool, on_tier, free_data, AreInOrder, HasRanges}
+use Rattle.area_commit.specs.declared.allocation.Allocation.{Allocation}
+use Rattle.area_commit.specs.Allocations.{runs_of, WasTaken, CanGive, WereTaken, CanRelease, SameBlocks, SameFree, KeepsRoom}
+use Rattle.area_commit.specs.StableState.{IsSettled}
 use Rattle.change_plan.specs.PlanAddition.{HasTaken}
 use Rattle.shared_area.proofs.Ending.{memory_fault, memory_block, block_fault, err_same}
 

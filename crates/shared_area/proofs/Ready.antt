@@ -2,25 +2,25 @@
 use Rattle.std.proofs.Common.{◌≡◌, ◌≤◌, ◌*◌, ◌∙◌, ℕ, List, length, false, sym, ap, subst, inl, inr}
 use Rattle.std.specs.Prelude.{Result, Some}
 use Rattle.std.proofs.lemmas.Bool.{cases_Bool, true≢false}
-use Rattle.change_plan.specs.tier_device.declared.media.Media.{Ghosts}
-use Rattle.change_plan.specs.tier_device.declared.media.Tier.{Tier}
-use Rattle.change_plan.specs.tier_device.declared.media.Tier.TheVariants.{Fast}
-use Rattle.record_validation.specs.file_graph.Graph.{Graph}
-use Rattle.record_validation.specs.file_graph.Units.{charge}
-use Rattle.change_plan.specs.layout.declared.marks.Marks.{Marks}
-use Rattle.change_plan.specs.layout.Places.{Sizes, tier_blocks}
-use Rattle.change_plan.specs.batch_journal.View.{JournalView}
-use Rattle.change_plan.specs.batch_journal.Volume.{IsJournal}
-use Rattle.change_plan.proofs.batch_journal_lemmas.Courses.{left_before}
-use Rattle.change_plan.specs.area_image.declared.error.AreaError.{AreaError}
-use Rattle.change_plan.specs.area_image.Store.{Store, disk, store_of, content_blocks, graph, marks}
-use Rattle.change_plan.specs.area_image.Format.{IsOpenable}
-use Rattle.change_plan.specs.area_image.Looks.{Looks}
-use Rattle.change_plan.specs.area_image.Reads.{Loose}
-use Rattle.change_plan.proofs.area_image_lemmas.Looked.{carried}
-use Rattle.change_plan.proofs.area_image_lemmas.Frames.{loose_graph, loose_marks, loose_spelled}
-use Rattle.change_plan.proofs.area_image_lemmas.Torn.{loose_whole}
-use Rattle.change_plan.specs.area_commit.Value.{PoolsView, HasRanges, AreFree}
+use Rattle.tier_device.specs.declared.media.Media.{Ghosts}
+use Rattle.tier_device.specs.declared.media.Tier.{Tier}
+use Rattle.tier_device.specs.declared.media.Tier.TheVariants.{Fast}
+use Rattle.file_graph.specs.Graph.{Graph}
+use Rattle.file_graph.specs.Units.{charge}
+use Rattle.layout.specs.declared.marks.Marks.{Marks}
+use Rattle.layout.specs.Places.{Sizes, tier_blocks}
+use Rattle.batch_journal.specs.View.{JournalView}
+use Rattle.batch_journal.specs.Volume.{IsJournal}
+use Rattle.batch_journal.proofs.Courses.{left_before}
+use Rattle.area_reader.specs.declared.error.AreaError.{AreaError}
+use Rattle.area_reader.specs.Store.{Store, disk, store_of, content_blocks, graph, marks}
+use Rattle.area_reader.specs.Format.{IsOpenable}
+use Rattle.area_reader.specs.Looks.{Looks}
+use Rattle.area_reader.specs.Reads.{Loose}
+use Rattle.area_reader.proofs.Looked.{carried}
+use Rattle.area_reader.proofs.Frames.{loose_graph, loose_marks, loose_spelled}
+use Rattle.area_reader.proofs.Torn.{loose_whole}
+use Rattle.area_commit.specs.Value.{PoolsView, HasRanges, AreFree}
 use Rattle.shared_area.specs.Ready.{IsReady, OpensAs}
 
 module _ {M : Type 0} (device : Ghosts M) where

@@ -1,26 +1,26 @@
 -- What is opened, or handed back, is as it was.
 use Rattle.std.proofs.Common.{◌≡◌, ◌≢◌, ◌+◌, ◌∙◌, ℕ, List, refl, sym, ap, subst, arith, inl, inr, cond}
 use Rattle.std.proofs.lemmas.Bool.{cases_Bool}
-use Rattle.change_plan.specs.tier_device.declared.media.Tier.{Tier}
-use Rattle.change_plan.specs.tier_device.declared.media.Tier.TheVariants.{Fast, Block, Slow}
-use Rattle.change_plan.specs.tier_device.AfterStop.{AtRest}
-use Rattle.change_plan.specs.layout.declared.error.What.{What}
-use Rattle.change_plan.specs.layout.Places.{Sizes}
-use Rattle.change_plan.specs.batch_journal.declared.error.JournalError.{JournalError}
-use Rattle.change_plan.specs.batch_journal.declared.error.JournalError.TheVariants as journal
-use Rattle.change_plan.specs.batch_journal.Images.{image_count}
-use Rattle.change_plan.specs.batch_journal.Blocks.{home, area_of, is_gate_open, opening_calls}
-use Rattle.change_plan.specs.batch_journal.Course.{Since, Unmoved}
-use Rattle.change_plan.specs.batch_journal.Damage.{OnJournalDamage, AwaitsReplay}
-use Rattle.change_plan.specs.batch_journal.Volume.{IsVolume, SameJournal}
-use Rattle.change_plan.proofs.batch_journal_lemmas.Courses.{and_then, still, left_before, tiers_same}
-use Rattle.change_plan.proofs.batch_journal_lemmas.Openings.{spells_one}
-use Rattle.change_plan.specs.area_image.declared.error.AreaError.{AreaError}
-use Rattle.change_plan.specs.area_image.declared.error.AreaError.TheVariants as errors
-use Rattle.change_plan.specs.area_image.Store.{Store, store_of, content_blocks}
-use Rattle.change_plan.specs.area_image.Format.{IsOpenable}
-use Rattle.change_plan.specs.area_image.Damage.{OnDamage}
-use Rattle.change_plan.proofs.area_image_lemmas.Parts.{on_damage}
+use Rattle.tier_device.specs.declared.media.Tier.{Tier}
+use Rattle.tier_device.specs.declared.media.Tier.TheVariants.{Fast, Block, Slow}
+use Rattle.tier_device.specs.AfterStop.{AtRest}
+use Rattle.layout.specs.declared.error.What.{What}
+use Rattle.layout.specs.Places.{Sizes}
+use Rattle.batch_journal.specs.declared.error.JournalError.{JournalError}
+use Rattle.batch_journal.specs.declared.error.JournalError.TheVariants as journal
+use Rattle.batch_journal.specs.Images.{image_count}
+use Rattle.batch_journal.specs.Blocks.{home, area_of, is_gate_open, opening_calls}
+use Rattle.batch_journal.specs.Course.{Since, Unmoved}
+use Rattle.batch_journal.specs.Damage.{OnJournalDamage, AwaitsReplay}
+use Rattle.batch_journal.specs.Volume.{IsVolume, SameJournal}
+use Rattle.batch_journal.proofs.Courses.{and_then, still, left_before, tiers_same}
+use Rattle.batch_journal.proofs.Openings.{spells_one}
+use Rattle.area_reader.specs.declared.error.AreaError.{AreaError}
+use Rattle.area_reader.specs.declared.error.AreaError.TheVariants as errors
+use Rattle.area_reader.specs.Store.{Store, store_of, content_blocks}
+use Rattle.area_reader.specs.Format.{IsOpenable}
+use Rattle.area_reader.specs.Damage.{OnDamage}
+use Rattle.area_reader.proofs.Parts.{on_damage}
 use Rattle.shared_area.specs.AreaOpen.{SpellsNone, IsJournalFault}
 
 -- The medium is as it was at rest, but for the replay of an open journal.

@@ -2,21 +2,21 @@
 use Rattle.std.proofs.Common.{◌≡◌, ◌≢◌, ◌∙◌, ℕ, false, refl, sym, ap, subst, Option, Some, None}
 use Rattle.std.specs.Prelude.{IsSome, IfSome, IfNone, Result, Ok, Err, IfErr, IsErrOf, unwrap_or}
 use Rattle.std.proofs.lemmas.Bool.{cond-false, false≢true}
-use Rattle.change_plan.specs.tier_device.declared.media.Tier.{Tier}
-use Rattle.change_plan.specs.layout.declared.slot.Slot.TheVariants as slots
-use Rattle.change_plan.specs.layout.Places.{Sizes, is_inode}
-use Rattle.change_plan.specs.layout.Slot.{slot_of}
-use Rattle.change_plan.specs.area_image.declared.error.AreaError.{AreaError}
-use Rattle.change_plan.specs.area_image.declared.error.AreaError.TheVariants as errors
-use Rattle.change_plan.specs.area_image.Refusals.{IsChangeRefusal}
-use Rattle.change_plan.specs.area_image.declared.inode.InodeParts.{InodeParts}
-use Rattle.change_plan.specs.area_image.Store.{Store, slot_bytes, slot, slot_read, place}
-use Rattle.change_plan.specs.area_image.Map.{place_by}
-use Rattle.change_plan.specs.area_image.Format.{IsOpenable}
-use Rattle.change_plan.specs.area_image.Damage.{OnDamage, IsDamaged}
-use Rattle.change_plan.proofs.area_image_lemmas.Damages.{damage_none, no_some}
-use Rattle.change_plan.proofs.area_image_lemmas.Complete.{root_inode, root_some}
-use Rattle.change_plan.proofs.area_image_lemmas.Tails.{place_is}
+use Rattle.tier_device.specs.declared.media.Tier.{Tier}
+use Rattle.layout.specs.declared.slot.Slot.TheVariants as slots
+use Rattle.layout.specs.Places.{Sizes, is_inode}
+use Rattle.layout.specs.Slot.{slot_of}
+use Rattle.area_reader.specs.declared.error.AreaError.{AreaError}
+use Rattle.area_reader.specs.declared.error.AreaError.TheVariants as errors
+use Rattle.area_reader.specs.Refusals.{IsChangeRefusal}
+use Rattle.area_reader.specs.declared.inode.InodeParts.{InodeParts}
+use Rattle.area_reader.specs.Store.{Store, slot_bytes, slot, slot_read, place}
+use Rattle.area_reader.specs.Map.{place_by}
+use Rattle.area_reader.specs.Format.{IsOpenable}
+use Rattle.area_reader.specs.Damage.{OnDamage, IsDamaged}
+use Rattle.area_reader.proofs.Damages.{damage_none, no_some}
+use Rattle.area_reader.proofs.Complete.{root_inode, root_some}
+use Rattle.area_reader.proofs.Tails.{place_is}
 use Rattle.shared_area.specs.Parts.{IsNoDamage, IsTierOf, HasParts, FindsParts}
 
 -- a refusal that could tell of damage tells of none

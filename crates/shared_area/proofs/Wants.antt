@@ -1,22 +1,22 @@
 -- Where an inode has a block, what its extents spell wants memory.
 use Rattle.std.proofs.Common.{◌≡◌, ◌≢◌, ◌<◌, ◌∙◌, ℕ, [], true, ap, subst, Option, Some, None, inl, inr}
 use Rattle.std.specs.Prelude.{unwrap_or}
-use Rattle.change_plan.specs.tier_device.declared.media.Tier.{Tier}
-use Rattle.change_plan.specs.tier_device.declared.media.Tier.TheVariants.{Fast}
-use Rattle.change_plan.specs.layout.declared.slot.Slot.{Slot}
-use Rattle.change_plan.specs.layout.declared.slot.Slot.TheVariants as slots
-use Rattle.change_plan.specs.layout.Places.{Sizes, is_inode}
-use Rattle.change_plan.specs.layout.Extents.{extents_of}
-use Rattle.change_plan.specs.extent_tree.Places.{place_of}
-use Rattle.change_plan.specs.tree_blocks.Inode.{IsConsistent, AreDirectoryBlocks, IsDirectoryBlock, blocks_for, inode_of}
-use Rattle.change_plan.specs.area_image.Store.{Store, slot_read, root_of, space_of, length_of, extents_by, extents_read, place, logical_block}
-use Rattle.change_plan.specs.area_image.Format.{SpellsInode}
-use Rattle.change_plan.specs.area_image.Map.{WantsMemory}
-use Rattle.change_plan.proofs.area_image_lemmas.Parts.{slot_as}
-use Rattle.change_plan.proofs.area_image_lemmas.Shown.{own_none, extents_some}
-use Rattle.change_plan.proofs.area_image_lemmas.Inodes.{is_entries}
-use Rattle.change_plan.proofs.area_image_lemmas.Complete.{root_some}
-use Rattle.change_plan.proofs.area_image_lemmas.Damages.{option_cases, is_some_at, none_read, no_entries}
+use Rattle.tier_device.specs.declared.media.Tier.{Tier}
+use Rattle.tier_device.specs.declared.media.Tier.TheVariants.{Fast}
+use Rattle.layout.specs.declared.slot.Slot.{Slot}
+use Rattle.layout.specs.declared.slot.Slot.TheVariants as slots
+use Rattle.layout.specs.Places.{Sizes, is_inode}
+use Rattle.layout.specs.Extents.{extents_of}
+use Rattle.extent_tree.specs.Places.{place_of}
+use Rattle.tree_blocks.specs.Inode.{IsConsistent, AreDirectoryBlocks, IsDirectoryBlock, blocks_for, inode_of}
+use Rattle.area_reader.specs.Store.{Store, slot_read, root_of, space_of, length_of, extents_by, extents_read, place, logical_block}
+use Rattle.area_reader.specs.Format.{SpellsInode}
+use Rattle.area_reader.specs.Map.{WantsMemory}
+use Rattle.area_reader.proofs.Parts.{slot_as}
+use Rattle.area_reader.proofs.Shown.{own_none, extents_some}
+use Rattle.area_reader.proofs.Inodes.{is_entries}
+use Rattle.area_reader.proofs.Complete.{root_some}
+use Rattle.area_reader.proofs.Damages.{option_cases, is_some_at, none_read, no_entries}
 
 not_both : {A : Type 0} (x : A) (o : Option A) → o ≡ Some x → o ≡ None → ⊥
 not_both x o is none = cc

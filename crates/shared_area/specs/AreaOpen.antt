@@ -1,17 +1,17 @@
 -- What the opening of shared media answers.
 use Rattle.std.specs.Prelude.{◌≡◌, ◌⊎◌, ℕ, List, IsSome}
-use Rattle.change_plan.specs.tier_device.declared.media.Tier.{Tier}
-use Rattle.change_plan.specs.layout.declared.error.What.{What}
-use Rattle.change_plan.specs.layout.Places.{Sizes}
-use Rattle.change_plan.specs.batch_journal.declared.error.JournalError.{JournalError}
-use Rattle.change_plan.specs.batch_journal.declared.error.JournalError.TheVariants as journal
-use Rattle.change_plan.specs.batch_journal.Volume.{IsVolume}
-use Rattle.change_plan.specs.batch_journal.Damage.{NamesDamage, AwaitsReplay}
-use Rattle.change_plan.specs.area_image.declared.error.AreaError.{AreaError}
-use Rattle.change_plan.specs.area_image.declared.error.AreaError.TheVariants as errors
-use Rattle.change_plan.specs.area_image.Store.{store_of, marks}
-use Rattle.change_plan.specs.area_image.Format.{IsOpenable}
-use Rattle.change_plan.specs.area_image.Damage.{IsDamaged}
+use Rattle.tier_device.specs.declared.media.Tier.{Tier}
+use Rattle.layout.specs.declared.error.What.{What}
+use Rattle.layout.specs.Places.{Sizes}
+use Rattle.batch_journal.specs.declared.error.JournalError.{JournalError}
+use Rattle.batch_journal.specs.declared.error.JournalError.TheVariants as journal
+use Rattle.batch_journal.specs.Volume.{IsVolume}
+use Rattle.batch_journal.specs.Damage.{NamesDamage, AwaitsReplay}
+use Rattle.area_reader.specs.declared.error.AreaError.{AreaError}
+use Rattle.area_reader.specs.declared.error.AreaError.TheVariants as errors
+use Rattle.area_reader.specs.Store.{store_of, marks}
+use Rattle.area_reader.specs.Format.{IsOpenable}
+use Rattle.area_reader.specs.Damage.{IsDamaged}
 
 -- By no geometry do the media hold a journal and spell a graph within the units.
 abbrev pub SpellsNone : (Tier → List ℕ) → Type 0

@@ -1,34 +1,34 @@
 -- What a change of the graph leaves of the media.
 use Rattle.std.specs.Prelude.{◌≡◌, ◌≢◌, ◌≤◌, ◌⊎◌, ◌+◌, ℕ, List, Some, true, false, Result, OnOk, IfErr, IsErrOf}
 use Rattle.std.specs.FinMap as fin
-use Rattle.change_plan.specs.tier_device.declared.media.Media.{Ghosts}
-use Rattle.change_plan.specs.tier_device.declared.media.Tier.{Tier}
-use Rattle.change_plan.specs.tier_device.Media.{Rose}
-use Rattle.change_plan.specs.tier_device.AfterStop.{Left}
-use Rattle.record_validation.specs.file_graph.Units.{charge}
-use Rattle.change_plan.specs.graph_change.Bounds.{AreBounded}
-use Rattle.change_plan.specs.graph_change.Change.{Changes, change_at, changed_graph}
-use Rattle.change_plan.specs.graph_change.Tidy.{AreTidyChanges}
-use Rattle.change_plan.specs.layout.declared.marks.Marks.{Marks}
-use Rattle.change_plan.specs.layout.Marks.{fits_marks}
-use Rattle.change_plan.specs.layout.Places.{Sizes}
-use Rattle.change_plan.specs.batch_journal.View.{JournalView}
-use Rattle.change_plan.specs.batch_journal.Volume.{IsVolume}
-use Rattle.change_plan.specs.area_image.Store.{Store, disk, store_of, slot, place, graph, marks}
-use Rattle.change_plan.specs.area_image.Reads.{Loose}
-use Rattle.change_plan.specs.area_image.Format.{IsOpenable}
-use Rattle.change_plan.specs.area_commit.Value.{PoolsView}
-use Rattle.change_plan.specs.area_commit.StableState.{IsSettled, StaysStill}
-use Rattle.change_plan.specs.area_commit.declared.allocation.Allocation.{Allocation}
-use Rattle.change_plan.specs.area_commit.Allocations.{taken_data}
-use Rattle.change_plan.specs.area_commit.DataWrite.{RunsAreNormal, TakenInTurn, calls_for}
+use Rattle.tier_device.specs.declared.media.Media.{Ghosts}
+use Rattle.tier_device.specs.declared.media.Tier.{Tier}
+use Rattle.tier_device.specs.Media.{Rose}
+use Rattle.tier_device.specs.AfterStop.{Left}
+use Rattle.file_graph.specs.Units.{charge}
+use Rattle.graph_change.specs.Bounds.{AreBounded}
+use Rattle.graph_change.specs.Change.{Changes, change_at, changed_graph}
+use Rattle.graph_change.specs.Tidy.{AreTidyChanges}
+use Rattle.layout.specs.declared.marks.Marks.{Marks}
+use Rattle.layout.specs.Marks.{fits_marks}
+use Rattle.layout.specs.Places.{Sizes}
+use Rattle.batch_journal.specs.View.{JournalView}
+use Rattle.batch_journal.specs.Volume.{IsVolume}
+use Rattle.area_reader.specs.Store.{Store, disk, store_of, slot, place, graph, marks}
+use Rattle.area_reader.specs.Reads.{Loose}
+use Rattle.area_reader.specs.Format.{IsOpenable}
+use Rattle.area_commit.specs.Value.{PoolsView}
+use Rattle.area_commit.specs.StableState.{IsSettled, StaysStill}
+use Rattle.area_commit.specs.declared.allocation.Allocation.{Allocation}
+use Rattle.area_commit.specs.Allocations.{taken_data}
+use Rattle.area_commit.specs.DataWrite.{RunsAreNormal, TakenInTurn, calls_for}
 use Rattle.change_plan.specs.FileLayout.{LeavesFile, GetPlaces, LieInPlaces, KeepsPlaces}
 use Rattle.change_plan.specs.Next.{HasFewEntries}
 use Rattle.change_plan.specs.Part.{IsTouchedBy}
 use Rattle.change_plan.specs.BlockDemand.{images_for, images_left}
-use Rattle.change_plan.specs.area_image.declared.error.AreaError.{AreaError}
-use Rattle.change_plan.specs.area_image.Refusals.{IsChangeRefusal}
-use Rattle.change_plan.specs.area_image.declared.error.AreaError.TheVariants.{DeviceFault}
+use Rattle.area_reader.specs.declared.error.AreaError.{AreaError}
+use Rattle.area_reader.specs.Refusals.{IsChangeRefusal}
+use Rattle.area_reader.specs.declared.error.AreaError.TheVariants.{DeviceFault}
 
 -- The change keeps to the limits, and so does the graph after it, which keeps the units; one batch is enough for it; and the marks can be written.
 pub record CanApply (g : Sizes) (s : Store) (cs : Changes) (v : Marks) : Type 0 where

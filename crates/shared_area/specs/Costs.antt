@@ -2,10 +2,10 @@
 use Rattle.std.specs.Prelude.{◌≡◌, ℕ, List}
 use Rattle.std.specs.List.{sum_by}
 use Rattle.std.specs.FinMap as fin
-use Rattle.change_plan.specs.graph_change.Change.{Changes}
-use Rattle.change_plan.specs.layout.Places.{Sizes}
-use Rattle.change_plan.specs.area_image.Store.{Store, slot}
-use Rattle.change_plan.specs.area_image.Units.{slot_units}
+use Rattle.graph_change.specs.Change.{Changes}
+use Rattle.layout.specs.Places.{Sizes}
+use Rattle.area_reader.specs.Store.{Store, slot}
+use Rattle.area_reader.specs.Units.{slot_units}
 use Rattle.shared_area.specs.declared.inode_cost.ChangeCost.{ChangeCost}
 
 -- the units of some inodes, as their slots tell them

@@ -1,7 +1,7 @@
 -- Refusals that a device or a want of memory causes.
 use Rattle.std.specs.Prelude.{◌≡◌, ◌⊎◌}
-use Rattle.change_plan.specs.area_image.declared.error.AreaError.{AreaError}
-use Rattle.change_plan.specs.area_image.declared.error.AreaError.TheVariants as errors
+use Rattle.area_reader.specs.declared.error.AreaError.{AreaError}
+use Rattle.area_reader.specs.declared.error.AreaError.TheVariants as errors
 
 -- A device failed, or there was no memory.
 abbrev pub IsForced : AreaError → Type 0

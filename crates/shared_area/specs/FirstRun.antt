@@ -1,11 +1,11 @@
 -- The first run of a file's logical blocks in a tier.
 use Rattle.std.specs.Prelude.{◌≡◌, ◌⊎◌, ◌<◌, ◌≤◌, ◌+◌, ◌==◌, if◌then◌else◌, ℕ, Option, Some, None, IsSome}
-use Rattle.change_plan.specs.tier_device.declared.media.Tier.{Tier}
-use Rattle.change_plan.specs.layout.Places.{Sizes}
-use Rattle.change_plan.specs.layout.declared.slot.Slot.{Slot}
-use Rattle.change_plan.specs.layout.declared.slot.Slot.TheVariants as slots
-use Rattle.change_plan.specs.block_alloc.declared.runs.Run.{Run}
-use Rattle.change_plan.specs.area_image.Store.{Store, slot, place, root_of}
+use Rattle.tier_device.specs.declared.media.Tier.{Tier}
+use Rattle.layout.specs.Places.{Sizes}
+use Rattle.layout.specs.declared.slot.Slot.{Slot}
+use Rattle.layout.specs.declared.slot.Slot.TheVariants as slots
+use Rattle.block_alloc.specs.declared.runs.Run.{Run}
+use Rattle.area_reader.specs.Store.{Store, slot, place, root_of}
 
 -- The blocks of a run lie somewhere, and none before it does; it has as many as it may, or the block behind it lies nowhere.
 pub record IsFirstRun (lies : ℕ → Option ℕ) (most : ℕ) (run : Run) : Type 0 where

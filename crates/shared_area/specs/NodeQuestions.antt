@@ -1,10 +1,10 @@
 -- What comes of questions that the shared area is asked.
 use Rattle.std.specs.Prelude.{◌≡◌, false, Option, Some, None, Result, Err}
-use Rattle.change_plan.specs.tier_device.declared.media.Media.{Ghosts}
-use Rattle.change_plan.specs.batch_journal.View.{JournalView}
-use Rattle.change_plan.specs.area_image.declared.error.AreaError.{AreaError}
-use Rattle.change_plan.specs.area_image.Looks.{Looks, call_answer}
-use Rattle.area_image.proofs.Looked.{looks_none, looks_on}
+use Rattle.tier_device.specs.declared.media.Media.{Ghosts}
+use Rattle.batch_journal.specs.View.{JournalView}
+use Rattle.area_reader.specs.declared.error.AreaError.{AreaError}
+use Rattle.area_reader.specs.Looks.{Looks, call_answer}
+use Rattle.area_reader.proofs.Looked.{looks_none, looks_on}
 use Rattle.shared_area.specs.Parts.{IsNoDamage}
 
 -- how the last question ended

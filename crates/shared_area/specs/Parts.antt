@@ -1,17 +1,17 @@
 -- An inode of media that spell a graph.
 use Rattle.std.specs.Prelude.{◌≡◌, ◌↔◌, ℕ, true, false, Option, Some, None, IsSome}
-use Rattle.change_plan.specs.tier_device.declared.media.Tier.{Tier}
-use Rattle.change_plan.specs.layout.Places.{Sizes, is_inode}
+use Rattle.tier_device.specs.declared.media.Tier.{Tier}
+use Rattle.layout.specs.Places.{Sizes, is_inode}
 use Rattle.record_validation.specs.declared.node_counts.NodeCounts.{NodeCounts}
 use Rattle.record_validation.specs.declared.node_counts.NodeCounts.TheVariants as counts
-use Rattle.change_plan.specs.layout.declared.slot.Slot.{Slot}
-use Rattle.change_plan.specs.layout.declared.slot.Slot.TheVariants as slots
-use Rattle.change_plan.specs.layout.Slot.{fits_slot}
-use Rattle.change_plan.specs.area_image.declared.error.AreaError.{AreaError}
-use Rattle.change_plan.specs.area_image.declared.inode.InodeParts.{InodeParts}
-use Rattle.change_plan.specs.area_image.Store.{Store, slot_read, place}
-use Rattle.change_plan.specs.area_image.Checks.{HasFound}
-use Rattle.change_plan.specs.area_image.Damage.{OnDamage}
+use Rattle.layout.specs.declared.slot.Slot.{Slot}
+use Rattle.layout.specs.declared.slot.Slot.TheVariants as slots
+use Rattle.layout.specs.Slot.{fits_slot}
+use Rattle.area_reader.specs.declared.error.AreaError.{AreaError}
+use Rattle.area_reader.specs.declared.inode.InodeParts.{InodeParts}
+use Rattle.area_reader.specs.Store.{Store, slot_read, place}
+use Rattle.area_reader.specs.Checks.{HasFound}
+use Rattle.area_reader.specs.Damage.{OnDamage}
 
 -- A device failed, or there was no memory: the refusal is for no damage, nor for too few blocks or a run that is not mapped.
 abbrev pub IsNoDamage : AreaError → Type 0

@@ -1,14 +1,14 @@
 -- What a move of a run leaves of shared media, and when it is refused.
 use Rattle.std.specs.Prelude.{◌⊎◌, ◌≤◌, ◌<◌, ℕ, List, Result}
-use Rattle.change_plan.specs.tier_device.declared.media.Media.{Ghosts}
-use Rattle.change_plan.specs.tier_device.declared.media.Tier.{Tier}
-use Rattle.change_plan.specs.layout.Places.{Sizes}
-use Rattle.change_plan.specs.batch_journal.View.{JournalView}
-use Rattle.change_plan.specs.area_image.Store.{Store, store_of}
-use Rattle.change_plan.specs.area_image.Reads.{Loose}
+use Rattle.tier_device.specs.declared.media.Media.{Ghosts}
+use Rattle.tier_device.specs.declared.media.Tier.{Tier}
+use Rattle.layout.specs.Places.{Sizes}
+use Rattle.batch_journal.specs.View.{JournalView}
+use Rattle.area_reader.specs.Store.{Store, store_of}
+use Rattle.area_reader.specs.Reads.{Loose}
 use Rattle.relocation.specs.TierMove.{IsMoved}
-use Rattle.change_plan.specs.area_image.declared.error.AreaError.{AreaError}
-use Rattle.change_plan.specs.area_image.declared.error.AreaError.TheVariants.{DeviceFault}
+use Rattle.area_reader.specs.declared.error.AreaError.{AreaError}
+use Rattle.area_reader.specs.declared.error.AreaError.TheVariants.{DeviceFault}
 use Rattle.shared_area.specs.Ready.{HasFree, OpensAs}
 use Rattle.shared_area.specs.UnchangedMedia.{Stays, AnswersOrStays}
 

@@ -1,11 +1,11 @@
 -- What a call leaves of shared media at each of its moments, and how it stands to a device fault.
 use Rattle.std.specs.Prelude.{◌≡◌, ◌≢◌, ◌⊎◌, ◌≤◌, ◌+◌, ℕ, List, true, false, Result, Err, OnOk, IfErr, IsErrOf}
-use Rattle.change_plan.specs.tier_device.declared.media.Media.{Ghosts}
-use Rattle.change_plan.specs.tier_device.declared.media.Tier.{Tier}
-use Rattle.change_plan.specs.tier_device.Media.{Rose}
-use Rattle.change_plan.specs.tier_device.AfterStop.{Left}
-use Rattle.change_plan.specs.batch_journal.Course.{Unmoved}
-use Rattle.change_plan.specs.batch_journal.View.{JournalView}
+use Rattle.tier_device.specs.declared.media.Media.{Ghosts}
+use Rattle.tier_device.specs.declared.media.Tier.{Tier}
+use Rattle.tier_device.specs.Media.{Rose}
+use Rattle.tier_device.specs.AfterStop.{Left}
+use Rattle.batch_journal.specs.Course.{Unmoved}
+use Rattle.batch_journal.specs.View.{JournalView}
 
 -- The past stays. At each moment from the old one to the new one a stop leaves contents that open so.
 pub record Stays (Opens : (Tier → List ℕ) → Type 0) (before now : ℕ) (old new : ℕ → Tier → List ℕ → Type 0) : Type 0 where

@@ -1,16 +1,19 @@
 // Where the blocks of an inode lie.
 ghost use Rattle.std.specs.Prelude.{◌≡◌, ◌≤◌, None, IsSome, false, IfOk, IfErr, IfSome, IfNone};
-ghost use Rattle.change_plan.specs.tier_device.declared.media.Tier.{Tier};
-ghost use Rattle.change_plan.specs.area_image.Store.{disk};
-ghost use Rattle.change_plan.specs.area_image.Format.{IsOpenable};
-ghost use Rattle.change_plan.specs.area_image.Map.{place_by, WantsMemory};
-ghost use Rattle.change_plan.specs.area_image.Looks.{Looks};
-ghost use Rattle.change_plan.specs.area_image.declared.error.AreaError.TheVariants.{Memory};
+ghost use Rattle.tier_device.specs.declared.media.Tier.{Tier};
+ghost use Rattle.area_reader.specs.Store.{disk};
+ghost use Rattle.area_reader.specs.Format.{IsOpenable};
+ghost use Rattle.area_reader.specs.Map.{place_by, WantsMemory};
+ghost use Rattle.area_reader.specs.Looks.{Looks};
+ghost use Rattle.area_reader.specs.declared.error.AreaError.TheVariants.{Memory};
 ghost use Rattle.shared_area.specs.Parts.{IsNoDamage, IsTierOf, HasParts, FindsParts};
 
-use change_plan::{AreaError, InodeParts, Journal, Media, Tier, first_place, read_parts};
-use record_validation::{MAX_INODE, is_inode};
+use area_reader::{AreaError, InodeParts, first_place, read_parts};
+use batch_journal::Journal;
+use file_graph::is_inode;
+use posix_calls::MAX_INODE;
 use std::alloc::Global;
+use tier_device::{Media, Tier};
 
 // Slot and extents of an inode.
 fn sound_parts<M: Media>(

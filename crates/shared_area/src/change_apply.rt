@@ -1,17 +1,17 @@
 // A change of the graph is made on the shared media.
 ghost use Rattle.std.specs.Prelude.{◌≡◌, ◌≢◌, ◌≤◌, ◌<◌, ◌+◌, ◌⊎◌, ℕ, List, [], true, false, length, Err, OnOk, OnErr, IfErr, IfOk, IsErrOf};
-ghost use Rattle.record_validation.specs.file_graph.Units.{charge};
+ghost use Rattle.file_graph.specs.Units.{charge};
 ghost use Rattle.std.specs.FinMap as fin;
-ghost use Rattle.change_plan.specs.graph_change.Bounds.{AreBounded};
-ghost use Rattle.change_plan.specs.graph_change.Change.{changed_graph};
-ghost use Rattle.change_plan.specs.graph_change.Tidy.{AreTidyChanges};
-ghost use Rattle.change_plan.specs.graph_change.View.{changes_of};
-ghost use Rattle.change_plan.specs.tier_device.Media.{Rose};
-ghost use Rattle.change_plan.specs.layout.Marks.{fits_marks};
-ghost use Rattle.change_plan.specs.area_image.Store.{disk, graph};
-ghost use Rattle.change_plan.specs.area_commit.Value.{PoolsView, free_data, AreInOrder};
-ghost use Rattle.change_plan.specs.area_commit.Allocations.{WereTaken, CanRelease, SameFree, taken_data};
-ghost use Rattle.change_plan.specs.area_commit.StableState.{IsSettled, StaysStill};
+ghost use Rattle.graph_change.specs.Bounds.{AreBounded};
+ghost use Rattle.graph_change.specs.Change.{changed_graph};
+ghost use Rattle.graph_change.specs.Tidy.{AreTidyChanges};
+ghost use Rattle.graph_change.specs.View.{changes_of};
+ghost use Rattle.tier_device.specs.Media.{Rose};
+ghost use Rattle.layout.specs.Marks.{fits_marks};
+ghost use Rattle.area_reader.specs.Store.{disk, graph};
+ghost use Rattle.area_commit.specs.Value.{PoolsView, free_data, AreInOrder};
+ghost use Rattle.area_commit.specs.Allocations.{WereTaken, CanRelease, SameFree, taken_data};
+ghost use Rattle.area_commit.specs.StableState.{IsSettled, StaysStill};
 ghost use Rattle.shared_area.specs.ChangeApply.{CanApply, IsAppliedStore, Applies, EndsChange, MakesFewCalls};
 ghost use Rattle.shared_area.specs.Costs.{IsCostOf, units_in};
 ghost use Rattle.shared_area.specs.Errors.{IsForced};
@@ -20,17 +20,21 @@ ghost use Rattle.change_plan.specs.FileLayout.{AreFirstFree};
 ghost use Rattle.change_plan.specs.Next.{HasFewEntries};
 ghost use Rattle.change_plan.specs.BlockDemand.{images_for, WantsBlocks, AreWritten};
 ghost use Rattle.change_plan.specs.ReadSlots.{HaveSlots};
-ghost use Rattle.change_plan.specs.area_image.declared.error.AreaError.TheVariants.{DeviceFault, NoBlock};
-ghost use Rattle.change_plan.specs.area_image.Refusals.{IsChangeRefusal};
+ghost use Rattle.area_reader.specs.declared.error.AreaError.TheVariants.{DeviceFault, NoBlock};
+ghost use Rattle.area_reader.specs.Refusals.{IsChangeRefusal};
 
 use crate::inode_cost::{ChangeCost, units_of_slots};
 use crate::plan_write::write_counted;
+use area_commit::{Allocation, FreedBlocks, NodeImages, Pools, nodes_never_run_out};
+use area_reader::AreaError;
+use batch_journal::Journal;
 use change_plan::{
-    Allocation, AreaError, BLOCK, FreedBlocks, GraphChange, Journal, Marks, Media, NodeImages,
-    PartialPlan, Pools, ReadChange, Tier, count_blocks, nodes_never_run_out, plan_changes,
-    read_slots, wanted_blocks_are_written,
+    PartialPlan, ReadChange, count_blocks, plan_changes, read_slots, wanted_blocks_are_written,
 };
+use graph_change::GraphChange;
+use layout::{BLOCK, Marks};
 use std::alloc::{AllocError, Global};
+use tier_device::{Media, Tier};
 
 // Room for the bytes of so many data blocks.
 fn room_for(alloc: Global, blocks: usize) -> Result<Vec<u8>, AllocError>

@@ -1,14 +1,16 @@
 // The number of the last digest that wrote an inode.
 ghost use Rattle.std.specs.Prelude.{◌≡◌, ◌⊎◌, ℕ, Option, None, false, IfOk, IfErr};
-ghost use Rattle.change_plan.specs.area_image.Store.{disk, root_of, slot, touch_of};
-ghost use Rattle.change_plan.specs.area_image.Format.{IsOpenable};
-ghost use Rattle.change_plan.specs.area_image.Looks.{Looks};
-ghost use Rattle.change_plan.specs.area_image.declared.error.AreaError.TheVariants.{DeviceFault};
+ghost use Rattle.area_reader.specs.Store.{disk, root_of, slot, touch_of};
+ghost use Rattle.area_reader.specs.Format.{IsOpenable};
+ghost use Rattle.area_reader.specs.Looks.{Looks};
+ghost use Rattle.area_reader.specs.declared.error.AreaError.TheVariants.{DeviceFault};
 ghost use Rattle.shared_area.specs.FirstRun.{file_lies, file_place, touch_in};
 
-use area_image::root_of;
-use change_plan::{AreaError, Journal, Media, Slot, Tier, read_slot};
-use record_validation::is_inode;
+use area_reader::{AreaError, read_slot, root_of};
+use batch_journal::Journal;
+use file_graph::is_inode;
+use layout::Slot;
+use tier_device::{Media, Tier};
 
 // The touch number that a slot tells.
 fn touch_of(slot: &Slot) -> u64

@@ -1,25 +1,25 @@
 // The entries of a directory.
 ghost use Rattle.std.specs.Prelude.{◌≡◌, ◌≤◌, ◌<◌, ◌+◌, ◌*◌, ℕ, min, length, true, false, OnOk, IfOk, IfErr};
 ghost use Rattle.std.specs.FinMap as fin;
-ghost use Rattle.record_validation.specs.posix_calls.declared.limits.TheConstants.{MAX_ENTRIES};
-ghost use Rattle.change_plan.specs.layout.declared.directory.TheConstants.{MAX_IN_BLOCK};
-ghost use Rattle.change_plan.specs.layout.Directory.{AreEntries, block_entries, fits_entry};
-ghost use Rattle.change_plan.specs.layout.LentEntry.{owned_entry};
-ghost use Rattle.change_plan.specs.tree_blocks.Inode.{Entry, AreDirectoryBlocks, entry_at, named_entries, blocks_for};
-ghost use Rattle.change_plan.specs.area_image.Store.{disk, logical_block};
-ghost use Rattle.change_plan.specs.area_image.Checks.{HasFound, IsOnce};
-ghost use Rattle.change_plan.specs.area_image.Looks.{Looks};
-ghost use Rattle.change_plan.specs.area_image.declared.error.AreaError.TheVariants.{DeviceFault, Memory};
+ghost use Rattle.posix_calls.specs.declared.limits.TheConstants.{MAX_ENTRIES};
+ghost use Rattle.layout.specs.declared.directory.TheConstants.{MAX_IN_BLOCK};
+ghost use Rattle.layout.specs.Directory.{AreEntries, block_entries, fits_entry};
+ghost use Rattle.layout.specs.LentEntry.{owned_entry};
+ghost use Rattle.tree_blocks.specs.Inode.{Entry, AreDirectoryBlocks, entry_at, named_entries, blocks_for};
+ghost use Rattle.area_reader.specs.Store.{disk, logical_block};
+ghost use Rattle.area_reader.specs.Checks.{HasFound, IsOnce};
+ghost use Rattle.area_reader.specs.Looks.{Looks};
+ghost use Rattle.area_reader.specs.declared.error.AreaError.TheVariants.{DeviceFault, Memory};
 ghost use Rattle.shared_area.specs.DirectoryReads.{AreNext};
 ghost use Rattle.shared_area.specs.Parts.{IsNoDamage};
 
 use crate::file_read::read_within;
-use area_image::MAX_IN_BLOCK;
-use change_plan::{
-    AreaError, BLOCK, DirEntries, EntryRef, InodeExtents, Journal, Media, blank_block,
-};
-use record_validation::{Child, NameMap};
+use area_reader::{AreaError, InodeExtents, blank_block};
+use batch_journal::Journal;
+use file_graph::{Child, NameMap};
+use layout::{BLOCK, DirEntries, EntryRef, MAX_IN_BLOCK};
 use std::alloc::{AllocError, Global};
+use tier_device::Media;
 
 // Puts one more entry.
 fn put_entry(

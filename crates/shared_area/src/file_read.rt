@@ -1,24 +1,24 @@
 // Bytes of a file.
 ghost use Rattle.std.specs.Prelude.{◌≡◌, ◌≤◌, ◌<◌, ◌+◌, ◌-◌, ◌*◌, ◌%◌, ◌^◌, ℕ, min, length, replicate, false, OnOk, OnErr, IfOk, IfErr};
-ghost use Rattle.change_plan.specs.batch_journal.Images.{slice};
-ghost use Rattle.change_plan.specs.layout.declared.places.TheConstants.{BLOCK};
-ghost use Rattle.change_plan.specs.tree_blocks.Inode.{bytes_of_blocks};
-ghost use Rattle.change_plan.specs.area_image.Store.{disk, logical_block, graph};
-ghost use Rattle.change_plan.specs.area_image.Reads.{IsRoom};
-ghost use Rattle.change_plan.specs.area_image.Format.{IsOpenable};
-ghost use Rattle.change_plan.specs.area_image.Checks.{HasFound, IsOnce};
-ghost use Rattle.change_plan.specs.area_image.Looks.{Looks};
-ghost use Rattle.change_plan.specs.area_image.Map.{WantsMemory};
-ghost use Rattle.change_plan.specs.area_image.declared.error.AreaError.TheVariants.{DeviceFault, Memory};
+ghost use Rattle.batch_journal.specs.Images.{slice};
+ghost use Rattle.layout.specs.declared.places.TheConstants.{BLOCK};
+ghost use Rattle.tree_blocks.specs.Inode.{bytes_of_blocks};
+ghost use Rattle.area_reader.specs.Store.{disk, logical_block, graph};
+ghost use Rattle.area_reader.specs.Reads.{IsRoom};
+ghost use Rattle.area_reader.specs.Format.{IsOpenable};
+ghost use Rattle.area_reader.specs.Checks.{HasFound, IsOnce};
+ghost use Rattle.area_reader.specs.Looks.{Looks};
+ghost use Rattle.area_reader.specs.Map.{WantsMemory};
+ghost use Rattle.area_reader.specs.declared.error.AreaError.TheVariants.{DeviceFault, Memory};
 ghost use Rattle.shared_area.specs.Parts.{IsNoDamage, HasParts};
 ghost use Rattle.shared_area.specs.FileReads.{ShowsBytes, IsReadUpTo, IsReadFrom, bytes_of_inode};
 
 use crate::block_search::find_parts;
-use change_plan::{
-    AreaError, BLOCK, InodeExtents, InodeParts, Journal, Media, Slot, Tier, block_number,
-    first_place,
-};
+use area_reader::{AreaError, InodeExtents, InodeParts, block_number, first_place};
+use batch_journal::Journal;
+use layout::{BLOCK, Slot};
 use std::alloc::Global;
+use tier_device::{Media, Tier};
 
 // A part of a block that is of a pool or for data.
 fn read_part<M: Media>(

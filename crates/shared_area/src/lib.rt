@@ -1,6 +1,6 @@
 //! The shared area: a graph of inodes with its charge and marks, kept in the blocks of shared media.
 //!
-//! Contracts speak of the medium alone, through `store_of`, `graph` and `marks` of `area_image`.
+//! Contracts speak of the medium alone, through `store_of`, `graph` and `marks` of `area_reader`.
 //!
 //! A change of the graph counts the data blocks that it wants, takes them, and is planned inode by inode (`change_plan`); the plan of all is written by `area_commit`,
 //! in one batch with the marks: at each moment a stop leaves the graph and the marks from before, or those after. The slot of each inode of the change is read once, before all else.
@@ -27,12 +27,3 @@ pub use area::Shared;
 pub use change_apply::apply;
 pub use inode_cost::{ChangeCost, charge_after, charge_follows_the_change, units_of_slots};
 pub use plan_write::{reserve_blocks, write_counted};
-
-// Passed on to the crates above, which so need not list those below.
-pub use change_plan::{
-    AreaError, BLOCK, CLIENTS, DirBlock, DirEntries, DirEntry, Extent, ExtentBlock, Geometry,
-    MARKS_BLOCK, Mark, Marks, Media, Run, SLOT_SIZE, Slot, Super, Tier, What,
-};
-pub use record_validation::{
-    MAX_INODE, NodeCounts, NodeSummary, Nodes, RecordCheck, Verdict, is_unknown, take_effects,
-};

@@ -1,17 +1,21 @@
 // What is known of media once they are opened, and why they were not.
 ghost use Rattle.std.specs.Prelude.{◌≡◌, ◌≢◌, Some, IsSome, OnOk, IfOk, IfErr};
-ghost use Rattle.record_validation.specs.file_graph.Units.{charge};
-ghost use Rattle.change_plan.specs.batch_journal.declared.error.JournalError.TheVariants.{BatchTooLarge};
-ghost use Rattle.change_plan.specs.area_image.Store.{disk, graph, marks as marks_of};
-ghost use Rattle.change_plan.specs.area_image.Format.{IsOpenable};
-ghost use Rattle.change_plan.specs.area_image.Damage.{OnDamage, IsDamaged};
-ghost use Rattle.change_plan.specs.area_image.Looks.{Looks};
-ghost use Rattle.change_plan.specs.area_image.declared.error.AreaError.TheVariants.{Memory};
-ghost use Rattle.change_plan.specs.area_commit.Value.{HasRanges, AreFree};
+ghost use Rattle.file_graph.specs.Units.{charge};
+ghost use Rattle.batch_journal.specs.declared.error.JournalError.TheVariants.{BatchTooLarge};
+ghost use Rattle.area_reader.specs.Store.{disk, graph, marks as marks_of};
+ghost use Rattle.area_reader.specs.Format.{IsOpenable};
+ghost use Rattle.area_reader.specs.Damage.{OnDamage, IsDamaged};
+ghost use Rattle.area_reader.specs.Looks.{Looks};
+ghost use Rattle.area_reader.specs.declared.error.AreaError.TheVariants.{Memory};
+ghost use Rattle.area_commit.specs.Value.{HasRanges, AreFree};
 ghost use Rattle.shared_area.specs.AreaOpen.{IsJournalFault};
 
-use change_plan::{AreaError, Journal, JournalError, Marks, Media, Pools, open_area};
+use area_commit::Pools;
+use area_reader::{AreaError, open_area};
+use batch_journal::{Journal, JournalError};
+use layout::Marks;
 use std::alloc::Global;
+use tier_device::Media;
 
 /// What is kept in memory of opened media.
 #[derive(Drop)]

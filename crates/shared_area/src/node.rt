@@ -1,18 +1,21 @@
 // What stands at an inode.
 ghost use Rattle.std.specs.Prelude.{◌≡◌, false, IfOk, IfErr};
-ghost use Rattle.record_validation.specs.call_effects.NodeView.{view_at};
-ghost use Rattle.change_plan.specs.area_image.Store.{disk, graph};
-ghost use Rattle.change_plan.specs.area_image.Format.{IsOpenable};
-ghost use Rattle.change_plan.specs.area_image.Looks.{Looks};
-ghost use Rattle.change_plan.specs.area_image.Map.{WantsMemory};
-ghost use Rattle.change_plan.specs.area_image.declared.error.AreaError.TheVariants.{Memory};
+ghost use Rattle.call_effects.specs.NodeView.{view_at};
+ghost use Rattle.area_reader.specs.Store.{disk, graph};
+ghost use Rattle.area_reader.specs.Format.{IsOpenable};
+ghost use Rattle.area_reader.specs.Looks.{Looks};
+ghost use Rattle.area_reader.specs.Map.{WantsMemory};
+ghost use Rattle.area_reader.specs.declared.error.AreaError.TheVariants.{Memory};
 ghost use Rattle.shared_area.specs.Parts.{IsNoDamage, HasParts};
 
 use crate::block_search::find_parts;
 use crate::directory_read::{FoundDirectory, read_entries};
-use change_plan::{AreaError, InodeParts, Journal, Media, Slot};
+use area_reader::{AreaError, InodeParts};
+use batch_journal::Journal;
+use layout::Slot;
 use record_validation::NodeSummary;
 use std::alloc::Global;
+use tier_device::Media;
 
 // The node that has these parts, if one does.
 fn node_of<M: Media>(

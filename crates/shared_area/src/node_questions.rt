@@ -1,14 +1,15 @@
 //! The shared area is asked for its nodes.
 
 use crate::area::Shared;
-use change_plan::{AreaError, Media};
+use area_reader::AreaError;
 use record_validation::{NodeSummary, Nodes};
 use std::alloc::Global;
+use tier_device::Media;
 
 impl<M: Media> Nodes for Shared<M> {
     type Error = AreaError;
 
-    ghost use Rattle.change_plan.specs.area_image.Store.{disk, graph as graph_of};
+    ghost use Rattle.area_reader.specs.Store.{disk, graph as graph_of};
     ghost use Rattle.shared_area.specs.NodeQuestions.{HasAsked, nothing_asked, asked_on};
 
     ghost graph = { λ a. graph_of a.geometry (disk M.Media a) };

@@ -1,14 +1,14 @@
 // The whole plan of a change is carried out.
 ghost use Rattle.std.specs.Prelude.{◌≡◌, ◌≤◌, false, Some, length, OnOk, OnErr, IfOk, IfErr};
 ghost use Rattle.std.specs.FinMap as fin;
-ghost use Rattle.change_plan.specs.tier_device.declared.media.Tier.{Tier};
-ghost use Rattle.change_plan.specs.tier_device.AfterStop.{AtRest};
-ghost use Rattle.change_plan.specs.graph_change.View.{changes_of};
-ghost use Rattle.change_plan.specs.area_image.Store.{disk};
-ghost use Rattle.change_plan.specs.area_image.Format.{IsOpenable};
-ghost use Rattle.change_plan.specs.area_commit.Value.{PoolsView, data_pool, AreInOrder};
-ghost use Rattle.change_plan.specs.area_commit.Allocations.{WereTaken, SameFree, taken_data};
-ghost use Rattle.change_plan.specs.area_commit.Plan.{lost_in};
+ghost use Rattle.tier_device.specs.declared.media.Tier.{Tier};
+ghost use Rattle.tier_device.specs.AfterStop.{AtRest};
+ghost use Rattle.graph_change.specs.View.{changes_of};
+ghost use Rattle.area_reader.specs.Store.{disk};
+ghost use Rattle.area_reader.specs.Format.{IsOpenable};
+ghost use Rattle.area_commit.specs.Value.{PoolsView, data_pool, AreInOrder};
+ghost use Rattle.area_commit.specs.Allocations.{WereTaken, SameFree, taken_data};
+ghost use Rattle.area_commit.specs.Plan.{lost_in};
 ghost use Rattle.change_plan.specs.PlanAddition.{HasTaken};
 ghost use Rattle.shared_area.specs.ChangeApply.{CanApply, EndsChange};
 ghost use Rattle.shared_area.specs.Costs.{units_in};
@@ -19,11 +19,16 @@ ghost use Rattle.change_plan.specs.ReadSlots.{HaveSlots};
 
 use crate::apply_laws::{carried_out_change_has_its_slots, carried_out_change_is_made};
 use crate::inode_cost::units_of_slots;
+use area_commit::{Pools, carry_out};
+use area_reader::AreaError;
+use batch_journal::Journal;
 use change_plan::{
-    AreaError, GraphChange, Journal, Marks, Media, PartialPlan, Pools, carry_out,
-    whole_change_can_be_carried_out, whole_change_lies_in_its_places, whole_plan,
+    PartialPlan, whole_change_can_be_carried_out, whole_change_lies_in_its_places, whole_plan,
 };
+use graph_change::GraphChange;
+use layout::Marks;
 use std::alloc::Global;
+use tier_device::Media;
 
 // Carries out the whole plan of a change, once the pools have room for what is given up.
 fn write_change<M: Media>(

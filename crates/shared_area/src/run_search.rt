@@ -1,16 +1,20 @@
 // The first run of a file's blocks in a tier.
 ghost use Rattle.std.specs.Prelude.{◌≡◌, ◌≢◌, ◌⊎◌, ◌<◌, ◌≤◌, ◌+◌, ◌^◌, ℕ, None, IsSome, IsTrue, false, IfOk, IfErr, IfSome, IfNone};
-ghost use Rattle.change_plan.specs.area_image.Store.{disk, length_of};
-ghost use Rattle.change_plan.specs.area_image.Format.{IsOpenable};
-ghost use Rattle.change_plan.specs.area_image.Map.{place_by, IsOnceAt, WantsMemory};
-ghost use Rattle.change_plan.specs.area_image.Looks.{Looks};
-ghost use Rattle.change_plan.specs.area_image.declared.error.AreaError.TheVariants.{Memory};
+ghost use Rattle.area_reader.specs.Store.{disk, length_of};
+ghost use Rattle.area_reader.specs.Format.{IsOpenable};
+ghost use Rattle.area_reader.specs.Map.{place_by, IsOnceAt, WantsMemory};
+ghost use Rattle.area_reader.specs.Looks.{Looks};
+ghost use Rattle.area_reader.specs.declared.error.AreaError.TheVariants.{Memory};
 ghost use Rattle.shared_area.specs.Parts.{IsNoDamage};
 ghost use Rattle.shared_area.specs.FirstRun.{FindsRun, file_lies};
 
 use crate::block_search::find_parts;
-use change_plan::{AreaError, InodeParts, Journal, Media, Run, Slot, Tier, first_place, length_of};
+use area_reader::{AreaError, InodeParts, first_place, length_of};
+use batch_journal::Journal;
+use block_alloc::Run;
+use layout::Slot;
 use std::alloc::Global;
+use tier_device::{Media, Tier};
 
 fn is_same(one: Tier, other: Tier) -> bool
     ensures same { IsTrue result → one ≡ other }

@@ -1,15 +1,19 @@
 // What stands at an inode by its numbers alone.
 ghost use Rattle.std.specs.Prelude.{◌≡◌, false, IfOk, IfErr, option_map};
-ghost use Rattle.record_validation.specs.call_effects.NodeView.{view_at};
+ghost use Rattle.call_effects.specs.NodeView.{view_at};
 ghost use Rattle.record_validation.specs.Counts.{counts_of};
-ghost use Rattle.change_plan.specs.area_image.Store.{disk, graph};
-ghost use Rattle.change_plan.specs.area_image.Format.{IsOpenable};
-ghost use Rattle.change_plan.specs.area_image.Looks.{Looks};
-ghost use Rattle.change_plan.specs.area_image.declared.error.AreaError.TheVariants.{DeviceFault};
+ghost use Rattle.area_reader.specs.Store.{disk, graph};
+ghost use Rattle.area_reader.specs.Format.{IsOpenable};
+ghost use Rattle.area_reader.specs.Looks.{Looks};
+ghost use Rattle.area_reader.specs.declared.error.AreaError.TheVariants.{DeviceFault};
 ghost use Rattle.shared_area.specs.Parts.{slot_counts};
 
-use change_plan::{AreaError, Journal, Media, Slot, read_slot};
-use record_validation::{NodeCounts, is_inode};
+use area_reader::{AreaError, read_slot};
+use batch_journal::Journal;
+use file_graph::is_inode;
+use layout::Slot;
+use record_validation::NodeCounts;
+use tier_device::Media;
 
 // The numbers that a slot has.
 fn slot_counts(slot: &Slot) -> Option<NodeCounts>

@@ -1,6 +1,8 @@
 // What is damaged, in words.
+use area_recovery::RecoveryError;
+use layout::What;
 use script::Text;
-use world_files::{RecoveryError, What, structure_name};
+use world_files::structure_name;
 
 /// Prints why nothing is recovered. Media in memory whose lengths are those of their geometry fail for want of memory alone.
 pub fn describe_refusal(error: RecoveryError, text: &mut Text) {

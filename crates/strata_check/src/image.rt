@@ -1,10 +1,13 @@
 // The bytes of a world's media, which lie in an image one behind the other.
 ghost use Rattle.std.specs.Prelude.{IfOk};
-ghost use Rattle.script.specs.tier_device.Memory.{IsAtRest};
+ghost use Rattle.tier_device.specs.Memory.{IsAtRest};
 
-use script::{MemMedia, REGION_SIZE};
+use layout::Geometry;
+use recovery::REGIONS;
 use std::alloc::{AllocError, Global};
-use world_files::{Geometry, REGIONS, tier_lens};
+use tier_device::MemMedia;
+use update_log::REGION_SIZE;
+use world_files::tier_lens;
 
 /// The bytes of the tiers of the shared medium, and those of the regions, of client after client, the one of even generations first.
 #[derive(Clone, Copy)]

@@ -1,6 +1,6 @@
 // The words of `strata_check`.
 use clap::{Arg, ArgAction, Command};
-use script::WordsError;
+use command_line::WordsError;
 use std::alloc::{AllocError, Global};
 
 /// What its lines mean, as `strata_check --help` says it.

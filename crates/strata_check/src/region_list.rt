@@ -1,8 +1,9 @@
 // What the clients' regions hold, as they stand.
 use crate::image::cut_front;
 use crate::region::{Owner, describe_region};
-use script::{REGION_SIZE, Text};
+use script::Text;
 use std::alloc::Global;
+use update_log::REGION_SIZE;
 
 /// Prints each region of client after client, the one of even generations first.
 pub fn describe_regions(alloc: Global, bytes: &[u8], text: &mut Text) {

@@ -1,9 +1,15 @@
 // The tree of the world that is recovered.
 use crate::damage::describe_refusal;
 use crate::tree_place::Place;
-use script::{MemMedia, Text, Tier};
+use area_recovery::RecoveryError;
+use interleavings::World;
+use layout::BLOCK;
+use record_validation::NodeSummary;
+use recovery::recover;
+use script::Text;
 use std::alloc::Global;
-use world_files::{BLOCK, NodeSummary, RecoveryError, World, read_parts, recover};
+use tier_device::{MemMedia, Tier};
+use world_files::read_parts;
 
 /// Recovers a copy of an image, whose length is that of its geometry, and prints its tree, or why it is not recovered. Answers whether it is.
 pub fn describe_recovery(alloc: Global, image: &[u8], text: &mut Text) -> bool {

@@ -1,5 +1,6 @@
 // A place in the tree: a path, and the inode to which it leads.
-use script::{ROOT, Text};
+use posix_calls::ROOT;
+use script::Text;
 use std::alloc::Global;
 
 /// A path as scripts write it, without the `/` of the root, and the inode to which it leads.

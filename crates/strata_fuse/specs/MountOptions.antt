@@ -1,7 +1,7 @@
 -- What the words of `strata_fuse` ask for.
 use Rattle.std.specs.Prelude.{◌≡◌, ◌⊎◌, List, ◌∷◌, Some, None, codes, unwrap_or}
-use Rattle.script.specs.command_line.Options.{App, IsNoNumber, Row, number_in, option_of, program_with, text_in}
-use Rattle.script.specs.command_line.declared.option_table.OptionValue.TheVariants.{Number32, Text}
+use Rattle.command_line.specs.Options.{App, IsNoNumber, Row, number_in, option_of, program_with, text_in}
+use Rattle.command_line.specs.declared.option_table.OptionValue.TheVariants.{Number32, Text}
 use Rattle.strata_fuse.specs.declared.options.Options.{Options}
 use Rattle.world_files.specs.SizeOptions.{HasBadSize, size_options, sizes_in}
 

@@ -1,9 +1,14 @@
 // A world answers the calls of one client, as the tree of a mount.
-use call_driver::{CallResult, Event, Events, Outcome, clear_client, digest_all, serve_call};
-use fuse_server::{Bytes, Call, Errno, MAX_INODE, Path, ROOT, Reply, Tree, Usage};
-use script::Tier;
+use call_driver::{CallResult, Events, clear_client, digest_all, serve_call};
+use event_steps::{Event, Outcome, Refusal};
+use fuse_server::{Tree, Usage};
+use host_media::FileMedia;
+use interleavings::World;
+use kernel_fs::KernelError;
+use posix_calls::{Bytes, Call, Errno, MAX_INODE, Path, ROOT, Reply};
+use record_validation::NodeSummary;
 use std::alloc::Global;
-use world_files::{FileMedia, KernelError, NodeSummary, Refusal, World};
+use tier_device::Tier;
 
 /// The most records of the client that may wait for their digest between two requests.
 const RECORDS: usize = 128;

@@ -1,9 +1,9 @@
 // The words of `strata_fuse`.
 ghost use Rattle.std.specs.Prelude.{IfErr, IfOk};
-ghost use Rattle.script.specs.command_line.Options.{Asks, IsValue, rows};
+ghost use Rattle.command_line.specs.Options.{Asks, IsValue, rows};
 ghost use Rattle.strata_fuse.specs.MountOptions.{AreMountOptions, HasBadValue, mount};
 
-use script::{OptionMatches, OptionValue, Program, ProgramOption, WordsError, read_words};
+use command_line::{OptionMatches, OptionValue, Program, ProgramOption, WordsError, read_words};
 use std::alloc::Global;
 use world_files::{BLOCK_OPTION, FAST_OPTION, SLOW_OPTION, UNITS_OPTION, WorldSizes, sizes_in};
 

@@ -1,9 +1,10 @@
 //! Answers a script of file system calls, read from standard input line by line, over a running system. `strata_sh --help` teaches the script's language.
 #![tactic(auto)]
 
+use script::run_program;
 use std::io::{BufReader, BufWriter};
 use std::process::ExitCode;
-use workload_cli::{run_program, run_sh};
+use workload_cli::run_sh;
 
 fn main(rt: HostRuntime) -> ExitCode {
     let alloc = rt.alloc();

@@ -2,7 +2,7 @@
 use Rattle.std.proofs.Common.{◌≡◌, ◌<◌, ℕ, List, Option, length, refl, inl, inr, ⊎_elim, subst, slice_index_or, slice_set}
 use Rattle.std.proofs.lemmas.Option.{slice_get_read}
 use Rattle.handoff.specs.Ends.{EndView}
-use Rattle.libfs.specs.tier_device.declared.media.Media.{Ghosts}
+use Rattle.tier_device.specs.declared.media.Media.{Ghosts}
 use Rattle.libfs.specs.SealedRegion.{SealedRegionView}
 use Rattle.libfs.specs.View.{ClientView}
 use Rattle.strata_threads.specs.RegionHandover.{HasComeBack, HasReceived, HasSent, HasSentAt}

@@ -1,12 +1,12 @@
 -- What a client keeps while it waits, and how its call is answered.
 use Rattle.std.specs.Prelude.{◌≡◌, ◌⊎◌, ℕ, true, Some}
 use Rattle.atomic_table.specs.Seated.{TableId}
-use Rattle.libfs.specs.tier_device.declared.media.Media.{Ghosts}
-use Rattle.libfs.specs.posix_calls.declared.call.Call.{Call}
-use Rattle.libfs.specs.posix_calls.declared.call.Reply.{Reply}
-use Rattle.libfs.specs.posix_calls.declared.call.Reply.TheVariants as replies
-use Rattle.libfs.specs.posix_calls.declared.errno.Errno.TheVariants.{IoError}
-use Rattle.libfs.specs.lease_manager.Passes.{client_of}
+use Rattle.tier_device.specs.declared.media.Media.{Ghosts}
+use Rattle.posix_calls.specs.declared.call.Call.{Call}
+use Rattle.posix_calls.specs.declared.call.Reply.{Reply}
+use Rattle.posix_calls.specs.declared.call.Reply.TheVariants as replies
+use Rattle.posix_calls.specs.declared.errno.Errno.TheVariants.{IoError}
+use Rattle.lease_manager.specs.Passes.{client_of}
 use Rattle.libfs.specs.CallStart.{HasStarted, IsOutOfMemory}
 use Rattle.libfs.specs.CallStep.{HasReplied, HasFailed}
 use Rattle.libfs.specs.ClientHoldings.{outcome_for}

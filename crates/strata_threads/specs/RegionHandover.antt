@@ -2,9 +2,9 @@
 use Rattle.std.specs.Prelude.{◌≡◌, ◌⊎◌, ◌-◌, ◌≤◌, ℕ, List, Option, None, Some, length, slice_get, slice_set}
 use Rattle.handoff.specs.Ends.{EndView}
 use Rattle.handoff.specs.Line.{EndsLine, HasPut, HasTaken}
-use Rattle.libfs.specs.tier_device.declared.media.Media.{Ghosts}
-use Rattle.libfs.specs.client_log.Calls.{IsOnlyRead}
-use Rattle.libfs.specs.client_log.Steps.{CanBeSealed}
+use Rattle.tier_device.specs.declared.media.Media.{Ghosts}
+use Rattle.client_log.specs.Calls.{IsOnlyRead}
+use Rattle.client_log.specs.Steps.{CanBeSealed}
 use Rattle.libfs.specs.RegionSeal.{HasSealed, HasTakenBack, MayTakeBack}
 use Rattle.libfs.specs.SealedRegion.{SealedRegionView}
 use Rattle.libfs.specs.View.{ClientView}

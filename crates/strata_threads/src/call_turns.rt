@@ -1,7 +1,7 @@
 //! A call of one client, from its start to its answer.
 ghost use Rattle.std.specs.Prelude.{◌≡◌, ◌≢◌, ◌<◌, true, false, IfErr, IfOk, IfSome, OnErr, Result, None};
-ghost use Rattle.libfs.specs.client_view.client_plan.declared.need.Need.{Need};
-ghost use Rattle.libfs.specs.posix_calls.declared.call.Reply.{Reply};
+ghost use Rattle.client_plan.specs.declared.need.Need.{Need};
+ghost use Rattle.posix_calls.specs.declared.call.Reply.{Reply};
 ghost use Rattle.libfs.specs.View.{is_pending};
 ghost use Rattle.libfs.specs.declared.now.Now.TheVariants as now;
 ghost use Rattle.libfs.specs.declared.denial.Denied.{Denied};
@@ -16,8 +16,11 @@ use crate::gate_point::GatePoint;
 use crate::shared_kernel::SharedKernel;
 use crate::thread_client::ThreadClient;
 use crate::waited::Waited;
-use libfs::{Call, Client, Denied, Media, Need, Now, Reply};
+use client_plan::Need;
+use libfs::{Client, Denied, Now};
+use posix_calls::{Call, Reply};
 use std::sync::Wait;
+use tier_device::Media;
 
 // A record is appended by four device calls, of which the last answers its call.
 const STEPS: u32 = 4;

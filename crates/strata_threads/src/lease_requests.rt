@@ -3,11 +3,11 @@ ghost use Rattle.std.specs.Prelude.{◌≡◌, ◌≢◌, ◌<◌, ◌+◌, ℕ,
 ghost use Rattle.libfs.specs.LeaseCalls.{mode_of};
 ghost use Rattle.libfs.specs.View.{ClientView};
 ghost use Rattle.libfs.specs.declared.denial.Denied.TheVariants as denied;
-ghost use Rattle.libfs.specs.lease_manager.Marks.{ShowsOther};
-ghost use Rattle.libfs.specs.lease_manager.Passes.{lease_of};
-ghost use Rattle.libfs.specs.lease_manager.Words.{HasWord};
-ghost use Rattle.libfs.specs.lease_manager.declared.view.LeaseMode.TheVariants.{Free};
-ghost use Rattle.libfs.specs.client_view.client_plan.declared.need.Need.TheVariants as needs;
+ghost use Rattle.lease_manager.specs.Marks.{ShowsOther};
+ghost use Rattle.lease_manager.specs.Passes.{lease_of};
+ghost use Rattle.lease_manager.specs.Words.{HasWord};
+ghost use Rattle.lease_manager.specs.declared.view.LeaseMode.TheVariants.{Free};
+ghost use Rattle.client_plan.specs.declared.need.Need.TheVariants as needs;
 ghost use Rattle.strata_threads.specs.CallDenials.{IsUnmet};
 ghost use Rattle.strata_threads.specs.ClientCalls.{KeepsCall};
 ghost use Rattle.strata_threads.specs.HeardQuestions.{row_of};
@@ -20,9 +20,13 @@ use crate::gate_point::GatePoint;
 use crate::idle_turn::{has_bit, row_count};
 use crate::shared_kernel::SharedKernel;
 use crate::thread_client::ThreadClient;
-use libfs::{CLIENTS, Client, Denied, LeaseMode, Media, Mode, client_index, is_inode};
+use client_plan::Mode;
+use lease_manager::{CLIENTS, LeaseMode, is_inode};
+use libfs::{Client, Denied};
+use posix_calls::client_index;
 use std::sync::Wait;
 use std::thread;
+use tier_device::Media;
 
 // A wipe makes four device calls, and a client has two regions.
 const WIPE_STEPS: u32 = 8;

@@ -34,6 +34,3 @@ pub use thread_client::ThreadClient;
 pub use thread_set::{ShareError, ThreadSet};
 pub use waited::Waited;
 pub use worker::Worker;
-
-// Passed on to the crates above, which so need not list those below.
-pub use libfs::{Call, Client, Kernel, Media, Reply, SealedRegion};

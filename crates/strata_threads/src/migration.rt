@@ -4,9 +4,10 @@ ghost use Rattle.strata_threads.specs.RunMoves.{HasMovedRun};
 
 use crate::shared_kernel::SharedKernel;
 use crate::stop_flag::StopFlag;
-use libfs::{Kernel, Media, Tier};
+use kernel_fs::Kernel;
 use std::sync::Wait;
 use std::thread;
+use tier_device::{Media, Tier};
 
 /// Moves the run that is to be moved next to a tier, if there is one, under the lock. It answers whether one was moved.
 pub fn migrate<M: Media, R: Wait>(rt: &R, shared: &SharedKernel<M>, to: Tier) -> bool {

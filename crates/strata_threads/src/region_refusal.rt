@@ -1,4 +1,6 @@
-use libfs::{AcceptError, DigestError, KernelError, LogError};
+use client_log::LogError;
+use digester::DigestError;
+use kernel_fs::{AcceptError, KernelError};
 
 /// Why a sealed region was not digested whole.
 #[derive(Drop)]

@@ -1,6 +1,7 @@
 use crate::wake_ups::WakeUps;
-use libfs::{Kernel, Media};
+use kernel_fs::Kernel;
 use std::sync::{Mutex, MutexGuard, Wait};
+use tier_device::Media;
 
 /// The kernel of all threads, under a lock. Whoever holds the lock finds it at the end of a run of its machine, until a device has failed, where each mark stood before a region as the media were opened: whether they
 /// did `Kernel::has_history` answers. Beside it is what wakes the workers, the migrator and the clients of its set: who waits with the kernel of another set is not woken.

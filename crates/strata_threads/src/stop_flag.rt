@@ -1,7 +1,7 @@
 use crate::shared_kernel::SharedKernel;
-use libfs::Media;
 use std::sync::atomic::AtomicU64;
 use std::sync::atomic::Ordering::SeqCst;
+use tier_device::Media;
 
 /// A flag by which workers and the migrator are stopped.
 #[derive(Drop)]

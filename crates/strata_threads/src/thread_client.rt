@@ -5,8 +5,9 @@ ghost use Rattle.strata_threads.specs.HeardQuestions.{HoldsWithin, NeedsRows};
 use crate::idle_turn::held_rows;
 use crate::waited::Waited;
 use handoff::QueueEnd;
-use libfs::{Client, Media, SealedRegion};
+use libfs::{Client, SealedRegion};
 use std::sync::Wait;
+use tier_device::Media;
 
 /// A client in a thread of its own, of which no call waits for its answer, with its ends of the two queues by which its regions go to the workers and come back.
 #[derive(Drop)]

@@ -1,10 +1,12 @@
 ghost use Rattle.std.specs.Prelude.{◌≡◌, ◌==◌, ◌<◌, None, false, [], ◌∷◌};
-ghost use Rattle.libfs.specs.lease_manager.Marks.{ShowsOther};
-ghost use Rattle.libfs.specs.lease_manager.Words.{HasWord};
+ghost use Rattle.lease_manager.specs.Marks.{ShowsOther};
+ghost use Rattle.lease_manager.specs.Words.{HasWord};
 ghost use Rattle.strata_threads.specs.WaitedTurns.{away_turn, busy_turn, is_to_write, taken_mode, with_inode};
 
-use libfs::{Client, Media, Mode};
+use client_plan::Mode;
+use libfs::Client;
 use std::marker::Model;
+use tier_device::Media;
 
 /// How many turns of a call were waited, of those that it is given, and which inodes it waited to write. Contracts see all of it (`specs/WaitedTurns.antt`). A turn is counted only by what was waited for.
 #[derive(Drop)]

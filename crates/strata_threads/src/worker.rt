@@ -8,10 +8,12 @@ use crate::region_digest::digest_region;
 use crate::shared_kernel::SharedKernel;
 use crate::stop_flag::StopFlag;
 use handoff::QueueEnd;
-use libfs::{Media, SealedRegion, client_index};
+use libfs::SealedRegion;
+use posix_calls::client_index;
 use std::alloc::Global;
 use std::sync::Wait;
 use std::thread;
+use tier_device::Media;
 
 /// A worker: it digests what clients seal, with its ends of the queue to the workers and of those back to each client.
 #[derive(Drop)]

@@ -1,7 +1,7 @@
 -- What the words of `strata_run` ask for.
 use Rattle.std.specs.Prelude.{◌≡◌, ◌⊎◌, List, [], ◌∷◌, Some, None, codes, unwrap_or}
-use Rattle.script.specs.command_line.Options.{App, IsNoNumber, Row, number_in, option_of, program_with}
-use Rattle.script.specs.command_line.declared.option_table.OptionValue.TheVariants.{Number32, Number64, Text}
+use Rattle.command_line.specs.Options.{App, IsNoNumber, Row, number_in, option_of, program_with}
+use Rattle.command_line.specs.declared.option_table.OptionValue.TheVariants.{Number32, Number64, Text}
 use Rattle.thread_runs.specs.StopWords.{HasBadStop, IsStopIn}
 use Rattle.thread_runs.specs.declared.options.Options.{Options}
 

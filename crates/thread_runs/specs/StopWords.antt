@@ -1,8 +1,8 @@
 -- The stop of the regions that the words of a command line ask for.
 use Rattle.std.specs.Prelude.{◌≡◌, ◌⊎◌, ⊤, ℕ, List, [], ◌∷◌, Option, Some, None, codes}
 use Rattle.script.specs.Script.{hex_byte}
-use Rattle.script.specs.command_line.Options.{App, IsNoNumber, Row, number_in, option_of, program_with, text_in}
-use Rattle.script.specs.command_line.declared.option_table.OptionValue.TheVariants.{Number64, Text}
+use Rattle.command_line.specs.Options.{App, IsNoNumber, Row, number_in, option_of, program_with, text_in}
+use Rattle.command_line.specs.declared.option_table.OptionValue.TheVariants.{Number64, Text}
 use Rattle.thread_runs.specs.declared.region_stops.RegionStop.{RegionStop}
 
 -- `strata_first` and its options

@@ -1,22 +1,27 @@
 //! The file system of a run: made on fresh media, shared out to threads, and recovered from what its media hold.
 ghost use Rattle.std.specs.Prelude.{◌≡◌, ◌≤◌, ◌∷◌, [], All, IfOk, length};
 ghost use Rattle.std.specs.Vec.{vec_capacity};
-ghost use Rattle.script.specs.tier_device.declared.media.Tier.TheVariants.{Fast};
+ghost use Rattle.tier_device.specs.declared.media.Tier.TheVariants.{Fast};
 ghost use Rattle.strata_threads.specs.SharedClients.{ShareTable};
-ghost use Rattle.script.specs.tier_device.Memory.{IsAtRest, memory_seen};
+ghost use Rattle.tier_device.specs.Memory.{IsAtRest, memory_seen};
 ghost use Rattle.thread_runs.specs.FirstPath.{IsRunAtRest, MayBeLeft};
-ghost use Rattle.world_files.specs.recovery.Parts.{AreAtRest, part_medium};
-ghost use Rattle.world_files.specs.recovery.event_steps.Sound.{AreSeats};
+ghost use Rattle.area_recovery.specs.Parts.{AreAtRest, part_medium};
+ghost use Rattle.event_steps.specs.Sound.{AreSeats};
 
 use crate::region_stops::{RegionStops, RunMedium};
-use script::{Media, MemMedia, Region, RunError, StopMedia};
+use area_recovery::RecoveryError;
+use event_steps::ClientSlot;
+use interleavings::World;
+use layout::{CLIENTS, Geometry};
+use libfs::{Client, SealedRegion};
+use recovery::{Parts, REGIONS, format, recover};
+use script::RunError;
 use std::alloc::Global;
 use std::sync::Wait;
-use strata_threads::{Client, SealedRegion, ThreadClient, ThreadSet};
-use world_files::{
-    CLIENTS, ClientSlot, Geometry, Parts, REGION_SIZE, REGIONS, RecoveryError, World, WorldSizes,
-    format, recover, tier_lens,
-};
+use strata_threads::{ThreadClient, ThreadSet};
+use tier_device::{Media, MemMedia, StopMedia};
+use update_log::{REGION_SIZE, Region};
+use world_files::{WorldSizes, tier_lens};
 
 // Data blocks of the three tiers.
 const BLOCKS: [u32; 3] = [512, 1_024, 1_024];

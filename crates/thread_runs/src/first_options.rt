@@ -1,10 +1,10 @@
 // The words of `strata_first`.
-ghost use Rattle.script.specs.command_line.Options.{Asks};
+ghost use Rattle.command_line.specs.Options.{Asks};
 ghost use Rattle.thread_runs.specs.StopWords.{HasBadStop, IsStopIn, first};
 
 use crate::region_stops::RegionStop;
 use crate::stop_words::{FILL, STOP, stop_in};
-use script::{Program, WordsError, read_words};
+use command_line::{Program, WordsError, read_words};
 use std::alloc::Global;
 
 const FIRST: Program = Program {

@@ -1,13 +1,15 @@
 // A run of `strata_first`.
 ghost use Rattle.std.specs.Prelude.{IfOk};
-ghost use Rattle.script.specs.file_graph.Graph.{Graph, graph_of};
+ghost use Rattle.file_graph.specs.Graph.{Graph, graph_of};
 ghost use Rattle.thread_runs.specs.FirstPath.{IsRecovered};
 
 use crate::first_calls::{Answer, CallEnd, make_both_calls};
 use crate::first_options::first_stop;
 use crate::first_recovery::recover_both;
 use crate::shared_graph::FILE;
-use script::{PlainGraph, ROOT, RunError, tell, tell_fault, write_data, write_name};
+use file_graph::PlainGraph;
+use posix_calls::ROOT;
+use script::{RunError, tell, tell_fault, write_data, write_name};
 use std::alloc::Global;
 use std::io::{self, Write};
 use std::sync::Wait;

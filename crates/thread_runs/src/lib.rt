@@ -25,4 +25,3 @@ pub use first_run::run_first;
 pub use run::run_threads;
 
 // Passed on to the programs above, which so need not list those below.
-pub use script::run_program;

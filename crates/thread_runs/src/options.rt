@@ -1,11 +1,11 @@
 // The words of `strata_run`.
 ghost use Rattle.std.specs.Prelude.{IfErr, IfOk};
-ghost use Rattle.script.specs.command_line.Options.{Asks, IsValue, rows};
+ghost use Rattle.command_line.specs.Options.{Asks, IsValue, rows};
 ghost use Rattle.thread_runs.specs.RunOptions.{AreRunOptions, HasBadRun, run};
 
 use crate::region_stops::RegionStop;
 use crate::stop_words::{FILL, STOP, stop_in};
-use script::{OptionMatches, OptionValue, Program, ProgramOption, WordsError, read_words};
+use command_line::{OptionMatches, OptionValue, Program, ProgramOption, WordsError, read_words};
 use std::alloc::Global;
 
 /// What the words ask for.

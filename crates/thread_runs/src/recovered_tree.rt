@@ -3,8 +3,10 @@ use crate::client_run::{are_alike, call_of};
 use crate::client_tree::ClientTree;
 use crate::region_stops::RunMedium;
 use crate::turns::{log_line, tree_lines};
-use call_driver::{CallResult, World, serve_call};
-use script::{Reply, RunError};
+use call_driver::{CallResult, serve_call};
+use interleavings::World;
+use posix_calls::Reply;
+use script::RunError;
 use std::alloc::Global;
 
 impl ClientTree {

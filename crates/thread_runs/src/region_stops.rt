@@ -1,8 +1,8 @@
 //! The media of the regions, each of which may stop within a write or fence of its own.
 ghost use Rattle.std.specs.Prelude.{◌≤◌};
 
-use script::{Fill, MemMedia, StopMedia, Trip};
 use std::alloc::{AllocError, Global};
+use tier_device::{Fill, MemMedia, StopMedia, Trip};
 
 /// A stop of each region.
 #[derive(Clone, Copy)]

@@ -1,9 +1,12 @@
 // A plain graph that stands for the shared media, and records that are done in it.
 ghost use Rattle.std.specs.Prelude.{◌≡◌, IfOk, OnOk, codes, drop, false, length, true};
-ghost use Rattle.script.specs.file_graph.Graph.{graph_of, after_effect, after_effects};
+ghost use Rattle.file_graph.specs.Graph.{graph_of, after_effect, after_effects};
 ghost use Rattle.thread_runs.specs.FirstPath.{after_replay, file_effects, root_with_f};
 
-use script::{Effect, Kind, Name, PlainGraph, ROOT, Record, RunError};
+use file_graph::{Effect, Kind, PlainGraph};
+use log_record::Record;
+use posix_calls::{Name, ROOT};
+use script::RunError;
 use std::alloc::Global;
 
 /// The inode of the file `/f`.

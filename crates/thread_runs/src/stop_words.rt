@@ -1,10 +1,11 @@
 // The words that ask for a stop of the regions: `--stop K --fill HH`.
 ghost use Rattle.std.specs.Prelude.{◌≡◌, ◌⊎◌, IfErr, IfOk, None, Some};
-ghost use Rattle.script.specs.command_line.Options.{IsValue, rows};
+ghost use Rattle.command_line.specs.Options.{IsValue, rows};
 ghost use Rattle.thread_runs.specs.StopWords.{HasBadStop, IsStopIn, fill_in};
 
 use crate::region_stops::RegionStop;
-use script::{OptionMatches, OptionValue, ProgramOption, WordsError, hex_byte};
+use command_line::{OptionMatches, OptionValue, ProgramOption, WordsError};
+use script::hex_byte;
 
 /// The option by which regions stop.
 pub(crate) const STOP: ProgramOption = ProgramOption {

@@ -12,5 +12,3 @@ pub mod Lists
 pub mod Marking
 pub mod NameChanges
 pub mod Rewriting
--- Passed on to the crates above, which so need not list those below.
-pub use Rattle.graph_change.proofs as graph_change_lemmas

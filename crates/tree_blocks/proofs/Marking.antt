@@ -11,8 +11,8 @@ use Rattle.std.proofs.lemmas.List.Sums.{sum_by-cons}
 use Rattle.std.proofs.lemmas.List.Elements.{Contains-append_right, All-from_recursion}
 use Rattle.std.specs.Prelude.{replicate}
 use Rattle.std.specs.FinMap as fin
-use Rattle.graph_change.specs.posix_calls.Content.{Entries}
-use Rattle.graph_change.specs.posix_calls.declared.limits.TheConstants.{MAX_ENTRIES}
+use Rattle.posix_calls.specs.Content.{Entries}
+use Rattle.posix_calls.specs.declared.limits.TheConstants.{MAX_ENTRIES}
 use Rattle.layout.proofs.DirChanges.{listed_now}
 use Rattle.graph_change.specs.Net.{Child}
 use Rattle.tree_blocks.specs.Inode.{entry_at, named_entries}

@@ -1,5 +1,5 @@
 ghost use Rattle.std.specs.Prelude.{◌≡◌, ◌≢◌, ◌≤◌, ◌<◌, ◌/◌, ◌%◌, ◌+◌, ◌-◌, ◌*◌, ◌↔◌, ℕ, [], length, get_or, true, IfOk, IfErr, IfNone, IfSome, OnOk, OnErr};
-ghost use Rattle.graph_change.specs.posix_calls.declared.limits.TheConstants.{MAX_ENTRIES};
+ghost use Rattle.posix_calls.specs.declared.limits.TheConstants.{MAX_ENTRIES};
 ghost use Rattle.layout.specs.Places.{is_inode};
 ghost use Rattle.layout.specs.LentEntry.{owned_entry};
 ghost use Rattle.layout.specs.Directory.{fits_entry};
@@ -15,8 +15,9 @@ use crate::entry_blocks::{add_to, find_in, take_from};
 use crate::error::EnterError;
 use crate::name_changes::{are_too_many, change_names, coming_count};
 use crate::written_blocks::{MOST_BLOCKS, WrittenBlocks};
-use graph_change::MAX_ENTRIES;
-use layout::{BLOCK, DirEntries, EntryRef, Kind, MAX_IN_BLOCK, NameMap, set_target};
+use file_graph::{Kind, NameMap};
+use layout::{BLOCK, DirEntries, EntryRef, MAX_IN_BLOCK, set_target};
+use posix_calls::MAX_ENTRIES;
 use std::alloc::{AllocError, Global};
 use std::marker::Model;
 

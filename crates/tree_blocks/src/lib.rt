@@ -26,6 +26,3 @@ pub use file_blocks::{
 pub use node_laws::{alike_inodes_are_one_node, nodes_are_read_by_place};
 pub use rewrite_laws::{bounded_entries_lead_to_inodes, rewritten_inode_is_inode_after};
 pub use written_blocks::WrittenBlocks;
-
-// Passed on to the crates above, which so need not list those below.
-pub use graph_change::{BlockChange, GraphChange, NodeBase, NodeChange, NodeLength};

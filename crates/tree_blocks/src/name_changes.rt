@@ -2,11 +2,11 @@
 
 ghost use Rattle.std.specs.Prelude.{◌≡◌, ◌≤◌, ◌<◌, ◌+◌, ◌*◌, ◌^◌, ◌↔◌, ℕ, length, true, false, is_some, IfSome, IfOk, OnOk, OnErr, IsTrue, vec_capacity};
 ghost use Rattle.std.specs.FinMap as fin;
-ghost use Rattle.graph_change.specs.posix_calls.declared.limits.TheConstants.{MAX_ENTRIES};
+ghost use Rattle.posix_calls.specs.declared.limits.TheConstants.{MAX_ENTRIES};
 ghost use Rattle.layout.specs.Places.{is_inode};
 ghost use Rattle.layout.specs.LentEntry.{owned_entry};
 ghost use Rattle.layout.specs.Directory.{fits_entry};
-ghost use Rattle.layout.specs.file_graph.NameOrder.{pairs, IsInOrder};
+ghost use Rattle.file_graph.specs.NameOrder.{pairs, IsInOrder};
 ghost use Rattle.graph_change.specs.Net.{with_entry, with_entries};
 ghost use Rattle.tree_blocks.specs.Inode.{entry_at, named_entries, AreDirectoryBlocks, blocks_for};
 ghost use Rattle.tree_blocks.specs.Directory.{numbered_blocks, AreHeld, LeadToInodes, coming_count, next_count};
@@ -14,8 +14,9 @@ ghost use Rattle.tree_blocks.specs.BlockMarks.{WereMarked};
 
 use crate::entry_blocks::{add_to, find_in, take_from};
 use crate::written_blocks::mark;
-use graph_change::MAX_ENTRIES;
-use layout::{BLOCK, EntryRef, Kind, MAX_IN_BLOCK, NamedEntry, set_target};
+use file_graph::{Kind, NamedEntry};
+use layout::{BLOCK, EntryRef, MAX_IN_BLOCK, set_target};
+use posix_calls::MAX_ENTRIES;
 use std::alloc::{AllocError, Global};
 
 // Enters an entry, over that of its name or behind the last one, and marks the block in which it stands. It answers how many there are then.

@@ -7,8 +7,3 @@ pub mod Calls
 pub mod Wipe
 pub mod Scan
 pub mod RecordCounts
--- Passed on to the crates above, which so need not list those below.
-pub use Rattle.log_record.specs.file_graph
-pub use Rattle.log_record.specs as log_record
-pub use Rattle.log_record.specs.posix_calls
-pub use Rattle.tier_device.specs as tier_device

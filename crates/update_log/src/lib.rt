@@ -23,12 +23,3 @@ pub use format::{CLOSED, GENERATION_SIZE, HEADER, OPEN, REGION_SIZE};
 pub use laws::region_has_its_numbers;
 pub use region::Region;
 pub use stage::{Progress, Stage, WipeProgress};
-
-// Passed on to the crates above, which so need not list those below.
-pub use log_record::{
-    Bytes, Call, Child, DIRECTORY_KIND, DecideError, Effect, Errno, FileGraphEffects as Effects,
-    Flags, Kind, MAX_CLIENTS, MAX_INODE, MAX_TRANSFER, Name, NameMap, Path, PlainGraph, ROOT,
-    Record, RecordError, Reply, SharedBytes, TouchedInodes, UNIT_BYTES, client_index, is_payload,
-    read_payload, read_record, u32_of, write_record,
-};
-pub use tier_device::{FaultMedia, Fill, Media, MediaError, MemMedia, StopMedia, Tier, Trip};

@@ -1,12 +1,12 @@
 -- Parts over others, medium by medium, are read as those are.
 use Rattle.std.proofs.Common.{◌≡◌, ◌∙◌, ℕ, zero, suc, List, [], ◌∷◌, ◌++◌, drop, map, refl, sym, subst}
 use Rattle.std.specs.Prelude.{Result, Ok, Err, IfOk, get_or, slice_index_or}
-use Rattle.script.specs.tier_device.AfterStop.{AtRest}
-use Rattle.script.specs.tier_device.declared.media.Media.{Ghosts}
-use Rattle.script.specs.tier_device.declared.media.Tier.{Tier}
+use Rattle.tier_device.specs.AfterStop.{AtRest}
+use Rattle.tier_device.specs.declared.media.Media.{Ghosts}
+use Rattle.tier_device.specs.declared.media.Tier.{Tier}
 use Rattle.world_files.specs.Images.{AreRead}
-use Rattle.world_files.specs.host_media.Images.{content_bytes, content_sizes, media_bytes, medium_sizes}
-use Rattle.world_files.specs.recovery.Parts.{PartsView, part_medium}
+use Rattle.host_media.specs.Images.{content_bytes, content_sizes, media_bytes, medium_sizes}
+use Rattle.area_recovery.specs.Parts.{PartsView, part_medium}
 
 module _ {S T : Type 0} (upper : Ghosts S) (lower : Ghosts T) (f : S → T) (seen : (x : S) → upper.seen x ≡ lower.seen (f x))
     (rests : (x : S) (t : Tier) → AtRest (lower.seen (f x)) (lower.left (f x) (lower.moment (f x))) t → AtRest (upper.seen x) (upper.left x (upper.moment x)) t) where

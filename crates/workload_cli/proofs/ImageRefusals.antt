@@ -2,8 +2,8 @@
 use Rattle.std.proofs.Common.{◌≡◌, List, ℕ, inr, sym, subst}
 use Rattle.std.specs.Prelude.{Option, Result, Ok, Err, IfErr, IfOk, None, Some}
 use Rattle.script.specs.declared.patch.Patch.{Patch}
-use Rattle.script.specs.tier_device.declared.fill.Fill.{Fill}
-use Rattle.script.specs.tier_device.declared.media.Media.{Ghosts}
+use Rattle.tier_device.specs.declared.fill.Fill.{Fill}
+use Rattle.tier_device.specs.declared.media.Media.{Ghosts}
 use Rattle.world_files.specs.FileErrors.{IsFormatRefused}
 use Rattle.world_files.specs.ImageFiles.{MayHold}
 use Rattle.world_files.specs.Images.{IsReadRefused}

@@ -1,15 +1,15 @@
 -- What becomes of the media of a session.
 use Rattle.std.proofs.Common.{◌≡◌, ◌∙◌, inl, inr, ℕ, List, true, false, None, Some, ap, refl, subst, sym}
 use Rattle.std.specs.Prelude.{Bool, Option, if◌then◌else◌}
-use Rattle.script.specs.tier_device.declared.fill.Fill.{Fill}
-use Rattle.script.specs.tier_device.declared.fill.Fill.TheVariants.{New}
-use Rattle.script.specs.tier_device.declared.media.Media.{Ghosts}
+use Rattle.tier_device.specs.declared.fill.Fill.{Fill}
+use Rattle.tier_device.specs.declared.fill.Fill.TheVariants.{New}
+use Rattle.tier_device.specs.declared.media.Media.{Ghosts}
 use Rattle.script.specs.SystemLines.{Asked, Books, Calls, Digests, Fails, Halts, Moves, Places, Recovers, Steps, Stops, Wipes}
-use Rattle.world_files.specs.recovery.FaultOrMemory.{IsFaultOrMemory}
-use Rattle.world_files.specs.recovery.Parts.{PartsView, part_medium}
-use Rattle.world_files.specs.recovery.settlement.declared.error.RecoveryError.{RecoveryError}
+use Rattle.area_recovery.specs.FaultOrMemory.{IsFaultOrMemory}
+use Rattle.area_recovery.specs.Parts.{PartsView, part_medium}
+use Rattle.area_recovery.specs.declared.error.RecoveryError.{RecoveryError}
 use Rattle.call_driver.specs.declared.events.Events.{Ghosts as Played}
-use Rattle.world_files.specs.recovery.system_world.WorldView.{WorldView}
+use Rattle.system_laws.specs.WorldView.{WorldView}
 use Rattle.workload_cli.specs.declared.answer.Answer.{Answer}
 use Rattle.workload_cli.specs.declared.answer.Answer.TheVariants as answers
 use Rattle.workload_cli.specs.declared.script_world.ScriptWorld.{ScriptWorld}

@@ -2,13 +2,13 @@
 use Rattle.std.proofs.Common.{◌≡◌, ◌∙◌, ◌≤◌, ℕ, List, ap, subst, sym}
 use Rattle.std.proofs.Math.Path.{fun_ext}
 use Rattle.std.specs.Prelude.{Option}
-use Rattle.script.specs.tier_device.declared.media.Media.{Ghosts}
-use Rattle.script.specs.tier_device.declared.media.Tier.{Tier}
-use Rattle.world_files.specs.recovery.call_effects.Wholes.{tree_of}
-use Rattle.world_files.specs.recovery.layout.Places.{Sizes}
-use Rattle.world_files.specs.recovery.shared_area.Parts.{IsTierOf}
-use Rattle.world_files.specs.recovery.area_image.Store.{graph, disk, store_of}
-use Rattle.world_files.specs.recovery.event_steps.View.{SystemView}
+use Rattle.tier_device.specs.declared.media.Media.{Ghosts}
+use Rattle.tier_device.specs.declared.media.Tier.{Tier}
+use Rattle.call_effects.specs.Wholes.{tree_of}
+use Rattle.layout.specs.Places.{Sizes}
+use Rattle.shared_area.specs.Parts.{IsTierOf}
+use Rattle.area_reader.specs.Store.{graph, disk, store_of}
+use Rattle.event_steps.specs.View.{SystemView}
 use Rattle.workload_cli.specs.OfSystem.{HasLooked, LiesIn, tree_in}
 
 module _ {M : Type 0} (device : Ghosts M) where

@@ -3,7 +3,7 @@ use Rattle.std.proofs.Common.{◌≡◌, ◌∙◌, ◌+◌, ◌<◌, ◌≤◌,
 use Rattle.std.proofs.lemmas.Bool.{cond-false, cond-true, le-leb, lt-leb}
 use Rattle.std.specs.Prelude.{nat_le, None}
 use Rattle.script.specs.declared.patch.Patch.{Patch}
-use Rattle.script.specs.tier_device.Media.{overwritten}
+use Rattle.tier_device.specs.Media.{overwritten}
 use Rattle.workload_cli.specs.Patches.{patched}
 
 module _ (image : List ℕ) (ps : List Patch) (k : ℕ) (p : Patch) (at : p ≡ get_or ps k p) (within : k < length ps) where

@@ -2,11 +2,11 @@
 use Rattle.std.proofs.Common.{◌≡◌, ℕ, zero, suc, ◌+◌, ◌/◌, ◌<◌, List, length, sym, ◌∙◌, subst, arith}
 use Rattle.std.specs.Prelude.{Some, slice_get}
 use Rattle.std.proofs.lemmas.Option.{same_Some, slice_get-get_or}
-use Rattle.script.specs.tier_device.declared.fill.Fill.{Fill}
-use Rattle.script.specs.tier_device.declared.media.Media.{Ghosts}
-use Rattle.world_files.specs.recovery.Parts.{PartsView, part_medium}
-use Rattle.world_files.specs.recovery.Regions.{REGIONS}
-use Rattle.world_files.specs.recovery.system_world.courses.Courses.{PARTS}
+use Rattle.tier_device.specs.declared.fill.Fill.{Fill}
+use Rattle.tier_device.specs.declared.media.Media.{Ghosts}
+use Rattle.area_recovery.specs.Parts.{PartsView, part_medium}
+use Rattle.area_recovery.specs.Regions.{REGIONS}
+use Rattle.event_lists.specs.Courses.{PARTS}
 use Rattle.workload_cli.specs.Fills.{AreRestBy, IsRestBy, fill_for, name_of}
 use Rattle.workload_cli.specs.Rests.{IsRestOf, LeaveNoMore, LeavesNoMore}
 

@@ -4,15 +4,15 @@ use Rattle.std.proofs.lemmas.Bool.{true≢false}
 use Rattle.std.proofs.Math.ListN.{drop_of_length-le}
 use Rattle.std.proofs.lemmas.Result.{err_from_is_err_and}
 use Rattle.std.specs.Prelude.{Option, Some, None, Result, Ok, Err, IfErr, IsErrAnd}
-use Rattle.script.specs.posix_calls.declared.errno.Errno.{Errno}
-use Rattle.script.specs.posix_calls.declared.errno.Errno.TheVariants.{NoEntry, IsDirectory, NotDirectory}
-use Rattle.script.specs.posix_calls.Answers.{entry_in}
-use Rattle.script.specs.posix_calls.Resolve.{child, entry_or, then_from, resolve_from}
-use Rattle.script.specs.posix_calls.Tree.{Tree}
-use Rattle.script.specs.file_graph.Graph.{Graph, Node, Body, FileBody, DirBody}
-use Rattle.world_files.specs.recovery.call_effects.NodeView.{NodeView, FileView, DirView, view_is_dir, view_of_body, view_of_node, view_at}
-use Rattle.world_files.specs.recovery.call_effects.Wholes.{tree_of, tree_node, tree_body}
-use Rattle.world_files.specs.recovery.record_validation.NodeAnswers.{seen_node}
+use Rattle.posix_calls.specs.declared.errno.Errno.{Errno}
+use Rattle.posix_calls.specs.declared.errno.Errno.TheVariants.{NoEntry, IsDirectory, NotDirectory}
+use Rattle.posix_calls.specs.Answers.{entry_in}
+use Rattle.posix_calls.specs.Resolve.{child, entry_or, then_from, resolve_from}
+use Rattle.posix_calls.specs.Tree.{Tree}
+use Rattle.file_graph.specs.Graph.{Graph, Node, Body, FileBody, DirBody}
+use Rattle.call_effects.specs.NodeView.{NodeView, FileView, DirView, view_is_dir, view_of_body, view_of_node, view_at}
+use Rattle.call_effects.specs.Wholes.{tree_of, tree_node, tree_body}
+use Rattle.record_validation.specs.NodeAnswers.{seen_node}
 use Rattle.workload_cli.specs.Paths.{child_in, unless_directory}
 use Rattle.workload_cli.specs.AnswerText.{IsNoFile, IsUnread}
 use Rattle.workload_cli.specs.declared.answer.Answer.{Answer}

@@ -2,12 +2,12 @@
 use Rattle.std.proofs.Common.{◌≡◌, List, ℕ, subst}
 use Rattle.std.specs.Io.KnownBytes.{IsAtEnd}
 use Rattle.std.specs.Prelude.{Option, Result, Ok, Err, IfOk, OnOk}
-use Rattle.script.specs.tier_device.declared.fill.Fill.{Fill}
-use Rattle.script.specs.tier_device.declared.media.Media.{Ghosts}
+use Rattle.tier_device.specs.declared.fill.Fill.{Fill}
+use Rattle.tier_device.specs.declared.media.Media.{Ghosts}
 use Rattle.world_files.specs.Images.{parts_image}
 use Rattle.world_files.specs.declared.image_file.ImageFile.{ImageFile}
 use Rattle.world_files.specs.declared.sizes.WorldSizes.{WorldSizes}
-use Rattle.world_files.specs.recovery.Parts.{PartsView}
+use Rattle.area_recovery.specs.Parts.{PartsView}
 use Rattle.workload_cli.specs.declared.script_world.ScriptWorld.{ScriptWorld}
 use Rattle.workload_cli.specs.declared.session.Session.{Ghosts as Answers}
 use Rattle.workload_cli.specs.FreshWorlds.{IsFileWorld, IsImageOf}

@@ -1,17 +1,17 @@
 -- The text that says what became of a line.
 use Rattle.std.specs.Prelude.{◌≡◌, ◌⊎◌, ℕ, Bool, true, false, Option, Some, None, Result, Ok, Err}
-use Rattle.script.specs.tier_device.declared.media.Tier.{Tier}
-use Rattle.script.specs.tier_device.declared.media.Tier.TheVariants as tiers
-use Rattle.script.specs.posix_calls.declared.call.Reply.TheVariants as replies
-use Rattle.script.specs.posix_calls.declared.errno.Errno.{Errno}
-use Rattle.script.specs.posix_calls.declared.errno.Errno.TheVariants.{NoMemory}
+use Rattle.tier_device.specs.declared.media.Tier.{Tier}
+use Rattle.tier_device.specs.declared.media.Tier.TheVariants as tiers
+use Rattle.posix_calls.specs.declared.call.Reply.TheVariants as replies
+use Rattle.posix_calls.specs.declared.errno.Errno.{Errno}
+use Rattle.posix_calls.specs.declared.errno.Errno.TheVariants.{NoMemory}
 use Rattle.script.specs.declared.system_line.LowerTier.{LowerTier}
 use Rattle.script.specs.declared.system_line.LowerTier.TheVariants as lower
-use Rattle.world_files.specs.recovery.kernel_fs.declared.kernel.Figures.{Figures}
-use Rattle.world_files.specs.recovery.event_steps.declared.outcome.Outcome.{Outcome}
-use Rattle.world_files.specs.recovery.event_steps.declared.outcome.Outcome.TheVariants as outcomes
-use Rattle.world_files.specs.recovery.event_steps.declared.outcome.Refusal.{Refusal}
-use Rattle.world_files.specs.recovery.event_steps.declared.outcome.Refusal.TheVariants as refusals
+use Rattle.kernel_fs.specs.declared.kernel.Figures.{Figures}
+use Rattle.event_steps.specs.declared.outcome.Outcome.{Outcome}
+use Rattle.event_steps.specs.declared.outcome.Outcome.TheVariants as outcomes
+use Rattle.event_steps.specs.declared.outcome.Refusal.{Refusal}
+use Rattle.event_steps.specs.declared.outcome.Refusal.TheVariants as refusals
 use Rattle.call_driver.specs.declared.call_result.CallResult.{CallResult}
 use Rattle.call_driver.specs.declared.call_result.CallResult.TheVariants as served
 use Rattle.workload_cli.specs.declared.answer.Answer.{Answer}

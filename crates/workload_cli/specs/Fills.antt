@@ -1,9 +1,9 @@
 -- What media hold behind a stop where bytes were written and not kept.
 use Rattle.std.specs.Prelude.{ℕ, zero, suc, ◌+◌, ◌/◌, ◌<◌, List, get_or}
-use Rattle.script.specs.tier_device.declared.fill.Fill.{Fill}
-use Rattle.script.specs.tier_device.declared.fill.Fill.TheVariants.{New}
-use Rattle.script.specs.tier_device.declared.media.Media.{Ghosts}
-use Rattle.world_files.specs.recovery.system_world.courses.Courses.{PARTS}
+use Rattle.tier_device.specs.declared.fill.Fill.{Fill}
+use Rattle.tier_device.specs.declared.fill.Fill.TheVariants.{New}
+use Rattle.tier_device.specs.declared.media.Media.{Ghosts}
+use Rattle.event_lists.specs.Courses.{PARTS}
 use Rattle.workload_cli.specs.Rests.{IsRestOf}
 
 -- the name of a part: of the shared medium 0, and of a region its client's number

@@ -1,13 +1,13 @@
 -- A script's world at its beginning.
 use Rattle.std.specs.Prelude.{◌≡◌, ◌⊎◌, ℕ, List, Option, Some, None}
 use Rattle.script.specs.declared.patch.Patch.{Patch}
-use Rattle.script.specs.tier_device.declared.fill.Fill.{Fill}
-use Rattle.script.specs.tier_device.declared.media.Media.{Ghosts}
-use Rattle.world_files.specs.recovery.Parts.{PartsView, part_medium}
-use Rattle.world_files.specs.recovery.RecoveryStops.{IsRecoveredWorld}
-use Rattle.world_files.specs.recovery.settlement.declared.error.RecoveryError.{RecoveryError}
-use Rattle.world_files.specs.recovery.layout.Places.{Sizes}
-use Rattle.world_files.specs.recovery.system_world.WorldView.{WorldView}
+use Rattle.tier_device.specs.declared.fill.Fill.{Fill}
+use Rattle.tier_device.specs.declared.media.Media.{Ghosts}
+use Rattle.area_recovery.specs.Parts.{PartsView, part_medium}
+use Rattle.area_recovery.specs.RecoveryStops.{IsRecoveredWorld}
+use Rattle.area_recovery.specs.declared.error.RecoveryError.{RecoveryError}
+use Rattle.layout.specs.Places.{Sizes}
+use Rattle.system_laws.specs.WorldView.{WorldView}
 use Rattle.world_files.specs.FileErrors.{IsFileOrMemory, IsFormatRefused}
 use Rattle.world_files.specs.ImageFiles.{MayHold}
 use Rattle.world_files.specs.Images.{AreRead, HoldsNoWorld, parts_image}

@@ -1,8 +1,8 @@
 -- A run over an image: it begins with what a file holds, and keeps what it ends with.
 use Rattle.std.specs.Prelude.{ℕ, List, Option}
 use Rattle.std.specs.Io.KnownBytes.{IsAtEnd}
-use Rattle.script.specs.tier_device.declared.fill.Fill.{Fill}
-use Rattle.script.specs.tier_device.declared.media.Media.{Ghosts}
+use Rattle.tier_device.specs.declared.fill.Fill.{Fill}
+use Rattle.tier_device.specs.declared.media.Media.{Ghosts}
 use Rattle.world_files.specs.declared.image_file.ImageFile.{ImageFile}
 use Rattle.world_files.specs.declared.sizes.WorldSizes.{WorldSizes}
 use Rattle.workload_cli.specs.declared.script_world.ScriptWorld.{ScriptWorld}

@@ -1,14 +1,14 @@
 -- What a line of a script is answered, and what it makes of a running system.
 use Rattle.std.specs.Prelude.{◌≡◌, ◌⊎◌, ◌-◌, ◌^◌, ℕ, min, Bool, true, false, List, Option, Some, None, Result, Ok}
-use Rattle.script.specs.tier_device.declared.media.Tier.{Tier}
-use Rattle.script.specs.posix_calls.declared.call.Call.{Call}
-use Rattle.script.specs.posix_calls.declared.errno.Errno.TheVariants.{NoMemory}
+use Rattle.tier_device.specs.declared.media.Tier.{Tier}
+use Rattle.posix_calls.specs.declared.call.Call.{Call}
+use Rattle.posix_calls.specs.declared.errno.Errno.TheVariants.{NoMemory}
 use Rattle.script.specs.SystemLines.{Asked, Calls, Steps, Digests, Wipes, Moves, Places, Books, Stops, Halts, Fails, Recovers}
 use Rattle.script.specs.declared.system_line.LowerTier.{LowerTier}
 use Rattle.script.specs.declared.system_line.Manner.{Manner}
-use Rattle.world_files.specs.recovery.event_steps.declared.event.Event.TheVariants as event
-use Rattle.world_files.specs.recovery.event_steps.declared.outcome.Outcome.{Outcome}
-use Rattle.world_files.specs.recovery.event_steps.declared.outcome.Refusal.{Refusal}
+use Rattle.event_steps.specs.declared.event.Event.TheVariants as event
+use Rattle.event_steps.specs.declared.outcome.Outcome.{Outcome}
+use Rattle.event_steps.specs.declared.outcome.Refusal.{Refusal}
 use Rattle.call_driver.specs.Digests.{IsCleared, IsWiped}
 use Rattle.call_driver.specs.Calls.{IsStepOf}
 use Rattle.call_driver.specs.declared.call_result.CallResult.{CallResult}

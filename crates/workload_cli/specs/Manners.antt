@@ -1,6 +1,6 @@
 -- How a client's call is asked.
 use Rattle.std.specs.Prelude.{ℕ, true, false}
-use Rattle.script.specs.posix_calls.declared.call.Call.{Call}
+use Rattle.posix_calls.specs.declared.call.Call.{Call}
 use Rattle.script.specs.declared.system_line.Manner.{Manner}
 use Rattle.script.specs.declared.system_line.Manner.TheVariants.{Served, Tried, Begun}
 use Rattle.call_driver.specs.Calls.{IsBegunCall, IsServedCall}

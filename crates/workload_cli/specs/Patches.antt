@@ -1,6 +1,6 @@
 -- Bytes that are put into an image.
 use Rattle.std.specs.Prelude.{ℕ, ◌+◌, List, [], ◌∷◌, length, nat_le, Option, Some, None, if◌then◌else◌}
-use Rattle.script.specs.tier_device.Media.{overwritten}
+use Rattle.tier_device.specs.Media.{overwritten}
 use Rattle.script.specs.declared.patch.Patch.{Patch}
 
 -- an image with these bytes put in, one after the other; none where some go past its end

@@ -1,13 +1,13 @@
 -- The file that a path leads to.
 use Rattle.std.specs.Prelude.{ℕ, List, Option, Some, None, Result, Ok, Err}
 use Rattle.std.specs.FinMap as fin
-use Rattle.script.specs.posix_calls.declared.errno.Errno.{Errno}
-use Rattle.script.specs.posix_calls.declared.errno.Errno.TheVariants.{IsDirectory, NotDirectory}
-use Rattle.script.specs.posix_calls.Path.{path_names}
-use Rattle.script.specs.posix_calls.Resolve.{resolve, then_from, entry_or}
-use Rattle.script.specs.posix_calls.Tree.{Node, File, Dir, Tree}
-use Rattle.world_files.specs.recovery.call_effects.NodeView.{NodeView, FileView, DirView}
-use Rattle.world_files.specs.recovery.call_effects.Wholes.{without_kinds}
+use Rattle.posix_calls.specs.declared.errno.Errno.{Errno}
+use Rattle.posix_calls.specs.declared.errno.Errno.TheVariants.{IsDirectory, NotDirectory}
+use Rattle.posix_calls.specs.Path.{path_names}
+use Rattle.posix_calls.specs.Resolve.{resolve, then_from, entry_or}
+use Rattle.posix_calls.specs.Tree.{Node, File, Dir, Tree}
+use Rattle.call_effects.specs.NodeView.{NodeView, FileView, DirView}
+use Rattle.call_effects.specs.Wholes.{without_kinds}
 
 -- what a node has under a name, by what is known of the node
 abbrev pub child_in : NodeView → List ℕ → Result ℕ Errno

@@ -1,15 +1,15 @@
 -- Media that are brought to rest after a stop.
 use Rattle.std.specs.Prelude.{ℕ, ◌<◌, List}
-use Rattle.script.specs.tier_device.declared.media.Media.{Ghosts}
-use Rattle.script.specs.tier_device.declared.media.Tier.{Tier}
-use Rattle.script.specs.tier_device.declared.fault.FaultMedia.{FaultMedia}
-use Rattle.script.specs.tier_device.declared.memory.MemMedia.{MemMedia}
-use Rattle.script.specs.tier_device.declared.stop.StopMedia.{StopMedia}
-use Rattle.script.specs.tier_device.Fault.{sound_of}
-use Rattle.script.specs.tier_device.Stop.{medium_of}
-use Rattle.script.specs.tier_device.Memory.{memory_left, memory_moment, memory_seen}
-use Rattle.script.specs.tier_device.AfterStop.{AtRest}
-use Rattle.world_files.specs.recovery.system_world.courses.Courses.{PARTS}
+use Rattle.tier_device.specs.declared.media.Media.{Ghosts}
+use Rattle.tier_device.specs.declared.media.Tier.{Tier}
+use Rattle.tier_device.specs.declared.fault.FaultMedia.{FaultMedia}
+use Rattle.tier_device.specs.declared.memory.MemMedia.{MemMedia}
+use Rattle.tier_device.specs.declared.stop.StopMedia.{StopMedia}
+use Rattle.tier_device.specs.Fault.{sound_of}
+use Rattle.tier_device.specs.Stop.{medium_of}
+use Rattle.tier_device.specs.Memory.{memory_left, memory_moment, memory_seen}
+use Rattle.tier_device.specs.AfterStop.{AtRest}
+use Rattle.event_lists.specs.Courses.{PARTS}
 
 -- the medium in memory beneath one that stops and fails
 abbrev pub beneath : FaultMedia StopMedia → MemMedia

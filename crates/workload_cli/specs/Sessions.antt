@@ -1,10 +1,10 @@
 -- What a line of a script is answered over a world that stops and is recovered.
 use Rattle.std.specs.Prelude.{◌≡◌, ◌⊎◌, ℕ, Bool, true, false, Option, Some, None}
-use Rattle.script.specs.tier_device.declared.fill.Fill.{Fill}
-use Rattle.script.specs.tier_device.declared.media.Media.{Ghosts}
+use Rattle.tier_device.specs.declared.fill.Fill.{Fill}
+use Rattle.tier_device.specs.declared.media.Media.{Ghosts}
 use Rattle.script.specs.SystemLines.{Asked, Books, Calls, Digests, Fails, Halts, Moves, Places, Recovers, Steps, Stops, Wipes}
 use Rattle.call_driver.specs.declared.events.Events.{Ghosts as Played}
-use Rattle.world_files.specs.recovery.system_world.WorldView.{WorldView}
+use Rattle.system_laws.specs.WorldView.{WorldView}
 use Rattle.workload_cli.specs.declared.answer.Answer.{Answer}
 use Rattle.workload_cli.specs.declared.answer.Answer.TheVariants as answers
 use Rattle.workload_cli.specs.declared.script_world.ScriptWorld.{ScriptWorld}

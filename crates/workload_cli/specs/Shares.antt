@@ -1,9 +1,9 @@
 -- What a medium of a script's world counts by.
 use Rattle.std.specs.Prelude.{◌≡◌, true, is_some, Option}
-use Rattle.script.specs.tier_device.Fault.{fault_count}
-use Rattle.script.specs.tier_device.declared.fault.FaultMedia.{FaultMedia}
-use Rattle.script.specs.tier_device.declared.stop.StopMedia.{StopMedia}
-use Rattle.script.specs.tier_device.declared.trip.Trip.{Trip}
+use Rattle.tier_device.specs.Fault.{fault_count}
+use Rattle.tier_device.specs.declared.fault.FaultMedia.{FaultMedia}
+use Rattle.tier_device.specs.declared.stop.StopMedia.{StopMedia}
+use Rattle.tier_device.specs.declared.trip.Trip.{Trip}
 use Rattle.workload_cli.specs.declared.script_media.Shares.{Shares}
 
 -- what its failures are counted by

@@ -1,7 +1,7 @@
 -- What the words of `strata_sh` ask for.
 use Rattle.std.specs.Prelude.{◌≡◌, ◌++◌, ◌&&◌, ◌⊎◌, ⊤, ℕ, List, [], ◌∷◌, Option, Some, None, codes, is_some, true}
-use Rattle.script.specs.command_line.Options.{App, Row, is_given, option_of, program_with, text_in}
-use Rattle.script.specs.command_line.declared.option_table.OptionValue.TheVariants.{Nothing, Text}
+use Rattle.command_line.specs.Options.{App, Row, is_given, option_of, program_with, text_in}
+use Rattle.command_line.specs.declared.option_table.OptionValue.TheVariants.{Nothing, Text}
 use Rattle.world_files.specs.SizeOptions.{HasBadSize, size_options, sizes_in}
 use Rattle.workload_cli.specs.declared.options.Home.{Home}
 use Rattle.workload_cli.specs.declared.options.Home.TheVariants.{Nowhere, Image, Disk}

@@ -1,22 +1,22 @@
 -- A script's world that stops and is recovered.
 use Rattle.std.specs.Prelude.{◌≡◌, ◌⊎◌, ◌<◌, ℕ, List, replicate, true, false, Option, Some, None, if◌then◌else◌}
 use Rattle.script.specs.declared.fills.TheConstants.{MEDIA}
-use Rattle.script.specs.tier_device.declared.fill.Fill.{Fill}
-use Rattle.script.specs.tier_device.declared.fill.Fill.TheVariants.{New}
-use Rattle.script.specs.tier_device.declared.media.Media.{Ghosts}
-use Rattle.world_files.specs.recovery.Errors.{OnBadLog, OnDamage}
-use Rattle.world_files.specs.recovery.FaultOrMemory.{IsFaultOrMemory}
-use Rattle.world_files.specs.recovery.PartMedia.{SomeRose}
-use Rattle.world_files.specs.recovery.Parts.{PartsView, contents_of, part_medium}
-use Rattle.world_files.specs.recovery.RecoveryStops.{IsRecoveredWorld, StaysStored}
-use Rattle.world_files.specs.recovery.Refusals.{StoresBadLog, StoresDamage}
-use Rattle.world_files.specs.recovery.settlement.declared.error.RecoveryError.{RecoveryError}
-use Rattle.world_files.specs.recovery.settlement.declared.error.RecoveryError.TheVariants.{DeviceFault}
-use Rattle.world_files.specs.recovery.layout.Places.{Sizes}
-use Rattle.world_files.specs.recovery.system_world.Contents.{CanRecover}
-use Rattle.world_files.specs.recovery.system_world.Parts.{medium_of}
-use Rattle.world_files.specs.recovery.system_world.courses.Courses.{PARTS}
-use Rattle.world_files.specs.recovery.system_world.WorldView.{WorldView}
+use Rattle.tier_device.specs.declared.fill.Fill.{Fill}
+use Rattle.tier_device.specs.declared.fill.Fill.TheVariants.{New}
+use Rattle.tier_device.specs.declared.media.Media.{Ghosts}
+use Rattle.area_recovery.specs.Errors.{OnBadLog, OnDamage}
+use Rattle.area_recovery.specs.FaultOrMemory.{IsFaultOrMemory}
+use Rattle.area_recovery.specs.PartMedia.{SomeRose}
+use Rattle.area_recovery.specs.Parts.{PartsView, contents_of, part_medium}
+use Rattle.area_recovery.specs.RecoveryStops.{IsRecoveredWorld, StaysStored}
+use Rattle.area_recovery.specs.Refusals.{StoresBadLog, StoresDamage}
+use Rattle.area_recovery.specs.declared.error.RecoveryError.{RecoveryError}
+use Rattle.area_recovery.specs.declared.error.RecoveryError.TheVariants.{DeviceFault}
+use Rattle.layout.specs.Places.{Sizes}
+use Rattle.system_laws.specs.Contents.{CanRecover}
+use Rattle.system_laws.specs.Parts.{medium_of}
+use Rattle.event_lists.specs.Courses.{PARTS}
+use Rattle.system_laws.specs.WorldView.{WorldView}
 use Rattle.workload_cli.specs.declared.answer.Answer.{Answer}
 use Rattle.workload_cli.specs.declared.answer.Answer.TheVariants as answers
 use Rattle.workload_cli.specs.declared.script_world.ScriptWorld.{ScriptWorld}

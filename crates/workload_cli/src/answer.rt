@@ -3,9 +3,13 @@ ghost use Rattle.std.specs.Prelude.{◌≡◌};
 ghost use Rattle.workload_cli.specs.AnswerText.{failure_answer};
 
 use crate::faults::recovery_fault;
-use script::{Errno, Reply, Tier, write_reply};
+use area_recovery::RecoveryError;
+use event_steps::Refusal;
+use kernel_fs::Figures;
+use posix_calls::{Errno, Reply};
+use script::write_reply;
 use std::io::{self, Write};
-use world_files::{Figures, RecoveryError, Refusal};
+use tier_device::Tier;
 
 /// What a line that can be read is answered.
 #[derive(Drop)]

@@ -1,12 +1,12 @@
 // What a world answers of its shared area.
 ghost use Rattle.std.specs.Prelude.{◌≡◌, ◌⊎◌, Ok, Err, IfErr, IfOk, OnOk, false};
-ghost use Rattle.world_files.specs.recovery.call_effects.NodeView.{view_at};
-ghost use Rattle.world_files.specs.recovery.kernel_fs.KernelAnswers.{OnRefusal};
-ghost use Rattle.world_files.specs.recovery.shared_area.Parts.{IsNoDamage};
-ghost use Rattle.world_files.specs.recovery.area_image.Store.{graph, disk};
-ghost use Rattle.script.specs.posix_calls.Path.{path_names};
-ghost use Rattle.script.specs.posix_calls.Resolve as resolve;
-ghost use Rattle.script.specs.posix_calls.declared.errno.Errno.{Errno};
+ghost use Rattle.call_effects.specs.NodeView.{view_at};
+ghost use Rattle.kernel_fs.specs.KernelAnswers.{OnRefusal};
+ghost use Rattle.shared_area.specs.Parts.{IsNoDamage};
+ghost use Rattle.area_reader.specs.Store.{graph, disk};
+ghost use Rattle.posix_calls.specs.Path.{path_names};
+ghost use Rattle.posix_calls.specs.Resolve as resolve;
+ghost use Rattle.posix_calls.specs.declared.errno.Errno.{Errno};
 ghost use Rattle.script.specs.LineValues.{path_of};
 ghost use Rattle.workload_cli.specs.OfSystem.{HasLooked, IsUnreadAnswer, tree_in};
 ghost use Rattle.workload_cli.specs.Paths.{child_in, file_along, unless_directory};
@@ -14,9 +14,15 @@ ghost use Rattle.workload_cli.specs.AnswerText.{IsNoFile, IsUnread, failure_answ
 
 use crate::answer::{Answer, failure_answer};
 use crate::system_queries::Running;
-use script::{Errno, Media, Path, PathText, ROOT, Tier};
+use area_reader::AreaError;
+use event_steps::Refusal;
+use interleavings::World;
+use kernel_fs::{Figures, KernelError};
+use posix_calls::{Errno, Path, ROOT};
+use record_validation::NodeSummary;
+use script::PathText;
 use std::alloc::Global;
-use world_files::{AreaError, Figures, KernelError, NodeSummary, Refusal, World};
+use tier_device::{Media, Tier};
 
 impl<M: Media + Drop> Running for World<M> {
     ghost use Rattle.workload_cli.specs.OfSystem.{HasLooked, LiesIn, figures_of, tree_in};

@@ -8,7 +8,8 @@ ghost use Rattle.workload_cli.specs.AnswerText.{call_answer};
 use crate::answer::{Answer, failure_answer};
 use crate::system_queries::Running;
 use call_driver::{CallResult, Events, begin_call, serve_call, step_call};
-use script::{Call, CallText, Errno, Manner};
+use posix_calls::{Call, Errno};
+use script::{CallText, Manner};
 use std::alloc::Global;
 
 /// What a client's call is answered.

@@ -1,7 +1,9 @@
 //! The lines that explain why there is no world.
 
+use area_recovery::RecoveryError;
+use host_media::FileProblem;
 use script::RunError;
-use world_files::{FileProblem, RecoveryError, WorldFileError};
+use world_files::WorldFileError;
 
 /// The fault of a run whose world can't be opened or kept.
 pub fn world_fault(error: &WorldFileError) -> RunError {

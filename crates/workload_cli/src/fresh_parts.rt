@@ -4,16 +4,19 @@ ghost use Rattle.std.specs.Prelude.{◌≡◌, [], ◌∷◌, ◌++◌, length, 
 ghost use Rattle.world_files.specs.FileErrors.{IsFormatRefused};
 ghost use Rattle.world_files.specs.Worlds.{IsEmptyWorld};
 ghost use Rattle.world_files.specs.declared.error.WorldFileError.TheVariants.{Memory};
-ghost use Rattle.world_files.specs.recovery.Regions.{REGIONS};
+ghost use Rattle.area_recovery.specs.Regions.{REGIONS};
 ghost use Rattle.workload_cli.specs.FreshWorlds.{IsFreshWorld};
 ghost use Rattle.workload_cli.specs.Rests.{beneath};
 ghost use Rattle.workload_cli.specs.Trips.{PartsCount, RegionsCount};
 
 use crate::script_media::{Counting, ScriptMedium, Trips};
 use crate::script_world::ScriptWorld;
-use script::{FaultMedia, Media, MemMedia, StopMedia};
+use interleavings::World;
+use layout::Geometry;
+use recovery::{Parts, format};
 use std::alloc::Global;
-use world_files::{Geometry, Parts, World, WorldFileError, WorldSizes, format, zero_parts};
+use tier_device::{FaultMedia, Media, MemMedia, StopMedia};
+use world_files::{WorldFileError, WorldSizes, zero_parts};
 
 /// A script's world with the empty tree, of these sizes, of which media may have none.
 pub fn format_world(

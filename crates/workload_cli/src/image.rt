@@ -1,7 +1,7 @@
 //! A script's world out of an image, and the image of one.
 
 ghost use Rattle.std.specs.Prelude.{◌≡◌, ◌+◌, ◌<◌, ◌≤◌, length, None, Some, IfErr, IfOk, IsErrOf, OnOk};
-ghost use Rattle.script.specs.tier_device.Media.{overwritten};
+ghost use Rattle.tier_device.specs.Media.{overwritten};
 ghost use Rattle.world_files.specs.FileErrors.{IsFormatRefused};
 ghost use Rattle.world_files.specs.Images.{AreRead, HoldsNoWorld};
 ghost use Rattle.world_files.specs.declared.error.WorldFileError.TheVariants.{NoWorld};
@@ -12,9 +12,11 @@ use crate::fresh_parts::{count_media, format_world};
 use crate::resting::Resting;
 use crate::script_media::{ScriptMedium, Trips};
 use crate::script_world::ScriptWorld;
-use script::{FaultMedia, Media, Patch, StopMedia};
+use recovery::{Parts, recover};
+use script::Patch;
 use std::alloc::Global;
-use world_files::{ImageFile, Parts, WorldFileError, WorldSizes, image_bytes, read_parts, recover};
+use tier_device::{FaultMedia, Media, StopMedia};
+use world_files::{ImageFile, WorldFileError, WorldSizes, image_bytes, read_parts};
 
 /// The world that an image file holds, recovered; with the empty tree, of these sizes, where there was no file.
 pub fn image_world(

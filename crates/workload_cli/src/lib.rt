@@ -30,14 +30,3 @@ pub use script_world::ScriptWorld;
 pub use session::Session;
 pub use shell::answer_line;
 pub use system_queries::Running;
-
-// Passed on to the crates above, which so need not list those below.
-pub use call_driver::{CallResult, Events, serve_call};
-pub use script::{
-    CallText, FaultMedia, Manner, REGION_SIZE, SystemLine, Trip, read_system_line, run_program,
-    write_reply,
-};
-pub use world_files::{
-    Event, Geometry, Outcome, Parts, REGIONS, RamMedia, World, WorldSizes, format, recover,
-    tier_lens,
-};

@@ -1,8 +1,10 @@
 // A running system that notes what its calls need.
 use call_driver::Events;
+use client_plan::{Mode, Need};
+use event_steps::{Event, Outcome};
+use lease_manager::LeaseMode;
 use std::alloc::Global;
 use std::io::Write;
-use world_files::{Event, LeaseMode, Mode, Need, Outcome};
 
 /// A running system that notes each need of a call, in a line of its own.
 #[derive(Drop)]

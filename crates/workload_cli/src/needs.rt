@@ -6,10 +6,12 @@ use crate::script_media::ScriptMedium;
 use crate::shell::answer_line;
 use crate::system_queries::Running;
 use call_driver::{CallResult, Events, serve_call};
-use script::{Call, SystemLine, read_system_line, write_reply};
+use interleavings::World;
+use posix_calls::Call;
+use script::{SystemLine, read_system_line, write_reply};
 use std::alloc::Global;
 use std::io::Write;
-use world_files::{DEFAULT_SIZES, World, WorldFileError};
+use world_files::{DEFAULT_SIZES, WorldFileError};
 
 /// Answers a script over a fresh system. Before what a call is answered stands what it needed, need by need. It answers status 3 where there is no system.
 pub fn run_needs(alloc: Global, script: &[u8], out: &mut Vec<u8>) -> u8 {

@@ -2,20 +2,21 @@
 
 ghost use Rattle.std.specs.Prelude.{◌≡◌, ◌<◌, ℕ, is_some, length, max, true, IfErr, IfOk};
 ghost use Rattle.script.specs.declared.fills.TheConstants.{MEDIA};
-ghost use Rattle.script.specs.tier_device.declared.fault.FaultMedia.{FaultMedia};
-ghost use Rattle.script.specs.tier_device.declared.media.Tier.{Tier};
-ghost use Rattle.script.specs.tier_device.declared.stop.StopMedia.{StopMedia};
-ghost use Rattle.script.specs.tier_device.Fault.{fault_count};
-ghost use Rattle.script.specs.tier_device.Memory.{IsAtRest, memory_held, memory_seen};
-ghost use Rattle.script.specs.tier_device.Stop.{medium_of};
+ghost use Rattle.tier_device.specs.declared.fault.FaultMedia.{FaultMedia};
+ghost use Rattle.tier_device.specs.declared.media.Tier.{Tier};
+ghost use Rattle.tier_device.specs.declared.stop.StopMedia.{StopMedia};
+ghost use Rattle.tier_device.specs.Fault.{fault_count};
+ghost use Rattle.tier_device.specs.Memory.{IsAtRest, memory_held, memory_seen};
+ghost use Rattle.tier_device.specs.Stop.{medium_of};
 ghost use Rattle.workload_cli.specs.Rests.{IsLeftOf, beneath};
 ghost use Rattle.workload_cli.specs.Shares.{SharesFailure, failure_share};
 
 use crate::resting::Resting;
-use script::{FaultMedia, Fill, MEDIA, MemMedia, StopMedia, Trip};
+use area_recovery::RecoveryError;
+use script::MEDIA;
 use std::alloc::{AllocError, Global};
 use std::mem;
-use world_files::RecoveryError;
+use tier_device::{FaultMedia, Fill, MemMedia, StopMedia, Trip};
 
 /// A medium of a script's world in memory.
 pub type ScriptMedium = FaultMedia<StopMedia>;

@@ -1,17 +1,18 @@
 // What a script asks of a running system beside its events.
 ghost use Rattle.std.specs.Prelude.{◌≡◌, ℕ, Bool, false, Ok, Option, Some, None, IfErr, IfOk, OnOk};
-ghost use Rattle.script.specs.tier_device.declared.media.Tier.{Tier};
-ghost use Rattle.script.specs.posix_calls.Tree.{Tree};
-ghost use Rattle.world_files.specs.recovery.event_steps.declared.outcome.Refusal.TheVariants as refusals;
-ghost use Rattle.world_files.specs.recovery.kernel_fs.declared.kernel.Figures.{Figures};
+ghost use Rattle.tier_device.specs.declared.media.Tier.{Tier};
+ghost use Rattle.posix_calls.specs.Tree.{Tree};
+ghost use Rattle.event_steps.specs.declared.outcome.Refusal.TheVariants as refusals;
+ghost use Rattle.kernel_fs.specs.declared.kernel.Figures.{Figures};
 ghost use Rattle.script.specs.LineValues.{path_of};
 ghost use Rattle.workload_cli.specs.Paths.{file_in};
 ghost use Rattle.workload_cli.specs.AnswerText.{IsNoFile};
 
 use crate::answer::Answer;
-use script::{PathText, Tier};
+use kernel_fs::Figures;
+use script::PathText;
 use std::alloc::Global;
-use world_files::Figures;
+use tier_device::Tier;
 
 /// A running system that answers questions on its shared area, or says why it can't.
 pub trait Running {

@@ -1,7 +1,7 @@
 // Where the blocks of files lie.
 ghost use Rattle.std.specs.Prelude.{◌≡◌, ◌-◌, ◌^◌, min};
-ghost use Rattle.world_files.specs.recovery.event_steps.declared.event.Event.TheVariants as kinds;
-ghost use Rattle.world_files.specs.recovery.event_steps.declared.outcome.Outcome.{Outcome};
+ghost use Rattle.event_steps.specs.declared.event.Event.TheVariants as kinds;
+ghost use Rattle.event_steps.specs.declared.outcome.Outcome.{Outcome};
 ghost use Rattle.script.specs.LineValues.{path_of};
 ghost use Rattle.workload_cli.specs.LineResults.{IsMoveAnswered, IsPlaceAnswered};
 ghost use Rattle.workload_cli.specs.AnswerText.{tier_below, move_answer};
@@ -9,9 +9,10 @@ ghost use Rattle.workload_cli.specs.AnswerText.{tier_below, move_answer};
 use crate::answer::Answer;
 use crate::system_queries::Running;
 use call_driver::Events;
-use script::{LowerTier, PathText, Tier};
+use event_steps::{Event, Outcome};
+use script::{LowerTier, PathText};
 use std::alloc::Global;
-use world_files::{Event, Outcome};
+use tier_device::Tier;
 
 /// A run of a file's blocks, `run.1` of them from logical block `run.0` on, goes down to a tier.
 pub fn answer_migrate<S: Events + Running>(

@@ -2,7 +2,7 @@
 use Rattle.std.proofs.Common.{inl}
 use Rattle.host_media.specs.declared.disk_file.DiskFile.{DiskFile}
 use Rattle.host_media.specs.declared.file.FileMedia.{FileMedia}
-use Rattle.host_media.specs.tier_device.declared.media.Media.{Ghosts}
+use Rattle.tier_device.specs.declared.media.Media.{Ghosts}
 use Rattle.world_files.specs.Disks.{IsDiskRefused}
 use Rattle.world_files.specs.FileErrors.{IsOfFile}
 use Rattle.world_files.specs.Fronts.{IsFrontRefused}

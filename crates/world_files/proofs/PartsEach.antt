@@ -6,13 +6,13 @@ use Rattle.host_media.specs.File.{IsOpened, file_begin, file_left, file_moment, 
 use Rattle.host_media.specs.Images.{media_bytes, medium_sizes}
 use Rattle.host_media.specs.declared.file.FileMedia.{FileMedia}
 use Rattle.host_media.specs.declared.sizes.Sizes.{Sizes as TierSizes}
-use Rattle.host_media.specs.tier_device.AfterStop.{AtRest}
-use Rattle.host_media.specs.tier_device.declared.media.Media.{Ghosts}
-use Rattle.host_media.specs.tier_device.declared.media.Tier.{Tier}
-use Rattle.recovery.specs.Parts.{AreAtRest, PartsView, part_medium}
-use Rattle.recovery.specs.Regions.{REGIONS}
-use Rattle.recovery.specs.layout.Places.{Sizes}
-use Rattle.recovery.specs.system_world.courses.Courses.{PARTS}
+use Rattle.tier_device.specs.AfterStop.{AtRest}
+use Rattle.tier_device.specs.declared.media.Media.{Ghosts}
+use Rattle.tier_device.specs.declared.media.Tier.{Tier}
+use Rattle.area_recovery.specs.Parts.{AreAtRest, PartsView, part_medium}
+use Rattle.area_recovery.specs.Regions.{REGIONS}
+use Rattle.layout.specs.Places.{Sizes}
+use Rattle.event_lists.specs.Courses.{PARTS}
 use Rattle.world_files.specs.Disks.{AreOnDisk}
 use Rattle.world_files.specs.Images.{AreRead}
 use Rattle.world_files.specs.PartSizes.{IsGeometryIn, image_size, part_sizes}

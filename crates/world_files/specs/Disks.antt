@@ -2,17 +2,17 @@
 use Rattle.std.specs.Prelude.{◌≡◌, ◌⊎◌, ◌∷◌, All, length, map, Some}
 use Rattle.host_media.specs.declared.disk_file.DiskFile.{DiskFile}
 use Rattle.host_media.specs.declared.file.FileMedia.{FileMedia}
-use Rattle.host_media.specs.tier_device.declared.media.Media.{Ghosts}
+use Rattle.tier_device.specs.declared.media.Media.{Ghosts}
 use Rattle.host_media.specs.DiskFile.{file_sizes, places_from}
 use Rattle.host_media.specs.File.{IsOpened, file_begin}
 use Rattle.recovery.specs.FreshContents.{AreLater}
-use Rattle.recovery.specs.Parts.{PartsView, part_medium}
-use Rattle.recovery.specs.RecoveryStops.{IsRecoveredWorld}
-use Rattle.recovery.specs.Regions.{REGIONS}
-use Rattle.recovery.specs.settlement.declared.error.RecoveryError.{RecoveryError}
-use Rattle.recovery.specs.layout.Places.{Sizes}
-use Rattle.recovery.specs.system_world.Parts.{medium_of}
-use Rattle.recovery.specs.system_world.WorldView.{WorldView}
+use Rattle.area_recovery.specs.Parts.{PartsView, part_medium}
+use Rattle.area_recovery.specs.RecoveryStops.{IsRecoveredWorld}
+use Rattle.area_recovery.specs.Regions.{REGIONS}
+use Rattle.area_recovery.specs.declared.error.RecoveryError.{RecoveryError}
+use Rattle.layout.specs.Places.{Sizes}
+use Rattle.system_laws.specs.Parts.{medium_of}
+use Rattle.system_laws.specs.WorldView.{WorldView}
 use Rattle.world_files.specs.declared.error.WorldFileError.{WorldFileError}
 use Rattle.world_files.specs.declared.error.WorldFileError.TheVariants as errors
 use Rattle.world_files.specs.declared.read_at.ReadAt.{Ghosts as Reads}

@@ -1,16 +1,16 @@
 -- What is known of a world that was made, or recovered.
 use Rattle.std.specs.Prelude.{◌≡◌, ℕ}
-use Rattle.host_media.specs.tier_device.declared.media.Media.{Ghosts}
-use Rattle.recovery.specs.Parts.{AreAtRest, contents_of}
-use Rattle.recovery.specs.RecoveryStops.{AreGivenBack}
-use Rattle.recovery.specs.Refusals.{IsCause}
-use Rattle.recovery.specs.settlement.declared.error.RecoveryError.{RecoveryError}
-use Rattle.recovery.specs.layout.Places.{Sizes}
-use Rattle.recovery.specs.system_world.KeptCalls.{no_calls}
-use Rattle.recovery.specs.system_world.Parts.{medium_of}
-use Rattle.recovery.specs.system_world.WorldTree.{world_tree}
-use Rattle.recovery.specs.system_world.WorldView.{WorldView}
-use Rattle.recovery.specs.system_world.event_steps.posix_calls.EmptyTree.{empty_state}
+use Rattle.tier_device.specs.declared.media.Media.{Ghosts}
+use Rattle.area_recovery.specs.Parts.{AreAtRest, contents_of}
+use Rattle.area_recovery.specs.RecoveryStops.{AreGivenBack}
+use Rattle.area_recovery.specs.Refusals.{IsCause}
+use Rattle.area_recovery.specs.declared.error.RecoveryError.{RecoveryError}
+use Rattle.layout.specs.Places.{Sizes}
+use Rattle.system_laws.specs.KeptCalls.{no_calls}
+use Rattle.system_laws.specs.Parts.{medium_of}
+use Rattle.system_laws.specs.WorldTree.{world_tree}
+use Rattle.system_laws.specs.WorldView.{WorldView}
+use Rattle.posix_calls.specs.EmptyTree.{empty_state}
 
 -- The world with the empty tree, of this geometry, with nothing pending on its media.
 pub record IsEmptyWorld {M : Type 0} (device : Ghosts M) (g : Sizes) (w : WorldView M) : Type 0 where

@@ -10,10 +10,13 @@ use crate::geometry::{image_len, part_sizes};
 use crate::parts::parts_of;
 use crate::read_at::ReadAt;
 use crate::sizes::WorldSizes;
-use host_media::{DiskFile, FileMedia, Media};
-use recovery::{Geometry, Parts, World, format, recover};
+use host_media::{DiskFile, FileMedia};
+use interleavings::World;
+use layout::Geometry;
+use recovery::{Parts, format, recover};
 use std::alloc::Global;
 use std::fs::{self, File, Files};
+use tier_device::Media;
 
 /// The world that a file keeps, recovered; where there is no such file, the one with the empty tree, of these sizes, in a file that is made. No other process has the
 /// file as long as the world is there.

@@ -1,8 +1,8 @@
 // The media of a world as one row of bytes.
 ghost use Rattle.std.specs.Prelude.{◌≡◌, ◌∷◌, map, replicate, IfErr, IfOk, IsErrOf, length};
 ghost use Rattle.host_media.specs.Images.{media_bytes, medium_sizes};
-ghost use Rattle.host_media.specs.tier_device.Memory.{memory_seen};
-ghost use Rattle.recovery.specs.Parts.{AreAtRest, part_medium};
+ghost use Rattle.tier_device.specs.Memory.{memory_seen};
+ghost use Rattle.area_recovery.specs.Parts.{AreAtRest, part_medium};
 ghost use Rattle.world_files.specs.FileErrors.{IsFileOrMemory};
 ghost use Rattle.world_files.specs.Images.{AreRead, HoldsNoWorld, IsReadRefused, parts_image};
 ghost use Rattle.world_files.specs.PartSizes.{IsGeometryIn, image_size, part_sizes};
@@ -11,9 +11,11 @@ ghost use Rattle.world_files.specs.declared.error.WorldFileError.TheVariants.{No
 use crate::error::WorldFileError;
 use crate::geometry::{image_len, part_sizes, read_geometry};
 use crate::parts::{media_of, parts_of};
-use host_media::{Media, MemMedia, image_of, read_image};
-use recovery::{Geometry, Parts};
+use host_media::{image_of, read_image};
+use layout::Geometry;
+use recovery::Parts;
 use std::alloc::Global;
+use tier_device::{Media, MemMedia};
 
 /// The media, at rest, whose bytes these are: first those of the shared medium, whose superblock gives the geometry, then those of the regions.
 ///

@@ -28,11 +28,3 @@ pub use size_options::{
 };
 pub use sizes::{SizeRule, WorldSizes};
 pub use structures::structure_name;
-
-// Passed on to the crates above, which so need not list those below.
-pub use host_media::{FileMedia, FileProblem, RamMedia};
-pub use recovery::{
-    AreaError, BLOCK, CLIENTS, ClientSlot, Event, Figures, Geometry, KernelError, LeaseMode, Mode,
-    Need, NodeSummary, Outcome, Parts, REGION_SIZE, REGIONS, RecoveryError, Refusal, Shared, Super,
-    What, World, format, play, recover, take_apart,
-};

@@ -1,12 +1,12 @@
 // The parts of a world as a row of media.
 ghost use Rattle.std.specs.Prelude.{◌≡◌, ◌∷◌, length, IfErr, IfOk};
-ghost use Rattle.recovery.specs.Regions.{REGIONS};
-ghost use Rattle.recovery.specs.system_world.courses.Courses.{PARTS};
+ghost use Rattle.area_recovery.specs.Regions.{REGIONS};
+ghost use Rattle.event_lists.specs.Courses.{PARTS};
 ghost use Rattle.world_files.specs.declared.error.WorldFileError.TheVariants.{Memory};
 
 use crate::error::WorldFileError;
-use host_media::Media;
 use recovery::Parts;
+use tier_device::Media;
 
 /// The parts whose shared medium is the first of these media, and whose regions are the others.
 pub(crate) fn parts_of<M: Media + Drop>(media: Vec<M>) -> Parts<M>

@@ -1,7 +1,7 @@
 -- No part of the invariant follows from the others: each has its small world.
 use Rattle.std.proofs.Common.{◌≡◌, ℕ, ◌+◌, ◌<◌, length, arith}
 use Rattle.std.proofs.lemmas.List.{length-replicate}
-use Rattle.call_effects.specs.posix_calls.declared.limits.TheConstants.{MAX_FILE}
+use Rattle.posix_calls.specs.declared.limits.TheConstants.{MAX_FILE}
 use Rattle.world_invariant.specs.Parts.{BookPart, NumbersFree, NumbersInRange, NumbersInOneHand, NodesWithin, UnitsFit, ClientPart, OwnNumber, MarkNotBefore, MarkNotPast, AwayHasRecords, BackHasNone, UnwipedHasNone, UnwipedIsIdle, RecordsLeased, RecordsPaid, RecordsNameNone, RecordsKeepLimits, UnitsBooked, MadeBooked, MadeOnce, GrantedBooked, GrantedUnused, CopiesLeased, BlocksLeased, OpenPinned, PinsBooked, BegunPlanned, BegunHasEffects, BegunPinned, SettledClosed, SettledIdle, WorldPart, Book, Each, LeasesLegal, WholeSound, WholeKnown, BreaksAlone}
 use Rattle.world_invariant.specs.BrokenParts.{broken_book, broken_client, broken_world}
 use Rattle.world_invariant.specs.BrokenWorlds.{zeros}

@@ -2,7 +2,7 @@
 use Rattle.std.proofs.Common.{◌≡◌, ◌≢◌, ◌<◌, ◌≤◌, ◌==◌, ◌||◌, Bool, true, false, refl, None, ap, sym, arith}
 use Rattle.std.specs.Prelude.{◌&&◌, not}
 use Rattle.std.proofs.lemmas.Bool.{false≢true}
-use Rattle.call_effects.specs.posix_calls.Operations.{is_client}
+use Rattle.posix_calls.specs.Operations.{is_client}
 use Rattle.call_effects.specs.Fits.{IsNew}
 use Rattle.call_effects.proofs.Served.{granted_agrees}
 use Rattle.world_invariant.specs.Logs.{after_clients}

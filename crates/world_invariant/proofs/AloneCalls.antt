@@ -2,7 +2,7 @@
 use Rattle.std.proofs.Common.{◌≡◌, ◌≢◌, ◌==◌, ◌||◌, [], true, false, refl, Some, ap, sym, ◌∙◌, arith}
 use Rattle.std.specs.Prelude.{is_some}
 use Rattle.std.proofs.lemmas.Bool.{false≢true}
-use Rattle.call_effects.specs.posix_calls.Kinds.{opens}
+use Rattle.posix_calls.specs.Kinds.{opens}
 use Rattle.call_effects.specs.Knowledge.{Agrees}
 use Rattle.world_invariant.specs.World.{Alive, Failed, Settled, Begun, Client, whole_graph, held_descriptors}
 use Rattle.world_invariant.specs.ClientSteps.{IsBegun, after_reply}
@@ -18,7 +18,7 @@ use Rattle.world_invariant.proofs.Parts.{client_parts}
 use Rattle.world_invariant.proofs.Regions.{taken_back_holds}
 use Rattle.world_invariant.proofs.Walks.{ready_holds, planned, held_both}
 use Rattle.world_invariant.proofs.NewNodes.{new_paid, new_names_none, new_keeps_limits}
-use Rattle.call_effects.specs.file_graph.declared.effect.Kind.TheVariants as kind
+use Rattle.file_graph.specs.declared.effect.Kind.TheVariants as kind
 use Rattle.world_invariant.proofs.UnlinkWalks.{opening_holds, kept_holds}
 
 opening_parts : (q : ClientPart) → HoldsOf q initial_world.kernel.shared (initial_world.kernel.accounts 1) 1 (initial_world.clients 1)

@@ -1,11 +1,11 @@
 -- All parts of the invariant but one, of a world in which nobody but client 1 has anything, over any graph.
 use Rattle.std.proofs.Common.{◌≡◌, ◌≢◌, inl, ℕ, ◌+◌, ◌<◌, ◌≤◌, true, false, refl, None, ap, sym, ◌∙◌, arith}
 use Rattle.std.proofs.lemmas.Bool.{false≢true}
-use Rattle.call_effects.specs.posix_calls.Tree.{sum_up_to}
-use Rattle.call_effects.specs.posix_calls.Operations.{is_client}
-use Rattle.call_effects.proofs.posix_calls_lemmas.Sums.{all_zero, one_changes, same_if}
-use Rattle.call_effects.specs.file_graph.Graph.{Graph}
-use Rattle.call_effects.specs.file_graph.Units.{charge}
+use Rattle.posix_calls.specs.Tree.{sum_up_to}
+use Rattle.posix_calls.specs.Operations.{is_client}
+use Rattle.posix_calls.proofs.Sums.{all_zero, one_changes, same_if}
+use Rattle.file_graph.specs.Graph.{Graph}
+use Rattle.file_graph.specs.Units.{charge}
 use Rattle.call_effects.specs.ClosedGraph.{nobody}
 use Rattle.call_effects.specs.Wholes.{IsSound}
 use Rattle.call_effects.specs.Knowledge.{Knowledge, Agrees}

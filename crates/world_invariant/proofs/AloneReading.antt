@@ -1,16 +1,16 @@
 -- A small world in which a call that has begun its record reads, and changes nothing.
 use Rattle.std.proofs.Common.{◌≡◌, ◌≢◌, ℕ, ◌≤◌, List, [], ◌∷◌, refl, Some, None, Option, Ok, ap, sym, ◌∙◌, subst, arith}
 use Rattle.std.proofs.lemmas.Bool.{false≢true}
-use Rattle.call_effects.specs.posix_calls.Tree.{sum_up_to}
-use Rattle.call_effects.specs.posix_calls.Query.{Query, Range}
-use Rattle.call_effects.specs.posix_calls.Part.{Part, Found, Known, Unknown, blocks_missing, run_part}
-use Rattle.call_effects.specs.posix_calls.declared.operation.Missing.{Missing}
-use Rattle.call_effects.specs.posix_calls.Decide.{pread}
-use Rattle.call_effects.specs.posix_calls.Kinds.{opens}
-use Rattle.call_effects.proofs.posix_calls_lemmas.Chain.{part_bind, part_gives, part_refuses}
-use Rattle.call_effects.proofs.posix_calls_lemmas.Sums.{all_zero}
-use Rattle.call_effects.specs.file_graph.Graph.{Graph}
-use Rattle.call_effects.specs.file_graph.Units.{growth}
+use Rattle.posix_calls.specs.Tree.{sum_up_to}
+use Rattle.posix_calls.specs.Query.{Query, Range}
+use Rattle.posix_calls.specs.Part.{Part, Found, Known, Unknown, blocks_missing, run_part}
+use Rattle.posix_calls.specs.declared.operation.Missing.{Missing}
+use Rattle.posix_calls.specs.Decide.{pread}
+use Rattle.posix_calls.specs.Kinds.{opens}
+use Rattle.posix_calls.proofs.Chain.{part_bind, part_gives, part_refuses}
+use Rattle.posix_calls.proofs.Sums.{all_zero}
+use Rattle.file_graph.specs.Graph.{Graph}
+use Rattle.file_graph.specs.Units.{growth}
 use Rattle.call_effects.specs.Knowledge.{IsPlanned, Knowledge, part_of}
 use Rattle.world_invariant.specs.World.{Begun, Client}
 use Rattle.world_invariant.specs.Invariant.{IsCoherent}

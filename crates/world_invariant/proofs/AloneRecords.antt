@@ -4,19 +4,19 @@ use Rattle.std.specs.Prelude.{is_some, option_map}
 use Rattle.std.specs.FinMap as fin
 use Rattle.std.proofs.lemmas.Bool.{false≢true, eqb-true}
 use Rattle.std.proofs.lemmas.Bool.Decides.{eqb_tells}
-use Rattle.call_effects.specs.posix_calls.Content.{Entries}
-use Rattle.call_effects.specs.posix_calls.Units.{directory_units}
-use Rattle.call_effects.specs.posix_calls.Tree.{sum_up_to}
-use Rattle.call_effects.proofs.posix_calls_lemmas.Counts.{order}
-use Rattle.call_effects.proofs.posix_calls_lemmas.Sums.{all_zero, one_changes}
-use Rattle.call_effects.specs.file_graph.Graph.{Graph, Node, fresh, after_effects, touches, is_among}
-use Rattle.call_effects.specs.file_graph.Units.{charge, growth, rise}
-use Rattle.call_effects.specs.file_graph.declared.effect.Kind.{Kind}
-use Rattle.call_effects.specs.file_graph.declared.effect.Kind.TheVariants as kind
+use Rattle.posix_calls.specs.Content.{Entries}
+use Rattle.posix_calls.specs.Units.{directory_units}
+use Rattle.posix_calls.specs.Tree.{sum_up_to}
+use Rattle.posix_calls.proofs.Counts.{order}
+use Rattle.posix_calls.proofs.Sums.{all_zero, one_changes}
+use Rattle.file_graph.specs.Graph.{Graph, Node, fresh, after_effects, touches, is_among}
+use Rattle.file_graph.specs.Units.{charge, growth, rise}
+use Rattle.file_graph.specs.declared.effect.Kind.{Kind}
+use Rattle.file_graph.specs.declared.effect.Kind.TheVariants as kind
 use Rattle.call_effects.specs.ClosedGraph.{nobody}
 use Rattle.call_effects.specs.Wholes.{IsSound}
 use Rattle.call_effects.proofs.Rises.{len_inserted}
-use Rattle.call_effects.specs.log_record.declared.format.Record.{Record}
+use Rattle.log_record.specs.declared.format.Record.{Record}
 use Rattle.world_invariant.specs.Limits.{AreWithin}
 use Rattle.world_invariant.specs.Logs.{after_records, after_clients, NamesNone, IsPaid}
 use Rattle.world_invariant.specs.World.{Account, Away, Client, whole_graph, held_descriptors, has_lease}

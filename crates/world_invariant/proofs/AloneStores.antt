@@ -1,11 +1,11 @@
 -- Worlds in which nobody uses a graph: one part of the invariant at a time is not so of the graph, and all others hold.
 use Rattle.std.proofs.Common.{◌≡◌, ◌≢◌, ℕ, ◌+◌, ◌<◌, ◌≤◌, List, [], length, refl, sym, subst, arith}
 use Rattle.std.proofs.lemmas.Bool.{false≢true}
-use Rattle.call_effects.specs.posix_calls.Tree.{sum_up_to}
-use Rattle.call_effects.specs.posix_calls.declared.limits.TheConstants.{MAX_FILE}
-use Rattle.call_effects.proofs.posix_calls_lemmas.Sums.{all_zero}
-use Rattle.call_effects.specs.file_graph.Graph.{Graph, fresh, after_effects}
-use Rattle.call_effects.specs.file_graph.Units.{charge}
+use Rattle.posix_calls.specs.Tree.{sum_up_to}
+use Rattle.posix_calls.specs.declared.limits.TheConstants.{MAX_FILE}
+use Rattle.posix_calls.proofs.Sums.{all_zero}
+use Rattle.file_graph.specs.Graph.{Graph, fresh, after_effects}
+use Rattle.file_graph.specs.Units.{charge}
 use Rattle.call_effects.specs.ClosedGraph.{nobody}
 use Rattle.call_effects.specs.Wholes.{IsSound}
 use Rattle.world_invariant.specs.Limits.{AreWithin}

@@ -1,9 +1,9 @@
 -- What the kernel does beside a begun call, and beside an open file.
 use Rattle.std.proofs.Common.{◌≡◌, ℕ, true, List, Some, ap, sym, ◌∙◌}
-use Rattle.call_effects.specs.posix_calls.Operations.{is_client}
-use Rattle.call_effects.specs.posix_calls.declared.descriptor.Descriptor.{Descriptor}
-use Rattle.call_effects.specs.file_graph.Graph.{after_effects}
-use Rattle.call_effects.specs.log_record.declared.format.Record.{Record}
+use Rattle.posix_calls.specs.Operations.{is_client}
+use Rattle.posix_calls.specs.declared.descriptor.Descriptor.{Descriptor}
+use Rattle.file_graph.specs.Graph.{after_effects}
+use Rattle.log_record.specs.declared.format.Record.{Record}
 use Rattle.world_invariant.specs.World.{Begun, Client, World, whole_graph}
 use Rattle.world_invariant.specs.Invariant.{IsCoherent}
 use Rattle.world_invariant.specs.ClientSteps.{IsBegun, after_reply}

@@ -3,10 +3,10 @@ use Rattle.std.proofs.Common.{◌≡◌, ◌≢◌, inl, inr, ℕ, ◌-◌, ◌�
 use Rattle.std.specs.Prelude.{is_some, option_map}
 use Rattle.std.proofs.lemmas.Bool.{false≢true}
 use Rattle.std.proofs.lemmas.Bool.Decides.{eqb_tells}
-use Rattle.call_effects.specs.posix_calls.Tree.{State, refers_to, has_open, is_open}
-use Rattle.call_effects.specs.posix_calls.Operations.{is_client}
-use Rattle.call_effects.proofs.posix_calls_lemmas.Sums.{any_there, any_is}
-use Rattle.call_effects.specs.file_graph.Graph.{FileBody}
+use Rattle.posix_calls.specs.Tree.{State, refers_to, has_open, is_open}
+use Rattle.posix_calls.specs.Operations.{is_client}
+use Rattle.posix_calls.proofs.Sums.{any_there, any_is}
+use Rattle.file_graph.specs.Graph.{FileBody}
 use Rattle.call_effects.specs.Knowledge.{Agrees}
 use Rattle.call_effects.specs.Wholes.{keep, tree_node}
 use Rattle.world_invariant.specs.Limits.{IsWithin, AreWithin}

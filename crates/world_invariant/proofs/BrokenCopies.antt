@@ -3,20 +3,20 @@ use Rattle.std.proofs.Common.{◌≡◌, inl, inr, ℕ, ◌+◌, [], ◌∷◌, 
 use Rattle.std.specs.Prelude.{is_some, option_map}
 use Rattle.std.specs.FinMap as fin
 use Rattle.std.proofs.lemmas.Bool.{false≢true}
-use Rattle.call_effects.specs.posix_calls.Content.{Entries}
-use Rattle.call_effects.specs.posix_calls.Tree.{Tree, Dir, names_of}
-use Rattle.call_effects.specs.posix_calls.Query.{seen_node, view_of, run, ◌>>=◌}
-use Rattle.call_effects.specs.posix_calls.Part.{Known, run_part}
-use Rattle.call_effects.specs.posix_calls.Walk.{walk}
-use Rattle.call_effects.specs.posix_calls.Decide.{stat, node_description}
-use Rattle.call_effects.specs.posix_calls.Operations.{Step, Follows, answer, reply_of}
-use Rattle.call_effects.specs.posix_calls.declared.call.Reply.TheVariants as reply
-use Rattle.call_effects.specs.posix_calls.declared.operation.Operation.TheVariants.{Tell}
-use Rattle.call_effects.proofs.posix_calls_lemmas.Chain.{part_bind, part_gives, part_refuses}
-use Rattle.call_effects.proofs.posix_calls_lemmas.Counts.{order}
-use Rattle.call_effects.specs.file_graph.Graph.{fresh}
-use Rattle.call_effects.specs.file_graph.declared.effect.Kind.{Kind}
-use Rattle.call_effects.specs.file_graph.declared.effect.Kind.TheVariants as kind
+use Rattle.posix_calls.specs.Content.{Entries}
+use Rattle.posix_calls.specs.Tree.{Tree, Dir, names_of}
+use Rattle.posix_calls.specs.Query.{seen_node, view_of, run, ◌>>=◌}
+use Rattle.posix_calls.specs.Part.{Known, run_part}
+use Rattle.posix_calls.specs.Walk.{walk}
+use Rattle.posix_calls.specs.Decide.{stat, node_description}
+use Rattle.posix_calls.specs.Operations.{Step, Follows, answer, reply_of}
+use Rattle.posix_calls.specs.declared.call.Reply.TheVariants as reply
+use Rattle.posix_calls.specs.declared.operation.Operation.TheVariants.{Tell}
+use Rattle.posix_calls.proofs.Chain.{part_bind, part_gives, part_refuses}
+use Rattle.posix_calls.proofs.Counts.{order}
+use Rattle.file_graph.specs.Graph.{fresh}
+use Rattle.file_graph.specs.declared.effect.Kind.{Kind}
+use Rattle.file_graph.specs.declared.effect.Kind.TheVariants as kind
 use Rattle.call_effects.specs.Knowledge.{Agrees, part_of}
 use Rattle.call_effects.specs.NodeView.{view_at}
 use Rattle.call_effects.specs.Wholes.{without_kinds}

@@ -2,9 +2,9 @@
 use Rattle.std.proofs.Common.{◌≡◌, ◌≢◌, inl, ◌-◌, [], ◌∷◌, true, false, refl, Some, None, ap, sym, ◌∙◌, lit≤}
 use Rattle.std.specs.Prelude.{is_some, option_map}
 use Rattle.std.proofs.lemmas.Bool.{false≢true}
-use Rattle.call_effects.specs.posix_calls.Tree.{State, refers_to, has_open, is_open}
-use Rattle.call_effects.proofs.posix_calls_lemmas.Sums.{any_there}
-use Rattle.call_effects.specs.file_graph.Graph.{FileBody}
+use Rattle.posix_calls.specs.Tree.{State, refers_to, has_open, is_open}
+use Rattle.posix_calls.proofs.Sums.{any_there}
+use Rattle.file_graph.specs.Graph.{FileBody}
 use Rattle.call_effects.specs.Wholes.{keep, tree_node}
 use Rattle.world_invariant.specs.Logs.{after_clients}
 use Rattle.world_invariant.specs.World.{World, whole_graph, held_descriptors, world_state}

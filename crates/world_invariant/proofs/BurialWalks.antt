@@ -2,9 +2,9 @@
 use Rattle.std.proofs.Common.{◌≡◌, inl, inr, ℕ, false, [], ◌∷◌, refl, ap, sym, ◌∙◌}
 use Rattle.std.proofs.lemmas.Bool.{false≢true}
 use Rattle.std.proofs.lemmas.Bool.Decides.{eqb_tells}
-use Rattle.call_effects.specs.posix_calls.Operations.{Step}
-use Rattle.call_effects.specs.posix_calls.declared.call.Reply.TheVariants.{Done}
-use Rattle.call_effects.proofs.posix_calls_lemmas.Sums.{same_if}
+use Rattle.posix_calls.specs.Operations.{Step}
+use Rattle.posix_calls.specs.declared.call.Reply.TheVariants.{Done}
+use Rattle.posix_calls.proofs.Sums.{same_if}
 use Rattle.world_invariant.specs.World.{Alive, Failed, Dead, world_state}
 use Rattle.world_invariant.specs.Invariant.{IsCoherent}
 use Rattle.world_invariant.specs.ClientSteps.{IsBegun}

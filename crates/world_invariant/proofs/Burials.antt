@@ -2,12 +2,12 @@
 use Rattle.std.proofs.Common.{◌≡◌, ◌≢◌, inl, inr, ℕ, ◌+◌, ◌-◌, ◌≤◌, cond, Bool, true, [], refl, Some, None, ap, sym, ◌∙◌, arith}
 use Rattle.std.proofs.lemmas.Bool.{false≢true}
 use Rattle.std.proofs.lemmas.Bool.Decides.{eqb_tells}
-use Rattle.call_effects.specs.posix_calls.Tree.{Own, Descriptors, sum_up_to}
-use Rattle.call_effects.specs.posix_calls.Operations.{is_client}
-use Rattle.call_effects.specs.posix_calls.declared.descriptor.Descriptor.{Descriptor}
-use Rattle.call_effects.proofs.posix_calls_lemmas.Sums.{same_if, there_if}
-use Rattle.call_effects.specs.file_graph.Graph.{Graph}
-use Rattle.call_effects.specs.file_graph.Units.{charge}
+use Rattle.posix_calls.specs.Tree.{Own, Descriptors, sum_up_to}
+use Rattle.posix_calls.specs.Operations.{is_client}
+use Rattle.posix_calls.specs.declared.descriptor.Descriptor.{Descriptor}
+use Rattle.posix_calls.proofs.Sums.{same_if, there_if}
+use Rattle.file_graph.specs.Graph.{Graph}
+use Rattle.file_graph.specs.Units.{charge}
 use Rattle.call_effects.specs.ClosedGraph.{without_client}
 use Rattle.call_effects.specs.Wholes.{IsSound, state_of}
 use Rattle.call_effects.specs.Knowledge.{Agrees}

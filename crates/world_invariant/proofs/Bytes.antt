@@ -1,23 +1,23 @@
 -- Only a call that reads bytes of a file asks for any, and it has no record.
 use Rattle.std.proofs.Common.{◌≡◌, ◌≢◌, ℕ, cond, Bool, true, false, List, [], ◌∷◌, length, nat_lt, refl, Some, None, Option, Ok, Err, Result, ap, ◌∙◌}
 use Rattle.std.specs.FinMap as fin
-use Rattle.call_effects.specs.posix_calls.Tree.{Own}
-use Rattle.call_effects.specs.posix_calls.Query.{Seen, File, Dir, Query, Gives, Refuses, IsDir, Look, Range, ◌>>=◌}
-use Rattle.call_effects.specs.posix_calls.Part.{Part, Found, Known, Unknown, run_part}
-use Rattle.call_effects.specs.posix_calls.Walk.{Place, refuse, read_or_error, entries_at, size_at, names_at, kind_at, directory, directory_if, walk, leads_to, there, root_place}
-use Rattle.call_effects.specs.posix_calls.Decide.{open_inode, number_or, empties, open_there, write_at, replaced_at, replacing_dir, rename_to, node_description, open_path, close, pread, pwrite, truncate, mkdir, rmdir, link, unlink, rename, list_path, stat, decide}
-use Rattle.call_effects.specs.posix_calls.declared.call.Call.{Call}
-use Rattle.call_effects.specs.posix_calls.declared.call.Call.TheVariants as call
-use Rattle.call_effects.specs.posix_calls.declared.call.Flags.{Flags}
-use Rattle.call_effects.specs.posix_calls.declared.call.Reply.TheVariants as replies
-use Rattle.call_effects.specs.posix_calls.declared.descriptor.Descriptor.{Descriptor}
-use Rattle.call_effects.specs.posix_calls.declared.errno.Errno.{Errno}
-use Rattle.call_effects.specs.posix_calls.declared.errno.Errno.TheVariants as errno
-use Rattle.call_effects.specs.posix_calls.declared.operation.Missing.TheVariants as missing
-use Rattle.call_effects.specs.posix_calls.declared.operation.Operation.{Operation}
-use Rattle.call_effects.specs.posix_calls.declared.operation.Operation.TheVariants.{Tell, CloseFile}
-use Rattle.call_effects.specs.posix_calls.declared.operation.Replaced.TheVariants.{OldFile}
-use Rattle.call_effects.specs.file_graph.declared.effect.Effect.{Effect}
+use Rattle.posix_calls.specs.Tree.{Own}
+use Rattle.posix_calls.specs.Query.{Seen, File, Dir, Query, Gives, Refuses, IsDir, Look, Range, ◌>>=◌}
+use Rattle.posix_calls.specs.Part.{Part, Found, Known, Unknown, run_part}
+use Rattle.posix_calls.specs.Walk.{Place, refuse, read_or_error, entries_at, size_at, names_at, kind_at, directory, directory_if, walk, leads_to, there, root_place}
+use Rattle.posix_calls.specs.Decide.{open_inode, number_or, empties, open_there, write_at, replaced_at, replacing_dir, rename_to, node_description, open_path, close, pread, pwrite, truncate, mkdir, rmdir, link, unlink, rename, list_path, stat, decide}
+use Rattle.posix_calls.specs.declared.call.Call.{Call}
+use Rattle.posix_calls.specs.declared.call.Call.TheVariants as call
+use Rattle.posix_calls.specs.declared.call.Flags.{Flags}
+use Rattle.posix_calls.specs.declared.call.Reply.TheVariants as replies
+use Rattle.posix_calls.specs.declared.descriptor.Descriptor.{Descriptor}
+use Rattle.posix_calls.specs.declared.errno.Errno.{Errno}
+use Rattle.posix_calls.specs.declared.errno.Errno.TheVariants as errno
+use Rattle.posix_calls.specs.declared.operation.Missing.TheVariants as missing
+use Rattle.posix_calls.specs.declared.operation.Operation.{Operation}
+use Rattle.posix_calls.specs.declared.operation.Operation.TheVariants.{Tell, CloseFile}
+use Rattle.posix_calls.specs.declared.operation.Replaced.TheVariants.{OldFile}
+use Rattle.file_graph.specs.declared.effect.Effect.{Effect}
 use Rattle.call_effects.specs.Effects.{recounted_file}
 use Rattle.call_effects.specs.Records.{effects_asked, names_if}
 use Rattle.call_effects.proofs.KnownAsking.{bind_known}

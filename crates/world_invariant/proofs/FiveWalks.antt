@@ -4,18 +4,18 @@ use Rattle.std.specs.Prelude.{min, is_some}
 use Rattle.std.specs.FinMap as fin
 use Rattle.std.proofs.lemmas.Bool.{false≢true}
 use Rattle.std.proofs.lemmas.Bool.Decides.{eqb_tells}
-use Rattle.call_effects.specs.posix_calls.Content.{Entries}
-use Rattle.call_effects.specs.posix_calls.Units.{file_units, directory_units}
-use Rattle.call_effects.specs.posix_calls.Operations.{Step}
-use Rattle.call_effects.specs.posix_calls.declared.call.Reply.TheVariants.{Done, Opened}
-use Rattle.call_effects.specs.posix_calls.Part.{Known, run_part}
-use Rattle.call_effects.specs.posix_calls.Walk.{walk}
-use Rattle.call_effects.specs.posix_calls.Decide.{open_path, mkdir, unlink}
-use Rattle.call_effects.proofs.posix_calls_lemmas.Chain.{part_bind, part_gives, part_refuses}
-use Rattle.call_effects.proofs.posix_calls_lemmas.Counts.{order}
-use Rattle.call_effects.proofs.posix_calls_lemmas.Directory.{lists}
-use Rattle.call_effects.specs.file_graph.declared.effect.Kind.{Kind}
-use Rattle.call_effects.specs.file_graph.declared.effect.Kind.TheVariants as kind
+use Rattle.posix_calls.specs.Content.{Entries}
+use Rattle.posix_calls.specs.Units.{file_units, directory_units}
+use Rattle.posix_calls.specs.Operations.{Step}
+use Rattle.posix_calls.specs.declared.call.Reply.TheVariants.{Done, Opened}
+use Rattle.posix_calls.specs.Part.{Known, run_part}
+use Rattle.posix_calls.specs.Walk.{walk}
+use Rattle.posix_calls.specs.Decide.{open_path, mkdir, unlink}
+use Rattle.posix_calls.proofs.Chain.{part_bind, part_gives, part_refuses}
+use Rattle.posix_calls.proofs.Counts.{order}
+use Rattle.posix_calls.proofs.Directory.{lists}
+use Rattle.file_graph.specs.declared.effect.Kind.{Kind}
+use Rattle.file_graph.specs.declared.effect.Kind.TheVariants as kind
 use Rattle.call_effects.specs.Knowledge.{part_of}
 use Rattle.call_effects.specs.Records.{units_asked}
 use Rattle.call_effects.specs.Wholes.{without_kinds}

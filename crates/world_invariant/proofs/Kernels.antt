@@ -1,11 +1,11 @@
 -- The kernel's book after one client's account has changed, and the shared graph.
 use Rattle.std.proofs.Common.{◌≡◌, ◌≢◌, inl, inr, ℕ, ◌+◌, ◌<◌, ◌≤◌, cond, true, false, refl, None, ap, sym, ◌∙◌, subst}
 use Rattle.std.proofs.lemmas.Bool.Decides.{eqb_tells}
-use Rattle.call_effects.specs.posix_calls.Tree.{sum_up_to}
-use Rattle.call_effects.specs.posix_calls.Operations.{is_client}
-use Rattle.call_effects.proofs.posix_calls_lemmas.Sums.{same_if, there_if, one_changes}
-use Rattle.call_effects.specs.file_graph.Graph.{Graph}
-use Rattle.call_effects.specs.file_graph.Units.{charge}
+use Rattle.posix_calls.specs.Tree.{sum_up_to}
+use Rattle.posix_calls.specs.Operations.{is_client}
+use Rattle.posix_calls.proofs.Sums.{same_if, there_if, one_changes}
+use Rattle.file_graph.specs.Graph.{Graph}
+use Rattle.file_graph.specs.Units.{charge}
 use Rattle.world_invariant.specs.Limits.{AreWithin}
 use Rattle.world_invariant.specs.World.{Account, Kernel, at}
 use Rattle.world_invariant.specs.ClientParts.{IsBooked}

@@ -3,17 +3,17 @@ use Rattle.std.proofs.Common.{◌≡◌, ◌≢◌, ◌⊎◌, inl, inr, ℕ, �
 use Rattle.std.specs.Prelude.{◌&&◌, not}
 use Rattle.std.proofs.lemmas.Bool.{false≢true}
 use Rattle.std.proofs.lemmas.Bool.Decides.{eqb_tells}
-use Rattle.call_effects.specs.posix_calls.Tree.{Own, Descriptors, with_own}
-use Rattle.call_effects.specs.posix_calls.Operations.{is_client, makes, own_after}
-use Rattle.call_effects.specs.posix_calls.Kinds.{opens}
-use Rattle.call_effects.specs.posix_calls.declared.call.Call.{Call}
-use Rattle.call_effects.specs.posix_calls.declared.descriptor.Descriptor.{Descriptor}
-use Rattle.call_effects.specs.posix_calls.declared.operation.Operation.{Operation}
-use Rattle.call_effects.specs.posix_calls.declared.operation.Operation.TheVariants.{Tell, NewDir, NewFile, OpenFile, CloseFile, Write, Resize, RemoveDir, AddName, DropName, Move}
-use Rattle.call_effects.proofs.posix_calls_lemmas.Sums.{same_if}
-use Rattle.call_effects.specs.file_graph.Graph.{Graph, after_effects, is_among, touches, subjects}
+use Rattle.posix_calls.specs.Tree.{Own, Descriptors, with_own}
+use Rattle.posix_calls.specs.Operations.{is_client, makes, own_after}
+use Rattle.posix_calls.specs.Kinds.{opens}
+use Rattle.posix_calls.specs.declared.call.Call.{Call}
+use Rattle.posix_calls.specs.declared.descriptor.Descriptor.{Descriptor}
+use Rattle.posix_calls.specs.declared.operation.Operation.{Operation}
+use Rattle.posix_calls.specs.declared.operation.Operation.TheVariants.{Tell, NewDir, NewFile, OpenFile, CloseFile, Write, Resize, RemoveDir, AddName, DropName, Move}
+use Rattle.posix_calls.proofs.Sums.{same_if}
+use Rattle.file_graph.specs.Graph.{Graph, after_effects, is_among, touches, subjects}
 use Rattle.std.proofs.lemmas.List.Concat.{flat_map-cons}
-use Rattle.call_effects.specs.file_graph.declared.effect.Effect.{Effect}
+use Rattle.file_graph.specs.declared.effect.Effect.{Effect}
 use Rattle.call_effects.specs.Blocks.{block_after, block_acted}
 use Rattle.call_effects.specs.NodeView.{view_after}
 use Rattle.call_effects.specs.Wholes.{IsSound}

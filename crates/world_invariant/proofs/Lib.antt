@@ -60,5 +60,3 @@ pub mod AllAlone
 pub mod Accepting
 pub mod OwnCopies
 pub mod BurialWalks
--- Passed on to the crates above, which so need not list those below.
-pub use Rattle.call_effects.proofs as call_effects_lemmas

@@ -1,23 +1,23 @@
 -- No call gives a name to a file that has none, so no record does.
 use Rattle.std.proofs.Common.{◌≡◌, ◌⊎◌, inl, inr, ℕ, ◌+◌, ◌-◌, ◌≤◌, ◌||◌, cond, Bool, true, false, List, [], ◌∷◌, refl, Some, None, Option, Ok, Err, ap, sym, ◌∙◌, subst, arith, ◌==◌}
 use Rattle.std.proofs.lemmas.Bool.Decides.{eqb_tells}
-use Rattle.call_effects.specs.posix_calls.Tree.{Own, Descriptors}
-use Rattle.call_effects.specs.posix_calls.Query.{Seen, File, Dir, Query, Gives, Look, ◌>>=◌, View, run}
-use Rattle.call_effects.specs.posix_calls.Walk.{Place, leads_to}
-use Rattle.call_effects.specs.posix_calls.Decide.{open_there, rename_to, write_at, node_description, mkdir, unlink, rmdir, link, rename, truncate, pwrite, pread, close, open_path, list_path, stat, decide}
-use Rattle.call_effects.specs.posix_calls.Operations.{makes}
-use Rattle.call_effects.specs.posix_calls.declared.call.Call.{Call}
-use Rattle.call_effects.specs.posix_calls.declared.call.Call.TheVariants as call
-use Rattle.call_effects.specs.posix_calls.declared.call.Flags.{Flags}
-use Rattle.call_effects.specs.posix_calls.declared.call.Reply.TheVariants as replies
-use Rattle.call_effects.specs.posix_calls.declared.errno.Errno.TheVariants as errno
-use Rattle.call_effects.specs.posix_calls.declared.operation.Operation.{Operation}
-use Rattle.call_effects.specs.posix_calls.declared.operation.Operation.TheVariants.{Tell, NewDir, NewFile, OpenFile, CloseFile, Write, Resize, RemoveDir, AddName, DropName, Move}
-use Rattle.call_effects.specs.posix_calls.declared.operation.Replaced.TheVariants.{Nothing, OldFile, OldDir}
-use Rattle.call_effects.specs.file_graph.Graph.{Graph, Node, FileBody, after_effect, after_effects, subject_after, is_among}
-use Rattle.call_effects.specs.file_graph.declared.effect.Effect.{Effect}
-use Rattle.call_effects.specs.file_graph.declared.effect.Effect.TheVariants as effect
-use Rattle.call_effects.specs.file_graph.declared.effect.Kind.TheVariants as kind
+use Rattle.posix_calls.specs.Tree.{Own, Descriptors}
+use Rattle.posix_calls.specs.Query.{Seen, File, Dir, Query, Gives, Look, ◌>>=◌, View, run}
+use Rattle.posix_calls.specs.Walk.{Place, leads_to}
+use Rattle.posix_calls.specs.Decide.{open_there, rename_to, write_at, node_description, mkdir, unlink, rmdir, link, rename, truncate, pwrite, pread, close, open_path, list_path, stat, decide}
+use Rattle.posix_calls.specs.Operations.{makes}
+use Rattle.posix_calls.specs.declared.call.Call.{Call}
+use Rattle.posix_calls.specs.declared.call.Call.TheVariants as call
+use Rattle.posix_calls.specs.declared.call.Flags.{Flags}
+use Rattle.posix_calls.specs.declared.call.Reply.TheVariants as replies
+use Rattle.posix_calls.specs.declared.errno.Errno.TheVariants as errno
+use Rattle.posix_calls.specs.declared.operation.Operation.{Operation}
+use Rattle.posix_calls.specs.declared.operation.Operation.TheVariants.{Tell, NewDir, NewFile, OpenFile, CloseFile, Write, Resize, RemoveDir, AddName, DropName, Move}
+use Rattle.posix_calls.specs.declared.operation.Replaced.TheVariants.{Nothing, OldFile, OldDir}
+use Rattle.file_graph.specs.Graph.{Graph, Node, FileBody, after_effect, after_effects, subject_after, is_among}
+use Rattle.file_graph.specs.declared.effect.Effect.{Effect}
+use Rattle.file_graph.specs.declared.effect.Effect.TheVariants as effect
+use Rattle.file_graph.specs.declared.effect.Kind.TheVariants as kind
 use Rattle.call_effects.specs.Effects.{stored_count, effects_by, stored_at, recounted_file}
 use Rattle.call_effects.specs.Wholes.{IsSound, kind_of, one_if, graph_view}
 use Rattle.call_effects.specs.Fits.{IsNew, IsEmptyDir, OperationFits}

@@ -4,22 +4,22 @@ use Rattle.std.specs.Prelude.{option_map}
 use Rattle.std.specs.FinMap as fin
 use Rattle.std.proofs.lemmas.Bool.{false≢true, eq-eqb}
 use Rattle.std.proofs.lemmas.Bool.Decides.{eqb_tells}
-use Rattle.call_effects.specs.posix_calls.Units.{directory_units}
-use Rattle.call_effects.specs.posix_calls.Tree as tree
-use Rattle.call_effects.specs.posix_calls.Tree.{Descriptors, sum_up_to}
-use Rattle.call_effects.specs.posix_calls.Resolve.{resolve, resolve_from}
-use Rattle.call_effects.specs.posix_calls.WellFormed.{IsDirectory}
-use Rattle.call_effects.specs.posix_calls.declared.limits.TheConstants.{MAX_FILE}
-use Rattle.call_effects.proofs.posix_calls_lemmas.Counts.{order}
-use Rattle.call_effects.proofs.posix_calls_lemmas.Sums.{all_zero, one_changes}
-use Rattle.call_effects.specs.file_graph.Graph.{Graph, Node, FileBody, fresh, empty_body, cost, after_effects, touches, subjects, is_among}
-use Rattle.call_effects.specs.file_graph.Units.{growth, rise}
-use Rattle.call_effects.specs.file_graph.declared.effect.Kind.{Kind}
-use Rattle.call_effects.specs.file_graph.declared.effect.Kind.TheVariants as kind
-use Rattle.call_effects.specs.file_graph.declared.effect.Effect.{Effect}
-use Rattle.call_effects.specs.file_graph.declared.effect.Effect.TheVariants as effect
-use Rattle.call_effects.proofs.file_graph_lemmas.Touches.{untouched}
-use Rattle.call_effects.specs.log_record.declared.format.Record.{Record}
+use Rattle.posix_calls.specs.Units.{directory_units}
+use Rattle.posix_calls.specs.Tree as tree
+use Rattle.posix_calls.specs.Tree.{Descriptors, sum_up_to}
+use Rattle.posix_calls.specs.Resolve.{resolve, resolve_from}
+use Rattle.posix_calls.specs.WellFormed.{IsDirectory}
+use Rattle.posix_calls.specs.declared.limits.TheConstants.{MAX_FILE}
+use Rattle.posix_calls.proofs.Counts.{order}
+use Rattle.posix_calls.proofs.Sums.{all_zero, one_changes}
+use Rattle.file_graph.specs.Graph.{Graph, Node, FileBody, fresh, empty_body, cost, after_effects, touches, subjects, is_among}
+use Rattle.file_graph.specs.Units.{growth, rise}
+use Rattle.file_graph.specs.declared.effect.Kind.{Kind}
+use Rattle.file_graph.specs.declared.effect.Kind.TheVariants as kind
+use Rattle.file_graph.specs.declared.effect.Effect.{Effect}
+use Rattle.file_graph.specs.declared.effect.Effect.TheVariants as effect
+use Rattle.file_graph.proofs.Touches.{untouched}
+use Rattle.log_record.specs.declared.format.Record.{Record}
 use Rattle.call_effects.specs.ClosedGraph.{nobody}
 use Rattle.call_effects.specs.Effects.{stored_count}
 use Rattle.call_effects.specs.Wholes.{IsSound, kind_of, tree_of, tree_node}

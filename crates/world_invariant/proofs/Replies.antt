@@ -1,16 +1,16 @@
 -- A call is answered: the tree moves by its step.
 use Rattle.std.proofs.Common.{◌≡◌, ◌≢◌, inl, inr, ℕ, ◌+◌, ◌-◌, ◌≤◌, ◌==◌, ◌||◌, true, false, List, [], ◌∷◌, ◌++◌, drop, refl, None, Err, ap, sym, ◌∙◌, subst, append_assoc}
 use Rattle.std.proofs.lemmas.Bool.{false≢true, eqb-true, eq-eqb}
-use Rattle.call_effects.specs.posix_calls.Tree.{with_own}
-use Rattle.call_effects.specs.posix_calls.Part.{Known, run_part}
-use Rattle.call_effects.specs.posix_calls.Decide.{decide}
-use Rattle.call_effects.specs.posix_calls.Operations.{is_client, makes, own_after, reply_of, Step}
-use Rattle.call_effects.specs.posix_calls.declared.call.Call.{Call}
-use Rattle.call_effects.specs.posix_calls.declared.call.Reply.TheVariants as reply
-use Rattle.call_effects.specs.posix_calls.declared.errno.Errno.{Errno}
-use Rattle.call_effects.specs.posix_calls.declared.operation.Operation.{Operation}
-use Rattle.call_effects.specs.file_graph.Graph.{after_effects, is_among, touches}
-use Rattle.call_effects.specs.file_graph.declared.effect.Effect.{Effect}
+use Rattle.posix_calls.specs.Tree.{with_own}
+use Rattle.posix_calls.specs.Part.{Known, run_part}
+use Rattle.posix_calls.specs.Decide.{decide}
+use Rattle.posix_calls.specs.Operations.{is_client, makes, own_after, reply_of, Step}
+use Rattle.posix_calls.specs.declared.call.Call.{Call}
+use Rattle.posix_calls.specs.declared.call.Reply.TheVariants as reply
+use Rattle.posix_calls.specs.declared.errno.Errno.{Errno}
+use Rattle.posix_calls.specs.declared.operation.Operation.{Operation}
+use Rattle.file_graph.specs.Graph.{after_effects, is_among, touches}
+use Rattle.file_graph.specs.declared.effect.Effect.{Effect}
 use Rattle.call_effects.specs.Wholes.{IsSound, state_of}
 use Rattle.call_effects.specs.Knowledge.{Agrees, IsPlanned, part_of, knows_after}
 use Rattle.call_effects.proofs.KnownSteps.{planned_step, refused_step}

@@ -3,13 +3,13 @@ use Rattle.std.proofs.Common.{◌≡◌, ◌≢◌, ◌⊎◌, inl, inr, ℕ, ze
 use Rattle.std.specs.Prelude.{option_map}
 use Rattle.std.proofs.lemmas.Bool.{false≢true}
 use Rattle.std.proofs.lemmas.Bool.Decides.{eqb_tells}
-use Rattle.call_effects.specs.posix_calls.Tree.{Descriptors, with_own, sum_up_to}
-use Rattle.call_effects.specs.posix_calls.Run.{Run, Turn}
-use Rattle.call_effects.specs.posix_calls.Operations.{is_client, own_after, reply_of, Step}
-use Rattle.call_effects.proofs.posix_calls_lemmas.Sums.{same_if}
-use Rattle.call_effects.specs.file_graph.Graph.{Graph, after_effects, is_among, touches}
-use Rattle.call_effects.specs.file_graph.Units.{charge}
-use Rattle.call_effects.specs.log_record.declared.format.Record.{Record}
+use Rattle.posix_calls.specs.Tree.{Descriptors, with_own, sum_up_to}
+use Rattle.posix_calls.specs.Run.{Run, Turn}
+use Rattle.posix_calls.specs.Operations.{is_client, own_after, reply_of, Step}
+use Rattle.posix_calls.proofs.Sums.{same_if}
+use Rattle.file_graph.specs.Graph.{Graph, after_effects, is_among, touches}
+use Rattle.file_graph.specs.Units.{charge}
+use Rattle.log_record.specs.declared.format.Record.{Record}
 use Rattle.call_effects.specs.Wholes.{IsSound, state_of}
 use Rattle.call_effects.specs.Knowledge.{Knowledge, Agrees, IsPlanned}
 use Rattle.call_effects.proofs.Settled.{closed_sound, settled_state, settled_well_formed, settled_within}
@@ -21,7 +21,7 @@ use Rattle.world_invariant.specs.Recovery.{IsRecoverable}
 use Rattle.world_invariant.specs.Logs.{after_records, after_each, is_written, is_touched, units_in, IsPaid, ArePaid, Keeps, KeepLimits, LogsAreApart, IsDistinct, IsOrder}
 use Rattle.world_invariant.specs.World.{Begun, World, change_of, records_of, log_of, all_of, has_lease, whole_graph, held_descriptors, world_state, at}
 use Rattle.world_invariant.specs.Invariant.{IsCoherent}
-use Rattle.call_effects.specs.posix_calls.Outcome.{Unfinished, AreSomeOf}
+use Rattle.posix_calls.specs.Outcome.{Unfinished, AreSomeOf}
 use Rattle.world_invariant.specs.Stop.{Leaves, stored_graph, begun_calls, Stores}
 use Rattle.world_invariant.proofs.Records.{either, both, in_first, in_rest, append_nil, front_written, rest_written, units_append}
 use Rattle.world_invariant.proofs.Owners.{is_low, is_high, client_is, ended_whole, first_in, among_rest}

@@ -4,13 +4,13 @@ use Rattle.std.specs.Prelude.{min, is_some}
 use Rattle.std.specs.FinMap as fin
 use Rattle.std.proofs.lemmas.Bool.{false≢true}
 use Rattle.std.proofs.lemmas.Bool.Decides.{eqb_tells}
-use Rattle.call_effects.specs.posix_calls.Units.{file_units, directory_units}
-use Rattle.call_effects.specs.posix_calls.Operations.{Step}
-use Rattle.call_effects.specs.posix_calls.declared.call.Reply.TheVariants.{Done, Opened}
-use Rattle.call_effects.specs.posix_calls.Part.{Known, run_part}
-use Rattle.call_effects.specs.posix_calls.Walk.{walk}
-use Rattle.call_effects.specs.posix_calls.Decide.{open_path, unlink, close}
-use Rattle.call_effects.proofs.posix_calls_lemmas.Directory.{lists}
+use Rattle.posix_calls.specs.Units.{file_units, directory_units}
+use Rattle.posix_calls.specs.Operations.{Step}
+use Rattle.posix_calls.specs.declared.call.Reply.TheVariants.{Done, Opened}
+use Rattle.posix_calls.specs.Part.{Known, run_part}
+use Rattle.posix_calls.specs.Walk.{walk}
+use Rattle.posix_calls.specs.Decide.{open_path, unlink, close}
+use Rattle.posix_calls.proofs.Directory.{lists}
 use Rattle.call_effects.specs.Knowledge.{part_of}
 use Rattle.call_effects.specs.Records.{units_asked}
 use Rattle.world_invariant.specs.Logs.{is_touched, IsNameless}
@@ -33,7 +33,7 @@ use Rattle.world_invariant.proofs.Regions.{sealed_holds}
 use Rattle.world_invariant.proofs.Digests.{digested_holds}
 use Rattle.world_invariant.proofs.Reclaims.{reclaimed_holds, reclaimed_tree}
 use Rattle.world_invariant.proofs.Walks.{ready_holds, part_is_dir, part_look, held_both, none_seen}
-use Rattle.call_effects.proofs.posix_calls_lemmas.Chain.{part_bind, part_gives, part_refuses}
+use Rattle.posix_calls.proofs.Chain.{part_bind, part_gives, part_refuses}
 
 ruleset parts = (part_bind, part_gives, part_refuses, part_is_dir, part_look)
 

@@ -4,29 +4,29 @@ use Rattle.std.specs.Prelude.{min}
 use Rattle.std.specs.FinMap as fin
 use Rattle.std.proofs.lemmas.Bool.{false≢true}
 use Rattle.std.proofs.lemmas.Bool.Decides.{eqb_tells}
-use Rattle.call_effects.specs.posix_calls.Units.{directory_units}
-use Rattle.call_effects.specs.posix_calls.Tree.{sum_up_to}
-use Rattle.call_effects.specs.posix_calls.EmptyTree.{empty_state}
-use Rattle.call_effects.specs.posix_calls.Operations.{is_client, Step}
-use Rattle.call_effects.specs.posix_calls.declared.call.Reply.TheVariants.{Done}
-use Rattle.call_effects.specs.posix_calls.Query.{Seen, Query, IsDir, Look}
-use Rattle.call_effects.specs.posix_calls.Part.{Part, Found, Known, Unknown, run_part}
-use Rattle.call_effects.specs.posix_calls.Walk.{walk}
-use Rattle.call_effects.specs.posix_calls.Decide.{mkdir}
-use Rattle.call_effects.specs.posix_calls.declared.operation.Missing.{Missing}
-use Rattle.call_effects.specs.posix_calls.declared.operation.Missing.TheVariants as missing
-use Rattle.call_effects.specs.posix_calls.declared.operation.Operation.TheVariants.{NewDir}
-use Rattle.call_effects.proofs.posix_calls_lemmas.Chain.{part_bind, part_gives, part_refuses}
-use Rattle.call_effects.proofs.posix_calls_lemmas.Directory.{lists}
-use Rattle.call_effects.proofs.posix_calls_lemmas.Sums.{all_zero}
-use Rattle.call_effects.specs.file_graph.Graph.{fresh}
-use Rattle.call_effects.specs.file_graph.Units.{charge}
-use Rattle.call_effects.specs.file_graph.declared.effect.Kind.{Kind}
+use Rattle.posix_calls.specs.Units.{directory_units}
+use Rattle.posix_calls.specs.Tree.{sum_up_to}
+use Rattle.posix_calls.specs.EmptyTree.{empty_state}
+use Rattle.posix_calls.specs.Operations.{is_client, Step}
+use Rattle.posix_calls.specs.declared.call.Reply.TheVariants.{Done}
+use Rattle.posix_calls.specs.Query.{Seen, Query, IsDir, Look}
+use Rattle.posix_calls.specs.Part.{Part, Found, Known, Unknown, run_part}
+use Rattle.posix_calls.specs.Walk.{walk}
+use Rattle.posix_calls.specs.Decide.{mkdir}
+use Rattle.posix_calls.specs.declared.operation.Missing.{Missing}
+use Rattle.posix_calls.specs.declared.operation.Missing.TheVariants as missing
+use Rattle.posix_calls.specs.declared.operation.Operation.TheVariants.{NewDir}
+use Rattle.posix_calls.proofs.Chain.{part_bind, part_gives, part_refuses}
+use Rattle.posix_calls.proofs.Directory.{lists}
+use Rattle.posix_calls.proofs.Sums.{all_zero}
+use Rattle.file_graph.specs.Graph.{fresh}
+use Rattle.file_graph.specs.Units.{charge}
+use Rattle.file_graph.specs.declared.effect.Kind.{Kind}
 use Rattle.call_effects.specs.NodeView.{view_at}
 use Rattle.call_effects.specs.Records.{units_asked}
 use Rattle.call_effects.specs.Wholes.{without_kinds}
 use Rattle.call_effects.specs.Knowledge.{Knowledge, IsPlanned, part_of}
-use Rattle.call_effects.proofs.posix_calls_lemmas.Counts.{order}
+use Rattle.posix_calls.proofs.Counts.{order}
 use Rattle.call_effects.proofs.GrowthAsked.{len_seen}
 use Rattle.world_invariant.specs.Logs.{is_touched}
 use Rattle.world_invariant.specs.World.{log_of, all_of, has_lease, world_state}

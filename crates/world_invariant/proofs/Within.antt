@@ -2,17 +2,17 @@
 use Rattle.std.proofs.Common.{◌≡◌, ℕ, ◌+◌, ◌≤◌, List, length, true, refl, Some, None, Option, ap, sym, ◌∙◌, subst, arith, ◌==◌}
 use Rattle.std.specs.Prelude.{option_map}
 use Rattle.std.specs.FinMap as fin
-use Rattle.call_effects.specs.posix_calls.Content.{Entries}
-use Rattle.call_effects.specs.posix_calls.Name.{is_name}
-use Rattle.call_effects.specs.posix_calls.Tree.{Descriptors, names_of, bytes_of, entries_of, with_own}
-use Rattle.call_effects.specs.posix_calls.Operations.{own_after}
-use Rattle.call_effects.proofs.posix_calls_lemmas.Counts.{order}
-use Rattle.call_effects.specs.posix_calls.WellFormed.{IsWithinLimits}
-use Rattle.call_effects.specs.posix_calls.declared.call.Call.{Call}
-use Rattle.call_effects.specs.posix_calls.declared.operation.Operation.{Operation}
-use Rattle.call_effects.specs.file_graph.Graph.{Graph, Node, FileBody, DirBody, after_effects}
-use Rattle.call_effects.specs.file_graph.declared.effect.Kind.{Kind}
-use Rattle.call_effects.specs.file_graph.declared.effect.Effect.{Effect}
+use Rattle.posix_calls.specs.Content.{Entries}
+use Rattle.posix_calls.specs.Name.{is_name}
+use Rattle.posix_calls.specs.Tree.{Descriptors, names_of, bytes_of, entries_of, with_own}
+use Rattle.posix_calls.specs.Operations.{own_after}
+use Rattle.posix_calls.proofs.Counts.{order}
+use Rattle.posix_calls.specs.WellFormed.{IsWithinLimits}
+use Rattle.posix_calls.specs.declared.call.Call.{Call}
+use Rattle.posix_calls.specs.declared.operation.Operation.{Operation}
+use Rattle.file_graph.specs.Graph.{Graph, Node, FileBody, DirBody, after_effects}
+use Rattle.file_graph.specs.declared.effect.Kind.{Kind}
+use Rattle.file_graph.specs.declared.effect.Effect.{Effect}
 use Rattle.call_effects.specs.Effects.{stored_count}
 use Rattle.call_effects.specs.Knowledge.{Knowledge, Agrees, IsPlanned}
 use Rattle.call_effects.specs.Wholes.{IsSound, tree_of, tree_body, tree_node, body_kind, kind_of, one_if}

@@ -1,10 +1,10 @@
 -- The steps of the kernel's book: units, numbers and pins, each with when it may be taken.
 use Rattle.std.specs.Prelude.{◌≡◌, ◌≢◌, ◌⊎◌, ℕ, ◌+◌, ◌-◌, ◌<◌, ◌≤◌, true, false, Some, None}
-use Rattle.call_effects.specs.posix_calls.Tree.{sum_up_to}
-use Rattle.call_effects.specs.posix_calls.Operations.{is_client}
-use Rattle.call_effects.specs.posix_calls.declared.descriptor.Descriptor.{Descriptor}
-use Rattle.call_effects.specs.posix_calls.declared.limits.TheConstants.{ROOT, MAX_INODE, MAX_CLIENTS}
-use Rattle.call_effects.specs.file_graph.Units.{charge}
+use Rattle.posix_calls.specs.Tree.{sum_up_to}
+use Rattle.posix_calls.specs.Operations.{is_client}
+use Rattle.posix_calls.specs.declared.descriptor.Descriptor.{Descriptor}
+use Rattle.posix_calls.specs.declared.limits.TheConstants.{ROOT, MAX_INODE, MAX_CLIENTS}
+use Rattle.file_graph.specs.Units.{charge}
 use Rattle.world_invariant.specs.World.{Failed, Kernel, World, moved_world}
 use Rattle.world_invariant.specs.LeaseSteps.{also, without}
 

@@ -1,6 +1,6 @@
 -- For each part of the invariant, a small world that breaks this part alone.
 use Rattle.std.specs.Prelude.{◌+◌, false}
-use Rattle.call_effects.specs.posix_calls.declared.limits.TheConstants.{MAX_FILE}
+use Rattle.posix_calls.specs.declared.limits.TheConstants.{MAX_FILE}
 use Rattle.world_invariant.specs.World.{World}
 use Rattle.world_invariant.specs.Parts.{BookPart, NumbersFree, NumbersInRange, NumbersInOneHand, NodesWithin, UnitsFit, ClientPart, OwnNumber, MarkNotBefore, MarkNotPast, AwayHasRecords, BackHasNone, UnwipedHasNone, UnwipedIsIdle, RecordsLeased, RecordsPaid, RecordsNameNone, RecordsKeepLimits, UnitsBooked, MadeBooked, MadeOnce, GrantedBooked, GrantedUnused, CopiesLeased, BlocksLeased, OpenPinned, PinsBooked, BegunPlanned, BegunHasEffects, BegunPinned, SettledClosed, SettledIdle, WorldPart, Book, Each, LeasesLegal, WholeSound, WholeKnown}
 use Rattle.world_invariant.specs.BrokenWorlds as broken

@@ -1,6 +1,6 @@
 -- What becomes of a client that died, and of its number, each step with when it may be taken.
 use Rattle.std.specs.Prelude.{◌≡◌, ◌≢◌, ℕ, [], true, None}
-use Rattle.call_effects.specs.posix_calls.Operations.{is_client}
+use Rattle.posix_calls.specs.Operations.{is_client}
 use Rattle.world_invariant.specs.World.{Dead, Settled, Buried, Wiped, Away, World, log_of, moved_world}
 use Rattle.world_invariant.specs.ClientSteps.{with_client}
 use Rattle.world_invariant.specs.FormatWorld.{idle_client, idle_account}

@@ -1,9 +1,9 @@
 -- The steps of a client's call, each with when it may be taken.
 use Rattle.std.specs.Prelude.{◌≡◌, ◌≢◌, ◌⊎◌, ℕ, ◌+◌, ◌-◌, ◌≤◌, [], ◌∷◌, ◌++◌, true, Some, None, Ok}
-use Rattle.call_effects.specs.posix_calls.Part.{Known, run_part}
-use Rattle.call_effects.specs.posix_calls.Operations.{is_client}
-use Rattle.call_effects.specs.posix_calls.declared.call.Call.{Call}
-use Rattle.call_effects.specs.posix_calls.declared.operation.Operation.{Operation}
+use Rattle.posix_calls.specs.Part.{Known, run_part}
+use Rattle.posix_calls.specs.Operations.{is_client}
+use Rattle.posix_calls.specs.declared.call.Call.{Call}
+use Rattle.posix_calls.specs.declared.operation.Operation.{Operation}
 use Rattle.call_effects.specs.Records.{units_asked}
 use Rattle.call_effects.specs.Knowledge.{IsPlanned, part_of, knows_after}
 use Rattle.world_invariant.specs.Logs.{is_touched}

@@ -1,6 +1,6 @@
 -- The two halves of a grant and of what is given back: the kernel's book changes, and the client's part, in steps of their own.
 use Rattle.std.specs.Prelude.{◌≡◌, ℕ, ◌+◌, ◌-◌, ◌≤◌, true, false}
-use Rattle.call_effects.specs.posix_calls.Operations.{is_client}
+use Rattle.posix_calls.specs.Operations.{is_client}
 use Rattle.world_invariant.specs.Logs.{is_made_in, units_in}
 use Rattle.world_invariant.specs.World.{World, log_of, all_of, moved_world}
 use Rattle.world_invariant.specs.ClientSteps.{with_client}

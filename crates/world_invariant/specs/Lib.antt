@@ -23,5 +23,3 @@ pub mod Stop
 pub mod UnlinkWalk
 pub mod Walk
 pub mod World
--- Passed on to the crates above, which so need not list those below.
-pub use Rattle.call_effects.specs as call_effects

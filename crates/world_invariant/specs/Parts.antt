@@ -1,11 +1,11 @@
 -- The parts of the invariant, each under a name, and when a world breaks one of them alone.
 use Rattle.std.specs.Prelude.{◌≡◌, ◌≢◌, ℕ, ◌+◌, ◌<◌, ◌≤◌, List, [], length, true, false, Option, Some, None}
-use Rattle.call_effects.specs.posix_calls.Tree.{sum_up_to}
-use Rattle.call_effects.specs.posix_calls.Operations.{is_client}
-use Rattle.call_effects.specs.posix_calls.declared.descriptor.Descriptor.{Descriptor}
-use Rattle.call_effects.specs.posix_calls.declared.limits.TheConstants.{ROOT, MAX_INODE, MAX_CLIENTS}
-use Rattle.call_effects.specs.file_graph.Graph.{Graph}
-use Rattle.call_effects.specs.file_graph.Units.{charge}
+use Rattle.posix_calls.specs.Tree.{sum_up_to}
+use Rattle.posix_calls.specs.Operations.{is_client}
+use Rattle.posix_calls.specs.declared.descriptor.Descriptor.{Descriptor}
+use Rattle.posix_calls.specs.declared.limits.TheConstants.{ROOT, MAX_INODE, MAX_CLIENTS}
+use Rattle.file_graph.specs.Graph.{Graph}
+use Rattle.file_graph.specs.Units.{charge}
 use Rattle.call_effects.specs.NodeView.{NodeView, view_at}
 use Rattle.call_effects.specs.Blocks.{block_at}
 use Rattle.call_effects.specs.Wholes.{IsSound}

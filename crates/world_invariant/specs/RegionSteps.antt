@@ -1,6 +1,6 @@
 -- The steps of a client's two regions, each with when it may be taken.
 use Rattle.std.specs.Prelude.{◌≡◌, ◌≢◌, ℕ, ◌+◌, [], length, Bool, true, false, None}
-use Rattle.call_effects.specs.posix_calls.Operations.{is_client}
+use Rattle.posix_calls.specs.Operations.{is_client}
 use Rattle.world_invariant.specs.World.{Region, Wiped, Away, Back, World}
 use Rattle.world_invariant.specs.ClientSteps.{with_client}
 

@@ -1,15 +1,15 @@
 -- What a stop stores.
 use Rattle.std.specs.Prelude.{◌≡◌, ◌⊎◌, ℕ, List, [], ◌++◌, true, None, option_map, if◌then◌else◌}
-use Rattle.call_effects.specs.posix_calls.Operations.{is_client}
-use Rattle.call_effects.specs.posix_calls.WellFormed.{IsWellFormed, IsWithinLimits}
-use Rattle.call_effects.specs.posix_calls.declared.limits.TheConstants.{MAX_CLIENTS}
-use Rattle.call_effects.specs.file_graph.Graph.{Graph}
-use Rattle.call_effects.specs.log_record.declared.format.Record.{Record}
+use Rattle.posix_calls.specs.Operations.{is_client}
+use Rattle.posix_calls.specs.WellFormed.{IsWellFormed, IsWithinLimits}
+use Rattle.posix_calls.specs.declared.limits.TheConstants.{MAX_CLIENTS}
+use Rattle.file_graph.specs.Graph.{Graph}
+use Rattle.log_record.specs.declared.format.Record.{Record}
 use Rattle.call_effects.specs.ClosedGraph.{nobody, settled_graph}
 use Rattle.call_effects.specs.Wholes.{state_of}
 use Rattle.world_invariant.specs.Logs.{after_clients}
 use Rattle.world_invariant.specs.Recovery.{IsRecoverable}
-use Rattle.call_effects.specs.posix_calls.Outcome.{Unfinished, IsOutcome}
+use Rattle.posix_calls.specs.Outcome.{Unfinished, IsOutcome}
 use Rattle.world_invariant.specs.World.{World, change_of, log_of, world_state}
 
 -- in place of each log it leaves the log, or the log and the begun record

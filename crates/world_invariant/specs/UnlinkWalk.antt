@@ -1,11 +1,11 @@
 -- A small world's walk: a client opens a file, unlinks it while it is open, and closes it.
 use Rattle.std.specs.Prelude.{[], ◌∷◌, true, false}
-use Rattle.call_effects.specs.posix_calls.declared.call.Call.{Call}
-use Rattle.call_effects.specs.posix_calls.declared.call.Call.TheVariants as call
-use Rattle.call_effects.specs.posix_calls.declared.operation.Operation.{Operation}
-use Rattle.call_effects.specs.posix_calls.declared.operation.Operation.TheVariants.{NewFile, CloseFile, DropName}
-use Rattle.call_effects.specs.file_graph.declared.effect.Kind.TheVariants as kind
-use Rattle.call_effects.specs.file_graph.declared.effect.Effect.TheVariants as effect
+use Rattle.posix_calls.specs.declared.call.Call.{Call}
+use Rattle.posix_calls.specs.declared.call.Call.TheVariants as call
+use Rattle.posix_calls.specs.declared.operation.Operation.{Operation}
+use Rattle.posix_calls.specs.declared.operation.Operation.TheVariants.{NewFile, CloseFile, DropName}
+use Rattle.file_graph.specs.declared.effect.Kind.TheVariants as kind
+use Rattle.file_graph.specs.declared.effect.Effect.TheVariants as effect
 use Rattle.world_invariant.specs.World.{Begun, World}
 use Rattle.world_invariant.specs.ClientSteps.{after_answer, call_begun, after_reply}
 use Rattle.world_invariant.specs.LeaseSteps.{after_fetch}

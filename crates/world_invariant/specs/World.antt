@@ -1,12 +1,12 @@
 -- What there is between two steps, as plain data: the kernel's part, and each client's.
 use Rattle.std.specs.Prelude.{ℕ, ◌-◌, List, [], ◌∷◌, ◌++◌, drop, Bool, ◌==◌, ◌||◌, Option, Some, None, if◌then◌else◌}
-use Rattle.call_effects.specs.posix_calls.Tree.{Descriptors, State}
-use Rattle.call_effects.specs.posix_calls.Operations.{is_client}
-use Rattle.call_effects.specs.posix_calls.declared.call.Call.{Call}
-use Rattle.call_effects.specs.posix_calls.declared.operation.Operation.{Operation}
-use Rattle.call_effects.specs.posix_calls.declared.limits.TheConstants.{MAX_CLIENTS}
-use Rattle.call_effects.specs.file_graph.Graph.{Graph}
-use Rattle.call_effects.specs.log_record.declared.format.Record.{Record}
+use Rattle.posix_calls.specs.Tree.{Descriptors, State}
+use Rattle.posix_calls.specs.Operations.{is_client}
+use Rattle.posix_calls.specs.declared.call.Call.{Call}
+use Rattle.posix_calls.specs.declared.operation.Operation.{Operation}
+use Rattle.posix_calls.specs.declared.limits.TheConstants.{MAX_CLIENTS}
+use Rattle.file_graph.specs.Graph.{Graph}
+use Rattle.log_record.specs.declared.format.Record.{Record}
 use Rattle.call_effects.specs.Knowledge.{Knowledge}
 use Rattle.call_effects.specs.Wholes.{state_of}
 use Rattle.world_invariant.specs.Logs.{after_clients}

@@ -1,7 +1,7 @@
 //! The steps of the kernel's book. None of them changes the tree.
 
 ghost use Rattle.std.specs.Prelude.{◌≡◌, ℕ, ◌≤◌, true};
-ghost use Rattle.call_effects.specs.posix_calls.Operations.{is_client};
+ghost use Rattle.posix_calls.specs.Operations.{is_client};
 ghost use Rattle.world_invariant.specs.World.{World, world_state};
 ghost use Rattle.world_invariant.specs.BookSteps.{HasRoom, units_granted, units_returned, IsUnbooked, number_granted, CanReturn, number_returned, inode_pinned, CanUnpin, after_unpin};
 ghost use Rattle.world_invariant.specs.Invariant.{IsCoherent};

@@ -1,8 +1,8 @@
 //! What goes wrong in small worlds that break one part of the invariant each.
 
 ghost use Rattle.std.specs.Prelude.{◌≡◌, ◌≢◌, ℕ, ◌<◌, List, [], ◌∷◌, length, false, None};
-ghost use Rattle.call_effects.specs.posix_calls.Operations.{Step, reply_of};
-ghost use Rattle.call_effects.specs.posix_calls.declared.limits.TheConstants.{MAX_FILE};
+ghost use Rattle.posix_calls.specs.Operations.{Step, reply_of};
+ghost use Rattle.posix_calls.specs.declared.limits.TheConstants.{MAX_FILE};
 ghost use Rattle.call_effects.specs.Knowledge.{Agrees};
 ghost use Rattle.call_effects.specs.Wholes.{IsSound};
 ghost use Rattle.world_invariant.specs.Logs.{after_each, LogsAreApart};

@@ -1,14 +1,14 @@
 //! The steps of a client's call.
 
 ghost use Rattle.std.specs.Prelude.{◌≡◌, ℕ, true, Err};
-ghost use Rattle.call_effects.specs.posix_calls.Part.{Known, run_part};
-ghost use Rattle.call_effects.specs.posix_calls.Decide.{decide};
-ghost use Rattle.call_effects.specs.posix_calls.Operations.{is_client, may_give_up, reply_of, Step};
-ghost use Rattle.call_effects.specs.posix_calls.declared.call.Call.{Call};
-ghost use Rattle.call_effects.specs.posix_calls.declared.call.Reply.TheVariants.{Failed};
-ghost use Rattle.call_effects.specs.posix_calls.declared.errno.Errno.{Errno};
-ghost use Rattle.call_effects.specs.posix_calls.declared.operation.Operation.{Operation};
-ghost use Rattle.call_effects.specs.file_graph.Graph.{after_effects};
+ghost use Rattle.posix_calls.specs.Part.{Known, run_part};
+ghost use Rattle.posix_calls.specs.Decide.{decide};
+ghost use Rattle.posix_calls.specs.Operations.{is_client, may_give_up, reply_of, Step};
+ghost use Rattle.posix_calls.specs.declared.call.Call.{Call};
+ghost use Rattle.posix_calls.specs.declared.call.Reply.TheVariants.{Failed};
+ghost use Rattle.posix_calls.specs.declared.errno.Errno.{Errno};
+ghost use Rattle.posix_calls.specs.declared.operation.Operation.{Operation};
+ghost use Rattle.file_graph.specs.Graph.{after_effects};
 ghost use Rattle.call_effects.specs.Knowledge.{part_of};
 ghost use Rattle.world_invariant.specs.World.{Begun, World, whole_graph, world_state};
 ghost use Rattle.world_invariant.specs.ClientSteps.{CanAnswer, after_answer, CanBegin, call_begun, IsBegun, after_reply, given_up, CanFail, after_failure};

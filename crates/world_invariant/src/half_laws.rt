@@ -2,7 +2,7 @@
 //! changes the tree.
 
 ghost use Rattle.std.specs.Prelude.{◌≡◌, ℕ, ◌≤◌, true};
-ghost use Rattle.call_effects.specs.posix_calls.Operations.{is_client};
+ghost use Rattle.posix_calls.specs.Operations.{is_client};
 ghost use Rattle.world_invariant.specs.World.{World, world_state};
 ghost use Rattle.world_invariant.specs.BookSteps.{HasRoom, IsUnbooked, CanReturn, CanUnpin};
 ghost use Rattle.world_invariant.specs.Halves.{AreOnTheirWay, units_booked, units_unbooked, units_received, units_sent, IsOnItsWay, number_booked, number_unbooked, number_received, number_sent, IsPinnedAlone, pin_booked, pin_unbooked, pin_received, pin_sent};

@@ -1,7 +1,7 @@
 //! The steps of leases and copies. None of them changes the tree.
 
 ghost use Rattle.std.specs.Prelude.{◌≡◌, ℕ, List, Option, true, Some};
-ghost use Rattle.call_effects.specs.posix_calls.Operations.{is_client};
+ghost use Rattle.posix_calls.specs.Operations.{is_client};
 ghost use Rattle.call_effects.specs.NodeView.{NodeView};
 ghost use Rattle.call_effects.specs.Knowledge.{Knowledge};
 ghost use Rattle.world_invariant.specs.Logs.{is_touched};

@@ -1,8 +1,8 @@
 //! What a step of one client's part, of its account and of the shared graph has to keep, and what of the others it leaves as it was.
 
 ghost use Rattle.std.specs.Prelude.{◌≡◌, ◌≢◌, ℕ, true};
-ghost use Rattle.call_effects.specs.posix_calls.Operations.{is_client};
-ghost use Rattle.call_effects.specs.file_graph.Graph.{Graph};
+ghost use Rattle.posix_calls.specs.Operations.{is_client};
+ghost use Rattle.file_graph.specs.Graph.{Graph};
 ghost use Rattle.call_effects.specs.Wholes.{IsSound};
 ghost use Rattle.call_effects.specs.Knowledge.{Agrees};
 ghost use Rattle.world_invariant.specs.World.{Client, Account, World, undigested_records, log_of, whole_graph, held_descriptors, moved_world};

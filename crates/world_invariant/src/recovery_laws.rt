@@ -1,13 +1,13 @@
 //! What a recovery relies on, over the graph and the logs that it finds: it knows nothing of leases, grants or calls.
 
 ghost use Rattle.std.specs.Prelude.{◌≡◌, ℕ, ◌≤◌, List, [], ◌++◌, true, None};
-ghost use Rattle.call_effects.specs.posix_calls.Operations.{is_client};
-ghost use Rattle.call_effects.specs.posix_calls.WellFormed.{IsWithinLimits};
-ghost use Rattle.call_effects.specs.posix_calls.declared.limits.TheConstants.{MAX_CLIENTS};
-ghost use Rattle.call_effects.specs.file_graph.Graph.{Graph, set_node};
-ghost use Rattle.call_effects.specs.file_graph.Units.{charge};
-ghost use Rattle.call_effects.specs.log_record.declared.format.Record.{Record};
-ghost use Rattle.call_effects.specs.posix_calls.Tree.{Descriptors};
+ghost use Rattle.posix_calls.specs.Operations.{is_client};
+ghost use Rattle.posix_calls.specs.WellFormed.{IsWithinLimits};
+ghost use Rattle.posix_calls.specs.declared.limits.TheConstants.{MAX_CLIENTS};
+ghost use Rattle.file_graph.specs.Graph.{Graph, set_node};
+ghost use Rattle.file_graph.specs.Units.{charge};
+ghost use Rattle.log_record.specs.declared.format.Record.{Record};
+ghost use Rattle.posix_calls.specs.Tree.{Descriptors};
 ghost use Rattle.call_effects.specs.ClosedGraph.{nobody, settled_graph};
 ghost use Rattle.call_effects.specs.Wholes.{IsSound, state_of, tree_of};
 ghost use Rattle.world_invariant.specs.Limits.{AreWithin};

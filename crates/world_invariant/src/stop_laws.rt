@@ -1,12 +1,12 @@
 //! What a stop stores.
 
 ghost use Rattle.std.specs.Prelude.{ℕ, List};
-ghost use Rattle.call_effects.specs.posix_calls.Tree.{State};
-ghost use Rattle.call_effects.specs.posix_calls.Run.{Run, Turn};
-ghost use Rattle.call_effects.specs.log_record.declared.format.Record.{Record};
+ghost use Rattle.posix_calls.specs.Tree.{State};
+ghost use Rattle.posix_calls.specs.Run.{Run, Turn};
+ghost use Rattle.log_record.specs.declared.format.Record.{Record};
 ghost use Rattle.call_effects.specs.ClosedGraph.{nobody, settled_graph};
 ghost use Rattle.call_effects.specs.Wholes.{state_of};
-ghost use Rattle.call_effects.specs.posix_calls.Outcome.{IsOutcome};
+ghost use Rattle.posix_calls.specs.Outcome.{IsOutcome};
 ghost use Rattle.world_invariant.specs.World.{World, world_state};
 ghost use Rattle.world_invariant.specs.Invariant.{IsCoherent};
 ghost use Rattle.world_invariant.specs.Stop.{Leaves, stored_graph, begun_calls, Stores};

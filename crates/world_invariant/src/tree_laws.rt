@@ -1,6 +1,6 @@
 //! What a world stands for.
 
-ghost use Rattle.call_effects.specs.posix_calls.WellFormed.{IsWellFormed, IsWithinLimits};
+ghost use Rattle.posix_calls.specs.WellFormed.{IsWellFormed, IsWithinLimits};
 ghost use Rattle.world_invariant.specs.World.{World, world_state};
 ghost use Rattle.world_invariant.specs.Invariant.{IsCoherent};
 

@@ -1,10 +1,10 @@
 //! Walks of small worlds, computed by the definitions: each step's premises are met.
 
 ghost use Rattle.std.specs.Prelude.{◌≡◌, [], ◌∷◌, map, Bool, true, false, Some, is_some, if◌then◌else◌};
-ghost use Rattle.call_effects.specs.posix_calls.EmptyTree.{empty_state};
-ghost use Rattle.call_effects.specs.posix_calls.Operations.{Step};
-ghost use Rattle.call_effects.specs.posix_calls.declared.call.Reply.TheVariants.{Done, Opened, Wrote};
-ghost use Rattle.call_effects.specs.file_graph.Graph.{file_bytes};
+ghost use Rattle.posix_calls.specs.EmptyTree.{empty_state};
+ghost use Rattle.posix_calls.specs.Operations.{Step};
+ghost use Rattle.posix_calls.specs.declared.call.Reply.TheVariants.{Done, Opened, Wrote};
+ghost use Rattle.file_graph.specs.Graph.{file_bytes};
 ghost use Rattle.world_invariant.specs.Logs.{IsNameless};
 ghost use Rattle.world_invariant.specs.World.{log_of, all_of, world_state};
 ghost use Rattle.world_invariant.specs.Invariant.{IsCoherent};

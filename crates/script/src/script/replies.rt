@@ -1,7 +1,7 @@
 // What a script's calls are answered, as it is printed.
 use crate::lines::{write_data, write_name};
+use posix_calls::{Name, Reply};
 use std::io::{self, Write};
-use update_log::{Name, Reply};
 
 /// Prints a reply as a line.
 pub fn write_reply<W: Write>(out: &mut W, reply: &Reply) -> io::Result<()> {

@@ -1,4 +1,4 @@
-use Rattle.area_image.specs.block_alloc.Runs.{run_blocks, PutIn}
+use Rattle.block_alloc.specs.Runs.{run_blocks, PutIn}
 use Rattle.area_commit.proofs.Fronts.{on_ok}
 use Rattle.area_commit.proofs.Members.{put_in-contains}
 use Rattle.area_commit.proofs.allocation.give_run.Goals as goal

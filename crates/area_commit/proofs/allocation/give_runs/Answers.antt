@@ -1,8 +1,8 @@
 use Rattle.std.proofs.Common.{◌≡◌, ◌<◌, ◌+◌, ◌-◌, ap, arith, subst, sym, refl, length, get_or, ◌++◌, ℕ}
 use Rattle.std.proofs.lemmas.List.{take_all}
-use Rattle.area_image.specs.block_alloc.declared.runs.Run.{Run}
-use Rattle.area_image.specs.block_alloc.Runs.{blocks_of, run_blocks, PutIn}
-use Rattle.area_image.specs.block_alloc.Value.{InOrder}
+use Rattle.block_alloc.specs.declared.runs.Run.{Run}
+use Rattle.block_alloc.specs.Runs.{blocks_of, run_blocks, PutIn}
+use Rattle.block_alloc.specs.Value.{InOrder}
 use Rattle.area_commit.proofs.Fronts.{Ready, fits, goes_on, on_ok, rising-right}
 use Rattle.area_commit.proofs.allocation.give_runs.Goals as goal
 

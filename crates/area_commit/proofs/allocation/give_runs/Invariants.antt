@@ -1,5 +1,5 @@
 use Rattle.std.proofs.Common.{length, ◌-◌}
-use Rattle.area_image.specs.block_alloc.Value.{InOrder}
+use Rattle.block_alloc.specs.Value.{InOrder}
 use Rattle.area_commit.proofs.Fronts.{Ready}
 use Rattle.area_commit.proofs.allocation.give_runs.Given as goal
 

@@ -1,6 +1,6 @@
 use Rattle.std.proofs.Common.{◌<◌, ◌-◌, arith, length}
-use Rattle.area_image.specs.block_alloc.declared.runs.Run.{Run}
-use Rattle.area_image.proofs.block_alloc_lemmas.Joins.{normal-at}
+use Rattle.block_alloc.specs.declared.runs.Run.{Run}
+use Rattle.block_alloc.proofs.Joins.{normal-at}
 use Rattle.area_commit.proofs.allocation.go_on.Goals as goal
 
 pub overflow_add-result : goal.overflow_add-result

@@ -1,7 +1,7 @@
 use Rattle.std.proofs.Common.{◌≡◌, ◌++◌, ◌∙◌, arith, ap, sym, subst, length, List}
 use Rattle.std.proofs.lemmas.List.{length-take-le}
-use Rattle.area_image.specs.block_alloc.declared.runs.Run.{Run}
-use Rattle.area_image.specs.block_alloc.Runs.{blocks_of, AreNormalRuns, Rising}
+use Rattle.block_alloc.specs.declared.runs.Run.{Run}
+use Rattle.block_alloc.specs.Runs.{blocks_of, AreNormalRuns, Rising}
 use Rattle.area_commit.proofs.Seams.{length-runs, old_wide, more_wide, both_rise}
 use Rattle.area_commit.proofs.allocation.take_more.Goals as goal
 

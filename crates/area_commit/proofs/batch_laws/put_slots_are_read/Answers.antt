@@ -1,6 +1,6 @@
 use Rattle.std.proofs.Common.{sym}
-use Rattle.area_image.specs.layout.Slot.{slot_spelling}
-use Rattle.area_image.proofs.Shown.{slot_is}
+use Rattle.layout.specs.Slot.{slot_spelling}
+use Rattle.area_reader.proofs.Shown.{slot_is}
 use Rattle.std.specs.Prelude.{Some}
 use Rattle.area_commit.proofs.SlotBytes.{within}
 use Rattle.area_commit.proofs.batch_laws.put_slots_are_read.Goals as goal

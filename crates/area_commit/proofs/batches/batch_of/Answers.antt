@@ -1,7 +1,7 @@
 use Rattle.std.proofs.Common.{◌∙◌, ◌++◌, ℕ, List, length, sym, subst, ap, arith}
 use Rattle.std.proofs.lemmas.List.{length-append}
-use Rattle.area_image.specs.batch_journal.Blocks.{AreJournaled}
-use Rattle.area_image.specs.Store.{disk}
+use Rattle.batch_journal.specs.Blocks.{AreJournaled}
+use Rattle.area_reader.specs.Store.{disk}
 use Rattle.area_commit.specs.Batches.{marks_images}
 use Rattle.area_commit.proofs.Images.{node_low, is_batch, same_geometry, marks_journaled, one_for_marks}
 use Rattle.area_commit.proofs.ByNumber.{journaled_both, nodes_journaled}

@@ -2,11 +2,11 @@ use Rattle.std.proofs.Common.{◌≡◌, refl, ◌+◌, ◌-◌, ◌*◌, ◌≤
 use Rattle.std.proofs.lemmas.Result.{err_from_is_err_and}
 use Rattle.std.proofs.lemmas.Bool.{cases_eq}
 use Rattle.std.proofs.lemmas.List.{length-append}
-use Rattle.area_image.specs.tier_device.declared.media.Tier.TheVariants.{Fast}
-use Rattle.area_image.specs.batch_journal.Blocks.{AreJournaled}
-use Rattle.area_image.specs.Store.{Store, disk}
-use Rattle.area_image.specs.Looks.{call_answer}
-use Rattle.area_image.proofs.Looked.{store_same, looks_on, looks_none, looks_answer}
+use Rattle.tier_device.specs.declared.media.Tier.TheVariants.{Fast}
+use Rattle.batch_journal.specs.Blocks.{AreJournaled}
+use Rattle.area_reader.specs.Store.{Store, disk}
+use Rattle.area_reader.specs.Looks.{call_answer}
+use Rattle.area_reader.proofs.Looked.{store_same, looks_on, looks_none, looks_answer}
 use Rattle.area_commit.specs.declared.slots.ChangedSlot.{ChangedSlot}
 use Rattle.area_commit.specs.Slots.{RiseIn, has_slot}
 use Rattle.area_commit.specs.Batches.{HasSlotImages, images_for}

@@ -1,10 +1,10 @@
 use Rattle.std.proofs.Common.{◌≡◌, ◌+◌, ◌-◌, ◌*◌, ◌≤◌, ◌<◌, ℕ, true, length}
-use Rattle.area_image.specs.tier_device.declared.media.Tier.TheVariants.{Fast}
-use Rattle.area_image.specs.layout.Places.{Sizes}
-use Rattle.area_image.specs.batch_journal.Images.{next_of}
-use Rattle.area_image.specs.batch_journal.Blocks.{AreJournaled}
-use Rattle.area_image.specs.Store.{disk}
-use Rattle.area_image.specs.Looks.{Looks, call_answer}
+use Rattle.tier_device.specs.declared.media.Tier.TheVariants.{Fast}
+use Rattle.layout.specs.Places.{Sizes}
+use Rattle.batch_journal.specs.Images.{next_of}
+use Rattle.batch_journal.specs.Blocks.{AreJournaled}
+use Rattle.area_reader.specs.Store.{disk}
+use Rattle.area_reader.specs.Looks.{Looks, call_answer}
 use Rattle.area_commit.specs.Slots.{RiseIn, has_slot}
 use Rattle.area_commit.specs.Batches.{HasSlotImages}
 use Rattle.area_commit.proofs.Blocks.{TellsFrom}

@@ -1,6 +1,6 @@
 use Rattle.std.proofs.Common.{arith, ◌+◌}
-use Rattle.area_image.specs.block_alloc.declared.runs.Run.{Run}
-use Rattle.area_image.proofs.block_alloc_lemmas.Blocks.{length-blocks-more, length-blocks-le}
+use Rattle.block_alloc.specs.declared.runs.Run.{Run}
+use Rattle.block_alloc.proofs.Blocks.{length-blocks-more, length-blocks-le}
 use Rattle.area_commit.proofs.data_write.bytes_of.Goals as goal
 
 abbrev none : Run

@@ -1,5 +1,5 @@
 use Rattle.std.proofs.Common.{◌≡◌, ◌*◌, length, take}
-use Rattle.area_image.specs.block_alloc.Runs.{blocks_of}
+use Rattle.block_alloc.specs.Runs.{blocks_of}
 use Rattle.area_commit.proofs.data_write.bytes_of.Given as goal
 
 abbrev pub invariant-runs : goal.invariant-runs

@@ -1,9 +1,9 @@
 use Rattle.std.proofs.Common.{List, sym, subst, arith}
-use Rattle.area_image.specs.tier_device.declared.media.Tier.TheVariants.{Fast, Block, Slow}
-use Rattle.area_image.specs.layout.Places.{data_first, tier_blocks}
-use Rattle.area_image.specs.block_alloc.declared.runs.Run.{Run}
-use Rattle.area_image.specs.block_alloc.Runs.{AreNormalRuns}
-use Rattle.area_image.specs.Store.{disk}
+use Rattle.tier_device.specs.declared.media.Tier.TheVariants.{Fast, Block, Slow}
+use Rattle.layout.specs.Places.{data_first, tier_blocks}
+use Rattle.block_alloc.specs.declared.runs.Run.{Run}
+use Rattle.block_alloc.specs.Runs.{AreNormalRuns}
+use Rattle.area_reader.specs.Store.{disk}
 use Rattle.area_commit.specs.DataWrite.{AreFreeIn, StaysLoose, GoesInTurn}
 use Rattle.area_commit.proofs.Courses.{loose_start, loose_seen, loose_after}
 use Rattle.area_commit.proofs.Turns.{no_turn}

@@ -1,13 +1,13 @@
 use Rattle.std.proofs.Common.{◌≢◌, ◌≤◌, ◌<◌, ◌+◌, ◌*◌, ◌⊎◌, ℕ, List, [], length, ap, sym, ◌∙◌, arith}
 use Rattle.std.specs.List.{flat_map}
 use Rattle.std.proofs.lemmas.List.Elements.{Contains-append_left}
-use Rattle.area_image.specs.tier_device.declared.media.Tier.{Tier}
-use Rattle.area_image.specs.tier_device.Media.{overwritten, Puts}
-use Rattle.area_image.specs.tier_device.AfterStop.{AtRest}
-use Rattle.area_image.specs.block_alloc.Runs.{run_blocks}
-use Rattle.area_image.specs.batch_journal.Blocks.{block_of}
-use Rattle.area_image.proofs.batch_journal_lemmas.Courses.{on_ok, weaker}
-use Rattle.area_image.specs.Reads.{IsFreeRun}
+use Rattle.tier_device.specs.declared.media.Tier.{Tier}
+use Rattle.tier_device.specs.Media.{overwritten, Puts}
+use Rattle.tier_device.specs.AfterStop.{AtRest}
+use Rattle.block_alloc.specs.Runs.{run_blocks}
+use Rattle.batch_journal.specs.Blocks.{block_of}
+use Rattle.batch_journal.proofs.Courses.{on_ok, weaker}
+use Rattle.area_reader.specs.Reads.{IsFreeRun}
 use Rattle.area_commit.proofs.Courses.{loose_write}
 use Rattle.area_commit.proofs.Held.{in_range, put_holds, put_keeps}
 use Rattle.area_commit.proofs.data_write.write_run.Goals as goal

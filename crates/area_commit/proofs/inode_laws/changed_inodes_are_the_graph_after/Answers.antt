@@ -1,5 +1,5 @@
 use Rattle.std.proofs.Common.{sym, ◌∙◌}
-use Rattle.area_image.specs.Store.{inode}
+use Rattle.area_reader.specs.Store.{inode}
 use Rattle.area_commit.proofs.TakenPlaces.{all_consistent, alike_same}
 use Rattle.area_commit.proofs.inode_laws.changed_inodes_are_the_graph_after.Goals as goal
 

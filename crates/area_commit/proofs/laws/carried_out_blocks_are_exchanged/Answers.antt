@@ -1,5 +1,5 @@
-use Rattle.area_image.specs.layout.Places.{Sizes, IsAllowed}
-use Rattle.area_image.specs.Store.{Store}
+use Rattle.layout.specs.Places.{Sizes, IsAllowed}
+use Rattle.area_reader.specs.Store.{Store}
 use Rattle.area_commit.proofs.Anew.{anew}
 use Rattle.area_commit.proofs.Swapped.{UsesAreRead, exchanged, lost_given}
 use Rattle.area_commit.proofs.laws.carried_out_blocks_are_exchanged.Goals as goal

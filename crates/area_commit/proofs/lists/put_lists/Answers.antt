@@ -1,6 +1,6 @@
 use Rattle.std.proofs.Common.{subst}
-use Rattle.area_image.specs.tier_device.declared.media.Tier.TheVariants as tiers
-use Rattle.area_image.specs.Store.{root_of}
+use Rattle.tier_device.specs.declared.media.Tier.TheVariants as tiers
+use Rattle.area_reader.specs.Store.{root_of}
 use Rattle.area_commit.specs.Lists.{PutsList, PutsLists}
 use Rattle.area_commit.proofs.Listed.{ok_then, puts_lists}
 use Rattle.area_commit.proofs.lists.put_lists.Goals as goal

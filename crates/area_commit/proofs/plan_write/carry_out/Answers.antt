@@ -1,6 +1,6 @@
 use Rattle.std.proofs.Common.{subst}
-use Rattle.area_image.specs.layout.Places.{IsAllowed}
-use Rattle.area_image.specs.Store.{disk}
+use Rattle.layout.specs.Places.{IsAllowed}
+use Rattle.area_reader.specs.Store.{disk}
 use Rattle.area_commit.proofs.plan_write.carry_out.Goals as goal
 
 pub release_blocks-requires-clause-nodes : goal.release_blocks-requires-clause-nodes

@@ -1,9 +1,9 @@
 use Rattle.std.proofs.Common.{◌∙◌, ℕ, List, length, sym, ap, subst, arith}
-use Rattle.area_image.specs.tier_device.Media.{Rose}
-use Rattle.area_image.specs.layout.Places.{Sizes}
-use Rattle.area_image.proofs.batch_journal_lemmas.Courses.{left_before}
-use Rattle.area_image.specs.Store.{Store, disk}
-use Rattle.area_image.proofs.Looked.{carried}
+use Rattle.tier_device.specs.Media.{Rose}
+use Rattle.layout.specs.Places.{Sizes}
+use Rattle.batch_journal.proofs.Courses.{left_before}
+use Rattle.area_reader.specs.Store.{Store, disk}
+use Rattle.area_reader.proofs.Looked.{carried}
 use Rattle.area_commit.specs.declared.slots.ChangedSlot.{ChangedSlot}
 use Rattle.area_commit.specs.Slots.{RiseIn}
 use Rattle.area_commit.proofs.Images.{one_for_marks}

@@ -1,6 +1,6 @@
 use Rattle.std.proofs.Common.{◌≡◌, ◌+◌, length}
-use Rattle.area_image.specs.block_alloc.Value.{FreeBlocks}
-use Rattle.area_image.specs.block_alloc.Runs.{unmarked_blocks}
+use Rattle.block_alloc.specs.Value.{FreeBlocks}
+use Rattle.block_alloc.specs.Runs.{unmarked_blocks}
 use Rattle.area_commit.specs.Value.{HasUnmarked}
 use Rattle.area_commit.proofs.Splits.{ok_at, with_ok}
 use Rattle.area_commit.proofs.Members.{has_unmarked}

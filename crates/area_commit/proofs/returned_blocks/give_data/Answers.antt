@@ -1,7 +1,7 @@
 use Rattle.std.proofs.Common.{refl, subst, ◌∙◌, arith}
 use Rattle.std.proofs.lemmas.List.{take_all}
-use Rattle.area_image.specs.block_alloc.declared.runs.Run.{Run}
-use Rattle.area_image.specs.block_alloc.Runs.{blocks_of}
+use Rattle.block_alloc.specs.declared.runs.Run.{Run}
+use Rattle.block_alloc.specs.Runs.{blocks_of}
 use Rattle.area_commit.specs.Value.{data_pool}
 use Rattle.area_commit.specs.Release.{WereAdded}
 use Rattle.area_commit.proofs.Given.{used_here, used_next, added_none, added_next}

@@ -1,6 +1,6 @@
 use Rattle.std.proofs.Common.{◌≡◌, ◌≤◌, ◌+◌, length, take, drop}
-use Rattle.area_image.specs.tier_device.declared.media.Tier.{Tier}
-use Rattle.area_image.specs.block_alloc.Runs.{blocks_of}
+use Rattle.tier_device.specs.declared.media.Tier.{Tier}
+use Rattle.block_alloc.specs.Runs.{blocks_of}
 use Rattle.area_commit.specs.Value.{data_pool}
 use Rattle.area_commit.specs.Release.{AreUsed, WereAdded}
 use Rattle.area_commit.proofs.returned_blocks.give_nodes.Given as goal

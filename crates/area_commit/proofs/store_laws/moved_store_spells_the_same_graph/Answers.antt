@@ -1,10 +1,10 @@
 use Rattle.std.proofs.Common.{◌≡◌, ℕ, Bool, true}
-use Rattle.area_image.specs.layout.declared.slot.Slot.{Slot}
-use Rattle.area_image.specs.layout.Places.{Sizes, IsAllowed}
-use Rattle.area_image.specs.tree_blocks.Inode.{IsConsistent, AreAlike}
-use Rattle.area_image.specs.extent_tree.Map.{TierRuns}
-use Rattle.area_image.specs.Store.{Store, inode}
-use Rattle.area_image.specs.Format.{IsSpelled}
+use Rattle.layout.specs.declared.slot.Slot.{Slot}
+use Rattle.layout.specs.Places.{Sizes, IsAllowed}
+use Rattle.tree_blocks.specs.Inode.{IsConsistent, AreAlike}
+use Rattle.extent_tree.specs.Map.{TierRuns}
+use Rattle.area_reader.specs.Store.{Store, inode}
+use Rattle.area_reader.specs.Format.{IsSpelled}
 use Rattle.area_commit.specs.InodeMove.{StaysInode}
 use Rattle.area_commit.specs.StoreRewrite.{AreWrittenAnew}
 use Rattle.area_commit.proofs.store_laws.moved_store_spells_the_same_graph.Goals as goal

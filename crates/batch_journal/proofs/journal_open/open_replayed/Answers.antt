@@ -1,7 +1,7 @@
 use Rattle.std.proofs.Common.{◌≡◌, ◌∙◌, ◌+◌, ◌*◌, ℕ, List, true, length, sym, ap, subst, arith}
 use Rattle.std.proofs.lemmas.Result.{err_from_is_err_and}
-use Rattle.layout.specs.tier_device.declared.media.Tier.TheVariants.{Fast}
-use Rattle.layout.specs.tier_device.Media.{Rose}
+use Rattle.tier_device.specs.declared.media.Tier.TheVariants.{Fast}
+use Rattle.tier_device.specs.Media.{Rose}
 use Rattle.batch_journal.specs.Images.{slice, image_count, images_of}
 use Rattle.batch_journal.specs.Blocks.{area_of, is_gate_open, Fit}
 use Rattle.batch_journal.proofs.Courses.{unmoved_on, left_before}

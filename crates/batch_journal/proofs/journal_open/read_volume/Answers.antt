@@ -1,8 +1,8 @@
 use Rattle.std.proofs.Common.{◌≡◌, ◌∙◌, ◌==◌, ◌≤◌, ℕ, List, Bool, true, false, cond, inl, inr, length, sym, ap, subst, refl, arith}
 use Rattle.std.proofs.lemmas.Bool.{false≢true}
 use Rattle.std.proofs.lemmas.Result.{err_from_is_err_and}
-use Rattle.layout.specs.tier_device.declared.media.Tier.{Tier}
-use Rattle.layout.specs.tier_device.declared.media.Tier.TheVariants.{Fast}
+use Rattle.tier_device.specs.declared.media.Tier.{Tier}
+use Rattle.tier_device.specs.declared.media.Tier.TheVariants.{Fast}
 use Rattle.batch_journal.specs.Images.{slice, image_count, target_at}
 use Rattle.batch_journal.specs.Blocks.{area_of}
 use Rattle.batch_journal.specs.Volume.{Spells, HasSizes, IsHead}

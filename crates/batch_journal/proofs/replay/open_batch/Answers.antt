@@ -1,6 +1,6 @@
 use Rattle.std.proofs.Common.{◌+◌, ◌≤◌, inl, ℕ, List, length, ◌∙◌, subst, arith}
-use Rattle.layout.specs.tier_device.declared.media.Tier.TheVariants.{Fast}
-use Rattle.layout.specs.tier_device.Media.{Torn}
+use Rattle.tier_device.specs.declared.media.Tier.TheVariants.{Fast}
+use Rattle.tier_device.specs.Media.{Torn}
 use Rattle.batch_journal.proofs.Courses.{and_then, weaker, rose_later, on_ok, on_err}
 use Rattle.batch_journal.proofs.Meaning.{staging_alike}
 use Rattle.batch_journal.proofs.Stages.{staged_by, opened_by, opening_by}

@@ -1,6 +1,6 @@
 use Rattle.std.proofs.Common.{◌∙◌, refl, arith}
 use Rattle.std.proofs.lemmas.Result.{err_from_is_err_and}
-use Rattle.layout.specs.tier_device.declared.media.Tier.TheVariants.{Fast}
+use Rattle.tier_device.specs.declared.media.Tier.TheVariants.{Fast}
 use Rattle.batch_journal.specs.Images.{images_of}
 use Rattle.batch_journal.proofs.Images.{doing_first, doing_fits, doing_more, doing_done, beside_same}
 use Rattle.batch_journal.proofs.Courses.{one_torn, rose_later, weaker, no_call}

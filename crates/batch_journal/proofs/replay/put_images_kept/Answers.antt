@@ -1,5 +1,5 @@
 use Rattle.std.proofs.Common.{ℕ, List, sym, ◌∙◌, subst, arith}
-use Rattle.layout.specs.tier_device.declared.media.Tier.TheVariants.{Fast}
+use Rattle.tier_device.specs.declared.media.Tier.TheVariants.{Fast}
 use Rattle.batch_journal.specs.Images.{images_of}
 use Rattle.batch_journal.specs.Course.{IsPut}
 use Rattle.batch_journal.proofs.Courses.{and_then, rose_later, on_ok, on_err}

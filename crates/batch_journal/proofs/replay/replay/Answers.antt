@@ -1,6 +1,6 @@
 use Rattle.std.proofs.Common.{◌≤◌, ℕ, List, length, ◌∙◌, subst, arith}
-use Rattle.layout.specs.tier_device.declared.media.Tier.TheVariants.{Fast}
-use Rattle.layout.specs.tier_device.Media.{Torn}
+use Rattle.tier_device.specs.declared.media.Tier.TheVariants.{Fast}
+use Rattle.tier_device.specs.Media.{Torn}
 use Rattle.batch_journal.specs.Images.{images_of}
 use Rattle.batch_journal.specs.Course.{Beside}
 use Rattle.batch_journal.proofs.Courses.{and_then, weaker, rose_later, on_ok, on_err}

@@ -1,6 +1,6 @@
 use Rattle.std.proofs.Common.{inr, ℕ, sym, ◌∙◌, subst, arith}
 use Rattle.std.proofs.lemmas.Result.{err_from_is_err_and}
-use Rattle.layout.specs.tier_device.declared.media.Tier.TheVariants.{Fast}
+use Rattle.tier_device.specs.declared.media.Tier.TheVariants.{Fast}
 use Rattle.batch_journal.specs.Images.{images_of}
 use Rattle.batch_journal.specs.Blocks.{Fit}
 use Rattle.batch_journal.proofs.Courses.{and_then, rose_later, on_ok, on_err}

@@ -1,6 +1,6 @@
 use Rattle.std.proofs.Common.{◌≡◌, ◌==◌, ℕ, length, sym, ◌∙◌, ap, refl, rules}
 use Rattle.std.proofs.lemmas.Result.{err_from_is_err_and}
-use Rattle.layout.specs.tier_device.declared.media.Tier.TheVariants.{Fast}
+use Rattle.tier_device.specs.declared.media.Tier.TheVariants.{Fast}
 use Rattle.layout.specs.Bytes.{are_zero}
 use Rattle.batch_journal.specs.Images.{slice}
 use Rattle.batch_journal.proofs.Found.{gate_of_block, rest_of_block}

@@ -1,7 +1,7 @@
 use Rattle.std.proofs.Common.{◌≡◌, ◌∙◌, ℕ, List, length, ap, subst, refl, rules}
 use Rattle.std.proofs.lemmas.Result.{err_from_is_err_and}
-use Rattle.layout.specs.tier_device.declared.media.Tier.{Tier}
-use Rattle.layout.specs.tier_device.declared.media.Tier.TheVariants.{Fast}
+use Rattle.tier_device.specs.declared.media.Tier.{Tier}
+use Rattle.tier_device.specs.declared.media.Tier.TheVariants.{Fast}
 use Rattle.batch_journal.specs.Images.{slice}
 use Rattle.batch_journal.specs.Volume.{Spells}
 use Rattle.batch_journal.specs.Damage.{HasNoSuper}

@@ -1,6 +1,6 @@
 use Rattle.std.proofs.Common.{◌≡◌}
-use Rattle.world.specs.system_world.event_steps.posix_calls.declared.call.Call.{Call}
-use Rattle.world.specs.system_world.event_steps.declared.event.Event.TheVariants as kinds
+use Rattle.posix_calls.specs.declared.call.Call.{Call}
+use Rattle.event_steps.specs.declared.event.Event.TheVariants as kinds
 use Rattle.call_driver.specs.Runs.{Leads}
 use Rattle.call_driver.specs.Calls.{Turns}
 use Rattle.call_driver.specs.EventOwner.{IsServing}

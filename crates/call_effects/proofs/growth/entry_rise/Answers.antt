@@ -1,8 +1,8 @@
 use Rattle.std.proofs.Common.{sym, ◌∙◌, ap, ◌+◌, ◌-◌}
-use Rattle.log_record.specs.posix_calls.Units.{directory_units}
-use Rattle.log_record.specs.posix_calls.Walk.{entries_seen}
-use Rattle.log_record.specs.posix_calls.Answers.{count_in}
-use Rattle.log_record.proofs.posix_calls_lemmas.Chain.{exits, gives_as, bind_look, bind_look_missing}
+use Rattle.posix_calls.specs.Units.{directory_units}
+use Rattle.posix_calls.specs.Walk.{entries_seen}
+use Rattle.posix_calls.specs.Answers.{count_in}
+use Rattle.posix_calls.proofs.Chain.{exits, gives_as, bind_look, bind_look_missing}
 use Rattle.call_effects.proofs.Rise.{exits_of_node}
 use Rattle.call_effects.proofs.growth.entry_rise.Goals as goal
 

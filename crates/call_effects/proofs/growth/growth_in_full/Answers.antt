@@ -1,4 +1,4 @@
-use Rattle.log_record.proofs.posix_calls_lemmas.Chain.{gives}
+use Rattle.posix_calls.proofs.Chain.{gives}
 use Rattle.call_effects.proofs.growth.growth_in_full.Goals as goal
 
 pub returns-in-NewDir-clause-answer : goal.returns-in-NewDir-clause-answer

@@ -1,5 +1,5 @@
 use Rattle.std.proofs.Common.{sym}
-use Rattle.log_record.proofs.posix_calls_lemmas.Chain.{exits, gives_as, bind_gives, bind_stops}
+use Rattle.posix_calls.proofs.Chain.{exits, gives_as, bind_gives, bind_stops}
 use Rattle.call_effects.proofs.Rise.{exits_of_node}
 use Rattle.call_effects.proofs.growth.growth_of.Goals as goal
 

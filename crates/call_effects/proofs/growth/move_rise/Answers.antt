@@ -1,4 +1,4 @@
-use Rattle.log_record.proofs.posix_calls_lemmas.Chain.{gives, tells_is, same_if}
+use Rattle.posix_calls.proofs.Chain.{gives, tells_is, same_if}
 use Rattle.call_effects.proofs.growth.move_rise.Goals as goal
 
 pub returns-in-Nothing-clause-answer : goal.returns-in-Nothing-clause-answer

@@ -1,4 +1,4 @@
-use Rattle.log_record.proofs.posix_calls_lemmas.Chain.{exits, gives, bind_gives, bind_stops}
+use Rattle.posix_calls.proofs.Chain.{exits, gives, bind_gives, bind_stops}
 use Rattle.call_effects.proofs.Rise.{exits_of_node}
 use Rattle.call_effects.proofs.growth.new_rise.Goals as goal
 

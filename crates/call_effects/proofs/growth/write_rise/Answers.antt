@@ -1,6 +1,6 @@
 use Rattle.std.proofs.Common.{sym, ◌∙◌, ap, ◌+◌, max}
-use Rattle.log_record.specs.posix_calls.Walk.{size_seen}
-use Rattle.log_record.proofs.posix_calls_lemmas.Chain.{exits, gives_as, bind_look, bind_look_missing}
+use Rattle.posix_calls.specs.Walk.{size_seen}
+use Rattle.posix_calls.proofs.Chain.{exits, gives_as, bind_look, bind_look_missing}
 use Rattle.call_effects.specs.Records.{file_rise}
 use Rattle.call_effects.proofs.Rise.{exits_of_node}
 use Rattle.call_effects.proofs.growth.write_rise.Goals as goal

@@ -1,5 +1,5 @@
-use Rattle.log_record.specs.posix_calls.Decide.{decide}
-use Rattle.log_record.proofs.posix_calls_lemmas.Parts.{missing_is_left}
+use Rattle.posix_calls.specs.Decide.{decide}
+use Rattle.posix_calls.proofs.Parts.{missing_is_left}
 use Rattle.call_effects.specs.Knowledge.{part_of}
 use Rattle.call_effects.proofs.Changes.{fair_of}
 use Rattle.call_effects.proofs.KnownLooks.{call_looks}

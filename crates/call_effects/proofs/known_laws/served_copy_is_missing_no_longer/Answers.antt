@@ -1,5 +1,5 @@
 use Rattle.std.proofs.Common.{Ok}
-use Rattle.log_record.specs.posix_calls.Decide.{decide}
+use Rattle.posix_calls.specs.Decide.{decide}
 use Rattle.call_effects.specs.Records.{effects_asked, growth_asked}
 use Rattle.call_effects.proofs.Changes.{fair_of}
 use Rattle.call_effects.proofs.KnownMissing.{copy_is_enough, blocks_are_enough, stays_known}

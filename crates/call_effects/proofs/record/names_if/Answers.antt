@@ -1,8 +1,8 @@
 use Rattle.std.proofs.Common.{◌≡◌, Option, Some, None, true, refl, sym, ap, ◌∙◌}
 use Rattle.std.specs.Prelude.{option_map, is_some}
-use Rattle.log_record.specs.posix_calls.Walk.{names_seen}
-use Rattle.log_record.specs.posix_calls.Query.{Gives}
-use Rattle.log_record.proofs.posix_calls_lemmas.Chain.{exits, gives, look_known, look_missing}
+use Rattle.posix_calls.specs.Walk.{names_seen}
+use Rattle.posix_calls.specs.Query.{Gives}
+use Rattle.posix_calls.proofs.Chain.{exits, gives, look_known, look_missing}
 use Rattle.call_effects.proofs.record.names_if.Goals as goal
 
 pub returns-in_default-clause-answer : goal.returns-in_default-clause-answer

@@ -1,5 +1,5 @@
 use Rattle.std.proofs.Common.{sym, ◌∙◌}
-use Rattle.log_record.proofs.posix_calls_lemmas.Chain.{gives_as, bind_gives, bind_stops}
+use Rattle.posix_calls.proofs.Chain.{gives_as, bind_gives, bind_stops}
 use Rattle.call_effects.proofs.Unchanged.{nothing_asked}
 use Rattle.call_effects.proofs.record.record_of.Goals as goal
 

@@ -1,6 +1,6 @@
 use Rattle.std.proofs.Common.{sym, subst, List}
-use Rattle.inode_plan.specs.tier_device.declared.media.Tier.TheVariants as tiers
-use Rattle.inode_plan.specs.block_alloc.declared.runs.Run.{Run}
+use Rattle.tier_device.specs.declared.media.Tier.TheVariants as tiers
+use Rattle.block_alloc.specs.declared.runs.Run.{Run}
 use Rattle.change_plan.specs.FreedRuns.{AreAllRuns}
 use Rattle.change_plan.proofs.inode_drop.all_blocks.Goals as goal
 

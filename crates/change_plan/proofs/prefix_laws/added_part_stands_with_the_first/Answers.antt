@@ -1,4 +1,4 @@
-use Rattle.inode_plan.proofs.block_alloc_lemmas.Blocks.{normal-rising}
+use Rattle.block_alloc.proofs.Blocks.{normal-rising}
 use Rattle.change_plan.proofs.Firsts.{none_first, first_and_one, first_are_all}
 use Rattle.change_plan.proofs.prefix_laws.added_part_stands_with_the_first.Goals as goal
 

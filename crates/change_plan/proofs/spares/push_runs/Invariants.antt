@@ -1,5 +1,5 @@
 use Rattle.std.proofs.Common.{◌≡◌, ◌++◌, take}
-use Rattle.inode_plan.specs.block_alloc.Runs.{blocks_of}
+use Rattle.block_alloc.specs.Runs.{blocks_of}
 use Rattle.change_plan.proofs.spares.push_runs.Given as goal
 
 abbrev pub invariant-runs : goal.invariant-runs

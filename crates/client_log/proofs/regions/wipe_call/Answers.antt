@@ -1,6 +1,6 @@
 use Rattle.std.proofs.Common.{get_or, refl, sym, subst, arith}
 use Rattle.std.proofs.lemmas.Bool.{true≢false}
-use Rattle.update_log.specs.tier_device.declared.media.Tier.TheVariants.{Fast}
+use Rattle.tier_device.specs.declared.media.Tier.TheVariants.{Fast}
 use Rattle.update_log.specs.View.{header_of}
 use Rattle.update_log.specs.WipeStops.{generation, records_behind_gate}
 use Rattle.client_log.specs.Regions.{NamesBy}

@@ -1,8 +1,8 @@
 use Rattle.std.proofs.Common.{refl, Ok, Err, ap, sym, ◌∙◌, subst}
 use Rattle.std.proofs.lemmas.Bool.{or_right}
-use Rattle.call_effects.specs.posix_calls.Answers.{IsAnswer}
-use Rattle.call_effects.specs.posix_calls.Decide.{decide}
-use Rattle.call_effects.specs.posix_calls.Tree.{Own}
+use Rattle.posix_calls.specs.Answers.{IsAnswer}
+use Rattle.posix_calls.specs.Decide.{decide}
+use Rattle.posix_calls.specs.Tree.{Own}
 use Rattle.client_plan.specs.PlanSteps.{Comes}
 use Rattle.client_plan.specs.Memory.{has_change}
 use Rattle.client_plan.specs.CallPlan.{plan_outcome, course}

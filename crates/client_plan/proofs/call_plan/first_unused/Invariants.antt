@@ -1,5 +1,5 @@
 use Rattle.std.proofs.Common.{◌≡◌, drop}
-use Rattle.call_effects.specs.posix_calls.Own.{own_of}
+use Rattle.posix_calls.specs.Own.{own_of}
 use Rattle.client_plan.specs.Holdings.{first_unused}
 use Rattle.client_plan.proofs.call_plan.first_unused.Given as goal
 

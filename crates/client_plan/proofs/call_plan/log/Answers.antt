@@ -1,5 +1,5 @@
 use Rattle.std.proofs.Common.{◌≡◌, Some, None, cond, ap, sym, ◌∙◌}
-use Rattle.call_effects.specs.posix_calls.declared.call.Reply.TheVariants.{Done}
+use Rattle.posix_calls.specs.declared.call.Reply.TheVariants.{Done}
 use Rattle.client_plan.specs.CallPlan.{made_by}
 use Rattle.client_plan.proofs.Parted.{answered, log_stops, log_told}
 use Rattle.client_plan.proofs.call_plan.log.Goals as goal

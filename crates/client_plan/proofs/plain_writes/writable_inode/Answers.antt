@@ -1,7 +1,7 @@
 use Rattle.std.proofs.Common.{◌∙◌, sym, ap, refl}
 use Rattle.std.proofs.lemmas.Bool.{not-false}
-use Rattle.call_effects.specs.posix_calls.Own.{own_of}
-use Rattle.call_effects.specs.posix_calls.Tree.{Own}
+use Rattle.posix_calls.specs.Own.{own_of}
+use Rattle.posix_calls.specs.Tree.{Own}
 use Rattle.client_plan.specs.Holdings.{first_unused}
 use Rattle.client_plan.proofs.plain_writes.writable_inode.Goals as goal
 

@@ -1,6 +1,6 @@
 use Rattle.std.proofs.Common.{◌≤◌, ◌-◌, ℕ, List, length, take, ap, sym, ◌∙◌, arith}
 use Rattle.std.proofs.lemmas.List.{length-take-le}
-use Rattle.client_plan.specs.posix_calls.Content.{with_bytes}
+use Rattle.posix_calls.specs.Content.{with_bytes}
 use Rattle.client_view.proofs.Buffers.{writes}
 use Rattle.client_view.proofs.blocks.put_part.Goals as goal
 

@@ -1,5 +1,5 @@
 use Rattle.std.proofs.Common.{◌≡◌, ℕ, ◌%◌, List, ◌++◌, Some, true, rules, ap, sym, ◌∙◌}
-use Rattle.client_plan.specs.posix_calls.Content.{range}
+use Rattle.posix_calls.specs.Content.{range}
 use Rattle.client_view.specs.KnowledgeTables.{file_block}
 use Rattle.client_view.proofs.Joined.{read_is}
 use Rattle.client_view.proofs.file_reads.read_file.Goals as goal

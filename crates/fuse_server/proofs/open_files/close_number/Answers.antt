@@ -1,4 +1,4 @@
-use Rattle.file_graph.specs.posix_calls.declared.call.Call.TheVariants as call
+use Rattle.posix_calls.specs.declared.call.Call.TheVariants as call
 use Rattle.fuse_server.proofs.UpkeepLemmas.{upkeep_once}
 use Rattle.fuse_server.proofs.open_files.close_number.Goals as goal
 

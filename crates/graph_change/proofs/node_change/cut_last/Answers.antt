@@ -2,7 +2,7 @@ use Rattle.std.proofs.Common.{rules, ◌≡◌, refl, subst, Some, None, sym, ap
 use Rattle.std.specs.Prelude.{option_map, IsSome}
 use Rattle.std.specs.Ordering.{nat_cmp}
 use Rattle.std.specs.BTreeMap.{get}
-use Rattle.file_graph.specs.posix_calls.declared.limits.TheConstants.{UNIT_BYTES}
+use Rattle.posix_calls.specs.declared.limits.TheConstants.{UNIT_BYTES}
 use Rattle.std.specs.FinMap as fin
 use Rattle.graph_change.specs.Change.{Patches, cut_patch}
 use Rattle.graph_change.specs.View.{patch_of, patches_of}

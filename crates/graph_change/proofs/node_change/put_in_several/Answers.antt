@@ -1,6 +1,6 @@
 use Rattle.std.proofs.Common.{◌≡◌, ◌<◌, ◌∙◌, ◌+◌, ◌-◌, ◌/◌, arith, length, ap, sym, subst}
 use Rattle.std.specs.List.{range_with_len}
-use Rattle.file_graph.specs.posix_calls.declared.limits.TheConstants.{UNIT_BYTES}
+use Rattle.posix_calls.specs.declared.limits.TheConstants.{UNIT_BYTES}
 use Rattle.graph_change.specs.Memory.{AddsBlanks}
 use Rattle.graph_change.specs.View.{patches_of}
 use Rattle.graph_change.proofs.Blocks.{any_range}

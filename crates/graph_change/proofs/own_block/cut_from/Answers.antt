@@ -1,7 +1,7 @@
 use Rattle.std.proofs.Common.{◌≡◌, ◌∙◌, ◌-◌, arith, length, drop, ap, sym}
 use Rattle.std.specs.List.{count_by}
 use Rattle.std.specs.Vec.{with_items}
-use Rattle.file_graph.specs.posix_calls.declared.limits.TheConstants.{UNIT_BYTES}
+use Rattle.posix_calls.specs.declared.limits.TheConstants.{UNIT_BYTES}
 use Rattle.graph_change.specs.KeptBytes.{bytes_in, is_set, kept_marks, marks_in}
 use Rattle.graph_change.specs.View.{patch_of}
 use Rattle.graph_change.proofs.Marks.{cut_kept, kept_some, marks_counted, written_back}

@@ -1,7 +1,7 @@
 use Rattle.std.proofs.Common.{◌∙◌, ◌+◌, ◌-◌, ◌++◌, arith, length, take, drop, ap}
 use Rattle.std.specs.Prelude.{replicate}
 use Rattle.std.specs.List.{count_by}
-use Rattle.file_graph.specs.posix_calls.declared.limits.TheConstants.{UNIT_BYTES}
+use Rattle.posix_calls.specs.declared.limits.TheConstants.{UNIT_BYTES}
 use Rattle.graph_change.specs.KeptBytes.{is_set}
 use Rattle.graph_change.proofs.Marks.{back_is, front_is}
 use Rattle.graph_change.proofs.own_block.cut_marking.Goals as goal

@@ -1,6 +1,6 @@
 use Rattle.std.proofs.Common.{◌∙◌, arith, length, ap}
 use Rattle.std.proofs.lemmas.List.{take_all}
-use Rattle.file_graph.specs.posix_calls.declared.limits.TheConstants.{UNIT_BYTES}
+use Rattle.posix_calls.specs.declared.limits.TheConstants.{UNIT_BYTES}
 use Rattle.graph_change.specs.KeptBytes.{bytes_in, kept_marks}
 use Rattle.graph_change.proofs.Marks.{all_settled, kept_all}
 use Rattle.graph_change.proofs.own_block.put_into.Goals as goal

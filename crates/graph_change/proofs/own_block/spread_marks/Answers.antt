@@ -1,5 +1,5 @@
 use Rattle.std.proofs.Common.{◌∙◌, sym, ap, arith, refl}
-use Rattle.file_graph.specs.posix_calls.declared.limits.TheConstants.{UNIT_BYTES}
+use Rattle.posix_calls.specs.declared.limits.TheConstants.{UNIT_BYTES}
 use Rattle.graph_change.specs.KeptBytes.{kept_marks, marks_in}
 use Rattle.graph_change.proofs.Marks.{each_there, marks_all, spread_alike, spread_bytes, spread_long}
 use Rattle.graph_change.proofs.own_block.spread_marks.Goals as goal

@@ -1,6 +1,6 @@
 use Rattle.std.proofs.Common.{sym, ◌∙◌}
 use Rattle.std.proofs.lemmas.Option.{none-some}
-use Rattle.area_commit.specs.tier_device.declared.media.Tier.TheVariants.{Fast}
+use Rattle.tier_device.specs.declared.media.Tier.TheVariants.{Fast}
 use Rattle.inode_plan.proofs.Parts.{pool_place}
 use Rattle.inode_plan.proofs.Lists.{node_room}
 use Rattle.inode_plan.proofs.blocks.place_of.Goals as goal

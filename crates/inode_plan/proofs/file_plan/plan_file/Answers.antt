@@ -1,4 +1,4 @@
-use Rattle.area_commit.specs.tier_device.declared.media.Tier.TheVariants.{Fast, Block, Slow}
+use Rattle.tier_device.specs.declared.media.Tier.TheVariants.{Fast, Block, Slow}
 use Rattle.inode_plan.proofs.file_plan.plan_file.Goals as goal
 
 pub returns-clause-left : goal.returns-clause-left

@@ -1,4 +1,4 @@
-use Rattle.area_commit.specs.block_alloc.declared.runs.Run.{Run}
+use Rattle.block_alloc.specs.declared.runs.Run.{Run}
 use Rattle.inode_plan.specs.PlannedFile.{pairs_of}
 use Rattle.inode_plan.proofs.Steps.{ends_fit}
 use Rattle.inode_plan.proofs.Taking.{run_more}

@@ -1,5 +1,5 @@
 use Rattle.std.proofs.Common.{sym, subst}
-use Rattle.area_commit.specs.tier_device.declared.media.Tier.TheVariants.{Fast, Block, Slow}
+use Rattle.tier_device.specs.declared.media.Tier.TheVariants.{Fast, Block, Slow}
 use Rattle.inode_plan.specs.RunPlaces.{EndsFit}
 use Rattle.inode_plan.proofs.place_list.taken_places.Goals as goal
 

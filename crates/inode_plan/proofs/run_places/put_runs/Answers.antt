@@ -1,9 +1,9 @@
 use Rattle.std.proofs.Common.{◌≡◌, ◌≤◌, ◌+◌, ◌++◌, ℕ, List, length, take, get_or, sym, ap, subst, ◌∙◌, arith}
 use Rattle.std.proofs.lemmas.List.{take_more}
-use Rattle.area_commit.specs.block_alloc.declared.runs.Run.{Run}
-use Rattle.area_commit.specs.block_alloc.Runs.{blocks_of, run_blocks}
-use Rattle.area_commit.proofs.block_alloc_lemmas.Blocks.{blocks-push, length-blocks-more, length-blocks-le}
-use Rattle.area_commit.specs.extent_tree.Map.{ArePut}
+use Rattle.block_alloc.specs.declared.runs.Run.{Run}
+use Rattle.block_alloc.specs.Runs.{blocks_of, run_blocks}
+use Rattle.block_alloc.proofs.Blocks.{blocks-push, length-blocks-more, length-blocks-le}
+use Rattle.extent_tree.specs.Map.{ArePut}
 use Rattle.inode_plan.specs.RunPlaces.{ArePlaced}
 use Rattle.inode_plan.proofs.Steps.{placed_none, placed_more, ends_fit}
 use Rattle.inode_plan.proofs.run_places.put_runs.Goals as goal

@@ -1,5 +1,5 @@
 use Rattle.std.proofs.Common.{◌≡◌, ◌+◌, length, take}
-use Rattle.area_commit.specs.block_alloc.Runs.{blocks_of}
+use Rattle.block_alloc.specs.Runs.{blocks_of}
 use Rattle.inode_plan.specs.RunPlaces.{ArePlaced}
 use Rattle.inode_plan.proofs.run_places.put_runs.Given as goal
 

@@ -1,8 +1,8 @@
 use Rattle.std.proofs.Common.{◌+◌, ◌∙◌, sym}
-use Rattle.digester.specs.layout.Places.{Sizes}
-use Rattle.digester.specs.area_image.Store.{Store, disk, graph}
-use Rattle.digester.specs.area_image.Looks.{call_answer}
-use Rattle.digester.proofs.area_image_lemmas.Looked.{carried, carried_back, looks_on, looks_none}
+use Rattle.layout.specs.Places.{Sizes}
+use Rattle.area_reader.specs.Store.{Store, disk, graph}
+use Rattle.area_reader.specs.Looks.{call_answer}
+use Rattle.area_reader.proofs.Looked.{carried, carried_back, looks_on, looks_none}
 use Rattle.kernel_fs.specs.Inodes.{has}
 use Rattle.kernel_fs.specs.NodeScan.{AreNodesBelow}
 use Rattle.kernel_fs.proofs.FirstNodes.{begins, ends}

@@ -1,9 +1,9 @@
 use Rattle.std.proofs.Common.{◌∙◌, ap, sym, ℕ, List, ◌/◌}
 use Rattle.std.specs.Prelude.{Some, None}
-use Rattle.lease_manager.specs.posix_calls.Own.{own_of}
-use Rattle.lease_manager.specs.posix_calls.Tree.{Own}
-use Rattle.lease_manager.specs.posix_calls.declared.limits.TheConstants.{UNIT_BYTES}
-use Rattle.client_view.specs.block_cache.CacheList.{Block, used_run}
+use Rattle.posix_calls.specs.Own.{own_of}
+use Rattle.posix_calls.specs.Tree.{Own}
+use Rattle.posix_calls.specs.declared.limits.TheConstants.{UNIT_BYTES}
+use Rattle.block_cache.specs.CacheList.{Block, used_run}
 use Rattle.client_view.specs.KnowledgeTables.{knows}
 use Rattle.libfs.specs.BlockUse.{blocks_read}
 use Rattle.libfs.proofs.Used.{read_uses}

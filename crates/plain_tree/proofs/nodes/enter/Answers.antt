@@ -1,7 +1,7 @@
 use Rattle.std.proofs.Common.{Some}
 use Rattle.std.specs.FinMap as fin
 use Rattle.std.proofs.lemmas.Result.{on_ok_weaker}
-use Rattle.file_graph.specs.posix_calls.Tree.{Dir, entries_of}
+use Rattle.posix_calls.specs.Tree.{Dir, entries_of}
 use Rattle.plain_tree.specs.Plain.{stored_tree}
 use Rattle.plain_tree.proofs.Slots.{tree_written}
 use Rattle.plain_tree.proofs.nodes.enter.Goals as goal

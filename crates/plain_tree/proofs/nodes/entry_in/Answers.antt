@@ -1,6 +1,6 @@
 use Rattle.std.proofs.Common.{◌≡◌, Option, None, ap, sym, ◌∙◌, refl}
 use Rattle.std.specs.FinMap as fin
-use Rattle.file_graph.specs.posix_calls.Tree.{Node, entries_of}
+use Rattle.posix_calls.specs.Tree.{Node, entries_of}
 use Rattle.plain_tree.specs.Plain.{stored_tree}
 use Rattle.plain_tree.proofs.Answering.{nothing_past, get_nothing}
 use Rattle.plain_tree.proofs.nodes.entry_in.Goals as goal

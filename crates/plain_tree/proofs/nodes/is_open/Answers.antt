@@ -1,8 +1,8 @@
 use Rattle.std.proofs.Common.{◌≡◌, ◌-◌, suc, arith, ap, sym, ◌∙◌}
-use Rattle.file_graph.specs.posix_calls.Tree.{any_up_to, refers_to, is_open}
+use Rattle.posix_calls.specs.Tree.{any_up_to, refers_to, is_open}
 use Rattle.plain_tree.specs.Plain.{held_of}
-use Rattle.file_graph.specs.posix_calls.declared.limits.TheConstants.{MAX_CLIENTS, MAX_DESCRIPTORS}
-use Rattle.file_graph.proofs.posix_calls_lemmas.Sums.{any_none, any_more, any_there}
+use Rattle.posix_calls.specs.declared.limits.TheConstants.{MAX_CLIENTS, MAX_DESCRIPTORS}
+use Rattle.posix_calls.proofs.Sums.{any_none, any_more, any_there}
 use Rattle.plain_tree.proofs.nodes.is_open.Goals as goal
 
 pub loop-client-init : goal.loop-client-init

@@ -1,7 +1,7 @@
 use Rattle.std.proofs.Common.{◌≡◌, ◌-◌, false}
-use Rattle.file_graph.specs.posix_calls.Tree.{any_up_to, refers_to}
+use Rattle.posix_calls.specs.Tree.{any_up_to, refers_to}
 use Rattle.plain_tree.specs.Plain.{held_of}
-use Rattle.file_graph.specs.posix_calls.declared.limits.TheConstants.{MAX_DESCRIPTORS}
+use Rattle.posix_calls.specs.declared.limits.TheConstants.{MAX_DESCRIPTORS}
 use Rattle.plain_tree.proofs.nodes.is_open.Given as goal
 
 abbrev pub invariant-loop-client : goal.invariant-loop-client

@@ -1,10 +1,10 @@
 use Rattle.std.proofs.Common.{◌≡◌, ◌-◌, ◌≤◌, ℕ, zero, suc, List, [], false, refl, arith, ap, sym, ◌∙◌, Option, get_or, length, ltb}
 use Rattle.std.proofs.lemmas.Bool.Decides.{nat_tests}
 use Rattle.std.proofs.lemmas.List.{get_or_past}
-use Rattle.file_graph.specs.posix_calls.Tree.{any_up_to, refers_to}
-use Rattle.file_graph.specs.posix_calls.Own.{own_of}
-use Rattle.file_graph.specs.posix_calls.declared.descriptor.Descriptor.{Descriptor}
-use Rattle.file_graph.specs.posix_calls.declared.limits.TheConstants.{MAX_DESCRIPTORS}
+use Rattle.posix_calls.specs.Tree.{any_up_to, refers_to}
+use Rattle.posix_calls.specs.Own.{own_of}
+use Rattle.posix_calls.specs.declared.descriptor.Descriptor.{Descriptor}
+use Rattle.posix_calls.specs.declared.limits.TheConstants.{MAX_DESCRIPTORS}
 use Rattle.plain_tree.proofs.nodes.is_open_by.Goals as goal
 
 past_end : (i n : ℕ) → ltb i n ≡ false → n ≤ i

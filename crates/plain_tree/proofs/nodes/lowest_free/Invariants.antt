@@ -1,6 +1,6 @@
 use Rattle.std.proofs.Common.{◌≢◌, ◌<◌, ℕ, None}
 use Rattle.plain_tree.specs.Plain.{stored_tree}
-use Rattle.file_graph.specs.posix_calls.declared.limits.TheConstants.{ROOT}
+use Rattle.posix_calls.specs.declared.limits.TheConstants.{ROOT}
 use Rattle.plain_tree.proofs.nodes.lowest_free.Given as goal
 
 abbrev pub invariant-loop-inode : goal.invariant-loop-inode

@@ -1,5 +1,5 @@
 use Rattle.std.proofs.Common.{◌≡◌, ◌+◌, arith, ap, ◌∙◌, length, [], ◌∷◌, ◌++◌, Option, None, length-append}
-use Rattle.file_graph.specs.posix_calls.Tree.{Node}
+use Rattle.posix_calls.specs.Tree.{Node}
 use Rattle.plain_tree.specs.Plain.{stored_tree}
 use Rattle.plain_tree.proofs.Slots.{tree_pushed}
 use Rattle.plain_tree.proofs.nodes.make_room.Goals as goal

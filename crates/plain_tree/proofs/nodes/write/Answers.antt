@@ -1,7 +1,7 @@
 use Rattle.std.proofs.Common.{Some}
 use Rattle.std.proofs.lemmas.Result.{on_ok_weaker}
-use Rattle.file_graph.specs.posix_calls.Content.{with_bytes}
-use Rattle.file_graph.specs.posix_calls.Tree.{File, bytes_of}
+use Rattle.posix_calls.specs.Content.{with_bytes}
+use Rattle.posix_calls.specs.Tree.{File, bytes_of}
 use Rattle.plain_tree.specs.Plain.{stored_tree}
 use Rattle.plain_tree.proofs.Slots.{tree_written}
 use Rattle.plain_tree.proofs.nodes.write.Goals as goal

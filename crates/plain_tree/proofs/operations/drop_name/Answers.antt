@@ -1,7 +1,7 @@
 use Rattle.std.proofs.Common.{subst, sym, ap, ◌∙◌}
-use Rattle.file_graph.specs.posix_calls.Tree.{Tree}
-use Rattle.file_graph.specs.posix_calls.WellFormed.{IsBare}
-use Rattle.file_graph.specs.posix_calls.Operations.{without_entry, less_unused}
+use Rattle.posix_calls.specs.Tree.{Tree}
+use Rattle.posix_calls.specs.WellFormed.{IsBare}
+use Rattle.posix_calls.specs.Operations.{without_entry, less_unused}
 use Rattle.plain_tree.specs.Plain.{stored_tree, held_of}
 use Rattle.plain_tree.proofs.Tallies.{bare_left}
 use Rattle.plain_tree.proofs.operations.drop_name.Goals as goal

@@ -1,6 +1,6 @@
 use Rattle.std.proofs.Common.{subst, sym}
-use Rattle.file_graph.specs.posix_calls.Tree.{Tree}
-use Rattle.file_graph.specs.posix_calls.WellFormed.{IsBare}
+use Rattle.posix_calls.specs.Tree.{Tree}
+use Rattle.posix_calls.specs.WellFormed.{IsBare}
 use Rattle.plain_tree.proofs.operations.empty_if.Goals as goal
 
 pub put-requires-clause-before : goal.put-requires-clause-before

@@ -1,9 +1,9 @@
 use Rattle.std.proofs.Common.{◌≤◌, subst, sym, ap, ◌∙◌}
-use Rattle.file_graph.specs.posix_calls.Tree.{Tree, set_node, names_of}
-use Rattle.file_graph.specs.posix_calls.WellFormed.{IsBare}
-use Rattle.file_graph.specs.posix_calls.Operations.{with_entry}
+use Rattle.posix_calls.specs.Tree.{Tree, set_node, names_of}
+use Rattle.posix_calls.specs.WellFormed.{IsBare}
+use Rattle.posix_calls.specs.Operations.{with_entry}
 use Rattle.plain_tree.specs.Plain.{stored_tree}
-use Rattle.file_graph.specs.posix_calls.declared.limits.TheConstants.{MAX_NAMES}
+use Rattle.posix_calls.specs.declared.limits.TheConstants.{MAX_NAMES}
 use Rattle.plain_tree.proofs.Tallies.{bare_entered}
 use Rattle.plain_tree.proofs.Made.{named_after}
 use Rattle.plain_tree.proofs.operations.make.Goals as goal

@@ -1,8 +1,8 @@
 use Rattle.std.proofs.Common.{◌≤◌, subst, sym, ap, ◌∙◌}
-use Rattle.file_graph.specs.posix_calls.Tree.{Tree, names_of}
-use Rattle.file_graph.specs.posix_calls.Operations.{with_entry, without_entry}
+use Rattle.posix_calls.specs.Tree.{Tree, names_of}
+use Rattle.posix_calls.specs.Operations.{with_entry, without_entry}
 use Rattle.plain_tree.specs.Plain.{stored_tree, held_of, less_put_out, IsBareReplaced}
-use Rattle.file_graph.specs.posix_calls.declared.limits.TheConstants.{MAX_NAMES}
+use Rattle.posix_calls.specs.declared.limits.TheConstants.{MAX_NAMES}
 use Rattle.plain_tree.proofs.Tallies.{bare_put_out}
 use Rattle.plain_tree.proofs.Moves.{moved}
 use Rattle.plain_tree.proofs.operations.move_name.Goals as goal

@@ -1,7 +1,7 @@
 use Rattle.std.proofs.Common.{None, subst, sym, ap, ◌∙◌}
-use Rattle.file_graph.specs.posix_calls.Tree.{Tree, set_node}
-use Rattle.file_graph.specs.posix_calls.WellFormed.{IsBare}
-use Rattle.file_graph.specs.posix_calls.Operations.{without_entry}
+use Rattle.posix_calls.specs.Tree.{Tree, set_node}
+use Rattle.posix_calls.specs.WellFormed.{IsBare}
+use Rattle.posix_calls.specs.Operations.{without_entry}
 use Rattle.plain_tree.specs.Plain.{stored_tree}
 use Rattle.plain_tree.proofs.Tallies.{bare_left}
 use Rattle.plain_tree.proofs.operations.remove_dir.Goals as goal

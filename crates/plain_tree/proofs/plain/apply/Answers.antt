@@ -1,7 +1,7 @@
 use Rattle.std.proofs.Common.{sym, ap, subst, ◌∙◌}
-use Rattle.file_graph.specs.posix_calls.Operations.{less_unused, tree_after}
+use Rattle.posix_calls.specs.Operations.{less_unused, tree_after}
 use Rattle.plain_tree.specs.Plain.{stored_tree, held_of, HasNumber}
-use Rattle.file_graph.specs.posix_calls.declared.operation.Operation.TheVariants.{CloseFile}
+use Rattle.posix_calls.specs.declared.operation.Operation.TheVariants.{CloseFile}
 use Rattle.plain_tree.proofs.Carried.{carried_as, carried_open, opened_low}
 use Rattle.plain_tree.proofs.plain.apply.Goals as goal
 

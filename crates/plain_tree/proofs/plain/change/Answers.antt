@@ -1,7 +1,7 @@
 use Rattle.std.proofs.Common.{◌≡◌, inl, inr, refl, subst, List, Option}
-use Rattle.file_graph.specs.posix_calls.Tree.{Node}
-use Rattle.file_graph.specs.posix_calls.Operations.{makes}
-use Rattle.file_graph.specs.posix_calls.Exact.{IsLowest}
+use Rattle.posix_calls.specs.Tree.{Node}
+use Rattle.posix_calls.specs.Operations.{makes}
+use Rattle.posix_calls.specs.Exact.{IsLowest}
 use Rattle.plain_tree.specs.Plain.{stored_tree}
 use Rattle.std.specs.Prelude.{true}
 use Rattle.plain_tree.proofs.plain.change.Goals as goal

@@ -1,7 +1,7 @@
 use Rattle.std.proofs.Common.{◌≡◌, Option, None, refl, ap, sym, ◌∙◌}
 use Rattle.std.specs.Prelude.{option_map}
 use Rattle.std.specs.FinMap as fin
-use Rattle.file_graph.specs.posix_calls.Tree.{Node, entries_of}
+use Rattle.posix_calls.specs.Tree.{Node, entries_of}
 use Rattle.plain_tree.specs.Plain.{stored_tree}
 use Rattle.plain_tree.proofs.Answering.{nothing_past, get_nothing}
 use Rattle.plain_tree.proofs.plain.child.Goals as goal

@@ -1,7 +1,7 @@
 use Rattle.std.proofs.Common.{◌≡◌, ◌+◌, ℕ, zero, suc, None, List, [], ◌∷◌, ◌++◌, Option, length, get_or, refl, ap, ◌∙◌, length-append}
-use Rattle.file_graph.specs.posix_calls.Own.{own_of}
+use Rattle.posix_calls.specs.Own.{own_of}
 use Rattle.plain_tree.specs.Plain.{held_of}
-use Rattle.file_graph.specs.posix_calls.declared.descriptor.Descriptor.{Descriptor}
+use Rattle.posix_calls.specs.declared.descriptor.Descriptor.{Descriptor}
 use Rattle.plain_tree.proofs.plain.no_descriptors.Goals as goal
 
 abbrev Row : Type 0

@@ -1,5 +1,5 @@
 use Rattle.std.proofs.Common.{◌≡◌, ℕ, None, length, get_or, []}
-use Rattle.file_graph.specs.posix_calls.Own.{own_of}
+use Rattle.posix_calls.specs.Own.{own_of}
 use Rattle.plain_tree.proofs.plain.no_descriptors.Given as goal
 
 abbrev pub invariant-loop : goal.invariant-loop

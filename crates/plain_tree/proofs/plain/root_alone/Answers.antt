@@ -1,10 +1,10 @@
 use Rattle.std.proofs.Common.{sym, subst, ap, ◌∙◌, refl}
 use Rattle.std.specs.Prelude.{List, Option, Some}
 use Rattle.std.specs.FinMap as fin
-use Rattle.file_graph.specs.posix_calls.Tree.{Node, Tree, Dir, set_node}
-use Rattle.file_graph.specs.posix_calls.WellFormed.{IsBare}
+use Rattle.posix_calls.specs.Tree.{Node, Tree, Dir, set_node}
+use Rattle.posix_calls.specs.WellFormed.{IsBare}
 use Rattle.plain_tree.specs.Plain.{stored_tree}
-use Rattle.file_graph.specs.posix_calls.declared.limits.TheConstants.{ROOT}
+use Rattle.posix_calls.specs.declared.limits.TheConstants.{ROOT}
 use Rattle.plain_tree.proofs.plain.root_alone.Goals as goal
 
 pub put-requires-clause-before : goal.put-requires-clause-before

@@ -1,20 +1,20 @@
 use Rattle.std.proofs.Common.{ap, sym, subst, ◌∙◌, inl, inr}
 use Rattle.std.proofs.lemmas.Bool.{false≢true}
-use Rattle.settlement.specs.world.system_world.event_steps.View.{SystemView}
-use Rattle.settlement.specs.recovery_laws.shared_area.area_image.Looks.{call_answer}
-use Rattle.settlement.specs.recovery_laws.shared_area.area_image.Refusals.{IsReadRefusal}
-use Rattle.settlement.specs.recovery_laws.shared_area.Parts.{IsNoDamage}
-use Rattle.settlement.specs.recovery_laws.shared_area.batch_journal.View.{JournalView}
-use Rattle.settlement.specs.recovery_laws.shared_area.layout.declared.marks.Marks.{Marks}
-use Rattle.settlement.specs.world.system_world.Idle.{IsIdleSystem}
-use Rattle.settlement.specs.world.system_world.Parts.{medium_of}
-use Rattle.settlement.specs.world.system_world.event_steps.call_effects.ClosedGraph.{nobody}
-use Rattle.settlement.specs.world.system_world.event_steps.call_effects.Wholes.{state_of}
-use Rattle.settlement.specs.world.system_world.event_steps.libfs.file_graph.Graph.{Graph}
-use Rattle.settlement.specs.Parts.{part_medium}
-use Rattle.settlement.specs.PartMedia.{AreUntouched, media_beneath}
-use Rattle.settlement.specs.Regions.{media_of}
-use Rattle.settlement.proofs.Faults.{no_damage}
+use Rattle.event_steps.specs.View.{SystemView}
+use Rattle.area_reader.specs.Looks.{call_answer}
+use Rattle.area_reader.specs.Refusals.{IsReadRefusal}
+use Rattle.shared_area.specs.Parts.{IsNoDamage}
+use Rattle.batch_journal.specs.View.{JournalView}
+use Rattle.layout.specs.declared.marks.Marks.{Marks}
+use Rattle.system_laws.specs.Idle.{IsIdleSystem}
+use Rattle.system_laws.specs.Parts.{medium_of}
+use Rattle.call_effects.specs.ClosedGraph.{nobody}
+use Rattle.call_effects.specs.Wholes.{state_of}
+use Rattle.file_graph.specs.Graph.{Graph}
+use Rattle.area_recovery.specs.Parts.{part_medium}
+use Rattle.area_recovery.specs.PartMedia.{AreUntouched, media_beneath}
+use Rattle.area_recovery.specs.Regions.{media_of}
+use Rattle.area_recovery.proofs.Faults.{no_damage}
 use Rattle.recovery.proofs.IdleWorlds.{idle_assembled, idle_tree, looked_untouched, same_graph_read, same_mark}
 use Rattle.recovery.proofs.OpenedSeats.{are_seats, seats_read, unread}
 use Rattle.recovery.proofs.SystemParts.{given_back, region_rose, shared_rose, system_untouched}

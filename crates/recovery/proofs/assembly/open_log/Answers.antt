@@ -1,6 +1,6 @@
 use Rattle.std.proofs.Common.{inl, inr}
-use Rattle.settlement.specs.world.system_world.event_steps.libfs.client_log.Regions.{AreWiped}
-use Rattle.settlement.specs.recovery_laws.update_log.tier_device.declared.media.Tier.TheVariants.{Fast}
+use Rattle.client_log.specs.Regions.{AreWiped}
+use Rattle.tier_device.specs.declared.media.Tier.TheVariants.{Fast}
 use Rattle.recovery.proofs.OpenedLogs.{both_wiped, opened_blank}
 use Rattle.recovery.proofs.assembly.open_log.Goals as goal
 

@@ -1,7 +1,7 @@
 use Rattle.std.proofs.Common.{subst, sym}
-use Rattle.settlement.specs.world.system_world.event_steps.View.{SystemView}
-use Rattle.settlement.specs.world.system_world.KeptCalls.{no_calls}
-use Rattle.settlement.specs.world.system_world.Relation.{IsWorld}
+use Rattle.event_steps.specs.View.{SystemView}
+use Rattle.system_laws.specs.KeptCalls.{no_calls}
+use Rattle.system_laws.specs.Relation.{IsWorld}
 use Rattle.recovery.proofs.IdleWorlds.{same_system}
 use Rattle.recovery.proofs.assembly.world_of.Goals as goal
 

@@ -1,12 +1,12 @@
 use Rattle.std.proofs.Common.{◌++◌, List, length, ap, ◌∙◌}
-use Rattle.settlement.specs.world.system_world.event_steps.View.{SeatView, SystemView}
-use Rattle.settlement.specs.recovery_laws.kernel_fs.KernelView.{KernelView}
-use Rattle.settlement.specs.recovery_laws.shared_area.batch_journal.View.{JournalView}
-use Rattle.settlement.specs.recovery_laws.update_log.View.{RegionView}
-use Rattle.settlement.specs.world.system_world.Parts.{medium_of}
-use Rattle.settlement.specs.Parts.{PartsView}
-use Rattle.settlement.specs.PartMedia.{regions_of_seats}
-use Rattle.settlement.specs.Regions.{media_of}
+use Rattle.event_steps.specs.View.{SeatView, SystemView}
+use Rattle.kernel_fs.specs.KernelView.{KernelView}
+use Rattle.batch_journal.specs.View.{JournalView}
+use Rattle.update_log.specs.View.{RegionView}
+use Rattle.system_laws.specs.Parts.{medium_of}
+use Rattle.area_recovery.specs.Parts.{PartsView}
+use Rattle.area_recovery.specs.PartMedia.{regions_of_seats}
+use Rattle.area_recovery.specs.Regions.{media_of}
 use Rattle.recovery.proofs.SystemParts.{parts_are, sixteen_regions}
 use Rattle.recovery.proofs.disassembly.take_apart.Goals as goal
 

@@ -1,10 +1,10 @@
 use Rattle.std.proofs.Common.{◌≡◌, sym, subst, arith}
 use Rattle.std.proofs.lemmas.Result.{IfErr-weaker, IfOk-weaker}
-use Rattle.settlement.specs.world.system_world.Parts.{medium_of}
-use Rattle.settlement.specs.declared.error.RecoveryError.TheVariants.{DeviceFault}
+use Rattle.system_laws.specs.Parts.{medium_of}
+use Rattle.area_recovery.specs.declared.error.RecoveryError.TheVariants.{DeviceFault}
 use Rattle.recovery.specs.FreshContents.{AreFreshRegions, AreLater}
-use Rattle.settlement.specs.Parts.{PartsView, part_medium}
-use Rattle.settlement.specs.PartMedia.{SomeRose}
+use Rattle.area_recovery.specs.Parts.{PartsView, part_medium}
+use Rattle.area_recovery.specs.PartMedia.{SomeRose}
 use Rattle.recovery.proofs.PartRows.{after, all_later_on, earlier_rises, slice_left, written_later, written_rose}
 use Rattle.recovery.proofs.fresh_world.format.Goals as goal
 

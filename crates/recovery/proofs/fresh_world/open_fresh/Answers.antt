@@ -1,25 +1,25 @@
 use Rattle.std.proofs.Common.{◌≡◌, ◌<◌, ℕ, Some, ap, sym, ◌∙◌, subst, arith}
 use Rattle.std.specs.List.{AllByRecursion}
 use Rattle.std.proofs.lemmas.Result.{IfErr-weaker, IfOk-weaker}
-use Rattle.settlement.proofs.recovery_laws_lemmas.graph_check_lemmas.call_effects_lemmas.Fresh.{fresh_state}
-use Rattle.settlement.specs.recovery_laws.shared_area.AreaOpen.{SpellsNone}
-use Rattle.settlement.specs.recovery_laws.fresh_media.Fresh.{no_marks}
-use Rattle.settlement.specs.recovery_laws.shared_area.area_image.Store.{disk, graph, marks}
-use Rattle.settlement.specs.recovery_laws.shared_area.layout.declared.marks.Marks.{Marks}
-use Rattle.settlement.specs.recovery_laws.update_log.View.{HasSize}
-use Rattle.settlement.specs.world.system_world.Idle.{IsIdleSystem}
-use Rattle.settlement.specs.world.system_world.Parts.{medium_of}
-use Rattle.settlement.specs.world.system_world.WorldTree.{world_tree}
-use Rattle.settlement.specs.world.system_world.courses.Courses.{PARTS}
-use Rattle.settlement.specs.world.system_world.event_steps.call_effects.ClosedGraph.{nobody}
-use Rattle.settlement.specs.world.system_world.event_steps.call_effects.Wholes.{state_of}
-use Rattle.settlement.specs.world.system_world.event_steps.posix_calls.EmptyTree.{empty_state}
-use Rattle.settlement.specs.declared.error.RecoveryError.TheVariants.{DeviceFault}
+use Rattle.call_effects.proofs.Fresh.{fresh_state}
+use Rattle.shared_area.specs.AreaOpen.{SpellsNone}
+use Rattle.recovery_laws.specs.Fresh.{no_marks}
+use Rattle.area_reader.specs.Store.{disk, graph, marks}
+use Rattle.layout.specs.declared.marks.Marks.{Marks}
+use Rattle.update_log.specs.View.{HasSize}
+use Rattle.system_laws.specs.Idle.{IsIdleSystem}
+use Rattle.system_laws.specs.Parts.{medium_of}
+use Rattle.system_laws.specs.WorldTree.{world_tree}
+use Rattle.event_lists.specs.Courses.{PARTS}
+use Rattle.call_effects.specs.ClosedGraph.{nobody}
+use Rattle.call_effects.specs.Wholes.{state_of}
+use Rattle.posix_calls.specs.EmptyTree.{empty_state}
+use Rattle.area_recovery.specs.declared.error.RecoveryError.TheVariants.{DeviceFault}
 use Rattle.recovery.specs.FreshContents.{AreLater, HoldsContent, IsLater, fresh_contents}
-use Rattle.settlement.specs.Parts.{PartsView, part_medium}
-use Rattle.settlement.specs.PartMedia.{AreUntouched, SomeRose, media_beneath}
-use Rattle.settlement.specs.RecoveryStops.{IsIdle}
-use Rattle.settlement.specs.Regions.{IsGivenBack}
+use Rattle.area_recovery.specs.Parts.{PartsView, part_medium}
+use Rattle.area_recovery.specs.PartMedia.{AreUntouched, SomeRose, media_beneath}
+use Rattle.area_recovery.specs.RecoveryStops.{IsIdle}
+use Rattle.area_recovery.specs.Regions.{IsGivenBack}
 use Rattle.recovery.proofs.FreshMedia.{all_rest, all_sized, area_holds, area_ready, fresh_marks, geometry_is, graph_is, later_by_recovery, marks_are, no_damage_there, no_size_there, opens_not, regions_ready}
 use Rattle.recovery.proofs.FreshWorlds.{beneath_later, given_later, parts_hold, parts_later}
 use Rattle.recovery.proofs.PartRows.{earlier_rises, region_rose, shared_later, shared_rose, zip_long}

@@ -1,6 +1,6 @@
 use Rattle.std.proofs.Common.{arith}
-use Rattle.settlement.specs.recovery_laws.fresh_media.Fresh.{fresh_tiers}
-use Rattle.settlement.specs.recovery_laws.update_log.tier_device.declared.media.Tier.TheVariants.{Fast}
+use Rattle.recovery_laws.specs.Fresh.{fresh_tiers}
+use Rattle.tier_device.specs.declared.media.Tier.TheVariants.{Fast}
 use Rattle.recovery.proofs.FreshTiers.{holds_with}
 use Rattle.recovery.proofs.fresh_writes.write_area.Goals as goal
 

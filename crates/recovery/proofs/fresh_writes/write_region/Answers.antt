@@ -1,8 +1,8 @@
 use Rattle.std.proofs.Common.{ap, sym, subst, ◌∙◌, length}
 use Rattle.std.proofs.lemmas.Result.{on_ok_weaker}
-use Rattle.settlement.proofs.recovery_laws_lemmas.fresh_media_lemmas.Regions.{region_long}
-use Rattle.settlement.specs.recovery_laws.fresh_media.Fresh.{fresh_region}
-use Rattle.settlement.specs.recovery_laws.update_log.tier_device.declared.media.Tier.TheVariants.{Fast}
+use Rattle.recovery_laws.proofs.Regions.{region_long}
+use Rattle.recovery_laws.specs.Fresh.{fresh_region}
+use Rattle.tier_device.specs.declared.media.Tier.TheVariants.{Fast}
 use Rattle.recovery.specs.FreshContents.{TierHolds}
 use Rattle.recovery.proofs.FreshTiers.{region_holds}
 use Rattle.recovery.proofs.fresh_writes.write_region.Goals as goal

@@ -2,10 +2,10 @@ use Rattle.std.proofs.Common.{◌<◌, ◌%◌, ◌∙◌, length, arith}
 use Rattle.std.proofs.lemmas.List.{length-set}
 use Rattle.std.proofs.lemmas.Option.{slice_get_within}
 use Rattle.std.proofs.lemmas.Result.{err_from_is_err_and}
-use Rattle.settlement.specs.recovery_laws.fresh_media.Fresh.{fresh_region}
-use Rattle.settlement.specs.recovery_laws.update_log.tier_device.Media.{Rose}
+use Rattle.recovery_laws.specs.Fresh.{fresh_region}
+use Rattle.tier_device.specs.Media.{Rose}
 use Rattle.recovery.specs.FreshContents.{HoldsContent, IsLater}
-use Rattle.settlement.specs.Recovers.{region_content}
+use Rattle.area_recovery.specs.Recovers.{region_content}
 use Rattle.recovery.proofs.ChangedRows.{below_more, each_more, put, rest_more, some_at_place, there}
 use Rattle.recovery.proofs.fresh_writes.write_regions.Goals as goal
 

@@ -1,8 +1,8 @@
 use Rattle.std.proofs.Common.{◌≡◌, ◌≤◌, ◌<◌, ◌%◌, ℕ, length}
 use Rattle.std.specs.Prelude.{slice_get, Some}
-use Rattle.settlement.specs.recovery_laws.fresh_media.Fresh.{fresh_region}
+use Rattle.recovery_laws.specs.Fresh.{fresh_region}
 use Rattle.recovery.specs.FreshContents.{HoldsContent, IsLater}
-use Rattle.settlement.specs.Recovers.{region_content}
+use Rattle.area_recovery.specs.Recovers.{region_content}
 use Rattle.recovery.proofs.fresh_writes.write_regions.Given as goal
 
 abbrev pub invariant-loop-place : goal.invariant-loop-place

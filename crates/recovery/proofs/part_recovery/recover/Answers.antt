@@ -1,6 +1,6 @@
-use Rattle.settlement.proofs.SettlementPhases.{of_err, of_ok}
-use Rattle.settlement.specs.Parts.{contents_of, part_medium}
-use Rattle.settlement.proofs.RefusalCauses.{cause_bad_log, cause_damaged, cause_only, cause_size}
+use Rattle.area_recovery.proofs.SettlementPhases.{of_err, of_ok}
+use Rattle.area_recovery.specs.Parts.{contents_of, part_medium}
+use Rattle.area_recovery.proofs.RefusalCauses.{cause_bad_log, cause_damaged, cause_only, cause_size}
 use Rattle.recovery.proofs.part_recovery.recover.Goals as goal
 
 pub returns-clause-tree : goal.returns-clause-tree

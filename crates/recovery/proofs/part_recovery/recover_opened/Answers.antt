@@ -1,21 +1,21 @@
 use Rattle.std.proofs.Common.{rules, ◌≡◌, ℕ, ◌/◌, List, ◌++◌, length, ap, sym, ◌∙◌, subst}
 use Rattle.std.specs.Prelude.{drop, slice_get, slice_index, take, Some}
-use Rattle.settlement.specs.recovery_laws.update_log.View.{RegionView}
+use Rattle.update_log.specs.View.{RegionView}
 use Rattle.recovery.specs.Assembly.{AreReadyRegions}
-use Rattle.settlement.specs.recovery_laws.shared_area.area_image.Store.{disk}
-use Rattle.settlement.specs.world.system_world.Contents.{log_in}
-use Rattle.settlement.specs.Parts.{PartsView, contents_of, part_medium}
-use Rattle.settlement.specs.PartMedia.{AreUntouched, SomeRose, media_beneath}
-use Rattle.settlement.specs.RecoveryStops.{AreGivenBack}
-use Rattle.settlement.specs.Regions.{HaveRisen, IsOnlyRead, media_of}
-use Rattle.settlement.specs.world.system_world.Parts.{medium_of}
-use Rattle.settlement.specs.Settlement.{RefusesArea, SettlesArea}
-use Rattle.settlement.specs.Silent.{MayBeWiped, StaysSilent}
+use Rattle.area_reader.specs.Store.{disk}
+use Rattle.system_laws.specs.Contents.{log_in}
+use Rattle.area_recovery.specs.Parts.{PartsView, contents_of, part_medium}
+use Rattle.area_recovery.specs.PartMedia.{AreUntouched, SomeRose, media_beneath}
+use Rattle.area_recovery.specs.RecoveryStops.{AreGivenBack}
+use Rattle.area_recovery.specs.Regions.{HaveRisen, IsOnlyRead, media_of}
+use Rattle.system_laws.specs.Parts.{medium_of}
+use Rattle.area_recovery.specs.Settlement.{RefusesArea, SettlesArea}
+use Rattle.area_recovery.specs.Silent.{MayBeWiped, StaysSilent}
 use Rattle.recovery.proofs.RecoveredWorlds.{area_ready, assembled_back, recovered_world, regions_ready, settled_back, settled_cause, wiped_back}
-use Rattle.settlement.proofs.RegionMedia.{slice_back, zip_length}
-use Rattle.settlement.proofs.SettlementPhases.{all_err, all_ok, of_err}
-use Rattle.settlement.specs.FaultOrMemory.{IsFaultOrMemory}
-use Rattle.settlement.proofs.RefusalCauses.{memory_cause}
+use Rattle.area_recovery.proofs.RegionMedia.{slice_back, zip_length}
+use Rattle.area_recovery.proofs.SettlementPhases.{all_err, all_ok, of_err}
+use Rattle.area_recovery.specs.FaultOrMemory.{IsFaultOrMemory}
+use Rattle.area_recovery.proofs.RefusalCauses.{memory_cause}
 use Rattle.recovery.proofs.part_recovery.recover_opened.Goals as goal
 
 pub returns-in-Err-clause-back : goal.returns-in-Err-clause-back

@@ -1,19 +1,19 @@
 use Rattle.std.proofs.Common.{◌≡◌, inl, inr, ℕ, suc, ◌<◌, ◌≤◌, sym, ◌∙◌, subst, arith}
-use Rattle.settlement.specs.world.system_world.Contents.{log_in, regions_in, stored_state}
-use Rattle.settlement.specs.world.system_world.courses.Courses.{PARTS}
-use Rattle.settlement.specs.Parts.{AreAtRest, PartsView, contents_of, part_medium}
-use Rattle.settlement.specs.PartMedia.{media_beneath}
-use Rattle.settlement.specs.RecoveryStops.{AreGivenBack, IsRecoveredWorld}
-use Rattle.settlement.specs.Regions.{IsGivenBack, media_of}
-use Rattle.settlement.specs.recovery_laws.update_log.tier_device.declared.media.Tier.TheVariants.{Fast}
-use Rattle.settlement.proofs.JoinedWorlds.{joined_back, joined_world, logs_same}
+use Rattle.system_laws.specs.Contents.{log_in, regions_in, stored_state}
+use Rattle.event_lists.specs.Courses.{PARTS}
+use Rattle.area_recovery.specs.Parts.{AreAtRest, PartsView, contents_of, part_medium}
+use Rattle.area_recovery.specs.PartMedia.{media_beneath}
+use Rattle.area_recovery.specs.RecoveryStops.{AreGivenBack, IsRecoveredWorld}
+use Rattle.area_recovery.specs.Regions.{IsGivenBack, media_of}
+use Rattle.tier_device.specs.declared.media.Tier.TheVariants.{Fast}
+use Rattle.area_recovery.proofs.JoinedWorlds.{joined_back, joined_world, logs_same}
 use Rattle.recovery.proofs.OpenedParts.{all_given, all_reopened, all_same, denied_never, faults_then, open_regions, opened_back, opened_store, region_same, regions_alike, rests_each}
-use Rattle.settlement.proofs.RegionMedia.{zip_length}
-use Rattle.settlement.proofs.SettlementPhases.{of_err, of_ok}
-use Rattle.settlement.proofs.WholeContents.{whole_recovers}
-use Rattle.settlement.specs.world.system_world.event_steps.area_image.Store.{Store, store_of}
-use Rattle.settlement.specs.Refusals.{HaveRegionSizes, IsCause, IsStoredCause}
-use Rattle.settlement.proofs.RefusalCauses.{cause_same, denied_cause, on_each, opened_cause, opened_sizes, stored_cause}
+use Rattle.area_recovery.proofs.RegionMedia.{zip_length}
+use Rattle.area_recovery.proofs.SettlementPhases.{of_err, of_ok}
+use Rattle.area_recovery.proofs.WholeContents.{whole_recovers}
+use Rattle.area_reader.specs.Store.{Store, store_of}
+use Rattle.area_recovery.specs.Refusals.{HaveRegionSizes, IsCause, IsStoredCause}
+use Rattle.area_recovery.proofs.RefusalCauses.{cause_same, denied_cause, on_each, opened_cause, opened_sizes, stored_cause}
 use Rattle.recovery.proofs.part_recovery.recover_parts.Goals as goal
 
 pub open_area-requires : goal.open_area-requires

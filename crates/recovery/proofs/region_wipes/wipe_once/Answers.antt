@@ -1,6 +1,6 @@
 use Rattle.std.proofs.Common.{sym, subst}
-use Rattle.settlement.proofs.WipedRegions.{call_progress, call_silent}
-use Rattle.settlement.specs.Silent.{GoesOn}
+use Rattle.area_recovery.proofs.WipedRegions.{call_progress, call_silent}
+use Rattle.area_recovery.specs.Silent.{GoesOn}
 use Rattle.recovery.proofs.region_wipes.wipe_once.Goals as goal
 
 pub returns-in-Ok-clause-any_moment : goal.returns-in-Ok-clause-any_moment

@@ -1,6 +1,6 @@
 use Rattle.std.proofs.Common.{◌≡◌, ℕ, List}
-use Rattle.settlement.specs.recovery_laws.update_log.Moments.{PastStays}
-use Rattle.settlement.specs.Silent.{GoesOn, IsSilent, LeftOfRegion, calls_ahead}
+use Rattle.update_log.specs.Moments.{PastStays}
+use Rattle.area_recovery.specs.Silent.{GoesOn, IsSilent, LeftOfRegion, calls_ahead}
 use Rattle.recovery.proofs.region_wipes.wipe_region.Given as goal
 
 abbrev pub invariant-calls : goal.invariant-calls

@@ -2,10 +2,10 @@ use Rattle.std.proofs.Common.{◌<◌, ◌∙◌, refl, sym, subst, length, arit
 use Rattle.std.proofs.lemmas.List.{length-set}
 use Rattle.std.proofs.lemmas.Option.{get_or_from_slice_get, slice_get_within}
 use Rattle.std.specs.Prelude.{slice_index, slice_set, ◌/◌}
-use Rattle.settlement.specs.Silent.{IsWiped, StaysSilent}
-use Rattle.settlement.proofs.WipedRegions.{all_silent, stays_silent, wipe_stays}
-use Rattle.settlement.proofs.SilentRegions.{same_state}
-use Rattle.settlement.proofs.RegionRow.{on_fault, rest_more, risen_at, set_here, steady_more, there, wiped_more}
+use Rattle.area_recovery.specs.Silent.{IsWiped, StaysSilent}
+use Rattle.area_recovery.proofs.WipedRegions.{all_silent, stays_silent, wipe_stays}
+use Rattle.area_recovery.proofs.SilentRegions.{same_state}
+use Rattle.area_recovery.proofs.RegionRow.{on_fault, rest_more, risen_at, set_here, steady_more, there, wiped_more}
 use Rattle.recovery.proofs.region_wipes.wipe_regions.Goals as goal
 
 pub loop-place-init : goal.loop-place-init

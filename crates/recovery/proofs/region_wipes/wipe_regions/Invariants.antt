@@ -1,7 +1,7 @@
 use Rattle.std.proofs.Common.{◌≡◌, ◌≤◌, ◌<◌, ◌/◌, ◌%◌, ℕ, length}
 use Rattle.std.specs.Prelude.{slice_get, slice_index, Some}
-use Rattle.settlement.specs.recovery_laws.update_log.View.{RegionView}
-use Rattle.settlement.specs.Silent.{IsWiped, StaysSilent, wiped_name}
+use Rattle.update_log.specs.View.{RegionView}
+use Rattle.area_recovery.specs.Silent.{IsWiped, StaysSilent, wiped_name}
 use Rattle.recovery.proofs.region_wipes.wipe_regions.Given as goal
 
 abbrev pub invariant-loop-place : goal.invariant-loop-place

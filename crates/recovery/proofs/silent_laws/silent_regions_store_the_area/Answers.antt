@@ -1,4 +1,4 @@
-use Rattle.settlement.proofs.SilentRegions.{log_none, same_state}
+use Rattle.area_recovery.proofs.SilentRegions.{log_none, same_state}
 use Rattle.recovery.proofs.silent_laws.silent_regions_store_the_area.Goals as goal
 
 pub returns-clause-none : goal.returns-clause-none

@@ -1,6 +1,6 @@
 use Rattle.std.proofs.Common.{◌≡◌, ◌∙◌, ◌<◌, sym, ap, refl, take, length, List, Some, arith}
 use Rattle.std.proofs.lemmas.List.{length-set, take_all, take_more_set}
-use Rattle.update_log.specs.tier_device.declared.fill.Fill.{Fill}
+use Rattle.tier_device.specs.declared.fill.Fill.{Fill}
 use Rattle.script.specs.Script.{parts}
 use Rattle.script.proofs.FillLaws.{all_fills-start, fills_from-step, fills_from-none, fills_from-end}
 use Rattle.script.proofs.fills.fills_of.Goals as goal

@@ -1,4 +1,4 @@
-use Rattle.change_plan.specs.area_image.Store.{disk}
+use Rattle.area_reader.specs.Store.{disk}
 use Rattle.shared_area.proofs.Sound.{tier_none, tier_of, parts_some, parts_none}
 use Rattle.shared_area.proofs.block_search.find_tier.Goals as goal
 

@@ -1,7 +1,7 @@
 use Rattle.std.proofs.Common.{◌≡◌, false}
 use Rattle.std.proofs.lemmas.Result.{err_from_is_err_and}
-use Rattle.change_plan.specs.area_image.Store.{disk}
-use Rattle.change_plan.proofs.area_image_lemmas.Parts.{on_damage, own_damage}
+use Rattle.area_reader.specs.Store.{disk}
+use Rattle.area_reader.proofs.Parts.{on_damage, own_damage}
 use Rattle.shared_area.proofs.Sound.{undamaged}
 use Rattle.shared_area.proofs.block_search.sound_parts.Goals as goal
 

@@ -2,17 +2,17 @@ use Rattle.std.proofs.Common.{◌≡◌, ◌∙◌, ℕ, length, refl, sym, ap, 
 use Rattle.std.specs.Prelude.{take}
 use Rattle.std.proofs.lemmas.List.{length-take-le}
 use Rattle.std.proofs.lemmas.Result.{err_from_is_err_and}
-use Rattle.change_plan.specs.layout.Places.{IsAllowed}
-use Rattle.change_plan.specs.graph_change.View.{changes_of}
-use Rattle.change_plan.specs.area_image.Store.{disk}
-use Rattle.change_plan.specs.area_commit.Value.{free_data}
-use Rattle.change_plan.specs.area_commit.declared.allocation.Allocation.{Allocation}
-use Rattle.change_plan.specs.area_commit.Allocations.{taken_data, WereTaken, CanRelease}
-use Rattle.change_plan.proofs.area_commit_lemmas.Course.{Rests}
-use Rattle.change_plan.proofs.area_commit_lemmas.Returned.{same_free}
+use Rattle.layout.specs.Places.{IsAllowed}
+use Rattle.graph_change.specs.View.{changes_of}
+use Rattle.area_reader.specs.Store.{disk}
+use Rattle.area_commit.specs.Value.{free_data}
+use Rattle.area_commit.specs.declared.allocation.Allocation.{Allocation}
+use Rattle.area_commit.specs.Allocations.{taken_data, WereTaken, CanRelease}
+use Rattle.area_commit.proofs.Course.{Rests}
+use Rattle.area_commit.proofs.Returned.{same_free}
 use Rattle.change_plan.specs.FileLayout.{AreFirstFree}
 use Rattle.change_plan.specs.BlockDemand.{WantsBlocks}
-use Rattle.change_plan.specs.area_image.declared.error.AreaError.TheVariants.{NoBlock, Memory}
+use Rattle.area_reader.specs.declared.error.AreaError.TheVariants.{NoBlock, Memory}
 use Rattle.shared_area.proofs.Ending.{memory_fault, block_fault, forced_block, still_self, ends_refused}
 use Rattle.shared_area.proofs.Pooled.{same_self, settled_same, no_runs_of, few_free, take_none, drop_none, enough_free, too_few_free, told_pools, told_block}
 use Rattle.shared_area.proofs.change_apply.allocate_blocks.Goals as goal

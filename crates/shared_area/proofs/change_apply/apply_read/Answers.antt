@@ -3,20 +3,20 @@ use Rattle.std.specs.Prelude.{Err}
 use Rattle.std.specs.FinMap as fin
 use Rattle.std.specs.List.{sum_by}
 use Rattle.std.proofs.lemmas.Result.{err_from_is_err_and}
-use Rattle.change_plan.specs.graph_change.View.{changes_of}
-use Rattle.change_plan.specs.layout.Places.{Sizes}
-use Rattle.change_plan.specs.area_image.Store.{Store, disk}
-use Rattle.change_plan.specs.area_image.Units.{slot_units}
-use Rattle.change_plan.proofs.area_image_lemmas.Looked.{carried, carried_back}
-use Rattle.change_plan.specs.area_commit.declared.slots.ChangedSlot.{ChangedSlot}
-use Rattle.change_plan.proofs.area_commit_lemmas.Course.{Rests}
+use Rattle.graph_change.specs.View.{changes_of}
+use Rattle.layout.specs.Places.{Sizes}
+use Rattle.area_reader.specs.Store.{Store, disk}
+use Rattle.area_reader.specs.Units.{slot_units}
+use Rattle.area_reader.proofs.Looked.{carried, carried_back}
+use Rattle.area_commit.specs.declared.slots.ChangedSlot.{ChangedSlot}
+use Rattle.area_commit.proofs.Course.{Rests}
 use Rattle.change_plan.specs.BlockDemand.{WantsBlocks}
 use Rattle.change_plan.specs.ReadSlots.{HaveSlots}
 use Rattle.change_plan.proofs.Slotted.{slots_long}
 use Rattle.shared_area.specs.ChangeApply.{CanApply}
 use Rattle.shared_area.specs.Costs.{units_in}
 use Rattle.shared_area.proofs.Charged.{slots_units, slots_small, have_fits}
-use Rattle.change_plan.specs.area_image.declared.error.AreaError.TheVariants.{NoBlock}
+use Rattle.area_reader.specs.declared.error.AreaError.TheVariants.{NoBlock}
 use Rattle.shared_area.proofs.Ending.{err_same, forced_block, settled_still, ends_told, ends_on, ends_ok, ends_err}
 use Rattle.shared_area.proofs.Pooled.{same_self}
 use Rattle.shared_area.proofs.change_apply.apply_read.Goals as goal

@@ -1,5 +1,5 @@
 use Rattle.std.proofs.Common.{sym, ap}
-use Rattle.change_plan.specs.area_image.Store.{disk, touch_of}
+use Rattle.area_reader.specs.Store.{disk, touch_of}
 use Rattle.shared_area.proofs.Sound.{no_slot}
 use Rattle.shared_area.proofs.digest_number.find_touch.Goals as goal
 

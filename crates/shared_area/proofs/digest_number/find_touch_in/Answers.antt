@@ -1,6 +1,6 @@
 use Rattle.std.proofs.Common.{ap, sym}
-use Rattle.change_plan.specs.layout.declared.slot.Slot.{Slot}
-use Rattle.change_plan.specs.area_image.Store.{disk}
+use Rattle.layout.specs.declared.slot.Slot.{Slot}
+use Rattle.area_reader.specs.Store.{disk}
 use Rattle.shared_area.specs.FirstRun.{touch_in}
 use Rattle.shared_area.proofs.FirstRuns.{no_inode_lies, no_root_lies}
 use Rattle.shared_area.proofs.Sound.{no_slot}

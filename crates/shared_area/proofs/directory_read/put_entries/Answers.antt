@@ -1,9 +1,9 @@
 use Rattle.std.proofs.Common.{◌≡◌, ◌<◌, ◌∙◌, length, sym, ap, arith, Some}
 use Rattle.std.specs.Prelude.{slice_get}
 use Rattle.std.specs.FinMap as fin
-use Rattle.record_validation.specs.posix_calls.Content.{Entries}
-use Rattle.change_plan.specs.layout.Directory.{EntryList, block_entries}
-use Rattle.change_plan.specs.layout.LentEntry.{owned_entry}
+use Rattle.posix_calls.specs.Content.{Entries}
+use Rattle.layout.specs.Directory.{EntryList, block_entries}
+use Rattle.layout.specs.LentEntry.{owned_entry}
 use Rattle.shared_area.proofs.Entries.{next_entry}
 use Rattle.shared_area.proofs.directory_read.put_entries.Goals as goal
 

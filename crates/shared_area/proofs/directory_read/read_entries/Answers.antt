@@ -1,11 +1,11 @@
 use Rattle.std.proofs.Common.{◌≡◌, ◌*◌, ◌∙◌, ap, arith}
 use Rattle.std.specs.Prelude.{min}
 use Rattle.std.proofs.lemmas.Result.{err_from_is_err_and}
-use Rattle.change_plan.specs.tree_blocks.Inode.{AreDirectoryBlocks, entry_at, named_entries}
-use Rattle.change_plan.specs.area_image.Store.{disk, logical_block}
-use Rattle.change_plan.specs.area_image.Looks.{call_answer}
-use Rattle.change_plan.specs.area_image.Checks.{IsOnce}
-use Rattle.change_plan.proofs.area_image_lemmas.Looked.{carried}
+use Rattle.tree_blocks.specs.Inode.{AreDirectoryBlocks, entry_at, named_entries}
+use Rattle.area_reader.specs.Store.{disk, logical_block}
+use Rattle.area_reader.specs.Looks.{call_answer}
+use Rattle.area_reader.specs.Checks.{IsOnce}
+use Rattle.area_reader.proofs.Looked.{carried}
 use Rattle.shared_area.proofs.directory_read.read_entries.Goals as goal
 
 pub add_part-requires-clause-directory : goal.add_part-requires-clause-directory

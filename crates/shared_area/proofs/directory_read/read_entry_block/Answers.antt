@@ -1,5 +1,5 @@
 use Rattle.std.proofs.Common.{◌≡◌, length, rules}
-use Rattle.change_plan.specs.area_image.Store.{disk, logical_block}
+use Rattle.area_reader.specs.Store.{disk, logical_block}
 use Rattle.shared_area.proofs.Entries.{block_shown}
 use Rattle.shared_area.proofs.directory_read.read_entry_block.Goals as goal
 

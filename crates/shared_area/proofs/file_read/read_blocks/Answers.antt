@@ -1,9 +1,9 @@
 use Rattle.std.proofs.Common.{◌≡◌, ◌≤◌, ◌+◌, ◌-◌, ◌∙◌, ◌++◌, ℕ, List, length, take, drop, sym, ap, subst, arith}
 use Rattle.std.proofs.lemmas.List.{drop-drop, length-drop, length-take-le}
-use Rattle.change_plan.specs.area_image.Store.{disk, logical_block}
-use Rattle.change_plan.specs.area_image.Looks.{call_answer}
-use Rattle.change_plan.specs.area_image.Checks.{IsOnce}
-use Rattle.change_plan.proofs.area_image_lemmas.Looked.{carried, carried_back, looks_on}
+use Rattle.area_reader.specs.Store.{disk, logical_block}
+use Rattle.area_reader.specs.Looks.{call_answer}
+use Rattle.area_reader.specs.Checks.{IsOnce}
+use Rattle.area_reader.proofs.Looked.{carried, carried_back, looks_on}
 use Rattle.shared_area.specs.FileReads.{IsReadUpTo, ShowsBytes}
 use Rattle.shared_area.proofs.Files.{up_to_more}
 use Rattle.shared_area.proofs.file_read.read_blocks.Goals as goal

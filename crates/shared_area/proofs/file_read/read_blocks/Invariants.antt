@@ -1,6 +1,6 @@
 use Rattle.std.proofs.Common.{◌≤◌, ◌-◌, length}
-use Rattle.change_plan.specs.area_image.Store.{disk, logical_block}
-use Rattle.change_plan.specs.area_image.Looks.{Looks, call_answer}
+use Rattle.area_reader.specs.Store.{disk, logical_block}
+use Rattle.area_reader.specs.Looks.{Looks, call_answer}
 use Rattle.shared_area.specs.FileReads.{IsReadUpTo}
 use Rattle.shared_area.proofs.file_read.read_blocks.Given as goal
 

@@ -1,7 +1,7 @@
 use Rattle.std.proofs.Common.{◌≤◌, ◌+◌, ℕ, length, take, subst, arith}
 use Rattle.std.proofs.lemmas.List.{length-take-le}
 use Rattle.std.proofs.lemmas.Result.{err_from_is_err_and}
-use Rattle.change_plan.specs.area_image.Store.{disk, logical_block}
+use Rattle.area_reader.specs.Store.{disk, logical_block}
 use Rattle.shared_area.specs.FileReads.{IsReadUpTo}
 use Rattle.shared_area.proofs.Files.{read_from}
 use Rattle.shared_area.proofs.file_read.read_bytes.Goals as goal

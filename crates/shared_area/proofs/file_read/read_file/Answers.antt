@@ -1,8 +1,8 @@
 use Rattle.std.proofs.Common.{ℕ, length}
 use Rattle.std.proofs.lemmas.Result.{err_from_is_err_and}
-use Rattle.change_plan.specs.area_image.Store.{disk, graph}
-use Rattle.change_plan.specs.area_image.Format.{IsOpenable}
-use Rattle.change_plan.proofs.area_image_lemmas.Looked.{carried, carried_back}
+use Rattle.area_reader.specs.Store.{disk, graph}
+use Rattle.area_reader.specs.Format.{IsOpenable}
+use Rattle.area_reader.proofs.Looked.{carried, carried_back}
 use Rattle.shared_area.specs.FileReads.{IsReadFrom, bytes_of_inode}
 use Rattle.shared_area.proofs.Sound.{parts_none}
 use Rattle.shared_area.proofs.Files.{no_bytes, none_of}

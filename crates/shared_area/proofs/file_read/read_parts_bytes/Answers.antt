@@ -1,7 +1,7 @@
 use Rattle.std.proofs.Common.{◌-◌, ◌∙◌, ℕ, Some, length, sym, ap}
 use Rattle.std.specs.Prelude.{min}
 use Rattle.std.proofs.lemmas.Result.{IfOk-weaker}
-use Rattle.change_plan.specs.area_image.Store.{disk}
+use Rattle.area_reader.specs.Store.{disk}
 use Rattle.shared_area.proofs.Files.{bytes_long}
 use Rattle.shared_area.proofs.file_read.read_parts_bytes.Goals as goal
 

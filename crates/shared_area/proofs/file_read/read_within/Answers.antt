@@ -1,10 +1,10 @@
 use Rattle.std.proofs.Common.{◌≡◌, ◌<◌, ◌/◌, ◌∙◌, ℕ, Some, length, sym, ap, subst}
 use Rattle.std.proofs.lemmas.Result.{on_ok_weaker}
-use Rattle.change_plan.specs.layout.Places.{Sizes, tier_blocks}
-use Rattle.change_plan.specs.area_image.Store.{Store, disk, place, logical_block}
-use Rattle.change_plan.specs.area_image.Reads.{IsRoom}
-use Rattle.change_plan.proofs.area_image_lemmas.Damages.{logical_is}
-use Rattle.change_plan.proofs.area_image_lemmas.Tails.{place_is, placed_by}
+use Rattle.layout.specs.Places.{Sizes, tier_blocks}
+use Rattle.area_reader.specs.Store.{Store, disk, place, logical_block}
+use Rattle.area_reader.specs.Reads.{IsRoom}
+use Rattle.area_reader.proofs.Damages.{logical_is}
+use Rattle.area_reader.proofs.Tails.{place_is, placed_by}
 use Rattle.shared_area.proofs.Files.{piece_shows, hole_shows, no_block}
 use Rattle.shared_area.proofs.file_read.read_within.Goals as goal
 

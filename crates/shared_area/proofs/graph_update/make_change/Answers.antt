@@ -2,9 +2,9 @@ use Rattle.std.proofs.Common.{◌∙◌, ℕ, length, inl, inr, sym, subst, arit
 use Rattle.std.specs.Prelude.{Ok, Err}
 use Rattle.std.proofs.lemmas.Bool.{true≢false}
 use Rattle.std.proofs.lemmas.Result.{err_from_is_err_and}
-use Rattle.change_plan.specs.graph_change.View.{changes_of}
-use Rattle.change_plan.specs.area_image.Store.{disk}
-use Rattle.change_plan.specs.area_image.declared.error.AreaError.TheVariants.{DeviceFault, NoBlock}
+use Rattle.graph_change.specs.View.{changes_of}
+use Rattle.area_reader.specs.Store.{disk}
+use Rattle.area_reader.specs.declared.error.AreaError.TheVariants.{DeviceFault, NoBlock}
 use Rattle.shared_area.proofs.Ending.{block_fault, err_same}
 use Rattle.shared_area.specs.Ready.{IsReady}
 use Rattle.shared_area.proofs.AppliedChange.{stays_or_changes, too_few_data, ready_made, ready_refused, applies_or_stays, failed_stays}

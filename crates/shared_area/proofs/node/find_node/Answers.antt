@@ -1,6 +1,6 @@
-use Rattle.change_plan.specs.area_image.Store.{disk}
-use Rattle.change_plan.specs.area_image.Format.{IsOpenable}
-use Rattle.change_plan.proofs.area_image_lemmas.Looked.{carried}
+use Rattle.area_reader.specs.Store.{disk}
+use Rattle.area_reader.specs.Format.{IsOpenable}
+use Rattle.area_reader.proofs.Looked.{carried}
 use Rattle.shared_area.proofs.Sound.{parts_none}
 use Rattle.shared_area.proofs.Entries.{no_view}
 use Rattle.shared_area.proofs.node.find_node.Goals as goal

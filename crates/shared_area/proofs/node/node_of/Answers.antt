@@ -1,6 +1,6 @@
 use Rattle.std.proofs.Common.{◌∙◌, Some, ap}
 use Rattle.std.proofs.lemmas.Result.{err_from_is_err_and}
-use Rattle.change_plan.specs.area_image.Store.{disk}
+use Rattle.area_reader.specs.Store.{disk}
 use Rattle.shared_area.proofs.Entries.{file_view}
 use Rattle.shared_area.proofs.Wants.{directory_wants}
 use Rattle.shared_area.proofs.node.node_of.Goals as goal

@@ -1,6 +1,6 @@
 use Rattle.std.proofs.Common.{◌<◌, ◌+◌, ℕ}
 use Rattle.std.specs.Prelude.{IsSome}
-use Rattle.change_plan.specs.area_image.Map.{place_by}
+use Rattle.area_reader.specs.Map.{place_by}
 use Rattle.shared_area.proofs.run_search.count_from.Given as goal
 
 abbrev pub invariant-loop-count : goal.invariant-loop-count

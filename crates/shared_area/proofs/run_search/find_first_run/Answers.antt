@@ -1,4 +1,4 @@
-use Rattle.change_plan.specs.area_image.Store.{disk}
+use Rattle.area_reader.specs.Store.{disk}
 use Rattle.shared_area.proofs.Sound.{parts_some, parts_none}
 use Rattle.shared_area.proofs.FirstRuns.{parts_once, parts_within, no_inode_lies}
 use Rattle.shared_area.proofs.run_search.find_first_run.Goals as goal

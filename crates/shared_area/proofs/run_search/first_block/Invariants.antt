@@ -1,5 +1,5 @@
 use Rattle.std.proofs.Common.{◌≡◌, ◌<◌, ℕ, None}
-use Rattle.change_plan.specs.area_image.Map.{place_by}
+use Rattle.area_reader.specs.Map.{place_by}
 use Rattle.shared_area.proofs.run_search.first_block.Given as goal
 
 abbrev pub invariant-loop-block : goal.invariant-loop-block

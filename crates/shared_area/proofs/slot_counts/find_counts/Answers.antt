@@ -1,7 +1,7 @@
 use Rattle.std.proofs.Common.{◌∙◌, sym, ap}
 use Rattle.std.specs.Prelude.{option_map}
 use Rattle.record_validation.specs.Counts.{counts_of}
-use Rattle.change_plan.specs.area_image.Store.{disk}
+use Rattle.area_reader.specs.Store.{disk}
 use Rattle.shared_area.proofs.Entries.{counts_are, no_view}
 use Rattle.shared_area.proofs.slot_counts.find_counts.Goals as goal
 

@@ -1,4 +1,4 @@
-use Rattle.script.proofs.command_line_lemmas.Asking.{asks_taken}
+use Rattle.command_line.proofs.Asking.{asks_taken}
 use Rattle.strata_fuse.specs.MountOptions.{AreMountOptions, HasBadValue, mount}
 use Rattle.strata_fuse.proofs.options.read_options.Goals as goal
 

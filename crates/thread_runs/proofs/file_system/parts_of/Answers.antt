@@ -1,8 +1,8 @@
 use Rattle.std.proofs.Common.{◌∷◌, All, length, ap, sym, ◌∙◌, subst}
-use Rattle.script.specs.tier_device.declared.stop.StopMedia.{StopMedia}
+use Rattle.tier_device.specs.declared.stop.StopMedia.{StopMedia}
 use Rattle.thread_runs.specs.FirstPath.{IsRunAtRest}
 use Rattle.world_files.proofs.PartsEach.{each_part}
-use Rattle.world_files.specs.recovery.Parts.{PartsView}
+use Rattle.area_recovery.specs.Parts.{PartsView}
 use Rattle.thread_runs.proofs.file_system.parts_of.Goals as goal
 
 pub returns-in-Ok : goal.returns-in-Ok

@@ -1,4 +1,4 @@
-use Rattle.script.proofs.command_line_lemmas.Asking.{asks_taken}
+use Rattle.command_line.proofs.Asking.{asks_taken}
 use Rattle.thread_runs.specs.StopWords.{HasBadStop, IsStopIn, first}
 use Rattle.thread_runs.proofs.first_options.first_stop.Goals as goal
 

@@ -1,4 +1,4 @@
-use Rattle.script.specs.tier_device.declared.media.Tier.TheVariants.{Fast}
+use Rattle.tier_device.specs.declared.media.Tier.TheVariants.{Fast}
 use Rattle.thread_runs.proofs.first_recovery.records_after_stop.Goals as goal
 
 pub records_on-requires : goal.records_on-requires

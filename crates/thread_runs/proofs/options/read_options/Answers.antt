@@ -1,4 +1,4 @@
-use Rattle.script.proofs.command_line_lemmas.Asking.{asks_taken}
+use Rattle.command_line.proofs.Asking.{asks_taken}
 use Rattle.thread_runs.specs.RunOptions.{AreRunOptions, HasBadRun, run}
 use Rattle.thread_runs.proofs.options.read_options.Goals as goal
 

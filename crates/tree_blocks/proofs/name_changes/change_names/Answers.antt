@@ -1,10 +1,10 @@
 use Rattle.std.proofs.Common.{◌≡◌, ◌+◌, ◌-◌, ◌*◌, ◌<◌, ◌∙◌, [], ℕ, List, length, ap, arith, subst, sym, true, Option, None}
 use Rattle.std.specs.Prelude.{IfSome}
 use Rattle.std.proofs.lemmas.List.{get_or_default}
-use Rattle.graph_change.specs.posix_calls.Content.{Entries}
+use Rattle.posix_calls.specs.Content.{Entries}
 use Rattle.layout.specs.Places.{is_inode}
-use Rattle.layout.specs.file_graph.NameOrder.{pairs}
-use Rattle.layout.specs.file_graph.declared.name_map.NamedEntry.{NamedEntry}
+use Rattle.file_graph.specs.NameOrder.{pairs}
+use Rattle.file_graph.specs.declared.name_map.NamedEntry.{NamedEntry}
 use Rattle.graph_change.specs.Net.{Child, with_entry, with_entries}
 use Rattle.tree_blocks.specs.Inode.{entry_at, named_entries}
 use Rattle.tree_blocks.specs.Directory.{numbered_blocks}

@@ -1,9 +1,9 @@
 use Rattle.std.proofs.Common.{◌≡◌, ◌∙◌, ℕ, List, length, ap, arith, sym, Option}
 use Rattle.std.specs.Prelude.{is_some}
 use Rattle.std.specs.FinMap as fin
-use Rattle.graph_change.specs.posix_calls.Content.{Entries}
-use Rattle.layout.specs.file_graph.NameOrder.{pairs}
-use Rattle.layout.specs.file_graph.declared.name_map.NamedEntry.{NamedEntry}
+use Rattle.posix_calls.specs.Content.{Entries}
+use Rattle.file_graph.specs.NameOrder.{pairs}
+use Rattle.file_graph.specs.declared.name_map.NamedEntry.{NamedEntry}
 use Rattle.graph_change.specs.Net.{Child, with_entries}
 use Rattle.tree_blocks.specs.Inode.{entry_at, named_entries}
 use Rattle.tree_blocks.specs.Directory.{numbered_blocks, next_count}

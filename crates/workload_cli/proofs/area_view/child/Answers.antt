@@ -1,6 +1,6 @@
 use Rattle.std.proofs.Common.{◌∙◌, inl, inr, ap, sym}
-use Rattle.script.specs.posix_calls.declared.errno.Errno.TheVariants.{NoEntry}
-use Rattle.world_files.specs.recovery.area_image.Store.{graph, disk}
+use Rattle.posix_calls.specs.declared.errno.Errno.TheVariants.{NoEntry}
+use Rattle.area_reader.specs.Store.{graph, disk}
 use Rattle.workload_cli.proofs.Walks.{child_is, child_there}
 use Rattle.workload_cli.proofs.area_view.child.Goals as goal
 

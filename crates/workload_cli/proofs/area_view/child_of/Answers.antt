@@ -1,5 +1,5 @@
 use Rattle.std.proofs.Common.{◌∙◌, sym}
-use Rattle.script.specs.posix_calls.declared.errno.Errno.TheVariants.{NoEntry, NotDirectory}
+use Rattle.posix_calls.specs.declared.errno.Errno.TheVariants.{NoEntry, NotDirectory}
 use Rattle.workload_cli.proofs.Walks.{directory_has_none, file_has_none}
 use Rattle.workload_cli.proofs.area_view.child_of.Goals as goal
 

@@ -1,8 +1,8 @@
 use Rattle.std.proofs.Common.{◌≡◌, ◌∙◌, ℕ, Bool, ap, subst, sym}
 use Rattle.std.specs.Prelude.{Result, Ok, IfErr, IfOk}
-use Rattle.script.specs.posix_calls.Resolve.{then_from}
-use Rattle.script.specs.posix_calls.Tree.{Tree}
-use Rattle.script.specs.posix_calls.declared.errno.Errno.{Errno}
+use Rattle.posix_calls.specs.Resolve.{then_from}
+use Rattle.posix_calls.specs.Tree.{Tree}
+use Rattle.posix_calls.specs.declared.errno.Errno.{Errno}
 use Rattle.workload_cli.specs.OfSystem.{tree_in}
 use Rattle.workload_cli.specs.Paths.{unless_directory}
 use Rattle.workload_cli.specs.AnswerText.{IsNoFile}

@@ -1,6 +1,6 @@
 use Rattle.std.proofs.Common.{◌∙◌, inl, inr, sym}
-use Rattle.script.specs.posix_calls.declared.errno.Errno.TheVariants.{IsDirectory}
-use Rattle.world_files.specs.recovery.area_image.Store.{graph, disk}
+use Rattle.posix_calls.specs.declared.errno.Errno.TheVariants.{IsDirectory}
+use Rattle.area_reader.specs.Store.{graph, disk}
 use Rattle.workload_cli.proofs.Walks.{directory_is_none}
 use Rattle.workload_cli.proofs.area_view.file_itself.Goals as goal
 

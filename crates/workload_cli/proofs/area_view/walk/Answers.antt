@@ -1,6 +1,6 @@
 use Rattle.std.proofs.Common.{◌≡◌, ◌∙◌, ◌<◌, ◌≤◌, List, ℕ, get_or, length, ap, subst, sym}
-use Rattle.script.specs.posix_calls.Tree.{Tree}
-use Rattle.script.specs.posix_calls.Resolve.{child, resolve}
+use Rattle.posix_calls.specs.Tree.{Tree}
+use Rattle.posix_calls.specs.Resolve.{child, resolve}
 use Rattle.workload_cli.specs.OfSystem.{tree_in}
 use Rattle.workload_cli.specs.AnswerText.{IsNoFile}
 use Rattle.workload_cli.proofs.Looked.{looked_on, same_tree}

@@ -1,5 +1,5 @@
 use Rattle.std.proofs.Common.{◌≡◌, drop}
-use Rattle.script.specs.posix_calls.Resolve.{resolve, resolve_from}
+use Rattle.posix_calls.specs.Resolve.{resolve, resolve_from}
 use Rattle.workload_cli.specs.OfSystem.{HasLooked, tree_in}
 use Rattle.workload_cli.proofs.area_view.walk.Given as goal
 

@@ -1,4 +1,4 @@
-use Rattle.script.proofs.command_line_lemmas.Asking.{asks_taken}
+use Rattle.command_line.proofs.Asking.{asks_taken}
 use Rattle.workload_cli.specs.ShellOptions.{AreShellOptions, HasBadValue, shell}
 use Rattle.workload_cli.proofs.options.read_options.Goals as goal
 

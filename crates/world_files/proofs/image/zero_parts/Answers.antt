@@ -1,8 +1,8 @@
 use Rattle.std.proofs.Common.{◌∙◌, ap}
 use Rattle.std.specs.Prelude.{replicate}
 use Rattle.host_media.specs.Images.{media_bytes}
-use Rattle.host_media.specs.tier_device.Memory.{memory_seen}
-use Rattle.host_media.specs.tier_device.contracts.memory.MemMediaMedia.TheImpl.{ghosts as memory}
+use Rattle.tier_device.specs.Memory.{memory_seen}
+use Rattle.tier_device.specs.contracts.memory.MemMediaMedia.TheImpl.{ghosts as memory}
 use Rattle.world_files.proofs.PartsEach.{as_many, parts_rest}
 use Rattle.world_files.proofs.image.zero_parts.Goals as goal
 

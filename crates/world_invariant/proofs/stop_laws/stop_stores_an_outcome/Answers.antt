@@ -1,4 +1,4 @@
-use Rattle.call_effects.proofs.posix_calls_lemmas.Steps.{run_joined}
+use Rattle.posix_calls.proofs.Steps.{run_joined}
 use Rattle.world_invariant.specs.World.{world_state}
 use Rattle.world_invariant.proofs.Stops.{stop_stores}
 use Rattle.world_invariant.proofs.stop_laws.stop_stores_an_outcome.Goals as goal

@@ -1,5 +1,5 @@
 use Rattle.std.proofs.Common.{subst, sym}
-use Rattle.area_image.specs.tier_device.declared.media.Tier.TheVariants.{Fast, Block, Slow}
+use Rattle.tier_device.specs.declared.media.Tier.TheVariants.{Fast, Block, Slow}
 use Rattle.area_commit.specs.Value.{PoolsView}
 use Rattle.area_commit.specs.Allocations.{CanGive}
 use Rattle.area_commit.proofs.pools.Pools.release.Goals as goal

@@ -1,6 +1,6 @@
 use Rattle.std.proofs.Common.{◌≡◌, ◌+◌, ◌-◌, ap, arith, length, length-append}
-use Rattle.area_image.specs.tier_device.declared.media.Tier.TheVariants.{Fast, Block}
-use Rattle.area_image.specs.block_alloc.Runs.{blocks_of}
+use Rattle.tier_device.specs.declared.media.Tier.TheVariants.{Fast, Block}
+use Rattle.block_alloc.specs.Runs.{blocks_of}
 use Rattle.area_commit.specs.Value.{PoolsView}
 use Rattle.std.specs.Prelude.{Ok}
 use Rattle.area_commit.specs.declared.allocation.Allocation.{Allocation}

@@ -1,6 +1,6 @@
 use Rattle.std.proofs.Common.{◌≡◌, ◌++◌, refl, sym, subst, take, drop}
 use Rattle.std.specs.Prelude.{OnOk}
-use Rattle.area_image.specs.block_alloc.Runs.{blocks_of}
+use Rattle.block_alloc.specs.Runs.{blocks_of}
 use Rattle.area_commit.specs.Value.{PoolsView, data_pool}
 use Rattle.area_commit.specs.declared.allocation.Allocation.{Allocation}
 use Rattle.area_commit.specs.Allocations.{CanRelease, TakesMore, runs_of}

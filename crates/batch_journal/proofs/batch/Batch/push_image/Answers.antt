@@ -1,6 +1,6 @@
 use Rattle.std.proofs.Common.{◌≡◌, ◌<◌, ◌≤◌, ◌+◌, ◌*◌, ℕ, List, [], ◌∷◌, ◌++◌, length, sym, ◌∙◌, ap, subst, arith}
 use Rattle.byteorder.specs.Endian.{little_bytes}
-use Rattle.layout.specs.tier_device.Media.{overwritten}
+use Rattle.tier_device.specs.Media.{overwritten}
 use Rattle.batch_journal.specs.Images.{images_of, next_of}
 use Rattle.batch_journal.specs.View.{IsBatch}
 use Rattle.batch_journal.proofs.Images.{length-images_of}

@@ -1,6 +1,6 @@
 use Rattle.std.proofs.Common.{◌≡◌, ℕ, List, length, sym, ◌∙◌, ap, subst, arith}
 use Rattle.layout.specs.Places.{Sizes}
-use Rattle.layout.specs.tier_device.declared.media.Tier.TheVariants.{Fast}
+use Rattle.tier_device.specs.declared.media.Tier.TheVariants.{Fast}
 use Rattle.batch_journal.specs.Images.{images_of, next_of}
 use Rattle.batch_journal.specs.Blocks.{home, AreJournaled}
 use Rattle.batch_journal.specs.Volume.{IsHead, KeepsGeometry}

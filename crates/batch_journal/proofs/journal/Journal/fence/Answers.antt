@@ -1,5 +1,5 @@
 use Rattle.std.proofs.Common.{List, ℕ, sym, subst}
-use Rattle.layout.specs.tier_device.declared.media.Tier.TheVariants.{Fast}
+use Rattle.tier_device.specs.declared.media.Tier.TheVariants.{Fast}
 use Rattle.batch_journal.specs.Blocks.{home}
 use Rattle.batch_journal.specs.Kept.{Shows}
 use Rattle.batch_journal.proofs.Views.{shut_still, fenced}

@@ -1,5 +1,5 @@
 use Rattle.std.proofs.Common.{◌≡◌, List, ℕ, true, false, subst}
-use Rattle.layout.specs.tier_device.declared.media.Tier.TheVariants.{Fast}
+use Rattle.tier_device.specs.declared.media.Tier.TheVariants.{Fast}
 use Rattle.batch_journal.specs.Blocks.{home, block_of, is_home}
 use Rattle.batch_journal.specs.View.{JournalView}
 use Rattle.batch_journal.proofs.Meaning.{home_shut}

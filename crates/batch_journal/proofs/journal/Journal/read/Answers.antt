@@ -1,6 +1,6 @@
 use Rattle.std.proofs.Common.{◌≡◌, ◌∙◌, length, ap, subst, rules}
-use Rattle.layout.specs.tier_device.declared.media.Tier.TheVariants.{Fast}
-use Rattle.layout.specs.tier_device.declared.media.Tier.{Tier}
+use Rattle.tier_device.specs.declared.media.Tier.TheVariants.{Fast}
+use Rattle.tier_device.specs.declared.media.Tier.{Tier}
 use Rattle.batch_journal.specs.Images.{slice}
 use Rattle.batch_journal.specs.Blocks.{ShowsHome}
 use Rattle.batch_journal.specs.View.{JournalView}

@@ -1,5 +1,5 @@
 use Rattle.std.proofs.Common.{◌≡◌, ℕ, List, false, refl, sym, ◌∙◌, subst, arith}
-use Rattle.layout.specs.tier_device.declared.media.Tier.TheVariants.{Fast}
+use Rattle.tier_device.specs.declared.media.Tier.TheVariants.{Fast}
 use Rattle.batch_journal.specs.Blocks.{home, is_gate_open}
 use Rattle.batch_journal.specs.Volume.{IsJournal}
 use Rattle.batch_journal.proofs.Courses.{on_damage}

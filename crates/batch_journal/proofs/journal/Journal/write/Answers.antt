@@ -1,7 +1,7 @@
 use Rattle.std.proofs.Common.{◌≡◌, ◌≤◌, ◌+◌, ◌*◌, List, ℕ, length, sym, ap, subst, arith, refl}
 use Rattle.layout.specs.Places.{Sizes, data_first, tier_blocks}
-use Rattle.layout.specs.tier_device.declared.media.Tier.TheVariants.{Fast}
-use Rattle.layout.specs.tier_device.StopsSince.{LeftSince}
+use Rattle.tier_device.specs.declared.media.Tier.TheVariants.{Fast}
+use Rattle.tier_device.specs.StopsSince.{LeftSince}
 use Rattle.batch_journal.specs.Course.{OutsideRun, OutsideRunFrom}
 use Rattle.batch_journal.specs.View.{JournalView}
 use Rattle.batch_journal.proofs.Kept.{shows_written}

@@ -1,5 +1,5 @@
 use Rattle.std.proofs.Common.{◌≡◌, refl, subst}
-use Rattle.update_log.specs.tier_device.Media.{Rose}
+use Rattle.tier_device.specs.Media.{Rose}
 use Rattle.update_log.specs.View.{RegionView}
 use Rattle.client_log.specs.Calls.{IsOnlyRead}
 use Rattle.client_log.proofs.Swapped.{back_even, back_odd, either_swapped}

@@ -1,7 +1,7 @@
 use Rattle.std.proofs.Common.{◌≡◌, ◌≢◌, inl, inr, ℕ, List, true, false, refl, sym, ◌∙◌, ap, subst}
 use Rattle.std.proofs.lemmas.Bool.{true≢false}
 use Rattle.std.specs.Prelude.{None, Option, Result, is_some, IfErr, IfOk, OnErr, OnOk}
-use Rattle.update_log.specs.tier_device.declared.media.Tier.TheVariants.{Fast}
+use Rattle.tier_device.specs.declared.media.Tier.TheVariants.{Fast}
 use Rattle.update_log.specs.View.{WithOrWithout, header_of, records_of}
 use Rattle.update_log.specs.Wipe.{IsWiping}
 use Rattle.update_log.specs.declared.stage.WipeProgress.{WipeProgress}

@@ -1,5 +1,5 @@
 use Rattle.std.proofs.Common.{List, ◌++◌, take}
-use Rattle.log_record.specs.file_graph.declared.effect.Effect.{Effect}
+use Rattle.file_graph.specs.declared.effect.Effect.{Effect}
 use Rattle.coalescer.specs.EffectCounts.{IsEstimate}
 use Rattle.coalescer.proofs.estimate.Estimate.add.Given as goal
 

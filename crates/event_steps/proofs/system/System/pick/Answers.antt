@@ -1,10 +1,10 @@
 use Rattle.std.proofs.Common.{◌≡◌, ℕ, subst}
 use Rattle.std.specs.Prelude.{IfErr, IfOk, IfSome}
-use Rattle.libfs.specs.kernel_fs.KernelAnswers.{OnRefusal}
-use Rattle.libfs.specs.kernel_fs.migrator.RunChoice.{IsPicked, MayBeMoved}
-use Rattle.libfs.specs.area_image.declared.error.AreaError.TheVariants.{Memory}
-use Rattle.libfs.specs.area_image.Map.{WantsMemory}
-use Rattle.libfs.specs.area_image.Store.{disk}
+use Rattle.kernel_fs.specs.KernelAnswers.{OnRefusal}
+use Rattle.migrator.specs.RunChoice.{IsPicked, MayBeMoved}
+use Rattle.area_reader.specs.declared.error.AreaError.TheVariants.{Memory}
+use Rattle.area_reader.specs.Map.{WantsMemory}
+use Rattle.area_reader.specs.Store.{disk}
 use Rattle.event_steps.specs.View.{SystemView}
 use Rattle.event_steps.proofs.system.System.pick.Goals as goal
 

@@ -1,7 +1,7 @@
 use Rattle.std.proofs.Common.{◌≡◌, ◌⊎◌, inl, inr, false, IfSome}
 use Rattle.std.proofs.lemmas.Result.{err_from_is_err_and}
-use Rattle.file_graph.specs.posix_calls.Name.{is_name}
-use Rattle.file_graph.specs.posix_calls.declared.call.Call.TheVariants as call
+use Rattle.posix_calls.specs.Name.{is_name}
+use Rattle.posix_calls.specs.declared.call.Call.TheVariants as call
 use Rattle.fuse_server.specs.Calls.{done_of}
 use Rattle.fuse_server.specs.Upkeep.{IsLost}
 use Rattle.fuse_server.proofs.RenameLemmas.{asked_behind, refusal_since}

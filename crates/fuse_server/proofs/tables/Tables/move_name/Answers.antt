@@ -1,6 +1,6 @@
 use Rattle.std.proofs.Common.{◌≡◌, ◌⊎◌, ◌∙◌, inl, inr, sym, false, IfSome}
-use Rattle.file_graph.specs.posix_calls.Name.{is_name}
-use Rattle.file_graph.specs.posix_calls.declared.call.Call.TheVariants as call
+use Rattle.posix_calls.specs.Name.{is_name}
+use Rattle.posix_calls.specs.declared.call.Call.TheVariants as call
 use Rattle.fuse_server.specs.Calls.{Answers, MayAsk, done_of}
 use Rattle.fuse_server.specs.Renames.{IsUnmoved}
 use Rattle.fuse_server.specs.Upkeep.{IsLost, child_at}

@@ -1,6 +1,6 @@
 use Rattle.std.proofs.Common.{◌≡◌, ◌-◌, length, inl, arith}
 use Rattle.std.proofs.lemmas.Result.{err_from_is_err_and}
-use Rattle.file_graph.specs.posix_calls.declared.call.Call.TheVariants as call
+use Rattle.posix_calls.specs.declared.call.Call.TheVariants as call
 use Rattle.fuse_server.specs.Calls.{Answers, MayAsk, done_of}
 use Rattle.fuse_server.proofs.RenameLemmas.{behind_more, looked_err}
 use Rattle.fuse_server.proofs.tables.Tables.move_path.Goals as goal

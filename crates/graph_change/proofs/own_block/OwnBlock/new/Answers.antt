@@ -1,5 +1,5 @@
 use Rattle.std.proofs.Common.{refl}
-use Rattle.file_graph.specs.posix_calls.declared.limits.TheConstants.{UNIT_BYTES}
+use Rattle.posix_calls.specs.declared.limits.TheConstants.{UNIT_BYTES}
 use Rattle.graph_change.proofs.Patches.{none_put}
 use Rattle.graph_change.proofs.own_block.OwnBlock.new.Goals as goal
 

@@ -1,6 +1,6 @@
 use Rattle.std.proofs.Common.{◌≡◌, ◌∙◌, length, get_or, Some, ap, sym, arith, take, subst}
 use Rattle.std.proofs.lemmas.List.{length-take-le}
-use Rattle.file_graph.specs.posix_calls.declared.limits.TheConstants.{UNIT_BYTES}
+use Rattle.posix_calls.specs.declared.limits.TheConstants.{UNIT_BYTES}
 use Rattle.graph_change.specs.Change.{IsWhole}
 use Rattle.graph_change.specs.KeptBytes.{bytes_in, kept_marks}
 use Rattle.graph_change.specs.View.{patch_of}

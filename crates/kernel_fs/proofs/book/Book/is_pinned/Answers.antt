@@ -1,6 +1,6 @@
 use Rattle.std.proofs.Common.{◌≡◌, ◌+◌, ◌∙◌, true, false, ap, sym, arith, add-one}
-use Rattle.digester.specs.posix_calls.Tree.{any_up_to}
-use Rattle.digester.proofs.posix_calls_lemmas.Sums.{any_there}
+use Rattle.posix_calls.specs.Tree.{any_up_to}
+use Rattle.posix_calls.proofs.Sums.{any_there}
 use Rattle.kernel_fs.specs.declared.account.ClientAccount.{ClientAccount}
 use Rattle.kernel_fs.specs.Inodes.{has}
 use Rattle.kernel_fs.specs.Book.{is_pinned, pins_of}

@@ -1,5 +1,5 @@
 use Rattle.std.proofs.Common.{◌≡◌, false}
-use Rattle.digester.specs.posix_calls.Tree.{any_up_to}
+use Rattle.posix_calls.specs.Tree.{any_up_to}
 use Rattle.kernel_fs.specs.Book.{pins_of}
 use Rattle.kernel_fs.proofs.book.Book.is_pinned.Given as goal
 

@@ -1,5 +1,5 @@
 use Rattle.std.proofs.Common.{[], ◌∷◌, ◌-◌, ◌≤◌, refl, arith}
-use Rattle.digester.specs.posix_calls.Tree.{sum_up_to}
+use Rattle.posix_calls.specs.Tree.{sum_up_to}
 use Rattle.world_invariant.specs.FormatWorld.{idle_account}
 use Rattle.world_invariant.proofs.Owners.{is_low, is_high}
 use Rattle.kernel_fs.specs.Book.{out_of}

@@ -1,5 +1,5 @@
 use Rattle.std.proofs.Common.{◌≡◌, ◌+◌, ◌∙◌, ◌||◌, ◌==◌, ap, sym, arith, add-one, get_or}
-use Rattle.digester.specs.posix_calls.Tree.{any_up_to}
+use Rattle.posix_calls.specs.Tree.{any_up_to}
 use Rattle.kernel_fs.specs.declared.account.ClientAccount.{ClientAccount}
 use Rattle.kernel_fs.specs.Inodes.{has}
 use Rattle.kernel_fs.specs.Book.{is_granted, numbers_of}

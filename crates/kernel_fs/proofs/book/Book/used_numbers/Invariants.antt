@@ -1,5 +1,5 @@
 use Rattle.std.proofs.Common.{◌≡◌, ℕ}
-use Rattle.digester.specs.posix_calls.Tree.{any_up_to}
+use Rattle.posix_calls.specs.Tree.{any_up_to}
 use Rattle.kernel_fs.specs.Book.{numbers_of}
 use Rattle.kernel_fs.specs.Inodes.{has}
 use Rattle.kernel_fs.proofs.book.Book.used_numbers.Given as goal

@@ -1,7 +1,7 @@
 use Rattle.std.proofs.Common.{◌∙◌, sym, subst}
-use Rattle.digester.specs.area_image.Store.{disk}
-use Rattle.digester.specs.relocation.TierMove.{CanMove}
-use Rattle.digester.specs.shared_area.TierMoves.{HasTooFew}
+use Rattle.area_reader.specs.Store.{disk}
+use Rattle.relocation.specs.TierMove.{CanMove}
+use Rattle.shared_area.specs.TierMoves.{HasTooFew}
 use Rattle.kernel_fs.specs.KernelView.{KernelView}
 use Rattle.kernel_fs.specs.MachineState.{IsKernelOf}
 use Rattle.kernel_fs.specs.Inodes.{has}

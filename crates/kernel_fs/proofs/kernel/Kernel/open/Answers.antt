@@ -1,6 +1,6 @@
 use Rattle.std.proofs.Common.{ap}
-use Rattle.digester.proofs.batch_journal_lemmas.Courses.{tiers_same}
-use Rattle.digester.specs.area_image.Store.{store_of, disk, graph}
+use Rattle.batch_journal.proofs.Courses.{tiers_same}
+use Rattle.area_reader.specs.Store.{store_of, disk, graph}
 use Rattle.kernel_fs.specs.Inodes.{has}
 use Rattle.kernel_fs.proofs.MediaSteps.{moved_nodes, opened_kernel}
 use Rattle.kernel_fs.proofs.Runs.{begins}

@@ -1,7 +1,7 @@
 use Rattle.std.proofs.Common.{◌≤◌, List, Option, refl, ap, sym, subst, ◌∙◌}
-use Rattle.file_graph.specs.posix_calls.Tree.{Node, names_of}
+use Rattle.posix_calls.specs.Tree.{Node, names_of}
 use Rattle.plain_tree.specs.Plain.{stored_tree, at_location}
-use Rattle.file_graph.specs.posix_calls.declared.limits.TheConstants.{MAX_NAMES}
+use Rattle.posix_calls.specs.declared.limits.TheConstants.{MAX_NAMES}
 use Rattle.plain_tree.proofs.Tallies.{counted_same, can_go, few_then, counted_entered}
 use Rattle.plain_tree.proofs.nodes.PlainNodes.enter.Goals as goal
 

@@ -1,5 +1,5 @@
 use Rattle.std.proofs.Common.{List, Option, refl, ap, ◌∙◌}
-use Rattle.file_graph.specs.posix_calls.Tree.{Node}
+use Rattle.posix_calls.specs.Tree.{Node}
 use Rattle.plain_tree.specs.Plain.{stored_tree, at_location}
 use Rattle.plain_tree.proofs.Tallies.{can_go, counted_left}
 use Rattle.plain_tree.proofs.nodes.PlainNodes.leave.Goals as goal

@@ -1,5 +1,5 @@
 use Rattle.std.proofs.Common.{ℕ, List, Option, ap, sym, ◌∙◌}
-use Rattle.file_graph.specs.posix_calls.Tree.{Node, names_of}
+use Rattle.posix_calls.specs.Tree.{Node, names_of}
 use Rattle.plain_tree.specs.Plain.{stored_tree, count_at}
 use Rattle.plain_tree.proofs.Tallies.{counted_none}
 use Rattle.plain_tree.proofs.nodes.PlainNodes.new.Goals as goal

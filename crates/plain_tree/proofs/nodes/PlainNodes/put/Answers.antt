@@ -1,6 +1,6 @@
 use Rattle.std.proofs.Common.{List, Option, subst, sym}
-use Rattle.file_graph.specs.posix_calls.Tree.{Node}
-use Rattle.file_graph.specs.posix_calls.WellFormed.{IsBare}
+use Rattle.posix_calls.specs.Tree.{Node}
+use Rattle.posix_calls.specs.WellFormed.{IsBare}
 use Rattle.plain_tree.specs.Plain.{stored_tree}
 use Rattle.plain_tree.proofs.Tallies.{counted_set}
 use Rattle.plain_tree.proofs.nodes.PlainNodes.put.Goals as goal

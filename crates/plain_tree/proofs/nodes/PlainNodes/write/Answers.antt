@@ -1,7 +1,7 @@
 use Rattle.std.proofs.Common.{List, Option, Some, refl, subst, sym}
-use Rattle.file_graph.specs.posix_calls.Content.{with_bytes}
-use Rattle.file_graph.specs.posix_calls.Tree.{Node, File, bytes_of}
-use Rattle.file_graph.specs.posix_calls.WellFormed.{IsBare}
+use Rattle.posix_calls.specs.Content.{with_bytes}
+use Rattle.posix_calls.specs.Tree.{Node, File, bytes_of}
+use Rattle.posix_calls.specs.WellFormed.{IsBare}
 use Rattle.plain_tree.specs.Plain.{stored_tree}
 use Rattle.plain_tree.proofs.Tallies.{counted_if}
 use Rattle.plain_tree.proofs.nodes.PlainNodes.write.Goals as goal

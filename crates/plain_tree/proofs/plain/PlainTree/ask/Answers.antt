@@ -1,14 +1,14 @@
 use Rattle.std.proofs.Common.{◌≡◌, true, refl, Ok, Err, inl, inr, ap, sym, subst, ◌∙◌, arith}
-use Rattle.file_graph.specs.posix_calls.Query.{run, view_of}
-use Rattle.file_graph.specs.posix_calls.Part.{whole_part}
-use Rattle.file_graph.specs.posix_calls.Memory.{takes_memory}
-use Rattle.file_graph.specs.posix_calls.Decide.{decide}
-use Rattle.file_graph.specs.posix_calls.Tree.{Own}
-use Rattle.file_graph.specs.posix_calls.Own.{own_of}
-use Rattle.file_graph.specs.posix_calls.Operations.{Step}
-use Rattle.file_graph.specs.posix_calls.declared.operation.DecideError.TheVariants.{Refused}
+use Rattle.posix_calls.specs.Query.{run, view_of}
+use Rattle.posix_calls.specs.Part.{whole_part}
+use Rattle.posix_calls.specs.Memory.{takes_memory}
+use Rattle.posix_calls.specs.Decide.{decide}
+use Rattle.posix_calls.specs.Tree.{Own}
+use Rattle.posix_calls.specs.Own.{own_of}
+use Rattle.posix_calls.specs.Operations.{Step}
+use Rattle.posix_calls.specs.declared.operation.DecideError.TheVariants.{Refused}
 use Rattle.plain_tree.specs.Plain.{Stored, stored_tree, held_of, stored_state, state_in, IsConsistent}
-use Rattle.file_graph.proofs.posix_calls_lemmas.Steps.{failed_step}
+use Rattle.posix_calls.proofs.Steps.{failed_step}
 use Rattle.plain_tree.proofs.Answering.{nothing_is_missing, known_of}
 use Rattle.plain_tree.proofs.Doable.{doable}
 use Rattle.plain_tree.proofs.Asking.{row_of, among, answer_is, came_of, step_of, refused_of, sound_after}

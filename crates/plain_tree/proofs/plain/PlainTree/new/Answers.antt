@@ -1,9 +1,9 @@
 use Rattle.std.proofs.Common.{◌≡◌, sym, subst}
-use Rattle.file_graph.specs.posix_calls.EmptyTree.{empty_state}
+use Rattle.posix_calls.specs.EmptyTree.{empty_state}
 use Rattle.plain_tree.specs.Plain.{state_in, IsConsistent}
 use Rattle.plain_tree.proofs.Carried.{same_state}
-use Rattle.file_graph.proofs.posix_calls_lemmas.Settled.{opening_fine}
-use Rattle.file_graph.proofs.posix_calls_lemmas.Bounds.{opening_within}
+use Rattle.posix_calls.proofs.Settled.{opening_fine}
+use Rattle.posix_calls.proofs.Bounds.{opening_within}
 use Rattle.plain_tree.proofs.plain.PlainTree.new.Goals as goal
 
 pub invariant_of-result : goal.invariant_of-result

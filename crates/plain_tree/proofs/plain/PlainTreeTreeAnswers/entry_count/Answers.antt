@@ -1,8 +1,8 @@
 use Rattle.std.proofs.Common.{◌≡◌, Option, Some, None, ap, sym, ◌∙◌}
 use Rattle.std.specs.Prelude.{option_map}
-use Rattle.file_graph.specs.posix_calls.Tree.{Node, names_of}
-use Rattle.file_graph.specs.posix_calls.Query.{seen_node}
-use Rattle.file_graph.specs.posix_calls.Answers.{count_in}
+use Rattle.posix_calls.specs.Tree.{Node, names_of}
+use Rattle.posix_calls.specs.Query.{seen_node}
+use Rattle.posix_calls.specs.Answers.{count_in}
 use Rattle.plain_tree.specs.Plain.{Stored, stored_tree}
 use Rattle.plain_tree.proofs.Answering.{nothing_past, count_nothing}
 use Rattle.plain_tree.proofs.plain.PlainTreeTreeAnswers.entry_count.Goals as goal

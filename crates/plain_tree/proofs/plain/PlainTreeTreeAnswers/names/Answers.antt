@@ -1,8 +1,8 @@
 use Rattle.std.proofs.Common.{◌≡◌, ℕ, Option, Some, None, ap, sym, ◌∙◌, map}
 use Rattle.std.specs.Prelude.{option_map, List}
-use Rattle.file_graph.specs.posix_calls.Tree.{Node, names_of}
-use Rattle.file_graph.specs.posix_calls.Query.{seen_node}
-use Rattle.file_graph.specs.posix_calls.Answers.{listed_in}
+use Rattle.posix_calls.specs.Tree.{Node, names_of}
+use Rattle.posix_calls.specs.Query.{seen_node}
+use Rattle.posix_calls.specs.Answers.{listed_in}
 use Rattle.plain_tree.specs.Plain.{Stored, stored_tree}
 use Rattle.plain_tree.proofs.Answering.{nothing_past, list_nothing}
 use Rattle.plain_tree.proofs.plain.PlainTreeTreeAnswers.names.Goals as goal

@@ -1,6 +1,6 @@
 use Rattle.std.proofs.Common.{Some, ap, sym, ◌∙◌}
-use Rattle.call_effects.specs.posix_calls.Answers.{count_in, description_of}
-use Rattle.call_effects.specs.posix_calls.declared.operation.Description.TheVariants as description
+use Rattle.posix_calls.specs.Answers.{count_in, description_of}
+use Rattle.posix_calls.specs.declared.operation.Description.TheVariants as description
 use Rattle.record_validation.specs.NodeAnswers.{seen_node}
 use Rattle.record_validation.proofs.Shown.{of_directory, counted}
 use Rattle.record_validation.proofs.node_summary.NodeSummary.describe.Goals as goal

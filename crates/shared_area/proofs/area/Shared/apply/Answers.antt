@@ -1,15 +1,15 @@
 use Rattle.std.proofs.Common.{◌≡◌, ◌≤◌, ℕ, List, length, true, false, sym, subst}
 use Rattle.std.specs.FinMap as fin
 use Rattle.std.specs.Prelude.{OnOk, IsErrOf}
-use Rattle.record_validation.specs.file_graph.Units.{charge}
-use Rattle.change_plan.specs.graph_change.Change.{changed_graph}
-use Rattle.change_plan.specs.graph_change.View.{changes_of}
-use Rattle.change_plan.specs.batch_journal.View.{JournalView}
-use Rattle.change_plan.specs.area_image.Store.{disk, graph}
+use Rattle.file_graph.specs.Units.{charge}
+use Rattle.graph_change.specs.Change.{changed_graph}
+use Rattle.graph_change.specs.View.{changes_of}
+use Rattle.batch_journal.specs.View.{JournalView}
+use Rattle.area_reader.specs.Store.{disk, graph}
 use Rattle.shared_area.specs.ChangeApply.{IsAppliedStore, MakesFewCalls}
 use Rattle.change_plan.specs.Next.{HasFewEntries}
 use Rattle.change_plan.specs.BlockDemand.{AreWritten}
-use Rattle.change_plan.specs.area_image.declared.error.AreaError.TheVariants.{NoBlock}
+use Rattle.area_reader.specs.declared.error.AreaError.TheVariants.{NoBlock}
 use Rattle.shared_area.specs.GraphUpdate.{HasTooFewData, StaysOrChanges, AppliesOrStays}
 use Rattle.shared_area.proofs.area.Shared.apply.Goals as goal
 

@@ -1,8 +1,8 @@
 use Rattle.std.proofs.Common.{◌≡◌, ◌≤◌, false, subst}
-use Rattle.change_plan.specs.layout.Places.{data_first, tier_blocks}
-use Rattle.change_plan.specs.batch_journal.View.{JournalView}
-use Rattle.change_plan.specs.area_image.Store.{disk}
-use Rattle.change_plan.specs.area_image.Reads.{Free}
+use Rattle.layout.specs.Places.{data_first, tier_blocks}
+use Rattle.batch_journal.specs.View.{JournalView}
+use Rattle.area_reader.specs.Store.{disk}
+use Rattle.area_reader.specs.Reads.{Free}
 use Rattle.shared_area.specs.Ready.{HasCount}
 use Rattle.shared_area.proofs.Counts.{data_count}
 use Rattle.shared_area.proofs.area.Shared.free.Goals as goal

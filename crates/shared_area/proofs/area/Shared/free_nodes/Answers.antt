@@ -1,9 +1,9 @@
 use Rattle.std.proofs.Common.{◌≡◌, ◌<◌, false, subst}
-use Rattle.change_plan.specs.tier_device.declared.media.Tier.TheVariants.{Fast}
-use Rattle.change_plan.specs.layout.Places.{node_end}
-use Rattle.change_plan.specs.batch_journal.View.{JournalView}
-use Rattle.change_plan.specs.area_image.Store.{disk}
-use Rattle.change_plan.specs.area_image.Reads.{Free}
+use Rattle.tier_device.specs.declared.media.Tier.TheVariants.{Fast}
+use Rattle.layout.specs.Places.{node_end}
+use Rattle.batch_journal.specs.View.{JournalView}
+use Rattle.area_reader.specs.Store.{disk}
+use Rattle.area_reader.specs.Reads.{Free}
 use Rattle.shared_area.specs.Ready.{HasCount}
 use Rattle.shared_area.proofs.Counts.{node_count}
 use Rattle.shared_area.proofs.area.Shared.free_nodes.Goals as goal

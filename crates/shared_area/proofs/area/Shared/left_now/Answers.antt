@@ -1,10 +1,10 @@
 use Rattle.std.proofs.Common.{◌≡◌, ◌∙◌, List, ℕ, false, subst, arith}
-use Rattle.change_plan.specs.tier_device.declared.media.Tier.{Tier}
-use Rattle.change_plan.specs.tier_device.declared.media.Tier.TheVariants.{Fast}
-use Rattle.change_plan.specs.tier_device.AfterStop.{AtRest, Left}
-use Rattle.change_plan.specs.batch_journal.View.{JournalView}
-use Rattle.change_plan.specs.area_image.Store.{disk, store_of}
-use Rattle.change_plan.specs.area_image.Reads.{Loose}
+use Rattle.tier_device.specs.declared.media.Tier.{Tier}
+use Rattle.tier_device.specs.declared.media.Tier.TheVariants.{Fast}
+use Rattle.tier_device.specs.AfterStop.{AtRest, Left}
+use Rattle.batch_journal.specs.View.{JournalView}
+use Rattle.area_reader.specs.Store.{disk, store_of}
+use Rattle.area_reader.specs.Reads.{Loose}
 use Rattle.shared_area.specs.Ready.{OpensAs}
 use Rattle.shared_area.proofs.Ready.{left_loose, left_opens}
 use Rattle.shared_area.proofs.area.Shared.left_now.Goals as goal

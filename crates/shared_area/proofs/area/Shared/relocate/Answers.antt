@@ -1,11 +1,11 @@
 use Rattle.std.proofs.Common.{◌≡◌, false, length, refl, subst}
 use Rattle.std.specs.Prelude.{OnOk, IsErrOf}
-use Rattle.change_plan.specs.batch_journal.View.{JournalView}
-use Rattle.change_plan.specs.area_image.Store.{disk, graph, marks}
-use Rattle.change_plan.specs.area_commit.Value.{data_pool}
+use Rattle.batch_journal.specs.View.{JournalView}
+use Rattle.area_reader.specs.Store.{disk, graph, marks}
+use Rattle.area_commit.specs.Value.{data_pool}
 use Rattle.relocation.specs.TierMove.{CanMove, IsMoved}
 use Rattle.relocation.specs.RunMove.{LieInLowest, MovesInFewCalls}
-use Rattle.change_plan.specs.area_image.declared.error.AreaError.TheVariants.{NoBlock}
+use Rattle.area_reader.specs.declared.error.AreaError.TheVariants.{NoBlock}
 use Rattle.shared_area.specs.TierMoves.{HasTooFew, HasEnough, StaysOpen, MovesOrStays}
 use Rattle.shared_area.proofs.Counts.{data_count}
 use Rattle.shared_area.proofs.Moved.{ready_moved, stays_open, moves_or_stays, ok_moved, ok_lowest, ok_graph, ok_marks, ok_enough, err_few}

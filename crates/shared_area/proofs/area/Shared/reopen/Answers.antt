@@ -1,17 +1,17 @@
 use Rattle.std.proofs.Common.{◌∙◌, ℕ, Err, Ok, sym, ap, subst, arith, inl, inr}
 use Rattle.std.proofs.lemmas.Bool.{true≢false}
-use Rattle.change_plan.specs.tier_device.declared.media.Tier.TheVariants.{Fast}
-use Rattle.change_plan.specs.tier_device.Media.{Rose}
-use Rattle.change_plan.specs.layout.Places.{Sizes}
-use Rattle.change_plan.specs.batch_journal.View.{JournalView}
-use Rattle.change_plan.specs.batch_journal.Volume.{IsVolume}
-use Rattle.change_plan.proofs.batch_journal_lemmas.Courses.{unmoved_on, tiers_same}
-use Rattle.change_plan.specs.area_image.Store.{Store, disk, store_of, marks}
-use Rattle.change_plan.specs.area_image.Format.{IsOpenable}
-use Rattle.change_plan.specs.area_image.Damage.{IsDamaged}
-use Rattle.change_plan.specs.area_image.Looks.{Looks}
-use Rattle.change_plan.proofs.area_image_lemmas.Parts.{on_damage}
-use Rattle.change_plan.proofs.area_image_lemmas.Looked.{looks_err}
+use Rattle.tier_device.specs.declared.media.Tier.TheVariants.{Fast}
+use Rattle.tier_device.specs.Media.{Rose}
+use Rattle.layout.specs.Places.{Sizes}
+use Rattle.batch_journal.specs.View.{JournalView}
+use Rattle.batch_journal.specs.Volume.{IsVolume}
+use Rattle.batch_journal.proofs.Courses.{unmoved_on, tiers_same}
+use Rattle.area_reader.specs.Store.{Store, disk, store_of, marks}
+use Rattle.area_reader.specs.Format.{IsOpenable}
+use Rattle.area_reader.specs.Damage.{IsDamaged}
+use Rattle.area_reader.specs.Looks.{Looks}
+use Rattle.area_reader.proofs.Parts.{on_damage}
+use Rattle.area_reader.proofs.Looked.{looks_err}
 use Rattle.shared_area.specs.Ready.{IsReady}
 use Rattle.shared_area.proofs.Ready.{still_ready}
 use Rattle.std.specs.Prelude.{IsSome}

@@ -1,7 +1,7 @@
 use Rattle.std.proofs.Common.{◌≡◌, refl, Ok, Err}
 use Rattle.std.proofs.lemmas.Result.{err_from_is_err_and}
-use Rattle.change_plan.specs.area_image.Store.{disk, graph}
-use Rattle.change_plan.proofs.area_image_lemmas.Looked.{carried, looks_err, looks_answer}
+use Rattle.area_reader.specs.Store.{disk, graph}
+use Rattle.area_reader.proofs.Looked.{carried, looks_err, looks_answer}
 use Rattle.shared_area.proofs.node_questions.SharedNodes.node.Goals as goal
 
 pub returns-clause-stays : goal.returns-clause-stays

@@ -1,6 +1,6 @@
 use Rattle.std.proofs.Common.{rules, ◌∙◌, ℕ, List, subst}
 use Rattle.std.specs.Prelude.{Option}
-use Rattle.script.specs.tier_device.declared.fill.Fill.{Fill}
+use Rattle.tier_device.specs.declared.fill.Fill.{Fill}
 use Rattle.workload_cli.specs.Stops.{AreRestIn, HasNoMore, fills_behind, media_of}
 use Rattle.workload_cli.proofs.KeptMedia.{goes_on_since, halted_armed, halted_fills, halted_media, halted_stoppable, not_rested, rested_goes_on}
 use Rattle.workload_cli.proofs.script_world.ScriptWorld.recover.Goals as goal

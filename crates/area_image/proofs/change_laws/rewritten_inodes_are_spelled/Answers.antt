@@ -1,5 +1,0 @@
-use Rattle.area_image.proofs.Rewriting.{new_spelled, other_inode, other_use}
-use Rattle.area_image.proofs.change_laws.rewritten_inodes_are_spelled.Goals as goal
-
-pub returns : goal.returns
-returns c = record { spelled = new_spelled; others = other_inode; uses_stay = other_use }

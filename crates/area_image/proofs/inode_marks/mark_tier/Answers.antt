@@ -1,5 +1,0 @@
-use Rattle.area_image.proofs.Uses.{tier_more}
-use Rattle.area_image.proofs.inode_marks.mark_tier.Goals as goal
-
-pub returns : goal.returns
-returns c = tier_more c.args.used.now c.mark_root.new.used c.mark_places.new.used c.args.parts.now c.args.tier c.if-mark_root.ensures c.mark_places.result c.mark_places.ensures

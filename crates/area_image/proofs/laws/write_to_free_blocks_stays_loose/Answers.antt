@@ -1,5 +1,0 @@
-use Rattle.area_image.proofs.Frames.{loose_more}
-use Rattle.area_image.proofs.laws.write_to_free_blocks_stays_loose.Goals as goal
-
-pub returns : goal.returns
-returns c = loose_more

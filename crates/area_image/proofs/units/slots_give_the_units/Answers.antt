@@ -1,5 +1,0 @@
-use Rattle.area_image.proofs.Costs.{units_told}
-use Rattle.area_image.proofs.units.slots_give_the_units.Goals as goal
-
-pub returns : goal.returns
-returns = λ c. units_told

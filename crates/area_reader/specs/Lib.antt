@@ -1,0 +1,14 @@
+pub mod Store
+pub mod Reads
+pub mod Format
+pub mod Damage
+pub mod Map
+pub mod Looks
+pub mod Refusals
+pub mod Rewrites
+pub mod Checks
+pub mod BlockMarks
+pub mod Parts
+pub mod MediumUse
+pub mod Units
+pub mod Names

@@ -1,0 +1,47 @@
+//! What the shared media spell: their blocks as a store, each inode of it, and the graph.
+#![tactic(auto)]
+
+mod area;
+mod area_open;
+mod block_reads;
+mod change_laws;
+mod directory;
+mod entries;
+mod error;
+mod extents;
+mod inode;
+mod inode_checks;
+mod inode_marks;
+mod laws;
+mod marks;
+mod names;
+mod places;
+mod slots;
+mod tail;
+mod tiers;
+mod units;
+mod used_blocks;
+
+pub use area::read_area;
+pub use area_open::{OpenArea, open_area};
+pub use block_reads::{blank_block, read_block};
+pub use change_laws::{
+    batch_leaves_the_other_tiers, free_blocks_have_no_use, rewritten_inodes_are_spelled,
+};
+pub use error::AreaError;
+pub use extents::read_extents;
+pub use inode::{InodeParts, read_parts};
+pub use inode_checks::read_inode;
+pub use inode_marks::mark_inode;
+pub use laws::{
+    damage_spells_no_graph, free_blocks_are_not_read, free_blocks_stay_free,
+    logical_blocks_lie_apart, places_are_in_pools, sound_blocks_spell_a_graph,
+    torn_free_run_stays_loose, untouched_inodes_stay, write_to_free_blocks_stays_loose,
+};
+pub use marks::read_marks;
+pub use places::first_place;
+pub use slots::{length_of, read_slot, root_of, space_of};
+pub use tail::block_number;
+pub use tiers::{InodeExtents, read_all_extents};
+pub use units::{slots_give_the_units, units_of};
+pub use used_blocks::{UsedBlocks, unmarked_blocks_are_free};

@@ -1,0 +1,15 @@
+pub mod Recovers
+pub mod Errors
+pub mod FaultOrMemory
+pub mod Phases
+pub mod GraphTests
+pub mod Regions
+pub mod FoundLogs
+pub mod Silent
+pub mod Parts
+pub mod PartMedia
+pub mod RecoveryStops
+pub mod Settlement
+pub mod DigestedLogs
+pub mod SpelledRecords
+pub mod Refusals

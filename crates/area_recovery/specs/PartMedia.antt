@@ -1,0 +1,40 @@
+-- The media beneath an area and regions as parts, and what becomes of them.
+use Rattle.std.specs.Prelude.{ℕ, ◌<◌, List, [], ◌∷◌}
+use Rattle.tier_device.specs.declared.media.Media.{Ghosts}
+use Rattle.tier_device.specs.AfterStop.{Left}
+use Rattle.event_lists.specs.Courses.{PARTS, LeftOf, Reading}
+use Rattle.tier_device.specs.Media.{Rose}
+use Rattle.update_log.specs.View.{RegionView}
+use Rattle.batch_journal.specs.View.{JournalView}
+use Rattle.event_steps.specs.View.{SeatView}
+use Rattle.system_laws.specs.Parts.{region_of}
+use Rattle.area_recovery.specs.Regions.{IsUntouched, media_of}
+use Rattle.area_recovery.specs.Parts.{PartsView}
+
+-- the media beneath an area and regions
+abbrev pub media_beneath : {M : Type 0} → JournalView M → List (RegionView M) → PartsView M
+media_beneath area regions = record { shared = area.media; regions = media_of regions }
+
+-- the regions of seats, one seat after the other: that of even generations and then that of odd ones
+abbrev pub regions_of_seats : {M : Type 0} → List (SeatView M) → List (RegionView M)
+regions_of_seats [] = []
+regions_of_seats (s ∷ ss) = region_of s 0 ∷ region_of s 1 ∷ regions_of_seats ss
+
+module _ {M : Type 0} (device : Ghosts M) where
+  -- the clocks of all parts
+  abbrev pub clocks_of : (ℕ → M) → Reading
+  clocks_of media p = device.moment (media p)
+
+  -- what a stop at a moment of a part's clock may have left of that part
+  abbrev pub left_of : (ℕ → M) → LeftOf
+  left_of media p m content = Left (device.left (media p)) m content
+
+  -- of each part nothing has changed but the count of failed calls
+  abbrev pub AreUntouched : (ℕ → M) → (ℕ → M) → Type 0
+  AreUntouched old new = (p : ℕ) → p < PARTS → IsUntouched device (old p) (new p)
+
+  -- The count of failed calls rose of some part.
+  pub record SomeRose (old new : ℕ → M) : Type 0 where
+    pub part : ℕ
+    pub low : part < PARTS
+    pub rose : Rose (device.faults (old part)) (device.faults (new part))

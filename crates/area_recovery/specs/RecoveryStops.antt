@@ -1,0 +1,72 @@
+-- What a recovery leaves of the parts at each of its moments, and what it makes of their contents.
+use Rattle.std.specs.Prelude.{◌≡◌, ◌≢◌, ◌⊎◌, ℕ, zero, suc, ◌<◌}
+use Rattle.tier_device.specs.declared.media.Media.{Ghosts}
+use Rattle.update_log.specs.Moments.{PastStays}
+use Rattle.batch_journal.specs.Volume.{IsVolume}
+use Rattle.area_reader.specs.Format.{IsOpenable}
+use Rattle.area_reader.specs.Store.{graph, store_of}
+use Rattle.call_effects.specs.ClosedGraph.{nobody}
+use Rattle.call_effects.specs.Wholes.{IsSound}
+use Rattle.world_invariant.specs.Logs.{LogsAreApart}
+use Rattle.layout.specs.Places.{Sizes}
+use Rattle.event_lists.specs.Courses.{PARTS, LeftBetween, Reading, WorldContent}
+use Rattle.system_laws.specs.Contents.{CanRecover, log_in, stored_graph, stored_state}
+use Rattle.event_steps.specs.View.{SystemView}
+use Rattle.layout.specs.declared.marks.Marks.{Marks}
+use Rattle.system_laws.specs.Idle.{IsIdleSystem}
+use Rattle.system_laws.specs.KeptCalls.{no_calls}
+use Rattle.system_laws.specs.Parts.{medium_of}
+use Rattle.system_laws.specs.WorldTree.{world_tree}
+use Rattle.system_laws.specs.WorldView.{WorldView}
+use Rattle.area_recovery.specs.declared.error.RecoveryError.{RecoveryError}
+use Rattle.area_recovery.specs.declared.error.RecoveryError.TheVariants.{DeviceFault}
+use Rattle.area_recovery.specs.DigestedLogs.{CanDigestAll}
+use Rattle.area_recovery.specs.FaultOrMemory.{IsFaultOrMemory}
+use Rattle.area_recovery.specs.Parts.{AreAtRest, contents_of}
+use Rattle.area_recovery.specs.PartMedia.{SomeRose, clocks_of, left_of}
+
+-- the readings once the shared medium has moved, and no region has
+abbrev pub shared_moved : Reading → Reading → Reading
+shared_moved old new zero = new 0
+shared_moved old new (suc p) = old (suc p)
+
+module _ {M : Type 0} (device : Ghosts M) where
+  -- a stop may have left the contents meanwhile: first the shared medium moves, alone, and then the regions
+  abbrev pub LeftMeanwhile : (ℕ → M) → (ℕ → M) → WorldContent → Type 0
+  LeftMeanwhile old new c =
+      LeftBetween (left_of device new) (clocks_of device old) (shared_moved (clocks_of device old) (clocks_of device new)) c
+      ⊎ LeftBetween (left_of device new) (shared_moved (clocks_of device old) (clocks_of device new)) (clocks_of device new) c
+
+  -- The past of no part changes, and whatever a stop leaves meanwhile is recovered as what was read is, to the same state.
+  pub record StaysStored (old new : ℕ → M) : Type 0 where
+    pub past : (p : ℕ) → p < PARTS → PastStays (device.moment (old p)) (device.moment (new p)) (device.left (old p)) (device.left (new p))
+    pub stop : (g : Sizes) (c : WorldContent) → CanRecover g (contents_of device old) → LeftMeanwhile old new c → CanRecover g c × (stored_state g c ≡ stored_state g (contents_of device old))
+
+-- The contents store a tree: the shared medium opens, no inode is in the records of two clients, each record that counts can be digested, and the graph after all of them is sound.
+pub record StoresTree (g : Sizes) (c : WorldContent) : Type 0 where
+  pub volume : IsVolume g (c 0)
+  pub opens : IsOpenable g (store_of (c 0))
+  pub apart : LogsAreApart (log_in c)
+  pub good : CanDigestAll g.units (graph g (store_of (c 0))) (log_in c)
+  pub sound : IsSound (stored_graph g c) nobody
+
+module _ {M : Type 0} (device : Ghosts M) where
+  -- nobody uses the system: its kernel and its eight clients are as they are opened, at some marks
+  abbrev pub IsIdle : SystemView M → Type 0
+  IsIdle system = (v : Marks) × IsIdleSystem device system v
+
+  -- The world of what the parts store, settled: nobody uses it, nothing is pending on its parts, and a stop on the way lost nothing.
+  pub record IsRecoveredWorld (old : ℕ → M) (w : WorldView M) : Type 0 where
+    pub tree : world_tree device w ≡ stored_state w.system.kernel.area.geometry (contents_of device old)
+    pub stores : StoresTree w.system.kernel.area.geometry (contents_of device old)
+    pub calls : w.calls ≡ no_calls
+    pub idle : IsIdle w.system
+    pub rest : AreAtRest device (medium_of w.system)
+    pub stop : StaysStored device old (medium_of w.system)
+
+  -- The parts are given back, refused for this cause: on the way a stop lost nothing either.
+  pub record AreGivenBack (old new : ℕ → M) (e : RecoveryError) : Type 0 where
+    pub stop : StaysStored device old new
+    pub never : (g : Sizes) → CanRecover g (contents_of device old) → IsFaultOrMemory e
+    pub fault : e ≡ DeviceFault → SomeRose device old new
+    pub rest : e ≢ DeviceFault → AreAtRest device new

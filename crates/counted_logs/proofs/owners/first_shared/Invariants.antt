@@ -1,8 +1,0 @@
--- None is found so far: what is left has the first.
-use Rattle.std.proofs.Common.{◌≡◌, drop}
-use Rattle.std.specs.Prelude.{find}
-use Rattle.counted_logs.specs.Owners.{is_foreign, listed, owner}
-use Rattle.counted_logs.proofs.owners.first_shared.Given as goal
-
-abbrev pub invariant-loop-logged : goal.invariant-loop-logged
-invariant-loop-logged l = find (is_foreign (owner l.clients) l.client) (listed (drop l.logged-index l.records)) ≡ find (is_foreign (owner l.clients) l.client) (listed l.records)

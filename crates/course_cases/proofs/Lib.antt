@@ -1,5 +1,0 @@
-mod CourseCases
-mod DraftCourses
-mod DraftRefusals
-mod DraftStops
-mod FencedStops

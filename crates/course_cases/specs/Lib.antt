@@ -1,2 +1,0 @@
-pub mod FencedMedia
-pub mod GatedDraft

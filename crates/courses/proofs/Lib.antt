@@ -1,4 +1,0 @@
-pub mod Joining
-pub mod Joins
-pub mod Lists
-pub mod Splitting

@@ -1,5 +1,0 @@
-use Rattle.courses.proofs.Joining.{each_stop}
-use Rattle.courses.proofs.laws.each_stop_is_recovered.Goals as goal
-
-pub returns : goal.returns
-returns g c = record { stops = each_stop g.S.Recoverable }

@@ -1,0 +1,25 @@
+//! Lists of events.
+
+ghost use Rattle.std.specs.Prelude.{◌≡◌, IfOk, OnErr};
+ghost use Rattle.event_lists.specs.Plays.{Plays};
+ghost use Rattle.system_laws.specs.Steps.{recoverable};
+
+use crate::world::World;
+use event_lists::play_all;
+use event_steps::{Event, Outcome};
+use std::alloc::{AllocError, Global};
+use tier_device::Media;
+
+/// Plays events, one after the other, and gives the outcome of each: the replies are those of one file tree, and whatever a stop leaves
+/// at any moment of the list is recovered to that tree. Refused for want of memory alone, before the first event, and then nothing has
+/// changed.
+pub fn play<M: Media + Drop>(
+    alloc: Global,
+    world: &mut World<M>,
+    events: &[Event],
+) -> Result<Vec<Outcome>, AllocError>
+    ensures plays { IfOk result (λ outcomes. Plays (recoverable M.Media) world.old events.now outcomes.items world.new) }
+    ensures refusal { OnErr result (world.new ≡ world.old) }
+{
+    play_all(alloc, world, events)
+}

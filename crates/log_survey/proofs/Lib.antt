@@ -1,0 +1,6 @@
+pub mod RegionLemmas
+pub mod GenerationLemmas
+pub mod TouchLemmas
+pub mod OwnerLemmas
+pub mod TableLemmas
+mod LogExamples

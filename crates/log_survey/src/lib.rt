@@ -1,0 +1,16 @@
+//! What a recovery finds of the clients' logs before it digests a record: which records of a client's two regions count under its mark
+//! and in which order, under which generation the client goes on, and whether an inode is touched by the records of two clients.
+//!
+//! It reads no medium: its caller knows what the headers name, how many records there are, and which inodes
+//! each touches.
+#![tactic(auto)]
+
+mod laws;
+mod next_generation;
+mod owners;
+mod regions;
+
+pub use laws::{counted_records_touch_inodes, owners_decide_whether_logs_are_apart};
+pub use next_generation::next_free_generation;
+pub use owners::{Owners, SharedInode};
+pub use regions::{CountedLogs, LogRest, logs_that_count};

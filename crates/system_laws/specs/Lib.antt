@@ -1,0 +1,12 @@
+pub mod Parts
+pub mod Clocks
+pub mod WorldView
+pub mod Contents
+pub mod WorldTree
+pub mod News
+pub mod KeptCalls
+pub mod Moves
+pub mod Leaves
+pub mod Relation
+pub mod Idle
+pub mod Steps

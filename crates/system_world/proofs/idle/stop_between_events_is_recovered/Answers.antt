@@ -1,6 +1,0 @@
-use Rattle.system_world.proofs.WorldFacts.{world_facts}
-use Rattle.system_world.proofs.idle.stop_between_events_is_recovered.Goals as goal
-
-pub returns : goal.returns
-returns g c = λ v stands leaves content left.
-    (world_facts g.M.Media g.met.M.Media.seen_now g.met.M.Media.sized).stops v stands leaves content left

@@ -1,7 +1,0 @@
-use Rattle.system_world.proofs.PinnedInodes.{pinned}
-use Rattle.system_world.proofs.WorldFacts.{world_facts}
-use Rattle.system_world.proofs.requests.pinned_inode_is_a_step.Goals as goal
-
-pub returns : goal.returns
-returns g c = λ v number inode o new begun turn makes.
-    pinned g.M.Media (world_facts g.M.Media g.met.M.Media.seen_now g.met.M.Media.sized) v number inode o new begun turn makes

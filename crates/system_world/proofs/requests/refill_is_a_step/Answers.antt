@@ -1,7 +1,0 @@
-use Rattle.system_world.proofs.Refills.{refilled}
-use Rattle.system_world.proofs.WorldFacts.{world_facts}
-use Rattle.system_world.proofs.requests.refill_is_a_step.Goals as goal
-
-pub returns : goal.returns
-returns g c = λ v number units inodes o new begun turn makes.
-    refilled g.M.Media (world_facts g.M.Media g.met.M.Media.seen_now g.met.M.Media.sized) v number units inodes o new begun turn makes

@@ -1,7 +1,0 @@
-use Rattle.system_world.proofs.Refills.{given_back}
-use Rattle.system_world.proofs.WorldFacts.{world_facts}
-use Rattle.system_world.proofs.requests.returned_units_are_a_step.Goals as goal
-
-pub returns : goal.returns
-returns g c = λ v number o new begun turn makes.
-    given_back g.M.Media (world_facts g.M.Media g.met.M.Media.seen_now g.met.M.Media.sized) v number o new begun turn makes

@@ -1,8 +1,0 @@
-use Rattle.std.proofs.Common.{◌≡◌, ◌-◌, drop}
-use Rattle.system_world.specs.event_steps.libfs.file_graph.Graph.{after_effects, graph_of}
-use Rattle.system_world.specs.event_steps.libfs.file_graph.Plain.{pairs}
-use Rattle.world.specs.Snapshots.{entries_put}
-use Rattle.world.proofs.node_copies.put_entries.Given as goal
-
-abbrev pub invariant-loop-done : goal.invariant-loop-done
-invariant-loop-done l = graph_of l.graph ≡ after_effects (graph_of l.fn.graph) (entries_put l.directory (pairs (drop (l.count - l.done) l.entries)))

@@ -1,7 +1,0 @@
-use Rattle.std.proofs.Common.{◌≡◌, drop}
-use Rattle.system_world.specs.event_steps.libfs.file_graph.Graph.{graph_of}
-use Rattle.system_world.specs.event_steps.libfs.world_invariant.Logs.{after_records}
-use Rattle.world.proofs.node_copies.put_records.Given as goal
-
-abbrev pub invariant-loop-record : goal.invariant-loop-record
-invariant-loop-record l = after_records (graph_of l.graph) (drop l.record-index l.records) ≡ after_records (graph_of l.fn.graph) l.records
