@@ -1,12 +1,12 @@
 -- A superblock spells a geometry that the format allows.
 use Rattle.std.proofs.Common.{◌≡◌, ◌≤◌, ◌+◌, ℕ, List, length, true, cond, eqb, Some, None, subst}
-use Rattle.layout.specs.declared.superblock.Super.{Super}
-use Rattle.layout.specs.Bytes.{◌>>=◌, are_zero, number_at, text_at}
-use Rattle.layout.specs.Places.{Sizes, IsAllowed, sizes, allows, geometry_of}
-use Rattle.layout.specs.Super.{magic, super_at, super_of}
-use Rattle.layout.proofs.Limits.{allowed_from}
-use Rattle.file_graph.proofs.Fields.{bind_some, test_some, guard_some, some_is}
-use Rattle.batch_journal.specs.Volume.{Spells}
+use Rattle.area_reader.specs.layout.declared.superblock.Super.{Super}
+use Rattle.area_reader.specs.layout.Bytes.{◌>>=◌, are_zero, number_at, text_at}
+use Rattle.area_reader.specs.layout.Places.{Sizes, IsAllowed, sizes, allows, geometry_of}
+use Rattle.area_reader.specs.layout.Super.{magic, super_at, super_of}
+use Rattle.area_reader.proofs.layout_lemmas.Limits.{allowed_from}
+use Rattle.area_reader.proofs.file_graph_lemmas.Fields.{bind_some, test_some, guard_some, some_is}
+use Rattle.area_reader.specs.batch_journal.Volume.{Spells}
 
 fields_allowed : (bytes : List ℕ) (x : Super × List ℕ) → super_at bytes ≡ Some x → allows x.0.geometry ≡ true
 unfolding super_at

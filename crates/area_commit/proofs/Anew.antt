@@ -4,13 +4,13 @@ use Rattle.std.specs.Prelude.{◌==◌, nat_le, is_some, IsSome, IfSome, option_
 use Rattle.std.proofs.lemmas.Bool.{true≢false, false≢true, and_from, le-leb, ne_eqb, cond-false}
 use Rattle.tier_device.specs.declared.media.Tier.{Tier}
 use Rattle.tier_device.specs.declared.media.Tier.TheVariants.{Fast}
-use Rattle.layout.specs.declared.marks.Marks.{Marks}
-use Rattle.layout.specs.declared.slot.Slot.{Slot}
-use Rattle.layout.specs.Marks.{fits_marks, marks_of, marks_spelling}
-use Rattle.layout.specs.Places.{Sizes, is_inode, is_node}
-use Rattle.layout.specs.Slot.{slot_spelling}
-use Rattle.batch_journal.specs.Images.{image_for, or_else, with_images}
-use Rattle.extent_tree.specs.Map.{TierRuns, runs_in}
+use Rattle.area_reader.specs.layout.declared.marks.Marks.{Marks}
+use Rattle.area_reader.specs.layout.declared.slot.Slot.{Slot}
+use Rattle.area_reader.specs.layout.Marks.{fits_marks, marks_of, marks_spelling}
+use Rattle.area_reader.specs.layout.Places.{Sizes, is_inode, is_node}
+use Rattle.area_reader.specs.layout.Slot.{slot_spelling}
+use Rattle.area_reader.specs.batch_journal.Images.{image_for, or_else, with_images}
+use Rattle.area_reader.specs.extent_tree.Map.{TierRuns, runs_in}
 use Rattle.area_reader.specs.Store.{Store, slot_bytes, root_of, marks}
 use Rattle.area_reader.specs.Reads.{Free}
 use Rattle.area_reader.specs.Format.{IsSpelled}

@@ -5,11 +5,11 @@ use Rattle.std.specs.List.{Contains}
 use Rattle.std.proofs.lemmas.Bool.{cases_Bool, cases_eq, cond-true, cond-false, and_parts, leb-true, lt-ltb, le-leb, or_left, or_right}
 use Rattle.tier_device.specs.declared.media.Tier.{Tier}
 use Rattle.tier_device.specs.declared.media.Tier.TheVariants.{Fast}
-use Rattle.layout.specs.declared.marks.Marks.{Marks}
-use Rattle.layout.specs.Places.{is_inode, slot_block, slot_byte}
-use Rattle.layout.specs.Slot.{slot_spelling}
-use Rattle.batch_journal.specs.Images.{slice, image_for, or_else, with_images}
-use Rattle.batch_journal.specs.Blocks.{is_home, home, after_batch}
+use Rattle.area_reader.specs.layout.declared.marks.Marks.{Marks}
+use Rattle.area_reader.specs.layout.Places.{is_inode, slot_block, slot_byte}
+use Rattle.area_reader.specs.layout.Slot.{slot_spelling}
+use Rattle.area_reader.specs.batch_journal.Images.{slice, image_for, or_else, with_images}
+use Rattle.area_reader.specs.batch_journal.Blocks.{is_home, home, after_batch}
 use Rattle.area_reader.specs.Store.{Store, slot_bytes}
 use Rattle.area_commit.specs.declared.slots.ChangedSlot.{ChangedSlot}
 use Rattle.area_commit.specs.Slots.{RiseIn, has_slot, with_slots, slot_image}

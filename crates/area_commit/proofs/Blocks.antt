@@ -2,10 +2,10 @@
 use Rattle.std.proofs.Common.{◌≡◌, ◌≢◌, inl, inr, ℕ, zero, suc, ◌+◌, ◌-◌, ◌*◌, ◌≤◌, ◌<◌, List, [], ◌∷◌, ◌++◌, length, take, drop, slice_index_or, Option, Some, None, refl, sym, ◌∙◌, ap, subst, arith, Bool, true, false, cond, ◌==◌, ◌||◌, ltb}
 use Rattle.std.proofs.lemmas.Bool.{cases_eq, cases_order, cond-true, cond-false, eq-eqb, ne_eqb, or_left, or_from, lt-ltb, le-ltb}
 use Rattle.std.proofs.lemmas.List.Folds.{list_any-append}
-use Rattle.layout.specs.declared.slot.Slot.TheVariants as slot
-use Rattle.layout.specs.Places.{slot_block}
-use Rattle.batch_journal.specs.Images.{image_for}
-use Rattle.batch_journal.specs.Blocks.{Blocks}
+use Rattle.area_reader.specs.layout.declared.slot.Slot.TheVariants as slot
+use Rattle.area_reader.specs.layout.Places.{slot_block}
+use Rattle.area_reader.specs.batch_journal.Images.{image_for}
+use Rattle.area_reader.specs.batch_journal.Blocks.{Blocks}
 use Rattle.area_commit.specs.declared.slots.ChangedSlot.{ChangedSlot}
 use Rattle.area_commit.specs.Slots.{RiseIn, has_slot, with_slot, with_slots, slot_image}
 use Rattle.area_commit.specs.Batches.{HasSlotImages, images_for}

@@ -9,9 +9,9 @@ use Rattle.std.specs.declared.cmp.Ordering.TheVariants.{Less, Equal, Greater}
 use Rattle.std.specs.Cmp.{nat_cmp_total, tied_itself, ranked}
 use Rattle.std.specs.Map.{lookup, keys_of}
 use Rattle.std.specs.BTreeMap.{BTreeMap, is_at, Updates}
-use Rattle.layout.specs.Places.{Sizes, is_node, is_journaled}
-use Rattle.batch_journal.specs.Images.{image_for, Rises}
-use Rattle.batch_journal.specs.Blocks.{AreJournaled}
+use Rattle.area_reader.specs.layout.Places.{Sizes, is_node, is_journaled}
+use Rattle.area_reader.specs.batch_journal.Images.{image_for, Rises}
+use Rattle.area_reader.specs.batch_journal.Blocks.{AreJournaled}
 use Rattle.area_commit.specs.Batches.{AreNodes, PutsImage}
 
 -- ---- a map as its images

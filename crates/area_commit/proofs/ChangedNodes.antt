@@ -4,19 +4,19 @@ use Rattle.std.specs.Prelude.{get_or}
 use Rattle.std.proofs.lemmas.Bool.{cases_Bool}
 use Rattle.tier_device.specs.declared.media.Tier.{Tier}
 use Rattle.tier_device.specs.declared.media.Tier.TheVariants.{Fast, Block, Slow}
-use Rattle.file_graph.specs.declared.effect.Kind.TheVariants as kind
-use Rattle.graph_change.specs.Net.{Base, Kept, Made, Gone}
-use Rattle.graph_change.specs.Change.{Change, Patch, blank, patch_at, writes_block}
-use Rattle.layout.specs.declared.slot.Slot.{Slot}
-use Rattle.layout.specs.declared.slot.Slot.TheVariants as slots
-use Rattle.layout.specs.Places.{Sizes}
-use Rattle.tree_blocks.specs.Inode.{LogicalBlocks, inode_of, blocks_for}
-use Rattle.tree_blocks.specs.After.{start_node}
-use Rattle.tree_blocks.specs.Directory.{EntryBlocks, numbered_blocks}
-use Rattle.tree_blocks.specs.FileBlock.{ReadsAfter, is_cut_off, AreWritten}
-use Rattle.tree_blocks.proofs.FileBlocks.{hole_stays}
-use Rattle.tree_blocks.specs.InodeRewrite.{IsFileRewritten, IsDirectoryRewritten}
-use Rattle.extent_tree.specs.Map.{TierRuns, lies_at}
+use Rattle.area_reader.specs.file_graph.declared.effect.Kind.TheVariants as kind
+use Rattle.area_reader.specs.graph_change.Net.{Base, Kept, Made, Gone}
+use Rattle.area_reader.specs.graph_change.Change.{Change, Patch, blank, patch_at, writes_block}
+use Rattle.area_reader.specs.layout.declared.slot.Slot.{Slot}
+use Rattle.area_reader.specs.layout.declared.slot.Slot.TheVariants as slots
+use Rattle.area_reader.specs.layout.Places.{Sizes}
+use Rattle.area_reader.specs.tree_blocks.Inode.{LogicalBlocks, inode_of, blocks_for}
+use Rattle.area_reader.specs.tree_blocks.After.{start_node}
+use Rattle.area_reader.specs.tree_blocks.Directory.{EntryBlocks, numbered_blocks}
+use Rattle.area_reader.specs.tree_blocks.FileBlock.{ReadsAfter, is_cut_off, AreWritten}
+use Rattle.area_reader.proofs.tree_blocks_lemmas.FileBlocks.{hole_stays}
+use Rattle.area_reader.specs.tree_blocks.InodeRewrite.{IsFileRewritten, IsDirectoryRewritten}
+use Rattle.area_reader.specs.extent_tree.Map.{TierRuns, lies_at}
 use Rattle.area_reader.specs.Store.{Store, slot, place, at_or, logical_block, inode}
 use Rattle.area_commit.specs.InodeRewrite.{logical_by}
 use Rattle.area_commit.specs.InodeChange.{place_from, places_from, writes_over, LieAsChanged, IsFileWritten, IsDirectoryWritten}

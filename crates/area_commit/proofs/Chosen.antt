@@ -6,7 +6,7 @@ use Rattle.std.proofs.lemmas.Bool.{or_cases, or_left, or_right, eqb-true, eq-eqb
 use Rattle.std.proofs.lemmas.List.Elements.{Contains-append_cases}
 use Rattle.tier_device.specs.declared.media.Tier.{Tier}
 use Rattle.tier_device.specs.declared.media.Tier.TheVariants.{Fast, Block, Slow}
-use Rattle.layout.specs.Places.{Sizes, is_inode, is_node, node_end, data_first, tier_blocks}
+use Rattle.area_reader.specs.layout.Places.{Sizes, is_inode, is_node, node_end, data_first, tier_blocks}
 use Rattle.block_alloc.specs.Runs.{blocks_of, Rising}
 use Rattle.block_alloc.proofs.Blocks.{normal-rising}
 use Rattle.area_reader.specs.Store.{Store}

@@ -4,11 +4,11 @@ use Rattle.tier_device.specs.declared.media.Media.{Ghosts}
 use Rattle.tier_device.specs.declared.media.Tier.{Tier}
 use Rattle.tier_device.specs.declared.media.Tier.TheVariants.{Fast}
 use Rattle.tier_device.specs.AfterStop.{AtRest}
-use Rattle.layout.specs.declared.slot.Slot.{Slot}
-use Rattle.layout.specs.Places.{Sizes, tier_blocks}
-use Rattle.batch_journal.specs.Blocks.{home, after_batch}
-use Rattle.batch_journal.specs.Course.{Since, SameLengths, BeforeOrAfter}
-use Rattle.extent_tree.specs.Map.{TierRuns}
+use Rattle.area_reader.specs.layout.declared.slot.Slot.{Slot}
+use Rattle.area_reader.specs.layout.Places.{Sizes, tier_blocks}
+use Rattle.area_reader.specs.batch_journal.Blocks.{home, after_batch}
+use Rattle.area_reader.specs.batch_journal.Course.{Since, SameLengths, BeforeOrAfter}
+use Rattle.area_reader.specs.extent_tree.Map.{TierRuns}
 use Rattle.area_reader.specs.Store.{store_of}
 use Rattle.area_reader.specs.Reads.{Loose}
 use Rattle.area_commit.specs.Batches.{IsBatchOf}

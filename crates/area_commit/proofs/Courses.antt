@@ -4,9 +4,9 @@ use Rattle.std.proofs.lemmas.Bool.{cases_lt}
 use Rattle.tier_device.specs.declared.media.Tier.{Tier}
 use Rattle.tier_device.specs.declared.media.Tier.TheVariants.{Fast, Block, Slow}
 use Rattle.tier_device.specs.StopsSince.{LeftSince}
-use Rattle.layout.specs.Places.{Sizes}
-use Rattle.batch_journal.specs.Course.{Since, TornFrom, OutsideRunFrom}
-use Rattle.batch_journal.proofs.Views.{which}
+use Rattle.area_reader.specs.layout.Places.{Sizes}
+use Rattle.area_reader.specs.batch_journal.Course.{Since, TornFrom, OutsideRunFrom}
+use Rattle.area_reader.proofs.batch_journal_lemmas.Views.{which}
 use Rattle.area_reader.specs.Store.{Store, store_of, content_blocks}
 use Rattle.area_reader.specs.Reads.{Loose, LooseIn, IsFreeRun}
 use Rattle.area_reader.proofs.Torn.{torn_data, torn_fast, loose_left}

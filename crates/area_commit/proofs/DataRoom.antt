@@ -5,8 +5,8 @@ use Rattle.std.proofs.lemmas.List.{length-append, length-map}
 use Rattle.std.proofs.lemmas.List.Elements.{Contains-append_left, Contains-append_right}
 use Rattle.tier_device.specs.declared.media.Tier.{Tier}
 use Rattle.tier_device.specs.declared.media.Tier.TheVariants.{Fast, Block, Slow}
-use Rattle.file_graph.specs.Units.{charge}
-use Rattle.layout.specs.Places.{Sizes, is_inode, slot_block, node_end, data_first, data_blocks, tier_blocks}
+use Rattle.area_reader.specs.file_graph.Units.{charge}
+use Rattle.area_reader.specs.layout.Places.{Sizes, is_inode, slot_block, node_end, data_first, data_blocks, tier_blocks}
 use Rattle.area_reader.specs.Store.{Store, slot, root_of, graph}
 use Rattle.area_reader.specs.Reads.{InodeReads, IsRoom}
 use Rattle.area_reader.specs.Format.{IsSpelled, KeepsUnits}

@@ -5,11 +5,11 @@ use Rattle.std.specs.List.{Contains}
 use Rattle.std.proofs.lemmas.Bool.{cases_eq, cases_lt}
 use Rattle.std.proofs.lemmas.List.Elements.{Contains-append_left, Contains-append_right, Contains-append_cases}
 use Rattle.tier_device.specs.declared.media.Tier.{Tier}
-use Rattle.layout.specs.Places.{Sizes, tier_blocks}
+use Rattle.area_reader.specs.layout.Places.{Sizes, tier_blocks}
 use Rattle.block_alloc.specs.declared.runs.Run.{Run}
 use Rattle.block_alloc.specs.Runs.{blocks_of, AreNormalRuns, Rising}
 use Rattle.block_alloc.specs.Value.{FreeBlocks, InOrder}
-use Rattle.batch_journal.specs.Blocks.{Blocks}
+use Rattle.area_reader.specs.batch_journal.Blocks.{Blocks}
 use Rattle.area_reader.specs.Store.{Store}
 use Rattle.area_reader.specs.Reads.{Free, IsRoom, LooseIn, first_room}
 use Rattle.area_reader.specs.Format.{Use, used_block}

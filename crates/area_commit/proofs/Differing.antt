@@ -5,10 +5,10 @@ use Rattle.std.proofs.lemmas.Bool.{cases_Bool, cases_eq, cond-true, cond-false, 
 use Rattle.std.proofs.lemmas.List.Sums.{sum_by-cons}
 use Rattle.posix_calls.specs.Tree.{sum_up_to}
 use Rattle.posix_calls.proofs.Sums.{one_changes}
-use Rattle.file_graph.specs.Graph.{Graph, cost, is_among}
-use Rattle.file_graph.specs.Units.{charge}
-use Rattle.layout.specs.Places.{Sizes}
-use Rattle.tree_blocks.specs.Inode.{Inode, node_of}
+use Rattle.area_reader.specs.file_graph.Graph.{Graph, cost, is_among}
+use Rattle.area_reader.specs.file_graph.Units.{charge}
+use Rattle.area_reader.specs.layout.Places.{Sizes}
+use Rattle.area_reader.specs.tree_blocks.Inode.{Inode, node_of}
 use Rattle.area_reader.specs.Store.{Store, slot, inode, graph}
 use Rattle.area_reader.specs.Format.{IsSpelled}
 use Rattle.area_reader.specs.Units.{slot_units}

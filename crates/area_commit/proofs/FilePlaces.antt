@@ -5,12 +5,12 @@ use Rattle.std.specs.List.{list_all}
 use Rattle.std.proofs.lemmas.Bool.{cases_Bool, cond-true, cond-false, and_parts, leb-true}
 use Rattle.tier_device.specs.declared.media.Tier.{Tier}
 use Rattle.tier_device.specs.declared.media.Tier.TheVariants.{Fast}
-use Rattle.layout.specs.declared.geometry.Space.{Space}
-use Rattle.layout.specs.declared.geometry.Space.TheVariants as space
-use Rattle.layout.specs.declared.extents.Extent.{Extent}
-use Rattle.layout.specs.Extents.{is_extent, is_sound, extents_of}
-use Rattle.layout.specs.Places.{Sizes, is_run, data_first, tier_blocks}
-use Rattle.extent_tree.specs.Places.{has, place_in, extent_with as first_extent, place_of}
+use Rattle.area_reader.specs.layout.declared.geometry.Space.{Space}
+use Rattle.area_reader.specs.layout.declared.geometry.Space.TheVariants as space
+use Rattle.area_reader.specs.layout.declared.extents.Extent.{Extent}
+use Rattle.area_reader.specs.layout.Extents.{is_extent, is_sound, extents_of}
+use Rattle.area_reader.specs.layout.Places.{Sizes, is_run, data_first, tier_blocks}
+use Rattle.area_reader.specs.extent_tree.Places.{has, place_in, extent_with as first_extent, place_of}
 use Rattle.area_reader.specs.Store.{Store, slot, root_of, space_of, length_of, is_own, own_extents, extents_read, place}
 use Rattle.area_reader.proofs.Lists.{bind_some, test_some, some_is, extents_fit}
 

@@ -1,7 +1,7 @@
 -- A small change finds its blocks.
 use Rattle.std.proofs.Common.{◌≤◌, ◌<◌, ◌+◌, ℕ, length, inl, inr, ◌⊎◌, arith}
-use Rattle.file_graph.specs.Units.{charge}
-use Rattle.layout.specs.Places.{Sizes}
+use Rattle.area_reader.specs.file_graph.Units.{charge}
+use Rattle.area_reader.specs.layout.Places.{Sizes}
 use Rattle.area_reader.specs.Store.{Store, graph}
 use Rattle.area_reader.specs.Format.{IsSpelled, KeepsUnits}
 use Rattle.area_commit.specs.Value.{PoolsView, free_data, AreFree}

@@ -3,11 +3,11 @@ use Rattle.std.proofs.Common.{◌≡◌, ℕ, [], refl, sym, ap, subst, ◌∙�
 use Rattle.std.specs.Prelude.{is_some, IsSome}
 use Rattle.std.proofs.lemmas.Bool.{false≢true}
 use Rattle.tier_device.specs.declared.media.Tier.{Tier}
-use Rattle.layout.specs.declared.slot.Slot.TheVariants as slots
-use Rattle.layout.specs.Places.{Sizes}
-use Rattle.extent_tree.specs.Normal.{IsNormal}
-use Rattle.extent_tree.specs.Places.{place_of}
-use Rattle.extent_tree.specs.Map.{TierRuns, runs_in, lies_at}
+use Rattle.area_reader.specs.layout.declared.slot.Slot.TheVariants as slots
+use Rattle.area_reader.specs.layout.Places.{Sizes}
+use Rattle.area_reader.specs.extent_tree.Normal.{IsNormal}
+use Rattle.area_reader.specs.extent_tree.Places.{place_of}
+use Rattle.area_reader.specs.extent_tree.Map.{TierRuns, runs_in, lies_at}
 use Rattle.area_commit.specs.InodeRewrite.{IsFit}
 
 module _ (m : TierRuns) (none : (t : Tier) → runs_in m t ≡ []) where

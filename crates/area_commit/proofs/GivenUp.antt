@@ -3,13 +3,13 @@ use Rattle.std.proofs.Common.{◌≡◌, ◌≤◌, ◌<◌, ◌⊎◌, inl, inr
 use Rattle.std.specs.List.{Contains, AllByRecursion}
 use Rattle.std.proofs.lemmas.Bool.{cases_lt}
 use Rattle.std.proofs.lemmas.List.Elements.{Contains-append_left, Contains-append_right}
-use Rattle.layout.specs.declared.extents.Extent.{Extent}
-use Rattle.extent_tree.specs.Places.{place_of}
-use Rattle.extent_tree.specs.BlockFormat.{IsOneToOne}
+use Rattle.area_reader.specs.layout.declared.extents.Extent.{Extent}
+use Rattle.area_reader.specs.extent_tree.Places.{place_of}
+use Rattle.area_reader.specs.extent_tree.BlockFormat.{IsOneToOne}
 use Rattle.block_alloc.specs.declared.runs.Run.{Run}
 use Rattle.block_alloc.specs.Runs.{run_blocks, blocks_of}
 use Rattle.block_alloc.specs.Value.{FreeBlocks, IsUsed}
-use Rattle.extent_tree.specs.Map.{places_of, place_list, HasBlock}
+use Rattle.area_reader.specs.extent_tree.Map.{places_of, place_list, HasBlock}
 use Rattle.area_commit.specs.Release.{AreUsed, IsInUse}
 use Rattle.area_commit.proofs.Given.{all_from, cons_cases, nothing, in_range}
 

@@ -8,9 +8,9 @@ use Rattle.std.proofs.lemmas.List.Elements.{Contains-append_left, Contains-appen
 use Rattle.std.proofs.Math.Seq.{take-add}
 use Rattle.tier_device.specs.Media.{overwritten}
 use Rattle.tier_device.specs.RecordLaws.{torn_overwritten}
-use Rattle.batch_journal.specs.Images.{slice}
-use Rattle.batch_journal.specs.Blocks.{Blocks, block_of}
-use Rattle.batch_journal.proofs.Bytes.{slice_apart, slice_written}
+use Rattle.area_reader.specs.batch_journal.Images.{slice}
+use Rattle.area_reader.specs.batch_journal.Blocks.{Blocks, block_of}
+use Rattle.area_reader.proofs.batch_journal_lemmas.Bytes.{slice_apart, slice_written}
 use Rattle.block_alloc.specs.declared.runs.Run.{Run}
 use Rattle.block_alloc.specs.Runs.{run_blocks, blocks_of, Rising, AreNormalRuns}
 use Rattle.block_alloc.proofs.Blocks.{blocks-push, split_blocks, normal-rising, length-blocks-more, length-blocks-le}

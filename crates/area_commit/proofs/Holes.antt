@@ -6,9 +6,9 @@ use Rattle.std.proofs.lemmas.Bool.{false≢true, and_parts, or_parts, or_left, o
 use Rattle.std.proofs.lemmas.Bool.Decides.{eqb_tells}
 use Rattle.tier_device.specs.declared.media.Tier.{Tier}
 use Rattle.tier_device.specs.declared.media.Tier.TheVariants.{Fast, Block, Slow}
-use Rattle.graph_change.specs.Bytes.{Length, Grown, Cut}
-use Rattle.graph_change.specs.Change.{Change, Patch, blank, patch_at, cuts_within, writes_block}
-use Rattle.tree_blocks.specs.FileBlock.{is_cut_off}
+use Rattle.area_reader.specs.graph_change.Bytes.{Length, Grown, Cut}
+use Rattle.area_reader.specs.graph_change.Change.{Change, Patch, blank, patch_at, cuts_within, writes_block}
+use Rattle.area_reader.specs.tree_blocks.FileBlock.{is_cut_off}
 use Rattle.area_commit.specs.InodeChange.{is_mapped, writes_over}
 
 -- ---- choices

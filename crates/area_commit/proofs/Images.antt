@@ -3,12 +3,12 @@ use Rattle.std.proofs.Common.{◌≡◌, ◌≢◌, inl, inr, ℕ, ◌+◌, ◌�
 use Rattle.std.specs.Prelude.{IsSome, IfSome, nat_le, nat_lt, option_map}
 use Rattle.std.proofs.lemmas.Bool.{true≢false, cases_lt, cond-true, cond-false, ne_eqb, and_parts, leb-true, le-leb, lt-ltb, le-ltb, or_left, or_from}
 use Rattle.tier_device.specs.declared.media.Tier.TheVariants.{Fast}
-use Rattle.layout.specs.declared.marks.Marks.{Marks}
-use Rattle.layout.specs.Marks.{marks_spelling}
-use Rattle.layout.specs.Places.{Sizes, is_node, node_end, is_journaled, slot_block}
-use Rattle.batch_journal.specs.Images.{image_for, next_of}
-use Rattle.batch_journal.specs.Blocks.{AreJournaled}
-use Rattle.batch_journal.specs.Volume.{Spells, KeepsGeometry}
+use Rattle.area_reader.specs.layout.declared.marks.Marks.{Marks}
+use Rattle.area_reader.specs.layout.Marks.{marks_spelling}
+use Rattle.area_reader.specs.layout.Places.{Sizes, is_node, node_end, is_journaled, slot_block}
+use Rattle.area_reader.specs.batch_journal.Images.{image_for, next_of}
+use Rattle.area_reader.specs.batch_journal.Blocks.{AreJournaled}
+use Rattle.area_reader.specs.batch_journal.Volume.{Spells, KeepsGeometry}
 use Rattle.area_reader.specs.Store.{Store}
 use Rattle.area_commit.specs.declared.slots.ChangedSlot.{ChangedSlot}
 use Rattle.area_commit.specs.Slots.{RiseIn, has_slot, with_slots, slot_image}

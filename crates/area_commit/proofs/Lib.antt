@@ -40,3 +40,9 @@ mod Found
 pub mod Holes
 pub mod Given
 pub mod GivenUp
+-- Handed on to the crates above, which list only the highest of what they name.
+pub use Rattle.area_reader.proofs as area_reader_lemmas
+pub use Rattle.area_reader.proofs.batch_journal_lemmas
+pub use Rattle.area_reader.proofs.extent_tree_lemmas
+pub use Rattle.area_reader.proofs.graph_change_lemmas
+pub use Rattle.area_reader.proofs.tree_blocks_lemmas

@@ -4,9 +4,9 @@ use Rattle.std.specs.Prelude.{IsSome, ◌==◌, Result, Ok, Err, OnOk}
 use Rattle.std.proofs.lemmas.Bool.{false≢true, cases_Bool, eqb-true, eqb-false}
 use Rattle.tier_device.specs.declared.media.Tier.{Tier}
 use Rattle.tier_device.specs.declared.media.Tier.TheVariants as tiers
-use Rattle.layout.specs.declared.slot.Slot.{Slot}
-use Rattle.layout.specs.Extents.{ExtentList, extents_spelling}
-use Rattle.batch_journal.specs.Images.{image_for}
+use Rattle.area_reader.specs.layout.declared.slot.Slot.{Slot}
+use Rattle.area_reader.specs.layout.Extents.{ExtentList, extents_spelling}
+use Rattle.area_reader.specs.batch_journal.Images.{image_for}
 use Rattle.area_reader.specs.Store.{root_of}
 use Rattle.area_reader.specs.Map.{in_tier}
 use Rattle.area_reader.specs.declared.tiers.InodeExtents.{InodeExtents}

@@ -7,7 +7,7 @@ use Rattle.std.proofs.lemmas.List.{take-append-drop}
 use Rattle.std.proofs.lemmas.List.Elements.{Contains-append_left, Contains-append_right, Contains-append_cases}
 use Rattle.tier_device.specs.declared.media.Tier.{Tier}
 use Rattle.tier_device.specs.declared.media.Tier.TheVariants.{Fast, Block, Slow}
-use Rattle.layout.specs.Places.{Sizes, node_end, data_first, tier_blocks}
+use Rattle.area_reader.specs.layout.Places.{Sizes, node_end, data_first, tier_blocks}
 use Rattle.block_alloc.specs.Runs.{unmarked_blocks, PutIn}
 use Rattle.block_alloc.specs.Value.{FreeBlocks}
 use Rattle.area_reader.specs.Store.{Store}

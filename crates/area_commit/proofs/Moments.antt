@@ -4,12 +4,12 @@ use Rattle.std.proofs.lemmas.Bool.{cases_lt}
 use Rattle.tier_device.specs.declared.media.Tier.{Tier}
 use Rattle.tier_device.specs.declared.media.Tier.TheVariants.{Fast, Block, Slow}
 use Rattle.tier_device.specs.AfterStop.{AtRest}
-use Rattle.layout.specs.declared.marks.Marks.{Marks}
-use Rattle.layout.specs.declared.slot.Slot.{Slot}
-use Rattle.layout.specs.Places.{Sizes, tier_blocks}
-use Rattle.batch_journal.specs.Blocks.{Blocks, block_of, home, after_batch}
-use Rattle.batch_journal.specs.Course.{Since, Unmoved, BeforeOrAfter}
-use Rattle.extent_tree.specs.Map.{TierRuns}
+use Rattle.area_reader.specs.layout.declared.marks.Marks.{Marks}
+use Rattle.area_reader.specs.layout.declared.slot.Slot.{Slot}
+use Rattle.area_reader.specs.layout.Places.{Sizes, tier_blocks}
+use Rattle.area_reader.specs.batch_journal.Blocks.{Blocks, block_of, home, after_batch}
+use Rattle.area_reader.specs.batch_journal.Course.{Since, Unmoved, BeforeOrAfter}
+use Rattle.area_reader.specs.extent_tree.Map.{TierRuns}
 use Rattle.area_reader.specs.Store.{Store, store_of, content_blocks}
 use Rattle.area_reader.specs.Reads.{Loose}
 use Rattle.area_commit.specs.declared.slots.ChangedSlot.{ChangedSlot}

@@ -3,11 +3,11 @@ use Rattle.std.proofs.Common.{◌≡◌, ◌≤◌, ◌<◌, ◌+◌, ◌/◌, �
 use Rattle.std.specs.Prelude.{get_or, is_some}
 use Rattle.std.proofs.lemmas.Bool.{cases_lt}
 use Rattle.tier_device.specs.declared.media.Tier.{Tier}
-use Rattle.layout.specs.declared.slot.Slot.{Slot}
-use Rattle.layout.specs.declared.slot.Slot.TheVariants as slots
-use Rattle.layout.specs.Places.{Sizes}
-use Rattle.tree_blocks.specs.Inode.{LogicalBlocks, byte_of, inode_of, AreAlike}
-use Rattle.extent_tree.specs.Map.{TierRuns, LieBelow}
+use Rattle.area_reader.specs.layout.declared.slot.Slot.{Slot}
+use Rattle.area_reader.specs.layout.declared.slot.Slot.TheVariants as slots
+use Rattle.area_reader.specs.layout.Places.{Sizes}
+use Rattle.area_reader.specs.tree_blocks.Inode.{LogicalBlocks, byte_of, inode_of, AreAlike}
+use Rattle.area_reader.specs.extent_tree.Map.{TierRuns, LieBelow}
 use Rattle.area_reader.specs.Store.{Store, slot, root_of, length_of, place, logical_block, inode}
 use Rattle.area_reader.specs.Reads.{IsPlaced}
 use Rattle.area_commit.specs.InodeRewrite.{logical_by}

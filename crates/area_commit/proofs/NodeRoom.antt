@@ -6,12 +6,12 @@ use Rattle.std.proofs.lemmas.List.Elements.{Contains-append_left, Contains-appen
 use Rattle.posix_calls.specs.Tree.{sum_up_to}
 use Rattle.tier_device.specs.declared.media.Tier.{Tier}
 use Rattle.tier_device.specs.declared.media.Tier.TheVariants.{Fast, Block, Slow}
-use Rattle.file_graph.specs.Graph.{cost}
-use Rattle.file_graph.specs.Units.{charge}
-use Rattle.layout.specs.declared.geometry.Space.TheVariants as space
-use Rattle.layout.specs.declared.slot.Slot.{Slot}
-use Rattle.layout.specs.declared.slot.Slot.TheVariants as slots
-use Rattle.layout.specs.Places.{Sizes, is_inode, slot_block, node_blocks, node_end}
+use Rattle.area_reader.specs.file_graph.Graph.{cost}
+use Rattle.area_reader.specs.file_graph.Units.{charge}
+use Rattle.area_reader.specs.layout.declared.geometry.Space.TheVariants as space
+use Rattle.area_reader.specs.layout.declared.slot.Slot.{Slot}
+use Rattle.area_reader.specs.layout.declared.slot.Slot.TheVariants as slots
+use Rattle.area_reader.specs.layout.Places.{Sizes, is_inode, slot_block, node_blocks, node_end}
 use Rattle.area_reader.specs.Store.{Store, slot, root_of, length_of, space_of, place, graph}
 use Rattle.area_reader.specs.Reads.{InodeReads}
 use Rattle.area_reader.specs.Format.{IsSpelled, KeepsUnits}

@@ -3,9 +3,9 @@ use Rattle.std.proofs.Common.{◌≡◌, ◌≢◌, ◌≤◌, ◌<◌, ℕ, Lis
 use Rattle.std.specs.Prelude.{is_some}
 use Rattle.tier_device.specs.declared.media.Tier.{Tier}
 use Rattle.tier_device.specs.declared.media.Tier.TheVariants.{Fast, Block, Slow}
-use Rattle.layout.specs.Places.{Sizes}
-use Rattle.batch_journal.specs.Blocks.{Blocks}
-use Rattle.extent_tree.specs.Map.{TierRuns, lies_at, LieOnce}
+use Rattle.area_reader.specs.layout.Places.{Sizes}
+use Rattle.area_reader.specs.batch_journal.Blocks.{Blocks}
+use Rattle.area_reader.specs.extent_tree.Map.{TierRuns, lies_at, LieOnce}
 use Rattle.area_reader.specs.Store.{Store, place, at_or, logical_block}
 use Rattle.area_commit.specs.InodeRewrite.{logical_by}
 

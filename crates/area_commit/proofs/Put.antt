@@ -5,12 +5,12 @@ use Rattle.std.specs.List.{Contains}
 use Rattle.std.proofs.lemmas.List.Elements.{Contains-get_or}
 use Rattle.tier_device.specs.declared.media.Tier.{Tier}
 use Rattle.tier_device.specs.declared.media.Tier.TheVariants.{Fast, Block, Slow}
-use Rattle.layout.specs.declared.slot.Slot.{Slot}
-use Rattle.layout.specs.Marks.{marks_spelling}
-use Rattle.layout.specs.Places.{Sizes, is_inode, slot_block, slot_byte, node_end, data_first}
-use Rattle.batch_journal.specs.Blocks.{Blocks}
-use Rattle.batch_journal.specs.Images.{slice, image_for, or_else}
-use Rattle.extent_tree.specs.Map.{TierRuns}
+use Rattle.area_reader.specs.layout.declared.slot.Slot.{Slot}
+use Rattle.area_reader.specs.layout.Marks.{marks_spelling}
+use Rattle.area_reader.specs.layout.Places.{Sizes, is_inode, slot_block, slot_byte, node_end, data_first}
+use Rattle.area_reader.specs.batch_journal.Blocks.{Blocks}
+use Rattle.area_reader.specs.batch_journal.Images.{slice, image_for, or_else}
+use Rattle.area_reader.specs.extent_tree.Map.{TierRuns}
 use Rattle.area_reader.specs.Store.{Store, slot_bytes}
 use Rattle.area_reader.specs.Reads.{IsRoom, Free, Loose}
 use Rattle.area_commit.specs.Batches.{IsPutIn}

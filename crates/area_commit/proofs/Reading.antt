@@ -6,17 +6,17 @@ use Rattle.std.specs.List.{list_all}
 use Rattle.std.proofs.lemmas.Bool.{and_from, eq-eqb, ne_eqb, cond-true, cond-false}
 use Rattle.tier_device.specs.declared.media.Tier.{Tier}
 use Rattle.tier_device.specs.declared.media.Tier.TheVariants.{Fast, Block, Slow}
-use Rattle.layout.specs.declared.extents.Extent.{Extent}
-use Rattle.layout.specs.declared.geometry.Space.{Space}
-use Rattle.layout.specs.declared.slot.Slot.{Slot}
-use Rattle.layout.specs.declared.slot.Slot.TheVariants as slots
-use Rattle.layout.specs.Bytes.{◌>>=◌}
-use Rattle.layout.specs.Extents.{ExtentList, extents_of, extents_spelling}
-use Rattle.layout.specs.Places.{Sizes, is_inode}
-use Rattle.layout.specs.Slot.{slot_of, slot_spelling}
-use Rattle.extent_tree.specs.Places.{end_of, place_of}
-use Rattle.tree_blocks.specs.Inode.{inode_of}
-use Rattle.extent_tree.specs.Map.{TierRuns, runs_in, lies_at, LieBelow}
+use Rattle.area_reader.specs.layout.declared.extents.Extent.{Extent}
+use Rattle.area_reader.specs.layout.declared.geometry.Space.{Space}
+use Rattle.area_reader.specs.layout.declared.slot.Slot.{Slot}
+use Rattle.area_reader.specs.layout.declared.slot.Slot.TheVariants as slots
+use Rattle.area_reader.specs.layout.Bytes.{◌>>=◌}
+use Rattle.area_reader.specs.layout.Extents.{ExtentList, extents_of, extents_spelling}
+use Rattle.area_reader.specs.layout.Places.{Sizes, is_inode}
+use Rattle.area_reader.specs.layout.Slot.{slot_of, slot_spelling}
+use Rattle.area_reader.specs.extent_tree.Places.{end_of, place_of}
+use Rattle.area_reader.specs.tree_blocks.Inode.{inode_of}
+use Rattle.area_reader.specs.extent_tree.Map.{TierRuns, runs_in, lies_at, LieBelow}
 use Rattle.area_reader.specs.Store.{Store, slot_read, slot, root_of, space_of, length_of, is_own, own_extents, extents_by, extents_read, place, at_or, logical_block, inode}
 use Rattle.area_reader.specs.Format.{used_block}
 use Rattle.area_commit.specs.InodeRewrite.{list_of, IsListed, IsWritten, logical_by, block_by}

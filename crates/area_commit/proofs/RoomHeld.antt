@@ -6,11 +6,11 @@ use Rattle.std.proofs.lemmas.Bool.{and_parts, leb-true, ltb-true}
 use Rattle.posix_calls.specs.Tree.{sum_up_to}
 use Rattle.tier_device.specs.declared.media.Tier.{Tier}
 use Rattle.tier_device.specs.declared.media.Tier.TheVariants.{Fast, Block, Slow}
-use Rattle.file_graph.specs.Graph.{Graph, cost}
-use Rattle.file_graph.specs.Units.{charge}
-use Rattle.layout.specs.declared.slot.Slot.{Slot}
-use Rattle.layout.specs.declared.slot.Slot.TheVariants as slots
-use Rattle.layout.specs.Places.{Sizes, is_inode, node_end}
+use Rattle.area_reader.specs.file_graph.Graph.{Graph, cost}
+use Rattle.area_reader.specs.file_graph.Units.{charge}
+use Rattle.area_reader.specs.layout.declared.slot.Slot.{Slot}
+use Rattle.area_reader.specs.layout.declared.slot.Slot.TheVariants as slots
+use Rattle.area_reader.specs.layout.Places.{Sizes, is_inode, node_end}
 use Rattle.area_reader.specs.Store.{Store, slot, root_of, length_of, place, graph}
 use Rattle.area_reader.specs.Format.{IsSpelled}
 use Rattle.area_reader.specs.Units.{slot_units}

@@ -5,14 +5,14 @@ use Rattle.std.proofs.lemmas.Bool.{cases_Bool, cases_order, cond-true, cond-fals
 use Rattle.std.proofs.lemmas.List.{length-append, length-replicate}
 use Rattle.tier_device.specs.Media.{Torn}
 use Rattle.tier_device.specs.RecordLaws.{torn_overwritten}
-use Rattle.file_graph.proofs.Fields.{u32_long, u64_long}
-use Rattle.layout.specs.declared.slot.Slot.{Slot}
-use Rattle.layout.specs.declared.slot_fields.SlotFields.{SlotFields}
-use Rattle.layout.specs.Places.{slot_block, slot_byte}
-use Rattle.layout.specs.Bytes.{u32, u64, padded_text, zeros}
-use Rattle.layout.specs.Slot.{slot_fields, slot_text, slot_spelling}
-use Rattle.batch_journal.specs.Images.{slice}
-use Rattle.batch_journal.proofs.Bytes.{slice_apart, slice_written}
+use Rattle.area_reader.proofs.file_graph_lemmas.Fields.{u32_long, u64_long}
+use Rattle.area_reader.specs.layout.declared.slot.Slot.{Slot}
+use Rattle.area_reader.specs.layout.declared.slot_fields.SlotFields.{SlotFields}
+use Rattle.area_reader.specs.layout.Places.{slot_block, slot_byte}
+use Rattle.area_reader.specs.layout.Bytes.{u32, u64, padded_text, zeros}
+use Rattle.area_reader.specs.layout.Slot.{slot_fields, slot_text, slot_spelling}
+use Rattle.area_reader.specs.batch_journal.Images.{slice}
+use Rattle.area_reader.proofs.batch_journal_lemmas.Bytes.{slice_apart, slice_written}
 use Rattle.area_commit.specs.declared.slots.ChangedSlot.{ChangedSlot}
 use Rattle.area_commit.specs.Slots.{RiseIn, has_slot, with_slot, with_slots}
 

@@ -7,12 +7,12 @@ use Rattle.std.proofs.lemmas.List.{take-append-drop, take_at, drop_at, drop-drop
 use Rattle.std.proofs.lemmas.List.Concat.{flat_map-append}
 use Rattle.tier_device.specs.declared.media.Tier.{Tier}
 use Rattle.tier_device.specs.declared.media.Tier.TheVariants.{Fast, Block, Slow}
-use Rattle.layout.specs.Places.{Sizes, data_first, tier_blocks, node_end}
+use Rattle.area_reader.specs.layout.Places.{Sizes, data_first, tier_blocks, node_end}
 use Rattle.block_alloc.specs.declared.runs.Run.{Run}
 use Rattle.block_alloc.specs.Runs.{blocks_of, AreNormalRuns, Rising}
 use Rattle.block_alloc.proofs.Blocks.{normal-rising}
-use Rattle.batch_journal.specs.Images.{slice}
-use Rattle.batch_journal.specs.Blocks.{block_of, home, is_home}
+use Rattle.area_reader.specs.batch_journal.Images.{slice}
+use Rattle.area_reader.specs.batch_journal.Blocks.{block_of, home, is_home}
 use Rattle.area_reader.specs.Store.{Store, store_of}
 use Rattle.area_commit.specs.Value.{on_tier}
 use Rattle.area_commit.specs.Allocations.{tier_places}

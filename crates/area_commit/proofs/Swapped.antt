@@ -4,9 +4,9 @@ use Rattle.std.specs.Prelude.{◌==◌, option_map}
 use Rattle.std.proofs.lemmas.Bool.{true≢false, ne_eqb, cond-false}
 use Rattle.tier_device.specs.declared.media.Tier.{Tier}
 use Rattle.tier_device.specs.declared.media.Tier.TheVariants.{Fast}
-use Rattle.layout.specs.declared.slot.Slot.{Slot}
-use Rattle.layout.specs.Places.{Sizes, is_inode}
-use Rattle.extent_tree.specs.Map.{TierRuns}
+use Rattle.area_reader.specs.layout.declared.slot.Slot.{Slot}
+use Rattle.area_reader.specs.layout.Places.{Sizes, is_inode}
+use Rattle.area_reader.specs.extent_tree.Map.{TierRuns}
 use Rattle.area_reader.specs.Store.{Store, slot, root_of}
 use Rattle.area_reader.specs.Reads.{IsRoom, Untouched}
 use Rattle.area_reader.specs.Format.{Use, used_block, IsSpelled}

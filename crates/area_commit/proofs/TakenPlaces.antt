@@ -5,14 +5,14 @@ use Rattle.std.specs.Option.{option_map}
 use Rattle.std.proofs.lemmas.Bool.{cases_Bool, true≢false, and_parts, leb-true, ltb-true, eqb-false, cond-true, cond-false}
 use Rattle.tier_device.specs.declared.media.Tier.{Tier}
 use Rattle.tier_device.specs.declared.media.Tier.TheVariants.{Fast}
-use Rattle.layout.specs.declared.slot.Slot.{Slot}
-use Rattle.layout.specs.declared.slot.Slot.TheVariants as slots
-use Rattle.layout.specs.Places.{Sizes, is_inode, is_node, node_end}
-use Rattle.layout.specs.Slot.{slot_of}
-use Rattle.tree_blocks.specs.Inode.{Inode, IsConsistent, inode_of, AreAlike, ReadAlike, LogicalBlocks}
-use Rattle.file_graph.specs.declared.effect.Kind.{Kind}
-use Rattle.file_graph.specs.declared.effect.Kind.TheVariants as kind
-use Rattle.extent_tree.specs.Map.{TierRuns}
+use Rattle.area_reader.specs.layout.declared.slot.Slot.{Slot}
+use Rattle.area_reader.specs.layout.declared.slot.Slot.TheVariants as slots
+use Rattle.area_reader.specs.layout.Places.{Sizes, is_inode, is_node, node_end}
+use Rattle.area_reader.specs.layout.Slot.{slot_of}
+use Rattle.area_reader.specs.tree_blocks.Inode.{Inode, IsConsistent, inode_of, AreAlike, ReadAlike, LogicalBlocks}
+use Rattle.area_reader.specs.file_graph.declared.effect.Kind.{Kind}
+use Rattle.area_reader.specs.file_graph.declared.effect.Kind.TheVariants as kind
+use Rattle.area_reader.specs.extent_tree.Map.{TierRuns}
 use Rattle.area_reader.specs.Store.{Store, slot_bytes, slot_read, slot, root_of, length_of, place, logical_block, inode}
 use Rattle.area_reader.specs.Reads.{IsRoom, IsPlaced, Free}
 use Rattle.area_reader.specs.Format.{Use, used_block, SpellsInode, AreUsedOnce}

@@ -3,13 +3,13 @@ use Rattle.std.specs.Prelude.{ℕ, ◌≡◌, ◌≢◌, ◌≤◌, ◌<◌, Lis
 use Rattle.std.specs.List.{Contains}
 use Rattle.tier_device.specs.declared.media.Tier.{Tier}
 use Rattle.tier_device.specs.declared.media.Tier.TheVariants.{Fast}
-use Rattle.layout.specs.declared.places.TheConstants.{BLOCK, SUPER_BLOCK, FIRST_SLOT_BLOCK, MARKS_BLOCK, FIRST_NODE_BLOCK}
-use Rattle.layout.specs.declared.marks.Marks.{Marks}
-use Rattle.layout.specs.Marks.{marks_spelling}
-use Rattle.layout.specs.Places.{Sizes, is_node, is_inode}
-use Rattle.layout.specs.Slot.{slot_spelling}
-use Rattle.batch_journal.specs.Images.{image_for, or_else, with_images}
-use Rattle.batch_journal.specs.Blocks.{Blocks, is_home}
+use Rattle.area_reader.specs.layout.declared.places.TheConstants.{BLOCK, SUPER_BLOCK, FIRST_SLOT_BLOCK, MARKS_BLOCK, FIRST_NODE_BLOCK}
+use Rattle.area_reader.specs.layout.declared.marks.Marks.{Marks}
+use Rattle.area_reader.specs.layout.Marks.{marks_spelling}
+use Rattle.area_reader.specs.layout.Places.{Sizes, is_node, is_inode}
+use Rattle.area_reader.specs.layout.Slot.{slot_spelling}
+use Rattle.area_reader.specs.batch_journal.Images.{image_for, or_else, with_images}
+use Rattle.area_reader.specs.batch_journal.Blocks.{Blocks, is_home}
 use Rattle.area_reader.specs.Store.{Store, slot_bytes}
 use Rattle.area_commit.specs.declared.slots.ChangedSlot.{ChangedSlot}
 use Rattle.area_commit.specs.Slots.{has_slot, with_slots, slot_image}

@@ -3,8 +3,8 @@ use Rattle.std.specs.Prelude.{◌≡◌, ◌<◌, ◌≤◌, ◌↔◌, ◌⊎�
 use Rattle.std.specs.List.{Contains}
 use Rattle.tier_device.specs.declared.media.Tier.{Tier}
 use Rattle.tier_device.specs.declared.media.Tier.TheVariants.{Fast}
-use Rattle.file_graph.specs.Graph.{is_among}
-use Rattle.layout.specs.Places.{Sizes, is_inode, node_end, data_first}
+use Rattle.area_reader.specs.file_graph.Graph.{is_among}
+use Rattle.area_reader.specs.layout.Places.{Sizes, is_inode, node_end, data_first}
 use Rattle.block_alloc.specs.Runs.{blocks_of}
 use Rattle.area_reader.specs.Store.{Store}
 use Rattle.area_reader.specs.Format.{Use, used_block}

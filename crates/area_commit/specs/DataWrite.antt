@@ -6,16 +6,16 @@ use Rattle.tier_device.specs.declared.media.Tier.{Tier}
 use Rattle.tier_device.specs.declared.media.Tier.TheVariants.{Fast, Block, Slow}
 use Rattle.tier_device.specs.Media.{Rose}
 use Rattle.tier_device.specs.AfterStop.{AtRest}
-use Rattle.layout.specs.Places.{Sizes, data_first, tier_blocks}
+use Rattle.area_reader.specs.layout.Places.{Sizes, data_first, tier_blocks}
 use Rattle.block_alloc.specs.declared.runs.Run.{Run}
 use Rattle.block_alloc.specs.Runs.{blocks_of, AreNormalRuns}
-use Rattle.batch_journal.specs.Images.{slice}
-use Rattle.batch_journal.specs.Blocks.{block_of}
-use Rattle.batch_journal.specs.Course.{Since}
-use Rattle.batch_journal.specs.View.{JournalView}
-use Rattle.batch_journal.specs.Volume.{IsJournal}
-use Rattle.batch_journal.specs.declared.error.JournalError.{JournalError}
-use Rattle.batch_journal.specs.declared.error.JournalError.TheVariants.{DeviceFault}
+use Rattle.area_reader.specs.batch_journal.Images.{slice}
+use Rattle.area_reader.specs.batch_journal.Blocks.{block_of}
+use Rattle.area_reader.specs.batch_journal.Course.{Since}
+use Rattle.area_reader.specs.batch_journal.View.{JournalView}
+use Rattle.area_reader.specs.batch_journal.Volume.{IsJournal}
+use Rattle.area_reader.specs.batch_journal.declared.error.JournalError.{JournalError}
+use Rattle.area_reader.specs.batch_journal.declared.error.JournalError.TheVariants.{DeviceFault}
 use Rattle.area_reader.specs.Store.{Store, content_blocks}
 use Rattle.area_reader.specs.Reads.{Free, LooseIn}
 use Rattle.area_commit.specs.declared.allocation.Allocation.{Allocation}

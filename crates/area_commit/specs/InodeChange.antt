@@ -3,19 +3,19 @@ use Rattle.std.specs.Prelude.{◌≡◌, ◌<◌, ◌&&◌, ◌||◌, Bool, true
 use Rattle.std.specs.FinMap as fin
 use Rattle.tier_device.specs.declared.media.Tier.{Tier}
 use Rattle.tier_device.specs.declared.media.Tier.TheVariants as tiers
-use Rattle.file_graph.specs.declared.effect.Kind.TheVariants as kind
-use Rattle.graph_change.specs.Bytes.{length_after}
-use Rattle.graph_change.specs.Net.{Base, Kept, Made, Gone, names_after}
-use Rattle.graph_change.specs.Change.{Change, patch_at, cuts_within}
-use Rattle.layout.specs.declared.slot.Slot.{Slot}
-use Rattle.layout.specs.declared.slot.Slot.TheVariants as slots
-use Rattle.layout.specs.Places.{Sizes}
-use Rattle.tree_blocks.specs.Inode.{blocks_for}
-use Rattle.tree_blocks.specs.After.{start_node, IsDirectoryAfter}
-use Rattle.tree_blocks.specs.Directory.{EntryBlocks, numbered_blocks}
-use Rattle.tree_blocks.specs.FileBlock.{ReadsAfter, is_cut_off}
-use Rattle.tree_blocks.specs.InodeRewrite.{AreHeldOf}
-use Rattle.extent_tree.specs.Map.{TierRuns, lies_at}
+use Rattle.area_reader.specs.file_graph.declared.effect.Kind.TheVariants as kind
+use Rattle.area_reader.specs.graph_change.Bytes.{length_after}
+use Rattle.area_reader.specs.graph_change.Net.{Base, Kept, Made, Gone, names_after}
+use Rattle.area_reader.specs.graph_change.Change.{Change, patch_at, cuts_within}
+use Rattle.area_reader.specs.layout.declared.slot.Slot.{Slot}
+use Rattle.area_reader.specs.layout.declared.slot.Slot.TheVariants as slots
+use Rattle.area_reader.specs.layout.Places.{Sizes}
+use Rattle.area_reader.specs.tree_blocks.Inode.{blocks_for}
+use Rattle.area_reader.specs.tree_blocks.After.{start_node, IsDirectoryAfter}
+use Rattle.area_reader.specs.tree_blocks.Directory.{EntryBlocks, numbered_blocks}
+use Rattle.area_reader.specs.tree_blocks.FileBlock.{ReadsAfter, is_cut_off}
+use Rattle.area_reader.specs.tree_blocks.InodeRewrite.{AreHeldOf}
+use Rattle.area_reader.specs.extent_tree.Map.{TierRuns, lies_at}
 use Rattle.area_reader.specs.Store.{Store, touch_of, root_of, place, inode}
 use Rattle.area_commit.specs.InodeRewrite.{logical_by}
 

@@ -3,15 +3,15 @@ use Rattle.std.specs.Prelude.{◌≡◌, ◌≢◌, ◌⊎◌, ◌==◌, true, �
 use Rattle.std.specs.Option.{option_map}
 use Rattle.tier_device.specs.declared.media.Tier.{Tier}
 use Rattle.tier_device.specs.declared.media.Tier.TheVariants as tiers
-use Rattle.layout.specs.declared.slot.Slot.{Slot}
-use Rattle.layout.specs.declared.extents.Extent.{Extent}
-use Rattle.layout.specs.Places.{Sizes}
-use Rattle.layout.specs.Slot.{fits_slot, slot_spelling}
-use Rattle.layout.specs.Extents.{ExtentList, extents_spelling}
-use Rattle.batch_journal.specs.Blocks.{Blocks}
-use Rattle.extent_tree.specs.Normal.{IsNormal}
-use Rattle.extent_tree.specs.BlockFormat.{LiesWithin, IsOneToOne}
-use Rattle.extent_tree.specs.Map.{TierRuns, runs_in, lies_at, LieOnce, LieBelow}
+use Rattle.area_reader.specs.layout.declared.slot.Slot.{Slot}
+use Rattle.area_reader.specs.layout.declared.extents.Extent.{Extent}
+use Rattle.area_reader.specs.layout.Places.{Sizes}
+use Rattle.area_reader.specs.layout.Slot.{fits_slot, slot_spelling}
+use Rattle.area_reader.specs.layout.Extents.{ExtentList, extents_spelling}
+use Rattle.area_reader.specs.batch_journal.Blocks.{Blocks}
+use Rattle.area_reader.specs.extent_tree.Normal.{IsNormal}
+use Rattle.area_reader.specs.extent_tree.BlockFormat.{LiesWithin, IsOneToOne}
+use Rattle.area_reader.specs.extent_tree.Map.{TierRuns, runs_in, lies_at, LieOnce, LieBelow}
 use Rattle.area_reader.specs.Store.{Store, slot_bytes, root_of, space_of, length_of, at_or}
 
 -- the runs of an inode, as a block lists them

@@ -1,9 +1,9 @@
 -- The images of an inode's extent blocks.
 use Rattle.std.specs.Prelude.{◌≡◌, ◌≢◌, ◌⊎◌, ℕ, List, Option, None, Some, IsSome}
 use Rattle.tier_device.specs.declared.media.Tier.{Tier}
-use Rattle.layout.specs.declared.slot.Slot.{Slot}
-use Rattle.layout.specs.Extents.{ExtentList, extents_spelling}
-use Rattle.batch_journal.specs.Images.{image_for}
+use Rattle.area_reader.specs.layout.declared.slot.Slot.{Slot}
+use Rattle.area_reader.specs.layout.Extents.{ExtentList, extents_spelling}
+use Rattle.area_reader.specs.batch_journal.Images.{image_for}
 use Rattle.area_reader.specs.Store.{root_of}
 use Rattle.area_reader.specs.Map.{in_tier}
 use Rattle.area_reader.specs.declared.tiers.InodeExtents.{InodeExtents}

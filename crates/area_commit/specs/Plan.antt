@@ -4,13 +4,13 @@ use Rattle.std.specs.List.{Contains, list_any}
 use Rattle.posix_calls.specs.declared.limits.TheConstants.{MAX_INODE}
 use Rattle.tier_device.specs.declared.media.Tier.{Tier}
 use Rattle.tier_device.specs.declared.media.Tier.TheVariants as tiers
-use Rattle.layout.specs.declared.slot.Slot.{Slot}
-use Rattle.layout.specs.Marks.{fits_marks}
-use Rattle.layout.specs.Places.{Sizes, node_end, data_first}
+use Rattle.area_reader.specs.layout.declared.slot.Slot.{Slot}
+use Rattle.area_reader.specs.layout.Marks.{fits_marks}
+use Rattle.area_reader.specs.layout.Places.{Sizes, node_end, data_first}
 use Rattle.block_alloc.specs.declared.runs.Run.{Run}
 use Rattle.block_alloc.specs.Runs.{Apart, blocks_of}
-use Rattle.batch_journal.specs.Images.{image_for, with_images}
-use Rattle.extent_tree.specs.Map.{TierRuns, runs_in}
+use Rattle.area_reader.specs.batch_journal.Images.{image_for, with_images}
+use Rattle.area_reader.specs.extent_tree.Map.{TierRuns, runs_in}
 use Rattle.area_reader.specs.Store.{Store, root_of}
 use Rattle.area_reader.specs.Reads.{Free}
 use Rattle.area_reader.specs.Format.{Use, used_block}

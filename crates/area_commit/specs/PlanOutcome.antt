@@ -4,12 +4,12 @@ use Rattle.std.specs.List.{Contains}
 use Rattle.tier_device.specs.declared.media.Tier.{Tier}
 use Rattle.tier_device.specs.declared.media.Tier.TheVariants as tiers
 use Rattle.tier_device.specs.AfterStop.{Left}
-use Rattle.layout.specs.declared.places.TheConstants.{SUPER_BLOCK, MARKS_BLOCK}
-use Rattle.layout.specs.Marks.{marks_spelling}
-use Rattle.layout.specs.Places.{Sizes, is_inode}
-use Rattle.layout.specs.Slot.{slot_spelling}
-use Rattle.batch_journal.specs.Images.{image_for, or_else}
-use Rattle.batch_journal.specs.Volume.{IsVolume}
+use Rattle.area_reader.specs.layout.declared.places.TheConstants.{SUPER_BLOCK, MARKS_BLOCK}
+use Rattle.area_reader.specs.layout.Marks.{marks_spelling}
+use Rattle.area_reader.specs.layout.Places.{Sizes, is_inode}
+use Rattle.area_reader.specs.layout.Slot.{slot_spelling}
+use Rattle.area_reader.specs.batch_journal.Images.{image_for, or_else}
+use Rattle.area_reader.specs.batch_journal.Volume.{IsVolume}
 use Rattle.area_reader.specs.Store.{Store, store_of, slot_bytes}
 use Rattle.area_reader.specs.Reads.{IsRoom, Free, Loose}
 use Rattle.area_commit.specs.declared.slots.ChangedSlot.{ChangedSlot}

@@ -1,7 +1,7 @@
 -- What the pools are before a plan is carried out.
 use Rattle.std.specs.Prelude.{◌≤◌, length}
 use Rattle.tier_device.specs.declared.media.Tier.{Tier}
-use Rattle.layout.specs.Places.{Sizes}
+use Rattle.area_reader.specs.layout.Places.{Sizes}
 use Rattle.area_reader.specs.Store.{Store}
 use Rattle.area_commit.specs.Value.{PoolsView, data_pool, AreInOrder, HasRanges, AreFree}
 use Rattle.area_commit.specs.Allocations.{WereTaken, CanRelease}

@@ -1,9 +1,9 @@
 -- The slots of some inodes, and the blocks that they stand in.
 use Rattle.std.specs.Prelude.{ℕ, ◌+◌, ◌≤◌, ◌==◌, Bool, List, [], ◌∷◌, Option, Some, None, if◌then◌else◌}
 use Rattle.std.specs.List.{list_any}
-use Rattle.layout.specs.Places.{slot_block, slot_byte}
-use Rattle.layout.specs.Slot.{slot_spelling}
-use Rattle.layout.specs.Bytes.{with_text}
+use Rattle.area_reader.specs.layout.Places.{slot_block, slot_byte}
+use Rattle.area_reader.specs.layout.Slot.{slot_spelling}
+use Rattle.area_reader.specs.layout.Bytes.{with_text}
 use Rattle.area_commit.specs.declared.slots.ChangedSlot.{ChangedSlot}
 
 -- The inodes rise strictly, from the first that may come to the last.

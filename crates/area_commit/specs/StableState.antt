@@ -3,9 +3,9 @@ use Rattle.std.specs.Prelude.{◌≡◌, ℕ, List, false}
 use Rattle.tier_device.specs.declared.media.Media.{Ghosts}
 use Rattle.tier_device.specs.declared.media.Tier.{Tier}
 use Rattle.tier_device.specs.AfterStop.{AtRest}
-use Rattle.layout.specs.Places.{Sizes}
-use Rattle.batch_journal.specs.Course.{Unmoved}
-use Rattle.batch_journal.specs.View.{JournalView}
+use Rattle.area_reader.specs.layout.Places.{Sizes}
+use Rattle.area_reader.specs.batch_journal.Course.{Unmoved}
+use Rattle.area_reader.specs.batch_journal.View.{JournalView}
 use Rattle.area_reader.specs.Store.{store_of}
 use Rattle.area_reader.specs.Format.{IsOpenable}
 use Rattle.area_commit.specs.Value.{PoolsView, HasRanges, AreFree}

@@ -2,10 +2,10 @@
 use Rattle.std.specs.Prelude.{◌≡◌, ◌⊎◌, true, false, Bool, ℕ, Some, IsSome}
 use Rattle.tier_device.specs.declared.media.Tier.{Tier}
 use Rattle.tier_device.specs.declared.media.Tier.TheVariants as tiers
-use Rattle.layout.specs.declared.places.TheConstants.{SUPER_BLOCK}
-use Rattle.layout.specs.declared.slot.Slot.{Slot}
-use Rattle.layout.specs.Places.{Sizes, is_inode}
-use Rattle.extent_tree.specs.Map.{TierRuns}
+use Rattle.area_reader.specs.layout.declared.places.TheConstants.{SUPER_BLOCK}
+use Rattle.area_reader.specs.layout.declared.slot.Slot.{Slot}
+use Rattle.area_reader.specs.layout.Places.{Sizes, is_inode}
+use Rattle.area_reader.specs.extent_tree.Map.{TierRuns}
 use Rattle.area_reader.specs.Store.{Store, slot_bytes, marks}
 use Rattle.area_reader.specs.Reads.{IsRoom, Free}
 use Rattle.area_reader.specs.Format.{Use, used_block}

@@ -3,8 +3,8 @@ use Rattle.std.specs.Prelude.{◌≡◌, ◌<◌, ◌≤◌, ◌↔◌, ◌⊎�
 use Rattle.std.specs.List.{Contains}
 use Rattle.tier_device.specs.declared.media.Tier.{Tier}
 use Rattle.tier_device.specs.declared.media.Tier.TheVariants as tiers
-use Rattle.layout.specs.declared.places.TheConstants.{FIRST_NODE_BLOCK}
-use Rattle.layout.specs.Places.{Sizes, node_end, data_first, tier_blocks}
+use Rattle.area_reader.specs.layout.declared.places.TheConstants.{FIRST_NODE_BLOCK}
+use Rattle.area_reader.specs.layout.Places.{Sizes, node_end, data_first, tier_blocks}
 use Rattle.block_alloc.specs.declared.runs.Run.{Run}
 use Rattle.block_alloc.specs.Runs.{run_blocks}
 use Rattle.block_alloc.specs.Value.{FreeBlocks, InOrder, SamePool}

@@ -5,18 +5,18 @@ ghost use Rattle.std.specs.List.{Contains};
 ghost use Rattle.posix_calls.specs.declared.limits.TheConstants.{MAX_INODE};
 ghost use Rattle.tier_device.specs.declared.media.Tier.{Tier};
 ghost use Rattle.tier_device.specs.declared.media.Tier.TheVariants.{Fast};
-ghost use Rattle.layout.specs.declared.places.TheConstants.{MARKS_BLOCK};
-ghost use Rattle.layout.specs.declared.marks.Marks.{Marks};
-ghost use Rattle.layout.specs.Marks.{fits_marks};
-ghost use Rattle.layout.specs.Places.{Sizes, IsAllowed};
-ghost use Rattle.layout.specs.Slot.{fits_slot};
-ghost use Rattle.batch_journal.specs.Blocks.{home, after_batch};
+ghost use Rattle.area_reader.specs.layout.declared.places.TheConstants.{MARKS_BLOCK};
+ghost use Rattle.area_reader.specs.layout.declared.marks.Marks.{Marks};
+ghost use Rattle.area_reader.specs.layout.Marks.{fits_marks};
+ghost use Rattle.area_reader.specs.layout.Places.{Sizes, IsAllowed};
+ghost use Rattle.area_reader.specs.layout.Slot.{fits_slot};
+ghost use Rattle.area_reader.specs.batch_journal.Blocks.{home, after_batch};
 ghost use Rattle.area_reader.specs.Store.{Store, slot_read, marks};
 ghost use Rattle.area_commit.specs.declared.slots.ChangedSlot.{ChangedSlot};
 ghost use Rattle.area_commit.specs.Slots.{RiseIn};
 ghost use Rattle.area_commit.specs.Batches.{IsBatchOf, IsPutIn};
 
-use layout::{marks_are_read, slot_is_read};
+use area_reader::in_layout::{marks_are_read, slot_is_read};
 
 /// After a batch the slots, the marks and the node blocks are put into the store. It was made for a store with the same slot blocks, in which data may have been other.
 pub fn batch_is_put()

@@ -2,11 +2,11 @@
 ghost use Rattle.std.specs.Prelude.{◌≡◌, ◌≤◌, ◌<◌, ◌+◌, ◌-◌, ◌*◌, ◌⊎◌, ℕ, List, [], ◌∷◌, ◌++◌, Option, length, true, false, OnOk, IfOk, IfErr};
 ghost use Rattle.posix_calls.specs.declared.limits.TheConstants.{MAX_INODE};
 ghost use Rattle.tier_device.specs.declared.media.Tier.TheVariants.{Fast};
-ghost use Rattle.layout.specs.declared.places.TheConstants.{BLOCK, SLOTS_IN_BLOCK, MARKS_BLOCK, FIRST_NODE_BLOCK};
-ghost use Rattle.layout.specs.Places.{Sizes};
-ghost use Rattle.batch_journal.specs.Images.{next_of};
-ghost use Rattle.batch_journal.specs.Blocks.{AreJournaled};
-ghost use Rattle.batch_journal.specs.Volume.{KeepsGeometry};
+ghost use Rattle.area_reader.specs.layout.declared.places.TheConstants.{BLOCK, SLOTS_IN_BLOCK, MARKS_BLOCK, FIRST_NODE_BLOCK};
+ghost use Rattle.area_reader.specs.layout.Places.{Sizes};
+ghost use Rattle.area_reader.specs.batch_journal.Images.{next_of};
+ghost use Rattle.area_reader.specs.batch_journal.Blocks.{AreJournaled};
+ghost use Rattle.area_reader.specs.batch_journal.Volume.{KeepsGeometry};
 ghost use Rattle.area_reader.specs.Store.{disk};
 ghost use Rattle.area_reader.specs.Damage.{OnDamage};
 ghost use Rattle.area_reader.specs.Looks.{Looks};
@@ -15,9 +15,9 @@ ghost use Rattle.area_commit.specs.Batches.{AreNodes, HasSlotImages, images_for,
 
 use crate::nodes::NodeImages;
 use crate::slots::{ChangedSlot, count_up_to, put_slots};
+use area_reader::in_batch_journal::{Batch, Journal};
+use area_reader::in_layout::{FIRST_SLOT_BLOCK, MARKS_BLOCK, Marks};
 use area_reader::{AreaError, blank_block, read_block};
-use batch_journal::{Batch, Journal};
-use layout::{FIRST_SLOT_BLOCK, MARKS_BLOCK, Marks};
 use std::alloc::{AllocError, Global};
 use tier_device::{Media, Tier};
 

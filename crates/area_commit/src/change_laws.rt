@@ -2,22 +2,22 @@
 
 ghost use Rattle.std.specs.Prelude.{◌≡◌, ℕ, [], None, true};
 ghost use Rattle.tier_device.specs.declared.media.Tier.{Tier};
-ghost use Rattle.graph_change.specs.Change.{Change, net_of};
-ghost use Rattle.graph_change.specs.Tidy.{IsTidyChange};
-ghost use Rattle.layout.specs.declared.slot.Slot.{Slot};
-ghost use Rattle.layout.specs.declared.slot.Slot.TheVariants as slots;
-ghost use Rattle.layout.specs.Places.{Sizes, IsAllowed, is_inode};
-ghost use Rattle.tree_blocks.specs.Inode.{IsConsistent};
-ghost use Rattle.tree_blocks.specs.After.{start_node, IsInodeAfter};
-ghost use Rattle.tree_blocks.specs.Directory.{EntryBlocks};
-ghost use Rattle.tree_blocks.specs.InodeRewrite.{IsFileRewritten, IsDirectoryRewritten};
-ghost use Rattle.extent_tree.specs.Map.{TierRuns, runs_in};
+ghost use Rattle.area_reader.specs.graph_change.Change.{Change, net_of};
+ghost use Rattle.area_reader.specs.graph_change.Tidy.{IsTidyChange};
+ghost use Rattle.area_reader.specs.layout.declared.slot.Slot.{Slot};
+ghost use Rattle.area_reader.specs.layout.declared.slot.Slot.TheVariants as slots;
+ghost use Rattle.area_reader.specs.layout.Places.{Sizes, IsAllowed, is_inode};
+ghost use Rattle.area_reader.specs.tree_blocks.Inode.{IsConsistent};
+ghost use Rattle.area_reader.specs.tree_blocks.After.{start_node, IsInodeAfter};
+ghost use Rattle.area_reader.specs.tree_blocks.Directory.{EntryBlocks};
+ghost use Rattle.area_reader.specs.tree_blocks.InodeRewrite.{IsFileRewritten, IsDirectoryRewritten};
+ghost use Rattle.area_reader.specs.extent_tree.Map.{TierRuns, runs_in};
 ghost use Rattle.area_reader.specs.Store.{Store, inode};
 ghost use Rattle.area_commit.specs.InodeRewrite.{IsWritten, IsFit};
 ghost use Rattle.area_commit.specs.InodeChange.{IsFileWritten, IsDirectoryWritten};
 
 use crate::rewrite_laws::{logical_blocks_are_read_where_they_lie, written_inode_is_read};
-use tree_blocks::{inode_after_is_node_after, rewritten_inode_is_inode_after};
+use area_reader::in_tree_blocks::{inode_after_is_node_after, rewritten_inode_is_inode_after};
 
 /// A file whose slot and blocks are written as a change asks is the file after that change, and is consistent where the old inode was.
 pub fn written_file_is_rewritten()

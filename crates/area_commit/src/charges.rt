@@ -4,9 +4,9 @@ ghost use Rattle.std.specs.Prelude.{◌≡◌, ◌+◌, ℕ, Bool, List, false, 
 ghost use Rattle.std.specs.List.{sum_by};
 ghost use Rattle.posix_calls.specs.Tree.{sum_up_to};
 ghost use Rattle.posix_calls.specs.declared.limits.TheConstants.{MAX_INODE};
-ghost use Rattle.file_graph.specs.Graph.{Graph, cost, is_among};
-ghost use Rattle.file_graph.specs.Units.{charge};
-ghost use Rattle.layout.specs.Places.{Sizes};
+ghost use Rattle.area_reader.specs.file_graph.Graph.{Graph, cost, is_among};
+ghost use Rattle.area_reader.specs.file_graph.Units.{charge};
+ghost use Rattle.area_reader.specs.layout.Places.{Sizes};
 ghost use Rattle.area_reader.specs.Store.{Store, slot, inode, graph};
 ghost use Rattle.area_reader.specs.Format.{IsSpelled};
 ghost use Rattle.area_reader.specs.Units.{slot_units};

@@ -5,18 +5,18 @@ ghost use Rattle.tier_device.specs.declared.media.Tier.{Tier};
 ghost use Rattle.tier_device.specs.declared.media.Tier.TheVariants.{Fast, Block, Slow};
 ghost use Rattle.tier_device.specs.Media.{Rose};
 ghost use Rattle.tier_device.specs.AfterStop.{AtRest};
-ghost use Rattle.layout.specs.Places.{tier_blocks, data_first};
+ghost use Rattle.area_reader.specs.layout.Places.{tier_blocks, data_first};
 ghost use Rattle.block_alloc.specs.Runs.{run_blocks, blocks_of, AreNormalRuns};
-ghost use Rattle.batch_journal.specs.Blocks.{block_of};
-ghost use Rattle.batch_journal.specs.Course.{SameLengths};
-ghost use Rattle.batch_journal.specs.declared.error.JournalError.TheVariants.{DeviceFault};
+ghost use Rattle.area_reader.specs.batch_journal.Blocks.{block_of};
+ghost use Rattle.area_reader.specs.batch_journal.Course.{SameLengths};
+ghost use Rattle.area_reader.specs.batch_journal.declared.error.JournalError.TheVariants.{DeviceFault};
 ghost use Rattle.area_reader.specs.Reads.{Loose};
 ghost use Rattle.area_reader.specs.Store.{Store, disk};
 ghost use Rattle.area_commit.specs.Allocations.{tier_places, runs_of, taken_data};
 ghost use Rattle.area_commit.specs.DataWrite.{AreFreeIn, StaysLoose, Went, KeepsRest, RestsBut, part_in, HoldParts, HoldData, IsLooseLeft, RunsAreNormal, fences_of, tier_calls, calls_for, WritesIn, FencesInTurn, GoesInTurn, TakenInTurn};
 
 use crate::allocation::Allocation;
-use batch_journal::{Journal, JournalError};
+use area_reader::in_batch_journal::{Journal, JournalError};
 use block_alloc::Run;
 use tier_device::{Media, Tier};
 

@@ -2,13 +2,13 @@
 
 ghost use Rattle.std.specs.Prelude.{◌≡◌, ℕ, Bool, true, Some};
 ghost use Rattle.std.specs.FinMap as fin;
-ghost use Rattle.graph_change.specs.Change.{Changes, change_at, changed_graph, net_of};
+ghost use Rattle.area_reader.specs.graph_change.Change.{Changes, change_at, changed_graph, net_of};
 ghost use Rattle.tier_device.specs.declared.media.Tier.{Tier};
-ghost use Rattle.layout.specs.declared.slot.Slot.{Slot};
-ghost use Rattle.layout.specs.Places.{Sizes, IsAllowed};
-ghost use Rattle.tree_blocks.specs.Inode.{IsConsistent, AreAlike};
-ghost use Rattle.tree_blocks.specs.After.{IsInodeAfter};
-ghost use Rattle.extent_tree.specs.Map.{TierRuns};
+ghost use Rattle.area_reader.specs.layout.declared.slot.Slot.{Slot};
+ghost use Rattle.area_reader.specs.layout.Places.{Sizes, IsAllowed};
+ghost use Rattle.area_reader.specs.tree_blocks.Inode.{IsConsistent, AreAlike};
+ghost use Rattle.area_reader.specs.tree_blocks.After.{IsInodeAfter};
+ghost use Rattle.area_reader.specs.extent_tree.Map.{TierRuns};
 ghost use Rattle.area_reader.specs.Store.{Store, inode, graph};
 ghost use Rattle.area_reader.specs.Reads.{Free};
 ghost use Rattle.area_reader.specs.Format.{IsSpelled, Use, used_block};
@@ -16,8 +16,8 @@ ghost use Rattle.area_reader.specs.Rewrites.{Rewrites};
 ghost use Rattle.area_commit.specs.StoreRewrite.{MayTake, HasBlockFor, TakeOnce, KeepOrTakeFree, TakeFreeOnce, AreWrittenAnew};
 
 use crate::rewrite_laws::{written_inode_is_read, written_inode_is_spelled};
+use area_reader::in_tree_blocks::{alike_inodes_are_one_node, inodes_after_are_graph_after};
 use area_reader::{free_blocks_have_no_use, places_are_in_pools, rewritten_inodes_are_spelled};
-use tree_blocks::{alike_inodes_are_one_node, inodes_after_are_graph_after};
 
 /// Inodes that are written anew, each consistent, are rewritten, so that the new store spells a graph, too.
 pub fn written_inodes_are_rewritten()

@@ -3,14 +3,14 @@
 ghost use Rattle.std.specs.Prelude.{◌≡◌, ◌↔◌, ◌⊎◌, ◌++◌, ℕ, List, Some, None, true};
 ghost use Rattle.std.specs.List.{Contains};
 ghost use Rattle.tier_device.specs.declared.media.Tier.{Tier};
-ghost use Rattle.layout.specs.declared.marks.Marks.{Marks};
-ghost use Rattle.layout.specs.declared.slot.Slot.{Slot};
-ghost use Rattle.layout.specs.Marks.{fits_marks};
-ghost use Rattle.layout.specs.Places.{Sizes, IsAllowed};
+ghost use Rattle.area_reader.specs.layout.declared.marks.Marks.{Marks};
+ghost use Rattle.area_reader.specs.layout.declared.slot.Slot.{Slot};
+ghost use Rattle.area_reader.specs.layout.Marks.{fits_marks};
+ghost use Rattle.area_reader.specs.layout.Places.{Sizes, IsAllowed};
 ghost use Rattle.block_alloc.specs.declared.runs.Run.{Run};
 ghost use Rattle.block_alloc.specs.Runs.{blocks_of};
 ghost use Rattle.block_alloc.specs.Value.{FreeBlocks};
-ghost use Rattle.extent_tree.specs.Map.{TierRuns};
+ghost use Rattle.area_reader.specs.extent_tree.Map.{TierRuns};
 ghost use Rattle.area_reader.specs.Store.{Store, store_of, graph, marks};
 ghost use Rattle.area_reader.specs.Reads.{Loose};
 ghost use Rattle.area_reader.specs.Format.{IsSpelled, IsOpenable};
@@ -29,7 +29,7 @@ ghost use Rattle.area_commit.specs.Room.{AreReadyFor};
 
 use crate::{pools_after_change, written_inode_is_read};
 use area_reader::free_blocks_are_not_read;
-use layout::marks_are_read;
+use area_reader::in_layout::marks_are_read;
 
 /// What was taken of pools that have exactly the free blocks was free.
 pub fn taken_blocks_were_free()

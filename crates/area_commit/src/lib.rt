@@ -65,3 +65,9 @@ pub use rewrite_laws::{
 pub use room::{data_never_runs_out, nodes_never_run_out, small_changes_find_blocks};
 pub use slots::ChangedSlot;
 pub use store_laws::{changed_store_spells_the_graph_after, moved_store_spells_the_same_graph};
+
+// Handed on to the crates above, which list only the highest of what they name.
+pub use area_reader as in_area_reader;
+pub use area_reader::{
+    in_batch_journal, in_extent_tree, in_file_graph, in_graph_change, in_layout, in_tree_blocks,
+};

@@ -1,13 +1,13 @@
 // The images of an inode's extent blocks.
 ghost use Rattle.std.specs.Prelude.{◌≤◌, ◌+◌, length, OnOk, IfSome};
 ghost use Rattle.tier_device.specs.declared.media.Tier.{Tier};
-ghost use Rattle.layout.specs.declared.extents.TheConstants.{MAX_EXTENTS};
+ghost use Rattle.area_reader.specs.layout.declared.extents.TheConstants.{MAX_EXTENTS};
 ghost use Rattle.area_reader.specs.Map.{in_tier};
 ghost use Rattle.area_commit.specs.Lists.{PutsList, PutsLists};
 
 use crate::nodes::NodeImages;
+use area_reader::in_layout::{ExtentBlock, Slot};
 use area_reader::{InodeExtents, root_of};
-use layout::{ExtentBlock, Slot};
 use std::alloc::AllocError;
 use tier_device::Tier;
 

@@ -1,12 +1,12 @@
 // Images of blocks of the node pool.
 ghost use Rattle.std.specs.Prelude.{◌≡◌, ◌≤◌, ◌+◌, ℕ, [], ◌++◌, true, length, IsSome, OnOk, OnErr, IfOk};
-ghost use Rattle.layout.specs.declared.places.TheConstants.{BLOCK, FIRST_NODE_BLOCK};
-ghost use Rattle.layout.specs.Places.{Sizes, is_node};
-ghost use Rattle.batch_journal.specs.Images.{image_for, next_of};
+ghost use Rattle.area_reader.specs.layout.declared.places.TheConstants.{BLOCK, FIRST_NODE_BLOCK};
+ghost use Rattle.area_reader.specs.layout.Places.{Sizes, is_node};
+ghost use Rattle.area_reader.specs.batch_journal.Images.{image_for, next_of};
 ghost use Rattle.area_commit.specs.Batches.{AreNodes, PutsImage};
 
-use batch_journal::Batch;
-use layout::{BLOCK, Image};
+use area_reader::in_batch_journal::Batch;
+use area_reader::in_layout::{BLOCK, Image};
 use std::alloc::{AllocError, Global};
 use std::collections::BTreeMap;
 use std::marker::Model;
@@ -19,7 +19,7 @@ struct BlockImage {
 
 impl Model for BlockImage {
     ghost use Rattle.std.specs.Prelude.{◌≡◌, ℕ, List, length};
-    ghost use Rattle.layout.specs.declared.places.TheConstants.{BLOCK};
+    ghost use Rattle.area_reader.specs.layout.declared.places.TheConstants.{BLOCK};
 
     ghost Value = { List ℕ };
 

@@ -1,6 +1,6 @@
 use crate::{Allocation, ChangedSlot, NodeImages};
+use area_reader::in_layout::Marks;
 use block_alloc::Run;
-use layout::Marks;
 
 /// Blocks that are given up, as runs: of the node pool, and of the data blocks of each tier.
 #[derive(Drop)]

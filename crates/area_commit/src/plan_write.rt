@@ -3,8 +3,8 @@ ghost use Rattle.std.specs.Prelude.{◌≡◌, ◌≤◌, ◌+◌, ◌⊎◌, mi
 ghost use Rattle.tier_device.specs.declared.media.Tier.{Tier};
 ghost use Rattle.tier_device.specs.Media.{Rose};
 ghost use Rattle.tier_device.specs.AfterStop.{AtRest};
-ghost use Rattle.batch_journal.specs.Blocks.{AreJournaled};
-ghost use Rattle.batch_journal.specs.Volume.{KeepsGeometry};
+ghost use Rattle.area_reader.specs.batch_journal.Blocks.{AreJournaled};
+ghost use Rattle.area_reader.specs.batch_journal.Volume.{KeepsGeometry};
 ghost use Rattle.area_reader.specs.Store.{disk};
 ghost use Rattle.area_reader.specs.Format.{IsSpelled};
 ghost use Rattle.area_reader.specs.Looks.{Looks};
@@ -22,7 +22,7 @@ use crate::plan::Rewrite;
 use crate::release::release_blocks;
 use crate::{Pools, batch_is_put, batch_of, write_data};
 use area_reader::AreaError;
-use batch_journal::{Batch, Journal, JournalError};
+use area_reader::in_batch_journal::{Batch, Journal, JournalError};
 use std::alloc::Global;
 use tier_device::Media;
 

@@ -4,7 +4,7 @@ ghost use Rattle.std.specs.Prelude.{ℕ, List, Bool};
 ghost use Rattle.std.specs.List.{Contains};
 ghost use Rattle.tier_device.specs.declared.media.Tier.{Tier};
 ghost use Rattle.tier_device.specs.declared.media.Tier.TheVariants.{Fast};
-ghost use Rattle.layout.specs.Places.{Sizes};
+ghost use Rattle.area_reader.specs.layout.Places.{Sizes};
 ghost use Rattle.area_reader.specs.Store.{Store};
 ghost use Rattle.area_reader.specs.Reads.{IsRoom, Free};
 ghost use Rattle.area_reader.specs.Format.{IsSpelled};

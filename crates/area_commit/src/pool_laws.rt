@@ -3,11 +3,11 @@
 ghost use Rattle.std.specs.Prelude.{◌≡◌, ◌↔◌, ℕ, List, Some};
 ghost use Rattle.std.specs.List.{Contains};
 ghost use Rattle.tier_device.specs.declared.media.Tier.{Tier};
-ghost use Rattle.layout.specs.Places.{Sizes, node_end};
+ghost use Rattle.area_reader.specs.layout.Places.{Sizes, node_end};
 ghost use Rattle.block_alloc.specs.declared.runs.Run.{Run};
 ghost use Rattle.block_alloc.specs.Runs.{blocks_of};
 ghost use Rattle.block_alloc.specs.Value.{FreeBlocks, InOrder};
-ghost use Rattle.batch_journal.specs.Blocks.{Blocks};
+ghost use Rattle.area_reader.specs.batch_journal.Blocks.{Blocks};
 ghost use Rattle.area_reader.specs.Store.{Store};
 ghost use Rattle.area_reader.specs.Reads.{Free, LooseIn};
 ghost use Rattle.area_reader.specs.Format.{Use, used_block};

@@ -1,8 +1,8 @@
 ghost use Rattle.std.specs.Prelude.{◌≡◌, ◌≢◌, ◌≤◌, ◌<◌, ◌+◌, ◌++◌, ◌^◌, ◌⊎◌, ◌↔◌, ℕ, [], false, length, take, drop, get_or, OnOk, OnErr, IfOk, IfErr, IsErrOf};
 ghost use Rattle.tier_device.specs.declared.media.Tier.{Tier};
 ghost use Rattle.tier_device.specs.declared.media.Tier.TheVariants.{Fast};
-ghost use Rattle.layout.specs.declared.places.TheConstants.{FIRST_NODE_BLOCK};
-ghost use Rattle.layout.specs.Places.{node_end, data_first, tier_blocks};
+ghost use Rattle.area_reader.specs.layout.declared.places.TheConstants.{FIRST_NODE_BLOCK};
+ghost use Rattle.area_reader.specs.layout.Places.{node_end, data_first, tier_blocks};
 ghost use Rattle.area_reader.specs.Store.{Store};
 ghost use Rattle.area_reader.specs.BlockMarks.{UsedMarks, marks_in, is_marked};
 ghost use Rattle.block_alloc.specs.Value.{InOrder, IsUsed};
@@ -13,8 +13,8 @@ ghost use Rattle.area_commit.specs.Allocations.{taken_data, runs_of, WereTaken, 
 
 use crate::allocation::{Allocation, give_run, give_runs, take_more, take_runs};
 use area_reader::UsedBlocks;
+use area_reader::in_layout::{FIRST_NODE_BLOCK, Geometry};
 use block_alloc::{AllocatorError, FreeRuns, Run};
-use layout::{FIRST_NODE_BLOCK, Geometry};
 use std::alloc::{AllocError, Global};
 use std::marker::Model;
 use tier_device::Tier;

@@ -2,16 +2,16 @@
 
 ghost use Rattle.std.specs.Prelude.{◌≡◌, ℕ, [], Option, Some, None, true};
 ghost use Rattle.tier_device.specs.declared.media.Tier.{Tier};
-ghost use Rattle.layout.specs.declared.slot.Slot.{Slot};
-ghost use Rattle.layout.specs.Places.{Sizes, IsAllowed, is_inode};
-ghost use Rattle.tree_blocks.specs.Inode.{IsConsistent, inode_of};
-ghost use Rattle.extent_tree.specs.Map.{TierRuns, runs_in, lies_at, LieOnce};
+ghost use Rattle.area_reader.specs.layout.declared.slot.Slot.{Slot};
+ghost use Rattle.area_reader.specs.layout.Places.{Sizes, IsAllowed, is_inode};
+ghost use Rattle.area_reader.specs.tree_blocks.Inode.{IsConsistent, inode_of};
+ghost use Rattle.area_reader.specs.extent_tree.Map.{TierRuns, runs_in, lies_at, LieOnce};
 ghost use Rattle.area_reader.specs.Store.{Store, slot_read, slot, extents_read, place, logical_block, inode};
 ghost use Rattle.area_reader.specs.Format.{SpellsInode, used_block};
 ghost use Rattle.area_commit.specs.InodeRewrite.{IsWritten, IsFit, logical_by, block_by};
 
-use extent_tree::{few_blocks_are_few_runs, whole_map_fits_a_block};
-use layout::{extents_are_read, slot_is_read};
+use area_reader::in_extent_tree::{few_blocks_are_few_runs, whole_map_fits_a_block};
+use area_reader::in_layout::{extents_are_read, slot_is_read};
 
 /// A slot and runs that are fit are read as they were written: the slot, the extents of each tier, where each logical block lies, what stands in it, and which blocks the
 /// inode has a use for.

@@ -1,9 +1,9 @@
 //! How many blocks are free.
 
 ghost use Rattle.std.specs.Prelude.{◌≤◌, ◌<◌, ◌+◌, ◌*◌, ◌⊎◌, ℕ, length};
-ghost use Rattle.file_graph.specs.Units.{charge};
-ghost use Rattle.layout.specs.declared.places.TheConstants.{SPARE_BLOCKS};
-ghost use Rattle.layout.specs.Places.{Sizes, node_blocks};
+ghost use Rattle.area_reader.specs.file_graph.Units.{charge};
+ghost use Rattle.area_reader.specs.layout.declared.places.TheConstants.{SPARE_BLOCKS};
+ghost use Rattle.area_reader.specs.layout.Places.{Sizes, node_blocks};
 ghost use Rattle.posix_calls.specs.declared.limits.TheConstants.{MAX_INODE};
 ghost use Rattle.area_reader.specs.Store.{Store, graph};
 ghost use Rattle.area_reader.specs.Format.{IsSpelled, KeepsUnits};

@@ -1,9 +1,9 @@
 // The slots of some inodes, and the blocks that they stand in.
 ghost use Rattle.std.specs.Prelude.{◌≡◌, ◌≤◌, ◌+◌, ◌-◌, ◌*◌, ℕ, length, take, drop};
-ghost use Rattle.layout.specs.declared.places.TheConstants.{BLOCK, SLOTS_IN_BLOCK};
+ghost use Rattle.area_reader.specs.layout.declared.places.TheConstants.{BLOCK, SLOTS_IN_BLOCK};
 ghost use Rattle.area_commit.specs.Slots.{RiseIn, with_slot, with_slots};
 
-use layout::{SLOT_SIZE, SLOTS_IN_BLOCK, Slot, slot_byte};
+use area_reader::in_layout::{SLOT_SIZE, SLOTS_IN_BLOCK, Slot, slot_byte};
 
 /// What the slot of an inode is to tell.
 #[derive(Clone, Copy, PartialEq, Eq)]

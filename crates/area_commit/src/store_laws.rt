@@ -2,11 +2,11 @@
 
 ghost use Rattle.std.specs.Prelude.{◌≡◌, ℕ, Bool, true};
 ghost use Rattle.std.specs.FinMap as fin;
-ghost use Rattle.graph_change.specs.Change.{Changes, change_at, changed_graph, net_of};
-ghost use Rattle.layout.specs.declared.slot.Slot.{Slot};
-ghost use Rattle.layout.specs.Places.{Sizes, IsAllowed};
-ghost use Rattle.tree_blocks.specs.After.{IsInodeAfter};
-ghost use Rattle.extent_tree.specs.Map.{TierRuns};
+ghost use Rattle.area_reader.specs.graph_change.Change.{Changes, change_at, changed_graph, net_of};
+ghost use Rattle.area_reader.specs.layout.declared.slot.Slot.{Slot};
+ghost use Rattle.area_reader.specs.layout.Places.{Sizes, IsAllowed};
+ghost use Rattle.area_reader.specs.tree_blocks.After.{IsInodeAfter};
+ghost use Rattle.area_reader.specs.extent_tree.Map.{TierRuns};
 ghost use Rattle.area_reader.specs.Store.{Store, inode, graph};
 ghost use Rattle.area_reader.specs.Format.{IsSpelled};
 ghost use Rattle.area_reader.specs.Rewrites.{Rewrites};
@@ -18,7 +18,7 @@ use crate::inode_laws::{
     written_inodes_are_rewritten,
 };
 use crate::move_laws::moved_inode_is_alike;
-use tree_blocks::{alike_inodes_are_one_node, inode_after_is_node_after};
+use area_reader::in_tree_blocks::{alike_inodes_are_one_node, inode_after_is_node_after};
 
 /// Where inodes are written anew of which blocks are moved, the store spells the graph that it spelled before.
 pub fn moved_store_spells_the_same_graph()

@@ -5,10 +5,10 @@ use Rattle.std.specs.List.{list_all}
 use Rattle.std.proofs.lemmas.Bool.{cases_Bool, cond-true, cond-false, and_parts, leb-true, ltb-true}
 use Rattle.tier_device.specs.declared.media.Tier.{Tier}
 use Rattle.tier_device.specs.declared.media.Tier.TheVariants.{Fast}
-use Rattle.layout.specs.declared.extents.Extent.{Extent}
-use Rattle.layout.specs.Extents.{is_sound, is_apart, places_apart, extents_of}
-use Rattle.layout.specs.declared.geometry.Space.{Space}
-use Rattle.layout.specs.Places.{Sizes}
+use Rattle.batch_journal.specs.layout.declared.extents.Extent.{Extent}
+use Rattle.batch_journal.specs.layout.Extents.{is_sound, is_apart, places_apart, extents_of}
+use Rattle.batch_journal.specs.layout.declared.geometry.Space.{Space}
+use Rattle.batch_journal.specs.layout.Places.{Sizes}
 use Rattle.extent_tree.specs.Places.{has, place_in, extent_with as first_extent, place_of}
 use Rattle.area_reader.specs.Store.{Store, slot, root_of, space_of, length_of, is_own, own_extents, extents_read, place}
 use Rattle.area_reader.proofs.Lists.{bind_some, test_some, some_is, extents_fit}

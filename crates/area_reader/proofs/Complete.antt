@@ -6,16 +6,16 @@ use Rattle.std.proofs.lemmas.Slice.Eq.{bytes_eq-Decides}
 use Rattle.std.proofs.lemmas.Bool.{cases_Bool, cases_eq, cases_lt, cond-true, cond-false, true≢false, false≢true}
 use Rattle.tier_device.specs.declared.media.Tier.{Tier}
 use Rattle.tier_device.specs.declared.media.Tier.TheVariants.{Fast, Block, Slow}
-use Rattle.file_graph.specs.Units.{charge}
-use Rattle.file_graph.specs.declared.effect.Kind.{Kind}
-use Rattle.file_graph.specs.declared.effect.Kind.TheVariants as kind
-use Rattle.layout.specs.declared.error.What.{What}
-use Rattle.layout.specs.declared.error.What.TheVariants as what
-use Rattle.layout.specs.declared.slot.Slot.TheVariants as slots
-use Rattle.layout.specs.declared.places.TheConstants.{BLOCK, SUPER_BLOCK, MARKS_BLOCK}
-use Rattle.layout.specs.Places.{Sizes, is_inode, slot_block}
-use Rattle.layout.specs.Slot.{slot_of}
-use Rattle.layout.specs.Directory.{block_entries, fits_entries, entries_spelling}
+use Rattle.batch_journal.specs.file_graph.Units.{charge}
+use Rattle.batch_journal.specs.file_graph.declared.effect.Kind.{Kind}
+use Rattle.batch_journal.specs.file_graph.declared.effect.Kind.TheVariants as kind
+use Rattle.batch_journal.specs.layout.declared.error.What.{What}
+use Rattle.batch_journal.specs.layout.declared.error.What.TheVariants as what
+use Rattle.batch_journal.specs.layout.declared.slot.Slot.TheVariants as slots
+use Rattle.batch_journal.specs.layout.declared.places.TheConstants.{BLOCK, SUPER_BLOCK, MARKS_BLOCK}
+use Rattle.batch_journal.specs.layout.Places.{Sizes, is_inode, slot_block}
+use Rattle.batch_journal.specs.layout.Slot.{slot_of}
+use Rattle.batch_journal.specs.layout.Directory.{block_entries, fits_entries, entries_spelling}
 use Rattle.extent_tree.specs.Places.{place_of}
 use Rattle.batch_journal.specs.Volume.{Spells}
 use Rattle.tree_blocks.specs.Inode.{IsConsistent, IsConsistentBy, IsDirectoryBlock, AreDistinct, byte_of, entry_at, entries_in, blocks_for, LogicalBlocks}

@@ -1,15 +1,15 @@
 -- The units of an inode by its slot.
 use Rattle.std.proofs.Common.{◌≡◌, ◌≤◌, ◌+◌, ◌-◌, ℕ, suc, Some, true, refl, sym, ap, ◌∙◌, arith}
 use Rattle.posix_calls.specs.Tree.{sum_up_to}
-use Rattle.file_graph.specs.Units.{charge}
-use Rattle.layout.specs.Slot.{fits_slot}
+use Rattle.batch_journal.specs.file_graph.Units.{charge}
+use Rattle.batch_journal.specs.layout.Slot.{fits_slot}
 use Rattle.area_reader.proofs.Parts.{slot_as}
 use Rattle.area_reader.proofs.Shown.{slot_limits}
 use Rattle.posix_calls.specs.Units.{file_units, directory_units}
-use Rattle.file_graph.specs.Graph.{Graph, cost}
-use Rattle.layout.specs.declared.slot.Slot.{Slot}
-use Rattle.layout.specs.declared.slot.Slot.TheVariants as slots
-use Rattle.layout.specs.Places.{Sizes}
+use Rattle.batch_journal.specs.file_graph.Graph.{Graph, cost}
+use Rattle.batch_journal.specs.layout.declared.slot.Slot.{Slot}
+use Rattle.batch_journal.specs.layout.declared.slot.Slot.TheVariants as slots
+use Rattle.batch_journal.specs.layout.Places.{Sizes}
 use Rattle.tree_blocks.specs.Inode.{LogicalBlocks, IsConsistent, inode_of, node_of, entry_at}
 use Rattle.tree_blocks.proofs.Files.{length_file}
 use Rattle.tree_blocks.proofs.Directories.{len_named}

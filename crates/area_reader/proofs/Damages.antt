@@ -4,14 +4,14 @@ use Rattle.std.specs.Prelude.{IsSome, unwrap_or}
 use Rattle.std.proofs.lemmas.Bool.{false≢true}
 use Rattle.tier_device.specs.declared.media.Tier.{Tier}
 use Rattle.tier_device.specs.declared.media.Tier.TheVariants.{Fast, Block, Slow}
-use Rattle.file_graph.specs.declared.effect.Kind.{Kind}
-use Rattle.file_graph.specs.declared.effect.Kind.TheVariants as kind
-use Rattle.layout.specs.declared.error.What.{What}
-use Rattle.layout.specs.declared.slot.Slot.{Slot}
-use Rattle.layout.specs.declared.slot.Slot.TheVariants as slots
-use Rattle.layout.specs.Places.{Sizes, is_inode}
-use Rattle.layout.specs.Directory.{block_entries}
-use Rattle.layout.specs.declared.places.TheConstants.{BLOCK}
+use Rattle.batch_journal.specs.file_graph.declared.effect.Kind.{Kind}
+use Rattle.batch_journal.specs.file_graph.declared.effect.Kind.TheVariants as kind
+use Rattle.batch_journal.specs.layout.declared.error.What.{What}
+use Rattle.batch_journal.specs.layout.declared.slot.Slot.{Slot}
+use Rattle.batch_journal.specs.layout.declared.slot.Slot.TheVariants as slots
+use Rattle.batch_journal.specs.layout.Places.{Sizes, is_inode}
+use Rattle.batch_journal.specs.layout.Directory.{block_entries}
+use Rattle.batch_journal.specs.layout.declared.places.TheConstants.{BLOCK}
 use Rattle.extent_tree.specs.Places.{place_of}
 use Rattle.tree_blocks.specs.Inode.{IsConsistent, IsConsistentBy, AreDirectoryBlocks, IsDirectoryBlock, IsZeroFrom, Inode, inode_of, blocks_for, byte_of, entry_at, LogicalBlocks}
 use Rattle.area_reader.specs.Store.{Store, slot, length_of, extents_by, extents_read, place, at_or, logical_block, inode}

@@ -5,15 +5,15 @@ use Rattle.std.specs.Option.{option_map}
 use Rattle.std.proofs.lemmas.Bool.{cases_Bool, cond-true, cond-false, eqb-false}
 use Rattle.tier_device.specs.declared.media.Tier.{Tier}
 use Rattle.tier_device.specs.declared.media.Tier.TheVariants.{Fast, Block, Slow}
-use Rattle.layout.specs.declared.slot.Slot.{Slot}
-use Rattle.layout.specs.declared.slot.Slot.TheVariants as slots
-use Rattle.layout.specs.declared.places.TheConstants.{SLOT_SIZE}
-use Rattle.layout.specs.Places.{Sizes, is_inode, slot_block, slot_byte}
-use Rattle.layout.specs.Slot.{slot_of}
+use Rattle.batch_journal.specs.layout.declared.slot.Slot.{Slot}
+use Rattle.batch_journal.specs.layout.declared.slot.Slot.TheVariants as slots
+use Rattle.batch_journal.specs.layout.declared.places.TheConstants.{SLOT_SIZE}
+use Rattle.batch_journal.specs.layout.Places.{Sizes, is_inode, slot_block, slot_byte}
+use Rattle.batch_journal.specs.layout.Slot.{slot_of}
 use Rattle.extent_tree.specs.Places.{place_of}
 use Rattle.batch_journal.specs.Images.{slice}
 use Rattle.batch_journal.specs.Blocks.{Blocks}
-use Rattle.layout.specs.Marks.{marks_of}
+use Rattle.batch_journal.specs.layout.Marks.{marks_of}
 use Rattle.batch_journal.specs.Volume.{Spells}
 use Rattle.tree_blocks.specs.Inode.{IsConsistent, inode_of, node_of}
 use Rattle.area_reader.specs.Store.{Store, slot_read, slot, root_of, space_of, length_of, own_extents, extents_by, extents_read, place, at_or, logical_block, inode, graph, marks}

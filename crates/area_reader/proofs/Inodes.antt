@@ -3,14 +3,14 @@ use Rattle.std.proofs.Common.{◌≡◌, ◌<◌, ◌≤◌, ◌∙◌, ℕ, tru
 use Rattle.std.specs.Prelude.{IsSome, ◌^◌, nat_le, nat_lt}
 use Rattle.std.proofs.lemmas.Bool.{false≢true, and_parts, leb-true}
 use Rattle.tier_device.specs.declared.media.Tier.{Tier}
-use Rattle.file_graph.specs.declared.effect.Kind.{Kind}
-use Rattle.file_graph.specs.declared.effect.Kind.TheVariants as kind
-use Rattle.layout.specs.declared.error.What.{What}
-use Rattle.layout.specs.declared.error.What.TheVariants as what
-use Rattle.layout.specs.declared.slot.Slot.{Slot}
-use Rattle.layout.specs.declared.slot.Slot.TheVariants as slots
-use Rattle.layout.specs.Places.{Sizes, is_inode}
-use Rattle.layout.specs.Slot.{fits_slot, is_root_block}
+use Rattle.batch_journal.specs.file_graph.declared.effect.Kind.{Kind}
+use Rattle.batch_journal.specs.file_graph.declared.effect.Kind.TheVariants as kind
+use Rattle.batch_journal.specs.layout.declared.error.What.{What}
+use Rattle.batch_journal.specs.layout.declared.error.What.TheVariants as what
+use Rattle.batch_journal.specs.layout.declared.slot.Slot.{Slot}
+use Rattle.batch_journal.specs.layout.declared.slot.Slot.TheVariants as slots
+use Rattle.batch_journal.specs.layout.Places.{Sizes, is_inode}
+use Rattle.batch_journal.specs.layout.Slot.{fits_slot, is_root_block}
 use Rattle.tree_blocks.specs.Inode.{LogicalBlocks, IsConsistent, IsConsistentBy, IsZeroFrom, AreDirectoryBlocks, inode_of}
 use Rattle.area_reader.specs.Store.{Store, slot, slot_read, root_of, length_of, extents_read, place, logical_block, inode}
 use Rattle.area_reader.specs.Format.{SpellsInode}

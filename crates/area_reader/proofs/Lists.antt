@@ -5,15 +5,15 @@ use Rattle.std.specs.List.{list_all}
 use Rattle.std.proofs.lemmas.Bool.{cases_Bool, cond-true, cond-false, and_parts, and_from, leb-true, ltb-true, eqb-true, eqb-false}
 use Rattle.tier_device.specs.declared.media.Tier.{Tier}
 use Rattle.tier_device.specs.declared.media.Tier.TheVariants.{Fast, Block, Slow}
-use Rattle.layout.specs.Bytes.{◌>>=◌, Field, number_at, items_at, within}
-use Rattle.layout.specs.declared.geometry.Space.{Space}
-use Rattle.layout.specs.declared.geometry.Space.TheVariants as space
-use Rattle.layout.specs.declared.extents.Extent.{Extent}
-use Rattle.layout.specs.declared.slot.Slot.{Slot}
-use Rattle.layout.specs.declared.slot.Slot.TheVariants as slots
-use Rattle.layout.specs.Extents.{ExtentList, ExtentHead, is_extent, is_sound, fits_extents, header_at, extent_at, extents_at, extents_of}
-use Rattle.layout.specs.Places.{Sizes, is_inode, is_run, data_first, tier_blocks, node_end}
-use Rattle.layout.specs.Slot.{slot_at, slot_from, slot_of, fits_slot}
+use Rattle.batch_journal.specs.layout.Bytes.{◌>>=◌, Field, number_at, items_at, within}
+use Rattle.batch_journal.specs.layout.declared.geometry.Space.{Space}
+use Rattle.batch_journal.specs.layout.declared.geometry.Space.TheVariants as space
+use Rattle.batch_journal.specs.layout.declared.extents.Extent.{Extent}
+use Rattle.batch_journal.specs.layout.declared.slot.Slot.{Slot}
+use Rattle.batch_journal.specs.layout.declared.slot.Slot.TheVariants as slots
+use Rattle.batch_journal.specs.layout.Extents.{ExtentList, ExtentHead, is_extent, is_sound, fits_extents, header_at, extent_at, extents_at, extents_of}
+use Rattle.batch_journal.specs.layout.Places.{Sizes, is_inode, is_run, data_first, tier_blocks, node_end}
+use Rattle.batch_journal.specs.layout.Slot.{slot_at, slot_from, slot_of, fits_slot}
 use Rattle.extent_tree.specs.Places.{has, end_of, place_in, extent_with as first_extent, place_of}
 use Rattle.area_reader.specs.Store.{Store, slot_bytes, slot_read, slot, root_of, space_of, length_of, is_own, own_extents, extents_read, place}
 use Rattle.area_reader.specs.Reads.{IsRoom, IsPlaced, first_room}

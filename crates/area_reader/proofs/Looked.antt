@@ -9,7 +9,7 @@ use Rattle.batch_journal.specs.Course.{Unmoved}
 use Rattle.batch_journal.proofs.Courses.{unmoved_on, tiers_same}
 use Rattle.area_reader.specs.declared.error.AreaError.{AreaError}
 use Rattle.area_reader.specs.declared.error.AreaError.TheVariants as errors
-use Rattle.layout.specs.Places.{Sizes}
+use Rattle.batch_journal.specs.layout.Places.{Sizes}
 use Rattle.area_reader.specs.Store.{Store, disk, store_of}
 use Rattle.area_reader.specs.Looks.{Looks}
 

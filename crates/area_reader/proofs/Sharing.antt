@@ -4,10 +4,10 @@ use Rattle.std.specs.Prelude.{◌↔◌, ◌==◌, nat_le, nat_lt, option_map}
 use Rattle.std.proofs.lemmas.Bool.{cases_eq, cond-true, cond-false, eq-eqb, ne_eqb, and_parts, ltb-true, leb-true, true≢false}
 use Rattle.tier_device.specs.declared.media.Tier.{Tier}
 use Rattle.tier_device.specs.declared.media.Tier.TheVariants.{Fast}
-use Rattle.layout.specs.declared.error.What.TheVariants as what
-use Rattle.layout.specs.declared.slot.Slot.{Slot}
-use Rattle.layout.specs.Places.{Sizes, is_inode, node_end, tier_blocks}
-use Rattle.layout.specs.Slot.{fits_slot}
+use Rattle.batch_journal.specs.layout.declared.error.What.TheVariants as what
+use Rattle.batch_journal.specs.layout.declared.slot.Slot.{Slot}
+use Rattle.batch_journal.specs.layout.Places.{Sizes, is_inode, node_end, tier_blocks}
+use Rattle.batch_journal.specs.layout.Slot.{fits_slot}
 use Rattle.area_reader.specs.Store.{Store, slot, slot_read, root_of, length_of}
 use Rattle.area_reader.specs.Format.{Use, used_block, AreUsedOnce, SpellsInode}
 use Rattle.area_reader.specs.Damage.{IsDamaged, IsShared}

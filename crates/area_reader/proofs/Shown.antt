@@ -5,15 +5,15 @@ use Rattle.std.proofs.lemmas.Bool.{cond-true, cond-false, and_parts, and_from, l
 use Rattle.std.proofs.lemmas.List.{take_all}
 use Rattle.tier_device.specs.declared.media.Tier.{Tier}
 use Rattle.tier_device.specs.declared.media.Tier.TheVariants.{Fast, Block, Slow}
-use Rattle.layout.specs.declared.slot.Slot.{Slot}
-use Rattle.layout.specs.declared.slot.Slot.TheVariants as slots
-use Rattle.layout.specs.declared.geometry.Space.{Space}
-use Rattle.layout.specs.Bytes.{◌>>=◌}
-use Rattle.layout.specs.Answers.{or_damaged}
-use Rattle.layout.specs.declared.error.What.{What}
-use Rattle.layout.specs.Extents.{ExtentList, extents_of}
-use Rattle.layout.specs.Places.{Sizes, is_inode, is_node, slot_block, slot_byte, tier_blocks, node_end}
-use Rattle.layout.specs.Slot.{slot_of, fits_slot, is_root_block, roots_apart}
+use Rattle.batch_journal.specs.layout.declared.slot.Slot.{Slot}
+use Rattle.batch_journal.specs.layout.declared.slot.Slot.TheVariants as slots
+use Rattle.batch_journal.specs.layout.declared.geometry.Space.{Space}
+use Rattle.batch_journal.specs.layout.Bytes.{◌>>=◌}
+use Rattle.batch_journal.specs.layout.Answers.{or_damaged}
+use Rattle.batch_journal.specs.layout.declared.error.What.{What}
+use Rattle.batch_journal.specs.layout.Extents.{ExtentList, extents_of}
+use Rattle.batch_journal.specs.layout.Places.{Sizes, is_inode, is_node, slot_block, slot_byte, tier_blocks, node_end}
+use Rattle.batch_journal.specs.layout.Slot.{slot_of, fits_slot, is_root_block, roots_apart}
 use Rattle.batch_journal.specs.Images.{slice}
 use Rattle.batch_journal.specs.Blocks.{Blocks, home, is_home, ShowsHome}
 use Rattle.area_reader.specs.Store.{Store, slot_bytes, slot_read, root_of, space_of, length_of, is_own, own_extents, extents_by}

@@ -5,10 +5,10 @@ use Rattle.std.proofs.lemmas.Bool.{cases_eq, cases_lt, eqb-true, eq-eqb, true≢
 use Rattle.std.proofs.lemmas.List.{get_or-drop, get_or_past}
 use Rattle.tier_device.specs.declared.media.Tier.{Tier}
 use Rattle.tier_device.specs.declared.media.Tier.TheVariants.{Fast, Block, Slow}
-use Rattle.layout.specs.Bytes.{are_zero}
-use Rattle.layout.proofs.Pairs.{all_at}
-use Rattle.layout.specs.Places.{Sizes}
-use Rattle.layout.specs.declared.error.What.TheVariants as what
+use Rattle.batch_journal.specs.layout.Bytes.{are_zero}
+use Rattle.batch_journal.proofs.layout_lemmas.Pairs.{all_at}
+use Rattle.batch_journal.specs.layout.Places.{Sizes}
+use Rattle.batch_journal.specs.layout.declared.error.What.TheVariants as what
 use Rattle.extent_tree.specs.Places.{place_of}
 use Rattle.tree_blocks.specs.Inode.{IsZeroFrom, byte_of}
 use Rattle.area_reader.specs.Store.{Store, slot, length_of, place, logical_block}

@@ -4,7 +4,7 @@ use Rattle.std.proofs.lemmas.Bool.{cases_lt}
 use Rattle.tier_device.specs.declared.media.Tier.{Tier}
 use Rattle.tier_device.specs.declared.media.Tier.TheVariants.{Fast, Block, Slow}
 use Rattle.tier_device.specs.Media.{Torn}
-use Rattle.layout.specs.Places.{Sizes}
+use Rattle.batch_journal.specs.layout.Places.{Sizes}
 use Rattle.batch_journal.specs.Blocks.{Blocks, block_of}
 use Rattle.batch_journal.specs.Course.{OutsideRun}
 use Rattle.batch_journal.proofs.Bytes.{slice_apart}

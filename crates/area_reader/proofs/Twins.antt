@@ -7,19 +7,19 @@ use Rattle.std.proofs.lemmas.Bool.{cases_eq, cases_lt, and_parts, or_right, le-l
 use Rattle.std.proofs.lemmas.Slice.Eq.{bytes_eq-Decides}
 use Rattle.tier_device.specs.declared.media.Tier.{Tier}
 use Rattle.tier_device.specs.declared.media.Tier.TheVariants.{Fast, Block, Slow}
-use Rattle.file_graph.specs.declared.effect.Kind.TheVariants as kind
+use Rattle.batch_journal.specs.file_graph.declared.effect.Kind.TheVariants as kind
 use Rattle.batch_journal.specs.Blocks.{is_home}
-use Rattle.layout.proofs.Pairs.{all_at}
-use Rattle.layout.proofs.DirChanges.{fit_parts, listed_now}
-use Rattle.layout.proofs.DirPlaces.{names_differ}
-use Rattle.layout.specs.Bytes.{all_pairs}
-use Rattle.layout.specs.Directory.{EntryList, AreEntries, block_entries, entry_list_of, entry_of, no_entry, differ, are_distinct}
-use Rattle.layout.specs.declared.directory.DirEntry.{DirEntry}
-use Rattle.layout.specs.Answers.{or_damaged}
-use Rattle.layout.specs.declared.error.LayoutError.{LayoutError}
-use Rattle.layout.specs.declared.error.What.{What}
-use Rattle.layout.specs.declared.error.What.TheVariants as what
-use Rattle.layout.specs.Places.{Sizes, slot_block}
+use Rattle.batch_journal.proofs.layout_lemmas.Pairs.{all_at}
+use Rattle.batch_journal.proofs.layout_lemmas.DirChanges.{fit_parts, listed_now}
+use Rattle.batch_journal.proofs.layout_lemmas.DirPlaces.{names_differ}
+use Rattle.batch_journal.specs.layout.Bytes.{all_pairs}
+use Rattle.batch_journal.specs.layout.Directory.{EntryList, AreEntries, block_entries, entry_list_of, entry_of, no_entry, differ, are_distinct}
+use Rattle.batch_journal.specs.layout.declared.directory.DirEntry.{DirEntry}
+use Rattle.batch_journal.specs.layout.Answers.{or_damaged}
+use Rattle.batch_journal.specs.layout.declared.error.LayoutError.{LayoutError}
+use Rattle.batch_journal.specs.layout.declared.error.What.{What}
+use Rattle.batch_journal.specs.layout.declared.error.What.TheVariants as what
+use Rattle.batch_journal.specs.layout.Places.{Sizes, slot_block}
 use Rattle.tree_blocks.specs.Inode.{LogicalBlocks, Entry, IsDirectoryBlock, AreDirectoryBlocks, AreDistinct, entry_at, entries_in, blocks_for}
 use Rattle.tree_blocks.proofs.Held.{entry_is}
 use Rattle.area_reader.specs.Store.{Store, extents_read, place, logical_block, inode}

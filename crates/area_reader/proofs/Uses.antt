@@ -5,7 +5,7 @@ use Rattle.std.proofs.lemmas.Bool.{cases_eq, cond-true, cond-false, eq-eqb, ne_e
 use Rattle.tier_device.specs.declared.media.Tier.{Tier}
 use Rattle.tier_device.specs.declared.media.Tier.TheVariants.{Fast, Block, Slow}
 use Rattle.area_reader.specs.Store.{root_of, length_of}
-use Rattle.layout.specs.Extents.{ExtentList}
+use Rattle.batch_journal.specs.layout.Extents.{ExtentList}
 use Rattle.extent_tree.specs.Places.{place_of}
 use Rattle.area_reader.specs.Map.{place_by, in_tier, extents_in}
 use Rattle.area_reader.specs.BlockMarks.{UsedMarks, is_marked, HasRoom, Adds, TakesBlocks, Clashes}

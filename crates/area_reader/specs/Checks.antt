@@ -1,12 +1,12 @@
 -- What is checked of an inode whose slot and extents are read.
 use Rattle.std.specs.Prelude.{◌≡◌, ◌+◌, ◌-◌, ◌/◌, ◌<◌, ◌*◌, ◌⊎◌, ◌↔◌, min, ℕ, List, length, true, Some, IsSome}
 use Rattle.tier_device.specs.declared.media.Tier.{Tier}
-use Rattle.file_graph.specs.declared.effect.Kind.TheVariants as kind
-use Rattle.layout.specs.declared.error.What.{What}
-use Rattle.layout.specs.declared.places.TheConstants.{BLOCK}
-use Rattle.layout.specs.declared.directory.TheConstants.{MAX_IN_BLOCK}
-use Rattle.layout.specs.Places.{Sizes, is_inode}
-use Rattle.layout.specs.Directory.{block_entries, entry_of}
+use Rattle.batch_journal.specs.file_graph.declared.effect.Kind.TheVariants as kind
+use Rattle.batch_journal.specs.layout.declared.error.What.{What}
+use Rattle.batch_journal.specs.layout.declared.places.TheConstants.{BLOCK}
+use Rattle.batch_journal.specs.layout.declared.directory.TheConstants.{MAX_IN_BLOCK}
+use Rattle.batch_journal.specs.layout.Places.{Sizes, is_inode}
+use Rattle.batch_journal.specs.layout.Directory.{block_entries, entry_of}
 use Rattle.tree_blocks.specs.Inode.{LogicalBlocks, IsDirectoryBlock, AreDistinct, entry_at}
 use Rattle.area_reader.specs.Store.{Store, logical_block, slot, length_of, extents_read, place, inode}
 use Rattle.area_reader.specs.Damage.{IsSlotDamage, IsExtentDamage, IsEntryDamage, IsTailDamage}

@@ -2,13 +2,13 @@
 use Rattle.std.specs.Prelude.{◌≡◌, ◌≢◌, ◌<◌, ◌≤◌, ◌/◌, ◌%◌, ◌⊎◌, true, ℕ, List, get_or, Option, Some, None, IsSome}
 use Rattle.tier_device.specs.declared.media.Tier.{Tier}
 use Rattle.tier_device.specs.declared.media.Tier.TheVariants as tiers
-use Rattle.file_graph.specs.Units.{charge}
-use Rattle.file_graph.specs.declared.effect.Kind.TheVariants as kind
-use Rattle.layout.specs.declared.error.What.{What}
-use Rattle.layout.specs.declared.error.What.TheVariants as what
-use Rattle.layout.specs.declared.places.TheConstants.{BLOCK, SUPER_BLOCK, MARKS_BLOCK}
-use Rattle.layout.specs.declared.directory.TheConstants.{MAX_IN_BLOCK}
-use Rattle.layout.specs.Places.{Sizes, is_inode, slot_block}
+use Rattle.batch_journal.specs.file_graph.Units.{charge}
+use Rattle.batch_journal.specs.file_graph.declared.effect.Kind.TheVariants as kind
+use Rattle.batch_journal.specs.layout.declared.error.What.{What}
+use Rattle.batch_journal.specs.layout.declared.error.What.TheVariants as what
+use Rattle.batch_journal.specs.layout.declared.places.TheConstants.{BLOCK, SUPER_BLOCK, MARKS_BLOCK}
+use Rattle.batch_journal.specs.layout.declared.directory.TheConstants.{MAX_IN_BLOCK}
+use Rattle.batch_journal.specs.layout.Places.{Sizes, is_inode, slot_block}
 use Rattle.tree_blocks.specs.Inode.{IsDirectoryBlock, entry_at}
 use Rattle.area_reader.specs.declared.error.AreaError.{AreaError}
 use Rattle.area_reader.specs.declared.error.AreaError.TheVariants as errors

@@ -3,9 +3,9 @@ use Rattle.std.specs.Prelude.{◌≡◌, ◌≤◌, ◌==◌, true, ℕ, Option,
 use Rattle.std.specs.Option.{option_map}
 use Rattle.tier_device.specs.declared.media.Tier.{Tier}
 use Rattle.tier_device.specs.declared.media.Tier.TheVariants as tiers
-use Rattle.file_graph.specs.Units.{charge}
-use Rattle.layout.specs.declared.places.TheConstants.{SUPER_BLOCK}
-use Rattle.layout.specs.Places.{Sizes, is_inode}
+use Rattle.batch_journal.specs.file_graph.Units.{charge}
+use Rattle.batch_journal.specs.layout.declared.places.TheConstants.{SUPER_BLOCK}
+use Rattle.batch_journal.specs.layout.Places.{Sizes, is_inode}
 use Rattle.tree_blocks.specs.Inode.{IsConsistent}
 use Rattle.batch_journal.specs.Volume.{Spells}
 use Rattle.area_reader.specs.Store.{Store, slot, slot_read, root_of, extents_read, place, inode, graph, marks}

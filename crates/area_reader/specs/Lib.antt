@@ -12,3 +12,10 @@ pub mod Parts
 pub mod MediumUse
 pub mod Units
 pub mod Names
+-- Handed on to the crates above, which list only the highest of what they name.
+pub use Rattle.batch_journal.specs as batch_journal
+pub use Rattle.extent_tree.specs as extent_tree
+pub use Rattle.batch_journal.specs.file_graph
+pub use Rattle.tree_blocks.specs.graph_change
+pub use Rattle.batch_journal.specs.layout
+pub use Rattle.tree_blocks.specs as tree_blocks

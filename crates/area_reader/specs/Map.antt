@@ -2,15 +2,15 @@
 use Rattle.std.specs.Prelude.{◌≡◌, ◌≢◌, ◌⊎◌, ◌↔◌, ℕ, List, [], true, Option, Some, None, IsSome, IfSome}
 use Rattle.tier_device.specs.declared.media.Tier.{Tier}
 use Rattle.tier_device.specs.declared.media.Tier.TheVariants as tiers
-use Rattle.layout.specs.declared.slot.Slot.{Slot}
-use Rattle.layout.specs.declared.extents.Extent.{Extent}
-use Rattle.layout.specs.declared.geometry.Space.{Space}
-use Rattle.layout.specs.Extents.{ExtentList, extents_of, fits_extents}
-use Rattle.layout.specs.declared.error.What.{What}
-use Rattle.layout.specs.declared.error.What.TheVariants as what
+use Rattle.batch_journal.specs.layout.declared.slot.Slot.{Slot}
+use Rattle.batch_journal.specs.layout.declared.extents.Extent.{Extent}
+use Rattle.batch_journal.specs.layout.declared.geometry.Space.{Space}
+use Rattle.batch_journal.specs.layout.Extents.{ExtentList, extents_of, fits_extents}
+use Rattle.batch_journal.specs.layout.declared.error.What.{What}
+use Rattle.batch_journal.specs.layout.declared.error.What.TheVariants as what
 use Rattle.extent_tree.specs.Places.{place_of}
 use Rattle.batch_journal.specs.Blocks.{Blocks}
-use Rattle.layout.specs.Places.{Sizes, slot_block}
+use Rattle.batch_journal.specs.layout.Places.{Sizes, slot_block}
 use Rattle.area_reader.specs.Store.{Store, root_of, space_of, slot, extents_by, slot_read}
 use Rattle.area_reader.specs.declared.tiers.InodeExtents.{InodeExtents}
 

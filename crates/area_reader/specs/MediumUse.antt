@@ -1,7 +1,7 @@
 -- Which blocks of a medium are in use.
 use Rattle.std.specs.Prelude.{◌≡◌, ◌<◌, ◌↔◌, ℕ, Some, length}
 use Rattle.tier_device.specs.declared.media.Tier.{Tier}
-use Rattle.layout.specs.Places.{Sizes, tier_blocks}
+use Rattle.batch_journal.specs.layout.Places.{Sizes, tier_blocks}
 use Rattle.area_reader.specs.Store.{Store}
 use Rattle.area_reader.specs.Format.{Use, used_block}
 use Rattle.area_reader.specs.BlockMarks.{UsedMarks, marks_in, IsMarked}

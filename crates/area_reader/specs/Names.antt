@@ -1,6 +1,6 @@
 -- Names that were met.
 use Rattle.std.specs.Prelude.{◌≡◌, ◌⊎◌, ◌↔◌, ◌<◌, ℕ, List, [], ◌∷◌, length}
-use Rattle.layout.specs.Directory.{block_entries, entry_of}
+use Rattle.batch_journal.specs.layout.Directory.{block_entries, entry_of}
 
 -- A name is one of these.
 abbrev pub IsAmong : List (List ℕ) → List ℕ → Type 0

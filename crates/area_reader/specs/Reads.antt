@@ -2,8 +2,8 @@
 use Rattle.std.specs.Prelude.{◌≡◌, ◌≢◌, ◌⊎◌, ◌≤◌, ◌<◌, ◌+◌, ◌*◌, true, ℕ, Some}
 use Rattle.tier_device.specs.declared.media.Tier.{Tier}
 use Rattle.tier_device.specs.declared.media.Tier.TheVariants as tiers
-use Rattle.layout.specs.declared.places.TheConstants.{BLOCK, FIRST_NODE_BLOCK}
-use Rattle.layout.specs.Places.{Sizes, is_inode, slot_block, tier_blocks}
+use Rattle.batch_journal.specs.layout.declared.places.TheConstants.{BLOCK, FIRST_NODE_BLOCK}
+use Rattle.batch_journal.specs.layout.Places.{Sizes, is_inode, slot_block, tier_blocks}
 use Rattle.batch_journal.specs.Blocks.{Blocks}
 use Rattle.area_reader.specs.Store.{Store, slot_bytes, slot, root_of, place}
 

@@ -2,8 +2,8 @@
 use Rattle.std.specs.Prelude.{◌≡◌, true, false, Bool, ℕ, Some, IsSome}
 use Rattle.tier_device.specs.declared.media.Tier.{Tier}
 use Rattle.tier_device.specs.declared.media.Tier.TheVariants as tiers
-use Rattle.layout.specs.declared.places.TheConstants.{SUPER_BLOCK}
-use Rattle.layout.specs.Places.{Sizes, is_inode}
+use Rattle.batch_journal.specs.layout.declared.places.TheConstants.{SUPER_BLOCK}
+use Rattle.batch_journal.specs.layout.Places.{Sizes, is_inode}
 use Rattle.area_reader.specs.Store.{Store, slot_bytes, marks}
 use Rattle.area_reader.specs.Format.{SpellsInode, Use, used_block}
 

@@ -4,20 +4,20 @@ use Rattle.std.specs.List.{list_all}
 use Rattle.tier_device.specs.declared.media.Media.{Ghosts}
 use Rattle.tier_device.specs.declared.media.Tier.{Tier}
 use Rattle.tier_device.specs.declared.media.Tier.TheVariants as tiers
-use Rattle.file_graph.specs.Graph.{Graph}
-use Rattle.layout.specs.declared.places.TheConstants.{BLOCK, SLOT_SIZE, MARKS_BLOCK}
-use Rattle.layout.specs.declared.directory.TheConstants.{MAX_IN_BLOCK}
-use Rattle.layout.specs.declared.geometry.Space.{Space}
-use Rattle.layout.specs.declared.geometry.Space.TheVariants as space
-use Rattle.layout.specs.declared.slot.Slot.{Slot}
-use Rattle.layout.specs.declared.slot.Slot.TheVariants as slots
-use Rattle.layout.specs.declared.extents.Extent.{Extent}
-use Rattle.layout.specs.declared.marks.Marks.{Marks}
-use Rattle.layout.specs.Bytes.{◌>>=◌}
-use Rattle.layout.specs.Places.{Sizes, is_inode, slot_block, slot_byte}
-use Rattle.layout.specs.Slot.{slot_of}
-use Rattle.layout.specs.Extents.{ExtentList, extents_of}
-use Rattle.layout.specs.Marks.{marks_of}
+use Rattle.batch_journal.specs.file_graph.Graph.{Graph}
+use Rattle.batch_journal.specs.layout.declared.places.TheConstants.{BLOCK, SLOT_SIZE, MARKS_BLOCK}
+use Rattle.batch_journal.specs.layout.declared.directory.TheConstants.{MAX_IN_BLOCK}
+use Rattle.batch_journal.specs.layout.declared.geometry.Space.{Space}
+use Rattle.batch_journal.specs.layout.declared.geometry.Space.TheVariants as space
+use Rattle.batch_journal.specs.layout.declared.slot.Slot.{Slot}
+use Rattle.batch_journal.specs.layout.declared.slot.Slot.TheVariants as slots
+use Rattle.batch_journal.specs.layout.declared.extents.Extent.{Extent}
+use Rattle.batch_journal.specs.layout.declared.marks.Marks.{Marks}
+use Rattle.batch_journal.specs.layout.Bytes.{◌>>=◌}
+use Rattle.batch_journal.specs.layout.Places.{Sizes, is_inode, slot_block, slot_byte}
+use Rattle.batch_journal.specs.layout.Slot.{slot_of}
+use Rattle.batch_journal.specs.layout.Extents.{ExtentList, extents_of}
+use Rattle.batch_journal.specs.layout.Marks.{marks_of}
 use Rattle.extent_tree.specs.Places.{end_of, place_of}
 use Rattle.tree_blocks.specs.Inode.{Inode, inode_of, graph_of_inodes}
 use Rattle.batch_journal.specs.Images.{slice}

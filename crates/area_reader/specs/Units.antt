@@ -1,8 +1,8 @@
 -- What the inodes of a medium cost.
 use Rattle.std.specs.Prelude.{ℕ}
 use Rattle.posix_calls.specs.Units.{file_units, directory_units}
-use Rattle.layout.specs.declared.slot.Slot.{Slot}
-use Rattle.layout.specs.declared.slot.Slot.TheVariants as slots
+use Rattle.batch_journal.specs.layout.declared.slot.Slot.{Slot}
+use Rattle.batch_journal.specs.layout.declared.slot.Slot.TheVariants as slots
 
 -- the units of an inode, as its slot tells its size
 abbrev pub slot_units : Slot → ℕ

@@ -1,10 +1,10 @@
 // All inodes, and the blocks that they use.
 ghost use Rattle.std.specs.Prelude.{◌≡◌, ◌≤◌, ◌+◌, ◌⊎◌, ◌↔◌, ℕ, Some, true, false, length, OnOk, IfOk, IfErr};
-ghost use Rattle.file_graph.specs.Graph.{cost};
-ghost use Rattle.file_graph.specs.Units.{charge};
+ghost use Rattle.batch_journal.specs.file_graph.Graph.{cost};
+ghost use Rattle.batch_journal.specs.file_graph.Units.{charge};
 ghost use Rattle.area_reader.specs.Store.{disk, graph};
 ghost use Rattle.tier_device.specs.declared.media.Tier.{Tier};
-ghost use Rattle.layout.specs.Places.{is_inode, tier_blocks};
+ghost use Rattle.batch_journal.specs.layout.Places.{is_inode, tier_blocks};
 ghost use Rattle.area_reader.specs.Format.{SpellsInode, Use, AreUsedOnce, used_block as used_by};
 ghost use Rattle.area_reader.specs.BlockMarks.{marks_in, is_marked, IsMarked};
 ghost use Rattle.area_reader.specs.Damage.{OnDamage, IsDamaged};
@@ -21,7 +21,7 @@ use crate::slots::root_of;
 use crate::units::units_of;
 use crate::used_blocks::UsedBlocks;
 use batch_journal::Journal;
-use layout::What;
+use batch_journal::in_layout::What;
 use posix_calls::MAX_INODE;
 use std::alloc::Global;
 use tier_device::Media;

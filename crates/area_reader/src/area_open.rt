@@ -1,8 +1,8 @@
 // What is known of the shared media once they are opened.
 ghost use Rattle.std.specs.Prelude.{◌≡◌, ◌↔◌, ℕ, length, Some, IsSome, false, OnOk, IfOk, IfErr};
 ghost use Rattle.tier_device.specs.declared.media.Tier.{Tier};
-ghost use Rattle.file_graph.specs.Units.{charge};
-ghost use Rattle.layout.specs.Places.{tier_blocks};
+ghost use Rattle.batch_journal.specs.file_graph.Units.{charge};
+ghost use Rattle.batch_journal.specs.layout.Places.{tier_blocks};
 ghost use Rattle.area_reader.specs.Store.{disk, graph, marks as marks_of};
 ghost use Rattle.area_reader.specs.Format.{Use, used_block as used_by, IsOpenable};
 ghost use Rattle.area_reader.specs.BlockMarks.{marks_in, IsMarked};
@@ -15,7 +15,7 @@ use crate::error::AreaError;
 use crate::marks::read_marks;
 use crate::used_blocks::UsedBlocks;
 use batch_journal::Journal;
-use layout::{Marks, SUPER_BLOCK, What};
+use batch_journal::in_layout::{Marks, SUPER_BLOCK, What};
 use std::alloc::Global;
 use tier_device::Media;
 

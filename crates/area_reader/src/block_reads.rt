@@ -1,8 +1,8 @@
 // Blocks as they are read.
 ghost use Rattle.std.specs.Prelude.{◌≡◌, ◌≤◌, ◌<◌, ◌+◌, ◌*◌, true, length, OnOk, OnErr, IfErr};
 ghost use Rattle.tier_device.specs.declared.media.Tier.TheVariants.{Fast};
-ghost use Rattle.layout.specs.declared.places.TheConstants.{BLOCK, SLOT_SIZE};
-ghost use Rattle.layout.specs.Places.{tier_blocks};
+ghost use Rattle.batch_journal.specs.layout.declared.places.TheConstants.{BLOCK, SLOT_SIZE};
+ghost use Rattle.batch_journal.specs.layout.Places.{tier_blocks};
 ghost use Rattle.batch_journal.specs.Blocks.{home, block_of, is_home};
 ghost use Rattle.area_reader.specs.Store.{disk, slot_bytes};
 ghost use Rattle.area_reader.specs.Looks.{Looks};
@@ -10,7 +10,7 @@ ghost use Rattle.area_reader.specs.declared.error.AreaError.TheVariants.{DeviceF
 
 use crate::error::AreaError;
 use batch_journal::Journal;
-use layout::{BLOCK, SLOT_SIZE, slot_block, slot_byte};
+use batch_journal::in_layout::{BLOCK, SLOT_SIZE, slot_block, slot_byte};
 use posix_calls::MAX_INODE;
 use tier_device::{Media, Tier};
 

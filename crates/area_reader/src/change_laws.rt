@@ -2,7 +2,7 @@
 
 ghost use Rattle.std.specs.Prelude.{◌≡◌, ◌↔◌, ℕ, List, Bool, false, Some};
 ghost use Rattle.tier_device.specs.declared.media.Tier.{Tier};
-ghost use Rattle.layout.specs.Places.{Sizes};
+ghost use Rattle.batch_journal.specs.layout.Places.{Sizes};
 ghost use Rattle.batch_journal.specs.Blocks.{Blocks};
 ghost use Rattle.area_reader.specs.Store.{Store, store_of, content_blocks, inode};
 ghost use Rattle.area_reader.specs.Reads.{IsRoom, Free, LooseIn};

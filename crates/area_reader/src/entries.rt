@@ -1,8 +1,8 @@
 // The blocks of a directory.
 ghost use Rattle.std.specs.Prelude.{◌≡◌, ◌≢◌, ◌<◌, ◌≤◌, ℕ, length, ◌+◌, MatchBool, true, false, IfOk, OnOk, IfErr};
-ghost use Rattle.layout.specs.Directory.{AreEntries, block_entries};
-ghost use Rattle.layout.specs.Places.{slot_block};
-ghost use Rattle.layout.specs.declared.error.What.TheVariants as what;
+ghost use Rattle.batch_journal.specs.layout.Directory.{AreEntries, block_entries};
+ghost use Rattle.batch_journal.specs.layout.Places.{slot_block};
+ghost use Rattle.batch_journal.specs.layout.declared.error.What.TheVariants as what;
 ghost use Rattle.tree_blocks.specs.Inode.{IsDirectoryBlock, entries_in, blocks_for};
 ghost use Rattle.area_reader.specs.Names.{AddsNames, SharesName};
 ghost use Rattle.area_reader.specs.Store.{disk};
@@ -18,7 +18,7 @@ use crate::places::first_place;
 use crate::tail::block_number;
 use crate::tiers::InodeExtents;
 use batch_journal::Journal;
-use layout::{BLOCK, DirEntries, MAX_IN_BLOCK, What, slot_block};
+use batch_journal::in_layout::{BLOCK, DirEntries, MAX_IN_BLOCK, What, slot_block};
 use posix_calls::MAX_INODE;
 use std::alloc::{AllocError, Global};
 use tier_device::Media;

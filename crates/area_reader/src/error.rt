@@ -2,8 +2,8 @@ ghost use Rattle.std.specs.Prelude.{◌≡◌};
 ghost use Rattle.area_reader.specs.declared.error.AreaError.TheVariants.{Memory};
 ghost use Rattle.area_reader.specs.Refusals.{area_error};
 
+use batch_journal::in_layout::What;
 use block_alloc::AllocatorError;
-use layout::What;
 use std::alloc::AllocError;
 use thiserror::Error;
 

@@ -1,9 +1,9 @@
 // Extents as they are read.
 ghost use Rattle.std.specs.Prelude.{◌≡◌, ◌≢◌, ◌≤◌, Some, None, IsSome, nat_le, true, IfOk, IfErr};
 ghost use Rattle.std.specs.List.{list_all};
-ghost use Rattle.layout.specs.declared.error.What.TheVariants as what;
-ghost use Rattle.layout.specs.Places.{is_node};
-ghost use Rattle.layout.specs.Extents.{extents_of};
+ghost use Rattle.batch_journal.specs.layout.declared.error.What.TheVariants as what;
+ghost use Rattle.batch_journal.specs.layout.Places.{is_node};
+ghost use Rattle.batch_journal.specs.layout.Extents.{extents_of};
 ghost use Rattle.extent_tree.specs.Places.{end_of};
 ghost use Rattle.area_reader.specs.Store.{disk, is_own, own_extents, extents_by, root_of, space_of, length_of};
 ghost use Rattle.area_reader.specs.Looks.{Looks};
@@ -16,7 +16,7 @@ use crate::block_reads::{blank_block, read_block};
 use crate::error::AreaError;
 use crate::slots::{length_of, root_of, space_of};
 use batch_journal::Journal;
-use layout::{Extent, ExtentBlock, Geometry, LayoutError, Slot, Space, What};
+use batch_journal::in_layout::{Extent, ExtentBlock, Geometry, LayoutError, Slot, Space, What};
 use std::alloc::Global;
 use tier_device::{Media, Tier};
 

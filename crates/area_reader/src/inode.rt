@@ -1,7 +1,7 @@
 // Slot and extents of an inode.
 ghost use Rattle.std.specs.Prelude.{◌≡◌, ◌≤◌, Some, true, IfOk, IfErr};
 ghost use Rattle.tier_device.specs.declared.media.Tier.TheVariants as tiers;
-ghost use Rattle.layout.specs.Slot.{fits_slot};
+ghost use Rattle.batch_journal.specs.layout.Slot.{fits_slot};
 ghost use Rattle.area_reader.specs.Store.{disk, slot_read};
 ghost use Rattle.area_reader.specs.Damage.{OnDamage};
 ghost use Rattle.area_reader.specs.Looks.{Looks};
@@ -13,7 +13,7 @@ use crate::error::AreaError;
 use crate::slots::read_slot;
 use crate::tiers::{InodeExtents, read_all_extents};
 use batch_journal::Journal;
-use layout::Slot;
+use batch_journal::in_layout::Slot;
 use posix_calls::MAX_INODE;
 use std::alloc::Global;
 use tier_device::Media;

@@ -1,7 +1,7 @@
 // All of one inode.
 ghost use Rattle.std.specs.Prelude.{◌≡◌, ◌≤◌, ◌⊎◌, ℕ, Some, true, false, OnOk, IfOk, IfErr};
 ghost use Rattle.tier_device.specs.declared.media.Tier.TheVariants as tiers;
-ghost use Rattle.layout.specs.Slot.{fits_slot};
+ghost use Rattle.batch_journal.specs.layout.Slot.{fits_slot};
 ghost use Rattle.tree_blocks.specs.Inode.{IsConsistent};
 ghost use Rattle.area_reader.specs.Store.{disk, slot_read, inode as inode_at};
 ghost use Rattle.area_reader.specs.Format.{SpellsInode};
@@ -18,7 +18,7 @@ use crate::places::mapped_twice;
 use crate::slots::{length_of, root_of};
 use crate::tail::check_file;
 use batch_journal::Journal;
-use layout::{Slot, What};
+use batch_journal::in_layout::{Slot, What};
 use posix_calls::MAX_INODE;
 use std::alloc::Global;
 use tier_device::Media;

@@ -10,7 +10,7 @@ use crate::places::place_in;
 use crate::slots::{length_of, root_of};
 use crate::tiers::InodeExtents;
 use crate::used_blocks::UsedBlocks;
-use layout::ExtentBlock;
+use batch_journal::in_layout::ExtentBlock;
 use tier_device::Tier;
 
 // The extents in a tier.

@@ -4,9 +4,9 @@ ghost use Rattle.std.specs.Prelude.{◌≡◌, ◌≢◌, ◌*◌, ℕ, List, So
 ghost use Rattle.tier_device.specs.declared.media.Tier.{Tier};
 ghost use Rattle.tier_device.specs.declared.media.Tier.TheVariants.{Fast};
 ghost use Rattle.tier_device.specs.Media.{Torn};
-ghost use Rattle.layout.specs.declared.places.TheConstants.{BLOCK, SUPER_BLOCK};
-ghost use Rattle.layout.specs.Places.{Sizes, is_node};
-ghost use Rattle.layout.specs.Slot.{fits_slot};
+ghost use Rattle.batch_journal.specs.layout.declared.places.TheConstants.{BLOCK, SUPER_BLOCK};
+ghost use Rattle.batch_journal.specs.layout.Places.{Sizes, is_node};
+ghost use Rattle.batch_journal.specs.layout.Slot.{fits_slot};
 ghost use Rattle.batch_journal.specs.Blocks.{Blocks};
 ghost use Rattle.batch_journal.specs.Course.{OutsideRun};
 ghost use Rattle.batch_journal.specs.Volume.{Spells};
@@ -14,7 +14,7 @@ ghost use Rattle.area_reader.specs.Store.{Store, store_of, content_blocks, slot,
 ghost use Rattle.area_reader.specs.Reads.{Free, Loose, LooseIn, IsFreeRun, IsPlaced, Untouched};
 ghost use Rattle.area_reader.specs.Format.{SpellsInode, Use, used_block, IsSpelled, IsOpenable};
 ghost use Rattle.area_reader.specs.Damage.{IsDamaged};
-ghost use Rattle.layout.specs.declared.error.What.{What};
+ghost use Rattle.batch_journal.specs.layout.declared.error.What.{What};
 
 /// Of two stores that differ in free blocks alone, the one spells what the other does.
 pub fn free_blocks_are_not_read()

@@ -45,3 +45,10 @@ pub use tail::block_number;
 pub use tiers::{InodeExtents, read_all_extents};
 pub use units::{slots_give_the_units, units_of};
 pub use used_blocks::{UsedBlocks, unmarked_blocks_are_free};
+
+// Handed on to the crates above, which list only the highest of what they name.
+pub use batch_journal as in_batch_journal;
+pub use batch_journal::{in_file_graph, in_layout};
+pub use extent_tree as in_extent_tree;
+pub use tree_blocks as in_tree_blocks;
+pub use tree_blocks::in_graph_change;

@@ -1,8 +1,8 @@
 // The marks as they are read.
 ghost use Rattle.std.specs.Prelude.{◌≡◌, ◌≢◌, Some, None, IfOk, IfErr};
-ghost use Rattle.layout.specs.declared.error.What.TheVariants as what;
-ghost use Rattle.layout.specs.declared.places.TheConstants.{MARKS_BLOCK};
-ghost use Rattle.layout.specs.Marks.{marks_of};
+ghost use Rattle.batch_journal.specs.layout.declared.error.What.TheVariants as what;
+ghost use Rattle.batch_journal.specs.layout.declared.places.TheConstants.{MARKS_BLOCK};
+ghost use Rattle.batch_journal.specs.layout.Marks.{marks_of};
 ghost use Rattle.area_reader.specs.Store.{disk, marks};
 ghost use Rattle.area_reader.specs.Damage.{OnDamage, IsMarksDamage};
 ghost use Rattle.area_reader.specs.Looks.{Looks};
@@ -11,7 +11,7 @@ ghost use Rattle.area_reader.specs.declared.error.AreaError.TheVariants.{Damaged
 use crate::block_reads::{blank_block, read_block};
 use crate::error::AreaError;
 use batch_journal::Journal;
-use layout::{MARKS_BLOCK, Marks, What};
+use batch_journal::in_layout::{MARKS_BLOCK, Marks, What};
 use tier_device::{Media, Tier};
 
 /// The marks of the clients, and the number of digests. `Damaged` names them, where their block spells none.

@@ -5,7 +5,7 @@ ghost use Rattle.extent_tree.specs.Places.{place_of};
 ghost use Rattle.area_reader.specs.Map.{extents_in, place_by, IsOnceAt, IsTwiceAt};
 
 use crate::tiers::InodeExtents;
-use layout::{Extent, ExtentBlock};
+use batch_journal::in_layout::{Extent, ExtentBlock};
 use tier_device::Tier;
 
 // The place of a logical block in a list of extents.

@@ -1,11 +1,11 @@
 // Slots as they are read.
 ghost use Rattle.std.specs.Prelude.{◌≡◌, ◌≢◌, ◌≤◌, ◌+◌, ◌-◌, ◌/◌, ℕ, Some, None, true, length, IfOk, IfErr};
 ghost use Rattle.tier_device.specs.declared.media.Tier.{Tier};
-ghost use Rattle.layout.specs.declared.error.What.TheVariants as what;
-ghost use Rattle.layout.specs.declared.places.TheConstants.{SLOT_SIZE, BLOCK};
-ghost use Rattle.layout.specs.declared.directory.TheConstants.{MAX_IN_BLOCK};
-ghost use Rattle.layout.specs.Places.{slot_block};
-ghost use Rattle.layout.specs.Slot.{slot_of, fits_slot};
+ghost use Rattle.batch_journal.specs.layout.declared.error.What.TheVariants as what;
+ghost use Rattle.batch_journal.specs.layout.declared.places.TheConstants.{SLOT_SIZE, BLOCK};
+ghost use Rattle.batch_journal.specs.layout.declared.directory.TheConstants.{MAX_IN_BLOCK};
+ghost use Rattle.batch_journal.specs.layout.Places.{slot_block};
+ghost use Rattle.batch_journal.specs.layout.Slot.{slot_of, fits_slot};
 ghost use Rattle.area_reader.specs.Store.{disk, slot_read, root_of, space_of, length_of};
 ghost use Rattle.area_reader.specs.Damage.{OnDamage};
 ghost use Rattle.area_reader.specs.Looks.{Looks};
@@ -14,7 +14,7 @@ ghost use Rattle.area_reader.specs.declared.error.AreaError.TheVariants.{Damaged
 use crate::block_reads::read_slot_bytes;
 use crate::error::AreaError;
 use batch_journal::Journal;
-use layout::{
+use batch_journal::in_layout::{
     BLOCK, Geometry, MAX_IN_BLOCK, SLOT_SIZE, Slot, Space, What, slot_block, slot_is_spelled,
 };
 use posix_calls::MAX_INODE;

@@ -1,9 +1,9 @@
 // The last block of a file, behind its end.
 ghost use Rattle.std.specs.Prelude.{◌≡◌, ◌≢◌, ◌<◌, true, false, drop, length, OnOk, IfErr};
-ghost use Rattle.layout.specs.Bytes.{are_zero};
-ghost use Rattle.layout.specs.Places.{tier_blocks};
-ghost use Rattle.layout.specs.declared.error.What.TheVariants as what;
-ghost use Rattle.layout.specs.declared.places.TheConstants.{BLOCK};
+ghost use Rattle.batch_journal.specs.layout.Bytes.{are_zero};
+ghost use Rattle.batch_journal.specs.layout.Places.{tier_blocks};
+ghost use Rattle.batch_journal.specs.layout.declared.error.What.TheVariants as what;
+ghost use Rattle.batch_journal.specs.layout.declared.places.TheConstants.{BLOCK};
 ghost use Rattle.tree_blocks.specs.Inode.{IsZeroFrom};
 ghost use Rattle.area_reader.specs.Store.{disk, logical_block};
 ghost use Rattle.area_reader.specs.Reads.{IsRoom};
@@ -17,7 +17,7 @@ use crate::error::AreaError;
 use crate::places::first_place;
 use crate::tiers::InodeExtents;
 use batch_journal::Journal;
-use layout::{BLOCK, Geometry, What, are_zero};
+use batch_journal::in_layout::{BLOCK, Geometry, What, are_zero};
 use tier_device::{Media, Tier};
 
 /// The number of a block of a tier.

@@ -1,7 +1,7 @@
 // The extent blocks of an inode in all tiers.
 ghost use Rattle.std.specs.Prelude.{◌≡◌, true, IfOk, IfErr};
 ghost use Rattle.tier_device.specs.declared.media.Tier.TheVariants as tiers;
-ghost use Rattle.layout.specs.Slot.{fits_slot};
+ghost use Rattle.batch_journal.specs.layout.Slot.{fits_slot};
 ghost use Rattle.area_reader.specs.Store.{disk};
 ghost use Rattle.area_reader.specs.Damage.{OnDamage};
 ghost use Rattle.area_reader.specs.Looks.{Looks};
@@ -11,7 +11,7 @@ ghost use Rattle.area_reader.specs.declared.error.AreaError.TheVariants.{Memory}
 use crate::error::AreaError;
 use crate::extents::read_extents;
 use batch_journal::Journal;
-use layout::{ExtentBlock, Slot};
+use batch_journal::in_layout::{ExtentBlock, Slot};
 use std::alloc::Global;
 use tier_device::{Media, Tier};
 

@@ -1,13 +1,13 @@
 // What inodes cost.
 ghost use Rattle.std.specs.Prelude.{◌≡◌, ◌<◌, ◌^◌, ℕ};
-ghost use Rattle.layout.specs.Places.{Sizes};
-ghost use Rattle.file_graph.specs.Graph.{cost};
+ghost use Rattle.batch_journal.specs.layout.Places.{Sizes};
+ghost use Rattle.batch_journal.specs.file_graph.Graph.{cost};
 ghost use Rattle.area_reader.specs.Store.{Store, slot, graph};
 ghost use Rattle.area_reader.specs.Format.{SpellsInode};
 ghost use Rattle.area_reader.specs.Units.{slot_units};
 
 use crate::slots::{entry_blocks, file_blocks};
-use layout::Slot;
+use batch_journal::in_layout::Slot;
 
 /// The units of an inode: one, and one for each logical block that it takes; none of a free slot.
 pub fn units_of(slot: &Slot) -> u64

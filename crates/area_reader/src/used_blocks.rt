@@ -2,14 +2,14 @@
 ghost use Rattle.std.specs.Prelude.{◌≡◌, ◌<◌, ◌+◌, ℕ, true, false, length, replicate, get_or, set, IfOk, Some, ◌≤◌, ◌↔◌};
 ghost use Rattle.tier_device.specs.declared.media.Tier.{Tier};
 ghost use Rattle.tier_device.specs.declared.media.Tier.TheVariants.{Fast};
-ghost use Rattle.layout.specs.declared.places.TheConstants.{FIRST_NODE_BLOCK};
-ghost use Rattle.layout.specs.Places.{Sizes, tier_blocks, data_blocks, data_first, node_blocks};
+ghost use Rattle.batch_journal.specs.layout.declared.places.TheConstants.{FIRST_NODE_BLOCK};
+ghost use Rattle.batch_journal.specs.layout.Places.{Sizes, tier_blocks, data_blocks, data_first, node_blocks};
 ghost use Rattle.area_reader.specs.Store.{Store};
 ghost use Rattle.area_reader.specs.Reads.{IsRoom, Free};
 ghost use Rattle.area_reader.specs.Format.{Use, used_block};
 ghost use Rattle.area_reader.specs.BlockMarks.{UsedMarks, marks_in, is_marked, IsMarked, HasRoom, Adds};
 
-use layout::{FIRST_NODE_BLOCK, Geometry};
+use batch_journal::in_layout::{FIRST_NODE_BLOCK, Geometry};
 use std::alloc::{AllocError, Global};
 use std::marker::Model;
 use tier_device::Tier;

@@ -8,33 +8,33 @@ use Rattle.tier_device.specs.declared.media.Media.{Ghosts}
 use Rattle.tier_device.specs.declared.media.Tier.{Tier}
 use Rattle.tier_device.specs.AfterStop.{Left}
 use Rattle.tier_device.specs.Media.{Rose}
-use Rattle.layout.specs.Places.{Sizes}
-use Rattle.layout.specs.declared.marks.Marks.{Marks}
-use Rattle.batch_journal.specs.Course.{Unmoved}
-use Rattle.batch_journal.specs.View.{JournalView}
-use Rattle.area_reader.specs.Store.{Store, disk, graph, marks, store_of}
-use Rattle.shared_area.specs.Parts.{IsNoDamage}
-use Rattle.shared_area.specs.Ready.{OpensAs}
-use Rattle.shared_area.specs.GraphUpdate.{OpensChangedOrNot, StaysOrChanges, AppliesOrStays}
-use Rattle.graph_change.specs.Change.{Change, Changes, Coalesces, changed_graph, coalesced_changes}
-use Rattle.change_plan.specs.BlockDemand.{images_for, AreWritten}
-use Rattle.coalescer.specs.Weight.{fits_chunk}
-use Rattle.coalescer.specs.Within.{images_of}
-use Rattle.change_plan.specs.Next.{nodes_for}
+use Rattle.recovery_laws.specs.layout.Places.{Sizes}
+use Rattle.recovery_laws.specs.layout.declared.marks.Marks.{Marks}
+use Rattle.recovery_laws.specs.batch_journal.Course.{Unmoved}
+use Rattle.recovery_laws.specs.batch_journal.View.{JournalView}
+use Rattle.recovery_laws.specs.area_reader.Store.{Store, disk, graph, marks, store_of}
+use Rattle.recovery_laws.specs.shared_area.Parts.{IsNoDamage}
+use Rattle.recovery_laws.specs.shared_area.Ready.{OpensAs}
+use Rattle.recovery_laws.specs.shared_area.GraphUpdate.{OpensChangedOrNot, StaysOrChanges, AppliesOrStays}
+use Rattle.recovery_laws.specs.graph_change.Change.{Change, Changes, Coalesces, changed_graph, coalesced_changes}
+use Rattle.recovery_laws.specs.change_plan.BlockDemand.{images_for, AreWritten}
+use Rattle.recovery_laws.specs.coalescer.Weight.{fits_chunk}
+use Rattle.recovery_laws.specs.coalescer.Within.{images_of}
+use Rattle.recovery_laws.specs.change_plan.Next.{nodes_for}
 use Rattle.std.specs.List.{sum_by}
-use Rattle.digester.proofs.Applied.{fit_images}
-use Rattle.shared_area.proofs.Writes.{written_each}
-use Rattle.area_reader.specs.declared.error.AreaError.{AreaError}
-use Rattle.area_reader.specs.declared.error.AreaError.TheVariants as area
-use Rattle.kernel_fs.specs.Reclaim.{OpensReclaimedOrNot, ReclaimsOrStays, StaysOrReclaims}
-use Rattle.kernel_fs.specs.declared.error.ReclaimError.{ReclaimError}
-use Rattle.kernel_fs.specs.declared.error.ReclaimError.TheVariants as reclaim
-use Rattle.world_invariant.proofs.Recoveries.{dropped_sound, dropped_state}
+use Rattle.recovery_laws.proofs.digester_lemmas.Applied.{fit_images}
+use Rattle.recovery_laws.proofs.shared_area_lemmas.Writes.{written_each}
+use Rattle.recovery_laws.specs.area_reader.declared.error.AreaError.{AreaError}
+use Rattle.recovery_laws.specs.area_reader.declared.error.AreaError.TheVariants as area
+use Rattle.system_laws.specs.kernel_fs.Reclaim.{OpensReclaimedOrNot, ReclaimsOrStays, StaysOrReclaims}
+use Rattle.system_laws.specs.kernel_fs.declared.error.ReclaimError.{ReclaimError}
+use Rattle.system_laws.specs.kernel_fs.declared.error.ReclaimError.TheVariants as reclaim
+use Rattle.log_survey.proofs.world_invariant_lemmas.Recoveries.{dropped_sound, dropped_state}
 use Rattle.posix_calls.specs.Tree.{State}
-use Rattle.file_graph.specs.Graph.{Graph, Node, Body, FileBody, DirBody, set_node, is_among}
-use Rattle.world_invariant.specs.Logs.{IsNameless}
-use Rattle.call_effects.specs.ClosedGraph.{nobody}
-use Rattle.call_effects.specs.Wholes.{IsSound, state_of}
+use Rattle.graph_check.specs.file_graph.Graph.{Graph, Node, Body, FileBody, DirBody, set_node, is_among}
+use Rattle.log_survey.specs.world_invariant.Logs.{IsNameless}
+use Rattle.graph_check.specs.call_effects.ClosedGraph.{nobody}
+use Rattle.graph_check.specs.call_effects.Wholes.{IsSound, state_of}
 use Rattle.graph_check.specs.Nameless.{is_nameless}
 use Rattle.area_recovery.specs.Errors.{IsAreaFault}
 use Rattle.area_recovery.specs.GraphTests.{without_nameless}

@@ -5,24 +5,24 @@ use Rattle.std.proofs.lemmas.Bool.{and_from, and_parts, eq-eqb, eqb-true}
 use Rattle.std.proofs.lemmas.List.{get_or-set_other, get_or-set_same}
 use Rattle.tier_device.specs.declared.media.Media.{Ghosts}
 use Rattle.tier_device.specs.declared.media.Tier.TheVariants.{Fast}
-use Rattle.batch_journal.specs.View.{JournalView}
-use Rattle.layout.specs.Places.{Sizes}
-use Rattle.area_reader.specs.Store.{Store, disk, graph, marks}
+use Rattle.recovery_laws.specs.batch_journal.View.{JournalView}
+use Rattle.recovery_laws.specs.layout.Places.{Sizes}
+use Rattle.recovery_laws.specs.area_reader.Store.{Store, disk, graph, marks}
 use Rattle.log_survey.specs.Regions.{records_behind, records_of}
 use Rattle.log_survey.specs.declared.regions.LogRest.{LogRest}
-use Rattle.digester.specs.MarkMoves.{mark_of}
-use Rattle.digester.specs.SealedLog.{SealedView, HasUndigested, StandsAt, StandsAtMark, undone}
-use Rattle.update_log.specs.Frames.{records}
-use Rattle.update_log.specs.RecordCounts.{next_generation, records_in}
-use Rattle.log_record.specs.declared.format.Record.{Record}
-use Rattle.world_invariant.proofs.Owners as owners
+use Rattle.recovery_laws.specs.digester.MarkMoves.{mark_of}
+use Rattle.recovery_laws.specs.digester.SealedLog.{SealedView, HasUndigested, StandsAt, StandsAtMark, undone}
+use Rattle.log_survey.specs.update_log.Frames.{records}
+use Rattle.log_survey.specs.update_log.RecordCounts.{next_generation, records_in}
+use Rattle.graph_check.specs.log_record.declared.format.Record.{Record}
+use Rattle.log_survey.proofs.world_invariant_lemmas.Owners as owners
 use Rattle.posix_calls.specs.Operations.{is_client}
 use Rattle.posix_calls.specs.Tree.{State}
-use Rattle.file_graph.specs.Graph.{Graph}
-use Rattle.world_invariant.specs.Logs.{after_records}
-use Rattle.layout.specs.declared.marks.Mark.{Mark}
-use Rattle.layout.specs.declared.marks.Marks.{Marks}
-use Rattle.event_lists.specs.Courses.{Content}
+use Rattle.graph_check.specs.file_graph.Graph.{Graph}
+use Rattle.log_survey.specs.world_invariant.Logs.{after_records}
+use Rattle.recovery_laws.specs.layout.declared.marks.Mark.{Mark}
+use Rattle.recovery_laws.specs.layout.declared.marks.Marks.{Marks}
+use Rattle.system_laws.specs.event_lists.Courses.{Content}
 use Rattle.area_recovery.specs.DigestedLogs.{DigestsAll, HaveRecords, IsLogOf, IsRegionReadRefusal, MovesMark}
 use Rattle.area_recovery.specs.Errors.{IsLogDigestRefusal}
 use Rattle.area_recovery.specs.FaultOrMemory.{IsFaultOrMemory}

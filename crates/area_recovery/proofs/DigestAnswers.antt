@@ -5,20 +5,20 @@ use Rattle.std.proofs.lemmas.Bool.{false≢true}
 use Rattle.std.proofs.lemmas.List.{drop-drop, drop_all, length-drop, take-append-drop}
 use Rattle.tier_device.specs.declared.media.Media.{Ghosts}
 use Rattle.tier_device.specs.Media.{Rose}
-use Rattle.batch_journal.specs.View.{JournalView}
-use Rattle.layout.specs.Places.{Sizes}
-use Rattle.area_reader.specs.Store.{disk, graph, marks}
-use Rattle.digester.specs.DigestStep.{DigestsOrStays, IsDigested}
-use Rattle.digester.specs.MarkMoves.{mark_of, marks_after}
-use Rattle.digester.specs.SealedLog.{SealedView, HasUndigested, IsDoneBy, StandsAt, StandsAtMark, done_to, mark_then, undone}
-use Rattle.digester.specs.declared.error.DigestError.{DigestError}
-use Rattle.digester.specs.declared.error.DigestError.TheVariants as digests
-use Rattle.log_record.specs.declared.format.Record.{Record}
-use Rattle.kernel_fs.proofs.SealedRecords.{effects_are}
+use Rattle.recovery_laws.specs.batch_journal.View.{JournalView}
+use Rattle.recovery_laws.specs.layout.Places.{Sizes}
+use Rattle.recovery_laws.specs.area_reader.Store.{disk, graph, marks}
+use Rattle.recovery_laws.specs.digester.DigestStep.{DigestsOrStays, IsDigested}
+use Rattle.recovery_laws.specs.digester.MarkMoves.{mark_of, marks_after}
+use Rattle.recovery_laws.specs.digester.SealedLog.{SealedView, HasUndigested, IsDoneBy, StandsAt, StandsAtMark, done_to, mark_then, undone}
+use Rattle.recovery_laws.specs.digester.declared.error.DigestError.{DigestError}
+use Rattle.recovery_laws.specs.digester.declared.error.DigestError.TheVariants as digests
+use Rattle.graph_check.specs.log_record.declared.format.Record.{Record}
+use Rattle.system_laws.proofs.kernel_fs_lemmas.SealedRecords.{effects_are}
 use Rattle.posix_calls.specs.Operations.{is_client}
-use Rattle.file_graph.specs.Graph.{Graph}
-use Rattle.world_invariant.specs.Logs.{after_records}
-use Rattle.layout.specs.declared.marks.Marks.{Marks}
+use Rattle.graph_check.specs.file_graph.Graph.{Graph}
+use Rattle.log_survey.specs.world_invariant.Logs.{after_records}
+use Rattle.recovery_laws.specs.layout.declared.marks.Marks.{Marks}
 use Rattle.area_recovery.specs.DigestedLogs.{DigestsNext, IsNoBadLog, IsRefusal}
 use Rattle.area_recovery.specs.Errors.{IsLogDigestRefusal}
 use Rattle.area_recovery.specs.FaultOrMemory.{IsFaultOrMemory}

@@ -3,20 +3,20 @@ use Rattle.std.proofs.Common.{◌≡◌, inl, inr, ℕ, suc, ◌+◌, ◌-◌, �
 use Rattle.std.specs.Prelude.{IsSome, None, slice_get}
 use Rattle.std.proofs.lemmas.Bool.Decides.{eqb_tells}
 use Rattle.tier_device.specs.declared.media.Media.{Ghosts}
-use Rattle.batch_journal.specs.View.{JournalView}
-use Rattle.layout.specs.Places.{Sizes}
-use Rattle.area_reader.specs.Store.{disk, graph, marks}
-use Rattle.digester.specs.MarkMoves.{mark_of}
-use Rattle.update_log.specs.RecordCounts.{counted_records}
-use Rattle.world_invariant.proofs.Owners as owners
+use Rattle.recovery_laws.specs.batch_journal.View.{JournalView}
+use Rattle.recovery_laws.specs.layout.Places.{Sizes}
+use Rattle.recovery_laws.specs.area_reader.Store.{disk, graph, marks}
+use Rattle.recovery_laws.specs.digester.MarkMoves.{mark_of}
+use Rattle.log_survey.specs.update_log.RecordCounts.{counted_records}
+use Rattle.log_survey.proofs.world_invariant_lemmas.Owners as owners
 use Rattle.posix_calls.specs.Operations.{is_client}
 use Rattle.posix_calls.specs.Tree.{State}
-use Rattle.file_graph.specs.Graph.{Graph}
-use Rattle.world_invariant.specs.Logs.{after_clients, after_records}
-use Rattle.layout.specs.declared.marks.Mark.{Mark}
-use Rattle.layout.specs.declared.marks.Marks.{Marks}
+use Rattle.graph_check.specs.file_graph.Graph.{Graph}
+use Rattle.log_survey.specs.world_invariant.Logs.{after_clients, after_records}
+use Rattle.recovery_laws.specs.layout.declared.marks.Mark.{Mark}
+use Rattle.recovery_laws.specs.layout.declared.marks.Marks.{Marks}
 use Rattle.system_laws.specs.Contents.{mark_by}
-use Rattle.log_record.specs.declared.format.Record.{Record}
+use Rattle.graph_check.specs.log_record.declared.format.Record.{Record}
 use Rattle.area_recovery.specs.declared.error.RecoveryError.{RecoveryError}
 use Rattle.area_recovery.specs.declared.error.RecoveryError.TheVariants as errors
 use Rattle.area_recovery.specs.DigestedLogs.{CanDigest, CanDigestAll, DigestsLog, IsFirstRefused}

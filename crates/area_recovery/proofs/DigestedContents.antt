@@ -8,39 +8,39 @@ use Rattle.std.proofs.lemmas.List.{get_or-set_other, get_or-set_same, length-app
 use Rattle.tier_device.specs.declared.media.Media.{Ghosts}
 use Rattle.tier_device.specs.declared.media.Tier.{Tier}
 use Rattle.tier_device.specs.AfterStop.{Left}
-use Rattle.layout.specs.Marks.{fits_mark, fits_marks}
-use Rattle.layout.specs.Places.{Sizes}
-use Rattle.batch_journal.specs.View.{JournalView}
-use Rattle.batch_journal.specs.Volume.{IsVolume}
-use Rattle.area_reader.specs.Store.{disk, graph, marks, store_of}
-use Rattle.shared_area.specs.Ready.{OpensAs}
-use Rattle.digester.specs.DigestStep.{IsDigested, NamesFirstBad, OpensDigestedOrNot, StaysOrDigests}
-use Rattle.digester.specs.MarkMoves.{mark_after, mark_of, marks_after}
-use Rattle.digester.specs.Plan.{IsFirstBad}
-use Rattle.digester.specs.SealedLog.{SealedView, HasUndigested, StandsAt, mark_then, undone}
-use Rattle.digester.specs.declared.error.DigestError.{DigestError}
-use Rattle.digester.specs.declared.error.DigestError.TheVariants as digests
+use Rattle.recovery_laws.specs.layout.Marks.{fits_mark, fits_marks}
+use Rattle.recovery_laws.specs.layout.Places.{Sizes}
+use Rattle.recovery_laws.specs.batch_journal.View.{JournalView}
+use Rattle.recovery_laws.specs.batch_journal.Volume.{IsVolume}
+use Rattle.recovery_laws.specs.area_reader.Store.{disk, graph, marks, store_of}
+use Rattle.recovery_laws.specs.shared_area.Ready.{OpensAs}
+use Rattle.recovery_laws.specs.digester.DigestStep.{IsDigested, NamesFirstBad, OpensDigestedOrNot, StaysOrDigests}
+use Rattle.recovery_laws.specs.digester.MarkMoves.{mark_after, mark_of, marks_after}
+use Rattle.recovery_laws.specs.digester.Plan.{IsFirstBad}
+use Rattle.recovery_laws.specs.digester.SealedLog.{SealedView, HasUndigested, StandsAt, mark_then, undone}
+use Rattle.recovery_laws.specs.digester.declared.error.DigestError.{DigestError}
+use Rattle.recovery_laws.specs.digester.declared.error.DigestError.TheVariants as digests
 use Rattle.posix_calls.proofs.Sums.{same_if, there_if}
-use Rattle.update_log.specs.RecordCounts.{counted_records, next_generation, records_in}
-use Rattle.update_log.specs.View.{HasSize}
-use Rattle.log_record.specs.Grammar.{IsRecord}
-use Rattle.log_record.specs.declared.format.Record.{Record}
-use Rattle.kernel_fs.proofs.SealedRecords.{effects_are}
-use Rattle.world_invariant.proofs.Owners as owners
-use Rattle.world_invariant.proofs.Recoveries.{recovered_same, still_recoverable}
+use Rattle.log_survey.specs.update_log.RecordCounts.{counted_records, next_generation, records_in}
+use Rattle.log_survey.specs.update_log.View.{HasSize}
+use Rattle.graph_check.specs.log_record.Grammar.{IsRecord}
+use Rattle.graph_check.specs.log_record.declared.format.Record.{Record}
+use Rattle.system_laws.proofs.kernel_fs_lemmas.SealedRecords.{effects_are}
+use Rattle.log_survey.proofs.world_invariant_lemmas.Owners as owners
+use Rattle.log_survey.proofs.world_invariant_lemmas.Recoveries.{recovered_same, still_recoverable}
 use Rattle.recovery_laws.specs.Inodes.{HasEveryInode}
 use Rattle.recovery_laws.proofs.RecordCovers.{never}
 use Rattle.posix_calls.specs.Tree.{State}
 use Rattle.posix_calls.specs.Operations.{is_client}
-use Rattle.file_graph.specs.Graph.{Graph}
-use Rattle.layout.specs.declared.marks.Mark.{Mark}
-use Rattle.layout.specs.declared.marks.Marks.{Marks}
-use Rattle.call_effects.specs.ClosedGraph.{nobody, settled_graph}
-use Rattle.call_effects.specs.Wholes.{state_of}
-use Rattle.world_invariant.specs.Logs.{after_clients, after_records}
-use Rattle.world_invariant.specs.Recovery.{IsRecoverable}
-use Rattle.world_invariant.specs.World.{at}
-use Rattle.event_lists.specs.Courses.{Content}
+use Rattle.graph_check.specs.file_graph.Graph.{Graph}
+use Rattle.recovery_laws.specs.layout.declared.marks.Mark.{Mark}
+use Rattle.recovery_laws.specs.layout.declared.marks.Marks.{Marks}
+use Rattle.graph_check.specs.call_effects.ClosedGraph.{nobody, settled_graph}
+use Rattle.graph_check.specs.call_effects.Wholes.{state_of}
+use Rattle.log_survey.specs.world_invariant.Logs.{after_clients, after_records}
+use Rattle.log_survey.specs.world_invariant.Recovery.{IsRecoverable}
+use Rattle.log_survey.specs.world_invariant.World.{at}
+use Rattle.system_laws.specs.event_lists.Courses.{Content}
 use Rattle.system_laws.specs.Contents.{AreInTurn, log_in, mark_by, stored_graph}
 use Rattle.area_recovery.specs.DigestedLogs.{HaveRecords, IsNoBadLog}
 use Rattle.area_recovery.specs.Phases.{StaysRecovered}

@@ -1,9 +1,9 @@
 -- Logs whose records can be digested.
 use Rattle.std.proofs.Common.{◌≡◌, ℕ, ◌-◌, ◌<◌, ◌≤◌, true, List, sym, subst, arith}
-use Rattle.world_invariant.proofs.Owners as owners
-use Rattle.file_graph.specs.Graph.{Graph}
-use Rattle.log_record.specs.declared.format.Record.{Record}
-use Rattle.world_invariant.specs.Logs.{after_clients}
+use Rattle.log_survey.proofs.world_invariant_lemmas.Owners as owners
+use Rattle.graph_check.specs.file_graph.Graph.{Graph}
+use Rattle.graph_check.specs.log_record.declared.format.Record.{Record}
+use Rattle.log_survey.specs.world_invariant.Logs.{after_clients}
 use Rattle.posix_calls.specs.Operations.{is_client}
 use Rattle.area_recovery.specs.DigestedLogs.{CanDigest, CanDigestAll}
 use Rattle.area_recovery.proofs.Recovering.{same_after}

@@ -6,8 +6,8 @@ use Rattle.std.proofs.lemmas.Bool.{eq-eqb}
 use Rattle.std.proofs.lemmas.Bool.Decides.{nat_tests}
 use Rattle.std.proofs.lemmas.List.{length-append}
 use Rattle.std.proofs.lemmas.List.Folds.{list_any-append}
-use Rattle.layout.specs.Places.{is_inode}
-use Rattle.file_graph.specs.Graph.{is_among}
+use Rattle.recovery_laws.specs.layout.Places.{is_inode}
+use Rattle.graph_check.specs.file_graph.Graph.{is_among}
 use Rattle.recovery_laws.specs.Inodes.{HasEveryInode}
 
 -- the numbers from 1 to n

@@ -1,10 +1,10 @@
 -- What the refusals of the area tell of those of a phase.
 use Rattle.std.proofs.Common.{◌≡◌, ◌≢◌, ℕ, refl, sym, subst}
-use Rattle.layout.specs.declared.error.What.{What}
-use Rattle.area_reader.specs.declared.error.AreaError.{AreaError}
-use Rattle.area_reader.specs.declared.error.AreaError.TheVariants as area
-use Rattle.area_reader.specs.Damage as areas
-use Rattle.area_reader.specs.Refusals.{IsReadRefusal}
+use Rattle.recovery_laws.specs.layout.declared.error.What.{What}
+use Rattle.recovery_laws.specs.area_reader.declared.error.AreaError.{AreaError}
+use Rattle.recovery_laws.specs.area_reader.declared.error.AreaError.TheVariants as area
+use Rattle.recovery_laws.specs.area_reader.Damage as areas
+use Rattle.recovery_laws.specs.area_reader.Refusals.{IsReadRefusal}
 use Rattle.area_recovery.specs.declared.error.RecoveryError.{RecoveryError}
 use Rattle.area_recovery.specs.declared.error.RecoveryError.TheVariants as errors
 use Rattle.area_recovery.specs.Errors.{OnDamage, IsOfArea, IsAreaFault}

@@ -5,22 +5,22 @@ use Rattle.std.proofs.lemmas.Bool.{cases_lt, cond-true, eq-eqb}
 use Rattle.std.proofs.lemmas.List.{append-nil, drop_all, length-append, length-drop}
 use Rattle.log_survey.specs.Regions.{records_behind, records_of}
 use Rattle.log_survey.specs.declared.regions.LogRest.{LogRest}
-use Rattle.update_log.specs.Frames.{records}
-use Rattle.update_log.specs.RecordCounts.{counted_records, next_generation, records_in, records_under}
-use Rattle.update_log.specs.WipeStops.{generation}
-use Rattle.log_record.specs.declared.format.Record.{Record}
+use Rattle.log_survey.specs.update_log.Frames.{records}
+use Rattle.log_survey.specs.update_log.RecordCounts.{counted_records, next_generation, records_in, records_under}
+use Rattle.log_survey.specs.update_log.WipeStops.{generation}
+use Rattle.graph_check.specs.log_record.declared.format.Record.{Record}
 use Rattle.tier_device.specs.declared.media.Media.{Ghosts}
-use Rattle.batch_journal.specs.View.{JournalView}
-use Rattle.layout.specs.Places.{Sizes}
-use Rattle.area_reader.specs.Store.{disk, graph, marks, store_of}
-use Rattle.digester.specs.MarkMoves.{mark_of}
+use Rattle.recovery_laws.specs.batch_journal.View.{JournalView}
+use Rattle.recovery_laws.specs.layout.Places.{Sizes}
+use Rattle.recovery_laws.specs.area_reader.Store.{disk, graph, marks, store_of}
+use Rattle.recovery_laws.specs.digester.MarkMoves.{mark_of}
 use Rattle.posix_calls.specs.Operations.{is_client}
 use Rattle.posix_calls.specs.Tree.{State}
-use Rattle.file_graph.specs.Graph.{Graph}
-use Rattle.world_invariant.specs.Logs.{after_records}
-use Rattle.layout.specs.declared.marks.Mark.{Mark}
-use Rattle.layout.specs.declared.marks.Marks.{Marks}
-use Rattle.event_lists.specs.Courses.{Content}
+use Rattle.graph_check.specs.file_graph.Graph.{Graph}
+use Rattle.log_survey.specs.world_invariant.Logs.{after_records}
+use Rattle.recovery_laws.specs.layout.declared.marks.Mark.{Mark}
+use Rattle.recovery_laws.specs.layout.declared.marks.Marks.{Marks}
+use Rattle.system_laws.specs.event_lists.Courses.{Content}
 use Rattle.system_laws.specs.Contents.{mark_by}
 use Rattle.area_recovery.specs.DigestedLogs.{DigestsAll, DigestsLog, StandsAtStart}
 use Rattle.area_recovery.specs.FoundLogs.{HasGeneration, HoldsFew, IsFound, IsRestOf}

@@ -2,9 +2,9 @@
 use Rattle.std.proofs.Common.{◌≡◌, ℕ, zero, suc, ◌-◌, List, [], ◌∷◌, length, map, refl, ap, sym, ◌∙◌, subst, arith}
 use Rattle.std.specs.Prelude.{get_or, slice_get, slice_index, Some}
 use Rattle.std.proofs.lemmas.List.{length-map}
-use Rattle.area_reader.specs.Store.{marks, store_of}
-use Rattle.layout.specs.declared.marks.Mark.{Mark}
-use Rattle.event_lists.specs.Courses.{Content}
+use Rattle.recovery_laws.specs.area_reader.Store.{marks, store_of}
+use Rattle.recovery_laws.specs.layout.declared.marks.Mark.{Mark}
+use Rattle.system_laws.specs.event_lists.Courses.{Content}
 use Rattle.area_recovery.specs.Silent.{AreMarked}
 use Rattle.area_recovery.specs.declared.log_search.FoundLog.{FoundLog}
 use Rattle.area_recovery.proofs.ReadContents.{AreFresh, AreGenerations}

@@ -5,20 +5,20 @@ use Rattle.std.proofs.lemmas.Bool.{cases_Bool, false≢true}
 use Rattle.std.proofs.lemmas.Bool.Decides.{nat_tests}
 use Rattle.tier_device.specs.declared.media.Media.{Ghosts}
 use Rattle.tier_device.specs.Media.{Rose}
-use Rattle.layout.specs.Places.{Sizes, is_inode}
-use Rattle.batch_journal.specs.Course.{Unmoved}
-use Rattle.batch_journal.specs.View.{JournalView}
-use Rattle.area_reader.specs.Looks.{Looks, call_answer}
-use Rattle.area_reader.specs.Store.{Store, graph}
-use Rattle.area_reader.specs.declared.error.AreaError.{AreaError}
-use Rattle.area_reader.specs.declared.error.AreaError.TheVariants as area
-use Rattle.shared_area.specs.NodeQuestions.{HasAsked}
-use Rattle.shared_area.specs.Parts.{IsNoDamage}
-use Rattle.shared_area.proofs.Entries.{no_view}
-use Rattle.file_graph.specs.Graph.{Graph, Node}
-use Rattle.file_graph.specs.declared.effect.Kind.{Kind}
-use Rattle.call_effects.specs.NodeView.{view_of_node}
-use Rattle.call_effects.specs.Wholes.{kind_of}
+use Rattle.recovery_laws.specs.layout.Places.{Sizes, is_inode}
+use Rattle.recovery_laws.specs.batch_journal.Course.{Unmoved}
+use Rattle.recovery_laws.specs.batch_journal.View.{JournalView}
+use Rattle.recovery_laws.specs.area_reader.Looks.{Looks, call_answer}
+use Rattle.recovery_laws.specs.area_reader.Store.{Store, graph}
+use Rattle.recovery_laws.specs.area_reader.declared.error.AreaError.{AreaError}
+use Rattle.recovery_laws.specs.area_reader.declared.error.AreaError.TheVariants as area
+use Rattle.recovery_laws.specs.shared_area.NodeQuestions.{HasAsked}
+use Rattle.recovery_laws.specs.shared_area.Parts.{IsNoDamage}
+use Rattle.recovery_laws.proofs.shared_area_lemmas.Entries.{no_view}
+use Rattle.graph_check.specs.file_graph.Graph.{Graph, Node}
+use Rattle.graph_check.specs.file_graph.declared.effect.Kind.{Kind}
+use Rattle.graph_check.specs.call_effects.NodeView.{view_of_node}
+use Rattle.graph_check.specs.call_effects.Wholes.{kind_of}
 use Rattle.graph_check.specs.declared.defect.GraphError.{GraphError}
 use Rattle.graph_check.specs.declared.defect.GraphError.TheVariants as why
 use Rattle.graph_check.specs.Defects.{HasDefect, HasInodesAlone, IfUnsound}

@@ -3,13 +3,13 @@ use Rattle.std.proofs.Common.{◌≡◌, ◌≢◌, ◌⊎◌, ℕ, ◌+◌, ◌
 use Rattle.std.specs.Prelude.{drop}
 use Rattle.tier_device.specs.declared.media.Tier.TheVariants.{Fast}
 use Rattle.posix_calls.specs.Operations.{is_client}
-use Rattle.log_record.specs.declared.format.Record.{Record}
-use Rattle.update_log.specs.RecordCounts.{counted_records, next_generation, records_in, records_under}
-use Rattle.area_reader.specs.Store.{marks, store_of}
-use Rattle.layout.specs.declared.marks.Mark.{Mark}
-use Rattle.event_lists.specs.Courses.{Content, part_of}
+use Rattle.graph_check.specs.log_record.declared.format.Record.{Record}
+use Rattle.log_survey.specs.update_log.RecordCounts.{counted_records, next_generation, records_in, records_under}
+use Rattle.recovery_laws.specs.area_reader.Store.{marks, store_of}
+use Rattle.recovery_laws.specs.layout.declared.marks.Mark.{Mark}
+use Rattle.system_laws.specs.event_lists.Courses.{Content, part_of}
 use Rattle.system_laws.specs.Contents.{AreInTurn, log_in, mark_by, regions_in}
-use Rattle.world_invariant.proofs.Owners.{is_low}
+use Rattle.log_survey.proofs.world_invariant_lemmas.Owners.{is_low}
 use Rattle.area_recovery.specs.Recovers.{Regions, joined, region_content}
 
 half_is : (c r : ℕ) → 1 ≤ c → r < 2 → (2 * (c - 1) + r) / 2 + 1 ≡ c

@@ -3,18 +3,18 @@ use Rattle.std.proofs.Common.{◌≡◌, ℕ, zero, suc, ◌<◌, ◌≤◌, tru
 use Rattle.std.specs.Prelude.{slice_index_or}
 use Rattle.std.specs.List.{AllByRecursion}
 use Rattle.tier_device.specs.declared.media.Media.{Ghosts}
-use Rattle.batch_journal.specs.Volume.{IsVolume}
-use Rattle.area_reader.specs.Format.{IsOpenable}
-use Rattle.area_reader.specs.Store.{Store, graph, marks, store_of}
+use Rattle.recovery_laws.specs.batch_journal.Volume.{IsVolume}
+use Rattle.recovery_laws.specs.area_reader.Format.{IsOpenable}
+use Rattle.recovery_laws.specs.area_reader.Store.{Store, graph, marks, store_of}
 use Rattle.system_laws.specs.Contents.{log_in, mark_by, regions_in, stored_graph, stored_state}
 use Rattle.system_laws.specs.Parts.{medium_of}
 use Rattle.system_laws.specs.WorldView.{WorldView}
-use Rattle.event_lists.specs.Courses.{PARTS, WorldContent}
-use Rattle.call_effects.specs.ClosedGraph.{nobody, settled_graph}
-use Rattle.call_effects.specs.Wholes.{IsSound, state_of}
-use Rattle.layout.specs.Places.{Sizes}
-use Rattle.file_graph.specs.Graph.{Graph}
-use Rattle.world_invariant.specs.Logs.{after_clients, is_written}
+use Rattle.system_laws.specs.event_lists.Courses.{PARTS, WorldContent}
+use Rattle.graph_check.specs.call_effects.ClosedGraph.{nobody, settled_graph}
+use Rattle.graph_check.specs.call_effects.Wholes.{IsSound, state_of}
+use Rattle.recovery_laws.specs.layout.Places.{Sizes}
+use Rattle.graph_check.specs.file_graph.Graph.{Graph}
+use Rattle.log_survey.specs.world_invariant.Logs.{after_clients, is_written}
 use Rattle.posix_calls.specs.Operations.{is_client}
 use Rattle.area_recovery.specs.declared.error.RecoveryError.{RecoveryError}
 use Rattle.area_recovery.specs.Parts.{contents_of}

@@ -33,3 +33,5 @@ pub mod SharedRecords
 pub mod TouchedRecords
 pub mod UndigestibleRecords
 pub mod RefusalCauses
+-- Handed on to the crates above, which list only the highest of what they name.
+pub use Rattle.recovery_laws.proofs as recovery_laws_lemmas

@@ -3,19 +3,19 @@ use Rattle.std.proofs.Common.{◌≡◌, ◌≢◌, ℕ, zero, suc, ◌+◌, ◌
 use Rattle.std.specs.List.{AllZip}
 use Rattle.std.specs.Prelude.{drop, slice_get, slice_index, slice_index_or, Option, Some}
 use Rattle.std.proofs.lemmas.Option.{slice_get_within}
-use Rattle.update_log.specs.Stage.{IsIdle}
-use Rattle.update_log.specs.View.{HasSize, RegionView}
-use Rattle.update_log.specs.WipeStops.{generation}
-use Rattle.update_log.specs.RecordCounts.{counted_records, next_generation, records_in, records_under}
+use Rattle.log_survey.specs.update_log.Stage.{IsIdle}
+use Rattle.log_survey.specs.update_log.View.{HasSize, RegionView}
+use Rattle.log_survey.specs.update_log.WipeStops.{generation}
+use Rattle.log_survey.specs.update_log.RecordCounts.{counted_records, next_generation, records_in, records_under}
 use Rattle.tier_device.specs.declared.media.Media.{Ghosts}
 use Rattle.tier_device.specs.declared.media.Tier.TheVariants.{Fast}
-use Rattle.update_log.proofs.Counts.{other_counts_none}
+use Rattle.log_survey.proofs.update_log_lemmas.Counts.{other_counts_none}
 use Rattle.system_laws.specs.Contents.{log_in, mark_by}
-use Rattle.event_lists.specs.Courses.{Content}
-use Rattle.area_reader.specs.Store.{marks, store_of}
-use Rattle.digester.specs.MarkMoves.{mark_of}
-use Rattle.layout.specs.declared.marks.Mark.{Mark}
-use Rattle.layout.specs.declared.marks.Marks.{Marks}
+use Rattle.system_laws.specs.event_lists.Courses.{Content}
+use Rattle.recovery_laws.specs.area_reader.Store.{marks, store_of}
+use Rattle.recovery_laws.specs.digester.MarkMoves.{mark_of}
+use Rattle.recovery_laws.specs.layout.declared.marks.Mark.{Mark}
+use Rattle.recovery_laws.specs.layout.declared.marks.Marks.{Marks}
 use Rattle.posix_calls.specs.Operations.{is_client}
 use Rattle.area_recovery.specs.FoundLogs.{AreFound, log_by}
 use Rattle.area_recovery.specs.Recovers.{AreThese, CountNone, Regions, joined, marks_by}

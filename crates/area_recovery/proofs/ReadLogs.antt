@@ -3,18 +3,18 @@ use Rattle.std.proofs.Common.{◌≡◌, ℕ, zero, suc, ◌%◌, ◌<◌, List,
 use Rattle.std.specs.Prelude.{Option, Some, None, IfSome, min, slice_index}
 use Rattle.std.proofs.lemmas.Bool.{false≢true}
 use lib.ListN.{length-map}
-use Rattle.log_record.specs.Touches.{inodes_of}
-use Rattle.log_record.specs.declared.format.Record.{Record}
-use Rattle.update_log.specs.Frames.{header, records}
-use Rattle.update_log.specs.WipeStops.{generation}
-use Rattle.update_log.proofs.Counts.{header_tells}
+use Rattle.graph_check.specs.log_record.Touches.{inodes_of}
+use Rattle.graph_check.specs.log_record.declared.format.Record.{Record}
+use Rattle.log_survey.specs.update_log.Frames.{header, records}
+use Rattle.log_survey.specs.update_log.WipeStops.{generation}
+use Rattle.log_survey.proofs.update_log_lemmas.Counts.{header_tells}
 use Rattle.log_survey.specs.Owners.{TouchInodes}
 use Rattle.log_survey.specs.Regions.{AreRead, records_behind, records_of, records_that_count}
 use Rattle.log_survey.specs.declared.regions.CountedLogs.{CountedLogs}
 use Rattle.log_survey.specs.declared.regions.LogRest.{LogRest}
 use Rattle.std.specs.List.{AllZip}
 use Rattle.tier_device.specs.declared.media.Media.{Ghosts}
-use Rattle.update_log.specs.View.{RegionView}
+use Rattle.log_survey.specs.update_log.View.{RegionView}
 use Rattle.area_recovery.specs.Regions.{IsOnlyRead}
 use Rattle.area_recovery.specs.FoundLogs.{AreReadAs, HasGeneration, IsRestOf, first_part, second_part}
 

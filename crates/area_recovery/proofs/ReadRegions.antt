@@ -6,9 +6,9 @@ use Rattle.std.proofs.lemmas.Option.{slice_get-get_or}
 use Rattle.tier_device.specs.declared.media.Media.{Ghosts}
 use Rattle.tier_device.specs.declared.media.Tier.TheVariants.{Fast}
 use Rattle.tier_device.specs.Media.{Rose}
-use Rattle.update_log.specs.Stage.{IsIdle}
-use Rattle.update_log.specs.View.{RegionView}
-use Rattle.batch_journal.specs.View.{JournalView}
+use Rattle.log_survey.specs.update_log.Stage.{IsIdle}
+use Rattle.log_survey.specs.update_log.View.{RegionView}
+use Rattle.recovery_laws.specs.batch_journal.View.{JournalView}
 use Rattle.area_recovery.specs.Phases.{AnswersEither, AnswersFaults}
 use Rattle.area_recovery.specs.Regions.{HaveRisen, IsOnlyRead, IsUntouched, media_of, read_of, regions_read}
 use Rattle.area_recovery.specs.declared.error.RecoveryError.{RecoveryError}

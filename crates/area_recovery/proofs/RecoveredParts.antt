@@ -6,11 +6,11 @@ use Rattle.tier_device.specs.declared.media.Tier.{Tier}
 use Rattle.tier_device.specs.declared.media.Tier.TheVariants.{Fast, Block, Slow}
 use Rattle.tier_device.specs.AfterStop.{AtRest}
 use Rattle.tier_device.specs.StopsSince.{LeftSince}
-use Rattle.update_log.specs.Moments.{PastStays}
-use Rattle.update_log.specs.View.{HasSize, RegionView}
-use Rattle.batch_journal.specs.View.{JournalView}
+use Rattle.log_survey.specs.update_log.Moments.{PastStays}
+use Rattle.log_survey.specs.update_log.View.{HasSize, RegionView}
+use Rattle.recovery_laws.specs.batch_journal.View.{JournalView}
 use Rattle.system_laws.specs.Contents.{regions_in}
-use Rattle.event_lists.specs.Courses.{PARTS, part_of}
+use Rattle.system_laws.specs.event_lists.Courses.{PARTS, part_of}
 use Rattle.posix_calls.specs.Operations.{is_client}
 use Rattle.area_recovery.specs.Parts.{contents_of, part_medium}
 use Rattle.area_recovery.specs.PartMedia.{AreUntouched, media_beneath}

@@ -3,24 +3,24 @@ use Rattle.std.proofs.Common.{◌≡◌, inr, ℕ, zero, suc, ◌+◌, ◌<◌, 
 use Rattle.std.specs.Prelude.{Option}
 use Rattle.posix_calls.specs.Tree.{State, sum_up_to}
 use Rattle.posix_calls.specs.Operations.{is_client}
-use Rattle.file_graph.specs.Graph.{Graph}
-use Rattle.file_graph.specs.Units.{charge}
-use Rattle.log_record.specs.declared.format.Record.{Record}
-use Rattle.update_log.specs.View.{HasSize}
-use Rattle.layout.specs.Places.{Sizes}
-use Rattle.layout.specs.declared.marks.Marks.{Marks}
-use Rattle.batch_journal.specs.Volume.{IsVolume}
-use Rattle.area_reader.specs.Format.{IsOpenable}
-use Rattle.area_reader.specs.Store.{graph, marks, store_of}
-use Rattle.call_effects.specs.ClosedGraph.{nobody, settled_graph}
-use Rattle.call_effects.specs.Wholes.{IsSound, state_of}
-use Rattle.world_invariant.specs.Limits.{AreWithin}
-use Rattle.world_invariant.specs.Logs.{after_clients, after_records, is_written, units_in, ArePaid, KeepLimits}
-use Rattle.world_invariant.specs.Recovery.{IsRecoverable}
-use Rattle.event_lists.specs.Courses.{Content, part_of}
+use Rattle.graph_check.specs.file_graph.Graph.{Graph}
+use Rattle.graph_check.specs.file_graph.Units.{charge}
+use Rattle.graph_check.specs.log_record.declared.format.Record.{Record}
+use Rattle.log_survey.specs.update_log.View.{HasSize}
+use Rattle.recovery_laws.specs.layout.Places.{Sizes}
+use Rattle.recovery_laws.specs.layout.declared.marks.Marks.{Marks}
+use Rattle.recovery_laws.specs.batch_journal.Volume.{IsVolume}
+use Rattle.recovery_laws.specs.area_reader.Format.{IsOpenable}
+use Rattle.recovery_laws.specs.area_reader.Store.{graph, marks, store_of}
+use Rattle.graph_check.specs.call_effects.ClosedGraph.{nobody, settled_graph}
+use Rattle.graph_check.specs.call_effects.Wholes.{IsSound, state_of}
+use Rattle.log_survey.specs.world_invariant.Limits.{AreWithin}
+use Rattle.log_survey.specs.world_invariant.Logs.{after_clients, after_records, is_written, units_in, ArePaid, KeepLimits}
+use Rattle.log_survey.specs.world_invariant.Recovery.{IsRecoverable}
+use Rattle.system_laws.specs.event_lists.Courses.{Content, part_of}
 use Rattle.system_laws.specs.Contents.{AreInTurn, log_in, mark_by, stored_graph}
-use Rattle.world_invariant.proofs.Owners as owners
-use Rattle.world_invariant.proofs.Recoveries.{recovered_sound, settled_same}
+use Rattle.log_survey.proofs.world_invariant_lemmas.Owners as owners
+use Rattle.log_survey.proofs.world_invariant_lemmas.Recoveries.{recovered_sound, settled_same}
 use Rattle.recovery_laws.proofs.AreaLimits.{area_within}
 use Rattle.area_recovery.specs.Recovers.{Regions, Recovers, CountNone, joined}
 use Rattle.area_recovery.proofs.JoinedRegions.{TakeTurns, counted_by, log_is, part_is, turns_are, turns_of}

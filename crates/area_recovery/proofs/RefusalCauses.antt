@@ -2,20 +2,20 @@
 use Rattle.std.proofs.Common.{◌≡◌, ◌⊎◌, inl, inr, ℕ, zero, suc, ◌+◌, ◌-◌, ◌/◌, ◌%◌, ◌<◌, ◌≤◌, true, List, [], ◌∷◌, take, length, ap, sym, ◌∙◌, subst, arith}
 use Rattle.std.specs.List.{AllByRecursion, AllZip}
 use Rattle.std.specs.Prelude.{Err, Ok, OnOk, Result, Some, slice_get, slice_index_or}
-use Rattle.shared_area.specs.AreaOpen.{IsMediumDamage, SpellsNone}
-use Rattle.update_log.specs.View.{HasSize, RegionView}
+use Rattle.recovery_laws.specs.shared_area.AreaOpen.{IsMediumDamage, SpellsNone}
+use Rattle.log_survey.specs.update_log.View.{HasSize, RegionView}
 use Rattle.tier_device.specs.declared.media.Media.{Ghosts}
 use Rattle.tier_device.specs.declared.media.Tier.TheVariants.{Fast}
-use Rattle.world_invariant.proofs.Owners as owners
+use Rattle.log_survey.proofs.world_invariant_lemmas.Owners as owners
 use Rattle.system_laws.specs.Contents.{log_in}
-use Rattle.event_lists.specs.Courses.{WorldContent, part_of}
-use Rattle.area_reader.specs.Format.{IsOpenable}
-use Rattle.area_reader.specs.Store.{Store, graph, store_of}
-use Rattle.batch_journal.specs.Volume.{IsVolume}
-use Rattle.layout.specs.Places.{Sizes}
-use Rattle.file_graph.specs.Graph.{Graph}
-use Rattle.log_record.specs.declared.format.Record.{Record}
-use Rattle.world_invariant.specs.Logs.{LogsAreApart, after_clients, is_written}
+use Rattle.system_laws.specs.event_lists.Courses.{WorldContent, part_of}
+use Rattle.recovery_laws.specs.area_reader.Format.{IsOpenable}
+use Rattle.recovery_laws.specs.area_reader.Store.{Store, graph, store_of}
+use Rattle.recovery_laws.specs.batch_journal.Volume.{IsVolume}
+use Rattle.recovery_laws.specs.layout.Places.{Sizes}
+use Rattle.graph_check.specs.file_graph.Graph.{Graph}
+use Rattle.graph_check.specs.log_record.declared.format.Record.{Record}
+use Rattle.log_survey.specs.world_invariant.Logs.{LogsAreApart, after_clients, is_written}
 use Rattle.posix_calls.specs.Operations.{is_client}
 use Rattle.area_recovery.specs.declared.error.RecoveryError.{RecoveryError}
 use Rattle.area_recovery.specs.declared.error.RecoveryError.TheVariants as errors

@@ -2,8 +2,8 @@
 use Rattle.std.proofs.Common.{◌≡◌, ℕ, zero, suc, ◌≤◌, List, [], ◌∷◌, ◌++◌, length, refl, ap, ◌∙◌, subst, arith}
 use Rattle.std.specs.Prelude.{drop, slice_get, slice_index_or, take, Option, Some, None}
 use Rattle.std.specs.List.{AllZip}
-use Rattle.update_log.specs.View.{RegionView}
-use Rattle.batch_journal.specs.View.{JournalView}
+use Rattle.log_survey.specs.update_log.View.{RegionView}
+use Rattle.recovery_laws.specs.batch_journal.View.{JournalView}
 use Rattle.area_recovery.specs.Parts.{part_medium}
 use Rattle.area_recovery.specs.PartMedia.{media_beneath}
 use Rattle.area_recovery.specs.Regions.{media_of}

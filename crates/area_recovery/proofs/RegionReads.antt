@@ -3,14 +3,14 @@ use Rattle.std.proofs.Common.{◌≡◌, ◌⊎◌, inl, inr, ℕ, zero, suc, �
 use Rattle.std.specs.Prelude.{slice_get, slice_index_or, slice_set, Some}
 use Rattle.std.specs.List.{AllZip}
 use Rattle.std.proofs.lemmas.Option.{get_or_from_slice_get, same_Some, slice_get-get_or}
-use Rattle.log_record.specs.declared.format.Record.{Record}
+use Rattle.graph_check.specs.log_record.declared.format.Record.{Record}
 use Rattle.tier_device.specs.Media.{Rose}
 use Rattle.tier_device.specs.declared.media.Media.{Ghosts}
 use Rattle.tier_device.specs.declared.media.Tier.TheVariants.{Fast}
-use Rattle.update_log.specs.View.{RegionView}
-use Rattle.digester.specs.MarkMoves.{mark_of}
-use Rattle.layout.specs.declared.marks.Mark.{Mark}
-use Rattle.layout.specs.declared.marks.Marks.{Marks}
+use Rattle.log_survey.specs.update_log.View.{RegionView}
+use Rattle.recovery_laws.specs.digester.MarkMoves.{mark_of}
+use Rattle.recovery_laws.specs.layout.declared.marks.Mark.{Mark}
+use Rattle.recovery_laws.specs.layout.declared.marks.Marks.{Marks}
 use Rattle.area_recovery.specs.Recovers.{Regions}
 use Rattle.area_recovery.specs.FoundLogs.{AreFound, AreReadAs, IsFound, IsReadAs}
 use Rattle.area_recovery.specs.Regions.{HaveRisen, IsOnlyRead, Rests, media_of, place_of, read_of, regions_read}

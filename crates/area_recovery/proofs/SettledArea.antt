@@ -6,14 +6,14 @@ use Rattle.tier_device.specs.declared.media.Media.{Ghosts}
 use Rattle.tier_device.specs.declared.media.Tier.{Tier}
 use Rattle.tier_device.specs.declared.media.Tier.TheVariants.{Fast}
 use Rattle.tier_device.specs.AfterStop.{AtRest}
-use Rattle.update_log.specs.Stage.{IsIdle}
-use Rattle.update_log.specs.View.{RegionView}
-use Rattle.update_log.specs.WipeStops.{generation}
-use Rattle.batch_journal.specs.View.{JournalView}
-use Rattle.area_reader.specs.Store.{disk, marks, store_of}
-use Rattle.layout.specs.declared.marks.Mark.{Mark}
-use Rattle.event_lists.specs.Courses.{Content}
-use Rattle.layout.specs.Places.{Sizes}
+use Rattle.log_survey.specs.update_log.Stage.{IsIdle}
+use Rattle.log_survey.specs.update_log.View.{RegionView}
+use Rattle.log_survey.specs.update_log.WipeStops.{generation}
+use Rattle.recovery_laws.specs.batch_journal.View.{JournalView}
+use Rattle.recovery_laws.specs.area_reader.Store.{disk, marks, store_of}
+use Rattle.recovery_laws.specs.layout.declared.marks.Mark.{Mark}
+use Rattle.system_laws.specs.event_lists.Courses.{Content}
+use Rattle.recovery_laws.specs.layout.Places.{Sizes}
 use Rattle.posix_calls.specs.Tree.{State}
 use Rattle.area_recovery.specs.Phases.{StaysRecovered}
 use Rattle.area_recovery.specs.Recovers.{AreThese, Recovers, Regions}

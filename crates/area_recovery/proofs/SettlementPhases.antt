@@ -5,15 +5,15 @@ use Rattle.std.specs.List.{AllZip}
 use Rattle.tier_device.specs.declared.media.Media.{Ghosts}
 use Rattle.tier_device.specs.declared.media.Tier.{Tier}
 use Rattle.tier_device.specs.AfterStop.{AtRest}
-use Rattle.update_log.specs.View.{RegionView}
-use Rattle.batch_journal.specs.View.{JournalView}
-use Rattle.area_reader.specs.Store.{marks, store_of}
-use Rattle.layout.specs.declared.marks.Marks.{Marks}
+use Rattle.log_survey.specs.update_log.View.{RegionView}
+use Rattle.recovery_laws.specs.batch_journal.View.{JournalView}
+use Rattle.recovery_laws.specs.area_reader.Store.{marks, store_of}
+use Rattle.recovery_laws.specs.layout.declared.marks.Marks.{Marks}
 use Rattle.system_laws.specs.Contents.{log_in}
-use Rattle.event_lists.specs.Courses.{Content}
-use Rattle.world_invariant.specs.Logs.{LogsAreApart, is_written}
+use Rattle.system_laws.specs.event_lists.Courses.{Content}
+use Rattle.log_survey.specs.world_invariant.Logs.{LogsAreApart, is_written}
 use Rattle.posix_calls.specs.Operations.{is_client}
-use Rattle.layout.specs.Places.{Sizes}
+use Rattle.recovery_laws.specs.layout.Places.{Sizes}
 use Rattle.posix_calls.specs.Tree.{State}
 use Rattle.area_recovery.specs.declared.error.RecoveryError.{RecoveryError}
 use Rattle.area_recovery.specs.declared.error.RecoveryError.TheVariants.{BadLog, DeviceFault, Memory}

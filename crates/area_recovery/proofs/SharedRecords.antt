@@ -6,13 +6,13 @@ use Rattle.std.proofs.lemmas.Bool.Decides.{eqb_tells}
 use Rattle.std.proofs.lemmas.List.{append_assoc, length-drop, take-append-drop, take-append-le, take_all}
 use Rattle.log_survey.specs.Owners.{AreAdded, AreOwners, IsClear, TouchInodes, is_foreign, is_other, owner_among, touched_inodes}
 use Rattle.log_survey.specs.declared.regions.LogRest.{LogRest}
-use Rattle.file_graph.specs.Graph.{is_among, touches}
-use Rattle.log_record.specs.declared.format.Record.{Record}
+use Rattle.graph_check.specs.file_graph.Graph.{is_among, touches}
+use Rattle.graph_check.specs.log_record.declared.format.Record.{Record}
 use Rattle.log_survey.proofs.OwnerLemmas.{clear_in_parts}
 use Rattle.log_survey.proofs.TableLemmas.{find_hit, none_is_clear, written_is_touched}
 use Rattle.log_survey.proofs.TouchLemmas.{part_touches}
-use Rattle.world_invariant.proofs.Owners as owners
-use Rattle.world_invariant.specs.Logs.{is_written}
+use Rattle.log_survey.proofs.world_invariant_lemmas.Owners as owners
+use Rattle.log_survey.specs.world_invariant.Logs.{is_written}
 use Rattle.posix_calls.specs.Operations.{is_client}
 use Rattle.area_recovery.specs.declared.error.RecoveryError.{RecoveryError}
 use Rattle.area_recovery.specs.declared.error.RecoveryError.TheVariants.{BadLog, DeviceFault, Memory}

@@ -3,20 +3,20 @@ use Rattle.std.proofs.Common.{◌≡◌, inr, ℕ, zero, suc, ◌+◌, ◌-◌, 
 use Rattle.std.proofs.lemmas.Bool.Decides.{nat_tests}
 use Rattle.std.specs.Prelude.{slice_index}
 use Rattle.tier_device.specs.declared.media.Tier.TheVariants.{Fast}
-use Rattle.log_record.specs.declared.format.Record.{Record}
-use Rattle.update_log.specs.RecordCounts.{counted_records, next_generation, records_in, records_under}
-use Rattle.update_log.specs.View.{HasSize}
+use Rattle.graph_check.specs.log_record.declared.format.Record.{Record}
+use Rattle.log_survey.specs.update_log.RecordCounts.{counted_records, next_generation, records_in, records_under}
+use Rattle.log_survey.specs.update_log.View.{HasSize}
 use Rattle.system_laws.specs.Contents.{AreInTurn, log_in, mark_by, mark_in, regions_in}
-use Rattle.event_lists.specs.Courses.{Content, part_of}
-use Rattle.area_reader.specs.Store.{graph, store_of}
-use Rattle.call_effects.specs.ClosedGraph.{nobody, settled_graph}
-use Rattle.call_effects.specs.Wholes.{IsSound, state_of}
-use Rattle.file_graph.specs.Graph.{Graph}
-use Rattle.file_graph.specs.Units.{charge}
-use Rattle.world_invariant.specs.Logs.{after_clients, after_records, units_in, ArePaid, KeepLimits, is_written}
-use Rattle.world_invariant.specs.Recovery.{IsRecoverable}
-use Rattle.layout.specs.Places.{Sizes}
-use Rattle.layout.specs.declared.marks.Mark.{Mark}
+use Rattle.system_laws.specs.event_lists.Courses.{Content, part_of}
+use Rattle.recovery_laws.specs.area_reader.Store.{graph, store_of}
+use Rattle.graph_check.specs.call_effects.ClosedGraph.{nobody, settled_graph}
+use Rattle.graph_check.specs.call_effects.Wholes.{IsSound, state_of}
+use Rattle.graph_check.specs.file_graph.Graph.{Graph}
+use Rattle.graph_check.specs.file_graph.Units.{charge}
+use Rattle.log_survey.specs.world_invariant.Logs.{after_clients, after_records, units_in, ArePaid, KeepLimits, is_written}
+use Rattle.log_survey.specs.world_invariant.Recovery.{IsRecoverable}
+use Rattle.recovery_laws.specs.layout.Places.{Sizes}
+use Rattle.recovery_laws.specs.layout.declared.marks.Mark.{Mark}
 use Rattle.posix_calls.specs.Operations.{is_client}
 use Rattle.posix_calls.specs.Tree.{State, sum_up_to}
 use Rattle.area_recovery.specs.Recovers.{Recovers, Regions, joined}

@@ -3,12 +3,12 @@ use Rattle.std.proofs.Common.{◌≡◌, inl, inr, ℕ, zero, suc, ◌+◌, ◌�
 use Rattle.std.specs.Prelude.{◌&&◌, ◌==◌}
 use Rattle.std.specs.List.{AllByRecursion, cons_option}
 use Rattle.std.proofs.lemmas.Bool.{cases_Bool, cond-false, cond-true, leb-true}
-use Rattle.update_log.specs.Frames.{is_whole, payload_length, payload_of, payloads, payloads_from, records, spelled_records}
-use Rattle.file_graph.specs.declared.effect.Effect.{Effect}
-use Rattle.log_record.specs.Grammar.{◌>>=◌, FitsLimits, byte_at, effect_at, effects_at, fields_at, fits, header_at, number_at, record_at, record_of}
-use Rattle.log_record.specs.declared.format.Record.{Record}
-use Rattle.log_record.proofs.Effects.{Fits-from_fits, and_parts}
-use Rattle.log_record.proofs.Fields.{bind_some, some_is, test_some}
+use Rattle.log_survey.specs.update_log.Frames.{is_whole, payload_length, payload_of, payloads, payloads_from, records, spelled_records}
+use Rattle.graph_check.specs.file_graph.declared.effect.Effect.{Effect}
+use Rattle.graph_check.specs.log_record.Grammar.{◌>>=◌, FitsLimits, byte_at, effect_at, effects_at, fields_at, fits, header_at, number_at, record_at, record_of}
+use Rattle.graph_check.specs.log_record.declared.format.Record.{Record}
+use Rattle.graph_check.proofs.log_record_lemmas.Effects.{Fits-from_fits, and_parts}
+use Rattle.graph_check.proofs.log_record_lemmas.Fields.{bind_some, some_is, test_some}
 use Rattle.area_recovery.specs.SpelledRecords.{HasSpelledEffects}
 
 -- ---- what is read

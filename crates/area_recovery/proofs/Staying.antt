@@ -7,13 +7,13 @@ use Rattle.tier_device.specs.declared.media.Media.{Ghosts}
 use Rattle.tier_device.specs.declared.media.Tier.{Tier}
 use Rattle.tier_device.specs.declared.media.Tier.TheVariants.{Fast, Block, Slow}
 use Rattle.tier_device.specs.AfterStop.{AtRest, Left}
-use Rattle.layout.specs.Places.{Sizes}
-use Rattle.batch_journal.specs.Blocks.{home}
-use Rattle.batch_journal.specs.Course.{Since}
-use Rattle.batch_journal.specs.Volume.{IsVolume, SameJournal, HasSizes}
-use Rattle.area_reader.specs.Format.{IsOpenable}
-use Rattle.area_reader.specs.Store.{content_blocks, graph, marks, store_of}
-use Rattle.batch_journal.proofs.Openings.{spells_one}
+use Rattle.recovery_laws.specs.layout.Places.{Sizes}
+use Rattle.recovery_laws.specs.batch_journal.Blocks.{home}
+use Rattle.recovery_laws.specs.batch_journal.Course.{Since}
+use Rattle.recovery_laws.specs.batch_journal.Volume.{IsVolume, SameJournal, HasSizes}
+use Rattle.recovery_laws.specs.area_reader.Format.{IsOpenable}
+use Rattle.recovery_laws.specs.area_reader.Store.{content_blocks, graph, marks, store_of}
+use Rattle.recovery_laws.proofs.batch_journal_lemmas.Openings.{spells_one}
 use Rattle.posix_calls.specs.Tree.{State}
 use Rattle.area_recovery.specs.Recovers.{Regions, Recovers}
 use Rattle.area_recovery.specs.Phases.{StaysRecovered, Whatever}

@@ -6,11 +6,11 @@ use Rattle.tier_device.specs.declared.media.Tier.{Tier}
 use Rattle.tier_device.specs.declared.media.Tier.TheVariants.{Fast, Block, Slow}
 use Rattle.tier_device.specs.AfterStop.{AtRest, Left}
 use Rattle.tier_device.specs.StopsSince.{LeftSince}
-use Rattle.update_log.specs.Moments.{PastStays}
-use Rattle.update_log.specs.View.{HasSize}
+use Rattle.log_survey.specs.update_log.Moments.{PastStays}
+use Rattle.log_survey.specs.update_log.View.{HasSize}
 use Rattle.system_laws.specs.Contents.{CanRecover, regions_in, stored_state}
-use Rattle.event_lists.specs.Courses.{PARTS, Content, LeftBetween, Reading, WorldContent, part_of}
-use Rattle.layout.specs.Places.{Sizes}
+use Rattle.system_laws.specs.event_lists.Courses.{PARTS, Content, LeftBetween, Reading, WorldContent, part_of}
+use Rattle.recovery_laws.specs.layout.Places.{Sizes}
 use Rattle.posix_calls.specs.Operations.{is_client}
 use Rattle.posix_calls.specs.Tree.{State}
 use Rattle.area_recovery.specs.Parts.{contents_of}

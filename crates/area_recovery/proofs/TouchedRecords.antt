@@ -6,13 +6,13 @@ use Rattle.std.proofs.lemmas.List.{take_more}
 use Rattle.std.proofs.lemmas.List.Folds.{list_any-append}
 use Rattle.log_survey.specs.Owners.{AreTouchedBy, listed}
 use Rattle.log_survey.specs.declared.regions.LogRest.{LogRest}
-use Rattle.update_log.specs.Frames.{records}
-use Rattle.file_graph.specs.Graph.{is_among}
-use Rattle.log_record.specs.Touches.{inodes_of}
-use Rattle.log_record.specs.declared.format.Record.{Record}
+use Rattle.log_survey.specs.update_log.Frames.{records}
+use Rattle.graph_check.specs.file_graph.Graph.{is_among}
+use Rattle.graph_check.specs.log_record.Touches.{inodes_of}
+use Rattle.graph_check.specs.log_record.declared.format.Record.{Record}
 use Rattle.log_survey.proofs.TableLemmas.{listed_is, written_is_touched}
 use Rattle.log_survey.proofs.TouchLemmas.{region_touches}
-use Rattle.world_invariant.specs.Logs.{is_written}
+use Rattle.log_survey.specs.world_invariant.Logs.{is_written}
 use Rattle.area_recovery.specs.FoundLogs.{AreReadAs, AreTouchedIn, first_part, second_part}
 use Rattle.area_recovery.proofs.ReadLogs.{second_touched}
 

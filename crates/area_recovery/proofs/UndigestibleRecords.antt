@@ -3,20 +3,20 @@ use Rattle.std.proofs.Common.{◌≡◌, inl, inr, ℕ, zero, suc, ◌+◌, ◌<
 use Rattle.std.specs.Prelude.{nat_le}
 use Rattle.std.proofs.lemmas.Bool.{and_from, le-leb}
 use Rattle.std.proofs.lemmas.List.{drop-drop, length-drop, take-append-drop}
-use Rattle.digester.specs.DigestStep.{NamesFirstBad}
-use Rattle.digester.specs.Plan.{AreGood, IsFirstBad}
-use Rattle.digester.specs.SealedLog.{SealedView, done_to, undone}
-use Rattle.digester.specs.declared.error.DigestError.{DigestError}
-use Rattle.digester.specs.declared.error.DigestError.TheVariants as digests
-use Rattle.area_reader.specs.Store.{Store, graph}
-use Rattle.record_validation.specs.Good.{IsGood}
-use Rattle.layout.specs.Places.{Sizes, is_inode}
-use Rattle.file_graph.specs.Graph.{Graph, after_effects}
-use Rattle.log_record.specs.Grammar.{IsInode}
-use Rattle.log_record.specs.declared.format.Record.{Record}
-use Rattle.record_validation.proofs.Rises.{touched_fit}
+use Rattle.recovery_laws.specs.digester.DigestStep.{NamesFirstBad}
+use Rattle.recovery_laws.specs.digester.Plan.{AreGood, IsFirstBad}
+use Rattle.recovery_laws.specs.digester.SealedLog.{SealedView, done_to, undone}
+use Rattle.recovery_laws.specs.digester.declared.error.DigestError.{DigestError}
+use Rattle.recovery_laws.specs.digester.declared.error.DigestError.TheVariants as digests
+use Rattle.recovery_laws.specs.area_reader.Store.{Store, graph}
+use Rattle.graph_check.specs.record_validation.Good.{IsGood}
+use Rattle.recovery_laws.specs.layout.Places.{Sizes, is_inode}
+use Rattle.graph_check.specs.file_graph.Graph.{Graph, after_effects}
+use Rattle.graph_check.specs.log_record.Grammar.{IsInode}
+use Rattle.graph_check.specs.log_record.declared.format.Record.{Record}
+use Rattle.graph_check.proofs.record_validation_lemmas.Rises.{touched_fit}
 use Rattle.recovery_laws.specs.Inodes.{HasEveryInode}
-use Rattle.world_invariant.specs.Logs.{after_records}
+use Rattle.log_survey.specs.world_invariant.Logs.{after_records}
 use Rattle.area_recovery.specs.declared.error.RecoveryError.{RecoveryError}
 use Rattle.area_recovery.specs.declared.error.RecoveryError.TheVariants as errors
 use Rattle.area_recovery.specs.DigestedLogs.{CanDigest, IsFirstRefused, IsRefusal, IsRegionReadRefusal, NamesBad, NamesRefused}

@@ -2,16 +2,16 @@
 use Rattle.std.proofs.Common.{◌≡◌, ℕ, ◌%◌, ◌<◌, true, List, ◌++◌, refl, ap, sym, ◌∙◌, subst, arith}
 use Rattle.std.specs.Prelude.{drop}
 use Rattle.system_laws.specs.Contents.{CanRecover, log_in, mark_by, regions_in, stored_graph, stored_state}
-use Rattle.event_lists.specs.Courses.{Content, WorldContent, part_of}
-use Rattle.area_reader.specs.Store.{graph, marks, store_of}
-use Rattle.call_effects.specs.ClosedGraph.{nobody, settled_graph}
-use Rattle.call_effects.specs.Wholes.{state_of}
-use Rattle.file_graph.specs.Graph.{Graph}
-use Rattle.log_record.specs.declared.format.Record.{Record}
-use Rattle.update_log.specs.RecordCounts.{next_generation, records_in, records_under}
-use Rattle.update_log.specs.View.{HasSize}
-use Rattle.layout.specs.Places.{Sizes}
-use Rattle.layout.specs.declared.marks.Mark.{Mark}
+use Rattle.system_laws.specs.event_lists.Courses.{Content, WorldContent, part_of}
+use Rattle.recovery_laws.specs.area_reader.Store.{graph, marks, store_of}
+use Rattle.graph_check.specs.call_effects.ClosedGraph.{nobody, settled_graph}
+use Rattle.graph_check.specs.call_effects.Wholes.{state_of}
+use Rattle.graph_check.specs.file_graph.Graph.{Graph}
+use Rattle.graph_check.specs.log_record.declared.format.Record.{Record}
+use Rattle.log_survey.specs.update_log.RecordCounts.{next_generation, records_in, records_under}
+use Rattle.log_survey.specs.update_log.View.{HasSize}
+use Rattle.recovery_laws.specs.layout.Places.{Sizes}
+use Rattle.recovery_laws.specs.layout.declared.marks.Mark.{Mark}
 use Rattle.posix_calls.specs.Operations.{is_client}
 use Rattle.posix_calls.specs.Tree.{State}
 use Rattle.area_recovery.specs.Recovers.{AreThese, Recovers, Regions, joined, region_content}

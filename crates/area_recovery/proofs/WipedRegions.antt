@@ -9,19 +9,19 @@ use Rattle.tier_device.specs.declared.media.Media.{Ghosts}
 use Rattle.tier_device.specs.declared.media.Tier.{Tier}
 use Rattle.tier_device.specs.declared.media.Tier.TheVariants.{Fast, Block, Slow}
 use Rattle.tier_device.specs.Media.{Keeps, Puts}
-use Rattle.log_record.specs.declared.format.Record.{Record}
-use Rattle.update_log.specs.declared.format.TheConstants.{CLOSED}
-use Rattle.update_log.specs.declared.stage.Stage.{Stage}
-use Rattle.update_log.specs.declared.stage.Stage.TheVariants as stages
-use Rattle.update_log.specs.Frames.{header, records}
-use Rattle.update_log.specs.RecordCounts.{next_generation, records_under}
-use Rattle.update_log.specs.View.{HasSize, RegionView, header_of}
-use Rattle.update_log.specs.Wipe.{CanWipe, LeftInCall, first_stage, header_wiped, seen_wiped, wipe_next, wipe_progress, IsWiping}
-use Rattle.update_log.specs.WipeStops.{generation}
-use Rattle.update_log.proofs.Counts.{other_counts_none, wiped_counts_none, header_tells}
-use Rattle.update_log.specs.Moments.{PastStays}
-use Rattle.update_log.specs.Stage.{IsIdle}
-use Rattle.update_log.proofs.Views.{since_more}
+use Rattle.graph_check.specs.log_record.declared.format.Record.{Record}
+use Rattle.log_survey.specs.update_log.declared.format.TheConstants.{CLOSED}
+use Rattle.log_survey.specs.update_log.declared.stage.Stage.{Stage}
+use Rattle.log_survey.specs.update_log.declared.stage.Stage.TheVariants as stages
+use Rattle.log_survey.specs.update_log.Frames.{header, records}
+use Rattle.log_survey.specs.update_log.RecordCounts.{next_generation, records_under}
+use Rattle.log_survey.specs.update_log.View.{HasSize, RegionView, header_of}
+use Rattle.log_survey.specs.update_log.Wipe.{CanWipe, LeftInCall, first_stage, header_wiped, seen_wiped, wipe_next, wipe_progress, IsWiping}
+use Rattle.log_survey.specs.update_log.WipeStops.{generation}
+use Rattle.log_survey.proofs.update_log_lemmas.Counts.{other_counts_none, wiped_counts_none, header_tells}
+use Rattle.log_survey.specs.update_log.Moments.{PastStays}
+use Rattle.log_survey.specs.update_log.Stage.{IsIdle}
+use Rattle.log_survey.proofs.update_log_lemmas.Views.{since_more}
 use Rattle.area_recovery.specs.Silent.{GoesOn, IsSilent, IsWipingTo, AreLeftOf, AreSilent, LeftOfRegion, MayBeWiped, StaysSilent, calls_ahead}
 use Rattle.area_recovery.specs.Recovers.{Regions}
 use Rattle.area_recovery.specs.Regions.{place_of}

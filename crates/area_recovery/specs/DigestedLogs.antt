@@ -1,23 +1,23 @@
 -- What digests of clients' logs make of the shared area.
 use Rattle.std.specs.Prelude.{◌≡◌, ◌≢◌, ◌⊎◌, ℕ, ◌+◌, ◌-◌, ◌^◌, ◌<◌, ◌≤◌, List, [], length, take, true, Some}
 use Rattle.tier_device.specs.declared.media.Media.{Ghosts}
-use Rattle.batch_journal.specs.View.{JournalView}
-use Rattle.layout.specs.Places.{Sizes}
-use Rattle.area_reader.specs.Store.{Store, disk, graph, marks, store_of}
-use Rattle.digester.specs.MarkMoves.{mark_of}
-use Rattle.digester.specs.Plan.{AreGood, IsFirstBad}
-use Rattle.digester.specs.SealedLog.{SealedView, done_to, mark_then, undone}
-use Rattle.digester.specs.declared.error.DigestError.{DigestError}
-use Rattle.digester.specs.declared.error.DigestError.TheVariants as digests
-use Rattle.update_log.specs.RecordCounts.{counted_records, records_in}
-use Rattle.log_record.specs.declared.format.Record.{Record}
-use Rattle.layout.specs.declared.marks.Mark.{Mark}
-use Rattle.layout.specs.declared.marks.Marks.{Marks}
-use Rattle.file_graph.specs.Graph.{Graph}
-use Rattle.world_invariant.specs.Logs.{after_clients, after_records}
+use Rattle.recovery_laws.specs.batch_journal.View.{JournalView}
+use Rattle.recovery_laws.specs.layout.Places.{Sizes}
+use Rattle.recovery_laws.specs.area_reader.Store.{Store, disk, graph, marks, store_of}
+use Rattle.recovery_laws.specs.digester.MarkMoves.{mark_of}
+use Rattle.recovery_laws.specs.digester.Plan.{AreGood, IsFirstBad}
+use Rattle.recovery_laws.specs.digester.SealedLog.{SealedView, done_to, mark_then, undone}
+use Rattle.recovery_laws.specs.digester.declared.error.DigestError.{DigestError}
+use Rattle.recovery_laws.specs.digester.declared.error.DigestError.TheVariants as digests
+use Rattle.log_survey.specs.update_log.RecordCounts.{counted_records, records_in}
+use Rattle.graph_check.specs.log_record.declared.format.Record.{Record}
+use Rattle.recovery_laws.specs.layout.declared.marks.Mark.{Mark}
+use Rattle.recovery_laws.specs.layout.declared.marks.Marks.{Marks}
+use Rattle.graph_check.specs.file_graph.Graph.{Graph}
+use Rattle.log_survey.specs.world_invariant.Logs.{after_clients, after_records}
 use Rattle.posix_calls.specs.Operations.{is_client}
 use Rattle.posix_calls.specs.Tree.{State}
-use Rattle.event_lists.specs.Courses.{Content}
+use Rattle.system_laws.specs.event_lists.Courses.{Content}
 use Rattle.recovery_laws.specs.Inodes.{HasEveryInode}
 use Rattle.area_recovery.specs.Errors.{OnBadLog}
 use Rattle.area_recovery.specs.FoundLogs.{log_by}

@@ -1,8 +1,8 @@
 -- Which refusals of the phases come of which of the area.
 use Rattle.std.specs.Prelude.{◌≡◌, ℕ}
-use Rattle.layout.specs.declared.error.What.{What}
-use Rattle.area_reader.specs.declared.error.AreaError.{AreaError}
-use Rattle.area_reader.specs.declared.error.AreaError.TheVariants as area
+use Rattle.recovery_laws.specs.layout.declared.error.What.{What}
+use Rattle.recovery_laws.specs.area_reader.declared.error.AreaError.{AreaError}
+use Rattle.recovery_laws.specs.area_reader.declared.error.AreaError.TheVariants as area
 use Rattle.area_recovery.specs.declared.error.RecoveryError.{RecoveryError}
 use Rattle.area_recovery.specs.declared.error.RecoveryError.TheVariants as errors
 

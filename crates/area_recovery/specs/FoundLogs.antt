@@ -2,14 +2,14 @@
 use Rattle.std.specs.Prelude.{◌≡◌, ℕ, zero, suc, ◌%◌, ◌+◌, ◌-◌, ◌<◌, true, List, [], drop, length, min, slice_get, take, Option, Some, None, IfSome}
 use Rattle.log_survey.specs.Owners.{AreTouchedBy, IsClear, TouchInodes}
 use Rattle.log_survey.specs.Regions.{AreStale, records_that_count}
-use Rattle.update_log.specs.Frames.{records}
-use Rattle.update_log.specs.WipeStops.{generation}
+use Rattle.log_survey.specs.update_log.Frames.{records}
+use Rattle.log_survey.specs.update_log.WipeStops.{generation}
 use Rattle.log_survey.specs.declared.regions.LogRest.{LogRest}
-use Rattle.update_log.specs.RecordCounts.{counted_records, next_generation}
-use Rattle.log_record.specs.declared.format.Record.{Record}
-use Rattle.digester.specs.MarkMoves.{mark_of}
-use Rattle.layout.specs.declared.marks.Mark.{Mark}
-use Rattle.layout.specs.declared.marks.Marks.{Marks}
+use Rattle.log_survey.specs.update_log.RecordCounts.{counted_records, next_generation}
+use Rattle.graph_check.specs.log_record.declared.format.Record.{Record}
+use Rattle.recovery_laws.specs.digester.MarkMoves.{mark_of}
+use Rattle.recovery_laws.specs.layout.declared.marks.Mark.{Mark}
+use Rattle.recovery_laws.specs.layout.declared.marks.Marks.{Marks}
 use Rattle.posix_calls.specs.Operations.{is_client}
 use Rattle.area_recovery.specs.Errors.{OnBadLog}
 use Rattle.area_recovery.specs.Recovers.{Regions}

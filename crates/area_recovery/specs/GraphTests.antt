@@ -1,16 +1,16 @@
 -- What a graph that has been tested is, and what it is without its files that have no name.
 use Rattle.std.specs.Prelude.{◌≡◌, ℕ, ◌&&◌, List, None, if◌then◌else◌}
-use Rattle.layout.specs.declared.error.What.{What}
-use Rattle.layout.specs.declared.error.What.TheVariants.{Slot}
-use Rattle.layout.specs.Places.{slot_block}
-use Rattle.file_graph.specs.Graph.{Graph, is_among}
+use Rattle.recovery_laws.specs.layout.declared.error.What.{What}
+use Rattle.recovery_laws.specs.layout.declared.error.What.TheVariants.{Slot}
+use Rattle.recovery_laws.specs.layout.Places.{slot_block}
+use Rattle.graph_check.specs.file_graph.Graph.{Graph, is_among}
 use Rattle.graph_check.specs.declared.defect.Defect.{Defect}
 use Rattle.graph_check.specs.Defects.{HasDefect}
 use Rattle.graph_check.specs.declared.defect.GraphError.{GraphError}
 use Rattle.graph_check.specs.declared.defect.GraphError.TheVariants as why
 use Rattle.graph_check.specs.Nameless.{is_nameless}
-use Rattle.area_reader.specs.declared.error.AreaError.{AreaError}
-use Rattle.shared_area.specs.Parts.{IsNoDamage}
+use Rattle.recovery_laws.specs.area_reader.declared.error.AreaError.{AreaError}
+use Rattle.recovery_laws.specs.shared_area.Parts.{IsNoDamage}
 use Rattle.area_recovery.specs.declared.error.RecoveryError.{RecoveryError}
 use Rattle.area_recovery.specs.declared.error.RecoveryError.TheVariants as errors
 use Rattle.area_recovery.specs.Errors.{IsAreaFault}

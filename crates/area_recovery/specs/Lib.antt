@@ -13,3 +13,5 @@ pub mod Settlement
 pub mod DigestedLogs
 pub mod SpelledRecords
 pub mod Refusals
+-- Handed on to the crates above, which list only the highest of what they name.
+pub use Rattle.recovery_laws.specs as recovery_laws

@@ -2,11 +2,11 @@
 use Rattle.std.specs.Prelude.{ℕ, ◌<◌, List, [], ◌∷◌}
 use Rattle.tier_device.specs.declared.media.Media.{Ghosts}
 use Rattle.tier_device.specs.AfterStop.{Left}
-use Rattle.event_lists.specs.Courses.{PARTS, LeftOf, Reading}
+use Rattle.system_laws.specs.event_lists.Courses.{PARTS, LeftOf, Reading}
 use Rattle.tier_device.specs.Media.{Rose}
-use Rattle.update_log.specs.View.{RegionView}
-use Rattle.batch_journal.specs.View.{JournalView}
-use Rattle.event_steps.specs.View.{SeatView}
+use Rattle.log_survey.specs.update_log.View.{RegionView}
+use Rattle.recovery_laws.specs.batch_journal.View.{JournalView}
+use Rattle.system_laws.specs.event_steps.View.{SeatView}
 use Rattle.system_laws.specs.Parts.{region_of}
 use Rattle.area_recovery.specs.Regions.{IsUntouched, media_of}
 use Rattle.area_recovery.specs.Parts.{PartsView}

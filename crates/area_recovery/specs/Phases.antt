@@ -3,14 +3,14 @@ use Rattle.std.specs.Prelude.{◌≡◌, ◌≢◌, ◌≤◌, ◌+◌, ◌⊎�
 use Rattle.tier_device.specs.declared.media.Media.{Ghosts}
 use Rattle.tier_device.specs.declared.media.Tier.{Tier}
 use Rattle.tier_device.specs.Media.{Rose}
-use Rattle.batch_journal.specs.View.{JournalView}
-use Rattle.layout.specs.Places.{Sizes}
+use Rattle.recovery_laws.specs.batch_journal.View.{JournalView}
+use Rattle.recovery_laws.specs.layout.Places.{Sizes}
 use Rattle.posix_calls.specs.Tree.{State}
 use Rattle.area_recovery.specs.declared.error.RecoveryError.{RecoveryError}
 use Rattle.area_recovery.specs.declared.error.RecoveryError.TheVariants.{DeviceFault}
 use Rattle.area_recovery.specs.Recovers.{Regions, Recovers, RecoversThrough}
 use Rattle.area_recovery.specs.Regions.{HaveRisen, media_of}
-use Rattle.update_log.specs.View.{RegionView}
+use Rattle.log_survey.specs.update_log.View.{RegionView}
 
 -- whatever stands in the regions
 abbrev pub Whatever : Regions → Type 0

@@ -5,11 +5,11 @@ use Rattle.tier_device.specs.declared.media.Tier.{Tier}
 use Rattle.tier_device.specs.declared.media.Tier.TheVariants.{Fast, Block, Slow}
 use Rattle.posix_calls.specs.Tree.{State}
 use Rattle.posix_calls.specs.Operations.{is_client}
-use Rattle.update_log.specs.RecordCounts.{counted_records}
-use Rattle.layout.specs.declared.marks.Marks.{Marks}
-use Rattle.layout.specs.declared.marks.Mark.{Mark}
-use Rattle.layout.specs.Places.{Sizes}
-use Rattle.event_lists.specs.Courses.{Content, WorldContent}
+use Rattle.log_survey.specs.update_log.RecordCounts.{counted_records}
+use Rattle.recovery_laws.specs.layout.declared.marks.Marks.{Marks}
+use Rattle.recovery_laws.specs.layout.declared.marks.Mark.{Mark}
+use Rattle.recovery_laws.specs.layout.Places.{Sizes}
+use Rattle.system_laws.specs.event_lists.Courses.{Content, WorldContent}
 use Rattle.system_laws.specs.Contents.{CanRecover, mark_by, stored_state}
 
 -- what stands in the regions of each client, by the remainder of their generations by two

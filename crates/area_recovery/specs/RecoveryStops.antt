@@ -1,18 +1,18 @@
 -- What a recovery leaves of the parts at each of its moments, and what it makes of their contents.
 use Rattle.std.specs.Prelude.{◌≡◌, ◌≢◌, ◌⊎◌, ℕ, zero, suc, ◌<◌}
 use Rattle.tier_device.specs.declared.media.Media.{Ghosts}
-use Rattle.update_log.specs.Moments.{PastStays}
-use Rattle.batch_journal.specs.Volume.{IsVolume}
-use Rattle.area_reader.specs.Format.{IsOpenable}
-use Rattle.area_reader.specs.Store.{graph, store_of}
-use Rattle.call_effects.specs.ClosedGraph.{nobody}
-use Rattle.call_effects.specs.Wholes.{IsSound}
-use Rattle.world_invariant.specs.Logs.{LogsAreApart}
-use Rattle.layout.specs.Places.{Sizes}
-use Rattle.event_lists.specs.Courses.{PARTS, LeftBetween, Reading, WorldContent}
+use Rattle.log_survey.specs.update_log.Moments.{PastStays}
+use Rattle.recovery_laws.specs.batch_journal.Volume.{IsVolume}
+use Rattle.recovery_laws.specs.area_reader.Format.{IsOpenable}
+use Rattle.recovery_laws.specs.area_reader.Store.{graph, store_of}
+use Rattle.graph_check.specs.call_effects.ClosedGraph.{nobody}
+use Rattle.graph_check.specs.call_effects.Wholes.{IsSound}
+use Rattle.log_survey.specs.world_invariant.Logs.{LogsAreApart}
+use Rattle.recovery_laws.specs.layout.Places.{Sizes}
+use Rattle.system_laws.specs.event_lists.Courses.{PARTS, LeftBetween, Reading, WorldContent}
 use Rattle.system_laws.specs.Contents.{CanRecover, log_in, stored_graph, stored_state}
-use Rattle.event_steps.specs.View.{SystemView}
-use Rattle.layout.specs.declared.marks.Marks.{Marks}
+use Rattle.system_laws.specs.event_steps.View.{SystemView}
+use Rattle.recovery_laws.specs.layout.declared.marks.Marks.{Marks}
 use Rattle.system_laws.specs.Idle.{IsIdleSystem}
 use Rattle.system_laws.specs.KeptCalls.{no_calls}
 use Rattle.system_laws.specs.Parts.{medium_of}

@@ -1,17 +1,17 @@
 -- What a refusal of a recovery says of the contents of the parts.
 use Rattle.std.specs.Prelude.{◌≡◌, ◌⊎◌, ℕ, ◌+◌, ◌-◌, ◌<◌, List, take, true, false}
-use Rattle.shared_area.specs.AreaOpen.{IsMediumDamage, SpellsNone}
-use Rattle.layout.specs.declared.error.What.{What}
+use Rattle.recovery_laws.specs.shared_area.AreaOpen.{IsMediumDamage, SpellsNone}
+use Rattle.recovery_laws.specs.layout.declared.error.What.{What}
 use Rattle.system_laws.specs.Contents.{log_in}
-use Rattle.event_lists.specs.Courses.{WorldContent, part_of}
-use Rattle.area_reader.specs.Format.{IsOpenable}
-use Rattle.area_reader.specs.Store.{Store, graph, store_of}
-use Rattle.batch_journal.specs.Volume.{IsVolume}
-use Rattle.layout.specs.Places.{Sizes}
-use Rattle.file_graph.specs.Graph.{Graph}
-use Rattle.log_record.specs.declared.format.Record.{Record}
-use Rattle.update_log.specs.View.{HasSize}
-use Rattle.world_invariant.specs.Logs.{LogsAreApart, after_clients, is_written}
+use Rattle.system_laws.specs.event_lists.Courses.{WorldContent, part_of}
+use Rattle.recovery_laws.specs.area_reader.Format.{IsOpenable}
+use Rattle.recovery_laws.specs.area_reader.Store.{Store, graph, store_of}
+use Rattle.recovery_laws.specs.batch_journal.Volume.{IsVolume}
+use Rattle.recovery_laws.specs.layout.Places.{Sizes}
+use Rattle.graph_check.specs.file_graph.Graph.{Graph}
+use Rattle.graph_check.specs.log_record.declared.format.Record.{Record}
+use Rattle.log_survey.specs.update_log.View.{HasSize}
+use Rattle.log_survey.specs.world_invariant.Logs.{LogsAreApart, after_clients, is_written}
 use Rattle.posix_calls.specs.Operations.{is_client}
 use Rattle.posix_calls.specs.declared.limits.TheConstants.{MAX_CLIENTS}
 use Rattle.area_recovery.specs.declared.error.RecoveryError.{RecoveryError}

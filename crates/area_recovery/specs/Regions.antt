@@ -5,12 +5,12 @@ use Rattle.tier_device.specs.declared.media.Tier.{Tier}
 use Rattle.tier_device.specs.declared.media.Tier.TheVariants.{Fast}
 use Rattle.tier_device.specs.AfterStop.{AtRest}
 use Rattle.tier_device.specs.Media.{Rose}
-use Rattle.update_log.specs.Frames.{end_behind, records}
-use Rattle.update_log.specs.Moments.{PastStays}
-use Rattle.update_log.specs.Stage.{IsIdle}
-use Rattle.update_log.specs.declared.format.TheConstants.{OPEN}
-use Rattle.update_log.specs.declared.stage.Stage.TheVariants as stages
-use Rattle.update_log.specs.View.{HasSize, RegionView}
+use Rattle.log_survey.specs.update_log.Frames.{end_behind, records}
+use Rattle.log_survey.specs.update_log.Moments.{PastStays}
+use Rattle.log_survey.specs.update_log.Stage.{IsIdle}
+use Rattle.log_survey.specs.update_log.declared.format.TheConstants.{OPEN}
+use Rattle.log_survey.specs.update_log.declared.stage.Stage.TheVariants as stages
+use Rattle.log_survey.specs.update_log.View.{HasSize, RegionView}
 use Rattle.area_recovery.specs.declared.error.RecoveryError.{RecoveryError}
 use Rattle.area_recovery.specs.declared.error.RecoveryError.TheVariants.{DeviceFault, RegionSize, Memory}
 use Rattle.area_recovery.specs.Recovers.{Regions}

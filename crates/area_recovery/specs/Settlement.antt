@@ -3,15 +3,15 @@ use Rattle.std.specs.Prelude.{◌≡◌, ◌≢◌, ◌⊎◌, ℕ, ◌≤◌, �
 use Rattle.std.specs.List.{AllZip}
 use Rattle.tier_device.specs.declared.media.Media.{Ghosts}
 use Rattle.tier_device.specs.Media.{Rose}
-use Rattle.update_log.specs.Stage.{IsIdle}
-use Rattle.update_log.specs.View.{HasSize, RegionView}
-use Rattle.batch_journal.specs.View.{JournalView}
-use Rattle.layout.specs.declared.marks.Marks.{Marks}
-use Rattle.area_reader.specs.Store.{disk, graph, marks}
-use Rattle.call_effects.specs.ClosedGraph.{nobody, settled_graph}
-use Rattle.call_effects.specs.Wholes.{IsSound, state_of}
-use Rattle.layout.specs.Places.{Sizes}
-use Rattle.world_invariant.specs.Logs.{LogsAreApart, after_clients}
+use Rattle.log_survey.specs.update_log.Stage.{IsIdle}
+use Rattle.log_survey.specs.update_log.View.{HasSize, RegionView}
+use Rattle.recovery_laws.specs.batch_journal.View.{JournalView}
+use Rattle.recovery_laws.specs.layout.declared.marks.Marks.{Marks}
+use Rattle.recovery_laws.specs.area_reader.Store.{disk, graph, marks}
+use Rattle.graph_check.specs.call_effects.ClosedGraph.{nobody, settled_graph}
+use Rattle.graph_check.specs.call_effects.Wholes.{IsSound, state_of}
+use Rattle.recovery_laws.specs.layout.Places.{Sizes}
+use Rattle.log_survey.specs.world_invariant.Logs.{LogsAreApart, after_clients}
 use Rattle.posix_calls.specs.Tree.{State}
 use Rattle.posix_calls.specs.declared.limits.TheConstants.{MAX_CLIENTS}
 use Rattle.area_recovery.specs.declared.error.RecoveryError.{RecoveryError}

@@ -4,24 +4,24 @@ use Rattle.tier_device.specs.declared.media.Media.{Ghosts}
 use Rattle.tier_device.specs.declared.media.Tier.TheVariants.{Fast}
 use Rattle.tier_device.specs.AfterStop.{AtRest}
 use Rattle.tier_device.specs.StopsSince.{LeftSince}
-use Rattle.update_log.specs.Frames.{records}
-use Rattle.update_log.specs.RecordCounts.{next_generation, records_under}
-use Rattle.update_log.specs.WipeStops.{generation}
-use Rattle.update_log.specs.View.{HasSize, RegionView, header_of}
-use Rattle.update_log.specs.Wipe.{CanWipe, IsWiping}
-use Rattle.update_log.specs.declared.stage.WipeProgress.{WipeProgress}
-use Rattle.update_log.specs.declared.stage.WipeProgress.TheVariants.{Going, Wiped}
-use Rattle.update_log.specs.declared.format.TheConstants.{REGION_SIZE}
-use Rattle.update_log.specs.declared.stage.Stage.{Stage}
-use Rattle.update_log.specs.declared.stage.Stage.TheVariants as stages
-use Rattle.area_reader.specs.Store.{marks, store_of}
-use Rattle.digester.specs.MarkMoves.{mark_of}
-use Rattle.layout.specs.declared.marks.Marks.{Marks}
+use Rattle.log_survey.specs.update_log.Frames.{records}
+use Rattle.log_survey.specs.update_log.RecordCounts.{next_generation, records_under}
+use Rattle.log_survey.specs.update_log.WipeStops.{generation}
+use Rattle.log_survey.specs.update_log.View.{HasSize, RegionView, header_of}
+use Rattle.log_survey.specs.update_log.Wipe.{CanWipe, IsWiping}
+use Rattle.log_survey.specs.update_log.declared.stage.WipeProgress.{WipeProgress}
+use Rattle.log_survey.specs.update_log.declared.stage.WipeProgress.TheVariants.{Going, Wiped}
+use Rattle.log_survey.specs.update_log.declared.format.TheConstants.{REGION_SIZE}
+use Rattle.log_survey.specs.update_log.declared.stage.Stage.{Stage}
+use Rattle.log_survey.specs.update_log.declared.stage.Stage.TheVariants as stages
+use Rattle.recovery_laws.specs.area_reader.Store.{marks, store_of}
+use Rattle.recovery_laws.specs.digester.MarkMoves.{mark_of}
+use Rattle.recovery_laws.specs.layout.declared.marks.Marks.{Marks}
 use Rattle.posix_calls.specs.Operations.{is_client}
-use Rattle.event_lists.specs.Courses.{Content}
+use Rattle.system_laws.specs.event_lists.Courses.{Content}
 use Rattle.area_recovery.specs.Recovers.{Regions}
-use Rattle.update_log.specs.Stage.{IsIdle}
-use Rattle.update_log.specs.Moments.{PastStays}
+use Rattle.log_survey.specs.update_log.Stage.{IsIdle}
+use Rattle.log_survey.specs.update_log.Moments.{PastStays}
 use Rattle.area_recovery.specs.Regions.{place_of}
 
 -- A region has its length, and no record of it counts under this generation or the next.

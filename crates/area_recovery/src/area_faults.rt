@@ -1,10 +1,10 @@
 //! What a refusal of the shared area is to a recovery.
 
-ghost use Rattle.area_reader.specs.Refusals.{IsReadRefusal};
+ghost use Rattle.recovery_laws.specs.area_reader.Refusals.{IsReadRefusal};
 ghost use Rattle.area_recovery.specs.Errors.{IsAreaFault};
 
 use crate::error::RecoveryError;
-use area_reader::AreaError;
+use recovery_laws::in_area_reader::AreaError;
 
 /// Returns the refusal of a recovery for one of the shared area, which a recovery opens, reads, and changes without blocks of data: so it is refused no block and no run.
 pub fn area_fault(error: AreaError) -> RecoveryError

@@ -10,11 +10,11 @@ use crate::graph_test::test_graph;
 use crate::log_digest::digest_logs;
 use crate::log_search::{FoundLog, find_logs};
 use crate::mark_moves::set_marks;
-use layout::{CLIENTS, Mark};
-use shared_area::Shared;
+use log_survey::in_update_log::Region;
+use recovery_laws::in_layout::{CLIENTS, Mark};
+use recovery_laws::in_shared_area::Shared;
 use std::alloc::Global;
 use tier_device::Media;
-use update_log::Region;
 
 /// Brings all that counts into the area: it digests the records, tests the graph, drops the files without names, and sets each mark to a generation that no
 /// region names. It answers these generations.

@@ -2,7 +2,7 @@
 ghost use Rattle.std.specs.Prelude.{◌≡◌};
 ghost use Rattle.area_recovery.specs.declared.error.RecoveryError.TheVariants.{Memory};
 
-use layout::What;
+use recovery_laws::in_layout::What;
 use std::alloc::AllocError;
 use thiserror::Error;
 

@@ -1,18 +1,18 @@
 //! Files without names are dropped.
 
 ghost use Rattle.std.specs.Prelude.{◌≡◌, false, [], ◌∷◌, OnOk, IfErr};
-ghost use Rattle.area_reader.specs.Store.{disk, graph, marks as marks_of};
-ghost use Rattle.call_effects.specs.ClosedGraph.{nobody};
-ghost use Rattle.call_effects.specs.Wholes.{IsSound, state_of};
+ghost use Rattle.recovery_laws.specs.area_reader.Store.{disk, graph, marks as marks_of};
+ghost use Rattle.graph_check.specs.call_effects.ClosedGraph.{nobody};
+ghost use Rattle.graph_check.specs.call_effects.Wholes.{IsSound, state_of};
 ghost use Rattle.area_recovery.specs.FaultOrMemory.{IsFaultOrMemory};
 ghost use Rattle.area_recovery.specs.GraphTests.{without_nameless};
 ghost use Rattle.area_recovery.specs.Recovers.{CountNone};
 ghost use Rattle.area_recovery.specs.Phases.{StaysRecovered, AnswersFaults};
 
 use crate::error::RecoveryError;
-use kernel_fs::{ReclaimError, drop_nameless};
-use shared_area::Shared;
+use recovery_laws::in_shared_area::Shared;
 use std::alloc::Global;
+use system_laws::in_kernel_fs::{ReclaimError, drop_nameless};
 use tier_device::Media;
 
 // Drops the file at an inode, if one without a name stands there.

@@ -1,13 +1,13 @@
 //! The graph of the area is tested.
 
 ghost use Rattle.std.specs.Prelude.{◌≡◌, false, OnOk, IfOk, IfErr};
-ghost use Rattle.area_reader.specs.Store.{disk, graph, marks as marks_of};
-ghost use Rattle.batch_journal.specs.Course.{Unmoved};
-ghost use Rattle.layout.specs.Places.{Sizes, slot_block};
+ghost use Rattle.recovery_laws.specs.area_reader.Store.{disk, graph, marks as marks_of};
+ghost use Rattle.recovery_laws.specs.batch_journal.Course.{Unmoved};
+ghost use Rattle.recovery_laws.specs.layout.Places.{Sizes, slot_block};
 ghost use Rattle.posix_calls.specs.Tree.{State};
 ghost use Rattle.graph_check.specs.Nameless.{AreNameless};
-ghost use Rattle.call_effects.specs.Wholes.{IsSound};
-ghost use Rattle.call_effects.specs.ClosedGraph.{nobody};
+ghost use Rattle.graph_check.specs.call_effects.Wholes.{IsSound};
+ghost use Rattle.graph_check.specs.call_effects.ClosedGraph.{nobody};
 ghost use Rattle.area_recovery.specs.Errors.{OnDamage, IsOfArea};
 ghost use Rattle.area_recovery.specs.FaultOrMemory.{IsFaultOrMemory};
 ghost use Rattle.area_recovery.specs.Recovers.{Regions, Recovers, CountNone};
@@ -16,10 +16,10 @@ ghost use Rattle.area_recovery.specs.Phases.{StaysRecovered, AnswersFaults, What
 
 use crate::area_faults::area_fault;
 use crate::error::RecoveryError;
-use area_reader::AreaError;
 use graph_check::{GraphError, check_graph};
-use layout::{FIRST_SLOT_BLOCK, SLOTS_IN_BLOCK, What};
-use shared_area::Shared;
+use recovery_laws::in_area_reader::AreaError;
+use recovery_laws::in_layout::{FIRST_SLOT_BLOCK, SLOTS_IN_BLOCK, What};
+use recovery_laws::in_shared_area::Shared;
 use std::alloc::Global;
 use tier_device::Media;
 

@@ -20,3 +20,6 @@ mod record_reads;
 pub use area_faults::area_fault;
 pub use area_settlement::settle_area;
 pub use error::RecoveryError;
+
+// Handed on to the crates above, which list only the highest of what they name.
+pub use recovery_laws as in_recovery_laws;

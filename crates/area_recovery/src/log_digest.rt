@@ -2,13 +2,13 @@
 
 ghost use Rattle.std.specs.Prelude.{◌≡◌, ℕ, true, false, length, slice_get, Some, IfErr, OnOk};
 ghost use Rattle.std.specs.List.{AllZip};
-ghost use Rattle.digester.specs.MarkMoves.{mark_of};
-ghost use Rattle.update_log.specs.Stage.{IsIdle};
-ghost use Rattle.update_log.specs.View.{RegionView};
-ghost use Rattle.layout.specs.declared.marks.Marks.{Marks};
-ghost use Rattle.area_reader.specs.Store.{disk, graph, marks as marks_of};
-ghost use Rattle.layout.specs.Places.{Sizes};
-ghost use Rattle.world_invariant.specs.Logs.{after_clients};
+ghost use Rattle.recovery_laws.specs.digester.MarkMoves.{mark_of};
+ghost use Rattle.log_survey.specs.update_log.Stage.{IsIdle};
+ghost use Rattle.log_survey.specs.update_log.View.{RegionView};
+ghost use Rattle.recovery_laws.specs.layout.declared.marks.Marks.{Marks};
+ghost use Rattle.recovery_laws.specs.area_reader.Store.{disk, graph, marks as marks_of};
+ghost use Rattle.recovery_laws.specs.layout.Places.{Sizes};
+ghost use Rattle.log_survey.specs.world_invariant.Logs.{after_clients};
 ghost use Rattle.posix_calls.specs.Operations.{is_client};
 ghost use Rattle.posix_calls.specs.Tree.{State};
 ghost use Rattle.posix_calls.specs.declared.limits.TheConstants.{MAX_CLIENTS};
@@ -24,12 +24,12 @@ ghost use Rattle.area_recovery.specs.Regions.{IsOnlyRead, REGIONS, Rests, region
 use crate::error::RecoveryError;
 use crate::log_parts::{LogPart, digest_first, digest_second};
 use crate::log_search::FoundLog;
-use digester::{mark_of, moved_mark_leaves_the_rest};
-use layout::CLIENTS;
-use shared_area::Shared;
+use log_survey::in_update_log::Region;
+use recovery_laws::in_digester::{mark_of, moved_mark_leaves_the_rest};
+use recovery_laws::in_layout::CLIENTS;
+use recovery_laws::in_shared_area::Shared;
 use std::alloc::Global;
 use tier_device::Media;
-use update_log::Region;
 
 /// Digests the records that count of each client's log, as `find_logs` found them: client after client, the region of the mark's generation and then the next one's, chunk by
 /// chunk. With the regions as they are read, whatever a stop leaves meanwhile is recovered as what was read. The regions are only read.

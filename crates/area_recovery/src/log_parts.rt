@@ -2,14 +2,14 @@
 ghost use Rattle.std.specs.Prelude.{◌≡◌, ◌≢◌, ◌<◌, ◌^◌, ℕ, [], drop, false, length, slice_get, Some, IfErr, IfOk, IfSome, OnOk, true};
 ghost use Rattle.std.specs.List.{AllByRecursion, AllZip};
 ghost use Rattle.log_survey.specs.Regions.{records_behind, records_of};
-ghost use Rattle.digester.specs.MarkMoves.{mark_of};
-ghost use Rattle.update_log.specs.RecordCounts.{next_generation};
-ghost use Rattle.update_log.specs.Stage.{IsIdle};
-ghost use Rattle.log_record.specs.Grammar.{IsRecord};
-ghost use Rattle.update_log.specs.View.{RegionView};
-ghost use Rattle.layout.specs.declared.marks.Marks.{Marks};
-ghost use Rattle.area_reader.specs.Store.{disk, graph, marks as marks_of};
-ghost use Rattle.layout.specs.Places.{Sizes};
+ghost use Rattle.recovery_laws.specs.digester.MarkMoves.{mark_of};
+ghost use Rattle.log_survey.specs.update_log.RecordCounts.{next_generation};
+ghost use Rattle.log_survey.specs.update_log.Stage.{IsIdle};
+ghost use Rattle.graph_check.specs.log_record.Grammar.{IsRecord};
+ghost use Rattle.log_survey.specs.update_log.View.{RegionView};
+ghost use Rattle.recovery_laws.specs.layout.declared.marks.Marks.{Marks};
+ghost use Rattle.recovery_laws.specs.area_reader.Store.{disk, graph, marks as marks_of};
+ghost use Rattle.recovery_laws.specs.layout.Places.{Sizes};
 ghost use Rattle.posix_calls.specs.Operations.{is_client};
 ghost use Rattle.posix_calls.specs.Tree.{State};
 ghost use Rattle.area_recovery.specs.DigestedLogs.{CanDigest, DigestsAll, HoldAll, HoldRecords, MovesMark, NamesRefused, StandsAtStart};
@@ -24,15 +24,15 @@ use crate::error::RecoveryError;
 use crate::mark_moves::set_marks;
 use crate::record_digest::{digest_records, resume_log};
 use crate::record_reads::read_region_records;
-use digester::{mark_of, marks_can_be_written};
-use layout::Mark;
-use log_record::Record;
+use graph_check::in_log_record::Record;
 use log_survey::LogRest;
+use log_survey::in_update_log::Region;
 use posix_calls::client_index;
-use shared_area::Shared;
+use recovery_laws::in_digester::{mark_of, marks_can_be_written};
+use recovery_laws::in_layout::Mark;
+use recovery_laws::in_shared_area::Shared;
 use std::alloc::Global;
 use tier_device::Media;
-use update_log::Region;
 
 /// Records of a client's log: of which generation they are, how many of them are passed over, and how many that count stand before them.
 #[derive(Clone, Copy)]

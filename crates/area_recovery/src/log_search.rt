@@ -1,18 +1,18 @@
 // The clients' logs that regions hold.
 ghost use Rattle.std.specs.Prelude.{◌≡◌, ◌⊎◌, ◌≤◌, ◌<◌, ◌+◌, ◌^◌, ◌++◌, ℕ, List, [], length, slice_get, take, true, false, Some, None, IfOk, IfErr, OnErr, OnOk};
 ghost use Rattle.std.specs.List.{AllZip};
-ghost use Rattle.update_log.specs.Stage.{IsIdle};
-ghost use Rattle.update_log.specs.View.{RegionView};
-ghost use Rattle.update_log.specs.WipeStops.{generation};
-ghost use Rattle.update_log.specs.Frames.{records};
+ghost use Rattle.log_survey.specs.update_log.Stage.{IsIdle};
+ghost use Rattle.log_survey.specs.update_log.View.{RegionView};
+ghost use Rattle.log_survey.specs.update_log.WipeStops.{generation};
+ghost use Rattle.log_survey.specs.update_log.Frames.{records};
 ghost use Rattle.tier_device.specs.Media.{Rose};
 ghost use Rattle.tier_device.specs.declared.media.Tier.TheVariants.{Fast};
 ghost use Rattle.log_survey.specs.Owners.{AreAdded, AreTouchedBy, IsClear, listed, owner};
-ghost use Rattle.update_log.specs.RecordCounts.{counted_records};
-ghost use Rattle.world_invariant.specs.Logs.{LogsAreApart};
-ghost use Rattle.file_graph.specs.Graph.{is_among};
-ghost use Rattle.log_record.specs.declared.format.Record.{Record};
-ghost use Rattle.digester.specs.MarkMoves.{mark_of};
+ghost use Rattle.log_survey.specs.update_log.RecordCounts.{counted_records};
+ghost use Rattle.log_survey.specs.world_invariant.Logs.{LogsAreApart};
+ghost use Rattle.graph_check.specs.file_graph.Graph.{is_among};
+ghost use Rattle.graph_check.specs.log_record.declared.format.Record.{Record};
+ghost use Rattle.recovery_laws.specs.digester.MarkMoves.{mark_of};
 ghost use Rattle.area_recovery.specs.declared.error.RecoveryError.TheVariants.{BadLog, DeviceFault, Memory};
 ghost use Rattle.area_recovery.specs.Errors.{OnBadLog};
 ghost use Rattle.area_recovery.specs.FoundLogs.{AreFound, AreReadAs, AreTouchedIn, HoldFew, HoldsFew, IsFirstForeign, IsFound, IsReadAs, NamesForeign, first_part, log_by, second_part};
@@ -20,15 +20,15 @@ ghost use Rattle.area_recovery.specs.Refusals.{IsFirstSharing};
 ghost use Rattle.area_recovery.specs.Regions.{HaveRisen, IsOnlyRead, REGIONS, Rests, media_of, read_of, regions_read};
 
 use crate::error::RecoveryError;
-use layout::{CLIENTS, Mark, Marks};
-use log_record::TouchedInodes;
+use graph_check::in_log_record::TouchedInodes;
+use log_survey::in_update_log::{Region, RegionError};
 use log_survey::{
     CountedLogs, LogRest, Owners, counted_records_touch_inodes, logs_that_count,
     next_free_generation, owners_decide_whether_logs_are_apart,
 };
+use recovery_laws::in_layout::{CLIENTS, Mark, Marks};
 use std::alloc::Global;
 use tier_device::Media;
-use update_log::{Region, RegionError};
 
 /// What is found of a client's log.
 #[derive(Clone, Copy, PartialEq, Eq)]

@@ -1,9 +1,9 @@
 //! All marks are set.
 
 ghost use Rattle.std.specs.Prelude.{◌≡◌, ◌≢◌, false, Some, OnOk, IfErr};
-ghost use Rattle.layout.specs.declared.marks.Marks.{Marks};
-ghost use Rattle.area_reader.specs.Store.{disk, graph, marks as marks_of};
-ghost use Rattle.batch_journal.specs.Course.{Unmoved};
+ghost use Rattle.recovery_laws.specs.layout.declared.marks.Marks.{Marks};
+ghost use Rattle.recovery_laws.specs.area_reader.Store.{disk, graph, marks as marks_of};
+ghost use Rattle.recovery_laws.specs.batch_journal.Course.{Unmoved};
 ghost use Rattle.area_recovery.specs.declared.error.RecoveryError.TheVariants.{DeviceFault};
 ghost use Rattle.area_recovery.specs.FaultOrMemory.{IsFaultOrMemory};
 ghost use Rattle.area_recovery.specs.Recovers.{CountNone, marks_by};
@@ -11,10 +11,12 @@ ghost use Rattle.area_recovery.specs.Phases.{StaysRecovered, AnswersFaults};
 
 use crate::area_faults::area_fault;
 use crate::error::RecoveryError;
-use digester::marks_can_be_written;
-use graph_change::{GraphChange, changes_are_the_effects, changes_keep_to_the_limits};
-use layout::{CLIENTS, Mark, Marks};
-use shared_area::Shared;
+use recovery_laws::in_digester::marks_can_be_written;
+use recovery_laws::in_graph_change::{
+    GraphChange, changes_are_the_effects, changes_keep_to_the_limits,
+};
+use recovery_laws::in_layout::{CLIENTS, Mark, Marks};
+use recovery_laws::in_shared_area::Shared;
 use std::alloc::Global;
 use tier_device::Media;
 

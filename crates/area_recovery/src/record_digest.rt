@@ -2,13 +2,13 @@
 ghost use Rattle.std.specs.Prelude.{◌≡◌, ◌≤◌, ◌<◌, ◌+◌, ◌^◌, ℕ, length, true, false, IfErr, IfOk, OnOk};
 ghost use Rattle.std.specs.List.{AllByRecursion};
 ghost use Rattle.std.specs.List.Sorted.{IsStrictlyIncreasing};
-ghost use Rattle.digester.specs.DigestStep.{DigestsOrStays};
-ghost use Rattle.digester.specs.SealedLog.{HasUndigested, StandsAtMark, undone};
-ghost use Rattle.digester.specs.declared.error.DigestError.TheVariants as digests;
-ghost use Rattle.area_reader.specs.Store.{disk, graph};
-ghost use Rattle.update_log.specs.RecordCounts.{next_generation};
-ghost use Rattle.log_record.specs.Grammar.{IsRecord};
-ghost use Rattle.layout.specs.Places.{Sizes};
+ghost use Rattle.recovery_laws.specs.digester.DigestStep.{DigestsOrStays};
+ghost use Rattle.recovery_laws.specs.digester.SealedLog.{HasUndigested, StandsAtMark, undone};
+ghost use Rattle.recovery_laws.specs.digester.declared.error.DigestError.TheVariants as digests;
+ghost use Rattle.recovery_laws.specs.area_reader.Store.{disk, graph};
+ghost use Rattle.log_survey.specs.update_log.RecordCounts.{next_generation};
+ghost use Rattle.graph_check.specs.log_record.Grammar.{IsRecord};
+ghost use Rattle.recovery_laws.specs.layout.Places.{Sizes};
 ghost use Rattle.posix_calls.specs.Operations.{is_client};
 ghost use Rattle.posix_calls.specs.Tree.{State};
 ghost use Rattle.recovery_laws.specs.Inodes.{HasEveryInode};
@@ -20,12 +20,12 @@ ghost use Rattle.area_recovery.specs.Phases.{AnswersFaults, StaysRecovered};
 ghost use Rattle.area_recovery.specs.Recovers.{Recovers, Regions};
 
 use crate::error::RecoveryError;
-use digester::{
+use graph_check::in_log_record::Record;
+use posix_calls::MAX_INODE;
+use recovery_laws::in_digester::{
     DigestError, SealedLog, digest_chunk, marks_can_be_written, moved_mark_leaves_the_rest, prepare,
 };
-use log_record::Record;
-use posix_calls::MAX_INODE;
-use shared_area::Shared;
+use recovery_laws::in_shared_area::Shared;
 use std::alloc::{AllocError, Global};
 use tier_device::Media;
 

@@ -1,10 +1,10 @@
 // The records of a client's region are read.
 ghost use Rattle.std.specs.Prelude.{◌≡◌, ◌≢◌, ◌≤◌, ◌<◌, ◌+◌, ◌^◌, ◌⊎◌, ℕ, length, slice_get, Some, IfOk, IfErr, true};
 ghost use Rattle.std.specs.List.{AllByRecursion, AllZip};
-ghost use Rattle.update_log.specs.Frames.{records};
-ghost use Rattle.update_log.specs.Stage.{IsIdle};
-ghost use Rattle.update_log.specs.View.{RegionView};
-ghost use Rattle.log_record.specs.Grammar.{IsRecord};
+ghost use Rattle.log_survey.specs.update_log.Frames.{records};
+ghost use Rattle.log_survey.specs.update_log.Stage.{IsIdle};
+ghost use Rattle.log_survey.specs.update_log.View.{RegionView};
+ghost use Rattle.graph_check.specs.log_record.Grammar.{IsRecord};
 ghost use Rattle.tier_device.specs.Media.{Rose};
 ghost use Rattle.tier_device.specs.declared.media.Tier.TheVariants.{Fast};
 ghost use Rattle.posix_calls.specs.Operations.{is_client};
@@ -14,11 +14,11 @@ ghost use Rattle.area_recovery.specs.Regions.{HaveRisen, IsOnlyRead, REGIONS, me
 ghost use Rattle.area_recovery.specs.SpelledRecords.{HasSpelledEffects};
 
 use crate::error::RecoveryError;
-use log_record::Record;
+use graph_check::in_log_record::Record;
+use log_survey::in_update_log::{Region, RegionError};
 use posix_calls::client_index;
 use std::alloc::Global;
 use tier_device::Media;
-use update_log::{Region, RegionError};
 
 // A record has a spelling, where its effects have one.
 fn record_is_spelled(logged: &Record)

@@ -9,3 +9,6 @@ pub mod Openings
 pub mod Pushing
 pub mod Stages
 pub mod Views
+-- Handed on to the crates above, which list only the highest of what they name.
+pub use Rattle.layout.proofs.file_graph_lemmas
+pub use Rattle.layout.proofs as layout_lemmas

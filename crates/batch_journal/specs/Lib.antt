@@ -7,3 +7,6 @@ pub mod View
 pub mod Kept
 pub mod Damage
 pub mod JournalOpen
+-- Handed on to the crates above, which list only the highest of what they name.
+pub use Rattle.layout.specs.file_graph
+pub use Rattle.layout.specs as layout

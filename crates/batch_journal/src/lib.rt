@@ -23,3 +23,7 @@ pub use error::JournalError;
 pub use journal::Journal;
 pub use laws::damage_has_one_name;
 pub use numbers::journal_has_its_numbers;
+
+// Handed on to the crates above, which list only the highest of what they name.
+pub use layout as in_layout;
+pub use layout::in_file_graph;

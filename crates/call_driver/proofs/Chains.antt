@@ -1,10 +1,10 @@
 -- Runs of which an event is refused, and what a client digests before and after it hands a region over.
 use Rattle.std.proofs.Common.{◌+◌, ℕ, inl, inr, refl, sym, add-one, subst}
 use Rattle.std.specs.Prelude.{Result, Ok, Err}
-use Rattle.event_steps.specs.declared.event.Event.{Event}
-use Rattle.event_steps.specs.declared.event.Event.TheVariants as event
-use Rattle.event_steps.specs.declared.outcome.Outcome.{Outcome}
-use Rattle.event_steps.specs.declared.outcome.Refusal.{Refusal}
+use Rattle.interleavings.specs.event_steps.declared.event.Event.{Event}
+use Rattle.interleavings.specs.event_steps.declared.event.Event.TheVariants as event
+use Rattle.interleavings.specs.event_steps.declared.outcome.Outcome.{Outcome}
+use Rattle.interleavings.specs.event_steps.declared.outcome.Refusal.{Refusal}
 use Rattle.call_driver.specs.EventResults.{CameTo, IsRefusedIn}
 use Rattle.call_driver.specs.Digests.{IsDigested, IsReclaimed, IsRegionDigested, IsRegionDone, Reclaims, Times}
 use Rattle.call_driver.specs.Runs.{Leads}

@@ -2,13 +2,13 @@
 use Rattle.std.proofs.Common.{◌≡◌, ◌≢◌, ◌+◌, ◌≤◌, ℕ, Bool, inl, inr, refl, ap, sym, add-one, subst, Some, None}
 use Rattle.std.specs.Prelude.{Result, Ok, Err}
 use Rattle.posix_calls.specs.declared.call.Call.{Call}
-use Rattle.client_plan.specs.declared.need.Need.{Need}
-use Rattle.lease_manager.specs.declared.view.LeaseMode.{LeaseMode}
-use Rattle.libfs.specs.declared.denial.Denied.{Denied}
-use Rattle.event_steps.specs.declared.event.Event.{Event}
-use Rattle.event_steps.specs.declared.event.Event.TheVariants as kinds
-use Rattle.event_steps.specs.declared.outcome.Outcome.{Outcome}
-use Rattle.event_steps.specs.declared.outcome.Outcome.TheVariants as outcome
+use Rattle.interleavings.specs.client_plan.declared.need.Need.{Need}
+use Rattle.interleavings.specs.lease_manager.declared.view.LeaseMode.{LeaseMode}
+use Rattle.interleavings.specs.libfs.declared.denial.Denied.{Denied}
+use Rattle.interleavings.specs.event_steps.declared.event.Event.{Event}
+use Rattle.interleavings.specs.event_steps.declared.event.Event.TheVariants as kinds
+use Rattle.interleavings.specs.event_steps.declared.outcome.Outcome.{Outcome}
+use Rattle.interleavings.specs.event_steps.declared.outcome.Outcome.TheVariants as outcome
 use Rattle.call_driver.specs.Needs.{IsServed}
 use Rattle.call_driver.specs.Calls.{append_calls, most_turns, GoesOn, IsCarriedOn, IsEndedBy, IsLastStep, IsStepOf, IsReadyCall, Turns}
 use Rattle.call_driver.specs.EventOwner.{after_start, after_step}

@@ -1,8 +1,8 @@
 -- Kinds of events within one another.
 use Rattle.std.proofs.Common.{◌≡◌, ℕ, Bool, true, false, inl, inr, ap, subst, sym}
-use Rattle.event_steps.specs.declared.event.Event.{Event}
-use Rattle.event_steps.specs.declared.event.Event.TheVariants as kinds
-use Rattle.event_steps.specs.Turns.{whose}
+use Rattle.interleavings.specs.event_steps.declared.event.Event.{Event}
+use Rattle.interleavings.specs.event_steps.declared.event.Event.TheVariants as kinds
+use Rattle.interleavings.specs.event_steps.Turns.{whose}
 use Rattle.call_driver.specs.EventOwner.{IsOfClient, IsServing, IsDigesting, IsHandingOver}
 
 -- what a client digests is its own

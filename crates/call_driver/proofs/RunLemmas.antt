@@ -1,7 +1,7 @@
 -- Events that lead from one system to another.
 use Rattle.std.proofs.Common.{List, [], ◌∷◌, ◌++◌, refl, subst}
-use Rattle.event_steps.specs.declared.event.Event.{Event}
-use Rattle.event_steps.specs.declared.outcome.Outcome.{Outcome}
+use Rattle.interleavings.specs.event_steps.declared.event.Event.{Event}
+use Rattle.interleavings.specs.event_steps.declared.outcome.Outcome.{Outcome}
 use Rattle.call_driver.specs.Runs.{IsRun, Leads}
 
 -- no event leads to the same system

@@ -1,14 +1,14 @@
 -- A call, from its start to its answer.
 use Rattle.std.specs.Prelude.{◌≡◌, ◌≢◌, ◌⊎◌, ◌≤◌, ◌*◌, ℕ, zero, suc, Bool, true, false, Option, Result, Ok, Err}
 use Rattle.posix_calls.specs.declared.call.Call.{Call}
-use Rattle.client_plan.specs.declared.need.Need.{Need}
-use Rattle.lease_manager.specs.declared.layout.TheConstants.{INODES}
-use Rattle.lease_manager.specs.declared.view.LeaseMode.{LeaseMode}
-use Rattle.libfs.specs.declared.denial.Denied.{Denied}
-use Rattle.event_steps.specs.declared.event.Event.{Event}
-use Rattle.event_steps.specs.declared.event.Event.TheVariants as event
-use Rattle.event_steps.specs.declared.outcome.Outcome.{Outcome}
-use Rattle.event_steps.specs.declared.outcome.Outcome.TheVariants as outcome
+use Rattle.interleavings.specs.client_plan.declared.need.Need.{Need}
+use Rattle.interleavings.specs.lease_manager.declared.layout.TheConstants.{INODES}
+use Rattle.interleavings.specs.lease_manager.declared.view.LeaseMode.{LeaseMode}
+use Rattle.interleavings.specs.libfs.declared.denial.Denied.{Denied}
+use Rattle.interleavings.specs.event_steps.declared.event.Event.{Event}
+use Rattle.interleavings.specs.event_steps.declared.event.Event.TheVariants as event
+use Rattle.interleavings.specs.event_steps.declared.outcome.Outcome.{Outcome}
+use Rattle.interleavings.specs.event_steps.declared.outcome.Outcome.TheVariants as outcome
 use Rattle.call_driver.specs.Needs.{IsServed}
 use Rattle.call_driver.specs.EventOwner.{after_deny, after_start, after_step}
 use Rattle.call_driver.specs.declared.call_result.CallResult.{CallResult}

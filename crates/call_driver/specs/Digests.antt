@@ -1,11 +1,11 @@
 -- What a client logged is digested, and its regions are wiped.
 use Rattle.std.specs.Prelude.{◌≡◌, ◌⊎◌, ◌≤◌, ◌-◌, ℕ, zero, suc, nat_lt, Bool, Result, Ok, Err}
-use Rattle.lease_manager.specs.declared.layout.TheConstants.{INODES}
-use Rattle.event_steps.specs.declared.event.Event.{Event}
-use Rattle.event_steps.specs.declared.event.Event.TheVariants as event
-use Rattle.event_steps.specs.declared.outcome.Outcome.{Outcome}
-use Rattle.event_steps.specs.declared.outcome.Refusal.{Refusal}
-use Rattle.event_steps.specs.declared.outcome.Refusal.TheVariants as refusals
+use Rattle.interleavings.specs.lease_manager.declared.layout.TheConstants.{INODES}
+use Rattle.interleavings.specs.event_steps.declared.event.Event.{Event}
+use Rattle.interleavings.specs.event_steps.declared.event.Event.TheVariants as event
+use Rattle.interleavings.specs.event_steps.declared.outcome.Outcome.{Outcome}
+use Rattle.interleavings.specs.event_steps.declared.outcome.Refusal.{Refusal}
+use Rattle.interleavings.specs.event_steps.declared.outcome.Refusal.TheVariants as refusals
 use Rattle.call_driver.specs.EventResults.{CameTo, IsRefusedIn}
 use Rattle.call_driver.specs.EventOwner.{IsClearing, IsDigesting, IsReclaim}
 use Rattle.call_driver.specs.declared.event_result.EventResult.{EventResult}

@@ -1,13 +1,13 @@
 -- Whose event an event is, and which events serve what.
 use Rattle.std.specs.Prelude.{◌≡◌, ◌⊎◌, ℕ, Bool, true, false, Option, Some, None, Result, Ok, Err}
-use Rattle.client_plan.specs.declared.need.Need.{Need}
+use Rattle.interleavings.specs.client_plan.declared.need.Need.{Need}
 use Rattle.posix_calls.specs.declared.call.Call.{Call}
-use Rattle.event_steps.specs.Turns.{whose}
-use Rattle.event_steps.specs.declared.event.Event.{Event}
-use Rattle.event_steps.specs.declared.event.Event.TheVariants as event
-use Rattle.event_steps.specs.declared.outcome.Outcome.{Outcome}
-use Rattle.event_steps.specs.declared.outcome.Outcome.TheVariants as outcome
-use Rattle.libfs.specs.declared.denial.Denied.{Denied}
+use Rattle.interleavings.specs.event_steps.Turns.{whose}
+use Rattle.interleavings.specs.event_steps.declared.event.Event.{Event}
+use Rattle.interleavings.specs.event_steps.declared.event.Event.TheVariants as event
+use Rattle.interleavings.specs.event_steps.declared.outcome.Outcome.{Outcome}
+use Rattle.interleavings.specs.event_steps.declared.outcome.Outcome.TheVariants as outcome
+use Rattle.interleavings.specs.libfs.declared.denial.Denied.{Denied}
 use Rattle.call_driver.specs.declared.call_result.CallResult.{CallResult}
 use Rattle.call_driver.specs.declared.call_result.CallResult.TheVariants as served
 

@@ -1,9 +1,9 @@
 -- What an event that answers no call came to.
 use Rattle.std.specs.Prelude.{◌≡◌}
-use Rattle.event_steps.specs.declared.event.Event.{Event}
-use Rattle.event_steps.specs.declared.outcome.Outcome.{Outcome}
-use Rattle.event_steps.specs.declared.outcome.Outcome.TheVariants as outcome
-use Rattle.event_steps.specs.declared.outcome.Refusal.{Refusal}
+use Rattle.interleavings.specs.event_steps.declared.event.Event.{Event}
+use Rattle.interleavings.specs.event_steps.declared.outcome.Outcome.{Outcome}
+use Rattle.interleavings.specs.event_steps.declared.outcome.Outcome.TheVariants as outcome
+use Rattle.interleavings.specs.event_steps.declared.outcome.Refusal.{Refusal}
 use Rattle.call_driver.specs.Runs.{Leads}
 use Rattle.call_driver.specs.declared.event_result.EventResult.{EventResult}
 use Rattle.call_driver.specs.declared.event_result.EventResult.TheVariants as did

@@ -1,13 +1,13 @@
 -- Other clients give back what a call needs.
 use Rattle.std.specs.Prelude.{◌≡◌, ◌≢◌, ◌⊎◌, ◌<◌, ℕ, zero, suc, Bool, true, false}
-use Rattle.lease_manager.specs.declared.layout.TheConstants.{CLIENTS}
-use Rattle.lease_manager.specs.declared.view.LeaseMode.{LeaseMode}
-use Rattle.lease_manager.specs.declared.view.LeaseMode.TheVariants.{Free}
-use Rattle.event_steps.specs.declared.event.Event.{Event}
-use Rattle.event_steps.specs.declared.event.Event.TheVariants as event
-use Rattle.event_steps.specs.declared.outcome.Outcome.{Outcome}
-use Rattle.event_steps.specs.declared.outcome.Refusal.{Refusal}
-use Rattle.event_steps.specs.declared.outcome.Refusal.TheVariants as refusals
+use Rattle.interleavings.specs.lease_manager.declared.layout.TheConstants.{CLIENTS}
+use Rattle.interleavings.specs.lease_manager.declared.view.LeaseMode.{LeaseMode}
+use Rattle.interleavings.specs.lease_manager.declared.view.LeaseMode.TheVariants.{Free}
+use Rattle.interleavings.specs.event_steps.declared.event.Event.{Event}
+use Rattle.interleavings.specs.event_steps.declared.event.Event.TheVariants as event
+use Rattle.interleavings.specs.event_steps.declared.outcome.Outcome.{Outcome}
+use Rattle.interleavings.specs.event_steps.declared.outcome.Refusal.{Refusal}
+use Rattle.interleavings.specs.event_steps.declared.outcome.Refusal.TheVariants as refusals
 use Rattle.call_driver.specs.EventResults.{CameTo, IsRefusedIn}
 use Rattle.call_driver.specs.Digests.{HasDigested}
 use Rattle.call_driver.specs.EventOwner.{IsDigesting}

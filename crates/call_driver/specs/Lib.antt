@@ -6,3 +6,14 @@ pub mod OfSystem
 pub mod Runs
 pub mod Calls
 pub mod EventOwner
+-- Handed on to the crates above, which list only the highest of what they name.
+pub use Rattle.interleavings.specs.area_reader
+pub use Rattle.interleavings.specs.batch_journal
+pub use Rattle.interleavings.specs.call_effects
+pub use Rattle.interleavings.specs.event_lists
+pub use Rattle.interleavings.specs.event_steps
+pub use Rattle.interleavings.specs.kernel_fs
+pub use Rattle.interleavings.specs.layout
+pub use Rattle.interleavings.specs.record_validation
+pub use Rattle.interleavings.specs.shared_area
+pub use Rattle.interleavings.specs.system_laws

@@ -1,16 +1,16 @@
 -- What a call needs, and what came of it.
 use Rattle.std.specs.Prelude.{◌≡◌, ◌⊎◌, ◌^◌, ℕ, nat_lt, Bool, true, false, Result, if◌then◌else◌}
-use Rattle.client_plan.specs.declared.need.Mode.{Mode}
-use Rattle.client_plan.specs.declared.need.Need.{Need}
-use Rattle.client_plan.specs.declared.need.Need.TheVariants as needs
-use Rattle.lease_manager.specs.declared.view.LeaseMode.{LeaseMode}
-use Rattle.lease_manager.specs.declared.view.LeaseMode.TheVariants.{Free, Reading, Writing, Trying}
-use Rattle.libfs.specs.declared.denial.Denied.TheVariants as denied
-use Rattle.event_steps.specs.declared.event.Event.{Event}
-use Rattle.event_steps.specs.declared.event.Event.TheVariants as event
-use Rattle.event_steps.specs.declared.outcome.Outcome.{Outcome}
-use Rattle.event_steps.specs.declared.outcome.Refusal.{Refusal}
-use Rattle.event_steps.specs.declared.outcome.Refusal.TheVariants as refusals
+use Rattle.interleavings.specs.client_plan.declared.need.Mode.{Mode}
+use Rattle.interleavings.specs.client_plan.declared.need.Need.{Need}
+use Rattle.interleavings.specs.client_plan.declared.need.Need.TheVariants as needs
+use Rattle.interleavings.specs.lease_manager.declared.view.LeaseMode.{LeaseMode}
+use Rattle.interleavings.specs.lease_manager.declared.view.LeaseMode.TheVariants.{Free, Reading, Writing, Trying}
+use Rattle.interleavings.specs.libfs.declared.denial.Denied.TheVariants as denied
+use Rattle.interleavings.specs.event_steps.declared.event.Event.{Event}
+use Rattle.interleavings.specs.event_steps.declared.event.Event.TheVariants as event
+use Rattle.interleavings.specs.event_steps.declared.outcome.Outcome.{Outcome}
+use Rattle.interleavings.specs.event_steps.declared.outcome.Refusal.{Refusal}
+use Rattle.interleavings.specs.event_steps.declared.outcome.Refusal.TheVariants as refusals
 use Rattle.call_driver.specs.EventResults.{CameTo}
 use Rattle.call_driver.specs.Digests.{HasDigested, IsWiped}
 use Rattle.call_driver.specs.LeaseReturn.{IsUndigested, OthersHandOver}

@@ -2,13 +2,13 @@
 use Rattle.std.specs.Prelude.{◌≡◌, ℕ, Bool, false}
 use Rattle.tier_device.specs.declared.media.Media.{Ghosts}
 use Rattle.tier_device.specs.declared.media.Tier.{Tier}
-use Rattle.libfs.specs.View.{is_pending}
-use Rattle.event_steps.specs.Effects.{Carries, Plays}
-use Rattle.event_steps.specs.Turns.{CanPlay}
-use Rattle.event_steps.specs.View.{SystemView, undigested_on}
+use Rattle.interleavings.specs.libfs.View.{is_pending}
+use Rattle.interleavings.specs.event_steps.Effects.{Carries, Plays}
+use Rattle.interleavings.specs.event_steps.Turns.{CanPlay}
+use Rattle.interleavings.specs.event_steps.View.{SystemView, undigested_on}
 use Rattle.interleavings.specs.Leases.{at_client}
-use Rattle.event_steps.specs.declared.event.Event.{Event}
-use Rattle.event_steps.specs.declared.outcome.Outcome.{Outcome}
+use Rattle.interleavings.specs.event_steps.declared.event.Event.{Event}
+use Rattle.interleavings.specs.event_steps.declared.outcome.Outcome.{Outcome}
 
 -- an event has nothing to do, and changes nothing, or it makes of the system what it is to make
 abbrev pub plays_in : {M : Type 0} → Ghosts M → SystemView M → Event → Outcome → SystemView M → Type 0

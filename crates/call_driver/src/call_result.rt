@@ -1,17 +1,17 @@
 // One event that answers a call, and what became of it.
 ghost use Rattle.std.specs.Prelude.{◌≡◌, ℕ, Some, Ok};
 ghost use Rattle.posix_calls.specs.declared.call.Call.{Call};
-ghost use Rattle.event_steps.specs.declared.event.Event.TheVariants as kinds;
-ghost use Rattle.event_steps.specs.declared.outcome.Outcome.TheVariants as outcome;
+ghost use Rattle.interleavings.specs.event_steps.declared.event.Event.TheVariants as kinds;
+ghost use Rattle.interleavings.specs.event_steps.declared.outcome.Outcome.TheVariants as outcome;
 ghost use Rattle.posix_calls.specs.declared.call.Reply.{Reply};
-ghost use Rattle.event_steps.specs.declared.outcome.Outcome.{Outcome};
+ghost use Rattle.interleavings.specs.event_steps.declared.outcome.Outcome.{Outcome};
 ghost use Rattle.call_driver.specs.Calls.{IsStepOf};
 ghost use Rattle.call_driver.specs.EventOwner.{after_deny, after_start};
 
 use crate::events::Events;
-use client_plan::Need;
-use event_steps::{Event, Outcome};
-use libfs::Denied;
+use interleavings::in_client_plan::Need;
+use interleavings::in_event_steps::{Event, Outcome};
+use interleavings::in_libfs::Denied;
 use posix_calls::Reply;
 
 /// What became of a served call.

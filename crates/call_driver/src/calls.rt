@@ -2,7 +2,7 @@
 ghost use Rattle.std.specs.Prelude.{◌≡◌, ◌⊎◌, true, Ok};
 ghost use Rattle.posix_calls.specs.declared.call.Call.{Call};
 ghost use Rattle.posix_calls.specs.declared.call.Reply.{Reply};
-ghost use Rattle.event_steps.specs.declared.event.Event.TheVariants as kinds;
+ghost use Rattle.interleavings.specs.event_steps.declared.event.Event.TheVariants as kinds;
 ghost use Rattle.call_driver.specs.Runs.{Leads, IsLast};
 ghost use Rattle.call_driver.specs.Calls.{IsBegunCall, IsCarriedOn, IsServedCall, IsReadyCall};
 ghost use Rattle.call_driver.specs.EventOwner.{IsOfClient, IsServing, IsAsking};
@@ -10,9 +10,9 @@ ghost use Rattle.call_driver.specs.EventOwner.{IsOfClient, IsServing, IsAsking};
 use crate::call_result::{CallResult, deny, start, step_call};
 use crate::events::Events;
 use crate::needs::{NeedResult, serve_need};
-use event_steps::Event;
-use lease_manager::INODES;
-use libfs::Denied;
+use interleavings::in_event_steps::Event;
+use interleavings::in_lease_manager::INODES;
+use interleavings::in_libfs::Denied;
 use posix_calls::Call;
 
 // More turns than any call has needs. An inode may be needed in five ways: unpinned, leased for reading and for writing, fetched and pinned, and a lease is asked for again once others have handed it over: that

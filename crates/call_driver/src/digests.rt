@@ -1,7 +1,7 @@
 // What a client logged is digested, and its regions are wiped.
 ghost use Rattle.std.specs.Prelude.{◌≡◌, IfErr, OnOk};
-ghost use Rattle.event_steps.specs.declared.event.Event.TheVariants as event;
-ghost use Rattle.event_steps.specs.declared.outcome.Refusal.TheVariants as refusals;
+ghost use Rattle.interleavings.specs.event_steps.declared.event.Event.TheVariants as event;
+ghost use Rattle.interleavings.specs.event_steps.declared.outcome.Refusal.TheVariants as refusals;
 ghost use Rattle.call_driver.specs.declared.event_result.EventResult.TheVariants as did;
 ghost use Rattle.call_driver.specs.EventResults.{CameTo};
 ghost use Rattle.call_driver.specs.Digests.{AreReclaimed, IsCleared, IsDigested, IsReclaimed, IsRegionDone, IsWiped};
@@ -10,8 +10,8 @@ ghost use Rattle.call_driver.specs.EventOwner.{IsDigesting, IsReclaim, IsClearin
 
 use crate::event_result::{EventResult, carry_out};
 use crate::events::Events;
-use event_steps::{Event, Refusal};
-use lease_manager::INODES;
+use interleavings::in_event_steps::{Event, Refusal};
+use interleavings::in_lease_manager::INODES;
 
 // A wipe makes four device calls, and a client has two regions.
 const WIPE_STEPS: u32 = 8;

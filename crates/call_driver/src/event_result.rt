@@ -2,7 +2,7 @@
 ghost use Rattle.call_driver.specs.EventResults.{CameTo};
 
 use crate::events::Events;
-use event_steps::{Event, Outcome, Refusal};
+use interleavings::in_event_steps::{Event, Outcome, Refusal};
 
 /// What became of an event that answers no call.
 #[derive(Clone, Copy, PartialEq, Eq)]

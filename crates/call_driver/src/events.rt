@@ -1,10 +1,10 @@
 ghost use Rattle.std.specs.Prelude.{◌≡◌, ℕ, Bool};
-ghost use Rattle.event_steps.specs.declared.event.Event.{Event};
-ghost use Rattle.event_steps.specs.declared.outcome.Outcome.{Outcome};
-ghost use Rattle.lease_manager.specs.declared.view.LeaseMode.{LeaseMode};
+ghost use Rattle.interleavings.specs.event_steps.declared.event.Event.{Event};
+ghost use Rattle.interleavings.specs.event_steps.declared.outcome.Outcome.{Outcome};
+ghost use Rattle.interleavings.specs.lease_manager.declared.view.LeaseMode.{LeaseMode};
 
-use event_steps::{Event, Outcome};
-use lease_manager::LeaseMode;
+use interleavings::in_event_steps::{Event, Outcome};
+use interleavings::in_lease_manager::LeaseMode;
 
 /// A running system, one event after the other. Clients are numbered from 1 to 8.
 pub trait Events {

@@ -1,6 +1,6 @@
 // Other clients give back what a call needs.
 ghost use Rattle.std.specs.Prelude.{◌≡◌};
-ghost use Rattle.event_steps.specs.declared.event.Event.TheVariants as event;
+ghost use Rattle.interleavings.specs.event_steps.declared.event.Event.TheVariants as event;
 ghost use Rattle.call_driver.specs.EventResults.{CameTo};
 ghost use Rattle.call_driver.specs.declared.event_result.EventResult.{EventResult};
 ghost use Rattle.call_driver.specs.LeaseReturn.{GivesWay, HandsOver, OthersHandOver, after_give, without_digest};
@@ -11,8 +11,8 @@ use crate::digests::digest_all;
 use crate::event_result::{EventResult, carry_out};
 use crate::events::Events;
 use crate::needs::NeedResult;
-use event_steps::{Event, Refusal};
-use lease_manager::{CLIENTS, LeaseMode};
+use interleavings::in_event_steps::{Event, Refusal};
+use interleavings::in_lease_manager::{CLIENTS, LeaseMode};
 
 /// Each other client that holds an inode, rising, digests all that it logged and gives the inode back. One whose call is pending, or whose device has failed, is in the way.
 pub fn others_hand_over<E: Events>(events: &mut E, client: u32, inode: u32) -> NeedResult

@@ -1,10 +1,10 @@
 // What a call needs, one need at a time.
 ghost use Rattle.std.specs.Prelude.{◌≡◌, Some};
-ghost use Rattle.event_steps.specs.Turns.{whose};
+ghost use Rattle.interleavings.specs.event_steps.Turns.{whose};
 ghost use Rattle.call_driver.specs.EventResults.{CameTo};
 ghost use Rattle.call_driver.specs.declared.event_result.EventResult.{EventResult};
 ghost use Rattle.call_driver.specs.declared.event_result.EventResult.TheVariants as did;
-ghost use Rattle.event_steps.specs.declared.outcome.Refusal.{Refusal};
+ghost use Rattle.interleavings.specs.event_steps.declared.outcome.Refusal.{Refusal};
 ghost use Rattle.call_driver.specs.Needs.{AfterLease, IsLeased, IsServed, MakesRoom, after_asking, after_refusal, event_for, lease_event};
 ghost use Rattle.call_driver.specs.Runs.{Leads};
 ghost use Rattle.call_driver.specs.EventOwner.{IsOfClient, IsServing};
@@ -13,10 +13,10 @@ use crate::digests::{digest_all, wipe_all};
 use crate::event_result::{EventResult, carry_out};
 use crate::events::Events;
 use crate::lease_return::{not_digested, others_hand_over};
-use client_plan::{Mode, Need};
-use event_steps::{Event, Refusal};
-use lease_manager::LeaseMode;
-use libfs::Denied;
+use interleavings::in_client_plan::{Mode, Need};
+use interleavings::in_event_steps::{Event, Refusal};
+use interleavings::in_lease_manager::LeaseMode;
+use interleavings::in_libfs::Denied;
 
 /// What came of a need.
 #[derive(Clone, Copy)]

@@ -1,8 +1,8 @@
 // A system in memory plays its events.
 use crate::events::Events;
-use event_steps::{Event, Outcome, System};
+use interleavings::in_event_steps::{Event, Outcome, System};
+use interleavings::in_lease_manager::LeaseMode;
 use interleavings::lease_in;
-use lease_manager::LeaseMode;
 use tier_device::Media;
 
 impl<M: Media + Drop> Events for System<M> {

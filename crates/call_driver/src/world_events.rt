@@ -1,16 +1,16 @@
 //! The events of calls that are served, played on a world.
 
 use crate::events::Events;
-use event_lists::Steps;
-use event_steps::{Event, Outcome};
+use interleavings::in_event_lists::Steps;
+use interleavings::in_event_steps::{Event, Outcome};
+use interleavings::in_lease_manager::LeaseMode;
 use interleavings::{World, lease_in};
-use lease_manager::LeaseMode;
 use tier_device::Media;
 
 impl<M: Media + Drop> Events for World<M> {
     ghost use Rattle.call_driver.specs.OfSystem.{failed_in, undigested_in, waits_in};
     ghost use Rattle.interleavings.specs.Leases.{lease_in};
-    ghost use Rattle.system_laws.specs.Steps.{MakesOrStays};
+    ghost use Rattle.interleavings.specs.system_laws.Steps.{MakesOrStays};
 
     ghost plays = { MakesOrStays M.Media };
 

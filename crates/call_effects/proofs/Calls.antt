@@ -20,8 +20,8 @@ use Rattle.posix_calls.specs.Query.{Seen, File, Dir, Gives, Refuses, Look, View,
 use Rattle.posix_calls.specs.Walk.{Place, is_root, leads_to, is_there, is_true, there, prefix, entries_seen, entries_at, kind_at}
 use Rattle.posix_calls.specs.Decide.{open_inode, open_there, lowest_free, number_or, replaced_at, replacing_dir, rename_to, write_at, node_description, mkdir, unlink, rmdir, link, rename, truncate, pwrite, pread, close, open_path, list_path, stat, decide}
 use Rattle.posix_calls.proofs.Open as opens
-use Rattle.file_graph.specs.Graph.{Graph}
-use Rattle.file_graph.specs.declared.effect.Kind.TheVariants as kind
+use Rattle.log_record.specs.file_graph.Graph.{Graph}
+use Rattle.log_record.specs.file_graph.declared.effect.Kind.TheVariants as kind
 use Rattle.call_effects.specs.Effects.{kind_if}
 use Rattle.call_effects.specs.Wholes.{without_kinds, kind_of, tree_of, reachable_graph, graph_view}
 use Rattle.call_effects.specs.Fits.{IsEntry, IsUsedFile, IsEmptyDir, IsClear, IsNumber, OperationFits, FitsReplaced}

@@ -7,11 +7,11 @@ use Rattle.std.specs.FinMap as fin
 use Rattle.posix_calls.specs.Content.{Entries}
 use Rattle.posix_calls.specs.Tree.{Tree, Descriptors, names_of, names_in, is_open, entries_of}
 use Rattle.posix_calls.specs.Tree as tree
-use Rattle.file_graph.specs.Graph.{Graph, Node, Body, FileBody, DirBody, after_effect, subject_after, subjects, is_among}
-use Rattle.file_graph.specs.declared.effect.Kind.{Kind}
-use Rattle.file_graph.specs.declared.effect.Kind.TheVariants as kind
-use Rattle.file_graph.specs.declared.effect.Effect.{Effect}
-use Rattle.file_graph.specs.declared.effect.Effect.TheVariants as effect
+use Rattle.log_record.specs.file_graph.Graph.{Graph, Node, Body, FileBody, DirBody, after_effect, subject_after, subjects, is_among}
+use Rattle.log_record.specs.file_graph.declared.effect.Kind.{Kind}
+use Rattle.log_record.specs.file_graph.declared.effect.Kind.TheVariants as kind
+use Rattle.log_record.specs.file_graph.declared.effect.Effect.{Effect}
+use Rattle.log_record.specs.file_graph.declared.effect.Effect.TheVariants as effect
 use Rattle.call_effects.specs.Effects.{stored_count}
 use Rattle.call_effects.specs.Wholes.{without_kinds, tree_of, tree_node, keep, reachable_graph, kind_of, one_if, IsTyped, IsSound, AreReached}
 use Rattle.posix_calls.specs.declared.descriptor.Descriptor.{Descriptor}

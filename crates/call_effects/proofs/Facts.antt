@@ -12,9 +12,9 @@ use Rattle.posix_calls.specs.declared.operation.Location.{Location}
 use Rattle.posix_calls.specs.Walk.{Place, root_place, entries_seen, directory, directory_if, walk}
 use Rattle.posix_calls.proofs.Reached.{Chain, chain_path}
 use Rattle.posix_calls.proofs.Changes.{set_other}
-use Rattle.file_graph.specs.Graph.{Graph, Node, FileBody, DirBody}
-use Rattle.file_graph.specs.declared.effect.Kind.{Kind}
-use Rattle.file_graph.specs.declared.effect.Kind.TheVariants as kind
+use Rattle.log_record.specs.file_graph.Graph.{Graph, Node, FileBody, DirBody}
+use Rattle.log_record.specs.file_graph.declared.effect.Kind.{Kind}
+use Rattle.log_record.specs.file_graph.declared.effect.Kind.TheVariants as kind
 use Rattle.call_effects.specs.Effects.{stored_count}
 use Rattle.call_effects.specs.Wholes.{without_kinds, tree_of, keep, reachable_graph, kind_of, body_kind, one_if, graph_view, node_is_dir, node_seen}
 use Rattle.call_effects.specs.Fits.{IsRoom, IsEntry, IsClear}

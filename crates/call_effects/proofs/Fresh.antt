@@ -14,9 +14,9 @@ use Rattle.posix_calls.specs.WellFormed.{IsDirectory, IsWithinLimits}
 use Rattle.posix_calls.proofs.Bounds.{opening_within}
 use Rattle.posix_calls.proofs.Sums.{all_zero}
 use Rattle.posix_calls.proofs.Counts.{counted, counted_is, counted_empty}
-use Rattle.file_graph.specs.Graph.{Node, DirBody, fresh}
-use Rattle.file_graph.specs.declared.effect.Kind.{Kind}
-use Rattle.file_graph.specs.declared.effect.Kind.TheVariants as kind
+use Rattle.log_record.specs.file_graph.Graph.{Node, DirBody, fresh}
+use Rattle.log_record.specs.file_graph.declared.effect.Kind.{Kind}
+use Rattle.log_record.specs.file_graph.declared.effect.Kind.TheVariants as kind
 use Rattle.call_effects.specs.Effects.{stored_count}
 use Rattle.call_effects.specs.Wholes.{tree_of, tree_node, keep, state_of, kind_of, one_if, without_kinds, IsSound}
 use Rattle.call_effects.proofs.Inodes.{inodes_empty}

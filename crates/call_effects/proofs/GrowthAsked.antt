@@ -20,11 +20,11 @@ use Rattle.posix_calls.specs.Operations.{makes}
 use Rattle.posix_calls.proofs.Directory.{names_same}
 use Rattle.posix_calls.proofs.Counts.{order}
 use Rattle.posix_calls.proofs.Within.{resized_length}
-use Rattle.file_graph.specs.Graph.{Graph, Node, after_effect, cost}
-use Rattle.file_graph.specs.Units.{growth}
-use Rattle.file_graph.specs.declared.effect.Kind.{Kind}
-use Rattle.file_graph.specs.declared.effect.Kind.TheVariants as kind
-use Rattle.file_graph.specs.declared.effect.Effect.TheVariants as effect
+use Rattle.log_record.specs.file_graph.Graph.{Graph, Node, after_effect, cost}
+use Rattle.log_record.specs.file_graph.Units.{growth}
+use Rattle.log_record.specs.file_graph.declared.effect.Kind.{Kind}
+use Rattle.log_record.specs.file_graph.declared.effect.Kind.TheVariants as kind
+use Rattle.log_record.specs.file_graph.declared.effect.Effect.TheVariants as effect
 use Rattle.call_effects.specs.Effects.{stored_count, make_effects, remove_effects, kind_if, effects_of}
 use Rattle.call_effects.specs.Records.{growth_asked, entry_rise, file_rise, move_rise}
 use Rattle.call_effects.specs.Wholes.{IsSound, without_kinds, graph_view, kind_of}

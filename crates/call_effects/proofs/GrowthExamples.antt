@@ -8,10 +8,10 @@ use Rattle.posix_calls.specs.declared.operation.Location.{Location}
 use Rattle.posix_calls.specs.declared.operation.Operation.TheVariants.{NewDir, Write, AddName, Move}
 use Rattle.posix_calls.specs.declared.operation.Replaced.TheVariants.{Nothing}
 use Rattle.posix_calls.proofs.Counts.{order}
-use Rattle.file_graph.specs.Graph.{Graph, fresh}
-use Rattle.file_graph.specs.Units.{growth}
-use Rattle.file_graph.specs.declared.effect.Kind.{Kind}
-use Rattle.file_graph.specs.declared.effect.Kind.TheVariants as kind
+use Rattle.log_record.specs.file_graph.Graph.{Graph, fresh}
+use Rattle.log_record.specs.file_graph.Units.{growth}
+use Rattle.log_record.specs.file_graph.declared.effect.Kind.{Kind}
+use Rattle.log_record.specs.file_graph.declared.effect.Kind.TheVariants as kind
 use Rattle.call_effects.specs.Effects.{stored_count, kind_if, effects_of}
 use Rattle.call_effects.specs.Records.{file_rise}
 use Rattle.posix_calls.specs.Query.{Gives, ◌>>=◌, run}

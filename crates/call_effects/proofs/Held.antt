@@ -11,8 +11,8 @@ use Rattle.posix_calls.specs.declared.operation.Operation.TheVariants.{Tell, New
 use Rattle.posix_calls.specs.Operations.{tree_after, makes, held_after, less_unused}
 use Rattle.posix_calls.proofs.Open.{own_cases, own_there, open_there}
 use Rattle.posix_calls.proofs.Steps.{with_same}
-use Rattle.file_graph.specs.Graph.{Graph, Node, after_effects}
-use Rattle.file_graph.specs.declared.effect.Kind.TheVariants as kind
+use Rattle.log_record.specs.file_graph.Graph.{Graph, Node, after_effects}
+use Rattle.log_record.specs.file_graph.declared.effect.Kind.TheVariants as kind
 use Rattle.call_effects.specs.Effects.{effects_of, stored_count}
 use Rattle.call_effects.specs.Wholes.{tree_of, tree_node, keep, reachable_graph, kind_of}
 use Rattle.call_effects.specs.Fits.{IsNew, IsUsedFile, IsNumber, IsHeld, OperationFits}

@@ -7,7 +7,7 @@ use Rattle.std.specs.FinMap as fin
 use Rattle.posix_calls.specs.Content.{Entries}
 use Rattle.posix_calls.proofs.Directory.{entries-empty, names_same}
 use Rattle.posix_calls.proofs.Counts.{order}
-use Rattle.file_graph.specs.declared.effect.Kind.{Kind}
+use Rattle.log_record.specs.file_graph.declared.effect.Kind.{Kind}
 use Rattle.call_effects.specs.Wholes.{without_kinds}
 
 abbrev first : ℕ × Kind → ℕ

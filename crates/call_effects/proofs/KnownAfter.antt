@@ -11,12 +11,12 @@ use Rattle.posix_calls.specs.declared.operation.Operation.{Operation}
 use Rattle.posix_calls.specs.declared.operation.Operation.TheVariants.{Tell, NewDir, NewFile, OpenFile, CloseFile, Write, Resize, RemoveDir, AddName, DropName, Move}
 use Rattle.posix_calls.specs.declared.operation.Replaced.TheVariants.{Nothing, OldFile, OldDir}
 use Rattle.posix_calls.specs.declared.call.Call.{Call}
-use Rattle.file_graph.specs.Graph.{Graph, Node, is_among, subject_after, after_effect, after_effects, touches, subjects, file_bytes}
-use Rattle.file_graph.specs.declared.effect.Kind.{Kind}
-use Rattle.file_graph.specs.declared.effect.Kind.TheVariants as kind
-use Rattle.file_graph.specs.declared.effect.Effect.{Effect}
-use Rattle.file_graph.specs.declared.effect.Effect.TheVariants as effect
-use Rattle.file_graph.proofs.Touches.{untouched}
+use Rattle.log_record.specs.file_graph.Graph.{Graph, Node, is_among, subject_after, after_effect, after_effects, touches, subjects, file_bytes}
+use Rattle.log_record.specs.file_graph.declared.effect.Kind.{Kind}
+use Rattle.log_record.specs.file_graph.declared.effect.Kind.TheVariants as kind
+use Rattle.log_record.specs.file_graph.declared.effect.Effect.{Effect}
+use Rattle.log_record.specs.file_graph.declared.effect.Effect.TheVariants as effect
+use Rattle.log_record.proofs.file_graph_lemmas.Touches.{untouched}
 use Rattle.call_effects.specs.Effects.{effects_by, effects_of, make_effects, stored_at, recounted_file}
 use Rattle.call_effects.specs.Wholes.{IsSound}
 use Rattle.call_effects.specs.Blocks.{block_of}

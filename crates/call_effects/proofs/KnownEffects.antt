@@ -10,7 +10,7 @@ use Rattle.posix_calls.specs.declared.operation.Replaced.TheVariants.{Nothing, O
 use Rattle.posix_calls.specs.Query.{Gives, ◌>>=◌, run}
 use Rattle.posix_calls.specs.Part.{Part, whole_part}
 use Rattle.posix_calls.specs.Walk.{names_seen, size_at}
-use Rattle.file_graph.specs.Graph.{Graph}
+use Rattle.log_record.specs.file_graph.Graph.{Graph}
 use Rattle.call_effects.specs.Effects.{stored_count, stored_at, recounted_file, replaced_file, effects_by, effects_of}
 use Rattle.call_effects.specs.Records.{names_if, effects_asked, file_rise, entry_rise, move_rise, growth_asked}
 use Rattle.call_effects.specs.Wholes.{kind_of, graph_view}

@@ -13,9 +13,9 @@ use Rattle.posix_calls.specs.Part.{Part, Found, Known, Unknown, blocks_missing, 
 use Rattle.posix_calls.specs.Walk.{entries_seen, entries_at}
 use Rattle.posix_calls.specs.Decide.{decide}
 use Rattle.posix_calls.proofs.Counts.{order}
-use Rattle.file_graph.specs.Graph.{Graph, Node, FileBody, DirBody}
-use Rattle.file_graph.specs.declared.effect.Kind.{Kind}
-use Rattle.file_graph.specs.declared.effect.Kind.TheVariants as kind
+use Rattle.log_record.specs.file_graph.Graph.{Graph, Node, FileBody, DirBody}
+use Rattle.log_record.specs.file_graph.declared.effect.Kind.{Kind}
+use Rattle.log_record.specs.file_graph.declared.effect.Kind.TheVariants as kind
 use Rattle.call_effects.specs.Wholes.{keep, reachable_graph, kind_of, graph_view, node_is_dir, node_seen, node_bytes, without_kinds}
 use Rattle.call_effects.specs.Knowledge.{IsPutBack, stored_view}
 use Rattle.call_effects.specs.Fits.{IsUsedFile}

@@ -10,9 +10,9 @@ use Rattle.posix_calls.specs.Content.{Entries}
 use Rattle.posix_calls.specs.Tree.{Descriptors}
 use Rattle.posix_calls.proofs.Counts.{order}
 use Rattle.posix_calls.proofs.Sums.{any_there}
-use Rattle.file_graph.specs.Graph.{Graph}
-use Rattle.file_graph.specs.declared.effect.Kind.{Kind}
-use Rattle.file_graph.specs.declared.effect.Kind.TheVariants as kind
+use Rattle.log_record.specs.file_graph.Graph.{Graph}
+use Rattle.log_record.specs.file_graph.declared.effect.Kind.{Kind}
+use Rattle.log_record.specs.file_graph.declared.effect.Kind.TheVariants as kind
 use Rattle.call_effects.specs.Effects.{kind_if}
 use Rattle.call_effects.specs.Wholes.{kind_of, node_is_dir}
 use Rattle.call_effects.specs.Knowledge.{Knowledge, Agrees, IsCopiedEntry, copy_of, same_kind, lists_as, is_listed, is_dir_by, part_of}

@@ -12,7 +12,7 @@ use Rattle.posix_calls.specs.Part.{Part, Found, Known, Unknown, blocks_missing, 
 use Rattle.posix_calls.specs.Walk.{entries_seen, entries_at}
 use Rattle.posix_calls.specs.Decide.{decide}
 use Rattle.posix_calls.proofs.Counts.{order}
-use Rattle.file_graph.specs.Graph.{Graph}
+use Rattle.log_record.specs.file_graph.Graph.{Graph}
 use Rattle.call_effects.specs.NodeView.{NodeView, FileView, DirView, view_seen}
 use Rattle.call_effects.specs.Wholes.{without_kinds}
 use Rattle.call_effects.specs.Knowledge.{Knowledge, Agrees, IsLookedAtNext, part_of}

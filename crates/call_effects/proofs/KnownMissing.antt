@@ -10,9 +10,9 @@ use Rattle.posix_calls.specs.Query.{Seen, Query, Gives, Refuses, IsDir, Look, Ra
 use Rattle.posix_calls.specs.Part.{Part, Found, Known, Unknown, IsBeyond, blocks_missing, run_part}
 use Rattle.posix_calls.proofs.Parts.{missing_is_left}
 use Rattle.posix_calls.proofs.Sums.{any_is, any_there}
-use Rattle.file_graph.specs.Graph.{Graph}
-use Rattle.file_graph.specs.declared.effect.Kind.{Kind}
-use Rattle.file_graph.specs.declared.effect.Kind.TheVariants as kind
+use Rattle.log_record.specs.file_graph.Graph.{Graph}
+use Rattle.log_record.specs.file_graph.declared.effect.Kind.{Kind}
+use Rattle.log_record.specs.file_graph.declared.effect.Kind.TheVariants as kind
 use Rattle.call_effects.specs.Blocks.{blocks_joined}
 use Rattle.call_effects.specs.NodeView.{NodeView, view_seen}
 use Rattle.call_effects.specs.Wholes.{node_is_dir}

@@ -19,11 +19,11 @@ use Rattle.posix_calls.specs.Walk.{walk}
 use Rattle.posix_calls.specs.Decide.{mkdir, unlink, stat, pread}
 use Rattle.posix_calls.proofs.Chain.{part_bind, part_gives, part_refuses}
 use Rattle.posix_calls.proofs.Directory.{lists}
-use Rattle.file_graph.specs.Graph.{Graph, fresh, set_node, after_effects}
-use Rattle.file_graph.specs.declared.effect.Kind.{Kind}
-use Rattle.file_graph.specs.declared.effect.Kind.TheVariants as kind
-use Rattle.file_graph.specs.declared.effect.Effect.{Effect}
-use Rattle.file_graph.specs.declared.effect.Effect.TheVariants as effect
+use Rattle.log_record.specs.file_graph.Graph.{Graph, fresh, set_node, after_effects}
+use Rattle.log_record.specs.file_graph.declared.effect.Kind.{Kind}
+use Rattle.log_record.specs.file_graph.declared.effect.Kind.TheVariants as kind
+use Rattle.log_record.specs.file_graph.declared.effect.Effect.{Effect}
+use Rattle.log_record.specs.file_graph.declared.effect.Effect.TheVariants as effect
 use Rattle.call_effects.specs.Records.{effects_asked}
 use Rattle.call_effects.specs.Fits.{IsNew}
 use Rattle.call_effects.specs.Blocks.{block_at}

@@ -14,8 +14,8 @@ use Rattle.posix_calls.specs.declared.errno.Errno.TheVariants as errno
 use Rattle.posix_calls.specs.declared.call.Call.{Call}
 use Rattle.posix_calls.specs.declared.call.Reply.TheVariants as reply
 use Rattle.posix_calls.proofs.Parts.{known_is_run}
-use Rattle.file_graph.specs.Graph.{Graph, after_effects}
-use Rattle.file_graph.specs.declared.effect.Effect.{Effect}
+use Rattle.log_record.specs.file_graph.Graph.{Graph, after_effects}
+use Rattle.log_record.specs.file_graph.declared.effect.Effect.{Effect}
 use Rattle.call_effects.specs.Calls.{answer_over}
 use Rattle.call_effects.specs.Effects.{effects_of}
 use Rattle.call_effects.specs.Records.{effects_asked, growth_asked}

@@ -17,9 +17,9 @@ use Rattle.posix_calls.specs.Part.{IsPart}
 use Rattle.posix_calls.proofs.Counts.{order}
 use Rattle.posix_calls.proofs.Directory.{names_same}
 use Rattle.posix_calls.proofs.Sums.{any_is}
-use Rattle.file_graph.specs.Graph.{Graph, FileBody, DirBody}
-use Rattle.file_graph.specs.declared.effect.Kind.{Kind}
-use Rattle.file_graph.specs.declared.effect.Kind.TheVariants as kind
+use Rattle.log_record.specs.file_graph.Graph.{Graph, FileBody, DirBody}
+use Rattle.log_record.specs.file_graph.declared.effect.Kind.{Kind}
+use Rattle.log_record.specs.file_graph.declared.effect.Kind.TheVariants as kind
 use Rattle.call_effects.specs.Blocks.{range_by}
 use Rattle.call_effects.specs.NodeView.{NodeView, FileView, DirView, view_seen, view_is_dir}
 use Rattle.call_effects.specs.Wholes.{kind_of, node_is_dir, node_seen, node_bytes}

@@ -5,9 +5,9 @@ use Rattle.posix_calls.specs.Tree.{Descriptors}
 use Rattle.posix_calls.specs.Part.{Known, run_part}
 use Rattle.posix_calls.specs.declared.operation.Operation.{Operation}
 use Rattle.posix_calls.specs.declared.call.Call.{Call}
-use Rattle.file_graph.specs.Graph.{Graph}
-use Rattle.file_graph.specs.Units.{growth}
-use Rattle.file_graph.specs.declared.effect.Effect.{Effect}
+use Rattle.log_record.specs.file_graph.Graph.{Graph}
+use Rattle.log_record.specs.file_graph.Units.{growth}
+use Rattle.log_record.specs.file_graph.declared.effect.Effect.{Effect}
 use Rattle.call_effects.specs.Effects.{effects_of}
 use Rattle.call_effects.specs.Records.{growth_asked, units_asked}
 use Rattle.call_effects.specs.Wholes.{IsSound}

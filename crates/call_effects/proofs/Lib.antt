@@ -47,3 +47,6 @@ pub mod SubjectsMissing
 pub mod Limits
 pub mod Nodes
 pub mod Whole
+-- Handed on to the crates above, which list only the highest of what they name.
+pub use Rattle.log_record.proofs.file_graph_lemmas
+pub use Rattle.log_record.proofs as log_record_lemmas

@@ -12,10 +12,10 @@ use Rattle.posix_calls.specs.declared.operation.Operation.{Operation}
 use Rattle.posix_calls.proofs.Able.{nodes_of}
 use Rattle.posix_calls.proofs.Passing.{step_within}
 use Rattle.posix_calls.proofs.Within.{IsNodeWithin, file_within, none_within}
-use Rattle.file_graph.specs.Graph.{Graph, Node, FileBody, DirBody, subjects, is_among, set_node, after_effects}
-use Rattle.file_graph.specs.declared.effect.Kind.TheVariants as kind
-use Rattle.file_graph.specs.declared.effect.Effect.{Effect}
-use Rattle.file_graph.specs.declared.effect.Effect.TheVariants as effect
+use Rattle.log_record.specs.file_graph.Graph.{Graph, Node, FileBody, DirBody, subjects, is_among, set_node, after_effects}
+use Rattle.log_record.specs.file_graph.declared.effect.Kind.TheVariants as kind
+use Rattle.log_record.specs.file_graph.declared.effect.Effect.{Effect}
+use Rattle.log_record.specs.file_graph.declared.effect.Effect.TheVariants as effect
 use Rattle.log_record.specs.Grammar as grammar
 use Rattle.call_effects.specs.Calls.{answer_over}
 use Rattle.call_effects.specs.ChangeTest.{changes}

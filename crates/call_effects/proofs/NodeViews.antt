@@ -5,11 +5,11 @@ use Rattle.std.specs.FinMap as fin
 use Rattle.std.proofs.Math.Seq.{drop-nil}
 use Rattle.posix_calls.specs.Content.{Entries, with_length, with_bytes}
 use Rattle.posix_calls.proofs.Within.{resized_length}
-use Rattle.file_graph.specs.Graph.{Graph, Node, FileBody, DirBody, subjects, is_among, subject_after, after_effect, after_effects, file_bytes, with_body, in_file, in_directory}
-use Rattle.file_graph.specs.declared.effect.Kind.{Kind}
-use Rattle.file_graph.specs.declared.effect.Kind.TheVariants as kind
-use Rattle.file_graph.specs.declared.effect.Effect.{Effect}
-use Rattle.file_graph.specs.declared.effect.Effect.TheVariants as effect
+use Rattle.log_record.specs.file_graph.Graph.{Graph, Node, FileBody, DirBody, subjects, is_among, subject_after, after_effect, after_effects, file_bytes, with_body, in_file, in_directory}
+use Rattle.log_record.specs.file_graph.declared.effect.Kind.{Kind}
+use Rattle.log_record.specs.file_graph.declared.effect.Kind.TheVariants as kind
+use Rattle.log_record.specs.file_graph.declared.effect.Effect.{Effect}
+use Rattle.log_record.specs.file_graph.declared.effect.Effect.TheVariants as effect
 use Rattle.call_effects.specs.Blocks.{block_of, block_at, block_acted, block_after, block_resized, block_written}
 use Rattle.call_effects.specs.NodeView.{NodeView, FileView, DirView, view_of_node, view_of_body, view_at, view_seen, view_is_dir, view_acted, view_after}
 use Rattle.call_effects.specs.Wholes.{node_is_dir, node_seen, node_bytes}

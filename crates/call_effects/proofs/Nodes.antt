@@ -11,9 +11,9 @@ use Rattle.posix_calls.specs.Walk.{entries_seen}
 use Rattle.posix_calls.specs.Answers.{entry_in, count_in, listed_in}
 use Rattle.posix_calls.proofs.Directory.{entries-empty, names_same}
 use Rattle.posix_calls.proofs.Counts.{order}
-use Rattle.file_graph.specs.Graph.{Node, FileBody, DirBody, directory_entries}
-use Rattle.file_graph.specs.declared.effect.Kind.{Kind}
-use Rattle.file_graph.specs.Plain.{PlainEntry, pairs}
+use Rattle.log_record.specs.file_graph.Graph.{Node, FileBody, DirBody, directory_entries}
+use Rattle.log_record.specs.file_graph.declared.effect.Kind.{Kind}
+use Rattle.log_record.specs.file_graph.Plain.{PlainEntry, pairs}
 use Rattle.std.proofs.lemmas.List.{length-map}
 use Rattle.call_effects.specs.Wholes.{without_kinds, node_is_dir, node_seen}
 use Rattle.call_effects.proofs.Inodes.{get_inodes}

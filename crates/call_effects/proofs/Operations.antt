@@ -13,11 +13,11 @@ use Rattle.posix_calls.specs.declared.operation.Replaced.{Replaced}
 use Rattle.posix_calls.specs.declared.operation.Replaced.TheVariants.{Nothing, OldFile, OldDir}
 use Rattle.posix_calls.specs.Operations.{tree_after, makes, with_entry, without_entry, less_replaced}
 use Rattle.posix_calls.proofs.Counts.{get_other, gone, none_left, none_of_no_entries}
-use Rattle.file_graph.specs.Graph.{Graph, Node, after_effect, after_effects}
-use Rattle.file_graph.specs.declared.effect.Kind.{Kind}
-use Rattle.file_graph.specs.declared.effect.Kind.TheVariants as kind
-use Rattle.file_graph.specs.declared.effect.Effect.{Effect}
-use Rattle.file_graph.specs.declared.effect.Effect.TheVariants as effect
+use Rattle.log_record.specs.file_graph.Graph.{Graph, Node, after_effect, after_effects}
+use Rattle.log_record.specs.file_graph.declared.effect.Kind.{Kind}
+use Rattle.log_record.specs.file_graph.declared.effect.Kind.TheVariants as kind
+use Rattle.log_record.specs.file_graph.declared.effect.Effect.{Effect}
+use Rattle.log_record.specs.file_graph.declared.effect.Effect.TheVariants as effect
 use Rattle.call_effects.specs.Effects.{effects_of, clear_effects, replaced_file, drop_effects, kind_if, stored_count, stored_at}
 use Rattle.call_effects.specs.Wholes.{reachable_graph, tree_of}
 use Rattle.call_effects.specs.Fits.{IsNew, IsRoom, IsEntry, IsUsedFile, IsEmptyDir, OperationFits}

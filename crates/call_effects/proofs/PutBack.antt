@@ -1,9 +1,9 @@
 -- A whole with files put back that are gone from it.
 use Rattle.std.proofs.Common.{◌≡◌, inl, inr, ℕ, Some, None, ap, sym, ◌∙◌}
 use Rattle.posix_calls.specs.Content.{Entries}
-use Rattle.file_graph.specs.Graph.{Graph, Node}
-use Rattle.file_graph.specs.declared.effect.Kind.{Kind}
-use Rattle.file_graph.specs.declared.effect.Kind.TheVariants as kind
+use Rattle.log_record.specs.file_graph.Graph.{Graph, Node}
+use Rattle.log_record.specs.file_graph.declared.effect.Kind.{Kind}
+use Rattle.log_record.specs.file_graph.declared.effect.Kind.TheVariants as kind
 use Rattle.call_effects.specs.Wholes.{kind_of}
 use Rattle.call_effects.specs.Knowledge.{IsPutBack}
 use Rattle.call_effects.proofs.Changes.{dir}

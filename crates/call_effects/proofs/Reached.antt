@@ -14,9 +14,9 @@ use Rattle.posix_calls.specs.declared.operation.Replaced.TheVariants.{Nothing, O
 use Rattle.posix_calls.specs.Operations.{with_entry, without_entry, less_unused, tree_after, makes, held_after, state_after}
 use Rattle.posix_calls.proofs.Changes.{entry, IsBare, bare_file, bare_same, set_other, left_kind, left_here, left_none, left_keeps}
 use Rattle.posix_calls.proofs.Reached as way
-use Rattle.file_graph.specs.Graph.{Graph, Node, FileBody, DirBody}
-use Rattle.file_graph.specs.declared.effect.Kind.{Kind}
-use Rattle.file_graph.specs.declared.effect.Kind.TheVariants as kind
+use Rattle.log_record.specs.file_graph.Graph.{Graph, Node, FileBody, DirBody}
+use Rattle.log_record.specs.file_graph.declared.effect.Kind.{Kind}
+use Rattle.log_record.specs.file_graph.declared.effect.Kind.TheVariants as kind
 use Rattle.call_effects.specs.Effects.{kind_if}
 use Rattle.call_effects.specs.Wholes.{IsSound, tree_of, tree_node, tree_body, keep, reachable_graph, state_of, without_kinds}
 use Rattle.call_effects.specs.Fits.{IsNew, IsRoom, IsEntry, IsUsedFile, IsEmptyDir, OperationFits}

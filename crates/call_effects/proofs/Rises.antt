@@ -9,13 +9,13 @@ use Rattle.posix_calls.specs.Units.{file_units, directory_units}
 use Rattle.posix_calls.specs.Tree.{sum_up_to}
 use Rattle.posix_calls.proofs.Counts.{order}
 use Rattle.posix_calls.proofs.Sums.{one_changes, all_zero}
-use Rattle.file_graph.specs.Graph.{Graph, Node, FileBody, DirBody, after_effect, after_effects, touches, subjects, is_among, subject_after, in_directory, body_cost, cost}
-use Rattle.file_graph.specs.Units.{rise, growth}
-use Rattle.file_graph.proofs.Touches.{untouched}
-use Rattle.file_graph.specs.declared.effect.Kind.{Kind}
-use Rattle.file_graph.specs.declared.effect.Kind.TheVariants as kind
-use Rattle.file_graph.specs.declared.effect.Effect.{Effect}
-use Rattle.file_graph.specs.declared.effect.Effect.TheVariants as effect
+use Rattle.log_record.specs.file_graph.Graph.{Graph, Node, FileBody, DirBody, after_effect, after_effects, touches, subjects, is_among, subject_after, in_directory, body_cost, cost}
+use Rattle.log_record.specs.file_graph.Units.{rise, growth}
+use Rattle.log_record.proofs.file_graph_lemmas.Touches.{untouched}
+use Rattle.log_record.specs.file_graph.declared.effect.Kind.{Kind}
+use Rattle.log_record.specs.file_graph.declared.effect.Kind.TheVariants as kind
+use Rattle.log_record.specs.file_graph.declared.effect.Effect.{Effect}
+use Rattle.log_record.specs.file_graph.declared.effect.Effect.TheVariants as effect
 use Rattle.call_effects.specs.Wholes.{kind_of, body_kind}
 use Rattle.call_effects.proofs.Changes.{dir, one_subject, leave_is}
 use Rattle.call_effects.proofs.Facts.{dir_of_kind}

@@ -6,7 +6,7 @@ use Rattle.std.proofs.lemmas.Bool.{eqb-true}
 use Rattle.std.proofs.lemmas.Bool.Decides.{eqb_tells}
 use Rattle.posix_calls.specs.Operations.{is_client}
 use Rattle.posix_calls.specs.Tree.{Descriptors}
-use Rattle.file_graph.specs.Graph.{Graph, FileBody, file_bytes}
+use Rattle.log_record.specs.file_graph.Graph.{Graph, FileBody, file_bytes}
 use Rattle.call_effects.specs.Blocks.{block_of, block_at}
 use Rattle.call_effects.specs.NodeView.{view_of_node, view_at}
 use Rattle.call_effects.specs.Knowledge.{Knowledge, Agrees, IsForgetful, in_run, with_copy, with_blocks, with_granted}

@@ -13,9 +13,9 @@ use Rattle.posix_calls.specs.declared.descriptor.Descriptor.{Descriptor}
 use Rattle.posix_calls.proofs.Able.{nodes_of}
 use Rattle.posix_calls.proofs.Open.{open_there, open_at, is_open_by}
 use Rattle.posix_calls.proofs.Within.{IsNodeWithin, none_within}
-use Rattle.file_graph.specs.Graph.{Graph, Node, FileBody, DirBody}
-use Rattle.file_graph.specs.declared.effect.Kind.{Kind}
-use Rattle.file_graph.specs.declared.effect.Kind.TheVariants as kind
+use Rattle.log_record.specs.file_graph.Graph.{Graph, Node, FileBody, DirBody}
+use Rattle.log_record.specs.file_graph.declared.effect.Kind.{Kind}
+use Rattle.log_record.specs.file_graph.declared.effect.Kind.TheVariants as kind
 use Rattle.call_effects.specs.Effects.{stored_count}
 use Rattle.call_effects.specs.ClosedGraph.{nobody, settled_graph, without_client, IsFewer, used_tree, left_with}
 use Rattle.call_effects.specs.Wholes.{IsSound, state_of, tree_of, tree_node, keep, reachable_graph, kind_of, body_kind, one_if}

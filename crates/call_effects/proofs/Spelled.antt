@@ -19,11 +19,11 @@ use Rattle.posix_calls.specs.declared.operation.Replaced.TheVariants.{Nothing, O
 use Rattle.posix_calls.proofs.Able.{Able}
 use Rattle.posix_calls.proofs.Lasting.{IsAnswered, answered}
 use Rattle.posix_calls.proofs.Passing.{decide_able}
-use Rattle.file_graph.specs.Graph.{Graph}
-use Rattle.file_graph.specs.Units.{growth}
-use Rattle.file_graph.specs.declared.effect.Kind.{Kind}
-use Rattle.file_graph.specs.declared.effect.Kind.TheVariants as kind
-use Rattle.file_graph.specs.declared.effect.Effect.{Effect}
+use Rattle.log_record.specs.file_graph.Graph.{Graph}
+use Rattle.log_record.specs.file_graph.Units.{growth}
+use Rattle.log_record.specs.file_graph.declared.effect.Kind.{Kind}
+use Rattle.log_record.specs.file_graph.declared.effect.Kind.TheVariants as kind
+use Rattle.log_record.specs.file_graph.declared.effect.Effect.{Effect}
 use Rattle.log_record.specs.Grammar as grammar
 use Rattle.call_effects.specs.Calls.{answer_over}
 use Rattle.call_effects.specs.ChangeTest.{changes}

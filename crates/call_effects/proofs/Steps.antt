@@ -11,7 +11,7 @@ use Rattle.posix_calls.specs.declared.errno.Errno.{Errno}
 use Rattle.posix_calls.specs.declared.errno.Errno.TheVariants as errno
 use Rattle.posix_calls.specs.declared.call.Call.{Call}
 use Rattle.posix_calls.specs.declared.call.Reply.TheVariants as reply
-use Rattle.file_graph.specs.Graph.{Graph}
+use Rattle.log_record.specs.file_graph.Graph.{Graph}
 use Rattle.call_effects.specs.Wholes.{IsSound, state_of, graph_view, tree_node, keep}
 use Rattle.call_effects.specs.Fits.{IsNew, OperationFits}
 use Rattle.call_effects.specs.Calls.{answer_over}

@@ -7,7 +7,7 @@ use Rattle.std.proofs.lemmas.Bool.Decides.{eqb_tells}
 use Rattle.posix_calls.specs.declared.operation.Operation.{Operation}
 use Rattle.posix_calls.specs.declared.operation.Operation.TheVariants.{Tell, NewDir, NewFile, OpenFile, CloseFile, Write, Resize, RemoveDir, AddName, DropName, Move}
 use Rattle.posix_calls.specs.declared.operation.Replaced.TheVariants.{Nothing, OldFile, OldDir}
-use Rattle.file_graph.specs.Graph.{is_among, touches}
+use Rattle.log_record.specs.file_graph.Graph.{is_among, touches}
 use Rattle.call_effects.specs.Effects.{effects_by}
 use Rattle.call_effects.specs.Subjects.{put_in, sorted_inodes, subjects_of}
 

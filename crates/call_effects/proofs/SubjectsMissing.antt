@@ -9,7 +9,7 @@ use Rattle.posix_calls.specs.declared.operation.Operation.TheVariants.{Tell, New
 use Rattle.posix_calls.specs.declared.operation.Replaced.TheVariants.{Nothing, OldFile, OldDir}
 use Rattle.posix_calls.specs.Query.{Seen, Query, Gives, Look, ◌>>=◌}
 use Rattle.posix_calls.specs.Part.{Part, Found, Known, Unknown, run_part}
-use Rattle.file_graph.specs.Graph.{is_among}
+use Rattle.log_record.specs.file_graph.Graph.{is_among}
 use Rattle.call_effects.specs.Effects.{recounted_file}
 use Rattle.call_effects.specs.Records.{names_if, effects_asked, growth_asked, entry_rise, move_rise}
 use Rattle.call_effects.specs.Subjects.{sorted_inodes, subjects_of, IsSubjectMissing}

@@ -7,8 +7,8 @@ use Rattle.posix_calls.specs.Tree.{Descriptors, is_open, names_in}
 use Rattle.posix_calls.proofs.Open as opens
 use Rattle.posix_calls.proofs.Reached as way
 use Rattle.posix_calls.specs.declared.descriptor.Descriptor.{Descriptor}
-use Rattle.file_graph.specs.Graph.{Graph, FileBody, set_node}
-use Rattle.file_graph.specs.declared.effect.Kind.TheVariants as kind
+use Rattle.log_record.specs.file_graph.Graph.{Graph, FileBody, set_node}
+use Rattle.log_record.specs.file_graph.declared.effect.Kind.TheVariants as kind
 use Rattle.call_effects.specs.Effects.{stored_count}
 use Rattle.call_effects.specs.Wholes.{IsSound, IsTyped, state_of, tree_of, tree_node, keep, reachable_graph, kind_of, one_if}
 use Rattle.call_effects.specs.Fits.{IsUnusedFile}

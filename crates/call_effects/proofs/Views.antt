@@ -4,8 +4,8 @@ use Rattle.std.specs.Prelude.{option_map, ◌&&◌, not}
 use Rattle.std.proofs.lemmas.Bool.Decides.{eqb_tells}
 use Rattle.posix_calls.specs.Content.{range}
 use Rattle.posix_calls.specs.Tree.{Descriptors, bytes_of, is_open, names_of, names_in, sum_up_to}
-use Rattle.file_graph.specs.Graph.{Graph, Node, FileBody, DirBody}
-use Rattle.file_graph.specs.declared.effect.Kind.TheVariants as kind
+use Rattle.log_record.specs.file_graph.Graph.{Graph, Node, FileBody, DirBody}
+use Rattle.log_record.specs.file_graph.declared.effect.Kind.TheVariants as kind
 use Rattle.posix_calls.specs.Query.{view_of, seen_node, dir_test}
 use Rattle.call_effects.specs.Effects.{stored_count}
 use Rattle.call_effects.specs.Wholes.{tree_of, tree_node, keep, reachable_graph, kind_of, body_kind, one_if, graph_view, node_is_dir, node_seen, node_bytes}

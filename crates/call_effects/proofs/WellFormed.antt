@@ -5,9 +5,9 @@ use Rattle.std.proofs.lemmas.Bool.Decides.{eqb_tells}
 use Rattle.posix_calls.specs.Tree.{Descriptors, is_open, names_of}
 use Rattle.posix_calls.specs.Query.{dir_test}
 use Rattle.posix_calls.specs.WellFormed.{IsDirectory, IsFile, IsWellFormed}
-use Rattle.file_graph.specs.Graph.{Graph, Node, FileBody, DirBody}
-use Rattle.file_graph.specs.declared.effect.Kind.{Kind}
-use Rattle.file_graph.specs.declared.effect.Kind.TheVariants as kind
+use Rattle.log_record.specs.file_graph.Graph.{Graph, Node, FileBody, DirBody}
+use Rattle.log_record.specs.file_graph.declared.effect.Kind.{Kind}
+use Rattle.log_record.specs.file_graph.declared.effect.Kind.TheVariants as kind
 use Rattle.call_effects.specs.Effects.{stored_count}
 use Rattle.call_effects.specs.Wholes.{IsSound, state_of, tree_of, tree_node, tree_body, keep, reachable_graph, kind_of, body_kind, one_if}
 use Rattle.call_effects.proofs.Changes.{fair_of, named, tree_dir}

@@ -3,7 +3,7 @@ use Rattle.std.proofs.Common.{◌≡◌, Bool, true, false, Option, Some, None}
 use Rattle.std.specs.Prelude.{if◌then◌else◌}
 use Rattle.posix_calls.specs.Query.{Seen}
 use Rattle.posix_calls.specs.Part.{IsPart}
-use Rattle.file_graph.specs.Graph.{Graph}
+use Rattle.log_record.specs.file_graph.Graph.{Graph}
 use Rattle.call_effects.specs.Knowledge.{stored_view}
 use Rattle.call_effects.specs.Whole.{whole_of, seen_at, is_counted}
 

@@ -8,7 +8,7 @@ use Rattle.posix_calls.specs.declared.operation.Operation.{Operation}
 use Rattle.posix_calls.specs.declared.errno.Errno.{Errno}
 use Rattle.posix_calls.specs.declared.errno.Errno.TheVariants as errno
 use Rattle.posix_calls.specs.declared.call.Call.{Call}
-use Rattle.file_graph.specs.Graph.{Graph}
+use Rattle.log_record.specs.file_graph.Graph.{Graph}
 use Rattle.call_effects.specs.Wholes.{graph_view}
 
 -- the outcome of a call by the stored counts of names; who is no client is refused before all else

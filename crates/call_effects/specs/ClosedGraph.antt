@@ -3,7 +3,7 @@ use Rattle.std.specs.Prelude.{◌≡◌, ℕ, ◌==◌, ◌||◌, nat_lt, Some, 
 use Rattle.posix_calls.specs.Tree.{Tree, Descriptors, State, names_of, is_open, with_own}
 use Rattle.posix_calls.specs.declared.descriptor.Descriptor.{Descriptor}
 use Rattle.posix_calls.specs.declared.limits.TheConstants.{ROOT}
-use Rattle.file_graph.specs.Graph.{Graph}
+use Rattle.log_record.specs.file_graph.Graph.{Graph}
 use Rattle.call_effects.specs.Wholes.{reachable_graph}
 
 -- nobody has a file open

@@ -14,11 +14,11 @@ use Rattle.posix_calls.specs.declared.operation.Missing.{Missing}
 use Rattle.posix_calls.specs.declared.operation.Missing.TheVariants as missing
 use Rattle.posix_calls.specs.declared.call.Call.{Call}
 use Rattle.posix_calls.specs.declared.limits.TheConstants.{ROOT, MAX_INODE, UNIT_BYTES}
-use Rattle.file_graph.specs.Graph.{Graph, Node, FileBody}
-pub use Rattle.file_graph.specs.Numbers.{in_run}
-use Rattle.file_graph.specs.declared.effect.Kind.{Kind}
-use Rattle.file_graph.specs.declared.effect.Kind.TheVariants as kind
-use Rattle.file_graph.specs.declared.effect.Effect.{Effect}
+use Rattle.log_record.specs.file_graph.Graph.{Graph, Node, FileBody}
+pub use Rattle.log_record.specs.file_graph.Numbers.{in_run}
+use Rattle.log_record.specs.file_graph.declared.effect.Kind.{Kind}
+use Rattle.log_record.specs.file_graph.declared.effect.Kind.TheVariants as kind
+use Rattle.log_record.specs.file_graph.declared.effect.Effect.{Effect}
 use Rattle.call_effects.specs.Blocks.{block_at, block_after, range_by}
 use Rattle.call_effects.specs.Fits.{IsNew}
 use Rattle.call_effects.specs.NodeView.{NodeView, FileView, DirView, view_at, view_seen, view_is_dir, view_after}

@@ -12,3 +12,6 @@ pub mod ClosedGraph
 pub mod Subjects
 pub mod Wholes
 pub mod Whole
+-- Handed on to the crates above, which list only the highest of what they name.
+pub use Rattle.log_record.specs.file_graph
+pub use Rattle.log_record.specs as log_record

@@ -6,8 +6,8 @@ use Rattle.posix_calls.specs.declared.operation.Operation.TheVariants.{Move}
 use Rattle.posix_calls.specs.declared.operation.DecideError.{DecideError}
 use Rattle.posix_calls.specs.declared.operation.Replaced.{Replaced}
 use Rattle.posix_calls.specs.declared.operation.Replaced.TheVariants.{Nothing, OldFile, OldDir}
-use Rattle.file_graph.specs.declared.effect.Effect.{Effect}
-use Rattle.file_graph.specs.declared.effect.Effect.TheVariants as effect
+use Rattle.log_record.specs.file_graph.declared.effect.Effect.{Effect}
+use Rattle.log_record.specs.file_graph.declared.effect.Effect.TheVariants as effect
 use Rattle.log_record.specs.declared.format.Record.{Record}
 
 -- the effects of a record, which are none where there is no record, or why none was made

@@ -3,7 +3,7 @@ use Rattle.std.specs.Prelude.{◌≡◌, ℕ, ◌==◌, nat_lt, List, [], ◌∷
 use Rattle.posix_calls.specs.Part.{Part}
 use Rattle.posix_calls.specs.declared.operation.Missing.{Missing}
 use Rattle.posix_calls.specs.declared.operation.Missing.TheVariants as missing
-use Rattle.file_graph.specs.Graph.{is_among}
+use Rattle.log_record.specs.file_graph.Graph.{is_among}
 use Rattle.posix_calls.specs.declared.operation.Operation.{Operation}
 use Rattle.posix_calls.specs.declared.operation.Operation.TheVariants.{Tell, NewDir, NewFile, OpenFile, CloseFile, Write, Resize, RemoveDir, AddName, DropName, Move}
 use Rattle.posix_calls.specs.declared.operation.Replaced.{Replaced}

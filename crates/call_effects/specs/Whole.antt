@@ -4,7 +4,7 @@ use Rattle.posix_calls.specs.Content.{range}
 use Rattle.posix_calls.specs.Query.{Seen}
 use Rattle.posix_calls.specs.Part.{Part}
 use Rattle.posix_calls.specs.Answers.{count_in}
-use Rattle.file_graph.specs.Graph.{Graph}
+use Rattle.log_record.specs.file_graph.Graph.{Graph}
 use Rattle.call_effects.specs.Wholes.{node_is_dir, node_seen, node_bytes}
 
 -- what stands at an inode, as a call sees it

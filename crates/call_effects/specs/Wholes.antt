@@ -9,9 +9,9 @@ use Rattle.posix_calls.specs.Query.{View, Seen, File, Dir}
 use Rattle.posix_calls.specs.Resolve.{resolve}
 use Rattle.posix_calls.specs.WellFormed.{IsDirectory}
 use Rattle.posix_calls.specs.declared.limits.TheConstants.{ROOT, MAX_INODE, MAX_CLIENTS, MAX_DESCRIPTORS}
-use Rattle.file_graph.specs.Graph.{Graph, Node, Body, FileBody, DirBody}
-use Rattle.file_graph.specs.declared.effect.Kind.{Kind}
-use Rattle.file_graph.specs.declared.effect.Kind.TheVariants as kind
+use Rattle.log_record.specs.file_graph.Graph.{Graph, Node, Body, FileBody, DirBody}
+use Rattle.log_record.specs.file_graph.declared.effect.Kind.{Kind}
+use Rattle.log_record.specs.file_graph.declared.effect.Kind.TheVariants as kind
 use Rattle.call_effects.specs.Effects.{stored_count}
 
 -- ---- a graph as a file tree

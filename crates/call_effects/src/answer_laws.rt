@@ -1,6 +1,6 @@
 //! What holds of every graph.
 ghost use Rattle.posix_calls.specs.Part.{IsPart};
-ghost use Rattle.file_graph.specs.Graph.{Graph};
+ghost use Rattle.log_record.specs.file_graph.Graph.{Graph};
 ghost use Rattle.call_effects.specs.Knowledge.{stored_view};
 ghost use Rattle.call_effects.specs.Whole.{whole_of};
 

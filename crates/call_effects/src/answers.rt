@@ -1,10 +1,10 @@
-ghost use Rattle.file_graph.specs.Graph.{graph_of};
+ghost use Rattle.log_record.specs.file_graph.Graph.{graph_of};
 ghost use Rattle.call_effects.specs.Whole.{whole_of};
 
 use crate::node_reads::{
     child, describe, entry_count, file_names, file_size, is_counted, is_dir, names, read,
 };
-use file_graph::PlainGraph;
+use log_record::in_file_graph::PlainGraph;
 use posix_calls::{Bytes, Description, NamedInode, Names, TreeAnswers};
 use std::alloc::{AllocError, Global};
 

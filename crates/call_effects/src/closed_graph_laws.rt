@@ -4,7 +4,7 @@ ghost use Rattle.std.specs.Prelude.{◌≡◌, ℕ};
 ghost use Rattle.posix_calls.specs.Tree.{Descriptors};
 ghost use Rattle.posix_calls.specs.Run.{settled};
 ghost use Rattle.posix_calls.specs.WellFormed.{IsWellFormed, IsWithinLimits};
-ghost use Rattle.file_graph.specs.Graph.{Graph};
+ghost use Rattle.log_record.specs.file_graph.Graph.{Graph};
 ghost use Rattle.call_effects.specs.ClosedGraph.{nobody, settled_graph, without_client, left_with};
 ghost use Rattle.call_effects.specs.Wholes.{IsSound, state_of, reachable_graph};
 

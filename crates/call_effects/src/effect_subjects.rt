@@ -4,7 +4,7 @@ ghost use Rattle.arrayvec.specs.ArrayVec.{array_vec_len};
 ghost use Rattle.posix_calls.specs.Part.{Part, Unknown, run_part};
 ghost use Rattle.posix_calls.specs.declared.operation.Missing.{Missing};
 ghost use Rattle.posix_calls.specs.declared.operation.Operation.{Operation};
-ghost use Rattle.file_graph.specs.Graph.{is_among, touches};
+ghost use Rattle.log_record.specs.file_graph.Graph.{is_among, touches};
 ghost use Rattle.call_effects.specs.ChangeTest.{changes};
 ghost use Rattle.call_effects.specs.Effects.{effects_by};
 ghost use Rattle.call_effects.specs.Records.{effects_asked, growth_asked};

@@ -11,7 +11,7 @@ ghost use Rattle.posix_calls.specs.declared.call.Call.{Call};
 ghost use Rattle.posix_calls.specs.declared.call.Reply.TheVariants.{Failed};
 ghost use Rattle.posix_calls.specs.declared.errno.Errno.{Errno};
 ghost use Rattle.posix_calls.specs.declared.limits.TheConstants.{MAX_CLIENTS, MAX_INODE, MAX_NAMES, ROOT};
-ghost use Rattle.file_graph.specs.Graph.{Graph, fresh, after_effects, set_node};
+ghost use Rattle.log_record.specs.file_graph.Graph.{Graph, fresh, after_effects, set_node};
 ghost use Rattle.call_effects.specs.Calls.{answer_over};
 ghost use Rattle.call_effects.specs.Effects.{stored_count, effects_of};
 ghost use Rattle.call_effects.specs.Wholes.{IsSound, state_of, tree_of, graph_view};

@@ -44,3 +44,7 @@ pub use record_laws::{
     answered_operations_have_spellings, asked_effects_are_the_operations,
     asked_growth_is_the_effects_growth, growth_is_local,
 };
+
+// Handed on to the crates above, which list only the highest of what they name.
+pub use log_record as in_log_record;
+pub use log_record::in_file_graph;

@@ -7,12 +7,12 @@ ghost use Rattle.posix_calls.specs.Answers.{entry_in, count_in, listed_in, descr
 ghost use Rattle.posix_calls.specs.Content.{range};
 ghost use Rattle.posix_calls.specs.Memory.{has_names};
 ghost use Rattle.posix_calls.specs.Walk.{names_seen, size_seen};
-ghost use Rattle.file_graph.specs.Graph.{graph_of};
-ghost use Rattle.file_graph.specs.Plain.{pairs};
+ghost use Rattle.log_record.specs.file_graph.Graph.{graph_of};
+ghost use Rattle.log_record.specs.file_graph.Plain.{pairs};
 ghost use Rattle.call_effects.specs.Wholes.{node_is_dir, node_bytes};
 ghost use Rattle.call_effects.specs.Whole.{seen_at, is_counted};
 
-use file_graph::{PlainEntry, PlainGraph};
+use log_record::in_file_graph::{PlainEntry, PlainGraph};
 use posix_calls::{Bytes, Description, NamedInode, Names};
 use std::alloc::{AllocError, Global};
 use std::cmp::Ordering;

@@ -3,15 +3,15 @@ ghost use Rattle.std.specs.Vec.{vec_capacity};
 ghost use Rattle.posix_calls.specs.Answers.{IsAnswer};
 ghost use Rattle.posix_calls.specs.declared.operation.Operation.TheVariants.{AddName};
 ghost use Rattle.posix_calls.specs.declared.operation.DecideError.TheVariants.{Memory};
-ghost use Rattle.file_graph.specs.declared.effect.Effect.TheVariants.{Size, Leave, Enter};
+ghost use Rattle.log_record.specs.file_graph.declared.effect.Effect.TheVariants.{Size, Leave, Enter};
 ghost use Rattle.call_effects.specs.ChangeTest.{changes};
 ghost use Rattle.call_effects.specs.Effects.{recounted_file, kind_if, make_effects, drop_effects, remove_effects, clear_effects, effects_by};
 ghost use Rattle.call_effects.specs.Records.{names_if, knows_names, names_known, effects_asked};
 ghost use Rattle.call_effects.specs.RecordEffects.{effects_or_error, leaving_first, putting_out, made_first};
 
 use crate::change_test::has_effects;
-use file_graph::{Effect, Effects, Kind};
 use log_record::Record;
+use log_record::in_file_graph::{Effect, Effects, Kind};
 use posix_calls::{
     DecideError, Location, Missing, Operation, Replaced, TreeAnswers, known_or_missing,
 };

@@ -7,22 +7,22 @@ use Rattle.std.proofs.lemmas.List.{length-append}
 use Rattle.std.proofs.lemmas.List.Elements.{Contains-append_cases}
 use Rattle.tier_device.specs.declared.media.Tier.{Tier}
 use Rattle.tier_device.specs.declared.media.Tier.TheVariants.{Fast}
-use Rattle.graph_change.specs.Change.{Changes, change_at}
-use Rattle.layout.specs.declared.slot.Slot.{Slot}
-use Rattle.layout.specs.Places.{Sizes, is_inode, node_end, data_first}
+use Rattle.inode_plan.specs.graph_change.Change.{Changes, change_at}
+use Rattle.inode_plan.specs.layout.declared.slot.Slot.{Slot}
+use Rattle.inode_plan.specs.layout.Places.{Sizes, is_inode, node_end, data_first}
 use Rattle.block_alloc.specs.declared.runs.Run.{Run}
 use Rattle.block_alloc.specs.Runs.{blocks_of}
-use Rattle.batch_journal.specs.Images.{image_for, or_else, with_images}
-use Rattle.extent_tree.specs.Map.{TierRuns, runs_in}
-use Rattle.area_reader.specs.Store.{Store, root_of}
-use Rattle.area_reader.specs.Format.{Use, used_block, IsSpelled}
-use Rattle.area_commit.specs.InodeRewrite.{IsFit, IsListed, block_by}
-use Rattle.area_commit.specs.StoreRewrite.{HasBlockFor}
-use Rattle.area_commit.specs.declared.slots.ChangedSlot.{ChangedSlot}
-use Rattle.area_commit.specs.declared.plan.FreedBlocks.{FreedBlocks}
-use Rattle.area_commit.specs.Plan.{Loses, LieApart, IsLost, HoldLost, lost_in, is_changed}
-use Rattle.area_commit.proofs.Chosen.{has_changed, inode_range, no_use}
-use Rattle.area_commit.proofs.Joined.{apart_join}
+use Rattle.inode_plan.specs.batch_journal.Images.{image_for, or_else, with_images}
+use Rattle.inode_plan.specs.extent_tree.Map.{TierRuns, runs_in}
+use Rattle.inode_plan.specs.area_reader.Store.{Store, root_of}
+use Rattle.inode_plan.specs.area_reader.Format.{Use, used_block, IsSpelled}
+use Rattle.inode_plan.specs.area_commit.InodeRewrite.{IsFit, IsListed, block_by}
+use Rattle.inode_plan.specs.area_commit.StoreRewrite.{HasBlockFor}
+use Rattle.inode_plan.specs.area_commit.declared.slots.ChangedSlot.{ChangedSlot}
+use Rattle.inode_plan.specs.area_commit.declared.plan.FreedBlocks.{FreedBlocks}
+use Rattle.inode_plan.specs.area_commit.Plan.{Loses, LieApart, IsLost, HoldLost, lost_in, is_changed}
+use Rattle.inode_plan.proofs.area_commit_lemmas.Chosen.{has_changed, inode_range, no_use}
+use Rattle.inode_plan.proofs.area_commit_lemmas.Joined.{apart_join}
 use Rattle.change_plan.specs.Part.{Share, IsIn, IsPut, IsPart, IsTouchedBy, IsWrittenFor, is_one}
 use Rattle.change_plan.specs.Parts.{ArePut, AreParts, LoseBoth, HasFree, ShareNone, with_at, both}
 use Rattle.change_plan.proofs.Pieces.{at_one, at_other, changed_old, changed_last, last_or_old, changed_either, rise_more, below_changed, in_left, in_right, in_either, holds_left, holds_right, blocks_left, blocks_right, blocks_either, lost_parts}

@@ -5,16 +5,16 @@ use Rattle.std.specs.List.{Contains}
 use Rattle.std.proofs.lemmas.Bool.{false≢true}
 use Rattle.tier_device.specs.declared.media.Tier.{Tier}
 use Rattle.tier_device.specs.declared.media.Tier.TheVariants.{Fast, Block, Slow}
-use Rattle.graph_change.specs.Change.{Changes}
-use Rattle.layout.specs.declared.slot.Slot.{Slot}
-use Rattle.layout.specs.Places.{Sizes, node_end, data_first}
+use Rattle.inode_plan.specs.graph_change.Change.{Changes}
+use Rattle.inode_plan.specs.layout.declared.slot.Slot.{Slot}
+use Rattle.inode_plan.specs.layout.Places.{Sizes, node_end, data_first}
 use Rattle.block_alloc.specs.declared.runs.Run.{Run}
 use Rattle.block_alloc.specs.Runs.{blocks_of}
-use Rattle.extent_tree.specs.Map.{TierRuns}
-use Rattle.area_reader.specs.Store.{Store}
-use Rattle.area_commit.proofs.Members.{nothing}
-use Rattle.area_commit.specs.declared.plan.FreedBlocks.{FreedBlocks}
-use Rattle.area_commit.specs.Plan.{LieApart, IsLost, HoldLost, lost_in, is_changed}
+use Rattle.inode_plan.specs.extent_tree.Map.{TierRuns}
+use Rattle.inode_plan.specs.area_reader.Store.{Store}
+use Rattle.inode_plan.proofs.area_commit_lemmas.Members.{nothing}
+use Rattle.inode_plan.specs.area_commit.declared.plan.FreedBlocks.{FreedBlocks}
+use Rattle.inode_plan.specs.area_commit.Plan.{LieApart, IsLost, HoldLost, lost_in, is_changed}
 use Rattle.change_plan.specs.Part.{Share, IsIn}
 use Rattle.change_plan.specs.Parts.{AreParts}
 use Rattle.change_plan.proofs.Laid.{none_laid}

@@ -5,16 +5,16 @@ use Rattle.std.specs.List.{Contains, AllByRecursion}
 use Rattle.std.proofs.lemmas.Bool.{cases_Bool, and_from, and_parts, le-leb, lt-ltb, leb-true, ltb-true, eqb-true, eqb-false, cond-true, cond-false}
 use Rattle.tier_device.specs.declared.media.Tier.{Tier}
 use Rattle.tier_device.specs.declared.media.Tier.TheVariants as tiers
-use Rattle.layout.specs.declared.geometry.Space.TheVariants as space
-use Rattle.layout.specs.Places.{Sizes, is_node, is_run, node_end, data_first, tier_blocks}
+use Rattle.inode_plan.specs.layout.declared.geometry.Space.TheVariants as space
+use Rattle.inode_plan.specs.layout.Places.{Sizes, is_node, is_run, node_end, data_first, tier_blocks}
 use Rattle.block_alloc.specs.declared.runs.Run.{Run}
 use Rattle.block_alloc.specs.Runs.{run_blocks, blocks_of}
-use Rattle.extent_tree.specs.Map.{HasBlock}
-use Rattle.extent_tree.specs.declared.map.Place.{Place}
-use Rattle.area_commit.proofs.Members.{cons_cases, nothing}
-use Rattle.area_commit.proofs.Given.{all_from}
-use Rattle.area_commit.proofs.GivenUp.{Once, once_rest, once_apart, beside}
-use Rattle.area_commit.specs.Plan.{LieApart}
+use Rattle.inode_plan.specs.extent_tree.Map.{HasBlock}
+use Rattle.inode_plan.specs.extent_tree.declared.map.Place.{Place}
+use Rattle.inode_plan.proofs.area_commit_lemmas.Members.{cons_cases, nothing}
+use Rattle.inode_plan.proofs.area_commit_lemmas.Given.{all_from}
+use Rattle.inode_plan.proofs.area_commit_lemmas.GivenUp.{Once, once_rest, once_apart, beside}
+use Rattle.inode_plan.specs.area_commit.Plan.{LieApart}
 use Rattle.inode_plan.specs.PlacedFile.{nth_place}
 use Rattle.inode_plan.specs.PlannedFile.{pair_of, pairs_of}
 

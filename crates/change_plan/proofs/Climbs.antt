@@ -13,10 +13,10 @@ use Rattle.std.specs.FinMap.Entries.{by_order, below_all}
 use Rattle.std.proofs.lemmas.Bool.{and_parts, cond-true, cond-false, ne_eqb, eq-eqb, false≢true}
 use Rattle.std.proofs.lemmas.List.Elements.{Contains-append_right}
 use Rattle.block_alloc.specs.Runs.{Rising}
-use Rattle.area_commit.proofs.Members.{cons_cases, cons_here, cons_there, nothing}
-use Rattle.graph_change.specs.Change.{Change, Changes, new_change, change_at}
-use Rattle.graph_change.specs.Net.{Kept}
-use Rattle.graph_change.specs.View.{map_of}
+use Rattle.inode_plan.proofs.area_commit_lemmas.Members.{cons_cases, cons_here, cons_there, nothing}
+use Rattle.inode_plan.specs.graph_change.Change.{Change, Changes, new_change, change_at}
+use Rattle.inode_plan.specs.graph_change.Net.{Kept}
+use Rattle.inode_plan.specs.graph_change.View.{map_of}
 
 -- ---- numbers
 

@@ -4,12 +4,12 @@ use Rattle.std.specs.Prelude.{not, ◌==◌, ◌&&◌, if◌then◌else◌}
 use Rattle.std.specs.List.{Contains}
 use Rattle.std.proofs.lemmas.Bool.{cases_lt}
 use Rattle.std.proofs.lemmas.Map.Made.{Contains-tail}
-use Rattle.graph_change.specs.Change.{Change}
-use Rattle.layout.specs.Places.{Sizes}
+use Rattle.inode_plan.specs.graph_change.Change.{Change}
+use Rattle.inode_plan.specs.layout.Places.{Sizes}
 use Rattle.block_alloc.specs.Runs.{Rising}
-use Rattle.tree_blocks.specs.BlockMarks.{ListsWritten}
-use Rattle.area_reader.specs.Store.{Store}
-use Rattle.area_commit.proofs.Members.{cons_cases, nothing}
+use Rattle.inode_plan.specs.tree_blocks.BlockMarks.{ListsWritten}
+use Rattle.inode_plan.specs.area_reader.Store.{Store}
+use Rattle.inode_plan.proofs.area_commit_lemmas.Members.{cons_cases, nothing}
 use Rattle.inode_plan.proofs.Rising.{sorted_rise}
 use Rattle.inode_plan.specs.Blocks.{spares_wanted}
 use Rattle.inode_plan.specs.Spare.{spares_for}

@@ -4,15 +4,15 @@ use Rattle.std.specs.Prelude.{option_map}
 use Rattle.std.specs.FinMap as fin
 use Rattle.posix_calls.specs.Content.{Entries}
 use Rattle.posix_calls.specs.declared.limits.TheConstants.{MAX_ENTRIES}
-use Rattle.file_graph.specs.declared.effect.Kind.{Kind}
-use Rattle.file_graph.specs.declared.effect.Kind.TheVariants as kind
-use Rattle.graph_change.specs.Change.{Change, net_of}
-use Rattle.graph_change.specs.Net.{Base, Kept, Made, Gone, Net, Child, base_node, edited_node, node_after, entries_after}
-use Rattle.tree_blocks.specs.After.{start_node}
-use Rattle.tree_blocks.specs.Directory.{EntryBlocks, numbered_blocks, numbered_entries}
-use Rattle.tree_blocks.specs.Inode.{Entry, Inode, entry_at, named_entries, node_by, node_of}
-use Rattle.tree_blocks.specs.InodeRewrite.{AreHeldOf}
-use Rattle.tree_blocks.proofs.Alike.{mapped_same, entries_same}
+use Rattle.inode_plan.specs.file_graph.declared.effect.Kind.{Kind}
+use Rattle.inode_plan.specs.file_graph.declared.effect.Kind.TheVariants as kind
+use Rattle.inode_plan.specs.graph_change.Change.{Change, net_of}
+use Rattle.inode_plan.specs.graph_change.Net.{Base, Kept, Made, Gone, Net, Child, base_node, edited_node, node_after, entries_after}
+use Rattle.inode_plan.specs.tree_blocks.After.{start_node}
+use Rattle.inode_plan.specs.tree_blocks.Directory.{EntryBlocks, numbered_blocks, numbered_entries}
+use Rattle.inode_plan.specs.tree_blocks.Inode.{Entry, Inode, entry_at, named_entries, node_by, node_of}
+use Rattle.inode_plan.specs.tree_blocks.InodeRewrite.{AreHeldOf}
+use Rattle.inode_plan.proofs.tree_blocks_lemmas.Alike.{mapped_same, entries_same}
 use Rattle.change_plan.specs.Next.{HasFewEntries}
 
 -- ---- of the node that the change starts from

@@ -5,25 +5,25 @@ use Rattle.std.proofs.lemmas.Bool.{eqb-true}
 use Rattle.std.proofs.lemmas.Option.{none-some}
 use Rattle.tier_device.specs.declared.media.Tier.{Tier}
 use Rattle.tier_device.specs.declared.media.Tier.TheVariants as tiers
-use Rattle.file_graph.specs.declared.effect.Kind.TheVariants as kind
-use Rattle.graph_change.specs.Change.{Change}
-use Rattle.graph_change.specs.Net.{Base, Kept, Made}
-use Rattle.layout.specs.declared.slot.Slot.{Slot}
-use Rattle.layout.specs.declared.slot.Slot.TheVariants as slots
-use Rattle.layout.specs.Places.{Sizes, node_end, data_first}
+use Rattle.inode_plan.specs.file_graph.declared.effect.Kind.TheVariants as kind
+use Rattle.inode_plan.specs.graph_change.Change.{Change}
+use Rattle.inode_plan.specs.graph_change.Net.{Base, Kept, Made}
+use Rattle.inode_plan.specs.layout.declared.slot.Slot.{Slot}
+use Rattle.inode_plan.specs.layout.declared.slot.Slot.TheVariants as slots
+use Rattle.inode_plan.specs.layout.Places.{Sizes, node_end, data_first}
 use Rattle.block_alloc.specs.Runs.{blocks_of}
-use Rattle.extent_tree.specs.Map.{TierRuns, lies_at}
-use Rattle.area_reader.specs.Store.{Store, slot, root_of, place}
-use Rattle.area_reader.specs.Format.{used_block}
-use Rattle.area_reader.proofs.Lists.{slot_here_fits}
-use Rattle.area_reader.proofs.Shown.{slot_limits}
-use Rattle.area_commit.specs.InodeRewrite.{block_by}
-use Rattle.area_commit.specs.InodeChange.{place_from}
+use Rattle.inode_plan.specs.extent_tree.Map.{TierRuns, lies_at}
+use Rattle.inode_plan.specs.area_reader.Store.{Store, slot, root_of, place}
+use Rattle.inode_plan.specs.area_reader.Format.{used_block}
+use Rattle.inode_plan.proofs.area_reader_lemmas.Lists.{slot_here_fits}
+use Rattle.inode_plan.proofs.area_reader_lemmas.Shown.{slot_limits}
+use Rattle.inode_plan.specs.area_commit.InodeRewrite.{block_by}
+use Rattle.inode_plan.specs.area_commit.InodeChange.{place_from}
 use Rattle.inode_plan.specs.Lists.{roots_left}
-use Rattle.area_commit.proofs.GivenUp.{Once}
-use Rattle.area_commit.specs.declared.plan.FreedBlocks.{FreedBlocks}
-use Rattle.area_commit.specs.Plan.{Loses, IsLost, HoldLost, lost_in}
-use Rattle.area_commit.proofs.Chosen.{no_use}
+use Rattle.inode_plan.proofs.area_commit_lemmas.GivenUp.{Once}
+use Rattle.inode_plan.specs.area_commit.declared.plan.FreedBlocks.{FreedBlocks}
+use Rattle.inode_plan.specs.area_commit.Plan.{Loses, IsLost, HoldLost, lost_in}
+use Rattle.inode_plan.proofs.area_commit_lemmas.Chosen.{no_use}
 use Rattle.inode_plan.specs.Roots.{HasRootsOf}
 use Rattle.inode_plan.proofs.After.{left_is_lost, lost_is_left}
 use Rattle.inode_plan.proofs.Vacant.{left_at, left_once, roots_lost}

@@ -3,13 +3,13 @@ use Rattle.std.proofs.Common.{◌≡◌, ◌<◌, ℕ, [], Option, Some, None, r
 use Rattle.std.specs.Prelude.{IsSome}
 use Rattle.std.proofs.lemmas.Bool.{false≢true}
 use Rattle.tier_device.specs.declared.media.Tier.{Tier}
-use Rattle.graph_change.specs.Net.{Base}
-use Rattle.layout.specs.Places.{Sizes, tier_blocks}
+use Rattle.inode_plan.specs.graph_change.Net.{Base}
+use Rattle.inode_plan.specs.layout.Places.{Sizes, tier_blocks}
 use Rattle.block_alloc.specs.Value.{FreeBlocks}
-use Rattle.area_commit.proofs.Members.{nothing}
-use Rattle.extent_tree.specs.Map.{TierRuns, lies_at, LieBelow}
-use Rattle.area_reader.specs.Store.{Store}
-use Rattle.area_commit.specs.Release.{IsInUse}
+use Rattle.inode_plan.proofs.area_commit_lemmas.Members.{nothing}
+use Rattle.inode_plan.specs.extent_tree.Map.{TierRuns, lies_at, LieBelow}
+use Rattle.inode_plan.specs.area_reader.Store.{Store}
+use Rattle.inode_plan.specs.area_commit.Release.{IsInUse}
 use Rattle.change_plan.specs.File.{IsOldMap}
 use Rattle.change_plan.proofs.Blocked.{data_within}
 

@@ -7,30 +7,30 @@ use Rattle.std.proofs.lemmas.List.{get_or-map, length-map}
 use Rattle.std.proofs.lemmas.List.Elements.{Contains-get_or}
 use Rattle.tier_device.specs.declared.media.Tier.{Tier}
 use Rattle.tier_device.specs.declared.media.Tier.TheVariants as tiers
-use Rattle.graph_change.specs.Change.{Change}
-use Rattle.graph_change.specs.Net.{Base, Kept, Made, Gone, names_after}
-use Rattle.layout.specs.declared.geometry.Space.TheVariants as space
-use Rattle.layout.specs.declared.slot.Slot.{Slot}
-use Rattle.layout.specs.Extents.{ExtentList, extents_spelling}
-use Rattle.layout.specs.Places.{Sizes, is_node, data_first, tier_blocks}
-use Rattle.layout.specs.Slot.{fits_slot}
-use Rattle.batch_journal.specs.Images.{image_for, or_else, with_images}
-use Rattle.extent_tree.specs.BlockFormat.{LiesWithin}
-use Rattle.extent_tree.specs.Map.{TierRuns, runs_in, lies_at}
-use Rattle.tree_blocks.specs.After.{start_node}
-use Rattle.area_reader.specs.Store.{Store, slot, root_of, place, inode}
-use Rattle.area_reader.specs.Reads.{Free}
-use Rattle.area_reader.specs.Format.{used_block}
-use Rattle.area_reader.specs.Map.{in_tier}
-use Rattle.area_reader.proofs.Lists.{slot_here_fits}
-use Rattle.area_reader.proofs.Shown.{slot_limits}
-use Rattle.area_commit.specs.InodeRewrite.{IsFit, IsListed, block_by}
-use Rattle.area_commit.specs.InodeChange.{places_from, IsFileWritten}
-use Rattle.area_commit.specs.Batches.{AreNodes}
-use Rattle.area_commit.specs.Lists.{HaveOwnRoots}
+use Rattle.inode_plan.specs.graph_change.Change.{Change}
+use Rattle.inode_plan.specs.graph_change.Net.{Base, Kept, Made, Gone, names_after}
+use Rattle.inode_plan.specs.layout.declared.geometry.Space.TheVariants as space
+use Rattle.inode_plan.specs.layout.declared.slot.Slot.{Slot}
+use Rattle.inode_plan.specs.layout.Extents.{ExtentList, extents_spelling}
+use Rattle.inode_plan.specs.layout.Places.{Sizes, is_node, data_first, tier_blocks}
+use Rattle.inode_plan.specs.layout.Slot.{fits_slot}
+use Rattle.inode_plan.specs.batch_journal.Images.{image_for, or_else, with_images}
+use Rattle.inode_plan.specs.extent_tree.BlockFormat.{LiesWithin}
+use Rattle.inode_plan.specs.extent_tree.Map.{TierRuns, runs_in, lies_at}
+use Rattle.inode_plan.specs.tree_blocks.After.{start_node}
+use Rattle.inode_plan.specs.area_reader.Store.{Store, slot, root_of, place, inode}
+use Rattle.inode_plan.specs.area_reader.Reads.{Free}
+use Rattle.inode_plan.specs.area_reader.Format.{used_block}
+use Rattle.inode_plan.specs.area_reader.Map.{in_tier}
+use Rattle.inode_plan.proofs.area_reader_lemmas.Lists.{slot_here_fits}
+use Rattle.inode_plan.proofs.area_reader_lemmas.Shown.{slot_limits}
+use Rattle.inode_plan.specs.area_commit.InodeRewrite.{IsFit, IsListed, block_by}
+use Rattle.inode_plan.specs.area_commit.InodeChange.{places_from, IsFileWritten}
+use Rattle.inode_plan.specs.area_commit.Batches.{AreNodes}
+use Rattle.inode_plan.specs.area_commit.Lists.{HaveOwnRoots}
 use Rattle.inode_plan.specs.Lists.{root_for}
-use Rattle.area_commit.specs.declared.plan.FreedBlocks.{FreedBlocks}
-use Rattle.area_commit.specs.DataWrite.{HoldData}
+use Rattle.inode_plan.specs.area_commit.declared.plan.FreedBlocks.{FreedBlocks}
+use Rattle.inode_plan.specs.area_commit.DataWrite.{HoldData}
 use Rattle.inode_plan.specs.PlacedFile.{nth_number, nth_place}
 use Rattle.inode_plan.specs.MapChange.{AreFresh, AreData, TakesPlace}
 use Rattle.inode_plan.specs.PlannedFile.{pair_of, pairs_of, HasData}

@@ -1,25 +1,25 @@
 -- The pieces of a planned file make one.
 use Rattle.std.proofs.Common.{◌≡◌, ◌∙◌, inl, inr, ℕ, List, length, sym, ap, subst, refl, true}
 use Rattle.std.specs.List.{AllByRecursion}
-use Rattle.graph_change.specs.Bounds.{IsBounded}
-use Rattle.graph_change.specs.Bytes.{length_after}
-use Rattle.graph_change.specs.Change.{Change}
-use Rattle.graph_change.specs.Net.{Base, Kept, Made, Gone, names_after}
-use Rattle.graph_change.specs.Tidy.{IsTidyChange}
-use Rattle.layout.specs.declared.slot.Slot.{Slot}
-use Rattle.layout.specs.Places.{Sizes}
-use Rattle.layout.specs.Slot.{fits_slot}
+use Rattle.inode_plan.specs.graph_change.Bounds.{IsBounded}
+use Rattle.inode_plan.specs.graph_change.Bytes.{length_after}
+use Rattle.inode_plan.specs.graph_change.Change.{Change}
+use Rattle.inode_plan.specs.graph_change.Net.{Base, Kept, Made, Gone, names_after}
+use Rattle.inode_plan.specs.graph_change.Tidy.{IsTidyChange}
+use Rattle.inode_plan.specs.layout.declared.slot.Slot.{Slot}
+use Rattle.inode_plan.specs.layout.Places.{Sizes}
+use Rattle.inode_plan.specs.layout.Slot.{fits_slot}
 use Rattle.block_alloc.specs.declared.runs.Run.{Run}
 use Rattle.block_alloc.specs.Runs.{blocks_of}
-use Rattle.extent_tree.specs.Map.{lies_at, HasBlock}
-use Rattle.extent_tree.specs.declared.map.Place.{Place}
-use Rattle.tree_blocks.specs.After.{start_node}
-use Rattle.tree_blocks.specs.Inode.{LogicalBlocks, Inode, inode_of}
-use Rattle.area_reader.specs.Store.{Store, slot, logical_block, inode}
-use Rattle.area_commit.specs.InodeChange.{places_from, IsFileSlot}
+use Rattle.inode_plan.specs.extent_tree.Map.{lies_at, HasBlock}
+use Rattle.inode_plan.specs.extent_tree.declared.map.Place.{Place}
+use Rattle.inode_plan.specs.tree_blocks.After.{start_node}
+use Rattle.inode_plan.specs.tree_blocks.Inode.{LogicalBlocks, Inode, inode_of}
+use Rattle.inode_plan.specs.area_reader.Store.{Store, slot, logical_block, inode}
+use Rattle.inode_plan.specs.area_commit.InodeChange.{places_from, IsFileSlot}
 use Rattle.inode_plan.specs.Lists.{roots_left}
-use Rattle.area_commit.specs.declared.plan.FreedBlocks.{FreedBlocks}
-use Rattle.area_commit.specs.Plan.{LieApart}
+use Rattle.inode_plan.specs.area_commit.declared.plan.FreedBlocks.{FreedBlocks}
+use Rattle.inode_plan.specs.area_commit.Plan.{LieApart}
 use Rattle.inode_plan.specs.BlockWrites.{AreNumbers}
 use Rattle.inode_plan.specs.Bytes.{HoldsBlocks, blocks_from}
 use Rattle.inode_plan.specs.MapChange.{AreLeft}

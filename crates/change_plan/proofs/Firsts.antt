@@ -5,26 +5,26 @@ use Rattle.std.proofs.lemmas.List.{take-append-drop, take_all, drop-map, length-
 use Rattle.std.proofs.lemmas.List.Elements.{Contains-append_left, Contains-append_right, Contains-append_cases}
 use Rattle.tier_device.specs.declared.media.Tier.{Tier}
 use Rattle.tier_device.specs.declared.media.Tier.TheVariants.{Fast, Block, Slow}
-use Rattle.graph_change.specs.Change.{Changes, change_at}
-use Rattle.layout.specs.declared.slot.Slot.{Slot}
-use Rattle.layout.specs.declared.slot.Slot.TheVariants as slots
-use Rattle.layout.specs.Places.{Sizes, is_inode, node_end, data_first, tier_blocks}
+use Rattle.inode_plan.specs.graph_change.Change.{Changes, change_at}
+use Rattle.inode_plan.specs.layout.declared.slot.Slot.{Slot}
+use Rattle.inode_plan.specs.layout.declared.slot.Slot.TheVariants as slots
+use Rattle.inode_plan.specs.layout.Places.{Sizes, is_inode, node_end, data_first, tier_blocks}
 use Rattle.block_alloc.specs.declared.runs.Run.{Run}
 use Rattle.block_alloc.specs.Runs.{blocks_of, Rising}
 use Rattle.block_alloc.proofs.Blocks.{normal-rising}
-use Rattle.extent_tree.specs.Map.{TierRuns}
-use Rattle.extent_tree.specs.declared.map.Place.{Place}
-use Rattle.area_reader.specs.Store.{Store}
-use Rattle.area_reader.specs.Reads.{Free}
-use Rattle.area_reader.specs.Format.{IsSpelled}
-use Rattle.area_commit.specs.declared.slots.ChangedSlot.{ChangedSlot}
-use Rattle.area_commit.specs.Value.{on_tier}
-use Rattle.area_commit.specs.declared.allocation.Allocation.{Allocation}
-use Rattle.area_commit.specs.Allocations.{taken_data, runs_of}
-use Rattle.area_commit.proofs.Members.{cons_cases, cons_here, cons_there, nothing}
+use Rattle.inode_plan.specs.extent_tree.Map.{TierRuns}
+use Rattle.inode_plan.specs.extent_tree.declared.map.Place.{Place}
+use Rattle.inode_plan.specs.area_reader.Store.{Store}
+use Rattle.inode_plan.specs.area_reader.Reads.{Free}
+use Rattle.inode_plan.specs.area_reader.Format.{IsSpelled}
+use Rattle.inode_plan.specs.area_commit.declared.slots.ChangedSlot.{ChangedSlot}
+use Rattle.inode_plan.specs.area_commit.Value.{on_tier}
+use Rattle.inode_plan.specs.area_commit.declared.allocation.Allocation.{Allocation}
+use Rattle.inode_plan.specs.area_commit.Allocations.{taken_data, runs_of}
+use Rattle.inode_plan.proofs.area_commit_lemmas.Members.{cons_cases, cons_here, cons_there, nothing}
 use Rattle.inode_plan.specs.PlannedFile.{pair_of, pairs_of}
-use Rattle.area_commit.specs.Plan.{WereFree}
-use Rattle.area_commit.proofs.Chosen.{taken_free, data_has, data_range}
+use Rattle.inode_plan.specs.area_commit.Plan.{WereFree}
+use Rattle.inode_plan.proofs.area_commit_lemmas.Chosen.{taken_free, data_has, data_range}
 use Rattle.change_plan.specs.Part.{Share}
 use Rattle.change_plan.specs.Parts.{AreParts, HasFree, ShareNone, both, with_at, share_of}
 use Rattle.change_plan.specs.PlanAddition.{AddsPart, no_runs}

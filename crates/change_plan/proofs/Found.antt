@@ -4,10 +4,10 @@ use Rattle.std.specs.Prelude.{◌==◌, IsSome, option_map}
 use Rattle.std.proofs.lemmas.Bool.{cases_Bool, cases_lt, eqb-true, eqb-false}
 use Rattle.tier_device.specs.declared.media.Tier.{Tier}
 use Rattle.tier_device.specs.declared.media.Tier.TheVariants.{Fast, Block, Slow}
-use Rattle.layout.specs.declared.slot.Slot.{Slot}
-use Rattle.extent_tree.specs.Map.{TierRuns, lies_at, LieBelow}
-use Rattle.area_reader.specs.Store.{length_of}
-use Rattle.area_commit.specs.InodeRewrite.{block_by}
+use Rattle.inode_plan.specs.layout.declared.slot.Slot.{Slot}
+use Rattle.inode_plan.specs.extent_tree.Map.{TierRuns, lies_at, LieBelow}
+use Rattle.inode_plan.specs.area_reader.Store.{length_of}
+use Rattle.inode_plan.specs.area_commit.InodeRewrite.{block_by}
 
 abbrev block_in : Option (Tier × ℕ) → ℕ
 block_in None = 0

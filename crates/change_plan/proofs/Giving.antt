@@ -8,26 +8,26 @@ use Rattle.std.proofs.lemmas.List.Concat.{flat_map-append}
 use Rattle.std.proofs.lemmas.List.Elements.{Contains-append_left, Contains-append_right, Contains-append_cases}
 use Rattle.tier_device.specs.declared.media.Tier.{Tier}
 use Rattle.tier_device.specs.declared.media.Tier.TheVariants as tiers
-use Rattle.layout.specs.declared.slot.Slot.{Slot}
-use Rattle.layout.specs.declared.slot.Slot.TheVariants as slots
-use Rattle.layout.specs.Places.{Sizes, is_node, is_data, are_nodes, is_run, node_end, data_first, tier_blocks}
-use Rattle.layout.specs.Slot.{fits_slot}
+use Rattle.inode_plan.specs.layout.declared.slot.Slot.{Slot}
+use Rattle.inode_plan.specs.layout.declared.slot.Slot.TheVariants as slots
+use Rattle.inode_plan.specs.layout.Places.{Sizes, is_node, is_data, are_nodes, is_run, node_end, data_first, tier_blocks}
+use Rattle.inode_plan.specs.layout.Slot.{fits_slot}
 use Rattle.block_alloc.specs.declared.runs.Run.{Run}
 use Rattle.block_alloc.specs.Runs.{run_blocks, blocks_of}
 use Rattle.block_alloc.specs.Value.{FreeBlocks}
-use Rattle.extent_tree.specs.BlockFormat.{LiesWithin, IsOneToOne}
-use Rattle.extent_tree.specs.Map.{TierRuns, runs_in, lies_at, HasBlock}
-use Rattle.area_reader.specs.Store.{Store, slot_read, root_of, place, space_of}
-use Rattle.area_reader.specs.Format.{Use, used_block, AreUsedOnce}
-use Rattle.area_reader.proofs.Apart.{place_once}
-use Rattle.area_reader.proofs.Parts.{slot_as}
-use Rattle.area_reader.proofs.Shown.{slot_limits}
+use Rattle.inode_plan.specs.extent_tree.BlockFormat.{LiesWithin, IsOneToOne}
+use Rattle.inode_plan.specs.extent_tree.Map.{TierRuns, runs_in, lies_at, HasBlock}
+use Rattle.inode_plan.specs.area_reader.Store.{Store, slot_read, root_of, place, space_of}
+use Rattle.inode_plan.specs.area_reader.Format.{Use, used_block, AreUsedOnce}
+use Rattle.inode_plan.proofs.area_reader_lemmas.Apart.{place_once}
+use Rattle.inode_plan.proofs.area_reader_lemmas.Parts.{slot_as}
+use Rattle.inode_plan.proofs.area_reader_lemmas.Shown.{slot_limits}
 use Rattle.inode_plan.specs.Lists.{root_left, roots_left, LieAsIn}
-use Rattle.area_commit.proofs.Given.{all_from, cons_cases, cons_here, nothing}
-use Rattle.area_commit.proofs.GivenUp.{Once, once_rest, once_apart, beside}
-use Rattle.area_commit.specs.declared.plan.FreedBlocks.{FreedBlocks}
-use Rattle.area_commit.specs.Plan.{IsLost, LieApart, lost_in}
-use Rattle.area_commit.proofs.Joined.{used_apart, apart_join}
+use Rattle.inode_plan.proofs.area_commit_lemmas.Given.{all_from, cons_cases, cons_here, nothing}
+use Rattle.inode_plan.proofs.area_commit_lemmas.GivenUp.{Once, once_rest, once_apart, beside}
+use Rattle.inode_plan.specs.area_commit.declared.plan.FreedBlocks.{FreedBlocks}
+use Rattle.inode_plan.specs.area_commit.Plan.{IsLost, LieApart, lost_in}
+use Rattle.inode_plan.proofs.area_commit_lemmas.Joined.{used_apart, apart_join}
 use Rattle.inode_plan.specs.MapChange.{AreAll}
 use Rattle.change_plan.specs.Part.{is_one}
 use Rattle.change_plan.specs.PlanAddition.{GivesAll, no_runs}

@@ -6,13 +6,13 @@ use Rattle.std.proofs.lemmas.List.{length-append, length-map, get_or-map, get_or
 use Rattle.std.proofs.lemmas.List.Elements.{Contains-append_left, Contains-append_right, Contains-append_cases, Contains-get_or}
 use Rattle.tier_device.specs.declared.media.Tier.{Tier}
 use Rattle.tier_device.specs.declared.media.Tier.TheVariants.{Fast}
-use Rattle.graph_change.specs.Change.{Change, Changes, change_at}
-use Rattle.layout.specs.Places.{Sizes}
-use Rattle.extent_tree.specs.Map.{TierRuns, lies_at}
-use Rattle.area_reader.specs.Store.{Store}
-use Rattle.area_commit.specs.declared.slots.ChangedSlot.{ChangedSlot}
-use Rattle.area_commit.specs.Plan.{is_changed}
-use Rattle.area_commit.proofs.Members.{nothing}
+use Rattle.inode_plan.specs.graph_change.Change.{Change, Changes, change_at}
+use Rattle.inode_plan.specs.layout.Places.{Sizes}
+use Rattle.inode_plan.specs.extent_tree.Map.{TierRuns, lies_at}
+use Rattle.inode_plan.specs.area_reader.Store.{Store}
+use Rattle.inode_plan.specs.area_commit.declared.slots.ChangedSlot.{ChangedSlot}
+use Rattle.inode_plan.specs.area_commit.Plan.{is_changed}
+use Rattle.inode_plan.proofs.area_commit_lemmas.Members.{nothing}
 use Rattle.inode_plan.specs.PlacedFile.{nth_number}
 use Rattle.inode_plan.proofs.Moves.{later_is_greater}
 use Rattle.change_plan.specs.FileLayout.{LeavesFile, WritesBlock, ComesBefore, nth_block, nth_data, Writes, IsLaid, AreLaid}

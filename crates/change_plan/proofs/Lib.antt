@@ -31,3 +31,5 @@ pub mod Walked
 pub mod Slotted
 mod WrittenBlocks
 mod Lying
+-- Handed on to the crates above, which list only the highest of what they name.
+pub use Rattle.inode_plan.proofs.area_commit_lemmas

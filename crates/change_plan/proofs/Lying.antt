@@ -6,20 +6,20 @@ use Rattle.std.proofs.lemmas.Bool.{false≢true}
 use Rattle.std.proofs.lemmas.Option.{none-some}
 use Rattle.std.proofs.lemmas.List.Elements.{Contains-get_or}
 use Rattle.tier_device.specs.declared.media.Tier.{Tier}
-use Rattle.file_graph.specs.declared.effect.Kind.TheVariants as kind
-use Rattle.graph_change.specs.Change.{Change, Changes, change_at, new_change, writes_block}
-use Rattle.graph_change.specs.Net.{Kept}
-use Rattle.graph_change.proofs.Touched.{nothing_written}
-use Rattle.layout.specs.declared.slot.Slot.{Slot}
-use Rattle.layout.specs.Places.{Sizes}
-use Rattle.extent_tree.specs.Map.{TierRuns, lies_at}
-use Rattle.area_reader.specs.Store.{Store, place}
-use Rattle.area_commit.specs.Allocations.{taken_data}
-use Rattle.area_commit.specs.declared.plan.Rewrite.{Rewrite}
-use Rattle.area_commit.specs.Plan.{is_rewritten, IsPlanned}
-use Rattle.area_commit.specs.PlanOutcome.{IsCarriedOut}
-use Rattle.area_commit.specs.InodeChange.{places_from}
-use Rattle.area_commit.proofs.Holes.{over_written}
+use Rattle.inode_plan.specs.file_graph.declared.effect.Kind.TheVariants as kind
+use Rattle.inode_plan.specs.graph_change.Change.{Change, Changes, change_at, new_change, writes_block}
+use Rattle.inode_plan.specs.graph_change.Net.{Kept}
+use Rattle.inode_plan.proofs.graph_change_lemmas.Touched.{nothing_written}
+use Rattle.inode_plan.specs.layout.declared.slot.Slot.{Slot}
+use Rattle.inode_plan.specs.layout.Places.{Sizes}
+use Rattle.inode_plan.specs.extent_tree.Map.{TierRuns, lies_at}
+use Rattle.inode_plan.specs.area_reader.Store.{Store, place}
+use Rattle.inode_plan.specs.area_commit.Allocations.{taken_data}
+use Rattle.inode_plan.specs.area_commit.declared.plan.Rewrite.{Rewrite}
+use Rattle.inode_plan.specs.area_commit.Plan.{is_rewritten, IsPlanned}
+use Rattle.inode_plan.specs.area_commit.PlanOutcome.{IsCarriedOut}
+use Rattle.inode_plan.specs.area_commit.InodeChange.{places_from}
+use Rattle.inode_plan.proofs.area_commit_lemmas.Holes.{over_written}
 use Rattle.change_plan.specs.FileLayout.{LeavesFile, WritesBlock, nth_block, nth_data, AreInTurn, AreFirstFree, GetPlaces, LieInPlaces, KeepsPlaces}
 use Rattle.change_plan.specs.Parts.{AreParts, share_of}
 use Rattle.change_plan.proofs.PlannedPart.{no_file}

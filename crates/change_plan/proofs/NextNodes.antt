@@ -5,12 +5,12 @@ use Rattle.std.proofs.lemmas.Bool.{cases_lt}
 use Rattle.std.proofs.lemmas.List.{get_or-take, length-take, length-append, get_or-append-add}
 use Rattle.std.proofs.lemmas.List.Elements.{Contains-append_right, Contains-get_or}
 use Rattle.tier_device.specs.declared.media.Tier.TheVariants as tiers
-use Rattle.layout.specs.Places.{Sizes, node_end}
+use Rattle.inode_plan.specs.layout.Places.{Sizes, node_end}
 use Rattle.block_alloc.specs.Runs.{blocks_of}
-use Rattle.area_reader.specs.Store.{Store}
-use Rattle.area_reader.specs.Reads.{Free}
-use Rattle.area_commit.specs.Value.{PoolsView}
-use Rattle.area_commit.specs.declared.allocation.Allocation.{Allocation}
+use Rattle.inode_plan.specs.area_reader.Store.{Store}
+use Rattle.inode_plan.specs.area_reader.Reads.{Free}
+use Rattle.inode_plan.specs.area_commit.Value.{PoolsView}
+use Rattle.inode_plan.specs.area_commit.declared.allocation.Allocation.{Allocation}
 use Rattle.inode_plan.proofs.Moves.{later_is_greater}
 use Rattle.change_plan.specs.PlanAddition.{HasTaken}
 use Rattle.change_plan.specs.File.{AreFreeNodes}

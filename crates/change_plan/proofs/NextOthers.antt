@@ -4,18 +4,18 @@ use Rattle.std.specs.Prelude.{IsSome}
 use Rattle.std.specs.List.{Contains}
 use Rattle.tier_device.specs.declared.media.Tier.{Tier}
 use Rattle.tier_device.specs.declared.media.Tier.TheVariants as tiers
-use Rattle.graph_change.specs.Change.{Changes}
-use Rattle.layout.specs.Places.{Sizes, node_end}
-use Rattle.batch_journal.specs.Images.{image_for}
-use Rattle.extent_tree.specs.declared.map.Place.{Place}
-use Rattle.area_reader.specs.Store.{Store}
-use Rattle.area_reader.specs.Format.{Use}
-use Rattle.area_commit.specs.declared.slots.ChangedSlot.{ChangedSlot}
-use Rattle.area_commit.specs.declared.allocation.Allocation.{Allocation}
-use Rattle.area_commit.specs.Allocations.{taken_data}
+use Rattle.inode_plan.specs.graph_change.Change.{Changes}
+use Rattle.inode_plan.specs.layout.Places.{Sizes, node_end}
+use Rattle.inode_plan.specs.batch_journal.Images.{image_for}
+use Rattle.inode_plan.specs.extent_tree.declared.map.Place.{Place}
+use Rattle.inode_plan.specs.area_reader.Store.{Store}
+use Rattle.inode_plan.specs.area_reader.Format.{Use}
+use Rattle.inode_plan.specs.area_commit.declared.slots.ChangedSlot.{ChangedSlot}
+use Rattle.inode_plan.specs.area_commit.declared.allocation.Allocation.{Allocation}
+use Rattle.inode_plan.specs.area_commit.Allocations.{taken_data}
 use Rattle.inode_plan.specs.PlannedFile.{pairs_of}
-use Rattle.area_commit.specs.Plan.{WereFree}
-use Rattle.area_commit.proofs.Chosen.{data_has, data_range, node_range}
+use Rattle.inode_plan.specs.area_commit.Plan.{WereFree}
+use Rattle.inode_plan.proofs.area_commit_lemmas.Chosen.{data_has, data_range, node_range}
 use Rattle.change_plan.specs.Directory.{AreOfOthers}
 use Rattle.change_plan.specs.First.{PlansFirst}
 use Rattle.change_plan.specs.declared.partial_plan.PartialPlan.{PartialPlan}

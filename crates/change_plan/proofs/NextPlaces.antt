@@ -7,16 +7,16 @@ use Rattle.std.proofs.lemmas.List.{take-append-drop, drop-map, length-map, lengt
 use Rattle.std.proofs.lemmas.List.Elements.{Contains-get_or}
 use Rattle.tier_device.specs.declared.media.Tier.{Tier}
 use Rattle.tier_device.specs.declared.media.Tier.TheVariants as tiers
-use Rattle.graph_change.specs.Change.{Change}
-use Rattle.layout.specs.Places.{Sizes, IsAllowed, data_first, tier_blocks, is_data}
-use Rattle.extent_tree.specs.declared.map.Place.{Place}
-use Rattle.area_reader.specs.Store.{Store}
-use Rattle.area_commit.specs.declared.allocation.Allocation.{Allocation}
-use Rattle.area_commit.specs.Allocations.{taken_data}
+use Rattle.inode_plan.specs.graph_change.Change.{Change}
+use Rattle.inode_plan.specs.layout.Places.{Sizes, IsAllowed, data_first, tier_blocks, is_data}
+use Rattle.inode_plan.specs.extent_tree.declared.map.Place.{Place}
+use Rattle.inode_plan.specs.area_reader.Store.{Store}
+use Rattle.inode_plan.specs.area_commit.declared.allocation.Allocation.{Allocation}
+use Rattle.inode_plan.specs.area_commit.Allocations.{taken_data}
 use Rattle.inode_plan.specs.PlacedFile.{nth_place}
 use Rattle.inode_plan.specs.PlannedFile.{pair_of, pairs_of}
-use Rattle.area_commit.specs.Plan.{WereFree}
-use Rattle.area_commit.proofs.Chosen.{data_has, data_range}
+use Rattle.inode_plan.specs.area_commit.Plan.{WereFree}
+use Rattle.inode_plan.proofs.area_commit_lemmas.Chosen.{data_has, data_range}
 use Rattle.change_plan.specs.File.{AreFreePlaces}
 use Rattle.change_plan.specs.Next.{WantsData, HasPlaces}
 use Rattle.change_plan.proofs.Firsts.{Once, in_drop, data_once, data_free}

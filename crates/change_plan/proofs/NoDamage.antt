@@ -4,16 +4,16 @@ use Rattle.std.specs.Prelude.{IsSome}
 use Rattle.std.proofs.lemmas.Bool.{false≢true}
 use Rattle.tier_device.specs.declared.media.Tier.{Tier}
 use Rattle.tier_device.specs.declared.media.Tier.TheVariants as tiers
-use Rattle.layout.specs.Places.{Sizes, slot_block}
-use Rattle.layout.specs.declared.slot.Slot.{Slot}
-use Rattle.area_reader.specs.Damage.{OnDamage}
-use Rattle.area_reader.specs.Map.{HasNoExtents}
-use Rattle.area_reader.specs.Format.{SpellsInode}
-use Rattle.area_reader.specs.Store.{Store, slot_read, extents_read, extents_by}
-use Rattle.area_reader.specs.declared.error.AreaError.{AreaError}
-use Rattle.area_reader.specs.declared.error.AreaError.TheVariants as errors
-use Rattle.layout.specs.declared.error.What.TheVariants as what
-use Rattle.area_reader.proofs.Parts.{slot_as}
+use Rattle.inode_plan.specs.layout.Places.{Sizes, slot_block}
+use Rattle.inode_plan.specs.layout.declared.slot.Slot.{Slot}
+use Rattle.inode_plan.specs.area_reader.Damage.{OnDamage}
+use Rattle.inode_plan.specs.area_reader.Map.{HasNoExtents}
+use Rattle.inode_plan.specs.area_reader.Format.{SpellsInode}
+use Rattle.inode_plan.specs.area_reader.Store.{Store, slot_read, extents_read, extents_by}
+use Rattle.inode_plan.specs.area_reader.declared.error.AreaError.{AreaError}
+use Rattle.inode_plan.specs.area_reader.declared.error.AreaError.TheVariants as errors
+use Rattle.inode_plan.specs.layout.declared.error.What.TheVariants as what
+use Rattle.inode_plan.proofs.area_reader_lemmas.Parts.{slot_as}
 
 extents_here : (g : Sizes) (s : Store) (i : ℕ) (x : Slot) (t : Tier) → slot_read g s i ≡ Some x → extents_read g s i t ≡ extents_by g (s tiers.Fast) i x t
 unfolding extents_read

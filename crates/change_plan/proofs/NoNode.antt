@@ -6,16 +6,16 @@ use Rattle.std.proofs.lemmas.Bool.{false≢true}
 use Rattle.std.proofs.lemmas.Option.{none-some}
 use Rattle.tier_device.specs.declared.media.Tier.{Tier}
 use Rattle.tier_device.specs.declared.media.Tier.TheVariants as tiers
-use Rattle.file_graph.specs.declared.effect.Kind.TheVariants as kind
-use Rattle.graph_change.specs.Change.{Change}
-use Rattle.layout.specs.declared.slot.Slot.TheVariants as slots
-use Rattle.layout.specs.Places.{Sizes}
-use Rattle.tree_blocks.specs.After.{start_node}
-use Rattle.extent_tree.specs.Normal.{IsNormal}
-use Rattle.extent_tree.specs.Map.{runs_in, lies_at}
-use Rattle.area_reader.specs.Store.{Store, inode}
-use Rattle.area_commit.specs.InodeRewrite.{IsFit, block_by}
-use Rattle.area_commit.specs.declared.plan.FreedBlocks.{FreedBlocks}
+use Rattle.inode_plan.specs.file_graph.declared.effect.Kind.TheVariants as kind
+use Rattle.inode_plan.specs.graph_change.Change.{Change}
+use Rattle.inode_plan.specs.layout.declared.slot.Slot.TheVariants as slots
+use Rattle.inode_plan.specs.layout.Places.{Sizes}
+use Rattle.inode_plan.specs.tree_blocks.After.{start_node}
+use Rattle.inode_plan.specs.extent_tree.Normal.{IsNormal}
+use Rattle.inode_plan.specs.extent_tree.Map.{runs_in, lies_at}
+use Rattle.inode_plan.specs.area_reader.Store.{Store, inode}
+use Rattle.inode_plan.specs.area_commit.InodeRewrite.{IsFit, block_by}
+use Rattle.inode_plan.specs.area_commit.declared.plan.FreedBlocks.{FreedBlocks}
 use Rattle.change_plan.specs.Part.{IsPart, IsIn}
 use Rattle.change_plan.specs.PlanAddition.{GivesAll, no_runs}
 use Rattle.change_plan.specs.Directory.{of_nodes}

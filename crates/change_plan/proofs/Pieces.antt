@@ -11,15 +11,15 @@ use Rattle.tier_device.specs.declared.media.Tier.{Tier}
 use Rattle.tier_device.specs.declared.media.Tier.TheVariants.{Fast, Block, Slow}
 use Rattle.block_alloc.specs.declared.runs.Run.{Run}
 use Rattle.block_alloc.specs.Runs.{run_blocks, blocks_of}
-use Rattle.batch_journal.specs.Images.{slice}
-use Rattle.area_reader.specs.Store.{Store}
-use Rattle.area_commit.specs.declared.slots.ChangedSlot.{ChangedSlot}
-use Rattle.area_commit.specs.Slots.{RiseIn}
-use Rattle.area_commit.specs.DataWrite.{block_at, HoldData}
-use Rattle.area_commit.proofs.Members.{cons_cases, cons_here, nothing}
-use Rattle.area_commit.specs.declared.plan.FreedBlocks.{FreedBlocks}
-use Rattle.area_commit.specs.Plan.{lost_in, is_changed}
-use Rattle.area_commit.proofs.Chosen.{changed_has, has_changed}
+use Rattle.inode_plan.specs.batch_journal.Images.{slice}
+use Rattle.inode_plan.specs.area_reader.Store.{Store}
+use Rattle.inode_plan.specs.area_commit.declared.slots.ChangedSlot.{ChangedSlot}
+use Rattle.inode_plan.specs.area_commit.Slots.{RiseIn}
+use Rattle.inode_plan.specs.area_commit.DataWrite.{block_at, HoldData}
+use Rattle.inode_plan.proofs.area_commit_lemmas.Members.{cons_cases, cons_here, nothing}
+use Rattle.inode_plan.specs.area_commit.declared.plan.FreedBlocks.{FreedBlocks}
+use Rattle.inode_plan.specs.area_commit.Plan.{lost_in, is_changed}
+use Rattle.inode_plan.proofs.area_commit_lemmas.Chosen.{changed_has, has_changed}
 use Rattle.change_plan.specs.Part.{Share, IsIn}
 use Rattle.change_plan.specs.Parts.{LoseBoth, with_at, both}
 

@@ -6,26 +6,26 @@ use Rattle.std.proofs.lemmas.Bool.{eq-eqb, eqb-true, and_parts, ltb-true}
 use Rattle.std.proofs.lemmas.Option.{none-some}
 use Rattle.tier_device.specs.declared.media.Tier.{Tier}
 use Rattle.tier_device.specs.declared.media.Tier.TheVariants.{Fast}
-use Rattle.file_graph.specs.declared.effect.Kind.{Kind}
-use Rattle.file_graph.specs.declared.effect.Kind.TheVariants as kind
-use Rattle.graph_change.specs.Change.{Change}
-use Rattle.graph_change.specs.Net.{Base, Kept, Made, Gone}
-use Rattle.layout.specs.declared.slot.Slot.TheVariants as slots
-use Rattle.layout.specs.Places.{Sizes, is_node, node_end, data_first}
+use Rattle.inode_plan.specs.file_graph.declared.effect.Kind.{Kind}
+use Rattle.inode_plan.specs.file_graph.declared.effect.Kind.TheVariants as kind
+use Rattle.inode_plan.specs.graph_change.Change.{Change}
+use Rattle.inode_plan.specs.graph_change.Net.{Base, Kept, Made, Gone}
+use Rattle.inode_plan.specs.layout.declared.slot.Slot.TheVariants as slots
+use Rattle.inode_plan.specs.layout.Places.{Sizes, is_node, node_end, data_first}
 use Rattle.block_alloc.specs.declared.runs.Run.{Run}
 use Rattle.block_alloc.specs.Runs.{blocks_of}
 use Rattle.block_alloc.specs.Value.{FreeBlocks}
-use Rattle.batch_journal.specs.Images.{image_for, with_images}
-use Rattle.extent_tree.specs.Map.{TierRuns, runs_in}
-use Rattle.area_reader.specs.Store.{Store, root_of, touch_of}
-use Rattle.area_reader.specs.Format.{Use, used_block}
-use Rattle.area_commit.specs.InodeRewrite.{IsFit, IsListed, block_by}
-use Rattle.area_commit.specs.InodeChange.{IsDirectoryWritten}
-use Rattle.area_commit.specs.Batches.{AreNodes}
-use Rattle.area_commit.specs.Release.{AreUsed, IsInUse}
-use Rattle.area_commit.specs.declared.plan.FreedBlocks.{FreedBlocks}
-use Rattle.area_commit.specs.Plan.{Loses, IsLost, LieApart, HoldLost}
-use Rattle.area_commit.proofs.Chosen.{no_use}
+use Rattle.inode_plan.specs.batch_journal.Images.{image_for, with_images}
+use Rattle.inode_plan.specs.extent_tree.Map.{TierRuns, runs_in}
+use Rattle.inode_plan.specs.area_reader.Store.{Store, root_of, touch_of}
+use Rattle.inode_plan.specs.area_reader.Format.{Use, used_block}
+use Rattle.inode_plan.specs.area_commit.InodeRewrite.{IsFit, IsListed, block_by}
+use Rattle.inode_plan.specs.area_commit.InodeChange.{IsDirectoryWritten}
+use Rattle.inode_plan.specs.area_commit.Batches.{AreNodes}
+use Rattle.inode_plan.specs.area_commit.Release.{AreUsed, IsInUse}
+use Rattle.inode_plan.specs.area_commit.declared.plan.FreedBlocks.{FreedBlocks}
+use Rattle.inode_plan.specs.area_commit.Plan.{Loses, IsLost, LieApart, HoldLost}
+use Rattle.inode_plan.proofs.area_commit_lemmas.Chosen.{no_use}
 use Rattle.inode_plan.specs.PlannedDirectory.{IsPlannedFrom, StandThere, on_fast}
 use Rattle.inode_plan.specs.DirectoryStart.{use_from}
 use Rattle.inode_plan.specs.declared.directory_start.StartedDirectory.{StartedDirectory}

@@ -5,22 +5,22 @@ use Rattle.std.specs.Prelude.{IfSome}
 use Rattle.std.proofs.lemmas.List.{get_or-take, length-take-le}
 use Rattle.tier_device.specs.declared.media.Tier.{Tier}
 use Rattle.tier_device.specs.declared.media.Tier.TheVariants as tiers
-use Rattle.file_graph.specs.declared.effect.Kind.{Kind}
-use Rattle.file_graph.specs.declared.effect.Kind.TheVariants as kind
-use Rattle.graph_change.specs.Change.{Change}
-use Rattle.graph_change.specs.Net.{Base, Made}
-use Rattle.layout.specs.declared.slot.Slot.{Slot}
-use Rattle.layout.specs.declared.slot.Slot.TheVariants as slots
-use Rattle.layout.specs.Extents.{ExtentList}
-use Rattle.layout.specs.Places.{Sizes, is_data}
-use Rattle.extent_tree.specs.Map.{TierRuns, runs_in, lies_at}
-use Rattle.extent_tree.specs.declared.map.Place.{Place}
-use Rattle.tree_blocks.specs.After.{start_node}
-use Rattle.tree_blocks.specs.Inode.{LogicalBlocks, Inode, inode_of}
-use Rattle.area_reader.specs.Reads.{Free}
-use Rattle.area_reader.specs.Store.{Store, slot_read, logical_block, inode}
-use Rattle.area_reader.proofs.Parts.{slot_as}
-use Rattle.area_commit.specs.InodeChange.{places_from}
+use Rattle.inode_plan.specs.file_graph.declared.effect.Kind.{Kind}
+use Rattle.inode_plan.specs.file_graph.declared.effect.Kind.TheVariants as kind
+use Rattle.inode_plan.specs.graph_change.Change.{Change}
+use Rattle.inode_plan.specs.graph_change.Net.{Base, Made}
+use Rattle.inode_plan.specs.layout.declared.slot.Slot.{Slot}
+use Rattle.inode_plan.specs.layout.declared.slot.Slot.TheVariants as slots
+use Rattle.inode_plan.specs.layout.Extents.{ExtentList}
+use Rattle.inode_plan.specs.layout.Places.{Sizes, is_data}
+use Rattle.inode_plan.specs.extent_tree.Map.{TierRuns, runs_in, lies_at}
+use Rattle.inode_plan.specs.extent_tree.declared.map.Place.{Place}
+use Rattle.inode_plan.specs.tree_blocks.After.{start_node}
+use Rattle.inode_plan.specs.tree_blocks.Inode.{LogicalBlocks, Inode, inode_of}
+use Rattle.inode_plan.specs.area_reader.Reads.{Free}
+use Rattle.inode_plan.specs.area_reader.Store.{Store, slot_read, logical_block, inode}
+use Rattle.inode_plan.proofs.area_reader_lemmas.Parts.{slot_as}
+use Rattle.inode_plan.specs.area_commit.InodeChange.{places_from}
 use Rattle.inode_plan.specs.Lists.{IsListOf}
 use Rattle.inode_plan.specs.BlockWrites.{AreNumbers}
 use Rattle.inode_plan.specs.PlacedFile.{nth_place}

@@ -3,16 +3,16 @@ use Rattle.std.proofs.Common.{◌≡◌, ◌<◌, ◌+◌, ◌∙◌, ℕ, zero,
 use Rattle.std.specs.List.{Contains}
 use Rattle.std.specs.FinMap as fin
 use Rattle.std.proofs.lemmas.List.{map-append}
-use Rattle.graph_change.specs.Bounds.{AreBounded}
-use Rattle.graph_change.specs.Change.{Change, Changes}
-use Rattle.graph_change.specs.View.{change_of}
-use Rattle.graph_change.specs.declared.node_change.NodeChange.{NodeChange}
-use Rattle.layout.specs.declared.slot.Slot.{Slot}
-use Rattle.layout.specs.Places.{Sizes, is_inode}
-use Rattle.layout.specs.Slot.{fits_slot}
-use Rattle.area_reader.specs.Store.{Store, slot_read}
-use Rattle.area_commit.specs.declared.slots.ChangedSlot.{ChangedSlot}
-use Rattle.area_commit.proofs.Members.{cons_here, cons_there}
+use Rattle.inode_plan.specs.graph_change.Bounds.{AreBounded}
+use Rattle.inode_plan.specs.graph_change.Change.{Change, Changes}
+use Rattle.inode_plan.specs.graph_change.View.{change_of}
+use Rattle.inode_plan.specs.graph_change.declared.node_change.NodeChange.{NodeChange}
+use Rattle.inode_plan.specs.layout.declared.slot.Slot.{Slot}
+use Rattle.inode_plan.specs.layout.Places.{Sizes, is_inode}
+use Rattle.inode_plan.specs.layout.Slot.{fits_slot}
+use Rattle.inode_plan.specs.area_reader.Store.{Store, slot_read}
+use Rattle.inode_plan.specs.area_commit.declared.slots.ChangedSlot.{ChangedSlot}
+use Rattle.inode_plan.proofs.area_commit_lemmas.Members.{cons_here, cons_there}
 use Rattle.change_plan.specs.ReadSlots.{HasSlot, HaveSlots}
 use Rattle.change_plan.proofs.Climbs.{seen_as, has_here}
 use Rattle.change_plan.proofs.Walked.{inodes_of}

@@ -6,17 +6,17 @@ use Rattle.std.proofs.lemmas.Bool.{cases_lt, cases_eq, ne_eqb, lt-ltb, le-leb, a
 use Rattle.std.proofs.lemmas.List.{length-append, length-take-le, get_or-take, get_or_default, get_or_append_left, get_or-append_right}
 use Rattle.std.proofs.lemmas.List.Elements.{Contains-append_right}
 use Rattle.tier_device.specs.declared.media.Tier.TheVariants.{Fast}
-use Rattle.graph_change.specs.Change.{Change}
-use Rattle.layout.specs.Places.{Sizes, IsAllowed, is_node, node_end}
+use Rattle.inode_plan.specs.graph_change.Change.{Change}
+use Rattle.inode_plan.specs.layout.Places.{Sizes, IsAllowed, is_node, node_end}
 use Rattle.block_alloc.specs.Runs.{Rising, blocks_of}
-use Rattle.batch_journal.specs.Images.{image_for}
-use Rattle.area_reader.specs.Store.{Store}
-use Rattle.area_reader.specs.Reads.{Free}
-use Rattle.area_reader.specs.Format.{Use, used_block, IsSpelled}
-use Rattle.area_commit.specs.Value.{PoolsView}
-use Rattle.area_commit.specs.declared.allocation.Allocation.{Allocation}
-use Rattle.area_commit.proofs.Chosen.{no_use}
-use Rattle.area_commit.proofs.Returned.{were_free}
+use Rattle.inode_plan.specs.batch_journal.Images.{image_for}
+use Rattle.inode_plan.specs.area_reader.Store.{Store}
+use Rattle.inode_plan.specs.area_reader.Reads.{Free}
+use Rattle.inode_plan.specs.area_reader.Format.{Use, used_block, IsSpelled}
+use Rattle.inode_plan.specs.area_commit.Value.{PoolsView}
+use Rattle.inode_plan.specs.area_commit.declared.allocation.Allocation.{Allocation}
+use Rattle.inode_plan.proofs.area_commit_lemmas.Chosen.{no_use}
+use Rattle.inode_plan.proofs.area_commit_lemmas.Returned.{were_free}
 use Rattle.inode_plan.specs.Blocks.{nth_block, HaveOwnPlaces, use_of, use_on_fast}
 use Rattle.inode_plan.specs.PlannedDirectory.{HaveNoImage}
 use Rattle.inode_plan.specs.Spare.{spares_for, CanBeWritten, AreSpares}

@@ -6,12 +6,12 @@ use Rattle.std.proofs.lemmas.List.{append_assoc, length-map}
 use Rattle.tier_device.specs.declared.media.Tier.{Tier}
 use Rattle.tier_device.specs.declared.media.Tier.TheVariants.{Fast, Block, Slow}
 use Rattle.block_alloc.specs.declared.runs.Run.{Run}
-use Rattle.layout.specs.Places.{Sizes, IsAllowed, tier_blocks}
+use Rattle.inode_plan.specs.layout.Places.{Sizes, IsAllowed, tier_blocks}
 use Rattle.block_alloc.specs.Runs.{AreNormalRuns}
-use Rattle.extent_tree.specs.declared.map.Place.{Place}
-use Rattle.area_commit.specs.Value.{PoolsView, data_pool, HasRanges}
-use Rattle.area_commit.specs.declared.allocation.Allocation.{Allocation}
-use Rattle.area_commit.specs.Allocations.{runs_of, tier_places, taken_data, WereTaken}
+use Rattle.inode_plan.specs.extent_tree.declared.map.Place.{Place}
+use Rattle.inode_plan.specs.area_commit.Value.{PoolsView, data_pool, HasRanges}
+use Rattle.inode_plan.specs.area_commit.declared.allocation.Allocation.{Allocation}
+use Rattle.inode_plan.specs.area_commit.Allocations.{runs_of, tier_places, taken_data, WereTaken}
 use Rattle.inode_plan.specs.PlannedFile.{pair_of, pairs_of}
 use Rattle.inode_plan.specs.RunPlaces.{EndsFit}
 

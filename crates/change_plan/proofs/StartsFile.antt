@@ -5,26 +5,26 @@ use Rattle.std.proofs.lemmas.Bool.{cases_lt, false≢true}
 use Rattle.std.proofs.lemmas.Option.{none-some}
 use Rattle.tier_device.specs.declared.media.Tier.{Tier}
 use Rattle.tier_device.specs.declared.media.Tier.TheVariants as tiers
-use Rattle.file_graph.specs.declared.effect.Kind.TheVariants as kind
-use Rattle.graph_change.specs.Net.{Kept, Made}
-use Rattle.layout.specs.declared.geometry.Space.{Space}
-use Rattle.layout.specs.declared.geometry.Space.TheVariants as space
-use Rattle.layout.specs.declared.slot.Slot.{Slot}
-use Rattle.layout.specs.declared.slot.Slot.TheVariants as slots
-use Rattle.layout.specs.Places.{Sizes}
-use Rattle.extent_tree.specs.Places.{place_of}
-use Rattle.extent_tree.specs.BlockFormat.{LiesWithin}
-use Rattle.extent_tree.specs.Map.{TierRuns, runs_in, lies_at}
-use Rattle.tree_blocks.specs.Inode.{LogicalBlocks, inode_of}
-use Rattle.area_reader.specs.declared.error.AreaError.{AreaError}
-use Rattle.area_reader.specs.declared.error.AreaError.TheVariants as errors
-use Rattle.area_reader.specs.Damage.{OnDamage}
-use Rattle.area_reader.specs.Map.{HasNoExtents}
-use Rattle.area_reader.specs.Store.{Store, slot, slot_read, length_of, space_of, extents_read, extents_by, place, logical_block, inode}
-use Rattle.area_reader.specs.Format.{SpellsInode}
-use Rattle.area_reader.proofs.Apart.{place_once}
-use Rattle.area_reader.proofs.Parts.{slot_as}
-use Rattle.area_reader.proofs.Tails.{place_past}
+use Rattle.inode_plan.specs.file_graph.declared.effect.Kind.TheVariants as kind
+use Rattle.inode_plan.specs.graph_change.Net.{Kept, Made}
+use Rattle.inode_plan.specs.layout.declared.geometry.Space.{Space}
+use Rattle.inode_plan.specs.layout.declared.geometry.Space.TheVariants as space
+use Rattle.inode_plan.specs.layout.declared.slot.Slot.{Slot}
+use Rattle.inode_plan.specs.layout.declared.slot.Slot.TheVariants as slots
+use Rattle.inode_plan.specs.layout.Places.{Sizes}
+use Rattle.inode_plan.specs.extent_tree.Places.{place_of}
+use Rattle.inode_plan.specs.extent_tree.BlockFormat.{LiesWithin}
+use Rattle.inode_plan.specs.extent_tree.Map.{TierRuns, runs_in, lies_at}
+use Rattle.inode_plan.specs.tree_blocks.Inode.{LogicalBlocks, inode_of}
+use Rattle.inode_plan.specs.area_reader.declared.error.AreaError.{AreaError}
+use Rattle.inode_plan.specs.area_reader.declared.error.AreaError.TheVariants as errors
+use Rattle.inode_plan.specs.area_reader.Damage.{OnDamage}
+use Rattle.inode_plan.specs.area_reader.Map.{HasNoExtents}
+use Rattle.inode_plan.specs.area_reader.Store.{Store, slot, slot_read, length_of, space_of, extents_read, extents_by, place, logical_block, inode}
+use Rattle.inode_plan.specs.area_reader.Format.{SpellsInode}
+use Rattle.inode_plan.proofs.area_reader_lemmas.Apart.{place_once}
+use Rattle.inode_plan.proofs.area_reader_lemmas.Parts.{slot_as}
+use Rattle.inode_plan.proofs.area_reader_lemmas.Tails.{place_past}
 use Rattle.inode_plan.specs.Lists.{LieAsIn}
 use Rattle.change_plan.specs.File.{IsOldMap}
 

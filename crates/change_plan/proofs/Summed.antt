@@ -6,26 +6,26 @@ use Rattle.std.proofs.lemmas.Bool.{and_parts, leb-true, false≢true}
 use Rattle.std.proofs.lemmas.List.Elements.{Contains-append_left, Contains-append_right}
 use Rattle.tier_device.specs.declared.media.Tier.{Tier}
 use Rattle.tier_device.specs.declared.media.Tier.TheVariants.{Fast, Block, Slow}
-use Rattle.graph_change.specs.Change.{Changes, change_at}
-use Rattle.layout.specs.declared.slot.Slot.{Slot}
-use Rattle.layout.specs.Marks.{fits_marks}
-use Rattle.layout.specs.Places.{Sizes, is_node, is_data, data_first, tier_blocks}
+use Rattle.inode_plan.specs.graph_change.Change.{Changes, change_at}
+use Rattle.inode_plan.specs.layout.declared.slot.Slot.{Slot}
+use Rattle.inode_plan.specs.layout.Marks.{fits_marks}
+use Rattle.inode_plan.specs.layout.Places.{Sizes, is_node, is_data, data_first, tier_blocks}
 use Rattle.block_alloc.specs.Runs.{blocks_of}
-use Rattle.batch_journal.specs.Images.{image_for, or_else, with_images}
-use Rattle.extent_tree.specs.Map.{TierRuns}
-use Rattle.area_reader.specs.Store.{Store, place}
-use Rattle.area_reader.specs.Reads.{first_room, Free}
-use Rattle.area_reader.specs.Format.{Use}
-use Rattle.area_commit.specs.StoreRewrite.{HasBlockFor}
-use Rattle.area_commit.specs.Value.{on_tier}
-use Rattle.area_commit.specs.declared.allocation.Allocation.{Allocation}
-use Rattle.area_commit.specs.Allocations.{taken_data, runs_of}
-use Rattle.area_commit.proofs.Members.{cons_cases, cons_here, cons_there, nothing}
-use Rattle.area_commit.specs.BlockExchange.{BlockIsTaken}
-use Rattle.area_commit.specs.declared.plan.Rewrite.{Rewrite}
-use Rattle.area_commit.specs.Plan.{WereFree, IsPlannedInode, IsPlanned, is_rewritten}
-use Rattle.area_commit.specs.PlanOutcome.{IsCarriedOut}
-use Rattle.area_commit.proofs.Chosen.{no_use, node_range, node_room, data_has, data_range}
+use Rattle.inode_plan.specs.batch_journal.Images.{image_for, or_else, with_images}
+use Rattle.inode_plan.specs.extent_tree.Map.{TierRuns}
+use Rattle.inode_plan.specs.area_reader.Store.{Store, place}
+use Rattle.inode_plan.specs.area_reader.Reads.{first_room, Free}
+use Rattle.inode_plan.specs.area_reader.Format.{Use}
+use Rattle.inode_plan.specs.area_commit.StoreRewrite.{HasBlockFor}
+use Rattle.inode_plan.specs.area_commit.Value.{on_tier}
+use Rattle.inode_plan.specs.area_commit.declared.allocation.Allocation.{Allocation}
+use Rattle.inode_plan.specs.area_commit.Allocations.{taken_data, runs_of}
+use Rattle.inode_plan.proofs.area_commit_lemmas.Members.{cons_cases, cons_here, cons_there, nothing}
+use Rattle.inode_plan.specs.area_commit.BlockExchange.{BlockIsTaken}
+use Rattle.inode_plan.specs.area_commit.declared.plan.Rewrite.{Rewrite}
+use Rattle.inode_plan.specs.area_commit.Plan.{WereFree, IsPlannedInode, IsPlanned, is_rewritten}
+use Rattle.inode_plan.specs.area_commit.PlanOutcome.{IsCarriedOut}
+use Rattle.inode_plan.proofs.area_commit_lemmas.Chosen.{no_use, node_range, node_room, data_has, data_range}
 use Rattle.change_plan.specs.Part.{IsIn, IsWrittenFor}
 use Rattle.change_plan.specs.Parts.{ArePut, AreParts, share_of}
 

@@ -7,31 +7,31 @@ use Rattle.std.specs.Cmp.{nat_cmp_total, eq_by_cmp_equiv, unsigned_tied}
 use Rattle.std.specs.FinMap as fin
 use Rattle.std.proofs.lemmas.List.{length-append, length-drop, length-map, map-append}
 use Rattle.std.proofs.lemmas.List.Sums.{sum_by-cons}
-use Rattle.file_graph.specs.declared.effect.Kind.{Kind}
-use Rattle.file_graph.specs.declared.effect.Kind.TheVariants as kind
-use Rattle.graph_change.specs.Bounds.{IsBounded, AreBounded}
-use Rattle.graph_change.specs.Change.{Change, Changes, change_at, changed_graph, net_of}
-use Rattle.graph_change.specs.Net.{node_after}
-use Rattle.graph_change.specs.Tidy.{IsTidyChange, AreTidyChanges}
-use Rattle.graph_change.specs.View.{change_of}
-use Rattle.graph_change.specs.declared.node_change.NodeChange.{NodeChange}
-use Rattle.layout.specs.declared.marks.Marks.{Marks}
-use Rattle.layout.specs.declared.slot.Slot.{Slot}
-use Rattle.layout.specs.Marks.{fits_marks}
-use Rattle.layout.specs.Places.{Sizes, IsAllowed, is_inode}
-use Rattle.layout.specs.Slot.{fits_slot}
-use Rattle.extent_tree.specs.declared.map.Place.{Place}
-use Rattle.tree_blocks.specs.After.{start_node}
-use Rattle.area_reader.specs.Store.{Store, graph, inode, slot_read}
-use Rattle.area_reader.specs.Format.{IsSpelled}
-use Rattle.area_commit.specs.declared.slots.ChangedSlot.{ChangedSlot}
-use Rattle.area_commit.specs.Value.{PoolsView}
-use Rattle.area_commit.specs.declared.allocation.Allocation.{Allocation}
-use Rattle.area_commit.specs.Allocations.{taken_data}
-use Rattle.area_commit.proofs.Members.{cons_here, cons_there}
+use Rattle.inode_plan.specs.file_graph.declared.effect.Kind.{Kind}
+use Rattle.inode_plan.specs.file_graph.declared.effect.Kind.TheVariants as kind
+use Rattle.inode_plan.specs.graph_change.Bounds.{IsBounded, AreBounded}
+use Rattle.inode_plan.specs.graph_change.Change.{Change, Changes, change_at, changed_graph, net_of}
+use Rattle.inode_plan.specs.graph_change.Net.{node_after}
+use Rattle.inode_plan.specs.graph_change.Tidy.{IsTidyChange, AreTidyChanges}
+use Rattle.inode_plan.specs.graph_change.View.{change_of}
+use Rattle.inode_plan.specs.graph_change.declared.node_change.NodeChange.{NodeChange}
+use Rattle.inode_plan.specs.layout.declared.marks.Marks.{Marks}
+use Rattle.inode_plan.specs.layout.declared.slot.Slot.{Slot}
+use Rattle.inode_plan.specs.layout.Marks.{fits_marks}
+use Rattle.inode_plan.specs.layout.Places.{Sizes, IsAllowed, is_inode}
+use Rattle.inode_plan.specs.layout.Slot.{fits_slot}
+use Rattle.inode_plan.specs.extent_tree.declared.map.Place.{Place}
+use Rattle.inode_plan.specs.tree_blocks.After.{start_node}
+use Rattle.inode_plan.specs.area_reader.Store.{Store, graph, inode, slot_read}
+use Rattle.inode_plan.specs.area_reader.Format.{IsSpelled}
+use Rattle.inode_plan.specs.area_commit.declared.slots.ChangedSlot.{ChangedSlot}
+use Rattle.inode_plan.specs.area_commit.Value.{PoolsView}
+use Rattle.inode_plan.specs.area_commit.declared.allocation.Allocation.{Allocation}
+use Rattle.inode_plan.specs.area_commit.Allocations.{taken_data}
+use Rattle.inode_plan.proofs.area_commit_lemmas.Members.{cons_here, cons_there}
 use Rattle.inode_plan.specs.PlannedFile.{pairs_of}
-use Rattle.area_commit.specs.Plan.{WereFree, is_changed}
-use Rattle.area_commit.proofs.Returned.{were_free}
+use Rattle.inode_plan.specs.area_commit.Plan.{WereFree, is_changed}
+use Rattle.inode_plan.proofs.area_commit_lemmas.Returned.{were_free}
 use Rattle.change_plan.specs.PlanAddition.{HasTaken, TakesMoreNodes, AddsPart}
 use Rattle.change_plan.specs.First.{PlansNothing, PlansFirst, IsWhole}
 use Rattle.change_plan.specs.Next.{HasFewEntries, nodes_for, nodes_left, IsNext, HasPlaces, PlansInode}

@@ -3,19 +3,19 @@ use Rattle.std.proofs.Common.{◌≡◌, ◌≤◌, ◌<◌, ◌+◌, ◌*◌, �
 use Rattle.std.specs.List.{Contains}
 use Rattle.std.specs.FinMap as fin
 use Rattle.std.proofs.lemmas.List.{length-map}
-use Rattle.area_commit.proofs.Members.{cons_here, cons_there}
-use Rattle.graph_change.specs.Bounds.{IsBounded, AreBounded}
-use Rattle.graph_change.specs.Bytes.{end}
-use Rattle.graph_change.specs.Change.{Change, Changes, writes_block}
-use Rattle.graph_change.specs.Tidy.{IsTidyChange, AreTidyChanges}
+use Rattle.inode_plan.proofs.area_commit_lemmas.Members.{cons_here, cons_there}
+use Rattle.inode_plan.specs.graph_change.Bounds.{IsBounded, AreBounded}
+use Rattle.inode_plan.specs.graph_change.Bytes.{end}
+use Rattle.inode_plan.specs.graph_change.Change.{Change, Changes, writes_block}
+use Rattle.inode_plan.specs.graph_change.Tidy.{IsTidyChange, AreTidyChanges}
 use Rattle.tier_device.specs.declared.media.Tier.{Tier}
 use Rattle.tier_device.specs.declared.media.Tier.TheVariants as tiers
-use Rattle.layout.specs.Places.{Sizes, is_inode}
-use Rattle.area_reader.specs.Store.{Store}
-use Rattle.area_commit.specs.InodeChange.{is_mapped, places_from, writes_over}
-use Rattle.area_commit.proofs.Holes.{mapped_at, over_written}
+use Rattle.inode_plan.specs.layout.Places.{Sizes, is_inode}
+use Rattle.inode_plan.specs.area_reader.Store.{Store}
+use Rattle.inode_plan.specs.area_commit.InodeChange.{is_mapped, places_from, writes_over}
+use Rattle.inode_plan.proofs.area_commit_lemmas.Holes.{mapped_at, over_written}
 use Rattle.inode_plan.specs.BlockWrites.{AreNumbers}
-use Rattle.area_commit.proofs.Chosen.{inode_range}
+use Rattle.inode_plan.proofs.area_commit_lemmas.Chosen.{inode_range}
 use Rattle.change_plan.specs.Next.{WantsData}
 use Rattle.change_plan.specs.BlockDemand.{WantInTurn, WantsBlocks}
 use Rattle.change_plan.proofs.Climbs.{climb_rising, climb_few, climb_within, change_here, has_here, key_has, keys_climb}

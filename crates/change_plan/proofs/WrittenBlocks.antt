@@ -7,13 +7,13 @@ use Rattle.std.proofs.lemmas.Bool.{ne_eqb}
 use Rattle.std.proofs.lemmas.List.{length-append, length-map}
 use Rattle.std.proofs.lemmas.List.Elements.{Contains-append_cases}
 use Rattle.std.proofs.lemmas.Map.Keys.{IsDistinct-cons}
-use Rattle.file_graph.specs.declared.effect.Kind.TheVariants as kind
-use Rattle.area_commit.proofs.Members.{cons_here, cons_there, nothing}
-use Rattle.graph_change.specs.Change.{Change, Changes, change_at}
-use Rattle.layout.specs.Places.{Sizes}
-use Rattle.tree_blocks.specs.After.{start_node}
-use Rattle.area_reader.specs.Store.{Store, inode}
-use Rattle.area_commit.specs.InodeChange.{places_from, writes_over}
+use Rattle.inode_plan.specs.file_graph.declared.effect.Kind.TheVariants as kind
+use Rattle.inode_plan.proofs.area_commit_lemmas.Members.{cons_here, cons_there, nothing}
+use Rattle.inode_plan.specs.graph_change.Change.{Change, Changes, change_at}
+use Rattle.inode_plan.specs.layout.Places.{Sizes}
+use Rattle.inode_plan.specs.tree_blocks.After.{start_node}
+use Rattle.inode_plan.specs.area_reader.Store.{Store, inode}
+use Rattle.inode_plan.specs.area_commit.InodeChange.{places_from, writes_over}
 use Rattle.change_plan.specs.Next.{WantsData}
 use Rattle.change_plan.specs.BlockDemand.{WantInTurn, WantsBlocks, AreWritten, same_block}
 use Rattle.change_plan.proofs.Climbs.{Climb, climb_low, climb_rising, keys_climb, change_here, mapped_from}

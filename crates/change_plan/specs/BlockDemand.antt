@@ -2,12 +2,12 @@
 use Rattle.std.specs.Prelude.{◌≡◌, ◌+◌, ◌==◌, ◌&&◌, ℕ, List, [], ◌∷◌, true, Bool, Some, length, min}
 use Rattle.std.specs.List.{AllByRecursion, IsDistinct, sum_by}
 use Rattle.std.specs.FinMap as fin
-use Rattle.file_graph.specs.declared.effect.Kind.TheVariants as kind
-use Rattle.graph_change.specs.Change.{Change, Changes, change_at}
-use Rattle.layout.specs.Places.{Sizes}
-use Rattle.tree_blocks.specs.After.{start_node}
-use Rattle.area_reader.specs.Store.{Store, inode}
-use Rattle.area_commit.specs.InodeChange.{places_from, writes_over}
+use Rattle.inode_plan.specs.file_graph.declared.effect.Kind.TheVariants as kind
+use Rattle.inode_plan.specs.graph_change.Change.{Change, Changes, change_at}
+use Rattle.inode_plan.specs.layout.Places.{Sizes}
+use Rattle.inode_plan.specs.tree_blocks.After.{start_node}
+use Rattle.inode_plan.specs.area_reader.Store.{Store, inode}
+use Rattle.inode_plan.specs.area_commit.InodeChange.{places_from, writes_over}
 use Rattle.change_plan.specs.Next.{nodes_for, nodes_left, WantsData}
 
 -- how many images a change takes at most, besides that of the marks: one for the block of each slot, and those of its inodes

@@ -1,9 +1,9 @@
 -- A directory that is changed in memory, with what it was.
 use Rattle.std.specs.Prelude.{◌≤◌, ◌*◌, ℕ, length}
 use Rattle.std.specs.FinMap as fin
-use Rattle.graph_change.specs.Change.{Change}
-use Rattle.layout.specs.Places.{Sizes}
-use Rattle.area_reader.specs.Store.{Store}
+use Rattle.inode_plan.specs.graph_change.Change.{Change}
+use Rattle.inode_plan.specs.layout.Places.{Sizes}
+use Rattle.inode_plan.specs.area_reader.Store.{Store}
 use Rattle.inode_plan.specs.DirectoryStart.{IsStarted, IsSoundStart, IsChanged}
 use Rattle.inode_plan.specs.declared.directory_start.StartedDirectory.{StartedDirectory}
 use Rattle.inode_plan.specs.declared.directory_change.ChangedDirectory.{ChangedDirectory}

@@ -3,32 +3,32 @@ use Rattle.std.specs.Prelude.{◌≡◌, ◌⊎◌, ◌<◌, ◌+◌, ◌-◌, �
 use Rattle.std.specs.List.{AllByRecursion}
 use Rattle.tier_device.specs.declared.media.Tier.{Tier}
 use Rattle.tier_device.specs.declared.media.Tier.TheVariants as tiers
-use Rattle.file_graph.specs.declared.effect.Kind.TheVariants as kind
-use Rattle.graph_change.specs.Bounds.{IsBounded}
-use Rattle.graph_change.specs.Bytes.{length_after}
-use Rattle.graph_change.specs.Change.{Change}
-use Rattle.graph_change.specs.Net.{Base, Kept, Made, Gone, names_after}
-use Rattle.graph_change.specs.Tidy.{IsTidyChange}
-use Rattle.layout.specs.declared.places.TheConstants.{BLOCK}
-use Rattle.layout.specs.declared.geometry.Space.TheVariants as space
-use Rattle.layout.specs.declared.slot.Slot.{Slot}
-use Rattle.layout.specs.declared.slot.Slot.TheVariants as slots
-use Rattle.layout.specs.Places.{Sizes, node_end}
-use Rattle.layout.specs.Slot.{fits_slot}
+use Rattle.inode_plan.specs.file_graph.declared.effect.Kind.TheVariants as kind
+use Rattle.inode_plan.specs.graph_change.Bounds.{IsBounded}
+use Rattle.inode_plan.specs.graph_change.Bytes.{length_after}
+use Rattle.inode_plan.specs.graph_change.Change.{Change}
+use Rattle.inode_plan.specs.graph_change.Net.{Base, Kept, Made, Gone, names_after}
+use Rattle.inode_plan.specs.graph_change.Tidy.{IsTidyChange}
+use Rattle.inode_plan.specs.layout.declared.places.TheConstants.{BLOCK}
+use Rattle.inode_plan.specs.layout.declared.geometry.Space.TheVariants as space
+use Rattle.inode_plan.specs.layout.declared.slot.Slot.{Slot}
+use Rattle.inode_plan.specs.layout.declared.slot.Slot.TheVariants as slots
+use Rattle.inode_plan.specs.layout.Places.{Sizes, node_end}
+use Rattle.inode_plan.specs.layout.Slot.{fits_slot}
 use Rattle.block_alloc.specs.Runs.{blocks_of}
-use Rattle.extent_tree.specs.Normal.{IsNormal}
-use Rattle.extent_tree.specs.BlockFormat.{LiesWithin, IsOneToOne}
-use Rattle.extent_tree.specs.Map.{TierRuns, runs_in, lies_at, LieOnce, LieBelow, HasBlock}
-use Rattle.extent_tree.specs.declared.map.Place.{Place}
-use Rattle.tree_blocks.specs.After.{start_node}
-use Rattle.area_reader.specs.Store.{Store, slot, touch_of, inode}
-use Rattle.area_reader.specs.Reads.{Free}
-use Rattle.area_reader.specs.declared.tiers.InodeExtents.{InodeExtents}
-use Rattle.area_commit.specs.InodeChange.{IsFileSlot}
-use Rattle.area_commit.specs.Lists.{PutsLists}
+use Rattle.inode_plan.specs.extent_tree.Normal.{IsNormal}
+use Rattle.inode_plan.specs.extent_tree.BlockFormat.{LiesWithin, IsOneToOne}
+use Rattle.inode_plan.specs.extent_tree.Map.{TierRuns, runs_in, lies_at, LieOnce, LieBelow, HasBlock}
+use Rattle.inode_plan.specs.extent_tree.declared.map.Place.{Place}
+use Rattle.inode_plan.specs.tree_blocks.After.{start_node}
+use Rattle.inode_plan.specs.area_reader.Store.{Store, slot, touch_of, inode}
+use Rattle.inode_plan.specs.area_reader.Reads.{Free}
+use Rattle.inode_plan.specs.area_reader.declared.tiers.InodeExtents.{InodeExtents}
+use Rattle.inode_plan.specs.area_commit.InodeChange.{IsFileSlot}
+use Rattle.inode_plan.specs.area_commit.Lists.{PutsLists}
 use Rattle.inode_plan.specs.Lists.{AreListsOf, roots_left}
-use Rattle.area_commit.specs.declared.plan.FreedBlocks.{FreedBlocks}
-use Rattle.area_commit.specs.Plan.{LieApart, lost_in}
+use Rattle.inode_plan.specs.area_commit.declared.plan.FreedBlocks.{FreedBlocks}
+use Rattle.inode_plan.specs.area_commit.Plan.{LieApart, lost_in}
 use Rattle.inode_plan.specs.PlacedFile.{nth_place}
 use Rattle.inode_plan.specs.BlockWrites.{AreNumbers}
 use Rattle.inode_plan.specs.Bytes.{HoldsBlocks}

@@ -3,15 +3,15 @@ use Rattle.std.specs.Prelude.{◌≡◌, ◌<◌, ◌⊎◌, ◌↔◌, ℕ, Lis
 use Rattle.std.specs.List.{Contains}
 use Rattle.tier_device.specs.declared.media.Tier.{Tier}
 use Rattle.tier_device.specs.declared.media.Tier.TheVariants.{Fast}
-use Rattle.file_graph.specs.declared.effect.Kind.TheVariants as kind
-use Rattle.graph_change.specs.Change.{Change, Changes, change_at}
-use Rattle.layout.specs.Places.{Sizes}
-use Rattle.extent_tree.specs.Map.{TierRuns, lies_at}
-use Rattle.tree_blocks.specs.After.{start_node}
-use Rattle.tree_blocks.specs.FileBlock.{is_cut_off}
-use Rattle.area_reader.specs.Store.{Store, place, inode}
-use Rattle.area_commit.specs.InodeChange.{place_from, places_from, writes_over}
-use Rattle.area_commit.specs.Value.{PoolsView, free_data, AreInOrder, HasRanges, AreFree}
+use Rattle.inode_plan.specs.file_graph.declared.effect.Kind.TheVariants as kind
+use Rattle.inode_plan.specs.graph_change.Change.{Change, Changes, change_at}
+use Rattle.inode_plan.specs.layout.Places.{Sizes}
+use Rattle.inode_plan.specs.extent_tree.Map.{TierRuns, lies_at}
+use Rattle.inode_plan.specs.tree_blocks.After.{start_node}
+use Rattle.inode_plan.specs.tree_blocks.FileBlock.{is_cut_off}
+use Rattle.inode_plan.specs.area_reader.Store.{Store, place, inode}
+use Rattle.inode_plan.specs.area_commit.InodeChange.{place_from, places_from, writes_over}
+use Rattle.inode_plan.specs.area_commit.Value.{PoolsView, free_data, AreInOrder, HasRanges, AreFree}
 use Rattle.inode_plan.specs.PlacedFile.{nth_number}
 use Rattle.inode_plan.specs.BlockWrites.{AreNumbers}
 

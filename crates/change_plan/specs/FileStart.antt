@@ -2,27 +2,27 @@
 use Rattle.std.specs.Prelude.{◌≡◌, ◌⊎◌, ℕ, List, Some, IfSome, true}
 use Rattle.std.specs.List.{AllByRecursion}
 use Rattle.tier_device.specs.declared.media.Tier.{Tier}
-use Rattle.file_graph.specs.declared.effect.Kind.TheVariants as kind
-use Rattle.graph_change.specs.Change.{Change}
-use Rattle.graph_change.specs.Bytes.{length_after}
-use Rattle.graph_change.specs.Net.{Base, Kept, Made, names_after}
-use Rattle.layout.specs.Places.{Sizes}
-use Rattle.layout.specs.declared.slot.Slot.{Slot}
-use Rattle.layout.specs.Slot.{fits_slot}
+use Rattle.inode_plan.specs.file_graph.declared.effect.Kind.TheVariants as kind
+use Rattle.inode_plan.specs.graph_change.Change.{Change}
+use Rattle.inode_plan.specs.graph_change.Bytes.{length_after}
+use Rattle.inode_plan.specs.graph_change.Net.{Base, Kept, Made, names_after}
+use Rattle.inode_plan.specs.layout.Places.{Sizes}
+use Rattle.inode_plan.specs.layout.declared.slot.Slot.{Slot}
+use Rattle.inode_plan.specs.layout.Slot.{fits_slot}
 use Rattle.block_alloc.specs.declared.runs.Run.{Run}
 use Rattle.block_alloc.specs.Runs.{blocks_of}
-use Rattle.extent_tree.specs.Normal.{IsNormal}
-use Rattle.extent_tree.specs.Map.{TierRuns, runs_in, HasBlock}
-use Rattle.extent_tree.specs.declared.map.Place.{Place}
-use Rattle.tree_blocks.specs.After.{start_node}
-use Rattle.tree_blocks.specs.Inode.{LogicalBlocks, inode_of}
-use Rattle.area_reader.specs.Store.{Store, slot, touch_of, logical_block, inode}
-use Rattle.area_reader.specs.Checks.{HasFound}
-use Rattle.area_commit.specs.InodeChange.{IsFileSlot}
-use Rattle.area_commit.specs.Lists.{PutsLists}
+use Rattle.inode_plan.specs.extent_tree.Normal.{IsNormal}
+use Rattle.inode_plan.specs.extent_tree.Map.{TierRuns, runs_in, HasBlock}
+use Rattle.inode_plan.specs.extent_tree.declared.map.Place.{Place}
+use Rattle.inode_plan.specs.tree_blocks.After.{start_node}
+use Rattle.inode_plan.specs.tree_blocks.Inode.{LogicalBlocks, inode_of}
+use Rattle.inode_plan.specs.area_reader.Store.{Store, slot, touch_of, logical_block, inode}
+use Rattle.inode_plan.specs.area_reader.Checks.{HasFound}
+use Rattle.inode_plan.specs.area_commit.InodeChange.{IsFileSlot}
+use Rattle.inode_plan.specs.area_commit.Lists.{PutsLists}
 use Rattle.inode_plan.specs.Lists.{AreListsOf, roots_left}
-use Rattle.area_commit.specs.declared.plan.FreedBlocks.{FreedBlocks}
-use Rattle.area_commit.specs.Plan.{LieApart, lost_in}
+use Rattle.inode_plan.specs.area_commit.declared.plan.FreedBlocks.{FreedBlocks}
+use Rattle.inode_plan.specs.area_commit.Plan.{LieApart, lost_in}
 use Rattle.inode_plan.specs.Bytes.{blocks_from}
 use Rattle.inode_plan.specs.MapChange.{IsMapAfter, AreLeft}
 use Rattle.inode_plan.specs.PlannedFile.{left_in}

@@ -1,12 +1,12 @@
 -- The steps in which a file is planned.
 use Rattle.std.specs.Prelude.{◌≡◌, ◌≤◌, ◌++◌, ◌∷◌, ℕ, List, [], length, take}
-use Rattle.graph_change.specs.Change.{Change}
-use Rattle.graph_change.specs.Net.{Base}
-use Rattle.layout.specs.Places.{Sizes}
-use Rattle.extent_tree.specs.declared.map.Place.{Place}
-use Rattle.area_reader.specs.Store.{Store}
-use Rattle.area_commit.specs.InodeChange.{places_from}
-use Rattle.area_commit.specs.declared.plan.FreedBlocks.{FreedBlocks}
+use Rattle.inode_plan.specs.graph_change.Change.{Change}
+use Rattle.inode_plan.specs.graph_change.Net.{Base}
+use Rattle.inode_plan.specs.layout.Places.{Sizes}
+use Rattle.inode_plan.specs.extent_tree.declared.map.Place.{Place}
+use Rattle.inode_plan.specs.area_reader.Store.{Store}
+use Rattle.inode_plan.specs.area_commit.InodeChange.{places_from}
+use Rattle.inode_plan.specs.area_commit.declared.plan.FreedBlocks.{FreedBlocks}
 use Rattle.inode_plan.specs.BlockWrites.{AreNumbers}
 use Rattle.change_plan.specs.Parts.{LoseBoth}
 use Rattle.change_plan.specs.File.{AreFreePlaces}

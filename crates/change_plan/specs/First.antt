@@ -1,21 +1,21 @@
 -- The plans of the first inodes of a change, over what was taken so far.
 use Rattle.std.specs.Prelude.{◌≡◌, ◌≤◌, ◌+◌, min, ℕ, List, [], true, length, map, take, drop, Option, IfSome}
 use Rattle.std.specs.FinMap as fin
-use Rattle.graph_change.specs.Change.{Changes}
-use Rattle.layout.specs.declared.marks.Marks.{Marks}
-use Rattle.layout.specs.declared.slot.Slot.{Slot}
-use Rattle.layout.specs.Marks.{fits_marks}
-use Rattle.layout.specs.Places.{Sizes}
+use Rattle.inode_plan.specs.graph_change.Change.{Changes}
+use Rattle.inode_plan.specs.layout.declared.marks.Marks.{Marks}
+use Rattle.inode_plan.specs.layout.declared.slot.Slot.{Slot}
+use Rattle.inode_plan.specs.layout.Marks.{fits_marks}
+use Rattle.inode_plan.specs.layout.Places.{Sizes}
 use Rattle.block_alloc.specs.Runs.{blocks_of}
-use Rattle.extent_tree.specs.Map.{TierRuns}
-use Rattle.extent_tree.specs.declared.map.Place.{Place}
-use Rattle.area_reader.specs.Store.{Store}
-use Rattle.area_commit.specs.Value.{PoolsView}
-use Rattle.area_commit.specs.declared.allocation.Allocation.{Allocation}
-use Rattle.area_commit.specs.Allocations.{taken_data}
+use Rattle.inode_plan.specs.extent_tree.Map.{TierRuns}
+use Rattle.inode_plan.specs.extent_tree.declared.map.Place.{Place}
+use Rattle.inode_plan.specs.area_reader.Store.{Store}
+use Rattle.inode_plan.specs.area_commit.Value.{PoolsView}
+use Rattle.inode_plan.specs.area_commit.declared.allocation.Allocation.{Allocation}
+use Rattle.inode_plan.specs.area_commit.Allocations.{taken_data}
 use Rattle.inode_plan.specs.PlannedFile.{pairs_of}
-use Rattle.area_commit.specs.declared.plan.Rewrite.{Rewrite}
-use Rattle.area_commit.specs.Plan.{is_changed}
+use Rattle.inode_plan.specs.area_commit.declared.plan.Rewrite.{Rewrite}
+use Rattle.inode_plan.specs.area_commit.Plan.{is_changed}
 use Rattle.change_plan.specs.Part.{Share}
 use Rattle.change_plan.specs.Parts.{AreParts}
 use Rattle.change_plan.specs.PlanAddition.{HasTaken}

@@ -3,16 +3,16 @@ use Rattle.std.specs.Prelude.{◌≡◌, ◌++◌, ℕ, List, [], Some}
 use Rattle.std.specs.List.{AllByRecursion}
 use Rattle.tier_device.specs.declared.media.Tier.{Tier}
 use Rattle.tier_device.specs.declared.media.Tier.TheVariants as tiers
-use Rattle.layout.specs.declared.slot.Slot.{Slot}
-use Rattle.layout.specs.declared.slot.Slot.TheVariants as slots
+use Rattle.inode_plan.specs.layout.declared.slot.Slot.{Slot}
+use Rattle.inode_plan.specs.layout.declared.slot.Slot.TheVariants as slots
 use Rattle.block_alloc.specs.declared.runs.Run.{Run}
 use Rattle.block_alloc.specs.Runs.{blocks_of}
 use Rattle.block_alloc.specs.Value.{FreeBlocks}
-use Rattle.extent_tree.specs.BlockFormat.{IsOneToOne}
-use Rattle.extent_tree.specs.Map.{TierRuns, runs_in, lies_at, HasBlock}
-use Rattle.area_commit.specs.Release.{AreUsed, IsInUse}
+use Rattle.inode_plan.specs.extent_tree.BlockFormat.{IsOneToOne}
+use Rattle.inode_plan.specs.extent_tree.Map.{TierRuns, runs_in, lies_at, HasBlock}
+use Rattle.inode_plan.specs.area_commit.Release.{AreUsed, IsInUse}
 use Rattle.inode_plan.specs.Lists.{roots_left}
-use Rattle.area_commit.specs.declared.plan.FreedBlocks.{FreedBlocks}
+use Rattle.inode_plan.specs.area_commit.declared.plan.FreedBlocks.{FreedBlocks}
 use Rattle.inode_plan.specs.MapChange.{AreAll}
 
 -- These are the places of all blocks in a tier; they can be given to a pool in which each is in use, where each block lies in a place of its own.

@@ -2,23 +2,23 @@
 use Rattle.std.specs.Prelude.{◌≡◌, ◌≤◌, ◌+◌, ◌*◌, ◌⊎◌, ℕ, List, length, true, Option, Some, None}
 use Rattle.std.specs.FinMap as fin
 use Rattle.posix_calls.specs.declared.limits.TheConstants.{MAX_ENTRIES}
-use Rattle.file_graph.specs.declared.effect.Kind.{Kind}
-use Rattle.file_graph.specs.declared.effect.Kind.TheVariants as kind
-use Rattle.file_graph.specs.Graph.{Node, FileBody, DirBody}
-use Rattle.graph_change.specs.Bounds.{IsBounded}
-use Rattle.graph_change.specs.Change.{Change, net_of}
-use Rattle.graph_change.specs.Net.{node_after}
-use Rattle.graph_change.specs.Tidy.{IsTidyChange}
-use Rattle.layout.specs.declared.slot.Slot.{Slot}
-use Rattle.layout.specs.Places.{Sizes, IsAllowed, is_inode}
-use Rattle.layout.specs.Slot.{fits_slot}
-use Rattle.extent_tree.specs.declared.map.Place.{Place}
-use Rattle.tree_blocks.specs.After.{start_node}
-use Rattle.area_reader.specs.Store.{Store, slot_read, inode, graph}
-use Rattle.area_reader.specs.Format.{IsSpelled}
-use Rattle.area_commit.specs.InodeChange.{places_from}
-use Rattle.area_commit.specs.Value.{PoolsView}
-use Rattle.area_commit.specs.declared.allocation.Allocation.{Allocation}
+use Rattle.inode_plan.specs.file_graph.declared.effect.Kind.{Kind}
+use Rattle.inode_plan.specs.file_graph.declared.effect.Kind.TheVariants as kind
+use Rattle.inode_plan.specs.file_graph.Graph.{Node, FileBody, DirBody}
+use Rattle.inode_plan.specs.graph_change.Bounds.{IsBounded}
+use Rattle.inode_plan.specs.graph_change.Change.{Change, net_of}
+use Rattle.inode_plan.specs.graph_change.Net.{node_after}
+use Rattle.inode_plan.specs.graph_change.Tidy.{IsTidyChange}
+use Rattle.inode_plan.specs.layout.declared.slot.Slot.{Slot}
+use Rattle.inode_plan.specs.layout.Places.{Sizes, IsAllowed, is_inode}
+use Rattle.inode_plan.specs.layout.Slot.{fits_slot}
+use Rattle.inode_plan.specs.extent_tree.declared.map.Place.{Place}
+use Rattle.inode_plan.specs.tree_blocks.After.{start_node}
+use Rattle.inode_plan.specs.area_reader.Store.{Store, slot_read, inode, graph}
+use Rattle.inode_plan.specs.area_reader.Format.{IsSpelled}
+use Rattle.inode_plan.specs.area_commit.InodeChange.{places_from}
+use Rattle.inode_plan.specs.area_commit.Value.{PoolsView}
+use Rattle.inode_plan.specs.area_commit.declared.allocation.Allocation.{Allocation}
 use Rattle.inode_plan.specs.PlacedFile.{PlacesFit}
 use Rattle.inode_plan.specs.BlockWrites.{AreNumbers}
 use Rattle.change_plan.specs.PlanAddition.{HasTaken, AddsPart}

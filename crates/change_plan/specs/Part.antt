@@ -3,22 +3,22 @@ use Rattle.std.specs.Prelude.{◌≡◌, ◌⊎◌, ◌*◌, ◌==◌, ℕ, List
 use Rattle.std.specs.List.{Contains}
 use Rattle.tier_device.specs.declared.media.Tier.{Tier}
 use Rattle.tier_device.specs.declared.media.Tier.TheVariants as tiers
-use Rattle.graph_change.specs.Change.{Change}
-use Rattle.layout.specs.declared.slot.Slot.{Slot}
-use Rattle.layout.specs.declared.slot.Slot.TheVariants as slots
-use Rattle.layout.specs.Places.{Sizes, is_node, is_data}
-use Rattle.batch_journal.specs.Images.{image_for, with_images}
-use Rattle.extent_tree.specs.Map.{TierRuns, runs_in}
-use Rattle.tree_blocks.specs.After.{start_node}
-use Rattle.tree_blocks.specs.Directory.{EntryBlocks}
-use Rattle.area_reader.specs.Store.{Store, root_of, touch_of, place, inode}
-use Rattle.area_reader.specs.Format.{used_block}
-use Rattle.area_commit.specs.InodeRewrite.{IsFit, IsListed, block_by}
-use Rattle.area_commit.specs.InodeChange.{IsFileWritten, IsDirectoryWritten}
-use Rattle.area_commit.specs.Batches.{AreNodes}
-use Rattle.area_commit.specs.DataWrite.{HoldData}
-use Rattle.area_commit.specs.declared.plan.FreedBlocks.{FreedBlocks}
-use Rattle.area_commit.specs.Plan.{HoldLost}
+use Rattle.inode_plan.specs.graph_change.Change.{Change}
+use Rattle.inode_plan.specs.layout.declared.slot.Slot.{Slot}
+use Rattle.inode_plan.specs.layout.declared.slot.Slot.TheVariants as slots
+use Rattle.inode_plan.specs.layout.Places.{Sizes, is_node, is_data}
+use Rattle.inode_plan.specs.batch_journal.Images.{image_for, with_images}
+use Rattle.inode_plan.specs.extent_tree.Map.{TierRuns, runs_in}
+use Rattle.inode_plan.specs.tree_blocks.After.{start_node}
+use Rattle.inode_plan.specs.tree_blocks.Directory.{EntryBlocks}
+use Rattle.inode_plan.specs.area_reader.Store.{Store, root_of, touch_of, place, inode}
+use Rattle.inode_plan.specs.area_reader.Format.{used_block}
+use Rattle.inode_plan.specs.area_commit.InodeRewrite.{IsFit, IsListed, block_by}
+use Rattle.inode_plan.specs.area_commit.InodeChange.{IsFileWritten, IsDirectoryWritten}
+use Rattle.inode_plan.specs.area_commit.Batches.{AreNodes}
+use Rattle.inode_plan.specs.area_commit.DataWrite.{HoldData}
+use Rattle.inode_plan.specs.area_commit.declared.plan.FreedBlocks.{FreedBlocks}
+use Rattle.inode_plan.specs.area_commit.Plan.{HoldLost}
 use Rattle.change_plan.specs.FileLayout.{IsLaid}
 
 -- ---- its share of what was taken

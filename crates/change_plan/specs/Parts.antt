@@ -4,25 +4,25 @@ use Rattle.std.specs.List.{Contains}
 use Rattle.posix_calls.specs.declared.limits.TheConstants.{MAX_INODE}
 use Rattle.tier_device.specs.declared.media.Tier.{Tier}
 use Rattle.tier_device.specs.declared.media.Tier.TheVariants as tiers
-use Rattle.graph_change.specs.Change.{Changes, change_at}
-use Rattle.layout.specs.declared.slot.Slot.{Slot}
-use Rattle.layout.specs.Places.{Sizes, is_node, is_data}
+use Rattle.inode_plan.specs.graph_change.Change.{Changes, change_at}
+use Rattle.inode_plan.specs.layout.declared.slot.Slot.{Slot}
+use Rattle.inode_plan.specs.layout.Places.{Sizes, is_node, is_data}
 use Rattle.block_alloc.specs.Runs.{blocks_of}
-use Rattle.batch_journal.specs.Images.{image_for, with_images}
-use Rattle.extent_tree.specs.Map.{TierRuns, runs_in}
-use Rattle.area_reader.specs.Store.{Store, root_of, place}
-use Rattle.area_reader.specs.Reads.{Free}
-use Rattle.area_reader.specs.Format.{Use, used_block}
-use Rattle.area_commit.specs.InodeRewrite.{IsFit, IsListed, block_by}
-use Rattle.area_commit.specs.StoreRewrite.{HasBlockFor}
-use Rattle.area_commit.specs.declared.slots.ChangedSlot.{ChangedSlot}
-use Rattle.area_commit.specs.Slots.{RiseIn}
-use Rattle.area_commit.specs.Batches.{AreNodes}
-use Rattle.area_commit.specs.declared.allocation.Allocation.{Allocation}
-use Rattle.area_commit.specs.Allocations.{taken_data}
-use Rattle.area_commit.specs.DataWrite.{HoldData}
-use Rattle.area_commit.specs.declared.plan.FreedBlocks.{FreedBlocks}
-use Rattle.area_commit.specs.Plan.{HoldLost, is_changed}
+use Rattle.inode_plan.specs.batch_journal.Images.{image_for, with_images}
+use Rattle.inode_plan.specs.extent_tree.Map.{TierRuns, runs_in}
+use Rattle.inode_plan.specs.area_reader.Store.{Store, root_of, place}
+use Rattle.inode_plan.specs.area_reader.Reads.{Free}
+use Rattle.inode_plan.specs.area_reader.Format.{Use, used_block}
+use Rattle.inode_plan.specs.area_commit.InodeRewrite.{IsFit, IsListed, block_by}
+use Rattle.inode_plan.specs.area_commit.StoreRewrite.{HasBlockFor}
+use Rattle.inode_plan.specs.area_commit.declared.slots.ChangedSlot.{ChangedSlot}
+use Rattle.inode_plan.specs.area_commit.Slots.{RiseIn}
+use Rattle.inode_plan.specs.area_commit.Batches.{AreNodes}
+use Rattle.inode_plan.specs.area_commit.declared.allocation.Allocation.{Allocation}
+use Rattle.inode_plan.specs.area_commit.Allocations.{taken_data}
+use Rattle.inode_plan.specs.area_commit.DataWrite.{HoldData}
+use Rattle.inode_plan.specs.area_commit.declared.plan.FreedBlocks.{FreedBlocks}
+use Rattle.inode_plan.specs.area_commit.Plan.{HoldLost, is_changed}
 use Rattle.change_plan.specs.FileLayout.{AreLaid}
 use Rattle.change_plan.specs.Part.{Share, IsIn, IsWrittenFor, IsTouchedBy}
 

@@ -1,19 +1,19 @@
 -- One inode more is planned, in memory.
 use Rattle.std.specs.Prelude.{◌≡◌, ◌++◌, ◌∷◌, ℕ, List, [], take}
-use Rattle.graph_change.specs.Change.{Change}
-use Rattle.layout.specs.declared.slot.Slot.{Slot}
-use Rattle.layout.specs.declared.slot.Slot.TheVariants as slots
-use Rattle.layout.specs.Places.{Sizes}
+use Rattle.inode_plan.specs.graph_change.Change.{Change}
+use Rattle.inode_plan.specs.layout.declared.slot.Slot.{Slot}
+use Rattle.inode_plan.specs.layout.declared.slot.Slot.TheVariants as slots
+use Rattle.inode_plan.specs.layout.Places.{Sizes}
 use Rattle.block_alloc.specs.Runs.{blocks_of}
-use Rattle.extent_tree.specs.Map.{TierRuns}
-use Rattle.extent_tree.specs.declared.map.Place.{Place}
-use Rattle.area_reader.specs.Store.{Store}
-use Rattle.area_commit.specs.Value.{PoolsView, AreInOrder, HasRanges, AreFree}
-use Rattle.area_commit.specs.declared.allocation.Allocation.{Allocation}
-use Rattle.area_commit.specs.Allocations.{taken_data, WereTaken, CanRelease}
+use Rattle.inode_plan.specs.extent_tree.Map.{TierRuns}
+use Rattle.inode_plan.specs.extent_tree.declared.map.Place.{Place}
+use Rattle.inode_plan.specs.area_reader.Store.{Store}
+use Rattle.inode_plan.specs.area_commit.Value.{PoolsView, AreInOrder, HasRanges, AreFree}
+use Rattle.inode_plan.specs.area_commit.declared.allocation.Allocation.{Allocation}
+use Rattle.inode_plan.specs.area_commit.Allocations.{taken_data, WereTaken, CanRelease}
 use Rattle.inode_plan.specs.PlannedFile.{pairs_of}
-use Rattle.area_commit.specs.declared.plan.FreedBlocks.{FreedBlocks}
-use Rattle.area_commit.specs.Plan.{HoldLost}
+use Rattle.inode_plan.specs.area_commit.declared.plan.FreedBlocks.{FreedBlocks}
+use Rattle.inode_plan.specs.area_commit.Plan.{HoldLost}
 use Rattle.change_plan.specs.Part.{Share, IsPart, is_one}
 use Rattle.change_plan.specs.Parts.{LoseBoth}
 use Rattle.change_plan.specs.declared.partial_plan.PartialPlan.{PartialPlan}

@@ -1,9 +1,9 @@
 -- The slots that inodes have, as they were read.
 use Rattle.std.specs.Prelude.{◌≡◌, ℕ, List, [], ◌∷◌, true, Some}
-use Rattle.layout.specs.Places.{Sizes}
-use Rattle.layout.specs.Slot.{fits_slot}
-use Rattle.area_reader.specs.Store.{Store, slot_read}
-use Rattle.area_commit.specs.declared.slots.ChangedSlot.{ChangedSlot}
+use Rattle.inode_plan.specs.layout.Places.{Sizes}
+use Rattle.inode_plan.specs.layout.Slot.{fits_slot}
+use Rattle.inode_plan.specs.area_reader.Store.{Store, slot_read}
+use Rattle.inode_plan.specs.area_commit.declared.slots.ChangedSlot.{ChangedSlot}
 
 -- Inode i has this slot, which keeps the limits.
 pub record HasSlot (g : Sizes) (s : Store) (i : ℕ) (x : ChangedSlot) : Type 0 where

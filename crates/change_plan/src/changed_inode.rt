@@ -1,5 +1,5 @@
-use graph_change::NodeChange;
-use layout::Slot;
+use inode_plan::in_graph_change::NodeChange;
+use inode_plan::in_layout::Slot;
 
 /// An inode of a change that is to be planned.
 #[derive(Clone, Copy)]

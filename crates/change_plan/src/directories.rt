@@ -1,18 +1,18 @@
 // What a change makes of a directory, as the part of its inode.
 ghost use Rattle.std.specs.Prelude.{◌≡◌, ◌⊎◌, ◌≤◌, ◌+◌, ◌++◌, ◌∷◌, [], List, Some, true, false, length, IfOk, IfErr, OnOk};
-ghost use Rattle.file_graph.specs.declared.effect.Kind.TheVariants as kind;
-ghost use Rattle.graph_change.specs.Net.{Kept};
-ghost use Rattle.graph_change.specs.View.{base_of, change_of};
-ghost use Rattle.layout.specs.Places.{is_inode};
-ghost use Rattle.layout.specs.Slot.{fits_slot};
+ghost use Rattle.inode_plan.specs.file_graph.declared.effect.Kind.TheVariants as kind;
+ghost use Rattle.inode_plan.specs.graph_change.Net.{Kept};
+ghost use Rattle.inode_plan.specs.graph_change.View.{base_of, change_of};
+ghost use Rattle.inode_plan.specs.layout.Places.{is_inode};
+ghost use Rattle.inode_plan.specs.layout.Slot.{fits_slot};
 ghost use Rattle.block_alloc.specs.Runs.{blocks_of};
-ghost use Rattle.extent_tree.specs.declared.map.Place.{Place};
-ghost use Rattle.tree_blocks.specs.After.{start_node};
-ghost use Rattle.area_reader.specs.Store.{disk, slot_read, inode as inode_in};
-ghost use Rattle.area_reader.specs.Format.{IsSpelled};
-ghost use Rattle.area_reader.specs.Looks.{Looks};
-ghost use Rattle.area_reader.specs.declared.error.AreaError.TheVariants.{DeviceFault, Memory};
-ghost use Rattle.area_commit.specs.declared.allocation.Allocation.{Allocation};
+ghost use Rattle.inode_plan.specs.extent_tree.declared.map.Place.{Place};
+ghost use Rattle.inode_plan.specs.tree_blocks.After.{start_node};
+ghost use Rattle.inode_plan.specs.area_reader.Store.{disk, slot_read, inode as inode_in};
+ghost use Rattle.inode_plan.specs.area_reader.Format.{IsSpelled};
+ghost use Rattle.inode_plan.specs.area_reader.Looks.{Looks};
+ghost use Rattle.inode_plan.specs.area_reader.declared.error.AreaError.TheVariants.{DeviceFault, Memory};
+ghost use Rattle.inode_plan.specs.area_commit.declared.allocation.Allocation.{Allocation};
 ghost use Rattle.inode_plan.specs.DirectoryStart.{IsStarted, IsSoundStart};
 ghost use Rattle.change_plan.specs.Parts.{LoseBoth};
 ghost use Rattle.change_plan.specs.PlanAddition.{AddsPart};
@@ -22,16 +22,16 @@ use crate::changed_inode::ChangedInode;
 use crate::inode_drop::{all_blocks_of, push_lost, push_slot};
 use crate::part_laws::planned_directory_is_a_part;
 use crate::partial_plan::PartialPlan;
-use area_commit::FreedBlocks;
-use area_reader::{AreaError, InodeParts, read_all_extents};
-use batch_journal::Journal;
 use block_alloc::Run;
-use graph_change::NodeBase;
+use inode_plan::in_area_commit::FreedBlocks;
+use inode_plan::in_area_reader::{AreaError, InodeParts, read_all_extents};
+use inode_plan::in_batch_journal::Journal;
+use inode_plan::in_graph_change::NodeBase;
+use inode_plan::in_layout::Slot;
 use inode_plan::{
     ChangedDirectory, DirectoryPlan, StartedDirectory, made_directory, plan_directory,
     read_directory,
 };
-use layout::Slot;
 use std::alloc::{AllocError, Global};
 use tier_device::Media;
 

@@ -1,18 +1,18 @@
 // A directory of a change, from what it was to its part of the plan.
 ghost use Rattle.std.specs.Prelude.{◌≡◌, ◌⊎◌, List, Some, true, false, IfOk, IfErr, OnOk};
-ghost use Rattle.file_graph.specs.declared.effect.Kind.TheVariants as kind;
-ghost use Rattle.graph_change.specs.Bounds.{IsBounded};
-ghost use Rattle.graph_change.specs.Change.{net_of};
-ghost use Rattle.graph_change.specs.Net.{node_after};
-ghost use Rattle.graph_change.specs.View.{change_of};
-ghost use Rattle.layout.specs.Places.{is_inode};
-ghost use Rattle.layout.specs.Slot.{fits_slot};
-ghost use Rattle.extent_tree.specs.declared.map.Place.{Place};
-ghost use Rattle.tree_blocks.specs.After.{start_node};
-ghost use Rattle.area_reader.specs.Store.{disk, slot_read, graph, inode as inode_in};
-ghost use Rattle.area_reader.specs.Format.{IsSpelled};
-ghost use Rattle.area_reader.specs.Looks.{Looks};
-ghost use Rattle.area_reader.specs.declared.error.AreaError.TheVariants.{DeviceFault, Memory};
+ghost use Rattle.inode_plan.specs.file_graph.declared.effect.Kind.TheVariants as kind;
+ghost use Rattle.inode_plan.specs.graph_change.Bounds.{IsBounded};
+ghost use Rattle.inode_plan.specs.graph_change.Change.{net_of};
+ghost use Rattle.inode_plan.specs.graph_change.Net.{node_after};
+ghost use Rattle.inode_plan.specs.graph_change.View.{change_of};
+ghost use Rattle.inode_plan.specs.layout.Places.{is_inode};
+ghost use Rattle.inode_plan.specs.layout.Slot.{fits_slot};
+ghost use Rattle.inode_plan.specs.extent_tree.declared.map.Place.{Place};
+ghost use Rattle.inode_plan.specs.tree_blocks.After.{start_node};
+ghost use Rattle.inode_plan.specs.area_reader.Store.{disk, slot_read, graph, inode as inode_in};
+ghost use Rattle.inode_plan.specs.area_reader.Format.{IsSpelled};
+ghost use Rattle.inode_plan.specs.area_reader.Looks.{Looks};
+ghost use Rattle.inode_plan.specs.area_reader.declared.error.AreaError.TheVariants.{DeviceFault, Memory};
 ghost use Rattle.change_plan.specs.PlanAddition.{TakesMoreNodes};
 ghost use Rattle.change_plan.specs.DirectoryChange.{IsChangedFrom};
 ghost use Rattle.change_plan.specs.Next.{IsNext, HasFewEntries, PlansInode};
@@ -22,13 +22,13 @@ use crate::directories::{plan_over_spares, start_directory};
 use crate::part_laws::free_blocks_are_spare;
 use crate::partial_plan::PartialPlan;
 use crate::spares::take_spares;
-use area_commit::Pools;
-use area_reader::AreaError;
-use batch_journal::Journal;
+use inode_plan::in_area_commit::Pools;
+use inode_plan::in_area_reader::AreaError;
+use inode_plan::in_batch_journal::Journal;
+use inode_plan::in_tree_blocks::bounded_entries_lead_to_inodes;
 use inode_plan::{ChangedDirectory, change_directory, spares_for};
 use std::alloc::Global;
 use tier_device::Media;
-use tree_blocks::bounded_entries_lead_to_inodes;
 
 // Reads what a directory was, or makes it, and changes it in memory.
 fn directory_change<M: Media>(

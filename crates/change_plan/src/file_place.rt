@@ -2,28 +2,28 @@
 ghost use Rattle.std.specs.Prelude.{◌≡◌, ◌≤◌, ◌+◌, IfOk, OnOk, IfSome, length};
 ghost use Rattle.tier_device.specs.declared.media.Tier.{Tier};
 ghost use Rattle.posix_calls.specs.declared.limits.TheConstants.{MAX_FILE};
-ghost use Rattle.graph_change.specs.Bounds.{IsBounded};
-ghost use Rattle.graph_change.specs.Bytes.{end};
-ghost use Rattle.graph_change.specs.Tidy.{IsTidyChange};
-ghost use Rattle.graph_change.specs.View.{change_of};
-ghost use Rattle.layout.specs.declared.extents.TheConstants.{MAX_EXTENTS};
-ghost use Rattle.layout.specs.Places.{Sizes};
-ghost use Rattle.area_reader.specs.Store.{Store};
-ghost use Rattle.area_reader.specs.Map.{in_tier};
-ghost use Rattle.extent_tree.specs.Map.{lies_at};
+ghost use Rattle.inode_plan.specs.graph_change.Bounds.{IsBounded};
+ghost use Rattle.inode_plan.specs.graph_change.Bytes.{end};
+ghost use Rattle.inode_plan.specs.graph_change.Tidy.{IsTidyChange};
+ghost use Rattle.inode_plan.specs.graph_change.View.{change_of};
+ghost use Rattle.inode_plan.specs.layout.declared.extents.TheConstants.{MAX_EXTENTS};
+ghost use Rattle.inode_plan.specs.layout.Places.{Sizes};
+ghost use Rattle.inode_plan.specs.area_reader.Store.{Store};
+ghost use Rattle.inode_plan.specs.area_reader.Map.{in_tier};
+ghost use Rattle.inode_plan.specs.extent_tree.Map.{lies_at};
 ghost use Rattle.inode_plan.specs.PlacedFile.{PlacesFit};
 ghost use Rattle.inode_plan.specs.BlockWrites.{AreNumbers};
 ghost use Rattle.inode_plan.specs.Roots.{roots_wanted};
 ghost use Rattle.change_plan.specs.FileStart.{IsStartedFile, IsPlacedFile, IsRootedFile};
 
 use crate::file_start::StartedFile;
-use area_commit::{NodeImages, put_lists, runs_lie_apart};
-use area_reader::InodeExtents;
 use block_alloc::Run;
-use extent_tree::Place;
-use graph_change::NodeChange;
+use inode_plan::in_area_commit::{NodeImages, put_lists, runs_lie_apart};
+use inode_plan::in_area_reader::InodeExtents;
+use inode_plan::in_extent_tree::Place;
+use inode_plan::in_graph_change::NodeChange;
+use inode_plan::in_layout::Slot;
 use inode_plan::{FilePlan, plan_file, roots_left, slot_after};
-use layout::Slot;
 use std::alloc::{AllocError, Global};
 
 /// A file whose blocks have their places after a change: the slot and the extents that the change starts from, and what is planned of the blocks.

@@ -1,20 +1,20 @@
 // The file that a change starts from.
 ghost use Rattle.std.specs.Prelude.{◌≡◌, ◌⊎◌, ℕ, [], Some, true, IfOk, IfErr};
-ghost use Rattle.file_graph.specs.declared.effect.Kind.TheVariants as kind;
-ghost use Rattle.graph_change.specs.Net.{Kept, Made};
-ghost use Rattle.layout.specs.Places.{Sizes, is_inode};
-ghost use Rattle.tree_blocks.specs.Inode.{inode_of};
-ghost use Rattle.area_reader.specs.Store.{Store, disk, slot_read};
-ghost use Rattle.area_reader.specs.Format.{IsSpelled};
-ghost use Rattle.area_reader.specs.Looks.{Looks};
-ghost use Rattle.area_reader.specs.declared.error.AreaError.TheVariants.{DeviceFault, Memory};
+ghost use Rattle.inode_plan.specs.file_graph.declared.effect.Kind.TheVariants as kind;
+ghost use Rattle.inode_plan.specs.graph_change.Net.{Kept, Made};
+ghost use Rattle.inode_plan.specs.layout.Places.{Sizes, is_inode};
+ghost use Rattle.inode_plan.specs.tree_blocks.Inode.{inode_of};
+ghost use Rattle.inode_plan.specs.area_reader.Store.{Store, disk, slot_read};
+ghost use Rattle.inode_plan.specs.area_reader.Format.{IsSpelled};
+ghost use Rattle.inode_plan.specs.area_reader.Looks.{Looks};
+ghost use Rattle.inode_plan.specs.area_reader.declared.error.AreaError.TheVariants.{DeviceFault, Memory};
 ghost use Rattle.change_plan.specs.FileStart.{IsStartedFile};
 
-use area_reader::{AreaError, InodeExtents, read_all_extents};
-use batch_journal::Journal;
-use extent_tree::BlockMap;
+use inode_plan::in_area_reader::{AreaError, InodeExtents, read_all_extents};
+use inode_plan::in_batch_journal::Journal;
+use inode_plan::in_extent_tree::BlockMap;
+use inode_plan::in_layout::Slot;
 use inode_plan::map_of;
-use layout::Slot;
 use std::alloc::Global;
 use tier_device::Media;
 

@@ -1,23 +1,23 @@
 //! What a change makes of a file, as a part of one plan.
 
 ghost use Rattle.std.specs.Prelude.{◌≡◌, ℕ, List, length, take};
-ghost use Rattle.graph_change.specs.Bounds.{IsBounded};
-ghost use Rattle.graph_change.specs.Change.{Change};
-ghost use Rattle.graph_change.specs.Tidy.{IsTidyChange};
-ghost use Rattle.layout.specs.declared.slot.Slot.{Slot};
-ghost use Rattle.layout.specs.Places.{Sizes};
+ghost use Rattle.inode_plan.specs.graph_change.Bounds.{IsBounded};
+ghost use Rattle.inode_plan.specs.graph_change.Change.{Change};
+ghost use Rattle.inode_plan.specs.graph_change.Tidy.{IsTidyChange};
+ghost use Rattle.inode_plan.specs.layout.declared.slot.Slot.{Slot};
+ghost use Rattle.inode_plan.specs.layout.Places.{Sizes};
 ghost use Rattle.block_alloc.specs.declared.runs.Run.{Run};
-ghost use Rattle.extent_tree.specs.Map.{TierRuns};
-ghost use Rattle.extent_tree.specs.declared.map.Place.{Place};
-ghost use Rattle.area_reader.specs.Store.{Store, logical_block};
-ghost use Rattle.area_commit.specs.declared.plan.FreedBlocks.{FreedBlocks};
-ghost use Rattle.area_commit.specs.InodeChange.{places_from};
+ghost use Rattle.inode_plan.specs.extent_tree.Map.{TierRuns};
+ghost use Rattle.inode_plan.specs.extent_tree.declared.map.Place.{Place};
+ghost use Rattle.inode_plan.specs.area_reader.Store.{Store, logical_block};
+ghost use Rattle.inode_plan.specs.area_commit.declared.plan.FreedBlocks.{FreedBlocks};
+ghost use Rattle.inode_plan.specs.area_commit.InodeChange.{places_from};
 ghost use Rattle.inode_plan.specs.BlockWrites.{AreNumbers};
 ghost use Rattle.inode_plan.specs.Bytes.{HoldsBlocks, blocks_from};
 ghost use Rattle.inode_plan.specs.PlannedFile.{pairs_of};
 ghost use Rattle.inode_plan.specs.Roots.{roots_wanted};
-ghost use Rattle.area_commit.specs.Value.{PoolsView};
-ghost use Rattle.area_commit.specs.declared.allocation.Allocation.{Allocation};
+ghost use Rattle.inode_plan.specs.area_commit.Value.{PoolsView};
+ghost use Rattle.inode_plan.specs.area_commit.declared.allocation.Allocation.{Allocation};
 ghost use Rattle.change_plan.specs.Part.{Share, IsPart};
 ghost use Rattle.change_plan.specs.PlanAddition.{HasTaken};
 ghost use Rattle.change_plan.specs.File.{AreFreePlaces, AreFreeNodes, IsPlannedFile};

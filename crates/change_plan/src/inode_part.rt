@@ -1,9 +1,9 @@
 // One inode of a change, whatever it is, as a part of the plan for all.
 ghost use Rattle.std.specs.Prelude.{◌≡◌, ◌⊎◌, false, IfOk, IfErr};
-ghost use Rattle.graph_change.specs.View.{change_of};
-ghost use Rattle.area_reader.specs.Store.{disk};
-ghost use Rattle.area_reader.specs.Looks.{Looks};
-ghost use Rattle.area_reader.specs.declared.error.AreaError.TheVariants.{DeviceFault, Memory};
+ghost use Rattle.inode_plan.specs.graph_change.View.{change_of};
+ghost use Rattle.inode_plan.specs.area_reader.Store.{disk};
+ghost use Rattle.inode_plan.specs.area_reader.Looks.{Looks};
+ghost use Rattle.inode_plan.specs.area_reader.declared.error.AreaError.TheVariants.{DeviceFault, Memory};
 ghost use Rattle.change_plan.specs.PlanAddition.{TakesMoreNodes};
 ghost use Rattle.change_plan.specs.Next.{IsNext, HasPlaces, PlansInode};
 
@@ -13,11 +13,11 @@ use crate::file_part::plan_file_part;
 use crate::inode_drop::plan_gone_part;
 use crate::kinds::kind_from;
 use crate::partial_plan::PartialPlan;
-use area_commit::Pools;
-use area_reader::AreaError;
-use batch_journal::Journal;
-use extent_tree::Place;
-use file_graph::Kind;
+use inode_plan::in_area_commit::Pools;
+use inode_plan::in_area_reader::AreaError;
+use inode_plan::in_batch_journal::Journal;
+use inode_plan::in_extent_tree::Place;
+use inode_plan::in_file_graph::Kind;
 use std::alloc::Global;
 use tier_device::Media;
 

@@ -1,14 +1,14 @@
 // What an inode is that a change starts from.
 ghost use Rattle.std.specs.Prelude.{◌≡◌, ℕ, Some};
-ghost use Rattle.graph_change.specs.View.{base_of};
-ghost use Rattle.layout.specs.Places.{Sizes};
-ghost use Rattle.tree_blocks.specs.After.{start_node};
-ghost use Rattle.tree_blocks.specs.Inode.{LogicalBlocks, inode_of};
-ghost use Rattle.area_reader.specs.Store.{Store, slot_read, inode};
+ghost use Rattle.inode_plan.specs.graph_change.View.{base_of};
+ghost use Rattle.inode_plan.specs.layout.Places.{Sizes};
+ghost use Rattle.inode_plan.specs.tree_blocks.After.{start_node};
+ghost use Rattle.inode_plan.specs.tree_blocks.Inode.{LogicalBlocks, inode_of};
+ghost use Rattle.inode_plan.specs.area_reader.Store.{Store, slot_read, inode};
 
-use file_graph::Kind;
-use graph_change::NodeBase;
-use layout::Slot;
+use inode_plan::in_file_graph::Kind;
+use inode_plan::in_graph_change::NodeBase;
+use inode_plan::in_layout::Slot;
 
 // The kind of the inode that a slot tells.
 fn kind_in(slot: &Slot) -> Option<Kind>

@@ -5,31 +5,31 @@ ghost use Rattle.std.specs.List.{Contains};
 ghost use Rattle.std.specs.FinMap as fin;
 ghost use Rattle.posix_calls.specs.declared.limits.TheConstants.{MAX_INODE};
 ghost use Rattle.tier_device.specs.declared.media.Tier.{Tier};
-ghost use Rattle.graph_change.specs.Change.{Change, Changes, change_at, changed_graph};
-ghost use Rattle.graph_change.specs.Tidy.{AreTidyChanges};
-ghost use Rattle.layout.specs.declared.slot.Slot.{Slot};
-ghost use Rattle.layout.specs.Marks.{fits_marks};
-ghost use Rattle.layout.specs.Places.{Sizes, IsAllowed, is_inode};
-ghost use Rattle.extent_tree.specs.Map.{TierRuns};
-ghost use Rattle.area_reader.specs.Store.{Store, graph, slot, place};
-ghost use Rattle.area_reader.specs.Rewrites.{Rewrites};
-ghost use Rattle.area_reader.specs.Format.{IsSpelled};
-ghost use Rattle.area_commit.specs.declared.slots.ChangedSlot.{ChangedSlot};
-ghost use Rattle.area_commit.specs.declared.plan.FreedBlocks.{FreedBlocks};
-ghost use Rattle.area_commit.specs.declared.plan.Rewrite.{Rewrite};
-ghost use Rattle.area_commit.specs.Plan.{WereFree, IsPlanned, is_rewritten};
-ghost use Rattle.area_commit.specs.Allocations.{taken_data};
-ghost use Rattle.area_commit.specs.PlanOutcome.{IsCarriedOut};
+ghost use Rattle.inode_plan.specs.graph_change.Change.{Change, Changes, change_at, changed_graph};
+ghost use Rattle.inode_plan.specs.graph_change.Tidy.{AreTidyChanges};
+ghost use Rattle.inode_plan.specs.layout.declared.slot.Slot.{Slot};
+ghost use Rattle.inode_plan.specs.layout.Marks.{fits_marks};
+ghost use Rattle.inode_plan.specs.layout.Places.{Sizes, IsAllowed, is_inode};
+ghost use Rattle.inode_plan.specs.extent_tree.Map.{TierRuns};
+ghost use Rattle.inode_plan.specs.area_reader.Store.{Store, graph, slot, place};
+ghost use Rattle.inode_plan.specs.area_reader.Rewrites.{Rewrites};
+ghost use Rattle.inode_plan.specs.area_reader.Format.{IsSpelled};
+ghost use Rattle.inode_plan.specs.area_commit.declared.slots.ChangedSlot.{ChangedSlot};
+ghost use Rattle.inode_plan.specs.area_commit.declared.plan.FreedBlocks.{FreedBlocks};
+ghost use Rattle.inode_plan.specs.area_commit.declared.plan.Rewrite.{Rewrite};
+ghost use Rattle.inode_plan.specs.area_commit.Plan.{WereFree, IsPlanned, is_rewritten};
+ghost use Rattle.inode_plan.specs.area_commit.Allocations.{taken_data};
+ghost use Rattle.inode_plan.specs.area_commit.PlanOutcome.{IsCarriedOut};
 ghost use Rattle.change_plan.specs.FileLayout.{LeavesFile, AreFirstFree, GetPlaces, LieInPlaces, KeepsPlaces};
 ghost use Rattle.change_plan.specs.Part.{Share, IsPart, IsTouchedBy};
 ghost use Rattle.change_plan.specs.Parts.{AreParts, LoseBoth, HasFree, ShareNone, both, share_of, with_at};
 
-use area_commit::{
+use inode_plan::in_area_commit::{
     carried_out_inodes_are_written_anew, changed_store_spells_the_graph_after,
     written_directory_is_rewritten, written_file_is_rewritten, written_free_slot_is_inode_after,
     written_inode_is_read,
 };
-use area_reader::rewritten_inodes_are_spelled;
+use inode_plan::in_area_reader::rewritten_inodes_are_spelled;
 
 /// Before the first inode nothing is planned.
 pub fn no_parts()

@@ -47,3 +47,6 @@ pub use prefix_laws::{
 };
 pub use read_change::{ReadChange, read_slots};
 pub use spares::{last_blocks, take_spares};
+
+// Handed on to the crates above, which list only the highest of what they name.
+pub use inode_plan::in_area_commit;

@@ -1,17 +1,17 @@
 //! What holds of the part of one inode: of a directory, and of a node that goes.
 
 ghost use Rattle.std.specs.Prelude.{◌≡◌, ◌≤◌, ℕ, List, [], None, length, take};
-ghost use Rattle.graph_change.specs.Bounds.{IsBounded};
-ghost use Rattle.graph_change.specs.Change.{Change};
-ghost use Rattle.layout.specs.declared.slot.Slot.TheVariants as slots;
-ghost use Rattle.layout.specs.Places.{Sizes, IsAllowed};
-ghost use Rattle.tree_blocks.specs.After.{start_node};
-ghost use Rattle.area_reader.specs.Store.{Store, inode};
-ghost use Rattle.area_reader.specs.Format.{IsSpelled};
-ghost use Rattle.area_commit.specs.Batches.{AreNodes};
-ghost use Rattle.area_commit.specs.Value.{PoolsView};
-ghost use Rattle.area_commit.specs.declared.allocation.Allocation.{Allocation};
-ghost use Rattle.area_commit.specs.declared.plan.FreedBlocks.{FreedBlocks};
+ghost use Rattle.inode_plan.specs.graph_change.Bounds.{IsBounded};
+ghost use Rattle.inode_plan.specs.graph_change.Change.{Change};
+ghost use Rattle.inode_plan.specs.layout.declared.slot.Slot.TheVariants as slots;
+ghost use Rattle.inode_plan.specs.layout.Places.{Sizes, IsAllowed};
+ghost use Rattle.inode_plan.specs.tree_blocks.After.{start_node};
+ghost use Rattle.inode_plan.specs.area_reader.Store.{Store, inode};
+ghost use Rattle.inode_plan.specs.area_reader.Format.{IsSpelled};
+ghost use Rattle.inode_plan.specs.area_commit.Batches.{AreNodes};
+ghost use Rattle.inode_plan.specs.area_commit.Value.{PoolsView};
+ghost use Rattle.inode_plan.specs.area_commit.declared.allocation.Allocation.{Allocation};
+ghost use Rattle.inode_plan.specs.area_commit.declared.plan.FreedBlocks.{FreedBlocks};
 ghost use Rattle.inode_plan.specs.PlannedDirectory.{IsPlannedFrom, on_fast};
 ghost use Rattle.inode_plan.specs.Spare.{spares_for};
 ghost use Rattle.inode_plan.specs.DirectoryStart.{IsStarted, IsSoundStart, IsChanged};
@@ -22,7 +22,7 @@ ghost use Rattle.change_plan.specs.Part.{IsPart};
 ghost use Rattle.change_plan.specs.PlanAddition.{GivesAll, HasTaken, no_runs};
 ghost use Rattle.change_plan.specs.Directory.{of_nodes, WereFreeNodes, LosesFor, AreOfOthers, IsReadyToWrite};
 
-use area_commit::runs_lie_apart;
+use inode_plan::in_area_commit::runs_lie_apart;
 use inode_plan::{
     changed_directory_can_be_written, planned_blocks_are_kept_or_spare,
     planned_directory_is_written, planned_losses_are_exact,

@@ -1,4 +1,4 @@
-use area_commit::{Allocation, ChangedSlot, FreedBlocks, NodeImages};
+use inode_plan::in_area_commit::{Allocation, ChangedSlot, FreedBlocks, NodeImages};
 
 /// The plans of the inodes of a change that are made so far, one behind the other, with the blocks that were taken for them.
 #[derive(Drop)]

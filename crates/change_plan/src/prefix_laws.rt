@@ -4,23 +4,23 @@ ghost use Rattle.std.specs.Prelude.{◌≡◌, ◌≤◌, ◌<◌, ◌+◌, ℕ,
 ghost use Rattle.std.specs.List.{Contains};
 ghost use Rattle.std.specs.FinMap as fin;
 ghost use Rattle.tier_device.specs.declared.media.Tier.{Tier};
-ghost use Rattle.graph_change.specs.Change.{Changes, change_at, changed_graph};
-ghost use Rattle.graph_change.specs.Tidy.{AreTidyChanges};
-ghost use Rattle.layout.specs.declared.marks.Marks.{Marks};
-ghost use Rattle.layout.specs.declared.slot.Slot.{Slot};
-ghost use Rattle.layout.specs.Places.{Sizes, IsAllowed, is_inode};
-ghost use Rattle.extent_tree.specs.Map.{TierRuns};
-ghost use Rattle.extent_tree.specs.declared.map.Place.{Place};
-ghost use Rattle.area_reader.specs.Store.{Store, graph, slot, place};
-ghost use Rattle.area_reader.specs.Format.{IsSpelled};
-ghost use Rattle.area_commit.specs.declared.slots.ChangedSlot.{ChangedSlot};
-ghost use Rattle.area_commit.specs.Value.{PoolsView, data_pool};
-ghost use Rattle.area_commit.specs.declared.allocation.Allocation.{Allocation};
-ghost use Rattle.area_commit.specs.Allocations.{taken_data};
+ghost use Rattle.inode_plan.specs.graph_change.Change.{Changes, change_at, changed_graph};
+ghost use Rattle.inode_plan.specs.graph_change.Tidy.{AreTidyChanges};
+ghost use Rattle.inode_plan.specs.layout.declared.marks.Marks.{Marks};
+ghost use Rattle.inode_plan.specs.layout.declared.slot.Slot.{Slot};
+ghost use Rattle.inode_plan.specs.layout.Places.{Sizes, IsAllowed, is_inode};
+ghost use Rattle.inode_plan.specs.extent_tree.Map.{TierRuns};
+ghost use Rattle.inode_plan.specs.extent_tree.declared.map.Place.{Place};
+ghost use Rattle.inode_plan.specs.area_reader.Store.{Store, graph, slot, place};
+ghost use Rattle.inode_plan.specs.area_reader.Format.{IsSpelled};
+ghost use Rattle.inode_plan.specs.area_commit.declared.slots.ChangedSlot.{ChangedSlot};
+ghost use Rattle.inode_plan.specs.area_commit.Value.{PoolsView, data_pool};
+ghost use Rattle.inode_plan.specs.area_commit.declared.allocation.Allocation.{Allocation};
+ghost use Rattle.inode_plan.specs.area_commit.Allocations.{taken_data};
 ghost use Rattle.inode_plan.specs.PlannedFile.{pairs_of};
-ghost use Rattle.area_commit.specs.Plan.{IsPlan, is_changed, lost_in};
-ghost use Rattle.area_commit.specs.PlanOutcome.{IsCarriedOut};
-ghost use Rattle.area_commit.specs.Room.{AreReadyFor};
+ghost use Rattle.inode_plan.specs.area_commit.Plan.{IsPlan, is_changed, lost_in};
+ghost use Rattle.inode_plan.specs.area_commit.PlanOutcome.{IsCarriedOut};
+ghost use Rattle.inode_plan.specs.area_commit.Room.{AreReadyFor};
 ghost use Rattle.change_plan.specs.FileLayout.{LeavesFile, AreFirstFree, GetPlaces, LieInPlaces, KeepsPlaces};
 ghost use Rattle.change_plan.specs.Part.{IsTouchedBy};
 ghost use Rattle.change_plan.specs.Parts.{AreParts, share_of};
@@ -33,8 +33,8 @@ use crate::laws::{
     parts_are_planned,
 };
 use crate::partial_plan::PartialPlan;
-use area_commit::{Rewrite, taken_blocks_were_free};
-use layout::Marks;
+use inode_plan::in_area_commit::{Rewrite, taken_blocks_were_free};
+use inode_plan::in_layout::Marks;
 
 /// Before the first inode nothing is planned, over none of the places. What is planned of one inode more, behind them, stands with them: over the next of the places, and over the
 /// blocks of the node pool that were taken for it. Where all places are used, it is planned over all that was taken.

@@ -1,19 +1,19 @@
 // A change with the slots that its inodes have.
 ghost use Rattle.std.specs.Prelude.{◌≡◌, ◌⊎◌, ℕ, true, false, IfOk, IfErr};
 ghost use Rattle.std.specs.FinMap as fin;
-ghost use Rattle.graph_change.specs.Bounds.{AreBounded};
-ghost use Rattle.graph_change.specs.View.{changes_of};
-ghost use Rattle.area_reader.specs.Store.{disk};
-ghost use Rattle.area_reader.specs.Format.{IsSpelled};
-ghost use Rattle.area_reader.specs.Looks.{Looks};
-ghost use Rattle.area_reader.specs.declared.error.AreaError.TheVariants.{DeviceFault, Memory};
+ghost use Rattle.inode_plan.specs.graph_change.Bounds.{AreBounded};
+ghost use Rattle.inode_plan.specs.graph_change.View.{changes_of};
+ghost use Rattle.inode_plan.specs.area_reader.Store.{disk};
+ghost use Rattle.inode_plan.specs.area_reader.Format.{IsSpelled};
+ghost use Rattle.inode_plan.specs.area_reader.Looks.{Looks};
+ghost use Rattle.inode_plan.specs.area_reader.declared.error.AreaError.TheVariants.{DeviceFault, Memory};
 ghost use Rattle.change_plan.specs.ReadSlots.{HaveSlots};
 
 use crate::inode_drop::push_slot;
-use area_commit::ChangedSlot;
-use area_reader::{AreaError, read_slot};
-use batch_journal::Journal;
-use graph_change::GraphChange;
+use inode_plan::in_area_commit::ChangedSlot;
+use inode_plan::in_area_reader::{AreaError, read_slot};
+use inode_plan::in_batch_journal::Journal;
+use inode_plan::in_graph_change::GraphChange;
 use std::alloc::Global;
 use tier_device::Media;
 

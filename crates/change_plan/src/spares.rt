@@ -1,13 +1,13 @@
 // The blocks of the node pool that were taken for one inode.
 ghost use Rattle.std.specs.Prelude.{◌≡◌, ◌≤◌, ◌<◌, ◌+◌, ◌-◌, ◌^◌, ◌++◌, take, drop, length, OnOk, IfOk};
 ghost use Rattle.block_alloc.specs.Runs.{run_blocks, blocks_of};
-ghost use Rattle.area_commit.specs.Value.{PoolsView, AreInOrder};
-ghost use Rattle.area_commit.specs.Allocations.{WereTaken, CanRelease};
+ghost use Rattle.inode_plan.specs.area_commit.Value.{PoolsView, AreInOrder};
+ghost use Rattle.inode_plan.specs.area_commit.Allocations.{WereTaken, CanRelease};
 ghost use Rattle.inode_plan.specs.RunPlaces.{EndsFit};
 ghost use Rattle.change_plan.specs.PlanAddition.{TakesMoreNodes};
 
-use area_commit::{Allocation, Pools};
 use block_alloc::Run;
+use inode_plan::in_area_commit::{Allocation, Pools};
 use std::alloc::{AllocError, Global};
 
 // Adds the blocks of a run.

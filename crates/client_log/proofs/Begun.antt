@@ -5,8 +5,8 @@ use Rattle.std.proofs.lemmas.Bool.{cases_Bool, true≢false}
 use Rattle.tier_device.specs.declared.media.Media.{Ghosts}
 use Rattle.tier_device.specs.declared.media.Tier.{Tier}
 use Rattle.tier_device.specs.declared.media.Tier.TheVariants.{Fast}
-use Rattle.log_record.specs.declared.format.Record.{Record}
-use Rattle.log_record.specs.Grammar.{record_bytes}
+use Rattle.update_log.specs.log_record.declared.format.Record.{Record}
+use Rattle.update_log.specs.log_record.Grammar.{record_bytes}
 use Rattle.update_log.specs.Frames.{before_gate, end_behind, header, spelled_records, with_record}
 use Rattle.update_log.specs.Stage.{IsAppending}
 use Rattle.update_log.specs.declared.format.TheConstants.{REGION_SIZE}

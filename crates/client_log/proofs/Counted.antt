@@ -3,7 +3,7 @@ use Rattle.std.proofs.Common.{◌≡◌, inl, inr, ℕ, ◌%◌, ◌^◌, ◌<�
 use Rattle.std.specs.Prelude.{◌==◌, ◌∷◌, Option, Some, None}
 use Rattle.std.proofs.lemmas.Bool.{eq-eqb, cond-true}
 use Rattle.std.proofs.lemmas.List.{append-nil}
-use Rattle.log_record.specs.declared.format.Record.{Record}
+use Rattle.update_log.specs.log_record.declared.format.Record.{Record}
 use Rattle.update_log.specs.RecordCounts.{next_generation, records_in, records_under}
 use Rattle.update_log.specs.Frames.{records}
 use Rattle.update_log.specs.View.{WithOrWithout}

@@ -6,7 +6,7 @@ use Rattle.tier_device.specs.declared.media.Media.{Ghosts}
 use Rattle.tier_device.specs.declared.media.Tier.{Tier}
 use Rattle.tier_device.specs.declared.media.Tier.TheVariants.{Fast}
 use Rattle.tier_device.specs.StopsSince.{LeftSince}
-use Rattle.log_record.specs.declared.format.Record.{Record}
+use Rattle.update_log.specs.log_record.declared.format.Record.{Record}
 use Rattle.update_log.specs.RecordCounts.{next_generation, records_under}
 use Rattle.update_log.specs.Frames.{end_behind, header, records, with_record}
 use Rattle.update_log.specs.declared.format.TheConstants.{REGION_SIZE}

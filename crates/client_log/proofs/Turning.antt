@@ -2,8 +2,8 @@
 use Rattle.std.proofs.Common.{◌≡◌, ℕ, ◌-◌, true, List, [], ◌∷◌, ◌++◌, refl, sym, ◌∙◌, ap}
 use Rattle.std.specs.Prelude.{Option, Some, None}
 use Rattle.posix_calls.specs.Operations.{is_client}
-use Rattle.log_record.specs.declared.format.Record.{Record}
-use Rattle.call_effects.specs.Knowledge.{knows_after}
+use Rattle.update_log.specs.log_record.declared.format.Record.{Record}
+use Rattle.world_invariant.specs.call_effects.Knowledge.{knows_after}
 use Rattle.world_invariant.specs.World.{Begun, Client, Region, World, at}
 use Rattle.world_invariant.specs.World as world
 use Rattle.world_invariant.specs.ClientSteps.{call_begun, after_reply, with_client}

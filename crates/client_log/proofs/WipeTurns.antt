@@ -4,7 +4,7 @@ use Rattle.std.specs.Prelude.{Option, Some, None, Result, Ok, Err, is_err, IfOk,
 use Rattle.std.proofs.lemmas.Bool.{cases_Bool}
 use Rattle.tier_device.specs.declared.media.Media.{Ghosts}
 use Rattle.tier_device.specs.declared.media.Tier.{Tier}
-use Rattle.log_record.specs.declared.format.Record.{Record}
+use Rattle.update_log.specs.log_record.declared.format.Record.{Record}
 use Rattle.update_log.specs.View.{RegionView, records_of}
 use Rattle.update_log.specs.declared.stage.WipeProgress.{WipeProgress}
 use Rattle.update_log.specs.declared.stage.WipeProgress.TheVariants.{Going, Wiped}

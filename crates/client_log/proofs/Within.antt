@@ -3,8 +3,8 @@ use Rattle.std.proofs.Common.{◌≡◌, ◌<◌, ◌≤◌, ◌+◌, ◌^◌, �
 use Rattle.std.specs.Prelude.{zero, suc, [], ◌∷◌, ◌++◌, Option, length}
 use Rattle.tier_device.specs.declared.media.Media.{Ghosts}
 use Rattle.tier_device.specs.declared.media.Tier.{Tier}
-use Rattle.log_record.specs.declared.format.Record.{Record}
-use Rattle.log_record.specs.Grammar.{record_bytes}
+use Rattle.update_log.specs.log_record.declared.format.Record.{Record}
+use Rattle.update_log.specs.log_record.Grammar.{record_bytes}
 use Rattle.update_log.specs.Frames.{end_behind, taken_length, with_record}
 use Rattle.update_log.specs.View.{RegionView, records_of}
 use Rattle.update_log.specs.declared.format.TheConstants.{REGION_SIZE}

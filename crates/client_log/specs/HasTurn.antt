@@ -1,6 +1,6 @@
 -- A client of the world that has a log.
 use Rattle.std.specs.Prelude.{◌≡◌, Option, Some, None}
-use Rattle.log_record.specs.declared.format.Record.{Record}
+use Rattle.update_log.specs.log_record.declared.format.Record.{Record}
 use Rattle.world_invariant.specs.World.{Begun, Client, Region}
 use Rattle.world_invariant.specs.World as world
 use Rattle.client_log.specs.Turns.{Place, Turn}

@@ -2,8 +2,8 @@
 use Rattle.std.specs.Prelude.{◌≡◌, ◌≢◌, ◌≤◌, ◌+◌, ◌-◌, ◌&&◌, nat_le, if◌then◌else◌, ℕ, Bool, true, false, List, [], length, Option, Some, None, is_some, Result, Ok, Err, is_err}
 use Rattle.tier_device.specs.declared.media.Media.{Ghosts}
 use Rattle.tier_device.specs.declared.media.Tier.{Tier}
-use Rattle.log_record.specs.declared.format.Record.{Record}
-use Rattle.log_record.specs.Grammar.{record_bytes}
+use Rattle.update_log.specs.log_record.declared.format.Record.{Record}
+use Rattle.update_log.specs.log_record.Grammar.{record_bytes}
 use Rattle.update_log.specs.RecordCounts.{next_generation}
 use Rattle.update_log.specs.Frames.{end_behind}
 use Rattle.update_log.specs.View.{RegionView, records_of}

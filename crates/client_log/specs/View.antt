@@ -2,7 +2,7 @@
 use Rattle.std.specs.Prelude.{ℕ, Bool, List, [], Option, if◌then◌else◌}
 use Rattle.tier_device.specs.declared.media.Media.{Ghosts}
 use Rattle.tier_device.specs.declared.media.Tier.{Tier}
-use Rattle.log_record.specs.declared.format.Record.{Record}
+use Rattle.update_log.specs.log_record.declared.format.Record.{Record}
 use Rattle.update_log.specs.View.{RegionView, records_of}
 
 pub record LogView (M : Type 0) : Type 0 where

@@ -1,7 +1,7 @@
 ghost use Rattle.std.specs.Prelude.{◌≡◌, ◌≢◌, ◌⊎◌, ◌≤◌, ◌<◌, ◌+◌, ◌↔◌, ℕ, List, [], length, Some, None, Ok, Err, true, false, is_some, IfErr, IfOk, IfSome, IsErr, IsErrOf, IsOk, IsSome, IsTrue, OnErr, OnOk, IfNone, OnSome};
 ghost use Rattle.tier_device.specs.declared.media.Tier.TheVariants.{Fast};
 ghost use Rattle.tier_device.specs.Media.{Rose};
-ghost use Rattle.log_record.specs.Grammar.{IsRecord, record_bytes};
+ghost use Rattle.update_log.specs.log_record.Grammar.{IsRecord, record_bytes};
 ghost use Rattle.update_log.specs.Calls.{ShowsCall};
 ghost use Rattle.update_log.specs.RecordCounts.{next_generation};
 ghost use Rattle.update_log.specs.Frames.{end_behind};
@@ -22,11 +22,11 @@ ghost use Rattle.client_log.specs.View.{current_records};
 use crate::error::LogError;
 use crate::regions::{in_turn, is_empty, is_pending, is_wiped, next_generation, wipe_call};
 use crate::sealed_regions::left_of_sealed;
-use log_record::Record;
 use std::alloc::Global;
 use std::marker::Model;
 use std::mem;
 use tier_device::Media;
+use update_log::in_log_record::Record;
 use update_log::{Progress, Region, RegionError, Stage, WipeProgress};
 
 /// A client's log: its current region, and the other one, which is here or was handed over.

@@ -22,3 +22,6 @@ pub use turn_laws::{
     appended_record_is_a_step, begun_record_is_in_the_turn, sealed_log_is_a_step,
     taken_back_region_is_a_step, wiped_region_is_a_step,
 };
+
+// Handed on to the crates above, which list only the highest of what they name.
+pub use update_log as in_update_log;

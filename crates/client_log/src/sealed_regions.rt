@@ -10,8 +10,8 @@ ghost use Rattle.client_log.specs.Calls.{IsOnlyRead};
 ghost use Rattle.client_log.specs.Regions.{IsSealedRegion};
 
 use crate::error::LogError;
-use log_record::Record;
 use tier_device::Media;
+use update_log::in_log_record::Record;
 use update_log::{Region, RegionError};
 
 /// Reads the records of a sealed region from its medium, in their order, and changes nothing.

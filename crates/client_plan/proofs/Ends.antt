@@ -12,9 +12,9 @@ use Rattle.posix_calls.specs.Part.{Part, Found, Known, Unknown, run_part}
 use Rattle.posix_calls.specs.Decide.{decide}
 use Rattle.posix_calls.specs.Operations.{makes, reply_of}
 use Rattle.posix_calls.specs.Kinds.{opens}
-use Rattle.file_graph.specs.Graph.{is_among}
-use Rattle.log_record.specs.Grammar.{record_bytes}
-use Rattle.log_record.specs.declared.format.Record.{Record}
+use Rattle.call_effects.specs.file_graph.Graph.{is_among}
+use Rattle.call_effects.specs.log_record.Grammar.{record_bytes}
+use Rattle.call_effects.specs.log_record.declared.format.Record.{Record}
 use Rattle.call_effects.specs.ChangeTest.{changes}
 use Rattle.call_effects.specs.Records.{effects_asked, units_asked}
 use Rattle.call_effects.specs.Subjects.{subjects_of}

@@ -13,3 +13,5 @@ pub mod Spelled
 pub mod Stepping
 pub mod Whole
 pub mod WriteAsked
+-- Handed on to the crates above, which list only the highest of what they name.
+pub use Rattle.call_effects.proofs as call_effects_lemmas

@@ -7,7 +7,7 @@ use Rattle.posix_calls.specs.declared.call.Reply.TheVariants.{Failed}
 use Rattle.posix_calls.specs.declared.operation.Operation.{Operation}
 use Rattle.posix_calls.specs.Part.{Part}
 use Rattle.posix_calls.specs.Operations.{reply_of}
-use Rattle.log_record.specs.declared.format.Record.{Record}
+use Rattle.call_effects.specs.log_record.declared.format.Record.{Record}
 use Rattle.call_effects.specs.ChangeTest.{changes}
 use Rattle.client_plan.specs.declared.need.Need.{Need}
 use Rattle.client_plan.specs.declared.outcome.DescriptorChange.{DescriptorChange}

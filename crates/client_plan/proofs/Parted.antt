@@ -7,7 +7,7 @@ use Rattle.posix_calls.specs.declared.operation.Operation.TheVariants.{Tell}
 use Rattle.posix_calls.specs.Part.{Part}
 use Rattle.posix_calls.specs.Operations.{makes, reply_of}
 use Rattle.posix_calls.specs.Kinds.{is_query, opens}
-use Rattle.log_record.specs.declared.format.Record.{Record}
+use Rattle.call_effects.specs.log_record.declared.format.Record.{Record}
 use Rattle.call_effects.specs.ChangeTest.{changes}
 use Rattle.call_effects.specs.Records.{units_asked}
 use Rattle.call_effects.specs.Subjects.{subjects_of}

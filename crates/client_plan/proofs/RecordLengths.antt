@@ -23,11 +23,11 @@ use Rattle.posix_calls.specs.declared.operation.Operation.{Operation}
 use Rattle.posix_calls.specs.declared.operation.Operation.TheVariants.{Tell, NewDir, NewFile, OpenFile, CloseFile, Write, Resize, RemoveDir, AddName, DropName, Move}
 use Rattle.posix_calls.specs.declared.operation.Replaced.TheVariants.{Nothing, OldFile, OldDir}
 use Rattle.posix_calls.proofs.Readings.{AreNames, reading_names}
-use Rattle.file_graph.specs.declared.effect.Effect.{Effect}
-use Rattle.file_graph.specs.declared.effect.Effect.TheVariants.{Bytes}
-use Rattle.log_record.specs.Grammar.{u32, effect_bytes, record_bytes}
-use Rattle.log_record.specs.declared.format.Record.{Record}
-use Rattle.log_record.proofs.Lengths.{length-u32, effect_size, length-effect_bytes}
+use Rattle.call_effects.specs.file_graph.declared.effect.Effect.{Effect}
+use Rattle.call_effects.specs.file_graph.declared.effect.Effect.TheVariants.{Bytes}
+use Rattle.call_effects.specs.log_record.Grammar.{u32, effect_bytes, record_bytes}
+use Rattle.call_effects.specs.log_record.declared.format.Record.{Record}
+use Rattle.call_effects.proofs.log_record_lemmas.Lengths.{length-u32, effect_size, length-effect_bytes}
 use Rattle.call_effects.specs.Effects.{recounted_file, effects_by}
 use Rattle.call_effects.specs.Records.{names_if, effects_asked, growth_asked, units_asked}
 use Rattle.call_effects.proofs.KnownAsking.{bind_known, result_is}

@@ -10,10 +10,10 @@ use Rattle.posix_calls.specs.Operations.{reply_of}
 use Rattle.posix_calls.specs.WellFormed.{IsWithinLimits}
 use Rattle.posix_calls.specs.declared.call.Call.{Call}
 use Rattle.posix_calls.specs.declared.call.Reply.{Reply}
-use Rattle.file_graph.specs.Graph.{Graph}
-use Rattle.file_graph.specs.declared.effect.Effect.{Effect}
-use Rattle.log_record.specs.Grammar.{FitsLimits, IsRecord, record_bytes}
-use Rattle.log_record.specs.declared.format.Record.{Record}
+use Rattle.call_effects.specs.file_graph.Graph.{Graph}
+use Rattle.call_effects.specs.file_graph.declared.effect.Effect.{Effect}
+use Rattle.call_effects.specs.log_record.Grammar.{FitsLimits, IsRecord, record_bytes}
+use Rattle.call_effects.specs.log_record.declared.format.Record.{Record}
 use Rattle.call_effects.specs.Knowledge.{Knowledge, Agrees, part_of}
 use Rattle.call_effects.specs.Wholes.{IsSound, state_of}
 use Rattle.call_effects.proofs.KnownSteps.{answer_known, effects_known}

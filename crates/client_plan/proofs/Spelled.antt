@@ -3,10 +3,10 @@ use Rattle.std.proofs.Common.{◌≡◌, inl, inr, List, [], ◌∷◌, length, 
 use Rattle.std.specs.Prelude.{◌&&◌, nat_le, nat_lt}
 use Rattle.std.specs.List.{AllByRecursion}
 use Rattle.std.proofs.lemmas.Bool.{and_parts, and_from, leb-true, le-leb, ltb-true, lt-ltb, cases_Bool}
-use Rattle.file_graph.specs.declared.effect.Effect.{Effect}
-use Rattle.log_record.specs.Grammar.{FitsLimits, fits, IsRecord}
-use Rattle.log_record.specs.declared.format.Record.{Record}
-use Rattle.log_record.proofs.Effects.{Fits-from_fits, fits-from_Fits}
+use Rattle.call_effects.specs.file_graph.declared.effect.Effect.{Effect}
+use Rattle.call_effects.specs.log_record.Grammar.{FitsLimits, fits, IsRecord}
+use Rattle.call_effects.specs.log_record.declared.format.Record.{Record}
+use Rattle.call_effects.proofs.log_record_lemmas.Effects.{Fits-from_fits, fits-from_Fits}
 use Rattle.client_plan.specs.NeedOrder.{are_fit, is_record}
 
 fit_from : (es : List Effect) → are_fit es ≡ true → AllByRecursion FitsLimits es

@@ -14,11 +14,11 @@ use Rattle.posix_calls.specs.Decide.{decide}
 use Rattle.posix_calls.specs.Operations.{makes, reply_of, own_after, Step}
 use Rattle.posix_calls.specs.Kinds.{opens}
 use Rattle.posix_calls.proofs.Steps.{with_same}
-use Rattle.file_graph.specs.Graph.{Graph, is_among, touches, after_effects}
-use Rattle.file_graph.specs.Units.{growth}
-use Rattle.file_graph.specs.declared.effect.Effect.{Effect}
-use Rattle.log_record.specs.Grammar.{record_bytes}
-use Rattle.log_record.specs.declared.format.Record.{Record}
+use Rattle.call_effects.specs.file_graph.Graph.{Graph, is_among, touches, after_effects}
+use Rattle.call_effects.specs.file_graph.Units.{growth}
+use Rattle.call_effects.specs.file_graph.declared.effect.Effect.{Effect}
+use Rattle.call_effects.specs.log_record.Grammar.{record_bytes}
+use Rattle.call_effects.specs.log_record.declared.format.Record.{Record}
 use Rattle.call_effects.specs.ChangeTest.{changes}
 use Rattle.call_effects.specs.Effects.{recounted_file, effects_by}
 use Rattle.call_effects.specs.Knowledge.{Knowledge, Agrees, IsPlanned, part_of}

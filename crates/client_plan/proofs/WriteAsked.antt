@@ -11,7 +11,7 @@ use Rattle.posix_calls.specs.Query.{Seen, Gives, Refuses, ◌>>=◌}
 use Rattle.posix_calls.specs.Part.{Part, Known, Unknown, run_part}
 use Rattle.posix_calls.specs.Tree.{Own}
 use Rattle.posix_calls.specs.Walk.{refuse, size_seen}
-use Rattle.file_graph.specs.declared.effect.Effect.TheVariants.{Bytes}
+use Rattle.call_effects.specs.file_graph.declared.effect.Effect.TheVariants.{Bytes}
 use Rattle.call_effects.specs.Records.{effects_asked, units_asked, file_rise}
 
 opened_gives : (o : Option Descriptor) (d : Descriptor) → o ≡ Some d → d.writes ≡ true → open_inode (λ d. d.writes) o ≡ Gives d.inode

@@ -10,11 +10,11 @@ use Rattle.posix_calls.specs.declared.limits.TheConstants.{MAX_FILE, MAX_TRANSFE
 use Rattle.posix_calls.specs.Decide.{pwrite}
 use Rattle.posix_calls.specs.Query.{Query, Gives}
 use Rattle.posix_calls.specs.Part.{Part, run_part}
-use Rattle.file_graph.specs.declared.effect.Effect.TheVariants.{Bytes}
+use Rattle.call_effects.specs.file_graph.declared.effect.Effect.TheVariants.{Bytes}
 use Rattle.call_effects.specs.Records.{units_asked}
-use Rattle.log_record.specs.Grammar.{IsRecord, u32, effect_bytes, record_bytes}
-use Rattle.log_record.proofs.Effects.{Fits-from_fits}
-use Rattle.log_record.proofs.Lengths.{length-u32, length-effect_bytes}
+use Rattle.call_effects.specs.log_record.Grammar.{IsRecord, u32, effect_bytes, record_bytes}
+use Rattle.call_effects.proofs.log_record_lemmas.Effects.{Fits-from_fits}
+use Rattle.call_effects.proofs.log_record_lemmas.Lengths.{length-u32, length-effect_bytes}
 use Rattle.client_plan.specs.declared.need.Need.{Need}
 use Rattle.client_plan.specs.declared.need.Need.TheVariants.{Lease, View, Units, Room}
 use Rattle.client_plan.specs.declared.need.Mode.TheVariants as mode

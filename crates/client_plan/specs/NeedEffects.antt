@@ -8,9 +8,9 @@ use Rattle.posix_calls.specs.declared.call.Call.{Call}
 use Rattle.posix_calls.specs.declared.limits.TheConstants.{MAX_TRANSFER}
 use Rattle.posix_calls.specs.declared.operation.Missing.TheVariants as missing
 use Rattle.posix_calls.specs.declared.operation.Operation.{Operation}
-use Rattle.file_graph.specs.Graph.{is_among}
-use Rattle.log_record.specs.Grammar.{record_bytes}
-use Rattle.log_record.specs.declared.format.Record.{Record}
+use Rattle.call_effects.specs.file_graph.Graph.{is_among}
+use Rattle.call_effects.specs.log_record.Grammar.{record_bytes}
+use Rattle.call_effects.specs.log_record.declared.format.Record.{Record}
 use Rattle.call_effects.specs.ChangeTest.{changes}
 use Rattle.call_effects.specs.Records.{effects_asked, units_asked}
 use Rattle.client_plan.specs.declared.need.Need.{Need}

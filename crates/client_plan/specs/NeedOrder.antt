@@ -12,11 +12,11 @@ use Rattle.posix_calls.specs.declared.operation.DecideError.{DecideError}
 use Rattle.posix_calls.specs.declared.operation.DecideError.TheVariants as why
 use Rattle.posix_calls.specs.declared.operation.Operation.{Operation}
 use Rattle.posix_calls.specs.declared.limits.TheConstants.{ROOT}
-use Rattle.file_graph.specs.Graph.{is_among}
-use Rattle.file_graph.specs.declared.effect.Effect.{Effect}
-use Rattle.log_record.specs.Grammar.{fits, record_bytes}
-use Rattle.log_record.specs.declared.format.Record.{Record}
-use Rattle.log_record.specs.declared.format.TheConstants.{MAX_EFFECTS}
+use Rattle.call_effects.specs.file_graph.Graph.{is_among}
+use Rattle.call_effects.specs.file_graph.declared.effect.Effect.{Effect}
+use Rattle.call_effects.specs.log_record.Grammar.{fits, record_bytes}
+use Rattle.call_effects.specs.log_record.declared.format.Record.{Record}
+use Rattle.call_effects.specs.log_record.declared.format.TheConstants.{MAX_EFFECTS}
 use Rattle.client_plan.specs.declared.stop.Stop.{Stop}
 use Rattle.client_plan.specs.declared.stop.Stop.TheVariants as stop
 use Rattle.client_plan.specs.declared.need.Need.{Need}

@@ -5,10 +5,10 @@ use Rattle.posix_calls.specs.declared.call.Reply.TheVariants.{Wrote}
 use Rattle.posix_calls.specs.Query.{Seen}
 use Rattle.posix_calls.specs.Part.{Part}
 use Rattle.posix_calls.specs.Walk.{size_seen}
-use Rattle.file_graph.specs.Numbers.{is_inode}
-use Rattle.file_graph.specs.declared.effect.Effect.TheVariants.{Bytes}
-use Rattle.log_record.specs.Grammar.{is_write}
-use Rattle.log_record.specs.declared.format.Record.{Record}
+use Rattle.call_effects.specs.file_graph.Numbers.{is_inode}
+use Rattle.call_effects.specs.file_graph.declared.effect.Effect.TheVariants.{Bytes}
+use Rattle.call_effects.specs.log_record.Grammar.{is_write}
+use Rattle.call_effects.specs.log_record.declared.format.Record.{Record}
 use Rattle.call_effects.specs.Records.{file_rise}
 use Rattle.client_plan.specs.declared.outcome.Outcome.{Outcome}
 use Rattle.client_plan.specs.declared.outcome.Outcome.TheVariants.{Log}

@@ -10,9 +10,9 @@ use Rattle.posix_calls.specs.declared.call.Reply.TheVariants.{Failed}
 use Rattle.posix_calls.specs.declared.descriptor.Descriptor.{Descriptor}
 use Rattle.posix_calls.specs.declared.errno.Errno.{Errno}
 use Rattle.posix_calls.specs.declared.operation.Operation.{Operation}
-use Rattle.file_graph.specs.Graph.{is_among, touches}
-use Rattle.log_record.specs.Grammar.{IsRecord, record_bytes}
-use Rattle.log_record.specs.declared.format.Record.{Record}
+use Rattle.call_effects.specs.file_graph.Graph.{is_among, touches}
+use Rattle.call_effects.specs.log_record.Grammar.{IsRecord, record_bytes}
+use Rattle.call_effects.specs.log_record.declared.format.Record.{Record}
 use Rattle.call_effects.specs.Knowledge.{Knowledge, IsPlanned, part_of}
 use Rattle.call_effects.specs.Records.{units_asked}
 use Rattle.client_plan.specs.declared.outcome.DescriptorChange.{DescriptorChange}

@@ -8,7 +8,7 @@ ghost use Rattle.posix_calls.specs.Decide.{decide};
 ghost use Rattle.posix_calls.specs.Memory.{takes_memory};
 ghost use Rattle.posix_calls.specs.declared.errno.Errno.{Errno};
 ghost use Rattle.client_plan.specs.declared.need.Need.{Need};
-ghost use Rattle.log_record.specs.Grammar.{IsRecord, record_bytes};
+ghost use Rattle.call_effects.specs.log_record.Grammar.{IsRecord, record_bytes};
 ghost use Rattle.call_effects.specs.ChangeTest.{changes};
 ghost use Rattle.call_effects.specs.Records.{units_asked};
 ghost use Rattle.client_plan.specs.PlanSteps as course_of;
@@ -24,8 +24,8 @@ use crate::outcome::{DescriptorChange, Outcome};
 use crate::stop::Stop;
 use crate::supplies::Supplies;
 use crate::words::WordsAlone;
+use call_effects::in_log_record::Record;
 use call_effects::{growth_of, record_of, subjects};
-use log_record::Record;
 use posix_calls::{
     Call, DecideError, Missing, Operation, OwnDescriptors, ROOT, Reply, TreeAnswers, decide,
 };

@@ -23,3 +23,6 @@ pub use need::{Mode, Need};
 pub use outcome::{DescriptorChange, Outcome};
 pub use plain_writes::{PlainWrite, plain_write, record_of_write};
 pub use supplies::Supplies;
+
+// Handed on to the crates above, which list only the highest of what they name.
+pub use call_effects::{in_file_graph, in_log_record};

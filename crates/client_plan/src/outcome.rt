@@ -1,5 +1,5 @@
 use crate::need::Need;
-use log_record::Record;
+use call_effects::in_log_record::Record;
 use posix_calls::{Descriptor, Reply};
 
 /// What becomes of one of a client's descriptors: something is open at the number, or nothing any more.

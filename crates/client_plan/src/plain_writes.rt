@@ -2,15 +2,15 @@
 ghost use Rattle.std.specs.Prelude.{◌≡◌, ◌<◌, ◌≤◌, max, ℕ, [], IfNone, IfOk, IfSome};
 ghost use Rattle.posix_calls.specs.declared.limits.TheConstants.{MAX_FILE};
 ghost use Rattle.posix_calls.specs.Units.{file_units};
-ghost use Rattle.log_record.specs.Grammar.{is_write};
+ghost use Rattle.call_effects.specs.log_record.Grammar.{is_write};
 ghost use Rattle.call_effects.specs.Records.{file_rise};
 ghost use Rattle.client_plan.specs.PlainWrite.{IsPlainWrite, IsWritable, has_place, written_by};
 ghost use Rattle.client_plan.specs.declared.plain_writes.PlainWrite.{PlainWrite};
 
 use crate::call_plan::first_unused;
 use crate::supplies::Supplies;
-use file_graph::{Effect, Effects, is_inode};
-use log_record::Record;
+use call_effects::in_file_graph::{Effect, Effects, is_inode};
+use call_effects::in_log_record::Record;
 use posix_calls::{MAX_FILE, MAX_TRANSFER, SharedBytes, TreeAnswers, UNIT_BYTES};
 use std::alloc::AllocError;
 

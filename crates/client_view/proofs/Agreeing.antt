@@ -5,13 +5,13 @@ use Rattle.std.proofs.lemmas.Bool.{cases_Bool, and_parts, cond-true, cond-false}
 use Rattle.std.proofs.lemmas.Bool.Decides.{nat_tests}
 use Rattle.std.proofs.lemmas.List.{length-take, length-drop}
 use Rattle.posix_calls.specs.Tree.{Descriptors}
-use Rattle.file_graph.specs.Graph.{Graph, Node, FileBody, DirBody, file_bytes}
-use Rattle.file_graph.specs.Numbers.{in_run}
-use Rattle.log_record.specs.declared.format.Record.{Record}
-use Rattle.call_effects.specs.Blocks.{block_of}
-use Rattle.call_effects.specs.Knowledge.{Knowledge, Agrees, IsForgetful, with_blocks}
-use Rattle.call_effects.specs.NodeView.{FileView, view_of_node}
-use Rattle.call_effects.proofs.Served.{blocks_agree, less_agrees}
+use Rattle.client_plan.specs.file_graph.Graph.{Graph, Node, FileBody, DirBody, file_bytes}
+use Rattle.client_plan.specs.file_graph.Numbers.{in_run}
+use Rattle.client_plan.specs.log_record.declared.format.Record.{Record}
+use Rattle.client_plan.specs.call_effects.Blocks.{block_of}
+use Rattle.client_plan.specs.call_effects.Knowledge.{Knowledge, Agrees, IsForgetful, with_blocks}
+use Rattle.client_plan.specs.call_effects.NodeView.{FileView, view_of_node}
+use Rattle.client_plan.proofs.call_effects_lemmas.Served.{blocks_agree, less_agrees}
 use Rattle.world_invariant.specs.Logs.{after_records}
 use Rattle.client_view.specs.After.{block_laid, bytes_at}
 use Rattle.client_view.proofs.Laid.{block_is}

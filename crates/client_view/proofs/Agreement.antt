@@ -8,15 +8,15 @@ use Rattle.posix_calls.specs.declared.call.Call.{Call}
 use Rattle.posix_calls.specs.declared.call.Reply.{Reply}
 use Rattle.posix_calls.specs.declared.operation.Operation.{Operation}
 use Rattle.posix_calls.specs.declared.operation.Operation.TheVariants.{Tell, NewDir, NewFile, OpenFile, CloseFile, Write, Resize, RemoveDir, AddName, DropName, Move}
-use Rattle.file_graph.specs.Graph.{Graph, is_among, touches, after_effects}
-use Rattle.file_graph.specs.declared.effect.Effect.{Effect}
-use Rattle.log_record.specs.declared.format.Record.{Record}
-use Rattle.call_effects.specs.Blocks.{block_after}
-use Rattle.call_effects.specs.NodeView.{NodeView, view_after}
-use Rattle.call_effects.specs.Knowledge.{Knowledge, Agrees, IsForgetful, IsPlanned, knows_after, knows_made, part_of}
-use Rattle.call_effects.specs.Wholes.{IsSound}
-use Rattle.call_effects.proofs.KnownAfter.{agrees_after, made_agrees}
-use Rattle.call_effects.proofs.Served.{less_agrees}
+use Rattle.client_plan.specs.file_graph.Graph.{Graph, is_among, touches, after_effects}
+use Rattle.client_plan.specs.file_graph.declared.effect.Effect.{Effect}
+use Rattle.client_plan.specs.log_record.declared.format.Record.{Record}
+use Rattle.client_plan.specs.call_effects.Blocks.{block_after}
+use Rattle.client_plan.specs.call_effects.NodeView.{NodeView, view_after}
+use Rattle.client_plan.specs.call_effects.Knowledge.{Knowledge, Agrees, IsForgetful, IsPlanned, knows_after, knows_made, part_of}
+use Rattle.client_plan.specs.call_effects.Wholes.{IsSound}
+use Rattle.client_plan.proofs.call_effects_lemmas.KnownAfter.{agrees_after, made_agrees}
+use Rattle.client_plan.proofs.call_effects_lemmas.Served.{less_agrees}
 use Rattle.client_plan.specs.declared.outcome.DescriptorChange.{DescriptorChange}
 use Rattle.client_plan.specs.declared.outcome.Outcome.TheVariants as outcomes
 use Rattle.client_plan.specs.Holdings.{Holdings}

@@ -3,10 +3,10 @@ use Rattle.std.proofs.Common.{◌≡◌, inl, inr, ℕ, ◌<◌, cond, length, s
 use Rattle.std.specs.Prelude.{◌==◌, option_map}
 use Rattle.std.proofs.lemmas.Bool.{cases_eq, eq-eqb, ne_eqb, cond-true, cond-false}
 use Rattle.std.proofs.lemmas.List.Concat.{flat_map-cons}
-use Rattle.file_graph.specs.Graph.{is_among, subjects, touches}
-use Rattle.file_graph.specs.declared.effect.Effect.{Effect}
+use Rattle.client_plan.specs.file_graph.Graph.{is_among, subjects, touches}
+use Rattle.client_plan.specs.file_graph.declared.effect.Effect.{Effect}
 use Rattle.block_cache.specs.CacheList.{without_file}
-use Rattle.call_effects.specs.NodeView.{NodeView, view_acted}
+use Rattle.client_plan.specs.call_effects.NodeView.{NodeView, view_acted}
 use Rattle.record_validation.specs.KnownNodes.{known_after}
 use Rattle.record_validation.proofs.Steps.{on_one}
 use Rattle.client_view.specs.KnowledgeTables.{Held, copy_at, knows}

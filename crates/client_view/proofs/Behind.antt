@@ -1,6 +1,6 @@
 -- What is laid behind a mark in the region that was handed over: first the rest of that region's records, then those of the one that is written.
 use Rattle.std.proofs.Common.{◌≡◌, ℕ, Bool, false, cond, List, ◌++◌, drop, Option, ap, sym, ◌∙◌}
-use Rattle.log_record.specs.declared.format.Record.{Record}
+use Rattle.client_plan.specs.log_record.declared.format.Record.{Record}
 use Rattle.client_view.specs.After.{run_laid}
 use Rattle.client_view.specs.RecordLists.{Kept, beyond}
 use Rattle.client_view.proofs.Runs.{run_joined}

@@ -2,7 +2,7 @@
 use Rattle.std.proofs.Common.{◌≡◌, ℕ, Bool, true, false, cond, Option, Some, None, refl}
 use Rattle.std.specs.Prelude.{◌==◌, not}
 use Rattle.std.proofs.lemmas.Bool.{and_parts}
-use Rattle.call_effects.specs.Knowledge.{Knowledge, IsForgetful}
+use Rattle.client_plan.specs.call_effects.Knowledge.{Knowledge, IsForgetful}
 use Rattle.client_view.specs.KnowledgeChanges.{without_blocks, without_granted, without_inode}
 
 kept : {X : Type 0} (gone : Bool) (o : Option X) (x : X) → cond gone None o ≡ Some x → o ≡ Some x

@@ -1,11 +1,11 @@
 -- What effects that keep the limits touch is an inode.
 use Rattle.std.proofs.Common.{◌≡◌, ℕ, true, ap, ◌∙◌, arith}
 use Rattle.std.proofs.lemmas.Bool.Decides.{nat_tests}
-use Rattle.file_graph.specs.Numbers.{is_inode}
-use Rattle.file_graph.specs.Subject.{subject}
-use Rattle.file_graph.specs.declared.effect.Effect.{Effect}
-use Rattle.file_graph.specs.declared.effect.Effect.TheVariants as effect
-use Rattle.log_record.specs.Grammar.{FitsLimits, IsInode}
+use Rattle.client_plan.specs.file_graph.Numbers.{is_inode}
+use Rattle.client_plan.specs.file_graph.Subject.{subject}
+use Rattle.client_plan.specs.file_graph.declared.effect.Effect.{Effect}
+use Rattle.client_plan.specs.file_graph.declared.effect.Effect.TheVariants as effect
+use Rattle.client_plan.specs.log_record.Grammar.{FitsLimits, IsInode}
 
 pub inode_is : (i : ℕ) → IsInode i → is_inode i ≡ true
 inode_is i is = let low = is.0 in let high = is.1 in grind (arith, nat_tests, low, high)

@@ -3,7 +3,7 @@ use Rattle.std.proofs.Common.{◌≡◌, ℕ, zero, suc, ◌+◌, ◌-◌, ◌*�
 use Rattle.std.specs.Prelude.{is_some, option_map}
 use Rattle.posix_calls.specs.Content.{range}
 use Rattle.posix_calls.specs.Part.{blocks_touched}
-use Rattle.call_effects.specs.Blocks.{joined_bytes, blocks_joined, range_by}
+use Rattle.client_plan.specs.call_effects.Blocks.{joined_bytes, blocks_joined, range_by}
 
 -- the first block, and what follows it
 split : (block : List ℕ) (o : Option (List ℕ)) (joined : List ℕ) → joined_bytes (Some block) o ≡ Some joined → (more : List ℕ) × (o ≡ Some more) × (joined ≡ block ++ more)

@@ -5,8 +5,8 @@ use Rattle.std.proofs.lemmas.List.{get_or-set_same, get_or-set_other}
 use Rattle.std.proofs.lemmas.Bool.{cases_eq, eq-eqb, ne_eqb, cond-true, cond-false}
 use Rattle.block_cache.specs.CacheList.{Block, without_file}
 use Rattle.block_cache.proofs.Found.{file_gone, others_stay}
-use Rattle.call_effects.specs.NodeView.{NodeView}
-use Rattle.call_effects.specs.Knowledge.{with_copy}
+use Rattle.client_plan.specs.call_effects.NodeView.{NodeView}
+use Rattle.client_plan.specs.call_effects.Knowledge.{with_copy}
 use Rattle.posix_calls.specs.Own.{own_of}
 use Rattle.posix_calls.specs.Tree.{set_own}
 use Rattle.posix_calls.specs.declared.descriptor.Descriptor.{Descriptor}

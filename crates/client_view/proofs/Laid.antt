@@ -4,14 +4,14 @@ use Rattle.std.specs.Prelude.{option_map, unwrap_or}
 use Rattle.std.specs.FinMap as fin
 use Rattle.std.proofs.Math.Seq.{drop-nil}
 use Rattle.posix_calls.specs.Content.{Entries, with_length, with_bytes}
-use Rattle.file_graph.specs.Graph.{Graph, Node, FileBody, DirBody, subject_after, after_effect, after_effects, file_bytes, in_directory, in_file, is_among, subjects, with_body}
-use Rattle.file_graph.specs.declared.effect.Effect.{Effect}
-use Rattle.file_graph.specs.declared.effect.Effect.TheVariants as effect
-use Rattle.file_graph.specs.declared.effect.Kind.{Kind}
-use Rattle.file_graph.specs.declared.effect.Kind.TheVariants as kind
-use Rattle.log_record.specs.declared.format.Record.{Record}
-use Rattle.call_effects.specs.Blocks.{block_acted, block_after, block_of, block_resized, block_written}
-use Rattle.call_effects.proofs.Blocks.{resized_block, written_block}
+use Rattle.client_plan.specs.file_graph.Graph.{Graph, Node, FileBody, DirBody, subject_after, after_effect, after_effects, file_bytes, in_directory, in_file, is_among, subjects, with_body}
+use Rattle.client_plan.specs.file_graph.declared.effect.Effect.{Effect}
+use Rattle.client_plan.specs.file_graph.declared.effect.Effect.TheVariants as effect
+use Rattle.client_plan.specs.file_graph.declared.effect.Kind.{Kind}
+use Rattle.client_plan.specs.file_graph.declared.effect.Kind.TheVariants as kind
+use Rattle.client_plan.specs.log_record.declared.format.Record.{Record}
+use Rattle.client_plan.specs.call_effects.Blocks.{block_acted, block_after, block_of, block_resized, block_written}
+use Rattle.client_plan.proofs.call_effects_lemmas.Blocks.{resized_block, written_block}
 use Rattle.world_invariant.specs.Logs.{after_records}
 use Rattle.client_view.specs.After.{block_laid, bytes_at}
 

@@ -8,8 +8,8 @@ use Rattle.std.proofs.lemmas.List.Folds.{list_any-append}
 use Rattle.std.proofs.lemmas.List.Concat.{flat_map-cons}
 use Rattle.std.proofs.lemmas.Grind.{flat_map-append}
 use Rattle.block_cache.specs.CacheList.{Block, without_file}
-use Rattle.file_graph.specs.Graph.{is_among, subjects, touches}
-use Rattle.file_graph.specs.declared.effect.Effect.{Effect}
+use Rattle.client_plan.specs.file_graph.Graph.{is_among, subjects, touches}
+use Rattle.client_plan.specs.file_graph.declared.effect.Effect.{Effect}
 use Rattle.record_validation.proofs.Steps.{on_one}
 use Rattle.client_view.specs.AfterRecord.{without_made, without_touched}
 use Rattle.client_view.proofs.Untouched.{among_more}

@@ -10,12 +10,12 @@ use Rattle.std.proofs.lemmas.Bool.Decides.{nat_tests}
 use Rattle.posix_calls.specs.Tree.{any_up_to}
 use Rattle.posix_calls.specs.declared.limits.TheConstants.{MAX_INODE, ROOT}
 use Rattle.posix_calls.proofs.Sums.{any_there}
-use Rattle.file_graph.specs.Numbers.{is_inode}
-use Rattle.file_graph.specs.Plain.{PlainEntry, pairs}
-use Rattle.file_graph.specs.declared.effect.Kind.{Kind}
-use Rattle.file_graph.specs.declared.effect.Kind.TheVariants as kinds
-use Rattle.call_effects.specs.Knowledge.{same_kind, lists_as, is_dir_by}
-use Rattle.call_effects.specs.NodeView.{NodeView}
+use Rattle.client_plan.specs.file_graph.Numbers.{is_inode}
+use Rattle.client_plan.specs.file_graph.Plain.{PlainEntry, pairs}
+use Rattle.client_plan.specs.file_graph.declared.effect.Kind.{Kind}
+use Rattle.client_plan.specs.file_graph.declared.effect.Kind.TheVariants as kinds
+use Rattle.client_plan.specs.call_effects.Knowledge.{same_kind, lists_as, is_dir_by}
+use Rattle.client_plan.specs.call_effects.NodeView.{NodeView}
 use Rattle.record_validation.specs.NodeAnswers.{entries_of}
 use Rattle.client_view.specs.KnowledgeTables.{copy_at, is_listed_in, known_dir_in}
 use Rattle.client_view.proofs.Views.{told_by_entries, tells_is}

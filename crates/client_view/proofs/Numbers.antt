@@ -3,7 +3,7 @@ use Rattle.std.proofs.Common.{◌≡◌, ◌≢◌, ℕ, List, [], ◌∷◌, re
 use Rattle.std.specs.Prelude.{◌==◌, ◌||◌, ◌&&◌, not}
 use Rattle.std.proofs.lemmas.Bool.{cases_eq, eq-eqb, ne_eqb, cond-true, cond-false}
 use Rattle.std.specs.List.{filter}
-use Rattle.file_graph.specs.Graph.{is_among}
+use Rattle.client_plan.specs.file_graph.Graph.{is_among}
 use Rattle.client_view.specs.KnowledgeTables.{Held, knows}
 use Rattle.client_view.specs.KnowledgeChanges.{without_granted}
 

@@ -6,11 +6,11 @@ use Rattle.std.proofs.lemmas.Bool.{cases_Bool, eqb-true, eq-eqb, and_parts, and_
 use Rattle.std.proofs.lemmas.Bool.Decides.{nat_tests}
 use Rattle.std.proofs.lemmas.List.{take-append-le, take_all}
 use Rattle.posix_calls.specs.Content.{with_length}
-use Rattle.file_graph.specs.Numbers.{in_run}
+use Rattle.client_plan.specs.file_graph.Numbers.{in_run}
 use Rattle.block_cache.specs.CacheList.{Block, bytes_at, put_block, used_run}
 use Rattle.block_cache.proofs.Found.{put_found, put_others, used_run_stays}
-use Rattle.call_effects.specs.NodeView.{NodeView, FileView}
-use Rattle.call_effects.specs.Knowledge.{IsForgetful, with_blocks}
+use Rattle.client_plan.specs.call_effects.NodeView.{NodeView, FileView}
+use Rattle.client_plan.specs.call_effects.Knowledge.{IsForgetful, with_blocks}
 use Rattle.client_view.specs.KnowledgeTables.{Held, copy_at, size_known, kept_at, file_block, block_by, block_known, knows}
 use Rattle.client_view.specs.BlockPut.{IsBlockLong}
 

@@ -5,12 +5,12 @@ use Rattle.std.specs.List.{AllByRecursion}
 use Rattle.std.proofs.lemmas.List.{take_all, drop_all}
 use Rattle.std.proofs.lemmas.Bool.Decides.{nat_tests}
 use Rattle.posix_calls.specs.Content.{with_bytes}
-use Rattle.file_graph.specs.Graph.{is_among, subjects}
-use Rattle.file_graph.specs.declared.effect.Effect.{Effect}
-use Rattle.file_graph.specs.declared.effect.Effect.TheVariants as effect
-use Rattle.log_record.specs.declared.format.Record.{Record}
-use Rattle.log_record.specs.Grammar.{IsRecord}
-use Rattle.call_effects.specs.Blocks.{block_acted, block_written}
+use Rattle.client_plan.specs.file_graph.Graph.{is_among, subjects}
+use Rattle.client_plan.specs.file_graph.declared.effect.Effect.{Effect}
+use Rattle.client_plan.specs.file_graph.declared.effect.Effect.TheVariants as effect
+use Rattle.client_plan.specs.log_record.declared.format.Record.{Record}
+use Rattle.client_plan.specs.log_record.Grammar.{IsRecord}
+use Rattle.client_plan.specs.call_effects.Blocks.{block_acted, block_written}
 use Rattle.record_validation.proofs.Steps.{on_one}
 use Rattle.client_view.specs.RecordReach.{AreReaches, IsReachOf}
 use Rattle.client_view.specs.declared.record_reach.RecordReach.{RecordReach}

@@ -7,14 +7,14 @@ use Rattle.std.specs.Ordering.{nat_cmp}
 use Rattle.std.specs.Cmp.Lexicographic.{slice_cmp, nat_list_cmp_total}
 use Rattle.std.proofs.lemmas.Bool.{cases_eq}
 use Rattle.std.proofs.lemmas.List.{get_or_append_left, get_or_at, get_or_default, length-take-le, take_all}
-use Rattle.file_graph.specs.Graph.{is_among, subjects, touches}
-use Rattle.file_graph.specs.Subject.{subject}
-use Rattle.file_graph.specs.declared.effect.Effect.{Effect}
-use Rattle.file_graph.specs.declared.effect.Effect.TheVariants as effect
-use Rattle.file_graph.specs.declared.effect.Kind.{Kind}
-use Rattle.file_graph.specs.declared.effect.Kind.TheVariants as kind
-use Rattle.call_effects.specs.NodeView.{NodeView, FileView, DirView, view_acted, view_after}
-use Rattle.call_effects.specs.Knowledge.{Knowledge}
+use Rattle.client_plan.specs.file_graph.Graph.{is_among, subjects, touches}
+use Rattle.client_plan.specs.file_graph.Subject.{subject}
+use Rattle.client_plan.specs.file_graph.declared.effect.Effect.{Effect}
+use Rattle.client_plan.specs.file_graph.declared.effect.Effect.TheVariants as effect
+use Rattle.client_plan.specs.file_graph.declared.effect.Kind.{Kind}
+use Rattle.client_plan.specs.file_graph.declared.effect.Kind.TheVariants as kind
+use Rattle.client_plan.specs.call_effects.NodeView.{NodeView, FileView, DirView, view_acted, view_after}
+use Rattle.client_plan.specs.call_effects.Knowledge.{Knowledge}
 use Rattle.record_validation.specs.KnownNodes.{known_after}
 use Rattle.record_validation.specs.NodeAnswers.{entries_of}
 use Rattle.client_view.specs.AfterRecord.{with_effects}

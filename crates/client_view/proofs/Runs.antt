@@ -3,9 +3,9 @@ use Rattle.std.proofs.Common.{◌≡◌, ◌≢◌, ◌<◌, ◌≤◌, ◌⊎�
 use Rattle.std.proofs.lemmas.List.{drop_all, ext_get_or, get_or-set_same, get_or-set_other}
 use Rattle.std.proofs.lemmas.Bool.{cases_lt}
 use Rattle.std.proofs.lemmas.Bool.Decides.{eqb_tells}
-use Rattle.file_graph.specs.declared.effect.Effect.{Effect}
-use Rattle.log_record.specs.declared.format.Record.{Record}
-use Rattle.call_effects.specs.Blocks.{block_after}
+use Rattle.client_plan.specs.file_graph.declared.effect.Effect.{Effect}
+use Rattle.client_plan.specs.log_record.declared.format.Record.{Record}
+use Rattle.client_plan.specs.call_effects.Blocks.{block_after}
 use Rattle.client_view.specs.After.{block_laid, run_after, run_laid}
 use Rattle.client_view.specs.RecordReach.{AreShort, AreWhole, IsReachOf, block_length, may_change}
 use Rattle.client_view.specs.declared.record_reach.RecordReach.{RecordReach}

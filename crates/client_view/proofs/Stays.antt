@@ -4,10 +4,10 @@ use Rattle.std.specs.Prelude.{IsSome}
 use Rattle.std.proofs.lemmas.Bool.{eq-eqb}
 use Rattle.posix_calls.specs.declared.call.Call.{Call}
 use Rattle.posix_calls.specs.declared.call.Reply.{Reply}
-use Rattle.file_graph.specs.Subject.{subject}
-use Rattle.file_graph.specs.declared.effect.Effect.{Effect}
-use Rattle.call_effects.specs.NodeView.{NodeView}
-use Rattle.call_effects.specs.Knowledge.{Knowledge, part_of}
+use Rattle.client_plan.specs.file_graph.Subject.{subject}
+use Rattle.client_plan.specs.file_graph.declared.effect.Effect.{Effect}
+use Rattle.client_plan.specs.call_effects.NodeView.{NodeView}
+use Rattle.client_plan.specs.call_effects.Knowledge.{Knowledge, part_of}
 use Rattle.client_plan.specs.declared.outcome.Outcome.TheVariants as outcomes
 use Rattle.client_plan.specs.Holdings.{Holdings}
 use Rattle.client_plan.specs.CallPlan.{outcome}

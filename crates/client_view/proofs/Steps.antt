@@ -1,9 +1,9 @@
 -- What is laid effect by effect, one more at a time.
 use Rattle.std.proofs.Common.{◌≡◌, ◌<◌, ◌≤◌, ℕ, ◌+◌, cond, List, ◌∷◌, length, drop, get_or, Option, ap, sym, ◌∙◌}
 use Rattle.std.proofs.lemmas.List.{drop_all, drop_more}
-use Rattle.file_graph.specs.Graph.{is_among, subjects}
-use Rattle.file_graph.specs.declared.effect.Effect.{Effect}
-use Rattle.call_effects.specs.Blocks.{block_acted, block_after}
+use Rattle.client_plan.specs.file_graph.Graph.{is_among, subjects}
+use Rattle.client_plan.specs.file_graph.declared.effect.Effect.{Effect}
+use Rattle.client_plan.specs.call_effects.Blocks.{block_acted, block_after}
 
 pub from_here : {X : Type 0} (xs : List X) (k : ℕ) (x : X) → k < length xs → x ≡ get_or xs k x → drop k xs ≡ x ∷ drop (k + 1) xs
 from_here {X} xs k x inside is = drop_more xs k x inside ∙ ap (λ (y : X). y ∷ drop (k + 1) xs) (sym is)

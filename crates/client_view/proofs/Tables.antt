@@ -1,6 +1,6 @@
 -- A table of slots of which nothing is known.
 use Rattle.std.proofs.Common.{◌≡◌, ℕ, zero, suc, List, [], ◌∷◌, ◌++◌, length, Option, None, refl}
-use Rattle.call_effects.specs.NodeView.{NodeView}
+use Rattle.client_plan.specs.call_effects.NodeView.{NodeView}
 use Rattle.client_view.specs.KnowledgeTables.{copy_at}
 
 -- one more, of which nothing is known either

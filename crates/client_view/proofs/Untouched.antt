@@ -3,12 +3,12 @@ use Rattle.std.proofs.Common.{◌≡◌, ℕ, Bool, true, false, cond, List, [],
 use Rattle.std.specs.Prelude.{◌==◌, ◌||◌, option_map}
 use Rattle.std.proofs.lemmas.List.Concat.{flat_map-cons}
 use Rattle.std.proofs.lemmas.List.Folds.{list_any-append}
-use Rattle.file_graph.specs.declared.effect.Effect.{Effect}
-use Rattle.file_graph.specs.declared.effect.Effect.TheVariants as effect
-use Rattle.file_graph.specs.Subject.{subject}
-use Rattle.file_graph.specs.Graph.{is_among, subjects, touches}
-use Rattle.call_effects.specs.Blocks.{block_acted, block_after}
-use Rattle.call_effects.specs.NodeView.{NodeView, view_acted, view_after}
+use Rattle.client_plan.specs.file_graph.declared.effect.Effect.{Effect}
+use Rattle.client_plan.specs.file_graph.declared.effect.Effect.TheVariants as effect
+use Rattle.client_plan.specs.file_graph.Subject.{subject}
+use Rattle.client_plan.specs.file_graph.Graph.{is_among, subjects, touches}
+use Rattle.client_plan.specs.call_effects.Blocks.{block_acted, block_after}
+use Rattle.client_plan.specs.call_effects.NodeView.{NodeView, view_acted, view_after}
 
 pub neither : (a b : Bool) → (a || b) ≡ false → (a ≡ false) × (b ≡ false)
 neither true b e = absurd (cc)

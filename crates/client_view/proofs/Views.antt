@@ -7,10 +7,10 @@ use Rattle.std.specs.Ordering.{nat_cmp}
 use Rattle.std.specs.Cmp.Lexicographic.{slice_cmp}
 use Rattle.posix_calls.specs.Answers.{entry_in, count_in, listed_in}
 use Rattle.posix_calls.proofs.Directory.{entries-empty}
-use Rattle.file_graph.specs.Plain.{PlainEntry, pairs}
-use Rattle.file_graph.specs.declared.effect.Kind.{Kind}
-use Rattle.call_effects.specs.Knowledge.{same_kind, lists_as}
-use Rattle.call_effects.specs.NodeView.{NodeView, FileView, DirView, view_seen}
+use Rattle.client_plan.specs.file_graph.Plain.{PlainEntry, pairs}
+use Rattle.client_plan.specs.file_graph.declared.effect.Kind.{Kind}
+use Rattle.client_plan.specs.call_effects.Knowledge.{same_kind, lists_as}
+use Rattle.client_plan.specs.call_effects.NodeView.{NodeView, FileView, DirView, view_seen}
 use Rattle.record_validation.specs.NodeAnswers.{entries_of}
 
 -- ---- nothing

@@ -1,9 +1,9 @@
 -- What records, one after the other, make of a block of a file.
 use Rattle.std.specs.Prelude.{ℕ, ◌+◌, List, [], ◌∷◌, Option, unwrap_or}
-use Rattle.file_graph.specs.Graph.{Graph, file_bytes}
-use Rattle.file_graph.specs.declared.effect.Effect.{Effect}
-use Rattle.log_record.specs.declared.format.Record.{Record}
-use Rattle.call_effects.specs.Blocks.{block_after}
+use Rattle.client_plan.specs.file_graph.Graph.{Graph, file_bytes}
+use Rattle.client_plan.specs.file_graph.declared.effect.Effect.{Effect}
+use Rattle.client_plan.specs.log_record.declared.format.Record.{Record}
+use Rattle.client_plan.specs.call_effects.Blocks.{block_after}
 
 -- a known block of a file after records
 abbrev pub block_laid : List Record → ℕ → ℕ → Option (List ℕ) → Option (List ℕ)

@@ -1,9 +1,9 @@
 -- What a client knows after a record of its own.
 use Rattle.std.specs.Prelude.{ℕ, ◌==◌, ◌&&◌, not, List, Bool, false, Option, Some, None, if◌then◌else◌}
-use Rattle.file_graph.specs.Graph.{is_among, touches}
-use Rattle.file_graph.specs.declared.effect.Effect.{Effect}
-use Rattle.call_effects.specs.Knowledge.{Knowledge, with_copy}
-use Rattle.call_effects.specs.NodeView.{NodeView}
+use Rattle.client_plan.specs.file_graph.Graph.{is_among, touches}
+use Rattle.client_plan.specs.file_graph.declared.effect.Effect.{Effect}
+use Rattle.client_plan.specs.call_effects.Knowledge.{Knowledge, with_copy}
+use Rattle.client_plan.specs.call_effects.NodeView.{NodeView}
 use Rattle.client_plan.specs.declared.outcome.DescriptorChange.{DescriptorChange}
 use Rattle.client_plan.specs.CallPlan.{own_changed}
 use Rattle.record_validation.specs.KnownNodes.{known_after}

@@ -2,9 +2,9 @@
 use Rattle.std.specs.Prelude.{ℕ, ◌==◌, ◌&&◌, not, List, Option, None, if◌then◌else◌}
 use Rattle.posix_calls.specs.Tree.{set_own}
 use Rattle.posix_calls.specs.declared.descriptor.Descriptor.{Descriptor}
-use Rattle.file_graph.specs.Graph.{is_among, touches}
-use Rattle.file_graph.specs.declared.effect.Effect.{Effect}
-use Rattle.call_effects.specs.Knowledge.{Knowledge}
+use Rattle.client_plan.specs.file_graph.Graph.{is_among, touches}
+use Rattle.client_plan.specs.file_graph.declared.effect.Effect.{Effect}
+use Rattle.client_plan.specs.call_effects.Knowledge.{Knowledge}
 
 -- no block of an inode
 abbrev pub without_blocks : Knowledge → ℕ → Knowledge

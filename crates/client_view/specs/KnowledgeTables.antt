@@ -5,11 +5,11 @@ use Rattle.posix_calls.specs.Tree.{any_up_to}
 use Rattle.posix_calls.specs.Own.{own_of}
 use Rattle.posix_calls.specs.declared.descriptor.Descriptor.{Descriptor}
 use Rattle.posix_calls.specs.declared.limits.TheConstants.{MAX_INODE, ROOT, UNIT_BYTES}
-use Rattle.file_graph.specs.Graph.{is_among}
-use Rattle.file_graph.specs.declared.effect.Kind.{Kind}
-use Rattle.file_graph.specs.declared.effect.Kind.TheVariants as kind
-use Rattle.call_effects.specs.NodeView.{NodeView, FileView, DirView}
-use Rattle.call_effects.specs.Knowledge.{Knowledge, lists_as, is_dir_by}
+use Rattle.client_plan.specs.file_graph.Graph.{is_among}
+use Rattle.client_plan.specs.file_graph.declared.effect.Kind.{Kind}
+use Rattle.client_plan.specs.file_graph.declared.effect.Kind.TheVariants as kind
+use Rattle.client_plan.specs.call_effects.NodeView.{NodeView, FileView, DirView}
+use Rattle.client_plan.specs.call_effects.Knowledge.{Knowledge, lists_as, is_dir_by}
 use Rattle.block_cache.specs.CacheList.{Block, bytes_at}
 use Rattle.record_validation.specs.Summary.{view_code}
 

@@ -3,13 +3,13 @@ use Rattle.std.specs.Prelude.{◌≡◌, ◌+◌, ◌<◌, ◌&&◌, ⊤, ℕ, L
 use Rattle.std.specs.FinMap as fin
 use Rattle.std.specs.List.{list_any}
 use Rattle.std.specs.Option.{ForSome}
-use Rattle.file_graph.specs.Numbers.{is_inode}
-use Rattle.file_graph.specs.Subject.{subject}
-use Rattle.file_graph.specs.declared.effect.Effect.{Effect}
-use Rattle.file_graph.specs.declared.effect.Effect.TheVariants as effect
-use Rattle.log_record.specs.Grammar.{IsRecord}
-use Rattle.call_effects.specs.NodeView.{NodeView}
-use Rattle.call_effects.specs.Knowledge.{Knowledge}
+use Rattle.client_plan.specs.file_graph.Numbers.{is_inode}
+use Rattle.client_plan.specs.file_graph.Subject.{subject}
+use Rattle.client_plan.specs.file_graph.declared.effect.Effect.{Effect}
+use Rattle.client_plan.specs.file_graph.declared.effect.Effect.TheVariants as effect
+use Rattle.client_plan.specs.log_record.Grammar.{IsRecord}
+use Rattle.client_plan.specs.call_effects.NodeView.{NodeView}
+use Rattle.client_plan.specs.call_effects.Knowledge.{Knowledge}
 use Rattle.client_plan.specs.CallPlan.{OpensInRange}
 use Rattle.record_validation.specs.Memory.{is_enter}
 use Rattle.record_validation.specs.NodeAnswers.{entries_of}

@@ -1,6 +1,6 @@
 -- The records that a client keeps in memory, and which of them count behind a mark.
 use Rattle.std.specs.Prelude.{◌≡◌, ℕ, List, [], ◌++◌, drop, Bool, if◌then◌else◌}
-use Rattle.log_record.specs.declared.format.Record.{Record}
+use Rattle.client_plan.specs.log_record.declared.format.Record.{Record}
 
 pub record Kept : Type 0 where
   -- those of the region that was handed over and is not back, and of the one that is written

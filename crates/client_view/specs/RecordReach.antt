@@ -2,9 +2,9 @@
 use Rattle.std.specs.Prelude.{◌≡◌, ◌≤◌, ◌<◌, ◌+◌, ◌*◌, ◌==◌, ◌&&◌, ◌||◌, nat_lt, ℕ, List, [], ◌∷◌, length, get_or, Bool, true, false, Option, None}
 use Rattle.std.specs.Option.{option_map_or}
 use Rattle.posix_calls.specs.declared.limits.TheConstants.{UNIT_BYTES}
-use Rattle.file_graph.specs.declared.effect.Effect.{Effect}
-use Rattle.log_record.specs.declared.format.Record.{Record}
-use Rattle.call_effects.specs.Blocks.{block_after}
+use Rattle.client_plan.specs.file_graph.declared.effect.Effect.{Effect}
+use Rattle.client_plan.specs.log_record.declared.format.Record.{Record}
+use Rattle.client_plan.specs.call_effects.Blocks.{block_after}
 use Rattle.client_view.specs.declared.record_reach.RecordReach.{RecordReach}
 use Rattle.client_view.specs.declared.record_reach.RecordReach.TheVariants as reach
 

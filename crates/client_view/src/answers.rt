@@ -1,13 +1,13 @@
 ghost use Rattle.std.specs.Prelude.{◌≡◌, Bool, true, Some, None, option_map, unwrap_or};
 ghost use Rattle.posix_calls.specs.Answers.{entry_in};
-ghost use Rattle.call_effects.specs.Knowledge.{lists_as, part_of};
+ghost use Rattle.client_plan.specs.call_effects.Knowledge.{lists_as, part_of};
 ghost use Rattle.record_validation.specs.NodeAnswers.{seen_node};
 ghost use Rattle.client_view.specs.KnowledgeTables.{copy_at, knows, known_dir_in};
 
 use crate::copies::ClientCopies;
 use crate::file_reads::read;
 use crate::slots::{Slot, child_is_dir, size_at, slot_at};
-use file_graph::{Kind, is_inode};
+use client_plan::in_file_graph::{Kind, is_inode};
 use posix_calls::{Bytes, Description, NamedInode, Names, ROOT, TreeAnswers};
 use record_validation::NodeSummary;
 use std::alloc::{AllocError, Global};

@@ -6,7 +6,7 @@ ghost use Rattle.client_view.specs.RecordReach.{AreReaches, AreShort, AreWhole, 
 
 use crate::fetched_block::FetchedBlock;
 use crate::record_reach::RecordReach;
-use log_record::Record;
+use client_plan::in_log_record::Record;
 use posix_calls::UNIT_BYTES;
 
 /// Lays records over a run of blocks of a file from a first one on, each record with what it reaches. It looks at each record once, and of

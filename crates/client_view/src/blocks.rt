@@ -2,11 +2,11 @@ ghost use Rattle.std.specs.Prelude.{◌≡◌, ◌+◌, ◌-◌, ◌*◌, ◌≤
 ghost use Rattle.std.specs.Option.{ForSome};
 ghost use Rattle.posix_calls.specs.Content.{with_length, with_bytes};
 ghost use Rattle.posix_calls.specs.declared.limits.TheConstants.{UNIT_BYTES};
-ghost use Rattle.file_graph.specs.Graph.{is_among, subjects};
-ghost use Rattle.file_graph.specs.declared.effect.Effect.TheVariants as variants;
-ghost use Rattle.call_effects.specs.Blocks.{block_acted, block_after, block_resized, block_written};
+ghost use Rattle.client_plan.specs.file_graph.Graph.{is_among, subjects};
+ghost use Rattle.client_plan.specs.file_graph.declared.effect.Effect.TheVariants as variants;
+ghost use Rattle.client_plan.specs.call_effects.Blocks.{block_acted, block_after, block_resized, block_written};
 
-use file_graph::{Effect, Kind};
+use client_plan::in_file_graph::{Effect, Kind};
 use posix_calls::UNIT_BYTES;
 
 const UNIT: u64 = UNIT_BYTES as u64;

@@ -2,9 +2,9 @@ ghost use Rattle.std.specs.Prelude.{◌≡◌, ◌==◌, ◌<◌, ◌+◌, ◌^�
 ghost use Rattle.std.specs.List.{filter};
 ghost use Rattle.block_cache.specs.CacheList.{put_block as put_first, used_run, without_file};
 ghost use Rattle.block_cache.specs.declared.bytes.TheConstants.{BLOCK_SIZE};
-ghost use Rattle.file_graph.specs.Graph.{is_among};
-ghost use Rattle.file_graph.specs.Numbers.{is_inode};
-ghost use Rattle.call_effects.specs.Knowledge.{IsForgetful, with_blocks, with_copy};
+ghost use Rattle.client_plan.specs.file_graph.Graph.{is_among};
+ghost use Rattle.client_plan.specs.file_graph.Numbers.{is_inode};
+ghost use Rattle.client_plan.specs.call_effects.Knowledge.{IsForgetful, with_blocks, with_copy};
 ghost use Rattle.posix_calls.specs.Content.{with_length};
 ghost use Rattle.posix_calls.specs.declared.limits.TheConstants.{MAX_DESCRIPTORS};
 ghost use Rattle.posix_calls.specs.Own.{own_of};
@@ -16,7 +16,7 @@ ghost use Rattle.client_view.specs.AfterRecord.{without_touched};
 
 use crate::slots::{Slot, forget_slot, size_at, slot_at, unknown_slots};
 use block_cache::{BLOCK_SIZE, Blocks};
-use file_graph::Effect;
+use client_plan::in_file_graph::Effect;
 use posix_calls::{Bytes, Descriptor, OwnDescriptors};
 use record_validation::NodeSummary;
 use std::alloc::{AllocError, Global};

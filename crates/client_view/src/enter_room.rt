@@ -1,5 +1,5 @@
 // What entering a name takes.
-use file_graph::{Child, EntryRoom};
+use client_plan::in_file_graph::{Child, EntryRoom};
 use posix_calls::Name;
 
 /// What a record needs ready to enter a name: a copy of the name, and room for it in the directory that it enters.

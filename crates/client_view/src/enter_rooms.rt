@@ -7,7 +7,7 @@ ghost use Rattle.client_view.specs.Preparation.{AreReady, IsRoomFor, IsRoomOf, a
 use crate::enter_room::EnterRoom;
 use crate::in_place::is_enter;
 use crate::slots::{Slot, slot_at};
-use file_graph::{Effect, EntryRoom};
+use client_plan::in_file_graph::{Effect, EntryRoom};
 use posix_calls::Name;
 use std::alloc::{AllocError, Global};
 

@@ -1,12 +1,12 @@
 //! A block of a file in memory, over which records are laid.
 ghost use Rattle.std.specs.Prelude.{◌≡◌, ◌≤◌, List, Option, Some, length, take, option_map};
 ghost use Rattle.posix_calls.specs.declared.limits.TheConstants.{UNIT_BYTES};
-ghost use Rattle.call_effects.specs.Blocks.{block_after};
+ghost use Rattle.client_plan.specs.call_effects.Blocks.{block_after};
 ghost use Rattle.client_view.specs.RecordReach.{IsReachOf, block_length};
 
 use crate::blocks::take_effects;
 use crate::record_reach::RecordReach;
-use log_record::Record;
+use client_plan::in_log_record::Record;
 use posix_calls::UNIT_BYTES;
 use std::marker::Model;
 

@@ -2,7 +2,7 @@
 ghost use Rattle.std.specs.Prelude.{◌≡◌, ◌<◌, ◌+◌, ◌-◌, ◌*◌, ◌^◌, ◌++◌, ℕ, List, true, IfOk, IfErr, IfSome, OnOk, Some, None, is_some, option_map, take};
 ghost use Rattle.posix_calls.specs.Content.{range};
 ghost use Rattle.posix_calls.specs.Part.{blocks_touched};
-ghost use Rattle.call_effects.specs.Blocks.{blocks_joined, range_by};
+ghost use Rattle.client_plan.specs.call_effects.Blocks.{blocks_joined, range_by};
 ghost use Rattle.posix_calls.specs.declared.limits.TheConstants.{UNIT_BYTES};
 ghost use Rattle.client_view.specs.KnowledgeTables.{block_by, file_block};
 

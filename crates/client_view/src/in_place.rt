@@ -1,15 +1,15 @@
 //! An effect that takes no memory, done to the copy that a client has of its inode.
 ghost use Rattle.std.specs.Prelude.{◌≡◌, ◌<◌, false, Some, IsSome, option_map};
 ghost use Rattle.std.specs.FinMap as fin;
-ghost use Rattle.file_graph.specs.Plain.{is_drop};
-ghost use Rattle.log_record.specs.Grammar.{FitsLimits};
-ghost use Rattle.call_effects.specs.NodeView.{in_entries, view_acted};
+ghost use Rattle.client_plan.specs.file_graph.Plain.{is_drop};
+ghost use Rattle.client_plan.specs.log_record.Grammar.{FitsLimits};
+ghost use Rattle.client_plan.specs.call_effects.NodeView.{in_entries, view_acted};
 ghost use Rattle.record_validation.specs.Memory.{is_enter};
 ghost use Rattle.client_view.specs.Preparation.{IsRoomOf, names_known};
 
 use crate::enter_room::EnterRoom;
 use crate::slots::Slot;
-use file_graph::{Child, Effect, EntryRoom};
+use client_plan::in_file_graph::{Child, Effect, EntryRoom};
 use posix_calls::Name;
 use record_validation::NodeSummary;
 use std::alloc::Global;

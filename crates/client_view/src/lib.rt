@@ -49,3 +49,7 @@ pub use laws::{
 pub use own_change::OwnChange;
 pub use own_record_laws::{laid_block_agrees, records_are_laid_as_the_graph_has_them};
 pub use own_records::OwnRecords;
+
+// Handed on to the crates above, which list only the highest of what they name.
+pub use client_plan as in_client_plan;
+pub use record_validation as in_record_validation;

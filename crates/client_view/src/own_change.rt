@@ -1,6 +1,6 @@
 use crate::enter_room::EnterRoom;
 use client_plan::DescriptorChange;
-use log_record::Record;
+use client_plan::in_log_record::Record;
 
 /// A change that a client makes by a record of its own, with what has to be ready for its commit, for which all memory is taken.
 #[derive(Drop)]

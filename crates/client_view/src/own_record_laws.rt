@@ -3,11 +3,11 @@
 ghost use Rattle.std.specs.Prelude.{◌≡◌, ◌-◌, ◌*◌, ℕ, min, length, List, Some};
 ghost use Rattle.posix_calls.specs.Tree.{Descriptors};
 ghost use Rattle.posix_calls.specs.declared.limits.TheConstants.{UNIT_BYTES};
-ghost use Rattle.file_graph.specs.Graph.{Graph, file_bytes};
-ghost use Rattle.log_record.specs.declared.format.Record.{Record};
-ghost use Rattle.call_effects.specs.Blocks.{block_of};
-ghost use Rattle.call_effects.specs.Knowledge.{Knowledge, Agrees, IsForgetful, with_blocks};
-ghost use Rattle.call_effects.specs.NodeView.{FileView};
+ghost use Rattle.client_plan.specs.file_graph.Graph.{Graph, file_bytes};
+ghost use Rattle.client_plan.specs.log_record.declared.format.Record.{Record};
+ghost use Rattle.client_plan.specs.call_effects.Blocks.{block_of};
+ghost use Rattle.client_plan.specs.call_effects.Knowledge.{Knowledge, Agrees, IsForgetful, with_blocks};
+ghost use Rattle.client_plan.specs.call_effects.NodeView.{FileView};
 ghost use Rattle.world_invariant.specs.Logs.{after_records};
 ghost use Rattle.client_view.specs.After.{block_laid, bytes_at};
 

@@ -1,6 +1,6 @@
 ghost use Rattle.std.specs.Prelude.{◌≡◌, [], ◌∷◌, ◌++◌, ◌+◌, ◌^◌, ◌<◌, ◌≤◌, true, false, IfOk, OnErr, OnOk, drop, length, vec_capacity};
 ghost use Rattle.std.specs.List.{AllByRecursion};
-ghost use Rattle.log_record.specs.Grammar.{IsRecord};
+ghost use Rattle.client_plan.specs.log_record.Grammar.{IsRecord};
 ghost use Rattle.client_view.specs.After.{run_laid};
 ghost use Rattle.client_view.specs.RecordLists.{IsEmptied, beyond};
 ghost use Rattle.client_view.specs.RecordReach.{AreShort};
@@ -8,8 +8,8 @@ ghost use Rattle.client_view.specs.RecordReach.{AreShort};
 use crate::block_runs::take_records;
 use crate::fetched_block::FetchedBlock;
 use crate::record_reach::RecordReach;
-use file_graph::{Effect, Effects};
-use log_record::Record;
+use client_plan::in_file_graph::{Effect, Effects};
+use client_plan::in_log_record::Record;
 use std::alloc::{AllocError, Global};
 use std::marker::Model;
 use std::mem;
@@ -30,7 +30,7 @@ pub struct OwnRecords {
 impl Model for OwnRecords {
     ghost use Rattle.std.specs.Prelude.{◌&&◌, nat_lt, length, vec_capacity};
     ghost use Rattle.std.specs.List.{AllByRecursion};
-    ghost use Rattle.log_record.specs.Grammar.{IsRecord};
+    ghost use Rattle.client_plan.specs.log_record.Grammar.{IsRecord};
     ghost use Rattle.client_view.specs.RecordLists.{IsEmptied, Kept};
     ghost use Rattle.client_view.specs.RecordReach.{AreReaches};
 

@@ -2,9 +2,9 @@
 ghost use Rattle.std.specs.Prelude.{◌≡◌, ◌<◌, ◌∷◌, [], ℕ, true, None, IsSome, IfOk, OnErr, get_or};
 ghost use Rattle.std.specs.Option.{ForSome};
 ghost use Rattle.std.specs.List.{AllByRecursion};
-ghost use Rattle.file_graph.specs.Numbers.{is_inode};
-ghost use Rattle.file_graph.specs.Subject.{subject};
-ghost use Rattle.log_record.specs.Grammar.{FitsLimits, IsRecord};
+ghost use Rattle.client_plan.specs.file_graph.Numbers.{is_inode};
+ghost use Rattle.client_plan.specs.file_graph.Subject.{subject};
+ghost use Rattle.client_plan.specs.log_record.Grammar.{FitsLimits, IsRecord};
 ghost use Rattle.client_plan.specs.CallPlan.{OpensInRange};
 ghost use Rattle.client_view.specs.KnowledgeTables.{knows};
 ghost use Rattle.client_view.specs.AfterRecord.{knows_logged, with_change, with_effects, with_made, without_made, without_touched};
@@ -16,8 +16,8 @@ use crate::enter_rooms::rooms_for;
 use crate::in_place::act_on;
 use crate::own_change::OwnChange;
 use client_plan::DescriptorChange;
-use file_graph::Effect;
-use log_record::Record;
+use client_plan::in_file_graph::Effect;
+use client_plan::in_log_record::Record;
 use std::alloc::AllocError;
 
 impl ClientCopies {

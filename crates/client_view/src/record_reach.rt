@@ -2,10 +2,10 @@
 ghost use Rattle.std.specs.Prelude.{◌≡◌, ◌≤◌, ◌<◌, ◌+◌, ◌-◌, ◌*◌, ◌&&◌, ◌||◌, ℕ, [], ◌∷◌, false, min, nat_lt, if◌then◌else◌};
 ghost use Rattle.std.specs.List.{AllByRecursion};
 ghost use Rattle.posix_calls.specs.declared.limits.TheConstants.{UNIT_BYTES};
-ghost use Rattle.log_record.specs.Grammar.{FitsLimits};
+ghost use Rattle.client_plan.specs.log_record.Grammar.{FitsLimits};
 ghost use Rattle.client_view.specs.RecordReach.{IsReachOf, may_change};
 
-use file_graph::Effect;
+use client_plan::in_file_graph::Effect;
 use posix_calls::UNIT_BYTES;
 
 const UNIT: u64 = UNIT_BYTES as u64;

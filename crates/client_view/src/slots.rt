@@ -1,11 +1,11 @@
 // The copies of a client, by their inodes.
 ghost use Rattle.std.specs.Prelude.{◌≡◌, ◌==◌, ◌&&◌, ℕ, false, Some, None, IfOk, length, if◌then◌else◌, option_map, unwrap_or};
 ghost use Rattle.std.specs.List.{list_any};
-ghost use Rattle.file_graph.specs.declared.effect.Kind.TheVariants as kinds;
-ghost use Rattle.call_effects.specs.Knowledge.{same_kind, lists_as, is_dir_by};
+ghost use Rattle.client_plan.specs.file_graph.declared.effect.Kind.TheVariants as kinds;
+ghost use Rattle.client_plan.specs.call_effects.Knowledge.{same_kind, lists_as, is_dir_by};
 ghost use Rattle.client_view.specs.KnowledgeTables.{copy_at, size_known, is_listed_in};
 
-use file_graph::{Kind, PlainEntry};
+use client_plan::in_file_graph::{Kind, PlainEntry};
 use posix_calls::MAX_INODE;
 use record_validation::NodeSummary;
 use std::alloc::{AllocError, Global};

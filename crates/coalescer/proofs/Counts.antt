@@ -13,7 +13,7 @@ use Rattle.std.proofs.lemmas.List.Sums.{sum_by-append}
 use Rattle.std.proofs.lemmas.List.Concat.{flat_map-append}
 use Rattle.std.proofs.lemmas.Bool.{false≢true}
 use Rattle.std.proofs.lemmas.Bool.Decides.{nat_tests}
-use Rattle.file_graph.specs.declared.effect.Effect.{Effect}
+use Rattle.graph_change.specs.file_graph.declared.effect.Effect.{Effect}
 use Rattle.graph_change.specs.Change.{subject}
 use Rattle.graph_change.proofs.Blocks.{either}
 use Rattle.coalescer.specs.declared.estimate.Estimate.{Estimate}

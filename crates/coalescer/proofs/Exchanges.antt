@@ -5,10 +5,10 @@ use Rattle.std.specs.Ordering.{nat_cmp, eq_by_cmp}
 use Rattle.std.specs.Cmp.{nat_cmp_total}
 use Rattle.std.specs.FinMap as fin
 use Rattle.posix_calls.specs.declared.limits.TheConstants.{UNIT_BYTES}
-use Rattle.file_graph.specs.declared.effect.Kind.{Kind}
-use Rattle.file_graph.specs.declared.effect.Effect.{Effect}
-use Rattle.file_graph.specs.declared.effect.Effect.TheVariants as effect
-use Rattle.file_graph.specs.Graph.{Graph, Node, Body, FileBody, DirBody, is_among, subject_after, after_effect, after_effects}
+use Rattle.graph_change.specs.file_graph.declared.effect.Kind.{Kind}
+use Rattle.graph_change.specs.file_graph.declared.effect.Effect.{Effect}
+use Rattle.graph_change.specs.file_graph.declared.effect.Effect.TheVariants as effect
+use Rattle.graph_change.specs.file_graph.Graph.{Graph, Node, Body, FileBody, DirBody, is_among, subject_after, after_effect, after_effects}
 use Rattle.graph_change.specs.Bytes.{Grown, IsTidy, BytesChange, no_bytes, bytes_after}
 use Rattle.graph_change.specs.Net.{Kept, Child, base_node, names_after, body_after, edited_node, node_after}
 use Rattle.graph_change.specs.Change.{Change, Changes, blank, new_in, new_change, net_of, change_at, changed_graph, with_effect, with_effects, coalesced_changes, writes_block}

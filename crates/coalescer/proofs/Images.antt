@@ -11,8 +11,8 @@ use Rattle.std.specs.FinMap.Entries.{below_all, by_order, find, is_sorted, put}
 use Rattle.std.specs.List.{sum_by}
 use Rattle.std.proofs.lemmas.Bool.{false≢true, and_from}
 use Rattle.std.proofs.lemmas.List.Sums.{sum_by-cons}
-use Rattle.file_graph.specs.declared.effect.Effect.{Effect}
-use Rattle.file_graph.specs.declared.effect.Effect.TheVariants as effect
+use Rattle.graph_change.specs.file_graph.declared.effect.Effect.{Effect}
+use Rattle.graph_change.specs.file_graph.declared.effect.Effect.TheVariants as effect
 use Rattle.graph_change.specs.Net.{Base, Kept, Made, Gone, Child}
 use Rattle.graph_change.specs.Change.{Change, Changes, subject, new_change, change_after, change_at, with_effect, with_effects, coalesced_changes}
 use Rattle.coalescer.specs.Weight.{is_entry, images}

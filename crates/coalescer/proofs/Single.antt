@@ -9,8 +9,8 @@ use Rattle.std.proofs.lemmas.List.FromFn.{length-range_with_len}
 use Rattle.std.proofs.lemmas.List.Sums.{count_by-le-length}
 use Rattle.std.proofs.lemmas.Map.Made.{distinct_count-le}
 use Rattle.posix_calls.specs.declared.limits.TheConstants.{UNIT_BYTES}
-use Rattle.file_graph.specs.declared.effect.Effect.{Effect}
-use Rattle.file_graph.specs.declared.effect.Effect.TheVariants as effect
+use Rattle.graph_change.specs.file_graph.declared.effect.Effect.{Effect}
+use Rattle.graph_change.specs.file_graph.declared.effect.Effect.TheVariants as effect
 use Rattle.graph_change.specs.Change.{subject, span}
 use Rattle.log_record.specs.declared.format.Record.{Record}
 use Rattle.log_record.specs.Grammar.{FitsLimits, IsRecord}

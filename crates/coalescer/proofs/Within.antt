@@ -20,8 +20,8 @@ use Rattle.std.proofs.lemmas.Map.Views.{exact_unsigned_eq, tells_apart}
 use Rattle.std.proofs.lemmas.List.Folds.{list_any-append}
 use Rattle.std.proofs.lemmas.List.Concat.{length-flat_map}
 use Rattle.posix_calls.specs.declared.limits.TheConstants.{UNIT_BYTES}
-use Rattle.file_graph.specs.declared.effect.Effect.{Effect}
-use Rattle.file_graph.specs.declared.effect.Effect.TheVariants as effect
+use Rattle.graph_change.specs.file_graph.declared.effect.Effect.{Effect}
+use Rattle.graph_change.specs.file_graph.declared.effect.Effect.TheVariants as effect
 use Rattle.graph_change.specs.Net.{Base, Kept, Made, Gone, Child, EntryChanges}
 use Rattle.graph_change.specs.Change.{Change, Changes, subject, span, new_change, change_after, change_at, with_effect, with_effects, coalesced_changes, writes_block, touches_block, changes_inode, changes_block}
 use Rattle.graph_change.proofs.Law.{change_put, empty_at}

@@ -2,8 +2,8 @@
 use Rattle.std.specs.Prelude.{ℕ, List, [], ◌∷◌, Option, Some, None, map}
 use Rattle.std.specs.FinMap as fin
 use Rattle.posix_calls.specs.Content.{Entries}
-use Rattle.file_graph.specs.declared.effect.Effect.TheVariants as effect
-use Rattle.file_graph.specs.Graph.{Node, FileBody, DirBody, Graph, after_effects}
+use Rattle.graph_change.specs.file_graph.declared.effect.Effect.TheVariants as effect
+use Rattle.graph_change.specs.file_graph.Graph.{Node, FileBody, DirBody, Graph, after_effects}
 use Rattle.graph_change.specs.Bytes.{Grown}
 use Rattle.graph_change.specs.Net.{Kept, Child}
 use Rattle.graph_change.specs.Change.{Change, Changes}

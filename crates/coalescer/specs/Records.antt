@@ -1,7 +1,7 @@
 -- What records hold.
 use Rattle.std.specs.Prelude.{List}
 use Rattle.std.specs.List.{flat_map}
-use Rattle.file_graph.specs.declared.effect.Effect.{Effect}
+use Rattle.graph_change.specs.file_graph.declared.effect.Effect.{Effect}
 use Rattle.log_record.specs.declared.format.Record.{Record}
 
 -- the effects of records, in their order

@@ -3,8 +3,8 @@ use Rattle.std.specs.Prelude.{◌≡◌, ℕ, ◌+◌, ◌*◌, ◌/◌, ◌%◌
 use Rattle.std.specs.List.{flat_map}
 use Rattle.std.specs.Set.{distinct_count}
 use Rattle.posix_calls.specs.declared.limits.TheConstants.{UNIT_BYTES}
-use Rattle.file_graph.specs.declared.effect.Effect.{Effect}
-use Rattle.file_graph.specs.declared.effect.Effect.TheVariants as effect
+use Rattle.graph_change.specs.file_graph.declared.effect.Effect.{Effect}
+use Rattle.graph_change.specs.file_graph.declared.effect.Effect.TheVariants as effect
 use Rattle.graph_change.specs.Change.{subject, span}
 use Rattle.log_record.specs.declared.format.Record.{Record}
 use Rattle.coalescer.specs.declared.weight.TheConstants.{CHUNK_IMAGES, CHUNK_BLOCKS}

@@ -2,14 +2,14 @@
 
 ghost use Rattle.std.specs.Prelude.{◌≡◌, ◌<◌, ◌++◌, ◌∷◌, List, [], true, IsTrue, IfErr, IfOk, OnErr, OnOk, length};
 ghost use Rattle.std.specs.List.{range_with_len};
-ghost use Rattle.file_graph.specs.declared.effect.Effect.{Effect};
+ghost use Rattle.graph_change.specs.file_graph.declared.effect.Effect.{Effect};
 ghost use Rattle.graph_change.specs.Change.{span};
 ghost use Rattle.coalescer.specs.EffectCounts.{IsEstimate};
 ghost use Rattle.coalescer.specs.Records.{effects_in};
 ghost use Rattle.coalescer.specs.Weight.{fits_chunk, file_blocks};
 
 use crate::weight::{are_few, is_entry, last_of, with_one_more};
-use file_graph::Effect;
+use graph_change::in_file_graph::Effect;
 use log_record::Record;
 use posix_calls::UNIT_BYTES;
 use std::alloc::{AllocError, Global};

@@ -4,8 +4,8 @@ ghost use Rattle.std.specs.Prelude.{◌≡◌, ◌≤◌, ◌+◌, ℕ, List, le
 ghost use Rattle.std.specs.List.{AllByRecursion};
 ghost use Rattle.std.specs.Set.{distinct_count};
 ghost use Rattle.std.specs.FinMap as fin;
-ghost use Rattle.file_graph.specs.declared.effect.Effect.{Effect};
-ghost use Rattle.file_graph.specs.Graph.{Graph, after_effects};
+ghost use Rattle.graph_change.specs.file_graph.declared.effect.Effect.{Effect};
+ghost use Rattle.graph_change.specs.file_graph.Graph.{Graph, after_effects};
 ghost use Rattle.graph_change.specs.Change.{Changes, change_at, changed_graph, with_effects, coalesced_changes, subject, writes_block};
 ghost use Rattle.log_record.specs.declared.format.Record.{Record};
 ghost use Rattle.log_record.specs.Grammar.{IsRecord};

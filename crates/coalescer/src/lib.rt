@@ -23,3 +23,6 @@ pub use laws::{
 pub use records::{add_record, coalesce};
 pub use run::longest_run;
 pub use weight::{CHUNK_BLOCKS, CHUNK_IMAGES};
+
+// Handed on to the crates above, which list only the highest of what they name.
+pub use graph_change as in_graph_change;

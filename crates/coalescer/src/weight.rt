@@ -3,12 +3,12 @@ ghost use Rattle.std.specs.List.{range_with_len};
 ghost use Rattle.std.specs.Set.{is_member};
 ghost use Rattle.std.specs.BTreeSet.{contains};
 ghost use Rattle.posix_calls.specs.declared.limits.TheConstants.{UNIT_BYTES};
-ghost use Rattle.file_graph.specs.declared.effect.Effect.{Effect};
+ghost use Rattle.graph_change.specs.file_graph.declared.effect.Effect.{Effect};
 ghost use Rattle.graph_change.specs.Change.{subject, span};
 ghost use Rattle.coalescer.specs.Weight.{fits_chunk, is_entry, file_blocks, last_block, blocks_at, same_block};
 ghost use Rattle.coalescer.specs.EffectCounts.{Weighs, block_cmp};
 
-use file_graph::Effect;
+use graph_change::in_file_graph::Effect;
 use log_record::Record;
 use posix_calls::UNIT_BYTES;
 use std::alloc::{AllocError, Global};

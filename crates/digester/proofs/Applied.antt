@@ -6,28 +6,28 @@ use Rattle.std.specs.FinMap as fin
 use Rattle.std.specs.Cmp.{nat_eq_equiv}
 use Rattle.std.proofs.lemmas.Bool.{false≢true, and_parts, and_from, leb-true, le-leb}
 use Rattle.posix_calls.specs.declared.limits.TheConstants.{MAX_FILE, MAX_INODE, MAX_NAMES}
-use Rattle.file_graph.specs.declared.effect.Effect.{Effect}
-use Rattle.file_graph.specs.declared.effect.Effect.TheVariants as effect
-use Rattle.file_graph.specs.Graph.{Graph, after_effects, subjects, touches, is_among}
-use Rattle.file_graph.specs.Numbers.{is_inode}
-use Rattle.file_graph.specs.Units.{charge}
-use Rattle.file_graph.proofs.Touches.{untouched}
-use Rattle.graph_change.specs.Bounds.{is_bounded, AreBounded}
-use Rattle.graph_change.specs.Change.{changed_graph, changes_inode, coalesced_changes, subject}
-use Rattle.graph_change.proofs.Bounding.{bounded_coalesced}
-use Rattle.graph_change.proofs.Law.{coalesced_law}
-use Rattle.graph_change.proofs.Touched.{coalesces}
-use Rattle.log_record.specs.declared.format.Record.{Record}
-use Rattle.log_record.specs.Grammar.{FitsLimits, IsInode}
-use Rattle.call_effects.specs.NodeView.{view_at, view_of_node}
-use Rattle.layout.specs.declared.places.TheConstants.{SPARE_BLOCKS}
+use Rattle.update_log.specs.file_graph.declared.effect.Effect.{Effect}
+use Rattle.update_log.specs.file_graph.declared.effect.Effect.TheVariants as effect
+use Rattle.update_log.specs.file_graph.Graph.{Graph, after_effects, subjects, touches, is_among}
+use Rattle.update_log.specs.file_graph.Numbers.{is_inode}
+use Rattle.update_log.specs.file_graph.Units.{charge}
+use Rattle.update_log.proofs.file_graph_lemmas.Touches.{untouched}
+use Rattle.coalescer.specs.graph_change.Bounds.{is_bounded, AreBounded}
+use Rattle.coalescer.specs.graph_change.Change.{changed_graph, changes_inode, coalesced_changes, subject}
+use Rattle.coalescer.proofs.graph_change_lemmas.Bounding.{bounded_coalesced}
+use Rattle.coalescer.proofs.graph_change_lemmas.Law.{coalesced_law}
+use Rattle.coalescer.proofs.graph_change_lemmas.Touched.{coalesces}
+use Rattle.update_log.specs.log_record.declared.format.Record.{Record}
+use Rattle.update_log.specs.log_record.Grammar.{FitsLimits, IsInode}
+use Rattle.shared_area.specs.call_effects.NodeView.{view_at, view_of_node}
+use Rattle.shared_area.specs.layout.declared.places.TheConstants.{SPARE_BLOCKS}
 use Rattle.coalescer.specs.declared.weight.TheConstants.{CHUNK_IMAGES, CHUNK_BLOCKS}
 use Rattle.coalescer.specs.Records.{effects_in}
 use Rattle.coalescer.specs.Weight.{images, blocks, fits_chunk}
 use Rattle.coalescer.specs.Within.{AreBlocksIn, images_of}
 use Rattle.coalescer.proofs.Images.{images_within}
 use Rattle.coalescer.proofs.Within.{blocks_within}
-use Rattle.record_validation.specs.Good.{KeepsLimits}
+use Rattle.shared_area.specs.record_validation.Good.{KeepsLimits}
 use Rattle.digester.specs.Plan.{AreGood}
 use Rattle.digester.proofs.Known.{among_joined, touches_joined}
 use Rattle.digester.proofs.PlanRuns.{after_more}

@@ -7,15 +7,15 @@ use Rattle.std.proofs.Math.Seq.{take-nil}
 use Rattle.std.specs.List.{AllByRecursion}
 use Rattle.std.proofs.lemmas.Bool.{true≢false}
 use Rattle.std.proofs.lemmas.Bool.Decides.{eqb_tells}
-use Rattle.file_graph.specs.declared.effect.Effect.{Effect}
-use Rattle.file_graph.specs.Graph.{is_among, subjects, touches}
-use Rattle.log_record.specs.declared.format.Record.{Record}
-use Rattle.call_effects.specs.NodeView.{NodeView, view_after}
+use Rattle.update_log.specs.file_graph.declared.effect.Effect.{Effect}
+use Rattle.update_log.specs.file_graph.Graph.{is_among, subjects, touches}
+use Rattle.update_log.specs.log_record.declared.format.Record.{Record}
+use Rattle.shared_area.specs.call_effects.NodeView.{NodeView, view_after}
 use Rattle.coalescer.specs.Records.{effects_in}
-use Rattle.record_validation.specs.KnownNodes.{Known, is_unknown}
-use Rattle.record_validation.specs.Row.{known_by, with_known}
-use Rattle.record_validation.specs.declared.verdict.Verdict.{Verdict}
-use Rattle.record_validation.specs.declared.verdict.Verdict.TheVariants as verdict
+use Rattle.shared_area.specs.record_validation.KnownNodes.{Known, is_unknown}
+use Rattle.shared_area.specs.record_validation.Row.{known_by, with_known}
+use Rattle.shared_area.specs.record_validation.declared.verdict.Verdict.{Verdict}
+use Rattle.shared_area.specs.record_validation.declared.verdict.Verdict.TheVariants as verdict
 use Rattle.digester.specs.Questions.{AreAmong, AskedKnown, AskedOnce}
 use Rattle.digester.proofs.Covered.{touched_first, touched_later}
 use Rattle.digester.proofs.Known.{among_first, among_joined, or_of, touches_joined}

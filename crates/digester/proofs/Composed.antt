@@ -12,27 +12,27 @@ use Rattle.tier_device.specs.declared.media.Tier.{Tier}
 use Rattle.tier_device.specs.Media.{Rose}
 use Rattle.tier_device.specs.AfterStop.{Left}
 use Rattle.posix_calls.specs.Operations.{is_client}
-use Rattle.graph_change.specs.Change.{Changes, changed_graph}
-use Rattle.graph_change.proofs.Law.{coalesced_law}
-use Rattle.graph_change.specs.View.{changes_of}
-use Rattle.layout.specs.declared.marks.Mark.{Mark}
-use Rattle.layout.specs.declared.marks.Marks.{Marks}
-use Rattle.layout.specs.declared.marks.TheConstants.{CLIENTS}
-use Rattle.layout.specs.Marks.{fits_mark, fits_marks}
-use Rattle.layout.specs.Places.{Sizes}
-use Rattle.batch_journal.specs.Course.{Unmoved}
-use Rattle.batch_journal.specs.View.{JournalView}
-use Rattle.batch_journal.proofs.Courses.{unmoved_on}
-use Rattle.area_reader.specs.Store.{Store, disk, store_of, graph, marks}
-use Rattle.area_reader.specs.Reads.{Loose}
-use Rattle.area_reader.specs.Looks.{Looks}
-use Rattle.area_reader.proofs.Looked.{carried_back}
-use Rattle.area_reader.specs.declared.error.AreaError.{AreaError}
-use Rattle.area_reader.specs.declared.error.AreaError.TheVariants as area
+use Rattle.coalescer.specs.graph_change.Change.{Changes, changed_graph}
+use Rattle.coalescer.proofs.graph_change_lemmas.Law.{coalesced_law}
+use Rattle.coalescer.specs.graph_change.View.{changes_of}
+use Rattle.shared_area.specs.layout.declared.marks.Mark.{Mark}
+use Rattle.shared_area.specs.layout.declared.marks.Marks.{Marks}
+use Rattle.shared_area.specs.layout.declared.marks.TheConstants.{CLIENTS}
+use Rattle.shared_area.specs.layout.Marks.{fits_mark, fits_marks}
+use Rattle.shared_area.specs.layout.Places.{Sizes}
+use Rattle.shared_area.specs.batch_journal.Course.{Unmoved}
+use Rattle.shared_area.specs.batch_journal.View.{JournalView}
+use Rattle.shared_area.proofs.batch_journal_lemmas.Courses.{unmoved_on}
+use Rattle.shared_area.specs.area_reader.Store.{Store, disk, store_of, graph, marks}
+use Rattle.shared_area.specs.area_reader.Reads.{Loose}
+use Rattle.shared_area.specs.area_reader.Looks.{Looks}
+use Rattle.shared_area.proofs.area_reader_lemmas.Looked.{carried_back}
+use Rattle.shared_area.specs.area_reader.declared.error.AreaError.{AreaError}
+use Rattle.shared_area.specs.area_reader.declared.error.AreaError.TheVariants as area
 use Rattle.shared_area.specs.ChangeApply.{IsAppliedStore, MakesFewCalls}
 use Rattle.shared_area.proofs.Calls.{few_behind}
-use Rattle.log_record.specs.Grammar.{IsRecord}
-use Rattle.log_record.specs.declared.format.Record.{Record}
+use Rattle.update_log.specs.log_record.Grammar.{IsRecord}
+use Rattle.update_log.specs.log_record.declared.format.Record.{Record}
 use Rattle.coalescer.specs.Records.{effects_in}
 use Rattle.shared_area.specs.Ready.{OpensAs}
 use Rattle.shared_area.specs.GraphUpdate.{StaysOrChanges, AppliesOrStays}

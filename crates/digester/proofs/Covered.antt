@@ -1,16 +1,16 @@
 -- Records that are covered in one graph are so in each that has the same at what they touch, and are good where there are the units.
 use Rattle.std.proofs.Common.{◌≡◌, ℕ, zero, suc, ◌+◌, ◌≤◌, ◌||◌, Bool, true, false, List, [], ◌∷◌, take, refl, ap, sym, ◌∙◌, subst, arith}
 use Rattle.std.proofs.Math.Seq.{take-nil}
-use Rattle.file_graph.specs.declared.effect.Effect.{Effect}
-use Rattle.file_graph.specs.Graph.{Graph, after_effects, touches, is_among}
-use Rattle.file_graph.specs.Units.{charge, growth}
-use Rattle.file_graph.proofs.Touches.{charge_rises}
-use Rattle.log_record.specs.declared.format.Record.{Record}
-use Rattle.call_effects.specs.NodeView.{view_at}
-use Rattle.call_effects.proofs.NodeViews.{viewed_after}
+use Rattle.update_log.specs.file_graph.declared.effect.Effect.{Effect}
+use Rattle.update_log.specs.file_graph.Graph.{Graph, after_effects, touches, is_among}
+use Rattle.update_log.specs.file_graph.Units.{charge, growth}
+use Rattle.update_log.proofs.file_graph_lemmas.Touches.{charge_rises}
+use Rattle.update_log.specs.log_record.declared.format.Record.{Record}
+use Rattle.shared_area.specs.call_effects.NodeView.{view_at}
+use Rattle.shared_area.proofs.call_effects_lemmas.NodeViews.{viewed_after}
 use Rattle.coalescer.specs.Records.{effects_in}
-use Rattle.record_validation.specs.Good.{KeepsLimits}
-use Rattle.record_validation.proofs.Rises.{growth_told}
+use Rattle.shared_area.specs.record_validation.Good.{KeepsLimits}
+use Rattle.shared_area.proofs.record_validation_lemmas.Rises.{growth_told}
 use Rattle.digester.specs.RecordCover.{IsCovered, AreCovered, AreSameAt, units_of}
 use Rattle.digester.specs.Plan.{AreGood, Finds}
 use Rattle.digester.specs.declared.record_test.Found.TheVariants as found

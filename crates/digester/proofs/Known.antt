@@ -5,9 +5,9 @@ use Rattle.std.proofs.lemmas.List.Concat.{flat_map-append}
 use Rattle.std.proofs.lemmas.Map.Views.{exact_unsigned_eq}
 use Rattle.std.specs.List.{find}
 use Rattle.std.proofs.lemmas.Bool.Decides.{eqb_tells}
-use Rattle.file_graph.specs.declared.effect.Effect.{Effect}
-use Rattle.file_graph.specs.Graph.{touches, subjects, is_among}
-use Rattle.record_validation.specs.KnownNodes.{Known, is_unknown}
+use Rattle.update_log.specs.file_graph.declared.effect.Effect.{Effect}
+use Rattle.update_log.specs.file_graph.Graph.{touches, subjects, is_among}
+use Rattle.shared_area.specs.record_validation.KnownNodes.{Known, is_unknown}
 
 -- each inode of some is known
 abbrev pub AreKnown : Known → List ℕ → Type 0

@@ -1,8 +1,8 @@
 -- A mark that moves takes what was digested away from what counts.
 use Rattle.std.proofs.Common.{◌≡◌, ◌≢◌, inl, inr, ℕ, ◌+◌, ◌%◌, ◌<◌, ◌≤◌, ◌==◌, cond, Bool, List, [], length, drop, ap, sym, ◌∙◌, arith}
 use Rattle.std.proofs.lemmas.Bool.Decides.{eqb_tells}
-use Rattle.layout.specs.declared.marks.Mark.{Mark}
-use Rattle.log_record.specs.declared.format.Record.{Record}
+use Rattle.shared_area.specs.layout.declared.marks.Mark.{Mark}
+use Rattle.update_log.specs.log_record.declared.format.Record.{Record}
 use Rattle.update_log.specs.RecordCounts.{counted_records, next_generation, records_in, records_under}
 use Rattle.update_log.specs.Frames.{records}
 use Rattle.update_log.specs.WipeStops.{generation}

@@ -4,25 +4,25 @@ use Rattle.std.specs.List.{AllByRecursion, sum_by}
 use Rattle.std.specs.Prelude.{option_map}
 use Rattle.std.specs.FinMap as fin
 use Rattle.std.proofs.lemmas.List.{length-take-le, length-drop, take_all}
-use Rattle.file_graph.specs.Graph.{Graph, Node, Body, FileBody, DirBody}
-use Rattle.file_graph.specs.Units.{charge}
-use Rattle.graph_change.specs.Bounds.{AreBounded}
-use Rattle.graph_change.specs.Change.{Change, Changes, changed_graph}
-use Rattle.graph_change.specs.Tidy.{AreTidyChanges}
-use Rattle.graph_change.proofs.Tidying.{tidy_coalesced}
-use Rattle.log_record.specs.Grammar.{IsRecord}
-use Rattle.log_record.specs.declared.format.Record.{Record}
-use Rattle.call_effects.specs.NodeView.{view_at, view_of_body, view_of_node}
-use Rattle.layout.specs.declared.places.TheConstants.{SPARE_BLOCKS}
-use Rattle.layout.specs.Places.{Sizes}
-use Rattle.area_reader.specs.Store.{Store}
-use Rattle.change_plan.specs.Next.{HasFewEntries, nodes_for}
-use Rattle.change_plan.specs.BlockDemand.{images_for, AreWritten}
+use Rattle.update_log.specs.file_graph.Graph.{Graph, Node, Body, FileBody, DirBody}
+use Rattle.update_log.specs.file_graph.Units.{charge}
+use Rattle.coalescer.specs.graph_change.Bounds.{AreBounded}
+use Rattle.coalescer.specs.graph_change.Change.{Change, Changes, changed_graph}
+use Rattle.coalescer.specs.graph_change.Tidy.{AreTidyChanges}
+use Rattle.coalescer.proofs.graph_change_lemmas.Tidying.{tidy_coalesced}
+use Rattle.update_log.specs.log_record.Grammar.{IsRecord}
+use Rattle.update_log.specs.log_record.declared.format.Record.{Record}
+use Rattle.shared_area.specs.call_effects.NodeView.{view_at, view_of_body, view_of_node}
+use Rattle.shared_area.specs.layout.declared.places.TheConstants.{SPARE_BLOCKS}
+use Rattle.shared_area.specs.layout.Places.{Sizes}
+use Rattle.shared_area.specs.area_reader.Store.{Store}
+use Rattle.shared_area.specs.change_plan.Next.{HasFewEntries, nodes_for}
+use Rattle.shared_area.specs.change_plan.BlockDemand.{images_for, AreWritten}
 use Rattle.shared_area.proofs.Writes.{written_each}
 use Rattle.coalescer.proofs.Single.{run}
 use Rattle.coalescer.specs.Records.{effects_in}
 use Rattle.coalescer.specs.Within.{AreBlocksIn, images_of}
-use Rattle.record_validation.specs.Good.{KeepsLimits}
+use Rattle.shared_area.specs.record_validation.Good.{KeepsLimits}
 use Rattle.digester.specs.Plan.{AreGood, IsNextRun}
 use Rattle.digester.proofs.Applied.{good_bounded, good_limits, good_charge, fit_images, fit_blocks}
 use Rattle.digester.specs.DigestStep.{IsGoodRun}

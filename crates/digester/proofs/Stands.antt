@@ -3,8 +3,8 @@ use Rattle.std.proofs.Common.{◌≡◌, ◌<◌, ◌==◌, ℕ, Bool, true, Lis
 use Rattle.std.specs.Prelude.{◌↔◌}
 use Rattle.std.proofs.lemmas.Bool.{and_from, and_parts, eq-eqb, eqb-true}
 use Rattle.std.proofs.lemmas.List.{get_or_default}
-use Rattle.layout.specs.declared.marks.Mark.{Mark}
-use Rattle.layout.specs.declared.marks.Marks.{Marks}
+use Rattle.shared_area.specs.layout.declared.marks.Mark.{Mark}
+use Rattle.shared_area.specs.layout.declared.marks.Marks.{Marks}
 use Rattle.digester.specs.MarkMoves.{is_mark, mark_after, mark_of}
 use Rattle.digester.specs.SealedLog.{SealedView, StandsAt}
 

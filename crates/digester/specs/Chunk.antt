@@ -1,6 +1,6 @@
 -- The next records of a sealed log, prepared to be digested at once.
 use Rattle.std.specs.Prelude.{◌≡◌, ◌<◌, ◌==◌, ◌&&◌, Bool, length, drop}
-use Rattle.graph_change.specs.View.{changes_of}
+use Rattle.coalescer.specs.graph_change.View.{changes_of}
 use Rattle.digester.specs.Plan.{IsNextRun}
 use Rattle.digester.specs.SealedLog.{SealedView}
 use Rattle.digester.specs.declared.chunk.Chunk.{Chunk}

@@ -2,15 +2,15 @@
 use Rattle.std.specs.Prelude.{◌≡◌, ◌⊎◌, ◌<◌, ◌+◌, ℕ, List, true, length, take, Some, Result}
 use Rattle.tier_device.specs.declared.media.Media.{Ghosts}
 use Rattle.tier_device.specs.declared.media.Tier.{Tier}
-use Rattle.file_graph.specs.Graph.{Graph, after_effects}
-use Rattle.graph_change.specs.Change.{Changes, coalesced_changes}
-use Rattle.log_record.specs.declared.format.Record.{Record}
-use Rattle.layout.specs.declared.marks.Marks.{Marks}
-use Rattle.layout.specs.Places.{Sizes}
-use Rattle.batch_journal.specs.View.{JournalView}
-use Rattle.batch_journal.specs.Volume.{IsVolume}
-use Rattle.area_reader.specs.Store.{Store, store_of, graph, marks}
-use Rattle.area_reader.specs.Reads.{Loose}
+use Rattle.update_log.specs.file_graph.Graph.{Graph, after_effects}
+use Rattle.coalescer.specs.graph_change.Change.{Changes, coalesced_changes}
+use Rattle.update_log.specs.log_record.declared.format.Record.{Record}
+use Rattle.shared_area.specs.layout.declared.marks.Marks.{Marks}
+use Rattle.shared_area.specs.layout.Places.{Sizes}
+use Rattle.shared_area.specs.batch_journal.View.{JournalView}
+use Rattle.shared_area.specs.batch_journal.Volume.{IsVolume}
+use Rattle.shared_area.specs.area_reader.Store.{Store, store_of, graph, marks}
+use Rattle.shared_area.specs.area_reader.Reads.{Loose}
 use Rattle.coalescer.specs.Records.{effects_in}
 use Rattle.coalescer.specs.Weight.{fits_chunk, IsLongestRun}
 use Rattle.digester.specs.Plan.{AreGood, IsFirstBad}

@@ -1,7 +1,7 @@
 -- What a refusal of the shared area is told as.
 use Rattle.std.specs.Prelude.{◌≡◌}
-use Rattle.area_reader.specs.declared.error.AreaError.{AreaError}
-use Rattle.area_reader.specs.declared.error.AreaError.TheVariants as area
+use Rattle.shared_area.specs.area_reader.declared.error.AreaError.{AreaError}
+use Rattle.shared_area.specs.area_reader.declared.error.AreaError.TheVariants as area
 use Rattle.digester.specs.declared.error.DigestError.{DigestError}
 use Rattle.digester.specs.declared.error.DigestError.TheVariants as errors
 

@@ -1,7 +1,7 @@
 -- Where marks stand after a digest.
 use Rattle.std.specs.Prelude.{ℕ, ◌+◌, ◌-◌, ◌^◌, ◌==◌, ◌&&◌, Bool, get_or, min, if◌then◌else◌, slice_set}
-use Rattle.layout.specs.declared.marks.Mark.{Mark}
-use Rattle.layout.specs.declared.marks.Marks.{Marks}
+use Rattle.shared_area.specs.layout.declared.marks.Mark.{Mark}
+use Rattle.shared_area.specs.layout.declared.marks.Marks.{Marks}
 use Rattle.update_log.specs.RecordCounts.{next_generation}
 
 -- the mark when so many of the records of a generation are done: it moves to the next generation once they all are

@@ -1,12 +1,12 @@
 -- Which records of a client's log are digested next, and each of them over the graph as those before it leave it.
 use Rattle.std.specs.Prelude.{◌≡◌, ℕ, zero, suc, true, List, [], ◌∷◌, take}
-use Rattle.file_graph.specs.Graph.{Graph, after_effects}
-use Rattle.file_graph.specs.Units.{charge}
-use Rattle.graph_change.specs.Change.{Changes, coalesced_changes}
-use Rattle.log_record.specs.declared.format.Record.{Record}
+use Rattle.update_log.specs.file_graph.Graph.{Graph, after_effects}
+use Rattle.update_log.specs.file_graph.Units.{charge}
+use Rattle.coalescer.specs.graph_change.Change.{Changes, coalesced_changes}
+use Rattle.update_log.specs.log_record.declared.format.Record.{Record}
 use Rattle.coalescer.specs.Records.{effects_in}
 use Rattle.coalescer.specs.Weight.{IsLongestRun}
-use Rattle.record_validation.specs.Good.{IsGood}
+use Rattle.shared_area.specs.record_validation.Good.{IsGood}
 use Rattle.digester.specs.declared.record_test.Found.{Found}
 use Rattle.digester.specs.declared.record_test.Found.TheVariants as found
 

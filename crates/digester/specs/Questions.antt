@@ -1,8 +1,8 @@
 -- Which questions are asked, each once.
 use Rattle.std.specs.Prelude.{◌≡◌, ℕ, true, false, List, [], ◌∷◌, Option, Some, None}
 use Rattle.std.specs.List.{AllByRecursion}
-use Rattle.file_graph.specs.Graph.{is_among}
-use Rattle.record_validation.specs.KnownNodes.{Known, is_unknown}
+use Rattle.update_log.specs.file_graph.Graph.{is_among}
+use Rattle.shared_area.specs.record_validation.KnownNodes.{Known, is_unknown}
 use Rattle.digester.specs.declared.plan_error.PlanError.{PlanError}
 use Rattle.digester.specs.declared.plan_error.PlanError.TheVariants as why
 

@@ -1,11 +1,11 @@
 -- Records that a client may log: what it holds covers them, and their units pay for them.
 use Rattle.std.specs.Prelude.{◌≡◌, ℕ, ◌+◌, ◌≤◌, true, List, [], ◌∷◌}
-use Rattle.file_graph.specs.Graph.{Graph, after_effects, touches, is_among}
-use Rattle.file_graph.specs.Units.{growth}
-use Rattle.log_record.specs.declared.format.Record.{Record}
-use Rattle.log_record.specs.Grammar.{IsRecord}
-use Rattle.call_effects.specs.NodeView.{view_at}
-use Rattle.record_validation.specs.Good.{AreHeld, KeepsLimits}
+use Rattle.update_log.specs.file_graph.Graph.{Graph, after_effects, touches, is_among}
+use Rattle.update_log.specs.file_graph.Units.{growth}
+use Rattle.update_log.specs.log_record.declared.format.Record.{Record}
+use Rattle.update_log.specs.log_record.Grammar.{IsRecord}
+use Rattle.shared_area.specs.call_effects.NodeView.{view_at}
+use Rattle.shared_area.specs.record_validation.Good.{AreHeld, KeepsLimits}
 
 -- a record over the graph before it: spelled, within what its client holds for writing, paid by its units, and within the limits
 pub record IsCovered (held : List ℕ) (g : Graph) (r : Record) : Type 0 where

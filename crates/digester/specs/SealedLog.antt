@@ -3,11 +3,11 @@ use Rattle.std.specs.Prelude.{◌≡◌, ℕ, ◌+◌, ◌^◌, ◌<◌, ◌≤�
 use Rattle.std.specs.List.{AllByRecursion}
 use Rattle.std.specs.List.Sorted.{IsStrictlyIncreasing}
 use Rattle.posix_calls.specs.Operations.{is_client}
-use Rattle.log_record.specs.Grammar.{IsRecord}
-use Rattle.log_record.specs.declared.format.Record.{Record}
-use Rattle.layout.specs.declared.marks.Mark.{Mark}
-use Rattle.layout.specs.declared.marks.Marks.{Marks}
-use Rattle.area_reader.specs.Store.{Store, marks}
+use Rattle.update_log.specs.log_record.Grammar.{IsRecord}
+use Rattle.update_log.specs.log_record.declared.format.Record.{Record}
+use Rattle.shared_area.specs.layout.declared.marks.Mark.{Mark}
+use Rattle.shared_area.specs.layout.declared.marks.Marks.{Marks}
+use Rattle.shared_area.specs.area_reader.Store.{Store, marks}
 use Rattle.digester.specs.MarkMoves.{mark_after, mark_of}
 
 -- a sealed log: whose it is, its generation, how many of its records are digested, the inodes that its client held for writing, and all its records in their order

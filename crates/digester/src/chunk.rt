@@ -8,7 +8,7 @@ ghost use Rattle.digester.specs.declared.error.DigestError.TheVariants.{Memory};
 use crate::error::DigestError;
 use crate::next_run;
 use crate::sealed_log::SealedLog;
-use graph_change::GraphChange;
+use coalescer::in_graph_change::GraphChange;
 use std::alloc::Global;
 
 /// Records of a sealed log that are digested at once, and what they come to.

@@ -1,12 +1,12 @@
 //! A chunk of a sealed log reaches the shared area in one batch, with the mark behind it.
 
 ghost use Rattle.std.specs.Prelude.{◌≡◌, ◌<◌, ◌≤◌, ◌+◌, ℕ, List, true, false, length, Some, IfErr, IfOk, OnOk, OnErr};
-ghost use Rattle.graph_change.specs.View.{changes_of};
-ghost use Rattle.log_record.specs.declared.format.Record.{Record};
-ghost use Rattle.layout.specs.Marks.{fits_marks};
-ghost use Rattle.layout.specs.declared.marks.Marks.{Marks};
+ghost use Rattle.coalescer.specs.graph_change.View.{changes_of};
+ghost use Rattle.update_log.specs.log_record.declared.format.Record.{Record};
+ghost use Rattle.shared_area.specs.layout.Marks.{fits_marks};
+ghost use Rattle.shared_area.specs.layout.declared.marks.Marks.{Marks};
 ghost use Rattle.posix_calls.specs.Operations.{is_client};
-ghost use Rattle.area_reader.specs.Store.{disk, graph, marks as marks_of};
+ghost use Rattle.shared_area.specs.area_reader.Store.{disk, graph, marks as marks_of};
 ghost use Rattle.shared_area.specs.ChangeApply.{IsAppliedStore, MakesFewCalls};
 ghost use Rattle.shared_area.specs.GraphUpdate.{StaysOrChanges, AppliesOrStays};
 ghost use Rattle.shared_area.specs.Parts.{IsNoDamage};
@@ -21,10 +21,10 @@ use crate::digest_marks::{mark_after, marks_after};
 use crate::error::{DigestError, digest_error};
 use crate::run_test::test_run;
 use crate::sealed_log::SealedLog;
-use area_reader::AreaError;
-use graph_change::GraphChange;
-use layout::Mark;
+use coalescer::in_graph_change::GraphChange;
 use shared_area::Shared;
+use shared_area::in_area_reader::AreaError;
+use shared_area::in_layout::Mark;
 use std::alloc::Global;
 use tier_device::Media;
 

@@ -3,12 +3,12 @@
 ghost use Rattle.std.specs.Prelude.{◌≡◌, ◌<◌, ◌≤◌, ◌+◌, ℕ, List, true, length, drop};
 ghost use Rattle.std.specs.List.{list_all};
 ghost use Rattle.posix_calls.specs.Operations.{is_client};
-ghost use Rattle.layout.specs.Marks.{fits_mark, fits_marks};
+ghost use Rattle.shared_area.specs.layout.Marks.{fits_mark, fits_marks};
 ghost use Rattle.update_log.specs.RecordCounts.{counted_records, records_in};
 ghost use Rattle.digester.specs.MarkMoves.{is_mark, mark_after, mark_of, marks_after};
 
-use layout::{Mark, Marks};
 use posix_calls::client_index;
+use shared_area::in_layout::{Mark, Marks};
 use update_log::{digest_counts_fewer, wipe_counts_nothing};
 
 /// The mark when `done` of the `total` records of a generation are digested: with the last of them it moves to the next generation.

@@ -1,7 +1,7 @@
 ghost use Rattle.shared_area.specs.Parts.{IsNoDamage};
 ghost use Rattle.digester.specs.Errors.{IsDigestError};
 
-use area_reader::AreaError;
+use shared_area::in_area_reader::AreaError;
 use thiserror::Error;
 
 /// Why the next records of a log are not digested.

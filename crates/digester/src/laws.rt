@@ -1,12 +1,12 @@
 //! What holds of every chunk and every digest.
 
 ghost use Rattle.std.specs.Prelude.{◌≡◌, ◌≢◌, ℕ, ◌<◌, ◌≤◌, true, false, length, take};
-ghost use Rattle.file_graph.specs.Graph.{is_among, touches};
-ghost use Rattle.layout.specs.Places.{Sizes};
-ghost use Rattle.layout.specs.declared.marks.Mark.{Mark};
-ghost use Rattle.layout.specs.declared.marks.Marks.{Marks};
-ghost use Rattle.change_plan.specs.Part.{IsTouchedBy};
-ghost use Rattle.area_reader.specs.Store.{Store, slot};
+ghost use Rattle.update_log.specs.file_graph.Graph.{is_among, touches};
+ghost use Rattle.shared_area.specs.layout.Places.{Sizes};
+ghost use Rattle.shared_area.specs.layout.declared.marks.Mark.{Mark};
+ghost use Rattle.shared_area.specs.layout.declared.marks.Marks.{Marks};
+ghost use Rattle.shared_area.specs.change_plan.Part.{IsTouchedBy};
+ghost use Rattle.shared_area.specs.area_reader.Store.{Store, slot};
 ghost use Rattle.coalescer.specs.Records.{effects_in};
 ghost use Rattle.digester.specs.Chunk.{IsChunkOf};
 ghost use Rattle.digester.specs.DigestStep.{IsDigested};

@@ -39,3 +39,8 @@ pub use record_test::{Found, test_records};
 pub use run_plan::{NextRun, next_run};
 pub use run_test::capacity_of;
 pub use sealed_log::SealedLog;
+
+// Handed on to the crates above, which list only the highest of what they name.
+pub use coalescer::in_graph_change;
+pub use shared_area as in_shared_area;
+pub use shared_area::in_area_reader;

@@ -1,15 +1,15 @@
 //! Nodes are asked for before a record is tested.
 
 ghost use Rattle.std.specs.Prelude.{◌≡◌, ℕ, List, true, false, None, Some, IfErr, OnOk};
-ghost use Rattle.file_graph.specs.Graph.{Graph, touches, is_among};
-ghost use Rattle.record_validation.specs.KnownNodes.{first_unknown, is_unknown};
-ghost use Rattle.record_validation.specs.Row.{HasCome};
+ghost use Rattle.update_log.specs.file_graph.Graph.{Graph, touches, is_among};
+ghost use Rattle.shared_area.specs.record_validation.KnownNodes.{first_unknown, is_unknown};
+ghost use Rattle.shared_area.specs.record_validation.Row.{HasCome};
 ghost use Rattle.digester.specs.Questions.{AskedKnown, AskedOnce, AreAmong, refusal_of};
 
 use crate::plan_error::PlanError;
-use file_graph::Effect;
-use record_validation::{Nodes, RecordCheck, is_unknown};
+use shared_area::in_record_validation::{Nodes, RecordCheck, is_unknown};
 use std::alloc::Global;
+use update_log::in_file_graph::Effect;
 
 /// Asks for each inode that effects touch and of which nothing is known.
 pub fn learn_touched<N: Nodes>(

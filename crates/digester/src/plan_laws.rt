@@ -2,18 +2,18 @@
 
 ghost use Rattle.std.specs.Prelude.{◌≡◌, ◌<◌, ◌≤◌, ◌+◌, ℕ, List, true, false, length, take, get_or};
 ghost use Rattle.std.specs.FinMap as fin;
-ghost use Rattle.file_graph.specs.Graph.{Graph, after_effects, touches};
-ghost use Rattle.file_graph.specs.Units.{charge};
-ghost use Rattle.graph_change.specs.Bounds.{AreBounded};
-ghost use Rattle.graph_change.specs.Change.{changed_graph, coalesced_changes};
-ghost use Rattle.log_record.specs.declared.format.Record.{Record};
-ghost use Rattle.call_effects.specs.NodeView.{view_at};
-ghost use Rattle.layout.specs.declared.places.TheConstants.{MAX_IMAGES, SPARE_BLOCKS};
+ghost use Rattle.update_log.specs.file_graph.Graph.{Graph, after_effects, touches};
+ghost use Rattle.update_log.specs.file_graph.Units.{charge};
+ghost use Rattle.coalescer.specs.graph_change.Bounds.{AreBounded};
+ghost use Rattle.coalescer.specs.graph_change.Change.{changed_graph, coalesced_changes};
+ghost use Rattle.update_log.specs.log_record.declared.format.Record.{Record};
+ghost use Rattle.shared_area.specs.call_effects.NodeView.{view_at};
+ghost use Rattle.shared_area.specs.layout.declared.places.TheConstants.{MAX_IMAGES, SPARE_BLOCKS};
 ghost use Rattle.coalescer.specs.declared.weight.TheConstants.{CHUNK_IMAGES, CHUNK_BLOCKS};
 ghost use Rattle.coalescer.specs.Records.{effects_in};
 ghost use Rattle.coalescer.specs.Weight.{fits_chunk};
 ghost use Rattle.coalescer.specs.Within.{AreBlocksIn, images_of};
-ghost use Rattle.record_validation.specs.Good.{IsGood, KeepsLimits};
+ghost use Rattle.shared_area.specs.record_validation.Good.{IsGood, KeepsLimits};
 ghost use Rattle.digester.specs.RecordCover.{AreCovered, AreSameAt, units_of};
 ghost use Rattle.digester.specs.Plan.{AreGood, Finds, IsFirstBad};
 ghost use Rattle.digester.specs.declared.record_test.Found.TheVariants as found;

@@ -3,20 +3,20 @@
 ghost use Rattle.std.specs.Prelude.{◌≡◌, ◌<◌, ℕ, List, true, false, None, IfErr, IfOk, OnOk, length};
 ghost use Rattle.std.specs.List.{AllByRecursion};
 ghost use Rattle.std.specs.List.Sorted.{IsNonDecreasing};
-ghost use Rattle.file_graph.specs.Graph.{Graph, after_effects, touches};
-ghost use Rattle.file_graph.specs.Units.{charge};
-ghost use Rattle.log_record.specs.Grammar.{IsRecord};
+ghost use Rattle.update_log.specs.file_graph.Graph.{Graph, after_effects, touches};
+ghost use Rattle.update_log.specs.file_graph.Units.{charge};
+ghost use Rattle.update_log.specs.log_record.Grammar.{IsRecord};
 ghost use Rattle.coalescer.specs.Records.{effects_in};
-ghost use Rattle.record_validation.specs.Good.{IsGood};
-ghost use Rattle.record_validation.specs.Row.{HasCome};
+ghost use Rattle.shared_area.specs.record_validation.Good.{IsGood};
+ghost use Rattle.shared_area.specs.record_validation.Row.{HasCome};
 ghost use Rattle.digester.specs.Questions.{AreAmong, AskedKnown, AskedOnce, refusal_of};
 ghost use Rattle.digester.specs.Plan.{Finds};
 
 use crate::node_fetch::learn_touched;
 use crate::plan_error::PlanError;
-use log_record::Record;
-use record_validation::{Nodes, RecordCheck, Verdict};
+use shared_area::in_record_validation::{Nodes, RecordCheck, Verdict};
 use std::alloc::Global;
+use update_log::in_log_record::Record;
 
 /// What a test of some records found.
 #[derive(Clone, Copy, PartialEq, Eq)]

@@ -1,12 +1,12 @@
 ghost use Rattle.std.specs.Prelude.{◌<◌, IfErr, IfOk, length};
-ghost use Rattle.graph_change.specs.View.{changes_of};
+ghost use Rattle.coalescer.specs.graph_change.View.{changes_of};
 ghost use Rattle.coalescer.specs.Records.{effects_in};
 ghost use Rattle.digester.specs.Plan.{IsNextRun};
 
+use coalescer::in_graph_change::GraphChange;
 use coalescer::{coalesce, longest_run};
-use graph_change::GraphChange;
-use log_record::Record;
 use std::alloc::{AllocError, Global};
+use update_log::in_log_record::Record;
 
 /// The next records of a log that are digested at once, and what they come to.
 #[derive(Drop)]

@@ -3,20 +3,20 @@
 ghost use Rattle.std.specs.Prelude.{◌≡◌, ◌≢◌, ◌<◌, false, IfErr, IfOk, length};
 ghost use Rattle.std.specs.List.{AllByRecursion};
 ghost use Rattle.std.specs.List.Sorted.{IsNonDecreasing};
-ghost use Rattle.file_graph.specs.Units.{charge};
-ghost use Rattle.log_record.specs.Grammar.{IsRecord};
-ghost use Rattle.area_reader.specs.declared.error.AreaError.TheVariants.{DeviceFault};
-ghost use Rattle.area_reader.specs.Store.{disk, graph};
-ghost use Rattle.area_reader.specs.Looks.{Looks};
+ghost use Rattle.update_log.specs.file_graph.Units.{charge};
+ghost use Rattle.update_log.specs.log_record.Grammar.{IsRecord};
+ghost use Rattle.shared_area.specs.area_reader.declared.error.AreaError.TheVariants.{DeviceFault};
+ghost use Rattle.shared_area.specs.area_reader.Store.{disk, graph};
+ghost use Rattle.shared_area.specs.area_reader.Looks.{Looks};
 ghost use Rattle.shared_area.specs.Parts.{IsNoDamage};
 ghost use Rattle.digester.specs.Plan.{Finds};
 
 use crate::{Found, PlanError, test_records};
-use area_reader::AreaError;
-use log_record::Record;
 use shared_area::Shared;
+use shared_area::in_area_reader::AreaError;
 use std::alloc::Global;
 use tier_device::Media;
+use update_log::in_log_record::Record;
 
 /// What a test of records finds over the graph of the shared area and within its units, where their client holds the inodes `held` for
 /// writing, listed rising. It asks the area for nodes that these records touch, and changes no device.

@@ -2,13 +2,13 @@ ghost use Rattle.std.specs.Prelude.{◌≡◌, ◌↔◌, ◌<◌, ◌≤◌, �
 ghost use Rattle.std.specs.List.{AllByRecursion};
 ghost use Rattle.std.specs.List.Sorted.{IsStrictlyIncreasing};
 ghost use Rattle.posix_calls.specs.Operations.{is_client};
-ghost use Rattle.log_record.specs.Grammar.{IsRecord};
+ghost use Rattle.update_log.specs.log_record.Grammar.{IsRecord};
 ghost use Rattle.digester.specs.SealedLog.{IsSealed, StandsAt, done_to};
 
 use crate::digest_marks::{is_mark, mark_after, mark_of};
-use layout::Marks;
-use log_record::Record;
+use shared_area::in_layout::Marks;
 use std::marker::Model;
+use update_log::in_log_record::Record;
 
 /// The records of a region that its client sealed, in memory, and how many of them are digested.
 ///

@@ -3,7 +3,7 @@ use Rattle.std.proofs.Common.{◌≡◌, ◌≢◌, ◌⊎◌, inl, inr, Bool, t
 use Rattle.std.specs.Prelude.{Result, Ok, Err, OnOk, OnErr, IfErr, IsErrOf}
 use Rattle.std.proofs.lemmas.Bool.{true≢false}
 use Rattle.tier_device.specs.declared.media.Media.{Ghosts}
-use Rattle.kernel_fs.specs.KernelView.{KernelView}
+use Rattle.libfs.specs.kernel_fs.KernelView.{KernelView}
 use Rattle.libfs.specs.View.{ClientView}
 use Rattle.libfs.specs.declared.denial.Denied.{Denied}
 use Rattle.libfs.specs.declared.denial.Denied.TheVariants as denied

@@ -4,27 +4,27 @@ use Rattle.std.specs.Prelude.{Result, Ok, Err, IsErrOf, ◌==◌, ◌&&◌}
 use Rattle.std.proofs.lemmas.Bool.{and_parts, eq-eqb, eqb-true, false≢true}
 use Rattle.tier_device.specs.declared.media.Media.{Ghosts}
 use Rattle.tier_device.specs.declared.media.Tier.TheVariants.{Fast}
-use Rattle.log_record.specs.declared.format.Record.{Record}
-use Rattle.update_log.specs.RecordCounts.{next_generation}
-use Rattle.update_log.specs.View.{RegionView, records_of}
-use Rattle.update_log.specs.Frames.{before_gate, spelled_records}
-use Rattle.client_log.specs.Calls.{IsOnlyRead}
-use Rattle.coalescer.specs.Weight.{IsLongestRun}
-use Rattle.digester.specs.Chunk.{IsChunkOf, is_next}
-use Rattle.digester.specs.SealedLog.{SealedView, HasUndigested, StandsAtMark, undone}
-use Rattle.digester.specs.declared.chunk.Chunk.{Chunk}
-use Rattle.digester.specs.declared.error.DigestError.{DigestError}
-use Rattle.digester.specs.declared.error.DigestError.TheVariants as digests
-use Rattle.kernel_fs.specs.Book.{waiting_of}
-use Rattle.kernel_fs.specs.KernelView.{KernelView}
-use Rattle.kernel_fs.specs.declared.error.AcceptError.{AcceptError}
-use Rattle.kernel_fs.specs.declared.error.AcceptError.TheVariants as accepts
-use Rattle.area_reader.specs.Store.{disk}
-use Rattle.kernel_fs.specs.declared.chunk_digest.Digestion.{Digestion}
-use Rattle.kernel_fs.specs.declared.chunk_digest.Digestion.TheVariants as digestion
-use Rattle.kernel_fs.specs.declared.error.KernelError.{KernelError}
-use Rattle.kernel_fs.specs.declared.error.KernelError.TheVariants as kernel
-use Rattle.lease_manager.specs.Passes.{client_of}
+use Rattle.libfs.specs.log_record.declared.format.Record.{Record}
+use Rattle.libfs.specs.update_log.RecordCounts.{next_generation}
+use Rattle.libfs.specs.update_log.View.{RegionView, records_of}
+use Rattle.libfs.specs.update_log.Frames.{before_gate, spelled_records}
+use Rattle.libfs.specs.client_log.Calls.{IsOnlyRead}
+use Rattle.libfs.specs.coalescer.Weight.{IsLongestRun}
+use Rattle.libfs.specs.digester.Chunk.{IsChunkOf, is_next}
+use Rattle.libfs.specs.digester.SealedLog.{SealedView, HasUndigested, StandsAtMark, undone}
+use Rattle.libfs.specs.digester.declared.chunk.Chunk.{Chunk}
+use Rattle.libfs.specs.digester.declared.error.DigestError.{DigestError}
+use Rattle.libfs.specs.digester.declared.error.DigestError.TheVariants as digests
+use Rattle.libfs.specs.kernel_fs.Book.{waiting_of}
+use Rattle.libfs.specs.kernel_fs.KernelView.{KernelView}
+use Rattle.libfs.specs.kernel_fs.declared.error.AcceptError.{AcceptError}
+use Rattle.libfs.specs.kernel_fs.declared.error.AcceptError.TheVariants as accepts
+use Rattle.libfs.specs.area_reader.Store.{disk}
+use Rattle.libfs.specs.kernel_fs.declared.chunk_digest.Digestion.{Digestion}
+use Rattle.libfs.specs.kernel_fs.declared.chunk_digest.Digestion.TheVariants as digestion
+use Rattle.libfs.specs.kernel_fs.declared.error.KernelError.{KernelError}
+use Rattle.libfs.specs.kernel_fs.declared.error.KernelError.TheVariants as kernel
+use Rattle.libfs.specs.lease_manager.Passes.{client_of}
 use Rattle.libfs.specs.RegionSeal.{HasTakenBack, MayTakeBack}
 use Rattle.libfs.specs.SealedRegion.{SealedRegionView, log_of}
 use Rattle.libfs.specs.View.{ClientView}

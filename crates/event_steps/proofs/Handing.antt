@@ -3,15 +3,15 @@ use Rattle.std.proofs.Common.{◌≡◌, ◌≢◌, ◌⊎◌, ◌<◌, inl, inr
 use Rattle.std.specs.Prelude.{Result, Ok, Err, is_some}
 use Rattle.std.proofs.lemmas.Bool.{false≢true}
 use Rattle.tier_device.specs.declared.media.Media.{Ghosts}
-use Rattle.log_record.specs.declared.format.Record.{Record}
-use Rattle.update_log.specs.RecordCounts.{next_generation}
-use Rattle.update_log.specs.declared.stage.WipeProgress.{WipeProgress}
-use Rattle.client_log.specs.View.{LogView, current_records}
-use Rattle.lease_manager.specs.Passes.{client_of}
+use Rattle.libfs.specs.log_record.declared.format.Record.{Record}
+use Rattle.libfs.specs.update_log.RecordCounts.{next_generation}
+use Rattle.libfs.specs.update_log.declared.stage.WipeProgress.{WipeProgress}
+use Rattle.libfs.specs.client_log.View.{LogView, current_records}
+use Rattle.libfs.specs.lease_manager.Passes.{client_of}
 use Rattle.libfs.specs.RegionSeal.{HasSealed}
 use Rattle.libfs.specs.SealedRegion.{SealedRegionView, IsUntouched}
 use Rattle.event_steps.specs.Sound.{IsAwayFrom}
-use Rattle.client_log.specs.declared.error.LogError.{LogError}
+use Rattle.libfs.specs.client_log.declared.error.LogError.{LogError}
 use Rattle.libfs.specs.View.{ClientView}
 use Rattle.event_steps.specs.Effects.{Carries}
 use Rattle.event_steps.specs.Regions.{wipe_outcome}

@@ -3,16 +3,16 @@ use Rattle.std.proofs.Common.{◌≡◌, ◌⊎◌, inl, inr, ℕ, ◌<◌, leng
 use Rattle.std.specs.Prelude.{is_some, IfSome}
 use Rattle.std.proofs.lemmas.Bool.{false≢true}
 use Rattle.atomic_table.specs.Seated.{TableId}
-use Rattle.log_record.specs.declared.format.Record.{Record}
+use Rattle.libfs.specs.log_record.declared.format.Record.{Record}
 use Rattle.tier_device.specs.declared.media.Media.{Ghosts}
 use Rattle.posix_calls.specs.declared.call.Call.{Call}
 use Rattle.posix_calls.specs.declared.call.Reply.{Reply}
-use Rattle.update_log.specs.declared.stage.Progress.{Progress}
-use Rattle.update_log.specs.declared.stage.Progress.TheVariants.{Going, Appended}
-use Rattle.client_plan.specs.declared.outcome.Outcome.{Outcome}
-use Rattle.client_plan.specs.declared.outcome.Outcome.TheVariants as plans
-use Rattle.lease_manager.specs.Passes.{PassView, client_of}
-use Rattle.client_log.specs.View.{LogView}
+use Rattle.libfs.specs.update_log.declared.stage.Progress.{Progress}
+use Rattle.libfs.specs.update_log.declared.stage.Progress.TheVariants.{Going, Appended}
+use Rattle.libfs.specs.client_plan.declared.outcome.Outcome.{Outcome}
+use Rattle.libfs.specs.client_plan.declared.outcome.Outcome.TheVariants as plans
+use Rattle.libfs.specs.lease_manager.Passes.{PassView, client_of}
+use Rattle.libfs.specs.client_log.View.{LogView}
 use Rattle.posix_calls.specs.declared.call.Reply.TheVariants as replies
 use Rattle.posix_calls.specs.declared.errno.Errno.TheVariants.{IoError}
 use Rattle.libfs.specs.ClientHoldings.{outcome_for}

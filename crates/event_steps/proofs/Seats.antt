@@ -4,8 +4,8 @@ use Rattle.std.specs.Prelude.{slice_get, slice_index_or, slice_set, IfSome}
 use Rattle.std.proofs.lemmas.Bool.Decides.{nat_tests}
 use Rattle.atomic_table.specs.Seated.{TableId}
 use Rattle.tier_device.specs.declared.media.Media.{Ghosts}
-use Rattle.kernel_fs.specs.KernelView.{KernelView}
-use Rattle.lease_manager.specs.Words.{IsClient}
+use Rattle.libfs.specs.kernel_fs.KernelView.{KernelView}
+use Rattle.libfs.specs.lease_manager.Words.{IsClient}
 use Rattle.posix_calls.specs.Operations.{is_client}
 use Rattle.event_steps.specs.Effects.{Carries, Makes, MakesAt}
 use Rattle.event_steps.specs.Sound.{AreFrom, AreOfTable, AreSeats, number_of, owner_of}

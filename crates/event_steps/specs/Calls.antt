@@ -5,11 +5,11 @@ use Rattle.posix_calls.specs.declared.call.Call.{Call}
 use Rattle.posix_calls.specs.declared.call.Reply.{Reply}
 use Rattle.posix_calls.specs.declared.call.Reply.TheVariants as replies
 use Rattle.posix_calls.specs.declared.errno.Errno.TheVariants.{IoError}
-use Rattle.update_log.specs.Stage.{next, progress}
-use Rattle.update_log.specs.declared.stage.Progress.TheVariants.{Going, Appended}
-use Rattle.client_log.specs.Calls.{IsMovedOnce}
-use Rattle.client_log.specs.Counts.{AreLeft, CountOf}
-use Rattle.client_log.specs.View.{current_records}
+use Rattle.libfs.specs.update_log.Stage.{next, progress}
+use Rattle.libfs.specs.update_log.declared.stage.Progress.TheVariants.{Going, Appended}
+use Rattle.libfs.specs.client_log.Calls.{IsMovedOnce}
+use Rattle.libfs.specs.client_log.Counts.{AreLeft, CountOf}
+use Rattle.libfs.specs.client_log.View.{current_records}
 use Rattle.libfs.specs.Denial.{errno_of}
 use Rattle.libfs.specs.ClientHoldings.{outcome_for}
 use Rattle.libfs.specs.CallStart.{HasStarted, IsOutOfMemory}

@@ -1,7 +1,7 @@
 -- What an event makes of a running system.
 use Rattle.std.specs.Prelude.{◌≡◌, ◌≢◌, ◌-◌, ℕ, Option, Some, None, slice_set}
 use Rattle.tier_device.specs.declared.media.Media.{Ghosts}
-use Rattle.kernel_fs.specs.KernelView.{KernelView}
+use Rattle.libfs.specs.kernel_fs.KernelView.{KernelView}
 use Rattle.event_steps.specs.KernelRequests.{AreFetched, IsFetched, IsGivenBack, IsPinned, IsRefilled, IsUnpinned}
 use Rattle.event_steps.specs.Calls.{IsDenied, IsStarted, IsStepped}
 use Rattle.event_steps.specs.Leases.{IsAskedBack, IsGiven, IsLeased, IsRaised}

@@ -1,16 +1,16 @@
 -- What an event makes of client and kernel in which the client asks the kernel.
 use Rattle.std.specs.Prelude.{◌≡◌, ◌⊎◌, ◌<◌, ◌≤◌, ◌+◌, ◌^◌, ℕ, true, false, None, Result, Ok, Err, OnOk, OnErr, IfErr, IsErrOf, is_some}
 use Rattle.tier_device.specs.declared.media.Media.{Ghosts}
-use Rattle.area_reader.specs.Map.{WantsMemory}
-use Rattle.area_reader.specs.Store.{disk}
-use Rattle.file_graph.specs.Units.{charge}
-use Rattle.kernel_fs.specs.Book.{out_of, is_free}
-use Rattle.kernel_fs.specs.Free.{count_of}
-use Rattle.kernel_fs.specs.Nodes.{nodes_in}
-use Rattle.kernel_fs.specs.KernelView.{KernelView}
-use Rattle.kernel_fs.specs.MachineState.{IsKernelOf}
-use Rattle.lease_manager.specs.Passes.{client_of}
-use Rattle.world_invariant.specs.Machine.{Machine, book_pin, unbook_pin}
+use Rattle.libfs.specs.area_reader.Map.{WantsMemory}
+use Rattle.libfs.specs.area_reader.Store.{disk}
+use Rattle.libfs.specs.file_graph.Units.{charge}
+use Rattle.libfs.specs.kernel_fs.Book.{out_of, is_free}
+use Rattle.libfs.specs.kernel_fs.Free.{count_of}
+use Rattle.libfs.specs.kernel_fs.Nodes.{nodes_in}
+use Rattle.libfs.specs.kernel_fs.KernelView.{KernelView}
+use Rattle.libfs.specs.kernel_fs.MachineState.{IsKernelOf}
+use Rattle.libfs.specs.lease_manager.Passes.{client_of}
+use Rattle.libfs.specs.world_invariant.Machine.{Machine, book_pin, unbook_pin}
 use Rattle.libfs.specs.ClientHoldings.{known_to}
 use Rattle.libfs.specs.NeedService.{HasFetched, HasFetchedBlocks, HasThem, HasGivenBack, HasLooked, HasRefilled, with_pin, shared_by, without_pin}
 use Rattle.libfs.specs.declared.denial.Denied.{Denied}

@@ -1,12 +1,12 @@
 -- What an event makes of a client's leases.
 use Rattle.std.specs.Prelude.{◌≡◌, ◌⊎◌, ◌-◌, ◌/◌, ℕ}
-use Rattle.client_plan.specs.declared.need.Mode.{Mode}
-use Rattle.client_plan.specs.declared.need.Mode.TheVariants.{Write}
-use Rattle.lease_manager.specs.Passes.{PassView, lease_of, with_event, with_lease}
-use Rattle.lease_manager.specs.Words.{asked_bit, asked_word}
-use Rattle.lease_manager.specs.declared.view.Event.TheVariants.{Asked}
-use Rattle.lease_manager.specs.declared.view.LeaseMode.{LeaseMode}
-use Rattle.lease_manager.specs.declared.view.LeaseMode.TheVariants.{Writing}
+use Rattle.libfs.specs.client_plan.declared.need.Mode.{Mode}
+use Rattle.libfs.specs.client_plan.declared.need.Mode.TheVariants.{Write}
+use Rattle.libfs.specs.lease_manager.Passes.{PassView, lease_of, with_event, with_lease}
+use Rattle.libfs.specs.lease_manager.Words.{asked_bit, asked_word}
+use Rattle.libfs.specs.lease_manager.declared.view.Event.TheVariants.{Asked}
+use Rattle.libfs.specs.lease_manager.declared.view.LeaseMode.{LeaseMode}
+use Rattle.libfs.specs.lease_manager.declared.view.LeaseMode.TheVariants.{Writing}
 use Rattle.libfs.specs.LeaseCalls.{HasGiven, ShowsBar, mode_of, refused_pass}
 use Rattle.event_steps.specs.declared.outcome.Outcome.{Outcome}
 use Rattle.event_steps.specs.declared.outcome.Outcome.TheVariants as outcomes

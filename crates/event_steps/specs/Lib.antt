@@ -10,3 +10,23 @@ pub mod KernelRequests
 pub mod Regions
 pub mod Media
 pub mod Effects
+-- Handed on to the crates above, which list only the highest of what they name.
+pub use Rattle.libfs.specs.area_reader
+pub use Rattle.libfs.specs.batch_journal
+pub use Rattle.libfs.specs.call_effects
+pub use Rattle.libfs.specs.client_log
+pub use Rattle.libfs.specs.client_plan
+pub use Rattle.libfs.specs.client_view
+pub use Rattle.libfs.specs.coalescer
+pub use Rattle.libfs.specs.digester
+pub use Rattle.libfs.specs.file_graph
+pub use Rattle.libfs.specs.kernel_fs
+pub use Rattle.libfs.specs.layout
+pub use Rattle.libfs.specs.lease_manager
+pub use Rattle.libfs.specs as libfs
+pub use Rattle.libfs.specs.log_record
+pub use Rattle.libfs.specs.migrator
+pub use Rattle.libfs.specs.record_validation
+pub use Rattle.libfs.specs.shared_area
+pub use Rattle.libfs.specs.update_log
+pub use Rattle.libfs.specs.world_invariant

@@ -2,29 +2,29 @@
 use Rattle.std.specs.Prelude.{◌≡◌, ◌≤◌, ◌+◌, ℕ, [], ◌∷◌, true, false, Result, Ok, Err, OnOk, IfErr, IsErrOf}
 use Rattle.tier_device.specs.declared.media.Media.{Ghosts}
 use Rattle.tier_device.specs.declared.media.Tier.{Tier}
-use Rattle.file_graph.specs.declared.effect.Effect.TheVariants as effect
-use Rattle.graph_change.specs.Change.{coalesced_changes}
-use Rattle.shared_area.specs.ChangeApply.{MakesFewCalls}
-use Rattle.relocation.specs.MovableFile.{HasFileRun}
-use Rattle.area_reader.specs.Refusals.{IsMoveRefusal}
-use Rattle.batch_journal.specs.Course.{Unmoved}
-use Rattle.shared_area.specs.TierMoves.{HasTooFew, HasEnough, StaysOpen, MovesOrStays}
-use Rattle.area_reader.specs.declared.error.AreaError.{AreaError}
-use Rattle.area_reader.specs.declared.error.AreaError.TheVariants as moves
-use Rattle.relocation.specs.TierMove.{CanMove, IsMoved}
-use Rattle.area_reader.specs.Store.{disk, graph}
-use Rattle.kernel_fs.specs.Book.{is_pinned}
-use Rattle.world_invariant.specs.KernelSteps.{CanReclaim}
-use Rattle.world_invariant.specs.Logs.{IsNameless}
-use Rattle.world_invariant.specs.Machine.{Machine, reclaim as reclaimed}
-use Rattle.kernel_fs.specs.KernelAnswers.{Answers, OnRefusal}
-use Rattle.kernel_fs.specs.KernelView.{KernelView}
-use Rattle.kernel_fs.specs.Reclaim.{IsReclaimed, IsUnused, ReclaimsOrStays, StaysOrReclaims}
-use Rattle.kernel_fs.specs.MachineState.{IsKernelOf}
-use Rattle.kernel_fs.specs.declared.error.KernelError.{KernelError}
-use Rattle.kernel_fs.specs.declared.error.KernelError.TheVariants as kernel
-use Rattle.kernel_fs.specs.declared.error.ReclaimError.{ReclaimError}
-use Rattle.kernel_fs.specs.declared.error.ReclaimError.TheVariants as reclaims
+use Rattle.libfs.specs.file_graph.declared.effect.Effect.TheVariants as effect
+use Rattle.libfs.specs.graph_change.Change.{coalesced_changes}
+use Rattle.libfs.specs.shared_area.ChangeApply.{MakesFewCalls}
+use Rattle.libfs.specs.relocation.MovableFile.{HasFileRun}
+use Rattle.libfs.specs.area_reader.Refusals.{IsMoveRefusal}
+use Rattle.libfs.specs.batch_journal.Course.{Unmoved}
+use Rattle.libfs.specs.shared_area.TierMoves.{HasTooFew, HasEnough, StaysOpen, MovesOrStays}
+use Rattle.libfs.specs.area_reader.declared.error.AreaError.{AreaError}
+use Rattle.libfs.specs.area_reader.declared.error.AreaError.TheVariants as moves
+use Rattle.libfs.specs.relocation.TierMove.{CanMove, IsMoved}
+use Rattle.libfs.specs.area_reader.Store.{disk, graph}
+use Rattle.libfs.specs.kernel_fs.Book.{is_pinned}
+use Rattle.libfs.specs.world_invariant.KernelSteps.{CanReclaim}
+use Rattle.libfs.specs.world_invariant.Logs.{IsNameless}
+use Rattle.libfs.specs.world_invariant.Machine.{Machine, reclaim as reclaimed}
+use Rattle.libfs.specs.kernel_fs.KernelAnswers.{Answers, OnRefusal}
+use Rattle.libfs.specs.kernel_fs.KernelView.{KernelView}
+use Rattle.libfs.specs.kernel_fs.Reclaim.{IsReclaimed, IsUnused, ReclaimsOrStays, StaysOrReclaims}
+use Rattle.libfs.specs.kernel_fs.MachineState.{IsKernelOf}
+use Rattle.libfs.specs.kernel_fs.declared.error.KernelError.{KernelError}
+use Rattle.libfs.specs.kernel_fs.declared.error.KernelError.TheVariants as kernel
+use Rattle.libfs.specs.kernel_fs.declared.error.ReclaimError.{ReclaimError}
+use Rattle.libfs.specs.kernel_fs.declared.error.ReclaimError.TheVariants as reclaims
 use Rattle.event_steps.specs.declared.outcome.Outcome.{Outcome}
 use Rattle.event_steps.specs.declared.outcome.Outcome.TheVariants as outcomes
 use Rattle.event_steps.specs.declared.outcome.Refusal.TheVariants as refusals

@@ -2,38 +2,38 @@
 use Rattle.std.specs.Prelude.{◌≡◌, ◌≢◌, ◌⊎◌, ◌==◌, ◌≤◌, ◌+◌, ℕ, Bool, true, false, length, take, Option, Some, None, Result, Ok, Err, IfErr, IfOk, IsErrOf}
 use Rattle.tier_device.specs.declared.media.Media.{Ghosts}
 use Rattle.tier_device.specs.Media.{Rose}
-use Rattle.update_log.specs.View.{RegionView, records_of}
-use Rattle.update_log.specs.declared.stage.WipeProgress.{WipeProgress}
-use Rattle.client_log.specs.Calls.{IsOnlyRead}
-use Rattle.client_log.specs.Steps.{WipesCurrent, WipesOther}
-use Rattle.client_log.specs.declared.error.LogError.{LogError}
-use Rattle.client_log.specs.declared.error.LogError.TheVariants as logs
-use Rattle.lease_manager.specs.PassLeases.{AreWritten}
-use Rattle.digester.specs.Chunk.{IsChunkOf}
-use Rattle.digester.specs.declared.chunk.Chunk.{Chunk}
-use Rattle.digester.specs.DigestStep.{IsDigested, NamesFirstBad, StaysOrDigests, DigestsOrStays}
-use Rattle.digester.specs.SealedLog.{SealedView, IsDoneBy, StandsAtMark, undone}
-use Rattle.digester.specs.declared.error.DigestError.{DigestError}
-use Rattle.digester.specs.declared.error.DigestError.TheVariants as digests
-use Rattle.coalescer.specs.Weight.{IsLongestRun}
-use Rattle.area_reader.specs.Store.{disk}
-use Rattle.shared_area.specs.ChangeApply.{MakesFewCalls}
-use Rattle.graph_change.specs.View.{changes_of}
-use Rattle.file_graph.specs.Units.{charge}
-use Rattle.kernel_fs.specs.Book.{out_of, units_of, waiting_of}
-use Rattle.world_invariant.specs.Logs.{units_in}
-use Rattle.world_invariant.specs.Machine.{Machine, Sealed, CanAccept, IsRunning, StandsSealed, accept as accept_step, digest as digest_step}
-use Rattle.kernel_fs.specs.RegionAccept.{HasAsManyWaiting, IsRegionOf}
-use Rattle.kernel_fs.specs.KernelAnswers.{Answers, OnRefusal}
-use Rattle.kernel_fs.specs.KernelView.{KernelView}
-use Rattle.kernel_fs.specs.MachineState.{IsKernelOf}
-use Rattle.kernel_fs.specs.declared.chunk_digest.Digestion.{Digestion}
-use Rattle.kernel_fs.specs.declared.chunk_digest.Digestion.TheVariants as digestion
-use Rattle.kernel_fs.specs.declared.error.AcceptError.{AcceptError}
-use Rattle.kernel_fs.specs.declared.error.KernelError.{KernelError}
-use Rattle.kernel_fs.specs.declared.error.KernelError.TheVariants as kernel
-use Rattle.file_graph.specs.Graph.{is_among}
-use Rattle.lease_manager.specs.Passes.{client_of}
+use Rattle.libfs.specs.update_log.View.{RegionView, records_of}
+use Rattle.libfs.specs.update_log.declared.stage.WipeProgress.{WipeProgress}
+use Rattle.libfs.specs.client_log.Calls.{IsOnlyRead}
+use Rattle.libfs.specs.client_log.Steps.{WipesCurrent, WipesOther}
+use Rattle.libfs.specs.client_log.declared.error.LogError.{LogError}
+use Rattle.libfs.specs.client_log.declared.error.LogError.TheVariants as logs
+use Rattle.libfs.specs.lease_manager.PassLeases.{AreWritten}
+use Rattle.libfs.specs.digester.Chunk.{IsChunkOf}
+use Rattle.libfs.specs.digester.declared.chunk.Chunk.{Chunk}
+use Rattle.libfs.specs.digester.DigestStep.{IsDigested, NamesFirstBad, StaysOrDigests, DigestsOrStays}
+use Rattle.libfs.specs.digester.SealedLog.{SealedView, IsDoneBy, StandsAtMark, undone}
+use Rattle.libfs.specs.digester.declared.error.DigestError.{DigestError}
+use Rattle.libfs.specs.digester.declared.error.DigestError.TheVariants as digests
+use Rattle.libfs.specs.coalescer.Weight.{IsLongestRun}
+use Rattle.libfs.specs.area_reader.Store.{disk}
+use Rattle.libfs.specs.shared_area.ChangeApply.{MakesFewCalls}
+use Rattle.libfs.specs.graph_change.View.{changes_of}
+use Rattle.libfs.specs.file_graph.Units.{charge}
+use Rattle.libfs.specs.kernel_fs.Book.{out_of, units_of, waiting_of}
+use Rattle.libfs.specs.world_invariant.Logs.{units_in}
+use Rattle.libfs.specs.world_invariant.Machine.{Machine, Sealed, CanAccept, IsRunning, StandsSealed, accept as accept_step, digest as digest_step}
+use Rattle.libfs.specs.kernel_fs.RegionAccept.{HasAsManyWaiting, IsRegionOf}
+use Rattle.libfs.specs.kernel_fs.KernelAnswers.{Answers, OnRefusal}
+use Rattle.libfs.specs.kernel_fs.KernelView.{KernelView}
+use Rattle.libfs.specs.kernel_fs.MachineState.{IsKernelOf}
+use Rattle.libfs.specs.kernel_fs.declared.chunk_digest.Digestion.{Digestion}
+use Rattle.libfs.specs.kernel_fs.declared.chunk_digest.Digestion.TheVariants as digestion
+use Rattle.libfs.specs.kernel_fs.declared.error.AcceptError.{AcceptError}
+use Rattle.libfs.specs.kernel_fs.declared.error.KernelError.{KernelError}
+use Rattle.libfs.specs.kernel_fs.declared.error.KernelError.TheVariants as kernel
+use Rattle.libfs.specs.file_graph.Graph.{is_among}
+use Rattle.libfs.specs.lease_manager.Passes.{client_of}
 use Rattle.libfs.specs.RegionSeal.{HasSealed, HasTakenBack}
 use Rattle.libfs.specs.SealedRegion.{SealedRegionView, IsUntouched, log_of}
 use Rattle.libfs.specs.NeedService.{shared_by}

@@ -2,9 +2,9 @@
 use Rattle.std.specs.Prelude.{◌≡◌, ◌+◌, ◌<◌, ℕ, List, [], ◌∷◌, true, false, length, Option, Some, None, is_some}
 use Rattle.atomic_table.specs.Seated.{TableId}
 use Rattle.tier_device.specs.declared.media.Media.{Ghosts}
-use Rattle.update_log.specs.RecordCounts.{next_generation}
-use Rattle.update_log.specs.View.{records_of}
-use Rattle.lease_manager.specs.Passes.{client_of}
+use Rattle.libfs.specs.update_log.RecordCounts.{next_generation}
+use Rattle.libfs.specs.update_log.View.{records_of}
+use Rattle.libfs.specs.lease_manager.Passes.{client_of}
 use Rattle.libfs.specs.SealedRegion.{SealedRegionView}
 use Rattle.libfs.specs.View.{ClientView}
 use Rattle.event_steps.specs.Refusals.{no_refusals}

@@ -2,14 +2,14 @@
 use Rattle.std.specs.Prelude.{◌≡◌, ℕ, List, None, IfSome, is_some}
 use Rattle.tier_device.specs.declared.media.Media.{Ghosts}
 use Rattle.tier_device.specs.declared.media.Tier.TheVariants.{Fast}
-use Rattle.update_log.specs.Frames.{records}
-use Rattle.update_log.specs.RecordCounts.{next_generation}
-use Rattle.update_log.specs.Stage.{IsUnopened}
-use Rattle.update_log.specs.View.{records_of}
-use Rattle.update_log.specs.WipeStops.{generation}
-use Rattle.client_log.specs.Counts.{AreLeft, CountOf}
-use Rattle.client_log.specs.Regions.{CountsNothing}
-use Rattle.client_log.specs.View.{current_records}
+use Rattle.libfs.specs.update_log.Frames.{records}
+use Rattle.libfs.specs.update_log.RecordCounts.{next_generation}
+use Rattle.libfs.specs.update_log.Stage.{IsUnopened}
+use Rattle.libfs.specs.update_log.View.{records_of}
+use Rattle.libfs.specs.update_log.WipeStops.{generation}
+use Rattle.libfs.specs.client_log.Counts.{AreLeft, CountOf}
+use Rattle.libfs.specs.client_log.Regions.{CountsNothing}
+use Rattle.libfs.specs.client_log.View.{current_records}
 use Rattle.libfs.specs.SealedRegion.{SealedRegionView}
 use Rattle.event_steps.specs.Sound.{IsSeated}
 use Rattle.event_steps.specs.View.{SeatView}

@@ -2,11 +2,11 @@
 use Rattle.std.specs.Prelude.{◌≡◌, ◌≢◌, ◌⊎◌, ℕ, Bool, true, false, Option, Some, None, is_some, IfSome}
 use Rattle.tier_device.specs.declared.media.Media.{Ghosts}
 use Rattle.posix_calls.specs.Tree.{has_open}
-use Rattle.file_graph.specs.Graph.{is_among}
-use Rattle.client_log.specs.Steps.{CanBeSealed}
-use Rattle.lease_manager.specs.Passes.{lease_of}
-use Rattle.lease_manager.specs.Words.{HasWord, IsClient}
-use Rattle.lease_manager.specs.declared.view.LeaseMode.TheVariants.{Free, Reading}
+use Rattle.libfs.specs.file_graph.Graph.{is_among}
+use Rattle.libfs.specs.client_log.Steps.{CanBeSealed}
+use Rattle.libfs.specs.lease_manager.Passes.{lease_of}
+use Rattle.libfs.specs.lease_manager.Words.{HasWord, IsClient}
+use Rattle.libfs.specs.lease_manager.declared.view.LeaseMode.TheVariants.{Free, Reading}
 use Rattle.libfs.specs.ClientHoldings.{known_to}
 use Rattle.libfs.specs.LeaseCalls.{CanBeGiven}
 use Rattle.libfs.specs.View.{ClientView, is_pending}

@@ -1,8 +1,8 @@
 -- A running system, as its callers see it.
 use Rattle.std.specs.Prelude.{◌≡◌, ℕ, ◌-◌, ◌++◌, List, length, Option, Some, None, slice_get}
 use Rattle.tier_device.specs.declared.media.Media.{Ghosts}
-use Rattle.client_log.specs.View.{current_records}
-use Rattle.kernel_fs.specs.KernelView.{KernelView}
+use Rattle.libfs.specs.client_log.View.{current_records}
+use Rattle.libfs.specs.kernel_fs.KernelView.{KernelView}
 use Rattle.libfs.specs.SealedRegion.{SealedRegionView}
 use Rattle.libfs.specs.View.{ClientView}
 use Rattle.event_steps.specs.declared.refusals.Refusals.{Refusals}

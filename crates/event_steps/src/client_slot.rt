@@ -4,8 +4,8 @@ ghost use Rattle.event_steps.specs.Stops.{SeatLeaves};
 ghost use Rattle.event_steps.specs.View.{done_of, undigested_on};
 
 use crate::refusals::Refusals;
+use libfs::in_log_record::Record;
 use libfs::{Client, SealedRegion};
-use log_record::Record;
 use std::marker::Model;
 use tier_device::Media;
 
@@ -19,7 +19,7 @@ pub struct ClientSlot<M: Media> {
 
 impl<M: Media> Model for ClientSlot<M> {
     ghost use Rattle.std.specs.Coded.{codes};
-    ghost use Rattle.client_view.specs.KnowledgeTables.{held_code};
+    ghost use Rattle.libfs.specs.client_view.KnowledgeTables.{held_code};
     ghost use Rattle.libfs.specs.contracts.begun_record.Begun as begun_call;
     ghost use Rattle.event_steps.specs.View.{SeatView};
     ghost use Rattle.event_steps.specs.Sound.{IsSeated};

@@ -1,12 +1,12 @@
 //! The region that a client sealed: digested chunk by chunk, and taken back.
 ghost use Rattle.std.specs.Prelude.{◌≡◌, true, false, Some, Ok, Err, Result, is_some};
-ghost use Rattle.digester.specs.Chunk.{IsChunkOf, is_next};
-ghost use Rattle.digester.specs.SealedLog.{HasUndigested};
+ghost use Rattle.libfs.specs.digester.Chunk.{IsChunkOf, is_next};
+ghost use Rattle.libfs.specs.digester.SealedLog.{HasUndigested};
 ghost use Rattle.libfs.specs.RegionSeal.{HasTakenBack, MayTakeBack};
 ghost use Rattle.libfs.specs.SealedRegion.{log_of};
-ghost use Rattle.digester.specs.declared.error.DigestError.{DigestError};
-ghost use Rattle.kernel_fs.specs.declared.chunk_digest.Digestion.{Digestion};
-ghost use Rattle.kernel_fs.specs.declared.error.KernelError.{KernelError};
+ghost use Rattle.libfs.specs.digester.declared.error.DigestError.{DigestError};
+ghost use Rattle.libfs.specs.kernel_fs.declared.chunk_digest.Digestion.{Digestion};
+ghost use Rattle.libfs.specs.kernel_fs.declared.error.KernelError.{KernelError};
 ghost use Rattle.event_steps.specs.Effects.{Carries};
 ghost use Rattle.event_steps.specs.Sound.{owner_of};
 ghost use Rattle.event_steps.specs.Regions.{ChunkCame, DigestsNext, IsDigestedOn, digest_outcome};
@@ -15,8 +15,8 @@ ghost use Rattle.event_steps.specs.declared.outcome.Outcome.TheVariants as outco
 use crate::client_slot::ClientSlot;
 use crate::log_accept::accept_region;
 use crate::outcome::{Outcome, Refusal};
-use digester::{Chunk, DigestError};
-use kernel_fs::{Digestion, Kernel, KernelError};
+use libfs::in_digester::{Chunk, DigestError};
+use libfs::in_kernel_fs::{Digestion, Kernel, KernelError};
 use libfs::{Client, SealedRegion};
 use std::alloc::Global;
 use tier_device::Media;

@@ -11,7 +11,7 @@ use crate::migrations::{migrate, reclaim};
 use crate::numbers::is_client;
 use crate::outcome::Outcome;
 use crate::system::System;
-use kernel_fs::Kernel;
+use libfs::in_kernel_fs::Kernel;
 use posix_calls::client_index;
 use std::alloc::Global;
 use tier_device::Media;

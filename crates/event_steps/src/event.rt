@@ -1,5 +1,5 @@
-use client_plan::Mode;
 use libfs::Denied;
+use libfs::in_client_plan::Mode;
 use posix_calls::Call;
 use tier_device::Tier;
 

@@ -1,6 +1,6 @@
 //! What a client asks of the kernel.
 ghost use Rattle.std.specs.Prelude.{◌≡◌, ◌↔◌, ◌+◌, ◌<◌, ◌≤◌, ◌^◌, true, false, IsTrue, ⊤};
-ghost use Rattle.lease_manager.specs.Words.{HasWord};
+ghost use Rattle.libfs.specs.lease_manager.Words.{HasWord};
 ghost use Rattle.libfs.specs.View.{is_pending};
 ghost use Rattle.libfs.specs.declared.denial.Denied.TheVariants as denied;
 ghost use Rattle.event_steps.specs.KernelRequests.{AreFetched, IsFetched, IsGivenBack, IsPinned, IsRefilled, IsUnpinned};
@@ -13,9 +13,9 @@ ghost use Rattle.event_steps.specs.Turns.{CanBeUnpinned, IsHeld};
 use crate::client_slot::ClientSlot;
 use crate::outcome::{Outcome, Refusal};
 use crate::refusals::Refusals;
-use kernel_fs::Kernel;
-use lease_manager::{LeaseMode, is_inode};
 use libfs::Denied;
+use libfs::in_kernel_fs::Kernel;
+use libfs::in_lease_manager::{LeaseMode, is_inode};
 use tier_device::Media;
 
 impl<M: Media> ClientSlot<M> {

@@ -1,8 +1,8 @@
 //! Leases of one client.
 ghost use Rattle.std.specs.Prelude.{◌≡◌};
-ghost use Rattle.lease_manager.specs.Passes.{lease_of};
-ghost use Rattle.lease_manager.specs.Words.{HasWord, IsClient};
-ghost use Rattle.lease_manager.specs.declared.view.LeaseMode.TheVariants.{Free, Reading};
+ghost use Rattle.libfs.specs.lease_manager.Passes.{lease_of};
+ghost use Rattle.libfs.specs.lease_manager.Words.{HasWord, IsClient};
+ghost use Rattle.libfs.specs.lease_manager.declared.view.LeaseMode.TheVariants.{Free, Reading};
 ghost use Rattle.libfs.specs.LeaseCalls.{CanBeGiven};
 ghost use Rattle.event_steps.specs.Leases.{IsAskedBack, IsGiven, IsLeased, IsRaised};
 ghost use Rattle.event_steps.specs.Effects.{Carries};
@@ -11,8 +11,8 @@ ghost use Rattle.event_steps.specs.Sound.{owner_of};
 use crate::client_slot::ClientSlot;
 use crate::numbers::is_client;
 use crate::outcome::{Outcome, Refusal};
-use client_plan::Mode;
-use lease_manager::{LeaseMode, is_inode};
+use libfs::in_client_plan::Mode;
+use libfs::in_lease_manager::{LeaseMode, is_inode};
 use tier_device::Media;
 
 impl<M: Media> ClientSlot<M> {

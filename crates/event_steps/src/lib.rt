@@ -23,3 +23,11 @@ pub use client_slot::ClientSlot;
 pub use event::Event;
 pub use outcome::{Outcome, Refusal};
 pub use system::System;
+
+// Handed on to the crates above, which list only the highest of what they name.
+pub use libfs as in_libfs;
+pub use libfs::{
+    in_area_reader, in_client_log, in_client_plan, in_file_graph, in_kernel_fs, in_layout,
+    in_lease_manager, in_log_record, in_migrator, in_record_validation, in_shared_area,
+    in_update_log,
+};

@@ -1,13 +1,13 @@
 //! The kernel accepts the region that a client sealed.
 ghost use Rattle.std.specs.Prelude.{◌≡◌, false, true, IfErr, OnErr, OnOk};
 ghost use Rattle.libfs.specs.SealedRegion.{log_of};
-ghost use Rattle.digester.specs.SealedLog.{HasUndigested};
+ghost use Rattle.libfs.specs.digester.SealedLog.{HasUndigested};
 ghost use Rattle.event_steps.specs.Regions.{IsAccepted, IsAwayRead, IsNotAcceptedFor, IsNotReadFor, refusal_to_accept, refusal_to_read};
 
 use crate::outcome::Refusal;
-use client_log::LogError;
-use kernel_fs::{AcceptError, Kernel, KernelError};
 use libfs::SealedRegion;
+use libfs::in_client_log::LogError;
+use libfs::in_kernel_fs::{AcceptError, Kernel, KernelError};
 use std::alloc::Global;
 use tier_device::Media;
 

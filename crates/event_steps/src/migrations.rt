@@ -4,8 +4,8 @@ ghost use Rattle.event_steps.specs.declared.outcome.Outcome.TheVariants as outco
 ghost use Rattle.event_steps.specs.Media.{IsMovedIn, IsReclaimedIn};
 
 use crate::outcome::{Outcome, Refusal};
-use area_reader::AreaError;
-use kernel_fs::{Kernel, KernelError, ReclaimError};
+use libfs::in_area_reader::AreaError;
+use libfs::in_kernel_fs::{Kernel, KernelError, ReclaimError};
 use tier_device::{Media, Tier};
 
 /// Deletes a file that has no name and no pin. Refused: `KernelFailed`, `InUse`, `Memory`, `DeviceFault`.

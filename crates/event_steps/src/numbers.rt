@@ -1,8 +1,8 @@
 ghost use Rattle.std.specs.Prelude.{◌≡◌, true, false};
-ghost use Rattle.lease_manager.specs.Words.{IsClient};
+ghost use Rattle.libfs.specs.lease_manager.Words.{IsClient};
 
 /// How many clients there are.
-pub const CLIENTS: usize = lease_manager::CLIENTS as usize;
+pub const CLIENTS: usize = libfs::in_lease_manager::CLIENTS as usize;
 
 /// Whether it is a client's number: they count from 1.
 pub fn is_client(number: u32) -> bool

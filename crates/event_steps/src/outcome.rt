@@ -1,7 +1,7 @@
 ghost use Rattle.std.specs.Prelude.{◌≡◌};
 ghost use Rattle.event_steps.specs.Outcomes.{refusal_number};
 
-use client_plan::Need;
+use libfs::in_client_plan::Need;
 use posix_calls::Reply;
 
 /// Why an event was refused. After each refusal but that of a device all is as it was.

@@ -1,6 +1,6 @@
 //! The region that a client writes: handed over, and wiped.
 ghost use Rattle.std.specs.Prelude.{◌≡◌, false};
-ghost use Rattle.client_log.specs.Steps.{CanBeSealed};
+ghost use Rattle.libfs.specs.client_log.Steps.{CanBeSealed};
 ghost use Rattle.event_steps.specs.Effects.{Carries};
 ghost use Rattle.event_steps.specs.Sound.{owner_of};
 ghost use Rattle.event_steps.specs.Regions.{IsHandedOver, IsWipedOn, wipe_outcome};
@@ -8,9 +8,9 @@ ghost use Rattle.event_steps.specs.Turns.{IsToBeWiped};
 
 use crate::client_slot::ClientSlot;
 use crate::outcome::{Outcome, Refusal};
-use client_log::LogError;
+use libfs::in_client_log::LogError;
+use libfs::in_update_log::WipeProgress;
 use tier_device::Media;
-use update_log::WipeProgress;
 
 impl<M: Media + Drop> ClientSlot<M> {
     /// Seals the client's current region and keeps it to be digested. `Idle`, with nothing changed, if it can't be sealed

@@ -1,30 +1,30 @@
 ghost use Rattle.std.specs.Prelude.{◌≡◌, ◌-◌, ◌*◌, ◌<◌, ◌↔◌, ℕ, [], drop, length, min, IfErr, IfNone, IfOk, IfSome, IsTrue, OnErr, OnOk, Some, slice_get, true};
 ghost use Rattle.atomic_table.specs.Seated.{TableId};
-ghost use Rattle.call_effects.specs.NodeView.{view_at};
-ghost use Rattle.kernel_fs.specs.KernelAnswers.{Answers, OnRefusal};
-ghost use Rattle.area_reader.specs.declared.error.AreaError.TheVariants.{Memory};
-ghost use Rattle.area_reader.specs.Looks.{Looks};
-ghost use Rattle.area_reader.specs.Map.{WantsMemory};
-ghost use Rattle.shared_area.specs.FileReads.{bytes_of_inode, IsReadFrom};
-ghost use Rattle.shared_area.specs.Parts.{IsNoDamage, IsTierOf};
-ghost use Rattle.kernel_fs.specs.MachineState.{IsMarkIn};
-ghost use Rattle.area_reader.specs.Store.{graph, disk};
-ghost use Rattle.client_log.specs.View.{current_records};
+ghost use Rattle.libfs.specs.call_effects.NodeView.{view_at};
+ghost use Rattle.libfs.specs.kernel_fs.KernelAnswers.{Answers, OnRefusal};
+ghost use Rattle.libfs.specs.area_reader.declared.error.AreaError.TheVariants.{Memory};
+ghost use Rattle.libfs.specs.area_reader.Looks.{Looks};
+ghost use Rattle.libfs.specs.area_reader.Map.{WantsMemory};
+ghost use Rattle.libfs.specs.shared_area.FileReads.{bytes_of_inode, IsReadFrom};
+ghost use Rattle.libfs.specs.shared_area.Parts.{IsNoDamage, IsTierOf};
+ghost use Rattle.libfs.specs.kernel_fs.MachineState.{IsMarkIn};
+ghost use Rattle.libfs.specs.area_reader.Store.{graph, disk};
+ghost use Rattle.libfs.specs.client_log.View.{current_records};
 ghost use Rattle.posix_calls.specs.declared.limits.TheConstants.{UNIT_BYTES};
-ghost use Rattle.lease_manager.specs.Parts.{AreCompatible};
-ghost use Rattle.lease_manager.specs.Words.{IsClient};
-ghost use Rattle.migrator.specs.RunChoice.{IsPicked, MayBeMoved};
+ghost use Rattle.libfs.specs.lease_manager.Parts.{AreCompatible};
+ghost use Rattle.libfs.specs.lease_manager.Words.{IsClient};
+ghost use Rattle.libfs.specs.migrator.RunChoice.{IsPicked, MayBeMoved};
 ghost use Rattle.event_steps.specs.Sound.{AreFrom, AreOfTable, AreSeats, number_of};
 ghost use Rattle.event_steps.specs.Stops.{SeatLeaves};
 ghost use Rattle.event_steps.specs.View.{HasSeat, SeatView, done_of, seat_of, undigested_on};
 
 use crate::client_slot::ClientSlot;
 use crate::numbers::{CLIENTS, is_client};
-use area_reader::AreaError;
-use kernel_fs::{Fetched, FetchedBytes, Kernel, KernelError};
 use libfs::Client;
-use log_record::Record;
-use migrator::FileRun;
+use libfs::in_area_reader::AreaError;
+use libfs::in_kernel_fs::{Fetched, FetchedBytes, Kernel, KernelError};
+use libfs::in_log_record::Record;
+use libfs::in_migrator::FileRun;
 use posix_calls::client_index;
 use std::alloc::Global;
 use std::marker::Model;
@@ -42,7 +42,7 @@ pub struct System<M: Media> {
 
 impl<M: Media> Model for System<M> {
     ghost use Rattle.std.specs.Coded.{codes};
-    ghost use Rattle.client_view.specs.KnowledgeTables.{held_code};
+    ghost use Rattle.libfs.specs.client_view.KnowledgeTables.{held_code};
     ghost use Rattle.libfs.specs.contracts.begun_record.Begun as begun_call;
     ghost use Rattle.event_steps.specs.Sound.{AreSeats};
     ghost use Rattle.event_steps.specs.View.{SystemView};

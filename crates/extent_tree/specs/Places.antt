@@ -1,7 +1,7 @@
 -- Extents, and the map from logical blocks to places that a list of them spells.
 use Rattle.std.specs.Prelude.{◌≡◌, ◌+◌, ◌-◌, ℕ, Bool, List, [], ◌∷◌, Option, Some, None, if◌then◌else◌}
 use Rattle.std.specs.Option.{option_map}
-pub use Rattle.file_graph.specs.Numbers.{in_run}
+pub use Rattle.layout.specs.file_graph.Numbers.{in_run}
 use Rattle.layout.specs.declared.extents.Extent.{Extent}
 
 -- where an extent ends

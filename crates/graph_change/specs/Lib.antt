@@ -8,3 +8,5 @@ pub mod Net
 pub mod Runs
 pub mod Tidy
 pub mod View
+-- Handed on to the crates above, which list only the highest of what they name.
+pub use Rattle.file_graph.specs as file_graph

@@ -32,3 +32,6 @@ pub use laws::{
 pub use node_change::NodeChange;
 pub use parts::{NodeBase, NodeLength};
 pub use shared_part::SharedPart;
+
+// Handed on to the crates above, which list only the highest of what they name.
+pub use file_graph as in_file_graph;

@@ -10,3 +10,6 @@ pub mod Marks
 pub mod ListGrows
 pub mod AskedOn
 pub mod Whole
+-- Handed on to the crates above, which list only the highest of what they name.
+pub use Rattle.record_validation.proofs.log_record_lemmas
+pub use Rattle.record_validation.proofs as record_validation_lemmas

@@ -2,9 +2,9 @@
 use Rattle.std.proofs.Common.{◌≡◌, ◌≢◌, inl, inr, ℕ, ◌+◌, ◌<◌, ◌≤◌, ◌==◌, List, [], ◌∷◌, ◌++◌, refl, Some, None, Option, ap, sym, ◌∙◌, subst, true, false, Bool, arith, ◌⊎◌}
 use Rattle.std.specs.Prelude.{◌&&◌, ◌||◌, nat_le, nat_lt, option_map}
 use Rattle.std.proofs.lemmas.Bool.Decides.{eqb_tells}
-use Rattle.file_graph.specs.Graph.{Graph, Node, FileBody, DirBody, is_among}
-use Rattle.call_effects.specs.NodeView.{view_of_body, view_of_node}
-use Rattle.log_record.specs.Grammar.{IsInode}
+use Rattle.record_validation.specs.file_graph.Graph.{Graph, Node, FileBody, DirBody, is_among}
+use Rattle.record_validation.specs.call_effects.NodeView.{view_of_body, view_of_node}
+use Rattle.record_validation.specs.log_record.Grammar.{IsInode}
 use Rattle.graph_check.specs.Nameless.{is_nameless, is_nameless_head, AreRising, AreNameless}
 use Rattle.graph_check.specs.declared.tables.Row.{Row}
 use Rattle.graph_check.specs.Tables.{head_at, head_of, row_of}

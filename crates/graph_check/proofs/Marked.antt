@@ -7,14 +7,14 @@ use Rattle.posix_calls.specs.Tree.{Tree, entries_of, sum_up_to}
 use Rattle.posix_calls.specs.Tree as tree
 use Rattle.posix_calls.specs.Resolve.{resolve}
 use Rattle.posix_calls.specs.WellFormed.{IsDirectory}
-use Rattle.file_graph.specs.Graph.{Graph, Node, FileBody, DirBody}
-use Rattle.file_graph.specs.declared.effect.Kind.{Kind}
-use Rattle.file_graph.specs.declared.effect.Kind.TheVariants.{File, Directory}
-use Rattle.call_effects.specs.Wholes.{tree_of, tree_node, kind_of, one_if, AreReached}
-use Rattle.call_effects.specs.NodeView.{view_at}
-use Rattle.log_record.specs.Grammar.{IsInode}
-use Rattle.call_effects.proofs.Inodes.{get_inodes}
-use Rattle.call_effects.proofs.Ways.{paths}
+use Rattle.record_validation.specs.file_graph.Graph.{Graph, Node, FileBody, DirBody}
+use Rattle.record_validation.specs.file_graph.declared.effect.Kind.{Kind}
+use Rattle.record_validation.specs.file_graph.declared.effect.Kind.TheVariants.{File, Directory}
+use Rattle.record_validation.specs.call_effects.Wholes.{tree_of, tree_node, kind_of, one_if, AreReached}
+use Rattle.record_validation.specs.call_effects.NodeView.{view_at}
+use Rattle.record_validation.specs.log_record.Grammar.{IsInode}
+use Rattle.record_validation.proofs.call_effects_lemmas.Inodes.{get_inodes}
+use Rattle.record_validation.proofs.call_effects_lemmas.Ways.{paths}
 use Rattle.posix_calls.proofs.Changes.{no_entry}
 use Rattle.posix_calls.proofs.Reached.{Edge, Chain, path_chain}
 use Rattle.graph_check.specs.Defects.{HasInodesAlone, HasDirectory}

@@ -1,13 +1,13 @@
 -- The rows of the tables, and the graph.
 use Rattle.std.proofs.Common.{◌≡◌, ◌≢◌, ℕ, ◌+◌, ◌<◌, ◌≤◌, ◌==◌, refl, Some, None, Option, ap, sym, ◌∙◌, subst, true, false, Bool, arith, if◌then◌else◌}
 use Rattle.std.specs.Prelude.{◌&&◌, nat_le, option_map}
-use Rattle.file_graph.specs.Graph.{Graph, Node, FileBody, DirBody}
-use Rattle.file_graph.specs.declared.effect.Kind.{Kind}
-use Rattle.file_graph.specs.declared.effect.Kind.TheVariants.{File, Directory}
-use Rattle.call_effects.specs.Effects.{stored_count}
-use Rattle.call_effects.specs.Wholes.{kind_of, body_kind, one_if}
-use Rattle.call_effects.specs.NodeView.{view_of_body, view_of_node, view_at}
-use Rattle.log_record.specs.Grammar.{IsInode}
+use Rattle.record_validation.specs.file_graph.Graph.{Graph, Node, FileBody, DirBody}
+use Rattle.record_validation.specs.file_graph.declared.effect.Kind.{Kind}
+use Rattle.record_validation.specs.file_graph.declared.effect.Kind.TheVariants.{File, Directory}
+use Rattle.record_validation.specs.call_effects.Effects.{stored_count}
+use Rattle.record_validation.specs.call_effects.Wholes.{kind_of, body_kind, one_if}
+use Rattle.record_validation.specs.call_effects.NodeView.{view_of_body, view_of_node, view_at}
+use Rattle.record_validation.specs.log_record.Grammar.{IsInode}
 use Rattle.graph_check.specs.declared.defect.Defect.{Defect}
 use Rattle.graph_check.specs.declared.defect.Defect.TheVariants as defect
 use Rattle.graph_check.specs.declared.tables.NodeHead.{NodeHead}

@@ -8,15 +8,15 @@ use Rattle.std.specs.Cmp.Lexicographic.{slice_cmp}
 use Rattle.std.specs.FinMap as fin
 use Rattle.posix_calls.specs.Content.{Entries}
 use Rattle.posix_calls.specs.Tree.{names_of, names_in, sum_up_to}
-use Rattle.file_graph.specs.Graph.{Graph, Node, FileBody, DirBody}
-use Rattle.file_graph.specs.declared.effect.Kind.{Kind}
-use Rattle.file_graph.specs.declared.effect.Kind.TheVariants.{File, Directory}
-use Rattle.call_effects.specs.Effects.{stored_count}
-use Rattle.call_effects.specs.ClosedGraph.{nobody}
-use Rattle.call_effects.specs.Wholes.{tree_of, tree_node, kind_of, body_kind, one_if, without_kinds, IsTyped, IsCounted}
-use Rattle.call_effects.specs.NodeView.{view_at}
-use Rattle.log_record.specs.Grammar.{IsInode}
-use Rattle.call_effects.proofs.Inodes.{get_inodes}
+use Rattle.record_validation.specs.file_graph.Graph.{Graph, Node, FileBody, DirBody}
+use Rattle.record_validation.specs.file_graph.declared.effect.Kind.{Kind}
+use Rattle.record_validation.specs.file_graph.declared.effect.Kind.TheVariants.{File, Directory}
+use Rattle.record_validation.specs.call_effects.Effects.{stored_count}
+use Rattle.record_validation.specs.call_effects.ClosedGraph.{nobody}
+use Rattle.record_validation.specs.call_effects.Wholes.{tree_of, tree_node, kind_of, body_kind, one_if, without_kinds, IsTyped, IsCounted}
+use Rattle.record_validation.specs.call_effects.NodeView.{view_at}
+use Rattle.record_validation.specs.log_record.Grammar.{IsInode}
+use Rattle.record_validation.proofs.call_effects_lemmas.Inodes.{get_inodes}
 use Rattle.posix_calls.proofs.Sums.{all_zero}
 use Rattle.graph_check.specs.Defects.{HasInodesAlone, HasDirectory}
 use Rattle.graph_check.specs.Rows.{EntriesFit, CountsFit}

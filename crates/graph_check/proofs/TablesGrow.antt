@@ -7,12 +7,12 @@ use Rattle.std.proofs.lemmas.List.Sums.{count_by-le-length, count_by_more_yes, c
 use Rattle.std.proofs.lemmas.Bool.Decides.{eqb_tells}
 use Rattle.std.specs.FinMap as fin
 use Rattle.posix_calls.specs.Tree.{sum_up_to}
-use Rattle.file_graph.specs.Graph.{Graph}
-use Rattle.file_graph.specs.NameOrder.{pairs}
-use Rattle.file_graph.specs.declared.effect.Kind.{Kind}
-use Rattle.file_graph.specs.declared.effect.Kind.TheVariants.{File, Directory}
-use Rattle.file_graph.specs.declared.name_map.NamedEntry.{NamedEntry}
-use Rattle.call_effects.specs.NodeView.{NodeView, FileView, DirView, view_at}
+use Rattle.record_validation.specs.file_graph.Graph.{Graph}
+use Rattle.record_validation.specs.file_graph.NameOrder.{pairs}
+use Rattle.record_validation.specs.file_graph.declared.effect.Kind.{Kind}
+use Rattle.record_validation.specs.file_graph.declared.effect.Kind.TheVariants.{File, Directory}
+use Rattle.record_validation.specs.file_graph.declared.name_map.NamedEntry.{NamedEntry}
+use Rattle.record_validation.specs.call_effects.NodeView.{NodeView, FileView, DirView, view_at}
 use Rattle.record_validation.specs.Counts.{counts_of, entry_count}
 use Rattle.std.specs.Ordering.{nat_cmp}
 use Rattle.std.specs.Cmp.Lexicographic.{slice_cmp}

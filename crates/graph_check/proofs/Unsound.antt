@@ -1,8 +1,8 @@
 -- A graph with a defect is not sound.
 use Rattle.std.proofs.Common.{ℕ}
 use Rattle.posix_calls.specs.Tree.{Descriptors}
-use Rattle.file_graph.specs.Graph.{Graph}
-use Rattle.call_effects.specs.Wholes.{IsSound}
+use Rattle.record_validation.specs.file_graph.Graph.{Graph}
+use Rattle.record_validation.specs.call_effects.Wholes.{IsSound}
 use Rattle.graph_check.specs.declared.defect.Defect.{Defect}
 use Rattle.graph_check.specs.declared.defect.Defect.TheVariants as defect
 use Rattle.graph_check.specs.Defects.{HasDefect}

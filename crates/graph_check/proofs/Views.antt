@@ -8,12 +8,12 @@ use Rattle.std.specs.Cmp.Lexicographic.{slice_cmp}
 use Rattle.std.specs.FinMap as fin
 use Rattle.posix_calls.specs.Content.{Entries}
 use Rattle.posix_calls.specs.Tree.{names_in, names_of, sum_up_to}
-use Rattle.file_graph.specs.Graph.{Graph, Node, FileBody, DirBody}
-use Rattle.file_graph.specs.declared.effect.Kind.{Kind}
-use Rattle.file_graph.specs.declared.effect.Kind.TheVariants.{File, Directory}
-use Rattle.call_effects.specs.NodeView.{NodeView, view_at, view_of_node}
-use Rattle.call_effects.specs.Wholes.{tree_of, tree_node}
-use Rattle.call_effects.proofs.Nodes.{entries_without_kinds, named as without}
+use Rattle.record_validation.specs.file_graph.Graph.{Graph, Node, FileBody, DirBody}
+use Rattle.record_validation.specs.file_graph.declared.effect.Kind.{Kind}
+use Rattle.record_validation.specs.file_graph.declared.effect.Kind.TheVariants.{File, Directory}
+use Rattle.record_validation.specs.call_effects.NodeView.{NodeView, view_at, view_of_node}
+use Rattle.record_validation.specs.call_effects.Wholes.{tree_of, tree_node}
+use Rattle.record_validation.proofs.call_effects_lemmas.Nodes.{entries_without_kinds, named as without}
 use Rattle.posix_calls.proofs.Directory.{entries-empty}
 use Rattle.graph_check.specs.Tables.{same_kind, place_of, names_place, named_by, name_count}
 use Rattle.graph_check.proofs.Entries.{count-cons, both, Found, counted_there, there_counted}

@@ -1,9 +1,9 @@
 -- What holds of a graph that passes all tests.
 use Rattle.std.proofs.Common.{◌≡◌, ℕ, List, Bool, true, false, sym, subst}
-use Rattle.file_graph.specs.Graph.{Graph}
-use Rattle.call_effects.specs.Wholes.{IsSound}
-use Rattle.call_effects.specs.ClosedGraph.{nobody}
-use Rattle.log_record.specs.Grammar.{IsInode}
+use Rattle.record_validation.specs.file_graph.Graph.{Graph}
+use Rattle.record_validation.specs.call_effects.Wholes.{IsSound}
+use Rattle.record_validation.specs.call_effects.ClosedGraph.{nobody}
+use Rattle.record_validation.specs.log_record.Grammar.{IsInode}
 use Rattle.graph_check.specs.declared.defect.Defect.TheVariants as defect
 use Rattle.graph_check.specs.declared.defect.Finding.{Finding}
 use Rattle.graph_check.specs.Defects.{HasInodesAlone, HasDirectory, HasDefect}

@@ -5,13 +5,13 @@ use Rattle.posix_calls.specs.Content.{Entries}
 use Rattle.posix_calls.specs.Tree.{names_of}
 use Rattle.posix_calls.specs.Resolve.{resolve}
 use Rattle.posix_calls.specs.declared.limits.TheConstants.{ROOT}
-use Rattle.file_graph.specs.Graph.{Graph, DirBody}
-use Rattle.file_graph.specs.declared.effect.Kind.{Kind}
-use Rattle.file_graph.specs.declared.effect.Kind.TheVariants.{Directory}
-use Rattle.call_effects.specs.Effects.{stored_count}
-use Rattle.call_effects.specs.Wholes.{tree_of, kind_of, one_if, IsSound}
-use Rattle.call_effects.specs.ClosedGraph.{nobody}
-use Rattle.log_record.specs.Grammar.{IsInode}
+use Rattle.record_validation.specs.file_graph.Graph.{Graph, DirBody}
+use Rattle.record_validation.specs.file_graph.declared.effect.Kind.{Kind}
+use Rattle.record_validation.specs.file_graph.declared.effect.Kind.TheVariants.{Directory}
+use Rattle.record_validation.specs.call_effects.Effects.{stored_count}
+use Rattle.record_validation.specs.call_effects.Wholes.{tree_of, kind_of, one_if, IsSound}
+use Rattle.record_validation.specs.call_effects.ClosedGraph.{nobody}
+use Rattle.record_validation.specs.log_record.Grammar.{IsInode}
 use Rattle.graph_check.specs.declared.defect.Defect.{Defect}
 use Rattle.graph_check.specs.declared.defect.Defect.TheVariants as defect
 use Rattle.graph_check.specs.declared.defect.GraphError.{GraphError}

@@ -1,9 +1,9 @@
 -- Which directories are marked as reached from the root.
 use Rattle.std.specs.Prelude.{◌≡◌, ℕ, zero, suc, ◌&&◌, nat_lt, not, Bool, true, false, List, slice_index_or, count_by, Option, Some, None, if◌then◌else◌}
 use Rattle.posix_calls.specs.declared.limits.TheConstants.{ROOT}
-use Rattle.file_graph.specs.Graph.{Graph}
-use Rattle.file_graph.specs.declared.effect.Kind.TheVariants.{File, Directory}
-use Rattle.log_record.specs.Grammar.{IsInode}
+use Rattle.record_validation.specs.file_graph.Graph.{Graph}
+use Rattle.record_validation.specs.file_graph.declared.effect.Kind.TheVariants.{File, Directory}
+use Rattle.record_validation.specs.log_record.Grammar.{IsInode}
 use Rattle.graph_check.specs.declared.tables.NodeHead.{NodeHead}
 use Rattle.graph_check.specs.declared.tables.Row.{Row}
 use Rattle.graph_check.specs.Tables.{row_of}

@@ -1,8 +1,8 @@
 -- The files of a graph that have no name.
 use Rattle.std.specs.Prelude.{◌≡◌, ℕ, ◌<◌, ◌&&◌, ◌==◌, nat_le, Bool, true, false, List, [], ◌∷◌, Option, Some, None}
 use Rattle.posix_calls.specs.declared.limits.TheConstants.{ROOT, MAX_INODE}
-use Rattle.file_graph.specs.Graph.{Graph, Node, FileBody, DirBody, is_among}
-use Rattle.file_graph.specs.declared.effect.Kind.TheVariants.{File, Directory}
+use Rattle.record_validation.specs.file_graph.Graph.{Graph, Node, FileBody, DirBody, is_among}
+use Rattle.record_validation.specs.file_graph.declared.effect.Kind.TheVariants.{File, Directory}
 use Rattle.graph_check.specs.declared.tables.NodeHead.{NodeHead}
 
 -- whether a file stands there whose stored count of names is 0

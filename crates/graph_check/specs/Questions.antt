@@ -1,7 +1,7 @@
 -- Which questions are asked, each once and in which order.
 use Rattle.std.specs.Prelude.{ℕ, zero, suc, List, [], ◌∷◌, Option, Some, None, ◌⊎◌}
 use Rattle.posix_calls.specs.declared.limits.TheConstants.{MAX_INODE}
-use Rattle.log_record.specs.Grammar.{IsInode}
+use Rattle.record_validation.specs.log_record.Grammar.{IsInode}
 use Rattle.graph_check.specs.declared.defect.GraphError.{GraphError}
 use Rattle.graph_check.specs.declared.defect.GraphError.TheVariants as why
 

@@ -1,10 +1,10 @@
 -- What is tested of the tables' rows.
 use Rattle.std.specs.Prelude.{◌≡◌, ◌≢◌, ℕ, ◌+◌, ◌<◌, ◌≤◌, ◌==◌, Some}
 use Rattle.posix_calls.specs.declared.limits.TheConstants.{ROOT, MAX_INODE}
-use Rattle.file_graph.specs.Graph.{Graph}
-use Rattle.file_graph.specs.declared.effect.Kind.TheVariants.{File, Directory}
-use Rattle.call_effects.specs.Wholes.{one_if}
-use Rattle.log_record.specs.Grammar.{IsInode}
+use Rattle.record_validation.specs.file_graph.Graph.{Graph}
+use Rattle.record_validation.specs.file_graph.declared.effect.Kind.TheVariants.{File, Directory}
+use Rattle.record_validation.specs.call_effects.Wholes.{one_if}
+use Rattle.record_validation.specs.log_record.Grammar.{IsInode}
 use Rattle.graph_check.specs.declared.defect.Defect.{Defect}
 use Rattle.graph_check.specs.declared.defect.Defect.TheVariants as defect
 use Rattle.graph_check.specs.declared.tables.Row.{Row}

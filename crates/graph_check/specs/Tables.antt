@@ -3,11 +3,11 @@ use Rattle.std.specs.Prelude.{◌≡◌, ℕ, zero, suc, ◌+◌, ◌*◌, ◌^�
 use Rattle.std.specs.FinMap as fin
 use Rattle.posix_calls.specs.Tree.{sum_up_to}
 use Rattle.posix_calls.specs.declared.limits.TheConstants.{ROOT, MAX_INODE}
-use Rattle.file_graph.specs.Graph.{Graph}
-use Rattle.file_graph.specs.declared.effect.Kind.{Kind}
-use Rattle.file_graph.specs.declared.effect.Kind.TheVariants.{File, Directory}
-use Rattle.file_graph.specs.declared.name_map.NamedEntry.{NamedEntry}
-use Rattle.call_effects.specs.NodeView.{NodeView, FileView, DirView, view_at}
+use Rattle.record_validation.specs.file_graph.Graph.{Graph}
+use Rattle.record_validation.specs.file_graph.declared.effect.Kind.{Kind}
+use Rattle.record_validation.specs.file_graph.declared.effect.Kind.TheVariants.{File, Directory}
+use Rattle.record_validation.specs.file_graph.declared.name_map.NamedEntry.{NamedEntry}
+use Rattle.record_validation.specs.call_effects.NodeView.{NodeView, FileView, DirView, view_at}
 use Rattle.record_validation.specs.NodeAnswers.{entries_of}
 use Rattle.graph_check.specs.declared.tables.NodeHead.{NodeHead}
 use Rattle.graph_check.specs.declared.tables.NameCount.{NameCount}

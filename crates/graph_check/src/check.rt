@@ -2,9 +2,9 @@
 
 ghost use Rattle.std.specs.Prelude.{◌≡◌, ◌+◌, ◌⊎◌, ℕ, false, None, [], length, IfOk, IfErr, OnOk};
 ghost use Rattle.posix_calls.specs.declared.limits.TheConstants.{MAX_INODE};
-ghost use Rattle.file_graph.specs.Graph.{Graph};
-ghost use Rattle.call_effects.specs.Wholes.{IsSound};
-ghost use Rattle.call_effects.specs.ClosedGraph.{nobody};
+ghost use Rattle.record_validation.specs.file_graph.Graph.{Graph};
+ghost use Rattle.record_validation.specs.call_effects.Wholes.{IsSound};
+ghost use Rattle.record_validation.specs.call_effects.ClosedGraph.{nobody};
 ghost use Rattle.graph_check.specs.Questions.{AskedAll, AskedUntil};
 ghost use Rattle.graph_check.specs.Defects.{HasDefect, IfUnsound, IfMemory, IsFoundSound};
 ghost use Rattle.graph_check.specs.Marks.{is_marked};

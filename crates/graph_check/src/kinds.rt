@@ -5,7 +5,7 @@ ghost use Rattle.graph_check.specs.Marks.{is_directory};
 ghost use Rattle.graph_check.specs.Tables.{same_kind, head_kind};
 
 use crate::tables::NodeHead;
-use file_graph::Kind;
+use record_validation::in_file_graph::Kind;
 
 /// Whether two kinds are the same.
 pub fn same_kind(a: Kind, b: Kind) -> bool

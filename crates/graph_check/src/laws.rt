@@ -1,8 +1,8 @@
 //! What a defect means.
 
 ghost use Rattle.std.specs.Prelude.{ℕ};
-ghost use Rattle.file_graph.specs.Graph.{Graph};
-ghost use Rattle.call_effects.specs.Wholes.{IsSound};
+ghost use Rattle.record_validation.specs.file_graph.Graph.{Graph};
+ghost use Rattle.record_validation.specs.call_effects.Wholes.{IsSound};
 ghost use Rattle.posix_calls.specs.Tree.{Descriptors};
 ghost use Rattle.graph_check.specs.declared.defect.Defect.{Defect};
 ghost use Rattle.graph_check.specs.Defects.{HasDefect};

@@ -24,3 +24,6 @@ mod tables;
 pub use check::check_graph;
 pub use defect::{Defect, GraphError};
 pub use laws::graph_with_a_defect_is_unsound;
+
+// Handed on to the crates above, which list only the highest of what they name.
+pub use record_validation::in_log_record;

@@ -2,13 +2,13 @@
 
 ghost use Rattle.std.specs.Prelude.{◌≡◌, IfOk};
 ghost use Rattle.posix_calls.specs.declared.limits.TheConstants.{MAX_INODE};
-ghost use Rattle.file_graph.specs.Graph.{Graph};
+ghost use Rattle.record_validation.specs.file_graph.Graph.{Graph};
 ghost use Rattle.graph_check.specs.Nameless.{AreNameless, is_nameless_head};
 ghost use Rattle.graph_check.specs.Tables.{HasPlaces, IsRead};
 
 use crate::tables::{NodeHead, Tables};
-use file_graph::Kind;
 use posix_calls::{MAX_INODE, ROOT};
+use record_validation::in_file_graph::Kind;
 use std::alloc::{AllocError, Global};
 
 /// Lists the inodes of the files whose stored count of names is 0, the least first.

@@ -2,8 +2,8 @@
 
 ghost use Rattle.std.specs.Prelude.{◌≡◌, ◌==◌, ◌+◌, ◌-◌, ◌<◌, ◌≤◌, ◌^◌, ℕ, Some, length, slice_index_or, IfErr, OnOk, if◌then◌else◌};
 ghost use Rattle.posix_calls.specs.declared.limits.TheConstants.{ROOT, MAX_INODE};
-ghost use Rattle.file_graph.specs.Graph.{Graph};
-ghost use Rattle.call_effects.specs.NodeView.{NodeView, view_at};
+ghost use Rattle.record_validation.specs.file_graph.Graph.{Graph};
+ghost use Rattle.record_validation.specs.call_effects.NodeView.{NodeView, view_at};
 ghost use Rattle.record_validation.specs.Counts.{counts_of};
 ghost use Rattle.graph_check.specs.Questions.{AskedAll, AskedSome};
 ghost use Rattle.graph_check.specs.declared.tables.NameCount.{NameCount};
@@ -11,8 +11,8 @@ ghost use Rattle.graph_check.specs.Tables.{HasPlaces, IsRead, head_of, named_in,
 
 use crate::kinds::same_kind;
 use crate::tables::{NameCount, NodeHead, Tables, place_of};
-use file_graph::{Kind, PlainEntry};
 use posix_calls::{MAX_INODE, ROOT};
+use record_validation::in_file_graph::{Kind, PlainEntry};
 use record_validation::{NodeCounts, NodeSummary, Nodes};
 use std::alloc::Global;
 

@@ -2,8 +2,8 @@
 
 ghost use Rattle.std.specs.Prelude.{◌≡◌, ◌+◌, ◌<◌, ◌≤◌, ℕ, true, false, Some, IfErr, OnOk, length, slice_set, if◌then◌else◌};
 ghost use Rattle.posix_calls.specs.declared.limits.TheConstants.{ROOT, MAX_INODE};
-ghost use Rattle.file_graph.specs.Graph.{Graph};
-ghost use Rattle.log_record.specs.Grammar.{IsInode};
+ghost use Rattle.record_validation.specs.file_graph.Graph.{Graph};
+ghost use Rattle.record_validation.specs.log_record.Grammar.{IsInode};
 ghost use Rattle.graph_check.specs.declared.defect.Defect.TheVariants.{Unreachable};
 ghost use Rattle.graph_check.specs.Defects.{HasDirectory};
 ghost use Rattle.graph_check.specs.Marks.{is_marked, parent_in, AllClimb, IsClosed, IsClosedAt, HasMarkedParent, unmarked_count};

@@ -2,7 +2,7 @@
 
 ghost use Rattle.std.specs.Prelude.{◌≡◌, ◌≢◌, ◌↔◌, ◌<◌, Some, IsTrue, IfErr, OnOk, OnErr};
 ghost use Rattle.posix_calls.specs.declared.limits.TheConstants.{ROOT, MAX_INODE};
-ghost use Rattle.file_graph.specs.Graph.{Graph};
+ghost use Rattle.record_validation.specs.file_graph.Graph.{Graph};
 ghost use Rattle.graph_check.specs.declared.defect.Defect.TheVariants as defect;
 ghost use Rattle.graph_check.specs.Defects.{HasDirectory, HasDefect};
 ghost use Rattle.graph_check.specs.Marks.{is_directory};
@@ -12,8 +12,8 @@ ghost use Rattle.graph_check.specs.Tables.{HasPlaces, IsRead, head_kind, stored_
 use crate::defect::{Defect, Finding};
 use crate::kinds::{is_directory, is_kind};
 use crate::tables::{NameCount, NodeHead, Row, Tables};
-use file_graph::Kind;
 use posix_calls::{MAX_INODE, ROOT};
+use record_validation::in_file_graph::Kind;
 
 /// Tests that the root is a directory.
 pub fn test_root(tables: &Tables) -> Result<(), Finding>

@@ -3,11 +3,11 @@
 ghost use Rattle.std.specs.Prelude.{◌≡◌, ◌+◌, ◌≤◌, ℕ, false, None, replicate, IfOk, length};
 ghost use Rattle.graph_check.specs.Marks.{is_marked};
 ghost use Rattle.graph_check.specs.Tables.{HasPlaces, IsRead, row_of, place_of};
-ghost use Rattle.file_graph.specs.Graph.{Graph};
+ghost use Rattle.record_validation.specs.file_graph.Graph.{Graph};
 ghost use Rattle.posix_calls.specs.declared.limits.TheConstants.{MAX_INODE};
 
-use file_graph::Kind;
 use posix_calls::MAX_INODE;
+use record_validation::in_file_graph::Kind;
 use std::alloc::{AllocError, Global};
 
 /// What a node is, and the count of names that it has stored.

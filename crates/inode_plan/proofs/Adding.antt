@@ -6,15 +6,15 @@ use Rattle.std.specs.Ordering.{nat_cmp}
 use Rattle.std.proofs.lemmas.Bool.{cases_lt}
 use Rattle.std.proofs.lemmas.List.{take-append-le, take-append-drop, drop-append-le, take_all, length-append, length-drop, length-replicate}
 use Rattle.std.proofs.Math.Seq.{drop-append_seam}
-use Rattle.batch_journal.specs.Images.{slice}
-use Rattle.graph_change.specs.Change.{Change, Patch, IsWhole, blank, patch_at}
-use Rattle.graph_change.specs.View.{patch_of, patches_of}
-use Rattle.graph_change.proofs.Maps.{value_at}
-use Rattle.tree_blocks.specs.Inode.{LogicalBlocks}
+use Rattle.area_commit.specs.batch_journal.Images.{slice}
+use Rattle.area_commit.specs.graph_change.Change.{Change, Patch, IsWhole, blank, patch_at}
+use Rattle.area_commit.specs.graph_change.View.{patch_of, patches_of}
+use Rattle.area_commit.proofs.graph_change_lemmas.Maps.{value_at}
+use Rattle.area_commit.specs.tree_blocks.Inode.{LogicalBlocks}
 use Rattle.std.proofs.lemmas.List.FromFn.{length-map-range_with_len}
-use Rattle.graph_change.specs.Bytes.{Length, Cut, byte_after, kept_byte}
-use Rattle.tree_blocks.specs.FileBlock.{kept_length, put_in, in_block, block_after, is_cut_off, ReadSame, ReadsAfter}
-use Rattle.tree_blocks.proofs.FileBlocks.{made_of_same, made_whole, made_behind}
+use Rattle.area_commit.specs.graph_change.Bytes.{Length, Cut, byte_after, kept_byte}
+use Rattle.area_commit.specs.tree_blocks.FileBlock.{kept_length, put_in, in_block, block_after, is_cut_off, ReadSame, ReadsAfter}
+use Rattle.area_commit.proofs.tree_blocks_lemmas.FileBlocks.{made_of_same, made_whole, made_behind}
 use Rattle.inode_plan.specs.PlacedFile.{nth_number}
 use Rattle.inode_plan.specs.Bytes.{IsBlockAfter, HoldsBlocks}
 

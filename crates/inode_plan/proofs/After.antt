@@ -6,18 +6,18 @@ use Rattle.std.proofs.lemmas.Bool.{cases_Bool, cond-true, cond-false, false≢tr
 use Rattle.std.proofs.lemmas.List.Elements.{Contains-get_or}
 use Rattle.std.proofs.lemmas.Option.{none-some, same_Some}
 use Rattle.tier_device.specs.declared.media.Tier.{Tier}
-use Rattle.layout.specs.declared.geometry.Space.TheVariants as space
-use Rattle.layout.specs.Places.{Sizes, is_data}
-use Rattle.graph_change.specs.Bytes.{length_after, end}
-use Rattle.graph_change.specs.Change.{Change, writes_block}
+use Rattle.area_commit.specs.layout.declared.geometry.Space.TheVariants as space
+use Rattle.area_commit.specs.layout.Places.{Sizes, is_data}
+use Rattle.area_commit.specs.graph_change.Bytes.{length_after, end}
+use Rattle.area_commit.specs.graph_change.Change.{Change, writes_block}
 use Rattle.area_commit.specs.InodeChange.{writes_over}
 use Rattle.area_commit.proofs.Holes.{over_written, over_out, over_at, over_same}
-use Rattle.graph_change.specs.Tidy.{IsTidyChange}
-use Rattle.tree_blocks.specs.FileBlock.{is_cut_off}
-use Rattle.tree_blocks.proofs.FileBlocks.{written_inside, left_inside}
-use Rattle.extent_tree.specs.BlockFormat.{LiesWithin, IsOneToOne}
-use Rattle.extent_tree.specs.Map.{TierRuns, runs_in, lies_at, LieOnce, LieBelow}
-use Rattle.extent_tree.specs.declared.map.Place.{Place}
+use Rattle.area_commit.specs.graph_change.Tidy.{IsTidyChange}
+use Rattle.area_commit.specs.tree_blocks.FileBlock.{is_cut_off}
+use Rattle.area_commit.proofs.tree_blocks_lemmas.FileBlocks.{written_inside, left_inside}
+use Rattle.area_commit.specs.extent_tree.BlockFormat.{LiesWithin, IsOneToOne}
+use Rattle.area_commit.specs.extent_tree.Map.{TierRuns, runs_in, lies_at, LieOnce, LieBelow}
+use Rattle.area_commit.specs.extent_tree.declared.map.Place.{Place}
 use Rattle.area_commit.proofs.Given.{cons_cases, nothing}
 use Rattle.inode_plan.specs.PlacedFile.{nth_number, nth_place, NumbersArePlaced}
 use Rattle.inode_plan.specs.BlockWrites.{AreNumbers}

@@ -2,11 +2,11 @@
 use Rattle.std.proofs.Common.{◌≡◌, ◌≤◌, ◌<◌, ℕ, zero, suc, ◌+◌, List, [], ◌∷◌, ◌++◌, length, Option, Some, None, ap, arith, length-append}
 use Rattle.std.specs.List.{AllByRecursion, range_with_len}
 use Rattle.std.proofs.lemmas.List.FromFn.{length-range_with_len}
-use Rattle.layout.specs.declared.extents.Extent.{Extent}
-use Rattle.extent_tree.specs.Places.{place_of}
+use Rattle.area_commit.specs.layout.declared.extents.Extent.{Extent}
+use Rattle.area_commit.specs.extent_tree.Places.{place_of}
 use Rattle.block_alloc.specs.declared.runs.Run.{Run}
 use Rattle.block_alloc.specs.Runs.{run_blocks, blocks_of}
-use Rattle.extent_tree.specs.Map.{places_of, place_list, HasBlock}
+use Rattle.area_commit.specs.extent_tree.Map.{places_of, place_list, HasBlock}
 
 few_listed : (o : Option ℕ) → length (place_list o) ≤ 1
 few_listed None = omega arith

@@ -6,19 +6,19 @@ use Rattle.std.proofs.lemmas.Option.{none-some}
 use Rattle.tier_device.specs.declared.media.Tier.{Tier}
 use Rattle.tier_device.specs.declared.media.Tier.TheVariants.{Fast, Block, Slow}
 use Rattle.posix_calls.specs.declared.limits.TheConstants.{MAX_NAMES, MAX_ENTRIES}
-use Rattle.layout.specs.declared.slot.Slot.{Slot}
-use Rattle.layout.specs.declared.slot.Slot.TheVariants as slots
-use Rattle.layout.specs.declared.geometry.Space.TheVariants as space
-use Rattle.layout.specs.declared.extents.Extent.{Extent}
-use Rattle.layout.specs.Places.{Sizes, is_node, is_run, node_end}
-use Rattle.layout.specs.Slot.{fits_slot, is_root_block}
-use Rattle.extent_tree.specs.Normal.{IsNormal}
-use Rattle.extent_tree.specs.Places.{place_of}
-use Rattle.extent_tree.specs.BlockFormat.{LiesWithin, IsOneToOne}
-use Rattle.extent_tree.proofs.Unique.{one-list}
-use Rattle.extent_tree.specs.Map.{runs_in, lies_at, LieBelow}
-use Rattle.area_reader.specs.Store.{length_of, space_of}
-use Rattle.extent_tree.proofs.Runs.{few_below}
+use Rattle.area_commit.specs.layout.declared.slot.Slot.{Slot}
+use Rattle.area_commit.specs.layout.declared.slot.Slot.TheVariants as slots
+use Rattle.area_commit.specs.layout.declared.geometry.Space.TheVariants as space
+use Rattle.area_commit.specs.layout.declared.extents.Extent.{Extent}
+use Rattle.area_commit.specs.layout.Places.{Sizes, is_node, is_run, node_end}
+use Rattle.area_commit.specs.layout.Slot.{fits_slot, is_root_block}
+use Rattle.area_commit.specs.extent_tree.Normal.{IsNormal}
+use Rattle.area_commit.specs.extent_tree.Places.{place_of}
+use Rattle.area_commit.specs.extent_tree.BlockFormat.{LiesWithin, IsOneToOne}
+use Rattle.area_commit.proofs.extent_tree_lemmas.Unique.{one-list}
+use Rattle.area_commit.specs.extent_tree.Map.{runs_in, lies_at, LieBelow}
+use Rattle.area_commit.specs.area_reader.Store.{length_of, space_of}
+use Rattle.area_commit.proofs.extent_tree_lemmas.Runs.{few_below}
 use Rattle.area_commit.specs.InodeRewrite.{IsFit}
 use Rattle.inode_plan.specs.Blocks.{HaveOwnPlaces, AreNodeBlocks}
 use Rattle.inode_plan.specs.PlacedDirectory.{ListPlaces}

@@ -1,8 +1,8 @@
 -- Images of written blocks, one more at a time.
 use Rattle.std.proofs.Common.{◌≡◌, ◌≢◌, ◌<◌, ◌+◌, ◌∙◌, ℕ, List, length, Some, refl, sym, ap, subst, arith, inl, inr}
 use Rattle.std.proofs.lemmas.Bool.{cases_eq, cases_lt}
-use Rattle.batch_journal.specs.Images.{image_for}
-use Rattle.tree_blocks.specs.Directory.{numbered_blocks}
+use Rattle.area_commit.specs.batch_journal.Images.{image_for}
+use Rattle.area_commit.specs.tree_blocks.Directory.{numbered_blocks}
 use Rattle.area_commit.specs.Batches.{PutsImage}
 use Rattle.inode_plan.specs.Blocks.{nth_block, HaveOwnPlaces}
 use Rattle.inode_plan.specs.PlannedDirectory.{HaveImages}

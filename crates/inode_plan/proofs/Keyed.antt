@@ -7,12 +7,12 @@ use Rattle.std.specs.BTreeMap.{get}
 use Rattle.std.specs.FinMap as fin
 use Rattle.std.proofs.lemmas.Bool.{false≢true, cases_Bool, cases_eq, false_from_ne_true}
 use Rattle.tier_device.specs.declared.media.Tier.{Tier}
-use Rattle.graph_change.specs.Change.{cuts_within}
-use Rattle.graph_change.specs.View.{change_of, new_length, patches_of}
-use Rattle.graph_change.specs.declared.node_change.NodeChange.{NodeChange}
-use Rattle.extent_tree.specs.Map.{TierRuns, lies_at, LieBelow}
+use Rattle.area_commit.specs.graph_change.Change.{cuts_within}
+use Rattle.area_commit.specs.graph_change.View.{change_of, new_length, patches_of}
+use Rattle.area_commit.specs.graph_change.declared.node_change.NodeChange.{NodeChange}
+use Rattle.area_commit.specs.extent_tree.Map.{TierRuns, lies_at, LieBelow}
 use Rattle.area_commit.specs.InodeChange.{is_mapped, writes_over}
-use Rattle.graph_change.proofs.Making.{has_is}
+use Rattle.area_commit.proofs.graph_change_lemmas.Making.{has_is}
 use Rattle.area_commit.proofs.Holes.{over_uncut, over_put, over_cut}
 use Rattle.inode_plan.specs.BlockWrites.{AreNumbers, AreKeys, HasOneMore}
 

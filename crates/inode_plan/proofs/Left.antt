@@ -6,16 +6,16 @@ use Rattle.std.proofs.lemmas.Bool.{cases_Bool, cases_lt, cond-true, cond-false, 
 use Rattle.std.proofs.lemmas.List.Elements.{Contains-append_left, Contains-append_right, Contains-append_cases}
 use Rattle.std.proofs.lemmas.Option.{none-some}
 use Rattle.tier_device.specs.declared.media.Tier.{Tier}
-use Rattle.layout.specs.declared.extents.Extent.{Extent}
+use Rattle.area_commit.specs.layout.declared.extents.Extent.{Extent}
 use Rattle.block_alloc.specs.declared.runs.Run.{Run}
 use Rattle.block_alloc.specs.Runs.{Rising, blocks_of}
 use Rattle.block_alloc.specs.Value.{FreeBlocks}
-use Rattle.extent_tree.specs.Places.{place_of}
-use Rattle.extent_tree.specs.BlockFormat.{IsOneToOne}
-use Rattle.graph_change.specs.Change.{Change, writes_block}
+use Rattle.area_commit.specs.extent_tree.Places.{place_of}
+use Rattle.area_commit.specs.extent_tree.BlockFormat.{IsOneToOne}
+use Rattle.area_commit.specs.graph_change.Change.{Change, writes_block}
 use Rattle.area_commit.proofs.Holes.{over_written, over_at}
-use Rattle.tree_blocks.specs.FileBlock.{is_cut_off}
-use Rattle.extent_tree.specs.Map.{TierRuns, runs_in, lies_at, place_list, places_of, LieBelow, HasBlock}
+use Rattle.area_commit.specs.tree_blocks.FileBlock.{is_cut_off}
+use Rattle.area_commit.specs.extent_tree.Map.{TierRuns, runs_in, lies_at, place_list, places_of, LieBelow, HasBlock}
 use Rattle.area_commit.specs.Release.{AreUsed, IsInUse}
 use Rattle.area_commit.proofs.Given.{cons_cases, cons_here, cons_there, nothing, in_range}
 use Rattle.inode_plan.specs.BlockWrites.{AreNumbers}

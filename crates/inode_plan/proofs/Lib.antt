@@ -25,3 +25,9 @@ mod Given
 mod Fits
 mod Standing
 mod Gone
+-- Handed on to the crates above, which list only the highest of what they name.
+pub use Rattle.area_commit.proofs as area_commit_lemmas
+pub use Rattle.area_commit.proofs.area_reader_lemmas
+pub use Rattle.area_commit.proofs.batch_journal_lemmas
+pub use Rattle.area_commit.proofs.graph_change_lemmas
+pub use Rattle.area_commit.proofs.tree_blocks_lemmas

@@ -2,12 +2,12 @@
 use Rattle.std.proofs.Common.{◌≡◌, ◌≢◌, inl, inr, ℕ, true, Option, Some, None, sym, ap, ◌∙◌, refl, subst}
 use Rattle.std.specs.Prelude.{◌==◌, ◌||◌, not, nat_lt, ◌^◌, IsSome}
 use Rattle.std.proofs.lemmas.Bool.{cases_Bool, and_parts, and_from, cond-true, cond-false, eqb-true, eqb-false, false≢true}
-use Rattle.layout.specs.Extents.{ExtentList}
-use Rattle.layout.specs.Places.{Sizes}
-use Rattle.layout.specs.Slot.{is_root_block, roots_apart, fits_slot}
-use Rattle.layout.specs.declared.slot.Slot.TheVariants as slots
+use Rattle.area_commit.specs.layout.Extents.{ExtentList}
+use Rattle.area_commit.specs.layout.Places.{Sizes}
+use Rattle.area_commit.specs.layout.Slot.{is_root_block, roots_apart, fits_slot}
+use Rattle.area_commit.specs.layout.declared.slot.Slot.TheVariants as slots
 use Rattle.tier_device.specs.declared.media.Tier.TheVariants as tiers
-use Rattle.area_reader.specs.declared.tiers.InodeExtents.{InodeExtents}
+use Rattle.area_commit.specs.area_reader.declared.tiers.InodeExtents.{InodeExtents}
 use Rattle.inode_plan.specs.Lists.{root_for, SpareFits}
 
 -- the root of a tier for new extents is none, the one it had, or the spare one where it had none

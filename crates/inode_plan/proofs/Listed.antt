@@ -6,15 +6,15 @@ use Rattle.std.proofs.lemmas.Bool.{cases_Bool, cases_lt, and_parts, cond-true, c
 use Rattle.std.proofs.lemmas.List.Elements.{Contains-get_or}
 use Rattle.tier_device.specs.declared.media.Tier.{Tier}
 use Rattle.tier_device.specs.declared.media.Tier.TheVariants as tiers
-use Rattle.layout.specs.Extents.{ExtentList, extents_spelling}
-use Rattle.layout.specs.Places.{Sizes, is_node, node_end}
-use Rattle.layout.specs.declared.slot.Slot.{Slot}
-use Rattle.layout.specs.declared.extents.Extent.{Extent}
-use Rattle.batch_journal.specs.Blocks.{Blocks}
-use Rattle.extent_tree.specs.Map.{TierRuns, runs_in}
-use Rattle.area_reader.specs.Store.{root_of}
-use Rattle.area_reader.specs.Map.{in_tier}
-use Rattle.area_reader.specs.declared.tiers.InodeExtents.{InodeExtents}
+use Rattle.area_commit.specs.layout.Extents.{ExtentList, extents_spelling}
+use Rattle.area_commit.specs.layout.Places.{Sizes, is_node, node_end}
+use Rattle.area_commit.specs.layout.declared.slot.Slot.{Slot}
+use Rattle.area_commit.specs.layout.declared.extents.Extent.{Extent}
+use Rattle.area_commit.specs.batch_journal.Blocks.{Blocks}
+use Rattle.area_commit.specs.extent_tree.Map.{TierRuns, runs_in}
+use Rattle.area_commit.specs.area_reader.Store.{root_of}
+use Rattle.area_commit.specs.area_reader.Map.{in_tier}
+use Rattle.area_commit.specs.area_reader.declared.tiers.InodeExtents.{InodeExtents}
 use Rattle.area_commit.specs.InodeRewrite.{IsListed, list_of}
 use Rattle.inode_plan.specs.Lists.{root_for, IsListOf, AreListsOf}
 use Rattle.inode_plan.specs.Roots.{missing_roots, wanted_before, roots_wanted, HasRootsOf, SparesFit, ListsStand}

@@ -4,8 +4,8 @@ use Rattle.std.specs.Prelude.{◌==◌, not, nat_le, nat_lt, if◌then◌else◌
 use Rattle.std.proofs.lemmas.Bool.{cases_lt, cases_eq, eq-eqb, ne_eqb, and_parts, leb-true, ltb-true, or_left, or_right}
 use Rattle.std.proofs.lemmas.List.{length-append, length-take-le, get_or-take, get_or_append_left, get_or-append_right}
 use Rattle.tier_device.specs.declared.media.Tier.TheVariants.{Fast}
-use Rattle.layout.specs.Places.{Sizes, IsAllowed, is_node, node_end, tier_blocks}
-use Rattle.layout.specs.Slot.{is_root_block}
+use Rattle.area_commit.specs.layout.Places.{Sizes, IsAllowed, is_node, node_end, tier_blocks}
+use Rattle.area_commit.specs.layout.Slot.{is_root_block}
 use Rattle.inode_plan.specs.Blocks.{nth_block, HaveOwnPlaces, AreNodeBlocks, spares_wanted, places_after, root_after}
 use Rattle.inode_plan.specs.Spare.{CanBeWritten, AreSpares}
 use Rattle.inode_plan.specs.declared.directory_change.ChangedDirectory.{ChangedDirectory}

@@ -5,9 +5,9 @@ use Rattle.std.proofs.lemmas.Bool.{cases_lt, and_parts, and_from, leb-true, ltb-
 use Rattle.tier_device.specs.declared.media.Tier.{Tier}
 use Rattle.tier_device.specs.declared.media.Tier.TheVariants.{Fast, Block, Slow}
 use Rattle.block_alloc.specs.Runs.{Rising}
-use Rattle.extent_tree.specs.Places.{in_run, place_of}
-use Rattle.extent_tree.specs.Map.{TierRuns, runs_in, lies_at, ArePut}
-use Rattle.extent_tree.specs.declared.map.Place.{Place}
+use Rattle.area_commit.specs.extent_tree.Places.{in_run, place_of}
+use Rattle.area_commit.specs.extent_tree.Map.{TierRuns, runs_in, lies_at, ArePut}
+use Rattle.area_commit.specs.extent_tree.declared.map.Place.{Place}
 use Rattle.inode_plan.specs.PlacedFile.{nth_number, nth_place, GoOn, LiesBehind, NumbersArePlaced}
 
 -- a later number is greater

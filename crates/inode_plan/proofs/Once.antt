@@ -6,7 +6,7 @@ use Rattle.std.proofs.lemmas.List.Elements.{Contains-append_left, Contains-appen
 use Rattle.block_alloc.specs.declared.runs.Run.{Run}
 use Rattle.block_alloc.specs.Runs.{run_blocks, blocks_of}
 use Rattle.block_alloc.specs.Value.{FreeBlocks, IsUsed}
-use Rattle.extent_tree.specs.Map.{HasBlock}
+use Rattle.area_commit.specs.extent_tree.Map.{HasBlock}
 use Rattle.area_commit.specs.Release.{AreUsed, IsInUse}
 use Rattle.area_commit.proofs.Given.{all_from, cons_cases, nothing, in_range}
 

@@ -5,26 +5,26 @@ use Rattle.std.proofs.lemmas.Bool.{cases_lt, and_parts, leb-true, lt-ltb, le-ltb
 use Rattle.std.proofs.lemmas.Option.{none-some}
 use Rattle.tier_device.specs.declared.media.Tier.{Tier}
 use Rattle.tier_device.specs.declared.media.Tier.TheVariants.{Fast, Block, Slow}
-use Rattle.file_graph.specs.declared.effect.Kind.TheVariants as kind
+use Rattle.area_commit.specs.file_graph.declared.effect.Kind.TheVariants as kind
 use Rattle.posix_calls.specs.declared.limits.TheConstants.{MAX_NAMES, MAX_ENTRIES}
-use Rattle.layout.specs.declared.slot.Slot.{Slot}
-use Rattle.layout.specs.declared.slot.Slot.TheVariants as slots
-use Rattle.layout.specs.declared.geometry.Space.TheVariants as space
-use Rattle.layout.specs.Extents.{ExtentList}
-use Rattle.layout.specs.Places.{Sizes, is_node, is_run, node_end}
-use Rattle.layout.specs.Slot.{fits_slot, is_root_block}
-use Rattle.extent_tree.specs.Places.{place_of}
-use Rattle.extent_tree.proofs.Spelled.{list-parts, lies-within}
-use Rattle.tree_blocks.specs.Inode.{LogicalBlocks, inode_of, AreDirectoryBlocks, IsDirectoryBlock, blocks_for}
-use Rattle.area_reader.specs.Store.{Store, slot, root_of, space_of, length_of, place, logical_block, inode}
-use Rattle.area_reader.specs.Format.{Use, used_block}
-use Rattle.area_reader.specs.Checks.{HasFound}
-use Rattle.area_reader.specs.Map.{extents_in, place_by, IsOwnList}
-use Rattle.area_reader.specs.declared.inode.InodeParts.{InodeParts}
-use Rattle.area_reader.specs.declared.tiers.InodeExtents.{InodeExtents}
-use Rattle.area_reader.proofs.Damages.{option_cases, as_directory, blocks_is, length_is, none_read, no_entries, other_place}
-use Rattle.area_reader.proofs.Parts.{slot_as, extents_all}
-use Rattle.area_reader.proofs.Tails.{place_is, place_past}
+use Rattle.area_commit.specs.layout.declared.slot.Slot.{Slot}
+use Rattle.area_commit.specs.layout.declared.slot.Slot.TheVariants as slots
+use Rattle.area_commit.specs.layout.declared.geometry.Space.TheVariants as space
+use Rattle.area_commit.specs.layout.Extents.{ExtentList}
+use Rattle.area_commit.specs.layout.Places.{Sizes, is_node, is_run, node_end}
+use Rattle.area_commit.specs.layout.Slot.{fits_slot, is_root_block}
+use Rattle.area_commit.specs.extent_tree.Places.{place_of}
+use Rattle.area_commit.proofs.extent_tree_lemmas.Spelled.{list-parts, lies-within}
+use Rattle.area_commit.specs.tree_blocks.Inode.{LogicalBlocks, inode_of, AreDirectoryBlocks, IsDirectoryBlock, blocks_for}
+use Rattle.area_commit.specs.area_reader.Store.{Store, slot, root_of, space_of, length_of, place, logical_block, inode}
+use Rattle.area_commit.specs.area_reader.Format.{Use, used_block}
+use Rattle.area_commit.specs.area_reader.Checks.{HasFound}
+use Rattle.area_commit.specs.area_reader.Map.{extents_in, place_by, IsOwnList}
+use Rattle.area_commit.specs.area_reader.declared.inode.InodeParts.{InodeParts}
+use Rattle.area_commit.specs.area_reader.declared.tiers.InodeExtents.{InodeExtents}
+use Rattle.area_commit.proofs.area_reader_lemmas.Damages.{option_cases, as_directory, blocks_is, length_is, none_read, no_entries, other_place}
+use Rattle.area_commit.proofs.area_reader_lemmas.Parts.{slot_as, extents_all}
+use Rattle.area_commit.proofs.area_reader_lemmas.Tails.{place_is, place_past}
 use Rattle.inode_plan.specs.Blocks.{nth_block, HaveOwnPlaces, AreSound, use_in, use_of}
 use Rattle.inode_plan.specs.declared.blocks.DirectoryBlocks.{DirectoryBlocks}
 use Rattle.inode_plan.specs.DirectoryStart.{AreDirectoryParts, LieInPool, ArePlacesOf}

@@ -7,11 +7,11 @@ use Rattle.std.proofs.lemmas.List.Elements.{Contains-get_or}
 use Rattle.std.proofs.lemmas.Option.{none-some, same_Some}
 use Rattle.tier_device.specs.declared.media.Tier.{Tier}
 use Rattle.tier_device.specs.declared.media.Tier.TheVariants.{Fast, Block, Slow}
-use Rattle.layout.specs.declared.geometry.Space.{Space}
-use Rattle.layout.specs.Places.{Sizes, blocks_in, is_run}
+use Rattle.area_commit.specs.layout.declared.geometry.Space.{Space}
+use Rattle.area_commit.specs.layout.Places.{Sizes, blocks_in, is_run}
 use Rattle.block_alloc.specs.Runs.{Rising}
-use Rattle.extent_tree.specs.BlockFormat.{LiesWithin, IsOneToOne}
-use Rattle.extent_tree.specs.Map.{TierRuns, runs_in, lies_at, LieOnce, LieBelow}
+use Rattle.area_commit.specs.extent_tree.BlockFormat.{LiesWithin, IsOneToOne}
+use Rattle.area_commit.specs.extent_tree.Map.{TierRuns, runs_in, lies_at, LieOnce, LieBelow}
 use Rattle.inode_plan.specs.RunPlaces.{ArePlaced}
 use Rattle.inode_plan.proofs.Steps.{moved_in, moved_out, away_in, away_out}
 

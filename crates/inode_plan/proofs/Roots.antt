@@ -3,19 +3,19 @@ use Rattle.std.proofs.Common.{◌≡◌, ◌≢◌, ◌≤◌, ◌<◌, ◌+◌,
 use Rattle.std.specs.Prelude.{◌==◌, ◌||◌, not, nat_lt, ◌^◌, IfSome}
 use Rattle.std.proofs.lemmas.Bool.{cases_Bool, and_parts, and_from, cond-true, cond-false, eqb-true, eqb-false, leb-true, le-leb, lt-ltb, false≢true}
 use Rattle.tier_device.specs.declared.media.Tier.TheVariants as tiers
-use Rattle.graph_change.specs.Bounds.{IsBounded}
-use Rattle.graph_change.specs.Bytes.{Length, Grown, Cut, length_after, end}
-use Rattle.graph_change.specs.Change.{Change}
-use Rattle.graph_change.specs.Net.{Base, Kept, Made, Gone, names_after}
-use Rattle.layout.specs.Extents.{ExtentList}
-use Rattle.layout.specs.Places.{Sizes, is_node}
-use Rattle.layout.specs.Slot.{is_root_block, roots_apart, fits_slot}
-use Rattle.layout.specs.declared.slot.Slot.{Slot}
-use Rattle.layout.specs.declared.slot.Slot.TheVariants as slots
-use Rattle.tree_blocks.specs.Inode.{LogicalBlocks, inode_of}
-use Rattle.tree_blocks.specs.After.{start_node}
-use Rattle.area_reader.specs.Store.{root_of}
-use Rattle.area_reader.specs.declared.tiers.InodeExtents.{InodeExtents}
+use Rattle.area_commit.specs.graph_change.Bounds.{IsBounded}
+use Rattle.area_commit.specs.graph_change.Bytes.{Length, Grown, Cut, length_after, end}
+use Rattle.area_commit.specs.graph_change.Change.{Change}
+use Rattle.area_commit.specs.graph_change.Net.{Base, Kept, Made, Gone, names_after}
+use Rattle.area_commit.specs.layout.Extents.{ExtentList}
+use Rattle.area_commit.specs.layout.Places.{Sizes, is_node}
+use Rattle.area_commit.specs.layout.Slot.{is_root_block, roots_apart, fits_slot}
+use Rattle.area_commit.specs.layout.declared.slot.Slot.{Slot}
+use Rattle.area_commit.specs.layout.declared.slot.Slot.TheVariants as slots
+use Rattle.area_commit.specs.tree_blocks.Inode.{LogicalBlocks, inode_of}
+use Rattle.area_commit.specs.tree_blocks.After.{start_node}
+use Rattle.area_commit.specs.area_reader.Store.{root_of}
+use Rattle.area_commit.specs.area_reader.declared.tiers.InodeExtents.{InodeExtents}
 use Rattle.inode_plan.specs.Lists.{root_for}
 use Rattle.inode_plan.specs.Roots.{missing_roots, wanted_before, roots_wanted, SparesFit}
 

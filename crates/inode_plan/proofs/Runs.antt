@@ -2,11 +2,11 @@
 use Rattle.std.proofs.Common.{◌≡◌, ◌≤◌, ◌<◌, ◌+◌, ◌-◌, ◌^◌, ◌++◌, ◌∷◌, ◌∙◌, ℕ, List, [], length, Some, None, refl, sym, ap, subst, arith, inl, inr}
 use Rattle.std.specs.Option.{option_or}
 use Rattle.std.proofs.lemmas.Bool.{cases_order}
-use Rattle.layout.specs.declared.extents.Extent.{Extent}
-use Rattle.extent_tree.specs.Normal.{IsRising, NoneGoesOn, PlacesFit, Joins}
-use Rattle.extent_tree.specs.Places.{place_of}
-use Rattle.extent_tree.proofs.Maps.{has-in, not-has, place_of-append, place-here, place-later}
-use Rattle.extent_tree.proofs.Rising.{rising-wider}
+use Rattle.area_commit.specs.layout.declared.extents.Extent.{Extent}
+use Rattle.area_commit.specs.extent_tree.Normal.{IsRising, NoneGoesOn, PlacesFit, Joins}
+use Rattle.area_commit.specs.extent_tree.Places.{place_of}
+use Rattle.area_commit.proofs.extent_tree_lemmas.Maps.{has-in, not-has, place_of-append, place-here, place-later}
+use Rattle.area_commit.proofs.extent_tree_lemmas.Rising.{rising-wider}
 use Rattle.inode_plan.specs.Blocks.{nth_block}
 use Rattle.inode_plan.specs.PlacedDirectory.{ListPlaces}
 

@@ -6,21 +6,21 @@ use Rattle.std.proofs.lemmas.Bool.{cases_lt, cases_eq}
 use Rattle.std.proofs.lemmas.List.Elements.{All-get_or}
 use Rattle.tier_device.specs.declared.media.Tier.{Tier}
 use Rattle.tier_device.specs.declared.media.Tier.TheVariants.{Fast, Block, Slow}
-use Rattle.graph_change.specs.Change.{Change}
-use Rattle.graph_change.specs.Net.{names_after}
-use Rattle.layout.specs.declared.slot.Slot.{Slot}
-use Rattle.layout.specs.declared.slot.Slot.TheVariants as slots
-use Rattle.layout.specs.Places.{Sizes, is_node}
-use Rattle.layout.specs.Extents.{extents_spelling}
-use Rattle.batch_journal.specs.Images.{image_for, or_else, with_images}
-use Rattle.extent_tree.specs.Map.{runs_in}
-use Rattle.tree_blocks.specs.After.{start_node, IsDirectoryAfter}
-use Rattle.tree_blocks.specs.Directory.{numbered_blocks}
-use Rattle.area_reader.specs.Store.{Store, root_of, inode}
+use Rattle.area_commit.specs.graph_change.Change.{Change}
+use Rattle.area_commit.specs.graph_change.Net.{names_after}
+use Rattle.area_commit.specs.layout.declared.slot.Slot.{Slot}
+use Rattle.area_commit.specs.layout.declared.slot.Slot.TheVariants as slots
+use Rattle.area_commit.specs.layout.Places.{Sizes, is_node}
+use Rattle.area_commit.specs.layout.Extents.{extents_spelling}
+use Rattle.area_commit.specs.batch_journal.Images.{image_for, or_else, with_images}
+use Rattle.area_commit.specs.extent_tree.Map.{runs_in}
+use Rattle.area_commit.specs.tree_blocks.After.{start_node, IsDirectoryAfter}
+use Rattle.area_commit.specs.tree_blocks.Directory.{numbered_blocks}
+use Rattle.area_commit.specs.area_reader.Store.{Store, root_of, inode}
 use Rattle.area_commit.specs.InodeRewrite.{IsFit, IsListed, list_of, block_by}
 use Rattle.area_commit.specs.InodeChange.{IsDirectorySlot, IsDirectoryWritten}
 use Rattle.inode_plan.specs.Blocks.{nth_block, use_in, use_of, use_on_fast, lost_blocks}
-use Rattle.area_reader.specs.Format.{used_block}
+use Rattle.area_commit.specs.area_reader.Format.{used_block}
 use Rattle.block_alloc.specs.Runs.{blocks_of}
 use Rattle.block_alloc.specs.Value.{FreeBlocks}
 use Rattle.area_commit.specs.Release.{AreUsed, IsInUse}

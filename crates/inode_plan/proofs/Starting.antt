@@ -1,19 +1,19 @@
 -- What is read of a directory is what a change of it starts from.
 use Rattle.std.proofs.Common.{◌≡◌, ◌≢◌, ◌≤◌, ◌<◌, ◌∙◌, ℕ, List, [], length, Some, refl, sym, ap, subst}
 use Rattle.tier_device.specs.declared.media.Tier.TheVariants.{Fast}
-use Rattle.graph_change.specs.Net.{Kept}
-use Rattle.layout.specs.declared.slot.Slot.{Slot}
-use Rattle.layout.specs.declared.slot.Slot.TheVariants as slots
-use Rattle.layout.specs.Places.{Sizes}
+use Rattle.area_commit.specs.graph_change.Net.{Kept}
+use Rattle.area_commit.specs.layout.declared.slot.Slot.{Slot}
+use Rattle.area_commit.specs.layout.declared.slot.Slot.TheVariants as slots
+use Rattle.area_commit.specs.layout.Places.{Sizes}
 use Rattle.posix_calls.specs.declared.limits.TheConstants.{MAX_NAMES}
-use Rattle.tree_blocks.specs.InodeRewrite.{AreHeldOf}
-use Rattle.tree_blocks.specs.Inode.{LogicalBlocks, inode_of, AreDirectoryBlocks, blocks_for}
-use Rattle.tree_blocks.specs.Directory.{IsHeld, numbered_blocks}
-use Rattle.tree_blocks.proofs.Alike.{consistent_by}
-use Rattle.file_graph.specs.declared.effect.Kind.TheVariants as kind
-use Rattle.area_reader.specs.Store.{Store, slot, root_of, length_of, logical_block, inode}
-use Rattle.area_reader.specs.declared.inode.InodeParts.{InodeParts}
-use Rattle.area_reader.proofs.Damages.{at_fast, blocks_is}
+use Rattle.area_commit.specs.tree_blocks.InodeRewrite.{AreHeldOf}
+use Rattle.area_commit.specs.tree_blocks.Inode.{LogicalBlocks, inode_of, AreDirectoryBlocks, blocks_for}
+use Rattle.area_commit.specs.tree_blocks.Directory.{IsHeld, numbered_blocks}
+use Rattle.area_commit.proofs.tree_blocks_lemmas.Alike.{consistent_by}
+use Rattle.area_commit.specs.file_graph.declared.effect.Kind.TheVariants as kind
+use Rattle.area_commit.specs.area_reader.Store.{Store, slot, root_of, length_of, logical_block, inode}
+use Rattle.area_commit.specs.area_reader.declared.inode.InodeParts.{InodeParts}
+use Rattle.area_commit.proofs.area_reader_lemmas.Damages.{at_fast, blocks_is}
 use Rattle.inode_plan.specs.Blocks.{nth_block, AreSound, use_in}
 use Rattle.inode_plan.specs.DirectoryStart.{AreDirectoryParts, ArePlacesOf, HoldPlaces, IsStarted, IsSoundStart}
 use Rattle.inode_plan.specs.declared.blocks.DirectoryBlocks.{DirectoryBlocks}

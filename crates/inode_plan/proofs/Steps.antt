@@ -7,10 +7,10 @@ use Rattle.std.proofs.lemmas.List.{length-append, get_or_append_left, get_or-app
 use Rattle.std.proofs.lemmas.List.FromFn.{length-range_with_len}
 use Rattle.tier_device.specs.declared.media.Tier.{Tier}
 use Rattle.block_alloc.specs.declared.runs.Run.{Run}
-use Rattle.layout.specs.declared.extents.Extent.{Extent}
-use Rattle.extent_tree.specs.Places.{in_run, place_of}
-use Rattle.extent_tree.specs.Changes.{after}
-use Rattle.extent_tree.specs.Map.{TierRuns, runs_in, lies_at, ArePut}
+use Rattle.area_commit.specs.layout.declared.extents.Extent.{Extent}
+use Rattle.area_commit.specs.extent_tree.Places.{in_run, place_of}
+use Rattle.area_commit.specs.extent_tree.Changes.{after}
+use Rattle.area_commit.specs.extent_tree.Map.{TierRuns, runs_in, lies_at, ArePut}
 use Rattle.inode_plan.specs.RunPlaces.{moved_to, moved_away, ArePlaced, EndsFit}
 
 -- ---- a run

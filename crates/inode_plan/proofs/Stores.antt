@@ -5,26 +5,26 @@ use Rattle.std.proofs.lemmas.List.{get_or-map, length-map}
 use Rattle.std.proofs.lemmas.Option.{none-some}
 use Rattle.tier_device.specs.declared.media.Tier.{Tier}
 use Rattle.tier_device.specs.declared.media.Tier.TheVariants.{Fast}
-use Rattle.file_graph.specs.declared.effect.Kind.TheVariants as kind
-use Rattle.layout.specs.Places.{Sizes}
-use Rattle.layout.specs.declared.slot.Slot.{Slot}
-use Rattle.layout.specs.declared.slot.Slot.TheVariants as slots
-use Rattle.layout.specs.Slot.{fits_slot}
-use Rattle.layout.specs.declared.geometry.Space.TheVariants as space
-use Rattle.batch_journal.specs.Images.{slice}
+use Rattle.area_commit.specs.file_graph.declared.effect.Kind.TheVariants as kind
+use Rattle.area_commit.specs.layout.Places.{Sizes}
+use Rattle.area_commit.specs.layout.declared.slot.Slot.{Slot}
+use Rattle.area_commit.specs.layout.declared.slot.Slot.TheVariants as slots
+use Rattle.area_commit.specs.layout.Slot.{fits_slot}
+use Rattle.area_commit.specs.layout.declared.geometry.Space.TheVariants as space
+use Rattle.area_commit.specs.batch_journal.Images.{slice}
 use Rattle.area_commit.specs.DataWrite.{block_at}
-use Rattle.graph_change.specs.Bytes.{length_after, end}
-use Rattle.graph_change.specs.Change.{Change, patch_at}
-use Rattle.graph_change.specs.Net.{Base, Kept, Made, Gone}
-use Rattle.graph_change.specs.Tidy.{IsTidyChange}
-use Rattle.tree_blocks.specs.Inode.{LogicalBlocks, inode_of}
-use Rattle.tree_blocks.specs.After.{start_node}
-use Rattle.tree_blocks.specs.FileBlock.{ReadsAfter}
-use Rattle.extent_tree.specs.Normal.{IsNormal}
-use Rattle.extent_tree.specs.BlockFormat.{LiesWithin, IsOneToOne}
-use Rattle.extent_tree.specs.Map.{TierRuns, runs_in, lies_at, LieOnce, LieBelow}
-use Rattle.extent_tree.specs.declared.map.Place.{Place}
-use Rattle.area_reader.specs.Store.{Store, slot, logical_block, inode}
+use Rattle.area_commit.specs.graph_change.Bytes.{length_after, end}
+use Rattle.area_commit.specs.graph_change.Change.{Change, patch_at}
+use Rattle.area_commit.specs.graph_change.Net.{Base, Kept, Made, Gone}
+use Rattle.area_commit.specs.graph_change.Tidy.{IsTidyChange}
+use Rattle.area_commit.specs.tree_blocks.Inode.{LogicalBlocks, inode_of}
+use Rattle.area_commit.specs.tree_blocks.After.{start_node}
+use Rattle.area_commit.specs.tree_blocks.FileBlock.{ReadsAfter}
+use Rattle.area_commit.specs.extent_tree.Normal.{IsNormal}
+use Rattle.area_commit.specs.extent_tree.BlockFormat.{LiesWithin, IsOneToOne}
+use Rattle.area_commit.specs.extent_tree.Map.{TierRuns, runs_in, lies_at, LieOnce, LieBelow}
+use Rattle.area_commit.specs.extent_tree.declared.map.Place.{Place}
+use Rattle.area_commit.specs.area_reader.Store.{Store, slot, logical_block, inode}
 use Rattle.area_commit.specs.InodeRewrite.{IsFit, logical_by}
 use Rattle.area_commit.specs.InodeChange.{place_from, places_from, writes_over, LieAsChanged, IsFileSlot}
 use Rattle.area_commit.proofs.Holes.{over_same}

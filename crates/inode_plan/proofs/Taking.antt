@@ -8,7 +8,7 @@ use Rattle.area_commit.specs.Value.{on_tier}
 use Rattle.block_alloc.specs.declared.runs.Run.{Run}
 use Rattle.block_alloc.specs.Runs.{run_blocks, blocks_of}
 use Rattle.block_alloc.proofs.Blocks.{blocks-push}
-use Rattle.extent_tree.specs.declared.map.Place.{Place}
+use Rattle.area_commit.specs.extent_tree.declared.map.Place.{Place}
 use Rattle.inode_plan.specs.PlannedFile.{pair_of, pairs_of}
 
 range_more : (a n : ℕ) → range_with_len a (n + 1) ≡ range_with_len a n ++ (a + n) ∷ []

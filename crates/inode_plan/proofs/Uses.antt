@@ -8,11 +8,11 @@ use Rattle.std.proofs.lemmas.List.{length-append, length-drop, get_or-drop, get_
 use Rattle.std.proofs.lemmas.List.Elements.{Contains-append_left, Contains-append_right, Contains-append_cases}
 use Rattle.tier_device.specs.declared.media.Tier.{Tier}
 use Rattle.tier_device.specs.declared.media.Tier.TheVariants.{Fast, Block, Slow}
-use Rattle.layout.specs.declared.slot.Slot.TheVariants as slots
-use Rattle.layout.specs.declared.extents.Extent.{Extent}
-use Rattle.layout.specs.Places.{Sizes, is_node}
-use Rattle.layout.specs.Slot.{is_root_block}
-use Rattle.extent_tree.specs.Places.{place_of}
+use Rattle.area_commit.specs.layout.declared.slot.Slot.TheVariants as slots
+use Rattle.area_commit.specs.layout.declared.extents.Extent.{Extent}
+use Rattle.area_commit.specs.layout.Places.{Sizes, is_node}
+use Rattle.area_commit.specs.layout.Slot.{is_root_block}
+use Rattle.area_commit.specs.extent_tree.Places.{place_of}
 use Rattle.area_commit.specs.InodeRewrite.{block_by}
 use Rattle.inode_plan.specs.Blocks.{nth_block, HaveOwnPlaces, AreNodeBlocks, use_on_fast, use_in, root_blocks, lost_blocks}
 use Rattle.inode_plan.specs.Spare.{CanBeWritten, AreSpares}

@@ -6,14 +6,14 @@ use Rattle.std.proofs.lemmas.Bool.{true≢false, cases_Bool, and_parts, or_parts
 use Rattle.std.proofs.lemmas.List.Elements.{Contains-append_left, Contains-append_right, Contains-append_cases}
 use Rattle.tier_device.specs.declared.media.Tier.{Tier}
 use Rattle.tier_device.specs.declared.media.Tier.TheVariants as tiers
-use Rattle.layout.specs.declared.slot.Slot.{Slot}
-use Rattle.layout.specs.declared.slot.Slot.TheVariants as slots
-use Rattle.layout.specs.Extents.{ExtentList}
-use Rattle.layout.specs.Places.{Sizes}
-use Rattle.layout.specs.Slot.{fits_slot, is_root_block, roots_apart}
-use Rattle.area_reader.specs.Store.{root_of}
-use Rattle.area_reader.specs.Map.{in_tier}
-use Rattle.area_reader.specs.declared.tiers.InodeExtents.{InodeExtents}
+use Rattle.area_commit.specs.layout.declared.slot.Slot.{Slot}
+use Rattle.area_commit.specs.layout.declared.slot.Slot.TheVariants as slots
+use Rattle.area_commit.specs.layout.Extents.{ExtentList}
+use Rattle.area_commit.specs.layout.Places.{Sizes}
+use Rattle.area_commit.specs.layout.Slot.{fits_slot, is_root_block, roots_apart}
+use Rattle.area_commit.specs.area_reader.Store.{root_of}
+use Rattle.area_commit.specs.area_reader.Map.{in_tier}
+use Rattle.area_commit.specs.area_reader.declared.tiers.InodeExtents.{InodeExtents}
 use Rattle.inode_plan.specs.Lists.{root_for, root_left, roots_left}
 use Rattle.area_commit.proofs.Given.{cons_cases, cons_here, nothing}
 use Rattle.area_commit.proofs.GivenUp.{Once}

@@ -5,7 +5,7 @@ use Rattle.std.specs.Ordering.{nat_cmp}
 use Rattle.std.specs.BTreeMap.{BTreeMap, get}
 use Rattle.block_alloc.specs.Runs.{Rising}
 use Rattle.tier_device.specs.declared.media.Tier.{Tier}
-use Rattle.graph_change.specs.Change.{Change}
+use Rattle.area_commit.specs.graph_change.Change.{Change}
 use Rattle.area_commit.specs.InodeChange.{writes_over}
 
 -- The numbers rise.

@@ -2,8 +2,8 @@
 use Rattle.std.specs.Prelude.{◌≡◌, ◌≢◌, ◌<◌, ◌+◌, ◌-◌, ◌++◌, ◌==◌, ◌∷◌, not, true, ℕ, List, [], length, take, drop, get_or, nat_lt, Option, Some, None, option_map, ◌&&◌, if◌then◌else◌}
 use Rattle.tier_device.specs.declared.media.Tier.{Tier}
 use Rattle.tier_device.specs.declared.media.Tier.TheVariants as tiers
-use Rattle.layout.specs.Places.{Sizes, is_node}
-use Rattle.layout.specs.Slot.{is_root_block}
+use Rattle.area_commit.specs.layout.Places.{Sizes, is_node}
+use Rattle.area_commit.specs.layout.Slot.{is_root_block}
 use Rattle.block_alloc.specs.declared.runs.Run.{Run}
 use Rattle.inode_plan.specs.declared.blocks.DirectoryBlocks.{DirectoryBlocks}
 

@@ -1,10 +1,10 @@
 -- The bytes that the written blocks of a file get.
 use Rattle.std.specs.Prelude.{◌≡◌, ◌<◌, ◌*◌, ◌++◌, ℕ, List, [], Option, Some, None, length}
-use Rattle.layout.specs.declared.places.TheConstants.{BLOCK}
-use Rattle.batch_journal.specs.Images.{slice}
-use Rattle.graph_change.specs.Change.{Change, patch_at}
-use Rattle.tree_blocks.specs.Inode.{LogicalBlocks}
-use Rattle.tree_blocks.specs.FileBlock.{ReadsAfter}
+use Rattle.area_commit.specs.layout.declared.places.TheConstants.{BLOCK}
+use Rattle.area_commit.specs.batch_journal.Images.{slice}
+use Rattle.area_commit.specs.graph_change.Change.{Change, patch_at}
+use Rattle.area_commit.specs.tree_blocks.Inode.{LogicalBlocks}
+use Rattle.area_commit.specs.tree_blocks.FileBlock.{ReadsAfter}
 use Rattle.inode_plan.specs.PlacedFile.{nth_number}
 
 -- a block of a number reads as the change makes it of the old one

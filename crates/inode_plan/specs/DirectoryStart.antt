@@ -3,21 +3,21 @@ use Rattle.std.specs.Prelude.{◌≡◌, ◌≢◌, ◌<◌, ◌≤◌, true, �
 use Rattle.tier_device.specs.declared.media.Tier.{Tier}
 use Rattle.tier_device.specs.declared.media.Tier.TheVariants as tiers
 use Rattle.posix_calls.specs.declared.limits.TheConstants.{MAX_NAMES}
-use Rattle.file_graph.specs.declared.effect.Kind.TheVariants as kind
-use Rattle.graph_change.specs.Net.{Base, Kept, Made, Gone, names_after}
-use Rattle.graph_change.specs.Change.{Change}
-use Rattle.layout.specs.Places.{Sizes, is_inode, is_node}
-use Rattle.layout.specs.Slot.{fits_slot}
-use Rattle.tree_blocks.specs.Inode.{LogicalBlocks}
-use Rattle.tree_blocks.specs.After.{start_node, IsDirectoryAfter}
-use Rattle.tree_blocks.specs.Directory.{numbered_blocks}
-use Rattle.tree_blocks.specs.InodeRewrite.{AreHeldOf}
-use Rattle.tree_blocks.specs.BlockMarks.{ListsWritten}
-use Rattle.area_reader.specs.Store.{Store, slot_read, inode}
-use Rattle.area_reader.specs.Format.{IsSpelled, used_block}
-use Rattle.area_reader.specs.Map.{HasAllExtents, place_by}
-use Rattle.area_reader.specs.declared.inode.InodeParts.{InodeParts}
-use Rattle.area_reader.specs.declared.tiers.InodeExtents.{InodeExtents}
+use Rattle.area_commit.specs.file_graph.declared.effect.Kind.TheVariants as kind
+use Rattle.area_commit.specs.graph_change.Net.{Base, Kept, Made, Gone, names_after}
+use Rattle.area_commit.specs.graph_change.Change.{Change}
+use Rattle.area_commit.specs.layout.Places.{Sizes, is_inode, is_node}
+use Rattle.area_commit.specs.layout.Slot.{fits_slot}
+use Rattle.area_commit.specs.tree_blocks.Inode.{LogicalBlocks}
+use Rattle.area_commit.specs.tree_blocks.After.{start_node, IsDirectoryAfter}
+use Rattle.area_commit.specs.tree_blocks.Directory.{numbered_blocks}
+use Rattle.area_commit.specs.tree_blocks.InodeRewrite.{AreHeldOf}
+use Rattle.area_commit.specs.tree_blocks.BlockMarks.{ListsWritten}
+use Rattle.area_commit.specs.area_reader.Store.{Store, slot_read, inode}
+use Rattle.area_commit.specs.area_reader.Format.{IsSpelled, used_block}
+use Rattle.area_commit.specs.area_reader.Map.{HasAllExtents, place_by}
+use Rattle.area_commit.specs.area_reader.declared.inode.InodeParts.{InodeParts}
+use Rattle.area_commit.specs.area_reader.declared.tiers.InodeExtents.{InodeExtents}
 use Rattle.inode_plan.specs.Blocks.{nth_block, AreSound, use_of}
 use Rattle.inode_plan.specs.declared.directory_start.StartedDirectory.{StartedDirectory}
 use Rattle.inode_plan.specs.declared.directory_change.ChangedDirectory.{ChangedDirectory}

@@ -2,17 +2,17 @@
 use Rattle.std.specs.Prelude.{◌≡◌, ◌≢◌, ◌+◌, ◌*◌, ◌<◌, ◌==◌, ◌||◌, not, ◌++◌, ◌∷◌, true, ℕ, List, [], Option, Some, None, IfSome, IsSome, if◌then◌else◌}
 use Rattle.tier_device.specs.declared.media.Tier.{Tier}
 use Rattle.tier_device.specs.declared.media.Tier.TheVariants as tiers
-use Rattle.layout.specs.declared.places.TheConstants.{BLOCK}
-use Rattle.layout.specs.declared.slot.Slot.{Slot}
-use Rattle.layout.specs.Extents.{ExtentList}
-use Rattle.layout.specs.Places.{Sizes}
-use Rattle.layout.specs.Slot.{is_root_block}
-use Rattle.batch_journal.specs.Images.{slice}
-use Rattle.extent_tree.specs.Map.{TierRuns, runs_in, lies_at}
-use Rattle.tree_blocks.specs.Inode.{LogicalBlocks}
-use Rattle.area_reader.specs.Store.{Store, place, root_of, space_of}
-use Rattle.area_reader.specs.Map.{in_tier, place_by, IsOwnList}
-use Rattle.area_reader.specs.declared.tiers.InodeExtents.{InodeExtents}
+use Rattle.area_commit.specs.layout.declared.places.TheConstants.{BLOCK}
+use Rattle.area_commit.specs.layout.declared.slot.Slot.{Slot}
+use Rattle.area_commit.specs.layout.Extents.{ExtentList}
+use Rattle.area_commit.specs.layout.Places.{Sizes}
+use Rattle.area_commit.specs.layout.Slot.{is_root_block}
+use Rattle.area_commit.specs.batch_journal.Images.{slice}
+use Rattle.area_commit.specs.extent_tree.Map.{TierRuns, runs_in, lies_at}
+use Rattle.area_commit.specs.tree_blocks.Inode.{LogicalBlocks}
+use Rattle.area_commit.specs.area_reader.Store.{Store, place, root_of, space_of}
+use Rattle.area_commit.specs.area_reader.Map.{in_tier, place_by, IsOwnList}
+use Rattle.area_commit.specs.area_reader.declared.tiers.InodeExtents.{InodeExtents}
 
 -- The extents of each tier are a list of this inode's, within the limits of the format.
 abbrev pub AreOwnLists : Sizes → ℕ → Slot → InodeExtents → Type 0

@@ -2,15 +2,15 @@
 use Rattle.std.specs.Prelude.{◌≡◌, ◌≢◌, ◌<◌, ◌↔◌, ◌||◌, ℕ, nat_lt, List, Bool, true, false, Option, Some, None, length, if◌then◌else◌}
 use Rattle.std.specs.List.{Contains, flat_map}
 use Rattle.tier_device.specs.declared.media.Tier.{Tier}
-use Rattle.layout.specs.Places.{Sizes, is_data}
-use Rattle.graph_change.specs.Bytes.{Length}
-use Rattle.graph_change.specs.Change.{Change, writes_block}
-use Rattle.tree_blocks.specs.FileBlock.{is_cut_off}
+use Rattle.area_commit.specs.layout.Places.{Sizes, is_data}
+use Rattle.area_commit.specs.graph_change.Bytes.{Length}
+use Rattle.area_commit.specs.graph_change.Change.{Change, writes_block}
+use Rattle.area_commit.specs.tree_blocks.FileBlock.{is_cut_off}
 use Rattle.area_commit.specs.InodeChange.{writes_over}
-use Rattle.layout.specs.declared.extents.Extent.{Extent}
-use Rattle.extent_tree.specs.Places.{place_of}
-use Rattle.extent_tree.specs.Map.{TierRuns, lies_at, place_list}
-use Rattle.extent_tree.specs.declared.map.Place.{Place}
+use Rattle.area_commit.specs.layout.declared.extents.Extent.{Extent}
+use Rattle.area_commit.specs.extent_tree.Places.{place_of}
+use Rattle.area_commit.specs.extent_tree.Map.{TierRuns, lies_at, place_list}
+use Rattle.area_commit.specs.extent_tree.declared.map.Place.{Place}
 use Rattle.inode_plan.specs.PlacedFile.{nth_number, nth_place}
 
 -- No block that is cut off lies anywhere; all others lie where they did.

@@ -1,8 +1,8 @@
 -- Where the blocks of a directory lie, as a list of runs.
 use Rattle.std.specs.Prelude.{◌≡◌, ◌<◌, ◌≤◌, ℕ, List, length, Some, None}
-use Rattle.layout.specs.declared.extents.Extent.{Extent}
-use Rattle.extent_tree.specs.Normal.{IsNormal}
-use Rattle.extent_tree.specs.Places.{place_of}
+use Rattle.area_commit.specs.layout.declared.extents.Extent.{Extent}
+use Rattle.area_commit.specs.extent_tree.Normal.{IsNormal}
+use Rattle.area_commit.specs.extent_tree.Places.{place_of}
 use Rattle.inode_plan.specs.Blocks.{nth_block}
 
 -- Runs in normal form: each logical block lies at its place, and no other one anywhere.

@@ -2,8 +2,8 @@
 use Rattle.std.specs.Prelude.{◌≡◌, ◌≢◌, ◌<◌, ◌≤◌, ◌+◌, ◌^◌, ℕ, List, Some, None, length, get_or}
 use Rattle.tier_device.specs.declared.media.Tier.{Tier}
 use Rattle.tier_device.specs.declared.media.Tier.TheVariants.{Fast}
-use Rattle.extent_tree.specs.Map.{TierRuns, lies_at}
-use Rattle.extent_tree.specs.declared.map.Place.{Place}
+use Rattle.area_commit.specs.extent_tree.Map.{TierRuns, lies_at}
+use Rattle.area_commit.specs.extent_tree.declared.map.Place.{Place}
 
 -- the number at a place of a list
 abbrev pub nth_number : List ℕ → ℕ → ℕ

@@ -1,19 +1,19 @@
 -- What is to be written of a changed directory.
 use Rattle.std.specs.Prelude.{◌≡◌, ◌≢◌, ◌⊎◌, ◌<◌, ◌^◌, ◌++◌, ℕ, List, [], length, map, Some, None}
 use Rattle.tier_device.specs.declared.media.Tier.TheVariants as tiers
-use Rattle.layout.specs.declared.slot.Slot.TheVariants as slots
-use Rattle.layout.specs.declared.extents.Extent.{Extent}
-use Rattle.layout.specs.Places.{Sizes, IsAllowed}
-use Rattle.layout.specs.Extents.{ExtentList, extents_spelling}
-use Rattle.batch_journal.specs.Images.{image_for, with_images}
-use Rattle.extent_tree.specs.Map.{TierRuns, lies_at}
-use Rattle.tree_blocks.specs.Directory.{numbered_blocks, IsHeld}
-use Rattle.area_reader.specs.Store.{Store}
+use Rattle.area_commit.specs.layout.declared.slot.Slot.TheVariants as slots
+use Rattle.area_commit.specs.layout.declared.extents.Extent.{Extent}
+use Rattle.area_commit.specs.layout.Places.{Sizes, IsAllowed}
+use Rattle.area_commit.specs.layout.Extents.{ExtentList, extents_spelling}
+use Rattle.area_commit.specs.batch_journal.Images.{image_for, with_images}
+use Rattle.area_commit.specs.extent_tree.Map.{TierRuns, lies_at}
+use Rattle.area_commit.specs.tree_blocks.Directory.{numbered_blocks, IsHeld}
+use Rattle.area_commit.specs.area_reader.Store.{Store}
 use Rattle.area_commit.specs.InodeRewrite.{list_of}
 use Rattle.inode_plan.specs.Blocks.{nth_block, places_after, root_after, lost_blocks, one_block}
 use Rattle.inode_plan.specs.PlacedDirectory.{ListPlaces}
 use Rattle.inode_plan.specs.Spare.{CanBeWritten, AreSpares}
-use Rattle.graph_change.specs.Change.{Change}
+use Rattle.area_commit.specs.graph_change.Change.{Change}
 use Rattle.inode_plan.specs.DirectoryStart.{IsStarted, IsSoundStart, IsChanged}
 use Rattle.inode_plan.specs.declared.directory_start.StartedDirectory.{StartedDirectory}
 use Rattle.inode_plan.specs.declared.directory_change.ChangedDirectory.{ChangedDirectory}

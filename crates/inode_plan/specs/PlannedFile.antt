@@ -2,13 +2,13 @@
 use Rattle.std.specs.Prelude.{◌≡◌, ℕ, List, Some, map}
 use Rattle.tier_device.specs.declared.media.Tier.{Tier}
 use Rattle.tier_device.specs.declared.media.Tier.TheVariants as tiers
-use Rattle.layout.specs.Places.{Sizes}
+use Rattle.area_commit.specs.layout.Places.{Sizes}
 use Rattle.block_alloc.specs.declared.runs.Run.{Run}
-use Rattle.graph_change.specs.Net.{Base}
+use Rattle.area_commit.specs.graph_change.Net.{Base}
 use Rattle.area_commit.specs.DataWrite.{HoldData}
-use Rattle.extent_tree.specs.Map.{TierRuns, lies_at}
-use Rattle.extent_tree.specs.declared.map.Place.{Place}
-use Rattle.area_reader.specs.Store.{Store, place}
+use Rattle.area_commit.specs.extent_tree.Map.{TierRuns, lies_at}
+use Rattle.area_commit.specs.extent_tree.declared.map.Place.{Place}
+use Rattle.area_commit.specs.area_reader.Store.{Store, place}
 use Rattle.area_commit.specs.InodeChange.{place_from}
 use Rattle.inode_plan.specs.declared.file_plan.FilePlan.{FilePlan}
 use Rattle.inode_plan.specs.declared.file_plan.LeftRuns.{LeftRuns}

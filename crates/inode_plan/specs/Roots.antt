@@ -2,13 +2,13 @@
 use Rattle.std.specs.Prelude.{◌≡◌, ◌≢◌, ◌<◌, ◌+◌, ◌==◌, true, ℕ, List, length, get_or, Option, Some, None, IfSome, if◌then◌else◌}
 use Rattle.tier_device.specs.declared.media.Tier.{Tier}
 use Rattle.tier_device.specs.declared.media.Tier.TheVariants as tiers
-use Rattle.layout.specs.declared.slot.Slot.{Slot}
-use Rattle.layout.specs.Extents.{ExtentList, extents_spelling}
-use Rattle.layout.specs.Places.{Sizes, is_node}
-use Rattle.batch_journal.specs.Blocks.{Blocks}
-use Rattle.area_reader.specs.Store.{root_of}
-use Rattle.area_reader.specs.Map.{in_tier}
-use Rattle.area_reader.specs.declared.tiers.InodeExtents.{InodeExtents}
+use Rattle.area_commit.specs.layout.declared.slot.Slot.{Slot}
+use Rattle.area_commit.specs.layout.Extents.{ExtentList, extents_spelling}
+use Rattle.area_commit.specs.layout.Places.{Sizes, is_node}
+use Rattle.area_commit.specs.batch_journal.Blocks.{Blocks}
+use Rattle.area_commit.specs.area_reader.Store.{root_of}
+use Rattle.area_commit.specs.area_reader.Map.{in_tier}
+use Rattle.area_commit.specs.area_reader.declared.tiers.InodeExtents.{InodeExtents}
 use Rattle.inode_plan.specs.Lists.{root_for}
 
 -- how many spare blocks a tier wants: one where it has extents and no block that lists them

@@ -4,8 +4,8 @@ use Rattle.std.specs.List.{AllByRecursion}
 use Rattle.tier_device.specs.declared.media.Tier.{Tier}
 use Rattle.tier_device.specs.declared.media.Tier.TheVariants as tiers
 use Rattle.block_alloc.specs.declared.runs.Run.{Run}
-use Rattle.extent_tree.specs.Places.{in_run}
-use Rattle.extent_tree.specs.Map.{TierRuns, lies_at}
+use Rattle.area_commit.specs.extent_tree.Places.{in_run}
+use Rattle.area_commit.specs.extent_tree.Map.{TierRuns, lies_at}
 
 -- ---- before
 

@@ -2,7 +2,7 @@
 use Rattle.std.specs.Prelude.{◌≡◌, ◌≢◌, ◌<◌, ◌≤◌, ℕ, List, length}
 use Rattle.std.specs.List.{All}
 use Rattle.posix_calls.specs.declared.limits.TheConstants.{MAX_NAMES}
-use Rattle.layout.specs.Places.{Sizes}
+use Rattle.area_commit.specs.layout.Places.{Sizes}
 use Rattle.inode_plan.specs.Blocks.{nth_block, HaveOwnPlaces, AreNodeBlocks, AreSound, spares_wanted}
 use Rattle.inode_plan.specs.declared.directory_change.ChangedDirectory.{ChangedDirectory}
 

@@ -1,17 +1,17 @@
 // From the extents of an inode to a map in memory, and back.
 ghost use Rattle.std.specs.Prelude.{◌≡◌, ℕ, IfOk, OnOk};
-ghost use Rattle.layout.specs.declared.slot.Slot.{Slot};
+ghost use Rattle.area_commit.specs.layout.declared.slot.Slot.{Slot};
 ghost use Rattle.tier_device.specs.declared.media.Tier.{Tier};
-ghost use Rattle.extent_tree.specs.Normal.{IsNormal};
-ghost use Rattle.extent_tree.specs.BlockFormat.{LiesWithin};
-ghost use Rattle.extent_tree.specs.Map.{runs_in};
-ghost use Rattle.area_reader.specs.Store.{space_of};
-ghost use Rattle.area_reader.specs.Map.{extents_in};
+ghost use Rattle.area_commit.specs.extent_tree.Normal.{IsNormal};
+ghost use Rattle.area_commit.specs.extent_tree.BlockFormat.{LiesWithin};
+ghost use Rattle.area_commit.specs.extent_tree.Map.{runs_in};
+ghost use Rattle.area_commit.specs.area_reader.Store.{space_of};
+ghost use Rattle.area_commit.specs.area_reader.Map.{extents_in};
 ghost use Rattle.inode_plan.specs.Lists.{AreOwnLists, HasPlaces, IsListOf, AreListsOf};
 
-use area_reader::InodeExtents;
-use extent_tree::{BlockMap, block_spells_a_map};
-use layout::{Extent, ExtentBlock, Geometry};
+use area_commit::in_area_reader::InodeExtents;
+use area_commit::in_extent_tree::{BlockMap, block_spells_a_map};
+use area_commit::in_layout::{Extent, ExtentBlock, Geometry};
 use std::alloc::{AllocError, Global};
 use tier_device::Tier;
 

@@ -1,15 +1,17 @@
 // The blocks of the node pool that a directory has.
 ghost use Rattle.std.specs.Prelude.{◌≡◌, ◌<◌, ℕ, Option, Some, IfOk, OnErr};
-ghost use Rattle.area_reader.specs.Store.{Store, root_of, length_of};
+ghost use Rattle.area_commit.specs.area_reader.Store.{Store, root_of, length_of};
 ghost use Rattle.tier_device.specs.declared.media.Tier.TheVariants as tiers;
 ghost use Rattle.tier_device.specs.declared.media.Tier.{Tier};
-ghost use Rattle.area_reader.specs.Map.{place_by};
-ghost use Rattle.area_reader.specs.Format.{used_block};
+ghost use Rattle.area_commit.specs.area_reader.Map.{place_by};
+ghost use Rattle.area_commit.specs.area_reader.Format.{used_block};
 ghost use Rattle.inode_plan.specs.Blocks.{AreSound, use_of};
 ghost use Rattle.inode_plan.specs.DirectoryStart.{AreDirectoryParts, LieInPool, ArePlacesOf};
 
-use area_reader::{InodeExtents, InodeParts, block_number, first_place, length_of, root_of};
-use layout::Geometry;
+use area_commit::in_area_reader::{
+    InodeExtents, InodeParts, block_number, first_place, length_of, root_of,
+};
+use area_commit::in_layout::Geometry;
 use std::alloc::{AllocError, Global};
 use tier_device::Tier;
 

@@ -2,19 +2,19 @@
 ghost use Rattle.std.specs.Prelude.{◌≡◌, ◌≤◌, ◌<◌, ◌+◌, ◌*◌, length, IfOk, OnErr};
 ghost use Rattle.std.specs.FinMap as fin;
 ghost use Rattle.posix_calls.specs.declared.limits.TheConstants.{MAX_ENTRIES};
-ghost use Rattle.graph_change.specs.Net.{entries_after};
-ghost use Rattle.graph_change.specs.View.{change_of};
-ghost use Rattle.tree_blocks.specs.Inode.{named_entries, blocks_for};
-ghost use Rattle.tree_blocks.specs.Directory.{LeadToInodes, coming_count, numbered_entries};
+ghost use Rattle.area_commit.specs.graph_change.Net.{entries_after};
+ghost use Rattle.area_commit.specs.graph_change.View.{change_of};
+ghost use Rattle.area_commit.specs.tree_blocks.Inode.{named_entries, blocks_for};
+ghost use Rattle.area_commit.specs.tree_blocks.Directory.{LeadToInodes, coming_count, numbered_entries};
 ghost use Rattle.inode_plan.specs.DirectoryStart.{IsChanged};
 ghost use Rattle.inode_plan.specs.Spare.{spares_for};
 
 use crate::blocks::DirectoryBlocks;
 use crate::directory_start::StartedDirectory;
-use graph_change::NodeChange;
-use layout::BLOCK;
+use area_commit::in_graph_change::NodeChange;
+use area_commit::in_layout::BLOCK;
+use area_commit::in_tree_blocks::{Directory, EnterError, WrittenBlocks};
 use std::alloc::AllocError;
-use tree_blocks::{Directory, EnterError, WrittenBlocks};
 
 /// A directory that is changed in memory: how many names it has, its entries in their blocks, which of these were written; and the blocks of the medium that it had before, with what
 /// stands in the one that lists them.

@@ -3,8 +3,8 @@ ghost use Rattle.std.specs.Prelude.{◌≡◌, ◌≤◌, ◌<◌, ◌+◌, ◌^
 ghost use Rattle.inode_plan.specs.Blocks.{places_after, root_after};
 ghost use Rattle.inode_plan.specs.PlacedDirectory.{ListPlaces};
 
-use extent_tree::push;
-use layout::Extent;
+use area_commit::in_extent_tree::push;
+use area_commit::in_layout::Extent;
 use std::alloc::{AllocError, Global};
 
 /// So many blocks: those that were there, and behind them spare ones.

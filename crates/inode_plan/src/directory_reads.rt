@@ -1,17 +1,17 @@
 // The blocks of a directory as they stand on the medium.
 ghost use Rattle.std.specs.Prelude.{◌≡◌, ◌≢◌, ◌⊎◌, ◌<◌, ◌++◌, ◌∷◌, [], true, false, length, IfOk, IfErr, OnOk};
-ghost use Rattle.layout.specs.Places.{is_node};
+ghost use Rattle.area_commit.specs.layout.Places.{is_node};
 ghost use Rattle.tier_device.specs.declared.media.Tier.TheVariants as tiers;
-ghost use Rattle.layout.specs.Slot.{is_root_block};
-ghost use Rattle.area_reader.specs.Store.{disk};
-ghost use Rattle.area_reader.specs.Looks.{Looks};
-ghost use Rattle.area_reader.specs.declared.error.AreaError.TheVariants.{DeviceFault, Memory};
+ghost use Rattle.area_commit.specs.layout.Slot.{is_root_block};
+ghost use Rattle.area_commit.specs.area_reader.Store.{disk};
+ghost use Rattle.area_commit.specs.area_reader.Looks.{Looks};
+ghost use Rattle.area_commit.specs.area_reader.declared.error.AreaError.TheVariants.{DeviceFault, Memory};
 ghost use Rattle.inode_plan.specs.Blocks.{AreNodeBlocks};
 ghost use Rattle.inode_plan.specs.DirectoryStart.{HoldPlaces};
 
-use area_reader::{AreaError, blank_block, read_block};
-use batch_journal::Journal;
-use layout::BLOCK;
+use area_commit::in_area_reader::{AreaError, blank_block, read_block};
+use area_commit::in_batch_journal::Journal;
+use area_commit::in_layout::BLOCK;
 use std::alloc::Global;
 use tier_device::{Media, Tier};
 

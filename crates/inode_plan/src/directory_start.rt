@@ -1,23 +1,23 @@
 // A directory that a change starts from.
 ghost use Rattle.std.specs.Prelude.{◌≡◌, ◌<◌, ◌⊎◌, [], true, false, IfOk, IfErr};
-ghost use Rattle.layout.specs.Places.{Sizes, is_inode};
-ghost use Rattle.file_graph.specs.declared.effect.Kind.TheVariants as kind;
-ghost use Rattle.graph_change.specs.Net.{Kept, Made};
-ghost use Rattle.tree_blocks.specs.Inode.{inode_of};
-ghost use Rattle.tree_blocks.specs.Directory.{IsHeld};
-ghost use Rattle.area_reader.specs.Store.{Store, disk, length_of};
-ghost use Rattle.area_reader.specs.Looks.{Looks};
-ghost use Rattle.area_reader.specs.declared.error.AreaError.TheVariants.{DeviceFault, Memory};
+ghost use Rattle.area_commit.specs.layout.Places.{Sizes, is_inode};
+ghost use Rattle.area_commit.specs.file_graph.declared.effect.Kind.TheVariants as kind;
+ghost use Rattle.area_commit.specs.graph_change.Net.{Kept, Made};
+ghost use Rattle.area_commit.specs.tree_blocks.Inode.{inode_of};
+ghost use Rattle.area_commit.specs.tree_blocks.Directory.{IsHeld};
+ghost use Rattle.area_commit.specs.area_reader.Store.{Store, disk, length_of};
+ghost use Rattle.area_commit.specs.area_reader.Looks.{Looks};
+ghost use Rattle.area_commit.specs.area_reader.declared.error.AreaError.TheVariants.{DeviceFault, Memory};
 ghost use Rattle.inode_plan.specs.DirectoryStart.{AreDirectoryParts, IsStarted, IsSoundStart};
 
 use crate::blocks::{DirectoryBlocks, directory_blocks};
 use crate::directory_reads::{read_places, read_root};
-use area_reader::{AreaError, InodeParts, blank_block};
-use batch_journal::Journal;
-use layout::{BLOCK, Slot};
+use area_commit::in_area_reader::{AreaError, InodeParts, blank_block};
+use area_commit::in_batch_journal::Journal;
+use area_commit::in_layout::{BLOCK, Slot};
+use area_commit::in_tree_blocks::Directory;
 use std::alloc::Global;
 use tier_device::Media;
-use tree_blocks::Directory;
 
 /// A directory that a change starts from: how many names it has, its entries in their blocks, the blocks of the medium that it has, and what stands in the one that lists them.
 #[derive(Drop)]

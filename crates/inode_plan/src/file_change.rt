@@ -1,24 +1,24 @@
 // The bytes that the written blocks of a file get.
 ghost use Rattle.std.specs.Prelude.{◌≡◌, ◌⊎◌, ◌++◌, ◌*◌, ◌+◌, ◌-◌, ◌<◌, ◌≤◌, ◌^◌, ℕ, List, length, take, drop, replicate, true, false, OnOk, OnErr, IfErr, IfSome, option_map};
-ghost use Rattle.layout.specs.declared.places.TheConstants.{BLOCK};
-ghost use Rattle.area_reader.specs.Store.{disk, logical_block};
-ghost use Rattle.area_reader.specs.Checks.{HasFound, IsOnce};
-ghost use Rattle.area_reader.specs.Looks.{Looks};
-ghost use Rattle.area_reader.specs.declared.error.AreaError.TheVariants.{DeviceFault, Memory};
-ghost use Rattle.graph_change.specs.Change.{IsWhole};
-ghost use Rattle.graph_change.specs.View.{change_of, new_length};
-ghost use Rattle.tree_blocks.specs.Inode.{LogicalBlocks};
-ghost use Rattle.tree_blocks.specs.FileBlock.{put_in, is_cut_off, ReadSame};
+ghost use Rattle.area_commit.specs.layout.declared.places.TheConstants.{BLOCK};
+ghost use Rattle.area_commit.specs.area_reader.Store.{disk, logical_block};
+ghost use Rattle.area_commit.specs.area_reader.Checks.{HasFound, IsOnce};
+ghost use Rattle.area_commit.specs.area_reader.Looks.{Looks};
+ghost use Rattle.area_commit.specs.area_reader.declared.error.AreaError.TheVariants.{DeviceFault, Memory};
+ghost use Rattle.area_commit.specs.graph_change.Change.{IsWhole};
+ghost use Rattle.area_commit.specs.graph_change.View.{change_of, new_length};
+ghost use Rattle.area_commit.specs.tree_blocks.Inode.{LogicalBlocks};
+ghost use Rattle.area_commit.specs.tree_blocks.FileBlock.{put_in, is_cut_off, ReadSame};
 ghost use Rattle.inode_plan.specs.Bytes.{IsBlockAfter, AddsBlocks, GoesOn, blocks_from};
 
 use crate::file_cut::is_cut_off;
-use area_reader::{AreaError, InodeExtents, block_number, first_place, read_block};
-use batch_journal::Journal;
-use graph_change::{BlockChange, NodeChange, NodeLength};
-use layout::BLOCK;
+use area_commit::in_area_reader::{AreaError, InodeExtents, block_number, first_place, read_block};
+use area_commit::in_batch_journal::Journal;
+use area_commit::in_graph_change::{BlockChange, NodeChange, NodeLength};
+use area_commit::in_layout::BLOCK;
+use area_commit::in_tree_blocks::change_block;
 use std::alloc::AllocError;
 use tier_device::Media;
-use tree_blocks::change_block;
 
 // A logical block of an inode: zeros where no tier maps it.
 fn read_logical<M: Media>(

@@ -1,15 +1,15 @@
 // The blocks of a file that a change cuts off.
 ghost use Rattle.std.specs.Prelude.{◌≡◌, ◌≤◌, ◌*◌, ◌-◌, ◌^◌, ◌<◌, ℕ, nat_le, OnOk};
 ghost use Rattle.posix_calls.specs.declared.limits.TheConstants.{MAX_FILE};
-ghost use Rattle.layout.specs.declared.places.TheConstants.{BLOCK, FILE_BLOCKS};
-ghost use Rattle.graph_change.specs.Bytes.{IsOrdered, end};
-ghost use Rattle.graph_change.specs.View.{new_length};
-ghost use Rattle.tree_blocks.specs.FileBlock.{is_cut_off};
+ghost use Rattle.area_commit.specs.layout.declared.places.TheConstants.{BLOCK, FILE_BLOCKS};
+ghost use Rattle.area_commit.specs.graph_change.Bytes.{IsOrdered, end};
+ghost use Rattle.area_commit.specs.graph_change.View.{new_length};
+ghost use Rattle.area_commit.specs.tree_blocks.FileBlock.{is_cut_off};
 ghost use Rattle.inode_plan.specs.MapChange.{IsCutBy};
 
-use extent_tree::BlockMap;
-use graph_change::NodeLength;
-use layout::{BLOCK, FILE_BLOCKS};
+use area_commit::in_extent_tree::BlockMap;
+use area_commit::in_graph_change::NodeLength;
+use area_commit::in_layout::{BLOCK, FILE_BLOCKS};
 use std::alloc::AllocError;
 
 // How many blocks begin before an end.

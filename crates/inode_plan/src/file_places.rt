@@ -2,18 +2,18 @@
 ghost use Rattle.std.specs.Prelude.{◌≡◌, ◌<◌, ◌≤◌, ◌+◌, ◌^◌, ℕ, length, OnOk, IsTrue};
 ghost use Rattle.posix_calls.specs.declared.limits.TheConstants.{MAX_FILE};
 ghost use Rattle.block_alloc.specs.Runs.{Rising};
-ghost use Rattle.extent_tree.specs.Map.{ArePut, lies_at};
-ghost use Rattle.graph_change.specs.Bytes.{end};
-ghost use Rattle.graph_change.specs.Tidy.{IsTidyChange};
-ghost use Rattle.graph_change.specs.View.{change_of};
+ghost use Rattle.area_commit.specs.extent_tree.Map.{ArePut, lies_at};
+ghost use Rattle.area_commit.specs.graph_change.Bytes.{end};
+ghost use Rattle.area_commit.specs.graph_change.Tidy.{IsTidyChange};
+ghost use Rattle.area_commit.specs.graph_change.View.{change_of};
 ghost use Rattle.inode_plan.specs.PlacedFile.{CanBePlaced, GoOn, LiesBehind, NumbersArePlaced, PlacesFit};
 ghost use Rattle.inode_plan.specs.BlockWrites.{AreNumbers};
 ghost use Rattle.inode_plan.specs.MapChange.{IsMapAfter};
 
 use crate::file_cut::cut_map;
+use area_commit::in_extent_tree::{BlockMap, Place};
+use area_commit::in_graph_change::NodeChange;
 use block_alloc::Run;
-use extent_tree::{BlockMap, Place};
-use graph_change::NodeChange;
 use std::alloc::AllocError;
 
 // Puts the blocks of these numbers, which rise, to places: each to its own, wherever it lay before. Those that follow one another, in numbers and in places, go at once.

@@ -2,24 +2,24 @@
 ghost use Rattle.std.specs.Prelude.{◌≡◌, ◌≤◌, ◌++◌, ◌∷◌, [], ℕ, Some, OnOk, IfOk};
 ghost use Rattle.std.specs.List.{AllByRecursion};
 ghost use Rattle.posix_calls.specs.declared.limits.TheConstants.{MAX_FILE};
-ghost use Rattle.layout.specs.declared.places.TheConstants.{FILE_BLOCKS};
+ghost use Rattle.area_commit.specs.layout.declared.places.TheConstants.{FILE_BLOCKS};
 ghost use Rattle.block_alloc.specs.Runs.{blocks_of};
 ghost use Rattle.block_alloc.specs.Value.{FreeBlocks};
-ghost use Rattle.extent_tree.specs.BlockFormat.{IsOneToOne};
-ghost use Rattle.extent_tree.specs.Map.{runs_in, lies_at, LieBelow, HasBlock};
-ghost use Rattle.graph_change.specs.Bytes.{end};
-ghost use Rattle.graph_change.specs.Tidy.{IsTidyChange};
-ghost use Rattle.graph_change.specs.View.{change_of};
+ghost use Rattle.area_commit.specs.extent_tree.BlockFormat.{IsOneToOne};
+ghost use Rattle.area_commit.specs.extent_tree.Map.{runs_in, lies_at, LieBelow, HasBlock};
+ghost use Rattle.area_commit.specs.graph_change.Bytes.{end};
+ghost use Rattle.area_commit.specs.graph_change.Tidy.{IsTidyChange};
+ghost use Rattle.area_commit.specs.graph_change.View.{change_of};
 ghost use Rattle.area_commit.specs.Release.{AreUsed, IsInUse};
 ghost use Rattle.inode_plan.specs.BlockWrites.{AreNumbers};
 ghost use Rattle.inode_plan.specs.MapChange.{AreLeft, AreAll, places_below};
 
 use crate::file_cut::first_cut;
 use crate::places_in;
+use area_commit::in_extent_tree::BlockMap;
+use area_commit::in_graph_change::NodeChange;
+use area_commit::in_layout::FILE_BLOCKS;
 use block_alloc::Run;
-use extent_tree::BlockMap;
-use graph_change::NodeChange;
-use layout::FILE_BLOCKS;
 use std::alloc::{AllocError, Global};
 use tier_device::Tier;
 

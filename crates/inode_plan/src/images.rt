@@ -1,17 +1,17 @@
 // The images of a changed directory's blocks.
 ghost use Rattle.std.specs.Prelude.{◌≡◌, ◌≤◌, ◌<◌, ◌+◌, true, length, OnOk};
 ghost use Rattle.std.specs.List.{All};
-ghost use Rattle.layout.specs.Places.{Sizes};
-ghost use Rattle.layout.specs.Slot.{is_root_block};
-ghost use Rattle.layout.specs.declared.extents.TheConstants.{MAX_EXTENTS};
-ghost use Rattle.layout.specs.declared.places.TheConstants.{BLOCK};
+ghost use Rattle.area_commit.specs.layout.Places.{Sizes};
+ghost use Rattle.area_commit.specs.layout.Slot.{is_root_block};
+ghost use Rattle.area_commit.specs.layout.declared.extents.TheConstants.{MAX_EXTENTS};
+ghost use Rattle.area_commit.specs.layout.declared.places.TheConstants.{BLOCK};
 ghost use Rattle.area_commit.specs.Batches.{AreNodes};
 ghost use Rattle.inode_plan.specs.Blocks.{HaveOwnPlaces, AreNodeBlocks};
 ghost use Rattle.inode_plan.specs.PlannedDirectory.{HaveImages, HasListImage};
 
 use area_commit::NodeImages;
-use area_reader::blank_block;
-use layout::{BLOCK, ExtentBlock};
+use area_commit::in_area_reader::blank_block;
+use area_commit::in_layout::{BLOCK, ExtentBlock};
 use std::alloc::AllocError;
 
 /// Puts the images of the blocks that were written, each for the place where it lies.

@@ -59,3 +59,10 @@ pub use place_list::taken_places;
 pub use plan::{DirectoryPlan, plan_directory};
 pub use run_places::put_runs;
 pub use slot_change::{roots_wanted, slot_after};
+
+// Handed on to the crates above, which list only the highest of what they name.
+pub use area_commit as in_area_commit;
+pub use area_commit::{
+    in_area_reader, in_batch_journal, in_extent_tree, in_file_graph, in_graph_change, in_layout,
+    in_tree_blocks,
+};

@@ -2,13 +2,13 @@
 ghost use Rattle.std.specs.Prelude.{◌≡◌, ◌≤◌, ◌<◌, ◌+◌, ◌^◌, ◌++◌, length, OnOk, IfOk};
 ghost use Rattle.std.specs.List.{AllByRecursion};
 ghost use Rattle.block_alloc.specs.Runs.{blocks_of};
-ghost use Rattle.extent_tree.specs.Map.{runs_in, places_of, HasBlock};
+ghost use Rattle.area_commit.specs.extent_tree.Map.{runs_in, places_of, HasBlock};
 ghost use Rattle.inode_plan.specs.Lists.{root_left, roots_left};
 
-use area_reader::root_of;
+use area_commit::in_area_reader::root_of;
+use area_commit::in_extent_tree::BlockMap;
+use area_commit::in_layout::Slot;
 use block_alloc::Run;
-use extent_tree::BlockMap;
-use layout::Slot;
 use std::alloc::{AllocError, Global};
 use tier_device::Tier;
 

@@ -1,15 +1,15 @@
 // Which extent blocks an inode has for new extents.
 ghost use Rattle.std.specs.Prelude.{◌≡◌, [], Some, true};
-ghost use Rattle.file_graph.specs.declared.effect.Kind.TheVariants as kind;
+ghost use Rattle.area_commit.specs.file_graph.declared.effect.Kind.TheVariants as kind;
 ghost use Rattle.tier_device.specs.declared.media.Tier.{Tier};
-ghost use Rattle.layout.specs.Places.{Sizes};
-ghost use Rattle.layout.specs.Slot.{fits_slot};
-ghost use Rattle.tree_blocks.specs.Inode.{LogicalBlocks, inode_of};
-ghost use Rattle.area_reader.specs.Store.{touch_of, length_of, space_of};
+ghost use Rattle.area_commit.specs.layout.Places.{Sizes};
+ghost use Rattle.area_commit.specs.layout.Slot.{fits_slot};
+ghost use Rattle.area_commit.specs.tree_blocks.Inode.{LogicalBlocks, inode_of};
+ghost use Rattle.area_commit.specs.area_reader.Store.{touch_of, length_of, space_of};
 ghost use Rattle.inode_plan.specs.Lists.{root_for, HasRoots, SpareFits};
 
-use area_reader::InodeExtents;
-use layout::{ExtentBlock, Slot};
+use area_commit::in_area_reader::InodeExtents;
+use area_commit::in_layout::{ExtentBlock, Slot};
 
 /// The root of a tier for new extents there: none where there are none, else the old one, or the spare one where there was none.
 pub fn root_for(old: u32, list: &Option<ExtentBlock>, spare: u32) -> u32

@@ -5,16 +5,16 @@ ghost use Rattle.std.specs.Ordering.{nat_cmp};
 ghost use Rattle.std.specs.BTreeMap.{get};
 ghost use Rattle.std.specs.FinMap as fin;
 ghost use Rattle.tier_device.specs.declared.media.Tier.{Tier};
-ghost use Rattle.layout.specs.declared.places.TheConstants.{FILE_BLOCKS};
-ghost use Rattle.graph_change.specs.Change.{cuts_within};
-ghost use Rattle.graph_change.specs.View.{change_of, new_length};
-ghost use Rattle.extent_tree.specs.Map.{lies_at, LieBelow};
+ghost use Rattle.area_commit.specs.layout.declared.places.TheConstants.{FILE_BLOCKS};
+ghost use Rattle.area_commit.specs.graph_change.Change.{cuts_within};
+ghost use Rattle.area_commit.specs.graph_change.View.{change_of, new_length};
+ghost use Rattle.area_commit.specs.extent_tree.Map.{lies_at, LieBelow};
 ghost use Rattle.area_commit.specs.InodeChange.{is_mapped, writes_over};
 ghost use Rattle.inode_plan.specs.BlockWrites.{AreNumbers, AreKeys, Rise, HasOneMore};
 
-use extent_tree::BlockMap;
-use graph_change::{BlockChange, NodeChange, NodeLength};
-use layout::{BLOCK, FILE_BLOCKS};
+use area_commit::in_extent_tree::BlockMap;
+use area_commit::in_graph_change::{BlockChange, NodeChange, NodeLength};
+use area_commit::in_layout::{BLOCK, FILE_BLOCKS};
 use std::alloc::{AllocError, Global};
 use std::collections::BTreeMap;
 

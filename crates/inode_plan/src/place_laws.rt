@@ -3,15 +3,15 @@
 ghost use Rattle.std.specs.Prelude.{◌≡◌, ◌≢◌, ◌≤◌, ◌+◌, ℕ, List, Some, length, true};
 ghost use Rattle.std.specs.List.{Contains, AllByRecursion};
 ghost use Rattle.tier_device.specs.declared.media.Tier.{Tier};
-ghost use Rattle.layout.specs.declared.geometry.Space.{Space};
-ghost use Rattle.layout.specs.Places.{Sizes, blocks_in, is_run};
+ghost use Rattle.area_commit.specs.layout.declared.geometry.Space.{Space};
+ghost use Rattle.area_commit.specs.layout.Places.{Sizes, blocks_in, is_run};
 ghost use Rattle.block_alloc.specs.Runs.{Rising, blocks_of};
-ghost use Rattle.extent_tree.specs.BlockFormat.{LiesWithin, IsOneToOne};
-ghost use Rattle.extent_tree.specs.Map.{TierRuns, runs_in, lies_at, LieOnce, LieBelow, places_of, HasBlock};
+ghost use Rattle.area_commit.specs.extent_tree.BlockFormat.{LiesWithin, IsOneToOne};
+ghost use Rattle.area_commit.specs.extent_tree.Map.{TierRuns, runs_in, lies_at, LieOnce, LieBelow, places_of, HasBlock};
 ghost use Rattle.block_alloc.specs.declared.runs.Run.{Run};
 ghost use Rattle.block_alloc.specs.Value.{FreeBlocks};
-ghost use Rattle.layout.specs.declared.extents.Extent.{Extent};
-ghost use Rattle.extent_tree.specs.Places.{place_of};
+ghost use Rattle.area_commit.specs.layout.declared.extents.Extent.{Extent};
+ghost use Rattle.area_commit.specs.extent_tree.Places.{place_of};
 ghost use Rattle.area_commit.specs.Release.{AreUsed, IsInUse};
 ghost use Rattle.inode_plan.specs.RunPlaces.{ArePlaced};
 

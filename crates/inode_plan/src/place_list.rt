@@ -8,8 +8,8 @@ ghost use Rattle.inode_plan.specs.RunPlaces.{EndsFit};
 ghost use Rattle.inode_plan.specs.PlannedFile.{pairs_of};
 
 use area_commit::Allocation;
+use area_commit::in_extent_tree::Place;
 use block_alloc::Run;
-use extent_tree::Place;
 use std::alloc::{AllocError, Global};
 use tier_device::Tier;
 

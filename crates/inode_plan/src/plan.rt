@@ -1,7 +1,7 @@
 // What is to be written of a changed directory.
 ghost use Rattle.std.specs.Prelude.{◌≡◌, ◌≤◌, ◌+◌, map, length, IfOk, OnOk};
 ghost use Rattle.inode_plan.specs.Blocks.{lost_blocks, one_block};
-ghost use Rattle.layout.specs.Places.{Sizes, IsAllowed};
+ghost use Rattle.area_commit.specs.layout.Places.{Sizes, IsAllowed};
 ghost use Rattle.area_commit.specs.Batches.{AreNodes};
 ghost use Rattle.inode_plan.specs.Spare.{CanBeWritten, AreSpares};
 ghost use Rattle.inode_plan.specs.PlannedDirectory.{IsPlanned};
@@ -11,8 +11,8 @@ use crate::directory_places::{places_after, root_after, runs_of};
 use crate::directory_release::give_up;
 use crate::images::{put_list, put_written};
 use area_commit::NodeImages;
+use area_commit::in_layout::{ExtentBlock, Slot};
 use block_alloc::Run;
-use layout::{ExtentBlock, Slot};
 use std::alloc::{AllocError, Global};
 
 /// What is to be written of a changed directory, and what becomes of its blocks: its new slot, where its blocks lie then, the list of that, and the blocks of the node pool that it

@@ -3,8 +3,8 @@ ghost use Rattle.std.specs.Prelude.{◌≡◌, ◌+◌, ◌<◌, ◌^◌, length
 ghost use Rattle.block_alloc.specs.Runs.{blocks_of};
 ghost use Rattle.inode_plan.specs.RunPlaces.{ArePlaced, EndsFit};
 
+use area_commit::in_extent_tree::BlockMap;
 use block_alloc::Run;
-use extent_tree::BlockMap;
 use std::alloc::AllocError;
 use tier_device::Tier;
 

@@ -1,21 +1,21 @@
 // The slot of a file after a change of it.
 ghost use Rattle.std.specs.Prelude.{◌≡◌, ◌≤◌, ◌+◌, true, ℕ, length, get_or};
-ghost use Rattle.layout.specs.Places.{Sizes};
-ghost use Rattle.layout.specs.Slot.{fits_slot};
-ghost use Rattle.graph_change.specs.Bounds.{IsBounded};
-ghost use Rattle.graph_change.specs.Bytes.{length_after};
-ghost use Rattle.graph_change.specs.Net.{names_after};
-ghost use Rattle.graph_change.specs.View.{base_of, new_length, change_of};
-ghost use Rattle.tree_blocks.specs.Inode.{LogicalBlocks, inode_of};
-ghost use Rattle.tree_blocks.specs.After.{start_node};
-ghost use Rattle.area_reader.specs.Store.{touch_of};
+ghost use Rattle.area_commit.specs.layout.Places.{Sizes};
+ghost use Rattle.area_commit.specs.layout.Slot.{fits_slot};
+ghost use Rattle.area_commit.specs.graph_change.Bounds.{IsBounded};
+ghost use Rattle.area_commit.specs.graph_change.Bytes.{length_after};
+ghost use Rattle.area_commit.specs.graph_change.Net.{names_after};
+ghost use Rattle.area_commit.specs.graph_change.View.{base_of, new_length, change_of};
+ghost use Rattle.area_commit.specs.tree_blocks.Inode.{LogicalBlocks, inode_of};
+ghost use Rattle.area_commit.specs.tree_blocks.After.{start_node};
+ghost use Rattle.area_commit.specs.area_reader.Store.{touch_of};
 ghost use Rattle.area_commit.specs.InodeChange.{IsFileSlot};
 ghost use Rattle.inode_plan.specs.Lists.{root_for};
 ghost use Rattle.inode_plan.specs.Roots.{missing_roots, roots_wanted, HasRootsOf, SparesFit};
 
-use area_reader::{InodeExtents, root_of};
-use graph_change::{NodeBase, NodeChange};
-use layout::{ExtentBlock, Slot};
+use area_commit::in_area_reader::{InodeExtents, root_of};
+use area_commit::in_graph_change::{NodeBase, NodeChange};
+use area_commit::in_layout::{ExtentBlock, Slot};
 use tier_device::Tier;
 
 // How many spare blocks a tier wants that has this root.

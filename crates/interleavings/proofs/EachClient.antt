@@ -4,7 +4,7 @@ use Rattle.std.specs.Prelude.{nat_le, slice_get}
 use Rattle.std.proofs.lemmas.Bool.{and_parts}
 use Rattle.std.proofs.lemmas.Bool.Decides.{eqb_tells, nat_tests}
 use Rattle.posix_calls.specs.Operations.{is_client}
-use Rattle.event_steps.specs.View.{SystemView}
+use Rattle.system_laws.specs.event_steps.View.{SystemView}
 use Rattle.system_laws.specs.Leaves.{HasMetAll, HaveMet}
 
 pub at_least : (c : ℕ) → is_client c ≡ true → 1 ≤ c

@@ -7,23 +7,23 @@ use Rattle.tier_device.specs.AfterStop.{Left}
 use Rattle.posix_calls.specs.Operations.{is_client}
 use Rattle.posix_calls.specs.Tree.{State}
 use Rattle.posix_calls.specs.declared.limits.TheConstants.{MAX_CLIENTS}
-use Rattle.call_effects.specs.Wholes.{state_of}
-use Rattle.batch_journal.specs.Course.{Unmoved}
-use Rattle.area_reader.specs.Looks.{Looks}
-use Rattle.area_reader.specs.Store.{Store, disk, graph, marks, store_of}
-use Rattle.area_reader.specs.declared.error.AreaError.{AreaError}
-use Rattle.kernel_fs.specs.Book.{Accounts, IsBookOf}
-use Rattle.kernel_fs.specs.KernelAnswers.{Answers}
-use Rattle.kernel_fs.specs.KernelView.{KernelView}
-use Rattle.kernel_fs.specs.MachineState.{IsKernelOf}
-use Rattle.kernel_fs.specs.declared.error.KernelError.{KernelError}
-use Rattle.layout.specs.Places.{Sizes}
-use Rattle.layout.specs.declared.marks.Marks.{Marks}
-use Rattle.world_invariant.specs.Logs.{after_clients}
-use Rattle.world_invariant.specs.Machine.{Machine}
-use Rattle.world_invariant.specs.World.{World}
-use Rattle.event_steps.specs.View.{SeatView, SystemView}
-use Rattle.event_lists.specs.Courses.{Content}
+use Rattle.system_laws.specs.call_effects.Wholes.{state_of}
+use Rattle.system_laws.specs.batch_journal.Course.{Unmoved}
+use Rattle.system_laws.specs.area_reader.Looks.{Looks}
+use Rattle.system_laws.specs.area_reader.Store.{Store, disk, graph, marks, store_of}
+use Rattle.system_laws.specs.area_reader.declared.error.AreaError.{AreaError}
+use Rattle.system_laws.specs.kernel_fs.Book.{Accounts, IsBookOf}
+use Rattle.system_laws.specs.kernel_fs.KernelAnswers.{Answers}
+use Rattle.system_laws.specs.kernel_fs.KernelView.{KernelView}
+use Rattle.system_laws.specs.kernel_fs.MachineState.{IsKernelOf}
+use Rattle.system_laws.specs.kernel_fs.declared.error.KernelError.{KernelError}
+use Rattle.system_laws.specs.layout.Places.{Sizes}
+use Rattle.system_laws.specs.layout.declared.marks.Marks.{Marks}
+use Rattle.system_laws.specs.world_invariant.Logs.{after_clients}
+use Rattle.system_laws.specs.world_invariant.Machine.{Machine}
+use Rattle.system_laws.specs.world_invariant.World.{World}
+use Rattle.system_laws.specs.event_steps.View.{SeatView, SystemView}
+use Rattle.system_laws.specs.event_lists.Courses.{Content}
 use Rattle.system_laws.specs.Contents.{mark_by}
 use Rattle.system_laws.specs.Leaves.{KernelLeaves}
 use Rattle.system_laws.specs.Relation.{Cut, IsWorld, IsWorldOf, SpellsShared, machine_of}

@@ -7,14 +7,14 @@ use Rattle.std.specs.Prelude.{Result, Ok, Err, OnOk}
 use Rattle.std.specs.FinMap as fin
 use Rattle.std.specs.Cmp.Lexicographic.{nat_list_cmp_total}
 use Rattle.posix_calls.specs.Content.{Entries, with_bytes}
-use Rattle.file_graph.specs.Graph.{Graph, Node, DirBody, FileBody, after_effect, after_effects, empty_body, is_among, set_node, subject_after, subjects}
-use Rattle.file_graph.specs.declared.effect.Kind.{Kind}
-use Rattle.file_graph.specs.declared.effect.Effect.{Effect}
-use Rattle.file_graph.specs.declared.effect.Effect.TheVariants as effect
-use Rattle.file_graph.specs.Plain.{PlainEntry, pairs}
-use Rattle.log_record.specs.declared.format.Record.{Record}
+use Rattle.system_laws.specs.file_graph.Graph.{Graph, Node, DirBody, FileBody, after_effect, after_effects, empty_body, is_among, set_node, subject_after, subjects}
+use Rattle.system_laws.specs.file_graph.declared.effect.Kind.{Kind}
+use Rattle.system_laws.specs.file_graph.declared.effect.Effect.{Effect}
+use Rattle.system_laws.specs.file_graph.declared.effect.Effect.TheVariants as effect
+use Rattle.system_laws.specs.file_graph.Plain.{PlainEntry, pairs}
+use Rattle.system_laws.specs.log_record.declared.format.Record.{Record}
 use Rattle.interleavings.specs.Snapshots.{entries_put}
-use Rattle.world_invariant.specs.Logs.{after_records}
+use Rattle.system_laws.specs.world_invariant.Logs.{after_records}
 
 flipped : (i j : ℕ) → (i == j) ≡ (j == i)
 flipped i j = elim (eqb_tells i j) [

@@ -2,13 +2,13 @@
 use Rattle.std.proofs.Common.{◌≡◌, ◌≢◌, List, Option, subst, sym}
 use Rattle.tier_device.specs.declared.media.Media.{Ghosts}
 use Rattle.posix_calls.specs.declared.call.Call.{Call}
-use Rattle.event_steps.specs.Effects.{Carries, Plays}
-use Rattle.event_steps.specs.Turns.{CanPlay}
-use Rattle.event_steps.specs.View.{SystemView}
-use Rattle.event_steps.specs.declared.event.Event.{Event}
-use Rattle.event_steps.specs.declared.outcome.Outcome.{Outcome}
-use Rattle.event_steps.specs.declared.outcome.Outcome.TheVariants as outcomes
-use Rattle.event_steps.specs.declared.outcome.Refusal.TheVariants as refusals
+use Rattle.system_laws.specs.event_steps.Effects.{Carries, Plays}
+use Rattle.system_laws.specs.event_steps.Turns.{CanPlay}
+use Rattle.system_laws.specs.event_steps.View.{SystemView}
+use Rattle.system_laws.specs.event_steps.declared.event.Event.{Event}
+use Rattle.system_laws.specs.event_steps.declared.outcome.Outcome.{Outcome}
+use Rattle.system_laws.specs.event_steps.declared.outcome.Outcome.TheVariants as outcomes
+use Rattle.system_laws.specs.event_steps.declared.outcome.Refusal.TheVariants as refusals
 use Rattle.system_laws.specs.Leaves.{HasMetIn, HoldRecords, IsSettledIn, SystemLeaves}
 use Rattle.system_laws.specs.KeptCalls.{calls_then}
 use Rattle.system_laws.specs.Relation.{IsWorld}

@@ -1,8 +1,8 @@
 -- An event moves one part at most.
 use Rattle.std.proofs.Common.{◌≡◌, ℕ, ◌≤◌, arith}
-use Rattle.event_lists.specs.Courses.{MovesOne, Reading, part_of}
-use Rattle.event_steps.specs.declared.event.Event.{Event}
-use Rattle.event_steps.specs.declared.event.Event.TheVariants as event
+use Rattle.system_laws.specs.event_lists.Courses.{MovesOne, Reading, part_of}
+use Rattle.system_laws.specs.event_steps.declared.event.Event.{Event}
+use Rattle.system_laws.specs.event_steps.declared.event.Event.TheVariants as event
 use Rattle.system_laws.specs.Moves.{EventMoves, MovesRegion, Stand}
 
 none_moves : (old new : Reading) → Stand old new → MovesOne old new

@@ -7,29 +7,29 @@ use Rattle.tier_device.specs.declared.media.Media.{Ghosts}
 use Rattle.tier_device.specs.Media.{Rose}
 use Rattle.posix_calls.specs.Operations.{is_client}
 use Rattle.posix_calls.specs.declared.limits.TheConstants.{MAX_CLIENTS}
-use Rattle.batch_journal.specs.Course.{Unmoved}
-use Rattle.area_reader.specs.Looks.{Looks}
-use Rattle.area_reader.specs.Store.{Store, disk, graph, marks}
-use Rattle.area_reader.specs.declared.error.AreaError.{AreaError}
-use Rattle.area_reader.specs.declared.error.AreaError.TheVariants as errors
-use Rattle.shared_area.specs.Parts.{IsNoDamage}
-use Rattle.kernel_fs.specs.KernelAnswers.{Answers, OnRefusal, kernel_answer}
-use Rattle.kernel_fs.specs.KernelView.{KernelView}
-use Rattle.kernel_fs.specs.declared.error.KernelError.{KernelError}
-use Rattle.kernel_fs.specs.declared.error.KernelError.TheVariants as why
-use Rattle.layout.specs.Places.{Sizes}
-use Rattle.layout.specs.declared.marks.Marks.{Marks}
-use Rattle.file_graph.specs.Graph.{Graph, after_effects, fresh, set_node}
-use Rattle.log_record.specs.declared.format.Record.{Record}
-use Rattle.world_invariant.specs.Limits.{AreWithin, IsWithin}
-use Rattle.world_invariant.specs.Logs.{after_clients, after_records}
-use Rattle.event_steps.specs.View.{HasSeat, SeatView, SystemView, done_of, seat_of}
+use Rattle.system_laws.specs.batch_journal.Course.{Unmoved}
+use Rattle.system_laws.specs.area_reader.Looks.{Looks}
+use Rattle.system_laws.specs.area_reader.Store.{Store, disk, graph, marks}
+use Rattle.system_laws.specs.area_reader.declared.error.AreaError.{AreaError}
+use Rattle.system_laws.specs.area_reader.declared.error.AreaError.TheVariants as errors
+use Rattle.system_laws.specs.shared_area.Parts.{IsNoDamage}
+use Rattle.system_laws.specs.kernel_fs.KernelAnswers.{Answers, OnRefusal, kernel_answer}
+use Rattle.system_laws.specs.kernel_fs.KernelView.{KernelView}
+use Rattle.system_laws.specs.kernel_fs.declared.error.KernelError.{KernelError}
+use Rattle.system_laws.specs.kernel_fs.declared.error.KernelError.TheVariants as why
+use Rattle.system_laws.specs.layout.Places.{Sizes}
+use Rattle.system_laws.specs.layout.declared.marks.Marks.{Marks}
+use Rattle.system_laws.specs.file_graph.Graph.{Graph, after_effects, fresh, set_node}
+use Rattle.system_laws.specs.log_record.declared.format.Record.{Record}
+use Rattle.system_laws.specs.world_invariant.Limits.{AreWithin, IsWithin}
+use Rattle.system_laws.specs.world_invariant.Logs.{after_clients, after_records}
+use Rattle.system_laws.specs.event_steps.View.{HasSeat, SeatView, SystemView, done_of, seat_of}
 use Rattle.system_laws.specs.Contents.{mark_by}
 use Rattle.system_laws.specs.Leaves.{SystemLeaves}
 use Rattle.system_laws.specs.Relation.{IsWorld}
 use Rattle.system_laws.specs.WorldTree.{log_by, log_of, whole_graph, world_tree}
 use Rattle.system_laws.specs.WorldView.{WorldView}
-use Rattle.client_log.specs.View.{current_records}
+use Rattle.system_laws.specs.client_log.View.{current_records}
 use Rattle.system_laws.proofs.Seated.{own_mark}
 use Rattle.system_laws.proofs.Seats.{same_seat}
 use Rattle.system_laws.proofs.SpelledWorlds.{spelled_now}

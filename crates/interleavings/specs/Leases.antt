@@ -1,10 +1,10 @@
 -- How clients stand to inodes.
 use Rattle.std.specs.Prelude.{◌&&◌, ℕ, Option, Some, None, if◌then◌else◌, nat_le}
 use Rattle.posix_calls.specs.Operations.{is_client}
-use Rattle.lease_manager.specs.Passes.{lease_of}
-use Rattle.lease_manager.specs.declared.view.LeaseMode.{LeaseMode}
-use Rattle.lease_manager.specs.declared.view.LeaseMode.TheVariants.{Free}
-use Rattle.event_steps.specs.View.{SeatView, SystemView, seat_of}
+use Rattle.system_laws.specs.lease_manager.Passes.{lease_of}
+use Rattle.system_laws.specs.lease_manager.declared.view.LeaseMode.{LeaseMode}
+use Rattle.system_laws.specs.lease_manager.declared.view.LeaseMode.TheVariants.{Free}
+use Rattle.system_laws.specs.event_steps.View.{SeatView, SystemView, seat_of}
 
 -- the answer for a seat, and for none
 abbrev pub slot_value : {M A : Type 0} → A → (SeatView M → A) → Option (SeatView M) → A

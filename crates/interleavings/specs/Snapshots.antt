@@ -2,22 +2,22 @@
 use Rattle.std.specs.Prelude.{◌≡◌, ◌≤◌, ℕ, true, false, List, [], ◌∷◌, ◌++◌, drop, Option, Some, None, nat_le, ◌&&◌, if◌then◌else◌}
 use Rattle.tier_device.specs.declared.media.Media.{Ghosts}
 use Rattle.tier_device.specs.Media.{Rose}
-use Rattle.batch_journal.specs.Course.{Unmoved}
-use Rattle.area_reader.specs.Store.{disk, graph}
-use Rattle.area_reader.specs.declared.error.AreaError.{AreaError}
-use Rattle.area_reader.specs.declared.error.AreaError.TheVariants as errors
-use Rattle.shared_area.specs.Parts.{IsNoDamage}
-use Rattle.call_effects.specs.NodeView.{DirView, FileView, NodeView}
-use Rattle.kernel_fs.specs.KernelAnswers.{OnRefusal}
-use Rattle.kernel_fs.specs.declared.error.KernelError.{KernelError}
-use Rattle.kernel_fs.specs.declared.error.KernelError.TheVariants as why
-use Rattle.file_graph.specs.Graph.{Graph}
-use Rattle.file_graph.specs.declared.effect.Kind.{Kind}
-use Rattle.file_graph.specs.declared.effect.Effect.{Effect}
-use Rattle.file_graph.specs.declared.effect.Effect.TheVariants as effect
-use Rattle.log_record.specs.declared.format.Record.{Record}
-use Rattle.client_log.specs.View.{current_records}
-use Rattle.event_steps.specs.View.{SeatView, SystemView, done_of, seat_of}
+use Rattle.system_laws.specs.batch_journal.Course.{Unmoved}
+use Rattle.system_laws.specs.area_reader.Store.{disk, graph}
+use Rattle.system_laws.specs.area_reader.declared.error.AreaError.{AreaError}
+use Rattle.system_laws.specs.area_reader.declared.error.AreaError.TheVariants as errors
+use Rattle.system_laws.specs.shared_area.Parts.{IsNoDamage}
+use Rattle.system_laws.specs.call_effects.NodeView.{DirView, FileView, NodeView}
+use Rattle.system_laws.specs.kernel_fs.KernelAnswers.{OnRefusal}
+use Rattle.system_laws.specs.kernel_fs.declared.error.KernelError.{KernelError}
+use Rattle.system_laws.specs.kernel_fs.declared.error.KernelError.TheVariants as why
+use Rattle.system_laws.specs.file_graph.Graph.{Graph}
+use Rattle.system_laws.specs.file_graph.declared.effect.Kind.{Kind}
+use Rattle.system_laws.specs.file_graph.declared.effect.Effect.{Effect}
+use Rattle.system_laws.specs.file_graph.declared.effect.Effect.TheVariants as effect
+use Rattle.system_laws.specs.log_record.declared.format.Record.{Record}
+use Rattle.system_laws.specs.client_log.View.{current_records}
+use Rattle.system_laws.specs.event_steps.View.{SeatView, SystemView, done_of, seat_of}
 use Rattle.system_laws.specs.WorldView.{WorldView}
 
 -- a graph with the nodes of another at the inodes from 1 to n

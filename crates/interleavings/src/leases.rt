@@ -1,10 +1,10 @@
 //! What is known of leases before and behind an event, by the word that a client reads and its own pass.
 
 ghost use Rattle.std.specs.Prelude.{◌≡◌, ◌<◌};
-ghost use Rattle.lease_manager.specs.Words.{IsClient};
+ghost use Rattle.system_laws.specs.lease_manager.Words.{IsClient};
 ghost use Rattle.system_laws.specs.Leaves.{HasMetAll, HasMetIn, HaveMet, IsSettledAt, IsSettledIn};
 
-use event_steps::{Event, System};
+use system_laws::in_event_steps::{Event, System};
 use tier_device::Media;
 
 /// Has the client that takes a lease in an event meet each other one. It reads one word of the table of leases for each, and changes nothing.

@@ -20,3 +20,10 @@ mod world;
 pub use list::play;
 pub use queries::lease_in;
 pub use world::World;
+
+// Handed on to the crates above, which list only the highest of what they name.
+pub use system_laws as in_system_laws;
+pub use system_laws::{
+    in_area_reader, in_client_log, in_client_plan, in_event_lists, in_event_steps, in_kernel_fs,
+    in_layout, in_lease_manager, in_libfs, in_record_validation, in_shared_area, in_update_log,
+};

@@ -1,13 +1,13 @@
 //! Lists of events.
 
 ghost use Rattle.std.specs.Prelude.{◌≡◌, IfOk, OnErr};
-ghost use Rattle.event_lists.specs.Plays.{Plays};
+ghost use Rattle.system_laws.specs.event_lists.Plays.{Plays};
 ghost use Rattle.system_laws.specs.Steps.{recoverable};
 
 use crate::world::World;
-use event_lists::play_all;
-use event_steps::{Event, Outcome};
 use std::alloc::{AllocError, Global};
+use system_laws::in_event_lists::play_all;
+use system_laws::in_event_steps::{Event, Outcome};
 use tier_device::Media;
 
 /// Plays events, one after the other, and gives the outcome of each: the replies are those of one file tree, and whatever a stop leaves

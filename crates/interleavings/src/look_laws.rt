@@ -1,11 +1,11 @@
 //! A system whose kernel's shared medium was looked at.
 
 ghost use Rattle.std.specs.Prelude.{◌≡◌, Result};
-ghost use Rattle.event_steps.specs.View.{SystemView};
-ghost use Rattle.area_reader.specs.declared.error.AreaError.{AreaError};
-ghost use Rattle.area_reader.specs.Looks.{Looks};
-ghost use Rattle.kernel_fs.specs.KernelAnswers.{Answers};
-ghost use Rattle.kernel_fs.specs.declared.error.KernelError.{KernelError};
+ghost use Rattle.system_laws.specs.event_steps.View.{SystemView};
+ghost use Rattle.system_laws.specs.area_reader.declared.error.AreaError.{AreaError};
+ghost use Rattle.system_laws.specs.area_reader.Looks.{Looks};
+ghost use Rattle.system_laws.specs.kernel_fs.KernelAnswers.{Answers};
+ghost use Rattle.system_laws.specs.kernel_fs.declared.error.KernelError.{KernelError};
 ghost use Rattle.system_laws.specs.Leaves.{KernelLeaves};
 ghost use Rattle.system_laws.specs.Relation.{IsWorld};
 ghost use Rattle.system_laws.specs.WorldTree.{world_tree};

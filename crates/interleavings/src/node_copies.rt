@@ -1,17 +1,17 @@
 //! Nodes of a graph in memory, made what stands elsewhere.
 
 ghost use Rattle.std.specs.Prelude.{◌≡◌, Some, None, OnOk};
-ghost use Rattle.file_graph.specs.Graph.{DirBody, FileBody, after_effects, empty_body, graph_of, set_node};
+ghost use Rattle.system_laws.specs.file_graph.Graph.{DirBody, FileBody, after_effects, empty_body, graph_of, set_node};
 ghost use Rattle.std.specs.FinMap as fin;
-ghost use Rattle.record_validation.specs.NodeAnswers.{entries_of};
-ghost use Rattle.world_invariant.specs.Logs.{after_records};
+ghost use Rattle.system_laws.specs.record_validation.NodeAnswers.{entries_of};
+ghost use Rattle.system_laws.specs.world_invariant.Logs.{after_records};
 ghost use Rattle.interleavings.specs.Snapshots.{entries_put};
 
-use file_graph::{Effect, Kind, PlainGraph};
-use log_record::Record;
 use posix_calls::SharedBytes;
-use record_validation::NodeSummary;
 use std::alloc::{AllocError, Global};
+use system_laws::in_file_graph::{Effect, Kind, PlainGraph};
+use system_laws::in_log_record::Record;
+use system_laws::in_record_validation::NodeSummary;
 
 /// Makes an inode a file with `names` names and these bytes.
 pub(crate) fn put_file(

@@ -5,8 +5,8 @@ ghost use Rattle.std.specs.Prelude.{◌≡◌, List, Option};
 ghost use Rattle.posix_calls.specs.declared.call.Call.{Call};
 ghost use Rattle.system_laws.specs.KeptCalls.{calls_then, no_calls};
 
-use event_steps::{Event, Outcome};
 use std::marker::Model;
+use system_laws::in_event_steps::{Event, Outcome};
 
 /// Each client's call that is started and not answered. It has no bytes.
 #[derive(Drop)]

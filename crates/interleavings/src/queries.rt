@@ -2,31 +2,31 @@
 
 ghost use Rattle.std.specs.Prelude.{◌≡◌, ◌-◌, ◌*◌, length, min, ◌&&◌, if◌then◌else◌, nat_le, ℕ, IfErr, IfOk, IfSome, OnErr, Some, slice_get, true};
 ghost use Rattle.interleavings.specs.Leases.{lease_in};
-ghost use Rattle.lease_manager.specs.Passes.{lease_of};
-ghost use Rattle.lease_manager.specs.declared.view.LeaseMode.TheVariants.{Free};
+ghost use Rattle.system_laws.specs.lease_manager.Passes.{lease_of};
+ghost use Rattle.system_laws.specs.lease_manager.declared.view.LeaseMode.TheVariants.{Free};
 ghost use Rattle.posix_calls.specs.Operations.{is_client};
-ghost use Rattle.call_effects.specs.NodeView.{view_at};
-ghost use Rattle.kernel_fs.specs.KernelAnswers.{Answers, OnRefusal};
-ghost use Rattle.kernel_fs.specs.MachineState.{IsMarkIn};
-ghost use Rattle.area_reader.specs.declared.error.AreaError.TheVariants.{Memory};
-ghost use Rattle.area_reader.specs.Looks.{Looks};
-ghost use Rattle.area_reader.specs.Map.{WantsMemory};
-ghost use Rattle.area_reader.specs.Store.{disk, graph};
-ghost use Rattle.shared_area.specs.FileReads.{bytes_of_inode, IsReadFrom};
-ghost use Rattle.shared_area.specs.Parts.{IsNoDamage, IsTierOf};
-ghost use Rattle.migrator.specs.RunChoice.{IsPicked, MayBeMoved};
+ghost use Rattle.system_laws.specs.call_effects.NodeView.{view_at};
+ghost use Rattle.system_laws.specs.kernel_fs.KernelAnswers.{Answers, OnRefusal};
+ghost use Rattle.system_laws.specs.kernel_fs.MachineState.{IsMarkIn};
+ghost use Rattle.system_laws.specs.area_reader.declared.error.AreaError.TheVariants.{Memory};
+ghost use Rattle.system_laws.specs.area_reader.Looks.{Looks};
+ghost use Rattle.system_laws.specs.area_reader.Map.{WantsMemory};
+ghost use Rattle.system_laws.specs.area_reader.Store.{disk, graph};
+ghost use Rattle.system_laws.specs.shared_area.FileReads.{bytes_of_inode, IsReadFrom};
+ghost use Rattle.system_laws.specs.shared_area.Parts.{IsNoDamage, IsTierOf};
+ghost use Rattle.system_laws.specs.migrator.RunChoice.{IsPicked, MayBeMoved};
 ghost use Rattle.posix_calls.specs.declared.limits.TheConstants.{UNIT_BYTES};
 ghost use Rattle.system_laws.specs.WorldTree.{world_tree};
 
 use crate::look_laws::looked_system_stands_for_a_world;
 use crate::stops::left_now;
 use crate::world::World;
-use area_reader::AreaError;
-use event_steps::System;
-use kernel_fs::{Fetched, FetchedBytes, KernelError};
-use lease_manager::{INODES, LeaseMode};
-use libfs::Client;
-use migrator::FileRun;
+use system_laws::in_area_reader::AreaError;
+use system_laws::in_event_steps::System;
+use system_laws::in_kernel_fs::{Fetched, FetchedBytes, KernelError};
+use system_laws::in_lease_manager::{INODES, LeaseMode};
+use system_laws::in_libfs::Client;
+use system_laws::in_migrator::FileRun;
 use tier_device::{Media, Tier};
 
 impl<M: Media> World<M> {

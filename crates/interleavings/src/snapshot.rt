@@ -1,27 +1,27 @@
 //! The file tree that a world stands for, read node by node.
 
 ghost use Rattle.std.specs.Prelude.{◌≡◌, ◌≤◌, false, true, Err, IfErr, IfOk, None, OnOk, Some, length};
-ghost use Rattle.lease_manager.specs.Words.{IsClient};
-ghost use Rattle.call_effects.specs.NodeView.{view_at};
-ghost use Rattle.call_effects.specs.Wholes.{state_of};
-ghost use Rattle.file_graph.specs.Graph.{fresh, graph_of, set_node};
-ghost use Rattle.area_reader.specs.declared.error.AreaError.TheVariants.{Memory};
-ghost use Rattle.kernel_fs.specs.declared.error.KernelError.TheVariants.{Failed, Refused};
-ghost use Rattle.shared_area.specs.FileReads.{bytes_of_inode};
-ghost use Rattle.world_invariant.specs.Logs.{after_clients, after_records};
+ghost use Rattle.system_laws.specs.lease_manager.Words.{IsClient};
+ghost use Rattle.system_laws.specs.call_effects.NodeView.{view_at};
+ghost use Rattle.system_laws.specs.call_effects.Wholes.{state_of};
+ghost use Rattle.system_laws.specs.file_graph.Graph.{fresh, graph_of, set_node};
+ghost use Rattle.system_laws.specs.area_reader.declared.error.AreaError.TheVariants.{Memory};
+ghost use Rattle.system_laws.specs.kernel_fs.declared.error.KernelError.TheVariants.{Failed, Refused};
+ghost use Rattle.system_laws.specs.shared_area.FileReads.{bytes_of_inode};
+ghost use Rattle.system_laws.specs.world_invariant.Logs.{after_clients, after_records};
 ghost use Rattle.system_laws.specs.WorldTree.{opened_in, whole_graph, world_tree};
 ghost use Rattle.interleavings.specs.Snapshots.{IsQuiet, IsRead, IsRefusedReading, kept_log, names_in, shared_graph, with_nodes};
 
 use crate::node_copies::{put_directory, put_file, put_records};
 use crate::stops::left_now;
 use crate::world::World;
-use area_reader::AreaError;
-use event_steps::System;
-use file_graph::{Effect, PlainGraph};
-use kernel_fs::KernelError;
-use lease_manager::INODES;
-use record_validation::{NodeCounts, NodeSummary};
 use std::alloc::{AllocError, Global};
+use system_laws::in_area_reader::AreaError;
+use system_laws::in_event_steps::System;
+use system_laws::in_file_graph::{Effect, PlainGraph};
+use system_laws::in_kernel_fs::KernelError;
+use system_laws::in_lease_manager::INODES;
+use system_laws::in_record_validation::{NodeCounts, NodeSummary};
 use tier_device::Media;
 
 impl<M: Media> World<M> {

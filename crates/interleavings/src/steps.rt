@@ -12,8 +12,8 @@ use crate::leases::{meet_in_event, settle_in_event};
 use crate::notes::Notes;
 use crate::stops::left_now;
 use crate::world::World;
-use event_lists::{Recoverable, Steps};
-use event_steps::{Event, Outcome};
+use system_laws::in_event_lists::{Recoverable, Steps};
+use system_laws::in_event_steps::{Event, Outcome};
 use system_laws::{played_event_is_a_step, stop_between_events_is_recovered};
 use tier_device::Media;
 

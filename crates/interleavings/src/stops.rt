@@ -1,13 +1,13 @@
 //! What holds of a system between two events.
 
 ghost use Rattle.std.specs.Prelude.{◌≡◌};
-ghost use Rattle.lease_manager.specs.Words.{IsClient};
-ghost use Rattle.event_steps.specs.Sound.{number_of};
-ghost use Rattle.event_steps.specs.Stops.{SeatLeaves};
-ghost use Rattle.event_steps.specs.View.{HasSeat};
+ghost use Rattle.system_laws.specs.lease_manager.Words.{IsClient};
+ghost use Rattle.system_laws.specs.event_steps.Sound.{number_of};
+ghost use Rattle.system_laws.specs.event_steps.Stops.{SeatLeaves};
+ghost use Rattle.system_laws.specs.event_steps.View.{HasSeat};
 ghost use Rattle.system_laws.specs.Leaves.{HoldRecords, HoldsRecords, SystemLeaves};
 
-use event_steps::System;
+use system_laws::in_event_steps::System;
 use tier_device::Media;
 
 /// States what a stop leaves of a system now, and that its clients hold what their records touch.

@@ -3,8 +3,8 @@ ghost use Rattle.system_laws.specs.KeptCalls.{no_calls};
 ghost use Rattle.system_laws.specs.Relation.{IsWorld};
 
 use crate::notes::Notes;
-use event_steps::System;
 use std::marker::Model;
+use system_laws::in_event_steps::System;
 use tier_device::Media;
 
 /// A running system, and each client's call that is started and not answered, which stands for a world over plain data.
@@ -18,8 +18,8 @@ pub struct World<M: Media> {
 
 impl<M: Media> Model for World<M> {
     ghost use Rattle.std.specs.Coded.{codes};
-    ghost use Rattle.client_view.specs.KnowledgeTables.{held_code};
-    ghost use Rattle.libfs.specs.contracts.begun_record.Begun as begun_call;
+    ghost use Rattle.system_laws.specs.client_view.KnowledgeTables.{held_code};
+    ghost use Rattle.system_laws.specs.libfs.contracts.begun_record.Begun as begun_call;
     ghost use Rattle.posix_calls.specs.contracts.call.Call as call;
     ghost use Rattle.system_laws.specs.Relation.{IsWorld};
     ghost use Rattle.system_laws.specs.WorldView.{WorldView};

@@ -2,7 +2,7 @@
 use Rattle.std.proofs.Common.{◌≡◌, false, refl, ◌∙◌, sym, subst}
 use Rattle.std.specs.Prelude.{Result}
 use Rattle.std.proofs.lemmas.Bool.{true≢false}
-use Rattle.batch_journal.specs.View.{JournalView}
+use Rattle.migrator.specs.batch_journal.View.{JournalView}
 use Rattle.kernel_fs.specs.Book.{Accounts}
 use Rattle.kernel_fs.specs.KernelAnswers.{Answers, kernel_answer}
 use Rattle.kernel_fs.specs.KernelView.{KernelView}

@@ -2,8 +2,8 @@
 use Rattle.std.proofs.Common.{◌≡◌, ◌⊎◌, inl, inr, ℕ, ◌+◌, ◌-◌, ◌≤◌, ◌||◌, ◌&&◌, not, List, [], ◌∷◌, length, Bool, cond, Some, refl, ap, sym, ◌∙◌, subst, arith}
 use Rattle.std.proofs.lemmas.Bool.Decides.{eqb_tells}
 use Rattle.posix_calls.proofs.Sums.{same_if, there_if}
-use Rattle.log_record.specs.declared.format.Record.{Record}
-use Rattle.update_log.specs.RecordCounts.{next_generation}
+use Rattle.world_invariant.specs.log_record.declared.format.Record.{Record}
+use Rattle.digester.specs.update_log.RecordCounts.{next_generation}
 use Rattle.world_invariant.specs.FormatWorld.{idle_account}
 use Rattle.world_invariant.specs.LeaseSteps.{also, without}
 use Rattle.world_invariant.specs.Machine.{Sealed, IsRunning, account_after}

@@ -1,7 +1,7 @@
 -- The book changes, and the media stay.
 use Rattle.std.proofs.Common.{◌≡◌, ℕ, ◌≤◌, refl, sym, ◌∙◌, subst}
 use Rattle.tier_device.specs.declared.media.Media.{Ghosts}
-use Rattle.batch_journal.specs.View.{JournalView}
+use Rattle.migrator.specs.batch_journal.View.{JournalView}
 use Rattle.world_invariant.specs.World.{Account, at}
 use Rattle.world_invariant.specs.Machine.{Machine, with_account}
 use Rattle.world_invariant.proofs.Kernels.{each}

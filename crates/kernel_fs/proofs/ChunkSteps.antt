@@ -1,12 +1,12 @@
 -- A chunk is digested: what becomes of the graph, its charge and its nodes, and that no record is bad.
 use Rattle.std.proofs.Common.{◌≡◌, ℕ, zero, suc, ◌+◌, ◌≤◌, List, [], ◌∷◌, take, Bool, ap, sym, ◌∙◌, subst, arith}
 use Rattle.tier_device.specs.declared.media.Media.{Ghosts}
-use Rattle.file_graph.specs.Graph.{Graph}
-use Rattle.file_graph.specs.Units.{charge}
-use Rattle.layout.specs.Places.{Sizes}
-use Rattle.log_record.specs.declared.format.Record.{Record}
-use Rattle.batch_journal.specs.View.{JournalView}
-use Rattle.area_reader.specs.Store.{disk, graph}
+use Rattle.world_invariant.specs.file_graph.Graph.{Graph}
+use Rattle.world_invariant.specs.file_graph.Units.{charge}
+use Rattle.migrator.specs.layout.Places.{Sizes}
+use Rattle.world_invariant.specs.log_record.declared.format.Record.{Record}
+use Rattle.migrator.specs.batch_journal.View.{JournalView}
+use Rattle.migrator.specs.area_reader.Store.{disk, graph}
 use Rattle.digester.specs.Plan.{AreGood, IsFirstBad}
 use Rattle.digester.specs.DigestStep.{IsDigested, NamesFirstBad}
 use Rattle.digester.specs.SealedLog.{SealedView, IsSealed, undone}

@@ -3,7 +3,7 @@ use Rattle.std.proofs.Common.{◌≡◌, false, refl, sym, ap, ◌∙◌, arith}
 use Rattle.std.specs.Prelude.{Result, Ok, Err}
 use Rattle.std.proofs.lemmas.Bool.{true≢false}
 use Rattle.tier_device.specs.declared.media.Media.{Ghosts}
-use Rattle.batch_journal.specs.View.{JournalView}
+use Rattle.migrator.specs.batch_journal.View.{JournalView}
 use Rattle.digester.specs.DigestStep.{DigestsOrStays}
 use Rattle.digester.specs.declared.error.DigestError.{DigestError}
 use Rattle.digester.specs.declared.error.DigestError.TheVariants as errors

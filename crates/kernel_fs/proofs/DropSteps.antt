@@ -2,10 +2,10 @@
 use Rattle.std.proofs.Common.{◌≡◌, inl, inr, ℕ, Bool, false, cond, None, ap, sym, ◌∙◌, subst}
 use Rattle.std.proofs.lemmas.Bool.Decides.{eqb_tells}
 use Rattle.tier_device.specs.declared.media.Media.{Ghosts}
-use Rattle.file_graph.specs.Graph.{Graph, set_node}
-use Rattle.layout.specs.Places.{Sizes}
-use Rattle.batch_journal.specs.View.{JournalView}
-use Rattle.area_reader.specs.Store.{disk, graph}
+use Rattle.world_invariant.specs.file_graph.Graph.{Graph, set_node}
+use Rattle.migrator.specs.layout.Places.{Sizes}
+use Rattle.migrator.specs.batch_journal.View.{JournalView}
+use Rattle.migrator.specs.area_reader.Store.{disk, graph}
 use Rattle.world_invariant.specs.KernelSteps.{CanReclaim}
 use Rattle.world_invariant.specs.Logs.{IsNameless}
 use Rattle.world_invariant.specs.LeaseSteps.{without}

@@ -7,31 +7,31 @@ use Rattle.std.proofs.lemmas.Bool.{false≢true, eq-eqb}
 use Rattle.std.proofs.lemmas.Bool.Decides.{eqb_tells, nat_tests}
 use Rattle.tier_device.specs.declared.media.Tier.{Tier}
 use Rattle.tier_device.specs.AfterStop.{Left}
-use Rattle.file_graph.specs.declared.effect.Effect.TheVariants as effect
-use Rattle.file_graph.specs.Graph.{Graph, Node, Body, FileBody, DirBody, set_node}
-use Rattle.file_graph.specs.Units.{charge}
-use Rattle.graph_change.specs.Change.{Change, Changes, Coalesces, changed_graph, coalesced_changes}
-use Rattle.layout.specs.declared.marks.Marks.{Marks}
-use Rattle.layout.specs.Places.{Sizes, is_inode}
-use Rattle.log_record.specs.Grammar.{IsInode}
-use Rattle.batch_journal.specs.Course.{Unmoved}
-use Rattle.call_effects.specs.NodeView.{view_of_body, view_of_node}
-use Rattle.record_validation.specs.Counts.{counts_of}
-use Rattle.record_validation.specs.declared.node_counts.NodeCounts.{NodeCounts}
-use Rattle.record_validation.specs.declared.node_counts.NodeCounts.TheVariants as counts
-use Rattle.area_reader.specs.Store.{Store, store_of, graph, marks}
-use Rattle.area_reader.specs.Reads.{Loose}
-use Rattle.shared_area.specs.Ready.{OpensAs}
-use Rattle.shared_area.specs.ChangeApply.{IsAppliedStore}
-use Rattle.shared_area.specs.GraphUpdate.{StaysOrChanges}
-use Rattle.coalescer.specs.Weight.{fits_chunk}
-use Rattle.coalescer.specs.Within.{images_of}
+use Rattle.world_invariant.specs.file_graph.declared.effect.Effect.TheVariants as effect
+use Rattle.world_invariant.specs.file_graph.Graph.{Graph, Node, Body, FileBody, DirBody, set_node}
+use Rattle.world_invariant.specs.file_graph.Units.{charge}
+use Rattle.migrator.specs.graph_change.Change.{Change, Changes, Coalesces, changed_graph, coalesced_changes}
+use Rattle.migrator.specs.layout.declared.marks.Marks.{Marks}
+use Rattle.migrator.specs.layout.Places.{Sizes, is_inode}
+use Rattle.world_invariant.specs.log_record.Grammar.{IsInode}
+use Rattle.migrator.specs.batch_journal.Course.{Unmoved}
+use Rattle.world_invariant.specs.call_effects.NodeView.{view_of_body, view_of_node}
+use Rattle.migrator.specs.record_validation.Counts.{counts_of}
+use Rattle.migrator.specs.record_validation.declared.node_counts.NodeCounts.{NodeCounts}
+use Rattle.migrator.specs.record_validation.declared.node_counts.NodeCounts.TheVariants as counts
+use Rattle.migrator.specs.area_reader.Store.{Store, store_of, graph, marks}
+use Rattle.migrator.specs.area_reader.Reads.{Loose}
+use Rattle.migrator.specs.shared_area.Ready.{OpensAs}
+use Rattle.migrator.specs.shared_area.ChangeApply.{IsAppliedStore}
+use Rattle.migrator.specs.shared_area.GraphUpdate.{StaysOrChanges}
+use Rattle.digester.specs.coalescer.Weight.{fits_chunk}
+use Rattle.digester.specs.coalescer.Within.{images_of}
 use Rattle.digester.proofs.Applied.{fit_images}
 use Rattle.posix_calls.proofs.Sums.{same_if, there_if}
-use Rattle.change_plan.specs.Next.{HasFewEntries, nodes_for}
-use Rattle.change_plan.specs.BlockDemand.{images_for, AreWritten}
-use Rattle.shared_area.proofs.Entries.{no_view}
-use Rattle.shared_area.proofs.Writes.{written_each}
+use Rattle.migrator.specs.change_plan.Next.{HasFewEntries, nodes_for}
+use Rattle.migrator.specs.change_plan.BlockDemand.{images_for, AreWritten}
+use Rattle.migrator.proofs.shared_area_lemmas.Entries.{no_view}
+use Rattle.migrator.proofs.shared_area_lemmas.Writes.{written_each}
 use Rattle.world_invariant.specs.Logs.{IsNameless}
 use Rattle.world_invariant.proofs.Reclaims.{charge_less}
 use Rattle.world_invariant.proofs.Records.{either}

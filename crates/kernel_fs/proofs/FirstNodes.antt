@@ -3,12 +3,12 @@ use Rattle.std.proofs.Common.{◌≡◌, inl, inr, ℕ, ◌+◌, ◌<◌, ◌≤
 use Rattle.std.specs.Prelude.{is_some, option_map}
 use Rattle.std.proofs.Math.Decide.{dec_le}
 use Rattle.std.proofs.lemmas.Bool.Decides.{eqb_tells, nat_tests}
-use Rattle.file_graph.specs.Graph.{Graph, Node}
-use Rattle.layout.specs.Places.{Sizes, is_inode}
-use Rattle.call_effects.specs.NodeView.{view_of_node}
-use Rattle.record_validation.specs.Counts.{counts_of}
-use Rattle.area_reader.specs.Store.{Store, graph}
-use Rattle.shared_area.proofs.Entries.{no_view}
+use Rattle.world_invariant.specs.file_graph.Graph.{Graph, Node}
+use Rattle.migrator.specs.layout.Places.{Sizes, is_inode}
+use Rattle.world_invariant.specs.call_effects.NodeView.{view_of_node}
+use Rattle.migrator.specs.record_validation.Counts.{counts_of}
+use Rattle.migrator.specs.area_reader.Store.{Store, graph}
+use Rattle.migrator.proofs.shared_area_lemmas.Entries.{no_view}
 use Rattle.world_invariant.specs.LeaseSteps.{also}
 use Rattle.kernel_fs.specs.Nodes.{AreNodes, is_node}
 use Rattle.kernel_fs.specs.NodeScan.{AreNodesBelow}

@@ -4,14 +4,14 @@ use Rattle.std.proofs.lemmas.Bool.Decides.{eqb_tells}
 use Rattle.std.proofs.lemmas.List.{length-drop, length-take-le, get_or-set_other}
 use Rattle.tier_device.specs.declared.media.Media.{Ghosts}
 use Rattle.posix_calls.specs.Operations.{is_client}
-use Rattle.layout.specs.declared.marks.Mark.{Mark}
-use Rattle.layout.specs.declared.marks.Marks.{Marks}
-use Rattle.log_record.specs.declared.format.Record.{Record}
-use Rattle.batch_journal.specs.View.{JournalView}
-use Rattle.area_reader.specs.Store.{Store, disk, marks}
+use Rattle.migrator.specs.layout.declared.marks.Mark.{Mark}
+use Rattle.migrator.specs.layout.declared.marks.Marks.{Marks}
+use Rattle.world_invariant.specs.log_record.declared.format.Record.{Record}
+use Rattle.migrator.specs.batch_journal.View.{JournalView}
+use Rattle.migrator.specs.area_reader.Store.{Store, disk, marks}
 use Rattle.digester.specs.DigestStep.{IsDigested}
 use Rattle.digester.specs.MarkMoves.{mark_after}
-use Rattle.update_log.specs.RecordCounts.{next_generation}
+use Rattle.digester.specs.update_log.RecordCounts.{next_generation}
 use Rattle.digester.specs.SealedLog.{SealedView, HasUndigested, IsSealed, StandsAtMark, done_to, mark_then, undone}
 use Rattle.world_invariant.specs.Machine.{Machine}
 use Rattle.world_invariant.specs.World.{at}

@@ -4,10 +4,10 @@ use Rattle.std.specs.List.{AllByRecursion}
 use Rattle.std.specs.Prelude.{option_map}
 use Rattle.std.proofs.lemmas.Bool.{eq-eqb}
 use Rattle.std.proofs.lemmas.Bool.Decides.{eqb_tells}
-use Rattle.file_graph.specs.declared.effect.Effect.{Effect}
-use Rattle.file_graph.specs.declared.effect.Effect.TheVariants as effect
-use Rattle.file_graph.specs.declared.effect.Kind.{Kind}
-use Rattle.file_graph.specs.Graph.{Graph, Node, subject_after, after_effect, subjects, is_among}
+use Rattle.world_invariant.specs.file_graph.declared.effect.Effect.{Effect}
+use Rattle.world_invariant.specs.file_graph.declared.effect.Effect.TheVariants as effect
+use Rattle.world_invariant.specs.file_graph.declared.effect.Kind.{Kind}
+use Rattle.world_invariant.specs.file_graph.Graph.{Graph, Node, subject_after, after_effect, subjects, is_among}
 use Rattle.world_invariant.specs.LeaseSteps.{also, without}
 use Rattle.kernel_fs.specs.Nodes.{AreNodes, is_node}
 

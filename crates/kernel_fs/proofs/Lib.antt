@@ -21,3 +21,6 @@ pub mod Rows
 pub mod Leading
 pub mod Members
 pub mod MarksGo
+-- Handed on to the crates above, which list only the highest of what they name.
+pub use Rattle.migrator.proofs.area_reader_lemmas
+pub use Rattle.migrator.proofs.batch_journal_lemmas

@@ -5,8 +5,8 @@ use Rattle.std.proofs.lemmas.Bool.Decides.{nat_tests}
 use Rattle.posix_calls.specs.Tree.{any_up_to, sum_up_to}
 use Rattle.posix_calls.specs.Operations.{is_client}
 use Rattle.posix_calls.proofs.Sums.{any_there, any_is}
-use Rattle.file_graph.specs.Graph.{Node}
-use Rattle.file_graph.specs.Units.{charge}
+use Rattle.world_invariant.specs.file_graph.Graph.{Node}
+use Rattle.world_invariant.specs.file_graph.Units.{charge}
 use Rattle.world_invariant.specs.World.{Account, Kernel, at}
 use Rattle.world_invariant.specs.BookSteps.{HasRoom, IsUnbooked}
 use Rattle.world_invariant.specs.Machine.{Machine, IsRunning}

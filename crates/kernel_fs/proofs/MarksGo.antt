@@ -5,9 +5,9 @@ use Rattle.std.proofs.lemmas.Bool.Decides.{eqb_tells}
 use Rattle.posix_calls.specs.Tree.{sum_up_to}
 use Rattle.posix_calls.specs.Operations.{is_client}
 use Rattle.posix_calls.proofs.Sums.{same_if, there_if, all_zero}
-use Rattle.file_graph.specs.Graph.{Graph}
-use Rattle.file_graph.specs.Units.{charge}
-use Rattle.log_record.specs.declared.format.Record.{Record}
+use Rattle.world_invariant.specs.file_graph.Graph.{Graph}
+use Rattle.world_invariant.specs.file_graph.Units.{charge}
+use Rattle.world_invariant.specs.log_record.declared.format.Record.{Record}
 use Rattle.world_invariant.specs.Limits.{AreWithin}
 use Rattle.world_invariant.specs.World.{Account, at}
 use Rattle.world_invariant.specs.Machine.{Machine, Sealed, IsRunning, accept, account_after, digest, undigested_sealed}

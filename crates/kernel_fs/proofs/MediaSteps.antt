@@ -4,12 +4,12 @@ use Rattle.std.specs.Prelude.{◌↔◌, IsTrue}
 use Rattle.tier_device.specs.declared.media.Media.{Ghosts}
 use Rattle.tier_device.specs.declared.media.Tier.{Tier}
 use Rattle.posix_calls.specs.Operations.{is_client}
-use Rattle.file_graph.specs.Graph.{Graph}
-use Rattle.layout.specs.declared.marks.Marks.{Marks}
-use Rattle.layout.specs.Places.{Sizes}
-use Rattle.batch_journal.specs.View.{JournalView}
-use Rattle.batch_journal.proofs.Courses.{tiers_same}
-use Rattle.area_reader.specs.Store.{Store, disk, store_of, graph, marks}
+use Rattle.world_invariant.specs.file_graph.Graph.{Graph}
+use Rattle.migrator.specs.layout.declared.marks.Marks.{Marks}
+use Rattle.migrator.specs.layout.Places.{Sizes}
+use Rattle.migrator.specs.batch_journal.View.{JournalView}
+use Rattle.migrator.proofs.batch_journal_lemmas.Courses.{tiers_same}
+use Rattle.migrator.specs.area_reader.Store.{Store, disk, store_of, graph, marks}
 use Rattle.world_invariant.specs.Machine.{Machine}
 use Rattle.kernel_fs.specs.Book.{Accounts, IsBookOf}
 use Rattle.kernel_fs.specs.Nodes.{AreNodes}

@@ -3,7 +3,7 @@ use Rattle.std.proofs.Common.{◌≡◌, inl, inr, ℕ, zero, suc, ◌+◌, ◌�
 use Rattle.std.proofs.lemmas.Bool.{false≢true}
 use Rattle.std.proofs.lemmas.Bool.Decides.{eqb_tells}
 use Rattle.posix_calls.specs.Tree.{sum_up_to}
-use Rattle.file_graph.specs.Graph.{is_among}
+use Rattle.world_invariant.specs.file_graph.Graph.{is_among}
 use Rattle.kernel_fs.specs.Inodes.{is_inode, has, passing_numbers, members}
 use Rattle.kernel_fs.proofs.Rows.{inode_tells, inside, has_none}
 

@@ -2,7 +2,7 @@
 use Rattle.std.proofs.Common.{◌≡◌, inl, inr, ℕ, ◌+◌, ◌-◌, Bool, true, false, ◌||◌, ◌&&◌, ◌==◌, not, cond, List, [], ◌∷◌, refl, ap, sym, ◌∙◌}
 use Rattle.std.proofs.lemmas.Bool.Decides.{eqb_tells}
 use Rattle.posix_calls.proofs.Sums.{there_if}
-use Rattle.file_graph.specs.Graph.{is_among}
+use Rattle.world_invariant.specs.file_graph.Graph.{is_among}
 use Rattle.world_invariant.specs.World.{Account, at}
 use Rattle.world_invariant.specs.LeaseSteps.{also, without}
 use Rattle.world_invariant.specs.Machine.{Machine, with_account, book_units, unbook_units, book_number, unbook_number}

@@ -4,14 +4,14 @@ use Rattle.std.specs.Prelude.{Option, Result, Ok, Err}
 use Rattle.std.proofs.lemmas.Bool.{true≢false}
 use Rattle.tier_device.specs.declared.media.Media.{Ghosts}
 use Rattle.tier_device.specs.Media.{Rose}
-use Rattle.batch_journal.specs.View.{JournalView}
-use Rattle.batch_journal.proofs.Courses.{unmoved_on}
-use Rattle.area_reader.specs.declared.error.AreaError.{AreaError}
-use Rattle.area_reader.specs.declared.error.AreaError.TheVariants as area
-use Rattle.shared_area.specs.GraphUpdate.{AppliesOrStays}
-use Rattle.area_reader.specs.Looks.{Looks}
+use Rattle.migrator.specs.batch_journal.View.{JournalView}
+use Rattle.migrator.proofs.batch_journal_lemmas.Courses.{unmoved_on}
+use Rattle.migrator.specs.area_reader.declared.error.AreaError.{AreaError}
+use Rattle.migrator.specs.area_reader.declared.error.AreaError.TheVariants as area
+use Rattle.migrator.specs.shared_area.GraphUpdate.{AppliesOrStays}
+use Rattle.migrator.specs.area_reader.Looks.{Looks}
 use Rattle.digester.specs.Errors.{IsAreaError}
-use Rattle.file_graph.specs.Graph.{Node}
+use Rattle.world_invariant.specs.file_graph.Graph.{Node}
 use Rattle.world_invariant.specs.Logs.{IsNameless}
 use Rattle.kernel_fs.specs.Nodes.{is_node}
 use Rattle.kernel_fs.specs.Reclaim.{ReclaimsOrStays}

@@ -7,15 +7,15 @@ use Rattle.std.proofs.lemmas.List.{length-drop}
 use Rattle.tier_device.specs.declared.media.Media.{Ghosts}
 use Rattle.tier_device.specs.declared.media.Tier.{Tier}
 use Rattle.posix_calls.specs.Operations.{is_client}
-use Rattle.file_graph.specs.Graph.{Graph}
-use Rattle.file_graph.specs.Units.{charge}
-use Rattle.layout.specs.declared.marks.Marks.{Marks}
-use Rattle.batch_journal.specs.View.{JournalView}
-use Rattle.batch_journal.proofs.Courses.{tiers_same}
-use Rattle.area_reader.specs.Store.{disk, store_of, graph, marks}
-use Rattle.shared_area.specs.TierMoves.{MovesOrStays}
-use Rattle.area_reader.specs.declared.error.AreaError.{AreaError}
-use Rattle.area_reader.specs.declared.error.AreaError.TheVariants as moves
+use Rattle.world_invariant.specs.file_graph.Graph.{Graph}
+use Rattle.world_invariant.specs.file_graph.Units.{charge}
+use Rattle.migrator.specs.layout.declared.marks.Marks.{Marks}
+use Rattle.migrator.specs.batch_journal.View.{JournalView}
+use Rattle.migrator.proofs.batch_journal_lemmas.Courses.{tiers_same}
+use Rattle.migrator.specs.area_reader.Store.{disk, store_of, graph, marks}
+use Rattle.migrator.specs.shared_area.TierMoves.{MovesOrStays}
+use Rattle.migrator.specs.area_reader.declared.error.AreaError.{AreaError}
+use Rattle.migrator.specs.area_reader.declared.error.AreaError.TheVariants as moves
 use Rattle.digester.specs.DigestStep.{DigestsOrStays}
 use Rattle.digester.specs.SealedLog.{SealedView, HasUndigested, IsSealed, StandsAtMark, undone}
 use Rattle.digester.specs.declared.error.DigestError.{DigestError}

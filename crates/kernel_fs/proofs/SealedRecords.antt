@@ -5,13 +5,13 @@ use Rattle.std.specs.Prelude.{option_map}
 use Rattle.std.proofs.lemmas.List.{length-drop, length-take-le, take-append-drop}
 use Rattle.posix_calls.specs.Tree.{sum_up_to}
 use Rattle.posix_calls.proofs.Sums.{there_if}
-use Rattle.file_graph.specs.Graph.{Graph, Node, Body, FileBody, DirBody, after_effects, is_among}
-use Rattle.file_graph.specs.Units.{charge}
-use Rattle.log_record.specs.Grammar.{IsRecord}
-use Rattle.log_record.specs.declared.format.Record.{Record}
-use Rattle.call_effects.specs.NodeView.{view_of_body, view_of_node}
-use Rattle.coalescer.specs.Records.{effects_in}
-use Rattle.record_validation.specs.Good.{KeepsLimits}
+use Rattle.world_invariant.specs.file_graph.Graph.{Graph, Node, Body, FileBody, DirBody, after_effects, is_among}
+use Rattle.world_invariant.specs.file_graph.Units.{charge}
+use Rattle.world_invariant.specs.log_record.Grammar.{IsRecord}
+use Rattle.world_invariant.specs.log_record.declared.format.Record.{Record}
+use Rattle.world_invariant.specs.call_effects.NodeView.{view_of_body, view_of_node}
+use Rattle.digester.specs.coalescer.Records.{effects_in}
+use Rattle.migrator.specs.record_validation.Good.{KeepsLimits}
 use Rattle.digester.specs.RecordCover.{AreCovered, units_of}
 use Rattle.digester.specs.Plan.{IsFirstBad}
 use Rattle.digester.proofs.Covered.{never_bad}

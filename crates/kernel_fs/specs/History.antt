@@ -1,8 +1,8 @@
 -- Where a kernel stands: at the end of a run of its machine, from the opening on.
 use Rattle.std.specs.Prelude.{ℕ, List}
 use Rattle.tier_device.specs.declared.media.Media.{Ghosts}
-use Rattle.layout.specs.Places.{Sizes}
-use Rattle.area_reader.specs.Store.{Store, disk, graph}
+use Rattle.migrator.specs.layout.Places.{Sizes}
+use Rattle.migrator.specs.area_reader.Store.{Store, disk, graph}
 use Rattle.kernel_fs.specs.Run.{Entry, RunState, IsRun}
 use Rattle.kernel_fs.specs.Steps.{opened_machine}
 use Rattle.kernel_fs.specs.KernelView.{KernelView}

@@ -1,5 +1,5 @@
 -- The kernel, as its callers see it.
-use Rattle.batch_journal.specs.View.{JournalView}
+use Rattle.migrator.specs.batch_journal.View.{JournalView}
 use Rattle.kernel_fs.specs.Book.{Accounts}
 
 pub record KernelView (M : Type 0) : Type 0 where

@@ -2,12 +2,12 @@
 use Rattle.std.specs.Prelude.{◌≡◌, ℕ, true, Option, Some, None}
 use Rattle.tier_device.specs.declared.media.Media.{Ghosts}
 use Rattle.posix_calls.specs.Operations.{is_client}
-use Rattle.layout.specs.declared.marks.Mark.{Mark}
-use Rattle.layout.specs.declared.marks.Marks.{Marks}
-use Rattle.area_reader.specs.Store.{Store, disk, graph, marks}
+use Rattle.migrator.specs.layout.declared.marks.Mark.{Mark}
+use Rattle.migrator.specs.layout.declared.marks.Marks.{Marks}
+use Rattle.migrator.specs.area_reader.Store.{Store, disk, graph, marks}
 use Rattle.digester.specs.MarkMoves.{mark_of}
 use Rattle.world_invariant.specs.Machine.{Machine}
-use Rattle.batch_journal.specs.View.{JournalView}
+use Rattle.migrator.specs.batch_journal.View.{JournalView}
 use Rattle.kernel_fs.specs.Book.{Accounts, IsBookOf}
 use Rattle.kernel_fs.specs.Marks.{AreMarksOf}
 use Rattle.kernel_fs.specs.KernelView.{KernelView}

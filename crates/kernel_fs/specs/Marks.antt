@@ -2,7 +2,7 @@
 -- them the mark moves to the next generation, and to none. The machine counts all records of a client, for ever.
 use Rattle.std.specs.Prelude.{◌≡◌, ◌≢◌, ℕ, ◌+◌, ◌≤◌, true, List, length}
 use Rattle.posix_calls.specs.Operations.{is_client}
-use Rattle.log_record.specs.declared.format.Record.{Record}
+use Rattle.world_invariant.specs.log_record.declared.format.Record.{Record}
 use Rattle.world_invariant.specs.Machine.{Machine, Sealed}
 
 -- By the mark of the media so many records of the region are digested, where so many were ever digested, and accepted.

@@ -1,6 +1,6 @@
 -- Which inodes are nodes, as they are read one after the other.
 use Rattle.std.specs.Prelude.{◌≡◌, ◌≤◌, ◌<◌, ℕ, Bool, false}
-use Rattle.file_graph.specs.Graph.{Graph}
+use Rattle.world_invariant.specs.file_graph.Graph.{Graph}
 use Rattle.kernel_fs.specs.Nodes.{is_node}
 
 -- Of the inodes below a number the set has those that are nodes, and no others.

@@ -1,6 +1,6 @@
 -- The inodes that are nodes of a graph, as a set.
 use Rattle.std.specs.Prelude.{◌≡◌, ℕ, Bool, true, false, Option, Some, None}
-use Rattle.file_graph.specs.Graph.{Graph, Node}
+use Rattle.world_invariant.specs.file_graph.Graph.{Graph, Node}
 
 -- whether there is a node
 abbrev pub is_node : Option Node → Bool

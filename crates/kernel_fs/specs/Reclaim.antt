@@ -4,17 +4,17 @@ use Rattle.tier_device.specs.declared.media.Media.{Ghosts}
 use Rattle.tier_device.specs.declared.media.Tier.{Tier}
 use Rattle.tier_device.specs.Media.{Rose}
 use Rattle.tier_device.specs.AfterStop.{Left}
-use Rattle.file_graph.specs.Graph.{Graph, set_node}
-use Rattle.layout.specs.Places.{Sizes}
-use Rattle.batch_journal.specs.Course.{Unmoved}
-use Rattle.batch_journal.specs.View.{JournalView}
-use Rattle.batch_journal.specs.Volume.{IsVolume}
-use Rattle.area_reader.specs.Store.{Store, store_of, slot, place, graph, marks}
-use Rattle.area_reader.specs.Reads.{Loose}
-use Rattle.area_reader.specs.Format.{IsOpenable}
-use Rattle.shared_area.specs.Ready.{OpensAs}
-use Rattle.record_validation.specs.declared.node_counts.NodeCounts.{NodeCounts}
-use Rattle.record_validation.specs.declared.node_counts.NodeCounts.TheVariants as counts
+use Rattle.world_invariant.specs.file_graph.Graph.{Graph, set_node}
+use Rattle.migrator.specs.layout.Places.{Sizes}
+use Rattle.migrator.specs.batch_journal.Course.{Unmoved}
+use Rattle.migrator.specs.batch_journal.View.{JournalView}
+use Rattle.migrator.specs.batch_journal.Volume.{IsVolume}
+use Rattle.migrator.specs.area_reader.Store.{Store, store_of, slot, place, graph, marks}
+use Rattle.migrator.specs.area_reader.Reads.{Loose}
+use Rattle.migrator.specs.area_reader.Format.{IsOpenable}
+use Rattle.migrator.specs.shared_area.Ready.{OpensAs}
+use Rattle.migrator.specs.record_validation.declared.node_counts.NodeCounts.{NodeCounts}
+use Rattle.migrator.specs.record_validation.declared.node_counts.NodeCounts.TheVariants as counts
 use Rattle.world_invariant.specs.Logs.{IsNameless}
 use Rattle.kernel_fs.specs.Book.{Accounts, is_pinned}
 use Rattle.kernel_fs.specs.declared.error.ReclaimError.{ReclaimError}

@@ -1,7 +1,7 @@
 -- Sealed regions: when the kernel accepts one, when it digests a chunk of it, and which region of its machine that is.
 use Rattle.std.specs.Prelude.{◌≡◌, ℕ, true, length}
-use Rattle.file_graph.specs.Graph.{is_among}
-use Rattle.area_reader.specs.Store.{Store}
+use Rattle.world_invariant.specs.file_graph.Graph.{is_among}
+use Rattle.migrator.specs.area_reader.Store.{Store}
 use Rattle.digester.specs.Chunk.{is_next}
 use Rattle.digester.specs.SealedLog.{SealedView, StandsAtMark, undone}
 use Rattle.digester.specs.declared.chunk.Chunk.{Chunk}

@@ -1,8 +1,8 @@
 -- Runs of the kernel's machine, from whichever it begins with.
 use Rattle.std.specs.Prelude.{◌≡◌, ℕ, ◌+◌, ◌==◌, List, [], ◌∷◌, length, Bool, true, Option, Some, None, if◌then◌else◌}
 use Rattle.posix_calls.specs.Operations.{is_client}
-use Rattle.log_record.specs.declared.format.Record.{Record}
-use Rattle.update_log.specs.RecordCounts.{next_generation}
+use Rattle.world_invariant.specs.log_record.declared.format.Record.{Record}
+use Rattle.digester.specs.update_log.RecordCounts.{next_generation}
 use Rattle.world_invariant.specs.BookSteps.{HasRoom, IsUnbooked}
 use Rattle.world_invariant.specs.KernelSteps.{CanReclaim}
 use Rattle.world_invariant.specs.Machine.{Machine, Sealed, StandsSealed, CanAccept, CanDigestNext, accept, digest, book_pin, unbook_pin, bury, reclaim}

@@ -1,6 +1,6 @@
 -- The kernel's machine as it is opened, and its steps that are made of several: units and numbers at once.
 use Rattle.std.specs.Prelude.{ℕ, ◌+◌, ◌-◌, List, [], ◌∷◌, Bool, ◌&&◌, ◌||◌, not}
-use Rattle.file_graph.specs.Graph.{Graph}
+use Rattle.world_invariant.specs.file_graph.Graph.{Graph}
 use Rattle.world_invariant.specs.Machine.{Machine, with_account, book_number, unbook_number}
 use Rattle.world_invariant.specs.FormatWorld.{idle_account}
 

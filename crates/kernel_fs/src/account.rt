@@ -8,8 +8,8 @@ ghost use Rattle.kernel_fs.specs.Account.{IsAccountOf};
 ghost use Rattle.kernel_fs.specs.Inodes.{IsInode, has};
 
 use crate::inode_set::InodeSet;
-use file_graph::Effect;
-use log_record::Record;
+use world_invariant::in_file_graph::Effect;
+use world_invariant::in_log_record::Record;
 
 /// What the book has of one client.
 #[derive(Drop)]

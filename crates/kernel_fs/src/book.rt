@@ -1,6 +1,6 @@
 ghost use Rattle.std.specs.Prelude.{◌≡◌, ◌≢◌, ◌↔◌, ◌+◌, ◌-◌, ◌^◌, ◌<◌, ◌≤◌, ℕ, List, length, min, true, false, IsTrue, IfSome, None, IfOk, OnErr, OnOk, IsErrOf};
 ghost use Rattle.posix_calls.specs.Operations.{is_client};
-ghost use Rattle.file_graph.specs.Graph.{Graph};
+ghost use Rattle.world_invariant.specs.file_graph.Graph.{Graph};
 ghost use Rattle.world_invariant.specs.Logs.{units_in};
 ghost use Rattle.world_invariant.specs.Machine.{Machine, Sealed, accept as accepted, digest as digested, book_pin, unbook_pin, bury as buried};
 ghost use Rattle.kernel_fs.specs.Book.{account_of, units_of, waiting_of, out_of, is_pinned, is_free, HasThese, IsBookOf};
@@ -13,9 +13,9 @@ use crate::account::ClientAccount;
 use crate::book_error::RefillError;
 use crate::inode_set::InodeSet;
 use crate::lowest::lowest_absent;
-use log_record::Record;
 use posix_calls::{MAX_CLIENTS, ROOT, client_index};
 use std::marker::Model;
+use world_invariant::in_log_record::Record;
 
 // How many clients there are.
 const CLIENTS: usize = MAX_CLIENTS as usize;

@@ -1,8 +1,8 @@
 ghost use Rattle.std.specs.Prelude.{◌≡◌, ◌≢◌, ◌↔◌, ◌+◌, ◌≤◌, ℕ, List, [], Bool, true, false, drop, length};
 ghost use Rattle.posix_calls.specs.Operations.{is_client};
-ghost use Rattle.file_graph.specs.Graph.{Graph, is_among};
-ghost use Rattle.file_graph.specs.Units.{charge};
-ghost use Rattle.log_record.specs.declared.format.Record.{Record};
+ghost use Rattle.world_invariant.specs.file_graph.Graph.{Graph, is_among};
+ghost use Rattle.world_invariant.specs.file_graph.Units.{charge};
+ghost use Rattle.world_invariant.specs.log_record.declared.format.Record.{Record};
 ghost use Rattle.world_invariant.specs.Limits.{AreWithin};
 ghost use Rattle.world_invariant.specs.Logs.{IsNameless};
 ghost use Rattle.world_invariant.specs.World.{Account};

@@ -3,11 +3,11 @@
 ghost use Rattle.std.specs.Prelude.{◌≡◌, ◌≤◌, ◌<◌, ◌+◌, ◌↔◌, ℕ, length, take, true, false, IsTrue, IfErr, OnOk, OnErr};
 ghost use Rattle.std.specs.List.{AllByRecursion};
 ghost use Rattle.posix_calls.specs.Operations.{is_client};
-ghost use Rattle.file_graph.specs.Graph.{Graph};
-ghost use Rattle.graph_change.specs.View.{changes_of};
-ghost use Rattle.log_record.specs.Grammar.{IsRecord};
-ghost use Rattle.shared_area.specs.ChangeApply.{MakesFewCalls};
-ghost use Rattle.area_reader.specs.Store.{disk};
+ghost use Rattle.world_invariant.specs.file_graph.Graph.{Graph};
+ghost use Rattle.migrator.specs.graph_change.View.{changes_of};
+ghost use Rattle.world_invariant.specs.log_record.Grammar.{IsRecord};
+ghost use Rattle.migrator.specs.shared_area.ChangeApply.{MakesFewCalls};
+ghost use Rattle.migrator.specs.area_reader.Store.{disk};
 ghost use Rattle.digester.specs.Chunk.{IsChunkOf, is_next};
 ghost use Rattle.digester.specs.DigestStep.{IsDigested, NamesFirstBad, StaysOrDigests, DigestsOrStays};
 ghost use Rattle.digester.specs.SealedLog.{HasUndigested, IsDoneBy, StandsAtMark, undone};
@@ -20,10 +20,10 @@ ghost use Rattle.kernel_fs.specs.RegionAccept.{BeginsAtMark, HasAsManyWaiting};
 
 use crate::{Book, InodeSet};
 use digester::{Chunk, DigestError, SealedLog, digest_chunk};
-use log_record::Record;
-use shared_area::Shared;
+use migrator::in_shared_area::Shared;
 use std::alloc::Global;
 use tier_device::Media;
+use world_invariant::in_log_record::Record;
 
 /// What becomes of a chunk that the kernel is to digest.
 #[derive(Clone, Copy, PartialEq, Eq)]

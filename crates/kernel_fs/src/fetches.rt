@@ -3,21 +3,21 @@
 ghost use Rattle.std.specs.Prelude.{◌≡◌, ◌-◌, ◌*◌, ℕ, min, length, true, false, OnErr, IfOk, IfErr};
 ghost use Rattle.posix_calls.specs.Operations.{is_client};
 ghost use Rattle.posix_calls.specs.declared.limits.TheConstants.{UNIT_BYTES};
-ghost use Rattle.call_effects.specs.NodeView.{view_at};
-ghost use Rattle.area_reader.specs.Store.{disk, graph};
-ghost use Rattle.area_reader.specs.Looks.{Looks};
-ghost use Rattle.area_reader.specs.Map.{WantsMemory};
-ghost use Rattle.area_reader.specs.declared.error.AreaError.TheVariants.{Memory};
-ghost use Rattle.shared_area.specs.Parts.{IsNoDamage};
-ghost use Rattle.shared_area.specs.FileReads.{bytes_of_inode, IsReadFrom};
+ghost use Rattle.world_invariant.specs.call_effects.NodeView.{view_at};
+ghost use Rattle.migrator.specs.area_reader.Store.{disk, graph};
+ghost use Rattle.migrator.specs.area_reader.Looks.{Looks};
+ghost use Rattle.migrator.specs.area_reader.Map.{WantsMemory};
+ghost use Rattle.migrator.specs.area_reader.declared.error.AreaError.TheVariants.{Memory};
+ghost use Rattle.migrator.specs.shared_area.Parts.{IsNoDamage};
+ghost use Rattle.migrator.specs.shared_area.FileReads.{bytes_of_inode, IsReadFrom};
 ghost use Rattle.kernel_fs.specs.MachineState.{IsMarkIn};
 
-use area_reader::AreaError;
 use digester::mark_of;
-use layout::Mark;
+use migrator::in_area_reader::AreaError;
+use migrator::in_layout::Mark;
+use migrator::in_record_validation::NodeSummary;
+use migrator::in_shared_area::Shared;
 use posix_calls::UNIT_BYTES;
-use record_validation::NodeSummary;
-use shared_area::Shared;
 use tier_device::Media;
 
 /// What stands at an inode of the shared graph, as a client fetches it.

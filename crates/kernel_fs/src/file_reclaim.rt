@@ -1,29 +1,29 @@
 //! A file that nobody uses is dropped.
 
 ghost use Rattle.std.specs.Prelude.{◌≡◌, ◌↔◌, ℕ, List, [], ◌∷◌, true, false, IfOk, IfErr, OnOk, IsTrue, IsErrOf};
-ghost use Rattle.file_graph.specs.declared.effect.Effect.TheVariants as effect;
-ghost use Rattle.graph_change.specs.Change.{coalesced_changes};
-ghost use Rattle.graph_change.specs.Tidy.{AreTidyChanges};
-ghost use Rattle.graph_change.specs.View.{changes_of};
-ghost use Rattle.log_record.specs.Grammar.{IsInode};
-ghost use Rattle.area_reader.specs.Store.{disk, graph};
-ghost use Rattle.batch_journal.specs.Course.{Unmoved};
-ghost use Rattle.shared_area.specs.Parts.{IsNoDamage};
-ghost use Rattle.shared_area.specs.ChangeApply.{MakesFewCalls};
+ghost use Rattle.world_invariant.specs.file_graph.declared.effect.Effect.TheVariants as effect;
+ghost use Rattle.migrator.specs.graph_change.Change.{coalesced_changes};
+ghost use Rattle.migrator.specs.graph_change.Tidy.{AreTidyChanges};
+ghost use Rattle.migrator.specs.graph_change.View.{changes_of};
+ghost use Rattle.world_invariant.specs.log_record.Grammar.{IsInode};
+ghost use Rattle.migrator.specs.area_reader.Store.{disk, graph};
+ghost use Rattle.migrator.specs.batch_journal.Course.{Unmoved};
+ghost use Rattle.migrator.specs.shared_area.Parts.{IsNoDamage};
+ghost use Rattle.migrator.specs.shared_area.ChangeApply.{MakesFewCalls};
 ghost use Rattle.digester.specs.Errors.{IsAreaError};
 ghost use Rattle.world_invariant.specs.Logs.{IsNameless};
 ghost use Rattle.kernel_fs.specs.Reclaim.{AreNameless, IsReclaimed, StaysOrReclaims, ReclaimsOrStays};
 ghost use Rattle.kernel_fs.specs.declared.error.ReclaimError.TheVariants.{DeviceFault, InUse, Memory};
 
 use crate::error::ReclaimError;
-use area_reader::AreaError;
 use digester::marks_can_be_written;
-use file_graph::Effect;
-use graph_change::{GraphChange, changes_are_the_effects, changes_keep_to_the_limits};
-use record_validation::NodeCounts;
-use shared_area::Shared;
+use migrator::in_area_reader::AreaError;
+use migrator::in_graph_change::{GraphChange, changes_are_the_effects, changes_keep_to_the_limits};
+use migrator::in_record_validation::NodeCounts;
+use migrator::in_shared_area::Shared;
 use std::alloc::Global;
 use tier_device::Media;
+use world_invariant::in_file_graph::Effect;
 
 // Whether what stands at an inode is a file that has no name.
 fn is_nameless(found: Option<NodeCounts>) -> bool

@@ -1,8 +1,8 @@
 // What the kernel grants its clients, takes back and pins.
 ghost use Rattle.std.specs.Prelude.{◌≡◌, ◌↔◌, ◌≤◌, ◌<◌, ◌+◌, ◌-◌, min, true, false, Err, OnOk, OnErr, IfOk, IsErrOf};
 ghost use Rattle.posix_calls.specs.Operations.{is_client};
-ghost use Rattle.file_graph.specs.Units.{charge};
-ghost use Rattle.area_reader.specs.Store.{disk, graph};
+ghost use Rattle.world_invariant.specs.file_graph.Units.{charge};
+ghost use Rattle.migrator.specs.area_reader.Store.{disk, graph};
 ghost use Rattle.world_invariant.specs.Machine.{Machine, book_pin, unbook_pin, bury as buried};
 ghost use Rattle.kernel_fs.specs.Book.{units_of, out_of, is_free, IsBookOf};
 ghost use Rattle.kernel_fs.specs.Free.{AreLowest, count_of};

@@ -2,11 +2,11 @@
 
 ghost use Rattle.std.specs.Prelude.{◌≡◌, ◌<◌, ◌≤◌, ◌+◌, ℕ, Bool, List, ◌∷◌, Some, true, length, take, drop};
 ghost use Rattle.std.specs.List.{AllByRecursion};
-ghost use Rattle.file_graph.specs.Graph.{Graph, after_effects, is_among};
-ghost use Rattle.log_record.specs.Grammar.{IsRecord};
-ghost use Rattle.log_record.specs.declared.format.Record.{Record};
-ghost use Rattle.batch_journal.specs.Course.{Unmoved};
-ghost use Rattle.coalescer.specs.Records.{effects_in};
+ghost use Rattle.world_invariant.specs.file_graph.Graph.{Graph, after_effects, is_among};
+ghost use Rattle.world_invariant.specs.log_record.Grammar.{IsRecord};
+ghost use Rattle.world_invariant.specs.log_record.declared.format.Record.{Record};
+ghost use Rattle.migrator.specs.batch_journal.Course.{Unmoved};
+ghost use Rattle.digester.specs.coalescer.Records.{effects_in};
 ghost use Rattle.digester.specs.RecordCover.{AreCovered, units_of};
 ghost use Rattle.digester.specs.Plan.{IsFirstBad};
 ghost use Rattle.digester.specs.SealedLog.{SealedView, IsSealed, done_to, undone};

@@ -61,3 +61,8 @@ pub use laws::{
     sealed_records_are_covered, units_of_records_are_one_number,
     unmoved_kernel_stands_for_its_machine,
 };
+
+// Handed on to the crates above, which list only the highest of what they name.
+pub use digester as in_digester;
+pub use migrator as in_migrator;
+pub use migrator::{in_area_reader, in_layout, in_shared_area};

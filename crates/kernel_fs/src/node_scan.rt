@@ -1,17 +1,17 @@
 //! Which inodes are nodes of the shared graph, read once.
 
 ghost use Rattle.std.specs.Prelude.{◌≡◌, ◌≤◌, ◌<◌, ◌+◌, ℕ, false, IfOk, IfErr};
-ghost use Rattle.area_reader.specs.Store.{disk, graph};
-ghost use Rattle.area_reader.specs.declared.error.AreaError.TheVariants.{DeviceFault};
-ghost use Rattle.area_reader.specs.Looks.{Looks};
+ghost use Rattle.migrator.specs.area_reader.Store.{disk, graph};
+ghost use Rattle.migrator.specs.area_reader.declared.error.AreaError.TheVariants.{DeviceFault};
+ghost use Rattle.migrator.specs.area_reader.Looks.{Looks};
 ghost use Rattle.kernel_fs.specs.Inodes.{IsInode, has};
 ghost use Rattle.kernel_fs.specs.Nodes.{AreNodes, is_node};
 ghost use Rattle.kernel_fs.specs.NodeScan.{AreNodesBelow};
 
 use crate::InodeSet;
-use area_reader::AreaError;
+use migrator::in_area_reader::AreaError;
+use migrator::in_shared_area::Shared;
 use posix_calls::MAX_INODE;
-use shared_area::Shared;
 use tier_device::Media;
 
 // Whether an inode is a node, as its slot tells.

@@ -2,15 +2,15 @@
 
 ghost use Rattle.std.specs.Prelude.{◌≡◌, ℕ};
 ghost use Rattle.std.specs.List.{AllByRecursion};
-ghost use Rattle.file_graph.specs.Graph.{Graph, after_effect, after_effects};
-ghost use Rattle.log_record.specs.Grammar.{FitsLimits, IsRecord};
+ghost use Rattle.world_invariant.specs.file_graph.Graph.{Graph, after_effect, after_effects};
+ghost use Rattle.world_invariant.specs.log_record.Grammar.{FitsLimits, IsRecord};
 ghost use Rattle.world_invariant.specs.Logs.{after_records};
 ghost use Rattle.kernel_fs.specs.Inodes.{has};
 ghost use Rattle.kernel_fs.specs.Nodes.{AreNodes};
 
 use crate::inode_set::InodeSet;
-use file_graph::Effect;
-use log_record::Record;
+use world_invariant::in_file_graph::Effect;
+use world_invariant::in_log_record::Record;
 
 impl InodeSet {
     /// Of the nodes of a graph it makes those after records of it, one after the other. The records are some that have a spelling, so that each inode that they make is one.

@@ -2,14 +2,14 @@
 
 ghost use Rattle.std.specs.Prelude.{◌≡◌, ◌↔◌, ℕ, IsTrue, Some, true};
 ghost use Rattle.posix_calls.specs.Operations.{is_client};
-ghost use Rattle.area_reader.specs.Store.{disk, marks as marks_of};
+ghost use Rattle.migrator.specs.area_reader.Store.{disk, marks as marks_of};
 ghost use Rattle.kernel_fs.specs.MachineState.{StandBeforeRegions, done_in};
 
 use crate::initial_value::OpenedFrom;
 use digester::mark_of;
-use layout::Marks;
+use migrator::in_layout::Marks;
+use migrator::in_shared_area::Shared;
 use posix_calls::MAX_CLIENTS;
-use shared_area::Shared;
 use std::marker::Model;
 use tier_device::Media;
 
@@ -22,8 +22,8 @@ pub struct Opening<M: Media> {
 
 impl<M: Media> Model for Opening<M> {
     ghost use Rattle.std.specs.Prelude.{◌↔◌, IsTrue};
-    ghost use Rattle.batch_journal.specs.View.{JournalView};
-    ghost use Rattle.area_reader.specs.Store.{disk};
+    ghost use Rattle.migrator.specs.batch_journal.View.{JournalView};
+    ghost use Rattle.migrator.specs.area_reader.Store.{disk};
     ghost use Rattle.kernel_fs.specs.MachineState.{StandBeforeRegions};
 
     ghost Value = { JournalView M };

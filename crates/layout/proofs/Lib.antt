@@ -11,3 +11,5 @@ mod MarksLaws
 pub mod Pairs
 mod SlotLaws
 mod Supers
+-- Handed on to the crates above, which list only the highest of what they name.
+pub use Rattle.file_graph.proofs as file_graph_lemmas

@@ -8,3 +8,5 @@ pub mod Places
 pub mod Slot
 pub mod Super
 pub mod Rows
+-- Handed on to the crates above, which list only the highest of what they name.
+pub use Rattle.file_graph.specs as file_graph

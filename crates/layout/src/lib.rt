@@ -46,3 +46,6 @@ pub use places::{
 };
 pub use slot::Slot;
 pub use superblock::Super;
+
+// Handed on to the crates above, which list only the highest of what they name.
+pub use file_graph as in_file_graph;

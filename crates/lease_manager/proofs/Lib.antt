@@ -8,3 +8,5 @@ pub mod Waiting
 pub mod Cleaned
 pub mod WrittenInodes
 pub mod OneEffect
+-- Handed on to the crates above, which list only the highest of what they name.
+pub use Rattle.log_record.proofs.file_graph_lemmas

@@ -3,9 +3,9 @@ use Rattle.std.proofs.Common.{◌≡◌, ℕ, ◌+◌, ◌-◌, ◌≤◌, ◌==
 use Rattle.std.specs.List.{AllByRecursion}
 use Rattle.std.proofs.lemmas.Bool.Decides.{eqb_tells}
 use Rattle.std.proofs.lemmas.List.{take_all, get_or-set_other}
-use Rattle.file_graph.specs.declared.effect.Effect.{Effect}
-use Rattle.file_graph.specs.declared.effect.Effect.TheVariants as effect
-use Rattle.file_graph.specs.Graph.{is_among, subjects, touches}
+use Rattle.log_record.specs.file_graph.declared.effect.Effect.{Effect}
+use Rattle.log_record.specs.file_graph.declared.effect.Effect.TheVariants as effect
+use Rattle.log_record.specs.file_graph.Graph.{is_among, subjects, touches}
 use Rattle.log_record.specs.Grammar.{FitsLimits}
 use Rattle.lease_manager.specs.Words.{HasWord, lease_place}
 use Rattle.lease_manager.specs.Passes.{PassView, records_of, with_records}

@@ -7,7 +7,7 @@ use Rattle.std.proofs.lemmas.List.{get_or_append_left}
 use Rattle.std.proofs.lemmas.List.Folds.{list_any-append}
 use mathlib.Core.Logic.{dite}
 use native.Mathlib.Decide.{dec_lt}
-use Rattle.file_graph.specs.Graph.{is_among}
+use Rattle.log_record.specs.file_graph.Graph.{is_among}
 use Rattle.lease_manager.specs.Passes.{PassView}
 use Rattle.lease_manager.specs.PassLeases.{AreWritten, writes, written_up_to}
 

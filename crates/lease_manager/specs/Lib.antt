@@ -9,3 +9,6 @@ pub mod Passes
 pub mod RecordCounts
 pub mod PassLeases
 pub mod LeaseCounts
+-- Handed on to the crates above, which list only the highest of what they name.
+pub use Rattle.log_record.specs.file_graph
+pub use Rattle.log_record.specs as log_record

@@ -1,8 +1,8 @@
 -- What a pass holds.
 use Rattle.std.specs.Prelude.{◌≡◌, ℕ, zero, suc, ◌+◌, ◌&&◌, Bool, true, false, List, [], ◌∷◌, ◌++◌, if◌then◌else◌}
 use Rattle.std.specs.List.Sorted.{IsStrictlyIncreasing}
-use Rattle.file_graph.specs.Graph.{is_among}
-use Rattle.file_graph.specs.Numbers.{is_inode}
+use Rattle.log_record.specs.file_graph.Graph.{is_among}
+use Rattle.log_record.specs.file_graph.Numbers.{is_inode}
 use Rattle.lease_manager.specs.declared.view.LeaseMode.{LeaseMode}
 use Rattle.lease_manager.specs.declared.view.LeaseMode.TheVariants.{Free, Reading, Writing, Trying}
 use Rattle.lease_manager.specs.Passes.{PassView, lease_of}

@@ -1,8 +1,8 @@
 -- How many records touch an inode, as a pass counts them.
 use Rattle.std.specs.Prelude.{◌≡◌, ℕ, ◌+◌, List, Bool, if◌then◌else◌}
 use Rattle.std.specs.List.{count_by}
-use Rattle.file_graph.specs.Graph.{is_among, touches}
-use Rattle.file_graph.specs.declared.effect.Effect.{Effect}
+use Rattle.log_record.specs.file_graph.Graph.{is_among, touches}
+use Rattle.log_record.specs.file_graph.declared.effect.Effect.{Effect}
 use Rattle.log_record.specs.declared.format.Record.{Record}
 use Rattle.lease_manager.specs.Words.{HasWord}
 use Rattle.lease_manager.specs.Passes.{PassView, records_of}

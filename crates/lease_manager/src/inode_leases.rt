@@ -1,7 +1,7 @@
 //! The pass counts each record once on each inode that it touches.
 ghost use Rattle.std.specs.Prelude.{◌≡◌, ◌+◌, ◌≤◌, ◌<◌, ◌^◌, ℕ, true, length};
 ghost use Rattle.std.specs.List.{AllByRecursion};
-ghost use Rattle.file_graph.specs.Graph.{is_among, touches};
+ghost use Rattle.log_record.specs.file_graph.Graph.{is_among, touches};
 ghost use Rattle.log_record.specs.Grammar.{FitsLimits, IsRecord};
 ghost use Rattle.lease_manager.specs.declared.view.LeaseMode.TheVariants.{Writing};
 ghost use Rattle.lease_manager.specs.Words.{HasWord};
@@ -9,8 +9,8 @@ ghost use Rattle.lease_manager.specs.Passes.{lease_of, records_of};
 ghost use Rattle.lease_manager.specs.RecordCounts.{HasNoted, HasCleaned, HasUncounted, is_touched, one_if, touch_count};
 
 use crate::{Leases, Pass};
-use file_graph::Effect;
 use log_record::Record;
+use log_record::in_file_graph::Effect;
 
 /// Counts a record with these effects.
 pub fn note_effects(leases: &Leases, pass: &mut Pass, effects: &[Effect])

@@ -32,3 +32,7 @@ pub use pass::{Busy, Pass};
 pub use pass_leases::{is_inode, reads, writes, written_inodes};
 pub use table::{Leases, Opened};
 pub use view::{Event, LeaseMode, Part};
+
+// Handed on to the crates above, which list only the highest of what they name.
+pub use log_record as in_log_record;
+pub use log_record::in_file_graph;

@@ -1,6 +1,6 @@
 //! Which leases a pass holds.
 ghost use Rattle.std.specs.Prelude.{◌≡◌, ◌∷◌, ◌++◌, [], true, false, if◌then◌else◌, IfOk, OnOk};
-ghost use Rattle.file_graph.specs.Numbers.{is_inode};
+ghost use Rattle.log_record.specs.file_graph.Numbers.{is_inode};
 ghost use Rattle.lease_manager.specs.Words.{HasWord};
 ghost use Rattle.lease_manager.specs.declared.layout.TheConstants.{INODES};
 ghost use Rattle.lease_manager.specs.PassLeases.{AreWritten, is_reading, is_writing, reads, writes, written_up_to};

@@ -3,10 +3,10 @@ use Rattle.std.proofs.Common.{Option, refl}
 use Rattle.std.specs.Prelude.{◌==◌}
 use Rattle.std.proofs.lemmas.Bool.{cond-true, eq-eqb}
 use Rattle.posix_calls.specs.Tree.{Descriptors, with_own}
-use Rattle.file_graph.specs.Graph.{Graph}
-use Rattle.call_effects.specs.Knowledge.{Knowledge, Agrees}
-use Rattle.client_plan.specs.declared.outcome.DescriptorChange.{DescriptorChange}
-use Rattle.client_plan.specs.CallPlan.{own_changed}
+use Rattle.lease_manager.specs.file_graph.Graph.{Graph}
+use Rattle.client_log.specs.call_effects.Knowledge.{Knowledge, Agrees}
+use Rattle.client_view.specs.client_plan.declared.outcome.DescriptorChange.{DescriptorChange}
+use Rattle.client_view.specs.client_plan.CallPlan.{own_changed}
 use Rattle.client_view.specs.AfterRecord.{with_change}
 
 -- a descriptor has changed, in what the client knows and in the whole

@@ -2,8 +2,8 @@
 use Rattle.std.proofs.Common.{◌≡◌, Bool, cond, List, ◌++◌, drop, ap, ◌∙◌}
 use Rattle.std.specs.Prelude.{◌==◌}
 use Rattle.tier_device.specs.declared.media.Media.{Ghosts}
-use Rattle.layout.specs.declared.marks.Mark.{Mark}
-use Rattle.log_record.specs.declared.format.Record.{Record}
+use Rattle.kernel_fs.specs.layout.declared.marks.Mark.{Mark}
+use Rattle.lease_manager.specs.log_record.declared.format.Record.{Record}
 use Rattle.client_log.specs.View.{current_records}
 use Rattle.client_view.specs.RecordLists.{Kept, beyond}
 use Rattle.libfs.specs.NeedService.{records_behind}

@@ -6,16 +6,16 @@ use Rattle.std.proofs.lemmas.Bool.{cases_Bool, and_parts, eqb-true, cond-true, c
 use Rattle.std.proofs.lemmas.Bool.Decides.{nat_tests}
 use Rattle.tier_device.specs.declared.media.Media.{Ghosts}
 use Rattle.posix_calls.specs.Content.{with_length}
-use Rattle.file_graph.specs.Graph.{Graph}
-use Rattle.file_graph.specs.Numbers.{in_run}
-use Rattle.layout.specs.declared.marks.Mark.{Mark}
-use Rattle.layout.specs.declared.marks.Marks.{Marks}
-use Rattle.layout.specs.Places.{Sizes}
+use Rattle.lease_manager.specs.file_graph.Graph.{Graph}
+use Rattle.lease_manager.specs.file_graph.Numbers.{in_run}
+use Rattle.kernel_fs.specs.layout.declared.marks.Mark.{Mark}
+use Rattle.kernel_fs.specs.layout.declared.marks.Marks.{Marks}
+use Rattle.kernel_fs.specs.layout.Places.{Sizes}
 use Rattle.lease_manager.specs.Passes.{client_of}
-use Rattle.area_reader.specs.Store.{Store, disk, graph, marks}
+use Rattle.kernel_fs.specs.area_reader.Store.{Store, disk, graph, marks}
 use Rattle.kernel_fs.specs.KernelView.{KernelView}
 use Rattle.kernel_fs.specs.MachineState.{IsMarkIn}
-use Rattle.call_effects.specs.Blocks.{block_of}
+use Rattle.client_log.specs.call_effects.Blocks.{block_of}
 use Rattle.block_cache.specs.CacheList.{bytes_at as kept_bytes, put_block}
 use Rattle.client_view.specs.After.{block_laid, bytes_at}
 use Rattle.client_view.specs.KnowledgeTables.{Held, block_known, copy_at, knows}

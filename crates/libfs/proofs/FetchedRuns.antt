@@ -5,14 +5,14 @@ use Rattle.std.proofs.lemmas.Bool.Decides.{eqb_tells}
 use Rattle.std.proofs.lemmas.Bool.{cases_lt}
 use Rattle.std.proofs.lemmas.List.{get_or_past, length-take, take-append-le, take_all}
 use Rattle.tier_device.specs.declared.media.Media.{Ghosts}
-use Rattle.log_record.specs.declared.format.Record.{Record}
+use Rattle.lease_manager.specs.log_record.declared.format.Record.{Record}
 use Rattle.lease_manager.specs.Passes.{client_of}
-use Rattle.layout.specs.declared.marks.Mark.{Mark}
-use Rattle.layout.specs.Places.{Sizes}
-use Rattle.area_reader.specs.Store.{disk, graph}
+use Rattle.kernel_fs.specs.layout.declared.marks.Mark.{Mark}
+use Rattle.kernel_fs.specs.layout.Places.{Sizes}
+use Rattle.kernel_fs.specs.area_reader.Store.{disk, graph}
 use Rattle.kernel_fs.specs.KernelView.{KernelView}
 use Rattle.kernel_fs.specs.MachineState.{IsMarkIn}
-use Rattle.call_effects.specs.Blocks.{block_of}
+use Rattle.client_log.specs.call_effects.Blocks.{block_of}
 use Rattle.client_view.specs.After.{block_laid, bytes_at, run_after, run_laid}
 use Rattle.client_view.specs.RecordReach.{AreShort, block_length}
 use Rattle.client_view.proofs.Runs.{laid_at, laid_length, same_read}

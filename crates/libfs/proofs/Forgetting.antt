@@ -3,8 +3,8 @@ use Rattle.std.proofs.Common.{◌≡◌, ℕ, ◌+◌, ◌<◌, ◌≤◌, List,
 use Rattle.std.specs.Prelude.{◌||◌}
 use Rattle.std.proofs.lemmas.List.{take_all}
 use Rattle.std.proofs.lemmas.List.Folds.{list_any_more}
-use Rattle.log_record.specs.declared.format.Record.{Record}
-use Rattle.call_effects.specs.Knowledge.{Knowledge}
+use Rattle.lease_manager.specs.log_record.declared.format.Record.{Record}
+use Rattle.client_log.specs.call_effects.Knowledge.{Knowledge}
 use Rattle.block_cache.specs.CacheList.{Block}
 use Rattle.client_view.specs.KnowledgeChanges.{without_blocks_at}
 use Rattle.client_view.specs.AfterRecord.{without_touched}

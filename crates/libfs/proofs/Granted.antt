@@ -4,7 +4,7 @@ use Rattle.std.specs.Prelude.{◌==◌, ◌||◌, ◌&&◌, min, if◌then◌els
 use Rattle.std.proofs.lemmas.Bool.Decides.{eqb_tells}
 use Rattle.std.proofs.lemmas.List.Folds.{list_any-append, list_any_more}
 use Rattle.std.proofs.lemmas.List.{take_all}
-use Rattle.file_graph.specs.Graph.{is_among}
+use Rattle.lease_manager.specs.file_graph.Graph.{is_among}
 use Rattle.posix_calls.specs.Tree.{sum_up_to}
 use Rattle.kernel_fs.specs.Inodes.{IsInode, is_inode, has}
 use Rattle.kernel_fs.proofs.Choosing.{count_more}
@@ -12,8 +12,8 @@ use Rattle.kernel_fs.proofs.Rows.{has_none, inode_tells}
 use Rattle.client_view.specs.KnowledgeTables.{Held, knows}
 use Rattle.tier_device.specs.declared.media.Media.{Ghosts}
 use Rattle.lease_manager.specs.Passes.{client_of}
-use Rattle.world_invariant.specs.LeaseSteps.{without}
-use Rattle.world_invariant.specs.Machine.{Machine}
+use Rattle.client_log.specs.world_invariant.LeaseSteps.{without}
+use Rattle.client_log.specs.world_invariant.Machine.{Machine}
 use Rattle.kernel_fs.specs.Book.{is_free, out_of, units_of}
 use Rattle.kernel_fs.specs.Free.{AreLowest, count_of}
 use Rattle.kernel_fs.specs.Nodes.{nodes_in}

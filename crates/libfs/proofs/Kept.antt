@@ -7,8 +7,8 @@ use Rattle.std.proofs.lemmas.List.Sums.{sum_by-append}
 use Rattle.atomic_table.specs.Seated.{TableId}
 use Rattle.tier_device.specs.declared.media.Media.{Ghosts}
 use Rattle.block_cache.specs.CacheList.{Block}
-use Rattle.log_record.specs.declared.format.Record.{Record}
-use Rattle.update_log.specs.Frames.{with_record}
+use Rattle.lease_manager.specs.log_record.declared.format.Record.{Record}
+use Rattle.client_log.specs.update_log.Frames.{with_record}
 use Rattle.lease_manager.specs.Words.{HasWord}
 use Rattle.lease_manager.specs.Passes.{PassView, client_of, records_of, without_lease}
 use Rattle.client_log.specs.Turns.{Turn, turn_of}
@@ -25,11 +25,11 @@ use Rattle.libfs.specs.RegionSeal.{without_blocks_of}
 use Rattle.client_view.specs.KnowledgeChanges.{without_inode}
 use Rattle.libfs.specs.Sound.{IsSound}
 use Rattle.client_view.specs.declared.own_change.OwnChange.{OwnChange}
-use Rattle.call_effects.specs.Knowledge.{Knowledge}
-use Rattle.call_effects.specs.NodeView.{NodeView, view_after}
+use Rattle.client_log.specs.call_effects.Knowledge.{Knowledge}
+use Rattle.client_log.specs.call_effects.NodeView.{NodeView, view_after}
 use Rattle.client_view.specs.AfterRecord.{is_made, knows_logged, with_made}
-use Rattle.client_plan.specs.declared.outcome.DescriptorChange.{DescriptorChange}
-use Rattle.file_graph.specs.declared.effect.Effect.{Effect}
+use Rattle.client_view.specs.client_plan.declared.outcome.DescriptorChange.{DescriptorChange}
+use Rattle.lease_manager.specs.file_graph.declared.effect.Effect.{Effect}
 use Rattle.std.proofs.lemmas.List.{append-nil}
 
 -- ---- lists of records

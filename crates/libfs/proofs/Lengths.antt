@@ -4,7 +4,7 @@ use Rattle.std.specs.Prelude.{◌==◌}
 use Rattle.std.proofs.Math.Decide.{dec_le}
 use Rattle.std.proofs.lemmas.Bool.{eqb-true, eq-eqb}
 use Rattle.std.proofs.lemmas.List.{take-append-le, take_all, length-drop, length-take-le}
-use Rattle.call_effects.specs.NodeView.{NodeView, FileView, DirView}
+use Rattle.client_log.specs.call_effects.NodeView.{NodeView, FileView, DirView}
 use Rattle.client_view.specs.KnowledgeTables.{Held, copy_at, knows, size_known}
 use Rattle.client_view.specs.BlockPut.{IsBlockLong}
 

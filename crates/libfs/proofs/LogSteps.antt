@@ -3,9 +3,9 @@ use Rattle.std.proofs.Common.{◌≡◌, ◌≢◌, Bool, true, false, cond, [],
 use Rattle.std.specs.Prelude.{Option, Some, None, Result, Ok, Err, is_some, IfOk, IfSome, OnErr}
 use Rattle.std.proofs.lemmas.Bool.{false≢true}
 use Rattle.tier_device.specs.declared.media.Media.{Ghosts}
-use Rattle.update_log.specs.View.{RegionView, records_of}
-use Rattle.update_log.specs.declared.stage.WipeProgress.{WipeProgress}
-use Rattle.update_log.specs.declared.stage.WipeProgress.TheVariants.{Going, Wiped}
+use Rattle.client_log.specs.update_log.View.{RegionView, records_of}
+use Rattle.client_log.specs.update_log.declared.stage.WipeProgress.{WipeProgress}
+use Rattle.client_log.specs.update_log.declared.stage.WipeProgress.TheVariants.{Going, Wiped}
 use Rattle.client_log.specs.declared.error.LogError.{LogError}
 use Rattle.client_log.specs.Turns.{Place, Away, Back, Turn, turn_of, place_of, current_wiped, other_wiped}
 use Rattle.client_log.specs.Steps.{sealed_view}

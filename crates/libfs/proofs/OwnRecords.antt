@@ -4,10 +4,10 @@ use Rattle.std.specs.Prelude.{◌==◌}
 use Rattle.std.proofs.lemmas.List.Sums.{sum_by-cons}
 use Rattle.tier_device.specs.declared.media.Media.{Ghosts}
 use Rattle.client_log.specs.View.{current_records}
-use Rattle.update_log.specs.Frames.{with_record}
-use Rattle.layout.specs.declared.marks.Mark.{Mark}
+use Rattle.client_log.specs.update_log.Frames.{with_record}
+use Rattle.kernel_fs.specs.layout.declared.marks.Mark.{Mark}
 use Rattle.lease_manager.specs.RecordCounts.{is_touched, touch_count}
-use Rattle.log_record.specs.declared.format.Record.{Record}
+use Rattle.lease_manager.specs.log_record.declared.format.Record.{Record}
 use Rattle.libfs.specs.NeedService.{records_behind}
 use Rattle.libfs.specs.View.{ClientView, begun_record, own_records}
 

@@ -10,20 +10,20 @@ use Rattle.posix_calls.specs.declared.call.Call.{Call}
 use Rattle.posix_calls.specs.declared.call.Call.TheVariants.{Pwrite}
 use Rattle.posix_calls.specs.declared.call.Reply.{Reply}
 use Rattle.posix_calls.specs.declared.limits.TheConstants.{MAX_FILE, MAX_TRANSFER}
-use Rattle.file_graph.specs.Numbers.{is_inode}
-use Rattle.log_record.specs.declared.format.Record.{Record}
-use Rattle.update_log.specs.Frames.{end_behind}
-use Rattle.update_log.specs.View.{records_of as records_in}
-use Rattle.update_log.specs.declared.format.TheConstants.{REGION_SIZE}
-use Rattle.call_effects.specs.Knowledge.{Knowledge, part_of}
-use Rattle.client_plan.specs.declared.outcome.DescriptorChange.{DescriptorChange}
-use Rattle.client_plan.specs.declared.outcome.Outcome.{Outcome}
-use Rattle.client_plan.specs.declared.outcome.Outcome.TheVariants as outcomes
-use Rattle.client_plan.specs.declared.plain_writes.PlainWrite.{PlainWrite}
-use Rattle.client_plan.specs.Holdings.{Holdings}
-use Rattle.client_plan.specs.PlainWrite.{IsPlainWrite, write_logged, written_by}
-use Rattle.client_plan.specs.CallPlan.{outcome, OpensInRange, change_in}
-use Rattle.client_plan.specs.Steps.{AreHoldingsOf, IsReady}
+use Rattle.lease_manager.specs.file_graph.Numbers.{is_inode}
+use Rattle.lease_manager.specs.log_record.declared.format.Record.{Record}
+use Rattle.client_log.specs.update_log.Frames.{end_behind}
+use Rattle.client_log.specs.update_log.View.{records_of as records_in}
+use Rattle.client_log.specs.update_log.declared.format.TheConstants.{REGION_SIZE}
+use Rattle.client_log.specs.call_effects.Knowledge.{Knowledge, part_of}
+use Rattle.client_view.specs.client_plan.declared.outcome.DescriptorChange.{DescriptorChange}
+use Rattle.client_view.specs.client_plan.declared.outcome.Outcome.{Outcome}
+use Rattle.client_view.specs.client_plan.declared.outcome.Outcome.TheVariants as outcomes
+use Rattle.client_view.specs.client_plan.declared.plain_writes.PlainWrite.{PlainWrite}
+use Rattle.client_view.specs.client_plan.Holdings.{Holdings}
+use Rattle.client_view.specs.client_plan.PlainWrite.{IsPlainWrite, write_logged, written_by}
+use Rattle.client_view.specs.client_plan.CallPlan.{outcome, OpensInRange, change_in}
+use Rattle.client_view.specs.client_plan.Steps.{AreHoldingsOf, IsReady}
 use Rattle.lease_manager.specs.declared.view.LeaseMode.{LeaseMode}
 use Rattle.lease_manager.specs.declared.view.LeaseMode.TheVariants.{Free, Reading, Writing, Trying}
 use Rattle.lease_manager.specs.Words.{HasWord}

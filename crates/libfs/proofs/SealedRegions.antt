@@ -5,14 +5,14 @@ use Rattle.std.specs.Prelude.{◌≢◌, Result, Ok, Err, IfOk, OnErr}
 use Rattle.tier_device.specs.declared.media.Media.{Ghosts}
 use Rattle.tier_device.specs.declared.media.Tier.TheVariants.{Fast}
 use Rattle.tier_device.specs.Media.{Keeps}
-use Rattle.update_log.specs.Frames.{before_gate, spelled_records}
-use Rattle.update_log.specs.View.{RegionView, records_of}
+use Rattle.client_log.specs.update_log.Frames.{before_gate, spelled_records}
+use Rattle.client_log.specs.update_log.View.{RegionView, records_of}
 use Rattle.client_log.specs.Calls.{IsOnlyRead}
 use Rattle.client_log.specs.View.{LogView, current_records}
 use Rattle.posix_calls.specs.Operations.{is_client}
 use Rattle.lease_manager.specs.Words.{IsClient}
-use Rattle.digester.specs.SealedLog.{SealedView, IsDoneBy, done_to}
-use Rattle.digester.specs.declared.error.DigestError.{DigestError}
+use Rattle.kernel_fs.specs.digester.SealedLog.{SealedView, IsDoneBy, done_to}
+use Rattle.kernel_fs.specs.digester.declared.error.DigestError.{DigestError}
 use Rattle.kernel_fs.specs.declared.chunk_digest.Digestion.{Digestion}
 use Rattle.kernel_fs.specs.declared.chunk_digest.Digestion.TheVariants.{Digested, NotNext, NotAccepted}
 use Rattle.kernel_fs.specs.declared.error.KernelError.{KernelError}

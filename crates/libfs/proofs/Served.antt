@@ -14,17 +14,17 @@ use Rattle.posix_calls.specs.declared.call.Call.{Call}
 use Rattle.posix_calls.specs.declared.operation.Operation.{Operation}
 use Rattle.posix_calls.specs.declared.operation.Missing.TheVariants as missing
 use Rattle.posix_calls.specs.declared.limits.TheConstants.{MAX_INODE}
-use Rattle.file_graph.specs.Graph.{is_among}
-use Rattle.file_graph.specs.Numbers.{is_inode}
-use Rattle.call_effects.specs.Blocks.{blocks_joined, joined_bytes, range_by}
-use Rattle.call_effects.specs.Knowledge.{Knowledge, part_of, with_copy}
-use Rattle.call_effects.specs.NodeView.{NodeView}
-use Rattle.call_effects.specs.Records.{units_asked}
+use Rattle.lease_manager.specs.file_graph.Graph.{is_among}
+use Rattle.lease_manager.specs.file_graph.Numbers.{is_inode}
+use Rattle.client_log.specs.call_effects.Blocks.{blocks_joined, joined_bytes, range_by}
+use Rattle.client_log.specs.call_effects.Knowledge.{Knowledge, part_of, with_copy}
+use Rattle.client_log.specs.call_effects.NodeView.{NodeView}
+use Rattle.client_log.specs.call_effects.Records.{units_asked}
 use Rattle.lease_manager.specs.PassLeases.{is_reading, is_writing, reads, writes}
-use Rattle.client_plan.specs.NeedEffects.{AreUnread, IsLacking, IsShort}
-use Rattle.client_plan.specs.declared.need.Mode.{Mode}
-use Rattle.client_plan.specs.declared.need.Mode.TheVariants.{Read, Write}
-use Rattle.client_plan.specs.declared.need.Need.TheVariants as needs
+use Rattle.client_view.specs.client_plan.NeedEffects.{AreUnread, IsLacking, IsShort}
+use Rattle.client_view.specs.client_plan.declared.need.Mode.{Mode}
+use Rattle.client_view.specs.client_plan.declared.need.Mode.TheVariants.{Read, Write}
+use Rattle.client_view.specs.client_plan.declared.need.Need.TheVariants as needs
 use Rattle.kernel_fs.specs.Free.{count_of}
 use Rattle.kernel_fs.specs.KernelView.{KernelView}
 use Rattle.lease_manager.specs.Passes.{lease_of}

@@ -6,16 +6,16 @@ use Rattle.posix_calls.specs.declared.call.Call.{Call}
 use Rattle.posix_calls.specs.declared.call.Reply.{Reply}
 use Rattle.posix_calls.specs.declared.call.Reply.TheVariants as replies
 use Rattle.posix_calls.specs.declared.errno.Errno.TheVariants.{NoMemory}
-use Rattle.file_graph.specs.Numbers.{is_inode}
-use Rattle.log_record.specs.Grammar.{IsRecord, record_bytes}
-use Rattle.log_record.specs.declared.format.Record.{Record}
-use Rattle.update_log.specs.declared.stage.Stage.TheVariants as stages
-use Rattle.call_effects.specs.Knowledge.{part_of}
-use Rattle.client_plan.specs.declared.outcome.DescriptorChange.{DescriptorChange}
-use Rattle.client_plan.specs.declared.outcome.Outcome.{Outcome}
-use Rattle.client_plan.specs.declared.outcome.Outcome.TheVariants as outcomes
-use Rattle.client_plan.specs.Memory.{wants_memory}
-use Rattle.client_plan.specs.CallPlan.{OpensInRange}
+use Rattle.lease_manager.specs.file_graph.Numbers.{is_inode}
+use Rattle.lease_manager.specs.log_record.Grammar.{IsRecord, record_bytes}
+use Rattle.lease_manager.specs.log_record.declared.format.Record.{Record}
+use Rattle.client_log.specs.update_log.declared.stage.Stage.TheVariants as stages
+use Rattle.client_log.specs.call_effects.Knowledge.{part_of}
+use Rattle.client_view.specs.client_plan.declared.outcome.DescriptorChange.{DescriptorChange}
+use Rattle.client_view.specs.client_plan.declared.outcome.Outcome.{Outcome}
+use Rattle.client_view.specs.client_plan.declared.outcome.Outcome.TheVariants as outcomes
+use Rattle.client_view.specs.client_plan.Memory.{wants_memory}
+use Rattle.client_view.specs.client_plan.CallPlan.{OpensInRange}
 use Rattle.client_log.specs.Steps.{most_of}
 use Rattle.client_log.specs.Turns.{turn_of, record_begun}
 use Rattle.client_view.specs.AfterRecord.{with_change, with_made}

@@ -2,10 +2,10 @@
 use Rattle.tier_device.specs.declared.media.Media.{Ghosts}
 use Rattle.posix_calls.specs.Own.{own_of}
 use Rattle.posix_calls.specs.declared.call.Call.{Call}
-use Rattle.call_effects.specs.Knowledge.{Knowledge, part_of}
-use Rattle.client_plan.specs.Holdings.{Holdings}
-use Rattle.client_plan.specs.CallPlan.{outcome}
-use Rattle.client_plan.specs.declared.outcome.Outcome.{Outcome}
+use Rattle.client_log.specs.call_effects.Knowledge.{Knowledge, part_of}
+use Rattle.client_view.specs.client_plan.Holdings.{Holdings}
+use Rattle.client_view.specs.client_plan.CallPlan.{outcome}
+use Rattle.client_view.specs.client_plan.declared.outcome.Outcome.{Outcome}
 use Rattle.lease_manager.specs.PassLeases.{reads, writes}
 use Rattle.client_log.specs.Steps.{most_of}
 use Rattle.client_view.specs.KnowledgeTables.{knows}

@@ -1,7 +1,7 @@
 -- What the calls on a lease make of a client.
 use Rattle.std.specs.Prelude.{◌≡◌, ◌≢◌, ℕ, false}
-use Rattle.client_plan.specs.declared.need.Mode.{Mode}
-use Rattle.client_plan.specs.declared.need.Mode.TheVariants.{Read, Write}
+use Rattle.client_view.specs.client_plan.declared.need.Mode.{Mode}
+use Rattle.client_view.specs.client_plan.declared.need.Mode.TheVariants.{Read, Write}
 use Rattle.lease_manager.specs.declared.view.LeaseMode.{LeaseMode}
 use Rattle.lease_manager.specs.declared.view.LeaseMode.TheVariants.{Free, Reading, Writing}
 use Rattle.lease_manager.specs.Words.{HasWord}

@@ -3,17 +3,17 @@ use Rattle.std.specs.Prelude.{◌≡◌, ◌≢◌, ◌⊎◌, ℕ, ◌+◌, ◌
 use Rattle.std.specs.List.{filter}
 use Rattle.tier_device.specs.declared.media.Media.{Ghosts}
 use Rattle.posix_calls.specs.Content.{with_length}
-use Rattle.file_graph.specs.Graph.{Graph, is_among}
-use Rattle.file_graph.specs.Numbers.{is_inode}
-use Rattle.file_graph.specs.Units.{charge}
+use Rattle.lease_manager.specs.file_graph.Graph.{Graph, is_among}
+use Rattle.lease_manager.specs.file_graph.Numbers.{is_inode}
+use Rattle.lease_manager.specs.file_graph.Units.{charge}
 use Rattle.block_cache.specs.CacheList.{bytes_at as kept_bytes, put_block, without_file}
 use Rattle.block_cache.specs.declared.bytes.TheConstants.{BLOCK_SIZE}
 use Rattle.block_cache.specs.declared.blocks.TheConstants.{MOST_BLOCKS}
-use Rattle.log_record.specs.declared.format.Record.{Record}
-use Rattle.call_effects.specs.Blocks.{block_of}
-use Rattle.call_effects.specs.Knowledge.{Knowledge, with_copy}
-use Rattle.call_effects.specs.NodeView.{view_at}
-use Rattle.layout.specs.declared.marks.Mark.{Mark}
+use Rattle.lease_manager.specs.log_record.declared.format.Record.{Record}
+use Rattle.client_log.specs.call_effects.Blocks.{block_of}
+use Rattle.client_log.specs.call_effects.Knowledge.{Knowledge, with_copy}
+use Rattle.client_log.specs.call_effects.NodeView.{view_at}
+use Rattle.kernel_fs.specs.layout.declared.marks.Mark.{Mark}
 use Rattle.lease_manager.specs.RecordCounts.{touch_count}
 use Rattle.lease_manager.specs.Words.{HasWord}
 use Rattle.lease_manager.specs.Passes.{client_of, lease_of}
@@ -29,17 +29,17 @@ use Rattle.kernel_fs.specs.declared.book_error.RefillError.TheVariants as refill
 use Rattle.client_view.specs.After.{block_laid, bytes_at}
 use Rattle.client_log.specs.View.{current_records}
 use Rattle.client_view.specs.BlockPut.{IsBlockLong}
-use Rattle.client_plan.specs.declared.need.Need.{Need}
-use Rattle.client_plan.specs.declared.need.Need.TheVariants as needs
-use Rattle.world_invariant.specs.Machine.{Machine, book_pin, unbook_pin}
+use Rattle.client_view.specs.client_plan.declared.need.Need.{Need}
+use Rattle.client_view.specs.client_plan.declared.need.Need.TheVariants as needs
+use Rattle.client_log.specs.world_invariant.Machine.{Machine, book_pin, unbook_pin}
 use Rattle.kernel_fs.specs.KernelView.{KernelView}
 use Rattle.kernel_fs.specs.MachineState.{IsKernelOf, IsMarkIn}
 use Rattle.kernel_fs.specs.declared.error.KernelError.{KernelError}
 use Rattle.kernel_fs.specs.declared.error.KernelError.TheVariants as kernel
-use Rattle.area_reader.specs.Looks.{Looks}
-use Rattle.area_reader.specs.Store.{disk, graph}
-use Rattle.area_reader.specs.declared.error.AreaError.{AreaError}
-use Rattle.area_reader.specs.declared.error.AreaError.TheVariants as area
+use Rattle.kernel_fs.specs.area_reader.Looks.{Looks}
+use Rattle.kernel_fs.specs.area_reader.Store.{disk, graph}
+use Rattle.kernel_fs.specs.area_reader.declared.error.AreaError.{AreaError}
+use Rattle.kernel_fs.specs.area_reader.declared.error.AreaError.TheVariants as area
 use Rattle.libfs.specs.declared.denial.Denied.{Denied}
 use Rattle.libfs.specs.declared.denial.Denied.TheVariants as denied
 use Rattle.libfs.specs.View.{ClientView, own_records}

@@ -1,8 +1,8 @@
 -- Of which inodes a client has copies.
 use Rattle.std.specs.Prelude.{ℕ, ◌<◌, List, Option, Some, None, IsSome}
-use Rattle.log_record.specs.declared.format.Record.{Record}
+use Rattle.lease_manager.specs.log_record.declared.format.Record.{Record}
 use Rattle.lease_manager.specs.RecordCounts.{touch_count}
-use Rattle.call_effects.specs.Knowledge.{Knowledge}
+use Rattle.client_log.specs.call_effects.Knowledge.{Knowledge}
 use Rattle.client_view.specs.AfterRecord.{with_made}
 use Rattle.libfs.specs.declared.begun_record.Begun.{Begun}
 

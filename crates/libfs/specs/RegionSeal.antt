@@ -2,10 +2,10 @@
 use Rattle.std.specs.Prelude.{◌≡◌, ℕ, Bool, false, not, List, [], length, Some, None, if◌then◌else◌}
 use Rattle.std.specs.List.{filter, list_any}
 use Rattle.tier_device.specs.declared.media.Media.{Ghosts}
-use Rattle.log_record.specs.declared.format.Record.{Record}
-use Rattle.update_log.specs.RecordCounts.{next_generation}
-use Rattle.update_log.specs.View.{RegionView, records_of}
-use Rattle.call_effects.specs.Knowledge.{Knowledge}
+use Rattle.lease_manager.specs.log_record.declared.format.Record.{Record}
+use Rattle.client_log.specs.update_log.RecordCounts.{next_generation}
+use Rattle.client_log.specs.update_log.View.{RegionView, records_of}
+use Rattle.client_log.specs.call_effects.Knowledge.{Knowledge}
 use Rattle.client_log.specs.Steps.{sealed_view}
 use Rattle.client_log.specs.Turns.{turn_of, CanSeal, sealed_turn}
 use Rattle.client_log.specs.View.{current_records}

@@ -4,23 +4,23 @@ use Rattle.std.specs.List.{AllByRecursion}
 use Rattle.std.specs.List.Sorted.{IsStrictlyIncreasing}
 use Rattle.std.specs.Option.{ForSome}
 use Rattle.tier_device.specs.declared.media.Media.{Ghosts}
-use Rattle.update_log.specs.View.{RegionView, records_of}
+use Rattle.client_log.specs.update_log.View.{RegionView, records_of}
 use Rattle.client_log.specs.Regions.{IsSealedRegion}
 use Rattle.posix_calls.specs.Operations.{is_client}
-use Rattle.file_graph.specs.Graph.{is_among}
-use Rattle.log_record.specs.Grammar.{IsRecord}
-use Rattle.log_record.specs.declared.format.Record.{Record}
-use Rattle.digester.specs.SealedLog.{SealedView, IsDoneBy, StandsAtMark, undone}
-use Rattle.digester.specs.declared.chunk.Chunk.{Chunk}
-use Rattle.digester.specs.DigestStep.{IsDigested, NamesFirstBad, StaysOrDigests, DigestsOrStays}
-use Rattle.digester.specs.declared.error.DigestError.{DigestError}
-use Rattle.digester.specs.declared.error.DigestError.TheVariants as digests
-use Rattle.area_reader.specs.Store.{disk, graph}
-use Rattle.graph_change.specs.View.{changes_of}
-use Rattle.shared_area.specs.ChangeApply.{MakesFewCalls}
-use Rattle.file_graph.specs.Units.{charge}
-use Rattle.world_invariant.specs.Logs.{units_in}
-use Rattle.world_invariant.specs.Machine.{Machine, Sealed, CanAccept, IsRunning, StandsSealed, accept, digest}
+use Rattle.lease_manager.specs.file_graph.Graph.{is_among}
+use Rattle.lease_manager.specs.log_record.Grammar.{IsRecord}
+use Rattle.lease_manager.specs.log_record.declared.format.Record.{Record}
+use Rattle.kernel_fs.specs.digester.SealedLog.{SealedView, IsDoneBy, StandsAtMark, undone}
+use Rattle.kernel_fs.specs.digester.declared.chunk.Chunk.{Chunk}
+use Rattle.kernel_fs.specs.digester.DigestStep.{IsDigested, NamesFirstBad, StaysOrDigests, DigestsOrStays}
+use Rattle.kernel_fs.specs.digester.declared.error.DigestError.{DigestError}
+use Rattle.kernel_fs.specs.digester.declared.error.DigestError.TheVariants as digests
+use Rattle.kernel_fs.specs.area_reader.Store.{disk, graph}
+use Rattle.kernel_fs.specs.graph_change.View.{changes_of}
+use Rattle.kernel_fs.specs.shared_area.ChangeApply.{MakesFewCalls}
+use Rattle.lease_manager.specs.file_graph.Units.{charge}
+use Rattle.client_log.specs.world_invariant.Logs.{units_in}
+use Rattle.client_log.specs.world_invariant.Machine.{Machine, Sealed, CanAccept, IsRunning, StandsSealed, accept, digest}
 use Rattle.kernel_fs.specs.RegionAccept.{BeginsAtMark, HasAsManyWaiting, IsRegionOf}
 use Rattle.kernel_fs.specs.KernelAnswers.{Answers, OnRefusal}
 use Rattle.kernel_fs.specs.Book.{out_of, units_of, waiting_of}

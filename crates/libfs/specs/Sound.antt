@@ -3,7 +3,7 @@ use Rattle.std.specs.Prelude.{◌≡◌, ◌++◌, Bool, true, [], Option, is_so
 use Rattle.std.specs.Option.{ForSome}
 use Rattle.atomic_table.specs.Seated.{TableId}
 use Rattle.tier_device.specs.declared.media.Media.{Ghosts}
-use Rattle.update_log.specs.Frames.{with_record}
+use Rattle.client_log.specs.update_log.Frames.{with_record}
 use Rattle.lease_manager.specs.Passes.{PassView, client_of}
 use Rattle.client_log.specs.View.{LogView, current_records}
 use Rattle.client_view.specs.KnowledgeTables.{Held, knows}

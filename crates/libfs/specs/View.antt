@@ -1,8 +1,8 @@
 -- A client, as its callers see it.
 use Rattle.std.specs.Prelude.{ℕ, ◌&&◌, ◌++◌, not, Bool, List, Option, is_some, option_map}
 use Rattle.tier_device.specs.declared.media.Media.{Ghosts}
-use Rattle.log_record.specs.declared.format.Record.{Record}
-use Rattle.update_log.specs.Frames.{with_record}
+use Rattle.lease_manager.specs.log_record.declared.format.Record.{Record}
+use Rattle.client_log.specs.update_log.Frames.{with_record}
 use Rattle.lease_manager.specs.Passes.{PassView}
 use Rattle.client_log.specs.View.{LogView, current_records}
 use Rattle.client_view.specs.KnowledgeTables.{Held}

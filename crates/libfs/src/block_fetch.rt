@@ -1,16 +1,16 @@
 //! Blocks of files that a client fetches of the shared graph, with its own records laid over them.
 ghost use Rattle.std.specs.Prelude.{◌≡◌, ◌≢◌, ◌⊎◌, ◌≤◌, ◌<◌, ◌+◌, ◌-◌, ◌*◌, ◌^◌, ◌==◌, ◌↔◌, ◌++◌, ◌∷◌, [], ℕ, List, length, min, true, false, Some, Err, OnOk, OnErr, IfOk, IfErr, IfNone, IfSome, IsTrue, IsErrOf};
 ghost use Rattle.posix_calls.specs.declared.limits.TheConstants.{UNIT_BYTES};
-ghost use Rattle.layout.specs.declared.marks.Mark.{Mark};
+ghost use Rattle.kernel_fs.specs.layout.declared.marks.Mark.{Mark};
 ghost use Rattle.lease_manager.specs.Passes.{client_of, lease_of};
 ghost use Rattle.lease_manager.specs.RecordCounts.{touch_count};
 ghost use Rattle.lease_manager.specs.Words.{HasWord};
 ghost use Rattle.lease_manager.specs.declared.view.LeaseMode.TheVariants.{Free};
-ghost use Rattle.call_effects.specs.Blocks.{block_of};
+ghost use Rattle.client_log.specs.call_effects.Blocks.{block_of};
 ghost use Rattle.client_view.specs.After.{bytes_at, run_laid};
 ghost use Rattle.client_view.specs.BlockPut.{IsBlockLong};
 ghost use Rattle.client_view.specs.RecordReach.{AreShort};
-ghost use Rattle.area_reader.specs.Store.{disk};
+ghost use Rattle.kernel_fs.specs.area_reader.Store.{disk};
 ghost use Rattle.kernel_fs.specs.MachineState.{IsMarkIn};
 ghost use Rattle.libfs.specs.declared.denial.Denied.TheVariants as denied;
 ghost use Rattle.libfs.specs.ClientHoldings.{known_to};
@@ -22,7 +22,7 @@ use crate::copy_fetch::area_denied;
 use crate::denial::Denied;
 use client_view::FetchedBlock;
 use kernel_fs::Kernel;
-use layout::Mark;
+use kernel_fs::in_layout::Mark;
 use lease_manager::is_inode;
 use posix_calls::UNIT_BYTES;
 use std::alloc::{AllocError, Global};

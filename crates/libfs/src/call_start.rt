@@ -2,9 +2,9 @@ ghost use Rattle.std.specs.Prelude.{◌≡◌, ◌≤◌, ◌⊎◌, ◌/◌, le
 ghost use Rattle.posix_calls.specs.declared.call.Call.TheVariants as calls;
 ghost use Rattle.posix_calls.specs.declared.call.Reply.TheVariants as replies;
 ghost use Rattle.posix_calls.specs.declared.errno.Errno.TheVariants.{IoError, NoMemory};
-ghost use Rattle.call_effects.specs.Knowledge.{part_of};
-ghost use Rattle.client_plan.specs.Memory.{wants_memory};
-ghost use Rattle.client_plan.specs.PlainWrite.{write_logged, written_by};
+ghost use Rattle.client_log.specs.call_effects.Knowledge.{part_of};
+ghost use Rattle.client_view.specs.client_plan.Memory.{wants_memory};
+ghost use Rattle.client_view.specs.client_plan.PlainWrite.{write_logged, written_by};
 ghost use Rattle.client_view.specs.KnowledgeTables.{knows};
 ghost use Rattle.client_view.specs.Preparation.{IsPreparedFor};
 ghost use Rattle.libfs.specs.declared.now.Now.TheVariants as now;
@@ -19,15 +19,15 @@ ghost use Rattle.libfs.specs.CallStart.{HasBegun, HasStarted, IsOutOfMemory, IsR
 use crate::begun_record::Begun;
 use crate::client::Client;
 use crate::now::Now;
-use client_plan::{
+use client_view::in_client_plan::{
     DescriptorChange, Outcome, PlainWrite, logged_call_is_a_step, plain_write,
     plain_write_is_logged, plan_call, record_of_write,
 };
 use client_view::{
     ClientCopies, OwnChange, logged_call_can_be_prepared, used_blocks_are_known_as_before,
 };
+use lease_manager::in_log_record::Record;
 use lease_manager::note_effects;
-use log_record::Record;
 use posix_calls::{Call, Errno, MAX_FILE, MAX_TRANSFER, Reply, SharedBytes, UNIT_BYTES};
 use std::alloc::AllocError;
 use tier_device::Media;

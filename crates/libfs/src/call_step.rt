@@ -2,10 +2,10 @@ ghost use Rattle.std.specs.Prelude.{◌≡◌, ◌++◌, ◌∷◌, [], ℕ, Lis
 ghost use Rattle.std.specs.Option.{ForSome};
 ghost use Rattle.posix_calls.specs.declared.call.Reply.TheVariants as replies;
 ghost use Rattle.posix_calls.specs.declared.errno.Errno.TheVariants.{IoError};
-ghost use Rattle.update_log.specs.Stage.{calls_left, next, progress};
-ghost use Rattle.update_log.specs.Calls.{ShowsCall};
-ghost use Rattle.update_log.specs.declared.stage.Progress.TheVariants.{Going, Appended};
-ghost use Rattle.update_log.specs.declared.stage.Stage.TheVariants as stages;
+ghost use Rattle.client_log.specs.update_log.Stage.{calls_left, next, progress};
+ghost use Rattle.client_log.specs.update_log.Calls.{ShowsCall};
+ghost use Rattle.client_log.specs.update_log.declared.stage.Progress.TheVariants.{Going, Appended};
+ghost use Rattle.client_log.specs.update_log.declared.stage.Stage.TheVariants as stages;
 ghost use Rattle.client_log.specs.Calls.{IsMoved, IsMovedOnce};
 ghost use Rattle.client_log.specs.Counts.{AreLeft, CountOf};
 ghost use Rattle.client_log.specs.View.{current_records};
@@ -17,10 +17,10 @@ ghost use Rattle.libfs.specs.CallStep.{IsGoing, HasReplied, HasFailed, call_answ
 
 use crate::begun_record::Begun;
 use crate::client::Client;
+use client_log::in_update_log::Progress;
 use client_view::{ClientCopies, OwnRecords};
 use posix_calls::{Errno, Reply};
 use tier_device::Media;
-use update_log::Progress;
 
 impl<M: Media> Client<M> {
     /// Makes one device call for the call that waits for its answer. The fourth that succeeds ends it: its record is kept, the client knows what that left, and the call is answered. A

@@ -1,11 +1,11 @@
 ghost use Rattle.std.specs.Prelude.{◌≡◌, ◌≢◌, ◌<◌, ℕ, ◌++◌, List, [], true, false, Some, None, IfOk, IfErr, IfSome, is_some, length, IsTrue, ◌↔◌};
 ghost use Rattle.std.specs.List.{AllByRecursion};
-ghost use Rattle.file_graph.specs.Graph.{is_among};
-ghost use Rattle.log_record.specs.Grammar.{IsRecord};
-ghost use Rattle.update_log.specs.RecordCounts.{next_generation};
-ghost use Rattle.update_log.specs.Frames.{end_behind};
-ghost use Rattle.update_log.specs.Stage.{IsUnopened};
-ghost use Rattle.update_log.specs.View.{records_of as records_in};
+ghost use Rattle.lease_manager.specs.file_graph.Graph.{is_among};
+ghost use Rattle.lease_manager.specs.log_record.Grammar.{IsRecord};
+ghost use Rattle.client_log.specs.update_log.RecordCounts.{next_generation};
+ghost use Rattle.client_log.specs.update_log.Frames.{end_behind};
+ghost use Rattle.client_log.specs.update_log.Stage.{IsUnopened};
+ghost use Rattle.client_log.specs.update_log.View.{records_of as records_in};
 ghost use Rattle.lease_manager.specs.declared.view.LeaseMode.TheVariants.{Writing, Trying};
 ghost use Rattle.lease_manager.specs.Words.{HasWord, IsClient};
 ghost use Rattle.lease_manager.specs.Passes.{client_of, lease_of, records_of};
@@ -21,13 +21,13 @@ ghost use Rattle.libfs.specs.OwnCopies.{AreCopied, number_made};
 
 use crate::begun_record::Begun;
 use client_log::ClientLog;
+use client_log::in_update_log::Region;
 use client_view::{ClientCopies, OwnRecords};
+use lease_manager::in_log_record::Record;
 use lease_manager::{LeaseMode, Leases, Pass};
-use log_record::Record;
 use std::alloc::{AllocError, Global};
 use std::marker::Model;
 use tier_device::Media;
-use update_log::Region;
 
 /// One client of the file system. Contracts see its parts (`ClientView`): the pass, the log, what it knows, its pins and spare units, the call that it has begun, and the
 /// records of the region that is away.

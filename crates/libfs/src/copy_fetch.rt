@@ -4,11 +4,11 @@ ghost use Rattle.lease_manager.specs.RecordCounts.{touch_count};
 ghost use Rattle.lease_manager.specs.Passes.{lease_of};
 ghost use Rattle.lease_manager.specs.Words.{HasWord};
 ghost use Rattle.lease_manager.specs.declared.view.LeaseMode.TheVariants.{Free};
-ghost use Rattle.call_effects.specs.Knowledge.{with_copy};
+ghost use Rattle.client_log.specs.call_effects.Knowledge.{with_copy};
 ghost use Rattle.block_cache.specs.CacheList.{without_file};
-ghost use Rattle.area_reader.specs.Map.{WantsMemory};
-ghost use Rattle.area_reader.specs.Store.{disk};
-ghost use Rattle.shared_area.specs.Parts.{IsNoDamage};
+ghost use Rattle.kernel_fs.specs.area_reader.Map.{WantsMemory};
+ghost use Rattle.kernel_fs.specs.area_reader.Store.{disk};
+ghost use Rattle.kernel_fs.specs.shared_area.Parts.{IsNoDamage};
 ghost use Rattle.kernel_fs.specs.KernelAnswers.{OnRefusal};
 ghost use Rattle.libfs.specs.declared.denial.Denied.TheVariants as denied;
 ghost use Rattle.libfs.specs.ClientHoldings.{known_to};
@@ -17,9 +17,9 @@ ghost use Rattle.libfs.specs.View.{own_records};
 
 use crate::client::Client;
 use crate::denial::Denied;
-use area_reader::AreaError;
+use client_view::in_record_validation::NodeSummary;
+use kernel_fs::in_area_reader::AreaError;
 use kernel_fs::{Kernel, KernelError};
-use record_validation::NodeSummary;
 use tier_device::Media;
 
 impl<M: Media> Client<M> {

@@ -5,28 +5,28 @@ ghost use Rattle.posix_calls.specs.Operations.{Step};
 ghost use Rattle.posix_calls.specs.WellFormed.{IsWithinLimits};
 ghost use Rattle.posix_calls.specs.declared.call.Call.{Call};
 ghost use Rattle.posix_calls.specs.declared.call.Reply.{Reply};
-ghost use Rattle.file_graph.specs.Graph.{Graph, after_effects, file_bytes};
-ghost use Rattle.file_graph.specs.Units.{growth};
-ghost use Rattle.log_record.specs.declared.format.Record.{Record};
-ghost use Rattle.call_effects.specs.Knowledge.{Agrees};
-ghost use Rattle.call_effects.specs.NodeView.{FileView};
-ghost use Rattle.call_effects.specs.Wholes.{IsSound, state_of};
-ghost use Rattle.world_invariant.specs.Logs.{after_records};
-ghost use Rattle.client_plan.specs.declared.need.Mode.{Mode};
-ghost use Rattle.client_plan.specs.declared.need.Need.TheVariants as needs;
-ghost use Rattle.client_plan.specs.declared.outcome.DescriptorChange.{DescriptorChange};
-ghost use Rattle.client_plan.specs.declared.outcome.Outcome.TheVariants as outcomes;
-ghost use Rattle.client_plan.specs.CallPlan.{own_changed};
-ghost use Rattle.client_plan.specs.NeedEffects.{longest_record};
-ghost use Rattle.client_plan.specs.Steps.{IsAnswered, AreHoldingsOf, IsReady, IsRefused};
+ghost use Rattle.lease_manager.specs.file_graph.Graph.{Graph, after_effects, file_bytes};
+ghost use Rattle.lease_manager.specs.file_graph.Units.{growth};
+ghost use Rattle.lease_manager.specs.log_record.declared.format.Record.{Record};
+ghost use Rattle.client_log.specs.call_effects.Knowledge.{Agrees};
+ghost use Rattle.client_log.specs.call_effects.NodeView.{FileView};
+ghost use Rattle.client_log.specs.call_effects.Wholes.{IsSound, state_of};
+ghost use Rattle.client_log.specs.world_invariant.Logs.{after_records};
+ghost use Rattle.client_view.specs.client_plan.declared.need.Mode.{Mode};
+ghost use Rattle.client_view.specs.client_plan.declared.need.Need.TheVariants as needs;
+ghost use Rattle.client_view.specs.client_plan.declared.outcome.DescriptorChange.{DescriptorChange};
+ghost use Rattle.client_view.specs.client_plan.declared.outcome.Outcome.TheVariants as outcomes;
+ghost use Rattle.client_view.specs.client_plan.CallPlan.{own_changed};
+ghost use Rattle.client_view.specs.client_plan.NeedEffects.{longest_record};
+ghost use Rattle.client_view.specs.client_plan.Steps.{IsAnswered, AreHoldingsOf, IsReady, IsRefused};
 ghost use Rattle.block_cache.specs.declared.blocks.TheConstants.{MOST_BLOCKS};
 ghost use Rattle.client_view.specs.AfterRecord.{knows_logged, with_change};
 ghost use Rattle.client_log.specs.Steps.{most_of};
-ghost use Rattle.update_log.specs.View.{records_of};
-ghost use Rattle.area_reader.specs.Store.{disk};
+ghost use Rattle.client_log.specs.update_log.View.{records_of};
+ghost use Rattle.kernel_fs.specs.area_reader.Store.{disk};
 ghost use Rattle.kernel_fs.specs.KernelView.{KernelView};
 ghost use Rattle.kernel_fs.specs.MachineState.{IsMarkIn};
-ghost use Rattle.layout.specs.declared.marks.Mark.{Mark};
+ghost use Rattle.kernel_fs.specs.layout.declared.marks.Mark.{Mark};
 ghost use Rattle.lease_manager.specs.Passes.{client_of, lease_of};
 ghost use Rattle.lease_manager.specs.Words.{HasWord};
 ghost use Rattle.libfs.specs.LeaseCalls.{mode_of};
@@ -34,7 +34,7 @@ ghost use Rattle.libfs.specs.View.{ClientView};
 ghost use Rattle.libfs.specs.ClientHoldings.{holdings_of, known_to, outcome_for};
 ghost use Rattle.libfs.specs.NeedService.{AreAsLong, HasFetched, HasRefilled, HasThem, IsServable, records_behind, shared_by, with_pin, without_pin};
 
-use client_plan::{
+use client_view::in_client_plan::{
     answered_call_is_a_step, logged_call_is_a_step, room_for_the_longest_record_is_enough,
     served_need_is_lacking_no_longer,
 };

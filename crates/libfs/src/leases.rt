@@ -10,7 +10,7 @@ ghost use Rattle.lease_manager.specs.LeaseCounts.{CountsAs};
 ghost use Rattle.libfs.specs.LeaseCalls.{CanBeGiven, HasGiven, ShowsBar, mode_of, refused_pass};
 
 use crate::client::Client;
-use client_plan::Mode;
+use client_view::in_client_plan::Mode;
 use lease_manager::{Busy, LeaseMode, Leases, Pass, is_inode, raise, take_read, take_write};
 use tier_device::Media;
 

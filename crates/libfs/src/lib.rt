@@ -38,3 +38,12 @@ pub use laws::{
 };
 pub use now::Now;
 pub use sealed_region::SealedRegion;
+
+// Handed on to the crates above, which list only the highest of what they name.
+pub use client_log as in_client_log;
+pub use client_log::in_update_log;
+pub use client_view::{in_client_plan, in_record_validation};
+pub use kernel_fs as in_kernel_fs;
+pub use kernel_fs::{in_area_reader, in_digester, in_layout, in_migrator, in_shared_area};
+pub use lease_manager as in_lease_manager;
+pub use lease_manager::{in_file_graph, in_log_record};

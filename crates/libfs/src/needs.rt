@@ -3,19 +3,19 @@ ghost use Rattle.std.specs.Prelude.{◌≡◌, ◌≢◌, ◌⊎◌, ◌<◌, �
 ghost use Rattle.lease_manager.specs.Passes.{lease_of};
 ghost use Rattle.lease_manager.specs.Words.{HasWord};
 ghost use Rattle.lease_manager.specs.declared.view.LeaseMode.TheVariants.{Free};
-ghost use Rattle.file_graph.specs.Units.{charge};
+ghost use Rattle.lease_manager.specs.file_graph.Units.{charge};
 ghost use Rattle.kernel_fs.specs.Book.{is_free, out_of};
 ghost use Rattle.kernel_fs.specs.Free.{count_of};
 ghost use Rattle.kernel_fs.specs.Nodes.{nodes_in};
-ghost use Rattle.area_reader.specs.Map.{WantsMemory};
-ghost use Rattle.area_reader.specs.Store.{disk};
+ghost use Rattle.kernel_fs.specs.area_reader.Map.{WantsMemory};
+ghost use Rattle.kernel_fs.specs.area_reader.Store.{disk};
 ghost use Rattle.libfs.specs.declared.denial.Denied.TheVariants as denied;
 ghost use Rattle.libfs.specs.ClientHoldings.{known_to};
 ghost use Rattle.libfs.specs.NeedService.{HasNotServed, HasServed, IsServable, LeavesKernel, MayBeDenied, copy_needed, inodes_needed, is_read, shared_by, units_needed};
 
 use crate::client::Client;
 use crate::denial::Denied;
-use client_plan::Need;
+use client_view::in_client_plan::Need;
 use kernel_fs::Kernel;
 use lease_manager::{LeaseMode, is_inode};
 use tier_device::Media;

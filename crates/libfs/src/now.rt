@@ -1,4 +1,4 @@
-use client_plan::Need;
+use client_view::in_client_plan::Need;
 use posix_calls::Reply;
 
 /// What becomes of a call as it is started.

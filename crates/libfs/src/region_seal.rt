@@ -1,6 +1,6 @@
 ghost use Rattle.std.specs.Prelude.{◌≡◌, ◌≢◌, ◌⊎◌, ◌↔◌, ℕ, List, true, false, None, Some, Ok, Err, IfOk, IfErr, IfSome, IfNone, IsSome, IsOk, IsTrue, OnOk, OnErr, is_some};
-ghost use Rattle.update_log.specs.View.{RegionView};
-ghost use Rattle.update_log.specs.declared.stage.WipeProgress.TheVariants as wipes;
+ghost use Rattle.client_log.specs.update_log.View.{RegionView};
+ghost use Rattle.client_log.specs.update_log.declared.stage.WipeProgress.TheVariants as wipes;
 ghost use Rattle.client_log.specs.declared.error.LogError.TheVariants.{DeviceFault};
 ghost use Rattle.client_log.specs.Counts.{AreLeft, CountOf};
 ghost use Rattle.client_log.specs.Steps.{CanBeSealed, WipesCurrent, WipesOther};
@@ -14,13 +14,13 @@ ghost use Rattle.libfs.specs.SealedRegion.{IsUntouched};
 
 use crate::client::Client;
 use crate::sealed_region::SealedRegion;
+use client_log::in_update_log::WipeProgress;
 use client_log::{LogError, next_generation};
 use client_view::ClientCopies;
+use lease_manager::in_log_record::Record;
 use lease_manager::{clean_records, written_inodes};
-use log_record::Record;
 use std::alloc::AllocError;
 use tier_device::Media;
-use update_log::WipeProgress;
 
 impl<M: Media> Client<M> {
     /// Seals the current region and hands it over, with its records, to be digested. The client goes on in the other one, which may have to be wiped first. It makes no device call. The

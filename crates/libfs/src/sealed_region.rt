@@ -5,26 +5,26 @@ ghost use Rattle.std.specs.List.{AllByRecursion};
 ghost use Rattle.std.specs.List.Sorted.{IsStrictlyIncreasing};
 ghost use Rattle.tier_device.specs.declared.media.Tier.TheVariants.{Fast};
 ghost use Rattle.tier_device.specs.Media.{Rose};
-ghost use Rattle.update_log.specs.Frames.{records};
-ghost use Rattle.update_log.specs.View.{records_of};
-ghost use Rattle.update_log.specs.WipeStops.{generation as named_in};
+ghost use Rattle.client_log.specs.update_log.Frames.{records};
+ghost use Rattle.client_log.specs.update_log.View.{records_of};
+ghost use Rattle.client_log.specs.update_log.WipeStops.{generation as named_in};
 ghost use Rattle.client_log.specs.Calls.{IsOnlyRead};
 ghost use Rattle.client_log.specs.Regions.{IsSealedRegion};
 ghost use Rattle.client_log.specs.declared.error.LogError.TheVariants as logs;
-ghost use Rattle.log_record.specs.Grammar.{IsRecord};
+ghost use Rattle.lease_manager.specs.log_record.Grammar.{IsRecord};
 ghost use Rattle.posix_calls.specs.Operations.{is_client};
-ghost use Rattle.digester.specs.Chunk.{IsChunkOf, is_next};
-ghost use Rattle.digester.specs.SealedLog.{HasUndigested, IsSealed};
-ghost use Rattle.digester.specs.declared.error.DigestError.TheVariants.{Memory};
+ghost use Rattle.kernel_fs.specs.digester.Chunk.{IsChunkOf, is_next};
+ghost use Rattle.kernel_fs.specs.digester.SealedLog.{HasUndigested, IsSealed};
+ghost use Rattle.kernel_fs.specs.digester.declared.error.DigestError.TheVariants.{Memory};
 ghost use Rattle.libfs.specs.SealedRegion.{AcceptsLog, DigestsChunk, log_of};
 
+use client_log::in_update_log::Region;
 use client_log::{LogError, left_of_sealed, read_sealed};
-use digester::{Chunk, DigestError, SealedLog, prepare};
+use kernel_fs::in_digester::{Chunk, DigestError, SealedLog, prepare};
 use kernel_fs::{AcceptError, Digestion, Kernel, KernelError};
 use std::alloc::Global;
 use std::marker::Model;
 use tier_device::Media;
-use update_log::Region;
 
 /// A region that its client sealed, with all its records, until the client takes it back: its records are read, the kernel accepts it, and it is digested chunk by chunk. Nothing is
 /// written to it meanwhile.

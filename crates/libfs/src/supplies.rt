@@ -3,7 +3,7 @@ ghost use Rattle.std.specs.Prelude.{◌≡◌};
 ghost use Rattle.libfs.specs.ClientHoldings.{holdings_of};
 
 use crate::client::Client;
-use client_plan::Supplies;
+use client_view::in_client_plan::Supplies;
 use lease_manager::{reads, writes};
 use posix_calls::OwnDescriptors;
 use tier_device::Media;

@@ -22,3 +22,6 @@ pub use numbers::record_has_its_numbers;
 pub use record_reads::{is_payload, read_payload, read_record};
 pub use record_writes::{write_behind, write_record};
 pub use touched_inodes::{TouchedInodes, read_touched_inodes};
+
+// Handed on to the crates above, which list only the highest of what they name.
+pub use file_graph as in_file_graph;

@@ -1,9 +1,9 @@
 -- Small cases, computed: what counts of two regions of bytes, which generations are free, and whose an inode is.
 use Rattle.std.proofs.Common.{◌≡◌, ℕ, zero, suc, ◌-◌, ◌^◌, false, List, [], ◌∷◌, ◌++◌, replicate, flat_map, find, map, Option, Some, refl}
-use Rattle.file_graph.specs.declared.effect.Effect.TheVariants as effect
-use Rattle.file_graph.specs.declared.effect.Kind.TheVariants as kind
-use Rattle.log_record.specs.declared.format.Record.{Record}
-use Rattle.log_record.specs.Grammar.{record_of, record_at, header_at, effects_at, effect_at, fields_at, dropped_at}
+use Rattle.update_log.specs.file_graph.declared.effect.Effect.TheVariants as effect
+use Rattle.update_log.specs.file_graph.declared.effect.Kind.TheVariants as kind
+use Rattle.update_log.specs.log_record.declared.format.Record.{Record}
+use Rattle.update_log.specs.log_record.Grammar.{record_of, record_at, header_at, effects_at, effect_at, fields_at, dropped_at}
 use Rattle.update_log.specs.RecordCounts.{counted_records}
 use Rattle.log_survey.specs.Generations.{is_free, later}
 use Rattle.log_survey.specs.Owners.{is_foreign, owner_among, touched_inodes}

@@ -3,7 +3,7 @@ use Rattle.std.proofs.Common.{◌≡◌, inl, inr, ◌↔◌, ℕ, zero, suc, �
 use Rattle.std.proofs.lemmas.Bool.{cases_Bool, cases_eq, cases_order, cond-true, cond-false, ne_eqb, eq-eqb, and_parts, and_from, leb-true, le-leb, not_from_true, not_from_false, false_from_ne_true, both_ways}
 use Rattle.posix_calls.specs.Operations.{is_client}
 use Rattle.posix_calls.specs.declared.limits.TheConstants.{MAX_CLIENTS}
-use Rattle.log_record.specs.declared.format.Record.{Record}
+use Rattle.update_log.specs.log_record.declared.format.Record.{Record}
 use Rattle.world_invariant.specs.Logs.{is_written, LogsAreApart}
 use Rattle.world_invariant.proofs.Records.{written_append, front_written, rest_written}
 use Rattle.log_survey.proofs.TableLemmas.{one_or_other}

@@ -3,7 +3,7 @@ use Rattle.std.proofs.Common.{◌≡◌, ◌≢◌, ℕ, ◌%◌, ◌<◌, List,
 use Rattle.std.specs.Prelude.{◌==◌}
 use Rattle.std.proofs.lemmas.Bool.{eq-eqb, ne_eqb, cond-true, cond-false}
 use Rattle.std.proofs.lemmas.List.{drop_min, drop_all}
-use Rattle.log_record.specs.declared.format.Record.{Record}
+use Rattle.update_log.specs.log_record.declared.format.Record.{Record}
 use Rattle.update_log.specs.Frames.{records}
 use Rattle.update_log.specs.WipeStops.{generation}
 use Rattle.update_log.specs.RecordCounts.{records_in}

@@ -5,10 +5,10 @@ use Rattle.std.specs.List.{flat_map}
 use Rattle.std.proofs.lemmas.Bool.{cases_Bool, cond-true, cond-false, eqb-true, eq-eqb, or_cases, both_ways, false≢true}
 use Rattle.std.proofs.lemmas.List.{at_drop_more}
 use Rattle.std.proofs.lemmas.List.Folds.{list_any-append}
-use Rattle.log_record.specs.Grammar.{IsInode}
-use Rattle.log_record.specs.Touches.{inodes_of}
-use Rattle.file_graph.specs.Graph.{is_among, touches}
-use Rattle.log_record.specs.declared.format.Record.{Record}
+use Rattle.update_log.specs.log_record.Grammar.{IsInode}
+use Rattle.update_log.specs.log_record.Touches.{inodes_of}
+use Rattle.update_log.specs.file_graph.Graph.{is_among, touches}
+use Rattle.update_log.specs.log_record.declared.format.Record.{Record}
 use Rattle.world_invariant.specs.Logs.{is_touched, is_written}
 use Rattle.log_survey.specs.Owners.{AreTouchedBy, IsClear, listed, touched_inodes, is_foreign, owner, with_owner}
 

@@ -3,13 +3,13 @@ use Rattle.std.proofs.Common.{◌≡◌, inl, inr, ℕ, zero, suc, ◌%◌, true
 use Rattle.std.specs.List.{cons_option}
 use Rattle.std.proofs.lemmas.Bool.{eqb-true, or_cases, false≢true, cases_Bool, cond_both}
 use Rattle.std.proofs.lemmas.List.Folds.{list_any-append}
-use Rattle.file_graph.specs.Graph.{is_among, subjects, touches}
-use Rattle.file_graph.specs.declared.effect.Effect.{Effect}
-use Rattle.file_graph.specs.declared.effect.Effect.TheVariants as effect
-use Rattle.log_record.specs.declared.format.Record.{Record}
-use Rattle.log_record.specs.Grammar.{◌>>=◌, IsInode, FitsLimits, fits, fields_at, effect_at, effects_at, header_at, record_at, record_of}
-use Rattle.log_record.proofs.Fields.{bind_some, test_some, some_is}
-use Rattle.log_record.proofs.Effects.{Fits-from_fits}
+use Rattle.update_log.specs.file_graph.Graph.{is_among, subjects, touches}
+use Rattle.update_log.specs.file_graph.declared.effect.Effect.{Effect}
+use Rattle.update_log.specs.file_graph.declared.effect.Effect.TheVariants as effect
+use Rattle.update_log.specs.log_record.declared.format.Record.{Record}
+use Rattle.update_log.specs.log_record.Grammar.{◌>>=◌, IsInode, FitsLimits, fits, fields_at, effect_at, effects_at, header_at, record_at, record_of}
+use Rattle.update_log.proofs.log_record_lemmas.Fields.{bind_some, test_some, some_is}
+use Rattle.update_log.proofs.log_record_lemmas.Effects.{Fits-from_fits}
 use Rattle.update_log.specs.Frames.{payloads, records, spelled_records}
 use Rattle.update_log.specs.WipeStops.{generation}
 use Rattle.update_log.specs.RecordCounts.{records_under, records_in, next_generation, counted_records}

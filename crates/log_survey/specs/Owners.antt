@@ -2,10 +2,10 @@
 -- that the records of two clients touch is written by either. An inode that is entered under a name is not touched by that.
 use Rattle.std.specs.Prelude.{◌≡◌, ◌≢◌, ℕ, zero, suc, ◌==◌, Bool, true, false, not, List, find, map, slice_index_or, Option, Some, None, if◌then◌else◌}
 use Rattle.std.specs.List.{flat_map}
-use Rattle.file_graph.specs.Graph.{is_among, touches}
-use Rattle.log_record.specs.Grammar.{IsInode}
-use Rattle.log_record.specs.Touches.{inodes_of}
-use Rattle.log_record.specs.declared.format.Record.{Record}
+use Rattle.update_log.specs.file_graph.Graph.{is_among, touches}
+use Rattle.update_log.specs.log_record.Grammar.{IsInode}
+use Rattle.update_log.specs.log_record.Touches.{inodes_of}
+use Rattle.update_log.specs.log_record.declared.format.Record.{Record}
 use Rattle.world_invariant.specs.Logs.{is_written}
 use Rattle.log_survey.specs.declared.owners.SharedInode.{SharedInode}
 

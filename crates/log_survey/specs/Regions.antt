@@ -1,6 +1,6 @@
 -- What is read of a client's two regions, and which records an answer has.
 use Rattle.std.specs.Prelude.{◌≡◌, ◌≢◌, ℕ, ◌<◌, List, [], ◌++◌, length, drop, slice_index, Option, Some, None}
-use Rattle.log_record.specs.declared.format.Record.{Record}
+use Rattle.update_log.specs.log_record.declared.format.Record.{Record}
 use Rattle.update_log.specs.Frames.{header, records}
 use Rattle.update_log.specs.WipeStops.{generation}
 use Rattle.update_log.specs.RecordCounts.{next_generation}

@@ -1,7 +1,7 @@
 // What holds of all logs of eight clients.
 ghost use Rattle.std.specs.Prelude.{◌≡◌, ◌<◌, ◌+◌, ◌++◌, ◌↔◌, ℕ, List, Option, None};
 ghost use Rattle.posix_calls.specs.declared.limits.TheConstants.{MAX_CLIENTS};
-ghost use Rattle.log_record.specs.declared.format.Record.{Record};
+ghost use Rattle.update_log.specs.log_record.declared.format.Record.{Record};
 ghost use Rattle.update_log.specs.RecordCounts.{counted_records};
 ghost use Rattle.update_log.specs.Frames.{records};
 ghost use Rattle.world_invariant.specs.Logs.{LogsAreApart};

@@ -14,3 +14,6 @@ pub use laws::{counted_records_touch_inodes, owners_decide_whether_logs_are_apar
 pub use next_generation::next_free_generation;
 pub use owners::{Owners, SharedInode};
 pub use regions::{CountedLogs, LogRest, logs_that_count};
+
+// Handed on to the crates above, which list only the highest of what they name.
+pub use update_log as in_update_log;

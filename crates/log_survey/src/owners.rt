@@ -1,13 +1,13 @@
 // Which client's records touch each inode.
 ghost use Rattle.std.specs.Prelude.{◌≡◌, ◌≢◌, ◌+◌, ◌↔◌, ℕ, List, [], ◌∷◌, length, find, Some, None, IfOk, IfErr, IsOk, OnOk, OnErr};
-ghost use Rattle.log_record.specs.Grammar.{IsInode};
-ghost use Rattle.log_record.specs.declared.format.Record.{Record};
+ghost use Rattle.update_log.specs.log_record.Grammar.{IsInode};
+ghost use Rattle.update_log.specs.log_record.declared.format.Record.{Record};
 ghost use Rattle.log_survey.specs.Owners.{AreAdded, AreTouchedBy, IsClear, IsFirstShared, is_foreign, listed, owner, touched_inodes, with_owner};
 
-use log_record::TouchedInodes;
 use posix_calls::MAX_INODE;
 use std::alloc::{AllocError, Global};
 use std::marker::Model;
+use update_log::in_log_record::TouchedInodes;
 
 /// An inode that the records of two clients touch.
 #[derive(Clone, Copy, Debug, PartialEq, Eq)]

@@ -3,8 +3,8 @@ use Rattle.std.proofs.Common.{◌≡◌, ◌≤◌, ◌<◌, ◌+◌, ℕ, inl, 
 use Rattle.std.specs.Prelude.{nat_le, IfSome}
 use Rattle.std.proofs.lemmas.Bool.{cases_lt, and_parts, leb-true, false_from_ne_true}
 use Rattle.tier_device.specs.declared.media.Tier.{Tier}
-use Rattle.layout.specs.Places.{Sizes, is_inode}
-use Rattle.area_reader.specs.Store.{Store}
+use Rattle.shared_area.specs.layout.Places.{Sizes, is_inode}
+use Rattle.shared_area.specs.area_reader.Store.{Store}
 use Rattle.shared_area.specs.FirstRun.{file_lies, FindsRun}
 use Rattle.shared_area.proofs.FirstRuns.{no_inode_lies}
 use Rattle.block_alloc.specs.declared.runs.Run.{Run}

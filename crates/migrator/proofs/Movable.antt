@@ -3,15 +3,15 @@ use Rattle.std.proofs.Common.{◌≡◌, ◌≤◌, ◌<◌, ◌+◌, ◌-◌, �
 use Rattle.std.specs.Prelude.{Result, Ok, Err, IsSome, IfSome, IfOk, nat_le, nat_lt}
 use Rattle.std.proofs.lemmas.Bool.{and_parts, leb-true, ltb-true}
 use Rattle.tier_device.specs.declared.media.Tier.{Tier}
-use Rattle.file_graph.specs.declared.effect.Kind.TheVariants as kind
-use Rattle.layout.specs.declared.slot.Slot.{Slot}
-use Rattle.layout.specs.declared.slot.Slot.TheVariants as slots
-use Rattle.layout.specs.Places.{Sizes}
-use Rattle.extent_tree.specs.Places.{in_run}
-use Rattle.tree_blocks.specs.Inode.{LogicalBlocks, inode_of}
-use Rattle.area_reader.specs.Store.{Store, slot, place, logical_block}
-use Rattle.area_reader.specs.declared.error.AreaError.{AreaError}
-use Rattle.inode_plan.specs.RunPlaces.{is_faster}
+use Rattle.shared_area.specs.file_graph.declared.effect.Kind.TheVariants as kind
+use Rattle.shared_area.specs.layout.declared.slot.Slot.{Slot}
+use Rattle.shared_area.specs.layout.declared.slot.Slot.TheVariants as slots
+use Rattle.shared_area.specs.layout.Places.{Sizes}
+use Rattle.shared_area.specs.extent_tree.Places.{in_run}
+use Rattle.shared_area.specs.tree_blocks.Inode.{LogicalBlocks, inode_of}
+use Rattle.shared_area.specs.area_reader.Store.{Store, slot, place, logical_block}
+use Rattle.shared_area.specs.area_reader.declared.error.AreaError.{AreaError}
+use Rattle.shared_area.specs.inode_plan.RunPlaces.{is_faster}
 use Rattle.shared_area.specs.FirstRun.{file_place, file_lies}
 use Rattle.migrator.specs.declared.run_choice.FileRun.{FileRun}
 use Rattle.migrator.specs.RunChoice.{IsPickedIn, MayBeMoved}

@@ -2,9 +2,9 @@
 use Rattle.std.specs.Prelude.{◌≡◌, ◌⊎◌, ◌<◌, ◌≤◌, ℕ, Option, Some, None, IsSome}
 use Rattle.tier_device.specs.declared.media.Tier.{Tier}
 use Rattle.tier_device.specs.declared.media.Tier.TheVariants as tiers
-use Rattle.layout.specs.Places.{Sizes}
-use Rattle.area_reader.specs.Store.{Store, slot, touch_of}
-use Rattle.relocation.specs.TierMove.{CanMove}
+use Rattle.shared_area.specs.layout.Places.{Sizes}
+use Rattle.shared_area.specs.area_reader.Store.{Store, slot, touch_of}
+use Rattle.shared_area.specs.relocation.TierMove.{CanMove}
 use Rattle.shared_area.specs.FirstRun.{file_lies, IsFirstRun}
 use Rattle.migrator.specs.declared.run_choice.FileRun.{FileRun}
 

@@ -1,14 +1,14 @@
 // A run is moved down.
 ghost use Rattle.std.specs.Prelude.{◌≡◌, ◌≤◌, ◌+◌, false, OnOk, IfErr, IsErrOf};
-ghost use Rattle.area_reader.specs.Store.{disk, graph, marks};
-ghost use Rattle.area_reader.specs.Refusals.{IsMoveRefusal};
-ghost use Rattle.relocation.specs.TierMove.{CanMove, IsMoved};
-ghost use Rattle.relocation.specs.MovableFile.{HasFileRun};
-ghost use Rattle.area_reader.specs.declared.error.AreaError.TheVariants.{NotMapped, NoBlock, Memory};
+ghost use Rattle.shared_area.specs.area_reader.Store.{disk, graph, marks};
+ghost use Rattle.shared_area.specs.area_reader.Refusals.{IsMoveRefusal};
+ghost use Rattle.shared_area.specs.relocation.TierMove.{CanMove, IsMoved};
+ghost use Rattle.shared_area.specs.relocation.MovableFile.{HasFileRun};
+ghost use Rattle.shared_area.specs.area_reader.declared.error.AreaError.TheVariants.{NotMapped, NoBlock, Memory};
 ghost use Rattle.shared_area.specs.TierMoves.{HasTooFew, HasEnough, StaysOpen, MovesOrStays};
 
-use area_reader::AreaError;
 use shared_area::Shared;
+use shared_area::in_area_reader::AreaError;
 use tier_device::{Media, Tier};
 
 /// Moves a run of a file's logical blocks, `count` of them from block `first` on, to a tier that is slower than those in which they lie. The graph stays: a stop at any moment

@@ -1,16 +1,16 @@
 // Which run is moved down next.
 ghost use Rattle.std.specs.Prelude.{◌≡◌, ◌≤◌, ◌<◌, ◌+◌, ℕ, Some, None, false, IfOk, IfErr, IfSome, IsTrue};
-ghost use Rattle.area_reader.specs.Store.{disk};
-ghost use Rattle.area_reader.specs.Looks.{Looks};
-ghost use Rattle.area_reader.specs.Map.{WantsMemory};
-ghost use Rattle.area_reader.specs.declared.error.AreaError.TheVariants.{DeviceFault, Memory};
+ghost use Rattle.shared_area.specs.area_reader.Store.{disk};
+ghost use Rattle.shared_area.specs.area_reader.Looks.{Looks};
+ghost use Rattle.shared_area.specs.area_reader.Map.{WantsMemory};
+ghost use Rattle.shared_area.specs.area_reader.declared.error.AreaError.TheVariants.{DeviceFault, Memory};
 ghost use Rattle.shared_area.specs.Parts.{IsNoDamage};
 ghost use Rattle.migrator.specs.RunChoice.{FoundFile, IsBestBelow, IsPicked, IsPickedIn, MayBeMoved, pick_of};
 
-use area_reader::AreaError;
 use block_alloc::Run;
 use posix_calls::MAX_INODE;
 use shared_area::Shared;
+use shared_area::in_area_reader::AreaError;
 use tier_device::{Media, Tier};
 
 /// The most blocks that are moved at once.

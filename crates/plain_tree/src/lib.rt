@@ -11,3 +11,6 @@ mod operations;
 mod plain;
 
 pub use plain::PlainTree;
+
+// Handed on to the crates above, which list only the highest of what they name.
+pub use file_graph as in_file_graph;

@@ -6,12 +6,12 @@ use Rattle.std.specs.FinMap as fin
 use Rattle.std.proofs.lemmas.Bool.{false≢true, and_parts, and_from, leb-true, le-leb}
 use Rattle.std.proofs.lemmas.Bool.Decides.{eqb_tells}
 use Rattle.posix_calls.specs.declared.limits.TheConstants.{MAX_FILE, MAX_ENTRIES, MAX_NAMES}
-use Rattle.file_graph.specs.declared.effect.Effect.{Effect}
-use Rattle.file_graph.specs.Graph.{Graph, after_effects, touches, subjects, is_among}
-use Rattle.file_graph.specs.Units.{charge, growth}
-use Rattle.log_record.specs.Grammar.{IsRecord}
-use Rattle.log_record.proofs.Fields.{test_some}
-use Rattle.log_record.specs.declared.format.Record.{Record}
+use Rattle.call_effects.specs.file_graph.declared.effect.Effect.{Effect}
+use Rattle.call_effects.specs.file_graph.Graph.{Graph, after_effects, touches, subjects, is_among}
+use Rattle.call_effects.specs.file_graph.Units.{charge, growth}
+use Rattle.call_effects.specs.log_record.Grammar.{IsRecord}
+use Rattle.call_effects.proofs.log_record_lemmas.Fields.{test_some}
+use Rattle.call_effects.specs.log_record.declared.format.Record.{Record}
 use Rattle.call_effects.specs.NodeView.{NodeView, FileView, DirView, view_at, view_after}
 use Rattle.call_effects.proofs.NodeViews.{viewed_after}
 use Rattle.record_validation.specs.Counts.{counts_of}

@@ -7,12 +7,12 @@ use Rattle.std.proofs.lemmas.Bool.Decides.{eqb_tells}
 use Rattle.std.proofs.lemmas.List.Concat.{flat_map-cons}
 use Rattle.posix_calls.specs.Tree.{sum_up_to}
 use Rattle.posix_calls.proofs.Sums.{one_changes, all_zero}
-use Rattle.file_graph.specs.declared.effect.Effect.{Effect}
-use Rattle.file_graph.specs.declared.effect.Effect.TheVariants as effect
-use Rattle.file_graph.specs.Graph.{Graph, Node, FileBody, DirBody, after_effects, touches, subjects, is_among, cost, body_cost}
-use Rattle.file_graph.specs.Units.{rise, growth, charge}
-use Rattle.file_graph.proofs.Touches.{untouched}
-use Rattle.log_record.specs.Grammar.{FitsLimits, IsInode}
+use Rattle.call_effects.specs.file_graph.declared.effect.Effect.{Effect}
+use Rattle.call_effects.specs.file_graph.declared.effect.Effect.TheVariants as effect
+use Rattle.call_effects.specs.file_graph.Graph.{Graph, Node, FileBody, DirBody, after_effects, touches, subjects, is_among, cost, body_cost}
+use Rattle.call_effects.specs.file_graph.Units.{rise, growth, charge}
+use Rattle.call_effects.proofs.file_graph_lemmas.Touches.{untouched}
+use Rattle.call_effects.specs.log_record.Grammar.{FitsLimits, IsInode}
 use Rattle.call_effects.specs.NodeView.{NodeView, view_at, view_of_node, view_of_body}
 use Rattle.call_effects.proofs.NodeViews.{viewed_after}
 use Rattle.call_effects.proofs.Rises.{same_sums}

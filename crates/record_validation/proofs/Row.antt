@@ -7,10 +7,10 @@ use Rattle.std.specs.Cmp.{ranked}
 use Rattle.std.specs.BTreeMap.{get, Updates}
 use Rattle.std.proofs.lemmas.Bool.Decides.{eqb_tells}
 use Rattle.std.proofs.lemmas.Bool.{false≢true}
-use Rattle.file_graph.specs.declared.effect.Effect.{Effect}
-use Rattle.file_graph.specs.Graph.{Graph, after_effects, touches, is_among}
-use Rattle.file_graph.specs.Units.{charge}
-use Rattle.file_graph.proofs.Touches.{untouched}
+use Rattle.call_effects.specs.file_graph.declared.effect.Effect.{Effect}
+use Rattle.call_effects.specs.file_graph.Graph.{Graph, after_effects, touches, is_among}
+use Rattle.call_effects.specs.file_graph.Units.{charge}
+use Rattle.call_effects.proofs.file_graph_lemmas.Touches.{untouched}
 use Rattle.call_effects.specs.NodeView.{NodeView, view_at, view_of_node, view_after}
 use Rattle.record_validation.specs.KnownNodes.{Known, ViewsAgree, first_unknown, is_unknown, known_after}
 use Rattle.record_validation.specs.Row.{with_known}

@@ -9,7 +9,7 @@ use Rattle.std.proofs.lemmas.Bool.Decides.{nat_tests}
 use Rattle.posix_calls.specs.Content.{Entries}
 use Rattle.posix_calls.specs.Answers.{entry_in, count_in, listed_in}
 use Rattle.posix_calls.proofs.Directory.{entries-empty}
-use Rattle.file_graph.specs.declared.effect.Kind.{Kind}
+use Rattle.call_effects.specs.file_graph.declared.effect.Kind.{Kind}
 use Rattle.call_effects.specs.NodeView.{NodeView, FileView, DirView}
 use Rattle.call_effects.specs.Wholes.{without_kinds}
 use Rattle.call_effects.proofs.Inodes.{get_inodes}

@@ -7,11 +7,11 @@ use Rattle.std.proofs.lemmas.Cmp.{nat_list_cmp_total}
 use Rattle.std.proofs.Math.Seq.{take-suc}
 use Rattle.std.specs.FinMap as fin
 use Rattle.posix_calls.specs.Content.{Entries}
-use Rattle.file_graph.specs.declared.effect.Kind.{Kind}
-use Rattle.file_graph.specs.declared.effect.Kind.TheVariants as kind
-use Rattle.file_graph.specs.declared.effect.Effect.{Effect}
-use Rattle.file_graph.specs.declared.effect.Effect.TheVariants as effect
-use Rattle.file_graph.specs.Graph.{subjects, is_among}
+use Rattle.call_effects.specs.file_graph.declared.effect.Kind.{Kind}
+use Rattle.call_effects.specs.file_graph.declared.effect.Kind.TheVariants as kind
+use Rattle.call_effects.specs.file_graph.declared.effect.Effect.{Effect}
+use Rattle.call_effects.specs.file_graph.declared.effect.Effect.TheVariants as effect
+use Rattle.call_effects.specs.file_graph.Graph.{subjects, is_among}
 use Rattle.call_effects.specs.NodeView.{NodeView, FileView, DirView, view_acted, view_after}
 pub use Rattle.call_effects.proofs.NodeViews.{views_joined}
 use Rattle.record_validation.specs.declared.node_counts.NodeCounts.TheVariants as counts

@@ -5,8 +5,8 @@ use Rattle.std.specs.Ordering.{nat_cmp}
 use Rattle.std.specs.BTreeMap.{get}
 use Rattle.std.proofs.lemmas.List.{drop_more, drop_all}
 use Rattle.std.proofs.lemmas.Option.{none-some}
-use Rattle.file_graph.specs.declared.effect.Effect.{Effect}
-use Rattle.file_graph.specs.Graph.{Graph, after_effects, subjects, is_among}
+use Rattle.call_effects.specs.file_graph.declared.effect.Effect.{Effect}
+use Rattle.call_effects.specs.file_graph.Graph.{Graph, after_effects, subjects, is_among}
 use Rattle.call_effects.specs.NodeView.{NodeView, view_at, view_acted, view_after}
 use Rattle.call_effects.proofs.NodeViews.{viewed_after}
 use Rattle.record_validation.specs.KnownNodes.{Known, ViewsAgree, known_acted, known_after}

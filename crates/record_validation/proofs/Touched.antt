@@ -7,10 +7,10 @@ use Rattle.std.specs.BTreeMap.{get}
 use Rattle.std.proofs.lemmas.Bool.{false≢true}
 use Rattle.std.proofs.lemmas.Bool.Decides.{eqb_tells}
 use Rattle.std.proofs.lemmas.Option.{none-some}
-use Rattle.file_graph.specs.declared.effect.Effect.{Effect}
-use Rattle.file_graph.specs.Graph.{Graph, after_effects, touches, subjects, is_among}
-use Rattle.file_graph.specs.Units.{growth, charge}
-use Rattle.log_record.specs.Grammar.{FitsLimits}
+use Rattle.call_effects.specs.file_graph.declared.effect.Effect.{Effect}
+use Rattle.call_effects.specs.file_graph.Graph.{Graph, after_effects, touches, subjects, is_among}
+use Rattle.call_effects.specs.file_graph.Units.{growth, charge}
+use Rattle.call_effects.specs.log_record.Grammar.{FitsLimits}
 use Rattle.call_effects.specs.NodeView.{NodeView, view_at}
 use Rattle.record_validation.specs.KnownNodes.{Known, ViewsAgree, known_at, first_unknown, is_unknown}
 use Rattle.record_validation.specs.Rises.{view_rise, view_cost, view_cost_after, sum_distinct}

@@ -4,11 +4,11 @@ use Rattle.std.specs.Ordering.{nat_cmp, eq_by_cmp}
 use Rattle.std.specs.Cmp.Lexicographic.{slice_cmp}
 use Rattle.std.specs.FinMap as fin
 use Rattle.posix_calls.specs.Units.{file_units, directory_units}
-use Rattle.file_graph.specs.declared.effect.Kind.{Kind}
-use Rattle.file_graph.specs.declared.effect.Kind.TheVariants as kind
-use Rattle.file_graph.specs.declared.effect.Effect.{Effect}
-use Rattle.file_graph.specs.declared.effect.Effect.TheVariants as effect
-use Rattle.file_graph.specs.Graph.{subjects, is_among}
+use Rattle.call_effects.specs.file_graph.declared.effect.Kind.{Kind}
+use Rattle.call_effects.specs.file_graph.declared.effect.Kind.TheVariants as kind
+use Rattle.call_effects.specs.file_graph.declared.effect.Effect.{Effect}
+use Rattle.call_effects.specs.file_graph.declared.effect.Effect.TheVariants as effect
+use Rattle.call_effects.specs.file_graph.Graph.{subjects, is_among}
 use Rattle.call_effects.specs.NodeView.{NodeView, FileView, DirView, view_after}
 use Rattle.record_validation.specs.declared.node_counts.NodeCounts.{NodeCounts}
 use Rattle.record_validation.specs.declared.node_counts.NodeCounts.TheVariants as counts

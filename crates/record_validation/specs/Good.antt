@@ -3,11 +3,11 @@ use Rattle.std.specs.Prelude.{◌≡◌, ℕ, ◌≤◌, List, Bool, true, ◌&&
 use Rattle.std.specs.List.{list_all}
 use Rattle.std.specs.FinMap as fin
 use Rattle.posix_calls.specs.declared.limits.TheConstants.{MAX_FILE, MAX_ENTRIES, MAX_NAMES}
-use Rattle.file_graph.specs.declared.effect.Effect.{Effect}
-use Rattle.file_graph.specs.Graph.{Graph, after_effects, touches, is_among}
-use Rattle.file_graph.specs.Units.{charge, growth}
-use Rattle.log_record.specs.declared.format.Record.{Record}
-use Rattle.log_record.specs.Grammar.{IsRecord}
+use Rattle.call_effects.specs.file_graph.declared.effect.Effect.{Effect}
+use Rattle.call_effects.specs.file_graph.Graph.{Graph, after_effects, touches, is_among}
+use Rattle.call_effects.specs.file_graph.Units.{charge, growth}
+use Rattle.call_effects.specs.log_record.declared.format.Record.{Record}
+use Rattle.call_effects.specs.log_record.Grammar.{IsRecord}
 use Rattle.call_effects.specs.NodeView.{NodeView, FileView, DirView, view_at}
 use Rattle.record_validation.specs.declared.node_counts.NodeCounts.{NodeCounts}
 use Rattle.record_validation.specs.declared.node_counts.NodeCounts.TheVariants as counts

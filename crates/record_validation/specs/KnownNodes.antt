@@ -3,8 +3,8 @@ use Rattle.std.specs.Prelude.{◌≡◌, ℕ, List, Bool, not, Option, Some, Non
 use Rattle.std.specs.List.{find}
 use Rattle.std.specs.Ordering.{nat_cmp}
 use Rattle.std.specs.BTreeMap.{BTreeMap, get}
-use Rattle.file_graph.specs.declared.effect.Effect.{Effect}
-use Rattle.file_graph.specs.Graph.{Graph, subjects, touches, is_among}
+use Rattle.call_effects.specs.file_graph.declared.effect.Effect.{Effect}
+use Rattle.call_effects.specs.file_graph.Graph.{Graph, subjects, touches, is_among}
 use Rattle.call_effects.specs.NodeView.{NodeView, view_at, view_acted, view_after}
 
 -- what is known of some inodes: their node, or that there is none

@@ -1,7 +1,7 @@
 -- Where effects on what is known ask for memory.
 use Rattle.std.specs.Prelude.{ℕ, List, [], ◌∷◌, Bool, true, false, ◌||◌, Option, Some, None}
-use Rattle.file_graph.specs.declared.effect.Effect.{Effect}
-use Rattle.file_graph.specs.declared.effect.Effect.TheVariants as effect
+use Rattle.call_effects.specs.file_graph.declared.effect.Effect.{Effect}
+use Rattle.call_effects.specs.file_graph.declared.effect.Effect.TheVariants as effect
 use Rattle.call_effects.specs.NodeView.{NodeView, view_is_dir}
 use Rattle.record_validation.specs.KnownNodes.{known_acted}
 

@@ -1,7 +1,7 @@
 -- By how much the cost of single nodes rises, told by what is known of them.
 use Rattle.std.specs.Prelude.{ℕ, ◌+◌, ◌-◌, List, [], ◌∷◌, Option, option_map, if◌then◌else◌}
-use Rattle.file_graph.specs.declared.effect.Effect.{Effect}
-use Rattle.file_graph.specs.Graph.{is_among}
+use Rattle.call_effects.specs.file_graph.declared.effect.Effect.{Effect}
+use Rattle.call_effects.specs.file_graph.Graph.{is_among}
 use Rattle.call_effects.specs.NodeView.{NodeView}
 use Rattle.record_validation.specs.Counts.{counts_of, counts_after, counts_cost}
 

@@ -1,8 +1,8 @@
 -- A row of records, each tested over the graph as those before it leave it.
 use Rattle.std.specs.Prelude.{◌≡◌, ℕ, ◌==◌, true, Option, Some, if◌then◌else◌}
-use Rattle.file_graph.specs.Graph.{Graph, after_effects}
-use Rattle.file_graph.specs.Units.{charge}
-use Rattle.log_record.specs.declared.format.Record.{Record}
+use Rattle.call_effects.specs.file_graph.Graph.{Graph, after_effects}
+use Rattle.call_effects.specs.file_graph.Units.{charge}
+use Rattle.call_effects.specs.log_record.declared.format.Record.{Record}
 use Rattle.call_effects.specs.NodeView.{NodeView, view_at}
 use Rattle.record_validation.specs.declared.record_validation.RecordCheck.{RecordCheck}
 use Rattle.record_validation.specs.declared.verdict.Verdict.{Verdict}

@@ -3,8 +3,8 @@ use Rattle.std.specs.Prelude.{◌≡◌, ℕ, refl, ◌⊎◌}
 use Rattle.std.proofs.Common.{inl, inr}
 use Rattle.std.specs.Coded.{Coded, code_by, coded×, coded_ℕ, coded⊎}
 use Rattle.posix_calls.specs.Content.{Entries}
-use Rattle.file_graph.specs.Codes.{entries_code}
-use Rattle.file_graph.specs.declared.effect.Kind.{Kind}
+use Rattle.call_effects.specs.file_graph.Codes.{entries_code}
+use Rattle.call_effects.specs.file_graph.declared.effect.Kind.{Kind}
 use Rattle.call_effects.specs.NodeView.{NodeView, FileView, DirView}
 use Rattle.record_validation.specs.declared.node_summary.SummaryBody.{SummaryBody}
 use Rattle.record_validation.specs.declared.node_summary.SummaryBody.TheVariants as summary

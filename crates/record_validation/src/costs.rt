@@ -2,10 +2,10 @@
 
 ghost use Rattle.std.specs.Prelude.{◌≡◌, ◌+◌, ◌-◌, ◌<◌, ◌≤◌, ◌^◌, ◌∷◌, ◌&&◌, Some, None, IfOk, IfErr, length, option_map};
 ghost use Rattle.std.specs.List.{AllByRecursion, list_all};
-ghost use Rattle.file_graph.specs.Graph.{Graph, after_effects, is_among, touches};
-ghost use Rattle.file_graph.specs.Units.{charge, growth};
-ghost use Rattle.log_record.specs.Grammar.{FitsLimits};
-ghost use Rattle.log_record.specs.declared.format.TheConstants.{MAX_EFFECTS};
+ghost use Rattle.call_effects.specs.file_graph.Graph.{Graph, after_effects, is_among, touches};
+ghost use Rattle.call_effects.specs.file_graph.Units.{charge, growth};
+ghost use Rattle.call_effects.specs.log_record.Grammar.{FitsLimits};
+ghost use Rattle.call_effects.specs.log_record.declared.format.TheConstants.{MAX_EFFECTS};
 ghost use Rattle.record_validation.specs.Counts.{counts_of, counts_after, counts_cost};
 ghost use Rattle.record_validation.specs.Good.{is_within, keeps};
 ghost use Rattle.record_validation.specs.KnownNodes.{ViewsAgree, first_unknown, known_at};
@@ -15,7 +15,7 @@ use crate::count_changes::{counts_after, counts_of, is_on};
 use crate::known_nodes::known_node;
 use crate::node_counts::{cost, is_within};
 use crate::node_summary::NodeSummary;
-use file_graph::Effect;
+use call_effects::in_file_graph::Effect;
 use std::collections::BTreeMap;
 
 /// What the inodes that a record touches cost, each counted once, in units.

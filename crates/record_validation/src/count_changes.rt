@@ -4,15 +4,15 @@ ghost use Rattle.std.specs.Prelude.{◌≡◌, ◌≤◌, ◌+◌, ◌++◌, [],
 ghost use Rattle.std.specs.Ordering.{nat_cmp, eq_by_cmp};
 ghost use Rattle.std.specs.Cmp.Lexicographic.{slice_cmp};
 ghost use Rattle.std.specs.List.{AllByRecursion};
-ghost use Rattle.file_graph.specs.Graph.{subjects, is_among};
-ghost use Rattle.log_record.specs.Grammar.{FitsLimits};
-ghost use Rattle.log_record.specs.declared.format.TheConstants.{MAX_EFFECTS};
+ghost use Rattle.call_effects.specs.file_graph.Graph.{subjects, is_among};
+ghost use Rattle.call_effects.specs.log_record.Grammar.{FitsLimits};
+ghost use Rattle.call_effects.specs.log_record.declared.format.TheConstants.{MAX_EFFECTS};
 ghost use Rattle.call_effects.specs.NodeView.{view_after};
 ghost use Rattle.record_validation.specs.Counts.{counts_of, counts_after, entry_count, entry_in, entry_acted, entry_after, empty_entry, is_named};
 
 use crate::node_counts::{NodeCounts, apply_effect};
 use crate::node_summary::NodeSummary;
-use file_graph::{Effect, Kind};
+use call_effects::in_file_graph::{Effect, Kind};
 use posix_calls::Name;
 use std::cmp::Ordering;
 

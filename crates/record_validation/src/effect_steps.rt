@@ -4,15 +4,15 @@ ghost use Rattle.std.specs.Prelude.{◌≡◌, true, Some, OnErr, OnOk};
 ghost use Rattle.std.specs.Ordering.{nat_cmp};
 ghost use Rattle.std.specs.BTreeMap.{get};
 ghost use Rattle.std.specs.List.{AllByRecursion};
-ghost use Rattle.file_graph.specs.Graph.{Graph, after_effects};
-ghost use Rattle.file_graph.specs.Plain.{is_drop};
-ghost use Rattle.log_record.specs.Grammar.{FitsLimits};
+ghost use Rattle.call_effects.specs.file_graph.Graph.{Graph, after_effects};
+ghost use Rattle.call_effects.specs.file_graph.Plain.{is_drop};
+ghost use Rattle.call_effects.specs.log_record.Grammar.{FitsLimits};
 ghost use Rattle.call_effects.specs.NodeView.{view_acted};
 ghost use Rattle.record_validation.specs.KnownNodes.{ViewsAgree, known_after, known_acted};
 ghost use Rattle.record_validation.specs.Memory.{enters_known, is_directory, is_enter, want_room};
 
 use crate::node_summary::NodeSummary;
-use file_graph::Effect;
+use call_effects::in_file_graph::Effect;
 use std::alloc::{AllocError, Global};
 use std::collections::BTreeMap;
 

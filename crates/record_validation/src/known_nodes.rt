@@ -6,7 +6,7 @@ ghost use Rattle.std.specs.BTreeMap.{get};
 ghost use Rattle.record_validation.specs.KnownNodes.{first_unknown, is_unknown};
 
 use crate::node_summary::NodeSummary;
-use file_graph::Effect;
+use call_effects::in_file_graph::Effect;
 use std::collections::BTreeMap;
 
 /// The first inode that effects touch, in their order, of which nothing is known. Where none is named, the map tells of each inode

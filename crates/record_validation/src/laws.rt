@@ -1,11 +1,11 @@
 //! What holds of every record.
 
 ghost use Rattle.std.specs.Prelude.{◌≡◌, ◌+◌, ℕ, true, Option, option_map, List};
-ghost use Rattle.file_graph.specs.declared.effect.Effect.{Effect};
-ghost use Rattle.file_graph.specs.Graph.{Graph, Node, subject_after, after_effects, touches, is_among};
+ghost use Rattle.call_effects.specs.file_graph.declared.effect.Effect.{Effect};
+ghost use Rattle.call_effects.specs.file_graph.Graph.{Graph, Node, subject_after, after_effects, touches, is_among};
 ghost use Rattle.std.specs.List.{AllByRecursion};
-ghost use Rattle.file_graph.specs.Units.{charge, growth};
-ghost use Rattle.log_record.specs.Grammar.{FitsLimits};
+ghost use Rattle.call_effects.specs.file_graph.Units.{charge, growth};
+ghost use Rattle.call_effects.specs.log_record.Grammar.{FitsLimits};
 ghost use Rattle.record_validation.specs.Counts.{counts_of, counts_acted, is_named, entry_in, entry_after};
 ghost use Rattle.record_validation.specs.Rises.{sum_distinct, view_cost, view_cost_after, view_rise};
 ghost use Rattle.call_effects.specs.NodeView.{NodeView, view_of_node, view_at, view_acted, view_after};

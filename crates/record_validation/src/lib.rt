@@ -35,3 +35,6 @@ pub use node_summary::{NodeSummary, SummaryBody};
 pub use nodes::Nodes;
 pub use record_validation::RecordCheck;
 pub use verdict::{Verdict, test_record};
+
+// Handed on to the crates above, which list only the highest of what they name.
+pub use call_effects::{in_file_graph, in_log_record};

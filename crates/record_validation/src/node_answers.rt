@@ -2,14 +2,14 @@
 
 ghost use Rattle.std.specs.Prelude.{◌≡◌, true, Some, nat_lt, IfOk, IfErr, option_map};
 ghost use Rattle.std.specs.FinMap as fin;
-ghost use Rattle.file_graph.specs.Plain.{pairs};
+ghost use Rattle.call_effects.specs.file_graph.Plain.{pairs};
 ghost use Rattle.posix_calls.specs.Answers.{entry_in, count_in, listed_in, description_of};
 ghost use Rattle.posix_calls.specs.Walk.{names_seen, size_seen};
 ghost use Rattle.call_effects.specs.NodeView.{view_is_dir};
 ghost use Rattle.record_validation.specs.NodeAnswers.{entries_of, seen_node, size_of};
 
 use crate::node_summary::{NodeSummary, SummaryBody};
-use file_graph::{Child, PlainEntry};
+use call_effects::in_file_graph::{Child, PlainEntry};
 use posix_calls::{Description, Names};
 use std::alloc::{AllocError, Global};
 

@@ -1,10 +1,10 @@
 ghost use Rattle.std.specs.Prelude.{◌≡◌, ◌+◌, ◌-◌, ◌≤◌, ◌<◌, ◌^◌, Some, max, option_map, if◌then◌else◌};
 ghost use Rattle.posix_calls.specs.Units.{file_units, directory_units};
-ghost use Rattle.log_record.specs.Grammar.{FitsLimits};
+ghost use Rattle.call_effects.specs.log_record.Grammar.{FitsLimits};
 ghost use Rattle.record_validation.specs.Good.{is_within};
 ghost use Rattle.record_validation.specs.Counts.{counts_acted, counts_cost, empty_counts, entry_count, in_count, in_length, with_count};
 
-use file_graph::{Effect, Kind};
+use call_effects::in_file_graph::{Effect, Kind};
 use posix_calls::{MAX_ENTRIES, MAX_FILE, MAX_NAMES, UNIT_BYTES, UNIT_ENTRIES};
 
 /// A node by numbers alone: what tells its cost, and whether it keeps the limits.

@@ -1,7 +1,7 @@
 ghost use Rattle.std.specs.Prelude.{◌≡◌, ◌<◌, ◌^◌, ℕ, true, false, Some, OnOk, OnErr, max};
 ghost use Rattle.std.specs.FinMap as fin;
-ghost use Rattle.file_graph.specs.Plain.{is_drop};
-ghost use Rattle.log_record.specs.Grammar.{FitsLimits};
+ghost use Rattle.call_effects.specs.file_graph.Plain.{is_drop};
+ghost use Rattle.call_effects.specs.log_record.Grammar.{FitsLimits};
 ghost use Rattle.call_effects.specs.NodeView.{FileView, DirView, empty_view, in_entries, in_size, view_acted, view_is_dir};
 ghost use Rattle.record_validation.specs.Memory.{is_enter};
 ghost use Rattle.record_validation.specs.Summary.{view_of_summary};
@@ -9,7 +9,7 @@ ghost use Rattle.record_validation.specs.Counts.{counts_of, entry_in, entry_coun
 ghost use Rattle.record_validation.specs.NodeAnswers.{entries_of};
 
 use crate::node_counts::NodeCounts;
-use file_graph::{Child, Effect, EntryRoom, Kind, NameMap};
+use call_effects::in_file_graph::{Child, Effect, EntryRoom, Kind, NameMap};
 use posix_calls::Name;
 use std::alloc::{AllocError, Global};
 use std::marker::Model;

@@ -1,5 +1,5 @@
 ghost use Rattle.std.specs.Prelude.{◌≡◌, ◌++◌, ◌∷◌, [], ℕ, List, Option, Some, None, IfErr, IfOk, OnOk};
-ghost use Rattle.file_graph.specs.Graph.{Graph};
+ghost use Rattle.call_effects.specs.file_graph.Graph.{Graph};
 ghost use Rattle.call_effects.specs.NodeView.{view_at};
 
 use crate::node_summary::NodeSummary;

@@ -4,9 +4,9 @@ ghost use Rattle.std.specs.Prelude.{◌≡◌, ℕ, true, None, IfErr, IfOk, OnO
 ghost use Rattle.std.specs.List.Sorted.{IsNonDecreasing};
 ghost use Rattle.std.specs.Ordering.{nat_cmp};
 ghost use Rattle.std.specs.BTreeMap.{get};
-ghost use Rattle.file_graph.specs.Graph.{Graph};
-ghost use Rattle.file_graph.specs.Units.{charge};
-ghost use Rattle.log_record.specs.Grammar.{IsRecord};
+ghost use Rattle.call_effects.specs.file_graph.Graph.{Graph};
+ghost use Rattle.call_effects.specs.file_graph.Units.{charge};
+ghost use Rattle.call_effects.specs.log_record.Grammar.{IsRecord};
 ghost use Rattle.call_effects.specs.NodeView.{view_at};
 ghost use Rattle.record_validation.specs.Good.{IsGood, IsVerdict, asked_inode};
 ghost use Rattle.record_validation.specs.KnownNodes.{first_unknown, is_unknown};
@@ -16,7 +16,7 @@ ghost use Rattle.record_validation.specs.Row.{HasCome, IsCheckOver, known_by, le
 use crate::effect_steps::take_effects;
 use crate::node_summary::NodeSummary;
 use crate::verdict::{Verdict, test_record};
-use log_record::Record;
+use call_effects::in_log_record::Record;
 use std::alloc::{AllocError, Global};
 use std::collections::BTreeMap;
 

@@ -2,16 +2,16 @@
 
 ghost use Rattle.std.specs.Prelude.{◌≡◌, ◌-◌, ◌+◌, Some, None, nat_le, if◌then◌else◌};
 ghost use Rattle.std.specs.List.Sorted.{IsNonDecreasing};
-ghost use Rattle.file_graph.specs.Graph.{Graph, is_among};
-ghost use Rattle.file_graph.specs.Units.{charge};
-ghost use Rattle.log_record.specs.Grammar.{IsRecord};
+ghost use Rattle.call_effects.specs.file_graph.Graph.{Graph, is_among};
+ghost use Rattle.call_effects.specs.file_graph.Units.{charge};
+ghost use Rattle.call_effects.specs.log_record.Grammar.{IsRecord};
 ghost use Rattle.record_validation.specs.Good.{IsVerdict, are_held, asked_inode};
 ghost use Rattle.record_validation.specs.KnownNodes.{ViewsAgree, first_unknown};
 
 use crate::costs::{RecordCosts, tally_record};
 use crate::node_summary::NodeSummary;
-use file_graph::Effect;
-use log_record::Record;
+use call_effects::in_file_graph::Effect;
+use call_effects::in_log_record::Record;
 use std::collections::BTreeMap;
 
 /// What a test says of a record.

@@ -4,32 +4,32 @@ use Rattle.std.specs.List.{AllByRecursion, AllZip}
 use Rattle.std.specs.Prelude.{◌==◌, slice_get, Option, Some}
 use Rattle.std.proofs.lemmas.Bool.{cases_lt, cond-false}
 use Rattle.std.proofs.lemmas.Option.{slice_get-get_or, slice_get_within}
-use Rattle.recovery_laws.specs.Fresh.{fresh_fast, fresh_region, fresh_tiers, no_marks}
-use Rattle.recovery_laws.proofs.AreaBytes.{zeros_behind}
-use Rattle.layout.specs.Bytes.{zeros}
-use Rattle.shared_area.specs.AreaOpen.{SpellsNone}
-use Rattle.area_reader.specs.Format.{IsOpenable}
-use Rattle.area_reader.specs.Store.{disk, graph, marks, store_of}
-use Rattle.batch_journal.specs.Blocks.{home, is_gate_open, opening_calls}
-use Rattle.batch_journal.specs.View.{JournalView}
-use Rattle.batch_journal.specs.Volume.{IsVolume, Spells}
-use Rattle.layout.specs.Places.{Sizes}
-use Rattle.layout.specs.declared.marks.Mark.{Mark}
-use Rattle.layout.specs.declared.marks.Marks.{Marks}
-use Rattle.layout.specs.declared.superblock.Super.{Super}
-use Rattle.file_graph.specs.Graph.{fresh}
-use Rattle.update_log.specs.Frames.{end_behind, records}
-use Rattle.update_log.specs.Moments.{PastStays}
-use Rattle.update_log.specs.View.{HasSize, RegionView}
-use Rattle.update_log.specs.WipeStops.{generation}
-use Rattle.update_log.specs.declared.format.TheConstants.{CLOSED, HEADER, OPEN}
+use Rattle.area_recovery.specs.recovery_laws.Fresh.{fresh_fast, fresh_region, fresh_tiers, no_marks}
+use Rattle.area_recovery.proofs.recovery_laws_lemmas.AreaBytes.{zeros_behind}
+use Rattle.interleavings.specs.layout.Bytes.{zeros}
+use Rattle.interleavings.specs.shared_area.AreaOpen.{SpellsNone}
+use Rattle.interleavings.specs.area_reader.Format.{IsOpenable}
+use Rattle.interleavings.specs.area_reader.Store.{disk, graph, marks, store_of}
+use Rattle.interleavings.specs.batch_journal.Blocks.{home, is_gate_open, opening_calls}
+use Rattle.interleavings.specs.batch_journal.View.{JournalView}
+use Rattle.interleavings.specs.batch_journal.Volume.{IsVolume, Spells}
+use Rattle.interleavings.specs.layout.Places.{Sizes}
+use Rattle.interleavings.specs.layout.declared.marks.Mark.{Mark}
+use Rattle.interleavings.specs.layout.declared.marks.Marks.{Marks}
+use Rattle.interleavings.specs.layout.declared.superblock.Super.{Super}
+use Rattle.interleavings.specs.file_graph.Graph.{fresh}
+use Rattle.interleavings.specs.update_log.Frames.{end_behind, records}
+use Rattle.interleavings.specs.update_log.Moments.{PastStays}
+use Rattle.interleavings.specs.update_log.View.{HasSize, RegionView}
+use Rattle.interleavings.specs.update_log.WipeStops.{generation}
+use Rattle.interleavings.specs.update_log.declared.format.TheConstants.{CLOSED, HEADER, OPEN}
 use Rattle.tier_device.specs.declared.media.Media.{Ghosts}
 use Rattle.tier_device.specs.declared.media.Tier.{Tier}
 use Rattle.tier_device.specs.declared.media.Tier.TheVariants.{Fast, Block, Slow}
-use Rattle.call_effects.specs.ClosedGraph.{nobody}
-use Rattle.call_effects.specs.Wholes.{IsSound}
-use Rattle.digester.specs.MarkMoves.{mark_of}
-use Rattle.call_effects.proofs.Fresh.{fresh_sound}
+use Rattle.interleavings.specs.call_effects.ClosedGraph.{nobody}
+use Rattle.interleavings.specs.call_effects.Wholes.{IsSound}
+use Rattle.interleavings.specs.digester.MarkMoves.{mark_of}
+use Rattle.interleavings.proofs.call_effects_lemmas.Fresh.{fresh_sound}
 use Rattle.area_recovery.specs.declared.error.RecoveryError.{RecoveryError}
 use Rattle.area_recovery.specs.declared.error.RecoveryError.TheVariants as errors
 use Rattle.recovery.specs.Assembly.{AreReadyRegions, IsReadyArea}

@@ -1,11 +1,11 @@
 -- Media that hold fresh tiers.
 use Rattle.std.proofs.Common.{◌≡◌, ◌≢◌, ℕ, ◌*◌, ◌≤◌, List, [], ◌∷◌, length, refl, sym, ◌∙◌, arith}
 use Rattle.std.specs.Prelude.{Result, Ok, Err, OnOk}
-use Rattle.recovery_laws.proofs.Zeros.{padded_long}
-use Rattle.recovery_laws.specs.Fresh.{fresh_tiers}
-use Rattle.layout.specs.Places.{Sizes, tier_blocks}
-use Rattle.recovery_laws.proofs.AreaBytes.{fast_long}
-use Rattle.update_log.specs.View.{HasSize}
+use Rattle.area_recovery.proofs.recovery_laws_lemmas.Zeros.{padded_long}
+use Rattle.area_recovery.specs.recovery_laws.Fresh.{fresh_tiers}
+use Rattle.interleavings.specs.layout.Places.{Sizes, tier_blocks}
+use Rattle.area_recovery.proofs.recovery_laws_lemmas.AreaBytes.{fast_long}
+use Rattle.interleavings.specs.update_log.View.{HasSize}
 use Rattle.tier_device.specs.declared.media.Media.{Ghosts}
 use Rattle.tier_device.specs.declared.media.Tier.{Tier}
 use Rattle.tier_device.specs.declared.media.Tier.TheVariants.{Fast, Block, Slow}

@@ -1,13 +1,13 @@
 -- The parts of the empty world, from what holds of its area and of its regions.
 use Rattle.std.proofs.Common.{◌≡◌, ℕ, ◌%◌, ◌<◌, ◌≤◌, List, length, sym, ◌∙◌}
 use Rattle.std.specs.List.{AllZip}
-use Rattle.recovery_laws.specs.Fresh.{fresh_region, fresh_tiers}
-use Rattle.batch_journal.specs.View.{JournalView}
-use Rattle.layout.specs.Places.{Sizes}
-use Rattle.update_log.specs.View.{RegionView}
+use Rattle.area_recovery.specs.recovery_laws.Fresh.{fresh_region, fresh_tiers}
+use Rattle.interleavings.specs.batch_journal.View.{JournalView}
+use Rattle.interleavings.specs.layout.Places.{Sizes}
+use Rattle.interleavings.specs.update_log.View.{RegionView}
 use Rattle.tier_device.specs.declared.media.Media.{Ghosts}
 use Rattle.tier_device.specs.declared.media.Tier.{Tier}
-use Rattle.event_lists.specs.Courses.{PARTS}
+use Rattle.interleavings.specs.event_lists.Courses.{PARTS}
 use Rattle.recovery.specs.FreshContents.{AreFreshRegions, AreLater, HoldsContent, IsLater, fresh_contents}
 use Rattle.area_recovery.specs.Parts.{part_medium}
 use Rattle.area_recovery.specs.PartMedia.{AreUntouched, media_beneath}

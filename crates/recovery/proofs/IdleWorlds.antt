@@ -2,41 +2,41 @@
 use Rattle.std.proofs.Common.{◌≡◌, ◌≤◌, ℕ, ◌+◌, ◌-◌, ◌*◌, ◌==◌, ◌++◌, cond, Bool, true, false, List, [], drop, Option, Some, None, Result, refl, ap, sym, ◌∙◌, subst, arith}
 use Rattle.std.proofs.lemmas.List.{get_or-replicate}
 use Rattle.atomic_table.specs.Seated.{TableId}
-use Rattle.batch_journal.proofs.Courses.{tiers_same}
-use Rattle.event_steps.specs.View.{SeatView, SystemView, seat_of}
-use Rattle.lease_manager.specs.Passes.{PassView, client_of, fresh, lease_of}
-use Rattle.lease_manager.specs.Words.{HasWord, lease_place}
-use Rattle.lease_manager.specs.declared.view.LeaseMode.TheVariants.{Free}
-use Rattle.libfs.specs.SealedRegion.{SealedRegionView}
-use Rattle.client_log.specs.Steps.{IsOpened}
-use Rattle.client_log.specs.View.{current_records}
-use Rattle.file_graph.specs.Graph.{Graph}
-use Rattle.log_record.specs.declared.format.Record.{Record}
-use Rattle.world_invariant.specs.Limits.{AreWithin}
-use Rattle.kernel_fs.specs.KernelView.{KernelView}
-use Rattle.kernel_fs.specs.MachineState.{IsKernelOf, StandBeforeRegions}
-use Rattle.kernel_fs.specs.Steps.{opened_machine}
-use Rattle.area_reader.specs.Format.{IsOpenable}
-use Rattle.area_reader.specs.Looks.{Looks, call_answer}
-use Rattle.area_reader.specs.Store.{Store, disk, graph, marks, store_of}
-use Rattle.area_reader.specs.declared.error.AreaError.{AreaError}
-use Rattle.batch_journal.specs.View.{JournalView}
-use Rattle.file_graph.specs.Units.{charge}
-use Rattle.layout.specs.Places.{Sizes}
-use Rattle.layout.specs.declared.marks.Marks.{Marks}
+use Rattle.interleavings.proofs.batch_journal_lemmas.Courses.{tiers_same}
+use Rattle.interleavings.specs.event_steps.View.{SeatView, SystemView, seat_of}
+use Rattle.interleavings.specs.lease_manager.Passes.{PassView, client_of, fresh, lease_of}
+use Rattle.interleavings.specs.lease_manager.Words.{HasWord, lease_place}
+use Rattle.interleavings.specs.lease_manager.declared.view.LeaseMode.TheVariants.{Free}
+use Rattle.interleavings.specs.libfs.SealedRegion.{SealedRegionView}
+use Rattle.interleavings.specs.client_log.Steps.{IsOpened}
+use Rattle.interleavings.specs.client_log.View.{current_records}
+use Rattle.interleavings.specs.file_graph.Graph.{Graph}
+use Rattle.interleavings.specs.log_record.declared.format.Record.{Record}
+use Rattle.interleavings.specs.world_invariant.Limits.{AreWithin}
+use Rattle.interleavings.specs.kernel_fs.KernelView.{KernelView}
+use Rattle.interleavings.specs.kernel_fs.MachineState.{IsKernelOf, StandBeforeRegions}
+use Rattle.interleavings.specs.kernel_fs.Steps.{opened_machine}
+use Rattle.interleavings.specs.area_reader.Format.{IsOpenable}
+use Rattle.interleavings.specs.area_reader.Looks.{Looks, call_answer}
+use Rattle.interleavings.specs.area_reader.Store.{Store, disk, graph, marks, store_of}
+use Rattle.interleavings.specs.area_reader.declared.error.AreaError.{AreaError}
+use Rattle.interleavings.specs.batch_journal.View.{JournalView}
+use Rattle.interleavings.specs.file_graph.Units.{charge}
+use Rattle.interleavings.specs.layout.Places.{Sizes}
+use Rattle.interleavings.specs.layout.declared.marks.Marks.{Marks}
 use Rattle.tier_device.specs.declared.media.Media.{Ghosts}
 use Rattle.tier_device.specs.declared.media.Tier.{Tier}
-use Rattle.update_log.specs.View.{RegionView}
-use Rattle.system_laws.specs.Contents.{mark_by}
-use Rattle.system_laws.specs.Idle.{IsIdleKernel, IsIdleSeat, IsIdleSystem}
-use Rattle.system_laws.specs.WorldTree.{away_records, log_by, log_of, opened_by, opened_in, records_behind, whole_graph, world_tree}
-use Rattle.system_laws.specs.WorldView.{WorldView}
-use Rattle.call_effects.specs.ClosedGraph.{nobody}
-use Rattle.call_effects.specs.Wholes.{IsSound, state_of}
-use Rattle.digester.specs.MarkMoves.{mark_of}
+use Rattle.interleavings.specs.update_log.View.{RegionView}
+use Rattle.interleavings.specs.system_laws.Contents.{mark_by}
+use Rattle.interleavings.specs.system_laws.Idle.{IsIdleKernel, IsIdleSeat, IsIdleSystem}
+use Rattle.interleavings.specs.system_laws.WorldTree.{away_records, log_by, log_of, opened_by, opened_in, records_behind, whole_graph, world_tree}
+use Rattle.interleavings.specs.system_laws.WorldView.{WorldView}
+use Rattle.interleavings.specs.call_effects.ClosedGraph.{nobody}
+use Rattle.interleavings.specs.call_effects.Wholes.{IsSound, state_of}
+use Rattle.interleavings.specs.digester.MarkMoves.{mark_of}
 use Rattle.posix_calls.specs.Operations.{is_client}
 use Rattle.posix_calls.specs.Tree.{Descriptors}
-use Rattle.world_invariant.proofs.Owners.{is_high, is_low}
+use Rattle.interleavings.proofs.world_invariant_lemmas.Owners.{is_high, is_low}
 use Rattle.recovery.specs.Assembly.{AreOpenedSeats, AreReadyRegions, IsReadyArea}
 use Rattle.area_recovery.specs.Regions.{IsUntouched}
 use Rattle.recovery.proofs.OpenedSeats.{HasOpened, as_long, opened_at}

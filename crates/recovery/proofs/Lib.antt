@@ -12,3 +12,5 @@ pub mod PartRows
 pub mod FreshMedia
 pub mod FreshWorlds
 pub mod OpenedParts
+-- Handed on to the crates above, which list only the highest of what they name.
+pub use Rattle.area_recovery.proofs as area_recovery_lemmas

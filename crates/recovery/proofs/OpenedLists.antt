@@ -1,15 +1,15 @@
 -- Media of which some are opened, the last ones first.
 use Rattle.std.proofs.Common.{◌≡◌, ◌≢◌, get_or, ◌++◌, ◌∷◌, [], List, map, refl, inl, inr, ap, sym, ◌∙◌, subst, arith, append-nil, append_assoc, ◌≤◌}
 use Rattle.std.specs.List.{AllZip, AllByRecursion}
-use Rattle.update_log.specs.Frames.{end_behind, records}
-use Rattle.update_log.specs.Stage.{IsIdle}
-use Rattle.update_log.specs.declared.format.TheConstants.{OPEN}
-use Rattle.update_log.specs.declared.stage.Stage.TheVariants as stages
+use Rattle.interleavings.specs.update_log.Frames.{end_behind, records}
+use Rattle.interleavings.specs.update_log.Stage.{IsIdle}
+use Rattle.interleavings.specs.update_log.declared.format.TheConstants.{OPEN}
+use Rattle.interleavings.specs.update_log.declared.stage.Stage.TheVariants as stages
 use Rattle.tier_device.specs.declared.media.Tier.TheVariants.{Fast}
 use Rattle.tier_device.specs.declared.media.Tier.{Tier}
 use Rattle.tier_device.specs.declared.media.Media.{Ghosts}
 use Rattle.tier_device.specs.Media.{Keeps, Rose}
-use Rattle.update_log.specs.View.{RegionView, HasSize}
+use Rattle.interleavings.specs.update_log.View.{RegionView, HasSize}
 use Rattle.area_recovery.specs.declared.error.RecoveryError.{RecoveryError}
 use Rattle.area_recovery.specs.declared.error.RecoveryError.TheVariants.{DeviceFault, RegionSize}
 use Rattle.area_recovery.specs.Regions.{HaveRisen, IsGivenBack, IsReopened, IsUntouched, RefusesLast, Rests, SomeZip, TakesLast}

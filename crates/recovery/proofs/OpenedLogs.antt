@@ -1,23 +1,23 @@
 -- A client's log over two regions that are wiped.
 use Rattle.std.proofs.Common.{◌≡◌, ℕ, ◌%◌, ◌==◌, cond, not, Bool, true, false, List, [], take, Option, Some, None, IsSome, is_some, inl, refl, ap, sym, ◌∙◌, subst}
-use Rattle.libfs.specs.NewClient.{IsBlank, IsNew}
-use Rattle.client_log.specs.Calls.{IsOnlyRead}
-use Rattle.client_log.specs.Regions.{AreWiped, in_turn}
-use Rattle.client_log.specs.Regions as logs
-use Rattle.client_log.specs.Steps.{IsOpened}
-use Rattle.client_log.specs.View.{LogView}
-use Rattle.event_steps.specs.View.{SeatView}
-use Rattle.lease_manager.specs.Passes.{PassView}
-use Rattle.update_log.specs.Frames.{before_gate, records, spelled_records}
-use Rattle.update_log.specs.RecordCounts.{next_generation}
-use Rattle.update_log.specs.Stage.{IsIdle}
-use Rattle.update_log.specs.View.{RegionView, WithOrWithout, header_of, records_of}
-use Rattle.update_log.specs.Wipe.{IsWiping}
-use Rattle.update_log.specs.WipeStops.{generation}
+use Rattle.interleavings.specs.libfs.NewClient.{IsBlank, IsNew}
+use Rattle.interleavings.specs.client_log.Calls.{IsOnlyRead}
+use Rattle.interleavings.specs.client_log.Regions.{AreWiped, in_turn}
+use Rattle.interleavings.specs.client_log.Regions as logs
+use Rattle.interleavings.specs.client_log.Steps.{IsOpened}
+use Rattle.interleavings.specs.client_log.View.{LogView}
+use Rattle.interleavings.specs.event_steps.View.{SeatView}
+use Rattle.interleavings.specs.lease_manager.Passes.{PassView}
+use Rattle.interleavings.specs.update_log.Frames.{before_gate, records, spelled_records}
+use Rattle.interleavings.specs.update_log.RecordCounts.{next_generation}
+use Rattle.interleavings.specs.update_log.Stage.{IsIdle}
+use Rattle.interleavings.specs.update_log.View.{RegionView, WithOrWithout, header_of, records_of}
+use Rattle.interleavings.specs.update_log.Wipe.{IsWiping}
+use Rattle.interleavings.specs.update_log.WipeStops.{generation}
 use Rattle.tier_device.specs.declared.media.Media.{Ghosts}
 use Rattle.tier_device.specs.declared.media.Tier.TheVariants.{Fast}
-use Rattle.update_log.proofs.Counts.{header_tells}
-use Rattle.event_steps.specs.Refusals.{no_refusals}
+use Rattle.interleavings.proofs.update_log_lemmas.Counts.{header_tells}
+use Rattle.interleavings.specs.event_steps.Refusals.{no_refusals}
 use Rattle.recovery.specs.Assembly.{IsOpenedSeat}
 use Rattle.area_recovery.specs.Regions.{IsUntouched}
 use Rattle.area_recovery.specs.Silent.{IsWiped, wiped_name}

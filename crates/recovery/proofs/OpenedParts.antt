@@ -7,10 +7,10 @@ use Rattle.tier_device.specs.declared.media.Tier.{Tier}
 use Rattle.tier_device.specs.declared.media.Tier.TheVariants.{Fast}
 use Rattle.tier_device.specs.AfterStop.{AtRest}
 use Rattle.tier_device.specs.Media.{Rose}
-use Rattle.update_log.specs.View.{HasSize, RegionView}
-use Rattle.system_laws.specs.Contents.{CanRecover, regions_in}
-use Rattle.event_lists.specs.Courses.{PARTS, part_of}
-use Rattle.layout.specs.Places.{Sizes}
+use Rattle.interleavings.specs.update_log.View.{HasSize, RegionView}
+use Rattle.interleavings.specs.system_laws.Contents.{CanRecover, regions_in}
+use Rattle.interleavings.specs.event_lists.Courses.{PARTS, part_of}
+use Rattle.interleavings.specs.layout.Places.{Sizes}
 use Rattle.posix_calls.specs.Operations.{is_client}
 use Rattle.area_recovery.specs.declared.error.RecoveryError.{RecoveryError}
 use Rattle.area_recovery.specs.declared.error.RecoveryError.TheVariants.{DeviceFault, RegionSize}

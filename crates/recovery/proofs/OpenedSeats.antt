@@ -4,16 +4,16 @@ use Rattle.std.specs.Prelude.{slice_get}
 use Rattle.std.specs.List.{All, AllZip}
 use Rattle.std.proofs.lemmas.List.Elements.{All-pop}
 use Rattle.atomic_table.specs.Seated.{TableId}
-use Rattle.event_steps.specs.Sound.{AreFrom, AreOfTable, AreSeats}
-use Rattle.event_steps.specs.View.{SeatView}
-use Rattle.lease_manager.specs.Passes.{PassView, client_of, fresh, places}
-use Rattle.client_log.specs.Calls.{IsOnlyRead}
-use Rattle.client_log.specs.Regions.{in_turn}
+use Rattle.interleavings.specs.event_steps.Sound.{AreFrom, AreOfTable, AreSeats}
+use Rattle.interleavings.specs.event_steps.View.{SeatView}
+use Rattle.interleavings.specs.lease_manager.Passes.{PassView, client_of, fresh, places}
+use Rattle.interleavings.specs.client_log.Calls.{IsOnlyRead}
+use Rattle.interleavings.specs.client_log.Regions.{in_turn}
 use Rattle.tier_device.specs.declared.media.Media.{Ghosts}
 use Rattle.tier_device.specs.Media.{Rose}
-use Rattle.update_log.specs.View.{RegionView}
-use Rattle.layout.specs.declared.marks.Marks.{Marks}
-use Rattle.system_laws.specs.Parts.{region_beside, region_of}
+use Rattle.interleavings.specs.update_log.View.{RegionView}
+use Rattle.interleavings.specs.layout.declared.marks.Marks.{Marks}
+use Rattle.interleavings.specs.system_laws.Parts.{region_beside, region_of}
 use Rattle.area_recovery.specs.declared.error.RecoveryError.{RecoveryError}
 use Rattle.area_recovery.specs.declared.error.RecoveryError.TheVariants.{DeviceFault}
 use Rattle.recovery.specs.Assembly.{AreFresh, AreOnlyRead, AreOpenedSeats, AreWipedTo, IsOpenedSeat, RefusesSeat, SeatsLast, generation_at}

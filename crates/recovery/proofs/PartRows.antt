@@ -6,7 +6,7 @@ use Rattle.std.proofs.lemmas.List.{drop_all, take_all}
 use Rattle.std.proofs.lemmas.Option.{get_or_from_slice_get, slice_get-get_or, slice_get_within}
 use Rattle.tier_device.specs.declared.media.Media.{Ghosts}
 use Rattle.tier_device.specs.Media.{Rose}
-use Rattle.event_lists.specs.Courses.{PARTS}
+use Rattle.interleavings.specs.event_lists.Courses.{PARTS}
 use Rattle.recovery.specs.FreshContents.{AreLater, IsLater}
 use Rattle.area_recovery.specs.Parts.{PartsView, part_medium}
 use Rattle.area_recovery.specs.PartMedia.{SomeRose}

@@ -6,24 +6,24 @@ use Rattle.std.proofs.lemmas.Option.{slice_get_within}
 use Rattle.tier_device.specs.declared.media.Media.{Ghosts}
 use Rattle.tier_device.specs.declared.media.Tier.{Tier}
 use Rattle.tier_device.specs.AfterStop.{AtRest}
-use Rattle.update_log.specs.View.{HasSize, RegionView}
-use Rattle.batch_journal.specs.View.{JournalView}
-use Rattle.batch_journal.specs.Volume.{IsVolume}
-use Rattle.area_reader.specs.Format.{IsOpenable}
-use Rattle.area_reader.specs.Store.{disk, graph, marks}
-use Rattle.layout.specs.declared.marks.Mark.{Mark}
-use Rattle.layout.specs.declared.marks.Marks.{Marks}
-use Rattle.system_laws.specs.Contents.{log_in, regions_in, stored_state}
-use Rattle.system_laws.specs.Idle.{IsIdleSystem}
-use Rattle.system_laws.specs.KeptCalls.{no_calls}
-use Rattle.system_laws.specs.Parts.{medium_of}
-use Rattle.system_laws.specs.WorldTree.{world_tree}
-use Rattle.system_laws.specs.WorldView.{WorldView}
-use Rattle.event_lists.specs.Courses.{PARTS}
-use Rattle.call_effects.specs.ClosedGraph.{nobody}
-use Rattle.call_effects.specs.Wholes.{state_of}
-use Rattle.digester.specs.MarkMoves.{mark_of}
-use Rattle.layout.specs.Places.{Sizes}
+use Rattle.interleavings.specs.update_log.View.{HasSize, RegionView}
+use Rattle.interleavings.specs.batch_journal.View.{JournalView}
+use Rattle.interleavings.specs.batch_journal.Volume.{IsVolume}
+use Rattle.interleavings.specs.area_reader.Format.{IsOpenable}
+use Rattle.interleavings.specs.area_reader.Store.{disk, graph, marks}
+use Rattle.interleavings.specs.layout.declared.marks.Mark.{Mark}
+use Rattle.interleavings.specs.layout.declared.marks.Marks.{Marks}
+use Rattle.interleavings.specs.system_laws.Contents.{log_in, regions_in, stored_state}
+use Rattle.interleavings.specs.system_laws.Idle.{IsIdleSystem}
+use Rattle.interleavings.specs.system_laws.KeptCalls.{no_calls}
+use Rattle.interleavings.specs.system_laws.Parts.{medium_of}
+use Rattle.interleavings.specs.system_laws.WorldTree.{world_tree}
+use Rattle.interleavings.specs.system_laws.WorldView.{WorldView}
+use Rattle.interleavings.specs.event_lists.Courses.{PARTS}
+use Rattle.interleavings.specs.call_effects.ClosedGraph.{nobody}
+use Rattle.interleavings.specs.call_effects.Wholes.{state_of}
+use Rattle.interleavings.specs.digester.MarkMoves.{mark_of}
+use Rattle.interleavings.specs.layout.Places.{Sizes}
 use Rattle.posix_calls.specs.Operations.{is_client}
 use Rattle.area_recovery.specs.declared.error.RecoveryError.{RecoveryError}
 use Rattle.area_recovery.specs.declared.error.RecoveryError.TheVariants.{DeviceFault}

@@ -1,18 +1,18 @@
 -- The tree that parts store, by what is found of the clients' logs.
 use Rattle.std.proofs.Common.{◌≡◌, ℕ, true, ap, sym, ◌∙◌, subst}
 use Rattle.std.specs.Prelude.{Option, Some}
-use Rattle.batch_journal.specs.Volume.{IsVolume}
-use Rattle.area_reader.specs.Format.{IsOpenable}
-use Rattle.area_reader.specs.Store.{graph, marks, store_of}
-use Rattle.layout.specs.declared.marks.Marks.{Marks}
-use Rattle.system_laws.specs.Contents.{log_in, mark_by, regions_in, stored_graph, stored_state}
-use Rattle.event_lists.specs.Courses.{WorldContent}
-use Rattle.call_effects.specs.ClosedGraph.{nobody, settled_graph}
-use Rattle.call_effects.specs.Wholes.{IsSound, state_of}
-use Rattle.digester.specs.MarkMoves.{mark_of}
-use Rattle.layout.specs.Places.{Sizes}
-use Rattle.file_graph.specs.Graph.{Graph}
-use Rattle.world_invariant.specs.Logs.{LogsAreApart, after_clients, is_written}
+use Rattle.interleavings.specs.batch_journal.Volume.{IsVolume}
+use Rattle.interleavings.specs.area_reader.Format.{IsOpenable}
+use Rattle.interleavings.specs.area_reader.Store.{graph, marks, store_of}
+use Rattle.interleavings.specs.layout.declared.marks.Marks.{Marks}
+use Rattle.interleavings.specs.system_laws.Contents.{log_in, mark_by, regions_in, stored_graph, stored_state}
+use Rattle.interleavings.specs.event_lists.Courses.{WorldContent}
+use Rattle.interleavings.specs.call_effects.ClosedGraph.{nobody, settled_graph}
+use Rattle.interleavings.specs.call_effects.Wholes.{IsSound, state_of}
+use Rattle.interleavings.specs.digester.MarkMoves.{mark_of}
+use Rattle.interleavings.specs.layout.Places.{Sizes}
+use Rattle.interleavings.specs.file_graph.Graph.{Graph}
+use Rattle.interleavings.specs.world_invariant.Logs.{LogsAreApart, after_clients, is_written}
 use Rattle.posix_calls.specs.Operations.{is_client}
 use Rattle.area_recovery.specs.DigestedLogs.{CanDigestAll}
 use Rattle.area_recovery.specs.FoundLogs.{log_by}

@@ -2,16 +2,16 @@
 use Rattle.std.proofs.Common.{◌≡◌, ◌+◌, List, ap, sym, ◌∙◌, subst}
 use Rattle.std.specs.Prelude.{take, Result, Ok, Err, IfOk, IfErr}
 use Rattle.tier_device.specs.declared.media.Media.{Ghosts}
-use Rattle.system_laws.specs.Contents.{CanRecover, stored_state}
-use Rattle.system_laws.specs.News.{news}
-use Rattle.system_laws.specs.Steps.{recoverable}
-use Rattle.system_laws.specs.WorldTree.{world_tree}
-use Rattle.system_laws.specs.WorldView.{WorldView, calls_of}
-use Rattle.event_lists.specs.Courses.{AreMade, Ledger, WorldContent, ledger}
-use Rattle.event_lists.specs.Plays.{Leads, Plays}
-use Rattle.event_steps.specs.declared.event.Event.{Event}
-use Rattle.event_steps.specs.declared.outcome.Outcome.{Outcome}
-use Rattle.layout.specs.Places.{Sizes}
+use Rattle.interleavings.specs.system_laws.Contents.{CanRecover, stored_state}
+use Rattle.interleavings.specs.system_laws.News.{news}
+use Rattle.interleavings.specs.system_laws.Steps.{recoverable}
+use Rattle.interleavings.specs.system_laws.WorldTree.{world_tree}
+use Rattle.interleavings.specs.system_laws.WorldView.{WorldView, calls_of}
+use Rattle.interleavings.specs.event_lists.Courses.{AreMade, Ledger, WorldContent, ledger}
+use Rattle.interleavings.specs.event_lists.Plays.{Leads, Plays}
+use Rattle.interleavings.specs.event_steps.declared.event.Event.{Event}
+use Rattle.interleavings.specs.event_steps.declared.outcome.Outcome.{Outcome}
+use Rattle.interleavings.specs.layout.Places.{Sizes}
 use Rattle.posix_calls.specs.Outcome.{IsOutcome}
 use Rattle.posix_calls.specs.Tree.{State}
 use Rattle.area_recovery.specs.declared.error.RecoveryError.{RecoveryError}

@@ -3,14 +3,14 @@ use Rattle.std.proofs.Common.{◌≡◌, ℕ, zero, suc, ◌+◌, ◌-◌, ◌*�
 use Rattle.std.specs.Prelude.{slice_get, slice_index_or}
 use Rattle.std.specs.List.{AllZip}
 use Rattle.std.proofs.lemmas.List.{length-map}
-use Rattle.event_steps.specs.View.{SeatView, SystemView}
-use Rattle.libfs.specs.SealedRegion.{SealedRegionView}
-use Rattle.libfs.specs.View.{ClientView}
-use Rattle.client_log.specs.Regions.{in_turn}
+use Rattle.interleavings.specs.event_steps.View.{SeatView, SystemView}
+use Rattle.interleavings.specs.libfs.SealedRegion.{SealedRegionView}
+use Rattle.interleavings.specs.libfs.View.{ClientView}
+use Rattle.interleavings.specs.client_log.Regions.{in_turn}
 use Rattle.tier_device.specs.declared.media.Media.{Ghosts}
 use Rattle.tier_device.specs.Media.{Rose}
-use Rattle.update_log.specs.View.{RegionView}
-use Rattle.system_laws.specs.Parts.{medium_of, region_beside, region_medium, region_of}
+use Rattle.interleavings.specs.update_log.View.{RegionView}
+use Rattle.interleavings.specs.system_laws.Parts.{medium_of, region_beside, region_medium, region_of}
 use Rattle.area_recovery.specs.Parts.{PartsView, part_medium}
 use Rattle.area_recovery.specs.PartMedia.{AreUntouched, SomeRose, regions_of_seats}
 use Rattle.area_recovery.specs.Regions.{HaveRisen, IsUntouched, media_of}

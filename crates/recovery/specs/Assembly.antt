@@ -4,19 +4,19 @@ use Rattle.std.specs.List.{AllZip}
 use Rattle.atomic_table.specs.Seated.{TableId}
 use Rattle.tier_device.specs.declared.media.Media.{Ghosts}
 use Rattle.tier_device.specs.Media.{Rose}
-use Rattle.update_log.specs.View.{HasSize, RegionView}
-use Rattle.batch_journal.specs.View.{JournalView}
-use Rattle.layout.specs.declared.marks.Marks.{Marks}
-use Rattle.area_reader.specs.Store.{disk, graph, marks}
-use Rattle.call_effects.specs.ClosedGraph.{nobody}
-use Rattle.call_effects.specs.Wholes.{IsSound}
-use Rattle.event_steps.specs.Refusals.{no_refusals}
-use Rattle.digester.specs.MarkMoves.{mark_of}
+use Rattle.interleavings.specs.update_log.View.{HasSize, RegionView}
+use Rattle.interleavings.specs.batch_journal.View.{JournalView}
+use Rattle.interleavings.specs.layout.declared.marks.Marks.{Marks}
+use Rattle.interleavings.specs.area_reader.Store.{disk, graph, marks}
+use Rattle.interleavings.specs.call_effects.ClosedGraph.{nobody}
+use Rattle.interleavings.specs.call_effects.Wholes.{IsSound}
+use Rattle.interleavings.specs.event_steps.Refusals.{no_refusals}
+use Rattle.interleavings.specs.digester.MarkMoves.{mark_of}
 use Rattle.posix_calls.specs.Operations.{is_client}
-use Rattle.lease_manager.specs.Passes.{PassView, fresh}
-use Rattle.client_log.specs.Steps.{IsOpened}
-use Rattle.libfs.specs.NewClient.{IsBlank, IsNew}
-use Rattle.event_steps.specs.View.{SeatView}
+use Rattle.interleavings.specs.lease_manager.Passes.{PassView, fresh}
+use Rattle.interleavings.specs.client_log.Steps.{IsOpened}
+use Rattle.interleavings.specs.libfs.NewClient.{IsBlank, IsNew}
+use Rattle.interleavings.specs.event_steps.View.{SeatView}
 use Rattle.area_recovery.specs.declared.error.RecoveryError.{RecoveryError}
 use Rattle.area_recovery.specs.declared.error.RecoveryError.TheVariants.{DeviceFault}
 use Rattle.area_recovery.specs.FaultOrMemory.{IsFaultOrMemory}

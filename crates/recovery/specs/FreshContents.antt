@@ -1,15 +1,15 @@
 -- What a format writes on parts, and which it refuses.
 use Rattle.std.specs.Prelude.{◌≡◌, ℕ, zero, suc, ◌≤◌, ◌<◌, ◌%◌, List, length, slice_get, Some}
 use Rattle.std.specs.List.{AllByRecursion}
-use Rattle.recovery_laws.specs.Fresh.{fresh_region, fresh_tiers}
-use Rattle.batch_journal.specs.Volume.{HasSizes}
-use Rattle.update_log.specs.Moments.{PastStays}
-use Rattle.update_log.specs.View.{HasSize}
+use Rattle.area_recovery.specs.recovery_laws.Fresh.{fresh_region, fresh_tiers}
+use Rattle.interleavings.specs.batch_journal.Volume.{HasSizes}
+use Rattle.interleavings.specs.update_log.Moments.{PastStays}
+use Rattle.interleavings.specs.update_log.View.{HasSize}
 use Rattle.tier_device.specs.declared.media.Media.{Ghosts}
 use Rattle.tier_device.specs.declared.media.Tier.{Tier}
 use Rattle.tier_device.specs.AfterStop.{AtRest}
-use Rattle.event_lists.specs.Courses.{Content, PARTS, WorldContent}
-use Rattle.layout.specs.Places.{Sizes}
+use Rattle.interleavings.specs.event_lists.Courses.{Content, PARTS, WorldContent}
+use Rattle.interleavings.specs.layout.Places.{Sizes}
 use Rattle.area_recovery.specs.declared.error.RecoveryError.{RecoveryError}
 use Rattle.area_recovery.specs.declared.error.RecoveryError.TheVariants as errors
 use Rattle.area_recovery.specs.Parts.{PartsView}

@@ -2,17 +2,17 @@
 -- Every answered call survives: what holds of a list of events that is played, and of what is recovered after a stop.
 use Rattle.std.specs.Prelude.{◌≡◌, ◌↔◌, ℕ, ◌≤◌, ◌<◌, List, length, take, Result, Ok, Err}
 use Rattle.tier_device.specs.declared.media.Media.{Ghosts}
-use Rattle.event_lists.specs.Courses.{PARTS, AreMade, Content, IsCourse, LeftAt, Ledger, Reading, ledger, pace_of}
-use Rattle.event_steps.specs.declared.event.Event.{Event}
-use Rattle.event_steps.specs.declared.outcome.Outcome.{Outcome}
+use Rattle.interleavings.specs.event_lists.Courses.{PARTS, AreMade, Content, IsCourse, LeftAt, Ledger, Reading, ledger, pace_of}
+use Rattle.interleavings.specs.event_steps.declared.event.Event.{Event}
+use Rattle.interleavings.specs.event_steps.declared.outcome.Outcome.{Outcome}
 use Rattle.posix_calls.specs.Outcome.{IsOutcome}
 use Rattle.posix_calls.specs.Run.{Run}
 use Rattle.posix_calls.specs.Tree.{State}
-use Rattle.system_laws.specs.Moves.{EventMoves}
-use Rattle.system_laws.specs.News.{news}
-use Rattle.system_laws.specs.Clocks.{clocks_of, left_of}
-use Rattle.system_laws.specs.WorldTree.{world_tree}
-use Rattle.system_laws.specs.WorldView.{WorldView, calls_of}
+use Rattle.interleavings.specs.system_laws.Moves.{EventMoves}
+use Rattle.interleavings.specs.system_laws.News.{news}
+use Rattle.interleavings.specs.system_laws.Clocks.{clocks_of, left_of}
+use Rattle.interleavings.specs.system_laws.WorldTree.{world_tree}
+use Rattle.interleavings.specs.system_laws.WorldView.{WorldView, calls_of}
 use Rattle.area_recovery.specs.declared.error.RecoveryError.{RecoveryError}
 use Rattle.area_recovery.specs.FaultOrMemory.{IsFaultOrMemory}
 use Rattle.area_recovery.specs.Parts.{PartsView, contents_of, part_medium}

@@ -2,19 +2,19 @@
 
 ghost use Rattle.std.specs.Prelude.{◌≡◌, ◌≤◌, ◌<◌, ◌+◌, ◌*◌, ◌++◌, ℕ, length, [], IfErr, IfOk, IsSome, Some};
 ghost use Rattle.std.specs.Vec.{vec_len, vec_capacity};
-ghost use Rattle.system_laws.specs.Parts.{medium_of, region_of};
-ghost use Rattle.event_lists.specs.Courses.{PARTS};
+ghost use Rattle.interleavings.specs.system_laws.Parts.{medium_of, region_of};
+ghost use Rattle.interleavings.specs.event_lists.Courses.{PARTS};
 ghost use Rattle.area_recovery.specs.Parts.{part_medium};
 ghost use Rattle.area_recovery.specs.PartMedia.{regions_of_seats};
 ghost use Rattle.area_recovery.specs.Regions.{REGIONS, media_of};
 
 use crate::parts::{Parts, REGIONS};
 use crate::region_list::{hand_back, put_last};
-use event_steps::ClientSlot;
 use interleavings::World;
+use interleavings::in_event_steps::ClientSlot;
+use interleavings::in_update_log::Region;
 use std::alloc::{AllocError, Global};
 use tier_device::Media;
-use update_log::Region;
 
 /// The media of a world of which no event is played any more.
 ///

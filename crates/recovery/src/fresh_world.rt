@@ -1,12 +1,12 @@
 //! The empty world.
 
 ghost use Rattle.std.specs.Prelude.{◌≡◌, ◌<◌, ℕ, length, IfErr, IfOk, OnOk};
-ghost use Rattle.recovery_laws.specs.Fresh.{fresh_tiers};
+ghost use Rattle.area_recovery.specs.recovery_laws.Fresh.{fresh_tiers};
 ghost use Rattle.tier_device.specs.declared.media.Tier.{Tier};
-ghost use Rattle.system_laws.specs.KeptCalls.{no_calls};
-ghost use Rattle.system_laws.specs.Parts.{medium_of};
-ghost use Rattle.system_laws.specs.WorldTree.{world_tree};
-ghost use Rattle.event_lists.specs.Courses.{PARTS};
+ghost use Rattle.interleavings.specs.system_laws.KeptCalls.{no_calls};
+ghost use Rattle.interleavings.specs.system_laws.Parts.{medium_of};
+ghost use Rattle.interleavings.specs.system_laws.WorldTree.{world_tree};
+ghost use Rattle.interleavings.specs.event_lists.Courses.{PARTS};
 ghost use Rattle.posix_calls.specs.EmptyTree.{empty_state};
 ghost use Rattle.area_recovery.specs.declared.error.RecoveryError.TheVariants.{DeviceFault};
 ghost use Rattle.area_recovery.specs.FaultOrMemory.{IsFaultOrMemory};
@@ -23,9 +23,9 @@ use crate::parts::Parts;
 use crate::region_list::reopen_regions;
 use crate::size_check::check_sizes;
 use area_recovery::RecoveryError;
+use area_recovery::in_recovery_laws::{fresh_area_opens, fresh_region_is_empty};
 use interleavings::World;
-use layout::Geometry;
-use recovery_laws::{fresh_area_opens, fresh_region_is_empty};
+use interleavings::in_layout::Geometry;
 use std::alloc::Global;
 use tier_device::Media;
 

@@ -1,10 +1,10 @@
 // The bytes of the empty world are written on parts, and kept.
 ghost use Rattle.std.specs.Prelude.{◌≡◌, ◌≢◌, ◌*◌, ◌%◌, ◌⊎◌, ℕ, List, length, slice_get, Some, IfErr, IfOk, OnErr, OnOk};
-ghost use Rattle.recovery_laws.specs.Fresh.{fresh_region, fresh_tiers};
-ghost use Rattle.batch_journal.specs.Volume.{HasSizes};
-ghost use Rattle.layout.specs.Places.{tier_blocks};
-ghost use Rattle.layout.specs.declared.places.TheConstants.{BLOCK};
-ghost use Rattle.update_log.specs.View.{HasSize};
+ghost use Rattle.area_recovery.specs.recovery_laws.Fresh.{fresh_region, fresh_tiers};
+ghost use Rattle.interleavings.specs.batch_journal.Volume.{HasSizes};
+ghost use Rattle.interleavings.specs.layout.Places.{tier_blocks};
+ghost use Rattle.interleavings.specs.layout.declared.places.TheConstants.{BLOCK};
+ghost use Rattle.interleavings.specs.update_log.View.{HasSize};
 ghost use Rattle.tier_device.specs.Media.{Rose};
 ghost use Rattle.tier_device.specs.declared.media.Tier.{Tier};
 ghost use Rattle.area_recovery.specs.declared.error.RecoveryError.TheVariants.{DeviceFault};
@@ -14,8 +14,8 @@ ghost use Rattle.area_recovery.specs.Recovers.{region_content};
 ghost use Rattle.area_recovery.specs.Regions.{HaveRisen};
 
 use area_recovery::RecoveryError;
-use layout::Geometry;
-use recovery_laws::{empty_region, empty_tier, first_fast_tier};
+use area_recovery::in_recovery_laws::{empty_region, empty_tier, first_fast_tier};
+use interleavings::in_layout::Geometry;
 use std::alloc::{AllocError, Global};
 use tier_device::{Media, Tier};
 

@@ -26,3 +26,10 @@ pub use fresh_world::format;
 pub use part_recovery::recover;
 pub use parts::{Parts, REGIONS};
 pub use survival::recover_after_stop;
+
+// Handed on to the crates above, which list only the highest of what they name.
+pub use area_recovery as in_area_recovery;
+pub use interleavings as in_interleavings;
+pub use interleavings::{
+    in_area_reader, in_layout, in_record_validation, in_shared_area, in_update_log,
+};

@@ -2,13 +2,13 @@
 
 ghost use Rattle.std.specs.Prelude.{◌≡◌, ◌≢◌, ◌≤◌, [], false, IfErr, IfOk, OnOk};
 ghost use Rattle.std.specs.Vec.{vec_capacity};
-ghost use Rattle.area_reader.specs.Store.{disk};
-ghost use Rattle.batch_journal.specs.Volume.{IsVolume};
-ghost use Rattle.system_laws.specs.Contents.{CanRecover, log_in, stored_state};
-ghost use Rattle.system_laws.specs.KeptCalls.{no_calls};
-ghost use Rattle.system_laws.specs.Parts.{medium_of};
-ghost use Rattle.system_laws.specs.WorldTree.{world_tree};
-ghost use Rattle.layout.specs.Places.{Sizes};
+ghost use Rattle.interleavings.specs.area_reader.Store.{disk};
+ghost use Rattle.interleavings.specs.batch_journal.Volume.{IsVolume};
+ghost use Rattle.interleavings.specs.system_laws.Contents.{CanRecover, log_in, stored_state};
+ghost use Rattle.interleavings.specs.system_laws.KeptCalls.{no_calls};
+ghost use Rattle.interleavings.specs.system_laws.Parts.{medium_of};
+ghost use Rattle.interleavings.specs.system_laws.WorldTree.{world_tree};
+ghost use Rattle.interleavings.specs.layout.Places.{Sizes};
 ghost use Rattle.area_recovery.specs.declared.error.RecoveryError.TheVariants.{AreaSize, DeviceFault, RegionSize};
 ghost use Rattle.area_recovery.specs.Errors.{OnBadLog, OnDamage};
 ghost use Rattle.area_recovery.specs.FaultOrMemory.{IsFaultOrMemory};
@@ -26,10 +26,10 @@ use crate::region_list::{hand_back, reopen_regions};
 use crate::region_wipes::wipe_regions;
 use area_recovery::{RecoveryError, settle_area};
 use interleavings::World;
-use shared_area::Shared;
+use interleavings::in_shared_area::Shared;
+use interleavings::in_update_log::Region;
 use std::alloc::Global;
 use tier_device::Media;
-use update_log::Region;
 
 /// The world of the tree that parts store, on which nothing may be pending: after the records that count, with the files that were open closed, and without
 /// those that have no name. Nobody uses it, and nothing is pending on its parts.

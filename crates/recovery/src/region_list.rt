@@ -2,15 +2,15 @@
 ghost use Rattle.std.specs.Prelude.{◌≡◌, ◌≤◌, ◌<◌, ◌+◌, ◌++◌, map, [], ◌∷◌, ◌≢◌, IfOk, IfErr, OnOk, OnErr};
 ghost use Rattle.std.specs.List.{AllZip, AllByRecursion};
 ghost use Rattle.std.specs.Vec.{vec_len, vec_capacity};
-ghost use Rattle.update_log.specs.View.{HasSize};
-ghost use Rattle.update_log.specs.declared.error.RegionError.TheVariants as denials;
+ghost use Rattle.interleavings.specs.update_log.View.{HasSize};
+ghost use Rattle.interleavings.specs.update_log.declared.error.RegionError.TheVariants as denials;
 ghost use Rattle.area_recovery.specs.declared.error.RecoveryError.TheVariants.{DeviceFault, RegionSize, Memory};
 ghost use Rattle.area_recovery.specs.Regions.{CanBeDenied, HaveRisen, IsGivenBack, IsReopened, RefusesLast, Rests, TakesLast};
 
 use area_recovery::RecoveryError;
+use interleavings::in_update_log::{Region, RegionError};
 use std::alloc::Global;
 use tier_device::Media;
-use update_log::{Region, RegionError};
 
 /// The region that each of these media holds, in their order. Nothing may be pending on them. It only reads them. None is left in the vector, which
 /// keeps its room for them.

@@ -1,11 +1,11 @@
 // Regions that are wiped.
 ghost use Rattle.std.specs.Prelude.{◌≡◌, ◌≤◌, ◌%◌, ◌/◌, ℕ, List, length, slice_index, Some, IfErr, IfOk, OnErr, OnOk, slice_get};
 ghost use Rattle.tier_device.specs.Media.{Keeps, Rose};
-ghost use Rattle.update_log.specs.View.{RegionView};
-ghost use Rattle.update_log.specs.Wipe.{wipe_next};
-ghost use Rattle.update_log.specs.Moments.{PastStays};
-ghost use Rattle.event_lists.specs.Courses.{Content};
-ghost use Rattle.layout.specs.Places.{Sizes};
+ghost use Rattle.interleavings.specs.update_log.View.{RegionView};
+ghost use Rattle.interleavings.specs.update_log.Wipe.{wipe_next};
+ghost use Rattle.interleavings.specs.update_log.Moments.{PastStays};
+ghost use Rattle.interleavings.specs.event_lists.Courses.{Content};
+ghost use Rattle.interleavings.specs.layout.Places.{Sizes};
 ghost use Rattle.posix_calls.specs.Tree.{State};
 ghost use Rattle.area_recovery.specs.declared.error.RecoveryError.TheVariants.{DeviceFault};
 ghost use Rattle.area_recovery.specs.Recovers.{Recovers, Regions};
@@ -13,8 +13,8 @@ ghost use Rattle.area_recovery.specs.Regions.{HaveRisen, REGIONS, media_of};
 ghost use Rattle.area_recovery.specs.Silent.{AreLeftOf, AreMarked, AreSilent, GoesOn, IsSilent, IsWiped, IsWipingTo, LeftOfRegion, MayBeWiped, StaysSilent, wiped_name};
 
 use area_recovery::RecoveryError;
+use interleavings::in_update_log::{Region, RegionError, WipeProgress};
 use tier_device::Media;
-use update_log::{Region, RegionError, WipeProgress};
 
 /// Wipes the sixteen regions, in their order: those of a client to its generation and the next one. Of each client, neither region has a record that
 /// counts under its generation or the next.

@@ -1,10 +1,10 @@
 // What regions store in which nothing counts.
 ghost use Rattle.std.specs.Prelude.{◌≡◌, ℕ, List, [], true};
-ghost use Rattle.system_laws.specs.Contents.{log_in};
-ghost use Rattle.layout.specs.Places.{Sizes};
+ghost use Rattle.interleavings.specs.system_laws.Contents.{log_in};
+ghost use Rattle.interleavings.specs.layout.Places.{Sizes};
 ghost use Rattle.posix_calls.specs.Operations.{is_client};
 ghost use Rattle.posix_calls.specs.Tree.{State};
-ghost use Rattle.event_lists.specs.Courses.{Content};
+ghost use Rattle.interleavings.specs.event_lists.Courses.{Content};
 ghost use Rattle.area_recovery.specs.Recovers.{Recovers, Regions, joined};
 ghost use Rattle.area_recovery.specs.Silent.{AreMarked, AreSilent};
 

@@ -1,15 +1,15 @@
 // Whether parts have the sizes of a geometry.
 ghost use Rattle.std.specs.Prelude.{◌≡◌, ◌*◌, ◌↔◌, IsTrue, length, IfErr, OnOk};
-ghost use Rattle.batch_journal.specs.Volume.{HasSizes};
-ghost use Rattle.layout.specs.Places.{tier_blocks};
-ghost use Rattle.layout.specs.declared.places.TheConstants.{BLOCK};
-ghost use Rattle.update_log.specs.View.{HasSize};
+ghost use Rattle.interleavings.specs.batch_journal.Volume.{HasSizes};
+ghost use Rattle.interleavings.specs.layout.Places.{tier_blocks};
+ghost use Rattle.interleavings.specs.layout.declared.places.TheConstants.{BLOCK};
+ghost use Rattle.interleavings.specs.update_log.View.{HasSize};
 ghost use Rattle.recovery.specs.FreshContents.{HaveSizes, IsSizeError, SizesAtRefusal};
 
 use area_recovery::RecoveryError;
-use layout::{BLOCK, Geometry};
+use interleavings::in_layout::{BLOCK, Geometry};
+use interleavings::in_update_log::REGION_SIZE;
 use tier_device::{Media, Tier};
-use update_log::REGION_SIZE;
 
 /// Tests the sizes of the shared medium, and then of those of regions, in their order.
 pub fn check_sizes<M: Media>(

@@ -1,10 +1,10 @@
 //! Every answered call survives.
 
 ghost use Rattle.std.specs.Prelude.{◌≡◌, ◌≢◌, IfErr, IfOk, OnErr};
-ghost use Rattle.system_laws.specs.Contents.{CanRecover};
-ghost use Rattle.system_laws.specs.Steps.{recoverable};
-ghost use Rattle.event_lists.specs.Plays.{Plays};
-ghost use Rattle.layout.specs.Places.{Sizes};
+ghost use Rattle.interleavings.specs.system_laws.Contents.{CanRecover};
+ghost use Rattle.interleavings.specs.system_laws.Steps.{recoverable};
+ghost use Rattle.interleavings.specs.event_lists.Plays.{Plays};
+ghost use Rattle.interleavings.specs.layout.Places.{Sizes};
 ghost use Rattle.area_recovery.specs.declared.error.RecoveryError.TheVariants.{DeviceFault};
 ghost use Rattle.area_recovery.specs.FaultOrMemory.{IsFaultOrMemory};
 ghost use Rattle.area_recovery.specs.Parts.{AreAtRest, contents_of, part_medium};
@@ -15,7 +15,7 @@ ghost use Rattle.recovery.specs.Survival.{Survives};
 use crate::part_recovery::recover;
 use crate::parts::Parts;
 use area_recovery::RecoveryError;
-use event_steps::{Event, Outcome};
+use interleavings::in_event_steps::{Event, Outcome};
 use interleavings::{World, play};
 use std::alloc::{AllocError, Global};
 use tier_device::Media;

@@ -1,7 +1,7 @@
 -- What stands where in the fast tier of a fresh area.
 use Rattle.std.proofs.Common.{◌≡◌, ℕ, ◌+◌, ◌-◌, ◌*◌, ◌≤◌, List, ◌++◌, length, refl, ap, ◌∙◌, arith}
 use Rattle.std.proofs.lemmas.List.{length-append}
-use Rattle.batch_journal.specs.Images.{slice}
+use Rattle.digester.specs.batch_journal.Images.{slice}
 use Rattle.layout.specs.Bytes.{zeros, padded_text}
 use Rattle.layout.specs.Marks.{marks_spelling, marks_text}
 use Rattle.layout.specs.Places.{Sizes, tier_blocks}
@@ -9,7 +9,7 @@ use Rattle.layout.specs.Slot.{slot_spelling, slot_text, slot_fields}
 use Rattle.layout.specs.Super.{super_spelling, super_text}
 use Rattle.layout.specs.declared.superblock.Super.{Super}
 use Rattle.tier_device.specs.declared.media.Tier.TheVariants.{Fast}
-use Rattle.file_graph.proofs.Fields.{u32_long, u64_long}
+use Rattle.layout.proofs.file_graph_lemmas.Fields.{u32_long, u64_long}
 use Rattle.recovery_laws.specs.Fresh.{bare_root, no_marks, fresh_fast}
 use Rattle.recovery_laws.proofs.Zeros.{padded_is, padded_long}
 use Rattle.recovery_laws.proofs.Slices.{slice_zeros, slice_front, slice_behind, slice_whole}

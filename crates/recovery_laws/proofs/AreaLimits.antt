@@ -5,7 +5,7 @@ use Rattle.std.specs.FinMap as fin
 use Rattle.std.specs.List.{list_all}
 use Rattle.std.proofs.lemmas.Bool.{cases_Bool, cond-false, and_parts, leb-true}
 use Rattle.posix_calls.specs.Name.{is_name}
-use Rattle.file_graph.specs.declared.effect.Kind.{Kind}
+use Rattle.layout.specs.file_graph.declared.effect.Kind.{Kind}
 use Rattle.layout.specs.Places.{Sizes, is_inode}
 use Rattle.layout.specs.Slot.{slot_of, fits_slot, is_root_block, roots_apart}
 use Rattle.layout.specs.declared.slot.Slot.{Slot}
@@ -13,12 +13,12 @@ use Rattle.layout.specs.declared.slot.Slot.TheVariants as slots
 use Rattle.layout.specs.declared.directory.DirEntry.{DirEntry}
 use Rattle.layout.specs.Directory.{EntryList, block_entries, no_entry, entry_of, fits_entry, are_distinct}
 use Rattle.layout.proofs.Pairs.{all_at}
-use Rattle.tree_blocks.specs.Inode.{LogicalBlocks, Entry, entry_at, named_entries, node_of, inode_of, IsConsistent, IsDirectoryBlock, AreDirectoryBlocks}
-use Rattle.tree_blocks.proofs.Directories.{get_there, get_missing, len_named, place_of}
-use Rattle.tree_blocks.proofs.Files.{length_file}
-use Rattle.area_reader.specs.Store.{Store, slot_bytes, slot_read, slot, logical_block, graph}
-use Rattle.area_reader.specs.Format.{IsOpenable}
-use Rattle.area_reader.proofs.Lists.{slot_here_fits}
+use Rattle.digester.specs.tree_blocks.Inode.{LogicalBlocks, Entry, entry_at, named_entries, node_of, inode_of, IsConsistent, IsDirectoryBlock, AreDirectoryBlocks}
+use Rattle.digester.proofs.tree_blocks_lemmas.Directories.{get_there, get_missing, len_named, place_of}
+use Rattle.digester.proofs.tree_blocks_lemmas.Files.{length_file}
+use Rattle.digester.specs.area_reader.Store.{Store, slot_bytes, slot_read, slot, logical_block, graph}
+use Rattle.digester.specs.area_reader.Format.{IsOpenable}
+use Rattle.digester.proofs.area_reader_lemmas.Lists.{slot_here_fits}
 use Rattle.world_invariant.specs.Limits.{AreEntriesWithin, IsWithin, AreWithin}
 
 -- ---- numbers

@@ -4,13 +4,13 @@ use Rattle.std.specs.Prelude.{◌==◌, nat_le, replicate, unwrap_or, IsSome}
 use Rattle.std.specs.Option.{option_map}
 use Rattle.std.specs.FinMap as fin
 use Rattle.std.proofs.lemmas.Bool.{cases_Bool, cond-true, cond-false, and_parts, and_from, leb-true, le-leb, lt-ltb, eqb-true, eqb-false, eq-eqb, ne_eqb}
-use Rattle.file_graph.specs.Graph.{fresh, cost}
-use Rattle.file_graph.specs.Units.{charge}
+use Rattle.layout.specs.file_graph.Graph.{fresh, cost}
+use Rattle.layout.specs.file_graph.Units.{charge}
 use Rattle.posix_calls.specs.Tree.{sum_up_to}
 use Rattle.posix_calls.proofs.Sums.{one_changes, all_zero}
 use Rattle.posix_calls.proofs.Counts.{order}
-use Rattle.file_graph.specs.declared.effect.Kind.{Kind}
-use Rattle.extent_tree.specs.Places.{place_of}
+use Rattle.layout.specs.file_graph.declared.effect.Kind.{Kind}
+use Rattle.digester.specs.extent_tree.Places.{place_of}
 use Rattle.tier_device.specs.declared.media.Tier.{Tier}
 use Rattle.tier_device.specs.declared.media.Tier.TheVariants.{Fast, Block, Slow}
 use Rattle.layout.specs.Bytes.{u32, u64, zeros, padded_text, are_zero}
@@ -23,12 +23,12 @@ use Rattle.layout.specs.Slot.{fits_slot, slot_spelling, slot_of}
 use Rattle.layout.specs.declared.superblock.Super.{Super}
 use Rattle.layout.specs.Super.{fits_super, super_spelling, super_of}
 use Rattle.digester.specs.MarkMoves.{mark_of}
-use Rattle.batch_journal.specs.Images.{slice}
-use Rattle.batch_journal.specs.Blocks.{home, block_of, is_home, is_gate_open}
-use Rattle.batch_journal.specs.Volume.{Spells, IsJournal, HasSizes, IsVolume}
-use Rattle.tree_blocks.specs.Inode.{IsConsistent, inode_of, node_of}
-use Rattle.area_reader.specs.Store.{Store, store_of, slot_bytes, slot_read, slot, root_of, extents_read, place, logical_block, inode, graph, marks}
-use Rattle.area_reader.specs.Format.{SpellsInode, used_block, IsSpelled, IsOpenable}
+use Rattle.digester.specs.batch_journal.Images.{slice}
+use Rattle.digester.specs.batch_journal.Blocks.{home, block_of, is_home, is_gate_open}
+use Rattle.digester.specs.batch_journal.Volume.{Spells, IsJournal, HasSizes, IsVolume}
+use Rattle.digester.specs.tree_blocks.Inode.{IsConsistent, inode_of, node_of}
+use Rattle.digester.specs.area_reader.Store.{Store, store_of, slot_bytes, slot_read, slot, root_of, extents_read, place, logical_block, inode, graph, marks}
+use Rattle.digester.specs.area_reader.Format.{SpellsInode, used_block, IsSpelled, IsOpenable}
 use Rattle.recovery_laws.specs.Fresh.{bare_root, no_marks, fresh_fast, fresh_tiers}
 use Rattle.recovery_laws.proofs.Zeros.{padded_long}
 use Rattle.recovery_laws.proofs.Slices.{slice_slice}

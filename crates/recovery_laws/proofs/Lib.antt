@@ -5,3 +5,7 @@ pub mod AreaBytes
 pub mod AreaOpens
 pub mod Zeros
 pub mod Regions
+-- Handed on to the crates above, which list only the highest of what they name.
+pub use Rattle.digester.proofs.batch_journal_lemmas
+pub use Rattle.digester.proofs as digester_lemmas
+pub use Rattle.digester.proofs.shared_area_lemmas

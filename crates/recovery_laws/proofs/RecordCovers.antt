@@ -5,18 +5,18 @@ use Rattle.std.specs.Prelude.{nat_le, option_map}
 use Rattle.std.proofs.lemmas.Bool.{and_from, le-leb}
 use Rattle.posix_calls.specs.Operations.{is_client}
 use Rattle.posix_calls.specs.Tree.{sum_up_to}
-use Rattle.file_graph.specs.Graph.{Graph, Node, Body, FileBody, DirBody, after_effects, is_among}
-use Rattle.file_graph.specs.Units.{charge}
+use Rattle.layout.specs.file_graph.Graph.{Graph, Node, Body, FileBody, DirBody, after_effects, is_among}
+use Rattle.layout.specs.file_graph.Units.{charge}
 use Rattle.layout.specs.Places.{is_inode}
-use Rattle.log_record.specs.Grammar.{IsRecord, IsInode}
-use Rattle.log_record.specs.declared.format.Record.{Record}
-use Rattle.call_effects.specs.NodeView.{view_of_body, view_of_node}
-use Rattle.record_validation.specs.Good.{KeepsLimits}
+use Rattle.update_log.specs.log_record.Grammar.{IsRecord, IsInode}
+use Rattle.update_log.specs.log_record.declared.format.Record.{Record}
+use Rattle.world_invariant.specs.call_effects.NodeView.{view_of_body, view_of_node}
+use Rattle.digester.specs.record_validation.Good.{KeepsLimits}
 use Rattle.digester.specs.RecordCover.{AreCovered, units_of}
 use Rattle.digester.specs.Plan.{IsFirstBad}
 use Rattle.digester.proofs.Covered.{never_bad}
 use Rattle.posix_calls.proofs.Sums.{one_changes, same_if, there_if}
-use Rattle.record_validation.proofs.Rises.{touched_fit}
+use Rattle.digester.proofs.record_validation_lemmas.Rises.{touched_fit}
 use Rattle.world_invariant.specs.Limits.{IsBodyWithin, IsWithin, AreWithin}
 use Rattle.world_invariant.specs.Logs.{is_touched, is_written, units_in, IsPaid, ArePaid, Keeps, KeepLimits}
 use Rattle.world_invariant.specs.Recovery.{IsRecoverable}

@@ -3,7 +3,7 @@ use Rattle.std.proofs.Common.{◌≡◌, ℕ, ◌+◌, ◌-◌, ◌≤◌, List,
 use Rattle.std.proofs.Math.Seq.{drop-append-add}
 use Rattle.std.proofs.lemmas.List.{length-drop, take-append-le, drop-append-le, take-replicate, drop-replicate, drop-drop, drop-take, take-take, take_all}
 use Rattle.layout.specs.Bytes.{zeros}
-use Rattle.batch_journal.specs.Images.{slice}
+use Rattle.digester.specs.batch_journal.Images.{slice}
 
 pub slice_zeros : (at n m : ℕ) → at + n ≤ m → slice at n (zeros m) ≡ zeros n
 unfolding zeros

@@ -1,6 +1,6 @@
 -- What a recovery holds for writing.
 use Rattle.std.specs.Prelude.{◌≡◌, ℕ, List, true}
-use Rattle.file_graph.specs.Graph.{is_among}
+use Rattle.layout.specs.file_graph.Graph.{is_among}
 use Rattle.layout.specs.Places.{is_inode}
 
 -- every inode number is in the list

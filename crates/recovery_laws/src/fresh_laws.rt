@@ -1,13 +1,13 @@
 //! What the bytes of a fresh area stand for.
 
 ghost use Rattle.std.specs.Prelude.{◌≡◌, ℕ, Some};
-ghost use Rattle.area_reader.specs.Format.{IsOpenable};
-ghost use Rattle.area_reader.specs.Store.{store_of, graph, marks};
-ghost use Rattle.batch_journal.specs.Volume.{IsVolume};
+ghost use Rattle.digester.specs.area_reader.Format.{IsOpenable};
+ghost use Rattle.digester.specs.area_reader.Store.{store_of, graph, marks};
+ghost use Rattle.digester.specs.batch_journal.Volume.{IsVolume};
 ghost use Rattle.digester.specs.MarkMoves.{mark_of};
 ghost use Rattle.recovery_laws.specs.Fresh.{no_marks, fresh_tiers};
 ghost use Rattle.layout.specs.Places.{Sizes, IsAllowed};
-ghost use Rattle.file_graph.specs.Graph.{fresh};
+ghost use Rattle.layout.specs.file_graph.Graph.{fresh};
 
 use layout::{marks_are_read, slot_is_read, super_is_read};
 

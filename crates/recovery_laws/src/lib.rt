@@ -17,3 +17,8 @@ pub use fresh_laws::fresh_area_opens;
 pub use fresh_region::empty_region;
 pub use record_laws::{paid_records_are_covered, recoverable_records_are_covered};
 pub use region_laws::fresh_region_is_empty;
+
+// Handed on to the crates above, which list only the highest of what they name.
+pub use digester as in_digester;
+pub use digester::{in_area_reader, in_graph_change, in_shared_area};
+pub use layout as in_layout;

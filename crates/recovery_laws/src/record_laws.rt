@@ -3,10 +3,10 @@
 ghost use Rattle.std.specs.Prelude.{◌≡◌, ◌≤◌, ◌+◌, ℕ, List, ◌++◌, true, take};
 ghost use Rattle.std.specs.List.{AllByRecursion};
 ghost use Rattle.posix_calls.specs.Operations.{is_client};
-ghost use Rattle.file_graph.specs.Graph.{Graph, is_among};
-ghost use Rattle.file_graph.specs.Units.{charge};
-ghost use Rattle.log_record.specs.Grammar.{IsRecord};
-ghost use Rattle.log_record.specs.declared.format.Record.{Record};
+ghost use Rattle.layout.specs.file_graph.Graph.{Graph, is_among};
+ghost use Rattle.layout.specs.file_graph.Units.{charge};
+ghost use Rattle.update_log.specs.log_record.Grammar.{IsRecord};
+ghost use Rattle.update_log.specs.log_record.declared.format.Record.{Record};
 ghost use Rattle.digester.specs.Plan.{IsFirstBad};
 ghost use Rattle.digester.specs.RecordCover.{AreCovered, units_of};
 ghost use Rattle.world_invariant.specs.Limits.{AreWithin};

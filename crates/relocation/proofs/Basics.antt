@@ -6,23 +6,23 @@ use Rattle.std.specs.List.{Contains}
 use Rattle.std.proofs.lemmas.Bool.{false≢true}
 use Rattle.tier_device.specs.declared.media.Tier.{Tier}
 use Rattle.tier_device.specs.declared.media.Tier.TheVariants as tiers
-use Rattle.file_graph.specs.declared.effect.Kind.TheVariants as kind
-use Rattle.layout.specs.declared.extents.Extent.{Extent}
-use Rattle.layout.specs.declared.geometry.Space.TheVariants as space
-use Rattle.layout.specs.declared.slot.Slot.{Slot}
-use Rattle.layout.specs.declared.slot.Slot.TheVariants as slots
-use Rattle.layout.specs.Extents.{ExtentList}
-use Rattle.layout.specs.Places.{Sizes}
-use Rattle.extent_tree.specs.Places.{place_of, place_in, extent_with}
-use Rattle.extent_tree.specs.Normal.{IsNormal}
-use Rattle.extent_tree.specs.Map.{TierRuns, runs_in}
-use Rattle.tree_blocks.specs.Inode.{inode_of}
-use Rattle.area_reader.specs.Store.{Store, slot, root_of, touch_of, length_of, space_of, extents_read, place}
-use Rattle.area_reader.proofs.Shown.{extents_none}
+use Rattle.inode_plan.specs.file_graph.declared.effect.Kind.TheVariants as kind
+use Rattle.inode_plan.specs.layout.declared.extents.Extent.{Extent}
+use Rattle.inode_plan.specs.layout.declared.geometry.Space.TheVariants as space
+use Rattle.inode_plan.specs.layout.declared.slot.Slot.{Slot}
+use Rattle.inode_plan.specs.layout.declared.slot.Slot.TheVariants as slots
+use Rattle.inode_plan.specs.layout.Extents.{ExtentList}
+use Rattle.inode_plan.specs.layout.Places.{Sizes}
+use Rattle.inode_plan.specs.extent_tree.Places.{place_of, place_in, extent_with}
+use Rattle.inode_plan.specs.extent_tree.Normal.{IsNormal}
+use Rattle.inode_plan.specs.extent_tree.Map.{TierRuns, runs_in}
+use Rattle.inode_plan.specs.tree_blocks.Inode.{inode_of}
+use Rattle.inode_plan.specs.area_reader.Store.{Store, slot, root_of, touch_of, length_of, space_of, extents_read, place}
+use Rattle.inode_plan.proofs.area_reader_lemmas.Shown.{extents_none}
 use Rattle.inode_plan.specs.Lists.{IsListOf}
-use Rattle.area_commit.proofs.Given.{cons_cases, nothing}
+use Rattle.inode_plan.proofs.area_commit_lemmas.Given.{cons_cases, nothing}
 use Rattle.inode_plan.proofs.Steps.{inside}
-use Rattle.area_commit.specs.InodeMove.{with_roots}
+use Rattle.inode_plan.specs.area_commit.InodeMove.{with_roots}
 
 -- ---- lists
 

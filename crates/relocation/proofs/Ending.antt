@@ -6,24 +6,24 @@ use Rattle.tier_device.specs.declared.media.Media.{Ghosts}
 use Rattle.tier_device.specs.declared.media.Tier.{Tier}
 use Rattle.tier_device.specs.declared.media.Tier.TheVariants.{Fast}
 use Rattle.tier_device.specs.Media.{Rose}
-use Rattle.layout.specs.declared.slot.Slot.{Slot}
-use Rattle.layout.specs.Places.{Sizes, IsAllowed}
-use Rattle.batch_journal.specs.Course.{Unmoved}
-use Rattle.batch_journal.specs.View.{JournalView}
-use Rattle.batch_journal.proofs.Courses.{left_before, tiers_same, unmoved_on}
-use Rattle.area_reader.specs.Store.{Store, disk, store_of}
-use Rattle.area_reader.specs.Format.{IsOpenable}
-use Rattle.area_reader.specs.Damage.{OnDamage}
-use Rattle.area_reader.specs.Looks.{Looks}
-use Rattle.area_reader.specs.Refusals.{IsMoveRefusal, IsChangeRefusal}
-use Rattle.extent_tree.specs.Map.{TierRuns}
-use Rattle.area_commit.specs.Value.{PoolsView, HasRanges, AreFree}
-use Rattle.area_reader.specs.declared.error.AreaError.{AreaError}
-use Rattle.area_reader.specs.declared.error.AreaError.TheVariants as errors
-use Rattle.area_commit.specs.declared.plan.Rewrite.{Rewrite}
-use Rattle.area_commit.specs.PlanOutcome.{IsCarriedOut, AllOrNothing}
-use Rattle.area_commit.proofs.Course.{Rests}
-use Rattle.area_commit.proofs.Moments.{rest_loose}
+use Rattle.inode_plan.specs.layout.declared.slot.Slot.{Slot}
+use Rattle.inode_plan.specs.layout.Places.{Sizes, IsAllowed}
+use Rattle.inode_plan.specs.batch_journal.Course.{Unmoved}
+use Rattle.inode_plan.specs.batch_journal.View.{JournalView}
+use Rattle.inode_plan.proofs.batch_journal_lemmas.Courses.{left_before, tiers_same, unmoved_on}
+use Rattle.inode_plan.specs.area_reader.Store.{Store, disk, store_of}
+use Rattle.inode_plan.specs.area_reader.Format.{IsOpenable}
+use Rattle.inode_plan.specs.area_reader.Damage.{OnDamage}
+use Rattle.inode_plan.specs.area_reader.Looks.{Looks}
+use Rattle.inode_plan.specs.area_reader.Refusals.{IsMoveRefusal, IsChangeRefusal}
+use Rattle.inode_plan.specs.extent_tree.Map.{TierRuns}
+use Rattle.inode_plan.specs.area_commit.Value.{PoolsView, HasRanges, AreFree}
+use Rattle.inode_plan.specs.area_reader.declared.error.AreaError.{AreaError}
+use Rattle.inode_plan.specs.area_reader.declared.error.AreaError.TheVariants as errors
+use Rattle.inode_plan.specs.area_commit.declared.plan.Rewrite.{Rewrite}
+use Rattle.inode_plan.specs.area_commit.PlanOutcome.{IsCarriedOut, AllOrNothing}
+use Rattle.inode_plan.proofs.area_commit_lemmas.Course.{Rests}
+use Rattle.inode_plan.proofs.area_commit_lemmas.Moments.{rest_loose}
 use Rattle.relocation.specs.declared.run_search.MovableRun.{MovableRun}
 use Rattle.relocation.specs.MovedFile.{IsMovePlan, IsPlanOfMove}
 use Rattle.relocation.specs.RunMove.{AreLowestFree, IsSettled, IsMovedStore, IsMovedOrNot, Moves, MovesInFewCalls, StaysStill, EndsMove}

@@ -6,27 +6,27 @@ use Rattle.std.proofs.lemmas.Bool.{false≢true, and_from, and_parts, or_right, 
 use Rattle.std.proofs.lemmas.Option.{none-some}
 use Rattle.tier_device.specs.declared.media.Tier.{Tier}
 use Rattle.tier_device.specs.declared.media.Tier.TheVariants as tiers
-use Rattle.layout.specs.declared.geometry.Space.{Space}
-use Rattle.layout.specs.declared.geometry.Space.TheVariants as space
-use Rattle.layout.specs.declared.slot.Slot.{Slot}
-use Rattle.layout.specs.Places.{Sizes, is_node, node_end, data_first, tier_blocks, is_run}
-use Rattle.layout.specs.Slot.{fits_slot, is_root_block}
+use Rattle.inode_plan.specs.layout.declared.geometry.Space.{Space}
+use Rattle.inode_plan.specs.layout.declared.geometry.Space.TheVariants as space
+use Rattle.inode_plan.specs.layout.declared.slot.Slot.{Slot}
+use Rattle.inode_plan.specs.layout.Places.{Sizes, is_node, node_end, data_first, tier_blocks, is_run}
+use Rattle.inode_plan.specs.layout.Slot.{fits_slot, is_root_block}
 use Rattle.block_alloc.specs.Runs.{Rising, blocks_of}
 use Rattle.block_alloc.proofs.Blocks.{normal-rising}
-use Rattle.extent_tree.specs.BlockFormat.{LiesWithin}
-use Rattle.extent_tree.specs.Map.{TierRuns, runs_in, lies_at, LieBelow}
-use Rattle.area_reader.specs.Store.{Store, slot, root_of, length_of, space_of}
-use Rattle.area_reader.specs.Reads.{Free}
-use Rattle.area_reader.specs.Map.{in_tier}
-use Rattle.area_reader.proofs.Parts.{slot_as}
-use Rattle.area_reader.proofs.Shown.{slot_limits}
-use Rattle.area_commit.specs.Allocations.{runs_of}
+use Rattle.inode_plan.specs.extent_tree.BlockFormat.{LiesWithin}
+use Rattle.inode_plan.specs.extent_tree.Map.{TierRuns, runs_in, lies_at, LieBelow}
+use Rattle.inode_plan.specs.area_reader.Store.{Store, slot, root_of, length_of, space_of}
+use Rattle.inode_plan.specs.area_reader.Reads.{Free}
+use Rattle.inode_plan.specs.area_reader.Map.{in_tier}
+use Rattle.inode_plan.proofs.area_reader_lemmas.Parts.{slot_as}
+use Rattle.inode_plan.proofs.area_reader_lemmas.Shown.{slot_limits}
+use Rattle.inode_plan.specs.area_commit.Allocations.{runs_of}
 use Rattle.relocation.specs.declared.run_search.MovableRun.{MovableRun}
 use Rattle.inode_plan.specs.Lists.{SpareFits, LacksRoot}
-use Rattle.area_commit.proofs.Given.{cons_cases, cons_here, nothing}
+use Rattle.inode_plan.proofs.area_commit_lemmas.Given.{cons_cases, cons_here, nothing}
 use Rattle.inode_plan.proofs.PlacesFit.{tier_is, placed_once, placed_below, placed_apart, placed_within, placed_elsewhere, elsewhere_within}
-use Rattle.area_commit.specs.InodeRewrite.{IsFit}
-use Rattle.area_commit.specs.declared.plan.Rewrite.{Rewrite}
+use Rattle.inode_plan.specs.area_commit.InodeRewrite.{IsFit}
+use Rattle.inode_plan.specs.area_commit.declared.plan.Rewrite.{Rewrite}
 use Rattle.relocation.specs.MovedFile.{first_of, IsSpareFor, IsMovePlan}
 use Rattle.relocation.proofs.Basics.{some_block, list_some, rootless, data_space, roots_long, roots_space}
 

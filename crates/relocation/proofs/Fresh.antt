@@ -6,18 +6,18 @@ use Rattle.std.proofs.lemmas.Bool.{cases_Bool, cases_lt, eqb-true, eqb-false}
 use Rattle.std.proofs.lemmas.List.{length-take-le, length-append}
 use Rattle.std.proofs.lemmas.List.FromFn.{length-range_with_len}
 use Rattle.tier_device.specs.declared.media.Tier.{Tier}
-use Rattle.layout.specs.Places.{Sizes}
+use Rattle.inode_plan.specs.layout.Places.{Sizes}
 use Rattle.block_alloc.specs.declared.runs.Run.{Run}
 use Rattle.block_alloc.specs.declared.error.AllocatorError.{AllocatorError}
 use Rattle.block_alloc.specs.declared.error.AllocatorError.TheVariants.{NoBlock}
 use Rattle.block_alloc.specs.Runs.{run_blocks, blocks_of, AreNormalRuns}
-use Rattle.area_reader.specs.Store.{Store, root_of}
-use Rattle.area_commit.specs.Value.{PoolsView, data_pool, AreInOrder, HasRanges, AreFree}
-use Rattle.area_commit.specs.declared.allocation.Allocation.{Allocation}
-use Rattle.area_commit.specs.Allocations.{runs_of, WereTaken}
+use Rattle.inode_plan.specs.area_reader.Store.{Store, root_of}
+use Rattle.inode_plan.specs.area_commit.Value.{PoolsView, data_pool, AreInOrder, HasRanges, AreFree}
+use Rattle.inode_plan.specs.area_commit.declared.allocation.Allocation.{Allocation}
+use Rattle.inode_plan.specs.area_commit.Allocations.{runs_of, WereTaken}
 use Rattle.relocation.specs.declared.run_search.MovableRun.{MovableRun}
 use Rattle.inode_plan.specs.RunPlaces.{EndsFit}
-use Rattle.area_commit.specs.Plan.{WereFree}
+use Rattle.inode_plan.specs.area_commit.Plan.{WereFree}
 use Rattle.relocation.specs.MovedFile.{first_of, spare_count, IsSpareFor, IsTakenFor}
 
 -- ---- runs

@@ -3,9 +3,9 @@ use Rattle.std.proofs.Common.{◌≡◌, ◌≤◌, inl, inr, ℕ, ◌+◌, ◌*
 use Rattle.std.proofs.lemmas.Bool.{cases_lt}
 use Rattle.tier_device.specs.Media.{overwritten}
 use Rattle.tier_device.specs.RecordLaws.{torn_overwritten}
-use Rattle.batch_journal.specs.Images.{slice}
-use Rattle.batch_journal.proofs.Bytes.{slice_before, slice_written}
-use Rattle.tree_blocks.specs.Inode.{LogicalBlocks}
+use Rattle.inode_plan.specs.batch_journal.Images.{slice}
+use Rattle.inode_plan.proofs.batch_journal_lemmas.Bytes.{slice_before, slice_written}
+use Rattle.inode_plan.specs.tree_blocks.Inode.{LogicalBlocks}
 use Rattle.inode_plan.specs.Lists.{HoldsRun}
 
 pub holds_more : (blocks : LogicalBlocks) (first n : ℕ) (old new : List ℕ) → HoldsRun blocks first n old → length new ≡ 4096 → 4096 * n + 4096 ≤ length old → new ≡ blocks (first + n) → HoldsRun blocks first (n + 1) (overwritten old (4096 * n) new)

@@ -7,27 +7,27 @@ use Rattle.std.proofs.lemmas.List.Elements.{Contains-append_left, Contains-appen
 use Rattle.std.proofs.lemmas.Option.{none-some}
 use Rattle.tier_device.specs.declared.media.Tier.{Tier}
 use Rattle.tier_device.specs.declared.media.Tier.TheVariants as tiers
-use Rattle.layout.specs.declared.extents.Extent.{Extent}
-use Rattle.layout.specs.declared.slot.Slot.{Slot}
-use Rattle.layout.specs.Places.{Sizes, node_end, data_first}
-use Rattle.layout.specs.Slot.{fits_slot}
+use Rattle.inode_plan.specs.layout.declared.extents.Extent.{Extent}
+use Rattle.inode_plan.specs.layout.declared.slot.Slot.{Slot}
+use Rattle.inode_plan.specs.layout.Places.{Sizes, node_end, data_first}
+use Rattle.inode_plan.specs.layout.Slot.{fits_slot}
 use Rattle.block_alloc.specs.declared.runs.Run.{Run}
 use Rattle.block_alloc.specs.Runs.{run_blocks, blocks_of}
-use Rattle.extent_tree.specs.Places.{place_of}
-use Rattle.extent_tree.specs.Map.{TierRuns, runs_in, lies_at, places_of, place_list, HasBlock}
-use Rattle.area_reader.specs.Store.{Store, root_of, place}
-use Rattle.area_reader.specs.Format.{used_block}
-use Rattle.area_commit.specs.Allocations.{runs_of}
+use Rattle.inode_plan.specs.extent_tree.Places.{place_of}
+use Rattle.inode_plan.specs.extent_tree.Map.{TierRuns, runs_in, lies_at, places_of, place_list, HasBlock}
+use Rattle.inode_plan.specs.area_reader.Store.{Store, root_of, place}
+use Rattle.inode_plan.specs.area_reader.Format.{used_block}
+use Rattle.inode_plan.specs.area_commit.Allocations.{runs_of}
 use Rattle.relocation.specs.declared.run_search.MovableRun.{MovableRun}
 use Rattle.inode_plan.specs.Lists.{root_left, roots_left}
 use Rattle.inode_plan.specs.RunPlaces.{is_faster}
-use Rattle.area_commit.proofs.Given.{all_from, cons_here, nothing}
+use Rattle.inode_plan.proofs.area_commit_lemmas.Given.{all_from, cons_here, nothing}
 use Rattle.inode_plan.proofs.Steps.{inside}
-use Rattle.area_commit.proofs.GivenUp.{Once, once_rest, once_apart, beside, places_once, lies_there}
+use Rattle.inode_plan.proofs.area_commit_lemmas.GivenUp.{Once, once_rest, once_apart, beside, places_once, lies_there}
 use Rattle.inode_plan.proofs.PlacesFit.{tier_is, run_cases, gone, stays}
-use Rattle.area_commit.specs.InodeRewrite.{block_by}
-use Rattle.area_commit.specs.declared.plan.Rewrite.{Rewrite}
-use Rattle.area_commit.specs.Plan.{Loses, IsLost, HoldLost, LieApart, is_changed, lost_in}
+use Rattle.inode_plan.specs.area_commit.InodeRewrite.{block_by}
+use Rattle.inode_plan.specs.area_commit.declared.plan.Rewrite.{Rewrite}
+use Rattle.inode_plan.specs.area_commit.Plan.{Loses, IsLost, HoldLost, LieApart, is_changed, lost_in}
 use Rattle.relocation.specs.MovedFile.{IsMovePlan}
 use Rattle.relocation.proofs.Fitting.{one_block, node_within, slot_here, old_data, old_root_node}
 use Rattle.relocation.proofs.Using.{root_use, root_block, block_root, place_block, block_place, roots_differ, changed_is, changed_here, Root, is_kept, is_new, root_cases, root_some}

@@ -3,13 +3,13 @@ use Rattle.std.proofs.Common.{◌≡◌, ◌+◌, ◌-◌, ◌∙◌, inl, inr, 
 use Rattle.std.specs.Prelude.{IsSome}
 use Rattle.std.proofs.lemmas.Bool.{cases_lt, false≢true}
 use Rattle.tier_device.specs.declared.media.Tier.{Tier}
-use Rattle.file_graph.specs.declared.effect.Kind.TheVariants as kind
-use Rattle.layout.specs.Places.{Sizes}
-use Rattle.layout.specs.declared.slot.Slot.{Slot}
-use Rattle.layout.specs.declared.slot.Slot.TheVariants as slots
-use Rattle.tree_blocks.specs.Inode.{LogicalBlocks, inode_of}
-use Rattle.area_reader.specs.Store.{Store, slot, logical_block, length_of}
-use Rattle.area_reader.proofs.Tails.{place_past}
+use Rattle.inode_plan.specs.file_graph.declared.effect.Kind.TheVariants as kind
+use Rattle.inode_plan.specs.layout.Places.{Sizes}
+use Rattle.inode_plan.specs.layout.declared.slot.Slot.{Slot}
+use Rattle.inode_plan.specs.layout.declared.slot.Slot.TheVariants as slots
+use Rattle.inode_plan.specs.tree_blocks.Inode.{LogicalBlocks, inode_of}
+use Rattle.inode_plan.specs.area_reader.Store.{Store, slot, logical_block, length_of}
+use Rattle.inode_plan.proofs.area_reader_lemmas.Tails.{place_past}
 use Rattle.relocation.specs.MovableFile.{IsWithinFile}
 use Rattle.relocation.specs.TierMove.{CanMove}
 use Rattle.inode_plan.proofs.Steps.{inside}

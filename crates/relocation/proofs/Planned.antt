@@ -6,23 +6,23 @@ use Rattle.std.proofs.lemmas.List.{length-append}
 use Rattle.std.proofs.lemmas.List.FromFn.{length-range_with_len}
 use Rattle.tier_device.specs.declared.media.Tier.{Tier}
 use Rattle.tier_device.specs.declared.media.Tier.TheVariants as tiers
-use Rattle.layout.specs.declared.marks.Marks.{Marks}
-use Rattle.layout.specs.declared.slot.Slot.{Slot}
-use Rattle.layout.specs.Places.{Sizes, IsAllowed, data_first, tier_blocks}
+use Rattle.inode_plan.specs.layout.declared.marks.Marks.{Marks}
+use Rattle.inode_plan.specs.layout.declared.slot.Slot.{Slot}
+use Rattle.inode_plan.specs.layout.Places.{Sizes, IsAllowed, data_first, tier_blocks}
 use Rattle.block_alloc.specs.declared.runs.Run.{Run}
 use Rattle.block_alloc.specs.Runs.{run_blocks, blocks_of, AreNormalRuns}
-use Rattle.extent_tree.specs.Map.{TierRuns, HasBlock}
-use Rattle.area_reader.specs.Store.{Store, logical_block}
-use Rattle.area_commit.specs.declared.slots.ChangedSlot.{ChangedSlot}
-use Rattle.area_commit.specs.declared.allocation.Allocation.{Allocation}
-use Rattle.area_commit.specs.Allocations.{runs_of}
-use Rattle.area_commit.specs.Batches.{marks_images}
-use Rattle.area_commit.specs.DataWrite.{fences_of, tier_calls, calls_for}
+use Rattle.inode_plan.specs.extent_tree.Map.{TierRuns, HasBlock}
+use Rattle.inode_plan.specs.area_reader.Store.{Store, logical_block}
+use Rattle.inode_plan.specs.area_commit.declared.slots.ChangedSlot.{ChangedSlot}
+use Rattle.inode_plan.specs.area_commit.declared.allocation.Allocation.{Allocation}
+use Rattle.inode_plan.specs.area_commit.Allocations.{runs_of}
+use Rattle.inode_plan.specs.area_commit.Batches.{marks_images}
+use Rattle.inode_plan.specs.area_commit.DataWrite.{fences_of, tier_calls, calls_for}
 use Rattle.relocation.specs.declared.run_search.MovableRun.{MovableRun}
 use Rattle.inode_plan.specs.Lists.{HoldsRun}
-use Rattle.area_commit.specs.declared.plan.FreedBlocks.{FreedBlocks}
-use Rattle.area_commit.specs.declared.plan.Rewrite.{Rewrite}
-use Rattle.area_commit.specs.Plan.{lost_in}
+use Rattle.inode_plan.specs.area_commit.declared.plan.FreedBlocks.{FreedBlocks}
+use Rattle.inode_plan.specs.area_commit.declared.plan.Rewrite.{Rewrite}
+use Rattle.inode_plan.specs.area_commit.Plan.{lost_in}
 use Rattle.relocation.specs.MovedFile.{IsTakenFor, IsMade, IsReadyMove, IsMovePlan, IsPlanOfMove}
 use Rattle.relocation.specs.RunMove.{AreLowestFree, MovesInFewCalls}
 use Rattle.relocation.proofs.Fresh.{no_blocks}

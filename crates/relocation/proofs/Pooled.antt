@@ -5,25 +5,25 @@ use Rattle.std.specs.List.{Contains}
 use Rattle.std.proofs.lemmas.Bool.{cases_lt, cases_Bool}
 use Rattle.tier_device.specs.declared.media.Tier.{Tier}
 use Rattle.tier_device.specs.declared.media.Tier.TheVariants.{Fast, Block, Slow}
-use Rattle.layout.specs.Places.{Sizes, node_end, data_first}
+use Rattle.inode_plan.specs.layout.Places.{Sizes, node_end, data_first}
 use Rattle.block_alloc.specs.Value.{FreeBlocks}
 use Rattle.block_alloc.specs.declared.error.AllocatorError.{AllocatorError}
 use Rattle.block_alloc.specs.declared.error.AllocatorError.TheVariants as refusal
-use Rattle.area_reader.specs.Store.{Store, store_of}
-use Rattle.area_reader.specs.Reads.{Free}
-use Rattle.area_commit.specs.Value.{PoolsView, data_pool}
-use Rattle.area_commit.specs.declared.allocation.Allocation.{Allocation}
-use Rattle.area_commit.specs.Allocations.{SameBlocks, SameFree, KeepsRoom, WereTaken, CanRelease, WasReleased}
-use Rattle.area_reader.specs.Refusals.{IsChangeRefusal, area_error}
+use Rattle.inode_plan.specs.area_reader.Store.{Store, store_of}
+use Rattle.inode_plan.specs.area_reader.Reads.{Free}
+use Rattle.inode_plan.specs.area_commit.Value.{PoolsView, data_pool}
+use Rattle.inode_plan.specs.area_commit.declared.allocation.Allocation.{Allocation}
+use Rattle.inode_plan.specs.area_commit.Allocations.{SameBlocks, SameFree, KeepsRoom, WereTaken, CanRelease, WasReleased}
+use Rattle.inode_plan.specs.area_reader.Refusals.{IsChangeRefusal, area_error}
 use Rattle.relocation.specs.MovableFile.{IsMovableRun}
 use Rattle.relocation.specs.declared.run_search.MovableRun.{MovableRun}
-use Rattle.area_reader.specs.declared.error.AreaError.{AreaError}
-use Rattle.area_reader.specs.declared.error.AreaError.TheVariants as errors
-use Rattle.area_commit.specs.declared.plan.FreedBlocks.{FreedBlocks}
-use Rattle.area_commit.specs.declared.plan.Rewrite.{Rewrite}
-use Rattle.area_commit.specs.Plan.{lost_in}
-use Rattle.area_commit.specs.Room.{AreReadyFor}
-use Rattle.area_commit.proofs.Returned.{same_free}
+use Rattle.inode_plan.specs.area_reader.declared.error.AreaError.{AreaError}
+use Rattle.inode_plan.specs.area_reader.declared.error.AreaError.TheVariants as errors
+use Rattle.inode_plan.specs.area_commit.declared.plan.FreedBlocks.{FreedBlocks}
+use Rattle.inode_plan.specs.area_commit.declared.plan.Rewrite.{Rewrite}
+use Rattle.inode_plan.specs.area_commit.Plan.{lost_in}
+use Rattle.inode_plan.specs.area_commit.Room.{AreReadyFor}
+use Rattle.inode_plan.proofs.area_commit_lemmas.Returned.{same_free}
 use Rattle.relocation.specs.MovedFile.{spare_count, HasRoomFor, AreReadyToMove}
 use Rattle.relocation.specs.RunMove.{IsSettled}
 use Rattle.relocation.proofs.Ending.{err_same, memory_fault, memory_block, block_fault}

@@ -6,39 +6,39 @@ use Rattle.std.proofs.lemmas.Bool.{false≢true, true≢false, cases_Bool, and_p
 use Rattle.std.proofs.lemmas.List.{append-nil, length-map, get_or-map}
 use Rattle.tier_device.specs.declared.media.Tier.{Tier}
 use Rattle.tier_device.specs.declared.media.Tier.TheVariants as tiers
-use Rattle.layout.specs.declared.slot.Slot.{Slot}
-use Rattle.layout.specs.declared.slot.Slot.TheVariants as slots
-use Rattle.layout.specs.Extents.{ExtentList}
-use Rattle.layout.specs.Marks.{fits_marks}
-use Rattle.layout.specs.Places.{Sizes, is_inode}
-use Rattle.layout.specs.Slot.{slot_of}
+use Rattle.inode_plan.specs.layout.declared.slot.Slot.{Slot}
+use Rattle.inode_plan.specs.layout.declared.slot.Slot.TheVariants as slots
+use Rattle.inode_plan.specs.layout.Extents.{ExtentList}
+use Rattle.inode_plan.specs.layout.Marks.{fits_marks}
+use Rattle.inode_plan.specs.layout.Places.{Sizes, is_inode}
+use Rattle.inode_plan.specs.layout.Slot.{slot_of}
 use Rattle.block_alloc.specs.Runs.{blocks_of}
-use Rattle.batch_journal.specs.Images.{image_for, slice}
-use Rattle.extent_tree.specs.Places.{place_of, in_run}
-use Rattle.extent_tree.specs.Map.{TierRuns, runs_in, lies_at}
-use Rattle.area_reader.specs.Store.{Store, slot, slot_bytes, slot_read, root_of, touch_of, place, logical_block}
-use Rattle.area_reader.specs.Reads.{Free}
-use Rattle.area_reader.specs.Format.{Use, used_block}
-use Rattle.area_reader.specs.Map.{in_tier}
-use Rattle.area_reader.proofs.Lists.{place_placed}
-use Rattle.area_commit.specs.InodeRewrite.{logical_by}
-use Rattle.area_commit.specs.InodeMove.{with_roots, StaysBlock, StaysInode as IsWrittenMoved}
-use Rattle.area_commit.proofs.Places.{by_there, by_same}
-use Rattle.area_commit.specs.declared.slots.ChangedSlot.{ChangedSlot}
-use Rattle.area_commit.specs.Slots.{RiseIn}
-use Rattle.area_commit.specs.declared.allocation.Allocation.{Allocation}
-use Rattle.area_commit.specs.Value.{on_tier}
-use Rattle.area_commit.specs.Allocations.{taken_data, runs_of}
-use Rattle.area_commit.specs.DataWrite.{block_at}
-use Rattle.area_commit.proofs.Members.{cons_cases, nothing}
+use Rattle.inode_plan.specs.batch_journal.Images.{image_for, slice}
+use Rattle.inode_plan.specs.extent_tree.Places.{place_of, in_run}
+use Rattle.inode_plan.specs.extent_tree.Map.{TierRuns, runs_in, lies_at}
+use Rattle.inode_plan.specs.area_reader.Store.{Store, slot, slot_bytes, slot_read, root_of, touch_of, place, logical_block}
+use Rattle.inode_plan.specs.area_reader.Reads.{Free}
+use Rattle.inode_plan.specs.area_reader.Format.{Use, used_block}
+use Rattle.inode_plan.specs.area_reader.Map.{in_tier}
+use Rattle.inode_plan.proofs.area_reader_lemmas.Lists.{place_placed}
+use Rattle.inode_plan.specs.area_commit.InodeRewrite.{logical_by}
+use Rattle.inode_plan.specs.area_commit.InodeMove.{with_roots, StaysBlock, StaysInode as IsWrittenMoved}
+use Rattle.inode_plan.proofs.area_commit_lemmas.Places.{by_there, by_same}
+use Rattle.inode_plan.specs.area_commit.declared.slots.ChangedSlot.{ChangedSlot}
+use Rattle.inode_plan.specs.area_commit.Slots.{RiseIn}
+use Rattle.inode_plan.specs.area_commit.declared.allocation.Allocation.{Allocation}
+use Rattle.inode_plan.specs.area_commit.Value.{on_tier}
+use Rattle.inode_plan.specs.area_commit.Allocations.{taken_data, runs_of}
+use Rattle.inode_plan.specs.area_commit.DataWrite.{block_at}
+use Rattle.inode_plan.proofs.area_commit_lemmas.Members.{cons_cases, nothing}
 use Rattle.relocation.specs.declared.run_search.MovableRun.{MovableRun}
 use Rattle.inode_plan.specs.Lists.{IsListOf}
 use Rattle.relocation.specs.TierMove.{IsMoved}
 use Rattle.inode_plan.proofs.PlacesFit.{run_cases, there, gone, stays}
 use Rattle.inode_plan.proofs.Steps.{inside}
-use Rattle.area_commit.specs.declared.plan.Rewrite.{Rewrite}
-use Rattle.area_commit.specs.PlanOutcome.{IsCarriedOut}
-use Rattle.area_commit.specs.Plan.{IsPlanned, IsPlannedInode, is_changed}
+use Rattle.inode_plan.specs.area_commit.declared.plan.Rewrite.{Rewrite}
+use Rattle.inode_plan.specs.area_commit.PlanOutcome.{IsCarriedOut}
+use Rattle.inode_plan.specs.area_commit.Plan.{IsPlanned, IsPlannedInode, is_changed}
 use Rattle.relocation.specs.MovedFile.{IsMovePlan}
 use Rattle.relocation.specs.RunMove.{LieInLowest}
 use Rattle.relocation.proofs.Basics.{some_block, list_some, roots_touch}

@@ -7,28 +7,28 @@ use Rattle.std.proofs.lemmas.Bool.{false≢true, cases_Bool, and_parts, or_left,
 use Rattle.std.proofs.lemmas.Option.{none-some, same_Some}
 use Rattle.tier_device.specs.declared.media.Tier.{Tier}
 use Rattle.tier_device.specs.declared.media.Tier.TheVariants as tiers
-use Rattle.layout.specs.declared.slot.Slot.{Slot}
-use Rattle.layout.specs.declared.slot.Slot.TheVariants as slots
-use Rattle.layout.specs.Extents.{ExtentList, extents_spelling}
-use Rattle.layout.specs.Places.{Sizes, is_node}
-use Rattle.layout.specs.Slot.{fits_slot, is_root_block, roots_apart}
+use Rattle.inode_plan.specs.layout.declared.slot.Slot.{Slot}
+use Rattle.inode_plan.specs.layout.declared.slot.Slot.TheVariants as slots
+use Rattle.inode_plan.specs.layout.Extents.{ExtentList, extents_spelling}
+use Rattle.inode_plan.specs.layout.Places.{Sizes, is_node}
+use Rattle.inode_plan.specs.layout.Slot.{fits_slot, is_root_block, roots_apart}
 use Rattle.block_alloc.specs.Runs.{blocks_of}
-use Rattle.batch_journal.specs.Images.{image_for, or_else, with_images}
-use Rattle.extent_tree.specs.Map.{TierRuns, runs_in, lies_at}
-use Rattle.area_reader.specs.Store.{Store, root_of, place}
-use Rattle.area_reader.specs.Format.{Use, used_block}
-use Rattle.area_reader.specs.Map.{in_tier}
-use Rattle.area_commit.specs.Allocations.{runs_of}
+use Rattle.inode_plan.specs.batch_journal.Images.{image_for, or_else, with_images}
+use Rattle.inode_plan.specs.extent_tree.Map.{TierRuns, runs_in, lies_at}
+use Rattle.inode_plan.specs.area_reader.Store.{Store, root_of, place}
+use Rattle.inode_plan.specs.area_reader.Format.{Use, used_block}
+use Rattle.inode_plan.specs.area_reader.Map.{in_tier}
+use Rattle.inode_plan.specs.area_commit.Allocations.{runs_of}
 use Rattle.relocation.specs.declared.run_search.MovableRun.{MovableRun}
 use Rattle.inode_plan.specs.Lists.{IsListOf, root_for}
-use Rattle.area_commit.proofs.Given.{cons_here, nothing}
+use Rattle.inode_plan.proofs.area_commit_lemmas.Given.{cons_here, nothing}
 use Rattle.inode_plan.proofs.PlacesFit.{tier_is, run_cases, there, gone, stays}
 use Rattle.inode_plan.proofs.ListRoots.{apart_parts}
-use Rattle.area_commit.specs.InodeRewrite.{IsListed, block_by}
-use Rattle.area_commit.specs.StoreRewrite.{HasBlockFor}
-use Rattle.area_commit.specs.BlockExchange.{BlockIsTaken}
-use Rattle.area_commit.specs.declared.plan.Rewrite.{Rewrite}
-use Rattle.area_commit.specs.Plan.{is_changed}
+use Rattle.inode_plan.specs.area_commit.InodeRewrite.{IsListed, block_by}
+use Rattle.inode_plan.specs.area_commit.StoreRewrite.{HasBlockFor}
+use Rattle.inode_plan.specs.area_commit.BlockExchange.{BlockIsTaken}
+use Rattle.inode_plan.specs.area_commit.declared.plan.Rewrite.{Rewrite}
+use Rattle.inode_plan.specs.area_commit.Plan.{is_changed}
 use Rattle.relocation.specs.MovedFile.{first_of, IsSpareFor, IsMovePlan}
 use Rattle.relocation.proofs.Basics.{contains_at, list_from, no_runs}
 use Rattle.relocation.proofs.Fitting.{one_block, node_within, slot_here, spare_free, lacks_to, limits, is_fit, new_data, root_node}

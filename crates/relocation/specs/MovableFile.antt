@@ -1,14 +1,14 @@
 -- A file of which a run may be moved, as it is read.
 use Rattle.std.specs.Prelude.{◌≡◌, ◌≤◌, ◌+◌, ℕ, [], Some, true}
 use Rattle.tier_device.specs.declared.media.Tier.{Tier}
-use Rattle.file_graph.specs.declared.effect.Kind.TheVariants as kind
-use Rattle.layout.specs.declared.slot.Slot.{Slot}
-use Rattle.layout.specs.Places.{Sizes, is_inode}
-use Rattle.layout.specs.Slot.{fits_slot}
-use Rattle.extent_tree.specs.BlockFormat.{LiesWithin, IsOneToOne}
-use Rattle.extent_tree.specs.Map.{runs_in, LieOnce, LieBelow}
-use Rattle.tree_blocks.specs.Inode.{inode_of}
-use Rattle.area_reader.specs.Store.{Store, slot_read, length_of, space_of}
+use Rattle.inode_plan.specs.file_graph.declared.effect.Kind.TheVariants as kind
+use Rattle.inode_plan.specs.layout.declared.slot.Slot.{Slot}
+use Rattle.inode_plan.specs.layout.Places.{Sizes, is_inode}
+use Rattle.inode_plan.specs.layout.Slot.{fits_slot}
+use Rattle.inode_plan.specs.extent_tree.BlockFormat.{LiesWithin, IsOneToOne}
+use Rattle.inode_plan.specs.extent_tree.Map.{runs_in, LieOnce, LieBelow}
+use Rattle.inode_plan.specs.tree_blocks.Inode.{inode_of}
+use Rattle.inode_plan.specs.area_reader.Store.{Store, slot_read, length_of, space_of}
 use Rattle.inode_plan.specs.Lists.{LieAsIn}
 use Rattle.relocation.specs.TierMove.{CanMove}
 use Rattle.relocation.specs.declared.run_search.MovableRun.{MovableRun}

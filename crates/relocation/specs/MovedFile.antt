@@ -2,32 +2,32 @@
 use Rattle.std.specs.Prelude.{◌≡◌, ◌≢◌, ◌≤◌, ◌*◌, ◌⊎◌, ◌==◌, if◌then◌else◌, ℕ, List, [], ◌∷◌, length, None, Some, IsSome, true}
 use Rattle.std.specs.List.{AllByRecursion}
 use Rattle.tier_device.specs.declared.media.Tier.{Tier}
-use Rattle.layout.specs.declared.places.TheConstants.{BLOCK}
-use Rattle.layout.specs.declared.slot.Slot.{Slot}
-use Rattle.layout.specs.Extents.{ExtentList, extents_spelling}
-use Rattle.layout.specs.Places.{Sizes}
-use Rattle.layout.specs.Slot.{fits_slot}
+use Rattle.inode_plan.specs.layout.declared.places.TheConstants.{BLOCK}
+use Rattle.inode_plan.specs.layout.declared.slot.Slot.{Slot}
+use Rattle.inode_plan.specs.layout.Extents.{ExtentList, extents_spelling}
+use Rattle.inode_plan.specs.layout.Places.{Sizes}
+use Rattle.inode_plan.specs.layout.Slot.{fits_slot}
 use Rattle.block_alloc.specs.declared.runs.Run.{Run}
 use Rattle.block_alloc.specs.Runs.{blocks_of}
-use Rattle.batch_journal.specs.Images.{image_for}
-use Rattle.extent_tree.specs.Normal.{IsNormal}
-use Rattle.extent_tree.specs.Map.{TierRuns, runs_in, places_of, HasBlock}
-use Rattle.area_reader.specs.Store.{Store, root_of, logical_block}
-use Rattle.area_reader.specs.Map.{in_tier}
-use Rattle.area_reader.specs.declared.tiers.InodeExtents.{InodeExtents}
-use Rattle.area_commit.specs.InodeMove.{with_roots}
-use Rattle.area_commit.specs.Lists.{HaveOwnRoots}
-use Rattle.area_commit.specs.declared.slots.ChangedSlot.{ChangedSlot}
-use Rattle.area_commit.specs.declared.allocation.Allocation.{Allocation}
-use Rattle.area_commit.specs.Allocations.{runs_of, WereTaken, CanRelease}
-use Rattle.area_commit.specs.Value.{PoolsView, data_pool, AreInOrder, HasRanges, AreFree}
+use Rattle.inode_plan.specs.batch_journal.Images.{image_for}
+use Rattle.inode_plan.specs.extent_tree.Normal.{IsNormal}
+use Rattle.inode_plan.specs.extent_tree.Map.{TierRuns, runs_in, places_of, HasBlock}
+use Rattle.inode_plan.specs.area_reader.Store.{Store, root_of, logical_block}
+use Rattle.inode_plan.specs.area_reader.Map.{in_tier}
+use Rattle.inode_plan.specs.area_reader.declared.tiers.InodeExtents.{InodeExtents}
+use Rattle.inode_plan.specs.area_commit.InodeMove.{with_roots}
+use Rattle.inode_plan.specs.area_commit.Lists.{HaveOwnRoots}
+use Rattle.inode_plan.specs.area_commit.declared.slots.ChangedSlot.{ChangedSlot}
+use Rattle.inode_plan.specs.area_commit.declared.allocation.Allocation.{Allocation}
+use Rattle.inode_plan.specs.area_commit.Allocations.{runs_of, WereTaken, CanRelease}
+use Rattle.inode_plan.specs.area_commit.Value.{PoolsView, data_pool, AreInOrder, HasRanges, AreFree}
 use Rattle.relocation.specs.declared.run_search.MovableRun.{MovableRun}
 use Rattle.relocation.specs.MovableFile.{IsMovableRun}
 use Rattle.inode_plan.specs.Lists.{AreListsOf, HasRoots, SpareFits, HoldsRun, roots_left}
 use Rattle.inode_plan.specs.RunPlaces.{ArePlaced}
-use Rattle.area_commit.specs.declared.plan.FreedBlocks.{FreedBlocks}
-use Rattle.area_commit.specs.declared.plan.Rewrite.{Rewrite}
-use Rattle.area_commit.specs.Plan.{WereFree, lost_in}
+use Rattle.inode_plan.specs.area_commit.declared.plan.FreedBlocks.{FreedBlocks}
+use Rattle.inode_plan.specs.area_commit.declared.plan.Rewrite.{Rewrite}
+use Rattle.inode_plan.specs.area_commit.Plan.{WereFree, lost_in}
 use Rattle.relocation.specs.RunMove.{AreLowestFree}
 
 -- ---- what is taken

@@ -4,19 +4,19 @@ use Rattle.tier_device.specs.declared.media.Media.{Ghosts}
 use Rattle.tier_device.specs.declared.media.Tier.{Tier}
 use Rattle.tier_device.specs.Media.{Rose}
 use Rattle.tier_device.specs.AfterStop.{Left}
-use Rattle.layout.specs.Places.{Sizes, data_first, tier_blocks}
+use Rattle.inode_plan.specs.layout.Places.{Sizes, data_first, tier_blocks}
 use Rattle.block_alloc.specs.declared.runs.Run.{Run}
 use Rattle.block_alloc.specs.Runs.{blocks_of, AreNormalRuns}
-use Rattle.batch_journal.specs.View.{JournalView}
-use Rattle.batch_journal.specs.Volume.{IsVolume}
-use Rattle.area_reader.specs.Store.{Store, disk, store_of, place, graph, marks}
-use Rattle.area_reader.specs.Reads.{Loose}
-use Rattle.area_reader.specs.Format.{IsOpenable}
-use Rattle.area_commit.specs.Value.{PoolsView, data_pool, AreInOrder, HasRanges, AreFree}
+use Rattle.inode_plan.specs.batch_journal.View.{JournalView}
+use Rattle.inode_plan.specs.batch_journal.Volume.{IsVolume}
+use Rattle.inode_plan.specs.area_reader.Store.{Store, disk, store_of, place, graph, marks}
+use Rattle.inode_plan.specs.area_reader.Reads.{Loose}
+use Rattle.inode_plan.specs.area_reader.Format.{IsOpenable}
+use Rattle.inode_plan.specs.area_commit.Value.{PoolsView, data_pool, AreInOrder, HasRanges, AreFree}
 use Rattle.relocation.specs.TierMove.{IsMoved}
-use Rattle.area_reader.specs.declared.error.AreaError.{AreaError}
-use Rattle.area_reader.specs.declared.error.AreaError.TheVariants.{DeviceFault}
-pub use Rattle.area_commit.specs.StableState.{IsSettled, StaysStill}
+use Rattle.inode_plan.specs.area_reader.declared.error.AreaError.{AreaError}
+use Rattle.inode_plan.specs.area_reader.declared.error.AreaError.TheVariants.{DeviceFault}
+pub use Rattle.inode_plan.specs.area_commit.StableState.{IsSettled, StaysStill}
 
 -- These runs are the lowest blocks that are free in a tier, so many, and none of them touches the next.
 pub record AreLowestFree (g : Sizes) (s : Store) (t : Tier) (count : ℕ) (runs : List Run) : Type 0 where

@@ -1,10 +1,10 @@
 -- A run of a file's blocks that may be moved, and what is moved.
 use Rattle.std.specs.Prelude.{◌≡◌, ◌≢◌, ◌≤◌, ◌↔◌, true, false, ℕ, Some, None, IsSome}
 use Rattle.tier_device.specs.declared.media.Tier.{Tier}
-use Rattle.file_graph.specs.declared.effect.Kind.TheVariants as kind
-use Rattle.layout.specs.Places.{Sizes}
-use Rattle.extent_tree.specs.Places.{in_run}
-use Rattle.area_reader.specs.Store.{Store, slot, touch_of, root_of, place, inode}
+use Rattle.inode_plan.specs.file_graph.declared.effect.Kind.TheVariants as kind
+use Rattle.inode_plan.specs.layout.Places.{Sizes}
+use Rattle.inode_plan.specs.extent_tree.Places.{in_run}
+use Rattle.inode_plan.specs.area_reader.Store.{Store, slot, touch_of, root_of, place, inode}
 use Rattle.inode_plan.specs.RunPlaces.{InFaster}
 
 -- The inode is a file, the run has 1 to 256 blocks, and each of them lies in a tier that is faster than this one.

@@ -3,14 +3,14 @@ ghost use Rattle.std.specs.Prelude.{◌≡◌, ◌≤◌, ◌<◌, ◌+◌, ◌^
 ghost use Rattle.std.specs.List.{AllByRecursion};
 ghost use Rattle.tier_device.specs.declared.media.Tier.{Tier};
 ghost use Rattle.block_alloc.specs.Runs.{blocks_of};
-ghost use Rattle.extent_tree.specs.Map.{runs_in, places_of, HasBlock};
-ghost use Rattle.area_commit.specs.Value.{data_pool};
-ghost use Rattle.area_commit.specs.Allocations.{SameFree, KeepsRoom};
-ghost use Rattle.area_commit.specs.Plan.{lost_in};
+ghost use Rattle.inode_plan.specs.extent_tree.Map.{runs_in, places_of, HasBlock};
+ghost use Rattle.inode_plan.specs.area_commit.Value.{data_pool};
+ghost use Rattle.inode_plan.specs.area_commit.Allocations.{SameFree, KeepsRoom};
+ghost use Rattle.inode_plan.specs.area_commit.Plan.{lost_in};
 
-use area_commit::{FreedBlocks, Pools};
 use block_alloc::Run;
-use extent_tree::BlockMap;
+use inode_plan::in_area_commit::{FreedBlocks, Pools};
+use inode_plan::in_extent_tree::BlockMap;
 use inode_plan::places_in;
 use std::alloc::{AllocError, Global};
 use tier_device::Tier;

@@ -2,23 +2,23 @@
 
 ghost use Rattle.std.specs.Prelude.{◌≡◌, ℕ};
 ghost use Rattle.tier_device.specs.declared.media.Tier.{Tier};
-ghost use Rattle.layout.specs.declared.slot.Slot.{Slot};
-ghost use Rattle.layout.specs.Places.{Sizes, IsAllowed};
-ghost use Rattle.extent_tree.specs.Map.{TierRuns};
-ghost use Rattle.area_reader.specs.Store.{Store};
-ghost use Rattle.area_reader.specs.Format.{IsOpenable};
+ghost use Rattle.inode_plan.specs.layout.declared.slot.Slot.{Slot};
+ghost use Rattle.inode_plan.specs.layout.Places.{Sizes, IsAllowed};
+ghost use Rattle.inode_plan.specs.extent_tree.Map.{TierRuns};
+ghost use Rattle.inode_plan.specs.area_reader.Store.{Store};
+ghost use Rattle.inode_plan.specs.area_reader.Format.{IsOpenable};
 ghost use Rattle.relocation.specs.declared.run_search.MovableRun.{MovableRun};
-ghost use Rattle.area_commit.specs.declared.plan.Rewrite.{Rewrite};
-ghost use Rattle.area_commit.specs.Plan.{IsPlanned};
-ghost use Rattle.area_commit.specs.PlanOutcome.{IsCarriedOut};
+ghost use Rattle.inode_plan.specs.area_commit.declared.plan.Rewrite.{Rewrite};
+ghost use Rattle.inode_plan.specs.area_commit.Plan.{IsPlanned};
+ghost use Rattle.inode_plan.specs.area_commit.PlanOutcome.{IsCarriedOut};
 ghost use Rattle.relocation.specs.MovedFile.{IsMovePlan};
 ghost use Rattle.relocation.specs.RunMove.{IsMovedStore};
 
-use area_commit::{
+use inode_plan::in_area_commit::{
     carried_out_inodes_are_written_anew, carried_out_marks, moved_store_spells_the_same_graph,
     written_inode_is_read,
 };
-use area_reader::rewritten_inodes_are_spelled;
+use inode_plan::in_area_reader::rewritten_inodes_are_spelled;
 
 /// What is made of a run that may be moved, of the blocks that were taken for it and of its bytes, is a plan that can be carried out.
 pub fn move_is_planned()

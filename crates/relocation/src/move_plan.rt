@@ -1,14 +1,14 @@
 // The plan of a move.
 ghost use Rattle.std.specs.Prelude.{◌≡◌, ◌≤◌, None, length, IfOk, IfErr};
 ghost use Rattle.tier_device.specs.declared.media.Tier.{Tier};
-ghost use Rattle.layout.specs.Places.{Sizes, IsAllowed};
-ghost use Rattle.area_reader.specs.Store.{Store};
-ghost use Rattle.area_commit.specs.Plan.{lost_in};
+ghost use Rattle.inode_plan.specs.layout.Places.{Sizes, IsAllowed};
+ghost use Rattle.inode_plan.specs.area_reader.Store.{Store};
+ghost use Rattle.inode_plan.specs.area_commit.Plan.{lost_in};
 ghost use Rattle.relocation.specs.MovedFile.{IsReadyMove, IsPlanOfMove};
 
 use crate::MovableRun;
 use crate::new_inode::{NewInode, moved_inode};
-use area_commit::{Allocation, FreedBlocks, Rewrite};
+use inode_plan::in_area_commit::{Allocation, FreedBlocks, Rewrite};
 use std::alloc::Global;
 use tier_device::Tier;
 

@@ -1,19 +1,19 @@
 // What a file is once a run of it is moved.
 ghost use Rattle.std.specs.Prelude.{◌≡◌, ◌≤◌, ◌+◌, [], Some, length, IfOk};
-ghost use Rattle.file_graph.specs.declared.effect.Kind.TheVariants as kind;
-ghost use Rattle.layout.specs.declared.slot.Slot.{Slot};
+ghost use Rattle.inode_plan.specs.file_graph.declared.effect.Kind.TheVariants as kind;
+ghost use Rattle.inode_plan.specs.layout.declared.slot.Slot.{Slot};
 ghost use Rattle.block_alloc.specs.Runs.{blocks_of};
-ghost use Rattle.extent_tree.specs.Map.{LieBelow};
-ghost use Rattle.tree_blocks.specs.Inode.{inode_of};
-ghost use Rattle.area_commit.specs.Allocations.{runs_of};
+ghost use Rattle.inode_plan.specs.extent_tree.Map.{LieBelow};
+ghost use Rattle.inode_plan.specs.tree_blocks.Inode.{inode_of};
+ghost use Rattle.inode_plan.specs.area_commit.Allocations.{runs_of};
 ghost use Rattle.inode_plan.specs.RunPlaces.{EndsFit};
 ghost use Rattle.relocation.specs.MovedFile.{first_of, IsMade};
 
 use crate::MovableRun;
 use crate::images::images_of;
-use area_commit::{Allocation, ChangedSlot, NodeImages};
 use block_alloc::Run;
-use extent_tree::few_blocks_are_few_runs;
+use inode_plan::in_area_commit::{Allocation, ChangedSlot, NodeImages};
+use inode_plan::in_extent_tree::few_blocks_are_few_runs;
 use inode_plan::{extents_of, put_runs, roots_left, slot_for};
 use std::alloc::{AllocError, Global};
 use tier_device::Tier;

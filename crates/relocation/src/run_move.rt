@@ -1,17 +1,17 @@
 // A run that is read goes to another tier.
 ghost use Rattle.std.specs.Prelude.{◌≡◌, ◌≤◌, ◌<◌, ◌*◌, ◌⊎◌, ℕ, false, length, OnOk, OnErr, IfErr, IsErrOf};
 ghost use Rattle.tier_device.specs.declared.media.Tier.{Tier};
-ghost use Rattle.layout.specs.declared.places.TheConstants.{BLOCK};
+ghost use Rattle.inode_plan.specs.layout.declared.places.TheConstants.{BLOCK};
 ghost use Rattle.tier_device.specs.AfterStop.{AtRest};
-ghost use Rattle.area_reader.specs.Store.{disk, logical_block};
-ghost use Rattle.area_reader.specs.Format.{IsOpenable};
-ghost use Rattle.area_reader.specs.Refusals.{IsChangeRefusal};
-ghost use Rattle.area_commit.specs.Value.{data_pool};
-ghost use Rattle.area_commit.specs.Allocations.{WasReleased, SameFree};
+ghost use Rattle.inode_plan.specs.area_reader.Store.{disk, logical_block};
+ghost use Rattle.inode_plan.specs.area_reader.Format.{IsOpenable};
+ghost use Rattle.inode_plan.specs.area_reader.Refusals.{IsChangeRefusal};
+ghost use Rattle.inode_plan.specs.area_commit.Value.{data_pool};
+ghost use Rattle.inode_plan.specs.area_commit.Allocations.{WasReleased, SameFree};
 ghost use Rattle.relocation.specs.MovableFile.{IsMovableRun};
 ghost use Rattle.inode_plan.specs.Lists.{HoldsRun};
-ghost use Rattle.area_reader.specs.declared.error.AreaError.TheVariants.{DeviceFault, NoBlock, Memory};
-ghost use Rattle.area_commit.specs.Room.{AreReadyFor};
+ghost use Rattle.inode_plan.specs.area_reader.declared.error.AreaError.TheVariants.{DeviceFault, NoBlock, Memory};
+ghost use Rattle.inode_plan.specs.area_commit.Room.{AreReadyFor};
 ghost use Rattle.relocation.specs.MovedFile.{IsReadRun, IsReadyMove, IsPlanOfMove, HasRoomFor, AreReadyToMove};
 ghost use Rattle.relocation.specs.RunMove.{IsSettled, EndsMove};
 
@@ -20,9 +20,9 @@ use crate::laws::{carried_out_move_moves, move_is_planned};
 use crate::move_plan::{ReadMove, plan_move};
 use crate::target_blocks::take_blocks;
 use crate::{MovableRun, read_run};
-use area_commit::{Allocation, Pools, Rewrite, carry_out, nodes_never_run_out};
-use area_reader::AreaError;
-use batch_journal::Journal;
+use inode_plan::in_area_commit::{Allocation, Pools, Rewrite, carry_out, nodes_never_run_out};
+use inode_plan::in_area_reader::AreaError;
+use inode_plan::in_batch_journal::Journal;
 use std::alloc::Global;
 use tier_device::{Media, Tier};
 

@@ -1,18 +1,18 @@
 // The bytes of a run.
 ghost use Rattle.std.specs.Prelude.{◌≡◌, ◌≤◌, ◌<◌, ◌+◌, ◌*◌, ◌^◌, ◌⊎◌, ℕ, false, length, OnOk, OnErr, IfOk, IfErr};
-ghost use Rattle.layout.specs.declared.places.TheConstants.{BLOCK};
-ghost use Rattle.batch_journal.specs.Images.{slice};
-ghost use Rattle.area_reader.specs.Store.{disk, logical_block};
-ghost use Rattle.area_reader.specs.Checks.{IsOnce};
-ghost use Rattle.area_reader.specs.Looks.{Looks};
-ghost use Rattle.area_reader.specs.declared.error.AreaError.TheVariants.{DeviceFault, Memory};
+ghost use Rattle.inode_plan.specs.layout.declared.places.TheConstants.{BLOCK};
+ghost use Rattle.inode_plan.specs.batch_journal.Images.{slice};
+ghost use Rattle.inode_plan.specs.area_reader.Store.{disk, logical_block};
+ghost use Rattle.inode_plan.specs.area_reader.Checks.{IsOnce};
+ghost use Rattle.inode_plan.specs.area_reader.Looks.{Looks};
+ghost use Rattle.inode_plan.specs.area_reader.declared.error.AreaError.TheVariants.{DeviceFault, Memory};
 ghost use Rattle.inode_plan.specs.Lists.{LiesSomewhere, HoldsRun, LieAsIn};
 
-use area_reader::{AreaError, read_block};
-use batch_journal::Journal;
 use block_alloc::Run;
-use extent_tree::BlockMap;
-use layout::BLOCK;
+use inode_plan::in_area_reader::{AreaError, read_block};
+use inode_plan::in_batch_journal::Journal;
+use inode_plan::in_extent_tree::BlockMap;
+use inode_plan::in_layout::BLOCK;
 use std::alloc::Global;
 use tier_device::Media;
 

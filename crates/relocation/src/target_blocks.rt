@@ -1,17 +1,17 @@
 // The blocks that a run is moved to.
 ghost use Rattle.std.specs.Prelude.{◌≡◌, ◌<◌, ◌↔◌, ◌⊎◌, length, OnOk, OnErr, IfOk, IsErrOf};
-ghost use Rattle.layout.specs.Places.{Sizes};
+ghost use Rattle.inode_plan.specs.layout.Places.{Sizes};
 ghost use Rattle.block_alloc.specs.declared.error.AllocatorError.TheVariants.{NoBlock};
-ghost use Rattle.area_reader.specs.Store.{Store, root_of};
-ghost use Rattle.area_commit.specs.Value.{data_pool, AreInOrder, HasRanges, AreFree};
-ghost use Rattle.area_commit.specs.Allocations.{WereTaken, CanRelease, SameFree, KeepsRoom};
+ghost use Rattle.inode_plan.specs.area_reader.Store.{Store, root_of};
+ghost use Rattle.inode_plan.specs.area_commit.Value.{data_pool, AreInOrder, HasRanges, AreFree};
+ghost use Rattle.inode_plan.specs.area_commit.Allocations.{WereTaken, CanRelease, SameFree, KeepsRoom};
 ghost use Rattle.relocation.specs.MovedFile.{spare_count, IsTakenFor};
 
 use crate::MovableRun;
-use area_commit::{Allocation, Pools, taken_blocks_were_free};
-use area_reader::root_of;
 use block_alloc::AllocatorError;
-use layout::Slot;
+use inode_plan::in_area_commit::{Allocation, Pools, taken_blocks_were_free};
+use inode_plan::in_area_reader::root_of;
+use inode_plan::in_layout::Slot;
 use tier_device::Tier;
 
 // How many blocks of the node pool it takes to list extents in a tier: one where none does, else none.

@@ -1,20 +1,20 @@
 // A run of a file's blocks is moved to a slower tier.
 ghost use Rattle.std.specs.Prelude.{◌≡◌, ◌≢◌, ◌≤◌, ◌<◌, ◌+◌, ◌⊎◌, true, false, length, Err, OnOk, OnErr, IfErr, IsErrOf};
 ghost use Rattle.tier_device.specs.Media.{Rose};
-ghost use Rattle.area_reader.specs.Store.{disk};
-ghost use Rattle.area_reader.specs.Refusals.{IsMoveRefusal};
-ghost use Rattle.area_commit.specs.Value.{data_pool};
-ghost use Rattle.area_commit.specs.Allocations.{SameFree};
+ghost use Rattle.inode_plan.specs.area_reader.Store.{disk};
+ghost use Rattle.inode_plan.specs.area_reader.Refusals.{IsMoveRefusal};
+ghost use Rattle.inode_plan.specs.area_commit.Value.{data_pool};
+ghost use Rattle.inode_plan.specs.area_commit.Allocations.{SameFree};
 ghost use Rattle.relocation.specs.MovableFile.{HasFileRun};
 ghost use Rattle.relocation.specs.TierMove.{CanMove};
-ghost use Rattle.area_reader.specs.declared.error.AreaError.TheVariants.{DeviceFault, NotMapped, NoBlock, Memory};
+ghost use Rattle.inode_plan.specs.area_reader.declared.error.AreaError.TheVariants.{DeviceFault, NotMapped, NoBlock, Memory};
 ghost use Rattle.relocation.specs.RunMove.{IsSettled, IsMovedStore, Moves, MovesInFewCalls, StaysStill, EndsMove};
 
 use crate::run_move::{FileMove, move_run};
 use crate::{RunRequest, find_run};
-use area_commit::Pools;
-use area_reader::AreaError;
-use batch_journal::Journal;
+use inode_plan::in_area_commit::Pools;
+use inode_plan::in_area_reader::AreaError;
+use inode_plan::in_batch_journal::Journal;
 use std::alloc::Global;
 use tier_device::{Media, Tier};
 

@@ -1,10 +1,10 @@
 // Whether a run lies in tiers that are faster than another.
 ghost use Rattle.std.specs.Prelude.{◌≡◌, ◌↔◌, ◌+◌, ◌<◌, ◌^◌, IsSome, IsTrue};
-ghost use Rattle.extent_tree.specs.Map.{LieOnce, lies_at};
+ghost use Rattle.inode_plan.specs.extent_tree.Map.{LieOnce, lies_at};
 ghost use Rattle.inode_plan.specs.RunPlaces.{is_faster, InFaster, LieAbove};
 
 use block_alloc::Run;
-use extent_tree::BlockMap;
+use inode_plan::in_extent_tree::BlockMap;
 use tier_device::Tier;
 
 /// Whether a tier is faster than another.

@@ -55,3 +55,7 @@ pub use system_line::{LowerTier, Manner, SystemLine, read_system_line};
 pub use table_text::Spelled;
 pub use text::Text;
 pub use usage::{tell, tell_fault};
+
+// Handed on to the crates above, which list only the highest of what they name.
+pub use update_log as in_update_log;
+pub use update_log::in_log_record;

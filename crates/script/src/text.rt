@@ -2,9 +2,9 @@
 ghost use Rattle.std.specs.Prelude.{◌<◌, IfSome, length};
 
 use crate::{is_plain, run_len};
-use file_graph::Kind;
 use std::alloc::Global;
 use std::fmt::Display;
+use update_log::in_file_graph::Kind;
 
 /// A text that is put together piece by piece. A piece for which there is no memory is left out, and the text is then cut.
 #[derive(Drop)]

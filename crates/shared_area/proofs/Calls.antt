@@ -2,21 +2,21 @@
 use Rattle.std.proofs.Common.{◌≡◌, ◌≤◌, ◌+◌, inl, inr, ℕ, List, length, Some, refl, arith}
 use Rattle.std.specs.Prelude.{min}
 use Rattle.tier_device.specs.declared.media.Tier.{Tier}
-use Rattle.graph_change.specs.Change.{Changes}
-use Rattle.layout.specs.declared.marks.Marks.{Marks}
-use Rattle.layout.specs.Places.{Sizes}
+use Rattle.area_reader.specs.graph_change.Change.{Changes}
+use Rattle.area_reader.specs.layout.declared.marks.Marks.{Marks}
+use Rattle.area_reader.specs.layout.Places.{Sizes}
 use Rattle.area_reader.specs.Store.{Store}
 use Rattle.change_plan.specs.PlanAddition.{HasTaken}
 use Rattle.change_plan.specs.First.{IsWhole}
 use Rattle.change_plan.specs.FileLayout.{GetPlaces}
-use Rattle.area_commit.specs.Value.{PoolsView}
-use Rattle.area_commit.specs.declared.allocation.Allocation.{Allocation}
-use Rattle.area_commit.specs.Allocations.{taken_data}
-use Rattle.area_commit.specs.Batches.{marks_images}
-use Rattle.area_commit.specs.DataWrite.{TakenInTurn, calls_for}
+use Rattle.change_plan.specs.area_commit.Value.{PoolsView}
+use Rattle.change_plan.specs.area_commit.declared.allocation.Allocation.{Allocation}
+use Rattle.change_plan.specs.area_commit.Allocations.{taken_data}
+use Rattle.change_plan.specs.area_commit.Batches.{marks_images}
+use Rattle.change_plan.specs.area_commit.DataWrite.{TakenInTurn, calls_for}
 use Rattle.change_plan.specs.declared.partial_plan.PartialPlan.{PartialPlan}
-use Rattle.area_commit.proofs.Returned.{were_free}
-use Rattle.area_commit.proofs.Turns.{turn_behind}
+use Rattle.change_plan.proofs.area_commit_lemmas.Returned.{were_free}
+use Rattle.change_plan.proofs.area_commit_lemmas.Turns.{turn_behind}
 use Rattle.shared_area.specs.ChangeApply.{MakesFewCalls}
 
 pub few_calls : (g : Sizes) (s : Store) (cs : Changes) (v : Marks) (plan : PartialPlan) (taken : Allocation) (left : PoolsView) (before now : ℕ) (L M : ℕ → Tier → List ℕ → Type 0) → IsWhole g s cs v.digests plan taken (Some v) → HasTaken g s left taken → (blocks : List (ℕ × ℕ)) × GetPlaces g s cs blocks (taken_data taken)

@@ -7,23 +7,23 @@ use Rattle.std.specs.Ordering.{nat_cmp, eq_by_cmp}
 use Rattle.std.proofs.lemmas.Bool.{cond-true, cond-false, eq-eqb, ne_eqb, or_left, or_right, true≢false}
 use Rattle.std.proofs.lemmas.List.{length-map}
 use Rattle.std.proofs.lemmas.List.Sums.{sum_by-cons}
-use Rattle.file_graph.specs.Graph.{Graph, Node, cost, is_among}
-use Rattle.file_graph.specs.Units.{charge}
-use Rattle.graph_change.specs.Bounds.{AreBounded}
-use Rattle.graph_change.specs.Change.{Change, Changes, changed_graph, net_of, new_change}
-use Rattle.graph_change.specs.Net.{Kept, node_after}
-use Rattle.graph_change.proofs.Law.{empty_at, coalesced_law}
-use Rattle.layout.specs.Places.{Sizes, is_inode}
-use Rattle.layout.specs.Slot.{fits_slot}
+use Rattle.record_validation.specs.file_graph.Graph.{Graph, Node, cost, is_among}
+use Rattle.record_validation.specs.file_graph.Units.{charge}
+use Rattle.area_reader.specs.graph_change.Bounds.{AreBounded}
+use Rattle.area_reader.specs.graph_change.Change.{Change, Changes, changed_graph, net_of, new_change}
+use Rattle.area_reader.specs.graph_change.Net.{Kept, node_after}
+use Rattle.area_reader.proofs.graph_change_lemmas.Law.{empty_at, coalesced_law}
+use Rattle.area_reader.specs.layout.Places.{Sizes, is_inode}
+use Rattle.area_reader.specs.layout.Slot.{fits_slot}
 use Rattle.area_reader.specs.Store.{Store, slot, graph}
 use Rattle.area_reader.specs.Format.{IsSpelled}
 use Rattle.area_reader.specs.Units.{slot_units}
 use Rattle.area_reader.proofs.Costs.{units_told, few_units}
 use Rattle.area_reader.proofs.Parts.{slot_as}
-use Rattle.area_commit.specs.declared.slots.ChangedSlot.{ChangedSlot}
-use Rattle.area_commit.proofs.Members.{cons_cases, cons_here, cons_there, nothing}
-use Rattle.area_commit.proofs.Chosen.{inode_range}
-use Rattle.area_commit.specs.BlockExchange.{AreInodesOnce}
+use Rattle.change_plan.specs.area_commit.declared.slots.ChangedSlot.{ChangedSlot}
+use Rattle.change_plan.proofs.area_commit_lemmas.Members.{cons_cases, cons_here, cons_there, nothing}
+use Rattle.change_plan.proofs.area_commit_lemmas.Chosen.{inode_range}
+use Rattle.change_plan.specs.area_commit.BlockExchange.{AreInodesOnce}
 use Rattle.change_plan.specs.ReadSlots.{HaveSlots}
 use Rattle.change_plan.proofs.Climbs.{Climb, keys_climb, key_has}
 use Rattle.change_plan.proofs.Walked.{same_number}

@@ -2,12 +2,12 @@
 use Rattle.std.proofs.Common.{◌≡◌, ◌≤◌, ◌<◌, ℕ, List, length, sym, subst}
 use Rattle.tier_device.specs.declared.media.Tier.{Tier}
 use Rattle.tier_device.specs.declared.media.Tier.TheVariants.{Fast, Block, Slow}
-use Rattle.layout.specs.Places.{Sizes, data_first, tier_blocks, node_end}
+use Rattle.area_reader.specs.layout.Places.{Sizes, data_first, tier_blocks, node_end}
 use Rattle.block_alloc.specs.Runs.{Rising}
 use Rattle.block_alloc.specs.Value.{InOrder}
 use Rattle.area_reader.specs.Store.{Store}
 use Rattle.area_reader.specs.Reads.{Free}
-use Rattle.area_commit.specs.Value.{PoolsView, data_pool, AreInOrder, HasRanges, AreFree}
+use Rattle.change_plan.specs.area_commit.Value.{PoolsView, data_pool, AreInOrder, HasRanges, AreFree}
 use Rattle.shared_area.specs.Ready.{HasCount}
 
 order_in : (p : PoolsView) (t : Tier) → AreInOrder p → InOrder (data_pool p t)

@@ -6,24 +6,24 @@ use Rattle.tier_device.specs.declared.media.Media.{Ghosts}
 use Rattle.tier_device.specs.declared.media.Tier.{Tier}
 use Rattle.tier_device.specs.declared.media.Tier.TheVariants.{Fast}
 use Rattle.tier_device.specs.Media.{Rose}
-use Rattle.graph_change.specs.Change.{Changes}
-use Rattle.layout.specs.declared.marks.Marks.{Marks}
-use Rattle.layout.specs.Places.{Sizes}
-use Rattle.batch_journal.specs.Course.{Unmoved}
-use Rattle.batch_journal.specs.View.{JournalView}
-use Rattle.batch_journal.proofs.Courses.{left_before, tiers_same, unmoved_on}
+use Rattle.area_reader.specs.graph_change.Change.{Changes}
+use Rattle.area_reader.specs.layout.declared.marks.Marks.{Marks}
+use Rattle.area_reader.specs.layout.Places.{Sizes}
+use Rattle.area_reader.specs.batch_journal.Course.{Unmoved}
+use Rattle.area_reader.specs.batch_journal.View.{JournalView}
+use Rattle.area_reader.proofs.batch_journal_lemmas.Courses.{left_before, tiers_same, unmoved_on}
 use Rattle.area_reader.specs.declared.error.AreaError.{AreaError}
 use Rattle.area_reader.specs.declared.error.AreaError.TheVariants as errors
 use Rattle.area_reader.specs.Refusals.{IsChangeRefusal}
 use Rattle.area_reader.specs.Store.{Store, disk, store_of}
 use Rattle.area_reader.specs.Format.{IsOpenable}
 use Rattle.area_reader.specs.Looks.{Looks}
-use Rattle.area_commit.specs.Value.{PoolsView, HasRanges, AreFree}
-use Rattle.area_commit.specs.declared.plan.Rewrite.{Rewrite}
-use Rattle.area_commit.specs.PlanOutcome.{IsCarriedOut, AllOrNothing}
-use Rattle.area_commit.specs.StableState.{IsSettled, StaysStill}
-use Rattle.area_commit.proofs.Course.{Rests}
-use Rattle.area_commit.proofs.Moments.{rest_loose}
+use Rattle.change_plan.specs.area_commit.Value.{PoolsView, HasRanges, AreFree}
+use Rattle.change_plan.specs.area_commit.declared.plan.Rewrite.{Rewrite}
+use Rattle.change_plan.specs.area_commit.PlanOutcome.{IsCarriedOut, AllOrNothing}
+use Rattle.change_plan.specs.area_commit.StableState.{IsSettled, StaysStill}
+use Rattle.change_plan.proofs.area_commit_lemmas.Course.{Rests}
+use Rattle.change_plan.proofs.area_commit_lemmas.Moments.{rest_loose}
 use Rattle.shared_area.specs.ChangeApply.{IsAppliedStore, IsAppliedOrNot, MakesFewCalls, Applies, EndsChange}
 use Rattle.shared_area.specs.Errors.{IsForced}
 use Rattle.shared_area.proofs.Calls.{few_behind}

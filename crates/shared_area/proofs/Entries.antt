@@ -5,21 +5,21 @@ use Rattle.std.specs.FinMap as fin
 use Rattle.std.proofs.lemmas.List.{ext_get_or}
 use Rattle.std.proofs.lemmas.List.FromFn.{length-map-range_with_len}
 use Rattle.std.proofs.lemmas.Option.{get_or_from_slice_get}
-use Rattle.call_effects.specs.NodeView.{FileView, view_at, view_of_node}
+use Rattle.record_validation.specs.call_effects.NodeView.{FileView, view_at, view_of_node}
 use Rattle.record_validation.specs.Counts.{counts_of}
 use Rattle.record_validation.specs.declared.node_counts.NodeCounts.{NodeCounts}
 use Rattle.record_validation.specs.declared.node_counts.NodeCounts.TheVariants as counts
-use Rattle.layout.specs.declared.directory.DirEntry.{DirEntry}
-use Rattle.layout.specs.declared.slot.Slot.{Slot}
-use Rattle.layout.specs.declared.slot.Slot.TheVariants as slots
-use Rattle.layout.specs.Places.{Sizes, is_inode}
-use Rattle.layout.specs.Directory.{EntryList, AreEntries, block_entries, entry_of, no_entry}
-use Rattle.layout.proofs.DirChanges.{listed_now}
-use Rattle.tree_blocks.specs.Inode.{LogicalBlocks, Entry, plain, entry_at, entries_in, blocks_for, named_entries, byte_of, AreDistinct, AreDirectoryBlocks, IsConsistent, inode_of, node_of}
-use Rattle.tree_blocks.specs.After.{IsEntered}
-use Rattle.tree_blocks.proofs.Directories.{len_named}
-use Rattle.tree_blocks.proofs.Entering.{named_entered}
-use Rattle.tree_blocks.proofs.Held.{entry_is}
+use Rattle.area_reader.specs.layout.declared.directory.DirEntry.{DirEntry}
+use Rattle.area_reader.specs.layout.declared.slot.Slot.{Slot}
+use Rattle.area_reader.specs.layout.declared.slot.Slot.TheVariants as slots
+use Rattle.area_reader.specs.layout.Places.{Sizes, is_inode}
+use Rattle.area_reader.specs.layout.Directory.{EntryList, AreEntries, block_entries, entry_of, no_entry}
+use Rattle.area_reader.proofs.layout_lemmas.DirChanges.{listed_now}
+use Rattle.area_reader.specs.tree_blocks.Inode.{LogicalBlocks, Entry, plain, entry_at, entries_in, blocks_for, named_entries, byte_of, AreDistinct, AreDirectoryBlocks, IsConsistent, inode_of, node_of}
+use Rattle.area_reader.specs.tree_blocks.After.{IsEntered}
+use Rattle.area_reader.proofs.tree_blocks_lemmas.Directories.{len_named}
+use Rattle.area_reader.proofs.tree_blocks_lemmas.Entering.{named_entered}
+use Rattle.area_reader.proofs.tree_blocks_lemmas.Held.{entry_is}
 use Rattle.area_reader.specs.Store.{Store, slot_read, logical_block, graph}
 use Rattle.area_reader.specs.Format.{SpellsInode}
 use Rattle.area_reader.proofs.Parts.{slot_as}

@@ -7,14 +7,14 @@ use Rattle.std.proofs.lemmas.List.{ext_get_or, get_or-take, get_or-drop, get_or_
 use Rattle.std.proofs.lemmas.List.FromFn.{get_or-map-range_with_len, length-map-range_with_len}
 use Rattle.tier_device.specs.declared.media.Tier.{Tier}
 use Rattle.tier_device.specs.declared.media.Tier.TheVariants.{Fast, Block, Slow}
-use Rattle.file_graph.specs.Graph.{file_bytes as bytes_of}
-use Rattle.layout.specs.Places.{Sizes, is_inode}
-use Rattle.layout.specs.declared.slot.Slot.{Slot}
-use Rattle.layout.specs.declared.slot.Slot.TheVariants as slots
-use Rattle.batch_journal.specs.Images.{slice}
-use Rattle.batch_journal.specs.Blocks.{ShowsHome}
-use Rattle.batch_journal.proofs.Meaning.{slice_slice}
-use Rattle.tree_blocks.specs.Inode.{LogicalBlocks, byte_of, bytes_of_blocks, inode_of, node_of}
+use Rattle.record_validation.specs.file_graph.Graph.{file_bytes as bytes_of}
+use Rattle.area_reader.specs.layout.Places.{Sizes, is_inode}
+use Rattle.area_reader.specs.layout.declared.slot.Slot.{Slot}
+use Rattle.area_reader.specs.layout.declared.slot.Slot.TheVariants as slots
+use Rattle.area_reader.specs.batch_journal.Images.{slice}
+use Rattle.area_reader.specs.batch_journal.Blocks.{ShowsHome}
+use Rattle.area_reader.proofs.batch_journal_lemmas.Meaning.{slice_slice}
+use Rattle.area_reader.specs.tree_blocks.Inode.{LogicalBlocks, byte_of, bytes_of_blocks, inode_of, node_of}
 use Rattle.area_reader.specs.Store.{Store, store_of, slot_read, place, logical_block, graph}
 use Rattle.area_reader.specs.Reads.{IsRoom}
 use Rattle.area_reader.proofs.Parts.{slot_as}

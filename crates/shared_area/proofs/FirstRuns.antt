@@ -2,9 +2,9 @@
 use Rattle.std.proofs.Common.{◌≡◌, ◌≢◌, ◌⊎◌, inl, inr, ◌<◌, ◌∙◌, ℕ, Bool, true, false, refl, sym, ap, subst, Option, Some, None}
 use Rattle.std.specs.Prelude.{◌==◌, if◌then◌else◌, IsSome, is_some}
 use Rattle.tier_device.specs.declared.media.Tier.{Tier}
-use Rattle.layout.specs.declared.slot.Slot.{Slot}
-use Rattle.layout.specs.declared.slot.Slot.TheVariants as slots
-use Rattle.layout.specs.Places.{Sizes, is_inode}
+use Rattle.area_reader.specs.layout.declared.slot.Slot.{Slot}
+use Rattle.area_reader.specs.layout.declared.slot.Slot.TheVariants as slots
+use Rattle.area_reader.specs.layout.Places.{Sizes, is_inode}
 use Rattle.block_alloc.specs.declared.runs.Run.{Run}
 use Rattle.area_reader.specs.Store.{Store, place, slot, slot_read, root_of, touch_of, length_of}
 use Rattle.area_reader.specs.Map.{place_by, IsOnceAt}

@@ -5,21 +5,21 @@ use Rattle.std.specs.FinMap as fin
 use Rattle.std.specs.List.{Contains}
 use Rattle.std.proofs.lemmas.Bool.{cases_Bool, cond-true, cond-false, true≢false}
 use Rattle.std.proofs.lemmas.List.{length-map}
-use Rattle.graph_change.specs.Change.{Changes}
-use Rattle.layout.specs.declared.marks.Marks.{Marks}
-use Rattle.layout.specs.declared.slot.Slot.{Slot}
-use Rattle.layout.specs.declared.slot.Slot.TheVariants as slots
-use Rattle.layout.specs.Places.{Sizes, is_inode}
-use Rattle.layout.specs.Slot.{slot_of, fits_slot, slot_spelling}
+use Rattle.area_reader.specs.graph_change.Change.{Changes}
+use Rattle.area_reader.specs.layout.declared.marks.Marks.{Marks}
+use Rattle.area_reader.specs.layout.declared.slot.Slot.{Slot}
+use Rattle.area_reader.specs.layout.declared.slot.Slot.TheVariants as slots
+use Rattle.area_reader.specs.layout.Places.{Sizes, is_inode}
+use Rattle.area_reader.specs.layout.Slot.{slot_of, fits_slot, slot_spelling}
 use Rattle.area_reader.specs.Store.{Store, slot_bytes, slot_read, slot}
 use Rattle.area_reader.proofs.Shown.{slot_is}
-use Rattle.area_commit.specs.declared.allocation.Allocation.{Allocation}
-use Rattle.area_commit.specs.declared.slots.ChangedSlot.{ChangedSlot}
-use Rattle.area_commit.specs.declared.plan.Rewrite.{Rewrite}
-use Rattle.area_commit.specs.Plan.{is_changed}
-use Rattle.area_commit.specs.PlanOutcome.{IsCarriedOut}
-use Rattle.area_commit.proofs.Chosen.{within, has_changed}
-use Rattle.area_commit.proofs.Members.{cons_here, cons_there}
+use Rattle.change_plan.specs.area_commit.declared.allocation.Allocation.{Allocation}
+use Rattle.change_plan.specs.area_commit.declared.slots.ChangedSlot.{ChangedSlot}
+use Rattle.change_plan.specs.area_commit.declared.plan.Rewrite.{Rewrite}
+use Rattle.change_plan.specs.area_commit.Plan.{is_changed}
+use Rattle.change_plan.specs.area_commit.PlanOutcome.{IsCarriedOut}
+use Rattle.change_plan.proofs.area_commit_lemmas.Chosen.{within, has_changed}
+use Rattle.change_plan.proofs.area_commit_lemmas.Members.{cons_here, cons_there}
 use Rattle.change_plan.specs.First.{IsWhole, whole_of}
 use Rattle.change_plan.specs.ReadSlots.{HaveSlots}
 use Rattle.change_plan.specs.declared.partial_plan.PartialPlan.{PartialPlan}

@@ -5,15 +5,15 @@ use Rattle.std.proofs.lemmas.Bool.{cases_Bool, true≢false}
 use Rattle.tier_device.specs.declared.media.Media.{Ghosts}
 use Rattle.tier_device.specs.declared.media.Tier.{Tier}
 use Rattle.tier_device.specs.Media.{Rose}
-use Rattle.file_graph.specs.Units.{charge}
-use Rattle.layout.specs.declared.marks.Marks.{Marks}
-use Rattle.layout.specs.Places.{Sizes}
-use Rattle.batch_journal.specs.View.{JournalView}
-use Rattle.batch_journal.proofs.Courses.{tiers_same}
+use Rattle.record_validation.specs.file_graph.Units.{charge}
+use Rattle.area_reader.specs.layout.declared.marks.Marks.{Marks}
+use Rattle.area_reader.specs.layout.Places.{Sizes}
+use Rattle.area_reader.specs.batch_journal.View.{JournalView}
+use Rattle.area_reader.proofs.batch_journal_lemmas.Courses.{tiers_same}
 use Rattle.area_reader.specs.Store.{Store, disk, store_of, graph, marks}
 use Rattle.area_reader.specs.Format.{IsOpenable}
 use Rattle.area_reader.proofs.Frames.{loose_graph, loose_marks}
-use Rattle.area_commit.specs.Value.{PoolsView}
+use Rattle.change_plan.specs.area_commit.Value.{PoolsView}
 use Rattle.relocation.specs.TierMove.{IsMoved}
 use Rattle.area_reader.specs.declared.error.AreaError.{AreaError}
 use Rattle.area_reader.specs.declared.error.AreaError.TheVariants.{DeviceFault, Damaged, NotMapped, NoBlock, Memory}

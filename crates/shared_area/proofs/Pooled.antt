@@ -7,7 +7,7 @@ use Rattle.std.proofs.lemmas.List.{length-append, length-map}
 use Rattle.std.proofs.lemmas.List.FromFn.{length-range_with_len}
 use Rattle.tier_device.specs.declared.media.Tier.{Tier}
 use Rattle.tier_device.specs.declared.media.Tier.TheVariants.{Fast, Block, Slow}
-use Rattle.layout.specs.Places.{Sizes, IsAllowed, node_end, data_first, tier_blocks}
+use Rattle.area_reader.specs.layout.Places.{Sizes, IsAllowed, node_end, data_first, tier_blocks}
 use Rattle.block_alloc.specs.declared.runs.Run.{Run}
 use Rattle.block_alloc.specs.Runs.{run_blocks, blocks_of, AreNormalRuns, Rising}
 use Rattle.block_alloc.specs.Value.{FreeBlocks, InOrder}
@@ -19,10 +19,10 @@ use Rattle.area_reader.specs.declared.error.AreaError.TheVariants as errors
 use Rattle.area_reader.specs.Refusals.{IsChangeRefusal, area_error}
 use Rattle.area_reader.specs.Store.{Store, store_of}
 use Rattle.area_reader.specs.Reads.{Free}
-use Rattle.area_commit.specs.Value.{PoolsView, data_pool, on_tier, free_data, AreInOrder, HasRanges}
-use Rattle.area_commit.specs.declared.allocation.Allocation.{Allocation}
-use Rattle.area_commit.specs.Allocations.{runs_of, WasTaken, CanGive, WereTaken, CanRelease, SameBlocks, SameFree, KeepsRoom}
-use Rattle.area_commit.specs.StableState.{IsSettled}
+use Rattle.change_plan.specs.area_commit.Value.{PoolsView, data_pool, on_tier, free_data, AreInOrder, HasRanges}
+use Rattle.change_plan.specs.area_commit.declared.allocation.Allocation.{Allocation}
+use Rattle.change_plan.specs.area_commit.Allocations.{runs_of, WasTaken, CanGive, WereTaken, CanRelease, SameBlocks, SameFree, KeepsRoom}
+use Rattle.change_plan.specs.area_commit.StableState.{IsSettled}
 use Rattle.change_plan.specs.PlanAddition.{HasTaken}
 use Rattle.shared_area.proofs.Ending.{memory_fault, memory_block, block_fault, err_same}
 

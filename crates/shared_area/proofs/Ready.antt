@@ -5,13 +5,13 @@ use Rattle.std.proofs.lemmas.Bool.{cases_Bool, true≢false}
 use Rattle.tier_device.specs.declared.media.Media.{Ghosts}
 use Rattle.tier_device.specs.declared.media.Tier.{Tier}
 use Rattle.tier_device.specs.declared.media.Tier.TheVariants.{Fast}
-use Rattle.file_graph.specs.Graph.{Graph}
-use Rattle.file_graph.specs.Units.{charge}
-use Rattle.layout.specs.declared.marks.Marks.{Marks}
-use Rattle.layout.specs.Places.{Sizes, tier_blocks}
-use Rattle.batch_journal.specs.View.{JournalView}
-use Rattle.batch_journal.specs.Volume.{IsJournal}
-use Rattle.batch_journal.proofs.Courses.{left_before}
+use Rattle.record_validation.specs.file_graph.Graph.{Graph}
+use Rattle.record_validation.specs.file_graph.Units.{charge}
+use Rattle.area_reader.specs.layout.declared.marks.Marks.{Marks}
+use Rattle.area_reader.specs.layout.Places.{Sizes, tier_blocks}
+use Rattle.area_reader.specs.batch_journal.View.{JournalView}
+use Rattle.area_reader.specs.batch_journal.Volume.{IsJournal}
+use Rattle.area_reader.proofs.batch_journal_lemmas.Courses.{left_before}
 use Rattle.area_reader.specs.declared.error.AreaError.{AreaError}
 use Rattle.area_reader.specs.Store.{Store, disk, store_of, content_blocks, graph, marks}
 use Rattle.area_reader.specs.Format.{IsOpenable}
@@ -20,7 +20,7 @@ use Rattle.area_reader.specs.Reads.{Loose}
 use Rattle.area_reader.proofs.Looked.{carried}
 use Rattle.area_reader.proofs.Frames.{loose_graph, loose_marks, loose_spelled}
 use Rattle.area_reader.proofs.Torn.{loose_whole}
-use Rattle.area_commit.specs.Value.{PoolsView, HasRanges, AreFree}
+use Rattle.change_plan.specs.area_commit.Value.{PoolsView, HasRanges, AreFree}
 use Rattle.shared_area.specs.Ready.{IsReady, OpensAs}
 
 module _ {M : Type 0} (device : Ghosts M) where

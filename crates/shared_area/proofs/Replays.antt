@@ -4,17 +4,17 @@ use Rattle.std.proofs.lemmas.Bool.{cases_Bool}
 use Rattle.tier_device.specs.declared.media.Tier.{Tier}
 use Rattle.tier_device.specs.declared.media.Tier.TheVariants.{Fast, Block, Slow}
 use Rattle.tier_device.specs.AfterStop.{AtRest}
-use Rattle.layout.specs.declared.error.What.{What}
-use Rattle.layout.specs.Places.{Sizes}
-use Rattle.batch_journal.specs.declared.error.JournalError.{JournalError}
-use Rattle.batch_journal.specs.declared.error.JournalError.TheVariants as journal
-use Rattle.batch_journal.specs.Images.{image_count}
-use Rattle.batch_journal.specs.Blocks.{home, area_of, is_gate_open, opening_calls}
-use Rattle.batch_journal.specs.Course.{Since, Unmoved}
-use Rattle.batch_journal.specs.Damage.{OnJournalDamage, AwaitsReplay}
-use Rattle.batch_journal.specs.Volume.{IsVolume, SameJournal}
-use Rattle.batch_journal.proofs.Courses.{and_then, still, left_before, tiers_same}
-use Rattle.batch_journal.proofs.Openings.{spells_one}
+use Rattle.area_reader.specs.layout.declared.error.What.{What}
+use Rattle.area_reader.specs.layout.Places.{Sizes}
+use Rattle.area_reader.specs.batch_journal.declared.error.JournalError.{JournalError}
+use Rattle.area_reader.specs.batch_journal.declared.error.JournalError.TheVariants as journal
+use Rattle.area_reader.specs.batch_journal.Images.{image_count}
+use Rattle.area_reader.specs.batch_journal.Blocks.{home, area_of, is_gate_open, opening_calls}
+use Rattle.area_reader.specs.batch_journal.Course.{Since, Unmoved}
+use Rattle.area_reader.specs.batch_journal.Damage.{OnJournalDamage, AwaitsReplay}
+use Rattle.area_reader.specs.batch_journal.Volume.{IsVolume, SameJournal}
+use Rattle.area_reader.proofs.batch_journal_lemmas.Courses.{and_then, still, left_before, tiers_same}
+use Rattle.area_reader.proofs.batch_journal_lemmas.Openings.{spells_one}
 use Rattle.area_reader.specs.declared.error.AreaError.{AreaError}
 use Rattle.area_reader.specs.declared.error.AreaError.TheVariants as errors
 use Rattle.area_reader.specs.Store.{Store, store_of, content_blocks}

@@ -3,12 +3,12 @@ use Rattle.std.proofs.Common.{◌≡◌, ◌≢◌, ◌<◌, ◌∙◌, ℕ, [],
 use Rattle.std.specs.Prelude.{unwrap_or}
 use Rattle.tier_device.specs.declared.media.Tier.{Tier}
 use Rattle.tier_device.specs.declared.media.Tier.TheVariants.{Fast}
-use Rattle.layout.specs.declared.slot.Slot.{Slot}
-use Rattle.layout.specs.declared.slot.Slot.TheVariants as slots
-use Rattle.layout.specs.Places.{Sizes, is_inode}
-use Rattle.layout.specs.Extents.{extents_of}
-use Rattle.extent_tree.specs.Places.{place_of}
-use Rattle.tree_blocks.specs.Inode.{IsConsistent, AreDirectoryBlocks, IsDirectoryBlock, blocks_for, inode_of}
+use Rattle.area_reader.specs.layout.declared.slot.Slot.{Slot}
+use Rattle.area_reader.specs.layout.declared.slot.Slot.TheVariants as slots
+use Rattle.area_reader.specs.layout.Places.{Sizes, is_inode}
+use Rattle.area_reader.specs.layout.Extents.{extents_of}
+use Rattle.area_reader.specs.extent_tree.Places.{place_of}
+use Rattle.area_reader.specs.tree_blocks.Inode.{IsConsistent, AreDirectoryBlocks, IsDirectoryBlock, blocks_for, inode_of}
 use Rattle.area_reader.specs.Store.{Store, slot_read, root_of, space_of, length_of, extents_by, extents_read, place, logical_block}
 use Rattle.area_reader.specs.Format.{SpellsInode}
 use Rattle.area_reader.specs.Map.{WantsMemory}

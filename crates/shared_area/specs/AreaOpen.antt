@@ -1,12 +1,12 @@
 -- What the opening of shared media answers.
 use Rattle.std.specs.Prelude.{◌≡◌, ◌⊎◌, ℕ, List, IsSome}
 use Rattle.tier_device.specs.declared.media.Tier.{Tier}
-use Rattle.layout.specs.declared.error.What.{What}
-use Rattle.layout.specs.Places.{Sizes}
-use Rattle.batch_journal.specs.declared.error.JournalError.{JournalError}
-use Rattle.batch_journal.specs.declared.error.JournalError.TheVariants as journal
-use Rattle.batch_journal.specs.Volume.{IsVolume}
-use Rattle.batch_journal.specs.Damage.{NamesDamage, AwaitsReplay}
+use Rattle.area_reader.specs.layout.declared.error.What.{What}
+use Rattle.area_reader.specs.layout.Places.{Sizes}
+use Rattle.area_reader.specs.batch_journal.declared.error.JournalError.{JournalError}
+use Rattle.area_reader.specs.batch_journal.declared.error.JournalError.TheVariants as journal
+use Rattle.area_reader.specs.batch_journal.Volume.{IsVolume}
+use Rattle.area_reader.specs.batch_journal.Damage.{NamesDamage, AwaitsReplay}
 use Rattle.area_reader.specs.declared.error.AreaError.{AreaError}
 use Rattle.area_reader.specs.declared.error.AreaError.TheVariants as errors
 use Rattle.area_reader.specs.Store.{store_of, marks}

@@ -5,23 +5,23 @@ use Rattle.tier_device.specs.declared.media.Media.{Ghosts}
 use Rattle.tier_device.specs.declared.media.Tier.{Tier}
 use Rattle.tier_device.specs.Media.{Rose}
 use Rattle.tier_device.specs.AfterStop.{Left}
-use Rattle.file_graph.specs.Units.{charge}
-use Rattle.graph_change.specs.Bounds.{AreBounded}
-use Rattle.graph_change.specs.Change.{Changes, change_at, changed_graph}
-use Rattle.graph_change.specs.Tidy.{AreTidyChanges}
-use Rattle.layout.specs.declared.marks.Marks.{Marks}
-use Rattle.layout.specs.Marks.{fits_marks}
-use Rattle.layout.specs.Places.{Sizes}
-use Rattle.batch_journal.specs.View.{JournalView}
-use Rattle.batch_journal.specs.Volume.{IsVolume}
+use Rattle.record_validation.specs.file_graph.Units.{charge}
+use Rattle.area_reader.specs.graph_change.Bounds.{AreBounded}
+use Rattle.area_reader.specs.graph_change.Change.{Changes, change_at, changed_graph}
+use Rattle.area_reader.specs.graph_change.Tidy.{AreTidyChanges}
+use Rattle.area_reader.specs.layout.declared.marks.Marks.{Marks}
+use Rattle.area_reader.specs.layout.Marks.{fits_marks}
+use Rattle.area_reader.specs.layout.Places.{Sizes}
+use Rattle.area_reader.specs.batch_journal.View.{JournalView}
+use Rattle.area_reader.specs.batch_journal.Volume.{IsVolume}
 use Rattle.area_reader.specs.Store.{Store, disk, store_of, slot, place, graph, marks}
 use Rattle.area_reader.specs.Reads.{Loose}
 use Rattle.area_reader.specs.Format.{IsOpenable}
-use Rattle.area_commit.specs.Value.{PoolsView}
-use Rattle.area_commit.specs.StableState.{IsSettled, StaysStill}
-use Rattle.area_commit.specs.declared.allocation.Allocation.{Allocation}
-use Rattle.area_commit.specs.Allocations.{taken_data}
-use Rattle.area_commit.specs.DataWrite.{RunsAreNormal, TakenInTurn, calls_for}
+use Rattle.change_plan.specs.area_commit.Value.{PoolsView}
+use Rattle.change_plan.specs.area_commit.StableState.{IsSettled, StaysStill}
+use Rattle.change_plan.specs.area_commit.declared.allocation.Allocation.{Allocation}
+use Rattle.change_plan.specs.area_commit.Allocations.{taken_data}
+use Rattle.change_plan.specs.area_commit.DataWrite.{RunsAreNormal, TakenInTurn, calls_for}
 use Rattle.change_plan.specs.FileLayout.{LeavesFile, GetPlaces, LieInPlaces, KeepsPlaces}
 use Rattle.change_plan.specs.Next.{HasFewEntries}
 use Rattle.change_plan.specs.Part.{IsTouchedBy}

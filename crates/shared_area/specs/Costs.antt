@@ -2,8 +2,8 @@
 use Rattle.std.specs.Prelude.{◌≡◌, ℕ, List}
 use Rattle.std.specs.List.{sum_by}
 use Rattle.std.specs.FinMap as fin
-use Rattle.graph_change.specs.Change.{Changes}
-use Rattle.layout.specs.Places.{Sizes}
+use Rattle.area_reader.specs.graph_change.Change.{Changes}
+use Rattle.area_reader.specs.layout.Places.{Sizes}
 use Rattle.area_reader.specs.Store.{Store, slot}
 use Rattle.area_reader.specs.Units.{slot_units}
 use Rattle.shared_area.specs.declared.inode_cost.ChangeCost.{ChangeCost}

@@ -1,7 +1,7 @@
 -- What is read of a file.
 use Rattle.std.specs.Prelude.{◌≡◌, ◌≤◌, ◌<◌, ◌+◌, ◌++◌, ℕ, List, [], length, take, drop, get_or, unwrap_or}
-use Rattle.file_graph.specs.Graph.{Graph, file_bytes}
-use Rattle.tree_blocks.specs.Inode.{LogicalBlocks, byte_of}
+use Rattle.record_validation.specs.file_graph.Graph.{Graph, file_bytes}
+use Rattle.area_reader.specs.tree_blocks.Inode.{LogicalBlocks, byte_of}
 
 -- the bytes of the file at an inode; none where there is no file
 abbrev pub bytes_of_inode : Graph → ℕ → List ℕ

@@ -3,11 +3,11 @@ use Rattle.std.specs.Prelude.{◌⊎◌, ◌<◌, ◌+◌, ℕ, List, Result}
 use Rattle.tier_device.specs.declared.media.Media.{Ghosts}
 use Rattle.tier_device.specs.declared.media.Tier.{Tier}
 use Rattle.tier_device.specs.declared.media.Tier.TheVariants.{Fast, Block, Slow}
-use Rattle.graph_change.specs.Change.{Changes}
-use Rattle.layout.specs.declared.marks.Marks.{Marks}
-use Rattle.layout.specs.Places.{Sizes}
-use Rattle.batch_journal.specs.View.{JournalView}
-use Rattle.batch_journal.specs.Volume.{IsVolume}
+use Rattle.area_reader.specs.graph_change.Change.{Changes}
+use Rattle.area_reader.specs.layout.declared.marks.Marks.{Marks}
+use Rattle.area_reader.specs.layout.Places.{Sizes}
+use Rattle.area_reader.specs.batch_journal.View.{JournalView}
+use Rattle.area_reader.specs.batch_journal.Volume.{IsVolume}
 use Rattle.area_reader.specs.Store.{Store, store_of}
 use Rattle.area_reader.specs.Reads.{Loose}
 use Rattle.shared_area.specs.ChangeApply.{IsAppliedStore}

@@ -1,7 +1,7 @@
 -- What comes of questions that the shared area is asked.
 use Rattle.std.specs.Prelude.{◌≡◌, false, Option, Some, None, Result, Err}
 use Rattle.tier_device.specs.declared.media.Media.{Ghosts}
-use Rattle.batch_journal.specs.View.{JournalView}
+use Rattle.area_reader.specs.batch_journal.View.{JournalView}
 use Rattle.area_reader.specs.declared.error.AreaError.{AreaError}
 use Rattle.area_reader.specs.Looks.{Looks, call_answer}
 use Rattle.area_reader.proofs.Looked.{looks_none, looks_on}

@@ -1,12 +1,12 @@
 -- An inode of media that spell a graph.
 use Rattle.std.specs.Prelude.{◌≡◌, ◌↔◌, ℕ, true, false, Option, Some, None, IsSome}
 use Rattle.tier_device.specs.declared.media.Tier.{Tier}
-use Rattle.layout.specs.Places.{Sizes, is_inode}
+use Rattle.area_reader.specs.layout.Places.{Sizes, is_inode}
 use Rattle.record_validation.specs.declared.node_counts.NodeCounts.{NodeCounts}
 use Rattle.record_validation.specs.declared.node_counts.NodeCounts.TheVariants as counts
-use Rattle.layout.specs.declared.slot.Slot.{Slot}
-use Rattle.layout.specs.declared.slot.Slot.TheVariants as slots
-use Rattle.layout.specs.Slot.{fits_slot}
+use Rattle.area_reader.specs.layout.declared.slot.Slot.{Slot}
+use Rattle.area_reader.specs.layout.declared.slot.Slot.TheVariants as slots
+use Rattle.area_reader.specs.layout.Slot.{fits_slot}
 use Rattle.area_reader.specs.declared.error.AreaError.{AreaError}
 use Rattle.area_reader.specs.declared.inode.InodeParts.{InodeParts}
 use Rattle.area_reader.specs.Store.{Store, slot_read, place}

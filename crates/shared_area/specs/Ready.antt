@@ -3,15 +3,15 @@ use Rattle.std.specs.Prelude.{◌≡◌, ◌≤◌, ◌↔◌, ℕ, List, length
 use Rattle.std.specs.List.{Contains}
 use Rattle.tier_device.specs.declared.media.Tier.{Tier}
 use Rattle.tier_device.specs.AfterStop.{AtRest}
-use Rattle.file_graph.specs.Units.{charge}
-use Rattle.layout.specs.declared.marks.Marks.{Marks}
-use Rattle.layout.specs.Places.{Sizes, data_first, tier_blocks}
+use Rattle.record_validation.specs.file_graph.Units.{charge}
+use Rattle.area_reader.specs.layout.declared.marks.Marks.{Marks}
+use Rattle.area_reader.specs.layout.Places.{Sizes, data_first, tier_blocks}
 use Rattle.block_alloc.specs.Runs.{Rising}
-use Rattle.batch_journal.specs.Volume.{IsVolume}
+use Rattle.area_reader.specs.batch_journal.Volume.{IsVolume}
 use Rattle.area_reader.specs.Store.{Store, store_of, graph, marks}
 use Rattle.area_reader.specs.Reads.{Free}
 use Rattle.area_reader.specs.Format.{IsOpenable}
-use Rattle.area_commit.specs.Value.{PoolsView, HasRanges, AreFree}
+use Rattle.change_plan.specs.area_commit.Value.{PoolsView, HasRanges, AreFree}
 
 -- The media spell a graph, and nothing is pending on them; the pools have the free blocks, the marks are those that are spelled, and the units are what the graph costs.
 pub record IsReady (g : Sizes) (seen : Tier → List ℕ) (may_leave : Tier → List ℕ → Type 0) (pools : PoolsView) (told : Marks) (units : ℕ) : Type 0 where

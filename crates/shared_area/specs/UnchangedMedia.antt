@@ -4,8 +4,8 @@ use Rattle.tier_device.specs.declared.media.Media.{Ghosts}
 use Rattle.tier_device.specs.declared.media.Tier.{Tier}
 use Rattle.tier_device.specs.Media.{Rose}
 use Rattle.tier_device.specs.AfterStop.{Left}
-use Rattle.batch_journal.specs.Course.{Unmoved}
-use Rattle.batch_journal.specs.View.{JournalView}
+use Rattle.area_reader.specs.batch_journal.Course.{Unmoved}
+use Rattle.area_reader.specs.batch_journal.View.{JournalView}
 
 -- The past stays. At each moment from the old one to the new one a stop leaves contents that open so.
 pub record Stays (Opens : (Tier → List ℕ) → Type 0) (before now : ℕ) (old new : ℕ → Tier → List ℕ → Type 0) : Type 0 where

@@ -2,23 +2,23 @@
 
 ghost use Rattle.std.specs.Prelude.{ℕ, Option, Some};
 ghost use Rattle.std.specs.FinMap as fin;
-ghost use Rattle.graph_change.specs.Change.{Changes};
-ghost use Rattle.layout.specs.declared.marks.Marks.{Marks};
-ghost use Rattle.layout.specs.Places.{Sizes, IsAllowed};
+ghost use Rattle.area_reader.specs.graph_change.Change.{Changes};
+ghost use Rattle.area_reader.specs.layout.declared.marks.Marks.{Marks};
+ghost use Rattle.area_reader.specs.layout.Places.{Sizes, IsAllowed};
 ghost use Rattle.area_reader.specs.Store.{Store};
 ghost use Rattle.area_reader.specs.Format.{IsSpelled};
-ghost use Rattle.area_commit.specs.declared.allocation.Allocation.{Allocation};
-ghost use Rattle.area_commit.specs.Allocations.{taken_data};
+ghost use Rattle.change_plan.specs.area_commit.declared.allocation.Allocation.{Allocation};
+ghost use Rattle.change_plan.specs.area_commit.Allocations.{taken_data};
 ghost use Rattle.change_plan.specs.FileLayout.{AreFirstFree};
-ghost use Rattle.area_commit.specs.PlanOutcome.{IsCarriedOut};
+ghost use Rattle.change_plan.specs.area_commit.PlanOutcome.{IsCarriedOut};
 ghost use Rattle.change_plan.specs.First.{IsWhole, whole_of};
 ghost use Rattle.change_plan.specs.ReadSlots.{HaveSlots};
 ghost use Rattle.shared_area.specs.ChangeApply.{CanApply, IsAppliedStore};
 ghost use Rattle.change_plan.specs.declared.partial_plan.PartialPlan.{PartialPlan};
 
-use area_commit::carried_out_marks;
+use area_reader::in_layout::slot_is_read;
+use change_plan::in_area_commit::carried_out_marks;
 use change_plan::{whole_change_can_be_carried_out, whole_change_lies_in_its_places};
-use layout::slot_is_read;
 
 /// Where the whole plan of a change is carried out, over the first data blocks that are free, with new marks, the change is made.
 pub fn carried_out_change_is_made()

@@ -8,10 +8,10 @@ ghost use Rattle.area_reader.specs.Looks.{Looks};
 ghost use Rattle.area_reader.specs.declared.error.AreaError.TheVariants.{Memory};
 ghost use Rattle.shared_area.specs.Parts.{IsNoDamage, IsTierOf, HasParts, FindsParts};
 
+use area_reader::in_batch_journal::Journal;
 use area_reader::{AreaError, InodeParts, first_place, read_parts};
-use batch_journal::Journal;
-use file_graph::is_inode;
 use posix_calls::MAX_INODE;
+use record_validation::in_file_graph::is_inode;
 use std::alloc::Global;
 use tier_device::{Media, Tier};
 

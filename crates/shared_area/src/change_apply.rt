@@ -1,17 +1,17 @@
 // A change of the graph is made on the shared media.
 ghost use Rattle.std.specs.Prelude.{◌≡◌, ◌≢◌, ◌≤◌, ◌<◌, ◌+◌, ◌⊎◌, ℕ, List, [], true, false, length, Err, OnOk, OnErr, IfErr, IfOk, IsErrOf};
-ghost use Rattle.file_graph.specs.Units.{charge};
+ghost use Rattle.record_validation.specs.file_graph.Units.{charge};
 ghost use Rattle.std.specs.FinMap as fin;
-ghost use Rattle.graph_change.specs.Bounds.{AreBounded};
-ghost use Rattle.graph_change.specs.Change.{changed_graph};
-ghost use Rattle.graph_change.specs.Tidy.{AreTidyChanges};
-ghost use Rattle.graph_change.specs.View.{changes_of};
+ghost use Rattle.area_reader.specs.graph_change.Bounds.{AreBounded};
+ghost use Rattle.area_reader.specs.graph_change.Change.{changed_graph};
+ghost use Rattle.area_reader.specs.graph_change.Tidy.{AreTidyChanges};
+ghost use Rattle.area_reader.specs.graph_change.View.{changes_of};
 ghost use Rattle.tier_device.specs.Media.{Rose};
-ghost use Rattle.layout.specs.Marks.{fits_marks};
+ghost use Rattle.area_reader.specs.layout.Marks.{fits_marks};
 ghost use Rattle.area_reader.specs.Store.{disk, graph};
-ghost use Rattle.area_commit.specs.Value.{PoolsView, free_data, AreInOrder};
-ghost use Rattle.area_commit.specs.Allocations.{WereTaken, CanRelease, SameFree, taken_data};
-ghost use Rattle.area_commit.specs.StableState.{IsSettled, StaysStill};
+ghost use Rattle.change_plan.specs.area_commit.Value.{PoolsView, free_data, AreInOrder};
+ghost use Rattle.change_plan.specs.area_commit.Allocations.{WereTaken, CanRelease, SameFree, taken_data};
+ghost use Rattle.change_plan.specs.area_commit.StableState.{IsSettled, StaysStill};
 ghost use Rattle.shared_area.specs.ChangeApply.{CanApply, IsAppliedStore, Applies, EndsChange, MakesFewCalls};
 ghost use Rattle.shared_area.specs.Costs.{IsCostOf, units_in};
 ghost use Rattle.shared_area.specs.Errors.{IsForced};
@@ -25,14 +25,16 @@ ghost use Rattle.area_reader.specs.Refusals.{IsChangeRefusal};
 
 use crate::inode_cost::{ChangeCost, units_of_slots};
 use crate::plan_write::write_counted;
-use area_commit::{Allocation, FreedBlocks, NodeImages, Pools, nodes_never_run_out};
 use area_reader::AreaError;
-use batch_journal::Journal;
+use area_reader::in_batch_journal::Journal;
+use area_reader::in_graph_change::GraphChange;
+use area_reader::in_layout::{BLOCK, Marks};
+use change_plan::in_area_commit::{
+    Allocation, FreedBlocks, NodeImages, Pools, nodes_never_run_out,
+};
 use change_plan::{
     PartialPlan, ReadChange, count_blocks, plan_changes, read_slots, wanted_blocks_are_written,
 };
-use graph_change::GraphChange;
-use layout::{BLOCK, Marks};
 use std::alloc::{AllocError, Global};
 use tier_device::{Media, Tier};
 

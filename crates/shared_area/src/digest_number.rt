@@ -6,10 +6,10 @@ ghost use Rattle.area_reader.specs.Looks.{Looks};
 ghost use Rattle.area_reader.specs.declared.error.AreaError.TheVariants.{DeviceFault};
 ghost use Rattle.shared_area.specs.FirstRun.{file_lies, file_place, touch_in};
 
+use area_reader::in_batch_journal::Journal;
+use area_reader::in_layout::Slot;
 use area_reader::{AreaError, read_slot, root_of};
-use batch_journal::Journal;
-use file_graph::is_inode;
-use layout::Slot;
+use record_validation::in_file_graph::is_inode;
 use tier_device::{Media, Tier};
 
 // The touch number that a slot tells.

@@ -2,10 +2,10 @@
 ghost use Rattle.std.specs.Prelude.{◌≡◌, ◌≤◌, ◌<◌, ◌+◌, ◌*◌, ℕ, min, length, true, false, OnOk, IfOk, IfErr};
 ghost use Rattle.std.specs.FinMap as fin;
 ghost use Rattle.posix_calls.specs.declared.limits.TheConstants.{MAX_ENTRIES};
-ghost use Rattle.layout.specs.declared.directory.TheConstants.{MAX_IN_BLOCK};
-ghost use Rattle.layout.specs.Directory.{AreEntries, block_entries, fits_entry};
-ghost use Rattle.layout.specs.LentEntry.{owned_entry};
-ghost use Rattle.tree_blocks.specs.Inode.{Entry, AreDirectoryBlocks, entry_at, named_entries, blocks_for};
+ghost use Rattle.area_reader.specs.layout.declared.directory.TheConstants.{MAX_IN_BLOCK};
+ghost use Rattle.area_reader.specs.layout.Directory.{AreEntries, block_entries, fits_entry};
+ghost use Rattle.area_reader.specs.layout.LentEntry.{owned_entry};
+ghost use Rattle.area_reader.specs.tree_blocks.Inode.{Entry, AreDirectoryBlocks, entry_at, named_entries, blocks_for};
 ghost use Rattle.area_reader.specs.Store.{disk, logical_block};
 ghost use Rattle.area_reader.specs.Checks.{HasFound, IsOnce};
 ghost use Rattle.area_reader.specs.Looks.{Looks};
@@ -14,10 +14,10 @@ ghost use Rattle.shared_area.specs.DirectoryReads.{AreNext};
 ghost use Rattle.shared_area.specs.Parts.{IsNoDamage};
 
 use crate::file_read::read_within;
+use area_reader::in_batch_journal::Journal;
+use area_reader::in_layout::{BLOCK, DirEntries, EntryRef, MAX_IN_BLOCK};
 use area_reader::{AreaError, InodeExtents, blank_block};
-use batch_journal::Journal;
-use file_graph::{Child, NameMap};
-use layout::{BLOCK, DirEntries, EntryRef, MAX_IN_BLOCK};
+use record_validation::in_file_graph::{Child, NameMap};
 use std::alloc::{AllocError, Global};
 use tier_device::Media;
 

@@ -1,8 +1,8 @@
 // Bytes of a file.
 ghost use Rattle.std.specs.Prelude.{◌≡◌, ◌≤◌, ◌<◌, ◌+◌, ◌-◌, ◌*◌, ◌%◌, ◌^◌, ℕ, min, length, replicate, false, OnOk, OnErr, IfOk, IfErr};
-ghost use Rattle.batch_journal.specs.Images.{slice};
-ghost use Rattle.layout.specs.declared.places.TheConstants.{BLOCK};
-ghost use Rattle.tree_blocks.specs.Inode.{bytes_of_blocks};
+ghost use Rattle.area_reader.specs.batch_journal.Images.{slice};
+ghost use Rattle.area_reader.specs.layout.declared.places.TheConstants.{BLOCK};
+ghost use Rattle.area_reader.specs.tree_blocks.Inode.{bytes_of_blocks};
 ghost use Rattle.area_reader.specs.Store.{disk, logical_block, graph};
 ghost use Rattle.area_reader.specs.Reads.{IsRoom};
 ghost use Rattle.area_reader.specs.Format.{IsOpenable};
@@ -14,9 +14,9 @@ ghost use Rattle.shared_area.specs.Parts.{IsNoDamage, HasParts};
 ghost use Rattle.shared_area.specs.FileReads.{ShowsBytes, IsReadUpTo, IsReadFrom, bytes_of_inode};
 
 use crate::block_search::find_parts;
+use area_reader::in_batch_journal::Journal;
+use area_reader::in_layout::{BLOCK, Slot};
 use area_reader::{AreaError, InodeExtents, InodeParts, block_number, first_place};
-use batch_journal::Journal;
-use layout::{BLOCK, Slot};
 use std::alloc::Global;
 use tier_device::{Media, Tier};
 

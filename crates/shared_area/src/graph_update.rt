@@ -1,16 +1,16 @@
 // A change of the graph is made, and what is kept of the media in memory follows it.
 ghost use Rattle.std.specs.Prelude.{◌≡◌, ◌≤◌, ◌<◌, ℕ, List, true, false, length, OnOk, OnErr, IfErr, IsErrOf};
 ghost use Rattle.std.specs.FinMap as fin;
-ghost use Rattle.file_graph.specs.Units.{charge};
-ghost use Rattle.graph_change.specs.Bounds.{AreBounded};
-ghost use Rattle.graph_change.specs.Change.{changed_graph};
-ghost use Rattle.graph_change.specs.Tidy.{AreTidyChanges};
-ghost use Rattle.graph_change.specs.View.{changes_of};
-ghost use Rattle.layout.specs.declared.places.TheConstants.{SPARE_BLOCKS};
-ghost use Rattle.layout.specs.Marks.{fits_marks};
+ghost use Rattle.record_validation.specs.file_graph.Units.{charge};
+ghost use Rattle.area_reader.specs.graph_change.Bounds.{AreBounded};
+ghost use Rattle.area_reader.specs.graph_change.Change.{changed_graph};
+ghost use Rattle.area_reader.specs.graph_change.Tidy.{AreTidyChanges};
+ghost use Rattle.area_reader.specs.graph_change.View.{changes_of};
+ghost use Rattle.area_reader.specs.layout.declared.places.TheConstants.{SPARE_BLOCKS};
+ghost use Rattle.area_reader.specs.layout.Marks.{fits_marks};
 ghost use Rattle.area_reader.specs.Store.{disk, graph};
-ghost use Rattle.area_commit.specs.Value.{free_data};
-ghost use Rattle.area_commit.specs.StableState.{IsSettled};
+ghost use Rattle.change_plan.specs.area_commit.Value.{free_data};
+ghost use Rattle.change_plan.specs.area_commit.StableState.{IsSettled};
 ghost use Rattle.shared_area.specs.ChangeApply.{CanApply, IsAppliedStore, EndsChange, MakesFewCalls};
 ghost use Rattle.change_plan.specs.Next.{HasFewEntries};
 ghost use Rattle.change_plan.specs.BlockDemand.{images_for, AreWritten};
@@ -20,11 +20,11 @@ ghost use Rattle.shared_area.specs.Ready.{IsReady};
 ghost use Rattle.shared_area.specs.GraphUpdate.{HasTooFewData, StaysOrChanges, AppliesOrStays};
 
 use crate::{apply, charge_after, charge_follows_the_change};
-use area_commit::{Pools, small_changes_find_blocks};
 use area_reader::AreaError;
-use batch_journal::Journal;
-use graph_change::GraphChange;
-use layout::Marks;
+use area_reader::in_batch_journal::Journal;
+use area_reader::in_graph_change::GraphChange;
+use area_reader::in_layout::Marks;
+use change_plan::in_area_commit::{Pools, small_changes_find_blocks};
 use std::alloc::Global;
 use tier_device::{Media, Tier};
 

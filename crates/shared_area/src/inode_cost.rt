@@ -2,17 +2,17 @@
 ghost use Rattle.std.specs.Prelude.{◌≡◌, ◌≤◌, ◌<◌, ◌+◌, ◌^◌};
 ghost use Rattle.std.specs.FinMap as fin;
 ghost use Rattle.std.specs.List.{sum_by};
-ghost use Rattle.file_graph.specs.Units.{charge};
-ghost use Rattle.graph_change.specs.Bounds.{AreBounded};
-ghost use Rattle.graph_change.specs.Change.{Changes, changed_graph};
-ghost use Rattle.layout.specs.Places.{Sizes};
+ghost use Rattle.record_validation.specs.file_graph.Units.{charge};
+ghost use Rattle.area_reader.specs.graph_change.Bounds.{AreBounded};
+ghost use Rattle.area_reader.specs.graph_change.Change.{Changes, changed_graph};
+ghost use Rattle.area_reader.specs.layout.Places.{Sizes};
 ghost use Rattle.area_reader.specs.Store.{Store, graph};
 ghost use Rattle.area_reader.specs.Format.{IsSpelled};
 ghost use Rattle.area_reader.specs.Units.{slot_units};
 ghost use Rattle.shared_area.specs.Costs.{units_in};
 
-use area_commit::{ChangedSlot, charge_after_change};
 use area_reader::units_of;
+use change_plan::in_area_commit::{ChangedSlot, charge_after_change};
 
 /// What the inodes of a change cost, in units: before it, and after it.
 #[derive(Clone, Copy)]

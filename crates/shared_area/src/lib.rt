@@ -27,3 +27,8 @@ pub use area::Shared;
 pub use change_apply::apply;
 pub use inode_cost::{ChangeCost, charge_after, charge_follows_the_change, units_of_slots};
 pub use plan_write::{reserve_blocks, write_counted};
+
+// Handed on to the crates above, which list only the highest of what they name.
+pub use area_reader as in_area_reader;
+pub use area_reader::{in_graph_change, in_layout};
+pub use record_validation as in_record_validation;

@@ -1,19 +1,19 @@
 // What is known of media once they are opened, and why they were not.
 ghost use Rattle.std.specs.Prelude.{◌≡◌, ◌≢◌, Some, IsSome, OnOk, IfOk, IfErr};
-ghost use Rattle.file_graph.specs.Units.{charge};
-ghost use Rattle.batch_journal.specs.declared.error.JournalError.TheVariants.{BatchTooLarge};
+ghost use Rattle.record_validation.specs.file_graph.Units.{charge};
+ghost use Rattle.area_reader.specs.batch_journal.declared.error.JournalError.TheVariants.{BatchTooLarge};
 ghost use Rattle.area_reader.specs.Store.{disk, graph, marks as marks_of};
 ghost use Rattle.area_reader.specs.Format.{IsOpenable};
 ghost use Rattle.area_reader.specs.Damage.{OnDamage, IsDamaged};
 ghost use Rattle.area_reader.specs.Looks.{Looks};
 ghost use Rattle.area_reader.specs.declared.error.AreaError.TheVariants.{Memory};
-ghost use Rattle.area_commit.specs.Value.{HasRanges, AreFree};
+ghost use Rattle.change_plan.specs.area_commit.Value.{HasRanges, AreFree};
 ghost use Rattle.shared_area.specs.AreaOpen.{IsJournalFault};
 
-use area_commit::Pools;
+use area_reader::in_batch_journal::{Journal, JournalError};
+use area_reader::in_layout::Marks;
 use area_reader::{AreaError, open_area};
-use batch_journal::{Journal, JournalError};
-use layout::Marks;
+use change_plan::in_area_commit::Pools;
 use std::alloc::Global;
 use tier_device::Media;
 

@@ -1,6 +1,6 @@
 // What stands at an inode.
 ghost use Rattle.std.specs.Prelude.{◌≡◌, false, IfOk, IfErr};
-ghost use Rattle.call_effects.specs.NodeView.{view_at};
+ghost use Rattle.record_validation.specs.call_effects.NodeView.{view_at};
 ghost use Rattle.area_reader.specs.Store.{disk, graph};
 ghost use Rattle.area_reader.specs.Format.{IsOpenable};
 ghost use Rattle.area_reader.specs.Looks.{Looks};
@@ -10,9 +10,9 @@ ghost use Rattle.shared_area.specs.Parts.{IsNoDamage, HasParts};
 
 use crate::block_search::find_parts;
 use crate::directory_read::{FoundDirectory, read_entries};
+use area_reader::in_batch_journal::Journal;
+use area_reader::in_layout::Slot;
 use area_reader::{AreaError, InodeParts};
-use batch_journal::Journal;
-use layout::Slot;
 use record_validation::NodeSummary;
 use std::alloc::Global;
 use tier_device::Media;

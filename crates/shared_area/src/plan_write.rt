@@ -3,12 +3,12 @@ ghost use Rattle.std.specs.Prelude.{◌≡◌, ◌≤◌, false, Some, length, O
 ghost use Rattle.std.specs.FinMap as fin;
 ghost use Rattle.tier_device.specs.declared.media.Tier.{Tier};
 ghost use Rattle.tier_device.specs.AfterStop.{AtRest};
-ghost use Rattle.graph_change.specs.View.{changes_of};
+ghost use Rattle.area_reader.specs.graph_change.View.{changes_of};
 ghost use Rattle.area_reader.specs.Store.{disk};
 ghost use Rattle.area_reader.specs.Format.{IsOpenable};
-ghost use Rattle.area_commit.specs.Value.{PoolsView, data_pool, AreInOrder};
-ghost use Rattle.area_commit.specs.Allocations.{WereTaken, SameFree, taken_data};
-ghost use Rattle.area_commit.specs.Plan.{lost_in};
+ghost use Rattle.change_plan.specs.area_commit.Value.{PoolsView, data_pool, AreInOrder};
+ghost use Rattle.change_plan.specs.area_commit.Allocations.{WereTaken, SameFree, taken_data};
+ghost use Rattle.change_plan.specs.area_commit.Plan.{lost_in};
 ghost use Rattle.change_plan.specs.PlanAddition.{HasTaken};
 ghost use Rattle.shared_area.specs.ChangeApply.{CanApply, EndsChange};
 ghost use Rattle.shared_area.specs.Costs.{units_in};
@@ -19,14 +19,14 @@ ghost use Rattle.change_plan.specs.ReadSlots.{HaveSlots};
 
 use crate::apply_laws::{carried_out_change_has_its_slots, carried_out_change_is_made};
 use crate::inode_cost::units_of_slots;
-use area_commit::{Pools, carry_out};
 use area_reader::AreaError;
-use batch_journal::Journal;
+use area_reader::in_batch_journal::Journal;
+use area_reader::in_graph_change::GraphChange;
+use area_reader::in_layout::Marks;
+use change_plan::in_area_commit::{Pools, carry_out};
 use change_plan::{
     PartialPlan, whole_change_can_be_carried_out, whole_change_lies_in_its_places, whole_plan,
 };
-use graph_change::GraphChange;
-use layout::Marks;
 use std::alloc::Global;
 use tier_device::Media;
 

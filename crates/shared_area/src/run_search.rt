@@ -9,10 +9,10 @@ ghost use Rattle.shared_area.specs.Parts.{IsNoDamage};
 ghost use Rattle.shared_area.specs.FirstRun.{FindsRun, file_lies};
 
 use crate::block_search::find_parts;
+use area_reader::in_batch_journal::Journal;
+use area_reader::in_layout::Slot;
 use area_reader::{AreaError, InodeParts, first_place, length_of};
-use batch_journal::Journal;
 use block_alloc::Run;
-use layout::Slot;
 use std::alloc::Global;
 use tier_device::{Media, Tier};
 

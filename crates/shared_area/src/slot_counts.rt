@@ -1,6 +1,6 @@
 // What stands at an inode by its numbers alone.
 ghost use Rattle.std.specs.Prelude.{◌≡◌, false, IfOk, IfErr, option_map};
-ghost use Rattle.call_effects.specs.NodeView.{view_at};
+ghost use Rattle.record_validation.specs.call_effects.NodeView.{view_at};
 ghost use Rattle.record_validation.specs.Counts.{counts_of};
 ghost use Rattle.area_reader.specs.Store.{disk, graph};
 ghost use Rattle.area_reader.specs.Format.{IsOpenable};
@@ -8,11 +8,11 @@ ghost use Rattle.area_reader.specs.Looks.{Looks};
 ghost use Rattle.area_reader.specs.declared.error.AreaError.TheVariants.{DeviceFault};
 ghost use Rattle.shared_area.specs.Parts.{slot_counts};
 
+use area_reader::in_batch_journal::Journal;
+use area_reader::in_layout::Slot;
 use area_reader::{AreaError, read_slot};
-use batch_journal::Journal;
-use file_graph::is_inode;
-use layout::Slot;
 use record_validation::NodeCounts;
+use record_validation::in_file_graph::is_inode;
 use tier_device::Media;
 
 // The numbers that a slot has.

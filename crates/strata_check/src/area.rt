@@ -1,11 +1,11 @@
 // What the shared medium holds, as it stands.
 use crate::image::{Image, medium_of};
-use area_reader::AreaError;
-use layout::CLIENTS;
 use script::Text;
-use shared_area::Shared;
 use std::alloc::Global;
 use tier_device::{MemMedia, Tier};
+use world_files::in_area_reader::AreaError;
+use world_files::in_layout::CLIENTS;
+use world_files::in_shared_area::Shared;
 
 /// Prints the charge, what is free, and the marks. A damaged medium has none of them: recovery then names the structure.
 pub fn describe_area(alloc: Global, image: &Image<'_>, text: &mut Text) {

@@ -5,12 +5,12 @@ use crate::image::{cut_image, image_len};
 use crate::options::read_path;
 use crate::region_list::describe_regions;
 use crate::tree::describe_recovery;
-use host_media::FileProblem;
-use layout::{Geometry, What};
 use script::{RunError, Text, tell, tell_fault};
 use std::alloc::Global;
 use std::io::Write;
 use tier_device::Tier;
+use world_files::in_host_media::FileProblem;
+use world_files::in_layout::{Geometry, What};
 use world_files::{ImageFile, WorldFileError, read_geometry};
 
 /// Runs `strata_check`: prints on `out` what the file holds that the words name. The first word is the program's name.

@@ -1,7 +1,7 @@
 // What is damaged, in words.
-use area_recovery::RecoveryError;
-use layout::What;
 use script::Text;
+use world_files::in_area_recovery::RecoveryError;
+use world_files::in_layout::What;
 use world_files::structure_name;
 
 /// Prints why nothing is recovered. Media in memory whose lengths are those of their geometry fail for want of memory alone.

@@ -2,11 +2,11 @@
 ghost use Rattle.std.specs.Prelude.{IfOk};
 ghost use Rattle.tier_device.specs.Memory.{IsAtRest};
 
-use layout::Geometry;
-use recovery::REGIONS;
+use script::in_update_log::REGION_SIZE;
 use std::alloc::{AllocError, Global};
 use tier_device::MemMedia;
-use update_log::REGION_SIZE;
+use world_files::in_layout::Geometry;
+use world_files::in_recovery::REGIONS;
 use world_files::tier_lens;
 
 /// The bytes of the tiers of the shared medium, and those of the regions, of client after client, the one of even generations first.

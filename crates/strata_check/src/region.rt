@@ -1,10 +1,10 @@
 // What a region holds, as it stands.
 use crate::image::medium_of;
-use log_record::is_payload;
 use script::Text;
+use script::in_log_record::is_payload;
+use script::in_update_log::{HEADER, OPEN, REGION_SIZE, Region, Stage};
 use std::alloc::Global;
 use tier_device::MemMedia;
-use update_log::{HEADER, OPEN, REGION_SIZE, Region, Stage};
 
 /// Whose region it is, and of which generations.
 #[derive(Clone, Copy)]

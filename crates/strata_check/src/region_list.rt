@@ -2,8 +2,8 @@
 use crate::image::cut_front;
 use crate::region::{Owner, describe_region};
 use script::Text;
+use script::in_update_log::REGION_SIZE;
 use std::alloc::Global;
-use update_log::REGION_SIZE;
 
 /// Prints each region of client after client, the one of even generations first.
 pub fn describe_regions(alloc: Global, bytes: &[u8], text: &mut Text) {

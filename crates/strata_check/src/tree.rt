@@ -1,14 +1,14 @@
 // The tree of the world that is recovered.
 use crate::damage::describe_refusal;
 use crate::tree_place::Place;
-use area_recovery::RecoveryError;
-use interleavings::World;
-use layout::BLOCK;
-use record_validation::NodeSummary;
-use recovery::recover;
 use script::Text;
 use std::alloc::Global;
 use tier_device::{MemMedia, Tier};
+use world_files::in_area_recovery::RecoveryError;
+use world_files::in_interleavings::World;
+use world_files::in_layout::BLOCK;
+use world_files::in_record_validation::NodeSummary;
+use world_files::in_recovery::recover;
 use world_files::read_parts;
 
 /// Recovers a copy of an image, whose length is that of its geometry, and prints its tree, or why it is not recovered. Answers whether it is.

@@ -1,8 +1,8 @@
 //! Two clients make a call each in threads of their own, the run stops, and a recovery shows what was kept.
 #![tactic(auto)]
 
-use script::run_program;
 use std::process::ExitCode;
+use thread_runs::in_script::run_program;
 use thread_runs::run_first;
 
 fn main(rt: HostRuntime) -> ExitCode {

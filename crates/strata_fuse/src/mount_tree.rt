@@ -1,14 +1,14 @@
 // A world answers the calls of one client, as the tree of a mount.
+use call_driver::in_event_steps::{Event, Outcome, Refusal};
+use call_driver::in_interleavings::World;
+use call_driver::in_kernel_fs::KernelError;
+use call_driver::in_record_validation::NodeSummary;
 use call_driver::{CallResult, Events, clear_client, digest_all, serve_call};
-use event_steps::{Event, Outcome, Refusal};
 use fuse_server::{Tree, Usage};
-use host_media::FileMedia;
-use interleavings::World;
-use kernel_fs::KernelError;
 use posix_calls::{Bytes, Call, Errno, MAX_INODE, Path, ROOT, Reply};
-use record_validation::NodeSummary;
 use std::alloc::Global;
 use tier_device::Tier;
+use world_files::in_host_media::FileMedia;
 
 /// The most records of the client that may wait for their digest between two requests.
 const RECORDS: usize = 128;

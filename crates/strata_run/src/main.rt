@@ -1,8 +1,8 @@
 //! Clients, workers and a migrator in threads of their own, over one kernel: each client makes calls of its own and compares their answers with those of a plain tree; at the end the media are recovered and compared too.
 #![tactic(auto)]
 
-use script::run_program;
 use std::process::ExitCode;
+use thread_runs::in_script::run_program;
 use thread_runs::run_threads;
 
 fn main(rt: HostRuntime) -> ExitCode {

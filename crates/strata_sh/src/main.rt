@@ -1,9 +1,9 @@
 //! Answers a script of file system calls, read from standard input line by line, over a running system. `strata_sh --help` teaches the script's language.
 #![tactic(auto)]
 
-use script::run_program;
 use std::io::{BufReader, BufWriter};
 use std::process::ExitCode;
+use workload_cli::in_script::run_program;
 use workload_cli::run_sh;
 
 fn main(rt: HostRuntime) -> ExitCode {

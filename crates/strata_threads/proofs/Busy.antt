@@ -1,9 +1,9 @@
 -- A word that bars a client from a lease shows a mark of another one, and the client holds what it held.
 use Rattle.std.proofs.Common.{◌≡◌, ℕ, inr, refl}
-use Rattle.client_plan.specs.declared.need.Mode.{Mode}
-use Rattle.client_plan.specs.declared.need.Mode.TheVariants as modes
-use Rattle.lease_manager.specs.Marks.{ShowsOther}
-use Rattle.lease_manager.specs.Passes.{PassView}
+use Rattle.libfs.specs.client_plan.declared.need.Mode.{Mode}
+use Rattle.libfs.specs.client_plan.declared.need.Mode.TheVariants as modes
+use Rattle.libfs.specs.lease_manager.Marks.{ShowsOther}
+use Rattle.libfs.specs.lease_manager.Passes.{PassView}
 use Rattle.libfs.specs.LeaseCalls.{ShowsBar, refused_pass}
 
 pub bar_is_other : (mode : Mode) (k n : ℕ) → ShowsBar mode k n → ShowsOther k n

@@ -4,11 +4,11 @@ use Rattle.std.specs.Prelude.{◌↔◌, Bool, true, false, IsTrue, length, slic
 use Rattle.std.proofs.lemmas.Bool.{cases_lt, false≢true}
 use Rattle.std.proofs.lemmas.Bool.Decides.{eqb_tells}
 use Rattle.std.proofs.lemmas.List.{get_or-set_same, get_or-set_other, get_or_past}
-use Rattle.lease_manager.specs.Passes.{PassView, client_of, lease_of, with_event, without_lease}
-use Rattle.lease_manager.specs.Words.{HasWord, lease_place}
-use Rattle.lease_manager.specs.declared.view.Event.{Event}
-use Rattle.lease_manager.specs.declared.view.Event.TheVariants.{Gave}
-use Rattle.lease_manager.specs.declared.view.LeaseMode.TheVariants.{Free}
+use Rattle.libfs.specs.lease_manager.Passes.{PassView, client_of, lease_of, with_event, without_lease}
+use Rattle.libfs.specs.lease_manager.Words.{HasWord, lease_place}
+use Rattle.libfs.specs.lease_manager.declared.view.Event.{Event}
+use Rattle.libfs.specs.lease_manager.declared.view.Event.TheVariants.{Gave}
+use Rattle.libfs.specs.lease_manager.declared.view.LeaseMode.TheVariants.{Free}
 use Rattle.libfs.specs.LeaseCalls.{CanBeGiven, HasGiven}
 use Rattle.libfs.specs.View.{ClientView, is_pending}
 use Rattle.strata_threads.specs.ClientCalls.{KeepsCall}

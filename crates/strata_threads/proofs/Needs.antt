@@ -2,9 +2,9 @@
 use Rattle.std.proofs.Common.{◌≡◌, ◌≢◌, ℕ, ⊎_elim, Result, Ok, Err, refl, sym, subst}
 use Rattle.std.specs.Prelude.{OnOk}
 use Rattle.tier_device.specs.declared.media.Media.{Ghosts}
-use Rattle.client_plan.specs.declared.need.Need.{Need}
-use Rattle.client_plan.specs.declared.need.Need.TheVariants as needs
-use Rattle.kernel_fs.specs.KernelView.{KernelView}
+use Rattle.libfs.specs.client_plan.declared.need.Need.{Need}
+use Rattle.libfs.specs.client_plan.declared.need.Need.TheVariants as needs
+use Rattle.libfs.specs.kernel_fs.KernelView.{KernelView}
 use Rattle.libfs.specs.NeedService.{GetsNode, HasServed, HasNotServed, KeepsCopy, MayBeDenied}
 use Rattle.libfs.specs.View.{ClientView}
 use Rattle.libfs.specs.declared.denial.Denied.{Denied}

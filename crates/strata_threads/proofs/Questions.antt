@@ -4,9 +4,9 @@ use Rattle.std.specs.Prelude.{◌↔◌, Bool, true, false, IsTrue, bit_or, slic
 use Rattle.std.specs.Int.{bit_at}
 use Rattle.std.proofs.lemmas.Bool.Decides.{eqb_tells}
 use Rattle.std.proofs.lemmas.List.{get_or-set_same, get_or-set_other}
-use Rattle.lease_manager.specs.Passes.{lease_of}
-use Rattle.lease_manager.specs.Words.{HasWord}
-use Rattle.lease_manager.specs.declared.view.LeaseMode.TheVariants.{Free}
+use Rattle.libfs.specs.lease_manager.Passes.{lease_of}
+use Rattle.libfs.specs.lease_manager.Words.{HasWord}
+use Rattle.libfs.specs.lease_manager.declared.view.LeaseMode.TheVariants.{Free}
 use Rattle.libfs.specs.View.{ClientView}
 use Rattle.strata_threads.specs.HeardQuestions.{AreGivenOrAsked, AreHeldAndAsked, HasAnsweredRows, HasGivenAsked, HasGivenAskedRows, HasHeardRows, IsAskedOf, IsGivenOrAsked, IsHeldAndAsked, IsSomeLeft, row_of}
 use Rattle.strata_threads.specs.LeaseReturn.{HasOnlyGiven}

@@ -2,15 +2,15 @@
 use Rattle.std.proofs.Common.{◌≡◌, ◌⊎◌, inl, inr, Ok, Err, sym, ap, subst}
 use Rattle.tier_device.specs.declared.media.Media.{Ghosts}
 use Rattle.tier_device.specs.Media.{Rose}
-use Rattle.client_log.specs.declared.error.LogError.{LogError}
-use Rattle.client_log.specs.declared.error.LogError.TheVariants as logs
-use Rattle.kernel_fs.specs.KernelView.{KernelView}
-use Rattle.kernel_fs.specs.declared.chunk_digest.Digestion.{Digestion}
-use Rattle.kernel_fs.specs.declared.chunk_digest.Digestion.TheVariants.{Digested, NotAccepted}
-use Rattle.kernel_fs.specs.declared.error.KernelError.{KernelError}
-use Rattle.digester.specs.SealedLog.{SealedView}
-use Rattle.digester.specs.declared.chunk.Chunk.{Chunk}
-use Rattle.digester.specs.declared.error.DigestError.{DigestError}
+use Rattle.libfs.specs.client_log.declared.error.LogError.{LogError}
+use Rattle.libfs.specs.client_log.declared.error.LogError.TheVariants as logs
+use Rattle.libfs.specs.kernel_fs.KernelView.{KernelView}
+use Rattle.libfs.specs.kernel_fs.declared.chunk_digest.Digestion.{Digestion}
+use Rattle.libfs.specs.kernel_fs.declared.chunk_digest.Digestion.TheVariants.{Digested, NotAccepted}
+use Rattle.libfs.specs.kernel_fs.declared.error.KernelError.{KernelError}
+use Rattle.libfs.specs.digester.SealedLog.{SealedView}
+use Rattle.libfs.specs.digester.declared.chunk.Chunk.{Chunk}
+use Rattle.libfs.specs.digester.declared.error.DigestError.{DigestError}
 use Rattle.libfs.specs.SealedRegion.{DigestsChunk, SealedRegionView, log_of}
 use Rattle.strata_threads.specs.RegionRefusals.{RefusesLog, RefusesRead}
 use Rattle.strata_threads.specs.declared.region_refusal.RegionRefusal.TheVariants as refusals

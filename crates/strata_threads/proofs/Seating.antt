@@ -1,6 +1,6 @@
 -- Clients that are shared out, one after the other.
 use Rattle.std.proofs.Common.{◌≡◌, ◌≤◌, ◌<◌, ℕ, zero, suc, ◌+◌, ◌++◌, ◌∷◌, false, List, [], length, drop, get_or, refl, sym, ap, ◌∙◌, subst, arith, append-nil, append_assoc}
-use Rattle.lease_manager.specs.Passes.{client_of}
+use Rattle.libfs.specs.lease_manager.Passes.{client_of}
 use Rattle.libfs.specs.View.{ClientView, is_pending}
 use Rattle.strata_threads.specs.SharedClients.{AreIdleFrom}
 

@@ -7,14 +7,14 @@ use Rattle.tier_device.specs.declared.media.Media.{Ghosts}
 use Rattle.posix_calls.specs.declared.call.Call.{Call}
 use Rattle.posix_calls.specs.declared.call.Reply.{Reply}
 use Rattle.posix_calls.specs.declared.call.Reply.TheVariants as replies
-use Rattle.update_log.specs.declared.stage.Progress.{Progress}
-use Rattle.update_log.specs.declared.stage.Progress.TheVariants.{Going, Appended}
+use Rattle.libfs.specs.update_log.declared.stage.Progress.{Progress}
+use Rattle.libfs.specs.update_log.declared.stage.Progress.TheVariants.{Going, Appended}
 use Rattle.posix_calls.specs.declared.errno.Errno.TheVariants.{IoError, NoMemory}
-use Rattle.lease_manager.specs.Passes.{PassView, client_of}
-use Rattle.lease_manager.specs.declared.view.LeaseMode.{LeaseMode}
-use Rattle.client_plan.specs.declared.need.Need.{Need}
-use Rattle.client_plan.specs.declared.outcome.Outcome.{Outcome}
-use Rattle.client_plan.specs.declared.outcome.Outcome.TheVariants as outcomes
+use Rattle.libfs.specs.lease_manager.Passes.{PassView, client_of}
+use Rattle.libfs.specs.lease_manager.declared.view.LeaseMode.{LeaseMode}
+use Rattle.libfs.specs.client_plan.declared.need.Need.{Need}
+use Rattle.libfs.specs.client_plan.declared.outcome.Outcome.{Outcome}
+use Rattle.libfs.specs.client_plan.declared.outcome.Outcome.TheVariants as outcomes
 use Rattle.libfs.specs.CallStart.{HasStarted, IsOutOfMemory}
 use Rattle.libfs.specs.CallStep.{IsGoing, HasReplied, HasFailed}
 use Rattle.libfs.specs.ClientHoldings.{outcome_for}

@@ -1,8 +1,8 @@
 -- A worker does nothing to a region but read it, and no record of it counts as digested less.
 use Rattle.std.proofs.Common.{◌≡◌, ◌≤◌, ℕ, true, refl, sym, ap, ◌∙◌, subst, arith}
 use Rattle.tier_device.specs.declared.media.Media.{Ghosts}
-use Rattle.client_log.specs.Calls.{IsOnlyRead}
-use Rattle.update_log.specs.View.{RegionView}
+use Rattle.libfs.specs.client_log.Calls.{IsOnlyRead}
+use Rattle.libfs.specs.update_log.View.{RegionView}
 use Rattle.libfs.specs.SealedRegion.{SealedRegionView}
 use Rattle.strata_threads.specs.RegionHandover.{IsWorkedOn}
 

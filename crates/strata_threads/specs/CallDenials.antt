@@ -3,15 +3,15 @@ use Rattle.std.specs.Prelude.{◌≡◌, ◌⊎◌, ◌<◌, ◌+◌, Bool, true
 use Rattle.tier_device.specs.declared.media.Media.{Ghosts}
 use Rattle.posix_calls.specs.declared.call.Call.{Call}
 use Rattle.posix_calls.specs.declared.call.Reply.{Reply}
-use Rattle.client_log.specs.Steps.{CanBeSealed}
-use Rattle.client_plan.specs.declared.need.Need.{Need}
-use Rattle.client_plan.specs.declared.need.Need.TheVariants as needs
-use Rattle.client_plan.specs.declared.outcome.Outcome.TheVariants as outcomes
-use Rattle.kernel_fs.specs.Book.{is_free, out_of}
-use Rattle.kernel_fs.specs.Free.{count_of}
-use Rattle.kernel_fs.specs.KernelView.{KernelView}
-use Rattle.kernel_fs.specs.Nodes.{nodes_in}
-use Rattle.file_graph.specs.Units.{charge}
+use Rattle.libfs.specs.client_log.Steps.{CanBeSealed}
+use Rattle.libfs.specs.client_plan.declared.need.Need.{Need}
+use Rattle.libfs.specs.client_plan.declared.need.Need.TheVariants as needs
+use Rattle.libfs.specs.client_plan.declared.outcome.Outcome.TheVariants as outcomes
+use Rattle.libfs.specs.kernel_fs.Book.{is_free, out_of}
+use Rattle.libfs.specs.kernel_fs.Free.{count_of}
+use Rattle.libfs.specs.kernel_fs.KernelView.{KernelView}
+use Rattle.libfs.specs.kernel_fs.Nodes.{nodes_in}
+use Rattle.libfs.specs.file_graph.Units.{charge}
 use Rattle.libfs.specs.ClientHoldings.{outcome_for}
 use Rattle.libfs.specs.NeedService.{HasNotServed, IsServable, LeavesKernel, MayBeDenied, inodes_needed, shared_by, units_needed}
 use Rattle.libfs.specs.View.{ClientView}

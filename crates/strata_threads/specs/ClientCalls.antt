@@ -6,7 +6,7 @@ use Rattle.posix_calls.specs.declared.call.Call.{Call}
 use Rattle.posix_calls.specs.declared.call.Reply.{Reply}
 use Rattle.posix_calls.specs.declared.call.Reply.TheVariants as replies
 use Rattle.posix_calls.specs.declared.errno.Errno.TheVariants.{IoError}
-use Rattle.lease_manager.specs.Passes.{client_of}
+use Rattle.libfs.specs.lease_manager.Passes.{client_of}
 use Rattle.libfs.specs.CallStart.{HasStarted, IsOutOfMemory}
 use Rattle.libfs.specs.CallStep.{HasReplied, HasFailed}
 use Rattle.libfs.specs.ClientHoldings.{outcome_for}

@@ -1,10 +1,10 @@
 -- What others ask of a client: what it hears, row by row of 64 inodes, and what it answers.
 use Rattle.std.specs.Prelude.{◌≡◌, ◌≢◌, ◌⊎◌, ◌+◌, ◌-◌, ◌*◌, ◌/◌, ◌≤◌, ◌<◌, ℕ, zero, suc, List, slice_index, slice_set, bit_or}
 use Rattle.std.specs.Int.{bit_at}
-use Rattle.lease_manager.specs.Passes.{client_of, lease_of, with_event}
-use Rattle.lease_manager.specs.Words.{HasWord, asked_word}
-use Rattle.lease_manager.specs.declared.view.Event.TheVariants.{Heard, Looked}
-use Rattle.lease_manager.specs.declared.view.LeaseMode.TheVariants.{Free}
+use Rattle.libfs.specs.lease_manager.Passes.{client_of, lease_of, with_event}
+use Rattle.libfs.specs.lease_manager.Words.{HasWord, asked_word}
+use Rattle.libfs.specs.lease_manager.declared.view.Event.TheVariants.{Heard, Looked}
+use Rattle.libfs.specs.lease_manager.declared.view.LeaseMode.TheVariants.{Free}
 use Rattle.libfs.specs.LeaseCalls.{CanBeGiven}
 use Rattle.libfs.specs.View.{ClientView}
 use Rattle.strata_threads.specs.LeaseReturn.{HasOnlyGiven}

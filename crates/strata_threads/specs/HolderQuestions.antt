@@ -2,12 +2,12 @@
 use Rattle.std.specs.Prelude.{◌≡◌, ◌==◌, ◌&&◌, ◌||◌, not, if◌then◌else◌, ◌+◌, ℕ, zero, suc, Bool, List}
 use Rattle.std.specs.Int.{bit_at}
 use Rattle.tier_device.specs.declared.media.Media.{Ghosts}
-use Rattle.client_plan.specs.declared.need.Mode.{Mode}
-use Rattle.client_plan.specs.declared.need.Need.{Need}
-use Rattle.client_plan.specs.declared.need.Need.TheVariants as needs
-use Rattle.lease_manager.specs.Passes.{client_of, with_event}
-use Rattle.lease_manager.specs.Words.{asked_bit, asked_word}
-use Rattle.lease_manager.specs.declared.view.Event.TheVariants.{Asked}
+use Rattle.libfs.specs.client_plan.declared.need.Mode.{Mode}
+use Rattle.libfs.specs.client_plan.declared.need.Need.{Need}
+use Rattle.libfs.specs.client_plan.declared.need.Need.TheVariants as needs
+use Rattle.libfs.specs.lease_manager.Passes.{client_of, with_event}
+use Rattle.libfs.specs.lease_manager.Words.{asked_bit, asked_word}
+use Rattle.libfs.specs.lease_manager.declared.view.Event.TheVariants.{Asked}
 use Rattle.libfs.specs.LeaseCalls.{ShowsBar, refused_pass}
 use Rattle.libfs.specs.View.{ClientView}
 use Rattle.strata_threads.specs.HeardQuestions.{row_of}

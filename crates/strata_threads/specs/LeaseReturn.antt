@@ -1,11 +1,11 @@
 -- Which leases a client has, and what is left of it as it gives leases back.
 use Rattle.std.specs.Prelude.{◌≡◌, ◌⊎◌, ◌++◌, ◌∷◌, ℕ, List, []}
-use Rattle.lease_manager.specs.Passes.{client_of, lease_of}
-use Rattle.lease_manager.specs.Words.{HasWord, lease_place}
-use Rattle.lease_manager.specs.declared.view.Event.{Event}
-use Rattle.lease_manager.specs.declared.view.Event.TheVariants.{Gave}
-use Rattle.lease_manager.specs.declared.view.LeaseMode.TheVariants.{Free, Writing}
-use Rattle.client_plan.specs.declared.need.Mode.{Mode}
+use Rattle.libfs.specs.lease_manager.Passes.{client_of, lease_of}
+use Rattle.libfs.specs.lease_manager.Words.{HasWord, lease_place}
+use Rattle.libfs.specs.lease_manager.declared.view.Event.{Event}
+use Rattle.libfs.specs.lease_manager.declared.view.Event.TheVariants.{Gave}
+use Rattle.libfs.specs.lease_manager.declared.view.LeaseMode.TheVariants.{Free, Writing}
+use Rattle.libfs.specs.client_plan.declared.need.Mode.{Mode}
 use Rattle.libfs.specs.LeaseCalls.{CanBeGiven, mode_of}
 use Rattle.libfs.specs.View.{ClientView}
 

@@ -8,3 +8,5 @@ pub mod RegionRefusals
 pub mod RunMoves
 pub mod SharedClients
 pub mod WaitedTurns
+-- Handed on to the crates above, which list only the highest of what they name.
+pub use Rattle.libfs.specs as libfs

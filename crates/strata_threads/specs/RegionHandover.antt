@@ -3,8 +3,8 @@ use Rattle.std.specs.Prelude.{◌≡◌, ◌⊎◌, ◌-◌, ◌≤◌, ℕ, Lis
 use Rattle.handoff.specs.Ends.{EndView}
 use Rattle.handoff.specs.Line.{EndsLine, HasPut, HasTaken}
 use Rattle.tier_device.specs.declared.media.Media.{Ghosts}
-use Rattle.client_log.specs.Calls.{IsOnlyRead}
-use Rattle.client_log.specs.Steps.{CanBeSealed}
+use Rattle.libfs.specs.client_log.Calls.{IsOnlyRead}
+use Rattle.libfs.specs.client_log.Steps.{CanBeSealed}
 use Rattle.libfs.specs.RegionSeal.{HasSealed, HasTakenBack, MayTakeBack}
 use Rattle.libfs.specs.SealedRegion.{SealedRegionView}
 use Rattle.libfs.specs.View.{ClientView}

@@ -2,13 +2,13 @@
 use Rattle.std.specs.Prelude.{◌≡◌, ◌⊎◌, Ok, Err}
 use Rattle.tier_device.specs.declared.media.Media.{Ghosts}
 use Rattle.tier_device.specs.Media.{Rose}
-use Rattle.client_log.specs.declared.error.LogError.TheVariants as logs
-use Rattle.kernel_fs.specs.KernelView.{KernelView}
-use Rattle.kernel_fs.specs.declared.chunk_digest.Digestion.TheVariants.{NotAccepted}
-use Rattle.kernel_fs.specs.declared.error.KernelError.TheVariants.{Refused}
-use Rattle.digester.specs.SealedLog.{HasUndigested}
-use Rattle.digester.specs.declared.chunk.Chunk.{Chunk}
-use Rattle.digester.specs.declared.error.DigestError.TheVariants.{Memory}
+use Rattle.libfs.specs.client_log.declared.error.LogError.TheVariants as logs
+use Rattle.libfs.specs.kernel_fs.KernelView.{KernelView}
+use Rattle.libfs.specs.kernel_fs.declared.chunk_digest.Digestion.TheVariants.{NotAccepted}
+use Rattle.libfs.specs.kernel_fs.declared.error.KernelError.TheVariants.{Refused}
+use Rattle.libfs.specs.digester.SealedLog.{HasUndigested}
+use Rattle.libfs.specs.digester.declared.chunk.Chunk.{Chunk}
+use Rattle.libfs.specs.digester.declared.error.DigestError.TheVariants.{Memory}
 use Rattle.libfs.specs.SealedRegion.{AcceptsLog, DigestsChunk, SealedRegionView, log_of}
 use Rattle.strata_threads.specs.declared.region_refusal.RegionRefusal.{RegionRefusal}
 use Rattle.strata_threads.specs.declared.region_refusal.RegionRefusal.TheVariants as refusals

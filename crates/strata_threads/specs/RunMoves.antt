@@ -2,11 +2,11 @@
 use Rattle.std.specs.Prelude.{ℕ}
 use Rattle.tier_device.specs.declared.media.Media.{Ghosts}
 use Rattle.tier_device.specs.declared.media.Tier.{Tier}
-use Rattle.world_invariant.specs.Machine.{Machine}
-use Rattle.kernel_fs.specs.KernelView.{KernelView}
-use Rattle.kernel_fs.specs.MachineState.{IsKernelOf}
-use Rattle.area_reader.specs.Store.{disk}
-use Rattle.relocation.specs.TierMove.{CanMove, IsMoved}
+use Rattle.libfs.specs.world_invariant.Machine.{Machine}
+use Rattle.libfs.specs.kernel_fs.KernelView.{KernelView}
+use Rattle.libfs.specs.kernel_fs.MachineState.{IsKernelOf}
+use Rattle.libfs.specs.area_reader.Store.{disk}
+use Rattle.libfs.specs.relocation.TierMove.{CanMove, IsMoved}
 
 -- Some run that could be moved to a tier is moved there, and that is no step of the machine. Before it the kernel's area was looked at.
 pub record HasMovedRun {M : Type 0} (device : Ghosts M) (to : Tier) (new : KernelView M) : Type 0 where

@@ -1,7 +1,7 @@
 -- Which clients can be shared out to threads.
 use Rattle.std.specs.Prelude.{◌≡◌, ◌≤◌, ℕ, ◌+◌, false, List, [], ◌∷◌, length}
 use Rattle.atomic_table.specs.Seated.{TableId}
-use Rattle.lease_manager.specs.Passes.{client_of}
+use Rattle.libfs.specs.lease_manager.Passes.{client_of}
 use Rattle.libfs.specs.View.{ClientView, is_pending}
 
 -- They are the clients from a number on, in the order of their numbers, and no call of one waits for its answer.

@@ -1,9 +1,9 @@
 -- How long a call was waited for, and why it was given up.
 use Rattle.std.specs.Prelude.{◌≡◌, ◌⊎◌, ◌↔◌, ◌+◌, ◌==◌, ◌||◌, if◌then◌else◌, ℕ, Bool, List, [], ◌∷◌, Result, Ok, Err, IsErrOf, slice_index}
-use Rattle.client_plan.specs.declared.need.Mode.{Mode}
-use Rattle.client_plan.specs.declared.need.Mode.TheVariants.{Read, Write}
-use Rattle.client_plan.specs.declared.need.Need.{Need}
-use Rattle.client_plan.specs.declared.need.Need.TheVariants as needs
+use Rattle.libfs.specs.client_plan.declared.need.Mode.{Mode}
+use Rattle.libfs.specs.client_plan.declared.need.Mode.TheVariants.{Read, Write}
+use Rattle.libfs.specs.client_plan.declared.need.Need.{Need}
+use Rattle.libfs.specs.client_plan.declared.need.Need.TheVariants as needs
 use Rattle.posix_calls.specs.declared.call.Reply.{Reply}
 use Rattle.posix_calls.specs.declared.call.Reply.TheVariants as replies
 use Rattle.libfs.specs.Denial.{errno_of}

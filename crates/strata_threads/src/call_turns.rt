@@ -1,6 +1,6 @@
 //! A call of one client, from its start to its answer.
 ghost use Rattle.std.specs.Prelude.{◌≡◌, ◌≢◌, ◌<◌, true, false, IfErr, IfOk, IfSome, OnErr, Result, None};
-ghost use Rattle.client_plan.specs.declared.need.Need.{Need};
+ghost use Rattle.libfs.specs.client_plan.declared.need.Need.{Need};
 ghost use Rattle.posix_calls.specs.declared.call.Reply.{Reply};
 ghost use Rattle.libfs.specs.View.{is_pending};
 ghost use Rattle.libfs.specs.declared.now.Now.TheVariants as now;
@@ -16,7 +16,7 @@ use crate::gate_point::GatePoint;
 use crate::shared_kernel::SharedKernel;
 use crate::thread_client::ThreadClient;
 use crate::waited::Waited;
-use client_plan::Need;
+use libfs::in_client_plan::Need;
 use libfs::{Client, Denied, Now};
 use posix_calls::{Call, Reply};
 use std::sync::Wait;

@@ -1,11 +1,11 @@
 //! What a client does between its turns: it gives what others ask for, and takes its region back.
 ghost use Rattle.std.specs.Prelude.{◌≡◌, ◌≢◌, ◌==◌, ◌<◌, ◌≤◌, ◌+◌, ◌*◌, ◌++◌, ◌↔◌, ℕ, min, true, false, [], None, IfNone, IfSome, IsTrue, OnErr, OnOk, slice_index};
 ghost use Rattle.std.specs.Int.{bit_at};
-ghost use Rattle.client_log.specs.Steps.{CanBeSealed};
-ghost use Rattle.client_log.specs.View.{current_records};
-ghost use Rattle.lease_manager.specs.Passes.{lease_of};
-ghost use Rattle.lease_manager.specs.Words.{HasWord};
-ghost use Rattle.lease_manager.specs.declared.view.LeaseMode.TheVariants.{Free};
+ghost use Rattle.libfs.specs.client_log.Steps.{CanBeSealed};
+ghost use Rattle.libfs.specs.client_log.View.{current_records};
+ghost use Rattle.libfs.specs.lease_manager.Passes.{lease_of};
+ghost use Rattle.libfs.specs.lease_manager.Words.{HasWord};
+ghost use Rattle.libfs.specs.lease_manager.declared.view.LeaseMode.TheVariants.{Free};
 ghost use Rattle.libfs.specs.LeaseCalls.{CanBeGiven};
 ghost use Rattle.strata_threads.specs.ClientCalls.{KeepsCall};
 ghost use Rattle.strata_threads.specs.HeardQuestions.{AreGivenOrAsked, AreHeldAndAsked, HasGivenAsked, HasGivenAskedRows, HasHeardRow, HasHeardRows, HoldsWithin, IsGivenOrAsked, IsHeldAndAsked, IsSomeLeft, NeedsRows, heard_of, looked_at, row_of};
@@ -14,7 +14,7 @@ ghost use Rattle.strata_threads.specs.RegionHandover.{HandsOver, HasComeBack, Ha
 
 use crate::shared_kernel::SharedKernel;
 use crate::thread_client::ThreadClient;
-use lease_manager::{INODES, LeaseMode};
+use libfs::in_lease_manager::{INODES, LeaseMode};
 use libfs::{Client, SealedRegion};
 use std::alloc::AllocError;
 use std::sync::Wait;

@@ -1,7 +1,7 @@
 //! What a call needs of the kernel.
 ghost use Rattle.std.specs.Prelude.{◌≡◌, ◌≢◌, true, IfErr, OnOk};
 ghost use Rattle.libfs.specs.NeedService.{HasServed, IsServable};
-ghost use Rattle.kernel_fs.specs.KernelView.{KernelView};
+ghost use Rattle.libfs.specs.kernel_fs.KernelView.{KernelView};
 ghost use Rattle.libfs.specs.declared.denial.Denied.TheVariants as denied;
 ghost use Rattle.strata_threads.specs.CallDenials.{IsRefused, IsUnmet, is_for_kernel};
 ghost use Rattle.strata_threads.specs.ClientCalls.{KeepsCall};
@@ -9,8 +9,8 @@ ghost use Rattle.strata_threads.specs.LeaseReturn.{KeepsLeases};
 
 use crate::shared_kernel::SharedKernel;
 use crate::thread_client::ThreadClient;
-use client_plan::Need;
-use kernel_fs::Kernel;
+use libfs::in_client_plan::Need;
+use libfs::in_kernel_fs::Kernel;
 use libfs::{Client, Denied};
 use std::sync::Wait;
 use tier_device::Media;

@@ -34,3 +34,7 @@ pub use thread_client::ThreadClient;
 pub use thread_set::{ShareError, ThreadSet};
 pub use waited::Waited;
 pub use worker::Worker;
+
+// Handed on to the crates above, which list only the highest of what they name.
+pub use libfs as in_libfs;
+pub use libfs::in_layout;

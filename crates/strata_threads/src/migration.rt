@@ -4,7 +4,7 @@ ghost use Rattle.strata_threads.specs.RunMoves.{HasMovedRun};
 
 use crate::shared_kernel::SharedKernel;
 use crate::stop_flag::StopFlag;
-use kernel_fs::Kernel;
+use libfs::in_kernel_fs::Kernel;
 use std::sync::Wait;
 use std::thread;
 use tier_device::{Media, Tier};

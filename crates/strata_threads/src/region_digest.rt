@@ -1,8 +1,8 @@
 //! A sealed region is digested.
 ghost use Rattle.std.specs.Prelude.{◌≡◌, ◌↔◌, ◌<◌, ◌≤◌, true, IfErr, IsTrue, OnErr, OnOk};
-ghost use Rattle.client_log.specs.Calls.{IsOnlyRead};
-ghost use Rattle.digester.specs.Chunk.{IsChunkOf};
-ghost use Rattle.digester.specs.SealedLog.{HasUndigested};
+ghost use Rattle.libfs.specs.client_log.Calls.{IsOnlyRead};
+ghost use Rattle.libfs.specs.digester.Chunk.{IsChunkOf};
+ghost use Rattle.libfs.specs.digester.SealedLog.{HasUndigested};
 ghost use Rattle.libfs.specs.SealedRegion.{log_of};
 ghost use Rattle.strata_threads.specs.RegionHandover.{IsWorkedOn};
 ghost use Rattle.strata_threads.specs.RegionRefusals.{HasRefused, RefusesLog, RefusesRead};
@@ -10,9 +10,9 @@ ghost use Rattle.strata_threads.specs.RegionRefusals.{HasRefused, RefusesLog, Re
 use crate::gate_point::GatePoint;
 use crate::region_refusal::RegionRefusal;
 use crate::shared_kernel::SharedKernel;
-use digester::Chunk;
-use kernel_fs::{Digestion, Kernel, KernelError};
 use libfs::SealedRegion;
+use libfs::in_digester::Chunk;
+use libfs::in_kernel_fs::{Digestion, Kernel, KernelError};
 use std::alloc::Global;
 use std::sync::Wait;
 use tier_device::Media;

@@ -1,6 +1,6 @@
-use client_log::LogError;
-use digester::DigestError;
-use kernel_fs::{AcceptError, KernelError};
+use libfs::in_client_log::LogError;
+use libfs::in_digester::DigestError;
+use libfs::in_kernel_fs::{AcceptError, KernelError};
 
 /// Why a sealed region was not digested whole.
 #[derive(Drop)]

@@ -1,5 +1,5 @@
 use crate::wake_ups::WakeUps;
-use kernel_fs::Kernel;
+use libfs::in_kernel_fs::Kernel;
 use std::sync::{Mutex, MutexGuard, Wait};
 use tier_device::Media;
 

@@ -2,7 +2,7 @@
 ghost use Rattle.std.specs.Prelude.{◌≡◌, ◌≤◌, ◌<◌, ◌↔◌, ◌+◌, ◌++◌, ◌∷◌, false, length, map, min, [], IfErr, IfOk, IsTrue, OnOk};
 ghost use Rattle.std.specs.Vec.{vec_len, vec_capacity};
 ghost use Rattle.libfs.specs.View.{is_pending};
-ghost use Rattle.lease_manager.specs.Passes.{client_of};
+ghost use Rattle.libfs.specs.lease_manager.Passes.{client_of};
 ghost use Rattle.strata_threads.specs.SharedClients.{AreIdleFrom, CanBeShared, ShareTable};
 ghost use Rattle.strata_threads.specs.declared.thread_set.ShareError.TheVariants.{Clients, Memory};
 
@@ -10,8 +10,8 @@ use crate::shared_kernel::SharedKernel;
 use crate::thread_client::ThreadClient;
 use crate::worker::Worker;
 use handoff::QueueEnd;
-use kernel_fs::Kernel;
-use lease_manager::CLIENTS;
+use libfs::in_kernel_fs::Kernel;
+use libfs::in_lease_manager::CLIENTS;
 use libfs::{Client, SealedRegion};
 use std::alloc::{AllocError, AllocFailed, Global};
 use tier_device::Media;

@@ -1,10 +1,10 @@
 ghost use Rattle.std.specs.Prelude.{◌≡◌, ◌==◌, ◌<◌, None, false, [], ◌∷◌};
-ghost use Rattle.lease_manager.specs.Marks.{ShowsOther};
-ghost use Rattle.lease_manager.specs.Words.{HasWord};
+ghost use Rattle.libfs.specs.lease_manager.Marks.{ShowsOther};
+ghost use Rattle.libfs.specs.lease_manager.Words.{HasWord};
 ghost use Rattle.strata_threads.specs.WaitedTurns.{away_turn, busy_turn, is_to_write, taken_mode, with_inode};
 
-use client_plan::Mode;
 use libfs::Client;
+use libfs::in_client_plan::Mode;
 use std::marker::Model;
 use tier_device::Media;
 

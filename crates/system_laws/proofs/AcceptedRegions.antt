@@ -4,15 +4,15 @@ use Rattle.std.proofs.lemmas.Bool.{false≢true}
 use Rattle.tier_device.specs.declared.media.Media.{Ghosts}
 use Rattle.posix_calls.specs.Operations.{is_client}
 use Rattle.posix_calls.specs.declared.call.Call.{Call}
-use Rattle.area_reader.specs.Store.{disk, marks}
-use Rattle.kernel_fs.specs.KernelView.{KernelView}
-use Rattle.kernel_fs.specs.MachineState.{IsKernelOf}
-use Rattle.file_graph.specs.Graph.{is_among}
-use Rattle.update_log.specs.RecordCounts.{next_generation}
-use Rattle.update_log.specs.View.{records_of}
-use Rattle.libfs.specs.SealedRegion.{SealedRegionView, log_of}
-use Rattle.world_invariant.specs.Machine.{Sealed}
-use Rattle.world_invariant.specs.World.{Client, at}
+use Rattle.event_steps.specs.area_reader.Store.{disk, marks}
+use Rattle.event_steps.specs.kernel_fs.KernelView.{KernelView}
+use Rattle.event_steps.specs.kernel_fs.MachineState.{IsKernelOf}
+use Rattle.event_steps.specs.file_graph.Graph.{is_among}
+use Rattle.event_steps.specs.update_log.RecordCounts.{next_generation}
+use Rattle.event_steps.specs.update_log.View.{records_of}
+use Rattle.event_steps.specs.libfs.SealedRegion.{SealedRegionView, log_of}
+use Rattle.event_steps.specs.world_invariant.Machine.{Sealed}
+use Rattle.event_steps.specs.world_invariant.World.{Client, at}
 use Rattle.event_steps.specs.Regions.{HasAccepted, IsAccepted, IsAwayRead}
 use Rattle.event_steps.specs.Sound.{IsAwayFrom, number_of}
 use Rattle.event_steps.specs.View.{SeatView}

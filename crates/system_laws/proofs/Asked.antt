@@ -7,15 +7,15 @@ use Rattle.tier_device.specs.declared.media.Tier.{Tier}
 use Rattle.tier_device.specs.AfterStop.{Left}
 use Rattle.posix_calls.specs.Operations.{is_client}
 use Rattle.posix_calls.specs.Run.{Run}
-use Rattle.area_reader.specs.Store.{disk, marks}
-use Rattle.batch_journal.specs.Course.{Unmoved}
-use Rattle.kernel_fs.specs.Book.{IsBookOf}
-use Rattle.kernel_fs.specs.KernelView.{KernelView}
-use Rattle.kernel_fs.specs.MachineState.{IsKernelOf}
-use Rattle.layout.specs.declared.marks.Marks.{Marks}
-use Rattle.update_log.specs.View.{HasSize}
-use Rattle.world_invariant.specs.Invariant.{IsCoherent}
-use Rattle.world_invariant.specs.World.{Account, Client, World, at, moved_world, world_state}
+use Rattle.event_steps.specs.area_reader.Store.{disk, marks}
+use Rattle.event_steps.specs.batch_journal.Course.{Unmoved}
+use Rattle.event_steps.specs.kernel_fs.Book.{IsBookOf}
+use Rattle.event_steps.specs.kernel_fs.KernelView.{KernelView}
+use Rattle.event_steps.specs.kernel_fs.MachineState.{IsKernelOf}
+use Rattle.event_steps.specs.layout.declared.marks.Marks.{Marks}
+use Rattle.event_steps.specs.update_log.View.{HasSize}
+use Rattle.event_steps.specs.world_invariant.Invariant.{IsCoherent}
+use Rattle.event_steps.specs.world_invariant.World.{Account, Client, World, at, moved_world, world_state}
 use Rattle.event_steps.specs.View.{HasSeat, SeatView, SystemView, seat_of}
 use Rattle.event_steps.specs.declared.event.Event.{Event}
 use Rattle.event_steps.specs.declared.outcome.Outcome.{Outcome}

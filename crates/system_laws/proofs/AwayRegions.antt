@@ -8,13 +8,13 @@ use Rattle.tier_device.specs.declared.media.Tier.TheVariants.{Fast}
 use Rattle.posix_calls.specs.Operations.{is_client}
 use Rattle.posix_calls.specs.Run.{Run}
 use Rattle.posix_calls.specs.declared.call.Call.{Call}
-use Rattle.batch_journal.specs.Course.{Unmoved}
-use Rattle.shared_area.specs.UnchangedMedia.{Stays}
-use Rattle.update_log.specs.Frames.{before_gate, spelled_records}
-use Rattle.update_log.specs.View.{HasSize, RegionView, records_of}
-use Rattle.client_log.specs.Calls.{IsOnlyRead}
-use Rattle.libfs.specs.SealedRegion.{SealedRegionView}
-use Rattle.world_invariant.specs.World.{Client, world_state}
+use Rattle.event_steps.specs.batch_journal.Course.{Unmoved}
+use Rattle.event_steps.specs.shared_area.UnchangedMedia.{Stays}
+use Rattle.event_steps.specs.update_log.Frames.{before_gate, spelled_records}
+use Rattle.event_steps.specs.update_log.View.{HasSize, RegionView, records_of}
+use Rattle.event_steps.specs.client_log.Calls.{IsOnlyRead}
+use Rattle.event_steps.specs.libfs.SealedRegion.{SealedRegionView}
+use Rattle.event_steps.specs.world_invariant.World.{Client, world_state}
 use Rattle.event_steps.specs.Sound.{IsAwayFrom}
 use Rattle.event_steps.specs.View.{SeatView, SystemView, seat_of}
 use Rattle.event_steps.specs.declared.event.Event.{Event}

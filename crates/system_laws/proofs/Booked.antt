@@ -4,12 +4,12 @@ use Rattle.std.specs.Prelude.{slice_set}
 use Rattle.std.proofs.lemmas.Bool.{false≢true}
 use Rattle.tier_device.specs.declared.media.Media.{Ghosts}
 use Rattle.posix_calls.specs.Operations.{is_client}
-use Rattle.area_reader.specs.Store.{disk, marks}
-use Rattle.kernel_fs.specs.MachineState.{IsKernelOf}
-use Rattle.libfs.specs.View.{ClientView}
-use Rattle.libfs.specs.declared.denial.Denied.{Denied}
-use Rattle.world_invariant.specs.Invariant.{IsCoherent}
-use Rattle.world_invariant.specs.World.{Client, moved_world, world_state}
+use Rattle.event_steps.specs.area_reader.Store.{disk, marks}
+use Rattle.event_steps.specs.kernel_fs.MachineState.{IsKernelOf}
+use Rattle.event_steps.specs.libfs.View.{ClientView}
+use Rattle.event_steps.specs.libfs.declared.denial.Denied.{Denied}
+use Rattle.event_steps.specs.world_invariant.Invariant.{IsCoherent}
+use Rattle.event_steps.specs.world_invariant.World.{Client, moved_world, world_state}
 use Rattle.event_steps.specs.KernelRequests.{IsBooked}
 use Rattle.event_steps.specs.Outcomes.{noted_refusals}
 use Rattle.event_steps.specs.View.{SeatView, SystemView, seat_of}

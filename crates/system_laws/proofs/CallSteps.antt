@@ -10,22 +10,22 @@ use Rattle.posix_calls.specs.declared.call.Reply.TheVariants as replies
 use Rattle.posix_calls.specs.declared.errno.Errno.TheVariants.{IoError}
 use Rattle.posix_calls.specs.declared.limits.TheConstants.{MAX_CLIENTS}
 use Rattle.posix_calls.specs.Outcome.{Unfinished}
-use Rattle.file_graph.specs.Graph.{is_among}
-use Rattle.update_log.specs.View.{RegionView}
-use Rattle.client_log.specs.HasTurn.{HasTurn}
-use Rattle.client_log.specs.Turns.{turn_of}
-use Rattle.client_log.specs.View.{LogView}
-use Rattle.layout.specs.declared.marks.Mark.{Mark}
-use Rattle.lease_manager.specs.PassLeases.{reads, writes}
-use Rattle.world_invariant.specs.ClientSteps.{with_client}
-use Rattle.world_invariant.specs.Invariant.{IsCoherent}
-use Rattle.world_invariant.specs.Logs.{is_written}
-use Rattle.world_invariant.specs.World.{Account, Client, World, world_state}
-use Rattle.world_invariant.specs.World as world
-use Rattle.libfs.specs.CallStep.{HasFailed, IsGoing}
-use Rattle.libfs.specs.ClientHoldings.{known_to}
-use Rattle.libfs.specs.SealedRegion.{SealedRegionView}
-use Rattle.libfs.specs.View.{ClientView}
+use Rattle.event_steps.specs.file_graph.Graph.{is_among}
+use Rattle.event_steps.specs.update_log.View.{RegionView}
+use Rattle.event_steps.specs.client_log.HasTurn.{HasTurn}
+use Rattle.event_steps.specs.client_log.Turns.{turn_of}
+use Rattle.event_steps.specs.client_log.View.{LogView}
+use Rattle.event_steps.specs.layout.declared.marks.Mark.{Mark}
+use Rattle.event_steps.specs.lease_manager.PassLeases.{reads, writes}
+use Rattle.event_steps.specs.world_invariant.ClientSteps.{with_client}
+use Rattle.event_steps.specs.world_invariant.Invariant.{IsCoherent}
+use Rattle.event_steps.specs.world_invariant.Logs.{is_written}
+use Rattle.event_steps.specs.world_invariant.World.{Account, Client, World, world_state}
+use Rattle.event_steps.specs.world_invariant.World as world
+use Rattle.event_steps.specs.libfs.CallStep.{HasFailed, IsGoing}
+use Rattle.event_steps.specs.libfs.ClientHoldings.{known_to}
+use Rattle.event_steps.specs.libfs.SealedRegion.{SealedRegionView}
+use Rattle.event_steps.specs.libfs.View.{ClientView}
 use Rattle.event_steps.specs.Calls.{IsStepped}
 use Rattle.event_steps.specs.Effects.{MakesAt}
 use Rattle.event_steps.specs.Outcomes.{step_outcome}
@@ -34,7 +34,7 @@ use Rattle.event_steps.specs.Turns.{CanPlay}
 use Rattle.event_steps.specs.View.{SeatView, SystemView, done_of}
 use Rattle.event_steps.specs.declared.event.Event.TheVariants.{Step}
 use Rattle.event_steps.specs.declared.outcome.Outcome.{Outcome}
-use Rattle.world_invariant.proofs.Begins.{turned_holds, turned_tree}
+use Rattle.event_steps.proofs.world_invariant_lemmas.Begins.{turned_holds, turned_tree}
 use Rattle.event_lists.specs.Courses.{Ledger, no_news}
 use Rattle.system_laws.specs.News.{after_step, news}
 use Rattle.system_laws.specs.Parts.{region_of}

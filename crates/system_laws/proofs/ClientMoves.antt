@@ -8,19 +8,19 @@ use Rattle.tier_device.specs.AfterStop.{Left}
 use Rattle.posix_calls.specs.Operations.{is_client}
 use Rattle.posix_calls.specs.declared.call.Call.{Call}
 use Rattle.posix_calls.specs.declared.limits.TheConstants.{MAX_CLIENTS}
-use Rattle.area_reader.specs.Store.{disk, marks}
-use Rattle.file_graph.specs.Graph.{Graph}
-use Rattle.log_record.specs.declared.format.Record.{Record}
-use Rattle.update_log.specs.View.{HasSize}
-use Rattle.kernel_fs.specs.Book.{IsBookOf}
-use Rattle.kernel_fs.specs.KernelView.{KernelView}
-use Rattle.kernel_fs.specs.MachineState.{IsKernelOf}
-use Rattle.layout.specs.Places.{Sizes}
-use Rattle.layout.specs.declared.marks.Marks.{Marks}
-use Rattle.world_invariant.specs.ClientSteps.{with_client}
-use Rattle.world_invariant.specs.Invariant.{IsCoherent}
-use Rattle.world_invariant.specs.Logs.{after_records}
-use Rattle.world_invariant.specs.World.{Account, Client, Kernel, World, at, moved_world}
+use Rattle.event_steps.specs.area_reader.Store.{disk, marks}
+use Rattle.event_steps.specs.file_graph.Graph.{Graph}
+use Rattle.event_steps.specs.log_record.declared.format.Record.{Record}
+use Rattle.event_steps.specs.update_log.View.{HasSize}
+use Rattle.event_steps.specs.kernel_fs.Book.{IsBookOf}
+use Rattle.event_steps.specs.kernel_fs.KernelView.{KernelView}
+use Rattle.event_steps.specs.kernel_fs.MachineState.{IsKernelOf}
+use Rattle.event_steps.specs.layout.Places.{Sizes}
+use Rattle.event_steps.specs.layout.declared.marks.Marks.{Marks}
+use Rattle.event_steps.specs.world_invariant.ClientSteps.{with_client}
+use Rattle.event_steps.specs.world_invariant.Invariant.{IsCoherent}
+use Rattle.event_steps.specs.world_invariant.Logs.{after_records}
+use Rattle.event_steps.specs.world_invariant.World.{Account, Client, Kernel, World, at, moved_world}
 use Rattle.event_steps.specs.View.{HasSeat, SeatView, SystemView, seat_of}
 use Rattle.event_lists.specs.Courses.{Content}
 use Rattle.system_laws.specs.Parts.{region_of}

@@ -6,12 +6,12 @@ use Rattle.posix_calls.specs.Operations.{may_give_up}
 use Rattle.posix_calls.specs.Run.{Run}
 use Rattle.posix_calls.specs.declared.call.Call.{Call}
 use Rattle.posix_calls.specs.declared.call.Reply.TheVariants.{Failed}
-use Rattle.libfs.specs.Denial.{errno_of}
-use Rattle.libfs.specs.declared.denial.Denied.{Denied}
-use Rattle.libfs.specs.declared.denial.Denied.TheVariants as denied_for
-use Rattle.world_invariant.specs.ClientSteps.{with_client}
-use Rattle.world_invariant.specs.Invariant.{IsCoherent}
-use Rattle.world_invariant.specs.World.{World, world_state}
+use Rattle.event_steps.specs.libfs.Denial.{errno_of}
+use Rattle.event_steps.specs.libfs.declared.denial.Denied.{Denied}
+use Rattle.event_steps.specs.libfs.declared.denial.Denied.TheVariants as denied_for
+use Rattle.event_steps.specs.world_invariant.ClientSteps.{with_client}
+use Rattle.event_steps.specs.world_invariant.Invariant.{IsCoherent}
+use Rattle.event_steps.specs.world_invariant.World.{World, world_state}
 use Rattle.event_steps.specs.Effects.{MakesAt}
 use Rattle.event_steps.specs.Outcomes.{refused_then}
 use Rattle.event_steps.specs.Turns.{CanPlay}

@@ -5,28 +5,28 @@ use Rattle.std.proofs.lemmas.List.{length-drop, length-take-le, take-append-drop
 use Rattle.tier_device.specs.declared.media.Media.{Ghosts}
 use Rattle.posix_calls.specs.Operations.{is_client}
 use Rattle.posix_calls.specs.declared.call.Call.{Call}
-use Rattle.area_reader.specs.Store.{Store, disk, graph, marks, store_of}
-use Rattle.batch_journal.specs.Volume.{IsVolume}
-use Rattle.coalescer.specs.Records.{effects_in}
-use Rattle.coalescer.specs.Weight.{IsLongestRun}
-use Rattle.kernel_fs.specs.Book.{waiting_of}
-use Rattle.kernel_fs.specs.KernelView.{KernelView}
-use Rattle.kernel_fs.specs.RegionAccept.{HasAsManyWaiting}
-use Rattle.digester.specs.DigestStep.{IsDigested, OpensDigestedOrNot, StaysOrDigests}
-use Rattle.digester.specs.MarkMoves.{mark_after, mark_of, marks_after}
-use Rattle.digester.specs.SealedLog.{SealedView, StandsAtMark, mark_then, undone}
-use Rattle.layout.specs.declared.marks.Mark.{Mark}
-use Rattle.layout.specs.declared.marks.Marks.{Marks}
-use Rattle.layout.specs.Marks.{marks_of}
-use Rattle.layout.specs.Places.{Sizes}
-use Rattle.file_graph.specs.Graph.{Graph, after_effect, after_effects}
-use Rattle.file_graph.specs.declared.effect.Effect.{Effect}
-use Rattle.log_record.specs.declared.format.Record.{Record}
-use Rattle.update_log.specs.RecordCounts.{next_generation}
-use Rattle.libfs.specs.SealedRegion.{SealedRegionView, log_of}
-use Rattle.world_invariant.specs.KernelSteps.{CanDigest}
-use Rattle.world_invariant.specs.Logs.{after_records}
-use Rattle.world_invariant.specs.World.{Client, World}
+use Rattle.event_steps.specs.area_reader.Store.{Store, disk, graph, marks, store_of}
+use Rattle.event_steps.specs.batch_journal.Volume.{IsVolume}
+use Rattle.event_steps.specs.coalescer.Records.{effects_in}
+use Rattle.event_steps.specs.coalescer.Weight.{IsLongestRun}
+use Rattle.event_steps.specs.kernel_fs.Book.{waiting_of}
+use Rattle.event_steps.specs.kernel_fs.KernelView.{KernelView}
+use Rattle.event_steps.specs.kernel_fs.RegionAccept.{HasAsManyWaiting}
+use Rattle.event_steps.specs.digester.DigestStep.{IsDigested, OpensDigestedOrNot, StaysOrDigests}
+use Rattle.event_steps.specs.digester.MarkMoves.{mark_after, mark_of, marks_after}
+use Rattle.event_steps.specs.digester.SealedLog.{SealedView, StandsAtMark, mark_then, undone}
+use Rattle.event_steps.specs.layout.declared.marks.Mark.{Mark}
+use Rattle.event_steps.specs.layout.declared.marks.Marks.{Marks}
+use Rattle.event_steps.specs.layout.Marks.{marks_of}
+use Rattle.event_steps.specs.layout.Places.{Sizes}
+use Rattle.event_steps.specs.file_graph.Graph.{Graph, after_effect, after_effects}
+use Rattle.event_steps.specs.file_graph.declared.effect.Effect.{Effect}
+use Rattle.event_steps.specs.log_record.declared.format.Record.{Record}
+use Rattle.event_steps.specs.update_log.RecordCounts.{next_generation}
+use Rattle.event_steps.specs.libfs.SealedRegion.{SealedRegionView, log_of}
+use Rattle.event_steps.specs.world_invariant.KernelSteps.{CanDigest}
+use Rattle.event_steps.specs.world_invariant.Logs.{after_records}
+use Rattle.event_steps.specs.world_invariant.World.{Client, World}
 use Rattle.event_steps.specs.Sound.{IsAwayFrom, number_of}
 use Rattle.event_steps.specs.View.{SeatView}
 use Rattle.event_lists.specs.Courses.{Content}

@@ -6,41 +6,41 @@ use Rattle.std.proofs.lemmas.Bool.Decides.{eqb_tells}
 use Rattle.tier_device.specs.declared.media.Media.{Ghosts}
 use Rattle.tier_device.specs.declared.media.Tier.TheVariants.{Fast}
 use Rattle.posix_calls.specs.Operations.{is_client}
-use Rattle.area_reader.specs.Store.{disk, graph, marks, store_of}
-use Rattle.batch_journal.specs.View.{JournalView}
-use Rattle.kernel_fs.specs.Book.{Accounts, IsBookOf, waiting_of}
-use Rattle.kernel_fs.specs.KernelAnswers.{kernel_answer}
-use Rattle.kernel_fs.specs.KernelView.{KernelView}
-use Rattle.kernel_fs.specs.MachineState.{IsKernelOf}
-use Rattle.kernel_fs.specs.RegionAccept.{HasAsManyWaiting}
-use Rattle.kernel_fs.specs.declared.chunk_digest.Digestion.{Digestion}
-use Rattle.kernel_fs.specs.declared.chunk_digest.Digestion.TheVariants as digestion
-use Rattle.kernel_fs.specs.declared.error.KernelError.{KernelError}
-use Rattle.kernel_fs.specs.declared.error.KernelError.TheVariants as why
-use Rattle.digester.specs.DigestStep.{DigestsOrStays, IsDigested}
-use Rattle.digester.specs.MarkMoves.{mark_after}
-use Rattle.digester.specs.SealedLog.{StandsAtMark}
-use Rattle.digester.specs.declared.error.DigestError.{DigestError}
-use Rattle.digester.specs.declared.error.DigestError.TheVariants as digests
-use Rattle.layout.specs.Places.{Sizes}
-use Rattle.layout.specs.declared.marks.Marks.{Marks}
-use Rattle.layout.specs.declared.places.TheConstants.{MARKS_BLOCK}
-use Rattle.file_graph.specs.Graph.{Graph, is_among}
-use Rattle.log_record.specs.declared.format.Record.{Record}
-use Rattle.update_log.specs.View.{RegionView, records_of}
-use Rattle.client_log.specs.HasTurn.{region_at}
-use Rattle.client_log.specs.Turns.{place_of}
-use Rattle.call_effects.specs.Knowledge.{Knowledge}
-use Rattle.libfs.specs.RegionSeal.{HasTakenBack, without_blocks_of}
-use Rattle.libfs.specs.SealedRegion.{SealedRegionView, log_of}
-use Rattle.world_invariant.specs.ClientSteps.{with_client}
-use Rattle.world_invariant.specs.Invariant.{IsCoherent}
-use Rattle.world_invariant.specs.KernelSteps.{CanDigest}
-use Rattle.world_invariant.specs.Logs.{after_records}
-use Rattle.world_invariant.specs.Machine.{IsRunning, account_after, digest}
-use Rattle.world_invariant.specs.World.{Account, Client, World, moved_world, world_state}
-use Rattle.world_invariant.specs.World as world
-use Rattle.shared_area.specs.UnchangedMedia.{Stays}
+use Rattle.event_steps.specs.area_reader.Store.{disk, graph, marks, store_of}
+use Rattle.event_steps.specs.batch_journal.View.{JournalView}
+use Rattle.event_steps.specs.kernel_fs.Book.{Accounts, IsBookOf, waiting_of}
+use Rattle.event_steps.specs.kernel_fs.KernelAnswers.{kernel_answer}
+use Rattle.event_steps.specs.kernel_fs.KernelView.{KernelView}
+use Rattle.event_steps.specs.kernel_fs.MachineState.{IsKernelOf}
+use Rattle.event_steps.specs.kernel_fs.RegionAccept.{HasAsManyWaiting}
+use Rattle.event_steps.specs.kernel_fs.declared.chunk_digest.Digestion.{Digestion}
+use Rattle.event_steps.specs.kernel_fs.declared.chunk_digest.Digestion.TheVariants as digestion
+use Rattle.event_steps.specs.kernel_fs.declared.error.KernelError.{KernelError}
+use Rattle.event_steps.specs.kernel_fs.declared.error.KernelError.TheVariants as why
+use Rattle.event_steps.specs.digester.DigestStep.{DigestsOrStays, IsDigested}
+use Rattle.event_steps.specs.digester.MarkMoves.{mark_after}
+use Rattle.event_steps.specs.digester.SealedLog.{StandsAtMark}
+use Rattle.event_steps.specs.digester.declared.error.DigestError.{DigestError}
+use Rattle.event_steps.specs.digester.declared.error.DigestError.TheVariants as digests
+use Rattle.event_steps.specs.layout.Places.{Sizes}
+use Rattle.event_steps.specs.layout.declared.marks.Marks.{Marks}
+use Rattle.event_steps.specs.layout.declared.places.TheConstants.{MARKS_BLOCK}
+use Rattle.event_steps.specs.file_graph.Graph.{Graph, is_among}
+use Rattle.event_steps.specs.log_record.declared.format.Record.{Record}
+use Rattle.event_steps.specs.update_log.View.{RegionView, records_of}
+use Rattle.event_steps.specs.client_log.HasTurn.{region_at}
+use Rattle.event_steps.specs.client_log.Turns.{place_of}
+use Rattle.event_steps.specs.call_effects.Knowledge.{Knowledge}
+use Rattle.event_steps.specs.libfs.RegionSeal.{HasTakenBack, without_blocks_of}
+use Rattle.event_steps.specs.libfs.SealedRegion.{SealedRegionView, log_of}
+use Rattle.event_steps.specs.world_invariant.ClientSteps.{with_client}
+use Rattle.event_steps.specs.world_invariant.Invariant.{IsCoherent}
+use Rattle.event_steps.specs.world_invariant.KernelSteps.{CanDigest}
+use Rattle.event_steps.specs.world_invariant.Logs.{after_records}
+use Rattle.event_steps.specs.world_invariant.Machine.{IsRunning, account_after, digest}
+use Rattle.event_steps.specs.world_invariant.World.{Account, Client, World, moved_world, world_state}
+use Rattle.event_steps.specs.world_invariant.World as world
+use Rattle.event_steps.specs.shared_area.UnchangedMedia.{Stays}
 use Rattle.event_steps.specs.Effects.{MakesAt}
 use Rattle.event_steps.specs.Regions.{DigestsNext, IsAskedToDigest, IsDigestedOn, IsNotAcceptable, IsNotAccepted, IsNotPrepared, IsPutAway, IsPutBy, digest_outcome}
 use Rattle.event_steps.specs.Sound.{IsAwayFrom, number_of}
@@ -50,8 +50,8 @@ use Rattle.event_steps.specs.declared.event.Event.TheVariants.{Digest}
 use Rattle.event_steps.specs.declared.outcome.Outcome.{Outcome}
 use Rattle.event_steps.specs.declared.outcome.Outcome.TheVariants as outcomes
 use Rattle.event_steps.specs.declared.outcome.Refusal.TheVariants as refusals
-use Rattle.world_invariant.proofs.Digests.{digested_holds, digested_tree}
-use Rattle.world_invariant.proofs.Records.{either}
+use Rattle.event_steps.proofs.world_invariant_lemmas.Digests.{digested_holds, digested_tree}
+use Rattle.event_steps.proofs.world_invariant_lemmas.Records.{either}
 use Rattle.event_lists.specs.Courses.{MovesOnly, PARTS, Reading}
 use Rattle.system_laws.specs.Moves.{Stand}
 use Rattle.system_laws.specs.Parts.{medium_of, region_of}

@@ -3,18 +3,18 @@ use Rattle.std.proofs.Common.{◌≡◌, ◌≢◌, inl, inr, ℕ, Option, Some,
 use Rattle.std.specs.Prelude.{Result, Ok, Err}
 use Rattle.tier_device.specs.declared.media.Media.{Ghosts}
 use Rattle.posix_calls.specs.declared.call.Reply.{Reply}
-use Rattle.area_reader.specs.declared.error.AreaError.{AreaError}
-use Rattle.area_reader.specs.declared.error.AreaError.TheVariants as moves
-use Rattle.kernel_fs.specs.declared.error.KernelError.{KernelError}
-use Rattle.kernel_fs.specs.declared.error.KernelError.TheVariants as kernel
-use Rattle.kernel_fs.specs.declared.error.ReclaimError.{ReclaimError}
-use Rattle.kernel_fs.specs.declared.error.ReclaimError.TheVariants as reclaims
-use Rattle.client_log.specs.declared.error.LogError.{LogError}
-use Rattle.libfs.specs.declared.denial.Denied.{Denied}
-use Rattle.libfs.specs.declared.denial.Denied.TheVariants as denied
-use Rattle.libfs.specs.declared.now.Now.{Now}
-use Rattle.libfs.specs.declared.now.Now.TheVariants as now
-use Rattle.update_log.specs.declared.stage.WipeProgress.{WipeProgress}
+use Rattle.event_steps.specs.area_reader.declared.error.AreaError.{AreaError}
+use Rattle.event_steps.specs.area_reader.declared.error.AreaError.TheVariants as moves
+use Rattle.event_steps.specs.kernel_fs.declared.error.KernelError.{KernelError}
+use Rattle.event_steps.specs.kernel_fs.declared.error.KernelError.TheVariants as kernel
+use Rattle.event_steps.specs.kernel_fs.declared.error.ReclaimError.{ReclaimError}
+use Rattle.event_steps.specs.kernel_fs.declared.error.ReclaimError.TheVariants as reclaims
+use Rattle.event_steps.specs.client_log.declared.error.LogError.{LogError}
+use Rattle.event_steps.specs.libfs.declared.denial.Denied.{Denied}
+use Rattle.event_steps.specs.libfs.declared.denial.Denied.TheVariants as denied
+use Rattle.event_steps.specs.libfs.declared.now.Now.{Now}
+use Rattle.event_steps.specs.libfs.declared.now.Now.TheVariants as now
+use Rattle.event_steps.specs.update_log.declared.stage.WipeProgress.{WipeProgress}
 use Rattle.event_steps.specs.Effects.{Plays}
 use Rattle.event_steps.specs.Media.{move_outcome, reclaim_outcome}
 use Rattle.event_steps.specs.Outcomes.{request_outcome, start_outcome, step_outcome}

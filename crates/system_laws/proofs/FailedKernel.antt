@@ -6,9 +6,9 @@ use Rattle.posix_calls.specs.Operations.{is_client}
 use Rattle.posix_calls.specs.Outcome.{Unfinished}
 use Rattle.posix_calls.specs.Run.{Run}
 use Rattle.posix_calls.specs.declared.call.Call.{Call}
-use Rattle.world_invariant.specs.ClientSteps.{with_client}
-use Rattle.world_invariant.specs.Invariant.{IsCoherent}
-use Rattle.world_invariant.specs.World.{World, world_state}
+use Rattle.event_steps.specs.world_invariant.ClientSteps.{with_client}
+use Rattle.event_steps.specs.world_invariant.Invariant.{IsCoherent}
+use Rattle.event_steps.specs.world_invariant.World.{World, world_state}
 use Rattle.event_steps.specs.View.{SeatView, SystemView, seat_of}
 use Rattle.event_steps.specs.declared.event.Event.{Event}
 use Rattle.event_steps.specs.declared.event.Event.TheVariants as event

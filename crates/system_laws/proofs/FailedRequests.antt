@@ -4,8 +4,8 @@ use Rattle.std.specs.Prelude.{slice_set, Result, Ok, Err, OnErr, OnOk}
 use Rattle.std.proofs.lemmas.Bool.{false≢true}
 use Rattle.tier_device.specs.declared.media.Media.{Ghosts}
 use Rattle.posix_calls.specs.Operations.{is_client}
-use Rattle.libfs.specs.declared.denial.Denied.{Denied}
-use Rattle.kernel_fs.specs.KernelView.{KernelView}
+use Rattle.event_steps.specs.libfs.declared.denial.Denied.{Denied}
+use Rattle.event_steps.specs.kernel_fs.KernelView.{KernelView}
 use Rattle.event_steps.specs.Effects.{Makes, MakesAt}
 use Rattle.event_steps.specs.KernelRequests.{IsBooked}
 use Rattle.event_steps.specs.Outcomes.{noted_refusals}

@@ -3,22 +3,22 @@ use Rattle.std.proofs.Common.{◌≡◌, ◌⊎◌, inl, inr, ℕ, ◌-◌, Bool
 use Rattle.std.specs.Prelude.{IfSome, slice_set}
 use Rattle.tier_device.specs.declared.media.Media.{Ghosts}
 use Rattle.posix_calls.specs.Operations.{is_client}
-use Rattle.area_reader.specs.Store.{disk}
-use Rattle.call_effects.specs.Blocks.{block_of, range_by}
-use Rattle.call_effects.specs.Knowledge.{IsPlanned, Knowledge, part_of}
-use Rattle.kernel_fs.specs.MachineState.{IsMarkIn}
-use Rattle.digester.specs.MarkMoves.{mark_of}
-use Rattle.layout.specs.declared.marks.Mark.{Mark}
-use Rattle.lease_manager.specs.Passes.{client_of}
-use Rattle.libfs.specs.ClientHoldings.{known_to}
-use Rattle.libfs.specs.NeedService.{shared_by}
-use Rattle.libfs.specs.View.{ClientView}
-use Rattle.file_graph.specs.Graph.{Graph, file_bytes, is_among}
-use Rattle.log_record.specs.declared.format.Record.{Record}
-use Rattle.world_invariant.specs.ClientSteps.{with_client}
-use Rattle.world_invariant.specs.Invariant.{IsCoherent}
-use Rattle.world_invariant.specs.World.{World, has_lease, held_descriptors, log_of, whole_graph, world_state}
-use Rattle.world_invariant.specs.World as world
+use Rattle.event_steps.specs.area_reader.Store.{disk}
+use Rattle.event_steps.specs.call_effects.Blocks.{block_of, range_by}
+use Rattle.event_steps.specs.call_effects.Knowledge.{IsPlanned, Knowledge, part_of}
+use Rattle.event_steps.specs.kernel_fs.MachineState.{IsMarkIn}
+use Rattle.event_steps.specs.digester.MarkMoves.{mark_of}
+use Rattle.event_steps.specs.layout.declared.marks.Mark.{Mark}
+use Rattle.event_steps.specs.lease_manager.Passes.{client_of}
+use Rattle.event_steps.specs.libfs.ClientHoldings.{known_to}
+use Rattle.event_steps.specs.libfs.NeedService.{shared_by}
+use Rattle.event_steps.specs.libfs.View.{ClientView}
+use Rattle.event_steps.specs.file_graph.Graph.{Graph, file_bytes, is_among}
+use Rattle.event_steps.specs.log_record.declared.format.Record.{Record}
+use Rattle.event_steps.specs.world_invariant.ClientSteps.{with_client}
+use Rattle.event_steps.specs.world_invariant.Invariant.{IsCoherent}
+use Rattle.event_steps.specs.world_invariant.World.{World, has_lease, held_descriptors, log_of, whole_graph, world_state}
+use Rattle.event_steps.specs.world_invariant.World as world
 use Rattle.event_steps.specs.Effects.{MakesAt}
 use Rattle.event_steps.specs.KernelRequests.{GetsBlocks, HasNoSuchBlocks}
 use Rattle.event_steps.specs.Outcomes.{noted_refusals}
@@ -26,11 +26,11 @@ use Rattle.event_steps.specs.Turns.{CanPlay, IsHeld}
 use Rattle.event_steps.specs.View.{SeatView, SystemView}
 use Rattle.event_steps.specs.declared.event.Event.TheVariants.{Blocks}
 use Rattle.event_steps.specs.declared.outcome.Outcome.{Outcome}
-use Rattle.client_view.specs.After.{block_laid, bytes_at}
-use Rattle.client_view.specs.BlockPut.{IsBlockLong}
-use Rattle.client_view.proofs.Laid.{block_is}
-use Rattle.world_invariant.proofs.Bytes.{same_call, same_effects}
-use Rattle.world_invariant.proofs.Fetches.{view_is}
+use Rattle.event_steps.specs.client_view.After.{block_laid, bytes_at}
+use Rattle.event_steps.specs.client_view.BlockPut.{IsBlockLong}
+use Rattle.event_steps.proofs.client_view_lemmas.Laid.{block_is}
+use Rattle.event_steps.proofs.world_invariant_lemmas.Bytes.{same_call, same_effects}
+use Rattle.event_steps.proofs.world_invariant_lemmas.Fetches.{view_is}
 use Rattle.system_laws.specs.Leaves.{IsSettledAt}
 use Rattle.system_laws.specs.Steps.{IsBegunIn, IsStep}
 use Rattle.system_laws.specs.WorldView.{WorldView}

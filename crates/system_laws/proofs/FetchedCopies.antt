@@ -6,32 +6,32 @@ use Rattle.tier_device.specs.declared.media.Media.{Ghosts}
 use Rattle.posix_calls.specs.Operations.{is_client}
 use Rattle.posix_calls.specs.Tree.{Own}
 use Rattle.posix_calls.specs.declared.call.Call.{Call}
-use Rattle.area_reader.specs.Store.{disk}
-use Rattle.call_effects.specs.Knowledge.{Agrees, IsPlanned, Knowledge, with_copy}
-use Rattle.call_effects.specs.NodeView.{NodeView, view_at, view_of_node}
-use Rattle.kernel_fs.specs.MachineState.{IsMarkIn}
-use Rattle.digester.specs.MarkMoves.{mark_of}
-use Rattle.layout.specs.declared.marks.Mark.{Mark}
-use Rattle.layout.specs.declared.marks.Marks.{Marks}
-use Rattle.lease_manager.specs.PassLeases.{is_reading, is_writing, reads, writes}
-use Rattle.lease_manager.specs.Passes.{client_of, lease_of}
-use Rattle.lease_manager.specs.Words.{HasWord}
-use Rattle.lease_manager.specs.declared.view.LeaseMode.{LeaseMode}
-use Rattle.lease_manager.specs.declared.view.LeaseMode.TheVariants.{Free, Reading, Trying, Writing}
-use Rattle.libfs.specs.ClientHoldings.{known_to}
-use Rattle.libfs.specs.NeedService.{GetsNode, HasFetched, HasLooked, records_behind, shared_by}
-use Rattle.libfs.specs.View.{ClientView}
-use Rattle.client_log.specs.View.{current_records}
-use Rattle.libfs.specs.declared.begun_record.Begun.{Begun}
-use Rattle.libfs.specs.declared.denial.Denied.{Denied}
-use Rattle.file_graph.specs.Graph.{Graph, Node, is_among}
-use Rattle.file_graph.specs.Numbers.{is_inode}
-use Rattle.log_record.specs.declared.format.Record.{Record}
-use Rattle.world_invariant.specs.ClientParts.{IsSoundPart}
-use Rattle.world_invariant.specs.ClientSteps.{with_client}
-use Rattle.world_invariant.specs.Invariant.{IsCoherent}
-use Rattle.world_invariant.specs.World.{Account, Client, World, has_lease, log_of, held_descriptors, undigested_records, whole_graph, world_state}
-use Rattle.world_invariant.specs.World as world
+use Rattle.event_steps.specs.area_reader.Store.{disk}
+use Rattle.event_steps.specs.call_effects.Knowledge.{Agrees, IsPlanned, Knowledge, with_copy}
+use Rattle.event_steps.specs.call_effects.NodeView.{NodeView, view_at, view_of_node}
+use Rattle.event_steps.specs.kernel_fs.MachineState.{IsMarkIn}
+use Rattle.event_steps.specs.digester.MarkMoves.{mark_of}
+use Rattle.event_steps.specs.layout.declared.marks.Mark.{Mark}
+use Rattle.event_steps.specs.layout.declared.marks.Marks.{Marks}
+use Rattle.event_steps.specs.lease_manager.PassLeases.{is_reading, is_writing, reads, writes}
+use Rattle.event_steps.specs.lease_manager.Passes.{client_of, lease_of}
+use Rattle.event_steps.specs.lease_manager.Words.{HasWord}
+use Rattle.event_steps.specs.lease_manager.declared.view.LeaseMode.{LeaseMode}
+use Rattle.event_steps.specs.lease_manager.declared.view.LeaseMode.TheVariants.{Free, Reading, Trying, Writing}
+use Rattle.event_steps.specs.libfs.ClientHoldings.{known_to}
+use Rattle.event_steps.specs.libfs.NeedService.{GetsNode, HasFetched, HasLooked, records_behind, shared_by}
+use Rattle.event_steps.specs.libfs.View.{ClientView}
+use Rattle.event_steps.specs.client_log.View.{current_records}
+use Rattle.event_steps.specs.libfs.declared.begun_record.Begun.{Begun}
+use Rattle.event_steps.specs.libfs.declared.denial.Denied.{Denied}
+use Rattle.event_steps.specs.file_graph.Graph.{Graph, Node, is_among}
+use Rattle.event_steps.specs.file_graph.Numbers.{is_inode}
+use Rattle.event_steps.specs.log_record.declared.format.Record.{Record}
+use Rattle.event_steps.specs.world_invariant.ClientParts.{IsSoundPart}
+use Rattle.event_steps.specs.world_invariant.ClientSteps.{with_client}
+use Rattle.event_steps.specs.world_invariant.Invariant.{IsCoherent}
+use Rattle.event_steps.specs.world_invariant.World.{Account, Client, World, has_lease, log_of, held_descriptors, undigested_records, whole_graph, world_state}
+use Rattle.event_steps.specs.world_invariant.World as world
 use Rattle.event_steps.specs.Effects.{MakesAt}
 use Rattle.event_steps.specs.KernelRequests.{AnswersFetch, HasAsked, HasNoneMeanwhile}
 use Rattle.event_steps.specs.Outcomes.{noted_refusals}
@@ -41,13 +41,13 @@ use Rattle.event_steps.specs.Turns.{CanPlay, IsHeld}
 use Rattle.event_steps.specs.View.{SeatView, SystemView, seat_of}
 use Rattle.event_steps.specs.declared.event.Event.TheVariants.{Fetch}
 use Rattle.event_steps.specs.declared.outcome.Outcome.{Outcome}
-use Rattle.client_view.specs.KnowledgeTables.{block_by, size_known}
-use Rattle.world_invariant.specs.LeaseSteps.{CanFetch, own_view}
-use Rattle.world_invariant.specs.Logs.{is_written}
-use Rattle.world_invariant.proofs.Begins.{tree_same}
-use Rattle.world_invariant.proofs.Fetches.{fetched_holds, fetched_tree}
-use Rattle.world_invariant.proofs.Moved.{after_less, before_less, booked_same, quiet}
-use Rattle.world_invariant.proofs.Records.{records_stay}
+use Rattle.event_steps.specs.client_view.KnowledgeTables.{block_by, size_known}
+use Rattle.event_steps.specs.world_invariant.LeaseSteps.{CanFetch, own_view}
+use Rattle.event_steps.specs.world_invariant.Logs.{is_written}
+use Rattle.event_steps.proofs.world_invariant_lemmas.Begins.{tree_same}
+use Rattle.event_steps.proofs.world_invariant_lemmas.Fetches.{fetched_holds, fetched_tree}
+use Rattle.event_steps.proofs.world_invariant_lemmas.Moved.{after_less, before_less, booked_same, quiet}
+use Rattle.event_steps.proofs.world_invariant_lemmas.Records.{records_stay}
 use Rattle.system_laws.specs.Leaves.{IsSettledAt}
 use Rattle.system_laws.specs.Relation.{Cut, IsBegunAs, IsClientOf, IsWorldOf, StandsMarked}
 use Rattle.system_laws.specs.Steps.{IsBegunIn, IsStep}

@@ -6,18 +6,18 @@ use Rattle.tier_device.specs.declared.media.Media.{Ghosts}
 use Rattle.posix_calls.specs.Operations.{is_client}
 use Rattle.posix_calls.specs.declared.call.Call.{Call}
 use Rattle.posix_calls.specs.declared.limits.TheConstants.{MAX_CLIENTS}
-use Rattle.log_record.specs.declared.format.Record.{Record}
-use Rattle.layout.specs.Places.{Sizes}
-use Rattle.layout.specs.declared.marks.Marks.{Marks}
-use Rattle.kernel_fs.specs.Book.{IsBookOf}
-use Rattle.kernel_fs.specs.MachineState.{IsKernelOf}
-use Rattle.update_log.specs.View.{HasSize}
-use Rattle.world_invariant.specs.ClientSteps.{with_client}
-use Rattle.world_invariant.specs.Logs.{after_records}
-use Rattle.world_invariant.specs.Invariant.{IsCoherent}
-use Rattle.world_invariant.specs.World.{Account, Client, Kernel, World, at}
+use Rattle.event_steps.specs.log_record.declared.format.Record.{Record}
+use Rattle.event_steps.specs.layout.Places.{Sizes}
+use Rattle.event_steps.specs.layout.declared.marks.Marks.{Marks}
+use Rattle.event_steps.specs.kernel_fs.Book.{IsBookOf}
+use Rattle.event_steps.specs.kernel_fs.MachineState.{IsKernelOf}
+use Rattle.event_steps.specs.update_log.View.{HasSize}
+use Rattle.event_steps.specs.world_invariant.ClientSteps.{with_client}
+use Rattle.event_steps.specs.world_invariant.Logs.{after_records}
+use Rattle.event_steps.specs.world_invariant.Invariant.{IsCoherent}
+use Rattle.event_steps.specs.world_invariant.World.{Account, Client, Kernel, World, at}
 use Rattle.event_steps.specs.View.{SeatView, SystemView, seat_of}
-use Rattle.world_invariant.proofs.Moved.{at_same}
+use Rattle.event_steps.proofs.world_invariant_lemmas.Moved.{at_same}
 use Rattle.event_lists.specs.Courses.{Content}
 use Rattle.system_laws.specs.Parts.{region_of}
 use Rattle.system_laws.specs.Relation.{Cut, IsClientOf, IsWorldOf, SpellsAfter, SpellsShared, StandsMarked, marks_digested}

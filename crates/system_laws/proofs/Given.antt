@@ -1,8 +1,8 @@
 -- What the laws of events rest on: the tree of a system is that of its world, and whatever a stop leaves is recovered.
 use Rattle.std.proofs.Common.{◌≡◌, ℕ}
 use Rattle.tier_device.specs.declared.media.Media.{Ghosts}
-use Rattle.layout.specs.declared.marks.Marks.{Marks}
-use Rattle.world_invariant.specs.World.{World, world_state}
+use Rattle.event_steps.specs.layout.declared.marks.Marks.{Marks}
+use Rattle.event_steps.specs.world_invariant.World.{World, world_state}
 use Rattle.event_lists.specs.Courses.{LeftBetween, WorldContent}
 use Rattle.event_lists.specs.Plays.{StopsNow}
 use Rattle.system_laws.specs.Leaves.{SystemLeaves}

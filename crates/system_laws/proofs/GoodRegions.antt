@@ -4,22 +4,22 @@ use Rattle.std.proofs.lemmas.List.{length-drop, take-append-drop}
 use Rattle.tier_device.specs.declared.media.Media.{Ghosts}
 use Rattle.posix_calls.specs.Operations.{is_client}
 use Rattle.posix_calls.specs.declared.call.Call.{Call}
-use Rattle.kernel_fs.specs.RegionAccept.{IsRegionOf}
-use Rattle.digester.specs.SealedLog.{SealedView, undone}
-use Rattle.layout.specs.declared.marks.Mark.{Mark}
-use Rattle.libfs.specs.View.{ClientView}
-use Rattle.file_graph.specs.Graph.{is_among}
-use Rattle.log_record.specs.declared.format.Record.{Record}
-use Rattle.libfs.specs.SealedRegion.{SealedRegionView, log_of}
-use Rattle.world_invariant.specs.Invariant.{IsCoherent}
-use Rattle.world_invariant.specs.Logs.{is_written}
-use Rattle.world_invariant.specs.Machine.{Sealed, StandsSealed, sealed_of}
-use Rattle.world_invariant.specs.World.{Account, Client, World}
+use Rattle.event_steps.specs.kernel_fs.RegionAccept.{IsRegionOf}
+use Rattle.event_steps.specs.digester.SealedLog.{SealedView, undone}
+use Rattle.event_steps.specs.layout.declared.marks.Mark.{Mark}
+use Rattle.event_steps.specs.libfs.View.{ClientView}
+use Rattle.event_steps.specs.file_graph.Graph.{is_among}
+use Rattle.event_steps.specs.log_record.declared.format.Record.{Record}
+use Rattle.event_steps.specs.libfs.SealedRegion.{SealedRegionView, log_of}
+use Rattle.event_steps.specs.world_invariant.Invariant.{IsCoherent}
+use Rattle.event_steps.specs.world_invariant.Logs.{is_written}
+use Rattle.event_steps.specs.world_invariant.Machine.{Sealed, StandsSealed, sealed_of}
+use Rattle.event_steps.specs.world_invariant.World.{Account, Client, World}
 use Rattle.event_steps.specs.Sound.{IsAwayFrom, IsSeated, number_of}
 use Rattle.event_steps.specs.View.{SeatView, done_of}
-use Rattle.world_invariant.proofs.Machines.{sealed_stands}
-use Rattle.world_invariant.proofs.PartsStand.{sealed_leases}
-use Rattle.world_invariant.proofs.Records.{either, rest_written}
+use Rattle.event_steps.proofs.world_invariant_lemmas.Machines.{sealed_stands}
+use Rattle.event_steps.proofs.world_invariant_lemmas.PartsStand.{sealed_leases}
+use Rattle.event_steps.proofs.world_invariant_lemmas.Records.{either, rest_written}
 use Rattle.system_laws.specs.Relation.{IsClientOf, StandsMarked, accepted_of}
 use Rattle.system_laws.proofs.AwayRegions.{with_away}
 

@@ -3,19 +3,19 @@ use Rattle.std.proofs.Common.{◌≡◌, ◌⊎◌, inl, inr, ℕ, ◌+◌, ◌-
 use Rattle.std.proofs.lemmas.Bool.{false≢true}
 use Rattle.posix_calls.specs.Tree.{sum_up_to}
 use Rattle.posix_calls.specs.Operations.{is_client}
-use Rattle.call_effects.specs.Knowledge.{Agrees}
-use Rattle.libfs.specs.NeedService.{with_numbers}
-use Rattle.file_graph.specs.Units.{charge}
-use Rattle.world_invariant.specs.BookSteps.{HasRoom, IsUnbooked}
-use Rattle.world_invariant.specs.ClientParts.{IsBooked, IsSoundPart}
-use Rattle.world_invariant.specs.Invariant.{IsCoherent}
-use Rattle.world_invariant.specs.Logs.{is_made_in, units_in}
-use Rattle.world_invariant.specs.World.{Account, Client, World, at, held_descriptors, log_of, moved_world, records_of, whole_graph, world_state}
-use Rattle.world_invariant.proofs.Begins.{tree_same}
-use Rattle.world_invariant.proofs.Books.{booked_fewer, unbooked_new}
-use Rattle.world_invariant.proofs.Idle.{none_some}
-use Rattle.world_invariant.proofs.Moved.{after_less, before_less, booked_moved, quiet, units_moved}
-use Rattle.call_effects.proofs.Served.{less_agrees}
+use Rattle.event_steps.specs.call_effects.Knowledge.{Agrees}
+use Rattle.event_steps.specs.libfs.NeedService.{with_numbers}
+use Rattle.event_steps.specs.file_graph.Units.{charge}
+use Rattle.event_steps.specs.world_invariant.BookSteps.{HasRoom, IsUnbooked}
+use Rattle.event_steps.specs.world_invariant.ClientParts.{IsBooked, IsSoundPart}
+use Rattle.event_steps.specs.world_invariant.Invariant.{IsCoherent}
+use Rattle.event_steps.specs.world_invariant.Logs.{is_made_in, units_in}
+use Rattle.event_steps.specs.world_invariant.World.{Account, Client, World, at, held_descriptors, log_of, moved_world, records_of, whole_graph, world_state}
+use Rattle.event_steps.proofs.world_invariant_lemmas.Begins.{tree_same}
+use Rattle.event_steps.proofs.world_invariant_lemmas.Books.{booked_fewer, unbooked_new}
+use Rattle.event_steps.proofs.world_invariant_lemmas.Idle.{none_some}
+use Rattle.event_steps.proofs.world_invariant_lemmas.Moved.{after_less, before_less, booked_moved, quiet, units_moved}
+use Rattle.event_steps.proofs.call_effects_lemmas.Served.{less_agrees}
 use Rattle.system_laws.proofs.Supplies.{account_with}
 
 in_one : (a b : Bool) → (a || b) ≡ true → (a ≡ true) ⊎ (b ≡ true)

@@ -8,32 +8,32 @@ use Rattle.tier_device.specs.declared.media.Media.{Ghosts}
 use Rattle.tier_device.specs.declared.media.Tier.TheVariants as tiers
 use Rattle.posix_calls.specs.Operations.{is_client}
 use Rattle.posix_calls.specs.declared.call.Call.{Call}
-use Rattle.file_graph.specs.Graph.{is_among}
-use Rattle.layout.specs.declared.marks.Mark.{Mark}
-use Rattle.layout.specs.declared.marks.Marks.{Marks}
-use Rattle.area_reader.specs.Store.{disk, graph}
-use Rattle.file_graph.specs.Numbers.{is_inode}
-use Rattle.lease_manager.specs.PassLeases.{is_reading, is_writing}
-use Rattle.lease_manager.specs.Passes.{PassView, lease_of}
-use Rattle.lease_manager.specs.Words.{HasWord}
-use Rattle.lease_manager.specs.declared.view.LeaseMode.{LeaseMode}
-use Rattle.lease_manager.specs.declared.view.LeaseMode.TheVariants.{Free}
-use Rattle.digester.specs.MarkMoves.{mark_of}
-use Rattle.kernel_fs.specs.MachineState.{StandBeforeRegions}
-use Rattle.client_log.specs.Calls.{IsOnlyRead}
-use Rattle.client_log.specs.HasTurn.{HasTurn, region_at}
-use Rattle.client_log.specs.Regions.{in_turn}
-use Rattle.client_log.specs.Turns.{place_of, turn_of}
-use Rattle.libfs.specs.declared.begun_record.Begun.{Begun}
-use Rattle.update_log.specs.View.{HasSize, RegionView}
-use Rattle.world_invariant.specs.FormatWorld.{idle_account, idle_client, idle_world, knows_nothing}
-use Rattle.libfs.specs.ClientHoldings.{known_to}
-use Rattle.libfs.specs.SealedRegion.{SealedRegionView}
-use Rattle.world_invariant.specs.World as world
+use Rattle.event_steps.specs.file_graph.Graph.{is_among}
+use Rattle.event_steps.specs.layout.declared.marks.Mark.{Mark}
+use Rattle.event_steps.specs.layout.declared.marks.Marks.{Marks}
+use Rattle.event_steps.specs.area_reader.Store.{disk, graph}
+use Rattle.event_steps.specs.file_graph.Numbers.{is_inode}
+use Rattle.event_steps.specs.lease_manager.PassLeases.{is_reading, is_writing}
+use Rattle.event_steps.specs.lease_manager.Passes.{PassView, lease_of}
+use Rattle.event_steps.specs.lease_manager.Words.{HasWord}
+use Rattle.event_steps.specs.lease_manager.declared.view.LeaseMode.{LeaseMode}
+use Rattle.event_steps.specs.lease_manager.declared.view.LeaseMode.TheVariants.{Free}
+use Rattle.event_steps.specs.digester.MarkMoves.{mark_of}
+use Rattle.event_steps.specs.kernel_fs.MachineState.{StandBeforeRegions}
+use Rattle.event_steps.specs.client_log.Calls.{IsOnlyRead}
+use Rattle.event_steps.specs.client_log.HasTurn.{HasTurn, region_at}
+use Rattle.event_steps.specs.client_log.Regions.{in_turn}
+use Rattle.event_steps.specs.client_log.Turns.{place_of, turn_of}
+use Rattle.event_steps.specs.libfs.declared.begun_record.Begun.{Begun}
+use Rattle.event_steps.specs.update_log.View.{HasSize, RegionView}
+use Rattle.event_steps.specs.world_invariant.FormatWorld.{idle_account, idle_client, idle_world, knows_nothing}
+use Rattle.event_steps.specs.libfs.ClientHoldings.{known_to}
+use Rattle.event_steps.specs.libfs.SealedRegion.{SealedRegionView}
+use Rattle.event_steps.specs.world_invariant.World as world
 use Rattle.event_steps.specs.View.{SeatView, SystemView, done_of}
-use Rattle.world_invariant.proofs.Idle.{idle_holds}
-use Rattle.world_invariant.proofs.Owners.{is_high, is_low}
-use Rattle.file_graph.proofs.Fields.{some_is}
+use Rattle.event_steps.proofs.world_invariant_lemmas.Idle.{idle_holds}
+use Rattle.event_steps.proofs.world_invariant_lemmas.Owners.{is_high, is_low}
+use Rattle.event_steps.proofs.file_graph_lemmas.Fields.{some_is}
 use Rattle.system_laws.specs.Contents.{mark_by}
 use Rattle.system_laws.specs.Idle.{IsIdleSeat, IsIdleSystem}
 use Rattle.system_laws.specs.KeptCalls.{no_calls}

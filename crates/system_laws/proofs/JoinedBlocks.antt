@@ -3,7 +3,7 @@ use Rattle.std.proofs.Common.{◌≡◌, ℕ, zero, suc, ◌-◌, ◌*◌, ◌<�
 use Rattle.std.proofs.Math.Decide.{dec_le}
 use Rattle.std.proofs.Math.Seq.{drop-append_seam}
 use Rattle.std.proofs.lemmas.List.{append-nil, drop-append-le, drop_all, length-append, length-drop, take-append-le, take_all}
-use Rattle.call_effects.specs.Blocks.{block_of}
+use Rattle.event_steps.specs.call_effects.Blocks.{block_of}
 
 -- so many of them, one behind the other
 pub joined : (ℕ → List ℕ) → ℕ → List ℕ

@@ -4,11 +4,11 @@ use Rattle.std.specs.Prelude.{option_map, unwrap_or}
 use Rattle.std.proofs.lemmas.Bool.Decides.{eqb_tells}
 use Rattle.std.proofs.lemmas.List.{length-drop, length-take}
 use Rattle.posix_calls.specs.Tree.{Descriptors}
-use Rattle.call_effects.specs.Blocks.{block_at, block_of}
-use Rattle.call_effects.specs.Knowledge.{Agrees, IsGone, IsPutBack, Knowledge}
-use Rattle.call_effects.specs.NodeView.{FileView, NodeView, view_at, view_of_node}
-use Rattle.file_graph.specs.Graph.{DirBody, FileBody, Graph, Node, file_bytes}
-use Rattle.client_view.specs.BlockPut.{IsBlockLong}
+use Rattle.event_steps.specs.call_effects.Blocks.{block_at, block_of}
+use Rattle.event_steps.specs.call_effects.Knowledge.{Agrees, IsGone, IsPutBack, Knowledge}
+use Rattle.event_steps.specs.call_effects.NodeView.{FileView, NodeView, view_at, view_of_node}
+use Rattle.event_steps.specs.file_graph.Graph.{DirBody, FileBody, Graph, Node, file_bytes}
+use Rattle.event_steps.specs.client_view.BlockPut.{IsBlockLong}
 use Rattle.system_laws.proofs.JoinedBlocks.{whole_block, whole_file, whole_long}
 
 -- a view of a file is one of its bytes

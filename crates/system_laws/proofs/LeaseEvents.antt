@@ -4,14 +4,14 @@ use Rattle.std.specs.Prelude.{slice_index_or, slice_set, nat_le}
 use Rattle.std.proofs.lemmas.Bool.{and_parts, cases_lt, false≢true}
 use Rattle.std.proofs.lemmas.Bool.Decides.{eqb_tells, nat_tests}
 use Rattle.std.proofs.lemmas.List.{get_or-set_same, get_or-set_other, get_or_past}
-use Rattle.file_graph.specs.Numbers.{is_inode}
-use Rattle.lease_manager.specs.Parts.{AreCompatible}
-use Rattle.lease_manager.specs.Marks.{is_lease}
-use Rattle.lease_manager.specs.Passes.{PassView, lease_of, with_lease, without_lease}
-use Rattle.lease_manager.specs.PassLeases.{is_reading, is_writing, reads, writes}
-use Rattle.lease_manager.specs.Words.{HasWord, lease_place}
-use Rattle.lease_manager.specs.declared.view.LeaseMode.{LeaseMode}
-use Rattle.lease_manager.specs.declared.view.LeaseMode.TheVariants.{Free, Reading, Writing, Trying}
+use Rattle.event_steps.specs.file_graph.Numbers.{is_inode}
+use Rattle.event_steps.specs.lease_manager.Parts.{AreCompatible}
+use Rattle.event_steps.specs.lease_manager.Marks.{is_lease}
+use Rattle.event_steps.specs.lease_manager.Passes.{PassView, lease_of, with_lease, without_lease}
+use Rattle.event_steps.specs.lease_manager.PassLeases.{is_reading, is_writing, reads, writes}
+use Rattle.event_steps.specs.lease_manager.Words.{HasWord, lease_place}
+use Rattle.event_steps.specs.lease_manager.declared.view.LeaseMode.{LeaseMode}
+use Rattle.event_steps.specs.lease_manager.declared.view.LeaseMode.TheVariants.{Free, Reading, Writing, Trying}
 
 -- ---- the pass at one inode
 

@@ -4,27 +4,27 @@ use Rattle.std.specs.Prelude.{slice_set, IfSome}
 use Rattle.std.proofs.lemmas.Bool.{false≢true}
 use Rattle.std.proofs.lemmas.List.Sums.{sum_by-cons}
 use Rattle.tier_device.specs.declared.media.Media.{Ghosts}
-use Rattle.log_record.specs.declared.format.Record.{Record}
-use Rattle.lease_manager.specs.RecordCounts.{touch_count}
-use Rattle.world_invariant.specs.Logs.{is_touched, is_written}
-use Rattle.call_effects.specs.Knowledge.{Knowledge}
-use Rattle.lease_manager.specs.Passes.{PassView, without_lease}
-use Rattle.lease_manager.specs.PassLeases.{is_reading, is_writing}
-use Rattle.lease_manager.specs.declared.view.LeaseMode.TheVariants.{Free}
-use Rattle.libfs.specs.ClientHoldings.{known_to}
-use Rattle.libfs.specs.LeaseCalls.{CanBeGiven}
-use Rattle.libfs.specs.View.{ClientView, begun_record, own_records}
-use Rattle.client_log.specs.View.{current_records}
-use Rattle.update_log.specs.Frames.{with_record}
+use Rattle.event_steps.specs.log_record.declared.format.Record.{Record}
+use Rattle.event_steps.specs.lease_manager.RecordCounts.{touch_count}
+use Rattle.event_steps.specs.world_invariant.Logs.{is_touched, is_written}
+use Rattle.event_steps.specs.call_effects.Knowledge.{Knowledge}
+use Rattle.event_steps.specs.lease_manager.Passes.{PassView, without_lease}
+use Rattle.event_steps.specs.lease_manager.PassLeases.{is_reading, is_writing}
+use Rattle.event_steps.specs.lease_manager.declared.view.LeaseMode.TheVariants.{Free}
+use Rattle.event_steps.specs.libfs.ClientHoldings.{known_to}
+use Rattle.event_steps.specs.libfs.LeaseCalls.{CanBeGiven}
+use Rattle.event_steps.specs.libfs.View.{ClientView, begun_record, own_records}
+use Rattle.event_steps.specs.client_log.View.{current_records}
+use Rattle.event_steps.specs.update_log.Frames.{with_record}
 use Rattle.system_laws.specs.Leaves.{HoldsRecords}
-use Rattle.world_invariant.specs.LeaseSteps.{CanGive, without, without_copies}
-use Rattle.world_invariant.specs.World.{Client, log_of}
+use Rattle.event_steps.specs.world_invariant.LeaseSteps.{CanGive, without, without_copies}
+use Rattle.event_steps.specs.world_invariant.World.{Client, log_of}
 use Rattle.event_steps.specs.Effects.{MakesAt}
 use Rattle.event_steps.specs.Turns.{CanPlay}
 use Rattle.event_steps.specs.View.{SeatView, SystemView}
 use Rattle.event_steps.specs.declared.event.Event.TheVariants.{Give}
 use Rattle.event_steps.specs.declared.outcome.Outcome.{Outcome}
-use Rattle.world_invariant.proofs.Leases.{given_holds, given_tree}
+use Rattle.event_steps.proofs.world_invariant_lemmas.Leases.{given_holds, given_tree}
 use Rattle.system_laws.specs.News.{news}
 use Rattle.system_laws.specs.Steps.{IsBegunIn, IsStep}
 use Rattle.system_laws.specs.WorldView.{WorldView, calls_of}

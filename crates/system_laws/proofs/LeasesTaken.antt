@@ -6,28 +6,28 @@ use Rattle.std.proofs.lemmas.Bool.Decides.{eqb_tells}
 use Rattle.tier_device.specs.declared.media.Media.{Ghosts}
 use Rattle.posix_calls.specs.Operations.{is_client}
 use Rattle.posix_calls.specs.declared.call.Call.{Call}
-use Rattle.file_graph.specs.Numbers.{is_inode}
-use Rattle.lease_manager.specs.Marks.{is_lease}
-use Rattle.lease_manager.specs.Parts.{AreCompatible}
-use Rattle.lease_manager.specs.Passes.{PassView, lease_of, with_lease}
-use Rattle.lease_manager.specs.PassLeases.{is_reading, is_writing, reads, writes}
-use Rattle.lease_manager.specs.Words.{HasWord}
-use Rattle.lease_manager.specs.declared.view.LeaseMode.{LeaseMode}
-use Rattle.lease_manager.specs.declared.view.Part.{Part}
-use Rattle.lease_manager.specs.declared.view.LeaseMode.TheVariants.{Free, Reading, Writing}
-use Rattle.world_invariant.specs.Invariant.{IsCoherent}
-use Rattle.world_invariant.specs.LeaseSteps.{IsUnheld, IsUnwritten, also, without}
-use Rattle.world_invariant.specs.World.{Account, Client, world_state}
-use Rattle.layout.specs.declared.marks.Mark.{Mark}
+use Rattle.event_steps.specs.file_graph.Numbers.{is_inode}
+use Rattle.event_steps.specs.lease_manager.Marks.{is_lease}
+use Rattle.event_steps.specs.lease_manager.Parts.{AreCompatible}
+use Rattle.event_steps.specs.lease_manager.Passes.{PassView, lease_of, with_lease}
+use Rattle.event_steps.specs.lease_manager.PassLeases.{is_reading, is_writing, reads, writes}
+use Rattle.event_steps.specs.lease_manager.Words.{HasWord}
+use Rattle.event_steps.specs.lease_manager.declared.view.LeaseMode.{LeaseMode}
+use Rattle.event_steps.specs.lease_manager.declared.view.Part.{Part}
+use Rattle.event_steps.specs.lease_manager.declared.view.LeaseMode.TheVariants.{Free, Reading, Writing}
+use Rattle.event_steps.specs.world_invariant.Invariant.{IsCoherent}
+use Rattle.event_steps.specs.world_invariant.LeaseSteps.{IsUnheld, IsUnwritten, also, without}
+use Rattle.event_steps.specs.world_invariant.World.{Account, Client, world_state}
+use Rattle.event_steps.specs.layout.declared.marks.Mark.{Mark}
 use Rattle.event_steps.specs.View.{SeatView, SystemView, seat_of}
 use Rattle.event_steps.specs.Effects.{MakesAt}
 use Rattle.event_steps.specs.Leases.{HasPass}
 use Rattle.event_steps.specs.Turns.{CanPlay, HasTurn}
-use Rattle.client_plan.specs.declared.need.Mode.{Mode}
-use Rattle.client_plan.specs.declared.need.Mode.TheVariants.{Read, Write}
+use Rattle.event_steps.specs.client_plan.declared.need.Mode.{Mode}
+use Rattle.event_steps.specs.client_plan.declared.need.Mode.TheVariants.{Read, Write}
 use Rattle.event_steps.specs.declared.outcome.Outcome.TheVariants as outcomes
-use Rattle.libfs.specs.LeaseCalls.{mode_of, refused_pass}
-use Rattle.world_invariant.proofs.Leases.{read_taken_holds, read_taken_tree, write_taken_holds, write_taken_tree}
+use Rattle.event_steps.specs.libfs.LeaseCalls.{mode_of, refused_pass}
+use Rattle.event_steps.proofs.world_invariant_lemmas.Leases.{read_taken_holds, read_taken_tree, write_taken_holds, write_taken_tree}
 use Rattle.event_steps.specs.declared.event.Event.{Event}
 use Rattle.event_steps.specs.declared.event.Event.TheVariants as events
 use Rattle.event_steps.specs.declared.outcome.Outcome.{Outcome}

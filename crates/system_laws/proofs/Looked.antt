@@ -5,23 +5,23 @@ use Rattle.tier_device.specs.declared.media.Media.{Ghosts}
 use Rattle.tier_device.specs.declared.media.Tier.{Tier}
 use Rattle.tier_device.specs.AfterStop.{Left}
 use Rattle.posix_calls.specs.Operations.{is_client}
-use Rattle.area_reader.specs.Store.{disk, marks, store_of}
-use Rattle.kernel_fs.specs.KernelView.{KernelView}
-use Rattle.kernel_fs.specs.MachineState.{IsKernelOf}
-use Rattle.layout.specs.Places.{Sizes}
-use Rattle.layout.specs.declared.marks.Marks.{Marks}
-use Rattle.libfs.specs.NeedService.{HasLooked}
-use Rattle.libfs.specs.View.{ClientView}
-use Rattle.libfs.specs.declared.denial.Denied.{Denied}
-use Rattle.world_invariant.specs.ClientSteps.{with_client}
-use Rattle.world_invariant.specs.Invariant.{IsCoherent}
-use Rattle.world_invariant.specs.World.{Client, Kernel, World, world_state}
+use Rattle.event_steps.specs.area_reader.Store.{disk, marks, store_of}
+use Rattle.event_steps.specs.kernel_fs.KernelView.{KernelView}
+use Rattle.event_steps.specs.kernel_fs.MachineState.{IsKernelOf}
+use Rattle.event_steps.specs.layout.Places.{Sizes}
+use Rattle.event_steps.specs.layout.declared.marks.Marks.{Marks}
+use Rattle.event_steps.specs.libfs.NeedService.{HasLooked}
+use Rattle.event_steps.specs.libfs.View.{ClientView}
+use Rattle.event_steps.specs.libfs.declared.denial.Denied.{Denied}
+use Rattle.event_steps.specs.world_invariant.ClientSteps.{with_client}
+use Rattle.event_steps.specs.world_invariant.Invariant.{IsCoherent}
+use Rattle.event_steps.specs.world_invariant.World.{Client, Kernel, World, world_state}
 use Rattle.event_steps.specs.View.{SeatView, SystemView, seat_of}
 use Rattle.event_steps.specs.declared.event.Event.{Event}
 use Rattle.event_steps.specs.declared.outcome.Outcome.{Outcome}
 use Rattle.event_steps.specs.declared.refusals.Refusals.{Refusals}
 use Rattle.event_lists.specs.Courses.{no_news}
-use Rattle.kernel_fs.proofs.MediaSteps.{unmoved_kernel}
+use Rattle.event_steps.proofs.kernel_fs_lemmas.MediaSteps.{unmoved_kernel}
 use Rattle.system_laws.specs.Leaves.{KernelLeaves}
 use Rattle.system_laws.specs.Moves.{EventMoves, Stand}
 use Rattle.system_laws.specs.News.{news}

@@ -7,19 +7,19 @@ use Rattle.std.proofs.lemmas.List.{drop_all, length-append, length-drop}
 use Rattle.std.proofs.Math.Seq.{drop-nil}
 use Rattle.tier_device.specs.declared.media.Media.{Ghosts}
 use Rattle.posix_calls.specs.declared.call.Call.{Call}
-use Rattle.file_graph.specs.Graph.{Graph}
-use Rattle.log_record.specs.declared.format.Record.{Record}
-use Rattle.layout.specs.declared.marks.Mark.{Mark}
-use Rattle.digester.specs.MarkMoves.{mark_after}
-use Rattle.update_log.specs.RecordCounts.{next_generation}
-use Rattle.update_log.specs.View.{RegionView}
-use Rattle.client_log.specs.HasTurn.{region_at}
-use Rattle.client_log.specs.Turns.{place_of}
-use Rattle.client_log.specs.View.{current_records}
-use Rattle.libfs.specs.SealedRegion.{SealedRegionView}
-use Rattle.world_invariant.specs.ClientParts.{IsSoundPart}
-use Rattle.world_invariant.specs.World.{Account, Client, undigested_records}
-use Rattle.world_invariant.specs.World as world
+use Rattle.event_steps.specs.file_graph.Graph.{Graph}
+use Rattle.event_steps.specs.log_record.declared.format.Record.{Record}
+use Rattle.event_steps.specs.layout.declared.marks.Mark.{Mark}
+use Rattle.event_steps.specs.digester.MarkMoves.{mark_after}
+use Rattle.event_steps.specs.update_log.RecordCounts.{next_generation}
+use Rattle.event_steps.specs.update_log.View.{RegionView}
+use Rattle.event_steps.specs.client_log.HasTurn.{region_at}
+use Rattle.event_steps.specs.client_log.Turns.{place_of}
+use Rattle.event_steps.specs.client_log.View.{current_records}
+use Rattle.event_steps.specs.libfs.SealedRegion.{SealedRegionView}
+use Rattle.event_steps.specs.world_invariant.ClientParts.{IsSoundPart}
+use Rattle.event_steps.specs.world_invariant.World.{Account, Client, undigested_records}
+use Rattle.event_steps.specs.world_invariant.World as world
 use Rattle.event_steps.specs.Sound.{IsAwayFrom, IsSeated}
 use Rattle.event_steps.specs.View.{SeatView, done_of}
 use Rattle.system_laws.specs.Relation.{IsClientOf, StandsMarked, first_generation}

@@ -2,16 +2,16 @@
 use Rattle.std.proofs.Common.{◌≡◌, ◌≢◌, ℕ, zero, suc, ◌-◌, ◌==◌, true, List, [], ◌∷◌, length, Some, refl, ap, sym, ◌∙◌, subst, arith}
 use Rattle.std.proofs.lemmas.List.{length-set, get_or-set_same, get_or-set_other}
 use Rattle.posix_calls.specs.Operations.{is_client}
-use Rattle.layout.specs.Bytes.{Field, are_zero, items_at, number_at}
-use Rattle.layout.specs.Marks.{mark_at, marks_at, marks_of}
-use Rattle.layout.specs.declared.marks.Mark.{Mark}
-use Rattle.layout.specs.declared.marks.Marks.{Marks}
-use Rattle.layout.specs.declared.places.TheConstants.{BLOCK, MARKS_BLOCK}
+use Rattle.event_steps.specs.layout.Bytes.{Field, are_zero, items_at, number_at}
+use Rattle.event_steps.specs.layout.Marks.{mark_at, marks_at, marks_of}
+use Rattle.event_steps.specs.layout.declared.marks.Mark.{Mark}
+use Rattle.event_steps.specs.layout.declared.marks.Marks.{Marks}
+use Rattle.event_steps.specs.layout.declared.places.TheConstants.{BLOCK, MARKS_BLOCK}
 use Rattle.tier_device.specs.declared.media.Tier.TheVariants as tiers
-use Rattle.area_reader.specs.Store.{Store, marks}
-use Rattle.digester.specs.MarkMoves.{marks_after}
-use Rattle.file_graph.proofs.Fields.{bind_some, guard_some, some_is, test_some}
-use Rattle.world_invariant.proofs.Owners.{is_high, is_low}
+use Rattle.event_steps.specs.area_reader.Store.{Store, marks}
+use Rattle.event_steps.specs.digester.MarkMoves.{marks_after}
+use Rattle.event_steps.proofs.file_graph_lemmas.Fields.{bind_some, guard_some, some_is, test_some}
+use Rattle.event_steps.proofs.world_invariant_lemmas.Owners.{is_high, is_low}
 use Rattle.system_laws.specs.Contents.{mark_by}
 
 as_many : {A : Type 0} (field : Field A) (n : ℕ) (bytes : List ℕ) (x : List A × List ℕ) → items_at field n bytes ≡ Some x → length x.0 ≡ n

@@ -3,9 +3,9 @@ use Rattle.std.proofs.Common.{◌≡◌, inl, inr, ℕ, refl}
 use Rattle.std.proofs.lemmas.Bool.{cases_Bool}
 use Rattle.tier_device.specs.declared.media.Media.{Ghosts}
 use Rattle.tier_device.specs.declared.media.Tier.{Tier}
-use Rattle.area_reader.specs.Store.{disk}
-use Rattle.shared_area.specs.Ready.{OpensAs}
-use Rattle.shared_area.specs.TierMoves.{OpensMovedOrNot}
+use Rattle.event_steps.specs.area_reader.Store.{disk}
+use Rattle.event_steps.specs.shared_area.Ready.{OpensAs}
+use Rattle.event_steps.specs.shared_area.TierMoves.{OpensMovedOrNot}
 use Rattle.event_steps.specs.Effects.{MakesOver}
 use Rattle.event_steps.specs.Turns.{CanPlay}
 use Rattle.event_steps.specs.View.{SystemView}

@@ -4,8 +4,8 @@ use Rattle.std.specs.Prelude.{is_some}
 use Rattle.std.proofs.lemmas.Bool.{false≢true}
 use Rattle.tier_device.specs.declared.media.Media.{Ghosts}
 use Rattle.posix_calls.specs.Operations.{is_client}
-use Rattle.libfs.specs.View.{ClientView, is_pending}
-use Rattle.libfs.specs.declared.begun_record.Begun.{Begun}
+use Rattle.event_steps.specs.libfs.View.{ClientView, is_pending}
+use Rattle.event_steps.specs.libfs.declared.begun_record.Begun.{Begun}
 use Rattle.event_steps.specs.Sound.{number_of}
 use Rattle.event_steps.specs.Stops.{SeatLeaves}
 use Rattle.event_steps.specs.View.{HasSeat, SeatView, seat_of}

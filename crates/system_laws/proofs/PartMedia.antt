@@ -5,7 +5,7 @@ use Rattle.tier_device.specs.declared.media.Media.{Ghosts}
 use Rattle.tier_device.specs.AfterStop.{Left}
 use Rattle.posix_calls.specs.Operations.{is_client}
 use Rattle.event_steps.specs.View.{SeatView, SystemView, seat_of}
-use Rattle.world_invariant.proofs.Owners.{is_low, is_high}
+use Rattle.event_steps.proofs.world_invariant_lemmas.Owners.{is_low, is_high}
 use Rattle.event_lists.specs.Courses.{Content, LeftBetween, PARTS, WorldContent, part_of}
 use Rattle.system_laws.specs.Parts.{medium_of, region_beside, region_medium, region_of}
 use Rattle.system_laws.specs.Clocks.{clocks_of, left_of}

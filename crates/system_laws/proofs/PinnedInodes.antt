@@ -5,32 +5,32 @@ use Rattle.std.proofs.lemmas.Bool.{false≢true}
 use Rattle.std.proofs.lemmas.Bool.Decides.{eqb_tells}
 use Rattle.std.proofs.lemmas.List.Folds.{list_any-append}
 use Rattle.tier_device.specs.declared.media.Media.{Ghosts}
-use Rattle.call_effects.specs.Knowledge.{Knowledge}
+use Rattle.event_steps.specs.call_effects.Knowledge.{Knowledge}
 use Rattle.posix_calls.specs.Operations.{is_client}
 use Rattle.posix_calls.specs.Tree.{Own, has_open, refers_to}
 use Rattle.posix_calls.specs.declared.call.Call.{Call}
 use Rattle.posix_calls.specs.declared.descriptor.Descriptor.{Descriptor}
-use Rattle.layout.specs.declared.marks.Marks.{Marks}
-use Rattle.kernel_fs.specs.MachineState.{IsKernelOf}
-use Rattle.lease_manager.specs.Passes.{client_of}
-use Rattle.libfs.specs.ClientHoldings.{known_to}
-use Rattle.libfs.specs.NeedService.{with_pin, without_pin}
-use Rattle.libfs.specs.View.{ClientView}
-use Rattle.libfs.specs.declared.begun_record.Begun.{Begun}
-use Rattle.libfs.specs.declared.denial.Denied.{Denied}
-use Rattle.file_graph.specs.Graph.{is_among}
-use Rattle.world_invariant.specs.BookSteps.{CanUnpin}
-use Rattle.world_invariant.specs.LeaseSteps.{also, without}
-use Rattle.world_invariant.specs.Machine.{Machine, book_pin, unbook_pin}
-use Rattle.world_invariant.specs.World.{Client, World}
-use Rattle.world_invariant.specs.World as world
+use Rattle.event_steps.specs.layout.declared.marks.Marks.{Marks}
+use Rattle.event_steps.specs.kernel_fs.MachineState.{IsKernelOf}
+use Rattle.event_steps.specs.lease_manager.Passes.{client_of}
+use Rattle.event_steps.specs.libfs.ClientHoldings.{known_to}
+use Rattle.event_steps.specs.libfs.NeedService.{with_pin, without_pin}
+use Rattle.event_steps.specs.libfs.View.{ClientView}
+use Rattle.event_steps.specs.libfs.declared.begun_record.Begun.{Begun}
+use Rattle.event_steps.specs.libfs.declared.denial.Denied.{Denied}
+use Rattle.event_steps.specs.file_graph.Graph.{is_among}
+use Rattle.event_steps.specs.world_invariant.BookSteps.{CanUnpin}
+use Rattle.event_steps.specs.world_invariant.LeaseSteps.{also, without}
+use Rattle.event_steps.specs.world_invariant.Machine.{Machine, book_pin, unbook_pin}
+use Rattle.event_steps.specs.world_invariant.World.{Client, World}
+use Rattle.event_steps.specs.world_invariant.World as world
 use Rattle.event_steps.specs.Effects.{MakesAt}
 use Rattle.event_steps.specs.KernelRequests.{IsBooked}
 use Rattle.event_steps.specs.Turns.{CanBeUnpinned, CanPlay}
 use Rattle.event_steps.specs.View.{SeatView, SystemView, seat_of}
 use Rattle.event_steps.specs.declared.event.Event.TheVariants.{Pin, Unpin}
 use Rattle.event_steps.specs.declared.outcome.Outcome.{Outcome}
-use Rattle.world_invariant.proofs.Books.{pinned_holds, pinned_tree, unpinned_holds, unpinned_tree}
+use Rattle.event_steps.proofs.world_invariant_lemmas.Books.{pinned_holds, pinned_tree, unpinned_holds, unpinned_tree}
 use Rattle.posix_calls.proofs.Sums.{any_there}
 use Rattle.system_laws.specs.Leaves.{HoldsRecords}
 use Rattle.system_laws.specs.Relation.{Cut, IsBegunAs, IsWorldOf, machine_of, status_of}

@@ -4,26 +4,26 @@ use Rattle.std.specs.Prelude.{Result, Ok, Err, OnOk}
 use Rattle.std.proofs.lemmas.Bool.{cases_Bool, false≢true}
 use Rattle.tier_device.specs.declared.media.Media.{Ghosts}
 use Rattle.posix_calls.specs.Operations.{is_client}
-use Rattle.file_graph.specs.Graph.{Body, Graph, Node, set_node}
-use Rattle.file_graph.specs.Graph as graphs
-use Rattle.area_reader.specs.Store.{disk, graph, marks}
-use Rattle.batch_journal.specs.Course.{Unmoved}
-use Rattle.kernel_fs.specs.Book.{Accounts, IsBookOf, is_pinned, pins_of}
-use Rattle.kernel_fs.specs.KernelAnswers.{kernel_answer}
-use Rattle.kernel_fs.specs.KernelView.{KernelView}
-use Rattle.kernel_fs.specs.MachineState.{IsKernelOf}
-use Rattle.kernel_fs.specs.Reclaim.{IsReclaimed, IsUnused, OpensReclaimedOrNot, ReclaimsOrStays}
-use Rattle.kernel_fs.specs.declared.error.KernelError.{KernelError}
-use Rattle.kernel_fs.specs.declared.error.ReclaimError.{ReclaimError}
-use Rattle.kernel_fs.specs.declared.error.ReclaimError.TheVariants as errors
-use Rattle.layout.specs.declared.marks.Marks.{Marks}
-use Rattle.layout.specs.Places.{Sizes}
-use Rattle.world_invariant.specs.KernelSteps.{CanReclaim, after_reclaim}
-use Rattle.world_invariant.specs.Logs.{IsNameless}
-use Rattle.world_invariant.specs.Machine.{Machine, reclaim}
-use Rattle.world_invariant.specs.World.{World, world_state}
-use Rattle.world_invariant.proofs.Owners.{is_high, is_low}
-use Rattle.world_invariant.proofs.Reclaims.{reclaimed_holds, reclaimed_tree}
+use Rattle.event_steps.specs.file_graph.Graph.{Body, Graph, Node, set_node}
+use Rattle.event_steps.specs.file_graph.Graph as graphs
+use Rattle.event_steps.specs.area_reader.Store.{disk, graph, marks}
+use Rattle.event_steps.specs.batch_journal.Course.{Unmoved}
+use Rattle.event_steps.specs.kernel_fs.Book.{Accounts, IsBookOf, is_pinned, pins_of}
+use Rattle.event_steps.specs.kernel_fs.KernelAnswers.{kernel_answer}
+use Rattle.event_steps.specs.kernel_fs.KernelView.{KernelView}
+use Rattle.event_steps.specs.kernel_fs.MachineState.{IsKernelOf}
+use Rattle.event_steps.specs.kernel_fs.Reclaim.{IsReclaimed, IsUnused, OpensReclaimedOrNot, ReclaimsOrStays}
+use Rattle.event_steps.specs.kernel_fs.declared.error.KernelError.{KernelError}
+use Rattle.event_steps.specs.kernel_fs.declared.error.ReclaimError.{ReclaimError}
+use Rattle.event_steps.specs.kernel_fs.declared.error.ReclaimError.TheVariants as errors
+use Rattle.event_steps.specs.layout.declared.marks.Marks.{Marks}
+use Rattle.event_steps.specs.layout.Places.{Sizes}
+use Rattle.event_steps.specs.world_invariant.KernelSteps.{CanReclaim, after_reclaim}
+use Rattle.event_steps.specs.world_invariant.Logs.{IsNameless}
+use Rattle.event_steps.specs.world_invariant.Machine.{Machine, reclaim}
+use Rattle.event_steps.specs.world_invariant.World.{World, world_state}
+use Rattle.event_steps.proofs.world_invariant_lemmas.Owners.{is_high, is_low}
+use Rattle.event_steps.proofs.world_invariant_lemmas.Reclaims.{reclaimed_holds, reclaimed_tree}
 use Rattle.posix_calls.proofs.Sums.{any_there}
 use Rattle.event_lists.specs.Courses.{Content}
 use Rattle.event_steps.specs.Effects.{MakesOver}
@@ -31,7 +31,7 @@ use Rattle.event_steps.specs.Turns.{CanPlay}
 use Rattle.event_steps.specs.View.{SystemView}
 use Rattle.event_steps.specs.declared.event.Event.TheVariants.{Reclaim}
 use Rattle.event_steps.specs.declared.outcome.Outcome.{Outcome}
-use Rattle.shared_area.specs.Ready.{OpensAs}
+use Rattle.event_steps.specs.shared_area.Ready.{OpensAs}
 use Rattle.system_laws.specs.Leaves.{KernelLeaves}
 use Rattle.system_laws.specs.KeptCalls.{calls_then}
 use Rattle.system_laws.specs.Relation.{Cut, IsWorldOf, SpellsShared, machine_of}

@@ -3,28 +3,28 @@ use Rattle.std.proofs.Common.{◌≡◌, ℕ, ◌+◌, ◌-◌, ◌≤◌, ◌&&
 use Rattle.std.specs.Prelude.{Result, OnOk, IfSome}
 use Rattle.tier_device.specs.declared.media.Media.{Ghosts}
 use Rattle.posix_calls.specs.Operations.{is_client}
-use Rattle.call_effects.specs.Knowledge.{Knowledge}
-use Rattle.kernel_fs.specs.Book.{out_of}
-use Rattle.kernel_fs.specs.MachineState.{IsKernelOf}
-use Rattle.kernel_fs.specs.Nodes.{is_node, nodes_in}
-use Rattle.kernel_fs.specs.Steps.{grant, take_back}
-use Rattle.layout.specs.declared.marks.Marks.{Marks}
-use Rattle.libfs.specs.ClientHoldings.{known_to}
-use Rattle.libfs.specs.NeedService.{HasGivenBack, HasRefilled, inodes_granted, shared_by, with_numbers}
-use Rattle.libfs.specs.View.{ClientView, is_pending}
-use Rattle.libfs.specs.declared.denial.Denied.{Denied}
-use Rattle.file_graph.specs.Graph.{is_among}
-use Rattle.file_graph.specs.Numbers.{is_inode}
-use Rattle.file_graph.specs.Units.{charge}
-use Rattle.world_invariant.specs.BookSteps.{HasRoom, IsUnbooked}
-use Rattle.world_invariant.specs.World.{Client, World}
+use Rattle.event_steps.specs.call_effects.Knowledge.{Knowledge}
+use Rattle.event_steps.specs.kernel_fs.Book.{out_of}
+use Rattle.event_steps.specs.kernel_fs.MachineState.{IsKernelOf}
+use Rattle.event_steps.specs.kernel_fs.Nodes.{is_node, nodes_in}
+use Rattle.event_steps.specs.kernel_fs.Steps.{grant, take_back}
+use Rattle.event_steps.specs.layout.declared.marks.Marks.{Marks}
+use Rattle.event_steps.specs.libfs.ClientHoldings.{known_to}
+use Rattle.event_steps.specs.libfs.NeedService.{HasGivenBack, HasRefilled, inodes_granted, shared_by, with_numbers}
+use Rattle.event_steps.specs.libfs.View.{ClientView, is_pending}
+use Rattle.event_steps.specs.libfs.declared.denial.Denied.{Denied}
+use Rattle.event_steps.specs.file_graph.Graph.{is_among}
+use Rattle.event_steps.specs.file_graph.Numbers.{is_inode}
+use Rattle.event_steps.specs.file_graph.Units.{charge}
+use Rattle.event_steps.specs.world_invariant.BookSteps.{HasRoom, IsUnbooked}
+use Rattle.event_steps.specs.world_invariant.World.{Client, World}
 use Rattle.event_steps.specs.Effects.{MakesAt}
 use Rattle.event_steps.specs.KernelRequests.{IsBooked}
 use Rattle.event_steps.specs.Turns.{CanPlay}
 use Rattle.event_steps.specs.View.{HasSeat, SeatView, SystemView, seat_of}
 use Rattle.event_steps.specs.declared.event.Event.TheVariants.{GiveBack, Refill}
 use Rattle.event_steps.specs.declared.outcome.Outcome.{Outcome}
-use Rattle.kernel_fs.proofs.Machines.{free_is_unbooked, room_is}
+use Rattle.event_steps.proofs.kernel_fs_lemmas.Machines.{free_is_unbooked, room_is}
 use Rattle.system_laws.specs.Leaves.{HoldsRecords}
 use Rattle.system_laws.specs.Relation.{Cut, IsWorldOf, machine_of}
 use Rattle.system_laws.specs.Steps.{IsBegunIn, IsStep}

@@ -12,21 +12,21 @@ use Rattle.tier_device.specs.Media.{Keeps}
 use Rattle.posix_calls.specs.Operations.{is_client}
 use Rattle.posix_calls.specs.Run.{Run}
 use Rattle.posix_calls.specs.declared.call.Call.{Call}
-use Rattle.layout.specs.declared.marks.Marks.{Marks}
-use Rattle.update_log.specs.RecordCounts.{next_generation, records_in}
-use Rattle.update_log.specs.View.{HasSize, RegionView}
-use Rattle.client_log.specs.Counts.{AreLeft}
-use Rattle.client_log.specs.Regions.{CountsNothing}
-use Rattle.libfs.specs.SealedRegion.{SealedRegionView}
-use Rattle.libfs.specs.View.{ClientView}
-use Rattle.world_invariant.specs.World.{World, world_state}
+use Rattle.event_steps.specs.layout.declared.marks.Marks.{Marks}
+use Rattle.event_steps.specs.update_log.RecordCounts.{next_generation, records_in}
+use Rattle.event_steps.specs.update_log.View.{HasSize, RegionView}
+use Rattle.event_steps.specs.client_log.Counts.{AreLeft}
+use Rattle.event_steps.specs.client_log.Regions.{CountsNothing}
+use Rattle.event_steps.specs.libfs.SealedRegion.{SealedRegionView}
+use Rattle.event_steps.specs.libfs.View.{ClientView}
+use Rattle.event_steps.specs.world_invariant.World.{World, world_state}
 use Rattle.event_steps.specs.Calls.{CountsOn}
 use Rattle.event_steps.specs.Sound.{IsSeated}
 use Rattle.event_steps.specs.Stops.{LeavesSealed, SeatLeaves}
 use Rattle.event_steps.specs.View.{HasSeat, SeatView, SystemView, seat_of}
 use Rattle.event_steps.specs.declared.event.Event.{Event}
 use Rattle.event_steps.specs.declared.outcome.Outcome.{Outcome}
-use Rattle.world_invariant.proofs.Records.{either}
+use Rattle.event_steps.proofs.world_invariant_lemmas.Records.{either}
 use Rattle.event_lists.specs.Courses.{Content, LeftBetween, WorldContent, part_of}
 use Rattle.system_laws.specs.Leaves.{SystemLeaves}
 use Rattle.system_laws.specs.Moves.{EventMoves, MovesRegion}

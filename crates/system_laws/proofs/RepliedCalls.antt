@@ -12,24 +12,24 @@ use Rattle.posix_calls.specs.declared.call.Call.{Call}
 use Rattle.posix_calls.specs.declared.call.Reply.{Reply}
 use Rattle.posix_calls.specs.declared.operation.Operation.{Operation}
 use Rattle.posix_calls.specs.declared.operation.Operation.TheVariants.{Tell, NewDir, NewFile, OpenFile, CloseFile, Write, Resize, RemoveDir, AddName, DropName, Move}
-use Rattle.file_graph.specs.Graph.{is_among}
-use Rattle.log_record.specs.declared.format.Record.{Record}
-use Rattle.client_log.specs.HasTurn.{HasTurn}
-use Rattle.client_log.specs.Turns.{turn_of}
-use Rattle.client_view.specs.AfterRecord.{knows_logged}
-use Rattle.call_effects.specs.Knowledge.{Knowledge, part_of}
-use Rattle.call_effects.specs.Records.{effects_asked}
-use Rattle.client_plan.specs.CallPlan.{change_of, made_by}
-use Rattle.client_plan.specs.declared.outcome.DescriptorChange.{DescriptorChange}
-use Rattle.lease_manager.specs.PassLeases.{reads, writes}
-use Rattle.world_invariant.specs.ClientSteps.{IsBegun, after_reply, with_client}
-use Rattle.world_invariant.specs.Invariant.{IsCoherent}
-use Rattle.world_invariant.specs.World.{Client, World, world_state}
-use Rattle.world_invariant.specs.World as world
-use Rattle.libfs.specs.CallStep.{HasReplied}
-use Rattle.libfs.specs.ClientHoldings.{known_to}
-use Rattle.libfs.specs.View.{ClientView}
-use Rattle.libfs.specs.declared.begun_record.Begun.{Begun}
+use Rattle.event_steps.specs.file_graph.Graph.{is_among}
+use Rattle.event_steps.specs.log_record.declared.format.Record.{Record}
+use Rattle.event_steps.specs.client_log.HasTurn.{HasTurn}
+use Rattle.event_steps.specs.client_log.Turns.{turn_of}
+use Rattle.event_steps.specs.client_view.AfterRecord.{knows_logged}
+use Rattle.event_steps.specs.call_effects.Knowledge.{Knowledge, part_of}
+use Rattle.event_steps.specs.call_effects.Records.{effects_asked}
+use Rattle.event_steps.specs.client_plan.CallPlan.{change_of, made_by}
+use Rattle.event_steps.specs.client_plan.declared.outcome.DescriptorChange.{DescriptorChange}
+use Rattle.event_steps.specs.lease_manager.PassLeases.{reads, writes}
+use Rattle.event_steps.specs.world_invariant.ClientSteps.{IsBegun, after_reply, with_client}
+use Rattle.event_steps.specs.world_invariant.Invariant.{IsCoherent}
+use Rattle.event_steps.specs.world_invariant.World.{Client, World, world_state}
+use Rattle.event_steps.specs.world_invariant.World as world
+use Rattle.event_steps.specs.libfs.CallStep.{HasReplied}
+use Rattle.event_steps.specs.libfs.ClientHoldings.{known_to}
+use Rattle.event_steps.specs.libfs.View.{ClientView}
+use Rattle.event_steps.specs.libfs.declared.begun_record.Begun.{Begun}
 use Rattle.event_steps.specs.Calls.{IsStepped}
 use Rattle.event_steps.specs.Effects.{MakesAt}
 use Rattle.event_steps.specs.Outcomes.{step_outcome}
@@ -38,7 +38,7 @@ use Rattle.event_steps.specs.View.{SeatView, SystemView}
 use Rattle.event_steps.specs.declared.event.Event.TheVariants.{Step}
 use Rattle.event_steps.specs.declared.outcome.Outcome.{Outcome}
 use Rattle.event_steps.specs.declared.outcome.Outcome.TheVariants as outcomes
-use Rattle.world_invariant.proofs.Replies.{replied_step}
+use Rattle.event_steps.proofs.world_invariant_lemmas.Replies.{replied_step}
 use Rattle.event_lists.specs.Courses.{Ledger}
 use Rattle.system_laws.specs.News.{after_step, answered, news}
 use Rattle.system_laws.specs.KeptCalls.{calls_then, set_call}

@@ -5,29 +5,29 @@ use Rattle.posix_calls.specs.Tree.{with_own}
 use Rattle.posix_calls.specs.Operations.{makes, own_after}
 use Rattle.posix_calls.specs.declared.operation.Operation.{Operation}
 use Rattle.posix_calls.specs.declared.operation.Operation.TheVariants.{Tell, NewDir, NewFile, OpenFile, CloseFile, Write, Resize, RemoveDir, AddName, DropName, Move}
-use Rattle.file_graph.specs.Graph.{after_effects, is_among, touches}
-use Rattle.file_graph.specs.declared.effect.Effect.{Effect}
-use Rattle.call_effects.specs.Effects.{effects_by, recounted_file, stored_at}
-use Rattle.call_effects.specs.Knowledge.{Agrees, IsForgetful, Knowledge, knows_after, knows_made}
-use Rattle.call_effects.specs.NodeView.{NodeView, view_after}
-use Rattle.client_plan.specs.CallPlan.{change_of, made_by}
-use Rattle.client_view.specs.AfterRecord.{knows_logged}
-use Rattle.world_invariant.specs.ClientParts.{IsPending, IsSoundPart}
-use Rattle.world_invariant.specs.ClientSteps.{IsBegun, after_reply, with_client}
-use Rattle.world_invariant.specs.Invariant.{IsCoherent}
-use Rattle.world_invariant.specs.Logs.{is_touched, is_written}
-use Rattle.world_invariant.specs.World.{Begun, Client, Kernel, World, at, has_lease, held_descriptors, log_of, undigested_records, whole_graph, world_state}
-use Rattle.world_invariant.specs.World as world
-use Rattle.client_view.proofs.Agreement.{no_less, one_less}
-use Rattle.world_invariant.proofs.Begins.{tree_same}
-use Rattle.world_invariant.proofs.Facts.{writing_holds}
-use Rattle.world_invariant.proofs.Idle.{none_some}
-use Rattle.world_invariant.proofs.Moved.{after_less, before_less, booked_same, both_same, held_moved, quiet}
-use Rattle.world_invariant.proofs.Records.{in_first, rest_written}
-use Rattle.world_invariant.proofs.Replies.{replied_holds, replied_whole}
-use Rattle.call_effects.proofs.KnownAfter.{agrees_after, made_agrees}
-use Rattle.call_effects.proofs.KnownSteps.{planned_answer}
-use Rattle.call_effects.proofs.Served.{less_agrees}
+use Rattle.event_steps.specs.file_graph.Graph.{after_effects, is_among, touches}
+use Rattle.event_steps.specs.file_graph.declared.effect.Effect.{Effect}
+use Rattle.event_steps.specs.call_effects.Effects.{effects_by, recounted_file, stored_at}
+use Rattle.event_steps.specs.call_effects.Knowledge.{Agrees, IsForgetful, Knowledge, knows_after, knows_made}
+use Rattle.event_steps.specs.call_effects.NodeView.{NodeView, view_after}
+use Rattle.event_steps.specs.client_plan.CallPlan.{change_of, made_by}
+use Rattle.event_steps.specs.client_view.AfterRecord.{knows_logged}
+use Rattle.event_steps.specs.world_invariant.ClientParts.{IsPending, IsSoundPart}
+use Rattle.event_steps.specs.world_invariant.ClientSteps.{IsBegun, after_reply, with_client}
+use Rattle.event_steps.specs.world_invariant.Invariant.{IsCoherent}
+use Rattle.event_steps.specs.world_invariant.Logs.{is_touched, is_written}
+use Rattle.event_steps.specs.world_invariant.World.{Begun, Client, Kernel, World, at, has_lease, held_descriptors, log_of, undigested_records, whole_graph, world_state}
+use Rattle.event_steps.specs.world_invariant.World as world
+use Rattle.event_steps.proofs.client_view_lemmas.Agreement.{no_less, one_less}
+use Rattle.event_steps.proofs.world_invariant_lemmas.Begins.{tree_same}
+use Rattle.event_steps.proofs.world_invariant_lemmas.Facts.{writing_holds}
+use Rattle.event_steps.proofs.world_invariant_lemmas.Idle.{none_some}
+use Rattle.event_steps.proofs.world_invariant_lemmas.Moved.{after_less, before_less, booked_same, both_same, held_moved, quiet}
+use Rattle.event_steps.proofs.world_invariant_lemmas.Records.{in_first, rest_written}
+use Rattle.event_steps.proofs.world_invariant_lemmas.Replies.{replied_holds, replied_whole}
+use Rattle.event_steps.proofs.call_effects_lemmas.KnownAfter.{agrees_after, made_agrees}
+use Rattle.event_steps.proofs.call_effects_lemmas.KnownSteps.{planned_answer}
+use Rattle.event_steps.proofs.call_effects_lemmas.Served.{less_agrees}
 use Rattle.system_laws.proofs.Frame.{at_there, same_kernel}
 
 -- a client's part that is put in the place of another that was put there

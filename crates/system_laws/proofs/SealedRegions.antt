@@ -5,19 +5,19 @@ use Rattle.std.proofs.lemmas.Bool.Decides.{eqb_tells}
 use Rattle.tier_device.specs.declared.media.Media.{Ghosts}
 use Rattle.posix_calls.specs.Operations.{is_client}
 use Rattle.posix_calls.specs.declared.call.Call.{Call}
-use Rattle.update_log.specs.RecordCounts.{next_generation}
-use Rattle.update_log.specs.View.{HasSize, RegionView}
-use Rattle.client_log.specs.HasTurn.{HasTurn, change_in, region_at}
-use Rattle.client_log.specs.Steps.{sealed_view}
-use Rattle.client_log.specs.Turns.{Place, Turn, turn_of}
-use Rattle.client_log.specs.Turns as log
-use Rattle.client_log.specs.View.{current_records}
-use Rattle.layout.specs.declared.marks.Mark.{Mark}
-use Rattle.world_invariant.specs.Invariant.{IsCoherent}
-use Rattle.world_invariant.specs.RegionSteps.{CanSeal, is_wiped, region_sealed}
-use Rattle.world_invariant.specs.World.{Account, Begun, Client, World, change_of, undigested_records, world_state}
-use Rattle.world_invariant.specs.World as world
-use Rattle.libfs.specs.SealedRegion.{SealedRegionView}
+use Rattle.event_steps.specs.update_log.RecordCounts.{next_generation}
+use Rattle.event_steps.specs.update_log.View.{HasSize, RegionView}
+use Rattle.event_steps.specs.client_log.HasTurn.{HasTurn, change_in, region_at}
+use Rattle.event_steps.specs.client_log.Steps.{sealed_view}
+use Rattle.event_steps.specs.client_log.Turns.{Place, Turn, turn_of}
+use Rattle.event_steps.specs.client_log.Turns as log
+use Rattle.event_steps.specs.client_log.View.{current_records}
+use Rattle.event_steps.specs.layout.declared.marks.Mark.{Mark}
+use Rattle.event_steps.specs.world_invariant.Invariant.{IsCoherent}
+use Rattle.event_steps.specs.world_invariant.RegionSteps.{CanSeal, is_wiped, region_sealed}
+use Rattle.event_steps.specs.world_invariant.World.{Account, Begun, Client, World, change_of, undigested_records, world_state}
+use Rattle.event_steps.specs.world_invariant.World as world
+use Rattle.event_steps.specs.libfs.SealedRegion.{SealedRegionView}
 use Rattle.event_steps.specs.Effects.{MakesAt}
 use Rattle.event_steps.specs.Regions.{HasHandedOver}
 use Rattle.event_steps.specs.Sound.{IsSeated}
@@ -25,8 +25,8 @@ use Rattle.event_steps.specs.Turns.{CanPlay}
 use Rattle.event_steps.specs.View.{SeatView, SystemView, done_of}
 use Rattle.event_steps.specs.declared.event.Event.TheVariants.{Seal}
 use Rattle.event_steps.specs.declared.outcome.Outcome.{Outcome}
-use Rattle.world_invariant.proofs.Records.{front_written, rest_written}
-use Rattle.world_invariant.proofs.Regions.{sealed_holds, sealed_tree}
+use Rattle.event_steps.proofs.world_invariant_lemmas.Records.{front_written, rest_written}
+use Rattle.event_steps.proofs.world_invariant_lemmas.Regions.{sealed_holds, sealed_tree}
 use Rattle.system_laws.specs.Parts.{region_of}
 use Rattle.system_laws.specs.Relation.{IsClientOf, StandsMarked, accepted_of, first_generation}
 use Rattle.system_laws.specs.Contents.{mark_by}

@@ -6,18 +6,18 @@ use Rattle.posix_calls.specs.Operations.{is_client}
 use Rattle.posix_calls.specs.Run.{Run}
 use Rattle.posix_calls.specs.declared.call.Call.{Call}
 use Rattle.posix_calls.specs.declared.limits.TheConstants.{MAX_CLIENTS}
-use Rattle.update_log.specs.View.{HasSize}
-use Rattle.world_invariant.specs.ClientSteps.{with_client}
-use Rattle.world_invariant.specs.Invariant.{IsCoherent}
-use Rattle.world_invariant.specs.World.{Account, Client, World, world_state}
-use Rattle.layout.specs.declared.marks.Mark.{Mark}
-use Rattle.layout.specs.declared.marks.Marks.{Marks}
+use Rattle.event_steps.specs.update_log.View.{HasSize}
+use Rattle.event_steps.specs.world_invariant.ClientSteps.{with_client}
+use Rattle.event_steps.specs.world_invariant.Invariant.{IsCoherent}
+use Rattle.event_steps.specs.world_invariant.World.{Account, Client, World, world_state}
+use Rattle.event_steps.specs.layout.declared.marks.Mark.{Mark}
+use Rattle.event_steps.specs.layout.declared.marks.Marks.{Marks}
 use Rattle.event_steps.specs.declared.refusals.Refusals.{Refusals}
 use Rattle.event_steps.specs.View.{SeatView, SystemView, seat_of}
 use Rattle.event_steps.specs.declared.event.Event.{Event}
 use Rattle.event_steps.specs.declared.outcome.Outcome.{Outcome}
 use Rattle.event_lists.specs.Courses.{Ledger, no_news}
-use Rattle.world_invariant.proofs.Moved.{at_same}
+use Rattle.event_steps.proofs.world_invariant_lemmas.Moved.{at_same}
 use Rattle.system_laws.specs.Moves.{EventMoves, Stand}
 use Rattle.system_laws.specs.News.{news}
 use Rattle.system_laws.specs.Parts.{region_of}

@@ -4,7 +4,7 @@ use Rattle.std.specs.Prelude.{nat_le, slice_get, slice_set}
 use Rattle.std.proofs.lemmas.Bool.{and_parts}
 use Rattle.std.proofs.lemmas.Bool.Decides.{eqb_tells, nat_tests}
 use Rattle.posix_calls.specs.Operations.{is_client}
-use Rattle.lease_manager.specs.Words.{IsClient}
+use Rattle.event_steps.specs.lease_manager.Words.{IsClient}
 use Rattle.event_steps.specs.View.{HasSeat, SeatView, SystemView, seat_of}
 
 -- a client's number, by the test

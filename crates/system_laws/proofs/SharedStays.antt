@@ -4,16 +4,16 @@ use Rattle.tier_device.specs.declared.media.Media.{Ghosts}
 use Rattle.tier_device.specs.declared.media.Tier.{Tier}
 use Rattle.tier_device.specs.AfterStop.{Left}
 use Rattle.posix_calls.specs.Run.{Run}
-use Rattle.area_reader.specs.Store.{disk, marks}
-use Rattle.batch_journal.specs.Course.{Unmoved}
-use Rattle.layout.specs.Places.{Sizes}
-use Rattle.layout.specs.declared.marks.Marks.{Marks}
-use Rattle.kernel_fs.specs.Book.{Accounts, IsBookOf}
-use Rattle.kernel_fs.specs.KernelView.{KernelView}
-use Rattle.kernel_fs.specs.MachineState.{IsKernelOf}
-use Rattle.shared_area.specs.Ready.{OpensAs}
-use Rattle.shared_area.specs.UnchangedMedia.{Stays}
-use Rattle.world_invariant.specs.World.{World}
+use Rattle.event_steps.specs.area_reader.Store.{disk, marks}
+use Rattle.event_steps.specs.batch_journal.Course.{Unmoved}
+use Rattle.event_steps.specs.layout.Places.{Sizes}
+use Rattle.event_steps.specs.layout.declared.marks.Marks.{Marks}
+use Rattle.event_steps.specs.kernel_fs.Book.{Accounts, IsBookOf}
+use Rattle.event_steps.specs.kernel_fs.KernelView.{KernelView}
+use Rattle.event_steps.specs.kernel_fs.MachineState.{IsKernelOf}
+use Rattle.event_steps.specs.shared_area.Ready.{OpensAs}
+use Rattle.event_steps.specs.shared_area.UnchangedMedia.{Stays}
+use Rattle.event_steps.specs.world_invariant.World.{World}
 use Rattle.event_steps.specs.View.{SystemView}
 use Rattle.event_steps.specs.declared.event.Event.{Event}
 use Rattle.event_steps.specs.declared.outcome.Outcome.{Outcome}

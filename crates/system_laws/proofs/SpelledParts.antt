@@ -4,7 +4,7 @@ use Rattle.tier_device.specs.declared.media.Media.{Ghosts}
 use Rattle.tier_device.specs.AfterStop.{Left}
 use Rattle.posix_calls.specs.Operations.{is_client}
 use Rattle.event_lists.specs.Courses.{part_of}
-use Rattle.world_invariant.proofs.Owners.{is_low}
+use Rattle.event_steps.proofs.world_invariant_lemmas.Owners.{is_low}
 use Rattle.system_laws.specs.Parts.{medium_of}
 use Rattle.system_laws.proofs.Given.{Given}
 use Rattle.system_laws.proofs.KernelMoves.{Spelled}

@@ -3,22 +3,22 @@ use Rattle.std.proofs.Common.{◌≡◌, ◌≢◌, ◌⊎◌, inl, inr, ℕ, �
 use Rattle.tier_device.specs.declared.media.Media.{Ghosts}
 use Rattle.posix_calls.specs.Operations.{is_client}
 use Rattle.posix_calls.specs.declared.call.Call.{Call}
-use Rattle.area_reader.specs.Store.{store_of}
-use Rattle.layout.specs.Places.{Sizes}
-use Rattle.world_invariant.specs.Machine.{account_after}
-use Rattle.log_record.specs.declared.format.Record.{Record}
-use Rattle.layout.specs.declared.marks.Mark.{Mark}
-use Rattle.layout.specs.declared.marks.Marks.{Marks}
-use Rattle.digester.specs.MarkMoves.{mark_after, mark_of}
-use Rattle.world_invariant.specs.Invariant.{IsCoherent}
-use Rattle.world_invariant.specs.KernelSteps.{CanDigest, CanReclaim, after_reclaim, records_digested}
-use Rattle.world_invariant.specs.Logs.{after_records}
-use Rattle.world_invariant.specs.World.{Account, Client, World, world_state}
+use Rattle.event_steps.specs.area_reader.Store.{store_of}
+use Rattle.event_steps.specs.layout.Places.{Sizes}
+use Rattle.event_steps.specs.world_invariant.Machine.{account_after}
+use Rattle.event_steps.specs.log_record.declared.format.Record.{Record}
+use Rattle.event_steps.specs.layout.declared.marks.Mark.{Mark}
+use Rattle.event_steps.specs.layout.declared.marks.Marks.{Marks}
+use Rattle.event_steps.specs.digester.MarkMoves.{mark_after, mark_of}
+use Rattle.event_steps.specs.world_invariant.Invariant.{IsCoherent}
+use Rattle.event_steps.specs.world_invariant.KernelSteps.{CanDigest, CanReclaim, after_reclaim, records_digested}
+use Rattle.event_steps.specs.world_invariant.Logs.{after_records}
+use Rattle.event_steps.specs.world_invariant.World.{Account, Client, World, world_state}
 use Rattle.event_steps.specs.Sound.{IsSeated}
 use Rattle.event_steps.specs.View.{HasSeat, SeatView, SystemView}
-use Rattle.world_invariant.proofs.Digests.{digested_holds, digested_tree}
-use Rattle.world_invariant.proofs.Moved.{at_same, each_client}
-use Rattle.world_invariant.proofs.Reclaims.{reclaimed_holds, reclaimed_tree}
+use Rattle.event_steps.proofs.world_invariant_lemmas.Digests.{digested_holds, digested_tree}
+use Rattle.event_steps.proofs.world_invariant_lemmas.Moved.{at_same, each_client}
+use Rattle.event_steps.proofs.world_invariant_lemmas.Reclaims.{reclaimed_holds, reclaimed_tree}
 use Rattle.event_lists.specs.Courses.{Content}
 use Rattle.system_laws.specs.Leaves.{SystemLeaves}
 use Rattle.system_laws.specs.Relation.{Cut, IsClientOf, IsWorldOf, SpellsAfter, SpellsShared, marks_digested}

@@ -11,27 +11,27 @@ use Rattle.posix_calls.specs.declared.call.Call.{Call}
 use Rattle.posix_calls.specs.declared.call.Reply.{Reply}
 use Rattle.posix_calls.specs.declared.operation.Operation.{Operation}
 use Rattle.posix_calls.specs.declared.operation.Operation.TheVariants.{Tell, NewDir, NewFile, OpenFile, CloseFile, Write, Resize, RemoveDir, AddName, DropName, Move}
-use Rattle.file_graph.specs.declared.effect.Kind.TheVariants as kinds
-use Rattle.call_effects.specs.Knowledge.{IsPlanned, Knowledge, knows_after, part_of}
-use Rattle.call_effects.specs.Effects.{make_effects}
-use Rattle.call_effects.specs.NodeView.{NodeView}
-use Rattle.call_effects.specs.Records.{effects_asked}
-use Rattle.client_plan.specs.CallPlan.{change_of, own_changed}
-use Rattle.client_plan.specs.Steps.{IsAnswered, IsRefused}
-use Rattle.client_plan.specs.declared.outcome.DescriptorChange.{DescriptorChange}
-use Rattle.client_view.specs.AfterRecord.{with_change}
-use Rattle.client_view.specs.KnowledgeTables.{Held}
-use Rattle.libfs.specs.ClientHoldings.{holdings_of, known_to}
-use Rattle.world_invariant.specs.ClientSteps.{CanAnswer, with_client}
-use Rattle.world_invariant.specs.Invariant.{IsCoherent}
-use Rattle.world_invariant.specs.World.{Account, Client, World, world_state}
-use Rattle.layout.specs.declared.marks.Mark.{Mark}
+use Rattle.event_steps.specs.file_graph.declared.effect.Kind.TheVariants as kinds
+use Rattle.event_steps.specs.call_effects.Knowledge.{IsPlanned, Knowledge, knows_after, part_of}
+use Rattle.event_steps.specs.call_effects.Effects.{make_effects}
+use Rattle.event_steps.specs.call_effects.NodeView.{NodeView}
+use Rattle.event_steps.specs.call_effects.Records.{effects_asked}
+use Rattle.event_steps.specs.client_plan.CallPlan.{change_of, own_changed}
+use Rattle.event_steps.specs.client_plan.Steps.{IsAnswered, IsRefused}
+use Rattle.event_steps.specs.client_plan.declared.outcome.DescriptorChange.{DescriptorChange}
+use Rattle.event_steps.specs.client_view.AfterRecord.{with_change}
+use Rattle.event_steps.specs.client_view.KnowledgeTables.{Held}
+use Rattle.event_steps.specs.libfs.ClientHoldings.{holdings_of, known_to}
+use Rattle.event_steps.specs.world_invariant.ClientSteps.{CanAnswer, with_client}
+use Rattle.event_steps.specs.world_invariant.Invariant.{IsCoherent}
+use Rattle.event_steps.specs.world_invariant.World.{Account, Client, World, world_state}
+use Rattle.event_steps.specs.layout.declared.marks.Mark.{Mark}
 use Rattle.event_steps.specs.declared.refusals.Refusals.{Refusals}
 use Rattle.event_steps.specs.View.{SeatView, SystemView, seat_of}
 use Rattle.event_steps.specs.declared.event.Event.TheVariants.{Start}
 use Rattle.event_steps.specs.declared.outcome.Outcome.{Outcome}
 use Rattle.event_steps.specs.declared.outcome.Outcome.TheVariants as outcomes
-use Rattle.world_invariant.proofs.Replies.{answered_holds, answered_step, refused}
+use Rattle.event_steps.proofs.world_invariant_lemmas.Replies.{answered_holds, answered_step, refused}
 use Rattle.system_laws.specs.Relation.{IsClientOf, StandsMarked, status_of}
 use Rattle.system_laws.specs.Steps.{IsBegunIn, IsStep}
 use Rattle.system_laws.specs.Contents.{mark_by}

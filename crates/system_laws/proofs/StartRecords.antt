@@ -9,32 +9,32 @@ use Rattle.posix_calls.specs.Run.{Run}
 use Rattle.posix_calls.specs.declared.call.Call.{Call}
 use Rattle.posix_calls.specs.declared.call.Reply.{Reply}
 use Rattle.posix_calls.specs.declared.limits.TheConstants.{MAX_CLIENTS}
-use Rattle.call_effects.specs.Knowledge.{IsPlanned, Knowledge, part_of}
-use Rattle.call_effects.specs.Records.{units_asked}
-use Rattle.client_plan.specs.Steps.{IsReady}
-use Rattle.client_plan.specs.declared.outcome.DescriptorChange.{DescriptorChange}
-use Rattle.lease_manager.specs.PassLeases.{reads, writes}
-use Rattle.lease_manager.specs.Passes.{PassView}
-use Rattle.libfs.specs.ClientHoldings.{holdings_of, known_to}
-use Rattle.libfs.specs.View.{ClientView}
-use Rattle.client_log.specs.HasTurn.{HasTurn}
-use Rattle.client_log.specs.Turns.{Turn, record_begun, turn_of}
-use Rattle.libfs.specs.declared.begun_record.Begun.{Begun}
-use Rattle.log_record.specs.declared.format.Record.{Record}
-use Rattle.update_log.specs.Frames.{end_behind}
-use Rattle.update_log.specs.View.{RegionView, records_of}
-use Rattle.update_log.specs.declared.format.TheConstants.{REGION_SIZE}
-use Rattle.libfs.specs.SealedRegion.{SealedRegionView}
-use Rattle.world_invariant.specs.ClientSteps.{CanBegin, call_begun}
-use Rattle.world_invariant.specs.World.{Account, Client, World, world_state}
-use Rattle.world_invariant.specs.World as world
-use Rattle.layout.specs.declared.marks.Mark.{Mark}
+use Rattle.event_steps.specs.call_effects.Knowledge.{IsPlanned, Knowledge, part_of}
+use Rattle.event_steps.specs.call_effects.Records.{units_asked}
+use Rattle.event_steps.specs.client_plan.Steps.{IsReady}
+use Rattle.event_steps.specs.client_plan.declared.outcome.DescriptorChange.{DescriptorChange}
+use Rattle.event_steps.specs.lease_manager.PassLeases.{reads, writes}
+use Rattle.event_steps.specs.lease_manager.Passes.{PassView}
+use Rattle.event_steps.specs.libfs.ClientHoldings.{holdings_of, known_to}
+use Rattle.event_steps.specs.libfs.View.{ClientView}
+use Rattle.event_steps.specs.client_log.HasTurn.{HasTurn}
+use Rattle.event_steps.specs.client_log.Turns.{Turn, record_begun, turn_of}
+use Rattle.event_steps.specs.libfs.declared.begun_record.Begun.{Begun}
+use Rattle.event_steps.specs.log_record.declared.format.Record.{Record}
+use Rattle.event_steps.specs.update_log.Frames.{end_behind}
+use Rattle.event_steps.specs.update_log.View.{RegionView, records_of}
+use Rattle.event_steps.specs.update_log.declared.format.TheConstants.{REGION_SIZE}
+use Rattle.event_steps.specs.libfs.SealedRegion.{SealedRegionView}
+use Rattle.event_steps.specs.world_invariant.ClientSteps.{CanBegin, call_begun}
+use Rattle.event_steps.specs.world_invariant.World.{Account, Client, World, world_state}
+use Rattle.event_steps.specs.world_invariant.World as world
+use Rattle.event_steps.specs.layout.declared.marks.Mark.{Mark}
 use Rattle.event_steps.specs.declared.refusals.Refusals.{Refusals}
 use Rattle.event_steps.specs.View.{SeatView, SystemView, seat_of}
 use Rattle.event_steps.specs.declared.event.Event.TheVariants.{Start}
 use Rattle.event_steps.specs.declared.outcome.Outcome.{Outcome}
 use Rattle.event_steps.specs.declared.outcome.Outcome.TheVariants as outcomes
-use Rattle.world_invariant.proofs.Begins.{begun_holds, begun_tree}
+use Rattle.event_steps.proofs.world_invariant_lemmas.Begins.{begun_holds, begun_tree}
 use Rattle.system_laws.specs.News.{news, with_call}
 use Rattle.system_laws.specs.KeptCalls.{set_call}
 use Rattle.system_laws.specs.Parts.{region_beside, region_of}

@@ -8,12 +8,12 @@ use Rattle.posix_calls.specs.declared.call.Call.{Call}
 use Rattle.posix_calls.specs.declared.call.Reply.{Reply}
 use Rattle.posix_calls.specs.declared.call.Reply.TheVariants as replies
 use Rattle.posix_calls.specs.declared.errno.Errno.{Errno}
-use Rattle.client_plan.specs.declared.need.Need.{Need}
-use Rattle.libfs.specs.declared.begun_record.Begun.{Begun}
-use Rattle.world_invariant.specs.ClientSteps.{with_client}
-use Rattle.world_invariant.specs.Invariant.{IsCoherent}
-use Rattle.world_invariant.specs.World.{Client, World, world_state}
-use Rattle.world_invariant.specs.World as world
+use Rattle.event_steps.specs.client_plan.declared.need.Need.{Need}
+use Rattle.event_steps.specs.libfs.declared.begun_record.Begun.{Begun}
+use Rattle.event_steps.specs.world_invariant.ClientSteps.{with_client}
+use Rattle.event_steps.specs.world_invariant.Invariant.{IsCoherent}
+use Rattle.event_steps.specs.world_invariant.World.{Client, World, world_state}
+use Rattle.event_steps.specs.world_invariant.World as world
 use Rattle.event_steps.specs.declared.refusals.Refusals.{Refusals}
 use Rattle.event_steps.specs.Turns.{CanPlay, HasTurn}
 use Rattle.event_steps.specs.View.{SeatView, SystemView, seat_of}

@@ -7,17 +7,17 @@ use Rattle.posix_calls.specs.declared.call.Call.{Call}
 use Rattle.posix_calls.specs.declared.call.Reply.{Reply}
 use Rattle.posix_calls.specs.declared.call.Reply.TheVariants as replies
 use Rattle.posix_calls.specs.declared.errno.Errno.TheVariants.{IoError, NoMemory}
-use Rattle.client_plan.specs.Steps.{IsAnswered, IsReady, IsRefused}
-use Rattle.client_plan.specs.declared.outcome.DescriptorChange.{DescriptorChange}
-use Rattle.client_plan.specs.declared.outcome.Outcome.{Outcome as CallOutcome}
-use Rattle.client_plan.specs.declared.outcome.Outcome.TheVariants as plans
-use Rattle.libfs.specs.CallStart.{HasStarted, IsOutOfMemory}
-use Rattle.libfs.specs.ClientHoldings.{holdings_of, known_to, outcome_for}
-use Rattle.libfs.specs.View.{ClientView}
-use Rattle.client_log.specs.Turns.{turn_of}
-use Rattle.libfs.specs.declared.now.Now.{Now}
-use Rattle.libfs.specs.declared.now.Now.TheVariants as now
-use Rattle.log_record.specs.declared.format.Record.{Record}
+use Rattle.event_steps.specs.client_plan.Steps.{IsAnswered, IsReady, IsRefused}
+use Rattle.event_steps.specs.client_plan.declared.outcome.DescriptorChange.{DescriptorChange}
+use Rattle.event_steps.specs.client_plan.declared.outcome.Outcome.{Outcome as CallOutcome}
+use Rattle.event_steps.specs.client_plan.declared.outcome.Outcome.TheVariants as plans
+use Rattle.event_steps.specs.libfs.CallStart.{HasStarted, IsOutOfMemory}
+use Rattle.event_steps.specs.libfs.ClientHoldings.{holdings_of, known_to, outcome_for}
+use Rattle.event_steps.specs.libfs.View.{ClientView}
+use Rattle.event_steps.specs.client_log.Turns.{turn_of}
+use Rattle.event_steps.specs.libfs.declared.now.Now.{Now}
+use Rattle.event_steps.specs.libfs.declared.now.Now.TheVariants as now
+use Rattle.event_steps.specs.log_record.declared.format.Record.{Record}
 use Rattle.event_steps.specs.Calls.{IsStarted}
 use Rattle.event_steps.specs.Effects.{MakesAt}
 use Rattle.event_steps.specs.Outcomes.{refused_then, start_outcome}

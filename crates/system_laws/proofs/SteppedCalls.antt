@@ -6,13 +6,13 @@ use Rattle.tier_device.specs.declared.media.Media.{Ghosts}
 use Rattle.tier_device.specs.declared.media.Tier.{Tier}
 use Rattle.posix_calls.specs.declared.call.Call.{Call}
 use Rattle.posix_calls.specs.declared.call.Reply.{Reply}
-use Rattle.update_log.specs.Stage.{progress}
-use Rattle.update_log.specs.declared.stage.Progress.{Progress}
-use Rattle.update_log.specs.declared.stage.Progress.TheVariants.{Going, Appended}
-use Rattle.client_log.specs.View.{LogView}
-use Rattle.libfs.specs.CallStep.{HasReplied}
-use Rattle.libfs.specs.View.{is_pending}
-use Rattle.libfs.specs.declared.begun_record.Begun.{Begun}
+use Rattle.event_steps.specs.update_log.Stage.{progress}
+use Rattle.event_steps.specs.update_log.declared.stage.Progress.{Progress}
+use Rattle.event_steps.specs.update_log.declared.stage.Progress.TheVariants.{Going, Appended}
+use Rattle.event_steps.specs.client_log.View.{LogView}
+use Rattle.event_steps.specs.libfs.CallStep.{HasReplied}
+use Rattle.event_steps.specs.libfs.View.{is_pending}
+use Rattle.event_steps.specs.libfs.declared.begun_record.Begun.{Begun}
 use Rattle.event_steps.specs.Calls.{IsStepped}
 use Rattle.event_steps.specs.Effects.{MakesAt}
 use Rattle.event_steps.specs.Outcomes.{step_outcome}

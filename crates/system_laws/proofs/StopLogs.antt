@@ -6,24 +6,24 @@ use Rattle.std.proofs.lemmas.Bool.Decides.{eqb_tells}
 use Rattle.std.proofs.lemmas.List.{length-append, length-drop}
 use Rattle.std.proofs.Math.Seq.{drop-append_seam, drop-nil}
 use Rattle.tier_device.specs.declared.media.Media.{Ghosts}
-use Rattle.log_record.specs.declared.format.Record.{Record}
-use Rattle.update_log.specs.Frames.{records, with_record}
-use Rattle.update_log.specs.RecordCounts.{counted_records, next_generation, records_in, records_under}
-use Rattle.update_log.specs.View.{RegionView, records_of}
-use Rattle.update_log.specs.WipeStops.{generation}
-use Rattle.client_log.specs.Counts.{AreWithOrWithout, CountOf}
-use Rattle.client_log.specs.HasTurn.{HasTurn, change_in, region_at}
-use Rattle.client_log.specs.Turns.{place_of, turn_of}
-use Rattle.client_log.specs.View.{current_records}
-use Rattle.layout.specs.declared.marks.Mark.{Mark}
-use Rattle.digester.specs.MarkMoves.{mark_after}
-use Rattle.world_invariant.specs.ClientParts.{IsMarked}
-use Rattle.world_invariant.specs.World.{Account, Begun, Client, Away, change_of, undigested_records}
-use Rattle.libfs.specs.SealedRegion.{SealedRegionView}
-use Rattle.libfs.specs.View.{ClientView}
+use Rattle.event_steps.specs.log_record.declared.format.Record.{Record}
+use Rattle.event_steps.specs.update_log.Frames.{records, with_record}
+use Rattle.event_steps.specs.update_log.RecordCounts.{counted_records, next_generation, records_in, records_under}
+use Rattle.event_steps.specs.update_log.View.{RegionView, records_of}
+use Rattle.event_steps.specs.update_log.WipeStops.{generation}
+use Rattle.event_steps.specs.client_log.Counts.{AreWithOrWithout, CountOf}
+use Rattle.event_steps.specs.client_log.HasTurn.{HasTurn, change_in, region_at}
+use Rattle.event_steps.specs.client_log.Turns.{place_of, turn_of}
+use Rattle.event_steps.specs.client_log.View.{current_records}
+use Rattle.event_steps.specs.layout.declared.marks.Mark.{Mark}
+use Rattle.event_steps.specs.digester.MarkMoves.{mark_after}
+use Rattle.event_steps.specs.world_invariant.ClientParts.{IsMarked}
+use Rattle.event_steps.specs.world_invariant.World.{Account, Begun, Client, Away, change_of, undigested_records}
+use Rattle.event_steps.specs.libfs.SealedRegion.{SealedRegionView}
+use Rattle.event_steps.specs.libfs.View.{ClientView}
 use Rattle.event_steps.specs.Sound.{IsAwayFrom, IsSeated}
 use Rattle.event_steps.specs.View.{done_of}
-use Rattle.world_invariant.proofs.DigestedParts.{drop_more}
+use Rattle.event_steps.proofs.world_invariant_lemmas.DigestedParts.{drop_more}
 use Rattle.system_laws.specs.Relation.{first_generation}
 
 -- ---- what there is to show

@@ -1,11 +1,11 @@
 -- The marks once a chunk of a client's records is digested: that client's has moved, and no other.
 use Rattle.std.proofs.Common.{◌≡◌, ◌≢◌, ℕ, ◌+◌, true, List, length, Some}
 use Rattle.posix_calls.specs.Operations.{is_client}
-use Rattle.log_record.specs.declared.format.Record.{Record}
-use Rattle.layout.specs.declared.marks.Mark.{Mark}
-use Rattle.layout.specs.declared.marks.Marks.{Marks}
-use Rattle.layout.specs.Marks.{marks_of}
-use Rattle.digester.specs.MarkMoves.{mark_after, mark_of}
+use Rattle.event_steps.specs.log_record.declared.format.Record.{Record}
+use Rattle.event_steps.specs.layout.declared.marks.Mark.{Mark}
+use Rattle.event_steps.specs.layout.declared.marks.Marks.{Marks}
+use Rattle.event_steps.specs.layout.Marks.{marks_of}
+use Rattle.event_steps.specs.digester.MarkMoves.{mark_after, mark_of}
 use Rattle.system_laws.specs.Relation.{marks_digested}
 use Rattle.system_laws.proofs.Marks.{eight_before, eight_in, moved_mark, other_mark}
 

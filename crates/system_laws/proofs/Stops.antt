@@ -9,35 +9,35 @@ use Rattle.posix_calls.specs.Operations.{is_client}
 use Rattle.posix_calls.specs.Outcome.{IsOutcome, Unfinished}
 use Rattle.posix_calls.specs.declared.call.Call.{Call}
 use Rattle.posix_calls.specs.declared.limits.TheConstants.{MAX_CLIENTS}
-use Rattle.file_graph.specs.Graph.{Graph}
-use Rattle.log_record.specs.declared.format.Record.{Record}
-use Rattle.update_log.specs.View.{HasSize}
-use Rattle.libfs.specs.declared.begun_record.Begun.{Begun}
-use Rattle.layout.specs.declared.marks.Mark.{Mark}
-use Rattle.layout.specs.declared.places.TheConstants.{MARKS_BLOCK}
-use Rattle.layout.specs.declared.marks.Marks.{Marks}
-use Rattle.digester.specs.MarkMoves.{mark_after, mark_of}
-use Rattle.batch_journal.specs.Volume.{IsVolume}
-use Rattle.area_reader.specs.Format.{IsOpenable}
-use Rattle.area_reader.specs.Store.{graph, marks, store_of}
-use Rattle.call_effects.specs.ClosedGraph.{nobody, settled_graph}
-use Rattle.call_effects.specs.Wholes.{state_of}
-use Rattle.world_invariant.specs.Invariant.{IsCoherent}
-use Rattle.world_invariant.specs.KernelSteps.{CanDigest, CanReclaim, after_reclaim, records_digested}
-use Rattle.world_invariant.specs.Logs.{after_clients}
-use Rattle.world_invariant.specs.Recovery.{IsRecoverable}
-use Rattle.world_invariant.specs.Stop.{Leaves, begun_calls}
-use Rattle.world_invariant.specs.Machine.{account_after}
-use Rattle.world_invariant.specs.World.{Account, Client, World, log_of, world_state}
-use Rattle.world_invariant.specs.World as world
+use Rattle.event_steps.specs.file_graph.Graph.{Graph}
+use Rattle.event_steps.specs.log_record.declared.format.Record.{Record}
+use Rattle.event_steps.specs.update_log.View.{HasSize}
+use Rattle.event_steps.specs.libfs.declared.begun_record.Begun.{Begun}
+use Rattle.event_steps.specs.layout.declared.marks.Mark.{Mark}
+use Rattle.event_steps.specs.layout.declared.places.TheConstants.{MARKS_BLOCK}
+use Rattle.event_steps.specs.layout.declared.marks.Marks.{Marks}
+use Rattle.event_steps.specs.digester.MarkMoves.{mark_after, mark_of}
+use Rattle.event_steps.specs.batch_journal.Volume.{IsVolume}
+use Rattle.event_steps.specs.area_reader.Format.{IsOpenable}
+use Rattle.event_steps.specs.area_reader.Store.{graph, marks, store_of}
+use Rattle.event_steps.specs.call_effects.ClosedGraph.{nobody, settled_graph}
+use Rattle.event_steps.specs.call_effects.Wholes.{state_of}
+use Rattle.event_steps.specs.world_invariant.Invariant.{IsCoherent}
+use Rattle.event_steps.specs.world_invariant.KernelSteps.{CanDigest, CanReclaim, after_reclaim, records_digested}
+use Rattle.event_steps.specs.world_invariant.Logs.{after_clients}
+use Rattle.event_steps.specs.world_invariant.Recovery.{IsRecoverable}
+use Rattle.event_steps.specs.world_invariant.Stop.{Leaves, begun_calls}
+use Rattle.event_steps.specs.world_invariant.Machine.{account_after}
+use Rattle.event_steps.specs.world_invariant.World.{Account, Client, World, log_of, world_state}
+use Rattle.event_steps.specs.world_invariant.World as world
 use Rattle.event_steps.specs.Sound.{IsSeated}
 use Rattle.event_steps.specs.View.{HasSeat, SeatView, SystemView, done_of}
-use Rattle.world_invariant.proofs.Digests.{digested_holds, digested_tree}
-use Rattle.world_invariant.proofs.DigestedParts.{log_is}
-use Rattle.world_invariant.proofs.Moved.{at_same, log_else, log_there}
-use Rattle.world_invariant.proofs.Reclaims.{reclaimed_holds, reclaimed_tree}
-use Rattle.world_invariant.proofs.Records.{either}
-use Rattle.world_invariant.proofs.Stops.{stop_stores}
+use Rattle.event_steps.proofs.world_invariant_lemmas.Digests.{digested_holds, digested_tree}
+use Rattle.event_steps.proofs.world_invariant_lemmas.DigestedParts.{log_is}
+use Rattle.event_steps.proofs.world_invariant_lemmas.Moved.{at_same, log_else, log_there}
+use Rattle.event_steps.proofs.world_invariant_lemmas.Reclaims.{reclaimed_holds, reclaimed_tree}
+use Rattle.event_steps.proofs.world_invariant_lemmas.Records.{either}
+use Rattle.event_steps.proofs.world_invariant_lemmas.Stops.{stop_stores}
 use Rattle.event_lists.specs.Courses.{WorldContent, part_of}
 use Rattle.system_laws.specs.Relation.{Cut, IsBegunAs, IsClientOf, IsWorldOf, SpellsAfter, SpellsShared, StandsMarked, first_generation, marks_digested}
 use Rattle.system_laws.specs.Relation as cuts

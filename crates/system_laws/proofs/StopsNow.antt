@@ -9,13 +9,13 @@ use Rattle.tier_device.specs.AfterStop.{Left}
 use Rattle.posix_calls.specs.Tree.{State}
 use Rattle.posix_calls.specs.Operations.{is_client}
 use Rattle.posix_calls.specs.Outcome.{IsOutcome}
-use Rattle.layout.specs.declared.marks.Marks.{Marks}
-use Rattle.client_log.specs.Counts.{AreLeft}
-use Rattle.client_log.specs.Regions.{CountsNothing}
-use Rattle.update_log.specs.RecordCounts.{next_generation, records_in}
-use Rattle.update_log.specs.View.{HasSize, RegionView}
-use Rattle.world_invariant.specs.World.{World, world_state}
-use Rattle.libfs.specs.SealedRegion.{SealedRegionView}
+use Rattle.event_steps.specs.layout.declared.marks.Marks.{Marks}
+use Rattle.event_steps.specs.client_log.Counts.{AreLeft}
+use Rattle.event_steps.specs.client_log.Regions.{CountsNothing}
+use Rattle.event_steps.specs.update_log.RecordCounts.{next_generation, records_in}
+use Rattle.event_steps.specs.update_log.View.{HasSize, RegionView}
+use Rattle.event_steps.specs.world_invariant.World.{World, world_state}
+use Rattle.event_steps.specs.libfs.SealedRegion.{SealedRegionView}
 use Rattle.event_steps.specs.Sound.{IsSeated}
 use Rattle.event_steps.specs.Stops.{LeavesSealed, SeatLeaves}
 use Rattle.event_steps.specs.View.{HasSeat, SeatView, SystemView}

@@ -1,20 +1,20 @@
 -- The last records of a sealed region are digested, and its client takes it back: the world then.
 use Rattle.std.proofs.Common.{◌≡◌, inl, inr, ℕ, ◌+◌, cond, Bool, true, false, List, [], length, Option, Some, None, ap, sym, ◌∙◌, subst}
 use Rattle.std.proofs.lemmas.Bool.Decides.{eqb_tells}
-use Rattle.file_graph.specs.Graph.{Graph}
-use Rattle.log_record.specs.declared.format.Record.{Record}
-use Rattle.libfs.specs.RegionSeal.{is_named, without_blocks_of}
-use Rattle.world_invariant.specs.ClientSteps.{with_client}
-use Rattle.world_invariant.specs.Invariant.{IsCoherent}
-use Rattle.world_invariant.specs.KernelSteps.{CanDigest, records_digested}
-use Rattle.world_invariant.specs.Logs.{after_records}
-use Rattle.world_invariant.specs.Machine.{account_after}
-use Rattle.world_invariant.specs.RegionSteps.{CanTakeBack, taken_back}
-use Rattle.world_invariant.specs.World.{Account, Client, World, at, moved_world, world_state}
-use Rattle.world_invariant.specs.World as world
-use Rattle.world_invariant.proofs.Digests.{digested_holds, digested_tree}
-use Rattle.world_invariant.proofs.Forgets.{blocks_forgotten_hold, blocks_forgotten_tree}
-use Rattle.world_invariant.proofs.Regions.{taken_back_holds, taken_back_tree}
+use Rattle.event_steps.specs.file_graph.Graph.{Graph}
+use Rattle.event_steps.specs.log_record.declared.format.Record.{Record}
+use Rattle.event_steps.specs.libfs.RegionSeal.{is_named, without_blocks_of}
+use Rattle.event_steps.specs.world_invariant.ClientSteps.{with_client}
+use Rattle.event_steps.specs.world_invariant.Invariant.{IsCoherent}
+use Rattle.event_steps.specs.world_invariant.KernelSteps.{CanDigest, records_digested}
+use Rattle.event_steps.specs.world_invariant.Logs.{after_records}
+use Rattle.event_steps.specs.world_invariant.Machine.{account_after}
+use Rattle.event_steps.specs.world_invariant.RegionSteps.{CanTakeBack, taken_back}
+use Rattle.event_steps.specs.world_invariant.World.{Account, Client, World, at, moved_world, world_state}
+use Rattle.event_steps.specs.world_invariant.World as world
+use Rattle.event_steps.proofs.world_invariant_lemmas.Digests.{digested_holds, digested_tree}
+use Rattle.event_steps.proofs.world_invariant_lemmas.Forgets.{blocks_forgotten_hold, blocks_forgotten_tree}
+use Rattle.event_steps.proofs.world_invariant_lemmas.Regions.{taken_back_holds, taken_back_tree}
 use Rattle.system_laws.proofs.Frame.{at_there}
 
 -- ---- one client's part, again

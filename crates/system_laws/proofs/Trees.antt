@@ -4,17 +4,17 @@ use Rattle.tier_device.specs.declared.media.Media.{Ghosts}
 use Rattle.tier_device.specs.declared.media.Tier.{Tier}
 use Rattle.posix_calls.specs.Operations.{is_client}
 use Rattle.posix_calls.specs.declared.limits.TheConstants.{MAX_CLIENTS}
-use Rattle.area_reader.specs.Store.{disk, graph, marks}
-use Rattle.call_effects.specs.Knowledge.{Knowledge}
-use Rattle.call_effects.specs.Wholes.{state_of}
+use Rattle.event_steps.specs.area_reader.Store.{disk, graph, marks}
+use Rattle.event_steps.specs.call_effects.Knowledge.{Knowledge}
+use Rattle.event_steps.specs.call_effects.Wholes.{state_of}
 use Rattle.posix_calls.specs.Tree.{Descriptors}
-use Rattle.file_graph.specs.Graph.{Graph}
-use Rattle.log_record.specs.declared.format.Record.{Record}
-use Rattle.layout.specs.declared.marks.Marks.{Marks}
-use Rattle.world_invariant.specs.Logs.{after_clients, after_records}
-use Rattle.world_invariant.specs.World.{World, held_descriptors, log_of, whole_graph, world_state}
+use Rattle.event_steps.specs.file_graph.Graph.{Graph}
+use Rattle.event_steps.specs.log_record.declared.format.Record.{Record}
+use Rattle.event_steps.specs.layout.declared.marks.Marks.{Marks}
+use Rattle.event_steps.specs.world_invariant.Logs.{after_clients, after_records}
+use Rattle.event_steps.specs.world_invariant.World.{World, held_descriptors, log_of, whole_graph, world_state}
 use Rattle.event_steps.specs.View.{SeatView, seat_of}
-use Rattle.world_invariant.proofs.Owners.{client_is}
+use Rattle.event_steps.proofs.world_invariant_lemmas.Owners.{client_is}
 use Rattle.system_laws.specs.Leaves.{SystemLeaves}
 use Rattle.system_laws.specs.Relation.{Cut, IsWorldOf}
 use Rattle.system_laws.specs.Contents.{mark_by}

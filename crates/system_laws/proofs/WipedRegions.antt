@@ -7,23 +7,23 @@ use Rattle.tier_device.specs.declared.media.Tier.{Tier}
 use Rattle.tier_device.specs.Media.{Keeps}
 use Rattle.posix_calls.specs.Operations.{is_client}
 use Rattle.posix_calls.specs.declared.call.Call.{Call}
-use Rattle.file_graph.specs.Graph.{is_among}
-use Rattle.log_record.specs.declared.format.Record.{Record}
-use Rattle.update_log.specs.RecordCounts.{next_generation}
-use Rattle.update_log.specs.View.{RegionView, records_of}
-use Rattle.update_log.specs.declared.stage.WipeProgress.{WipeProgress}
-use Rattle.update_log.specs.declared.stage.WipeProgress.TheVariants.{Going, Wiped}
-use Rattle.client_log.specs.HasTurn.{HasTurn, change_in, region_at}
-use Rattle.client_log.specs.Steps.{WipesCurrent, WipesOther, is_last}
-use Rattle.client_log.specs.Turns.{place_of, turn_of}
-use Rattle.client_log.specs.declared.error.LogError.{LogError}
-use Rattle.client_log.specs.View.{LogView}
-use Rattle.layout.specs.declared.marks.Mark.{Mark}
-use Rattle.world_invariant.specs.ClientSteps.{with_client}
-use Rattle.world_invariant.specs.Invariant.{IsCoherent}
-use Rattle.world_invariant.specs.Logs.{is_written}
-use Rattle.world_invariant.specs.World.{Account, Begun, Client, World, world_state}
-use Rattle.world_invariant.specs.World as world
+use Rattle.event_steps.specs.file_graph.Graph.{is_among}
+use Rattle.event_steps.specs.log_record.declared.format.Record.{Record}
+use Rattle.event_steps.specs.update_log.RecordCounts.{next_generation}
+use Rattle.event_steps.specs.update_log.View.{RegionView, records_of}
+use Rattle.event_steps.specs.update_log.declared.stage.WipeProgress.{WipeProgress}
+use Rattle.event_steps.specs.update_log.declared.stage.WipeProgress.TheVariants.{Going, Wiped}
+use Rattle.event_steps.specs.client_log.HasTurn.{HasTurn, change_in, region_at}
+use Rattle.event_steps.specs.client_log.Steps.{WipesCurrent, WipesOther, is_last}
+use Rattle.event_steps.specs.client_log.Turns.{place_of, turn_of}
+use Rattle.event_steps.specs.client_log.declared.error.LogError.{LogError}
+use Rattle.event_steps.specs.client_log.View.{LogView}
+use Rattle.event_steps.specs.layout.declared.marks.Mark.{Mark}
+use Rattle.event_steps.specs.world_invariant.ClientSteps.{with_client}
+use Rattle.event_steps.specs.world_invariant.Invariant.{IsCoherent}
+use Rattle.event_steps.specs.world_invariant.Logs.{is_written}
+use Rattle.event_steps.specs.world_invariant.World.{Account, Begun, Client, World, world_state}
+use Rattle.event_steps.specs.world_invariant.World as world
 use Rattle.event_steps.specs.Calls.{CountsOn}
 use Rattle.event_steps.specs.Effects.{MakesAt}
 use Rattle.event_steps.specs.Regions.{IsWipedOn}
@@ -32,9 +32,9 @@ use Rattle.event_steps.specs.Stops.{SeatLeaves}
 use Rattle.event_steps.specs.View.{SeatView, SystemView}
 use Rattle.event_steps.specs.declared.event.Event.TheVariants.{WipeStep}
 use Rattle.event_steps.specs.declared.outcome.Outcome.{Outcome}
-use Rattle.world_invariant.proofs.Begins.{turned_holds, turned_tree}
-use Rattle.world_invariant.proofs.Records.{either}
-use Rattle.world_invariant.proofs.Regions.{current_wiped_holds, current_wiped_tree, other_wiped_holds, other_wiped_tree}
+use Rattle.event_steps.proofs.world_invariant_lemmas.Begins.{turned_holds, turned_tree}
+use Rattle.event_steps.proofs.world_invariant_lemmas.Records.{either}
+use Rattle.event_steps.proofs.world_invariant_lemmas.Regions.{current_wiped_holds, current_wiped_tree, other_wiped_holds, other_wiped_tree}
 use Rattle.system_laws.specs.Parts.{region_of}
 use Rattle.system_laws.specs.Relation.{IsClientOf, StandsMarked, accepted_of, held_of, status_of}
 use Rattle.system_laws.specs.Contents.{mark_by}

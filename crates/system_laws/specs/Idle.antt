@@ -2,22 +2,22 @@
 use Rattle.std.specs.Prelude.{◌≡◌, ℕ, ◌≤◌, true, false, Some, None}
 use Rattle.tier_device.specs.declared.media.Media.{Ghosts}
 use Rattle.posix_calls.specs.Operations.{is_client}
-use Rattle.file_graph.specs.Units.{charge}
-use Rattle.layout.specs.declared.marks.Mark.{Mark}
-use Rattle.layout.specs.declared.marks.Marks.{Marks}
-use Rattle.area_reader.specs.Store.{disk, graph, marks}
-use Rattle.call_effects.specs.ClosedGraph.{nobody}
-use Rattle.call_effects.specs.Wholes.{IsSound}
-use Rattle.lease_manager.specs.Passes.{client_of, lease_of}
-use Rattle.lease_manager.specs.Words.{HasWord}
-use Rattle.lease_manager.specs.declared.view.LeaseMode.TheVariants.{Free}
-use Rattle.kernel_fs.specs.KernelView.{KernelView}
-use Rattle.kernel_fs.specs.MachineState.{IsKernelOf, StandBeforeRegions}
-use Rattle.kernel_fs.specs.Steps.{opened_machine}
-use Rattle.update_log.specs.View.{HasSize, RegionView}
-use Rattle.client_log.specs.Steps.{IsOpened}
-use Rattle.world_invariant.specs.Limits.{AreWithin}
-use Rattle.libfs.specs.NewClient.{IsBlank, IsNew}
+use Rattle.event_steps.specs.file_graph.Units.{charge}
+use Rattle.event_steps.specs.layout.declared.marks.Mark.{Mark}
+use Rattle.event_steps.specs.layout.declared.marks.Marks.{Marks}
+use Rattle.event_steps.specs.area_reader.Store.{disk, graph, marks}
+use Rattle.event_steps.specs.call_effects.ClosedGraph.{nobody}
+use Rattle.event_steps.specs.call_effects.Wholes.{IsSound}
+use Rattle.event_steps.specs.lease_manager.Passes.{client_of, lease_of}
+use Rattle.event_steps.specs.lease_manager.Words.{HasWord}
+use Rattle.event_steps.specs.lease_manager.declared.view.LeaseMode.TheVariants.{Free}
+use Rattle.event_steps.specs.kernel_fs.KernelView.{KernelView}
+use Rattle.event_steps.specs.kernel_fs.MachineState.{IsKernelOf, StandBeforeRegions}
+use Rattle.event_steps.specs.kernel_fs.Steps.{opened_machine}
+use Rattle.event_steps.specs.update_log.View.{HasSize, RegionView}
+use Rattle.event_steps.specs.client_log.Steps.{IsOpened}
+use Rattle.event_steps.specs.world_invariant.Limits.{AreWithin}
+use Rattle.event_steps.specs.libfs.NewClient.{IsBlank, IsNew}
 use Rattle.event_steps.specs.Refusals.{no_refusals}
 use Rattle.event_steps.specs.View.{HasSeat, SeatView, SystemView}
 use Rattle.system_laws.specs.Contents.{mark_by}

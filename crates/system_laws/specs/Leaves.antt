@@ -3,15 +3,15 @@ use Rattle.std.specs.Prelude.{◌≡◌, ◌≢◌, ◌⊎◌, ℕ, ◌<◌, fal
 use Rattle.tier_device.specs.declared.media.Media.{Ghosts}
 use Rattle.tier_device.specs.AfterStop.{Left}
 use Rattle.posix_calls.specs.Operations.{is_client}
-use Rattle.area_reader.specs.Store.{disk}
-use Rattle.shared_area.specs.Ready.{OpensAs}
-use Rattle.kernel_fs.specs.KernelView.{KernelView}
-use Rattle.libfs.specs.View.{ClientView, own_records}
-use Rattle.lease_manager.specs.Parts.{AreCompatible}
-use Rattle.lease_manager.specs.Passes.{lease_of}
-use Rattle.lease_manager.specs.RecordCounts.{Counts}
-use Rattle.lease_manager.specs.Words.{HasWord, IsClient}
-use Rattle.lease_manager.specs.declared.view.LeaseMode.TheVariants.{Trying}
+use Rattle.event_steps.specs.area_reader.Store.{disk}
+use Rattle.event_steps.specs.shared_area.Ready.{OpensAs}
+use Rattle.event_steps.specs.kernel_fs.KernelView.{KernelView}
+use Rattle.event_steps.specs.libfs.View.{ClientView, own_records}
+use Rattle.event_steps.specs.lease_manager.Parts.{AreCompatible}
+use Rattle.event_steps.specs.lease_manager.Passes.{lease_of}
+use Rattle.event_steps.specs.lease_manager.RecordCounts.{Counts}
+use Rattle.event_steps.specs.lease_manager.Words.{HasWord, IsClient}
+use Rattle.event_steps.specs.lease_manager.declared.view.LeaseMode.TheVariants.{Trying}
 use Rattle.event_steps.specs.Sound.{number_of}
 use Rattle.event_steps.specs.declared.event.Event.{Event}
 use Rattle.event_steps.specs.declared.event.Event.TheVariants as event

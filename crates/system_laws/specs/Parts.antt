@@ -1,7 +1,7 @@
 -- The parts of a running system: part 0 is the shared medium, and part 2c - 1 + r the region of client c whose generations have the remainder r by two.
 use Rattle.std.specs.Prelude.{ℕ, zero, suc, ◌+◌, ◌/◌, ◌%◌, ◌==◌, Option, Some, None, if◌then◌else◌}
-use Rattle.update_log.specs.View.{RegionView}
-use Rattle.libfs.specs.SealedRegion.{SealedRegionView}
+use Rattle.event_steps.specs.update_log.View.{RegionView}
+use Rattle.event_steps.specs.libfs.SealedRegion.{SealedRegionView}
 use Rattle.event_steps.specs.View.{SeatView, SystemView, seat_of}
 
 -- the region that a client does not write: it is here, or handed over

@@ -5,31 +5,31 @@ use Rattle.tier_device.specs.AfterStop.{Left}
 use Rattle.posix_calls.specs.Operations.{is_client, reply_of}
 use Rattle.posix_calls.specs.declared.call.Call.{Call}
 use Rattle.posix_calls.specs.declared.limits.TheConstants.{MAX_CLIENTS}
-use Rattle.file_graph.specs.Graph.{Graph, is_among, set_node}
-use Rattle.log_record.specs.declared.format.Record.{Record}
-use Rattle.layout.specs.Places.{Sizes}
-use Rattle.layout.specs.declared.marks.Mark.{Mark}
-use Rattle.layout.specs.declared.marks.Marks.{Marks}
-use Rattle.batch_journal.specs.Volume.{IsVolume}
-use Rattle.area_reader.specs.Format.{IsOpenable}
-use Rattle.area_reader.specs.Store.{disk, graph, marks, store_of}
-use Rattle.update_log.specs.View.{HasSize}
-use Rattle.client_log.specs.HasTurn.{HasTurn}
-use Rattle.client_log.specs.Turns.{turn_of}
-use Rattle.client_plan.specs.CallPlan.{change_of, made_by}
-use Rattle.lease_manager.specs.PassLeases.{reads, writes}
-use Rattle.digester.specs.MarkMoves.{mark_after, mark_of, marks_after}
-use Rattle.kernel_fs.specs.Book.{IsBookOf}
-use Rattle.kernel_fs.specs.MachineState.{IsKernelOf}
-use Rattle.libfs.specs.ClientHoldings.{known_to}
-use Rattle.libfs.specs.declared.begun_record.Begun.{Begun}
-use Rattle.world_invariant.specs.Invariant.{IsCoherent}
-use Rattle.world_invariant.specs.KernelSteps.{CanDigest, CanReclaim, records_digested}
-use Rattle.world_invariant.specs.Logs.{is_written}
-use Rattle.world_invariant.specs.Machine.{Machine}
-use Rattle.world_invariant.specs.World.{Account, Client, Status, World}
-use Rattle.world_invariant.specs.World as world
-use Rattle.libfs.specs.SealedRegion.{SealedRegionView}
+use Rattle.event_steps.specs.file_graph.Graph.{Graph, is_among, set_node}
+use Rattle.event_steps.specs.log_record.declared.format.Record.{Record}
+use Rattle.event_steps.specs.layout.Places.{Sizes}
+use Rattle.event_steps.specs.layout.declared.marks.Mark.{Mark}
+use Rattle.event_steps.specs.layout.declared.marks.Marks.{Marks}
+use Rattle.event_steps.specs.batch_journal.Volume.{IsVolume}
+use Rattle.event_steps.specs.area_reader.Format.{IsOpenable}
+use Rattle.event_steps.specs.area_reader.Store.{disk, graph, marks, store_of}
+use Rattle.event_steps.specs.update_log.View.{HasSize}
+use Rattle.event_steps.specs.client_log.HasTurn.{HasTurn}
+use Rattle.event_steps.specs.client_log.Turns.{turn_of}
+use Rattle.event_steps.specs.client_plan.CallPlan.{change_of, made_by}
+use Rattle.event_steps.specs.lease_manager.PassLeases.{reads, writes}
+use Rattle.event_steps.specs.digester.MarkMoves.{mark_after, mark_of, marks_after}
+use Rattle.event_steps.specs.kernel_fs.Book.{IsBookOf}
+use Rattle.event_steps.specs.kernel_fs.MachineState.{IsKernelOf}
+use Rattle.event_steps.specs.libfs.ClientHoldings.{known_to}
+use Rattle.event_steps.specs.libfs.declared.begun_record.Begun.{Begun}
+use Rattle.event_steps.specs.world_invariant.Invariant.{IsCoherent}
+use Rattle.event_steps.specs.world_invariant.KernelSteps.{CanDigest, CanReclaim, records_digested}
+use Rattle.event_steps.specs.world_invariant.Logs.{is_written}
+use Rattle.event_steps.specs.world_invariant.Machine.{Machine}
+use Rattle.event_steps.specs.world_invariant.World.{Account, Client, Status, World}
+use Rattle.event_steps.specs.world_invariant.World as world
+use Rattle.event_steps.specs.libfs.SealedRegion.{SealedRegionView}
 use Rattle.event_steps.specs.View.{HasSeat, SeatView, done_of}
 use Rattle.event_lists.specs.Courses.{Content}
 use Rattle.system_laws.specs.Parts.{region_of}

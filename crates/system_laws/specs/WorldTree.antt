@@ -7,16 +7,16 @@ use Rattle.posix_calls.specs.Outcome.{Unfinished}
 use Rattle.posix_calls.specs.declared.call.Call.{Call}
 use Rattle.posix_calls.specs.declared.descriptor.Descriptor.{Descriptor}
 use Rattle.posix_calls.specs.declared.limits.TheConstants.{MAX_CLIENTS}
-use Rattle.file_graph.specs.Graph.{Graph}
-use Rattle.log_record.specs.declared.format.Record.{Record}
-use Rattle.layout.specs.declared.marks.Mark.{Mark}
-use Rattle.area_reader.specs.Store.{disk, graph, marks}
-use Rattle.call_effects.specs.Wholes.{state_of}
-use Rattle.update_log.specs.View.{records_of}
-use Rattle.client_log.specs.View.{current_records}
-use Rattle.world_invariant.specs.Logs.{after_clients}
-use Rattle.libfs.specs.ClientHoldings.{known_to}
-use Rattle.libfs.specs.SealedRegion.{SealedRegionView}
+use Rattle.event_steps.specs.file_graph.Graph.{Graph}
+use Rattle.event_steps.specs.log_record.declared.format.Record.{Record}
+use Rattle.event_steps.specs.layout.declared.marks.Mark.{Mark}
+use Rattle.event_steps.specs.area_reader.Store.{disk, graph, marks}
+use Rattle.event_steps.specs.call_effects.Wholes.{state_of}
+use Rattle.event_steps.specs.update_log.View.{records_of}
+use Rattle.event_steps.specs.client_log.View.{current_records}
+use Rattle.event_steps.specs.world_invariant.Logs.{after_clients}
+use Rattle.event_steps.specs.libfs.ClientHoldings.{known_to}
+use Rattle.event_steps.specs.libfs.SealedRegion.{SealedRegionView}
 use Rattle.event_steps.specs.View.{SeatView, SystemView, seat_of}
 use Rattle.system_laws.specs.Contents.{mark_by}
 use Rattle.system_laws.specs.WorldView.{WorldView}

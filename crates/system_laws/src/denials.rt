@@ -2,7 +2,7 @@
 
 ghost use Rattle.std.specs.Prelude.{ℕ};
 ghost use Rattle.posix_calls.specs.declared.call.Call.{Call};
-ghost use Rattle.libfs.specs.declared.denial.Denied.{Denied};
+ghost use Rattle.event_steps.specs.libfs.declared.denial.Denied.{Denied};
 ghost use Rattle.event_steps.specs.Effects.{MakesAt};
 ghost use Rattle.event_steps.specs.Turns.{CanPlay};
 ghost use Rattle.event_steps.specs.View.{SystemView};

@@ -1,7 +1,7 @@
 //! Leases are taken, raised, given back and asked for.
 
 ghost use Rattle.std.specs.Prelude.{ℕ};
-ghost use Rattle.client_plan.specs.declared.need.Mode.{Mode};
+ghost use Rattle.event_steps.specs.client_plan.declared.need.Mode.{Mode};
 ghost use Rattle.event_steps.specs.Effects.{MakesAt};
 ghost use Rattle.event_steps.specs.Turns.{CanPlay};
 ghost use Rattle.event_steps.specs.View.{SystemView};

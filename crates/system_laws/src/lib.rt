@@ -39,3 +39,12 @@ pub use requests::{
     pinned_inode_is_a_step, refill_is_a_step, returned_units_are_a_step,
 };
 pub use starts::started_call_is_a_step;
+
+// Handed on to the crates above, which list only the highest of what they name.
+pub use event_lists as in_event_lists;
+pub use event_steps as in_event_steps;
+pub use event_steps::{
+    in_area_reader, in_client_log, in_client_plan, in_file_graph, in_kernel_fs, in_layout,
+    in_lease_manager, in_libfs, in_log_record, in_migrator, in_record_validation, in_shared_area,
+    in_update_log,
+};

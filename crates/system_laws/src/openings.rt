@@ -1,6 +1,6 @@
 //! The world that a system begins with.
 
-ghost use Rattle.layout.specs.declared.marks.Marks.{Marks};
+ghost use Rattle.event_steps.specs.layout.declared.marks.Marks.{Marks};
 ghost use Rattle.event_steps.specs.View.{SystemView};
 ghost use Rattle.system_laws.specs.Idle.{IsIdleSystem};
 ghost use Rattle.system_laws.specs.KeptCalls.{no_calls};

@@ -11,7 +11,7 @@ ghost use Rattle.system_laws.specs.KeptCalls.{calls_then};
 ghost use Rattle.system_laws.specs.Steps.{IsBegunIn, IsStep};
 ghost use Rattle.system_laws.specs.WorldView.{WorldView};
 
-use libfs::{answered_start_is_a_step, begun_record_is_a_step};
+use event_steps::in_libfs::{answered_start_is_a_step, begun_record_is_a_step};
 use tier_device::Media;
 
 /// A call that is answered at once is one step of the tree. A call whose record is begun is unfinished from then on, and the tree stays, as

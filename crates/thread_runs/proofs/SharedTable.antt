@@ -1,9 +1,9 @@
 -- The clients of a world share a table of leases, also as they are taken from their seats one by one.
 use Rattle.std.proofs.Common.{◌≡◌, ◌++◌, ◌∷◌, List, [], ap, subst, ◌∙◌}
 use Rattle.strata_threads.specs.SharedClients.{HaveTable, LeaseTable}
-use Rattle.event_steps.specs.Sound.{AreOfTable}
-use Rattle.event_steps.specs.View.{SeatView}
-use Rattle.libfs.specs.View.{ClientView}
+use Rattle.call_driver.specs.event_steps.Sound.{AreOfTable}
+use Rattle.call_driver.specs.event_steps.View.{SeatView}
+use Rattle.strata_threads.specs.libfs.View.{ClientView}
 
 module _ {M : Type 0} where
   -- those that still sit, and those that are taken

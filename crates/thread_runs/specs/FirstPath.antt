@@ -1,16 +1,16 @@
 -- What records make of a graph, and what a recovery finds behind a stop.
 use Rattle.std.specs.Prelude.{◌≡◌, ℕ, List, [], ◌∷◌, drop, codes}
 use Rattle.posix_calls.specs.declared.limits.TheConstants.{ROOT}
-use Rattle.file_graph.specs.Graph.{Graph, fresh, after_effects}
-use Rattle.file_graph.specs.declared.effect.Effect.{Effect}
-use Rattle.file_graph.specs.declared.effect.Effect.TheVariants as effect
-use Rattle.file_graph.specs.declared.effect.Kind.TheVariants as kind
-use Rattle.log_record.specs.declared.format.Record.{Record}
+use Rattle.plain_tree.specs.file_graph.Graph.{Graph, fresh, after_effects}
+use Rattle.plain_tree.specs.file_graph.declared.effect.Effect.{Effect}
+use Rattle.plain_tree.specs.file_graph.declared.effect.Effect.TheVariants as effect
+use Rattle.plain_tree.specs.file_graph.declared.effect.Kind.TheVariants as kind
+use Rattle.script.specs.log_record.declared.format.Record.{Record}
 use Rattle.tier_device.specs.declared.media.Tier.TheVariants.{Fast}
 use Rattle.tier_device.specs.declared.stop.StopMedia.{StopMedia}
 use Rattle.tier_device.specs.Memory.{IsAtRest, memory_left, memory_moment}
 use Rattle.tier_device.specs.Stop.{medium_of}
-use Rattle.update_log.specs.Frames.{records}
+use Rattle.script.specs.update_log.Frames.{records}
 use Rattle.thread_runs.specs.declared.shared_graph.TheConstants.{FILE}
 
 -- what makes an empty file of this name in the root

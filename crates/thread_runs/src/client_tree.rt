@@ -1,9 +1,9 @@
 //! What a client's calls are compared with.
 use crate::run_end::RunEnd;
-use layout::CLIENTS;
 use plain_tree::PlainTree;
 use script::RunError;
 use std::alloc::Global;
+use strata_threads::in_layout::CLIENTS;
 
 /// The plain tree that is asked what a client is asked, and how the client's run ended.
 #[derive(Drop)]

@@ -5,22 +5,22 @@ ghost use Rattle.tier_device.specs.declared.media.Tier.TheVariants.{Fast};
 ghost use Rattle.strata_threads.specs.SharedClients.{ShareTable};
 ghost use Rattle.tier_device.specs.Memory.{IsAtRest, memory_seen};
 ghost use Rattle.thread_runs.specs.FirstPath.{IsRunAtRest, MayBeLeft};
-ghost use Rattle.area_recovery.specs.Parts.{AreAtRest, part_medium};
-ghost use Rattle.event_steps.specs.Sound.{AreSeats};
+ghost use Rattle.world_files.specs.area_recovery.Parts.{AreAtRest, part_medium};
+ghost use Rattle.call_driver.specs.event_steps.Sound.{AreSeats};
 
 use crate::region_stops::{RegionStops, RunMedium};
-use area_recovery::RecoveryError;
-use event_steps::ClientSlot;
-use interleavings::World;
-use layout::{CLIENTS, Geometry};
-use libfs::{Client, SealedRegion};
-use recovery::{Parts, REGIONS, format, recover};
+use call_driver::in_event_steps::ClientSlot;
+use call_driver::in_interleavings::World;
 use script::RunError;
+use script::in_update_log::{REGION_SIZE, Region};
 use std::alloc::Global;
 use std::sync::Wait;
+use strata_threads::in_layout::{CLIENTS, Geometry};
+use strata_threads::in_libfs::{Client, SealedRegion};
 use strata_threads::{ThreadClient, ThreadSet};
 use tier_device::{Media, MemMedia, StopMedia};
-use update_log::{REGION_SIZE, Region};
+use world_files::in_area_recovery::RecoveryError;
+use world_files::in_recovery::{Parts, REGIONS, format, recover};
 use world_files::{WorldSizes, tier_lens};
 
 // Data blocks of the three tiers.

@@ -1,21 +1,21 @@
 // A recovery of the program's own: what a stop left of the regions that two clients wrote is replayed over the graph that stands for the shared media.
 ghost use Rattle.std.specs.Prelude.{◌≡◌, IfOk, OnOk};
-ghost use Rattle.file_graph.specs.Graph.{Graph, graph_of};
+ghost use Rattle.plain_tree.specs.file_graph.Graph.{Graph, graph_of};
 ghost use Rattle.tier_device.specs.AfterStop.{AtRest};
 ghost use Rattle.tier_device.specs.declared.media.Tier.TheVariants.{Fast};
-ghost use Rattle.update_log.specs.Frames.{records};
-ghost use Rattle.update_log.specs.View.{records_of};
+ghost use Rattle.script.specs.update_log.Frames.{records};
+ghost use Rattle.script.specs.update_log.View.{records_of};
 ghost use Rattle.thread_runs.specs.FirstPath.{IsRecovered, MayHold};
 
 use crate::file_system::medium_after_stop;
 use crate::region_stops::RunMedium;
 use crate::shared_graph::replay;
-use file_graph::PlainGraph;
-use log_record::Record;
+use plain_tree::in_file_graph::PlainGraph;
 use script::RunError;
+use script::in_log_record::Record;
+use script::in_update_log::Region;
 use std::alloc::Global;
 use tier_device::Media;
-use update_log::Region;
 
 /// Stops the regions of two clients, and does in the graph what both then hold, but for the records of the first one that are done.
 pub(crate) fn recover_both(

@@ -1,13 +1,13 @@
 // A run of `strata_first`.
 ghost use Rattle.std.specs.Prelude.{IfOk};
-ghost use Rattle.file_graph.specs.Graph.{Graph, graph_of};
+ghost use Rattle.plain_tree.specs.file_graph.Graph.{Graph, graph_of};
 ghost use Rattle.thread_runs.specs.FirstPath.{IsRecovered};
 
 use crate::first_calls::{Answer, CallEnd, make_both_calls};
 use crate::first_options::first_stop;
 use crate::first_recovery::recover_both;
 use crate::shared_graph::FILE;
-use file_graph::PlainGraph;
+use plain_tree::in_file_graph::PlainGraph;
 use posix_calls::ROOT;
 use script::{RunError, tell, tell_fault, write_data, write_name};
 use std::alloc::Global;

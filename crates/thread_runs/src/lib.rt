@@ -25,3 +25,6 @@ pub use first_run::run_first;
 pub use run::run_threads;
 
 // Passed on to the programs above, which so need not list those below.
+
+// Handed on to the crates above, which list only the highest of what they name.
+pub use script as in_script;

@@ -6,7 +6,7 @@ use crate::options::{Options, read_options};
 use crate::region_stops::{RegionStops, RunMedium};
 use crate::run_end::RunEnd;
 use crate::turns::opening_lines;
-use interleavings::World;
+use call_driver::in_interleavings::World;
 use script::{RunError, tell, tell_fault};
 use std::io::Write;
 use std::sync::Wait;

@@ -1,12 +1,12 @@
 // A plain graph that stands for the shared media, and records that are done in it.
 ghost use Rattle.std.specs.Prelude.{◌≡◌, IfOk, OnOk, codes, drop, false, length, true};
-ghost use Rattle.file_graph.specs.Graph.{graph_of, after_effect, after_effects};
+ghost use Rattle.plain_tree.specs.file_graph.Graph.{graph_of, after_effect, after_effects};
 ghost use Rattle.thread_runs.specs.FirstPath.{after_replay, file_effects, root_with_f};
 
-use file_graph::{Effect, Kind, PlainGraph};
-use log_record::Record;
+use plain_tree::in_file_graph::{Effect, Kind, PlainGraph};
 use posix_calls::{Name, ROOT};
 use script::RunError;
+use script::in_log_record::Record;
 use std::alloc::Global;
 
 /// The inode of the file `/f`.

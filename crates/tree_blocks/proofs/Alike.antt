@@ -2,9 +2,9 @@
 use Rattle.std.proofs.Common.{◌≡◌, ℕ, zero, suc, ◌+◌, ◌/◌, ◌%◌, ◌<◌, ◌∷◌, map, refl, sym, ◌∙◌, ap, subst, arith, Option, Some, None}
 use Rattle.std.specs.List.{range_with_len}
 use Rattle.std.specs.FinMap as fin
-use Rattle.file_graph.specs.declared.effect.Kind.{Kind}
-use Rattle.file_graph.specs.declared.effect.Kind.TheVariants as kind
-use Rattle.file_graph.specs.Graph.{FileBody, DirBody}
+use Rattle.graph_change.specs.file_graph.declared.effect.Kind.{Kind}
+use Rattle.graph_change.specs.file_graph.declared.effect.Kind.TheVariants as kind
+use Rattle.graph_change.specs.file_graph.Graph.{FileBody, DirBody}
 use Rattle.layout.specs.Directory.{block_entries, entry_of}
 use Rattle.tree_blocks.specs.Inode.{LogicalBlocks, Inode, plain, byte_of, entry_at, IsDirectoryBlock, blocks_for, node_by, node_of, body_of_blocks, IsConsistentBy, IsConsistent, ReadAlike, AreAlike}
 

@@ -8,7 +8,7 @@ use Rattle.std.specs.List.{range_with_len}
 use Rattle.std.specs.Prelude.{is_some}
 use Rattle.std.proofs.lemmas.List.FromFn.{map-range_with_len_more}
 use Rattle.std.proofs.lemmas.Bool.{cases_lt, cases_Bool}
-use Rattle.file_graph.specs.declared.effect.Kind.{Kind}
+use Rattle.graph_change.specs.file_graph.declared.effect.Kind.{Kind}
 use Rattle.tree_blocks.specs.Inode.{Entry, named_entries, AreDistinct}
 
 abbrev Name : Type 0

@@ -4,9 +4,9 @@ use Rattle.std.specs.Prelude.{option_map, is_some, unwrap_or}
 use Rattle.std.specs.List.{range_with_len}
 use Rattle.std.specs.FinMap as fin
 use Rattle.std.proofs.lemmas.Bool.{cases_Bool, lt-ltb, le-ltb}
-use Rattle.file_graph.specs.declared.effect.Kind.{Kind}
-use Rattle.file_graph.specs.declared.effect.Kind.TheVariants as kind
-use Rattle.file_graph.specs.Graph.{Node, FileBody, DirBody}
+use Rattle.graph_change.specs.file_graph.declared.effect.Kind.{Kind}
+use Rattle.graph_change.specs.file_graph.declared.effect.Kind.TheVariants as kind
+use Rattle.graph_change.specs.file_graph.Graph.{Node, FileBody, DirBody}
 use Rattle.graph_change.specs.Bytes.{BytesChange, length_after, byte_after, bytes_after}
 use Rattle.graph_change.specs.Net.{Base, Kept, Made, Gone, Net, base_node, edited_node, node_after}
 use Rattle.graph_change.specs.Change.{Change, Changes, new_change, net_of, change_at, changed_graph}

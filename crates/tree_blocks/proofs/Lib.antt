@@ -12,3 +12,5 @@ pub mod Lists
 pub mod Marking
 pub mod NameChanges
 pub mod Rewriting
+-- Handed on to the crates above, which list only the highest of what they name.
+pub use Rattle.graph_change.proofs as graph_change_lemmas

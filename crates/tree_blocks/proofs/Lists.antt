@@ -7,7 +7,7 @@ use Rattle.std.proofs.lemmas.Bool.{cases_lt}
 use Rattle.std.proofs.lemmas.List.{get_or-set_same, get_or-set_other, length-set, length-append, get_or_append_left, get_or_push, get_or_past, get_or_default}
 use Rattle.std.proofs.Math.Seq.{take-append_seam}
 use Rattle.std.proofs.lemmas.Option.{slice_get-get_or}
-use Rattle.file_graph.specs.declared.effect.Kind.{Kind}
+use Rattle.graph_change.specs.file_graph.declared.effect.Kind.{Kind}
 use Rattle.layout.specs.declared.directory.DirEntry.{DirEntry}
 use Rattle.layout.specs.Directory.{EntryList, AreEntries, block_entries, no_entry, entry_of, with_target, with_last}
 use Rattle.tree_blocks.specs.Inode.{LogicalBlocks, plain, entry_at, named_entries, blocks_for, IsAbsent, AreDirectoryBlocks}

@@ -10,8 +10,8 @@ use Rattle.std.specs.FinMap.Entries.{below_all}
 use Rattle.std.proofs.Math.Seq.{drop-cons}
 use Rattle.std.proofs.Math.ListN.{drop_of_length-le}
 use Rattle.posix_calls.specs.Content.{Entries}
-use Rattle.file_graph.specs.NameOrder.{pairs}
-use Rattle.file_graph.specs.declared.name_map.NamedEntry.{NamedEntry}
+use Rattle.graph_change.specs.file_graph.NameOrder.{pairs}
+use Rattle.graph_change.specs.file_graph.declared.name_map.NamedEntry.{NamedEntry}
 use Rattle.graph_change.specs.Net.{Child, with_entry, with_entries}
 use Rattle.tree_blocks.specs.Directory.{coming_count, next_count}
 use Rattle.tree_blocks.proofs.Directories.{names_same, same_name, cases_name}

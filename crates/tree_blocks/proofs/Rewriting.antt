@@ -1,7 +1,7 @@
 -- What is written of an inode for a change is the inode after it.
 use Rattle.std.proofs.Common.{◌≡◌, ℕ, ◌<◌, sym, ◌∙◌, ap, subst, arith, Some, None, List}
 use Rattle.std.specs.FinMap as fin
-use Rattle.file_graph.specs.declared.effect.Kind.TheVariants as kind
+use Rattle.graph_change.specs.file_graph.declared.effect.Kind.TheVariants as kind
 use Rattle.graph_change.specs.Net.{Gone, EntryChanges, entries_after}
 use Rattle.graph_change.specs.Change.{Change, net_of}
 use Rattle.graph_change.specs.Tidy.{IsTidyChange}

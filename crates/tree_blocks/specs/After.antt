@@ -1,8 +1,8 @@
 -- What a net change makes of an inode: what its slot and its blocks are after it.
 use Rattle.std.specs.Prelude.{◌≡◌, ◌≢◌, ◌⊎◌, ℕ, ◌+◌, ◌-◌, ◌<◌, nat_lt, true, false, Option, Some, None, if◌then◌else◌}
 use Rattle.std.specs.FinMap as fin
-use Rattle.file_graph.specs.declared.effect.Kind.{Kind}
-use Rattle.file_graph.specs.declared.effect.Kind.TheVariants as kind
+use Rattle.graph_change.specs.file_graph.declared.effect.Kind.{Kind}
+use Rattle.graph_change.specs.file_graph.declared.effect.Kind.TheVariants as kind
 use Rattle.graph_change.specs.Bytes.{BytesChange, length_after, byte_after}
 use Rattle.graph_change.specs.Net.{Base, Kept, Made, Gone, EntryChanges, Net, names_after, entries_after}
 use Rattle.graph_change.specs.Change.{Changes, net_of, change_at}

@@ -1,6 +1,6 @@
 -- A directory in memory.
 use Rattle.std.specs.Prelude.{◌≡◌, ◌≢◌, ℕ, ◌+◌, ◌-◌, ◌/◌, ◌<◌, ◌≤◌, Bool, true, false, List, [], ◌∷◌, length, get_or, Option, None, is_some, IfSome, if◌then◌else◌}
-use Rattle.file_graph.specs.declared.effect.Kind.{Kind}
+use Rattle.graph_change.specs.file_graph.declared.effect.Kind.{Kind}
 use Rattle.posix_calls.specs.declared.limits.TheConstants.{MAX_ENTRIES}
 use Rattle.layout.specs.Places.{is_inode}
 use Rattle.layout.specs.declared.directory.TheConstants.{MAX_IN_BLOCK}

@@ -1,6 +1,6 @@
 -- What is to be written of an inode for a change of it: its slot and its blocks.
 use Rattle.std.specs.Prelude.{◌≡◌, ℕ, ◌<◌, Some}
-use Rattle.file_graph.specs.declared.effect.Kind.TheVariants as kind
+use Rattle.graph_change.specs.file_graph.declared.effect.Kind.TheVariants as kind
 use Rattle.graph_change.specs.Bytes.{length_after}
 use Rattle.graph_change.specs.Net.{names_after}
 use Rattle.graph_change.specs.Change.{Change}

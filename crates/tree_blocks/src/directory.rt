@@ -15,7 +15,7 @@ use crate::entry_blocks::{add_to, find_in, take_from};
 use crate::error::EnterError;
 use crate::name_changes::{are_too_many, change_names, coming_count};
 use crate::written_blocks::{MOST_BLOCKS, WrittenBlocks};
-use file_graph::{Kind, NameMap};
+use graph_change::in_file_graph::{Kind, NameMap};
 use layout::{BLOCK, DirEntries, EntryRef, MAX_IN_BLOCK, set_target};
 use posix_calls::MAX_ENTRIES;
 use std::alloc::{AllocError, Global};

@@ -6,7 +6,7 @@ ghost use Rattle.posix_calls.specs.declared.limits.TheConstants.{MAX_ENTRIES};
 ghost use Rattle.layout.specs.Places.{is_inode};
 ghost use Rattle.layout.specs.LentEntry.{owned_entry};
 ghost use Rattle.layout.specs.Directory.{fits_entry};
-ghost use Rattle.file_graph.specs.NameOrder.{pairs, IsInOrder};
+ghost use Rattle.graph_change.specs.file_graph.NameOrder.{pairs, IsInOrder};
 ghost use Rattle.graph_change.specs.Net.{with_entry, with_entries};
 ghost use Rattle.tree_blocks.specs.Inode.{entry_at, named_entries, AreDirectoryBlocks, blocks_for};
 ghost use Rattle.tree_blocks.specs.Directory.{numbered_blocks, AreHeld, LeadToInodes, coming_count, next_count};
@@ -14,7 +14,7 @@ ghost use Rattle.tree_blocks.specs.BlockMarks.{WereMarked};
 
 use crate::entry_blocks::{add_to, find_in, take_from};
 use crate::written_blocks::mark;
-use file_graph::{Kind, NamedEntry};
+use graph_change::in_file_graph::{Kind, NamedEntry};
 use layout::{BLOCK, EntryRef, MAX_IN_BLOCK, set_target};
 use posix_calls::MAX_ENTRIES;
 use std::alloc::{AllocError, Global};

@@ -9,3 +9,6 @@ pub mod Wiping
 pub mod WipeCalls
 pub mod WipeViews
 pub mod Counts
+-- Handed on to the crates above, which list only the highest of what they name.
+pub use Rattle.log_record.proofs.file_graph_lemmas
+pub use Rattle.log_record.proofs as log_record_lemmas

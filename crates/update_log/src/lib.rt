@@ -23,3 +23,7 @@ pub use format::{CLOSED, GENERATION_SIZE, HEADER, OPEN, REGION_SIZE};
 pub use laws::region_has_its_numbers;
 pub use region::Region;
 pub use stage::{Progress, Stage, WipeProgress};
+
+// Handed on to the crates above, which list only the highest of what they name.
+pub use log_record as in_log_record;
+pub use log_record::in_file_graph;

@@ -5,8 +5,8 @@ use Rattle.tier_device.specs.AfterStop.{AtRest}
 use Rattle.tier_device.specs.declared.media.Media.{Ghosts}
 use Rattle.tier_device.specs.declared.media.Tier.{Tier}
 use Rattle.world_files.specs.Images.{AreRead}
-use Rattle.host_media.specs.Images.{content_bytes, content_sizes, media_bytes, medium_sizes}
-use Rattle.area_recovery.specs.Parts.{PartsView, part_medium}
+use Rattle.world_files.specs.host_media.Images.{content_bytes, content_sizes, media_bytes, medium_sizes}
+use Rattle.world_files.specs.area_recovery.Parts.{PartsView, part_medium}
 
 module _ {S T : Type 0} (upper : Ghosts S) (lower : Ghosts T) (f : S → T) (seen : (x : S) → upper.seen x ≡ lower.seen (f x))
     (rests : (x : S) (t : Tier) → AtRest (lower.seen (f x)) (lower.left (f x) (lower.moment (f x))) t → AtRest (upper.seen x) (upper.left x (upper.moment x)) t) where

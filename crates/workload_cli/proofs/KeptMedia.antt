@@ -5,11 +5,11 @@ use Rattle.tier_device.specs.declared.fill.Fill.{Fill}
 use Rattle.tier_device.specs.declared.fill.Fill.TheVariants.{New}
 use Rattle.tier_device.specs.declared.media.Media.{Ghosts}
 use Rattle.script.specs.SystemLines.{Asked, Books, Calls, Digests, Fails, Halts, Moves, Places, Recovers, Steps, Stops, Wipes}
-use Rattle.area_recovery.specs.FaultOrMemory.{IsFaultOrMemory}
-use Rattle.area_recovery.specs.Parts.{PartsView, part_medium}
-use Rattle.area_recovery.specs.declared.error.RecoveryError.{RecoveryError}
+use Rattle.world_files.specs.area_recovery.FaultOrMemory.{IsFaultOrMemory}
+use Rattle.world_files.specs.area_recovery.Parts.{PartsView, part_medium}
+use Rattle.world_files.specs.area_recovery.declared.error.RecoveryError.{RecoveryError}
 use Rattle.call_driver.specs.declared.events.Events.{Ghosts as Played}
-use Rattle.system_laws.specs.WorldView.{WorldView}
+use Rattle.call_driver.specs.system_laws.WorldView.{WorldView}
 use Rattle.workload_cli.specs.declared.answer.Answer.{Answer}
 use Rattle.workload_cli.specs.declared.answer.Answer.TheVariants as answers
 use Rattle.workload_cli.specs.declared.script_world.ScriptWorld.{ScriptWorld}

@@ -4,11 +4,11 @@ use Rattle.std.proofs.Math.Path.{fun_ext}
 use Rattle.std.specs.Prelude.{Option}
 use Rattle.tier_device.specs.declared.media.Media.{Ghosts}
 use Rattle.tier_device.specs.declared.media.Tier.{Tier}
-use Rattle.call_effects.specs.Wholes.{tree_of}
-use Rattle.layout.specs.Places.{Sizes}
-use Rattle.shared_area.specs.Parts.{IsTierOf}
-use Rattle.area_reader.specs.Store.{graph, disk, store_of}
-use Rattle.event_steps.specs.View.{SystemView}
+use Rattle.call_driver.specs.call_effects.Wholes.{tree_of}
+use Rattle.call_driver.specs.layout.Places.{Sizes}
+use Rattle.call_driver.specs.shared_area.Parts.{IsTierOf}
+use Rattle.call_driver.specs.area_reader.Store.{graph, disk, store_of}
+use Rattle.call_driver.specs.event_steps.View.{SystemView}
 use Rattle.workload_cli.specs.OfSystem.{HasLooked, LiesIn, tree_in}
 
 module _ {M : Type 0} (device : Ghosts M) where

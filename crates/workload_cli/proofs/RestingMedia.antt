@@ -4,9 +4,9 @@ use Rattle.std.specs.Prelude.{Some, slice_get}
 use Rattle.std.proofs.lemmas.Option.{same_Some, slice_get-get_or}
 use Rattle.tier_device.specs.declared.fill.Fill.{Fill}
 use Rattle.tier_device.specs.declared.media.Media.{Ghosts}
-use Rattle.area_recovery.specs.Parts.{PartsView, part_medium}
-use Rattle.area_recovery.specs.Regions.{REGIONS}
-use Rattle.event_lists.specs.Courses.{PARTS}
+use Rattle.world_files.specs.area_recovery.Parts.{PartsView, part_medium}
+use Rattle.world_files.specs.area_recovery.Regions.{REGIONS}
+use Rattle.call_driver.specs.event_lists.Courses.{PARTS}
 use Rattle.workload_cli.specs.Fills.{AreRestBy, IsRestBy, fill_for, name_of}
 use Rattle.workload_cli.specs.Rests.{IsRestOf, LeaveNoMore, LeavesNoMore}
 

@@ -9,10 +9,10 @@ use Rattle.posix_calls.specs.declared.errno.Errno.TheVariants.{NoEntry, IsDirect
 use Rattle.posix_calls.specs.Answers.{entry_in}
 use Rattle.posix_calls.specs.Resolve.{child, entry_or, then_from, resolve_from}
 use Rattle.posix_calls.specs.Tree.{Tree}
-use Rattle.file_graph.specs.Graph.{Graph, Node, Body, FileBody, DirBody}
-use Rattle.call_effects.specs.NodeView.{NodeView, FileView, DirView, view_is_dir, view_of_body, view_of_node, view_at}
-use Rattle.call_effects.specs.Wholes.{tree_of, tree_node, tree_body}
-use Rattle.record_validation.specs.NodeAnswers.{seen_node}
+use Rattle.script.specs.file_graph.Graph.{Graph, Node, Body, FileBody, DirBody}
+use Rattle.call_driver.specs.call_effects.NodeView.{NodeView, FileView, DirView, view_is_dir, view_of_body, view_of_node, view_at}
+use Rattle.call_driver.specs.call_effects.Wholes.{tree_of, tree_node, tree_body}
+use Rattle.call_driver.specs.record_validation.NodeAnswers.{seen_node}
 use Rattle.workload_cli.specs.Paths.{child_in, unless_directory}
 use Rattle.workload_cli.specs.AnswerText.{IsNoFile, IsUnread}
 use Rattle.workload_cli.specs.declared.answer.Answer.{Answer}

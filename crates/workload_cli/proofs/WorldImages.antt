@@ -7,7 +7,7 @@ use Rattle.tier_device.specs.declared.media.Media.{Ghosts}
 use Rattle.world_files.specs.Images.{parts_image}
 use Rattle.world_files.specs.declared.image_file.ImageFile.{ImageFile}
 use Rattle.world_files.specs.declared.sizes.WorldSizes.{WorldSizes}
-use Rattle.area_recovery.specs.Parts.{PartsView}
+use Rattle.world_files.specs.area_recovery.Parts.{PartsView}
 use Rattle.workload_cli.specs.declared.script_world.ScriptWorld.{ScriptWorld}
 use Rattle.workload_cli.specs.declared.session.Session.{Ghosts as Answers}
 use Rattle.workload_cli.specs.FreshWorlds.{IsFileWorld, IsImageOf}

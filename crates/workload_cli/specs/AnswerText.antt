@@ -7,11 +7,11 @@ use Rattle.posix_calls.specs.declared.errno.Errno.{Errno}
 use Rattle.posix_calls.specs.declared.errno.Errno.TheVariants.{NoMemory}
 use Rattle.script.specs.declared.system_line.LowerTier.{LowerTier}
 use Rattle.script.specs.declared.system_line.LowerTier.TheVariants as lower
-use Rattle.kernel_fs.specs.declared.kernel.Figures.{Figures}
-use Rattle.event_steps.specs.declared.outcome.Outcome.{Outcome}
-use Rattle.event_steps.specs.declared.outcome.Outcome.TheVariants as outcomes
-use Rattle.event_steps.specs.declared.outcome.Refusal.{Refusal}
-use Rattle.event_steps.specs.declared.outcome.Refusal.TheVariants as refusals
+use Rattle.call_driver.specs.kernel_fs.declared.kernel.Figures.{Figures}
+use Rattle.call_driver.specs.event_steps.declared.outcome.Outcome.{Outcome}
+use Rattle.call_driver.specs.event_steps.declared.outcome.Outcome.TheVariants as outcomes
+use Rattle.call_driver.specs.event_steps.declared.outcome.Refusal.{Refusal}
+use Rattle.call_driver.specs.event_steps.declared.outcome.Refusal.TheVariants as refusals
 use Rattle.call_driver.specs.declared.call_result.CallResult.{CallResult}
 use Rattle.call_driver.specs.declared.call_result.CallResult.TheVariants as served
 use Rattle.workload_cli.specs.declared.answer.Answer.{Answer}

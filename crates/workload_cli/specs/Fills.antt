@@ -3,7 +3,7 @@ use Rattle.std.specs.Prelude.{ℕ, zero, suc, ◌+◌, ◌/◌, ◌<◌, List, g
 use Rattle.tier_device.specs.declared.fill.Fill.{Fill}
 use Rattle.tier_device.specs.declared.fill.Fill.TheVariants.{New}
 use Rattle.tier_device.specs.declared.media.Media.{Ghosts}
-use Rattle.event_lists.specs.Courses.{PARTS}
+use Rattle.call_driver.specs.event_lists.Courses.{PARTS}
 use Rattle.workload_cli.specs.Rests.{IsRestOf}
 
 -- the name of a part: of the shared medium 0, and of a region its client's number

@@ -3,11 +3,11 @@ use Rattle.std.specs.Prelude.{◌≡◌, ◌⊎◌, ℕ, List, Option, Some, Non
 use Rattle.script.specs.declared.patch.Patch.{Patch}
 use Rattle.tier_device.specs.declared.fill.Fill.{Fill}
 use Rattle.tier_device.specs.declared.media.Media.{Ghosts}
-use Rattle.area_recovery.specs.Parts.{PartsView, part_medium}
-use Rattle.area_recovery.specs.RecoveryStops.{IsRecoveredWorld}
-use Rattle.area_recovery.specs.declared.error.RecoveryError.{RecoveryError}
-use Rattle.layout.specs.Places.{Sizes}
-use Rattle.system_laws.specs.WorldView.{WorldView}
+use Rattle.world_files.specs.area_recovery.Parts.{PartsView, part_medium}
+use Rattle.world_files.specs.area_recovery.RecoveryStops.{IsRecoveredWorld}
+use Rattle.world_files.specs.area_recovery.declared.error.RecoveryError.{RecoveryError}
+use Rattle.call_driver.specs.layout.Places.{Sizes}
+use Rattle.call_driver.specs.system_laws.WorldView.{WorldView}
 use Rattle.world_files.specs.FileErrors.{IsFileOrMemory, IsFormatRefused}
 use Rattle.world_files.specs.ImageFiles.{MayHold}
 use Rattle.world_files.specs.Images.{AreRead, HoldsNoWorld, parts_image}

@@ -6,9 +6,9 @@ use Rattle.posix_calls.specs.declared.errno.Errno.TheVariants.{NoMemory}
 use Rattle.script.specs.SystemLines.{Asked, Calls, Steps, Digests, Wipes, Moves, Places, Books, Stops, Halts, Fails, Recovers}
 use Rattle.script.specs.declared.system_line.LowerTier.{LowerTier}
 use Rattle.script.specs.declared.system_line.Manner.{Manner}
-use Rattle.event_steps.specs.declared.event.Event.TheVariants as event
-use Rattle.event_steps.specs.declared.outcome.Outcome.{Outcome}
-use Rattle.event_steps.specs.declared.outcome.Refusal.{Refusal}
+use Rattle.call_driver.specs.event_steps.declared.event.Event.TheVariants as event
+use Rattle.call_driver.specs.event_steps.declared.outcome.Outcome.{Outcome}
+use Rattle.call_driver.specs.event_steps.declared.outcome.Refusal.{Refusal}
 use Rattle.call_driver.specs.Digests.{IsCleared, IsWiped}
 use Rattle.call_driver.specs.Calls.{IsStepOf}
 use Rattle.call_driver.specs.declared.call_result.CallResult.{CallResult}

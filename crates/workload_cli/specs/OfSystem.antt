@@ -3,20 +3,20 @@ use Rattle.std.specs.Prelude.{◌≡◌, ℕ, Option, Some, None, if◌then◌el
 use Rattle.tier_device.specs.declared.media.Media.{Ghosts}
 use Rattle.tier_device.specs.declared.media.Tier.{Tier}
 use Rattle.posix_calls.specs.Tree.{Tree}
-use Rattle.call_effects.specs.Wholes.{tree_of}
-use Rattle.file_graph.specs.Units.{charge}
-use Rattle.batch_journal.specs.Course.{Unmoved}
-use Rattle.shared_area.specs.Parts.{IsTierOf}
-use Rattle.area_reader.specs.Store.{graph, disk}
-use Rattle.kernel_fs.specs.Book.{out_of}
-use Rattle.kernel_fs.specs.KernelView.{KernelView}
-use Rattle.kernel_fs.specs.declared.kernel.Figures.{Figures}
-use Rattle.kernel_fs.specs.declared.error.KernelError.{KernelError}
-use Rattle.kernel_fs.specs.declared.error.KernelError.TheVariants as why
-use Rattle.area_reader.specs.declared.error.AreaError.{AreaError}
-use Rattle.area_reader.specs.declared.error.AreaError.TheVariants as errors
-use Rattle.event_steps.specs.View.{SystemView}
-use Rattle.event_steps.specs.declared.outcome.Refusal.TheVariants as refusals
+use Rattle.call_driver.specs.call_effects.Wholes.{tree_of}
+use Rattle.script.specs.file_graph.Units.{charge}
+use Rattle.call_driver.specs.batch_journal.Course.{Unmoved}
+use Rattle.call_driver.specs.shared_area.Parts.{IsTierOf}
+use Rattle.call_driver.specs.area_reader.Store.{graph, disk}
+use Rattle.call_driver.specs.kernel_fs.Book.{out_of}
+use Rattle.call_driver.specs.kernel_fs.KernelView.{KernelView}
+use Rattle.call_driver.specs.kernel_fs.declared.kernel.Figures.{Figures}
+use Rattle.call_driver.specs.kernel_fs.declared.error.KernelError.{KernelError}
+use Rattle.call_driver.specs.kernel_fs.declared.error.KernelError.TheVariants as why
+use Rattle.call_driver.specs.area_reader.declared.error.AreaError.{AreaError}
+use Rattle.call_driver.specs.area_reader.declared.error.AreaError.TheVariants as errors
+use Rattle.call_driver.specs.event_steps.View.{SystemView}
+use Rattle.call_driver.specs.event_steps.declared.outcome.Refusal.TheVariants as refusals
 use Rattle.workload_cli.specs.declared.answer.Answer.{Answer}
 use Rattle.workload_cli.specs.declared.answer.Answer.TheVariants as answers
 

@@ -6,8 +6,8 @@ use Rattle.posix_calls.specs.declared.errno.Errno.TheVariants.{IsDirectory, NotD
 use Rattle.posix_calls.specs.Path.{path_names}
 use Rattle.posix_calls.specs.Resolve.{resolve, then_from, entry_or}
 use Rattle.posix_calls.specs.Tree.{Node, File, Dir, Tree}
-use Rattle.call_effects.specs.NodeView.{NodeView, FileView, DirView}
-use Rattle.call_effects.specs.Wholes.{without_kinds}
+use Rattle.call_driver.specs.call_effects.NodeView.{NodeView, FileView, DirView}
+use Rattle.call_driver.specs.call_effects.Wholes.{without_kinds}
 
 -- what a node has under a name, by what is known of the node
 abbrev pub child_in : NodeView → List ℕ → Result ℕ Errno

@@ -9,7 +9,7 @@ use Rattle.tier_device.specs.Fault.{sound_of}
 use Rattle.tier_device.specs.Stop.{medium_of}
 use Rattle.tier_device.specs.Memory.{memory_left, memory_moment, memory_seen}
 use Rattle.tier_device.specs.AfterStop.{AtRest}
-use Rattle.event_lists.specs.Courses.{PARTS}
+use Rattle.call_driver.specs.event_lists.Courses.{PARTS}
 
 -- the medium in memory beneath one that stops and fails
 abbrev pub beneath : FaultMedia StopMedia → MemMedia

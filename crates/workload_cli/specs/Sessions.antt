@@ -4,7 +4,7 @@ use Rattle.tier_device.specs.declared.fill.Fill.{Fill}
 use Rattle.tier_device.specs.declared.media.Media.{Ghosts}
 use Rattle.script.specs.SystemLines.{Asked, Books, Calls, Digests, Fails, Halts, Moves, Places, Recovers, Steps, Stops, Wipes}
 use Rattle.call_driver.specs.declared.events.Events.{Ghosts as Played}
-use Rattle.system_laws.specs.WorldView.{WorldView}
+use Rattle.call_driver.specs.system_laws.WorldView.{WorldView}
 use Rattle.workload_cli.specs.declared.answer.Answer.{Answer}
 use Rattle.workload_cli.specs.declared.answer.Answer.TheVariants as answers
 use Rattle.workload_cli.specs.declared.script_world.ScriptWorld.{ScriptWorld}

@@ -4,19 +4,19 @@ use Rattle.script.specs.declared.fills.TheConstants.{MEDIA}
 use Rattle.tier_device.specs.declared.fill.Fill.{Fill}
 use Rattle.tier_device.specs.declared.fill.Fill.TheVariants.{New}
 use Rattle.tier_device.specs.declared.media.Media.{Ghosts}
-use Rattle.area_recovery.specs.Errors.{OnBadLog, OnDamage}
-use Rattle.area_recovery.specs.FaultOrMemory.{IsFaultOrMemory}
-use Rattle.area_recovery.specs.PartMedia.{SomeRose}
-use Rattle.area_recovery.specs.Parts.{PartsView, contents_of, part_medium}
-use Rattle.area_recovery.specs.RecoveryStops.{IsRecoveredWorld, StaysStored}
-use Rattle.area_recovery.specs.Refusals.{StoresBadLog, StoresDamage}
-use Rattle.area_recovery.specs.declared.error.RecoveryError.{RecoveryError}
-use Rattle.area_recovery.specs.declared.error.RecoveryError.TheVariants.{DeviceFault}
-use Rattle.layout.specs.Places.{Sizes}
-use Rattle.system_laws.specs.Contents.{CanRecover}
-use Rattle.system_laws.specs.Parts.{medium_of}
-use Rattle.event_lists.specs.Courses.{PARTS}
-use Rattle.system_laws.specs.WorldView.{WorldView}
+use Rattle.world_files.specs.area_recovery.Errors.{OnBadLog, OnDamage}
+use Rattle.world_files.specs.area_recovery.FaultOrMemory.{IsFaultOrMemory}
+use Rattle.world_files.specs.area_recovery.PartMedia.{SomeRose}
+use Rattle.world_files.specs.area_recovery.Parts.{PartsView, contents_of, part_medium}
+use Rattle.world_files.specs.area_recovery.RecoveryStops.{IsRecoveredWorld, StaysStored}
+use Rattle.world_files.specs.area_recovery.Refusals.{StoresBadLog, StoresDamage}
+use Rattle.world_files.specs.area_recovery.declared.error.RecoveryError.{RecoveryError}
+use Rattle.world_files.specs.area_recovery.declared.error.RecoveryError.TheVariants.{DeviceFault}
+use Rattle.call_driver.specs.layout.Places.{Sizes}
+use Rattle.call_driver.specs.system_laws.Contents.{CanRecover}
+use Rattle.call_driver.specs.system_laws.Parts.{medium_of}
+use Rattle.call_driver.specs.event_lists.Courses.{PARTS}
+use Rattle.call_driver.specs.system_laws.WorldView.{WorldView}
 use Rattle.workload_cli.specs.declared.answer.Answer.{Answer}
 use Rattle.workload_cli.specs.declared.answer.Answer.TheVariants as answers
 use Rattle.workload_cli.specs.declared.script_world.ScriptWorld.{ScriptWorld}

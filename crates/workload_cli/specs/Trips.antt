@@ -1,6 +1,6 @@
 -- At which writes and fences the media of a script's world stop and fail.
 use Rattle.std.specs.Prelude.{◌≡◌, ◌+◌, ◌/◌, ℕ, List, map, max, slice_get, slice_set, Some}
-use Rattle.area_recovery.specs.Parts.{PartsView}
+use Rattle.world_files.specs.area_recovery.Parts.{PartsView}
 use Rattle.workload_cli.specs.declared.script_media.ArmedTrip.{ArmedTrip}
 use Rattle.workload_cli.specs.declared.script_media.Trips.{Trips}
 

@@ -3,13 +3,13 @@ ghost use Rattle.std.specs.Prelude.{◌≡◌};
 ghost use Rattle.workload_cli.specs.AnswerText.{failure_answer};
 
 use crate::faults::recovery_fault;
-use area_recovery::RecoveryError;
-use event_steps::Refusal;
-use kernel_fs::Figures;
+use call_driver::in_event_steps::Refusal;
+use call_driver::in_kernel_fs::Figures;
 use posix_calls::{Errno, Reply};
 use script::write_reply;
 use std::io::{self, Write};
 use tier_device::Tier;
+use world_files::in_area_recovery::RecoveryError;
 
 /// What a line that can be read is answered.
 #[derive(Drop)]

@@ -1,9 +1,9 @@
 // What a world answers of its shared area.
 ghost use Rattle.std.specs.Prelude.{◌≡◌, ◌⊎◌, Ok, Err, IfErr, IfOk, OnOk, false};
-ghost use Rattle.call_effects.specs.NodeView.{view_at};
-ghost use Rattle.kernel_fs.specs.KernelAnswers.{OnRefusal};
-ghost use Rattle.shared_area.specs.Parts.{IsNoDamage};
-ghost use Rattle.area_reader.specs.Store.{graph, disk};
+ghost use Rattle.call_driver.specs.call_effects.NodeView.{view_at};
+ghost use Rattle.call_driver.specs.kernel_fs.KernelAnswers.{OnRefusal};
+ghost use Rattle.call_driver.specs.shared_area.Parts.{IsNoDamage};
+ghost use Rattle.call_driver.specs.area_reader.Store.{graph, disk};
 ghost use Rattle.posix_calls.specs.Path.{path_names};
 ghost use Rattle.posix_calls.specs.Resolve as resolve;
 ghost use Rattle.posix_calls.specs.declared.errno.Errno.{Errno};
@@ -14,12 +14,12 @@ ghost use Rattle.workload_cli.specs.AnswerText.{IsNoFile, IsUnread, failure_answ
 
 use crate::answer::{Answer, failure_answer};
 use crate::system_queries::Running;
-use area_reader::AreaError;
-use event_steps::Refusal;
-use interleavings::World;
-use kernel_fs::{Figures, KernelError};
+use call_driver::in_area_reader::AreaError;
+use call_driver::in_event_steps::Refusal;
+use call_driver::in_interleavings::World;
+use call_driver::in_kernel_fs::{Figures, KernelError};
+use call_driver::in_record_validation::NodeSummary;
 use posix_calls::{Errno, Path, ROOT};
-use record_validation::NodeSummary;
 use script::PathText;
 use std::alloc::Global;
 use tier_device::{Media, Tier};

@@ -1,9 +1,9 @@
 //! The lines that explain why there is no world.
 
-use area_recovery::RecoveryError;
-use host_media::FileProblem;
 use script::RunError;
 use world_files::WorldFileError;
+use world_files::in_area_recovery::RecoveryError;
+use world_files::in_host_media::FileProblem;
 
 /// The fault of a run whose world can't be opened or kept.
 pub fn world_fault(error: &WorldFileError) -> RunError {

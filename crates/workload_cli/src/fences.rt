@@ -1,19 +1,19 @@
 //! How a medium that is fenced, one that lies in a file, is brought to rest.
 
 ghost use Rattle.std.specs.Prelude.{◌≡◌, ℕ, List, IfErr, OnErr, OnOk};
-ghost use Rattle.area_recovery.specs.FaultOrMemory.{IsFaultOrMemory};
+ghost use Rattle.world_files.specs.area_recovery.FaultOrMemory.{IsFaultOrMemory};
 ghost use Rattle.tier_device.specs.AfterStop.{AtRest};
 ghost use Rattle.tier_device.specs.Media.{Settles};
 ghost use Rattle.tier_device.specs.declared.media.Tier.{Tier};
-ghost use Rattle.host_media.specs.File.{file_seen};
+ghost use Rattle.world_files.specs.host_media.File.{file_seen};
 ghost use Rattle.workload_cli.specs.Rests.{IsRestOf, LeavesNoMore};
 
 use crate::resting::Resting;
 use crate::script_media::Trips;
-use area_recovery::RecoveryError;
-use host_media::FileMedia;
 use std::alloc::Global;
 use tier_device::{Fill, Media, Tier};
+use world_files::in_area_recovery::RecoveryError;
+use world_files::in_host_media::FileMedia;
 
 /// Fences all tiers of a medium, so that a stop leaves what a read gives. Refused where a device fails: a stop then leaves nothing that it might not have left before.
 pub fn fence_all<M: Media>(medium: &mut M) -> Result<(), RecoveryError>

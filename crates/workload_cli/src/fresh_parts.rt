@@ -4,18 +4,18 @@ ghost use Rattle.std.specs.Prelude.{◌≡◌, [], ◌∷◌, ◌++◌, length, 
 ghost use Rattle.world_files.specs.FileErrors.{IsFormatRefused};
 ghost use Rattle.world_files.specs.Worlds.{IsEmptyWorld};
 ghost use Rattle.world_files.specs.declared.error.WorldFileError.TheVariants.{Memory};
-ghost use Rattle.area_recovery.specs.Regions.{REGIONS};
+ghost use Rattle.world_files.specs.area_recovery.Regions.{REGIONS};
 ghost use Rattle.workload_cli.specs.FreshWorlds.{IsFreshWorld};
 ghost use Rattle.workload_cli.specs.Rests.{beneath};
 ghost use Rattle.workload_cli.specs.Trips.{PartsCount, RegionsCount};
 
 use crate::script_media::{Counting, ScriptMedium, Trips};
 use crate::script_world::ScriptWorld;
-use interleavings::World;
-use layout::Geometry;
-use recovery::{Parts, format};
+use call_driver::in_interleavings::World;
+use call_driver::in_layout::Geometry;
 use std::alloc::Global;
 use tier_device::{FaultMedia, Media, MemMedia, StopMedia};
+use world_files::in_recovery::{Parts, format};
 use world_files::{WorldFileError, WorldSizes, zero_parts};
 
 /// A script's world with the empty tree, of these sizes, of which media may have none.

@@ -12,10 +12,10 @@ use crate::fresh_parts::{count_media, format_world};
 use crate::resting::Resting;
 use crate::script_media::{ScriptMedium, Trips};
 use crate::script_world::ScriptWorld;
-use recovery::{Parts, recover};
 use script::Patch;
 use std::alloc::Global;
 use tier_device::{FaultMedia, Media, StopMedia};
+use world_files::in_recovery::{Parts, recover};
 use world_files::{ImageFile, WorldFileError, WorldSizes, image_bytes, read_parts};
 
 /// The world that an image file holds, recovered; with the empty tree, of these sizes, where there was no file.

@@ -30,3 +30,6 @@ pub use script_world::ScriptWorld;
 pub use session::Session;
 pub use shell::answer_line;
 pub use system_queries::Running;
+
+// Handed on to the crates above, which list only the highest of what they name.
+pub use script as in_script;

@@ -1,19 +1,19 @@
 //! How the media of a script's world are brought to rest after a stop.
 
 ghost use Rattle.std.specs.Prelude.{◌≡◌, ◌+◌, ◌/◌, ℕ, length, slice_get, IfErr, IfOk, OnErr, OnOk, Some};
-ghost use Rattle.area_recovery.specs.FaultOrMemory.{IsFaultOrMemory};
-ghost use Rattle.area_recovery.specs.Parts.{part_medium};
+ghost use Rattle.world_files.specs.area_recovery.FaultOrMemory.{IsFaultOrMemory};
+ghost use Rattle.world_files.specs.area_recovery.Parts.{part_medium};
 ghost use Rattle.workload_cli.specs.Rests.{LeaveNoMore, LeavesNoMore};
 ghost use Rattle.workload_cli.specs.Fills.{AreRestBy, IsRestBy, fill_for};
 ghost use Rattle.workload_cli.specs.Trips.{PartsCount, RegionsCount};
 
 use crate::resting::Resting;
 use crate::script_media::Trips;
-use area_recovery::RecoveryError;
-use recovery::Parts;
 use script::MEDIA;
 use std::alloc::Global;
 use tier_device::Fill;
+use world_files::in_area_recovery::RecoveryError;
+use world_files::in_recovery::Parts;
 
 /// What each medium holds behind a stop where something was written and not kept, by its name.
 pub type Fills = [Fill; MEDIA];

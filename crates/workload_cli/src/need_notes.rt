@@ -1,8 +1,8 @@
 // A running system that notes what its calls need.
 use call_driver::Events;
-use client_plan::{Mode, Need};
-use event_steps::{Event, Outcome};
-use lease_manager::LeaseMode;
+use call_driver::in_client_plan::{Mode, Need};
+use call_driver::in_event_steps::{Event, Outcome};
+use call_driver::in_lease_manager::LeaseMode;
 use std::alloc::Global;
 use std::io::Write;
 

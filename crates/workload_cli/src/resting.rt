@@ -1,15 +1,15 @@
 //! Media that are brought to rest after a stop.
 
 ghost use Rattle.std.specs.Prelude.{ℕ, IfErr, OnErr, OnOk};
-ghost use Rattle.area_recovery.specs.FaultOrMemory.{IsFaultOrMemory};
+ghost use Rattle.world_files.specs.area_recovery.FaultOrMemory.{IsFaultOrMemory};
 ghost use Rattle.tier_device.specs.declared.fill.Fill.{Fill};
 ghost use Rattle.workload_cli.specs.Rests.{IsRestOf, LeavesNoMore};
 ghost use Rattle.workload_cli.specs.declared.script_media.Trips.{Trips};
 
 use crate::script_media::Trips;
-use area_recovery::RecoveryError;
 use std::alloc::Global;
 use tier_device::{Fill, Media};
+use world_files::in_area_recovery::RecoveryError;
 
 /// A medium that is brought to rest after a stop, so that what it holds can be recovered.
 pub trait Resting: Media {

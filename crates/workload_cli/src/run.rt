@@ -16,12 +16,12 @@ use crate::rows::run_table;
 use crate::script_media::{ScriptMedium, Trips};
 use crate::script_world::ScriptWorld;
 use crate::session::Session;
-use area_recovery::RecoveryError;
-use host_media::FileMedia;
 use script::{RunError, ScriptError, ScriptLines, SystemLine, read_system_line, tell, tell_fault};
 use std::alloc::Global;
 use std::io::{BufRead, Write};
 use tier_device::{FaultMedia, Media, StopMedia};
+use world_files::in_area_recovery::RecoveryError;
+use world_files::in_host_media::FileMedia;
 use world_files::{ImageFile, WorldFileError, WorldSizes, open_disk, structure_name};
 
 /// Runs `strata_sh`: the lines of a script are answered one after the other, over a kernel and eight clients on fresh media. The first word is the program's name; `--units`, `--fast`, `--block` and `--slow` say

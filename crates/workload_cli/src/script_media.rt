@@ -12,11 +12,11 @@ ghost use Rattle.workload_cli.specs.Rests.{IsLeftOf, beneath};
 ghost use Rattle.workload_cli.specs.Shares.{SharesFailure, failure_share};
 
 use crate::resting::Resting;
-use area_recovery::RecoveryError;
 use script::MEDIA;
 use std::alloc::{AllocError, Global};
 use std::mem;
 use tier_device::{FaultMedia, Fill, MemMedia, StopMedia, Trip};
+use world_files::in_area_recovery::RecoveryError;
 
 /// A medium of a script's world in memory.
 pub type ScriptMedium = FaultMedia<StopMedia>;

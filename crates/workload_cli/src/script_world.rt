@@ -2,9 +2,9 @@
 
 ghost use Rattle.std.specs.Prelude.{◌≡◌, ◌⊎◌, true, None, Some, IfErr, IfNone, IfOk, IfSome, OnErr, OnOk};
 ghost use Rattle.script.specs.LineValues.{system_line_seen};
-ghost use Rattle.area_recovery.specs.Parts.{AreAtRest, part_medium};
+ghost use Rattle.world_files.specs.area_recovery.Parts.{AreAtRest, part_medium};
 ghost use Rattle.workload_cli.specs.Sessions.{IsFailureArmed, IsRunningAnswered, IsSessionAnswer, takes_line};
-ghost use Rattle.area_recovery.specs.FaultOrMemory.{IsFaultOrMemory};
+ghost use Rattle.world_files.specs.area_recovery.FaultOrMemory.{IsFaultOrMemory};
 ghost use Rattle.workload_cli.specs.Stops.{AreMediaIn, AreRestIn, GoesOn, HasNoMore, HasStopped, IsArmed, IsGoingOn, IsRecoverAnswered, IsRefusedFor, StopsWith, all_by, fills_behind, media_of, running_world};
 ghost use Rattle.tier_device.specs.declared.fill.Fill.TheVariants.{New};
 ghost use Rattle.workload_cli.specs.declared.answer.Answer.TheVariants as answers;
@@ -16,13 +16,13 @@ use crate::script_media::Trips;
 use crate::session::Session;
 use crate::shell::answer_line;
 use crate::system_queries::Running;
-use area_recovery::RecoveryError;
 use call_driver::Events;
-use interleavings::World;
-use recovery::{Parts, recover, take_apart};
+use call_driver::in_interleavings::World;
 use script::{MEDIA, SystemLine};
 use std::alloc::Global;
 use tier_device::Fill;
+use world_files::in_area_recovery::RecoveryError;
+use world_files::in_recovery::{Parts, recover, take_apart};
 
 /// A world that a script stops, or what a stop left of it.
 #[derive(Drop)]

@@ -2,14 +2,14 @@
 ghost use Rattle.std.specs.Prelude.{◌≡◌, ℕ, Bool, false, Ok, Option, Some, None, IfErr, IfOk, OnOk};
 ghost use Rattle.tier_device.specs.declared.media.Tier.{Tier};
 ghost use Rattle.posix_calls.specs.Tree.{Tree};
-ghost use Rattle.event_steps.specs.declared.outcome.Refusal.TheVariants as refusals;
-ghost use Rattle.kernel_fs.specs.declared.kernel.Figures.{Figures};
+ghost use Rattle.call_driver.specs.event_steps.declared.outcome.Refusal.TheVariants as refusals;
+ghost use Rattle.call_driver.specs.kernel_fs.declared.kernel.Figures.{Figures};
 ghost use Rattle.script.specs.LineValues.{path_of};
 ghost use Rattle.workload_cli.specs.Paths.{file_in};
 ghost use Rattle.workload_cli.specs.AnswerText.{IsNoFile};
 
 use crate::answer::Answer;
-use kernel_fs::Figures;
+use call_driver::in_kernel_fs::Figures;
 use script::PathText;
 use std::alloc::Global;
 use tier_device::Tier;

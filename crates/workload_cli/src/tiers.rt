@@ -1,7 +1,7 @@
 // Where the blocks of files lie.
 ghost use Rattle.std.specs.Prelude.{◌≡◌, ◌-◌, ◌^◌, min};
-ghost use Rattle.event_steps.specs.declared.event.Event.TheVariants as kinds;
-ghost use Rattle.event_steps.specs.declared.outcome.Outcome.{Outcome};
+ghost use Rattle.call_driver.specs.event_steps.declared.event.Event.TheVariants as kinds;
+ghost use Rattle.call_driver.specs.event_steps.declared.outcome.Outcome.{Outcome};
 ghost use Rattle.script.specs.LineValues.{path_of};
 ghost use Rattle.workload_cli.specs.LineResults.{IsMoveAnswered, IsPlaceAnswered};
 ghost use Rattle.workload_cli.specs.AnswerText.{tier_below, move_answer};
@@ -9,7 +9,7 @@ ghost use Rattle.workload_cli.specs.AnswerText.{tier_below, move_answer};
 use crate::answer::Answer;
 use crate::system_queries::Running;
 use call_driver::Events;
-use event_steps::{Event, Outcome};
+use call_driver::in_event_steps::{Event, Outcome};
 use script::{LowerTier, PathText};
 use std::alloc::Global;
 use tier_device::Tier;

@@ -2,17 +2,17 @@
 use Rattle.std.proofs.Common.{◌≡◌, ℕ, refl}
 use Rattle.std.specs.Prelude.{◌≢◌}
 use Rattle.tier_device.specs.declared.media.Media.{Ghosts}
-use Rattle.area_recovery.specs.Errors.{OnBadLog, OnDamage}
-use Rattle.area_recovery.specs.FaultOrMemory.{IsFaultOrMemory}
-use Rattle.area_recovery.specs.PartMedia.{SomeRose}
-use Rattle.area_recovery.specs.Parts.{AreAtRest, contents_of}
-use Rattle.area_recovery.specs.RecoveryStops.{StaysStored}
-use Rattle.area_recovery.specs.Refusals.{HaveRegionSizes, IsCause, StoresBadLog, StoresDamage}
-use Rattle.area_recovery.specs.declared.error.RecoveryError.{RecoveryError}
-use Rattle.area_recovery.specs.declared.error.RecoveryError.TheVariants as errors
-use Rattle.layout.specs.Places.{Sizes}
-use Rattle.system_laws.specs.Contents.{CanRecover}
-use Rattle.event_lists.specs.Courses.{WorldContent}
+use Rattle.recovery.specs.area_recovery.Errors.{OnBadLog, OnDamage}
+use Rattle.recovery.specs.area_recovery.FaultOrMemory.{IsFaultOrMemory}
+use Rattle.recovery.specs.area_recovery.PartMedia.{SomeRose}
+use Rattle.recovery.specs.area_recovery.Parts.{AreAtRest, contents_of}
+use Rattle.recovery.specs.area_recovery.RecoveryStops.{StaysStored}
+use Rattle.recovery.specs.area_recovery.Refusals.{HaveRegionSizes, IsCause, StoresBadLog, StoresDamage}
+use Rattle.recovery.specs.area_recovery.declared.error.RecoveryError.{RecoveryError}
+use Rattle.recovery.specs.area_recovery.declared.error.RecoveryError.TheVariants as errors
+use Rattle.recovery.specs.layout.Places.{Sizes}
+use Rattle.recovery.specs.system_laws.Contents.{CanRecover}
+use Rattle.recovery.specs.event_lists.Courses.{WorldContent}
 use Rattle.world_files.specs.Worlds.{IsUnrecovered}
 
 cause_of : (c : WorldContent) (e : RecoveryError) → e ≢ errors.AreaSize → (e ≡ errors.RegionSize → HaveRegionSizes c → ⊥) → OnDamage e (StoresDamage c) → OnBadLog e (StoresBadLog c) → IsCause c e

@@ -1,8 +1,8 @@
 -- Refusals that a world which is made anew may have.
-use Rattle.area_recovery.specs.FaultOrMemory.{IsFaultOrMemory}
+use Rattle.recovery.specs.area_recovery.FaultOrMemory.{IsFaultOrMemory}
 use Rattle.recovery.specs.FreshContents.{IsFormatError}
-use Rattle.area_recovery.specs.declared.error.RecoveryError.{RecoveryError}
-use Rattle.area_recovery.specs.declared.error.RecoveryError.TheVariants as causes
+use Rattle.recovery.specs.area_recovery.declared.error.RecoveryError.{RecoveryError}
+use Rattle.recovery.specs.area_recovery.declared.error.RecoveryError.TheVariants as causes
 use Rattle.world_files.specs.FileErrors.{IsFileOrMemory, IsFormatRefused, IsOfSizes}
 use Rattle.world_files.specs.declared.error.WorldFileError.{WorldFileError}
 use Rattle.world_files.specs.declared.error.WorldFileError.TheVariants as errors

@@ -1,8 +1,8 @@
 -- What a read of a file's front comes to.
 use Rattle.std.proofs.Common.{◌≡◌, List, ℕ, inr, length, sym, subst}
 use Rattle.std.specs.Prelude.{Result, Ok, Err, IfErr, IfOk, None}
-use Rattle.layout.specs.Places.{Sizes}
-use Rattle.layout.specs.declared.places.TheConstants.{BLOCK}
+use Rattle.recovery.specs.layout.Places.{Sizes}
+use Rattle.recovery.specs.layout.declared.places.TheConstants.{BLOCK}
 use Rattle.world_files.specs.Fronts.{IsAtFront, IsFrontRefused}
 use Rattle.world_files.specs.PartSizes.{IsGeometryIn, geometry_in}
 use Rattle.world_files.specs.declared.error.WorldFileError.{WorldFileError}

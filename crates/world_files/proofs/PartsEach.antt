@@ -9,10 +9,10 @@ use Rattle.host_media.specs.declared.sizes.Sizes.{Sizes as TierSizes}
 use Rattle.tier_device.specs.AfterStop.{AtRest}
 use Rattle.tier_device.specs.declared.media.Media.{Ghosts}
 use Rattle.tier_device.specs.declared.media.Tier.{Tier}
-use Rattle.area_recovery.specs.Parts.{AreAtRest, PartsView, part_medium}
-use Rattle.area_recovery.specs.Regions.{REGIONS}
-use Rattle.layout.specs.Places.{Sizes}
-use Rattle.event_lists.specs.Courses.{PARTS}
+use Rattle.recovery.specs.area_recovery.Parts.{AreAtRest, PartsView, part_medium}
+use Rattle.recovery.specs.area_recovery.Regions.{REGIONS}
+use Rattle.recovery.specs.layout.Places.{Sizes}
+use Rattle.recovery.specs.event_lists.Courses.{PARTS}
 use Rattle.world_files.specs.Disks.{AreOnDisk}
 use Rattle.world_files.specs.Images.{AreRead}
 use Rattle.world_files.specs.PartSizes.{IsGeometryIn, image_size, part_sizes}

@@ -6,13 +6,13 @@ use Rattle.tier_device.specs.declared.media.Media.{Ghosts}
 use Rattle.host_media.specs.DiskFile.{file_sizes, places_from}
 use Rattle.host_media.specs.File.{IsOpened, file_begin}
 use Rattle.recovery.specs.FreshContents.{AreLater}
-use Rattle.area_recovery.specs.Parts.{PartsView, part_medium}
-use Rattle.area_recovery.specs.RecoveryStops.{IsRecoveredWorld}
-use Rattle.area_recovery.specs.Regions.{REGIONS}
-use Rattle.area_recovery.specs.declared.error.RecoveryError.{RecoveryError}
-use Rattle.layout.specs.Places.{Sizes}
-use Rattle.system_laws.specs.Parts.{medium_of}
-use Rattle.system_laws.specs.WorldView.{WorldView}
+use Rattle.recovery.specs.area_recovery.Parts.{PartsView, part_medium}
+use Rattle.recovery.specs.area_recovery.RecoveryStops.{IsRecoveredWorld}
+use Rattle.recovery.specs.area_recovery.Regions.{REGIONS}
+use Rattle.recovery.specs.area_recovery.declared.error.RecoveryError.{RecoveryError}
+use Rattle.recovery.specs.layout.Places.{Sizes}
+use Rattle.recovery.specs.system_laws.Parts.{medium_of}
+use Rattle.recovery.specs.system_laws.WorldView.{WorldView}
 use Rattle.world_files.specs.declared.error.WorldFileError.{WorldFileError}
 use Rattle.world_files.specs.declared.error.WorldFileError.TheVariants as errors
 use Rattle.world_files.specs.declared.read_at.ReadAt.{Ghosts as Reads}

@@ -1,7 +1,7 @@
 -- What stands at the front of a file.
 use Rattle.std.specs.Prelude.{◌≡◌, ◌≢◌, ◌⊎◌, ◌<◌, ℕ, List, length, None}
-use Rattle.layout.specs.Places.{Sizes}
-use Rattle.layout.specs.declared.places.TheConstants.{BLOCK}
+use Rattle.recovery.specs.layout.Places.{Sizes}
+use Rattle.recovery.specs.layout.declared.places.TheConstants.{BLOCK}
 use Rattle.world_files.specs.PartSizes.{IsGeometryIn, geometry_in, image_size}
 use Rattle.world_files.specs.declared.error.WorldFileError.{WorldFileError}
 use Rattle.world_files.specs.declared.error.WorldFileError.TheVariants as errors

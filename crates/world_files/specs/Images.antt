@@ -2,8 +2,8 @@
 use Rattle.std.specs.Prelude.{◌≡◌, ◌≢◌, ℕ, List, ◌∷◌, length, map}
 use Rattle.host_media.specs.Images.{media_bytes, medium_sizes}
 use Rattle.tier_device.specs.declared.media.Media.{Ghosts}
-use Rattle.area_recovery.specs.Parts.{AreAtRest, PartsView, part_medium}
-use Rattle.layout.specs.Places.{Sizes}
+use Rattle.recovery.specs.area_recovery.Parts.{AreAtRest, PartsView, part_medium}
+use Rattle.recovery.specs.layout.Places.{Sizes}
 use Rattle.world_files.specs.PartSizes.{IsGeometryIn, image_size, part_sizes}
 use Rattle.world_files.specs.declared.error.WorldFileError.{WorldFileError}
 use Rattle.world_files.specs.declared.error.WorldFileError.TheVariants as errors

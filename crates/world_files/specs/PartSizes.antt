@@ -3,14 +3,14 @@ use Rattle.std.specs.Prelude.{◌≡◌, ℕ, ◌+◌, ◌*◌, Bool, ◌&&◌, 
 use Rattle.host_media.specs.Sizes.{byte_count}
 use Rattle.host_media.specs.declared.sizes.Sizes.{Sizes as TierSizes}
 use Rattle.tier_device.specs.declared.media.Tier.TheVariants.{Fast, Block, Slow}
-use Rattle.layout.specs.Places.{Sizes, geometry_of, sizes, tier_blocks}
-use Rattle.layout.specs.Super.{super_of}
-use Rattle.layout.specs.declared.places.TheConstants.{BLOCK, MAX_DATA_BLOCKS, MAX_UNITS, MIN_UNITS, SPARE_BLOCKS}
-use Rattle.area_recovery.specs.Regions.{REGIONS}
+use Rattle.recovery.specs.layout.Places.{Sizes, geometry_of, sizes, tier_blocks}
+use Rattle.recovery.specs.layout.Super.{super_of}
+use Rattle.recovery.specs.layout.declared.places.TheConstants.{BLOCK, MAX_DATA_BLOCKS, MAX_UNITS, MIN_UNITS, SPARE_BLOCKS}
+use Rattle.recovery.specs.area_recovery.Regions.{REGIONS}
 use Rattle.world_files.specs.declared.sizes.SizeRule.{SizeRule}
 use Rattle.world_files.specs.declared.sizes.SizeRule.TheVariants as rules
 use Rattle.world_files.specs.declared.sizes.WorldSizes.{WorldSizes}
-use Rattle.update_log.specs.declared.format.TheConstants.{REGION_SIZE}
+use Rattle.recovery.specs.update_log.declared.format.TheConstants.{REGION_SIZE}
 
 -- the lengths of the tiers of the shared medium
 abbrev pub shared_sizes : Sizes → TierSizes

@@ -1,15 +1,15 @@
 -- What is known of a world that was made, or recovered.
 use Rattle.std.specs.Prelude.{◌≡◌, ℕ}
 use Rattle.tier_device.specs.declared.media.Media.{Ghosts}
-use Rattle.area_recovery.specs.Parts.{AreAtRest, contents_of}
-use Rattle.area_recovery.specs.RecoveryStops.{AreGivenBack}
-use Rattle.area_recovery.specs.Refusals.{IsCause}
-use Rattle.area_recovery.specs.declared.error.RecoveryError.{RecoveryError}
-use Rattle.layout.specs.Places.{Sizes}
-use Rattle.system_laws.specs.KeptCalls.{no_calls}
-use Rattle.system_laws.specs.Parts.{medium_of}
-use Rattle.system_laws.specs.WorldTree.{world_tree}
-use Rattle.system_laws.specs.WorldView.{WorldView}
+use Rattle.recovery.specs.area_recovery.Parts.{AreAtRest, contents_of}
+use Rattle.recovery.specs.area_recovery.RecoveryStops.{AreGivenBack}
+use Rattle.recovery.specs.area_recovery.Refusals.{IsCause}
+use Rattle.recovery.specs.area_recovery.declared.error.RecoveryError.{RecoveryError}
+use Rattle.recovery.specs.layout.Places.{Sizes}
+use Rattle.recovery.specs.system_laws.KeptCalls.{no_calls}
+use Rattle.recovery.specs.system_laws.Parts.{medium_of}
+use Rattle.recovery.specs.system_laws.WorldTree.{world_tree}
+use Rattle.recovery.specs.system_laws.WorldView.{WorldView}
 use Rattle.posix_calls.specs.EmptyTree.{empty_state}
 
 -- The world with the empty tree, of this geometry, with nothing pending on its media.

@@ -4,8 +4,8 @@ ghost use Rattle.world_files.specs.FileErrors.{IsOfFile};
 ghost use Rattle.world_files.specs.declared.error.WorldFileError.TheVariants.{File, Memory, Recovery};
 
 use crate::sizes::SizeRule;
-use area_recovery::RecoveryError;
 use host_media::{FileError, FileProblem};
+use recovery::in_area_recovery::RecoveryError;
 use std::alloc::AllocError;
 use std::io;
 use thiserror::Error;

@@ -5,7 +5,7 @@ ghost use Rattle.world_files.specs.Fronts.{IsAtFront, IsFrontRefused};
 use crate::error::WorldFileError;
 use crate::geometry::read_geometry;
 use crate::read_at::ReadAt;
-use layout::{BLOCK, Geometry};
+use recovery::in_layout::{BLOCK, Geometry};
 
 /// Reads the geometry from the superblock in the first block of a file; `NoWorld` where none stands there. Refused is a read that fails, too.
 pub(crate) fn front_geometry<F: ReadAt>(file: &F) -> Result<Geometry, WorldFileError>

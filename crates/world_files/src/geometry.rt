@@ -1,17 +1,17 @@
 // The sizes of a world's media.
 ghost use Rattle.std.specs.Prelude.{◌≡◌, ◌*◌, [], ◌∷◌, IfErr, IfOk, None};
 ghost use Rattle.tier_device.specs.declared.media.Tier.TheVariants.{Fast, Block, Slow};
-ghost use Rattle.layout.specs.Places.{tier_blocks};
-ghost use Rattle.layout.specs.declared.places.TheConstants.{BLOCK};
+ghost use Rattle.recovery.specs.layout.Places.{tier_blocks};
+ghost use Rattle.recovery.specs.layout.declared.places.TheConstants.{BLOCK};
 ghost use Rattle.world_files.specs.PartSizes.{IsGeometryIn, geometry_in, image_size, part_sizes};
 ghost use Rattle.world_files.specs.declared.error.WorldFileError.TheVariants.{NoWorld};
 
 use crate::error::WorldFileError;
 use host_media::Sizes;
-use layout::{BLOCK, Geometry, Super};
 use recovery::REGIONS;
+use recovery::in_layout::{BLOCK, Geometry, Super};
+use recovery::in_update_log::REGION_SIZE;
 use tier_device::Tier;
-use update_log::REGION_SIZE;
 
 /// How many media a world has: the shared one, and the regions.
 pub(crate) const PARTS: usize = REGIONS + 1;

@@ -2,7 +2,7 @@
 ghost use Rattle.std.specs.Prelude.{◌≡◌, ◌∷◌, map, replicate, IfErr, IfOk, IsErrOf, length};
 ghost use Rattle.host_media.specs.Images.{media_bytes, medium_sizes};
 ghost use Rattle.tier_device.specs.Memory.{memory_seen};
-ghost use Rattle.area_recovery.specs.Parts.{AreAtRest, part_medium};
+ghost use Rattle.recovery.specs.area_recovery.Parts.{AreAtRest, part_medium};
 ghost use Rattle.world_files.specs.FileErrors.{IsFileOrMemory};
 ghost use Rattle.world_files.specs.Images.{AreRead, HoldsNoWorld, IsReadRefused, parts_image};
 ghost use Rattle.world_files.specs.PartSizes.{IsGeometryIn, image_size, part_sizes};
@@ -12,8 +12,8 @@ use crate::error::WorldFileError;
 use crate::geometry::{image_len, part_sizes, read_geometry};
 use crate::parts::{media_of, parts_of};
 use host_media::{image_of, read_image};
-use layout::Geometry;
 use recovery::Parts;
+use recovery::in_layout::Geometry;
 use std::alloc::Global;
 use tier_device::{Media, MemMedia};
 

@@ -28,3 +28,11 @@ pub use size_options::{
 };
 pub use sizes::{SizeRule, WorldSizes};
 pub use structures::structure_name;
+
+// Handed on to the crates above, which list only the highest of what they name.
+pub use host_media as in_host_media;
+pub use recovery as in_recovery;
+pub use recovery::{
+    in_area_reader, in_area_recovery, in_interleavings, in_layout, in_record_validation,
+    in_shared_area,
+};

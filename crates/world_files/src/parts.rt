@@ -1,7 +1,7 @@
 // The parts of a world as a row of media.
 ghost use Rattle.std.specs.Prelude.{◌≡◌, ◌∷◌, length, IfErr, IfOk};
-ghost use Rattle.area_recovery.specs.Regions.{REGIONS};
-ghost use Rattle.event_lists.specs.Courses.{PARTS};
+ghost use Rattle.recovery.specs.area_recovery.Regions.{REGIONS};
+ghost use Rattle.recovery.specs.event_lists.Courses.{PARTS};
 ghost use Rattle.world_files.specs.declared.error.WorldFileError.TheVariants.{Memory};
 
 use crate::error::WorldFileError;

@@ -6,7 +6,7 @@ ghost use Rattle.world_files.specs.declared.error.WorldFileError.TheVariants.{Si
 ghost use Rattle.world_files.specs.declared.sizes.SizeRule.{SizeRule};
 
 use crate::error::WorldFileError;
-use layout::Geometry;
+use recovery::in_layout::Geometry;
 use thiserror::Error;
 
 /// The most units, and the most data blocks of one tier.

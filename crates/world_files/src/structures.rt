@@ -1,5 +1,5 @@
 // What the structures of the shared medium are called.
-use layout::What;
+use recovery::in_layout::What;
 
 /// What a structure of `docs/FORMAT.md` is called where it is damaged.
 pub fn structure_name(structure: What) -> &'static str {

@@ -2,7 +2,7 @@
 use Rattle.std.proofs.Common.{◌≡◌, ◌≢◌, ◌⊎◌, inl, inr, ℕ, suc, ◌+◌, ◌-◌, ◌≤◌, true, List, [], ◌∷◌, length, refl, ap, sym, ◌∙◌, arith}
 use Rattle.std.proofs.lemmas.List.{length-append, length-drop}
 use Rattle.posix_calls.specs.Operations.{is_client}
-use Rattle.log_record.specs.declared.format.Record.{Record}
+use Rattle.call_effects.specs.log_record.declared.format.Record.{Record}
 use Rattle.world_invariant.specs.World.{Region, Wiped, Away, Back, Client, World, at}
 use Rattle.world_invariant.specs.ClientParts.{IsMarked}
 use Rattle.world_invariant.specs.Invariant.{IsCoherent}

@@ -2,10 +2,10 @@
 use Rattle.std.proofs.Common.{◌≡◌, ◌≢◌, ℕ, ◌+◌, ◌≤◌, ◌||◌, Bool, true, false, refl, ap, sym, ◌∙◌, arith}
 use Rattle.posix_calls.specs.Tree.{sum_up_to}
 use Rattle.posix_calls.specs.Operations.{is_client}
-use Rattle.file_graph.specs.Graph.{Graph}
+use Rattle.call_effects.specs.file_graph.Graph.{Graph}
 use Rattle.call_effects.specs.Wholes.{IsSound}
 use Rattle.call_effects.specs.Knowledge.{Agrees}
-use Rattle.file_graph.specs.Units.{charge}
+use Rattle.call_effects.specs.file_graph.Units.{charge}
 use Rattle.world_invariant.specs.World.{Account, Client, World, undigested_records, has_lease, log_of, whole_graph, held_descriptors, at, moved_world}
 use Rattle.world_invariant.specs.ClientParts.{IsBooked, IsBeside}
 use Rattle.world_invariant.specs.Invariant.{IsCoherent}

@@ -18,7 +18,7 @@ use Rattle.world_invariant.proofs.Parts.{client_parts}
 use Rattle.world_invariant.proofs.Regions.{taken_back_holds}
 use Rattle.world_invariant.proofs.Walks.{ready_holds, planned, held_both}
 use Rattle.world_invariant.proofs.NewNodes.{new_paid, new_names_none, new_keeps_limits}
-use Rattle.file_graph.specs.declared.effect.Kind.TheVariants as kind
+use Rattle.call_effects.specs.file_graph.declared.effect.Kind.TheVariants as kind
 use Rattle.world_invariant.proofs.UnlinkWalks.{opening_holds, kept_holds}
 
 opening_parts : (q : ClientPart) → HoldsOf q initial_world.kernel.shared (initial_world.kernel.accounts 1) 1 (initial_world.clients 1)

@@ -3,8 +3,8 @@ use Rattle.std.proofs.Common.{◌≡◌, ◌≢◌, inl, inr, ℕ, ◌==◌, ◌
 use Rattle.std.specs.Prelude.{option_map, ◌&&◌}
 use Rattle.std.proofs.lemmas.Bool.{false≢true}
 use Rattle.std.proofs.lemmas.Bool.Decides.{eqb_tells}
-use Rattle.file_graph.specs.Graph.{Graph, fresh, file_bytes}
-use Rattle.file_graph.specs.Units.{charge}
+use Rattle.call_effects.specs.file_graph.Graph.{Graph, fresh, file_bytes}
+use Rattle.call_effects.specs.file_graph.Units.{charge}
 use Rattle.call_effects.specs.Blocks.{block_at, block_of, range_by}
 use Rattle.call_effects.specs.Knowledge.{Agrees, IsPlanned, IsPutBack, part_of}
 use Rattle.call_effects.specs.NodeView.{NodeView, view_at}

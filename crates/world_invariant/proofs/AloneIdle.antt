@@ -4,8 +4,8 @@ use Rattle.std.proofs.lemmas.Bool.{false≢true}
 use Rattle.posix_calls.specs.Tree.{sum_up_to}
 use Rattle.posix_calls.specs.Operations.{is_client}
 use Rattle.posix_calls.proofs.Sums.{all_zero, one_changes, same_if}
-use Rattle.file_graph.specs.Graph.{Graph}
-use Rattle.file_graph.specs.Units.{charge}
+use Rattle.call_effects.specs.file_graph.Graph.{Graph}
+use Rattle.call_effects.specs.file_graph.Units.{charge}
 use Rattle.call_effects.specs.ClosedGraph.{nobody}
 use Rattle.call_effects.specs.Wholes.{IsSound}
 use Rattle.call_effects.specs.Knowledge.{Knowledge, Agrees}

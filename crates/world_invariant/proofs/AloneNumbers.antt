@@ -2,15 +2,15 @@
 use Rattle.std.proofs.Common.{◌≡◌, ◌≢◌, inl, ℕ, ◌+◌, ◌≤◌, ◌==◌, ◌||◌, Bool, List, [], ◌∷◌, true, false, refl, ap, sym, ◌∙◌, subst, arith}
 use Rattle.std.specs.Prelude.{is_some}
 use Rattle.std.proofs.lemmas.Bool.{false≢true, eqb-true}
-use Rattle.file_graph.specs.Graph.{Graph, fresh, after_effects}
-use Rattle.file_graph.specs.Units.{charge}
-use Rattle.file_graph.specs.declared.effect.Kind.TheVariants as kind
+use Rattle.call_effects.specs.file_graph.Graph.{Graph, fresh, after_effects}
+use Rattle.call_effects.specs.file_graph.Units.{charge}
+use Rattle.call_effects.specs.file_graph.declared.effect.Kind.TheVariants as kind
 use Rattle.call_effects.specs.ClosedGraph.{nobody}
 use Rattle.call_effects.specs.Wholes.{IsSound}
 use Rattle.call_effects.specs.Knowledge.{Agrees}
 use Rattle.call_effects.proofs.Fresh.{fresh_sound}
 use Rattle.call_effects.specs.Fits.{IsNew}
-use Rattle.log_record.specs.declared.format.Record.{Record}
+use Rattle.call_effects.specs.log_record.declared.format.Record.{Record}
 use Rattle.world_invariant.specs.Logs.{IsPaid, Keeps, NamesNone}
 use Rattle.world_invariant.specs.Limits.{IsWithin}
 use Rattle.world_invariant.specs.World.{Account, Away, Client}

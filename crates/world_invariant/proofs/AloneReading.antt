@@ -9,8 +9,8 @@ use Rattle.posix_calls.specs.Decide.{pread}
 use Rattle.posix_calls.specs.Kinds.{opens}
 use Rattle.posix_calls.proofs.Chain.{part_bind, part_gives, part_refuses}
 use Rattle.posix_calls.proofs.Sums.{all_zero}
-use Rattle.file_graph.specs.Graph.{Graph}
-use Rattle.file_graph.specs.Units.{growth}
+use Rattle.call_effects.specs.file_graph.Graph.{Graph}
+use Rattle.call_effects.specs.file_graph.Units.{growth}
 use Rattle.call_effects.specs.Knowledge.{IsPlanned, Knowledge, part_of}
 use Rattle.world_invariant.specs.World.{Begun, Client}
 use Rattle.world_invariant.specs.Invariant.{IsCoherent}

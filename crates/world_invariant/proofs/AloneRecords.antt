@@ -9,14 +9,14 @@ use Rattle.posix_calls.specs.Units.{directory_units}
 use Rattle.posix_calls.specs.Tree.{sum_up_to}
 use Rattle.posix_calls.proofs.Counts.{order}
 use Rattle.posix_calls.proofs.Sums.{all_zero, one_changes}
-use Rattle.file_graph.specs.Graph.{Graph, Node, fresh, after_effects, touches, is_among}
-use Rattle.file_graph.specs.Units.{charge, growth, rise}
-use Rattle.file_graph.specs.declared.effect.Kind.{Kind}
-use Rattle.file_graph.specs.declared.effect.Kind.TheVariants as kind
+use Rattle.call_effects.specs.file_graph.Graph.{Graph, Node, fresh, after_effects, touches, is_among}
+use Rattle.call_effects.specs.file_graph.Units.{charge, growth, rise}
+use Rattle.call_effects.specs.file_graph.declared.effect.Kind.{Kind}
+use Rattle.call_effects.specs.file_graph.declared.effect.Kind.TheVariants as kind
 use Rattle.call_effects.specs.ClosedGraph.{nobody}
 use Rattle.call_effects.specs.Wholes.{IsSound}
 use Rattle.call_effects.proofs.Rises.{len_inserted}
-use Rattle.log_record.specs.declared.format.Record.{Record}
+use Rattle.call_effects.specs.log_record.declared.format.Record.{Record}
 use Rattle.world_invariant.specs.Limits.{AreWithin}
 use Rattle.world_invariant.specs.Logs.{after_records, after_clients, NamesNone, IsPaid}
 use Rattle.world_invariant.specs.World.{Account, Away, Client, whole_graph, held_descriptors, has_lease}

@@ -1,6 +1,6 @@
 -- Small worlds that break a part of the invariant on a client's regions, and no other part.
 use Rattle.std.proofs.Common.{◌≡◌, ◌≢◌, ℕ, ◌≤◌, [], ◌∷◌, false, refl, sym, arith}
-use Rattle.log_record.specs.declared.format.Record.{Record}
+use Rattle.call_effects.specs.log_record.declared.format.Record.{Record}
 use Rattle.world_invariant.specs.World.{Account, Away, Back, Client}
 use Rattle.world_invariant.specs.Machine.{CanAccept, sealed_of}
 use Rattle.world_invariant.specs.Walk.{mkdir_a, make_world, made_world, handed_world, back}

@@ -1,7 +1,7 @@
 -- What is so of each of some records, over the graph after those before it.
 use Rattle.std.proofs.Common.{List, [], ◌∷◌, ◌++◌}
-use Rattle.file_graph.specs.Graph.{Graph, after_effects}
-use Rattle.log_record.specs.declared.format.Record.{Record}
+use Rattle.call_effects.specs.file_graph.Graph.{Graph, after_effects}
+use Rattle.call_effects.specs.log_record.declared.format.Record.{Record}
 use Rattle.world_invariant.specs.Logs.{after_records, Along}
 
 module _ (IsSo : Graph → Record → Type 0) where

@@ -1,7 +1,7 @@
 -- What goes wrong in small worlds that break one part of the invariant each: logs over a graph.
 use Rattle.std.proofs.Common.{◌≢◌, ◌==◌, Bool, false, [], ◌∷◌, refl, Some, None, Option, ap, sym}
 use Rattle.std.proofs.lemmas.Bool.{false≢true}
-use Rattle.file_graph.specs.Graph.{Graph, Node}
+use Rattle.call_effects.specs.file_graph.Graph.{Graph, Node}
 use Rattle.world_invariant.specs.Logs.{after_each, LogsAreApart}
 use Rattle.world_invariant.specs.BrokenWorlds.{both_counting, one_file}
 

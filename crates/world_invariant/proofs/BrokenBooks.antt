@@ -6,7 +6,7 @@ use Rattle.std.proofs.lemmas.Bool.Decides.{eqb_tells}
 use Rattle.posix_calls.specs.Tree.{State, refers_to, has_open, is_open}
 use Rattle.posix_calls.specs.Operations.{is_client}
 use Rattle.posix_calls.proofs.Sums.{any_there, any_is}
-use Rattle.file_graph.specs.Graph.{FileBody}
+use Rattle.call_effects.specs.file_graph.Graph.{FileBody}
 use Rattle.call_effects.specs.Knowledge.{Agrees}
 use Rattle.call_effects.specs.Wholes.{keep, tree_node}
 use Rattle.world_invariant.specs.Limits.{IsWithin, AreWithin}

@@ -14,9 +14,9 @@ use Rattle.posix_calls.specs.declared.call.Reply.TheVariants as reply
 use Rattle.posix_calls.specs.declared.operation.Operation.TheVariants.{Tell}
 use Rattle.posix_calls.proofs.Chain.{part_bind, part_gives, part_refuses}
 use Rattle.posix_calls.proofs.Counts.{order}
-use Rattle.file_graph.specs.Graph.{fresh}
-use Rattle.file_graph.specs.declared.effect.Kind.{Kind}
-use Rattle.file_graph.specs.declared.effect.Kind.TheVariants as kind
+use Rattle.call_effects.specs.file_graph.Graph.{fresh}
+use Rattle.call_effects.specs.file_graph.declared.effect.Kind.{Kind}
+use Rattle.call_effects.specs.file_graph.declared.effect.Kind.TheVariants as kind
 use Rattle.call_effects.specs.Knowledge.{Agrees, part_of}
 use Rattle.call_effects.specs.NodeView.{view_at}
 use Rattle.call_effects.specs.Wholes.{without_kinds}

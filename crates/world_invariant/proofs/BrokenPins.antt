@@ -4,7 +4,7 @@ use Rattle.std.specs.Prelude.{is_some, option_map}
 use Rattle.std.proofs.lemmas.Bool.{false≢true}
 use Rattle.posix_calls.specs.Tree.{State, refers_to, has_open, is_open}
 use Rattle.posix_calls.proofs.Sums.{any_there}
-use Rattle.file_graph.specs.Graph.{FileBody}
+use Rattle.call_effects.specs.file_graph.Graph.{FileBody}
 use Rattle.call_effects.specs.Wholes.{keep, tree_node}
 use Rattle.world_invariant.specs.Logs.{after_clients}
 use Rattle.world_invariant.specs.World.{World, whole_graph, held_descriptors, world_state}

@@ -4,8 +4,8 @@ use Rattle.std.specs.Prelude.{is_some}
 use Rattle.std.proofs.lemmas.Bool.{false≢true}
 use Rattle.posix_calls.specs.Tree.{sum_up_to}
 use Rattle.posix_calls.specs.declared.limits.TheConstants.{MAX_FILE}
-use Rattle.file_graph.specs.Graph.{fresh, after_effects}
-use Rattle.file_graph.specs.Units.{charge}
+use Rattle.call_effects.specs.file_graph.Graph.{fresh, after_effects}
+use Rattle.call_effects.specs.file_graph.Units.{charge}
 use Rattle.call_effects.specs.Wholes.{IsSound}
 use Rattle.world_invariant.specs.Limits.{AreWithin}
 use Rattle.world_invariant.specs.Logs.{after_clients, units_in}

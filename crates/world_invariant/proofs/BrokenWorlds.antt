@@ -6,10 +6,10 @@ use Rattle.std.proofs.lemmas.Bool.{false≢true}
 use Rattle.std.proofs.lemmas.Bool.Decides.{eqb_tells}
 use Rattle.posix_calls.specs.Tree.{State, sum_up_to}
 use Rattle.posix_calls.proofs.Sums.{one_changes}
-use Rattle.file_graph.specs.Graph.{Graph, fresh, cost, after_effects, touches, is_among}
-use Rattle.file_graph.specs.Units.{charge, growth}
-use Rattle.file_graph.proofs.Touches.{untouched, charge_rises}
-use Rattle.log_record.specs.declared.format.Record.{Record}
+use Rattle.call_effects.specs.file_graph.Graph.{Graph, fresh, cost, after_effects, touches, is_among}
+use Rattle.call_effects.specs.file_graph.Units.{charge, growth}
+use Rattle.call_effects.proofs.file_graph_lemmas.Touches.{untouched, charge_rises}
+use Rattle.call_effects.specs.log_record.declared.format.Record.{Record}
 use Rattle.call_effects.specs.Knowledge.{Agrees}
 use Rattle.call_effects.specs.NodeView.{NodeView, FileView, DirView, view_at}
 use Rattle.call_effects.specs.Wholes.{IsSound}

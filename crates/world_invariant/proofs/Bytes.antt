@@ -17,7 +17,7 @@ use Rattle.posix_calls.specs.declared.operation.Missing.TheVariants as missing
 use Rattle.posix_calls.specs.declared.operation.Operation.{Operation}
 use Rattle.posix_calls.specs.declared.operation.Operation.TheVariants.{Tell, CloseFile}
 use Rattle.posix_calls.specs.declared.operation.Replaced.TheVariants.{OldFile}
-use Rattle.file_graph.specs.declared.effect.Effect.{Effect}
+use Rattle.call_effects.specs.file_graph.declared.effect.Effect.{Effect}
 use Rattle.call_effects.specs.Effects.{recounted_file}
 use Rattle.call_effects.specs.Records.{effects_asked, names_if}
 use Rattle.call_effects.proofs.KnownAsking.{bind_known}

@@ -6,8 +6,8 @@ use Rattle.posix_calls.specs.declared.call.Call.{Call}
 use Rattle.posix_calls.specs.declared.operation.Operation.{Operation}
 use Rattle.posix_calls.specs.declared.operation.Operation.TheVariants.{Tell, NewDir, NewFile, OpenFile, CloseFile, Write, Resize, RemoveDir, AddName, DropName, Move}
 use Rattle.posix_calls.specs.declared.operation.Replaced.TheVariants.{Nothing, OldFile, OldDir}
-use Rattle.file_graph.specs.declared.effect.Effect.{Effect}
-use Rattle.log_record.specs.declared.format.Record.{Record}
+use Rattle.call_effects.specs.file_graph.declared.effect.Effect.{Effect}
+use Rattle.call_effects.specs.log_record.declared.format.Record.{Record}
 use Rattle.call_effects.specs.Effects.{effects_by, stored_at, recounted_file}
 use Rattle.call_effects.specs.Knowledge.{IsPlanned}
 use Rattle.call_effects.proofs.KnownSteps.{planned_answer}

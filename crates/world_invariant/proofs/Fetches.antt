@@ -8,8 +8,8 @@ use Rattle.posix_calls.specs.Decide.{decide}
 use Rattle.posix_calls.specs.Part.{Known, run_part}
 use Rattle.posix_calls.specs.declared.call.Call.{Call}
 use Rattle.posix_calls.specs.declared.operation.Operation.{Operation}
-use Rattle.file_graph.specs.Graph.{FileBody, file_bytes}
-use Rattle.file_graph.specs.declared.effect.Effect.{Effect}
+use Rattle.call_effects.specs.file_graph.Graph.{FileBody, file_bytes}
+use Rattle.call_effects.specs.file_graph.declared.effect.Effect.{Effect}
 use Rattle.call_effects.specs.Blocks.{block_of, block_at}
 use Rattle.call_effects.specs.NodeView.{NodeView, view_of_node, view_at}
 use Rattle.call_effects.specs.Records.{effects_asked}

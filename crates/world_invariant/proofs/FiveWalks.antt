@@ -14,8 +14,8 @@ use Rattle.posix_calls.specs.Decide.{open_path, mkdir, unlink}
 use Rattle.posix_calls.proofs.Chain.{part_bind, part_gives, part_refuses}
 use Rattle.posix_calls.proofs.Counts.{order}
 use Rattle.posix_calls.proofs.Directory.{lists}
-use Rattle.file_graph.specs.declared.effect.Kind.{Kind}
-use Rattle.file_graph.specs.declared.effect.Kind.TheVariants as kind
+use Rattle.call_effects.specs.file_graph.declared.effect.Kind.{Kind}
+use Rattle.call_effects.specs.file_graph.declared.effect.Kind.TheVariants as kind
 use Rattle.call_effects.specs.Knowledge.{part_of}
 use Rattle.call_effects.specs.Records.{units_asked}
 use Rattle.call_effects.specs.Wholes.{without_kinds}

@@ -4,8 +4,8 @@ use Rattle.std.specs.FinMap as fin
 use Rattle.std.proofs.lemmas.Bool.Decides.{eqb_tells}
 use Rattle.posix_calls.specs.Content.{Entries}
 use Rattle.posix_calls.proofs.Counts.{order}
-use Rattle.file_graph.specs.Graph.{DirBody, fresh}
-use Rattle.file_graph.specs.declared.effect.Kind.{Kind}
+use Rattle.call_effects.specs.file_graph.Graph.{DirBody, fresh}
+use Rattle.call_effects.specs.file_graph.declared.effect.Kind.{Kind}
 use Rattle.world_invariant.specs.Limits.{AreEntriesWithin, IsNodeWithin, IsWithin, AreWithin}
 use Rattle.world_invariant.proofs.Idle.{none_some}
 

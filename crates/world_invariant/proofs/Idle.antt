@@ -4,11 +4,11 @@ use Rattle.std.proofs.lemmas.Bool.{false≢true}
 use Rattle.posix_calls.specs.Tree.{sum_up_to}
 use Rattle.posix_calls.specs.Operations.{is_client}
 use Rattle.posix_calls.proofs.Sums.{all_zero}
-use Rattle.file_graph.specs.Graph.{Graph}
-use Rattle.file_graph.specs.Units.{charge}
+use Rattle.call_effects.specs.file_graph.Graph.{Graph}
+use Rattle.call_effects.specs.file_graph.Units.{charge}
 use Rattle.call_effects.specs.ClosedGraph.{nobody}
 use Rattle.call_effects.specs.Wholes.{IsSound, state_of}
-use Rattle.log_record.specs.declared.format.Record.{Record}
+use Rattle.call_effects.specs.log_record.declared.format.Record.{Record}
 use Rattle.world_invariant.specs.Limits.{AreWithin}
 use Rattle.world_invariant.specs.Logs.{after_clients, is_written, ArePaid, NameNone, KeepLimits, units_in, is_made_in, IsMadeOnce}
 use Rattle.world_invariant.specs.World.{records_of, whole_graph, held_descriptors, world_state}

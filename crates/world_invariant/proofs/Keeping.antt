@@ -1,9 +1,9 @@
 -- What is so of what stands at an inode, and stays so after each record.
 use Rattle.std.proofs.Common.{◌≡◌, ◌≢◌, inl, inr, ℕ, true, false, List, [], ◌∷◌, None, Option, sym, ◌∙◌, subst, ap}
 use Rattle.std.proofs.lemmas.Bool.Decides.{eqb_tells}
-use Rattle.file_graph.specs.Graph.{Graph, Node, after_effects}
-use Rattle.file_graph.proofs.Touches.{untouched, alone}
-use Rattle.log_record.specs.declared.format.Record.{Record}
+use Rattle.call_effects.specs.file_graph.Graph.{Graph, Node, after_effects}
+use Rattle.call_effects.proofs.file_graph_lemmas.Touches.{untouched, alone}
+use Rattle.call_effects.specs.log_record.declared.format.Record.{Record}
 use Rattle.world_invariant.specs.Logs.{after_records, is_touched, is_written, is_made, is_made_in, Along, Keeps}
 use Rattle.world_invariant.proofs.Records.{either, in_first, in_rest, or_first, or_rest}
 use Rattle.world_invariant.proofs.Made.{effects_none}

@@ -4,8 +4,8 @@ use Rattle.std.proofs.lemmas.Bool.Decides.{eqb_tells}
 use Rattle.posix_calls.specs.Tree.{sum_up_to}
 use Rattle.posix_calls.specs.Operations.{is_client}
 use Rattle.posix_calls.proofs.Sums.{same_if, there_if, one_changes}
-use Rattle.file_graph.specs.Graph.{Graph}
-use Rattle.file_graph.specs.Units.{charge}
+use Rattle.call_effects.specs.file_graph.Graph.{Graph}
+use Rattle.call_effects.specs.file_graph.Units.{charge}
 use Rattle.world_invariant.specs.Limits.{AreWithin}
 use Rattle.world_invariant.specs.World.{Account, Kernel, at}
 use Rattle.world_invariant.specs.ClientParts.{IsBooked}

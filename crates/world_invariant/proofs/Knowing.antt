@@ -11,9 +11,9 @@ use Rattle.posix_calls.specs.declared.descriptor.Descriptor.{Descriptor}
 use Rattle.posix_calls.specs.declared.operation.Operation.{Operation}
 use Rattle.posix_calls.specs.declared.operation.Operation.TheVariants.{Tell, NewDir, NewFile, OpenFile, CloseFile, Write, Resize, RemoveDir, AddName, DropName, Move}
 use Rattle.posix_calls.proofs.Sums.{same_if}
-use Rattle.file_graph.specs.Graph.{Graph, after_effects, is_among, touches, subjects}
+use Rattle.call_effects.specs.file_graph.Graph.{Graph, after_effects, is_among, touches, subjects}
 use Rattle.std.proofs.lemmas.List.Concat.{flat_map-cons}
-use Rattle.file_graph.specs.declared.effect.Effect.{Effect}
+use Rattle.call_effects.specs.file_graph.declared.effect.Effect.{Effect}
 use Rattle.call_effects.specs.Blocks.{block_after, block_acted}
 use Rattle.call_effects.specs.NodeView.{view_after}
 use Rattle.call_effects.specs.Wholes.{IsSound}

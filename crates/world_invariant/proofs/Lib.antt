@@ -60,3 +60,5 @@ pub mod AllAlone
 pub mod Accepting
 pub mod OwnCopies
 pub mod BurialWalks
+-- Handed on to the crates above, which list only the highest of what they name.
+pub use Rattle.call_effects.proofs as call_effects_lemmas

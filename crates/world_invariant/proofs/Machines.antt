@@ -8,9 +8,9 @@ use Rattle.std.proofs.Math.Seq.{drop-append_seam}
 use Rattle.posix_calls.specs.Tree.{sum_up_to}
 use Rattle.posix_calls.specs.Operations.{is_client}
 use Rattle.posix_calls.proofs.Sums.{same_if, there_if}
-use Rattle.file_graph.specs.Graph.{Graph, set_node}
-use Rattle.file_graph.specs.Units.{charge}
-use Rattle.log_record.specs.declared.format.Record.{Record}
+use Rattle.call_effects.specs.file_graph.Graph.{Graph, set_node}
+use Rattle.call_effects.specs.file_graph.Units.{charge}
+use Rattle.call_effects.specs.log_record.declared.format.Record.{Record}
 use Rattle.world_invariant.specs.Limits.{IsWithin}
 use Rattle.world_invariant.specs.Logs.{after_records, is_written, is_made_in, IsMadeOnce, units_in, IsPaid, Along, Keeps, NamesNone}
 use Rattle.world_invariant.specs.World.{Account, Client, Kernel, undigested_records, records_of, change_of, at}

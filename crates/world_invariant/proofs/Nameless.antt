@@ -14,10 +14,10 @@ use Rattle.posix_calls.specs.declared.errno.Errno.TheVariants as errno
 use Rattle.posix_calls.specs.declared.operation.Operation.{Operation}
 use Rattle.posix_calls.specs.declared.operation.Operation.TheVariants.{Tell, NewDir, NewFile, OpenFile, CloseFile, Write, Resize, RemoveDir, AddName, DropName, Move}
 use Rattle.posix_calls.specs.declared.operation.Replaced.TheVariants.{Nothing, OldFile, OldDir}
-use Rattle.file_graph.specs.Graph.{Graph, Node, FileBody, after_effect, after_effects, subject_after, is_among}
-use Rattle.file_graph.specs.declared.effect.Effect.{Effect}
-use Rattle.file_graph.specs.declared.effect.Effect.TheVariants as effect
-use Rattle.file_graph.specs.declared.effect.Kind.TheVariants as kind
+use Rattle.call_effects.specs.file_graph.Graph.{Graph, Node, FileBody, after_effect, after_effects, subject_after, is_among}
+use Rattle.call_effects.specs.file_graph.declared.effect.Effect.{Effect}
+use Rattle.call_effects.specs.file_graph.declared.effect.Effect.TheVariants as effect
+use Rattle.call_effects.specs.file_graph.declared.effect.Kind.TheVariants as kind
 use Rattle.call_effects.specs.Effects.{stored_count, effects_by, stored_at, recounted_file}
 use Rattle.call_effects.specs.Wholes.{IsSound, kind_of, one_if, graph_view}
 use Rattle.call_effects.specs.Fits.{IsNew, IsEmptyDir, OperationFits}

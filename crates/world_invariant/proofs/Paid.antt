@@ -1,9 +1,9 @@
 -- A record's growth is the same wherever it is measured, so what is paid at the call is paid at the digest.
 use Rattle.std.proofs.Common.{◌≡◌, ℕ, ◌+◌, ◌≤◌, true, List, [], ◌∷◌, subst, arith}
-use Rattle.file_graph.specs.Graph.{Graph, after_effects}
-use Rattle.file_graph.specs.Units.{charge, growth}
-use Rattle.file_graph.proofs.Touches.{alone, charge_rises}
-use Rattle.log_record.specs.declared.format.Record.{Record}
+use Rattle.call_effects.specs.file_graph.Graph.{Graph, after_effects}
+use Rattle.call_effects.specs.file_graph.Units.{charge, growth}
+use Rattle.call_effects.proofs.file_graph_lemmas.Touches.{alone, charge_rises}
+use Rattle.call_effects.specs.log_record.declared.format.Record.{Record}
 use Rattle.call_effects.proofs.Rises.{growth_local}
 use Rattle.world_invariant.specs.Logs.{after_records, is_touched, is_written, units_in, ArePaid}
 use Rattle.world_invariant.proofs.Records.{in_first, in_rest}

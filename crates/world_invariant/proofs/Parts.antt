@@ -1,6 +1,6 @@
 -- The invariant is all of its parts.
 use Rattle.std.proofs.Common.{ℕ}
-use Rattle.file_graph.specs.Graph.{Graph}
+use Rattle.call_effects.specs.file_graph.Graph.{Graph}
 use Rattle.world_invariant.specs.World.{Account, Client, Kernel, World}
 use Rattle.world_invariant.specs.ClientParts.{IsBooked, IsSoundPart}
 use Rattle.world_invariant.specs.Invariant.{IsCoherent}

@@ -1,7 +1,7 @@
 -- What is said of a part depends on the shared graph only where its records write, and on its account only by what they need.
 use Rattle.std.proofs.Common.{◌≡◌, ◌≢◌, ℕ, ◌+◌, ◌-◌, ◌≤◌, Bool, true, false, List, ◌++◌, length, drop, None, sym, subst}
-use Rattle.file_graph.specs.Graph.{Graph}
-use Rattle.log_record.specs.declared.format.Record.{Record}
+use Rattle.call_effects.specs.file_graph.Graph.{Graph}
+use Rattle.call_effects.specs.log_record.declared.format.Record.{Record}
 use Rattle.world_invariant.specs.Limits.{IsWithin}
 use Rattle.world_invariant.specs.Logs.{is_written, is_made_in, IsMadeOnce, units_in, IsNameless}
 use Rattle.world_invariant.specs.World.{Account, Client, undigested_records, records_of, change_of}

@@ -6,11 +6,11 @@ use Rattle.posix_calls.specs.Tree.{Own, sum_up_to, any_up_to, refers_to, has_ope
 use Rattle.posix_calls.specs.Operations.{is_client}
 use Rattle.posix_calls.specs.declared.descriptor.Descriptor.{Descriptor}
 use Rattle.posix_calls.proofs.Sums.{same_if, there_if, any_is}
-use Rattle.file_graph.specs.Graph.{Graph, FileBody, set_node, cost, after_effects, is_among, touches}
-use Rattle.file_graph.specs.Units.{charge, rise, growth}
-use Rattle.file_graph.specs.declared.effect.Effect.{Effect}
-use Rattle.file_graph.proofs.Touches.{alone}
-use Rattle.log_record.specs.declared.format.Record.{Record}
+use Rattle.call_effects.specs.file_graph.Graph.{Graph, FileBody, set_node, cost, after_effects, is_among, touches}
+use Rattle.call_effects.specs.file_graph.Units.{charge, rise, growth}
+use Rattle.call_effects.specs.file_graph.declared.effect.Effect.{Effect}
+use Rattle.call_effects.proofs.file_graph_lemmas.Touches.{alone}
+use Rattle.call_effects.specs.log_record.declared.format.Record.{Record}
 use Rattle.call_effects.specs.Wholes.{IsSound, state_of}
 use Rattle.call_effects.specs.Fits.{IsUnusedFile}
 use Rattle.call_effects.specs.Knowledge.{Agrees}

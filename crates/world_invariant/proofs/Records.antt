@@ -1,9 +1,9 @@
 -- Records at one inode: what they make of it depends on what stands there alone, and who doesn't touch it leaves it.
 use Rattle.std.proofs.Common.{◌≡◌, ◌⊎◌, inl, inr, ℕ, ◌+◌, ◌||◌, Bool, true, false, List, [], ◌∷◌, ◌++◌, refl, ap, sym, ◌∙◌, arith}
 use Rattle.std.proofs.lemmas.Bool.{false≢true}
-use Rattle.file_graph.specs.Graph.{Graph, after_effects}
-use Rattle.file_graph.proofs.Touches.{untouched, alone}
-use Rattle.log_record.specs.declared.format.Record.{Record}
+use Rattle.call_effects.specs.file_graph.Graph.{Graph, after_effects}
+use Rattle.call_effects.proofs.file_graph_lemmas.Touches.{untouched, alone}
+use Rattle.call_effects.specs.log_record.declared.format.Record.{Record}
 use Rattle.world_invariant.specs.Logs.{after_records, is_touched, is_written, units_in}
 
 -- ---- tests

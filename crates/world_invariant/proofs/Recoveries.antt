@@ -5,9 +5,9 @@ use Rattle.std.proofs.lemmas.Bool.Decides.{eqb_tells}
 use Rattle.posix_calls.specs.Tree.{sum_up_to, any_up_to, refers_to, has_open, is_open}
 use Rattle.posix_calls.specs.Operations.{is_client}
 use Rattle.posix_calls.proofs.Sums.{same_if, there_if, one_changes, any_is}
-use Rattle.file_graph.specs.Graph.{Graph, set_node}
-use Rattle.file_graph.specs.Units.{charge}
-use Rattle.log_record.specs.declared.format.Record.{Record}
+use Rattle.call_effects.specs.file_graph.Graph.{Graph, set_node}
+use Rattle.call_effects.specs.file_graph.Units.{charge}
+use Rattle.call_effects.specs.log_record.declared.format.Record.{Record}
 use Rattle.call_effects.specs.Fits.{IsUnusedFile}
 use Rattle.call_effects.specs.ClosedGraph.{nobody, settled_graph}
 use Rattle.call_effects.specs.Wholes.{IsSound, state_of}

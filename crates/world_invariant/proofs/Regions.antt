@@ -3,7 +3,7 @@ use Rattle.std.proofs.Common.{◌≡◌, ℕ, ◌+◌, ◌-◌, ◌≤◌, Bool,
 use Rattle.std.proofs.lemmas.Bool.{false≢true}
 use Rattle.std.proofs.Math.ListN.{drop_of_length-le}
 use Rattle.posix_calls.specs.Operations.{is_client}
-use Rattle.log_record.specs.declared.format.Record.{Record}
+use Rattle.call_effects.specs.log_record.declared.format.Record.{Record}
 use Rattle.world_invariant.specs.Logs.{units_in}
 use Rattle.world_invariant.specs.World.{Region, Wiped, Away, Back, Client, World, records_of, change_of, log_of, world_state}
 use Rattle.world_invariant.specs.ClientParts.{IsMarked, StartsWiped, IsLogged, IsNumbered, IsSoundPart}

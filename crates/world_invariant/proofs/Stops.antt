@@ -7,9 +7,9 @@ use Rattle.posix_calls.specs.Tree.{Descriptors, with_own, sum_up_to}
 use Rattle.posix_calls.specs.Run.{Run, Turn}
 use Rattle.posix_calls.specs.Operations.{is_client, own_after, reply_of, Step}
 use Rattle.posix_calls.proofs.Sums.{same_if}
-use Rattle.file_graph.specs.Graph.{Graph, after_effects, is_among, touches}
-use Rattle.file_graph.specs.Units.{charge}
-use Rattle.log_record.specs.declared.format.Record.{Record}
+use Rattle.call_effects.specs.file_graph.Graph.{Graph, after_effects, is_among, touches}
+use Rattle.call_effects.specs.file_graph.Units.{charge}
+use Rattle.call_effects.specs.log_record.declared.format.Record.{Record}
 use Rattle.call_effects.specs.Wholes.{IsSound, state_of}
 use Rattle.call_effects.specs.Knowledge.{Knowledge, Agrees, IsPlanned}
 use Rattle.call_effects.proofs.Settled.{closed_sound, settled_state, settled_well_formed, settled_within}

@@ -19,9 +19,9 @@ use Rattle.posix_calls.specs.declared.operation.Operation.TheVariants.{NewDir}
 use Rattle.posix_calls.proofs.Chain.{part_bind, part_gives, part_refuses}
 use Rattle.posix_calls.proofs.Directory.{lists}
 use Rattle.posix_calls.proofs.Sums.{all_zero}
-use Rattle.file_graph.specs.Graph.{fresh}
-use Rattle.file_graph.specs.Units.{charge}
-use Rattle.file_graph.specs.declared.effect.Kind.{Kind}
+use Rattle.call_effects.specs.file_graph.Graph.{fresh}
+use Rattle.call_effects.specs.file_graph.Units.{charge}
+use Rattle.call_effects.specs.file_graph.declared.effect.Kind.{Kind}
 use Rattle.call_effects.specs.NodeView.{view_at}
 use Rattle.call_effects.specs.Records.{units_asked}
 use Rattle.call_effects.specs.Wholes.{without_kinds}

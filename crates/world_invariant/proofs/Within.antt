@@ -10,9 +10,9 @@ use Rattle.posix_calls.proofs.Counts.{order}
 use Rattle.posix_calls.specs.WellFormed.{IsWithinLimits}
 use Rattle.posix_calls.specs.declared.call.Call.{Call}
 use Rattle.posix_calls.specs.declared.operation.Operation.{Operation}
-use Rattle.file_graph.specs.Graph.{Graph, Node, FileBody, DirBody, after_effects}
-use Rattle.file_graph.specs.declared.effect.Kind.{Kind}
-use Rattle.file_graph.specs.declared.effect.Effect.{Effect}
+use Rattle.call_effects.specs.file_graph.Graph.{Graph, Node, FileBody, DirBody, after_effects}
+use Rattle.call_effects.specs.file_graph.declared.effect.Kind.{Kind}
+use Rattle.call_effects.specs.file_graph.declared.effect.Effect.{Effect}
 use Rattle.call_effects.specs.Effects.{stored_count}
 use Rattle.call_effects.specs.Knowledge.{Knowledge, Agrees, IsPlanned}
 use Rattle.call_effects.specs.Wholes.{IsSound, tree_of, tree_body, tree_node, body_kind, kind_of, one_if}

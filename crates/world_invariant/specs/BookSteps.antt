@@ -4,7 +4,7 @@ use Rattle.posix_calls.specs.Tree.{sum_up_to}
 use Rattle.posix_calls.specs.Operations.{is_client}
 use Rattle.posix_calls.specs.declared.descriptor.Descriptor.{Descriptor}
 use Rattle.posix_calls.specs.declared.limits.TheConstants.{ROOT, MAX_INODE, MAX_CLIENTS}
-use Rattle.file_graph.specs.Units.{charge}
+use Rattle.call_effects.specs.file_graph.Units.{charge}
 use Rattle.world_invariant.specs.World.{Failed, Kernel, World, moved_world}
 use Rattle.world_invariant.specs.LeaseSteps.{also, without}
 

@@ -5,11 +5,11 @@ use Rattle.posix_calls.specs.declared.call.Call.TheVariants as call
 use Rattle.posix_calls.specs.declared.call.Reply.TheVariants as reply
 use Rattle.posix_calls.specs.declared.operation.Operation.{Operation}
 use Rattle.posix_calls.specs.declared.operation.Operation.TheVariants.{Tell}
-use Rattle.file_graph.specs.Graph.{Graph, FileBody, fresh, set_node, after_effects}
-use Rattle.file_graph.specs.declared.effect.Kind.TheVariants as kind
-use Rattle.file_graph.specs.declared.effect.Effect.TheVariants as effect
-use Rattle.file_graph.specs.Units.{charge}
-use Rattle.log_record.specs.declared.format.Record.{Record}
+use Rattle.call_effects.specs.file_graph.Graph.{Graph, FileBody, fresh, set_node, after_effects}
+use Rattle.call_effects.specs.file_graph.declared.effect.Kind.TheVariants as kind
+use Rattle.call_effects.specs.file_graph.declared.effect.Effect.TheVariants as effect
+use Rattle.call_effects.specs.file_graph.Units.{charge}
+use Rattle.call_effects.specs.log_record.declared.format.Record.{Record}
 use Rattle.call_effects.specs.NodeView.{view_at}
 use Rattle.call_effects.specs.Knowledge.{with_copy}
 use Rattle.world_invariant.specs.World.{Begun, Away, Back, Settled, World, moved_world}

@@ -1,5 +1,5 @@
 -- What is said of a client's copies over its own part and the kernel's: the other clients are not seen.
-use Rattle.file_graph.specs.Graph.{Graph}
+use Rattle.call_effects.specs.file_graph.Graph.{Graph}
 use Rattle.world_invariant.specs.Logs.{after_records}
 use Rattle.world_invariant.specs.World.{Account, Client, undigested_records}
 use Rattle.world_invariant.specs.Parts.{HasTrueCopies}

@@ -1,6 +1,6 @@
 -- The world that a format makes.
 use Rattle.std.specs.Prelude.{ℕ, [], true, false, None}
-use Rattle.file_graph.specs.Graph.{Graph, fresh}
+use Rattle.call_effects.specs.file_graph.Graph.{Graph, fresh}
 use Rattle.call_effects.specs.Knowledge.{Knowledge}
 use Rattle.world_invariant.specs.World.{Client, Account, World, Wiped, Alive}
 

@@ -1,8 +1,8 @@
 -- The steps of the shared graph, each with when it may be taken.
 use Rattle.std.specs.Prelude.{◌≡◌, ◌≢◌, ℕ, ◌+◌, ◌-◌, List, ◌++◌, [], length, drop, true, false, ◌&&◌, not, None}
 use Rattle.posix_calls.specs.Operations.{is_client}
-use Rattle.file_graph.specs.Graph.{set_node}
-use Rattle.log_record.specs.declared.format.Record.{Record}
+use Rattle.call_effects.specs.file_graph.Graph.{set_node}
+use Rattle.call_effects.specs.log_record.declared.format.Record.{Record}
 use Rattle.world_invariant.specs.Logs.{after_records, is_made_in, units_in, IsNameless}
 use Rattle.world_invariant.specs.World.{Kernel, World, moved_world}
 

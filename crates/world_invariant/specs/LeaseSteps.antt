@@ -1,7 +1,7 @@
 -- The steps of leases and copies, each with when it may be taken.
 use Rattle.std.specs.Prelude.{◌≡◌, ◌≢◌, ◌⊎◌, ℕ, List, Bool, true, false, ◌==◌, ◌||◌, Option, Some, None, if◌then◌else◌}
 use Rattle.posix_calls.specs.Operations.{is_client}
-use Rattle.file_graph.specs.Graph.{Graph, FileBody}
+use Rattle.call_effects.specs.file_graph.Graph.{Graph, FileBody}
 use Rattle.call_effects.specs.Blocks.{block_of}
 use Rattle.call_effects.specs.NodeView.{view_at}
 use Rattle.call_effects.specs.Knowledge.{Knowledge, IsForgetful, with_copy, with_blocks}

@@ -23,3 +23,7 @@ pub mod Stop
 pub mod UnlinkWalk
 pub mod Walk
 pub mod World
+-- Handed on to the crates above, which list only the highest of what they name.
+pub use Rattle.call_effects.specs as call_effects
+pub use Rattle.call_effects.specs.file_graph
+pub use Rattle.call_effects.specs.log_record

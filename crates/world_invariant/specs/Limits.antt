@@ -4,8 +4,8 @@ use Rattle.std.specs.FinMap as fin
 use Rattle.posix_calls.specs.Content.{Entries}
 use Rattle.posix_calls.specs.Name.{is_name}
 use Rattle.posix_calls.specs.declared.limits.TheConstants.{ROOT, MAX_INODE, MAX_FILE, MAX_ENTRIES, MAX_NAMES}
-use Rattle.file_graph.specs.Graph.{Graph, Node, Body, FileBody, DirBody}
-use Rattle.file_graph.specs.declared.effect.Kind.{Kind}
+use Rattle.call_effects.specs.file_graph.Graph.{Graph, Node, Body, FileBody, DirBody}
+use Rattle.call_effects.specs.file_graph.declared.effect.Kind.{Kind}
 
 -- no more entries than a directory may have, each under a name that is one, and of an inode number
 pub record AreEntriesWithin (es : Entries (ℕ × Kind)) : Type 0 where

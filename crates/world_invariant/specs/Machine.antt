@@ -1,8 +1,8 @@
 -- The kernel as a part of its own: what it has, and one step for each of its entries. It sees a client's records only as a sealed region.
 use Rattle.std.specs.Prelude.{◌≡◌, ◌≢◌, ◌⊎◌, ℕ, ◌+◌, ◌-◌, ◌≤◌, List, [], ◌++◌, length, drop, Bool, true, ◌&&◌, not, None}
 use Rattle.posix_calls.specs.Operations.{is_client}
-use Rattle.file_graph.specs.Graph.{Graph, set_node}
-use Rattle.log_record.specs.declared.format.Record.{Record}
+use Rattle.call_effects.specs.file_graph.Graph.{Graph, set_node}
+use Rattle.call_effects.specs.log_record.declared.format.Record.{Record}
 use Rattle.world_invariant.specs.Logs.{after_records, is_made_in, IsMadeOnce, units_in}
 use Rattle.world_invariant.specs.World.{Account, Away, Client, Kernel, at}
 use Rattle.world_invariant.specs.ClientParts.{IsLogged, IsBooked}

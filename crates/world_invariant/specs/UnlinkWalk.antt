@@ -4,8 +4,8 @@ use Rattle.posix_calls.specs.declared.call.Call.{Call}
 use Rattle.posix_calls.specs.declared.call.Call.TheVariants as call
 use Rattle.posix_calls.specs.declared.operation.Operation.{Operation}
 use Rattle.posix_calls.specs.declared.operation.Operation.TheVariants.{NewFile, CloseFile, DropName}
-use Rattle.file_graph.specs.declared.effect.Kind.TheVariants as kind
-use Rattle.file_graph.specs.declared.effect.Effect.TheVariants as effect
+use Rattle.call_effects.specs.file_graph.declared.effect.Kind.TheVariants as kind
+use Rattle.call_effects.specs.file_graph.declared.effect.Effect.TheVariants as effect
 use Rattle.world_invariant.specs.World.{Begun, World}
 use Rattle.world_invariant.specs.ClientSteps.{after_answer, call_begun, after_reply}
 use Rattle.world_invariant.specs.LeaseSteps.{after_fetch}

@@ -2,10 +2,10 @@
 use Rattle.std.specs.Prelude.{◌+◌, [], ◌∷◌}
 use Rattle.posix_calls.specs.declared.call.Call.TheVariants as call
 use Rattle.posix_calls.specs.declared.operation.Operation.TheVariants.{NewDir}
-use Rattle.file_graph.specs.Graph.{fresh}
-use Rattle.file_graph.specs.Units.{charge}
-use Rattle.file_graph.specs.declared.effect.Kind.TheVariants as kind
-use Rattle.file_graph.specs.declared.effect.Effect.TheVariants as effect
+use Rattle.call_effects.specs.file_graph.Graph.{fresh}
+use Rattle.call_effects.specs.file_graph.Units.{charge}
+use Rattle.call_effects.specs.file_graph.declared.effect.Kind.TheVariants as kind
+use Rattle.call_effects.specs.file_graph.declared.effect.Effect.TheVariants as effect
 use Rattle.world_invariant.specs.World.{Begun, World}
 use Rattle.world_invariant.specs.FormatWorld.{opening_world}
 use Rattle.world_invariant.specs.ClientSteps.{call_begun, after_reply}

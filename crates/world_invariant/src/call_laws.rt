@@ -8,7 +8,7 @@ ghost use Rattle.posix_calls.specs.declared.call.Call.{Call};
 ghost use Rattle.posix_calls.specs.declared.call.Reply.TheVariants.{Failed};
 ghost use Rattle.posix_calls.specs.declared.errno.Errno.{Errno};
 ghost use Rattle.posix_calls.specs.declared.operation.Operation.{Operation};
-ghost use Rattle.file_graph.specs.Graph.{after_effects};
+ghost use Rattle.call_effects.specs.file_graph.Graph.{after_effects};
 ghost use Rattle.call_effects.specs.Knowledge.{part_of};
 ghost use Rattle.world_invariant.specs.World.{Begun, World, whole_graph, world_state};
 ghost use Rattle.world_invariant.specs.ClientSteps.{CanAnswer, after_answer, CanBegin, call_begun, IsBegun, after_reply, given_up, CanFail, after_failure};

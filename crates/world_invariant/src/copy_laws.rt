@@ -2,8 +2,8 @@
 
 ghost use Rattle.std.specs.Prelude.{◌≡◌, ◌≢◌, ℕ, List, true, false, None};
 ghost use Rattle.posix_calls.specs.Operations.{is_client};
-ghost use Rattle.file_graph.specs.Graph.{Graph};
-ghost use Rattle.log_record.specs.declared.format.Record.{Record};
+ghost use Rattle.call_effects.specs.file_graph.Graph.{Graph};
+ghost use Rattle.call_effects.specs.log_record.declared.format.Record.{Record};
 ghost use Rattle.call_effects.specs.Knowledge.{Agrees};
 ghost use Rattle.world_invariant.specs.Logs.{after_records, is_made_in, IsNameless, NameNone};
 ghost use Rattle.world_invariant.specs.World.{Account, Client, World, undigested_records, has_lease, whole_graph, held_descriptors};

@@ -3,9 +3,9 @@
 ghost use Rattle.std.specs.Prelude.{◌≡◌, ℕ, List, true, Some, None};
 ghost use Rattle.posix_calls.specs.Operations.{is_client};
 ghost use Rattle.posix_calls.specs.declared.descriptor.Descriptor.{Descriptor};
-ghost use Rattle.file_graph.specs.Graph.{set_node, after_effects};
-ghost use Rattle.file_graph.specs.Units.{charge};
-ghost use Rattle.log_record.specs.declared.format.Record.{Record};
+ghost use Rattle.call_effects.specs.file_graph.Graph.{set_node, after_effects};
+ghost use Rattle.call_effects.specs.file_graph.Units.{charge};
+ghost use Rattle.call_effects.specs.log_record.declared.format.Record.{Record};
 ghost use Rattle.world_invariant.specs.Logs.{IsNameless};
 ghost use Rattle.world_invariant.specs.World.{Begun, Kernel, World, whole_graph, world_state};
 ghost use Rattle.world_invariant.specs.ClientSteps.{IsBegun, after_reply};

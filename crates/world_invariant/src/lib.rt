@@ -128,3 +128,6 @@ pub use walk_laws::{
     small_world_buries_a_client, small_world_of_five_nodes, small_world_of_two_clients,
     small_world_unlinks_an_open_file, small_world_walks,
 };
+
+// Handed on to the crates above, which list only the highest of what they name.
+pub use call_effects::{in_file_graph, in_log_record};

@@ -2,8 +2,8 @@
 
 ghost use Rattle.std.specs.Prelude.{◌≡◌, ◌≢◌, ◌⊎◌, ℕ, ◌+◌, ◌≤◌, List, length, Bool, true, false, None};
 ghost use Rattle.posix_calls.specs.Operations.{is_client};
-ghost use Rattle.file_graph.specs.Graph.{Graph};
-ghost use Rattle.log_record.specs.declared.format.Record.{Record};
+ghost use Rattle.call_effects.specs.file_graph.Graph.{Graph};
+ghost use Rattle.call_effects.specs.log_record.declared.format.Record.{Record};
 ghost use Rattle.world_invariant.specs.Logs.{after_records, is_written, is_made_in, units_in};
 ghost use Rattle.world_invariant.specs.World.{Account, Away, Client, Kernel, World, at, undigested_records, records_of};
 ghost use Rattle.world_invariant.specs.ClientParts.{IsSoundPart};

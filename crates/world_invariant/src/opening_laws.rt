@@ -2,8 +2,8 @@
 
 ghost use Rattle.std.specs.Prelude.{◌≡◌, ℕ, ◌≤◌};
 ghost use Rattle.posix_calls.specs.EmptyTree.{empty_state};
-ghost use Rattle.file_graph.specs.Graph.{Graph, fresh};
-ghost use Rattle.file_graph.specs.Units.{charge};
+ghost use Rattle.call_effects.specs.file_graph.Graph.{Graph, fresh};
+ghost use Rattle.call_effects.specs.file_graph.Units.{charge};
 ghost use Rattle.call_effects.specs.ClosedGraph.{nobody};
 ghost use Rattle.call_effects.specs.Wholes.{IsSound, state_of};
 ghost use Rattle.world_invariant.specs.Limits.{AreWithin};

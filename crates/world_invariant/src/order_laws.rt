@@ -2,8 +2,8 @@
 
 ghost use Rattle.std.specs.Prelude.{◌≡◌, ◌≢◌, ℕ, List};
 ghost use Rattle.posix_calls.specs.declared.limits.TheConstants.{MAX_CLIENTS};
-ghost use Rattle.file_graph.specs.Graph.{Graph};
-ghost use Rattle.log_record.specs.declared.format.Record.{Record};
+ghost use Rattle.call_effects.specs.file_graph.Graph.{Graph};
+ghost use Rattle.call_effects.specs.log_record.declared.format.Record.{Record};
 ghost use Rattle.world_invariant.specs.Logs.{after_clients, after_each, LogsAreApart, IsOrder};
 ghost use Rattle.world_invariant.specs.World.{World, log_of, all_of};
 ghost use Rattle.world_invariant.specs.KernelSteps.{CanDigest, records_digested};

@@ -2,7 +2,7 @@
 
 ghost use Rattle.std.specs.Prelude.{◌≡◌, ◌≢◌, ℕ, true};
 ghost use Rattle.posix_calls.specs.Operations.{is_client};
-ghost use Rattle.file_graph.specs.Graph.{Graph};
+ghost use Rattle.call_effects.specs.file_graph.Graph.{Graph};
 ghost use Rattle.call_effects.specs.Wholes.{IsSound};
 ghost use Rattle.call_effects.specs.Knowledge.{Agrees};
 ghost use Rattle.world_invariant.specs.World.{Client, Account, World, undigested_records, log_of, whole_graph, held_descriptors, moved_world};

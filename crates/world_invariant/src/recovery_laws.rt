@@ -4,9 +4,9 @@ ghost use Rattle.std.specs.Prelude.{◌≡◌, ℕ, ◌≤◌, List, [], ◌++�
 ghost use Rattle.posix_calls.specs.Operations.{is_client};
 ghost use Rattle.posix_calls.specs.WellFormed.{IsWithinLimits};
 ghost use Rattle.posix_calls.specs.declared.limits.TheConstants.{MAX_CLIENTS};
-ghost use Rattle.file_graph.specs.Graph.{Graph, set_node};
-ghost use Rattle.file_graph.specs.Units.{charge};
-ghost use Rattle.log_record.specs.declared.format.Record.{Record};
+ghost use Rattle.call_effects.specs.file_graph.Graph.{Graph, set_node};
+ghost use Rattle.call_effects.specs.file_graph.Units.{charge};
+ghost use Rattle.call_effects.specs.log_record.declared.format.Record.{Record};
 ghost use Rattle.posix_calls.specs.Tree.{Descriptors};
 ghost use Rattle.call_effects.specs.ClosedGraph.{nobody, settled_graph};
 ghost use Rattle.call_effects.specs.Wholes.{IsSound, state_of, tree_of};

@@ -3,7 +3,7 @@
 ghost use Rattle.std.specs.Prelude.{ℕ, List};
 ghost use Rattle.posix_calls.specs.Tree.{State};
 ghost use Rattle.posix_calls.specs.Run.{Run, Turn};
-ghost use Rattle.log_record.specs.declared.format.Record.{Record};
+ghost use Rattle.call_effects.specs.log_record.declared.format.Record.{Record};
 ghost use Rattle.call_effects.specs.ClosedGraph.{nobody, settled_graph};
 ghost use Rattle.call_effects.specs.Wholes.{state_of};
 ghost use Rattle.posix_calls.specs.Outcome.{IsOutcome};

@@ -4,7 +4,7 @@ ghost use Rattle.std.specs.Prelude.{◌≡◌, [], ◌∷◌, map, Bool, true, f
 ghost use Rattle.posix_calls.specs.EmptyTree.{empty_state};
 ghost use Rattle.posix_calls.specs.Operations.{Step};
 ghost use Rattle.posix_calls.specs.declared.call.Reply.TheVariants.{Done, Opened, Wrote};
-ghost use Rattle.file_graph.specs.Graph.{file_bytes};
+ghost use Rattle.call_effects.specs.file_graph.Graph.{file_bytes};
 ghost use Rattle.world_invariant.specs.Logs.{IsNameless};
 ghost use Rattle.world_invariant.specs.World.{log_of, all_of, world_state};
 ghost use Rattle.world_invariant.specs.Invariant.{IsCoherent};

@@ -1,5 +1,5 @@
 use Rattle.std.proofs.Common.{sym}
-use Rattle.layout.specs.Slot.{slot_spelling}
+use Rattle.area_reader.specs.layout.Slot.{slot_spelling}
 use Rattle.area_reader.proofs.Shown.{slot_is}
 use Rattle.std.specs.Prelude.{Some}
 use Rattle.area_commit.proofs.SlotBytes.{within}

@@ -1,6 +1,6 @@
 use Rattle.std.proofs.Common.{◌∙◌, ◌++◌, ℕ, List, length, sym, subst, ap, arith}
 use Rattle.std.proofs.lemmas.List.{length-append}
-use Rattle.batch_journal.specs.Blocks.{AreJournaled}
+use Rattle.area_reader.specs.batch_journal.Blocks.{AreJournaled}
 use Rattle.area_reader.specs.Store.{disk}
 use Rattle.area_commit.specs.Batches.{marks_images}
 use Rattle.area_commit.proofs.Images.{node_low, is_batch, same_geometry, marks_journaled, one_for_marks}

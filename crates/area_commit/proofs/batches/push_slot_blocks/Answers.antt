@@ -3,7 +3,7 @@ use Rattle.std.proofs.lemmas.Result.{err_from_is_err_and}
 use Rattle.std.proofs.lemmas.Bool.{cases_eq}
 use Rattle.std.proofs.lemmas.List.{length-append}
 use Rattle.tier_device.specs.declared.media.Tier.TheVariants.{Fast}
-use Rattle.batch_journal.specs.Blocks.{AreJournaled}
+use Rattle.area_reader.specs.batch_journal.Blocks.{AreJournaled}
 use Rattle.area_reader.specs.Store.{Store, disk}
 use Rattle.area_reader.specs.Looks.{call_answer}
 use Rattle.area_reader.proofs.Looked.{store_same, looks_on, looks_none, looks_answer}

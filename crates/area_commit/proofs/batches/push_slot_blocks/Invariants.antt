@@ -1,8 +1,8 @@
 use Rattle.std.proofs.Common.{◌≡◌, ◌+◌, ◌-◌, ◌*◌, ◌≤◌, ◌<◌, ℕ, true, length}
 use Rattle.tier_device.specs.declared.media.Tier.TheVariants.{Fast}
-use Rattle.layout.specs.Places.{Sizes}
-use Rattle.batch_journal.specs.Images.{next_of}
-use Rattle.batch_journal.specs.Blocks.{AreJournaled}
+use Rattle.area_reader.specs.layout.Places.{Sizes}
+use Rattle.area_reader.specs.batch_journal.Images.{next_of}
+use Rattle.area_reader.specs.batch_journal.Blocks.{AreJournaled}
 use Rattle.area_reader.specs.Store.{disk}
 use Rattle.area_reader.specs.Looks.{Looks, call_answer}
 use Rattle.area_commit.specs.Slots.{RiseIn, has_slot}

@@ -1,11 +1,11 @@
 use Rattle.std.proofs.Common.{◌≡◌, ℕ, true, sym, subst}
-use Rattle.graph_change.specs.Change.{Change, net_of}
-use Rattle.layout.specs.declared.slot.Slot.{Slot}
-use Rattle.layout.specs.Places.{Sizes, IsAllowed, is_inode}
-use Rattle.tree_blocks.specs.After.{start_node, IsInodeAfter}
-use Rattle.tree_blocks.specs.Directory.{EntryBlocks}
-use Rattle.tree_blocks.specs.InodeRewrite.{IsDirectoryRewritten}
-use Rattle.extent_tree.specs.Map.{TierRuns}
+use Rattle.area_reader.specs.graph_change.Change.{Change, net_of}
+use Rattle.area_reader.specs.layout.declared.slot.Slot.{Slot}
+use Rattle.area_reader.specs.layout.Places.{Sizes, IsAllowed, is_inode}
+use Rattle.area_reader.specs.tree_blocks.After.{start_node, IsInodeAfter}
+use Rattle.area_reader.specs.tree_blocks.Directory.{EntryBlocks}
+use Rattle.area_reader.specs.tree_blocks.InodeRewrite.{IsDirectoryRewritten}
+use Rattle.area_reader.specs.extent_tree.Map.{TierRuns}
 use Rattle.area_reader.specs.Store.{Store, inode}
 use Rattle.area_commit.specs.InodeRewrite.{IsWritten, IsFit}
 use Rattle.area_commit.specs.InodeChange.{IsDirectoryWritten}

@@ -1,6 +1,6 @@
 use Rattle.std.proofs.Common.{ap}
-use Rattle.layout.specs.declared.slot.Slot.TheVariants as slots
-use Rattle.tree_blocks.specs.Inode.{Inode}
+use Rattle.area_reader.specs.layout.declared.slot.Slot.TheVariants as slots
+use Rattle.area_reader.specs.tree_blocks.Inode.{Inode}
 use Rattle.area_reader.specs.Store.{inode}
 use Rattle.area_commit.proofs.Freeing.{free_fits}
 use Rattle.area_commit.proofs.change_laws.written_free_slot_is_inode_after.Goals as goal

@@ -2,7 +2,7 @@ use Rattle.std.proofs.Common.{◌<◌, length, ◌∙◌}
 use Rattle.tier_device.specs.declared.media.Tier.{Tier}
 use Rattle.tier_device.specs.declared.media.Tier.TheVariants.{Fast, Block}
 use Rattle.tier_device.specs.AfterStop.{AtRest}
-use Rattle.batch_journal.proofs.Courses.{on_ok}
+use Rattle.area_reader.proofs.batch_journal_lemmas.Courses.{on_ok}
 use Rattle.area_commit.specs.DataWrite.{KeepsRest}
 use Rattle.area_commit.proofs.Courses.{loose_next}
 use Rattle.area_commit.proofs.Turns.{fences_fast, fences_block, fences_slow}

@@ -1,5 +1,5 @@
 use Rattle.area_commit.proofs.Courses.{loose_start}
-use Rattle.batch_journal.proofs.Courses.{weaker, no_call}
+use Rattle.area_reader.proofs.batch_journal_lemmas.Courses.{weaker, no_call}
 use Rattle.area_commit.proofs.data_write.fence_runs.Goals as goal
 
 pub returns-then-is_empty-clause-loose : goal.returns-then-is_empty-clause-loose

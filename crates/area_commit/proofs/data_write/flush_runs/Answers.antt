@@ -3,9 +3,9 @@ use Rattle.std.proofs.lemmas.Bool.{cases_lt}
 use Rattle.tier_device.specs.declared.media.Tier.{Tier}
 use Rattle.tier_device.specs.declared.media.Tier.TheVariants.{Fast, Block, Slow}
 use Rattle.tier_device.specs.AfterStop.{AtRest}
-use Rattle.layout.specs.Places.{Sizes, tier_blocks}
-use Rattle.batch_journal.specs.Blocks.{home, block_of, is_home}
-use Rattle.batch_journal.proofs.Courses.{tiers_same}
+use Rattle.area_reader.specs.layout.Places.{Sizes, tier_blocks}
+use Rattle.area_reader.specs.batch_journal.Blocks.{home, block_of, is_home}
+use Rattle.area_reader.proofs.batch_journal_lemmas.Courses.{tiers_same}
 use Rattle.area_commit.specs.DataWrite.{HoldParts, part_in}
 use Rattle.area_commit.proofs.Courses.{loose_next}
 use Rattle.area_commit.proofs.Stored.{hold_data}

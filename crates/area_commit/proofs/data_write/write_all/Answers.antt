@@ -2,8 +2,8 @@ use Rattle.std.proofs.Common.{◌≡◌, length, sym, subst, ◌∙◌}
 use Rattle.tier_device.specs.declared.media.Tier.{Tier}
 use Rattle.tier_device.specs.declared.media.Tier.TheVariants.{Fast, Block, Slow}
 use Rattle.tier_device.specs.AfterStop.{AtRest}
-use Rattle.layout.specs.Places.{Sizes}
-use Rattle.batch_journal.proofs.Courses.{on_ok}
+use Rattle.area_reader.specs.layout.Places.{Sizes}
+use Rattle.area_reader.proofs.batch_journal_lemmas.Courses.{on_ok}
 use Rattle.area_commit.specs.DataWrite.{AreFreeIn, RestsBut, part_in}
 use Rattle.area_commit.proofs.Courses.{loose_next}
 use Rattle.area_commit.proofs.Turns.{turn_fast, turn_block, turn_slow}

@@ -1,6 +1,6 @@
 use Rattle.std.proofs.Common.{List, sym, subst, arith}
 use Rattle.tier_device.specs.declared.media.Tier.TheVariants.{Fast, Block, Slow}
-use Rattle.layout.specs.Places.{data_first, tier_blocks}
+use Rattle.area_reader.specs.layout.Places.{data_first, tier_blocks}
 use Rattle.block_alloc.specs.declared.runs.Run.{Run}
 use Rattle.block_alloc.specs.Runs.{AreNormalRuns}
 use Rattle.area_reader.specs.Store.{disk}

@@ -5,8 +5,8 @@ use Rattle.tier_device.specs.declared.media.Tier.{Tier}
 use Rattle.tier_device.specs.Media.{overwritten, Puts}
 use Rattle.tier_device.specs.AfterStop.{AtRest}
 use Rattle.block_alloc.specs.Runs.{run_blocks}
-use Rattle.batch_journal.specs.Blocks.{block_of}
-use Rattle.batch_journal.proofs.Courses.{on_ok, weaker}
+use Rattle.area_reader.specs.batch_journal.Blocks.{block_of}
+use Rattle.area_reader.proofs.batch_journal_lemmas.Courses.{on_ok, weaker}
 use Rattle.area_reader.specs.Reads.{IsFreeRun}
 use Rattle.area_commit.proofs.Courses.{loose_write}
 use Rattle.area_commit.proofs.Held.{in_range, put_holds, put_keeps}

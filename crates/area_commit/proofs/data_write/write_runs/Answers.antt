@@ -1,11 +1,11 @@
 use Rattle.std.proofs.Common.{◌≡◌, ◌≤◌, ◌+◌, ◌-◌, ◌*◌, ℕ, List, length, take, drop, get_or, ap, sym, subst, refl, ◌∙◌, ◌∷◌, [], arith, inl}
 use Rattle.std.specs.List.{flat_map}
 use Rattle.std.proofs.lemmas.List.{length-take-le, length-drop}
-use Rattle.layout.specs.Places.{Sizes, data_first, tier_blocks}
+use Rattle.area_reader.specs.layout.Places.{Sizes, data_first, tier_blocks}
 use Rattle.block_alloc.specs.declared.runs.Run.{Run}
 use Rattle.block_alloc.specs.Runs.{run_blocks}
-use Rattle.batch_journal.specs.Blocks.{block_of}
-use Rattle.batch_journal.proofs.Courses.{and_then, weaker, no_call}
+use Rattle.area_reader.specs.batch_journal.Blocks.{block_of}
+use Rattle.area_reader.proofs.batch_journal_lemmas.Courses.{and_then, weaker, no_call}
 use Rattle.area_reader.specs.Reads.{Free}
 use Rattle.area_commit.specs.DataWrite.{AreFreeIn, StaysLoose}
 use Rattle.area_commit.proofs.Courses.{loose_start, loose_then}

@@ -2,8 +2,8 @@ use Rattle.std.proofs.Common.{◌≡◌, ◌≢◌, ◌+◌, ◌*◌, false, len
 use Rattle.std.specs.List.{flat_map}
 use Rattle.tier_device.specs.declared.media.Tier.{Tier}
 use Rattle.block_alloc.specs.Runs.{blocks_of}
-use Rattle.batch_journal.specs.Blocks.{block_of}
-use Rattle.batch_journal.specs.Course.{SameLengths}
+use Rattle.area_reader.specs.batch_journal.Blocks.{block_of}
+use Rattle.area_reader.specs.batch_journal.Course.{SameLengths}
 use Rattle.area_reader.specs.Store.{Store}
 use Rattle.area_commit.specs.DataWrite.{AreFreeIn, StaysLoose, RestsBut, WritesIn}
 use Rattle.area_commit.proofs.data_write.write_runs.Given as goal

@@ -1,6 +1,6 @@
 use Rattle.std.proofs.Common.{◌≡◌, ℕ, ap, inl, inr}
 use Rattle.std.proofs.lemmas.Bool.{cases_Bool}
-use Rattle.tree_blocks.specs.Inode.{node_of}
+use Rattle.area_reader.specs.tree_blocks.Inode.{node_of}
 use Rattle.area_reader.specs.Store.{inode}
 use Rattle.area_commit.proofs.inode_laws.moved_inodes_are_the_same_graph.Goals as goal
 

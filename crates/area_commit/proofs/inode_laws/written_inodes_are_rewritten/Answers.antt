@@ -1,8 +1,8 @@
 use Rattle.std.proofs.Common.{◌≡◌, ℕ, Bool, true}
-use Rattle.layout.specs.declared.slot.Slot.{Slot}
-use Rattle.layout.specs.Places.{Sizes, IsAllowed}
-use Rattle.tree_blocks.specs.Inode.{IsConsistent}
-use Rattle.extent_tree.specs.Map.{TierRuns}
+use Rattle.area_reader.specs.layout.declared.slot.Slot.{Slot}
+use Rattle.area_reader.specs.layout.Places.{Sizes, IsAllowed}
+use Rattle.area_reader.specs.tree_blocks.Inode.{IsConsistent}
+use Rattle.area_reader.specs.extent_tree.Map.{TierRuns}
 use Rattle.area_reader.specs.Store.{Store, inode}
 use Rattle.area_reader.specs.Format.{IsSpelled}
 use Rattle.area_reader.specs.Rewrites.{Rewrites}

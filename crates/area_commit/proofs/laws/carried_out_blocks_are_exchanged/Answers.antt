@@ -1,4 +1,4 @@
-use Rattle.layout.specs.Places.{Sizes, IsAllowed}
+use Rattle.area_reader.specs.layout.Places.{Sizes, IsAllowed}
 use Rattle.area_reader.specs.Store.{Store}
 use Rattle.area_commit.proofs.Anew.{anew}
 use Rattle.area_commit.proofs.Swapped.{UsesAreRead, exchanged, lost_given}

@@ -1,6 +1,6 @@
 use Rattle.std.proofs.Common.{◌≤◌, inl, inr, sym, subst}
-use Rattle.file_graph.specs.Graph.{Graph}
-use Rattle.file_graph.specs.Units.{charge}
+use Rattle.area_reader.specs.file_graph.Graph.{Graph}
+use Rattle.area_reader.specs.file_graph.Units.{charge}
 use Rattle.area_reader.specs.Store.{store_of}
 use Rattle.area_commit.proofs.laws.moments_open.Goals as goal
 

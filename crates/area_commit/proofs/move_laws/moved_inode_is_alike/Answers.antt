@@ -1,8 +1,8 @@
 use Rattle.std.proofs.Common.{◌≡◌, ℕ, true, sym, subst}
-use Rattle.layout.specs.declared.slot.Slot.{Slot}
-use Rattle.layout.specs.Places.{Sizes, IsAllowed, is_inode}
-use Rattle.tree_blocks.specs.Inode.{AreAlike}
-use Rattle.extent_tree.specs.Map.{TierRuns}
+use Rattle.area_reader.specs.layout.declared.slot.Slot.{Slot}
+use Rattle.area_reader.specs.layout.Places.{Sizes, IsAllowed, is_inode}
+use Rattle.area_reader.specs.tree_blocks.Inode.{AreAlike}
+use Rattle.area_reader.specs.extent_tree.Map.{TierRuns}
 use Rattle.area_reader.specs.Store.{Store, inode}
 use Rattle.area_commit.specs.InodeRewrite.{IsWritten, IsFit}
 use Rattle.area_commit.specs.InodeMove.{StaysInode}

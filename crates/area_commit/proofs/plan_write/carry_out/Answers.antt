@@ -1,5 +1,5 @@
 use Rattle.std.proofs.Common.{subst}
-use Rattle.layout.specs.Places.{IsAllowed}
+use Rattle.area_reader.specs.layout.Places.{IsAllowed}
 use Rattle.area_reader.specs.Store.{disk}
 use Rattle.area_commit.proofs.plan_write.carry_out.Goals as goal
 

@@ -1,7 +1,7 @@
 use Rattle.std.proofs.Common.{◌∙◌, ℕ, List, length, sym, ap, subst, arith}
 use Rattle.tier_device.specs.Media.{Rose}
-use Rattle.layout.specs.Places.{Sizes}
-use Rattle.batch_journal.proofs.Courses.{left_before}
+use Rattle.area_reader.specs.layout.Places.{Sizes}
+use Rattle.area_reader.proofs.batch_journal_lemmas.Courses.{left_before}
 use Rattle.area_reader.specs.Store.{Store, disk}
 use Rattle.area_reader.proofs.Looked.{carried}
 use Rattle.area_commit.specs.declared.slots.ChangedSlot.{ChangedSlot}

@@ -3,13 +3,13 @@ use Rattle.std.proofs.lemmas.Bool.{cases_lt}
 use Rattle.tier_device.specs.declared.media.Tier.{Tier}
 use Rattle.tier_device.specs.declared.media.Tier.TheVariants.{Fast, Block}
 use Rattle.tier_device.specs.AfterStop.{AtRest}
-use Rattle.layout.specs.Places.{Sizes}
-use Rattle.batch_journal.specs.Blocks.{AreJournaled}
-use Rattle.batch_journal.specs.Course.{Since, BeforeOrAfter}
-use Rattle.batch_journal.specs.View.{JournalView}
-use Rattle.batch_journal.specs.Volume.{KeepsGeometry}
-use Rattle.batch_journal.proofs.Courses.{on_ok_2}
-use Rattle.batch_journal.proofs.Views.{which}
+use Rattle.area_reader.specs.layout.Places.{Sizes}
+use Rattle.area_reader.specs.batch_journal.Blocks.{AreJournaled}
+use Rattle.area_reader.specs.batch_journal.Course.{Since, BeforeOrAfter}
+use Rattle.area_reader.specs.batch_journal.View.{JournalView}
+use Rattle.area_reader.specs.batch_journal.Volume.{KeepsGeometry}
+use Rattle.area_reader.proofs.batch_journal_lemmas.Courses.{on_ok_2}
+use Rattle.area_reader.proofs.batch_journal_lemmas.Views.{which}
 use Rattle.area_reader.specs.Store.{disk}
 use Rattle.area_commit.specs.Allocations.{runs_of, taken_data}
 use Rattle.area_commit.specs.DataWrite.{HoldData, IsLooseLeft}

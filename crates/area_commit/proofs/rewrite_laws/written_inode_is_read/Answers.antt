@@ -1,7 +1,7 @@
 use Rattle.std.proofs.Common.{◌≡◌, ℕ, true}
-use Rattle.layout.specs.declared.slot.Slot.{Slot}
-use Rattle.layout.specs.Places.{Sizes, IsAllowed, is_inode}
-use Rattle.extent_tree.specs.Map.{TierRuns, runs_in}
+use Rattle.area_reader.specs.layout.declared.slot.Slot.{Slot}
+use Rattle.area_reader.specs.layout.Places.{Sizes, IsAllowed, is_inode}
+use Rattle.area_reader.specs.extent_tree.Map.{TierRuns, runs_in}
 use Rattle.area_reader.specs.Store.{space_of, length_of}
 use Rattle.area_commit.specs.InodeRewrite.{list_of, IsFit}
 use Rattle.area_commit.proofs.Reading.{AreSpelled, below_length, slot_again, extents_again, place_again, blocks_again, inode_again, use_again}

@@ -1,10 +1,10 @@
 use Rattle.std.proofs.Common.{◌≡◌, ℕ, Bool, true}
-use Rattle.graph_change.specs.Change.{Changes, change_at, net_of}
-use Rattle.layout.specs.declared.slot.Slot.{Slot}
-use Rattle.layout.specs.Places.{Sizes}
-use Rattle.tree_blocks.specs.Inode.{IsConsistent}
-use Rattle.tree_blocks.specs.After.{IsInodeAfter}
-use Rattle.extent_tree.specs.Map.{TierRuns}
+use Rattle.area_reader.specs.graph_change.Change.{Changes, change_at, net_of}
+use Rattle.area_reader.specs.layout.declared.slot.Slot.{Slot}
+use Rattle.area_reader.specs.layout.Places.{Sizes}
+use Rattle.area_reader.specs.tree_blocks.Inode.{IsConsistent}
+use Rattle.area_reader.specs.tree_blocks.After.{IsInodeAfter}
+use Rattle.area_reader.specs.extent_tree.Map.{TierRuns}
 use Rattle.area_reader.specs.Store.{Store, inode}
 use Rattle.area_reader.specs.Format.{IsSpelled}
 use Rattle.area_commit.specs.StoreRewrite.{AreWrittenAnew}

@@ -3,7 +3,7 @@ use Rattle.area_reader.specs.Store.{disk}
 use Rattle.area_reader.specs.Damage.{IsDamaged}
 use Rattle.area_reader.proofs.Costs.{parts_units, few_units}
 use Rattle.area_reader.proofs.Sharing.{room_for, marks_more, clash_damage}
-use Rattle.layout.specs.declared.error.What.TheVariants as what
+use Rattle.batch_journal.specs.layout.declared.error.What.TheVariants as what
 use Rattle.area_reader.proofs.area.add_inode.Goals as goal
 
 pub mark_inode-requires : goal.mark_inode-requires

@@ -1,7 +1,7 @@
 use Rattle.std.proofs.Common.{◌≡◌, ◌+◌, ◌⊎◌, ◌∙◌, Err, sym, arith}
 use Rattle.std.proofs.lemmas.Result.{err_from_is_err_and}
 use Rattle.area_reader.specs.Store.{disk, graph}
-use Rattle.file_graph.specs.Graph.{cost}
+use Rattle.batch_journal.specs.file_graph.Graph.{cost}
 use Rattle.area_reader.proofs.Costs.{total_none, total_more, total_all}
 use Rattle.area_reader.specs.Format.{SpellsInode}
 use Rattle.area_reader.specs.Damage.{IsDamaged}

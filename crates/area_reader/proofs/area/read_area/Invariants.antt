@@ -1,7 +1,7 @@
 use Rattle.std.proofs.Common.{◌≡◌, ◌<◌, ◌≤◌, ◌-◌, ◌*◌, ℕ}
 use Rattle.area_reader.specs.Store.{disk, graph}
 use Rattle.posix_calls.specs.Tree.{sum_up_to}
-use Rattle.file_graph.specs.Graph.{cost}
+use Rattle.batch_journal.specs.file_graph.Graph.{cost}
 use Rattle.area_reader.specs.Format.{SpellsInode}
 use Rattle.area_reader.specs.Looks.{Looks, call_answer}
 use Rattle.area_reader.specs.MediumUse.{MarksUses}

@@ -2,8 +2,8 @@ use Rattle.std.proofs.Common.{◌≡◌, ◌∙◌, ℕ, Some, ap, sym}
 use Rattle.std.proofs.lemmas.Result.{on_ok_weaker, IfOk-weaker, IfErr-weaker}
 use Rattle.std.specs.Prelude.{◌↔◌, Ok}
 use Rattle.tier_device.specs.declared.media.Tier.{Tier}
-use Rattle.file_graph.specs.Units.{charge}
-use Rattle.layout.specs.Places.{tier_blocks}
+use Rattle.batch_journal.specs.file_graph.Units.{charge}
+use Rattle.batch_journal.specs.layout.Places.{tier_blocks}
 use Rattle.area_reader.specs.Store.{disk, graph}
 use Rattle.area_reader.specs.Format.{Use, used_block, IsOpenable}
 use Rattle.area_reader.specs.BlockMarks.{IsMarked}

@@ -1,6 +1,6 @@
 use Rattle.std.proofs.Common.{refl, inl, inr, ap, arith}
 use Rattle.tier_device.specs.declared.media.Tier.TheVariants.{Fast}
-use Rattle.layout.specs.Places.{Sizes}
+use Rattle.batch_journal.specs.layout.Places.{Sizes}
 use Rattle.area_reader.proofs.Damages.{is_some_at}
 use Rattle.area_reader.proofs.Looked.{looks_answer}
 use Rattle.area_reader.proofs.area_open.read_inodes.Goals as goal

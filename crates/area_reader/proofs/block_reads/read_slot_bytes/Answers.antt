@@ -1,6 +1,6 @@
 use Rattle.std.proofs.Common.{◌≡◌, ◌+◌, ◌*◌, ◌∙◌, ℕ, List, length, refl, subst}
 use Rattle.tier_device.specs.declared.media.Tier.TheVariants.{Fast}
-use Rattle.layout.specs.Places.{slot_block, slot_byte}
+use Rattle.batch_journal.specs.layout.Places.{slot_block, slot_byte}
 use Rattle.batch_journal.specs.Blocks.{ShowsHome}
 use Rattle.area_reader.proofs.Shown.{slot_shown}
 use Rattle.area_reader.proofs.Looked.{looks_ok, looks_fault}

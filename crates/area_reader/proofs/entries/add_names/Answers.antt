@@ -1,8 +1,8 @@
 use Rattle.std.proofs.Common.{◌≡◌, ◌<◌, ◌∙◌, ℕ, List, length, Some, ap, sym, subst}
 use Rattle.std.specs.Prelude.{◌⊎◌, ◌↔◌, Bool, MatchBool, slice_get}
-use Rattle.layout.specs.declared.directory.DirEntry.{DirEntry}
-use Rattle.layout.specs.Directory.{EntryList, block_entries, entry_of}
-use Rattle.layout.specs.LentEntry.{owned_entry}
+use Rattle.batch_journal.specs.layout.declared.directory.DirEntry.{DirEntry}
+use Rattle.batch_journal.specs.layout.Directory.{EntryList, block_entries, entry_of}
+use Rattle.batch_journal.specs.layout.LentEntry.{owned_entry}
 use Rattle.tree_blocks.proofs.Lists.{got}
 use Rattle.area_reader.specs.Names.{IsAmong}
 use Rattle.area_reader.proofs.Twins.{adds_more, shares_name}

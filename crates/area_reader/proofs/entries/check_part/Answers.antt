@@ -2,8 +2,8 @@ use Rattle.std.proofs.Common.{◌≡◌, ◌<◌, ◌∙◌, ℕ, Some, length, 
 use Rattle.std.proofs.lemmas.Result.{err_from_is_err_and}
 use Rattle.tier_device.specs.declared.media.Tier.{Tier}
 use Rattle.tier_device.specs.declared.media.Tier.TheVariants.{Fast}
-use Rattle.layout.specs.Places.{Sizes, tier_blocks}
-use Rattle.layout.specs.declared.error.What.TheVariants as what
+use Rattle.batch_journal.specs.layout.Places.{Sizes, tier_blocks}
+use Rattle.batch_journal.specs.layout.declared.error.What.TheVariants as what
 use Rattle.tree_blocks.specs.Inode.{IsDirectoryBlock}
 use Rattle.area_reader.specs.declared.error.AreaError.{AreaError}
 use Rattle.area_reader.specs.Store.{Store, disk, place, logical_block}
@@ -11,7 +11,7 @@ use Rattle.area_reader.specs.Damage.{OnDamage}
 use Rattle.area_reader.specs.Reads.{IsRoom}
 use Rattle.area_reader.specs.Checks.{IsSlotDamageOf, IsDirectoryDamageOf}
 use Rattle.area_reader.specs.Names.{SharesName, AddsNames}
-use Rattle.layout.specs.Directory.{block_entries}
+use Rattle.batch_journal.specs.layout.Directory.{block_entries}
 use Rattle.std.specs.Prelude.{Bool, MatchBool, List}
 use Rattle.area_reader.proofs.Damages.{is_some_at}
 use Rattle.area_reader.proofs.Tails.{place_is, placed_by}

@@ -1,4 +1,4 @@
-use Rattle.layout.specs.declared.error.What.TheVariants as what
+use Rattle.batch_journal.specs.layout.declared.error.What.TheVariants as what
 use Rattle.area_reader.proofs.Twins.{not_read}
 use Rattle.area_reader.proofs.entries.is_part.Goals as goal
 

@@ -2,9 +2,9 @@ use Rattle.std.proofs.Common.{◌≡◌, ◌≢◌, ◌∙◌, Err, Some, None, 
 use Rattle.std.proofs.lemmas.Result.{err_from_is_err_and}
 use Rattle.tier_device.specs.declared.media.Tier.TheVariants.{Fast}
 use Rattle.batch_journal.specs.Blocks.{Blocks, home}
-use Rattle.layout.specs.Places.{Sizes}
-use Rattle.layout.specs.declared.geometry.Space.{Space}
-use Rattle.layout.specs.Extents.{ExtentList}
+use Rattle.batch_journal.specs.layout.Places.{Sizes}
+use Rattle.batch_journal.specs.layout.declared.geometry.Space.{Space}
+use Rattle.batch_journal.specs.layout.Extents.{ExtentList}
 use Rattle.area_reader.specs.Store.{root_of, own_extents, space_of}
 use Rattle.area_reader.specs.Map.{IsOwnList}
 use Rattle.area_reader.proofs.Looked.{looks_other, looks_none, looks_failed}

@@ -1,7 +1,7 @@
 use Rattle.std.proofs.Common.{◌≡◌, ◌∙◌, Some, ap, subst, true}
 use Rattle.std.proofs.lemmas.Result.{on_ok_weaker, IfErr-weaker}
-use Rattle.layout.specs.declared.slot.Slot.{Slot}
-use Rattle.layout.specs.Slot.{fits_slot}
+use Rattle.batch_journal.specs.layout.declared.slot.Slot.{Slot}
+use Rattle.batch_journal.specs.layout.Slot.{fits_slot}
 use Rattle.area_reader.specs.Store.{Store, disk}
 use Rattle.area_reader.proofs.Shown.{inode_is}
 use Rattle.area_reader.proofs.Parts.{on_damage}

@@ -1,6 +1,6 @@
 use Rattle.std.proofs.Common.{◌<◌, Err, sym, subst, inl, inr}
 use Rattle.std.proofs.lemmas.Result.{on_ok_weaker}
-use Rattle.layout.specs.declared.error.What.TheVariants as what
+use Rattle.batch_journal.specs.layout.declared.error.What.TheVariants as what
 use Rattle.area_reader.specs.declared.error.AreaError.TheVariants as errors
 use Rattle.area_reader.specs.Store.{Store, disk}
 use Rattle.area_reader.specs.Checks.{IsOnce}

@@ -1,6 +1,6 @@
 use Rattle.std.proofs.Common.{◌≡◌, Ok, Err, Some, true, inl, inr}
 use Rattle.std.proofs.lemmas.Result.{err_from_is_err_and}
-use Rattle.layout.specs.Slot.{fits_slot}
+use Rattle.batch_journal.specs.layout.Slot.{fits_slot}
 use Rattle.area_reader.specs.Store.{disk, slot_read}
 use Rattle.area_reader.specs.Format.{SpellsInode}
 use Rattle.area_reader.specs.Checks.{HasFound, HasPart, IsOwnDamage}

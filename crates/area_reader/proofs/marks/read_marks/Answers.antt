@@ -1,5 +1,5 @@
 use Rattle.std.proofs.Common.{◌∙◌, refl, sym, ap, subst}
-use Rattle.layout.specs.Marks.{marks_of}
+use Rattle.batch_journal.specs.layout.Marks.{marks_of}
 use Rattle.batch_journal.proofs.Courses.{if_ok, if_err}
 use Rattle.area_reader.specs.declared.error.AreaError.{AreaError}
 use Rattle.area_reader.specs.Damage.{OnDamage, IsMarksDamage}

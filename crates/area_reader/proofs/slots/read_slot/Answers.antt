@@ -1,7 +1,7 @@
 use Rattle.std.proofs.Common.{◌≡◌, ◌∙◌, Some, None, refl, sym, subst}
-use Rattle.layout.specs.declared.error.What.TheVariants as what
-use Rattle.layout.specs.Places.{Sizes, slot_block}
-use Rattle.layout.specs.Slot.{slot_of}
+use Rattle.batch_journal.specs.layout.declared.error.What.TheVariants as what
+use Rattle.batch_journal.specs.layout.Places.{Sizes, slot_block}
+use Rattle.batch_journal.specs.layout.Slot.{slot_of}
 use Rattle.batch_journal.proofs.Courses.{if_ok, if_err}
 use Rattle.area_reader.specs.declared.error.AreaError.{AreaError}
 use Rattle.area_reader.specs.Damage.{OnDamage}

@@ -1,7 +1,7 @@
 use Rattle.std.proofs.Common.{arith}
-use Rattle.layout.specs.declared.error.What.TheVariants as what
-use Rattle.layout.specs.Places.{slot_block}
-use Rattle.layout.specs.Slot.{slot_of}
+use Rattle.batch_journal.specs.layout.declared.error.What.TheVariants as what
+use Rattle.batch_journal.specs.layout.Places.{slot_block}
+use Rattle.batch_journal.specs.layout.Slot.{slot_of}
 use Rattle.area_reader.proofs.Shown.{answered}
 use Rattle.area_reader.proofs.slots.slot_in.Goals as goal
 

@@ -1,9 +1,9 @@
 use Rattle.std.proofs.Common.{◌≡◌, ◌<◌, ◌/◌, ◌%◌, ◌∙◌, Some, ℕ, drop, false, length, sym, ap, subst}
 use Rattle.std.proofs.lemmas.Result.{on_ok_weaker, IfErr-weaker}
-use Rattle.layout.specs.Bytes.{are_zero}
-use Rattle.layout.specs.Places.{Sizes, tier_blocks}
-use Rattle.layout.specs.declared.error.What.{What}
-use Rattle.layout.specs.declared.error.What.TheVariants as what
+use Rattle.batch_journal.specs.layout.Bytes.{are_zero}
+use Rattle.batch_journal.specs.layout.Places.{Sizes, tier_blocks}
+use Rattle.batch_journal.specs.layout.declared.error.What.{What}
+use Rattle.batch_journal.specs.layout.declared.error.What.TheVariants as what
 use Rattle.area_reader.specs.Store.{Store, disk, place, logical_block}
 use Rattle.area_reader.specs.Reads.{IsRoom}
 use Rattle.area_reader.specs.Checks.{IsTailDamageOf}

@@ -1,6 +1,6 @@
 use Rattle.std.proofs.Common.{◌≡◌, List, ℕ, length, drop, true, false, refl, sym, subst}
-use Rattle.layout.specs.Bytes.{are_zero}
-use Rattle.layout.specs.declared.error.What.TheVariants as what
+use Rattle.batch_journal.specs.layout.Bytes.{are_zero}
+use Rattle.batch_journal.specs.layout.declared.error.What.TheVariants as what
 use Rattle.batch_journal.proofs.Courses.{on_ok, if_err}
 use Rattle.area_reader.specs.declared.error.AreaError.{AreaError}
 use Rattle.area_reader.specs.Damage.{OnDamage}

@@ -1,13 +1,13 @@
 use Rattle.std.proofs.Common.{◌≡◌, inl, inr, map, ap, sym, ◌∙◌, subst}
 use Rattle.std.specs.Prelude.{Some}
-use Rattle.area_reader.specs.Store.{disk, graph, marks}
-use Rattle.layout.specs.declared.marks.Marks.{Marks}
-use Rattle.world_invariant.proofs.Recoveries.{settled_same}
-use Rattle.call_effects.specs.ClosedGraph.{nobody, settled_graph}
-use Rattle.call_effects.specs.Wholes.{IsSound, state_of}
-use Rattle.layout.specs.Places.{Sizes}
-use Rattle.file_graph.specs.Graph.{Graph}
-use Rattle.world_invariant.specs.Logs.{LogsAreApart, after_clients}
+use Rattle.recovery_laws.specs.area_reader.Store.{disk, graph, marks}
+use Rattle.recovery_laws.specs.layout.declared.marks.Marks.{Marks}
+use Rattle.log_survey.proofs.world_invariant_lemmas.Recoveries.{settled_same}
+use Rattle.graph_check.specs.call_effects.ClosedGraph.{nobody, settled_graph}
+use Rattle.graph_check.specs.call_effects.Wholes.{IsSound, state_of}
+use Rattle.recovery_laws.specs.layout.Places.{Sizes}
+use Rattle.graph_check.specs.file_graph.Graph.{Graph}
+use Rattle.log_survey.specs.world_invariant.Logs.{LogsAreApart, after_clients}
 use Rattle.posix_calls.specs.Tree.{State}
 use Rattle.area_recovery.specs.DigestedLogs.{CanDigestAll}
 use Rattle.area_recovery.specs.Errors.{OnBadLog}

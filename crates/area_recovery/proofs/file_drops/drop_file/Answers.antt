@@ -1,7 +1,7 @@
 use Rattle.std.proofs.Common.{Err, ap, ◌∙◌}
-use Rattle.layout.specs.Places.{Sizes}
-use Rattle.area_reader.specs.Store.{Store, disk, graph, store_of}
-use Rattle.batch_journal.proofs.Courses.{tiers_same}
+use Rattle.recovery_laws.specs.layout.Places.{Sizes}
+use Rattle.recovery_laws.specs.area_reader.Store.{Store, disk, graph, store_of}
+use Rattle.recovery_laws.proofs.batch_journal_lemmas.Courses.{tiers_same}
 use Rattle.area_recovery.proofs.Changing.{drop_stays, dropped_one, kept_one, reclaim_answers}
 use Rattle.area_recovery.proofs.file_drops.drop_file.Goals as goal
 

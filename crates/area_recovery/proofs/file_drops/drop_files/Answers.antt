@@ -2,10 +2,10 @@ use Rattle.std.proofs.Common.{◌≡◌, ℕ, ◌+◌, [], ◌∷◌, ◌++◌, 
 use Rattle.std.proofs.Math.Seq.{take-suc}
 use Rattle.std.proofs.lemmas.List.{take_all}
 use Rattle.std.proofs.lemmas.Result.{err_from_is_err_and}
-use Rattle.area_reader.specs.Store.{disk, graph, marks}
-use Rattle.file_graph.specs.Graph.{Graph}
-use Rattle.call_effects.specs.ClosedGraph.{nobody}
-use Rattle.call_effects.specs.Wholes.{IsSound, state_of}
+use Rattle.recovery_laws.specs.area_reader.Store.{disk, graph, marks}
+use Rattle.graph_check.specs.file_graph.Graph.{Graph}
+use Rattle.graph_check.specs.call_effects.ClosedGraph.{nobody}
+use Rattle.graph_check.specs.call_effects.Wholes.{IsSound, state_of}
 use Rattle.area_recovery.specs.GraphTests.{without_nameless}
 use Rattle.area_recovery.specs.Recovers.{CountNone}
 use Rattle.area_recovery.proofs.Staying.{stays_on}

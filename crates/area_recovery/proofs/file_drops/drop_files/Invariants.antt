@@ -1,5 +1,5 @@
 use Rattle.std.proofs.Common.{◌≡◌, false, take}
-use Rattle.area_reader.specs.Store.{disk, graph, marks}
+use Rattle.recovery_laws.specs.area_reader.Store.{disk, graph, marks}
 use Rattle.area_recovery.specs.GraphTests.{without_nameless}
 use Rattle.area_recovery.specs.Recovers.{CountNone}
 use Rattle.area_recovery.specs.Phases.{StaysRecovered}

@@ -1,6 +1,6 @@
-use Rattle.area_reader.specs.Store.{disk, graph}
-use Rattle.call_effects.specs.ClosedGraph.{nobody}
-use Rattle.call_effects.specs.Wholes.{IsSound}
+use Rattle.recovery_laws.specs.area_reader.Store.{disk, graph}
+use Rattle.graph_check.specs.call_effects.ClosedGraph.{nobody}
+use Rattle.graph_check.specs.call_effects.Wholes.{IsSound}
 use Rattle.area_recovery.proofs.GraphTested.{finds_no_damage, inodes_alone, looked_for, looked_unmoved, tested_answers, tested_damage, tested_never, tested_of_area, tested_unsound}
 use Rattle.area_recovery.proofs.Changing.{sound_by, unmoved_stays}
 use Rattle.area_recovery.specs.Phases.{Whatever}

@@ -3,11 +3,11 @@ use Rattle.std.specs.Prelude.{IfSome}
 use Rattle.std.proofs.lemmas.List.Elements.{length_all_zip}
 use Rattle.std.proofs.lemmas.Result.{err_from_is_err_and}
 use Rattle.log_survey.specs.Regions.{records_behind, records_of}
-use Rattle.digester.specs.MarkMoves.{mark_of}
-use Rattle.area_reader.specs.Store.{disk, graph, marks}
-use Rattle.layout.specs.declared.marks.Mark.{Mark}
-use Rattle.layout.specs.declared.marks.Marks.{Marks}
-use Rattle.update_log.specs.RecordCounts.{next_generation}
+use Rattle.recovery_laws.specs.digester.MarkMoves.{mark_of}
+use Rattle.recovery_laws.specs.area_reader.Store.{disk, graph, marks}
+use Rattle.recovery_laws.specs.layout.declared.marks.Mark.{Mark}
+use Rattle.recovery_laws.specs.layout.declared.marks.Marks.{Marks}
+use Rattle.log_survey.specs.update_log.RecordCounts.{next_generation}
 use Rattle.area_recovery.specs.DigestedLogs.{CanDigest, DigestsAll, NamesRefused, StandsAtStart}
 use Rattle.area_recovery.specs.FoundLogs.{HasGeneration, HoldsFew, log_by}
 use Rattle.area_recovery.specs.Recovers.{AreThese, Regions}
@@ -15,8 +15,8 @@ use Rattle.area_recovery.specs.Regions.{IsOnlyRead, regions_read}
 use Rattle.area_recovery.proofs.FoundParts.{at_second, log_digested, region_few, rest_few}
 use Rattle.area_recovery.proofs.ReadRegions.{all_read_on, either_on, idle_still, other_answer, regions_still, same_denial}
 use Rattle.area_recovery.proofs.Staying.{recovered_now, stays_on}
-use Rattle.layout.specs.Places.{Sizes}
-use Rattle.file_graph.specs.Graph.{Graph}
+use Rattle.recovery_laws.specs.layout.Places.{Sizes}
+use Rattle.graph_check.specs.file_graph.Graph.{Graph}
 use Rattle.area_recovery.proofs.SettlementPhases.{passed_on}
 use Rattle.area_recovery.proofs.UndigestibleRecords.{behind_named, front_named, parts_digest}
 use Rattle.area_recovery.proofs.log_digest.digest_log.Goals as goal

@@ -2,13 +2,13 @@ use Rattle.std.proofs.Common.{◌≡◌, ◌<◌, ◌+◌, ℕ, true, length, ge
 use Rattle.std.proofs.lemmas.List.Elements.{length_all_zip}
 use Rattle.std.proofs.lemmas.Option.{slice_get-get_or}
 use Rattle.std.specs.Prelude.{slice_get}
-use Rattle.digester.specs.MarkMoves.{mark_of}
-use Rattle.layout.specs.declared.marks.Marks.{Marks}
+use Rattle.recovery_laws.specs.digester.MarkMoves.{mark_of}
+use Rattle.recovery_laws.specs.layout.declared.marks.Marks.{Marks}
 use Rattle.area_recovery.specs.declared.log_search.FoundLog.{FoundLog}
 use Rattle.std.proofs.lemmas.Result.{err_from_is_err_and}
-use Rattle.world_invariant.proofs.Owners as owners
-use Rattle.area_reader.specs.Store.{disk, graph, marks}
-use Rattle.layout.specs.declared.marks.Mark.{Mark}
+use Rattle.log_survey.proofs.world_invariant_lemmas.Owners as owners
+use Rattle.recovery_laws.specs.area_reader.Store.{disk, graph, marks}
+use Rattle.recovery_laws.specs.layout.declared.marks.Mark.{Mark}
 use Rattle.posix_calls.specs.Operations.{is_client}
 use Rattle.area_recovery.specs.DigestedLogs.{CanDigest, DigestsLog, IsFirstRefused}
 use Rattle.area_recovery.specs.FoundLogs.{HoldsFew, IsFound, log_by}

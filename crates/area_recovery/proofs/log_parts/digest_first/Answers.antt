@@ -1,13 +1,13 @@
 use Rattle.std.proofs.Common.{◌≡◌, ℕ, List, drop, length, Option, Some, ap, sym, ◌∙◌, subst, arith}
 use Rattle.std.proofs.lemmas.Result.{err_from_is_err_and}
 use Rattle.log_survey.specs.Regions.{records_behind}
-use Rattle.digester.specs.MarkMoves.{mark_of}
-use Rattle.area_reader.specs.Store.{disk, graph, marks}
-use Rattle.layout.specs.declared.marks.Mark.{Mark}
-use Rattle.layout.specs.declared.marks.Marks.{Marks}
-use Rattle.update_log.specs.Frames.{records}
-use Rattle.update_log.specs.RecordCounts.{next_generation}
-use Rattle.log_record.specs.declared.format.Record.{Record}
+use Rattle.recovery_laws.specs.digester.MarkMoves.{mark_of}
+use Rattle.recovery_laws.specs.area_reader.Store.{disk, graph, marks}
+use Rattle.recovery_laws.specs.layout.declared.marks.Mark.{Mark}
+use Rattle.recovery_laws.specs.layout.declared.marks.Marks.{Marks}
+use Rattle.log_survey.specs.update_log.Frames.{records}
+use Rattle.log_survey.specs.update_log.RecordCounts.{next_generation}
+use Rattle.graph_check.specs.log_record.declared.format.Record.{Record}
 use Rattle.std.specs.Prelude.{IfSome}
 use Rattle.log_survey.specs.declared.regions.LogRest.{LogRest}
 use Rattle.area_recovery.specs.FoundLogs.{HasGeneration, IsRestOf}

@@ -2,19 +2,19 @@ use Rattle.std.proofs.Common.{◌≡◌, ◌≢◌, ℕ, [], drop, Option, Some,
 use Rattle.std.proofs.lemmas.Bool.{eqb-true}
 use Rattle.std.proofs.lemmas.List.{nil_from_length}
 use Rattle.std.proofs.lemmas.Result.{err_from_is_err_and}
-use Rattle.digester.specs.MarkMoves.{mark_of}
-use Rattle.area_reader.specs.Store.{disk, graph, marks}
-use Rattle.layout.specs.declared.marks.Mark.{Mark}
-use Rattle.layout.specs.declared.marks.Marks.{Marks}
-use Rattle.update_log.specs.RecordCounts.{next_generation}
+use Rattle.recovery_laws.specs.digester.MarkMoves.{mark_of}
+use Rattle.recovery_laws.specs.area_reader.Store.{disk, graph, marks}
+use Rattle.recovery_laws.specs.layout.declared.marks.Mark.{Mark}
+use Rattle.recovery_laws.specs.layout.declared.marks.Marks.{Marks}
+use Rattle.log_survey.specs.update_log.RecordCounts.{next_generation}
 use Rattle.area_recovery.specs.DigestedLogs.{CanDigest, DigestsAll, HoldRecords, NamesRefused}
 use Rattle.area_recovery.specs.Recovers.{AreThese}
 use Rattle.area_recovery.proofs.Changing.{answers_on, still_stays}
 use Rattle.area_recovery.proofs.ClientParts.{memory_digest, moved_before, none_digested}
 use Rattle.area_recovery.proofs.DigestAnswers.{each_err, each_ok, same_refusal, still_faults}
 use Rattle.area_recovery.proofs.Staying.{recovered_now, stays_on}
-use Rattle.layout.specs.Places.{Sizes}
-use Rattle.file_graph.specs.Graph.{Graph}
+use Rattle.recovery_laws.specs.layout.Places.{Sizes}
+use Rattle.graph_check.specs.file_graph.Graph.{Graph}
 use Rattle.area_recovery.proofs.SettlementPhases.{passed_on}
 use Rattle.area_recovery.proofs.UndigestibleRecords.{fault_named, nothing_to_digest}
 use Rattle.area_recovery.proofs.log_parts.digest_next_part.Goals as goal

@@ -1,13 +1,13 @@
 use Rattle.std.proofs.Common.{◌<◌, ◌≤◌, length, drop, ap, sym, subst, arith}
 use Rattle.std.proofs.lemmas.List.{drop_all, length-drop}
 use Rattle.std.proofs.lemmas.Result.{err_from_is_err_and}
-use Rattle.area_reader.specs.Store.{disk, graph}
-use Rattle.update_log.specs.RecordCounts.{next_generation}
+use Rattle.recovery_laws.specs.area_reader.Store.{disk, graph}
+use Rattle.log_survey.specs.update_log.RecordCounts.{next_generation}
 use Rattle.area_recovery.specs.DigestedLogs.{HaveRecords, HoldRecords, CanDigest, NamesRefused}
 use Rattle.area_recovery.proofs.Changing.{still_stays}
 use Rattle.area_recovery.proofs.ClientParts.{log_all, log_has, log_some, log_stands, log_undone, memory_digest, none_digested, read_memory, stays_for}
 use Rattle.area_recovery.proofs.DigestAnswers.{memory_faults, other_value, same_refusal, still_faults}
-use Rattle.digester.specs.SealedLog.{SealedView, undone}
+use Rattle.recovery_laws.specs.digester.SealedLog.{SealedView, undone}
 use Rattle.area_recovery.proofs.SettlementPhases.{passed_on}
 use Rattle.area_recovery.proofs.UndigestibleRecords.{fault_named, nothing_to_digest}
 use Rattle.area_recovery.proofs.log_parts.digest_part.Goals as goal

@@ -1,11 +1,11 @@
 use Rattle.std.proofs.Common.{◌≡◌, ◌≢◌, ℕ, List, [], Option, Some, ap, sym, ◌∙◌, subst, arith}
 use Rattle.std.proofs.lemmas.Result.{err_from_is_err_and}
 use Rattle.log_survey.specs.Regions.{records_of}
-use Rattle.area_reader.specs.Store.{disk, graph}
-use Rattle.layout.specs.declared.marks.Marks.{Marks}
-use Rattle.update_log.specs.Frames.{records}
-use Rattle.update_log.specs.RecordCounts.{next_generation}
-use Rattle.log_record.specs.declared.format.Record.{Record}
+use Rattle.recovery_laws.specs.area_reader.Store.{disk, graph}
+use Rattle.recovery_laws.specs.layout.declared.marks.Marks.{Marks}
+use Rattle.log_survey.specs.update_log.Frames.{records}
+use Rattle.log_survey.specs.update_log.RecordCounts.{next_generation}
+use Rattle.graph_check.specs.log_record.declared.format.Record.{Record}
 use Rattle.std.specs.Prelude.{IfSome}
 use Rattle.area_recovery.specs.FoundLogs.{HasGeneration}
 use Rattle.area_recovery.specs.DigestedLogs.{CanDigest, DigestsAll, NamesRefused, StandsAtStart}

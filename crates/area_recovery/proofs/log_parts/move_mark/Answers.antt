@@ -1,8 +1,8 @@
 use Rattle.std.proofs.Common.{ℕ, Some, ap, sym, ◌∙◌}
 use Rattle.std.specs.Prelude.{slice_set}
 use Rattle.std.proofs.lemmas.Bool.{false≢true}
-use Rattle.area_reader.specs.Store.{disk}
-use Rattle.layout.specs.declared.marks.Mark.{Mark}
+use Rattle.recovery_laws.specs.area_reader.Store.{disk}
+use Rattle.recovery_laws.specs.layout.declared.marks.Mark.{Mark}
 use Rattle.area_recovery.specs.Recovers.{AreThese}
 use Rattle.area_recovery.proofs.Changing.{still_stays}
 use Rattle.area_recovery.proofs.ClientParts.{lost_stays, mark_set, mark_stands, same_start, start_is}

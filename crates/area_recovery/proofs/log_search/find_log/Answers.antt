@@ -1,8 +1,8 @@
 use Rattle.std.proofs.Common.{rules, ◌<◌, length, ◌∙◌, sym, subst, arith}
-use Rattle.update_log.specs.Frames.{records}
-use Rattle.update_log.specs.RecordCounts.{next_generation}
+use Rattle.log_survey.specs.update_log.Frames.{records}
+use Rattle.log_survey.specs.update_log.RecordCounts.{next_generation}
 use Rattle.log_survey.specs.Owners.{AreAdded, IsClear, owner}
-use Rattle.update_log.proofs.DeviceCalls.{on_err}
+use Rattle.log_survey.proofs.update_log_lemmas.DeviceCalls.{on_err}
 use Rattle.area_recovery.proofs.ReadLogs.{are_read, counted_are, next_is, read_same, rest_is}
 use Rattle.area_recovery.proofs.TouchedRecords.{read_are_listed}
 use Rattle.area_recovery.specs.FoundLogs.{NamesForeign}

@@ -1,16 +1,16 @@
 use Rattle.std.proofs.Common.{rules, ◌≡◌, ◌∙◌, ◌+◌, ◌-◌, ℕ, List, length, sym, subst, arith, below_more}
 use Rattle.std.proofs.lemmas.Option.{slice_get_within}
 use Rattle.std.proofs.lemmas.Result.{err_from_is_err_and}
-use Rattle.update_log.specs.Stage.{IsIdle}
-use Rattle.log_record.specs.declared.format.Record.{Record}
+use Rattle.log_survey.specs.update_log.Stage.{IsIdle}
+use Rattle.graph_check.specs.log_record.declared.format.Record.{Record}
 use Rattle.log_survey.specs.Owners.{AreAdded, IsClear, owner}
-use Rattle.digester.specs.MarkMoves.{mark_of}
+use Rattle.recovery_laws.specs.digester.MarkMoves.{mark_of}
 use Rattle.area_recovery.specs.FoundLogs.{AreFound, IsFound, log_by, HoldsFew, NamesForeign}
 use Rattle.area_recovery.specs.Recovers.{Regions}
 use Rattle.area_recovery.specs.Regions.{regions_read}
 use Rattle.area_recovery.proofs.ReadLogs.{all_only_read}
 use Rattle.area_recovery.proofs.RegionReads.{each_still, found_more, more_read, regions_still, risen_before}
-use Rattle.world_invariant.proofs.Owners as owners
+use Rattle.log_survey.proofs.world_invariant_lemmas.Owners as owners
 use Rattle.area_recovery.proofs.SettlementPhases.{passed_on}
 use Rattle.area_recovery.proofs.SharedRecords.{sharing_named}
 use Rattle.area_recovery.proofs.log_search.find_logs.Goals as goal

@@ -3,7 +3,7 @@ use Rattle.std.specs.List.{AllZip}
 use Rattle.std.specs.Prelude.{slice_get, Some}
 use Rattle.std.specs.Vec.{vec_capacity}
 use Rattle.log_survey.specs.Owners.{AreOwners, IsClear, owner, owner_among}
-use Rattle.digester.specs.MarkMoves.{mark_of}
+use Rattle.recovery_laws.specs.digester.MarkMoves.{mark_of}
 use Rattle.posix_calls.specs.Operations.{is_client}
 use Rattle.area_recovery.specs.FoundLogs.{IsFound, log_by}
 use Rattle.area_recovery.specs.Regions.{IsOnlyRead, regions_read}

@@ -1,9 +1,9 @@
 use Rattle.std.proofs.Common.{rules, ◌≡◌, ◌+◌, ◌<◌, length, subst, sym, ◌∙◌, arith}
 use Rattle.std.proofs.lemmas.Result.{IfErr-weaker, IfOk-weaker, err_from_is_err_and, on_ok_weaker}
-use Rattle.update_log.specs.Stage.{IsIdle}
-use Rattle.layout.specs.declared.marks.Mark.{Mark}
+use Rattle.log_survey.specs.update_log.Stage.{IsIdle}
+use Rattle.recovery_laws.specs.layout.declared.marks.Mark.{Mark}
 use Rattle.log_survey.specs.Owners.{AreAdded, IsClear, owner}
-use Rattle.update_log.specs.RecordCounts.{counted_records}
+use Rattle.log_survey.specs.update_log.RecordCounts.{counted_records}
 use Rattle.area_recovery.specs.FoundLogs.{IsFound, NamesForeign}
 use Rattle.area_recovery.specs.Regions.{regions_read}
 use Rattle.area_recovery.proofs.RegionReads.{each_still, mark_at, more_read, risen_before, two_read}

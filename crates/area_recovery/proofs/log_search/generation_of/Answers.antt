@@ -1,7 +1,7 @@
 use Rattle.std.proofs.Common.{◌∙◌, ap, sym}
 use Rattle.tier_device.specs.declared.media.Tier.TheVariants.{Fast}
-use Rattle.update_log.specs.WipeStops.{generation}
-use Rattle.update_log.proofs.Counts.{header_tells}
+use Rattle.log_survey.specs.update_log.WipeStops.{generation}
+use Rattle.log_survey.proofs.update_log_lemmas.Counts.{header_tells}
 use Rattle.area_recovery.proofs.WipedRegions.{idle_not_wiping}
 use Rattle.area_recovery.proofs.log_search.generation_of.Goals as goal
 

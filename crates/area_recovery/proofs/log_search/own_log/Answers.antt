@@ -2,7 +2,7 @@ use Rattle.std.proofs.Common.{length, refl, ◌∙◌}
 use Rattle.log_survey.specs.Owners.{owner, owner_after}
 use Rattle.area_recovery.specs.FoundLogs.{first_part, second_part}
 use Rattle.std.proofs.lemmas.Result.{on_err_weaker, on_ok_weaker}
-use Rattle.update_log.proofs.DeviceCalls.{on_err}
+use Rattle.log_survey.proofs.update_log_lemmas.DeviceCalls.{on_err}
 use Rattle.area_recovery.proofs.SettlementPhases.{of_err, passed_on}
 use Rattle.area_recovery.proofs.SharedRecords.{named_behind, named_in_front}
 use Rattle.area_recovery.proofs.TouchedRecords.{first_listed, listed_long, second_listed}

@@ -1,7 +1,7 @@
 use Rattle.std.proofs.Common.{rules, ◌≡◌, ◌+◌, ◌||◌, ℕ, Bool, true, false, length, take, refl, ap, sym, ◌∙◌, subst, arith}
 use Rattle.std.proofs.lemmas.List.{take_all}
 use Rattle.log_survey.specs.Owners.{listed}
-use Rattle.file_graph.specs.Graph.{is_among}
+use Rattle.graph_check.specs.file_graph.Graph.{is_among}
 use Rattle.area_recovery.proofs.TouchedRecords.{listed_more}
 use Rattle.area_recovery.proofs.log_search.place_of.Goals as goal
 

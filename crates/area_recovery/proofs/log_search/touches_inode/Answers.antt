@@ -2,7 +2,7 @@ use Rattle.std.proofs.Common.{rules, tests, List, ℕ, ap, ◌∙◌}
 use Rattle.std.specs.Prelude.{◌==◌}
 use Rattle.std.proofs.lemmas.Iterator.{YieldsList-from_slice}
 use Rattle.std.proofs.lemmas.Iterator.Search.{any_from_yields_List}
-use Rattle.file_graph.specs.Graph.{is_among}
+use Rattle.graph_check.specs.file_graph.Graph.{is_among}
 use Rattle.area_recovery.proofs.log_search.touches_inode.Goals as goal
 
 pub returns : goal.returns

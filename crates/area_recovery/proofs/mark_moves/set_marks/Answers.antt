@@ -1,14 +1,14 @@
 use Rattle.std.proofs.Common.{◌≤◌, [], Err, ap, sym, ◌∙◌, subst}
-use Rattle.file_graph.specs.Units.{charge}
-use Rattle.layout.specs.Places.{Sizes}
-use Rattle.area_reader.specs.Store.{disk, graph}
-use Rattle.graph_change.specs.Bounds.{AreBounded}
-use Rattle.graph_change.specs.Change.{Coalesces}
-use Rattle.graph_change.specs.View.{changes_of}
-use Rattle.file_graph.specs.Graph.{Graph}
+use Rattle.graph_check.specs.file_graph.Units.{charge}
+use Rattle.recovery_laws.specs.layout.Places.{Sizes}
+use Rattle.recovery_laws.specs.area_reader.Store.{disk, graph}
+use Rattle.recovery_laws.specs.graph_change.Bounds.{AreBounded}
+use Rattle.recovery_laws.specs.graph_change.Change.{Coalesces}
+use Rattle.recovery_laws.specs.graph_change.View.{changes_of}
+use Rattle.graph_check.specs.file_graph.Graph.{Graph}
 use Rattle.area_recovery.proofs.Changing.{apply_answers, nothing_few, nothing_has, nothing_written, set_stays}
 use Rattle.area_recovery.proofs.Faults.{no_damage, of_other, of_reader}
-use Rattle.shared_area.proofs.Sound.{found_change}
+use Rattle.recovery_laws.proofs.shared_area_lemmas.Sound.{found_change}
 use Rattle.area_recovery.proofs.mark_moves.set_marks.Goals as goal
 
 pub apply-requires-clause-bounded : goal.apply-requires-clause-bounded

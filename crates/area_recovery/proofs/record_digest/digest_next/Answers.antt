@@ -1,7 +1,7 @@
 use Rattle.std.proofs.Common.{sym, subst}
 use Rattle.std.proofs.lemmas.Result.{err_from_is_err_and}
-use Rattle.digester.specs.DigestStep.{NamesFirstBad}
-use Rattle.area_reader.specs.Store.{disk}
+use Rattle.recovery_laws.specs.digester.DigestStep.{NamesFirstBad}
+use Rattle.recovery_laws.specs.area_reader.Store.{disk}
 use Rattle.area_recovery.proofs.DigestAnswers.{each_err, memory_answers, next_digested, three_ok}
 use Rattle.area_recovery.proofs.DigestedContents.{digest_stays, none_named}
 use Rattle.area_recovery.specs.DigestedLogs.{HaveRecords, NamesBad}

@@ -1,16 +1,16 @@
 use Rattle.std.proofs.Common.{◌≡◌, ◌+◌, ◌-◌, inr, ℕ, List, length, take, Option, Some, refl, ap, sym, ◌∙◌, subst, arith}
 use Rattle.std.proofs.lemmas.Bool.{eqb-true}
 use Rattle.std.proofs.lemmas.List.{length-drop}
-use Rattle.digester.specs.MarkMoves.{mark_of}
-use Rattle.digester.specs.Plan.{AreGood, IsFirstBad}
-use Rattle.digester.specs.SealedLog.{SealedView, done_to, undone}
-use Rattle.digester.specs.declared.error.DigestError.TheVariants as digests
-use Rattle.layout.specs.Places.{Sizes}
-use Rattle.area_reader.specs.Store.{disk, graph, marks}
-use Rattle.layout.specs.declared.marks.Marks.{Marks}
-use Rattle.update_log.specs.RecordCounts.{next_generation}
-use Rattle.log_record.specs.declared.format.Record.{Record}
-use Rattle.world_invariant.specs.Logs.{after_records}
+use Rattle.recovery_laws.specs.digester.MarkMoves.{mark_of}
+use Rattle.recovery_laws.specs.digester.Plan.{AreGood, IsFirstBad}
+use Rattle.recovery_laws.specs.digester.SealedLog.{SealedView, done_to, undone}
+use Rattle.recovery_laws.specs.digester.declared.error.DigestError.TheVariants as digests
+use Rattle.recovery_laws.specs.layout.Places.{Sizes}
+use Rattle.recovery_laws.specs.area_reader.Store.{disk, graph, marks}
+use Rattle.recovery_laws.specs.layout.declared.marks.Marks.{Marks}
+use Rattle.log_survey.specs.update_log.RecordCounts.{next_generation}
+use Rattle.graph_check.specs.log_record.declared.format.Record.{Record}
+use Rattle.log_survey.specs.world_invariant.Logs.{after_records}
 use Rattle.recovery_laws.specs.Inodes.{HasEveryInode}
 use Rattle.area_recovery.specs.DigestedLogs.{HaveRecords, NamesRefused}
 use Rattle.area_recovery.proofs.Changing.{still_stays}

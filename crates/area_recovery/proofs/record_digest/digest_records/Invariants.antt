@@ -1,11 +1,11 @@
 use Rattle.std.proofs.Common.{◌≡◌, ◌≢◌, ◌≤◌, ◌+◌, ◌-◌, ℕ, false, true, length, Some}
-use Rattle.digester.specs.MarkMoves.{mark_of}
-use Rattle.digester.specs.Plan.{AreGood, IsFirstBad}
-use Rattle.digester.specs.SealedLog.{StandsAtMark, done_to, undone}
-use Rattle.area_reader.specs.Store.{disk, graph, marks}
-use Rattle.layout.specs.declared.marks.Marks.{Marks}
+use Rattle.recovery_laws.specs.digester.MarkMoves.{mark_of}
+use Rattle.recovery_laws.specs.digester.Plan.{AreGood, IsFirstBad}
+use Rattle.recovery_laws.specs.digester.SealedLog.{StandsAtMark, done_to, undone}
+use Rattle.recovery_laws.specs.area_reader.Store.{disk, graph, marks}
+use Rattle.recovery_laws.specs.layout.declared.marks.Marks.{Marks}
 use Rattle.posix_calls.specs.Operations.{is_client}
-use Rattle.world_invariant.specs.Logs.{after_records}
+use Rattle.log_survey.specs.world_invariant.Logs.{after_records}
 use Rattle.area_recovery.specs.DigestedLogs.{HaveRecords}
 use Rattle.area_recovery.specs.Phases.{StaysRecovered}
 use Rattle.area_recovery.proofs.record_digest.digest_records.Given as goal

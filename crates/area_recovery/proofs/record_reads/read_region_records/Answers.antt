@@ -1,7 +1,7 @@
 use Rattle.std.proofs.Common.{◌≡◌, ◌<◌, ◌≤◌, ◌+◌, ◌*◌, ◌-◌, ◌^◌, inr, ℕ, List, length, refl, ap, ◌∙◌, subst, arith}
 use Rattle.std.proofs.lemmas.Result.{err_from_is_err_and}
-use Rattle.update_log.specs.Frames.{records}
-use Rattle.log_record.specs.declared.format.Record.{Record}
+use Rattle.log_survey.specs.update_log.Frames.{records}
+use Rattle.graph_check.specs.log_record.declared.format.Record.{Record}
 use Rattle.area_recovery.proofs.ReadRegions.{one_read, one_risen, read_at}
 use Rattle.area_recovery.proofs.record_reads.read_region_records.Goals as goal
 

@@ -1,5 +1,5 @@
 use Rattle.std.proofs.Common.{◌≡◌, refl, inl, inr, false}
-use Rattle.event_steps.specs.declared.event.Event.TheVariants as event
+use Rattle.interleavings.specs.event_steps.declared.event.Event.TheVariants as event
 use Rattle.call_driver.specs.EventOwner.{IsServing}
 use Rattle.call_driver.proofs.KindLemmas.{own_serves}
 use Rattle.call_driver.proofs.RunLemmas.{leads_on}

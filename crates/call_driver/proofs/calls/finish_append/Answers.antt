@@ -1,5 +1,5 @@
 use Rattle.std.proofs.Common.{◌∙◌, arith, refl, ap, subst, inl, Some}
-use Rattle.event_steps.specs.declared.event.Event.TheVariants as event
+use Rattle.interleavings.specs.event_steps.declared.event.Event.TheVariants as event
 use Rattle.call_driver.specs.Calls.{IsStepOf}
 use Rattle.call_driver.specs.EventOwner.{IsOfClient}
 use Rattle.call_driver.proofs.Ends.{ended_by_none, ended_by_step, one_more_step}

@@ -1,6 +1,6 @@
 use Rattle.std.proofs.Common.{◌≡◌}
 use Rattle.posix_calls.specs.declared.call.Call.{Call}
-use Rattle.event_steps.specs.declared.event.Event.TheVariants as kinds
+use Rattle.interleavings.specs.event_steps.declared.event.Event.TheVariants as kinds
 use Rattle.call_driver.specs.Runs.{Leads}
 use Rattle.call_driver.specs.Calls.{Turns}
 use Rattle.call_driver.specs.EventOwner.{IsServing}

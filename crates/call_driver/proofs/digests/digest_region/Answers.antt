@@ -1,5 +1,5 @@
 use Rattle.std.proofs.Common.{arith, refl, inl, inr}
-use Rattle.event_steps.specs.declared.event.Event.TheVariants as event
+use Rattle.interleavings.specs.event_steps.declared.event.Event.TheVariants as event
 use Rattle.call_driver.specs.EventOwner.{IsDigesting}
 use Rattle.call_driver.proofs.Chains.{once_more}
 use Rattle.call_driver.proofs.RunLemmas.{leads_on}

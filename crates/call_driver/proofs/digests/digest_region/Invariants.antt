@@ -1,4 +1,4 @@
-use Rattle.event_steps.specs.declared.event.Event.TheVariants as event
+use Rattle.interleavings.specs.event_steps.declared.event.Event.TheVariants as event
 use Rattle.call_driver.specs.Digests.{Times}
 use Rattle.call_driver.specs.Runs.{Leads}
 use Rattle.call_driver.specs.EventOwner.{IsDigesting}

@@ -1,6 +1,6 @@
 use Rattle.std.proofs.Common.{◌≡◌, ◌+◌, arith, refl, subst}
 use Rattle.std.proofs.lemmas.Result.{err_from_is_err_and}
-use Rattle.event_steps.specs.declared.event.Event.TheVariants as event
+use Rattle.interleavings.specs.event_steps.declared.event.Event.TheVariants as event
 use Rattle.call_driver.specs.Digests.{Reclaims}
 use Rattle.call_driver.specs.EventOwner.{IsReclaim}
 use Rattle.call_driver.proofs.Chains.{one_more_file}

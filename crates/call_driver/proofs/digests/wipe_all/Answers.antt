@@ -1,5 +1,5 @@
 use Rattle.std.proofs.Common.{rules, arith, ◌≡◌, refl, inr}
-use Rattle.event_steps.specs.declared.event.Event.TheVariants as event
+use Rattle.interleavings.specs.event_steps.declared.event.Event.TheVariants as event
 use Rattle.call_driver.proofs.Chains.{once_more}
 use Rattle.call_driver.proofs.RunLemmas.{leads_on}
 use Rattle.call_driver.proofs.digests.wipe_all.Goals as goal

@@ -1,6 +1,6 @@
 use Rattle.std.proofs.Common.{◌≡◌}
 use Rattle.std.specs.Prelude.{nat_lt}
-use Rattle.event_steps.specs.declared.event.Event.TheVariants as event
+use Rattle.interleavings.specs.event_steps.declared.event.Event.TheVariants as event
 use Rattle.call_driver.specs.Digests.{Times}
 use Rattle.call_driver.specs.Runs.{Leads}
 use Rattle.call_driver.proofs.digests.wipe_all.Given as goal

@@ -1,5 +1,5 @@
 use Rattle.std.proofs.Common.{◌≡◌}
-use Rattle.event_steps.specs.declared.event.Event.TheVariants as event
+use Rattle.interleavings.specs.event_steps.declared.event.Event.TheVariants as event
 use Rattle.call_driver.specs.EventOwner.{IsOfClient, IsDigesting}
 use Rattle.call_driver.proofs.KindLemmas.{digesting_is_own, wipe_is_own}
 use Rattle.call_driver.proofs.RunLemmas.{leads_then, leads_wider}

@@ -1,6 +1,6 @@
 use Rattle.std.proofs.Common.{sym, ◌∙◌}
-use Rattle.file_graph.specs.Graph.{graph_of}
-use Rattle.file_graph.specs.Plain.{pairs}
+use Rattle.log_record.specs.file_graph.Graph.{graph_of}
+use Rattle.log_record.specs.file_graph.Plain.{pairs}
 use Rattle.call_effects.proofs.Nodes.{entry_found, entry_missing}
 use Rattle.call_effects.proofs.node_reads.entry.Goals as goal
 

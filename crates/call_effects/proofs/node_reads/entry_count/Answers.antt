@@ -1,5 +1,5 @@
 use Rattle.std.proofs.Common.{sym, arith}
-use Rattle.file_graph.specs.Graph.{graph_of}
+use Rattle.log_record.specs.file_graph.Graph.{graph_of}
 use Rattle.call_effects.proofs.Nodes.{count_read, count_missing}
 use Rattle.call_effects.proofs.node_reads.entry_count.Goals as goal
 

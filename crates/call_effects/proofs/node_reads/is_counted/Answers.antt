@@ -1,6 +1,6 @@
 use Rattle.std.proofs.Common.{sym, ap, nat_lt, arith}
 use Rattle.std.proofs.lemmas.Bool.{ltb-true}
-use Rattle.file_graph.specs.Graph.{graph_of}
+use Rattle.log_record.specs.file_graph.Graph.{graph_of}
 use Rattle.call_effects.proofs.Nodes.{count_read, count_missing}
 use Rattle.call_effects.proofs.node_reads.is_counted.Goals as goal
 

@@ -1,7 +1,7 @@
 use Rattle.std.proofs.Common.{◌≡◌, sym, ◌∙◌, subst, arith}
 use Rattle.std.specs.Prelude.{IfOk}
-use Rattle.file_graph.specs.Graph.{graph_of}
-use Rattle.file_graph.specs.Plain.{pairs}
+use Rattle.log_record.specs.file_graph.Graph.{graph_of}
+use Rattle.log_record.specs.file_graph.Plain.{pairs}
 use Rattle.call_effects.proofs.Nodes.{names_found, names_missing, count_read}
 use Rattle.std.proofs.lemmas.Result.{IfErr-weaker}
 use Rattle.std.proofs.lemmas.Bool.Decides.{nat_tests}

@@ -1,6 +1,6 @@
 use Rattle.std.proofs.Common.{◌≡◌, map}
 use Rattle.std.specs.Prelude.{take}
-use Rattle.file_graph.specs.Plain.{pairs}
+use Rattle.log_record.specs.file_graph.Plain.{pairs}
 use Rattle.call_effects.proofs.node_reads.names_of.Given as goal
 
 abbrev pub invariant-loop-entry : goal.invariant-loop-entry

@@ -1,15 +1,15 @@
 use Rattle.std.proofs.Common.{◌≡◌, ◌∙◌, ℕ, List, get_or, true, Err, Some, refl, sym, subst, arith}
 use Rattle.std.proofs.lemmas.Result.{err_from_is_err_and}
-use Rattle.graph_change.specs.Change.{Change, Changes, change_at, writes_block}
-use Rattle.graph_change.specs.View.{change_of, changes_of}
-use Rattle.graph_change.specs.declared.node_change.NodeChange.{NodeChange}
-use Rattle.layout.specs.declared.slot.Slot.TheVariants as slots
-use Rattle.area_reader.specs.Looks.{call_answer}
-use Rattle.area_reader.specs.Format.{IsSpelled}
-use Rattle.area_reader.specs.Store.{Store, disk, slot_read}
-use Rattle.area_commit.specs.declared.slots.ChangedSlot.{ChangedSlot}
-use Rattle.area_reader.proofs.Looked.{carried, carried_back, looks_on, looks_none, looks_answer, looks_err}
-use Rattle.area_commit.proofs.Members.{cons_here}
+use Rattle.inode_plan.specs.graph_change.Change.{Change, Changes, change_at, writes_block}
+use Rattle.inode_plan.specs.graph_change.View.{change_of, changes_of}
+use Rattle.inode_plan.specs.graph_change.declared.node_change.NodeChange.{NodeChange}
+use Rattle.inode_plan.specs.layout.declared.slot.Slot.TheVariants as slots
+use Rattle.inode_plan.specs.area_reader.Looks.{call_answer}
+use Rattle.inode_plan.specs.area_reader.Format.{IsSpelled}
+use Rattle.inode_plan.specs.area_reader.Store.{Store, disk, slot_read}
+use Rattle.inode_plan.specs.area_commit.declared.slots.ChangedSlot.{ChangedSlot}
+use Rattle.inode_plan.proofs.area_reader_lemmas.Looked.{carried, carried_back, looks_on, looks_none, looks_answer, looks_err}
+use Rattle.inode_plan.proofs.area_commit_lemmas.Members.{cons_here}
 use Rattle.change_plan.specs.FileLayout.{LeavesFile}
 use Rattle.change_plan.specs.Next.{WantsData}
 use Rattle.change_plan.proofs.Climbs.{seen_as, entries_seen, change_here, has_here}

@@ -1,8 +1,8 @@
 use Rattle.std.proofs.Common.{ℕ, map, drop}
-use Rattle.graph_change.specs.Change.{Change}
-use Rattle.graph_change.specs.View.{change_of, changes_of}
-use Rattle.area_reader.specs.Store.{disk}
-use Rattle.area_reader.specs.Looks.{Looks, call_answer}
+use Rattle.inode_plan.specs.graph_change.Change.{Change}
+use Rattle.inode_plan.specs.graph_change.View.{change_of, changes_of}
+use Rattle.inode_plan.specs.area_reader.Store.{disk}
+use Rattle.inode_plan.specs.area_reader.Looks.{Looks, call_answer}
 use Rattle.change_plan.specs.ReadSlots.{HaveSlots}
 use Rattle.change_plan.proofs.Climbs.{seen_as}
 use Rattle.change_plan.proofs.Wants.{Counted}

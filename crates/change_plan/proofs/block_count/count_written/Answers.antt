@@ -1,8 +1,8 @@
 use Rattle.std.proofs.Common.{◌∙◌, inl, sym}
-use Rattle.graph_change.specs.View.{change_of}
-use Rattle.extent_tree.specs.Map.{lies_at}
-use Rattle.area_reader.specs.Store.{disk}
-use Rattle.area_commit.specs.InodeChange.{places_from}
+use Rattle.inode_plan.specs.graph_change.View.{change_of}
+use Rattle.inode_plan.specs.extent_tree.Map.{lies_at}
+use Rattle.inode_plan.specs.area_reader.Store.{disk}
+use Rattle.inode_plan.specs.area_commit.InodeChange.{places_from}
 use Rattle.inode_plan.proofs.After.{numbers_over}
 use Rattle.change_plan.proofs.PlansFile.{long}
 use Rattle.change_plan.proofs.block_count.count_written.Goals as goal

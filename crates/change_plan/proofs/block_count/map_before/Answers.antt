@@ -1,10 +1,10 @@
 use Rattle.std.proofs.Common.{◌∙◌, sym}
 use Rattle.std.proofs.lemmas.Result.{err_from_is_err_and}
-use Rattle.graph_change.specs.View.{change_of}
-use Rattle.extent_tree.specs.Map.{lies_at}
-use Rattle.area_reader.specs.Store.{disk}
-use Rattle.area_commit.specs.InodeChange.{places_from}
-use Rattle.area_commit.proofs.Holes.{over_same}
+use Rattle.inode_plan.specs.graph_change.View.{change_of}
+use Rattle.inode_plan.specs.extent_tree.Map.{lies_at}
+use Rattle.inode_plan.specs.area_reader.Store.{disk}
+use Rattle.inode_plan.specs.area_commit.InodeChange.{places_from}
+use Rattle.inode_plan.proofs.area_commit_lemmas.Holes.{over_same}
 use Rattle.change_plan.proofs.FilePlaced.{all_below}
 use Rattle.change_plan.proofs.StartsFile.{not_there}
 use Rattle.change_plan.proofs.Wants.{alone_written}

@@ -1,15 +1,15 @@
 use Rattle.std.proofs.Common.{◌≡◌, ◌∙◌, [], ◌∷◌, ℕ, List, length, drop, get_or, Err, sym, ap, subst, arith}
 use Rattle.std.proofs.lemmas.Result.{err_from_is_err_and}
-use Rattle.graph_change.specs.Change.{Change, Changes}
-use Rattle.graph_change.specs.View.{change_of, changes_of}
-use Rattle.layout.specs.declared.slot.Slot.TheVariants as slots
-use Rattle.extent_tree.specs.declared.map.Place.{Place}
-use Rattle.area_reader.specs.Looks.{call_answer}
-use Rattle.area_reader.specs.Store.{Store, disk}
-use Rattle.area_commit.specs.declared.slots.ChangedSlot.{ChangedSlot}
-use Rattle.area_commit.specs.Allocations.{taken_data}
+use Rattle.inode_plan.specs.graph_change.Change.{Change, Changes}
+use Rattle.inode_plan.specs.graph_change.View.{change_of, changes_of}
+use Rattle.inode_plan.specs.layout.declared.slot.Slot.TheVariants as slots
+use Rattle.inode_plan.specs.extent_tree.declared.map.Place.{Place}
+use Rattle.inode_plan.specs.area_reader.Looks.{call_answer}
+use Rattle.inode_plan.specs.area_reader.Store.{Store, disk}
+use Rattle.inode_plan.specs.area_commit.declared.slots.ChangedSlot.{ChangedSlot}
+use Rattle.inode_plan.specs.area_commit.Allocations.{taken_data}
 use Rattle.inode_plan.specs.PlannedFile.{pairs_of}
-use Rattle.area_reader.proofs.Looked.{carried, carried_back, looks_on, looks_none, looks_answer, looks_err}
+use Rattle.inode_plan.proofs.area_reader_lemmas.Looked.{carried, carried_back, looks_on, looks_none, looks_answer, looks_err}
 use Rattle.change_plan.specs.Next.{IsNext, HasPlaces, PlansInode}
 use Rattle.change_plan.specs.BlockDemand.{WantsBlocks}
 use Rattle.change_plan.proofs.Climbs.{seen_as, entries_seen}

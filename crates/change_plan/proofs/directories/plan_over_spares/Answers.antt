@@ -1,6 +1,6 @@
 use Rattle.std.proofs.Common.{◌<◌, ◌∙◌, ℕ, List, [], refl, sym, ap, subst, append-nil, rules}
-use Rattle.graph_change.specs.View.{change_of}
-use Rattle.area_reader.specs.Store.{Store, disk}
+use Rattle.inode_plan.specs.graph_change.View.{change_of}
+use Rattle.inode_plan.specs.area_reader.Store.{Store, disk}
 use Rattle.inode_plan.specs.PlannedDirectory.{IsPlannedFrom, on_fast}
 use Rattle.change_plan.specs.Part.{IsPart}
 use Rattle.change_plan.specs.Directory.{of_nodes}

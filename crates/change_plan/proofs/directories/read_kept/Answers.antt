@@ -1,14 +1,14 @@
 use Rattle.std.proofs.Common.{◌≡◌, Some, sym, subst, true}
 use Rattle.std.proofs.lemmas.Result.{err_from_is_err_and, IfOk-weaker}
 use Rattle.tier_device.specs.declared.media.Tier.TheVariants as tiers
-use Rattle.file_graph.specs.declared.effect.Kind.TheVariants as kind
-use Rattle.graph_change.specs.Net.{Kept}
-use Rattle.layout.specs.Places.{Sizes}
-use Rattle.layout.specs.Slot.{fits_slot}
-use Rattle.area_reader.specs.Map.{HasAllExtents}
-use Rattle.area_reader.specs.Format.{IsSpelled}
-use Rattle.area_reader.specs.Store.{Store, disk, slot_read, inode}
-use Rattle.area_reader.proofs.Looked.{carried, carried_back, looks_on}
+use Rattle.inode_plan.specs.file_graph.declared.effect.Kind.TheVariants as kind
+use Rattle.inode_plan.specs.graph_change.Net.{Kept}
+use Rattle.inode_plan.specs.layout.Places.{Sizes}
+use Rattle.inode_plan.specs.layout.Slot.{fits_slot}
+use Rattle.inode_plan.specs.area_reader.Map.{HasAllExtents}
+use Rattle.inode_plan.specs.area_reader.Format.{IsSpelled}
+use Rattle.inode_plan.specs.area_reader.Store.{Store, disk, slot_read, inode}
+use Rattle.inode_plan.proofs.area_reader_lemmas.Looked.{carried, carried_back, looks_on}
 use Rattle.inode_plan.specs.DirectoryStart.{IsStarted, IsSoundStart}
 use Rattle.change_plan.proofs.NoDamage.{no_damage}
 use Rattle.change_plan.proofs.directories.read_kept.Goals as goal

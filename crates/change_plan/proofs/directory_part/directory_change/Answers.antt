@@ -1,5 +1,5 @@
-use Rattle.graph_change.specs.View.{change_of}
-use Rattle.area_reader.specs.Store.{Store, disk, inode}
+use Rattle.inode_plan.specs.graph_change.View.{change_of}
+use Rattle.inode_plan.specs.area_reader.Store.{Store, disk, inode}
 use Rattle.change_plan.proofs.FewEntries.{few_after}
 use Rattle.change_plan.proofs.directory_part.directory_change.Goals as goal
 

@@ -1,11 +1,11 @@
 use Rattle.std.proofs.Common.{◌≡◌, ◌∙◌, inr, ℕ, List, Option, Some, ◌++◌, take, length, refl, sym, ap, subst, arith}
 use Rattle.std.proofs.lemmas.List.{length-drop}
-use Rattle.file_graph.specs.declared.effect.Kind.{Kind}
-use Rattle.file_graph.specs.declared.effect.Kind.TheVariants as kind
-use Rattle.graph_change.specs.View.{change_of}
+use Rattle.inode_plan.specs.file_graph.declared.effect.Kind.{Kind}
+use Rattle.inode_plan.specs.file_graph.declared.effect.Kind.TheVariants as kind
+use Rattle.inode_plan.specs.graph_change.View.{change_of}
 use Rattle.block_alloc.specs.Runs.{blocks_of}
-use Rattle.area_reader.specs.Store.{Store, disk}
-use Rattle.area_commit.specs.declared.allocation.Allocation.{Allocation}
+use Rattle.inode_plan.specs.area_reader.Store.{Store, disk}
+use Rattle.inode_plan.specs.area_commit.declared.allocation.Allocation.{Allocation}
 use Rattle.inode_plan.specs.Spare.{spares_for}
 use Rattle.change_plan.specs.Directory.{IsReadyToWrite}
 use Rattle.change_plan.specs.Next.{nodes_left}

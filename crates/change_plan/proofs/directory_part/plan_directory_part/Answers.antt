@@ -1,6 +1,6 @@
 use Rattle.std.proofs.Common.{refl}
-use Rattle.graph_change.specs.View.{change_of}
-use Rattle.area_reader.proofs.Looked.{carried, carried_back}
+use Rattle.inode_plan.specs.graph_change.View.{change_of}
+use Rattle.inode_plan.proofs.area_reader_lemmas.Looked.{carried, carried_back}
 use Rattle.change_plan.specs.DirectoryChange.{IsChangedFrom}
 use Rattle.change_plan.specs.Next.{IsNext, PlansInode}
 use Rattle.change_plan.proofs.directory_part.plan_directory_part.Goals as goal

@@ -1,12 +1,12 @@
 use Rattle.std.proofs.Common.{◌≡◌, ◌*◌, ℕ, List, length, Option, sym, ap, subst}
 use Rattle.std.proofs.lemmas.Result.{on_ok_weaker}
-use Rattle.layout.specs.declared.places.TheConstants.{BLOCK}
-use Rattle.batch_journal.specs.Images.{slice}
-use Rattle.graph_change.specs.Change.{Change}
-use Rattle.graph_change.specs.View.{change_of}
-use Rattle.tree_blocks.specs.Inode.{LogicalBlocks}
-use Rattle.area_reader.specs.Store.{disk, logical_block}
-use Rattle.area_reader.specs.declared.tiers.InodeExtents.{InodeExtents}
+use Rattle.inode_plan.specs.layout.declared.places.TheConstants.{BLOCK}
+use Rattle.inode_plan.specs.batch_journal.Images.{slice}
+use Rattle.inode_plan.specs.graph_change.Change.{Change}
+use Rattle.inode_plan.specs.graph_change.View.{change_of}
+use Rattle.inode_plan.specs.tree_blocks.Inode.{LogicalBlocks}
+use Rattle.inode_plan.specs.area_reader.Store.{disk, logical_block}
+use Rattle.inode_plan.specs.area_reader.declared.tiers.InodeExtents.{InodeExtents}
 use Rattle.inode_plan.specs.Bytes.{IsBlockAfter, AddsBlocks, blocks_from}
 use Rattle.inode_plan.specs.PlacedFile.{nth_number}
 use Rattle.change_plan.proofs.file_part.add_bytes.Goals as goal

@@ -1,6 +1,6 @@
 use Rattle.std.proofs.Common.{◌≡◌, ◌≤◌, ◌∙◌, inl, ℕ, List, length, take, refl, sym, ap, subst, arith}
 use Rattle.std.proofs.lemmas.List.{length-take-le}
-use Rattle.graph_change.specs.View.{change_of}
+use Rattle.inode_plan.specs.graph_change.View.{change_of}
 use Rattle.change_plan.specs.FileStart.{IsPlacedFile}
 use Rattle.change_plan.proofs.FilePlaced.{all_below}
 use Rattle.change_plan.proofs.PlansFile.{long, started_numbers, first_free}

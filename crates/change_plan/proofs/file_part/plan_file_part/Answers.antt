@@ -1,9 +1,9 @@
 use Rattle.std.proofs.Common.{◌≡◌, ◌+◌, ◌*◌, ◌∙◌, inl, ℕ, length, Option, refl, sym, ap, subst, arith}
 use Rattle.std.specs.FinMap as fin
-use Rattle.file_graph.specs.declared.effect.Kind.{Kind}
-use Rattle.graph_change.specs.View.{change_of}
-use Rattle.area_reader.specs.Store.{Store, disk}
-use Rattle.area_reader.proofs.Looked.{carried, carried_back}
+use Rattle.inode_plan.specs.file_graph.declared.effect.Kind.{Kind}
+use Rattle.inode_plan.specs.graph_change.View.{change_of}
+use Rattle.inode_plan.specs.area_reader.Store.{Store, disk}
+use Rattle.inode_plan.proofs.area_reader_lemmas.Looked.{carried, carried_back}
 use Rattle.change_plan.specs.PlanAddition.{AddsPart}
 use Rattle.change_plan.specs.FileSteps.{IsWrittenFile}
 use Rattle.change_plan.specs.Next.{IsNext, nodes_for, nodes_left}

@@ -1,20 +1,20 @@
 use Rattle.std.proofs.Common.{◌≡◌, ◌∙◌, ℕ, List, Some, length, take, sym, ap, subst, true}
 use Rattle.std.proofs.lemmas.List.{length-take-le, take-map}
-use Rattle.file_graph.specs.declared.effect.Kind.TheVariants as kind
-use Rattle.graph_change.specs.View.{base_of, change_of}
-use Rattle.layout.specs.Places.{Sizes}
-use Rattle.layout.specs.Slot.{fits_slot}
+use Rattle.inode_plan.specs.file_graph.declared.effect.Kind.TheVariants as kind
+use Rattle.inode_plan.specs.graph_change.View.{base_of, change_of}
+use Rattle.inode_plan.specs.layout.Places.{Sizes}
+use Rattle.inode_plan.specs.layout.Slot.{fits_slot}
 use Rattle.block_alloc.specs.Runs.{blocks_of}
-use Rattle.extent_tree.specs.Map.{runs_in, lies_at}
-use Rattle.extent_tree.specs.declared.map.Place.{Place}
-use Rattle.tree_blocks.specs.After.{start_node}
-use Rattle.area_reader.specs.Map.{in_tier}
-use Rattle.area_reader.specs.Format.{IsSpelled}
-use Rattle.area_reader.specs.Store.{Store, disk, slot_read, logical_block, inode}
-use Rattle.area_reader.proofs.Looked.{carried, carried_back}
+use Rattle.inode_plan.specs.extent_tree.Map.{runs_in, lies_at}
+use Rattle.inode_plan.specs.extent_tree.declared.map.Place.{Place}
+use Rattle.inode_plan.specs.tree_blocks.After.{start_node}
+use Rattle.inode_plan.specs.area_reader.Map.{in_tier}
+use Rattle.inode_plan.specs.area_reader.Format.{IsSpelled}
+use Rattle.inode_plan.specs.area_reader.Store.{Store, disk, slot_read, logical_block, inode}
+use Rattle.inode_plan.proofs.area_reader_lemmas.Looked.{carried, carried_back}
 use Rattle.inode_plan.specs.Bytes.{HoldsBlocks, blocks_from}
-use Rattle.area_commit.specs.InodeChange.{places_from}
-use Rattle.area_commit.specs.declared.allocation.Allocation.{Allocation}
+use Rattle.inode_plan.specs.area_commit.InodeChange.{places_from}
+use Rattle.inode_plan.specs.area_commit.declared.allocation.Allocation.{Allocation}
 use Rattle.inode_plan.specs.MapChange.{AreData}
 use Rattle.inode_plan.proofs.After.{numbers_as}
 use Rattle.inode_plan.specs.PlannedFile.{pair_of, pairs_of}

@@ -1,5 +1,5 @@
 use Rattle.std.proofs.Common.{[]}
-use Rattle.area_reader.specs.Store.{Store, disk}
+use Rattle.inode_plan.specs.area_reader.Store.{Store, disk}
 use Rattle.change_plan.proofs.PlansFile.{slot_tells_file}
 use Rattle.change_plan.proofs.file_part.read_kept.Goals as goal
 

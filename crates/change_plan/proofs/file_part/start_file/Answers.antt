@@ -1,7 +1,7 @@
 use Rattle.std.proofs.Common.{◌≡◌, sym, ap, subst}
-use Rattle.graph_change.specs.Net.{Base, Made}
-use Rattle.graph_change.specs.View.{base_of}
-use Rattle.area_reader.specs.Store.{Store, disk, inode}
+use Rattle.inode_plan.specs.graph_change.Net.{Base, Made}
+use Rattle.inode_plan.specs.graph_change.View.{base_of}
+use Rattle.inode_plan.specs.area_reader.Store.{Store, disk, inode}
 use Rattle.change_plan.specs.FileStart.{IsStartedFile}
 use Rattle.change_plan.proofs.PlansFile.{made_as_file}
 use Rattle.change_plan.proofs.file_part.start_file.Goals as goal

@@ -1,16 +1,16 @@
 use Rattle.std.proofs.Common.{◌∙◌, sym, subst}
 use Rattle.std.proofs.lemmas.Result.{err_from_is_err_and}
 use Rattle.tier_device.specs.declared.media.Tier.{Tier}
-use Rattle.layout.specs.Places.{Sizes}
-use Rattle.extent_tree.specs.BlockFormat.{LiesWithin}
-use Rattle.extent_tree.specs.Map.{runs_in}
-use Rattle.area_reader.specs.Store.{Store, disk, space_of}
-use Rattle.area_reader.proofs.Lists.{slot_here_fits}
-use Rattle.area_reader.proofs.Parts.{extents_all, slot_as}
-use Rattle.area_reader.proofs.Tails.{place_is}
+use Rattle.inode_plan.specs.layout.Places.{Sizes}
+use Rattle.inode_plan.specs.extent_tree.BlockFormat.{LiesWithin}
+use Rattle.inode_plan.specs.extent_tree.Map.{runs_in}
+use Rattle.inode_plan.specs.area_reader.Store.{Store, disk, space_of}
+use Rattle.inode_plan.proofs.area_reader_lemmas.Lists.{slot_here_fits}
+use Rattle.inode_plan.proofs.area_reader_lemmas.Parts.{extents_all, slot_as}
+use Rattle.inode_plan.proofs.area_reader_lemmas.Tails.{place_is}
 use Rattle.inode_plan.specs.Lists.{AreOwnLists, LieAsIn}
-use Rattle.layout.specs.Slot.{fits_slot}
-use Rattle.layout.specs.declared.slot.Slot.{Slot}
+use Rattle.inode_plan.specs.layout.Slot.{fits_slot}
+use Rattle.inode_plan.specs.layout.declared.slot.Slot.{Slot}
 use Rattle.std.specs.Prelude.{◌≡◌, true}
 use Rattle.change_plan.proofs.StartsFile.{kept_kind, kept_blocks, kept_map, no_damage}
 use Rattle.change_plan.proofs.file_start.read_file.Goals as goal

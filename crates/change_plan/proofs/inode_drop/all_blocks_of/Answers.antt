@@ -1,13 +1,13 @@
 use Rattle.std.proofs.Common.{◌≡◌, ◌≤◌, inl, inr, ℕ, Some, sym, subst, arith}
 use Rattle.std.specs.Prelude.{IsSome}
 use Rattle.std.proofs.lemmas.Bool.{cases_lt, false≢true}
-use Rattle.layout.specs.Places.{Sizes}
-use Rattle.layout.specs.declared.slot.Slot.{Slot}
-use Rattle.extent_tree.specs.Map.{TierRuns, LieBelow}
-use Rattle.area_reader.specs.Store.{Store, disk, slot_read, length_of}
-use Rattle.area_reader.proofs.Parts.{slot_as}
-use Rattle.area_reader.proofs.Shown.{slot_limits}
-use Rattle.area_reader.proofs.Tails.{place_past}
+use Rattle.inode_plan.specs.layout.Places.{Sizes}
+use Rattle.inode_plan.specs.layout.declared.slot.Slot.{Slot}
+use Rattle.inode_plan.specs.extent_tree.Map.{TierRuns, LieBelow}
+use Rattle.inode_plan.specs.area_reader.Store.{Store, disk, slot_read, length_of}
+use Rattle.inode_plan.proofs.area_reader_lemmas.Parts.{slot_as}
+use Rattle.inode_plan.proofs.area_reader_lemmas.Shown.{slot_limits}
+use Rattle.inode_plan.proofs.area_reader_lemmas.Tails.{place_past}
 use Rattle.inode_plan.specs.Lists.{LieAsIn}
 use Rattle.change_plan.proofs.Giving.{gives_all}
 use Rattle.change_plan.proofs.inode_drop.all_blocks_of.Goals as goal

@@ -1,7 +1,7 @@
 use Rattle.std.proofs.Common.{[], refl, sym, append-nil}
-use Rattle.layout.specs.declared.slot.Slot.TheVariants as slots
+use Rattle.inode_plan.specs.layout.declared.slot.Slot.TheVariants as slots
 use Rattle.block_alloc.specs.Runs.{blocks_of}
-use Rattle.area_reader.specs.Store.{Store, disk}
+use Rattle.inode_plan.specs.area_reader.Store.{Store, disk}
 use Rattle.change_plan.specs.PlanAddition.{no_runs}
 use Rattle.change_plan.specs.Directory.{of_nodes}
 use Rattle.change_plan.proofs.inode_drop.plan_gone_part.Goals as goal

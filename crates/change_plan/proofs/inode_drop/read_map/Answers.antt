@@ -1,12 +1,12 @@
 use Rattle.std.proofs.Common.{◌∙◌, sym, subst}
 use Rattle.std.proofs.lemmas.Result.{err_from_is_err_and}
 use Rattle.tier_device.specs.declared.media.Tier.{Tier}
-use Rattle.layout.specs.Places.{Sizes}
-use Rattle.extent_tree.specs.BlockFormat.{LiesWithin}
-use Rattle.extent_tree.specs.Map.{runs_in}
-use Rattle.area_reader.specs.Store.{Store, disk, space_of}
-use Rattle.area_reader.proofs.Parts.{extents_all}
-use Rattle.area_reader.proofs.Tails.{place_is}
+use Rattle.inode_plan.specs.layout.Places.{Sizes}
+use Rattle.inode_plan.specs.extent_tree.BlockFormat.{LiesWithin}
+use Rattle.inode_plan.specs.extent_tree.Map.{runs_in}
+use Rattle.inode_plan.specs.area_reader.Store.{Store, disk, space_of}
+use Rattle.inode_plan.proofs.area_reader_lemmas.Parts.{extents_all}
+use Rattle.inode_plan.proofs.area_reader_lemmas.Tails.{place_is}
 use Rattle.inode_plan.specs.Lists.{AreOwnLists}
 use Rattle.change_plan.proofs.NoDamage.{no_damage}
 use Rattle.change_plan.proofs.inode_drop.read_map.Goals as goal

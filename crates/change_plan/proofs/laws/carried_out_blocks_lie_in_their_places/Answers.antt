@@ -1,13 +1,13 @@
 use Rattle.std.proofs.Common.{◌≡◌, ℕ, Some, true}
 use Rattle.tier_device.specs.declared.media.Tier.{Tier}
-use Rattle.layout.specs.declared.slot.Slot.{Slot}
-use Rattle.layout.specs.Places.{Sizes, IsAllowed}
-use Rattle.extent_tree.specs.Map.{TierRuns, lies_at}
-use Rattle.area_reader.specs.Store.{Store, place}
-use Rattle.area_reader.specs.Format.{IsSpelled}
-use Rattle.area_commit.specs.declared.plan.Rewrite.{Rewrite}
-use Rattle.area_commit.specs.Plan.{is_rewritten, IsPlanned}
-use Rattle.area_commit.specs.PlanOutcome.{IsCarriedOut}
+use Rattle.inode_plan.specs.layout.declared.slot.Slot.{Slot}
+use Rattle.inode_plan.specs.layout.Places.{Sizes, IsAllowed}
+use Rattle.inode_plan.specs.extent_tree.Map.{TierRuns, lies_at}
+use Rattle.inode_plan.specs.area_reader.Store.{Store, place}
+use Rattle.inode_plan.specs.area_reader.Format.{IsSpelled}
+use Rattle.inode_plan.specs.area_commit.declared.plan.Rewrite.{Rewrite}
+use Rattle.inode_plan.specs.area_commit.Plan.{is_rewritten, IsPlanned}
+use Rattle.inode_plan.specs.area_commit.PlanOutcome.{IsCarriedOut}
 use Rattle.change_plan.proofs.Lying.{places_got, places_kept, blocks_lie, place_stays}
 use Rattle.change_plan.proofs.laws.carried_out_blocks_lie_in_their_places.Goals as goal
 

@@ -1,19 +1,19 @@
 use Rattle.std.proofs.Common.{◌≡◌, ℕ, Option, true, inl, inr, subst, sym, ap}
 use Rattle.std.specs.Prelude.{unwrap_or}
-use Rattle.graph_change.specs.Change.{Changes, change_at, net_of}
-use Rattle.graph_change.specs.Tidy.{AreTidyChanges}
-use Rattle.layout.specs.declared.slot.Slot.{Slot}
-use Rattle.layout.specs.declared.slot.Slot.TheVariants as slots
-use Rattle.layout.specs.Places.{Sizes, IsAllowed}
-use Rattle.tree_blocks.specs.After.{IsInodeAfter}
-use Rattle.extent_tree.specs.Map.{TierRuns}
-use Rattle.area_reader.specs.Store.{Store, inode}
-use Rattle.area_reader.specs.Format.{IsSpelled}
-use Rattle.area_commit.specs.InodeRewrite.{IsWritten}
-use Rattle.area_commit.specs.StoreRewrite.{AreWrittenAnew}
-use Rattle.area_commit.specs.declared.plan.Rewrite.{Rewrite}
-use Rattle.area_commit.specs.Plan.{is_rewritten, IsPlanned}
-use Rattle.area_commit.specs.PlanOutcome.{IsCarriedOut}
+use Rattle.inode_plan.specs.graph_change.Change.{Changes, change_at, net_of}
+use Rattle.inode_plan.specs.graph_change.Tidy.{AreTidyChanges}
+use Rattle.inode_plan.specs.layout.declared.slot.Slot.{Slot}
+use Rattle.inode_plan.specs.layout.declared.slot.Slot.TheVariants as slots
+use Rattle.inode_plan.specs.layout.Places.{Sizes, IsAllowed}
+use Rattle.inode_plan.specs.tree_blocks.After.{IsInodeAfter}
+use Rattle.inode_plan.specs.extent_tree.Map.{TierRuns}
+use Rattle.inode_plan.specs.area_reader.Store.{Store, inode}
+use Rattle.inode_plan.specs.area_reader.Format.{IsSpelled}
+use Rattle.inode_plan.specs.area_commit.InodeRewrite.{IsWritten}
+use Rattle.inode_plan.specs.area_commit.StoreRewrite.{AreWrittenAnew}
+use Rattle.inode_plan.specs.area_commit.declared.plan.Rewrite.{Rewrite}
+use Rattle.inode_plan.specs.area_commit.Plan.{is_rewritten, IsPlanned}
+use Rattle.inode_plan.specs.area_commit.PlanOutcome.{IsCarriedOut}
 use Rattle.change_plan.specs.Part.{IsWrittenFor, IsTouchedBy}
 use Rattle.change_plan.specs.Parts.{AreParts, share_of}
 use Rattle.change_plan.proofs.Summed.{written_for}

@@ -1,12 +1,12 @@
 use Rattle.std.proofs.Common.{◌∙◌, ℕ, Option, sym}
-use Rattle.graph_change.specs.Change.{Changes}
-use Rattle.layout.specs.declared.marks.Marks.{Marks}
-use Rattle.layout.specs.declared.slot.Slot.{Slot}
-use Rattle.layout.specs.Places.{Sizes}
-use Rattle.extent_tree.specs.Map.{TierRuns}
-use Rattle.area_reader.specs.Store.{Store}
-use Rattle.area_commit.specs.declared.allocation.Allocation.{Allocation}
-use Rattle.area_commit.specs.Plan.{IsPlanned}
+use Rattle.inode_plan.specs.graph_change.Change.{Changes}
+use Rattle.inode_plan.specs.layout.declared.marks.Marks.{Marks}
+use Rattle.inode_plan.specs.layout.declared.slot.Slot.{Slot}
+use Rattle.inode_plan.specs.layout.Places.{Sizes}
+use Rattle.inode_plan.specs.extent_tree.Map.{TierRuns}
+use Rattle.inode_plan.specs.area_reader.Store.{Store}
+use Rattle.inode_plan.specs.area_commit.declared.allocation.Allocation.{Allocation}
+use Rattle.inode_plan.specs.area_commit.Plan.{IsPlanned}
 use Rattle.change_plan.specs.Parts.{AreParts, share_of}
 use Rattle.change_plan.specs.First.{IsWhole, whole_of}
 use Rattle.change_plan.specs.declared.partial_plan.PartialPlan.{PartialPlan}

@@ -2,16 +2,16 @@ use Rattle.std.proofs.Common.{◌≡◌, ◌∙◌, ℕ, List, [], Err, Some, tr
 use Rattle.std.specs.Prelude.{IsSome}
 use Rattle.std.proofs.lemmas.Bool.{false≢true}
 use Rattle.std.proofs.lemmas.Result.{err_from_is_err_and}
-use Rattle.graph_change.specs.Change.{Change, Changes}
-use Rattle.graph_change.specs.View.{change_of, changes_of}
-use Rattle.graph_change.specs.declared.node_change.NodeChange.{NodeChange}
-use Rattle.layout.specs.Slot.{fits_slot}
-use Rattle.area_reader.specs.Looks.{call_answer}
-use Rattle.area_reader.specs.Store.{Store, disk, slot_read}
-use Rattle.area_commit.specs.declared.slots.ChangedSlot.{ChangedSlot}
-use Rattle.area_commit.proofs.Chosen.{inode_range}
-use Rattle.area_commit.proofs.Members.{cons_here}
-use Rattle.area_reader.proofs.Looked.{carried, carried_back, looks_on, looks_none, looks_answer, looks_err}
+use Rattle.inode_plan.specs.graph_change.Change.{Change, Changes}
+use Rattle.inode_plan.specs.graph_change.View.{change_of, changes_of}
+use Rattle.inode_plan.specs.graph_change.declared.node_change.NodeChange.{NodeChange}
+use Rattle.inode_plan.specs.layout.Slot.{fits_slot}
+use Rattle.inode_plan.specs.area_reader.Looks.{call_answer}
+use Rattle.inode_plan.specs.area_reader.Store.{Store, disk, slot_read}
+use Rattle.inode_plan.specs.area_commit.declared.slots.ChangedSlot.{ChangedSlot}
+use Rattle.inode_plan.proofs.area_commit_lemmas.Chosen.{inode_range}
+use Rattle.inode_plan.proofs.area_commit_lemmas.Members.{cons_here}
+use Rattle.inode_plan.proofs.area_reader_lemmas.Looked.{carried, carried_back, looks_on, looks_none, looks_answer, looks_err}
 use Rattle.change_plan.proofs.Climbs.{seen_as, entries_seen, has_here, some_key}
 use Rattle.change_plan.proofs.NoDamage.{slot_is_whole}
 use Rattle.change_plan.proofs.Slotted.{AreRead, none_read, its_number, one_read, all_read}

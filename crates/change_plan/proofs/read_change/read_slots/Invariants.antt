@@ -1,6 +1,6 @@
-use Rattle.graph_change.specs.View.{change_of, changes_of}
-use Rattle.area_reader.specs.Store.{disk}
-use Rattle.area_reader.specs.Looks.{Looks, call_answer}
+use Rattle.inode_plan.specs.graph_change.View.{change_of, changes_of}
+use Rattle.inode_plan.specs.area_reader.Store.{disk}
+use Rattle.inode_plan.specs.area_reader.Looks.{Looks, call_answer}
 use Rattle.change_plan.proofs.Climbs.{seen_as}
 use Rattle.change_plan.proofs.Slotted.{AreRead}
 use Rattle.change_plan.proofs.read_change.read_slots.Given as goal

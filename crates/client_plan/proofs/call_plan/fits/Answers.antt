@@ -1,7 +1,7 @@
 use Rattle.std.proofs.Common.{ap, sym, ◌∙◌, length}
 use Rattle.std.specs.Prelude.{◌&&◌, nat_le}
 use Rattle.std.proofs.lemmas.Bool.{and_left, true≢false}
-use Rattle.log_record.specs.Grammar.{record_bytes}
+use Rattle.call_effects.specs.log_record.Grammar.{record_bytes}
 use Rattle.client_plan.proofs.Spelled.{record_is, no_record}
 use Rattle.client_plan.proofs.call_plan.fits.Goals as goal
 

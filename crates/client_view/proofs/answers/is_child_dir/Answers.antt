@@ -1,7 +1,7 @@
 use Rattle.std.proofs.Common.{◌≡◌, true, Some, None, ap, sym, ◌∙◌, subst}
 use Rattle.std.specs.Prelude.{unwrap_or}
-use Rattle.file_graph.specs.declared.effect.Kind.{Kind}
-use Rattle.call_effects.specs.Knowledge.{lists_as}
+use Rattle.client_plan.specs.file_graph.declared.effect.Kind.{Kind}
+use Rattle.client_plan.specs.call_effects.Knowledge.{lists_as}
 use Rattle.client_view.specs.KnowledgeTables.{copy_at}
 use Rattle.client_view.proofs.ListedKinds.{dir_by_entry}
 use Rattle.client_view.proofs.answers.is_child_dir.Goals as goal

@@ -1,7 +1,7 @@
 use Rattle.std.proofs.Common.{take, ap, sym, ◌∙◌}
 use Rattle.std.specs.Prelude.{option_map}
-use Rattle.file_graph.specs.declared.effect.Effect.{Effect}
-use Rattle.call_effects.specs.Blocks.{block_acted}
+use Rattle.client_plan.specs.file_graph.declared.effect.Effect.{Effect}
+use Rattle.client_plan.specs.call_effects.Blocks.{block_acted}
 use Rattle.client_view.proofs.blocks.act.Goals as goal
 
 pub returns-in-Make-clause-acted : goal.returns-in-Make-clause-acted

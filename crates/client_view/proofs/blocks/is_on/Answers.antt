@@ -1,5 +1,5 @@
 use Rattle.std.proofs.Common.{ap, sym, ◌∙◌}
-use Rattle.file_graph.specs.Graph.{is_among}
+use Rattle.client_plan.specs.file_graph.Graph.{is_among}
 use Rattle.record_validation.proofs.Steps.{on_one}
 use Rattle.client_view.proofs.blocks.is_on.Goals as goal
 

@@ -1,7 +1,7 @@
 use Rattle.std.proofs.Common.{◌≡◌, ◌≤◌, drop, take}
 use Rattle.std.specs.Prelude.{option_map}
 use Rattle.std.specs.Option.{ForSome}
-use Rattle.call_effects.specs.Blocks.{block_after}
+use Rattle.client_plan.specs.call_effects.Blocks.{block_after}
 use Rattle.client_view.proofs.blocks.take_effects.Given as goal
 
 abbrev pub invariant-loop-effect : goal.invariant-loop-effect

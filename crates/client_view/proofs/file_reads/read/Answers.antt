@@ -1,6 +1,6 @@
 use Rattle.std.proofs.Common.{◌≡◌, ℕ, Option, true, ap, sym, ◌∙◌, subst}
 use Rattle.std.specs.Prelude.{IfErr, is_some}
-use Rattle.call_effects.specs.Blocks.{range_by}
+use Rattle.client_plan.specs.call_effects.Blocks.{range_by}
 use Rattle.client_view.specs.KnowledgeTables.{block_by}
 use Rattle.client_view.proofs.file_reads.read.Goals as goal
 

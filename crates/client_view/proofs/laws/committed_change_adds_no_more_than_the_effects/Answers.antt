@@ -1,5 +1,5 @@
 use Rattle.std.proofs.Common.{ℕ, cond, Some, None, Option, ap, sym, subst}
-use Rattle.call_effects.specs.Knowledge.{IsForgetful, knows_after, knows_made}
+use Rattle.client_plan.specs.call_effects.Knowledge.{IsForgetful, knows_after, knows_made}
 use Rattle.client_plan.specs.CallPlan.{change_of}
 use Rattle.client_view.specs.AfterRecord.{knows_logged}
 use Rattle.client_view.proofs.Agreement.{no_less, one_less}

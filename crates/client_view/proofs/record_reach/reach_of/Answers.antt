@@ -1,6 +1,6 @@
 use Rattle.std.proofs.Common.{◌+◌, List, ℕ, [], ◌∷◌, length, sym, subst}
-use Rattle.file_graph.specs.declared.effect.Effect.{Effect}
-use Rattle.file_graph.specs.declared.effect.Effect.TheVariants as effect
+use Rattle.client_plan.specs.file_graph.declared.effect.Effect.{Effect}
+use Rattle.client_plan.specs.file_graph.declared.effect.Effect.TheVariants as effect
 use Rattle.client_view.specs.RecordReach.{IsReachOf}
 use Rattle.client_view.specs.declared.record_reach.RecordReach.TheVariants as reach
 use Rattle.client_view.proofs.Reached.{written_reach}

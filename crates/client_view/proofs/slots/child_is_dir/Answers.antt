@@ -1,9 +1,9 @@
 use Rattle.std.proofs.Common.{◌+◌, None, arith, add-one, ap, sym, ◌∙◌}
 use Rattle.std.specs.Prelude.{unwrap_or}
 use Rattle.posix_calls.specs.declared.limits.TheConstants.{MAX_INODE}
-use Rattle.file_graph.specs.declared.effect.Kind.TheVariants as kinds
+use Rattle.client_plan.specs.file_graph.declared.effect.Kind.TheVariants as kinds
 use Rattle.posix_calls.proofs.Sums.{any_none, any_more, any_there}
-use Rattle.call_effects.specs.Knowledge.{lists_as}
+use Rattle.client_plan.specs.call_effects.Knowledge.{lists_as}
 use Rattle.client_view.specs.KnowledgeTables.{copy_at, is_listed_in}
 use Rattle.client_view.proofs.ListedKinds.{any_with_next, told_dir}
 use Rattle.client_view.proofs.slots.child_is_dir.Goals as goal

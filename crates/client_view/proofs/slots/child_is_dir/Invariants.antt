@@ -1,8 +1,8 @@
 use Rattle.std.proofs.Common.{◌≡◌, false, None}
 use Rattle.std.specs.Prelude.{unwrap_or}
 use Rattle.posix_calls.specs.Tree.{any_up_to}
-use Rattle.file_graph.specs.declared.effect.Kind.TheVariants as kinds
-use Rattle.call_effects.specs.Knowledge.{lists_as}
+use Rattle.client_plan.specs.file_graph.declared.effect.Kind.TheVariants as kinds
+use Rattle.client_plan.specs.call_effects.Knowledge.{lists_as}
 use Rattle.client_view.specs.KnowledgeTables.{copy_at}
 use Rattle.client_view.proofs.slots.child_is_dir.Given as goal
 

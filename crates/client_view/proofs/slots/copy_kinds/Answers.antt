@@ -1,5 +1,5 @@
 use Rattle.std.proofs.Common.{◌∙◌}
-use Rattle.file_graph.specs.declared.effect.Kind.TheVariants as kinds
+use Rattle.client_plan.specs.file_graph.declared.effect.Kind.TheVariants as kinds
 use Rattle.client_view.proofs.ListedKinds.{entries_tell}
 use Rattle.client_view.proofs.slots.copy_kinds.Goals as goal
 

@@ -1,5 +1,5 @@
 use Rattle.std.proofs.Common.{sym, ◌∙◌}
-use Rattle.file_graph.specs.declared.effect.Kind.TheVariants as kinds
+use Rattle.client_plan.specs.file_graph.declared.effect.Kind.TheVariants as kinds
 use Rattle.client_view.proofs.ListedKinds.{none_as}
 use Rattle.client_view.proofs.slots.entry_kinds.Goals as goal
 

@@ -1,8 +1,8 @@
 use Rattle.std.proofs.Common.{◌≡◌, true, subst}
-use Rattle.graph_change.specs.View.{changes_of}
-use Rattle.layout.specs.Marks.{fits_marks}
-use Rattle.layout.specs.declared.marks.Marks.{Marks}
-use Rattle.area_reader.specs.Store.{disk, graph}
+use Rattle.coalescer.specs.graph_change.View.{changes_of}
+use Rattle.shared_area.specs.layout.Marks.{fits_marks}
+use Rattle.shared_area.specs.layout.declared.marks.Marks.{Marks}
+use Rattle.shared_area.specs.area_reader.Store.{disk, graph}
 use Rattle.shared_area.proofs.Sound.{found_change}
 use Rattle.digester.proofs.Runs as runs
 use Rattle.digester.proofs.chunk_digest.apply_run.Goals as goal

@@ -1,11 +1,11 @@
 use Rattle.std.proofs.Common.{◌≡◌, ◌+◌, ◌-◌, ◌∙◌, inl, List, length, take, drop, refl, sym, ap, subst, arith}
 use Rattle.std.specs.List.{AllByRecursion}
 use Rattle.std.specs.List.Sorted.{IsNonDecreasing}
-use Rattle.graph_change.specs.View.{changes_of}
-use Rattle.log_record.specs.Grammar.{IsRecord}
-use Rattle.log_record.specs.declared.format.Record.{Record}
-use Rattle.area_reader.specs.Store.{Store, disk, graph}
-use Rattle.area_reader.proofs.Looked.{carried}
+use Rattle.coalescer.specs.graph_change.View.{changes_of}
+use Rattle.update_log.specs.log_record.Grammar.{IsRecord}
+use Rattle.update_log.specs.log_record.declared.format.Record.{Record}
+use Rattle.shared_area.specs.area_reader.Store.{Store, disk, graph}
+use Rattle.shared_area.proofs.area_reader_lemmas.Looked.{carried}
 use Rattle.digester.specs.DigestStep.{IsGoodRun}
 use Rattle.digester.specs.MarkMoves.{mark_after}
 use Rattle.digester.specs.SealedLog.{undone, mark_then}

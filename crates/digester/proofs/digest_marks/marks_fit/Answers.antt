@@ -1,7 +1,7 @@
 use Rattle.std.proofs.Common.{arith}
 use Rattle.std.proofs.lemmas.List.Folds.{list_all_more}
-use Rattle.layout.specs.declared.marks.Mark.{Mark}
-use Rattle.layout.specs.Marks.{fits_mark}
+use Rattle.shared_area.specs.layout.declared.marks.Mark.{Mark}
+use Rattle.shared_area.specs.layout.Marks.{fits_mark}
 use Rattle.digester.proofs.digest_marks.marks_fit.Goals as goal
 
 pub loop-mark-preserved : goal.loop-mark-preserved

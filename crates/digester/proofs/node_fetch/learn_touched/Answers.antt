@@ -1,9 +1,9 @@
 use Rattle.std.proofs.Common.{List, sym, subst, ◌∙◌}
 use Rattle.std.proofs.lemmas.List.{take_all}
 use Rattle.std.proofs.lemmas.Result.{err_from_is_err_and}
-use Rattle.file_graph.specs.declared.effect.Effect.{Effect}
-use Rattle.file_graph.specs.Graph.{Graph, touches}
-use Rattle.record_validation.specs.Row.{HasCome}
+use Rattle.update_log.specs.file_graph.declared.effect.Effect.{Effect}
+use Rattle.update_log.specs.file_graph.Graph.{Graph, touches}
+use Rattle.shared_area.specs.record_validation.Row.{HasCome}
 use Rattle.digester.proofs.Asks.{touched_at}
 use Rattle.digester.proofs.Known.{AreKnown, more_known, none_unknown}
 use Rattle.digester.proofs.node_fetch.learn_touched.Goals as goal

@@ -1,6 +1,6 @@
 use Rattle.std.proofs.Common.{◌≡◌, ℕ, List, take}
-use Rattle.file_graph.specs.Graph.{Graph, touches}
-use Rattle.record_validation.specs.Row.{HasCome}
+use Rattle.update_log.specs.file_graph.Graph.{Graph, touches}
+use Rattle.shared_area.specs.record_validation.Row.{HasCome}
 use Rattle.digester.specs.Questions.{AreAmong, AskedKnown}
 use Rattle.digester.proofs.Known.{AreKnown}
 use Rattle.digester.proofs.node_fetch.learn_touched.Given as goal

@@ -1,10 +1,10 @@
 use Rattle.std.proofs.Common.{List, sym, subst, ◌∙◌}
 use Rattle.std.proofs.lemmas.Result.{err_from_is_err_and}
-use Rattle.file_graph.specs.declared.effect.Effect.{Effect}
-use Rattle.file_graph.specs.Graph.{touches}
-use Rattle.record_validation.specs.Good.{IsVerdict}
-use Rattle.record_validation.specs.Row.{HasCome, left_by}
-use Rattle.record_validation.specs.declared.verdict.Verdict.{Verdict}
+use Rattle.update_log.specs.file_graph.declared.effect.Effect.{Effect}
+use Rattle.update_log.specs.file_graph.Graph.{touches}
+use Rattle.shared_area.specs.record_validation.Good.{IsVerdict}
+use Rattle.shared_area.specs.record_validation.Row.{HasCome, left_by}
+use Rattle.shared_area.specs.record_validation.declared.verdict.Verdict.{Verdict}
 use Rattle.digester.specs.Questions.{AreAmong}
 use Rattle.digester.proofs.Asks.{kept, known_on, known_once}
 use Rattle.digester.proofs.record_test.test_next.Goals as goal

@@ -1,10 +1,10 @@
 use Rattle.std.proofs.Common.{refl, subst, sym, take, ◌∙◌}
 use Rattle.std.proofs.lemmas.Result.{err_from_is_err_and}
-use Rattle.file_graph.specs.Graph.{Graph, after_effects, touches}
-use Rattle.log_record.specs.declared.format.Record.{Record}
+use Rattle.update_log.specs.file_graph.Graph.{Graph, after_effects, touches}
+use Rattle.update_log.specs.log_record.declared.format.Record.{Record}
 use Rattle.coalescer.specs.Records.{effects_in}
-use Rattle.record_validation.specs.Good.{IsGood}
-use Rattle.record_validation.specs.Row.{HasCome}
+use Rattle.shared_area.specs.record_validation.Good.{IsGood}
+use Rattle.shared_area.specs.record_validation.Row.{HasCome}
 use Rattle.digester.proofs.Asks.{known_once, none_known, touched_in}
 use Rattle.digester.proofs.PlanRuns.{next_good, next_graph, bad_behind}
 use Rattle.digester.proofs.record_test.test_records.Goals as goal

@@ -1,7 +1,7 @@
 use Rattle.std.proofs.Common.{◌≡◌, take}
-use Rattle.file_graph.specs.Graph.{after_effects, touches}
+use Rattle.update_log.specs.file_graph.Graph.{after_effects, touches}
 use Rattle.coalescer.specs.Records.{effects_in}
-use Rattle.record_validation.specs.Row.{HasCome}
+use Rattle.shared_area.specs.record_validation.Row.{HasCome}
 use Rattle.digester.specs.Questions.{AskedKnown}
 use Rattle.digester.specs.Plan.{AreGood}
 use Rattle.digester.proofs.record_test.test_records.Given as goal

@@ -1,6 +1,6 @@
 use Rattle.std.proofs.Common.{Err}
-use Rattle.area_reader.specs.declared.error.AreaError.TheVariants as errors
-use Rattle.area_reader.proofs.Looked.{looks_answer, looks_other, looks_err}
+use Rattle.shared_area.specs.area_reader.declared.error.AreaError.TheVariants as errors
+use Rattle.shared_area.proofs.area_reader_lemmas.Looked.{looks_answer, looks_other, looks_err}
 use Rattle.digester.proofs.run_test.test_over.Goals as goal
 
 pub returns-in-Ok-clause-looks : goal.returns-in-Ok-clause-looks

@@ -1,6 +1,6 @@
 use Rattle.std.proofs.Common.{ℕ, subst}
 use Rattle.std.specs.Prelude.{IfOk}
-use Rattle.area_reader.specs.Store.{disk, graph}
+use Rattle.shared_area.specs.area_reader.Store.{disk, graph}
 use Rattle.digester.specs.Plan.{Finds}
 use Rattle.digester.proofs.run_test.test_run.Goals as goal
 

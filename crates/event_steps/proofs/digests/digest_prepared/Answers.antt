@@ -1,10 +1,10 @@
 use Rattle.std.proofs.Common.{ap, refl}
 use Rattle.std.specs.Prelude.{Ok}
-use Rattle.kernel_fs.specs.KernelView.{KernelView}
-use Rattle.kernel_fs.specs.declared.chunk_digest.Digestion.{Digestion}
-use Rattle.kernel_fs.specs.declared.chunk_digest.Digestion.TheVariants as digestion
-use Rattle.digester.specs.declared.error.DigestError.TheVariants as digests
-use Rattle.kernel_fs.specs.declared.error.KernelError.TheVariants as kernel
+use Rattle.libfs.specs.kernel_fs.KernelView.{KernelView}
+use Rattle.libfs.specs.kernel_fs.declared.chunk_digest.Digestion.{Digestion}
+use Rattle.libfs.specs.kernel_fs.declared.chunk_digest.Digestion.TheVariants as digestion
+use Rattle.libfs.specs.digester.declared.error.DigestError.TheVariants as digests
+use Rattle.libfs.specs.kernel_fs.declared.error.KernelError.TheVariants as kernel
 use Rattle.libfs.specs.SealedRegion.{log_of}
 use Rattle.event_steps.proofs.Chunks.{next_run, ok_is_none, same_ok}
 use Rattle.event_steps.proofs.digests.digest_prepared.Goals as goal

@@ -1,5 +1,5 @@
 use Rattle.std.proofs.Common.{◌≡◌, List, Some, arith, ap, slice_get, subst, sym, ◌∙◌}
-use Rattle.lease_manager.specs.Parts.{AreCompatible}
+use Rattle.libfs.specs.lease_manager.Parts.{AreCompatible}
 use Rattle.event_steps.specs.View.{SeatView}
 use Rattle.event_steps.proofs.Seats.{behind, in_front, put_back, same_seat, table_at}
 use Rattle.event_steps.proofs.system.meet_in.Goals as goal

@@ -1,5 +1,5 @@
 use Rattle.std.proofs.Common.{inr}
-use Rattle.call_effects.specs.ClosedGraph.{nobody}
+use Rattle.record_validation.specs.call_effects.ClosedGraph.{nobody}
 use Rattle.graph_check.proofs.Unsound.{unsound}
 use Rattle.graph_check.proofs.check.check_in.Goals as goal
 

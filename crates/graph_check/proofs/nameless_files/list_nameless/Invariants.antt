@@ -1,4 +1,4 @@
-use Rattle.file_graph.specs.Graph.{Graph}
+use Rattle.record_validation.specs.file_graph.Graph.{Graph}
 use Rattle.graph_check.specs.Tables.{IsRead}
 use Rattle.graph_check.proofs.ListGrows.{AreBelow}
 use Rattle.graph_check.proofs.nameless_files.list_nameless.Given as goal

@@ -1,7 +1,7 @@
 use Rattle.std.proofs.Common.{◌≡◌, ◌+◌, ◌-◌, ℕ, None, refl, sym, ap, ◌∙◌, subst, arith}
 use Rattle.std.proofs.lemmas.Result.{err_from_is_err_and}
-use Rattle.file_graph.specs.Graph.{Graph}
-use Rattle.call_effects.specs.NodeView.{view_at}
+use Rattle.record_validation.specs.file_graph.Graph.{Graph}
+use Rattle.record_validation.specs.call_effects.NodeView.{view_at}
 use Rattle.graph_check.specs.Questions.{down_from}
 use Rattle.graph_check.specs.Tables.{IsRead}
 use Rattle.graph_check.proofs.AskedOn.{asked_next}

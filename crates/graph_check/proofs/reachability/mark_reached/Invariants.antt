@@ -1,5 +1,5 @@
 use Rattle.std.proofs.Common.{◌≡◌, true, length}
-use Rattle.file_graph.specs.Graph.{Graph}
+use Rattle.record_validation.specs.file_graph.Graph.{Graph}
 use Rattle.graph_check.specs.Marks.{is_marked, AllClimb, unmarked_count}
 use Rattle.graph_check.specs.Tables.{IsRead}
 use Rattle.graph_check.proofs.reachability.mark_reached.Given as goal

@@ -1,5 +1,5 @@
 use Rattle.std.proofs.Common.{◌≡◌, ◌+◌, ap, ◌∙◌, sym, subst, true, false, Bool, cond, arith, set}
-use Rattle.file_graph.specs.Graph.{Graph}
+use Rattle.record_validation.specs.file_graph.Graph.{Graph}
 use Rattle.graph_check.specs.Tables.{IsRead}
 use Rattle.graph_check.proofs.Marks.{Spreads, spreads_on, spreads_same}
 use Rattle.graph_check.proofs.reachability.spread_marks.Goals as goal

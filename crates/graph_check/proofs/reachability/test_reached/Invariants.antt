@@ -1,5 +1,5 @@
 use Rattle.std.proofs.Common.{◌≡◌, ℕ, ◌<◌, ◌≤◌, true}
-use Rattle.file_graph.specs.Graph.{Graph}
+use Rattle.record_validation.specs.file_graph.Graph.{Graph}
 use Rattle.graph_check.specs.Defects.{HasDirectory}
 use Rattle.graph_check.specs.Marks.{is_marked}
 use Rattle.graph_check.specs.Tables.{IsRead}

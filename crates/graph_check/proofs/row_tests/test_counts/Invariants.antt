@@ -1,5 +1,5 @@
 use Rattle.std.proofs.Common.{ℕ, ◌<◌, ◌≤◌}
-use Rattle.file_graph.specs.Graph.{Graph}
+use Rattle.record_validation.specs.file_graph.Graph.{Graph}
 use Rattle.graph_check.specs.Rows.{CountFitsAt}
 use Rattle.graph_check.specs.Tables.{IsRead, row_of}
 use Rattle.graph_check.proofs.row_tests.test_counts.Given as goal

@@ -1,6 +1,6 @@
 use Rattle.std.proofs.Common.{ap, arith}
 use Rattle.std.proofs.lemmas.Result.{err_from_is_err_and}
-use Rattle.file_graph.specs.declared.effect.Kind.TheVariants.{File, Directory}
+use Rattle.record_validation.specs.file_graph.declared.effect.Kind.TheVariants.{File, Directory}
 use Rattle.graph_check.specs.declared.tables.Row.{Row}
 use Rattle.graph_check.proofs.Rows.{entry_finding}
 use Rattle.graph_check.proofs.row_tests.test_entries.Goals as goal

@@ -2,17 +2,17 @@ use Rattle.std.proofs.Common.{◌≡◌, ℕ, List, true, Option, Some, None, sy
 use Rattle.std.specs.Prelude.{IfSome}
 use Rattle.std.proofs.lemmas.Option.{none-some}
 use Rattle.tier_device.specs.declared.media.Tier.TheVariants.{Fast, Block, Slow}
-use Rattle.layout.specs.Extents.{ExtentList, fits_extents}
-use Rattle.layout.specs.Places.{Sizes}
-use Rattle.layout.specs.declared.extents.Extent.{Extent}
-use Rattle.layout.specs.declared.geometry.Space.{Space}
-use Rattle.extent_tree.specs.Normal.{IsRising, PlacesFit}
-use Rattle.extent_tree.specs.Places.{place_of, SamePlaces}
-use Rattle.extent_tree.specs.Map.{TierRuns}
-use Rattle.area_reader.specs.Store.{space_of}
-use Rattle.extent_tree.specs.BlockFormat.{LiesWithin}
-use Rattle.area_reader.specs.Map.{extents_in, in_tier, IsOwnList}
-use Rattle.area_reader.specs.declared.tiers.InodeExtents.{InodeExtents}
+use Rattle.area_commit.specs.layout.Extents.{ExtentList, fits_extents}
+use Rattle.area_commit.specs.layout.Places.{Sizes}
+use Rattle.area_commit.specs.layout.declared.extents.Extent.{Extent}
+use Rattle.area_commit.specs.layout.declared.geometry.Space.{Space}
+use Rattle.area_commit.specs.extent_tree.Normal.{IsRising, PlacesFit}
+use Rattle.area_commit.specs.extent_tree.Places.{place_of, SamePlaces}
+use Rattle.area_commit.specs.extent_tree.Map.{TierRuns}
+use Rattle.area_commit.specs.area_reader.Store.{space_of}
+use Rattle.area_commit.specs.extent_tree.BlockFormat.{LiesWithin}
+use Rattle.area_commit.specs.area_reader.Map.{extents_in, in_tier, IsOwnList}
+use Rattle.area_commit.specs.area_reader.declared.tiers.InodeExtents.{InodeExtents}
 use Rattle.inode_plan.specs.Lists.{HasPlaces}
 use Rattle.inode_plan.proofs.block_maps.map_of.Goals as goal
 

@@ -1,7 +1,7 @@
 use Rattle.std.proofs.Common.{◌≤◌, ℕ, Option, Some, None, sym, subst}
 use Rattle.std.specs.Prelude.{IfSome}
 use Rattle.posix_calls.specs.declared.limits.TheConstants.{MAX_NAMES}
-use Rattle.graph_change.specs.Net.{names_after}
+use Rattle.area_commit.specs.graph_change.Net.{names_after}
 use Rattle.inode_plan.specs.Blocks.{AreSound}
 use Rattle.inode_plan.proofs.directory_laws.changed_directory_can_be_written.Goals as goal
 

@@ -1,6 +1,6 @@
 use Rattle.tier_device.specs.declared.media.Tier.TheVariants.{Fast}
-use Rattle.area_reader.specs.Store.{disk}
-use Rattle.area_reader.specs.Looks.{Looks, call_answer}
+use Rattle.area_commit.specs.area_reader.Store.{disk}
+use Rattle.area_commit.specs.area_reader.Looks.{Looks, call_answer}
 use Rattle.inode_plan.specs.DirectoryStart.{HoldPlaces}
 use Rattle.inode_plan.proofs.directory_reads.read_places.Given as goal
 

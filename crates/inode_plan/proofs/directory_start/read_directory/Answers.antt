@@ -1,8 +1,8 @@
 use Rattle.std.proofs.Common.{◌≡◌, ◌≢◌, ◌∙◌, ℕ, List, length, Ok, refl, sym, ap, subst}
 use Rattle.tier_device.specs.declared.media.Tier.TheVariants.{Fast}
-use Rattle.layout.specs.Places.{Sizes}
-use Rattle.area_reader.specs.Store.{Store, disk, length_of}
-use Rattle.area_reader.proofs.Looked.{carried_back}
+use Rattle.area_commit.specs.layout.Places.{Sizes}
+use Rattle.area_commit.specs.area_reader.Store.{Store, disk, length_of}
+use Rattle.area_commit.proofs.area_reader_lemmas.Looked.{carried_back}
 use Rattle.inode_plan.specs.Blocks.{AreNodeBlocks}
 use Rattle.inode_plan.specs.DirectoryStart.{ArePlacesOf, HoldPlaces}
 use Rattle.inode_plan.specs.declared.blocks.DirectoryBlocks.{DirectoryBlocks}

@@ -1,6 +1,6 @@
-use Rattle.graph_change.specs.Change.{patch_at}
-use Rattle.graph_change.specs.View.{new_length, patches_of}
-use Rattle.area_reader.specs.Store.{disk, logical_block}
+use Rattle.area_commit.specs.graph_change.Change.{patch_at}
+use Rattle.area_commit.specs.graph_change.View.{new_length, patches_of}
+use Rattle.area_commit.specs.area_reader.Store.{disk, logical_block}
 use Rattle.inode_plan.specs.Bytes.{blocks_from}
 use Rattle.inode_plan.proofs.Adding.{put_is, made_from, made_anyway}
 use Rattle.inode_plan.proofs.file_change.change_into.Goals as goal

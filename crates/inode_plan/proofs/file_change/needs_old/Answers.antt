@@ -1,7 +1,7 @@
 use Rattle.std.proofs.Common.{◌≡◌, true, not, option_map, subst}
 use Rattle.std.proofs.lemmas.Bool.{false≢true}
-use Rattle.graph_change.specs.Change.{IsWhole}
-use Rattle.tree_blocks.specs.FileBlock.{put_in}
+use Rattle.area_commit.specs.graph_change.Change.{IsWhole}
+use Rattle.area_commit.specs.tree_blocks.FileBlock.{put_in}
 use Rattle.inode_plan.proofs.file_change.needs_old.Goals as goal
 
 pub returns-in-Some-clause-part : goal.returns-in-Some-clause-part

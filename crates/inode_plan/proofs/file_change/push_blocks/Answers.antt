@@ -1,12 +1,12 @@
 use Rattle.std.proofs.Common.{◌∙◌, ◌++◌, ℕ, List, IfSome, ap, arith}
 use Rattle.std.proofs.lemmas.List.{append_assoc}
 use Rattle.std.proofs.lemmas.Result.{err_from_is_err_and}
-use Rattle.layout.specs.Places.{Sizes}
-use Rattle.graph_change.specs.View.{change_of}
-use Rattle.area_reader.specs.Store.{Store, disk, logical_block}
-use Rattle.area_reader.specs.Looks.{call_answer}
-use Rattle.area_reader.specs.Checks.{HasFound, IsOnce}
-use Rattle.area_reader.proofs.Looked.{carried, carried_back, looks_on}
+use Rattle.area_commit.specs.layout.Places.{Sizes}
+use Rattle.area_commit.specs.graph_change.View.{change_of}
+use Rattle.area_commit.specs.area_reader.Store.{Store, disk, logical_block}
+use Rattle.area_commit.specs.area_reader.Looks.{call_answer}
+use Rattle.area_commit.specs.area_reader.Checks.{HasFound, IsOnce}
+use Rattle.area_commit.proofs.area_reader_lemmas.Looked.{carried, carried_back, looks_on}
 use Rattle.inode_plan.specs.Bytes.{IsBlockAfter, blocks_from}
 use Rattle.inode_plan.specs.PlacedFile.{nth_number}
 use Rattle.inode_plan.proofs.Adding.{holds_more}

@@ -1,6 +1,6 @@
-use Rattle.area_reader.specs.Store.{disk, logical_block}
-use Rattle.area_reader.specs.Looks.{Looks, call_answer}
-use Rattle.graph_change.specs.View.{change_of}
+use Rattle.area_commit.specs.area_reader.Store.{disk, logical_block}
+use Rattle.area_commit.specs.area_reader.Looks.{Looks, call_answer}
+use Rattle.area_commit.specs.graph_change.View.{change_of}
 use Rattle.inode_plan.specs.Bytes.{AddsBlocks, blocks_from}
 use Rattle.inode_plan.proofs.file_change.push_blocks.Given as goal
 

@@ -1,12 +1,12 @@
 use Rattle.std.proofs.Common.{◌≡◌, ◌<◌, ◌∙◌, ℕ, List, [], Some, None, replicate, get_or, sym, ap, subst}
 use Rattle.std.proofs.lemmas.Result.{on_ok_weaker}
-use Rattle.layout.specs.Places.{Sizes, tier_blocks}
-use Rattle.tree_blocks.proofs.FileBlocks.{zeros_are_none}
-use Rattle.area_reader.specs.Store.{Store, disk, place, logical_block}
-use Rattle.area_reader.specs.Reads.{IsRoom}
-use Rattle.area_reader.proofs.Damages.{logical_is, at_none}
-use Rattle.area_reader.proofs.Tails.{place_is, placed_by}
-use Rattle.area_reader.proofs.Twins.{room_home}
+use Rattle.area_commit.specs.layout.Places.{Sizes, tier_blocks}
+use Rattle.area_commit.proofs.tree_blocks_lemmas.FileBlocks.{zeros_are_none}
+use Rattle.area_commit.specs.area_reader.Store.{Store, disk, place, logical_block}
+use Rattle.area_commit.specs.area_reader.Reads.{IsRoom}
+use Rattle.area_commit.proofs.area_reader_lemmas.Damages.{logical_is, at_none}
+use Rattle.area_commit.proofs.area_reader_lemmas.Tails.{place_is, placed_by}
+use Rattle.area_commit.proofs.area_reader_lemmas.Twins.{room_home}
 use Rattle.tier_device.specs.declared.media.Tier.{Tier}
 use Rattle.tier_device.specs.declared.media.Tier.TheVariants.{Fast, Block, Slow}
 use Rattle.inode_plan.proofs.file_change.read_logical.Goals as goal

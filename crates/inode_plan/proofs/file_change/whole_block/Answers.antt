@@ -1,6 +1,6 @@
 use Rattle.std.proofs.Common.{Some}
-use Rattle.graph_change.specs.Change.{patch_at}
-use Rattle.graph_change.specs.View.{new_length, patches_of}
+use Rattle.area_commit.specs.graph_change.Change.{patch_at}
+use Rattle.area_commit.specs.graph_change.View.{new_length, patches_of}
 use Rattle.inode_plan.proofs.Adding.{put_is, made_of_put}
 use Rattle.inode_plan.proofs.file_change.whole_block.Goals as goal
 

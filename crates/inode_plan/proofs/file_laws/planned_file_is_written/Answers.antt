@@ -1,6 +1,6 @@
 use Rattle.std.proofs.Common.{refl}
-use Rattle.tree_blocks.specs.After.{start_node}
-use Rattle.area_reader.specs.Store.{inode}
+use Rattle.area_commit.specs.tree_blocks.After.{start_node}
+use Rattle.area_commit.specs.area_reader.Store.{inode}
 use Rattle.inode_plan.proofs.Stores.{as_changed}
 use Rattle.inode_plan.proofs.file_laws.planned_file_is_written.Goals as goal
 

@@ -1,6 +1,6 @@
 use Rattle.std.proofs.Common.{arith}
-use Rattle.graph_change.specs.View.{change_of}
-use Rattle.extent_tree.specs.Map.{lies_at}
+use Rattle.area_commit.specs.graph_change.View.{change_of}
+use Rattle.area_commit.specs.extent_tree.Map.{lies_at}
 use Rattle.inode_plan.proofs.After.{number_fits, map_after}
 use Rattle.inode_plan.proofs.file_places.change_map.Goals as goal
 

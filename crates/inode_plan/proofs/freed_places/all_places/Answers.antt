@@ -1,5 +1,5 @@
 use Rattle.block_alloc.specs.Runs.{blocks_of}
-use Rattle.extent_tree.specs.Map.{runs_in}
+use Rattle.area_commit.specs.extent_tree.Map.{runs_in}
 use Rattle.area_commit.proofs.GivenUp.{given_up_used}
 use Rattle.inode_plan.proofs.Left.{are_all}
 use Rattle.inode_plan.proofs.freed_places.all_places.Goals as goal

@@ -2,8 +2,8 @@ use Rattle.std.proofs.Common.{◌≡◌, ◌∙◌, ◌++◌, ◌-◌, ℕ, List
 use Rattle.std.specs.List.{AllByRecursion}
 use Rattle.block_alloc.specs.declared.runs.Run.{Run}
 use Rattle.block_alloc.specs.Runs.{blocks_of}
-use Rattle.extent_tree.specs.Map.{runs_in, places_of, HasBlock}
-use Rattle.graph_change.specs.View.{change_of}
+use Rattle.area_commit.specs.extent_tree.Map.{runs_in, places_of, HasBlock}
+use Rattle.area_commit.specs.graph_change.View.{change_of}
 use Rattle.inode_plan.specs.MapChange.{places_below}
 use Rattle.inode_plan.proofs.Left.{are_left, left_used}
 use Rattle.inode_plan.proofs.freed_places.places_left.Goals as goal

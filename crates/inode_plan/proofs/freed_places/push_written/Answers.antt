@@ -1,6 +1,6 @@
 use Rattle.block_alloc.specs.Runs.{blocks_of}
-use Rattle.extent_tree.specs.Map.{runs_in, place_list}
-use Rattle.extent_tree.specs.Places.{place_of}
+use Rattle.area_commit.specs.extent_tree.Map.{runs_in, place_list}
+use Rattle.area_commit.specs.extent_tree.Places.{place_of}
 use Rattle.inode_plan.specs.MapChange.{below_end}
 use Rattle.inode_plan.proofs.Taking.{adds_more}
 use Rattle.inode_plan.proofs.freed_places.push_written.Goals as goal

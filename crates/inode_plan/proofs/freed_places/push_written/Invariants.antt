@@ -1,7 +1,7 @@
 use Rattle.std.proofs.Common.{◌≡◌, ◌++◌, take}
 use Rattle.std.specs.List.{AllByRecursion}
 use Rattle.block_alloc.specs.Runs.{blocks_of}
-use Rattle.extent_tree.specs.Map.{runs_in, HasBlock}
+use Rattle.area_commit.specs.extent_tree.Map.{runs_in, HasBlock}
 use Rattle.inode_plan.specs.MapChange.{places_below}
 use Rattle.inode_plan.proofs.freed_places.push_written.Given as goal
 

@@ -1,5 +1,5 @@
 use Rattle.std.proofs.Common.{◌≤◌, ◌+◌, length}
-use Rattle.layout.specs.Places.{Sizes}
+use Rattle.area_commit.specs.layout.Places.{Sizes}
 use Rattle.area_commit.specs.Batches.{AreNodes}
 use Rattle.inode_plan.specs.Blocks.{AreNodeBlocks}
 use Rattle.inode_plan.proofs.Imaging.{ImagesTo}

@@ -2,7 +2,7 @@ use Rattle.std.proofs.Common.{rules, ◌≡◌, arith}
 use Rattle.std.proofs.lemmas.Grind.{common_steps}
 use Rattle.std.specs.List.{AllByRecursion}
 use Rattle.block_alloc.specs.Runs.{blocks_of}
-use Rattle.extent_tree.specs.Map.{runs_in, places_of, HasBlock}
+use Rattle.area_commit.specs.extent_tree.Map.{runs_in, places_of, HasBlock}
 use Rattle.inode_plan.proofs.Few.{few_runs_in}
 use Rattle.inode_plan.proofs.list_roots.places_in.Goals as goal
 

@@ -1,7 +1,7 @@
 use Rattle.std.proofs.Common.{◌≡◌, true, sym, subst}
-use Rattle.layout.specs.Slot.{fits_slot}
-use Rattle.layout.specs.declared.slot.Slot.{Slot}
-use Rattle.layout.specs.declared.slot.Slot.TheVariants as slots
+use Rattle.area_commit.specs.layout.Slot.{fits_slot}
+use Rattle.area_commit.specs.layout.declared.slot.Slot.{Slot}
+use Rattle.area_commit.specs.layout.declared.slot.Slot.TheVariants as slots
 use Rattle.inode_plan.specs.Lists.{root_for, SpareFits}
 use Rattle.inode_plan.proofs.ListRoots.{file_fits}
 use Rattle.inode_plan.proofs.new_roots.slot_for.Goals as goal

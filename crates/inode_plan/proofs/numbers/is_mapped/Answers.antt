@@ -1,5 +1,5 @@
 use Rattle.std.proofs.Common.{sym}
-use Rattle.extent_tree.specs.Map.{lies_at}
+use Rattle.area_commit.specs.extent_tree.Map.{lies_at}
 use Rattle.area_commit.proofs.Holes.{unmapped, mapped_at}
 use Rattle.inode_plan.proofs.Keyed.{none_past}
 use Rattle.inode_plan.proofs.numbers.is_mapped.Goals as goal

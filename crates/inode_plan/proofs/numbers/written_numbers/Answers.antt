@@ -1,6 +1,6 @@
 use Rattle.std.proofs.Common.{◌≡◌, ℕ, Vec, Global, true, sym, subst}
-use Rattle.graph_change.specs.View.{change_of}
-use Rattle.extent_tree.specs.Map.{lies_at}
+use Rattle.area_commit.specs.graph_change.View.{change_of}
+use Rattle.area_commit.specs.extent_tree.Map.{lies_at}
 use Rattle.area_commit.specs.InodeChange.{writes_over}
 use Rattle.inode_plan.specs.BlockWrites.{AreNumbers}
 use Rattle.inode_plan.proofs.Keyed.{with_err, put_written, with_cut, without_cut}

@@ -1,6 +1,6 @@
 use Rattle.std.proofs.Common.{◌≡◌, ◌∙◌, ℕ, List, length, true, sym, ap, subst, arith}
-use Rattle.layout.specs.declared.extents.Extent.{Extent}
-use Rattle.layout.specs.Slot.{is_root_block}
+use Rattle.area_commit.specs.layout.declared.extents.Extent.{Extent}
+use Rattle.area_commit.specs.layout.Slot.{is_root_block}
 use Rattle.inode_plan.specs.Blocks.{HaveOwnPlaces, AreNodeBlocks, places_after, root_after}
 use Rattle.inode_plan.proofs.Fits.{few_runs}
 use Rattle.inode_plan.proofs.Lists.{long, after_apart, after_nodes, after_root_node}

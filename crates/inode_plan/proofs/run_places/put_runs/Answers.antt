@@ -3,7 +3,7 @@ use Rattle.std.proofs.lemmas.List.{take_more}
 use Rattle.block_alloc.specs.declared.runs.Run.{Run}
 use Rattle.block_alloc.specs.Runs.{blocks_of, run_blocks}
 use Rattle.block_alloc.proofs.Blocks.{blocks-push, length-blocks-more, length-blocks-le}
-use Rattle.extent_tree.specs.Map.{ArePut}
+use Rattle.area_commit.specs.extent_tree.Map.{ArePut}
 use Rattle.inode_plan.specs.RunPlaces.{ArePlaced}
 use Rattle.inode_plan.proofs.Steps.{placed_none, placed_more, ends_fit}
 use Rattle.inode_plan.proofs.run_places.put_runs.Goals as goal

@@ -1,9 +1,9 @@
 use Rattle.std.proofs.Common.{◌∙◌, ◌+◌, ℕ, [], get_or, ap}
-use Rattle.graph_change.specs.View.{change_of}
+use Rattle.area_commit.specs.graph_change.View.{change_of}
 use Rattle.tier_device.specs.declared.media.Tier.TheVariants.{Fast, Block, Slow}
-use Rattle.area_reader.specs.Store.{root_of}
+use Rattle.area_commit.specs.area_reader.Store.{root_of}
 use Rattle.inode_plan.specs.Lists.{root_for}
-use Rattle.tree_blocks.specs.Inode.{LogicalBlocks}
+use Rattle.area_commit.specs.tree_blocks.Inode.{LogicalBlocks}
 use Rattle.inode_plan.specs.Roots.{missing_roots}
 use Rattle.inode_plan.proofs.Roots.{slot_fits, file_same}
 use Rattle.inode_plan.proofs.slot_change.slot_after.Goals as goal

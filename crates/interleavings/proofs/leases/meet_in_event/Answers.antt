@@ -1,5 +1,5 @@
 use Rattle.std.proofs.Common.{subst, sym}
-use Rattle.event_steps.specs.declared.event.Event.{Event}
+use Rattle.system_laws.specs.event_steps.declared.event.Event.{Event}
 use Rattle.system_laws.specs.Leaves.{HasMetIn}
 use Rattle.interleavings.proofs.leases.meet_in_event.Goals as goal
 

@@ -1,5 +1,5 @@
 use Rattle.std.proofs.Common.{ℕ, ◌<◌, ◌≤◌, arith, subst, ◌∙◌}
-use Rattle.event_steps.specs.View.{SystemView}
+use Rattle.system_laws.specs.event_steps.View.{SystemView}
 use Rattle.system_laws.specs.Leaves.{HaveMet}
 use Rattle.interleavings.proofs.EachClient.{met_all, with_next}
 use Rattle.interleavings.proofs.leases.meet_others.Goals as goal

@@ -1,8 +1,8 @@
 use Rattle.std.proofs.Common.{◌≢◌, subst}
-use Rattle.lease_manager.specs.Passes.{lease_of}
-use Rattle.lease_manager.specs.declared.view.LeaseMode.{LeaseMode}
-use Rattle.lease_manager.specs.declared.view.LeaseMode.TheVariants.{Trying}
-use Rattle.libfs.specs.View.{ClientView}
+use Rattle.system_laws.specs.lease_manager.Passes.{lease_of}
+use Rattle.system_laws.specs.lease_manager.declared.view.LeaseMode.{LeaseMode}
+use Rattle.system_laws.specs.lease_manager.declared.view.LeaseMode.TheVariants.{Trying}
+use Rattle.system_laws.specs.libfs.View.{ClientView}
 use Rattle.interleavings.proofs.leases.settle_at.Goals as goal
 
 pub returns-in-Some : goal.returns-in-Some

@@ -1,6 +1,6 @@
 use Rattle.std.proofs.Common.{ap, ◌∙◌}
-use Rattle.file_graph.specs.Graph.{Graph, after_effect, graph_of}
-use Rattle.file_graph.specs.declared.effect.Effect.TheVariants as effect
+use Rattle.system_laws.specs.file_graph.Graph.{Graph, after_effect, graph_of}
+use Rattle.system_laws.specs.file_graph.declared.effect.Effect.TheVariants as effect
 use Rattle.interleavings.proofs.NodePuts.{node_made, on_ok}
 use Rattle.interleavings.proofs.node_copies.make_node.Goals as goal
 

@@ -1,9 +1,9 @@
 use Rattle.std.proofs.Common.{ℕ, Some, ap, ◌∙◌}
 use Rattle.std.specs.FinMap as fin
-use Rattle.record_validation.specs.NodeAnswers.{entries_of}
+use Rattle.system_laws.specs.record_validation.NodeAnswers.{entries_of}
 use Rattle.posix_calls.specs.Content.{Entries}
-use Rattle.file_graph.specs.Graph.{DirBody, Graph, after_effects, graph_of, set_node}
-use Rattle.file_graph.specs.declared.effect.Kind.{Kind}
+use Rattle.system_laws.specs.file_graph.Graph.{DirBody, Graph, after_effects, graph_of, set_node}
+use Rattle.system_laws.specs.file_graph.declared.effect.Kind.{Kind}
 use Rattle.interleavings.specs.Snapshots.{entries_put}
 use Rattle.interleavings.proofs.NodePuts.{entries_are_put, map_of_entries, on_ok}
 use Rattle.interleavings.proofs.node_copies.put_directory.Goals as goal

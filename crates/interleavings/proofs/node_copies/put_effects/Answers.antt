@@ -1,4 +1,4 @@
-use Rattle.file_graph.specs.Graph.{after_effects, graph_of}
+use Rattle.system_laws.specs.file_graph.Graph.{after_effects, graph_of}
 use Rattle.interleavings.proofs.NodePuts.{effects_more}
 use Rattle.interleavings.proofs.node_copies.put_effects.Goals as goal
 

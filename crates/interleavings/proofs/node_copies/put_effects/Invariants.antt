@@ -1,5 +1,5 @@
 use Rattle.std.proofs.Common.{◌≡◌, drop}
-use Rattle.file_graph.specs.Graph.{after_effects, graph_of}
+use Rattle.system_laws.specs.file_graph.Graph.{after_effects, graph_of}
 use Rattle.interleavings.proofs.node_copies.put_effects.Given as goal
 
 abbrev pub invariant-loop-effect : goal.invariant-loop-effect

@@ -1,8 +1,8 @@
 use Rattle.std.proofs.Common.{◌≡◌, ◌-◌, ℕ, List, drop, length, refl, ap, ◌∙◌, arith}
-use Rattle.file_graph.specs.Graph.{after_effect, after_effects, graph_of}
-use Rattle.file_graph.specs.Plain.{pairs}
-use Rattle.file_graph.specs.declared.effect.Kind.{Kind}
-use Rattle.file_graph.specs.declared.effect.Effect.TheVariants as effect
+use Rattle.system_laws.specs.file_graph.Graph.{after_effect, after_effects, graph_of}
+use Rattle.system_laws.specs.file_graph.Plain.{pairs}
+use Rattle.system_laws.specs.file_graph.declared.effect.Kind.{Kind}
+use Rattle.system_laws.specs.file_graph.declared.effect.Effect.TheVariants as effect
 use Rattle.interleavings.specs.Snapshots.{entries_put}
 use Rattle.interleavings.proofs.NodePuts.{entries_more}
 use Rattle.interleavings.proofs.node_copies.put_entries.Goals as goal

@@ -1,6 +1,6 @@
 use Rattle.std.proofs.Common.{◌≡◌, ◌-◌, drop}
-use Rattle.file_graph.specs.Graph.{after_effects, graph_of}
-use Rattle.file_graph.specs.Plain.{pairs}
+use Rattle.system_laws.specs.file_graph.Graph.{after_effects, graph_of}
+use Rattle.system_laws.specs.file_graph.Plain.{pairs}
 use Rattle.interleavings.specs.Snapshots.{entries_put}
 use Rattle.interleavings.proofs.node_copies.put_entries.Given as goal
 

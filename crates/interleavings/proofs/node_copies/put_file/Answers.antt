@@ -1,6 +1,6 @@
 use Rattle.std.proofs.Common.{List, [], ℕ, Some, ap, ◌∙◌}
-use Rattle.file_graph.specs.Graph.{FileBody, Graph, after_effect, graph_of, set_node}
-use Rattle.file_graph.specs.declared.effect.Effect.TheVariants as effect
+use Rattle.system_laws.specs.file_graph.Graph.{FileBody, Graph, after_effect, graph_of, set_node}
+use Rattle.system_laws.specs.file_graph.declared.effect.Effect.TheVariants as effect
 use Rattle.interleavings.proofs.NodePuts.{bytes_put, on_ok}
 use Rattle.interleavings.proofs.node_copies.put_file.Goals as goal
 

@@ -1,6 +1,6 @@
 use Rattle.std.proofs.Common.{ap, ◌∙◌}
-use Rattle.file_graph.specs.Graph.{after_effects, graph_of}
-use Rattle.world_invariant.specs.Logs.{after_records}
+use Rattle.system_laws.specs.file_graph.Graph.{after_effects, graph_of}
+use Rattle.system_laws.specs.world_invariant.Logs.{after_records}
 use Rattle.interleavings.proofs.NodePuts.{records_more}
 use Rattle.interleavings.proofs.node_copies.put_records.Goals as goal
 

@@ -1,6 +1,6 @@
 use Rattle.std.proofs.Common.{◌≡◌, drop}
-use Rattle.file_graph.specs.Graph.{graph_of}
-use Rattle.world_invariant.specs.Logs.{after_records}
+use Rattle.system_laws.specs.file_graph.Graph.{graph_of}
+use Rattle.system_laws.specs.world_invariant.Logs.{after_records}
 use Rattle.interleavings.proofs.node_copies.put_records.Given as goal
 
 abbrev pub invariant-loop-record : goal.invariant-loop-record

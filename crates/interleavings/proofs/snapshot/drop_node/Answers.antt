@@ -1,6 +1,6 @@
 use Rattle.std.proofs.Common.{refl, ◌∙◌}
-use Rattle.file_graph.specs.Graph.{graph_of}
-use Rattle.file_graph.specs.declared.effect.Effect.TheVariants as effect
+use Rattle.system_laws.specs.file_graph.Graph.{graph_of}
+use Rattle.system_laws.specs.file_graph.declared.effect.Effect.TheVariants as effect
 use Rattle.interleavings.proofs.NodePuts.{acts_on_own}
 use Rattle.interleavings.proofs.snapshot.drop_node.Goals as goal
 

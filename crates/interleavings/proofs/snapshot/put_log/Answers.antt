@@ -1,7 +1,7 @@
 use Rattle.std.proofs.Common.{List, ap, ◌∙◌}
-use Rattle.file_graph.specs.Graph.{Graph, graph_of}
-use Rattle.log_record.specs.declared.format.Record.{Record}
-use Rattle.world_invariant.specs.Logs.{after_records}
+use Rattle.system_laws.specs.file_graph.Graph.{Graph, graph_of}
+use Rattle.system_laws.specs.log_record.declared.format.Record.{Record}
+use Rattle.system_laws.specs.world_invariant.Logs.{after_records}
 use Rattle.interleavings.proofs.NodePuts.{on_ok}
 use Rattle.interleavings.proofs.Snapshots.{after_both, kept_of_seat}
 use Rattle.interleavings.proofs.snapshot.put_log.Goals as goal

@@ -1,6 +1,6 @@
 use Rattle.std.proofs.Common.{◌≡◌, ◌+◌, ◌-◌, ℕ, ap, sym, ◌∙◌, arith}
-use Rattle.file_graph.specs.Graph.{Graph, graph_of}
-use Rattle.world_invariant.specs.Logs.{after_clients, after_records}
+use Rattle.system_laws.specs.file_graph.Graph.{Graph, graph_of}
+use Rattle.system_laws.specs.world_invariant.Logs.{after_clients, after_records}
 use Rattle.interleavings.specs.Snapshots.{kept_log}
 use Rattle.interleavings.proofs.Snapshots.{more_logs, no_logs}
 use Rattle.interleavings.proofs.snapshot.put_logs.Goals as goal

@@ -1,6 +1,6 @@
 use Rattle.std.proofs.Common.{◌≡◌, ◌-◌, ◌≤◌}
-use Rattle.file_graph.specs.Graph.{graph_of}
-use Rattle.world_invariant.specs.Logs.{after_clients}
+use Rattle.system_laws.specs.file_graph.Graph.{graph_of}
+use Rattle.system_laws.specs.world_invariant.Logs.{after_clients}
 use Rattle.interleavings.specs.Snapshots.{kept_log}
 use Rattle.interleavings.proofs.snapshot.put_logs.Given as goal
 

@@ -1,8 +1,8 @@
 use Rattle.std.proofs.Common.{◌≡◌, ℕ, ◌≤◌, arith, subst}
-use Rattle.kernel_fs.specs.KernelView.{KernelView}
-use Rattle.event_steps.specs.Sound.{number_of}
-use Rattle.event_steps.specs.Stops.{SeatLeaves}
-use Rattle.event_steps.specs.View.{HasSeat}
+use Rattle.system_laws.specs.kernel_fs.KernelView.{KernelView}
+use Rattle.system_laws.specs.event_steps.Sound.{number_of}
+use Rattle.system_laws.specs.event_steps.Stops.{SeatLeaves}
+use Rattle.system_laws.specs.event_steps.View.{HasSeat}
 use Rattle.system_laws.specs.Leaves.{HoldsRecords, KernelLeaves}
 use Rattle.interleavings.proofs.EachClient.{each_below, with_next}
 use Rattle.interleavings.proofs.stops.left_now.Goals as goal

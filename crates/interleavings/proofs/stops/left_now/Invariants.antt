@@ -1,7 +1,7 @@
 use Rattle.std.proofs.Common.{◌≡◌, ℕ, ◌<◌, ◌≤◌}
-use Rattle.event_steps.specs.Sound.{number_of}
-use Rattle.event_steps.specs.Stops.{SeatLeaves}
-use Rattle.event_steps.specs.View.{HasSeat}
+use Rattle.system_laws.specs.event_steps.Sound.{number_of}
+use Rattle.system_laws.specs.event_steps.Stops.{SeatLeaves}
+use Rattle.system_laws.specs.event_steps.View.{HasSeat}
 use Rattle.system_laws.specs.Leaves.{HoldsRecords}
 use Rattle.interleavings.proofs.stops.left_now.Given as goal
 

@@ -1,5 +1,5 @@
 use Rattle.std.proofs.Common.{◌≡◌, ◌≤◌, ◌+◌, ◌-◌, ℕ, List, take, drop, ap, ◌∙◌, subst}
-use Rattle.log_record.specs.declared.format.Record.{Record}
+use Rattle.world_invariant.specs.log_record.declared.format.Record.{Record}
 use Rattle.digester.specs.SealedLog.{SealedView, done_to}
 use Rattle.world_invariant.specs.Logs.{units_in}
 use Rattle.kernel_fs.specs.Book.{units_of, out_of}

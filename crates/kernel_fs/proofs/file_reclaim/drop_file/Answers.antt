@@ -1,7 +1,7 @@
 use Rattle.std.proofs.Common.{inl, refl, sym, subst, arith}
 use Rattle.std.specs.Prelude.{Err}
 use Rattle.std.proofs.lemmas.Result.{err_from_is_err_and}
-use Rattle.area_reader.specs.Store.{Store, disk}
+use Rattle.migrator.specs.area_reader.Store.{Store, disk}
 use Rattle.kernel_fs.specs.Reclaim.{ReclaimsOrStays}
 use Rattle.kernel_fs.specs.declared.error.ReclaimError.{ReclaimError}
 use Rattle.kernel_fs.specs.declared.error.ReclaimError.TheVariants as errors

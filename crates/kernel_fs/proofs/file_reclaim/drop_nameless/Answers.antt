@@ -1,13 +1,13 @@
 use Rattle.std.proofs.Common.{[], ◌∷◌, inl, arith, sym, ◌∙◌, subst}
 use Rattle.std.specs.Prelude.{Ok, OnOk}
 use Rattle.std.proofs.lemmas.Bool.{false≢true}
-use Rattle.batch_journal.proofs.Courses.{any_ok}
-use Rattle.file_graph.specs.declared.effect.Effect.TheVariants as effect
-use Rattle.graph_change.specs.Change.{coalesced_changes}
+use Rattle.migrator.proofs.batch_journal_lemmas.Courses.{any_ok}
+use Rattle.world_invariant.specs.file_graph.declared.effect.Effect.TheVariants as effect
+use Rattle.migrator.specs.graph_change.Change.{coalesced_changes}
 use Rattle.digester.proofs.Composed.{few_looked}
-use Rattle.layout.specs.Places.{Sizes}
-use Rattle.area_reader.specs.Store.{Store, disk, graph}
-use Rattle.area_reader.proofs.Looked.{carried_back}
+use Rattle.migrator.specs.layout.Places.{Sizes}
+use Rattle.migrator.specs.area_reader.Store.{Store, disk, graph}
+use Rattle.migrator.proofs.area_reader_lemmas.Looked.{carried_back}
 use Rattle.kernel_fs.specs.Reclaim.{AreNameless, IsReclaimed, StaysOrReclaims}
 use Rattle.kernel_fs.specs.declared.error.ReclaimError.TheVariants as errors
 use Rattle.kernel_fs.proofs.Dropping.{its_inode, nameless_by, still_open, counts_nameless, reclaims_behind}

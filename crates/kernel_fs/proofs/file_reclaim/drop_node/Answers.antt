@@ -1,12 +1,12 @@
 use Rattle.std.proofs.Common.{[], ◌∷◌, refl, sym, subst}
 use Rattle.std.specs.Prelude.{Err}
-use Rattle.file_graph.specs.declared.effect.Effect.TheVariants as effect
-use Rattle.graph_change.specs.Bounds.{AreBounded}
-use Rattle.graph_change.specs.Change.{Changes, Coalesces}
-use Rattle.graph_change.specs.View.{changes_of}
-use Rattle.shared_area.specs.ChangeApply.{MakesFewCalls}
-use Rattle.area_reader.specs.Store.{Store, disk, graph}
-use Rattle.shared_area.proofs.Sound.{found_change}
+use Rattle.world_invariant.specs.file_graph.declared.effect.Effect.TheVariants as effect
+use Rattle.migrator.specs.graph_change.Bounds.{AreBounded}
+use Rattle.migrator.specs.graph_change.Change.{Changes, Coalesces}
+use Rattle.migrator.specs.graph_change.View.{changes_of}
+use Rattle.migrator.specs.shared_area.ChangeApply.{MakesFewCalls}
+use Rattle.migrator.specs.area_reader.Store.{Store, disk, graph}
+use Rattle.migrator.proofs.shared_area_lemmas.Sound.{found_change}
 use Rattle.kernel_fs.proofs.Dropping.{charge_fits, few_entries, few_images, none_written, one_inode, reclaimed, then_reclaimed}
 use Rattle.kernel_fs.proofs.Reclaimed.{applied_stays, apply_stays, change_no_use}
 use Rattle.kernel_fs.proofs.file_reclaim.drop_node.Goals as goal

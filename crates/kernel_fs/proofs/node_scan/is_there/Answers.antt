@@ -1,6 +1,6 @@
 use Rattle.std.proofs.Common.{◌∙◌, ap}
 use Rattle.std.specs.Prelude.{is_some}
-use Rattle.area_reader.specs.Store.{disk, graph}
+use Rattle.migrator.specs.area_reader.Store.{disk, graph}
 use Rattle.kernel_fs.proofs.FirstNodes.{counted_node}
 use Rattle.kernel_fs.proofs.node_scan.is_there.Goals as goal
 

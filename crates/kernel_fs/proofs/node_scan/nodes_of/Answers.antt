@@ -1,8 +1,8 @@
 use Rattle.std.proofs.Common.{◌+◌, ◌∙◌, sym}
-use Rattle.layout.specs.Places.{Sizes}
-use Rattle.area_reader.specs.Store.{Store, disk, graph}
-use Rattle.area_reader.specs.Looks.{call_answer}
-use Rattle.area_reader.proofs.Looked.{carried, carried_back, looks_on, looks_none}
+use Rattle.migrator.specs.layout.Places.{Sizes}
+use Rattle.migrator.specs.area_reader.Store.{Store, disk, graph}
+use Rattle.migrator.specs.area_reader.Looks.{call_answer}
+use Rattle.migrator.proofs.area_reader_lemmas.Looked.{carried, carried_back, looks_on, looks_none}
 use Rattle.kernel_fs.specs.Inodes.{has}
 use Rattle.kernel_fs.specs.NodeScan.{AreNodesBelow}
 use Rattle.kernel_fs.proofs.FirstNodes.{begins, ends}

@@ -1,5 +1,5 @@
-use Rattle.area_reader.specs.Store.{disk, graph}
-use Rattle.area_reader.specs.Looks.{Looks, call_answer}
+use Rattle.migrator.specs.area_reader.Store.{disk, graph}
+use Rattle.migrator.specs.area_reader.Looks.{Looks, call_answer}
 use Rattle.kernel_fs.specs.Inodes.{has}
 use Rattle.kernel_fs.specs.NodeScan.{AreNodesBelow}
 use Rattle.kernel_fs.proofs.node_scan.nodes_of.Given as goal

@@ -1,7 +1,7 @@
 use Rattle.std.proofs.Common.{◌∙◌, inl, inr, ap, refl, sym, arith}
 use Rattle.std.proofs.lemmas.Bool.{false≢true}
 use Rattle.std.proofs.lemmas.Bool.Decides.{eqb_tells}
-use Rattle.layout.specs.declared.marks.Mark.{Mark}
+use Rattle.migrator.specs.layout.declared.marks.Mark.{Mark}
 use Rattle.world_invariant.proofs.Owners.{client_is, is_low, is_high}
 use Rattle.kernel_fs.specs.MachineState.{done_in}
 use Rattle.kernel_fs.proofs.opening.are_before_regions.Goals as goal

@@ -1,5 +1,5 @@
 use Rattle.std.proofs.Common.{◌≤◌, List, sym, subst}
-use Rattle.file_graph.specs.declared.effect.Effect.{Effect}
+use Rattle.log_record.specs.file_graph.declared.effect.Effect.{Effect}
 use Rattle.lease_manager.specs.Passes.{records_of}
 use Rattle.lease_manager.specs.RecordCounts.{is_touched, one_if}
 use Rattle.lease_manager.proofs.Cleaned.{still_counted}

@@ -1,6 +1,6 @@
 use Rattle.std.proofs.Common.{◌≡◌, ℕ, ◌+◌, ◌≤◌}
 use Rattle.std.specs.Prelude.{◌||◌, vec_len, vec_capacity}
-use Rattle.file_graph.specs.Graph.{is_among}
+use Rattle.lease_manager.specs.file_graph.Graph.{is_among}
 use Rattle.kernel_fs.specs.Free.{count_of}
 use Rattle.kernel_fs.specs.Inodes.{has}
 use Rattle.libfs.proofs.grants.add_all.Given as goal

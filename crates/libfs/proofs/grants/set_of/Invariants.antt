@@ -1,7 +1,7 @@
 use Rattle.std.proofs.Common.{◌≡◌, ℕ, take}
 use Rattle.std.specs.Prelude.{◌&&◌}
-use Rattle.file_graph.specs.Graph.{is_among}
-use Rattle.file_graph.specs.Numbers.{is_inode}
+use Rattle.lease_manager.specs.file_graph.Graph.{is_among}
+use Rattle.lease_manager.specs.file_graph.Numbers.{is_inode}
 use Rattle.kernel_fs.specs.Inodes.{has}
 use Rattle.libfs.proofs.grants.set_of.Given as goal
 

@@ -1,6 +1,6 @@
 use Rattle.std.proofs.Common.{◌≡◌, ℕ, Some, ap, sym, ◌∙◌}
-use Rattle.file_graph.specs.Graph.{file_bytes}
-use Rattle.call_effects.specs.Blocks.{block_of}
+use Rattle.lease_manager.specs.file_graph.Graph.{file_bytes}
+use Rattle.client_log.specs.call_effects.Blocks.{block_of}
 use Rattle.client_view.specs.After.{block_laid, bytes_at}
 use Rattle.libfs.specs.ClientHoldings.{known_to}
 use Rattle.libfs.specs.NeedService.{records_behind, shared_by}

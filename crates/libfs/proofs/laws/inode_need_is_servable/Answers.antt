@@ -1,5 +1,5 @@
-use Rattle.call_effects.specs.Knowledge.{part_of}
-use Rattle.client_plan.specs.declared.need.Need.TheVariants as needs
+use Rattle.client_log.specs.call_effects.Knowledge.{part_of}
+use Rattle.client_view.specs.client_plan.declared.need.Need.TheVariants as needs
 use Rattle.libfs.specs.ClientHoldings.{holdings_of, known_to}
 use Rattle.libfs.proofs.Served.{is_held}
 use Rattle.libfs.proofs.laws.inode_need_is_servable.Goals as goal

@@ -1,11 +1,11 @@
 use Rattle.std.proofs.Common.{◌≡◌, ◌≢◌, inl, inr, false, refl, ap, sym, ◌∙◌, subst}
 use Rattle.std.proofs.lemmas.Bool.{true≢false}
-use Rattle.file_graph.specs.Graph.{is_among}
-use Rattle.call_effects.specs.Knowledge.{Knowledge, part_of}
-use Rattle.call_effects.specs.NodeView.{view_at}
-use Rattle.client_plan.specs.declared.need.Need.TheVariants as needs
-use Rattle.client_plan.specs.declared.outcome.Outcome.TheVariants as outcomes
-use Rattle.client_plan.specs.CallPlan.{outcome}
+use Rattle.lease_manager.specs.file_graph.Graph.{is_among}
+use Rattle.client_log.specs.call_effects.Knowledge.{Knowledge, part_of}
+use Rattle.client_log.specs.call_effects.NodeView.{view_at}
+use Rattle.client_view.specs.client_plan.declared.need.Need.TheVariants as needs
+use Rattle.client_view.specs.client_plan.declared.outcome.Outcome.TheVariants as outcomes
+use Rattle.client_view.specs.client_plan.CallPlan.{outcome}
 use Rattle.libfs.specs.ClientHoldings.{holdings_of, known_to}
 use Rattle.libfs.specs.NeedService.{shared_by}
 use Rattle.libfs.specs.View.{ClientView}

@@ -1,16 +1,16 @@
 use Rattle.std.proofs.Common.{◌≡◌, ◌≢◌, ℕ, ◌+◌, ◌-◌, Bool, true, cond, List, [], Some, None, refl, ap, sym, ◌∙◌, subst, arith}
 use Rattle.std.specs.Prelude.{◌&&◌, nat_le, Option}
 use Rattle.tier_device.specs.declared.media.Media.{Ghosts}
-use Rattle.log_record.specs.declared.format.Record.{Record}
+use Rattle.lease_manager.specs.log_record.declared.format.Record.{Record}
 use Rattle.client_log.specs.Steps.{most_of}
 use Rattle.client_log.specs.View.{LogView}
-use Rattle.call_effects.specs.Knowledge.{part_of}
-use Rattle.update_log.specs.Frames.{end_behind}
-use Rattle.update_log.specs.View.{records_of}
-use Rattle.update_log.specs.declared.format.TheConstants.{REGION_SIZE}
-use Rattle.client_plan.specs.declared.need.Need.TheVariants as needs
-use Rattle.client_plan.specs.declared.outcome.Outcome.TheVariants as outcomes
-use Rattle.client_plan.specs.CallPlan.{outcome}
+use Rattle.client_log.specs.call_effects.Knowledge.{part_of}
+use Rattle.client_log.specs.update_log.Frames.{end_behind}
+use Rattle.client_log.specs.update_log.View.{records_of}
+use Rattle.client_log.specs.update_log.declared.format.TheConstants.{REGION_SIZE}
+use Rattle.client_view.specs.client_plan.declared.need.Need.TheVariants as needs
+use Rattle.client_view.specs.client_plan.declared.outcome.Outcome.TheVariants as outcomes
+use Rattle.client_view.specs.client_plan.CallPlan.{outcome}
 use Rattle.libfs.specs.ClientHoldings.{holdings_of, known_to}
 use Rattle.libfs.proofs.Ready.{has_of}
 use Rattle.libfs.proofs.laws.wiped_region_has_room.Goals as goal

@@ -1,6 +1,6 @@
 -- What is left would make of the table what all make of it at first.
 use Rattle.std.proofs.Common.{◌≡◌, ℕ, drop}
-use Rattle.log_record.specs.Grammar.{IsInode}
+use Rattle.update_log.specs.log_record.Grammar.{IsInode}
 use Rattle.log_survey.specs.Owners.{listed, owner, with_owner}
 use Rattle.log_survey.proofs.owners.own_records.Given as goal
 

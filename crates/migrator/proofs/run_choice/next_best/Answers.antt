@@ -1,11 +1,11 @@
 use Rattle.std.proofs.Common.{◌∙◌, refl, sym}
 use Rattle.std.specs.Prelude.{None}
-use Rattle.layout.specs.Places.{Sizes}
-use Rattle.area_reader.specs.Store.{Store, disk, slot}
-use Rattle.area_reader.specs.Looks.{call_answer}
+use Rattle.shared_area.specs.layout.Places.{Sizes}
+use Rattle.shared_area.specs.area_reader.Store.{Store, disk, slot}
+use Rattle.shared_area.specs.area_reader.Looks.{call_answer}
 use Rattle.shared_area.specs.FirstRun.{FindsRun, file_lies}
 use Rattle.shared_area.proofs.FirstRuns.{own_touch}
-use Rattle.area_reader.proofs.Looked.{carried_back, looks_answer}
+use Rattle.shared_area.proofs.area_reader_lemmas.Looked.{carried_back, looks_answer}
 use Rattle.migrator.specs.declared.run_choice.TheConstants.{MOST_BLOCKS}
 use Rattle.migrator.proofs.Best.{best_stays, candidate_none, candidate_some, found_is_best}
 use Rattle.migrator.proofs.run_choice.next_best.Goals as goal

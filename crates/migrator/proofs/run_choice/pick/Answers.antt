@@ -1,8 +1,8 @@
 use Rattle.std.proofs.Common.{◌≡◌, true, refl, sym, subst}
 use Rattle.tier_device.specs.declared.media.Tier.{Tier}
 use Rattle.tier_device.specs.declared.media.Tier.TheVariants as tiers
-use Rattle.area_reader.specs.Store.{disk}
-use Rattle.inode_plan.specs.RunPlaces.{is_faster}
+use Rattle.shared_area.specs.area_reader.Store.{disk}
+use Rattle.shared_area.specs.inode_plan.RunPlaces.{is_faster}
 use Rattle.migrator.proofs.Movable.{pick_may_be_moved}
 use Rattle.migrator.proofs.run_choice.pick.Goals as goal
 

@@ -1,8 +1,8 @@
 use Rattle.std.proofs.Common.{◌+◌, ◌∙◌, Option, sym, subst}
-use Rattle.layout.specs.Places.{Sizes}
-use Rattle.area_reader.specs.Store.{Store, disk}
-use Rattle.area_reader.specs.Looks.{call_answer}
-use Rattle.area_reader.proofs.Looked.{carried, carried_back, looks_on, looks_none, looks_answer}
+use Rattle.shared_area.specs.layout.Places.{Sizes}
+use Rattle.shared_area.specs.area_reader.Store.{Store, disk}
+use Rattle.shared_area.specs.area_reader.Looks.{call_answer}
+use Rattle.shared_area.proofs.area_reader_lemmas.Looked.{carried, carried_back, looks_on, looks_none, looks_answer}
 use Rattle.migrator.specs.declared.run_choice.FileRun.{FileRun}
 use Rattle.migrator.specs.RunChoice.{IsBestBelow, IsPickedIn}
 use Rattle.migrator.proofs.Best.{best_none, best_of_all}

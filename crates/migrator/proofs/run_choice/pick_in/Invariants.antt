@@ -1,5 +1,5 @@
-use Rattle.area_reader.specs.Store.{disk}
-use Rattle.area_reader.specs.Looks.{Looks, call_answer}
+use Rattle.shared_area.specs.area_reader.Store.{disk}
+use Rattle.shared_area.specs.area_reader.Looks.{Looks, call_answer}
 use Rattle.migrator.specs.RunChoice.{IsBestBelow}
 use Rattle.migrator.proofs.run_choice.pick_in.Given as goal
 

@@ -1,5 +1,5 @@
 use Rattle.std.proofs.Common.{◌≡◌, drop}
-use Rattle.file_graph.specs.Graph.{touches, is_among}
+use Rattle.call_effects.specs.file_graph.Graph.{touches, is_among}
 use Rattle.record_validation.proofs.costs.are_on.Given as goal
 
 abbrev pub invariant-loop-effect : goal.invariant-loop-effect

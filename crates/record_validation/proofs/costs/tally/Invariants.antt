@@ -1,6 +1,6 @@
 use Rattle.std.proofs.Common.{◌≡◌, ◌≤◌, ◌+◌, ◌*◌, ◌&&◌, drop}
 use Rattle.std.specs.List.{list_all}
-use Rattle.file_graph.specs.Graph.{touches}
+use Rattle.call_effects.specs.file_graph.Graph.{touches}
 use Rattle.record_validation.specs.Good.{keeps}
 use Rattle.record_validation.specs.KnownNodes.{first_unknown, known_at}
 use Rattle.record_validation.specs.Rises.{sum_distinct, view_cost, view_cost_after, view_rise}

@@ -1,6 +1,6 @@
 use Rattle.std.proofs.Common.{ap, sym, ◌∙◌, ◌+◌}
-use Rattle.file_graph.specs.Units.{charge}
-use Rattle.file_graph.specs.Graph.{after_effects}
+use Rattle.call_effects.specs.file_graph.Units.{charge}
+use Rattle.call_effects.specs.file_graph.Graph.{after_effects}
 use Rattle.record_validation.proofs.Touched.{growth_known, charge_known}
 use Rattle.record_validation.proofs.costs.tally_record.Goals as goal
 

@@ -1,4 +1,4 @@
-use Rattle.shared_area.specs.AreaOpen.{SpellsNone, IsMediumDamage}
+use Rattle.interleavings.specs.shared_area.AreaOpen.{SpellsNone, IsMediumDamage}
 use Rattle.area_recovery.proofs.Faults.{of_area, no_damage, of_fault, of_memory, of_other, of_reader, on_damage}
 use Rattle.area_recovery.proofs.Staying.{opened_stays, opened_volume}
 use Rattle.recovery.proofs.area_open.open_area.Goals as goal

@@ -1,16 +1,16 @@
 use Rattle.std.proofs.Common.{ap, sym, subst, ◌∙◌, inl, inr}
 use Rattle.std.proofs.lemmas.Bool.{false≢true}
-use Rattle.event_steps.specs.View.{SystemView}
-use Rattle.area_reader.specs.Looks.{call_answer}
-use Rattle.area_reader.specs.Refusals.{IsReadRefusal}
-use Rattle.shared_area.specs.Parts.{IsNoDamage}
-use Rattle.batch_journal.specs.View.{JournalView}
-use Rattle.layout.specs.declared.marks.Marks.{Marks}
-use Rattle.system_laws.specs.Idle.{IsIdleSystem}
-use Rattle.system_laws.specs.Parts.{medium_of}
-use Rattle.call_effects.specs.ClosedGraph.{nobody}
-use Rattle.call_effects.specs.Wholes.{state_of}
-use Rattle.file_graph.specs.Graph.{Graph}
+use Rattle.interleavings.specs.event_steps.View.{SystemView}
+use Rattle.interleavings.specs.area_reader.Looks.{call_answer}
+use Rattle.interleavings.specs.area_reader.Refusals.{IsReadRefusal}
+use Rattle.interleavings.specs.shared_area.Parts.{IsNoDamage}
+use Rattle.interleavings.specs.batch_journal.View.{JournalView}
+use Rattle.interleavings.specs.layout.declared.marks.Marks.{Marks}
+use Rattle.interleavings.specs.system_laws.Idle.{IsIdleSystem}
+use Rattle.interleavings.specs.system_laws.Parts.{medium_of}
+use Rattle.interleavings.specs.call_effects.ClosedGraph.{nobody}
+use Rattle.interleavings.specs.call_effects.Wholes.{state_of}
+use Rattle.interleavings.specs.file_graph.Graph.{Graph}
 use Rattle.area_recovery.specs.Parts.{part_medium}
 use Rattle.area_recovery.specs.PartMedia.{AreUntouched, media_beneath}
 use Rattle.area_recovery.specs.Regions.{media_of}

@@ -1,7 +1,7 @@
 use Rattle.std.proofs.Common.{ap, ◌∙◌, arith}
 use Rattle.std.proofs.lemmas.List.{get_or-replicate}
-use Rattle.lease_manager.specs.Passes.{PassView, records_of}
-use Rattle.lease_manager.specs.Words.{lease_place}
+use Rattle.interleavings.specs.lease_manager.Passes.{PassView, records_of}
+use Rattle.interleavings.specs.lease_manager.Words.{lease_place}
 use Rattle.recovery.proofs.assembly.open_client.Goals as goal
 
 pub open-requires-clause-uncounted : goal.open-requires-clause-uncounted

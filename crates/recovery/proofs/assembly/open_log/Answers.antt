@@ -1,5 +1,5 @@
 use Rattle.std.proofs.Common.{inl, inr}
-use Rattle.client_log.specs.Regions.{AreWiped}
+use Rattle.interleavings.specs.client_log.Regions.{AreWiped}
 use Rattle.tier_device.specs.declared.media.Tier.TheVariants.{Fast}
 use Rattle.recovery.proofs.OpenedLogs.{both_wiped, opened_blank}
 use Rattle.recovery.proofs.assembly.open_log.Goals as goal

@@ -1,6 +1,6 @@
 use Rattle.std.proofs.Common.{Some, ap, ◌∙◌}
-use Rattle.client_log.specs.Regions.{in_turn}
-use Rattle.client_log.specs.View.{LogView}
+use Rattle.interleavings.specs.client_log.Regions.{in_turn}
+use Rattle.interleavings.specs.client_log.View.{LogView}
 use Rattle.recovery.proofs.OpenedLogs.{even_back, odd_back, odd_there, opened_seat}
 use Rattle.recovery.proofs.assembly.open_seat.Goals as goal
 

@@ -3,8 +3,8 @@ use Rattle.std.specs.Prelude.{slice_index_or}
 use Rattle.std.specs.List.{All}
 use Rattle.std.proofs.lemmas.List.Elements.{All-replicate}
 use Rattle.atomic_table.specs.Seated.{TableId}
-use Rattle.event_steps.specs.View.{SeatView}
-use Rattle.lease_manager.specs.Passes.{PassView, fresh}
+use Rattle.interleavings.specs.event_steps.View.{SeatView}
+use Rattle.interleavings.specs.lease_manager.Passes.{PassView, fresh}
 use Rattle.recovery.specs.Assembly.{AreFresh, SeatsLast}
 use Rattle.area_recovery.specs.Silent.{IsWiped, wiped_name}
 use Rattle.recovery.proofs.OpenedSeats.{AreSeating, all_back, all_but_last, all_fresh, all_seated, any_refusal, begins, front_is_fresh, goes_on, last_is_fresh, last_wiped, none_left, some_rose, unread}

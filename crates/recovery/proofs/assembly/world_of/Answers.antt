@@ -1,7 +1,7 @@
 use Rattle.std.proofs.Common.{subst, sym}
-use Rattle.event_steps.specs.View.{SystemView}
-use Rattle.system_laws.specs.KeptCalls.{no_calls}
-use Rattle.system_laws.specs.Relation.{IsWorld}
+use Rattle.interleavings.specs.event_steps.View.{SystemView}
+use Rattle.interleavings.specs.system_laws.KeptCalls.{no_calls}
+use Rattle.interleavings.specs.system_laws.Relation.{IsWorld}
 use Rattle.recovery.proofs.IdleWorlds.{same_system}
 use Rattle.recovery.proofs.assembly.world_of.Goals as goal
 

@@ -1,7 +1,7 @@
 use Rattle.std.proofs.Common.{ap, ◌∙◌}
 use Rattle.std.specs.Prelude.{length}
 use Rattle.std.proofs.lemmas.List.{length-map}
-use Rattle.update_log.specs.View.{RegionView}
+use Rattle.interleavings.specs.update_log.View.{RegionView}
 use Rattle.recovery.proofs.SystemParts.{back_of_none}
 use Rattle.recovery.proofs.disassembly.parts_of.Goals as goal
 

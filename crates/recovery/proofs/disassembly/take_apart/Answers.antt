@@ -1,9 +1,9 @@
 use Rattle.std.proofs.Common.{◌++◌, List, length, ap, ◌∙◌}
-use Rattle.event_steps.specs.View.{SeatView, SystemView}
-use Rattle.kernel_fs.specs.KernelView.{KernelView}
-use Rattle.batch_journal.specs.View.{JournalView}
-use Rattle.update_log.specs.View.{RegionView}
-use Rattle.system_laws.specs.Parts.{medium_of}
+use Rattle.interleavings.specs.event_steps.View.{SeatView, SystemView}
+use Rattle.interleavings.specs.kernel_fs.KernelView.{KernelView}
+use Rattle.interleavings.specs.batch_journal.View.{JournalView}
+use Rattle.interleavings.specs.update_log.View.{RegionView}
+use Rattle.interleavings.specs.system_laws.Parts.{medium_of}
 use Rattle.area_recovery.specs.Parts.{PartsView}
 use Rattle.area_recovery.specs.PartMedia.{regions_of_seats}
 use Rattle.area_recovery.specs.Regions.{media_of}

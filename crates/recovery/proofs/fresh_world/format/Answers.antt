@@ -1,6 +1,6 @@
 use Rattle.std.proofs.Common.{◌≡◌, sym, subst, arith}
 use Rattle.std.proofs.lemmas.Result.{IfErr-weaker, IfOk-weaker}
-use Rattle.system_laws.specs.Parts.{medium_of}
+use Rattle.interleavings.specs.system_laws.Parts.{medium_of}
 use Rattle.area_recovery.specs.declared.error.RecoveryError.TheVariants.{DeviceFault}
 use Rattle.recovery.specs.FreshContents.{AreFreshRegions, AreLater}
 use Rattle.area_recovery.specs.Parts.{PartsView, part_medium}

@@ -1,18 +1,18 @@
 use Rattle.std.proofs.Common.{◌≡◌, ◌<◌, ℕ, Some, ap, sym, ◌∙◌, subst, arith}
 use Rattle.std.specs.List.{AllByRecursion}
 use Rattle.std.proofs.lemmas.Result.{IfErr-weaker, IfOk-weaker}
-use Rattle.call_effects.proofs.Fresh.{fresh_state}
-use Rattle.shared_area.specs.AreaOpen.{SpellsNone}
-use Rattle.recovery_laws.specs.Fresh.{no_marks}
-use Rattle.area_reader.specs.Store.{disk, graph, marks}
-use Rattle.layout.specs.declared.marks.Marks.{Marks}
-use Rattle.update_log.specs.View.{HasSize}
-use Rattle.system_laws.specs.Idle.{IsIdleSystem}
-use Rattle.system_laws.specs.Parts.{medium_of}
-use Rattle.system_laws.specs.WorldTree.{world_tree}
-use Rattle.event_lists.specs.Courses.{PARTS}
-use Rattle.call_effects.specs.ClosedGraph.{nobody}
-use Rattle.call_effects.specs.Wholes.{state_of}
+use Rattle.interleavings.proofs.call_effects_lemmas.Fresh.{fresh_state}
+use Rattle.interleavings.specs.shared_area.AreaOpen.{SpellsNone}
+use Rattle.area_recovery.specs.recovery_laws.Fresh.{no_marks}
+use Rattle.interleavings.specs.area_reader.Store.{disk, graph, marks}
+use Rattle.interleavings.specs.layout.declared.marks.Marks.{Marks}
+use Rattle.interleavings.specs.update_log.View.{HasSize}
+use Rattle.interleavings.specs.system_laws.Idle.{IsIdleSystem}
+use Rattle.interleavings.specs.system_laws.Parts.{medium_of}
+use Rattle.interleavings.specs.system_laws.WorldTree.{world_tree}
+use Rattle.interleavings.specs.event_lists.Courses.{PARTS}
+use Rattle.interleavings.specs.call_effects.ClosedGraph.{nobody}
+use Rattle.interleavings.specs.call_effects.Wholes.{state_of}
 use Rattle.posix_calls.specs.EmptyTree.{empty_state}
 use Rattle.area_recovery.specs.declared.error.RecoveryError.TheVariants.{DeviceFault}
 use Rattle.recovery.specs.FreshContents.{AreLater, HoldsContent, IsLater, fresh_contents}

@@ -1,5 +1,5 @@
 use Rattle.std.proofs.Common.{arith}
-use Rattle.recovery_laws.specs.Fresh.{fresh_tiers}
+use Rattle.area_recovery.specs.recovery_laws.Fresh.{fresh_tiers}
 use Rattle.tier_device.specs.declared.media.Tier.TheVariants.{Fast}
 use Rattle.recovery.proofs.FreshTiers.{holds_with}
 use Rattle.recovery.proofs.fresh_writes.write_area.Goals as goal

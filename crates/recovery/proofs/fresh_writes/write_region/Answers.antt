@@ -1,7 +1,7 @@
 use Rattle.std.proofs.Common.{ap, sym, subst, ◌∙◌, length}
 use Rattle.std.proofs.lemmas.Result.{on_ok_weaker}
-use Rattle.recovery_laws.proofs.Regions.{region_long}
-use Rattle.recovery_laws.specs.Fresh.{fresh_region}
+use Rattle.area_recovery.proofs.recovery_laws_lemmas.Regions.{region_long}
+use Rattle.area_recovery.specs.recovery_laws.Fresh.{fresh_region}
 use Rattle.tier_device.specs.declared.media.Tier.TheVariants.{Fast}
 use Rattle.recovery.specs.FreshContents.{TierHolds}
 use Rattle.recovery.proofs.FreshTiers.{region_holds}

@@ -2,7 +2,7 @@ use Rattle.std.proofs.Common.{◌<◌, ◌%◌, ◌∙◌, length, arith}
 use Rattle.std.proofs.lemmas.List.{length-set}
 use Rattle.std.proofs.lemmas.Option.{slice_get_within}
 use Rattle.std.proofs.lemmas.Result.{err_from_is_err_and}
-use Rattle.recovery_laws.specs.Fresh.{fresh_region}
+use Rattle.area_recovery.specs.recovery_laws.Fresh.{fresh_region}
 use Rattle.tier_device.specs.Media.{Rose}
 use Rattle.recovery.specs.FreshContents.{HoldsContent, IsLater}
 use Rattle.area_recovery.specs.Recovers.{region_content}

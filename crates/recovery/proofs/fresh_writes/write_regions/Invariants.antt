@@ -1,6 +1,6 @@
 use Rattle.std.proofs.Common.{◌≡◌, ◌≤◌, ◌<◌, ◌%◌, ℕ, length}
 use Rattle.std.specs.Prelude.{slice_get, Some}
-use Rattle.recovery_laws.specs.Fresh.{fresh_region}
+use Rattle.area_recovery.specs.recovery_laws.Fresh.{fresh_region}
 use Rattle.recovery.specs.FreshContents.{HoldsContent, IsLater}
 use Rattle.area_recovery.specs.Recovers.{region_content}
 use Rattle.recovery.proofs.fresh_writes.write_regions.Given as goal

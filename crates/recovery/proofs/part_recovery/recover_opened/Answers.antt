@@ -1,14 +1,14 @@
 use Rattle.std.proofs.Common.{rules, ◌≡◌, ℕ, ◌/◌, List, ◌++◌, length, ap, sym, ◌∙◌, subst}
 use Rattle.std.specs.Prelude.{drop, slice_get, slice_index, take, Some}
-use Rattle.update_log.specs.View.{RegionView}
+use Rattle.interleavings.specs.update_log.View.{RegionView}
 use Rattle.recovery.specs.Assembly.{AreReadyRegions}
-use Rattle.area_reader.specs.Store.{disk}
-use Rattle.system_laws.specs.Contents.{log_in}
+use Rattle.interleavings.specs.area_reader.Store.{disk}
+use Rattle.interleavings.specs.system_laws.Contents.{log_in}
 use Rattle.area_recovery.specs.Parts.{PartsView, contents_of, part_medium}
 use Rattle.area_recovery.specs.PartMedia.{AreUntouched, SomeRose, media_beneath}
 use Rattle.area_recovery.specs.RecoveryStops.{AreGivenBack}
 use Rattle.area_recovery.specs.Regions.{HaveRisen, IsOnlyRead, media_of}
-use Rattle.system_laws.specs.Parts.{medium_of}
+use Rattle.interleavings.specs.system_laws.Parts.{medium_of}
 use Rattle.area_recovery.specs.Settlement.{RefusesArea, SettlesArea}
 use Rattle.area_recovery.specs.Silent.{MayBeWiped, StaysSilent}
 use Rattle.recovery.proofs.RecoveredWorlds.{area_ready, assembled_back, recovered_world, regions_ready, settled_back, settled_cause, wiped_back}

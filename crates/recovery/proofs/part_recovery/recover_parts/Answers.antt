@@ -1,6 +1,6 @@
 use Rattle.std.proofs.Common.{◌≡◌, inl, inr, ℕ, suc, ◌<◌, ◌≤◌, sym, ◌∙◌, subst, arith}
-use Rattle.system_laws.specs.Contents.{log_in, regions_in, stored_state}
-use Rattle.event_lists.specs.Courses.{PARTS}
+use Rattle.interleavings.specs.system_laws.Contents.{log_in, regions_in, stored_state}
+use Rattle.interleavings.specs.event_lists.Courses.{PARTS}
 use Rattle.area_recovery.specs.Parts.{AreAtRest, PartsView, contents_of, part_medium}
 use Rattle.area_recovery.specs.PartMedia.{media_beneath}
 use Rattle.area_recovery.specs.RecoveryStops.{AreGivenBack, IsRecoveredWorld}
@@ -11,7 +11,7 @@ use Rattle.recovery.proofs.OpenedParts.{all_given, all_reopened, all_same, denie
 use Rattle.area_recovery.proofs.RegionMedia.{zip_length}
 use Rattle.area_recovery.proofs.SettlementPhases.{of_err, of_ok}
 use Rattle.area_recovery.proofs.WholeContents.{whole_recovers}
-use Rattle.area_reader.specs.Store.{Store, store_of}
+use Rattle.interleavings.specs.area_reader.Store.{Store, store_of}
 use Rattle.area_recovery.specs.Refusals.{HaveRegionSizes, IsCause, IsStoredCause}
 use Rattle.area_recovery.proofs.RefusalCauses.{cause_same, denied_cause, on_each, opened_cause, opened_sizes, stored_cause}
 use Rattle.recovery.proofs.part_recovery.recover_parts.Goals as goal

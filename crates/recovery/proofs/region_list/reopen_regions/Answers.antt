@@ -1,5 +1,5 @@
 use Rattle.std.proofs.Common.{◌∙◌, ◌++◌, ap, map}
-use Rattle.update_log.proofs.DeviceCalls.{on_err}
+use Rattle.interleavings.proofs.update_log_lemmas.DeviceCalls.{on_err}
 use Rattle.recovery.proofs.OpenedLists.{all_back, all_stay, some_rose, still_rest, wrong_size}
 use Rattle.recovery.proofs.region_list.reopen_regions.Goals as goal
 

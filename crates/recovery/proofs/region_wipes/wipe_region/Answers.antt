@@ -1,6 +1,6 @@
 use Rattle.std.proofs.Common.{rules, ◌≡◌, ◌<◌, sym, subst}
 use Rattle.tier_device.specs.declared.media.Tier.TheVariants.{Fast}
-use Rattle.update_log.specs.declared.stage.WipeProgress.TheVariants.{Going}
+use Rattle.interleavings.specs.update_log.declared.stage.WipeProgress.TheVariants.{Going}
 use Rattle.area_recovery.specs.Silent.{GoesOn, calls_ahead}
 use Rattle.area_recovery.proofs.WipedRegions.{begins_wipe, fewer, idle_not_wiping, silent_through}
 use Rattle.recovery.proofs.region_wipes.wipe_region.Goals as goal

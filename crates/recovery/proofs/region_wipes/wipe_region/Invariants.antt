@@ -1,5 +1,5 @@
 use Rattle.std.proofs.Common.{◌≡◌, ℕ, List}
-use Rattle.update_log.specs.Moments.{PastStays}
+use Rattle.interleavings.specs.update_log.Moments.{PastStays}
 use Rattle.area_recovery.specs.Silent.{GoesOn, IsSilent, LeftOfRegion, calls_ahead}
 use Rattle.recovery.proofs.region_wipes.wipe_region.Given as goal
 

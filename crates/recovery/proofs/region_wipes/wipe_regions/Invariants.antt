@@ -1,6 +1,6 @@
 use Rattle.std.proofs.Common.{◌≡◌, ◌≤◌, ◌<◌, ◌/◌, ◌%◌, ℕ, length}
 use Rattle.std.specs.Prelude.{slice_get, slice_index, Some}
-use Rattle.update_log.specs.View.{RegionView}
+use Rattle.interleavings.specs.update_log.View.{RegionView}
 use Rattle.area_recovery.specs.Silent.{IsWiped, StaysSilent, wiped_name}
 use Rattle.recovery.proofs.region_wipes.wipe_regions.Given as goal
 

@@ -2,7 +2,7 @@ use Rattle.std.proofs.Common.{◌≡◌, ◌≢◌, inl, inr, refl, ap, sym, sub
 use Rattle.std.specs.Prelude.{slice_get}
 use Rattle.std.proofs.lemmas.Bool.{cases_eq}
 use Rattle.std.proofs.lemmas.Option.{get_or_from_slice_get, slice_get_within}
-use Rattle.update_log.specs.View.{HasSize}
+use Rattle.interleavings.specs.update_log.View.{HasSize}
 use Rattle.recovery.proofs.ChangedRows.{all_from_places}
 use Rattle.recovery.proofs.size_check.check_sizes.Goals as goal
 

@@ -1,6 +1,6 @@
 use Rattle.std.proofs.Common.{◌≡◌, ◌<◌, ℕ}
 use Rattle.std.specs.Prelude.{slice_get, Some}
-use Rattle.update_log.specs.View.{HasSize}
+use Rattle.interleavings.specs.update_log.View.{HasSize}
 use Rattle.recovery.proofs.size_check.check_sizes.Given as goal
 
 abbrev pub invariant-loop-place : goal.invariant-loop-place

@@ -1,10 +1,10 @@
 use Rattle.std.proofs.Common.{◌≡◌, ◌≤◌, ◌+◌, inl, inr, ℕ, List, [], length, ap, subst, arith}
 use Rattle.std.specs.Prelude.{IsSome}
 use Rattle.std.proofs.lemmas.Bool.{false≢true}
-use Rattle.layout.specs.declared.slot.Slot.{Slot}
-use Rattle.batch_journal.specs.Images.{image_for}
-use Rattle.area_reader.specs.declared.tiers.InodeExtents.{InodeExtents}
-use Rattle.area_commit.specs.Lists.{PutsLists}
+use Rattle.inode_plan.specs.layout.declared.slot.Slot.{Slot}
+use Rattle.inode_plan.specs.batch_journal.Images.{image_for}
+use Rattle.inode_plan.specs.area_reader.declared.tiers.InodeExtents.{InodeExtents}
+use Rattle.inode_plan.specs.area_commit.Lists.{PutsLists}
 use Rattle.relocation.specs.MovedFile.{HasImages}
 use Rattle.relocation.proofs.images.images_of.Goals as goal
 

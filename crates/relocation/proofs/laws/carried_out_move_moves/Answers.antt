@@ -1,11 +1,11 @@
 use Rattle.std.proofs.Common.{◌≡◌, ◌≤◌, ℕ, true, sym, subst}
-use Rattle.file_graph.specs.Graph.{Graph}
-use Rattle.file_graph.specs.Units.{charge}
-use Rattle.layout.specs.declared.slot.Slot.{Slot}
-use Rattle.extent_tree.specs.Map.{TierRuns}
-use Rattle.area_reader.proofs.Parts.{slot_as}
-use Rattle.area_commit.specs.InodeMove.{StaysInode}
-use Rattle.area_commit.specs.Plan.{is_changed}
+use Rattle.inode_plan.specs.file_graph.Graph.{Graph}
+use Rattle.inode_plan.specs.file_graph.Units.{charge}
+use Rattle.inode_plan.specs.layout.declared.slot.Slot.{Slot}
+use Rattle.inode_plan.specs.extent_tree.Map.{TierRuns}
+use Rattle.inode_plan.proofs.area_reader_lemmas.Parts.{slot_as}
+use Rattle.inode_plan.specs.area_commit.InodeMove.{StaysInode}
+use Rattle.inode_plan.specs.area_commit.Plan.{is_changed}
 use Rattle.relocation.proofs.Fitting.{is_fit}
 use Rattle.relocation.proofs.Using.{changed_is, changed_here}
 use Rattle.relocation.proofs.Storing.{is_planned, written_moved, run_lies_lowest, area_moved}

@@ -1,7 +1,7 @@
 use Rattle.std.proofs.Common.{ap, length, refl, arith}
-use Rattle.layout.specs.Places.{tier_blocks, data_first}
-use Rattle.area_reader.proofs.Shown.{slot_limits}
-use Rattle.area_commit.specs.Allocations.{runs_of}
+use Rattle.inode_plan.specs.layout.Places.{tier_blocks, data_first}
+use Rattle.inode_plan.proofs.area_reader_lemmas.Shown.{slot_limits}
+use Rattle.inode_plan.specs.area_commit.Allocations.{runs_of}
 use Rattle.relocation.proofs.Fresh.{ends_below}
 use Rattle.relocation.proofs.Planned.{tier_fits, is_move_plan}
 use Rattle.relocation.proofs.move_plan.plan_move.Goals as goal

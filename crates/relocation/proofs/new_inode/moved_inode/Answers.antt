@@ -2,11 +2,11 @@ use Rattle.std.proofs.Common.{◌≤◌, ℕ, [], length, Option, Some, None, sy
 use Rattle.std.specs.Prelude.{IfSome, is_some}
 use Rattle.std.proofs.lemmas.Grind.{common_steps}
 use Rattle.tier_device.specs.declared.media.Tier.{Tier}
-use Rattle.layout.specs.Extents.{ExtentList}
+use Rattle.inode_plan.specs.layout.Extents.{ExtentList}
 use Rattle.block_alloc.specs.Runs.{blocks_of}
-use Rattle.extent_tree.specs.Map.{TierRuns, runs_in, LieBelow}
-use Rattle.area_reader.specs.Map.{in_tier}
-use Rattle.area_commit.specs.Allocations.{runs_of}
+use Rattle.inode_plan.specs.extent_tree.Map.{TierRuns, runs_in, LieBelow}
+use Rattle.inode_plan.specs.area_reader.Map.{in_tier}
+use Rattle.inode_plan.specs.area_commit.Allocations.{runs_of}
 use Rattle.inode_plan.specs.Lists.{IsListOf, HasRoots, SpareFits}
 use Rattle.inode_plan.specs.RunPlaces.{ArePlaced}
 use Rattle.inode_plan.proofs.PlacesFit.{placed_below}

@@ -1,10 +1,10 @@
 use Rattle.std.proofs.Common.{refl, length}
 use Rattle.std.proofs.lemmas.Result.{err_from_is_err_and}
-use Rattle.area_reader.specs.Store.{disk, root_of}
-use Rattle.area_commit.specs.Value.{data_pool}
-use Rattle.area_commit.proofs.Course.{Rests}
-use Rattle.area_commit.proofs.Returned.{same_free}
-use Rattle.area_reader.specs.declared.error.AreaError.TheVariants.{NoBlock}
+use Rattle.inode_plan.specs.area_reader.Store.{disk, root_of}
+use Rattle.inode_plan.specs.area_commit.Value.{data_pool}
+use Rattle.inode_plan.proofs.area_commit_lemmas.Course.{Rests}
+use Rattle.inode_plan.proofs.area_commit_lemmas.Returned.{same_free}
+use Rattle.inode_plan.specs.area_reader.declared.error.AreaError.TheVariants.{NoBlock}
 use Rattle.relocation.specs.MovedFile.{spare_count}
 use Rattle.relocation.proofs.Ending.{block_fault, block_memory, on_ok, err_with, forced_only, forced_change, still_self, ends_refused}
 use Rattle.relocation.proofs.Pooled.{room_still, enough, too_few, not_fault, settled_same}

@@ -1,11 +1,11 @@
 use Rattle.std.proofs.Common.{refl, sym, subst}
 use Rattle.std.specs.Prelude.{OnErr}
-use Rattle.layout.specs.Places.{IsAllowed}
-use Rattle.area_reader.specs.Store.{disk}
-use Rattle.area_commit.specs.declared.allocation.Allocation.{Allocation}
-use Rattle.area_commit.specs.Allocations.{CanRelease, WasReleased}
-use Rattle.area_commit.proofs.Course.{Rests}
-use Rattle.area_reader.specs.declared.error.AreaError.TheVariants.{Memory}
+use Rattle.inode_plan.specs.layout.Places.{IsAllowed}
+use Rattle.inode_plan.specs.area_reader.Store.{disk}
+use Rattle.inode_plan.specs.area_commit.declared.allocation.Allocation.{Allocation}
+use Rattle.inode_plan.specs.area_commit.Allocations.{CanRelease, WasReleased}
+use Rattle.inode_plan.proofs.area_commit_lemmas.Course.{Rests}
+use Rattle.inode_plan.specs.area_reader.declared.error.AreaError.TheVariants.{Memory}
 use Rattle.relocation.specs.RunMove.{IsSettled}
 use Rattle.relocation.proofs.Ending.{memory_fault, still_self, ends_refused}
 use Rattle.relocation.proofs.Pooled.{ready_for, settled_undone}

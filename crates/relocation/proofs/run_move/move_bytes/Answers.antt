@@ -1,9 +1,9 @@
 use Rattle.std.proofs.Common.{◌≤◌, ◌<◌, refl, subst, arith}
 use Rattle.std.specs.Prelude.{OnOk}
 use Rattle.std.proofs.lemmas.Result.{err_from_is_err_and}
-use Rattle.area_reader.proofs.Shown.{slot_limits}
-use Rattle.area_commit.proofs.Course.{Rests}
-use Rattle.area_reader.specs.declared.error.AreaError.TheVariants.{NoBlock, Memory}
+use Rattle.inode_plan.proofs.area_reader_lemmas.Shown.{slot_limits}
+use Rattle.inode_plan.proofs.area_commit_lemmas.Course.{Rests}
+use Rattle.inode_plan.specs.area_reader.declared.error.AreaError.TheVariants.{NoBlock, Memory}
 use Rattle.relocation.proofs.Ending.{err_same, memory_fault, memory_block, err_with, still_self, ends_refused}
 use Rattle.relocation.proofs.Pooled.{settled_same, same_then, same_count}
 use Rattle.relocation.proofs.run_move.move_bytes.Goals as goal

@@ -1,13 +1,13 @@
 use Rattle.std.proofs.Common.{◌<◌, ◌+◌, ℕ, refl, sym, subst, arith}
 use Rattle.std.specs.Prelude.{IsSome, Err}
 use Rattle.std.proofs.lemmas.Result.{err_from_is_err_and}
-use Rattle.area_reader.specs.Store.{logical_block}
-use Rattle.area_reader.proofs.Looked.{carried}
-use Rattle.area_reader.proofs.Shown.{slot_limits}
-use Rattle.area_commit.proofs.Course.{Rests}
+use Rattle.inode_plan.specs.area_reader.Store.{logical_block}
+use Rattle.inode_plan.proofs.area_reader_lemmas.Looked.{carried}
+use Rattle.inode_plan.proofs.area_reader_lemmas.Shown.{slot_limits}
+use Rattle.inode_plan.proofs.area_commit_lemmas.Course.{Rests}
 use Rattle.relocation.specs.MovableFile.{IsMovableRun}
 use Rattle.inode_plan.specs.Lists.{HoldsRun}
-use Rattle.area_reader.specs.declared.error.AreaError.TheVariants.{NoBlock}
+use Rattle.inode_plan.specs.area_reader.declared.error.AreaError.TheVariants.{NoBlock}
 use Rattle.inode_plan.proofs.Steps.{inside}
 use Rattle.relocation.proofs.Ending.{block_fault, block_memory, forced_only, forced_change, settled_still, still_self, ends_refused, ends_told, ends_on}
 use Rattle.relocation.proofs.Pooled.{same_self}

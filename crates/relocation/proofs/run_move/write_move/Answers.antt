@@ -1,12 +1,12 @@
 use Rattle.std.proofs.Common.{ℕ, sym, ap, subst}
 use Rattle.std.specs.Prelude.{Err}
 use Rattle.std.proofs.lemmas.Result.{err_from_is_err_and}
-use Rattle.layout.specs.declared.slot.Slot.{Slot}
-use Rattle.layout.specs.Places.{Sizes, IsAllowed}
-use Rattle.extent_tree.specs.Map.{TierRuns}
-use Rattle.area_reader.specs.Store.{Store, disk}
-use Rattle.area_commit.specs.PlanOutcome.{IsCarriedOut}
-use Rattle.area_commit.proofs.Course.{Rests}
+use Rattle.inode_plan.specs.layout.declared.slot.Slot.{Slot}
+use Rattle.inode_plan.specs.layout.Places.{Sizes, IsAllowed}
+use Rattle.inode_plan.specs.extent_tree.Map.{TierRuns}
+use Rattle.inode_plan.specs.area_reader.Store.{Store, disk}
+use Rattle.inode_plan.specs.area_commit.PlanOutcome.{IsCarriedOut}
+use Rattle.inode_plan.proofs.area_commit_lemmas.Course.{Rests}
 use Rattle.relocation.specs.RunMove.{IsSettled, IsMovedStore}
 use Rattle.relocation.proofs.Ending.{moved_for, ends_done, ends_undone}
 use Rattle.relocation.proofs.Planned.{plan_calls}

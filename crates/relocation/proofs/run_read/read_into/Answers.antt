@@ -2,10 +2,10 @@ use Rattle.std.proofs.Common.{◌≡◌, ◌≤◌, ◌+◌, ◌-◌, ◌*◌, �
 use Rattle.std.proofs.lemmas.List.{drop-drop, append_assoc}
 use Rattle.tier_device.specs.Media.{overwritten}
 use Rattle.tier_device.specs.RecordLaws.{torn_overwritten}
-use Rattle.area_reader.specs.Store.{disk, logical_block}
-use Rattle.area_reader.specs.Looks.{call_answer}
-use Rattle.area_reader.specs.Checks.{IsOnce}
-use Rattle.area_reader.proofs.Looked.{carried, carried_back, looks_on}
+use Rattle.inode_plan.specs.area_reader.Store.{disk, logical_block}
+use Rattle.inode_plan.specs.area_reader.Looks.{call_answer}
+use Rattle.inode_plan.specs.area_reader.Checks.{IsOnce}
+use Rattle.inode_plan.proofs.area_reader_lemmas.Looked.{carried, carried_back, looks_on}
 use Rattle.inode_plan.specs.Lists.{LieAsIn, HoldsRun}
 use Rattle.relocation.proofs.ListRuns.{holds_more}
 use Rattle.relocation.proofs.run_read.read_into.Goals as goal

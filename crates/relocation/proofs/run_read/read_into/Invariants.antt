@@ -1,6 +1,6 @@
 use Rattle.std.proofs.Common.{◌≡◌, length}
-use Rattle.area_reader.specs.Store.{disk, logical_block}
-use Rattle.area_reader.specs.Looks.{Looks, call_answer}
+use Rattle.inode_plan.specs.area_reader.Store.{disk, logical_block}
+use Rattle.inode_plan.specs.area_reader.Looks.{Looks, call_answer}
 use Rattle.inode_plan.specs.Lists.{HoldsRun}
 use Rattle.relocation.proofs.run_read.read_into.Given as goal
 

@@ -1,9 +1,9 @@
 use Rattle.std.proofs.Common.{◌≡◌, ◌∙◌, Some, sym}
 use Rattle.std.proofs.lemmas.Result.{on_ok_weaker}
-use Rattle.area_reader.specs.Store.{Store, disk, place}
-use Rattle.area_reader.proofs.Damages.{logical_is}
-use Rattle.area_reader.proofs.Lists.{place_placed}
-use Rattle.area_reader.proofs.Twins.{room_home}
+use Rattle.inode_plan.specs.area_reader.Store.{Store, disk, place}
+use Rattle.inode_plan.proofs.area_reader_lemmas.Damages.{logical_is}
+use Rattle.inode_plan.proofs.area_reader_lemmas.Lists.{place_placed}
+use Rattle.inode_plan.proofs.area_reader_lemmas.Twins.{room_home}
 use Rattle.relocation.proofs.run_read.read_logical.Goals as goal
 
 pub read_block-requires-clause-inside : goal.read_block-requires-clause-inside

@@ -3,21 +3,21 @@ use Rattle.std.specs.Prelude.{IsSome}
 use Rattle.std.proofs.lemmas.Bool.{cases_lt, false≢true}
 use Rattle.std.proofs.lemmas.Result.{err_from_is_err_and}
 use Rattle.tier_device.specs.declared.media.Tier.{Tier}
-use Rattle.layout.specs.Places.{Sizes}
-use Rattle.layout.specs.declared.slot.Slot.{Slot}
-use Rattle.extent_tree.specs.Map.{TierRuns, lies_at, LieOnce}
-use Rattle.tree_blocks.specs.Inode.{inode_of}
+use Rattle.inode_plan.specs.layout.Places.{Sizes}
+use Rattle.inode_plan.specs.layout.declared.slot.Slot.{Slot}
+use Rattle.inode_plan.specs.extent_tree.Map.{TierRuns, lies_at, LieOnce}
+use Rattle.inode_plan.specs.tree_blocks.Inode.{inode_of}
 use Rattle.tier_device.specs.declared.media.Tier.TheVariants as tiers
-use Rattle.area_reader.specs.declared.error.AreaError.{AreaError}
-use Rattle.area_reader.specs.declared.error.AreaError.TheVariants as errors
-use Rattle.area_reader.specs.Damage.{OnDamage}
-use Rattle.area_reader.specs.Map.{HasNoExtents}
-use Rattle.area_reader.specs.Store.{extents_read, extents_by, Store, disk, slot_read, logical_block, length_of}
-use Rattle.area_reader.specs.Format.{SpellsInode}
-use Rattle.area_reader.proofs.Apart.{place_once}
-use Rattle.area_reader.proofs.Parts.{slot_as}
-use Rattle.area_reader.proofs.Shown.{slot_limits}
-use Rattle.area_reader.proofs.Tails.{place_past}
+use Rattle.inode_plan.specs.area_reader.declared.error.AreaError.{AreaError}
+use Rattle.inode_plan.specs.area_reader.declared.error.AreaError.TheVariants as errors
+use Rattle.inode_plan.specs.area_reader.Damage.{OnDamage}
+use Rattle.inode_plan.specs.area_reader.Map.{HasNoExtents}
+use Rattle.inode_plan.specs.area_reader.Store.{extents_read, extents_by, Store, disk, slot_read, logical_block, length_of}
+use Rattle.inode_plan.specs.area_reader.Format.{SpellsInode}
+use Rattle.inode_plan.proofs.area_reader_lemmas.Apart.{place_once}
+use Rattle.inode_plan.proofs.area_reader_lemmas.Parts.{slot_as}
+use Rattle.inode_plan.proofs.area_reader_lemmas.Shown.{slot_limits}
+use Rattle.inode_plan.proofs.area_reader_lemmas.Tails.{place_past}
 use Rattle.inode_plan.specs.Lists.{LieAsIn}
 use Rattle.relocation.specs.TierMove.{CanMove}
 use Rattle.inode_plan.specs.RunPlaces.{LieAbove}

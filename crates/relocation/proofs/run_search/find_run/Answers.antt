@@ -2,15 +2,15 @@ use Rattle.std.proofs.Common.{◌≡◌, ℕ, true, false, Some, None, sym, ap, 
 use Rattle.std.specs.Prelude.{IfSome, unwrap_or}
 use Rattle.std.proofs.lemmas.Bool.{cond-false}
 use Rattle.std.proofs.lemmas.Result.{IfOk-weaker, IfErr-weaker}
-use Rattle.layout.specs.Places.{Sizes, is_inode}
-use Rattle.layout.specs.Slot.{slot_of, fits_slot}
-use Rattle.layout.specs.declared.slot.Slot.{Slot}
-use Rattle.layout.specs.declared.slot.Slot.TheVariants as slots
-use Rattle.area_reader.specs.Store.{Store, disk, slot, slot_read, slot_bytes}
-use Rattle.area_reader.specs.Format.{IsOpenable}
-use Rattle.area_reader.proofs.Looked.{carried, carried_back, looks_on}
-use Rattle.area_reader.proofs.Parts.{slot_as}
-use Rattle.area_reader.proofs.Shown.{slot_limits}
+use Rattle.inode_plan.specs.layout.Places.{Sizes, is_inode}
+use Rattle.inode_plan.specs.layout.Slot.{slot_of, fits_slot}
+use Rattle.inode_plan.specs.layout.declared.slot.Slot.{Slot}
+use Rattle.inode_plan.specs.layout.declared.slot.Slot.TheVariants as slots
+use Rattle.inode_plan.specs.area_reader.Store.{Store, disk, slot, slot_read, slot_bytes}
+use Rattle.inode_plan.specs.area_reader.Format.{IsOpenable}
+use Rattle.inode_plan.proofs.area_reader_lemmas.Looked.{carried, carried_back, looks_on}
+use Rattle.inode_plan.proofs.area_reader_lemmas.Parts.{slot_as}
+use Rattle.inode_plan.proofs.area_reader_lemmas.Shown.{slot_limits}
 use Rattle.relocation.specs.MovableFile.{IsMovableRun, IsWithinFile}
 use Rattle.relocation.specs.TierMove.{CanMove}
 use Rattle.relocation.proofs.MovableRuns.{movable_within, no_file}

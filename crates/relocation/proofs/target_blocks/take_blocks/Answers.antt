@@ -2,7 +2,7 @@ use Rattle.std.proofs.Common.{◌≡◌, ◌<◌, ◌⊎◌, length, take, subst
 use Rattle.std.specs.Prelude.{IfOk, IsErrOf, ◌↔◌}
 use Rattle.block_alloc.specs.declared.error.AllocatorError.TheVariants.{NoBlock}
 use Rattle.block_alloc.specs.Runs.{blocks_of}
-use Rattle.area_commit.specs.Value.{data_pool}
+use Rattle.inode_plan.specs.area_commit.Value.{data_pool}
 use Rattle.relocation.proofs.Fresh.{taken_for}
 use Rattle.relocation.proofs.target_blocks.take_blocks.Goals as goal
 

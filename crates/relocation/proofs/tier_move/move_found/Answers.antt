@@ -1,12 +1,12 @@
 use Rattle.std.proofs.Common.{◌≤◌, ◌<◌, ℕ, length, subst}
 use Rattle.std.specs.Prelude.{Err}
 use Rattle.std.proofs.lemmas.Result.{err_from_is_err_and}
-use Rattle.area_reader.specs.Store.{disk}
-use Rattle.area_reader.proofs.Looked.{carried}
-use Rattle.area_commit.specs.Value.{data_pool}
-use Rattle.area_commit.proofs.Course.{Rests}
+use Rattle.inode_plan.specs.area_reader.Store.{disk}
+use Rattle.inode_plan.proofs.area_reader_lemmas.Looked.{carried}
+use Rattle.inode_plan.specs.area_commit.Value.{data_pool}
+use Rattle.inode_plan.proofs.area_commit_lemmas.Course.{Rests}
 use Rattle.relocation.specs.MovableFile.{IsMovableRun}
-use Rattle.area_reader.specs.declared.error.AreaError.TheVariants.{NotMapped, NoBlock, Memory}
+use Rattle.inode_plan.specs.area_reader.declared.error.AreaError.TheVariants.{NotMapped, NoBlock, Memory}
 use Rattle.relocation.specs.RunMove.{EndsMove}
 use Rattle.relocation.proofs.Ending.{mapped_fault, mapped_memory, mapped_block, block_fault, block_memory, err_same, ok_with, forced_change, never_mapped, change_move, sound_forced, forced_only, settled_still, ends_refused, ends_told, ends_on}
 use Rattle.relocation.proofs.Pooled.{same_self, own_run, found_run}

@@ -1,8 +1,8 @@
 use Rattle.std.proofs.Common.{◌∙◌, inl, inr, refl, sym, arith}
 use Rattle.std.proofs.lemmas.Bool.{true≢false}
-use Rattle.area_reader.specs.declared.error.AreaError.TheVariants.{DeviceFault, NotMapped, NoBlock, Memory}
+use Rattle.inode_plan.specs.area_reader.declared.error.AreaError.TheVariants.{DeviceFault, NotMapped, NoBlock, Memory}
 use Rattle.relocation.proofs.Ending.{memory_fault, mapped_fault, block_fault, err_same}
-use Rattle.area_reader.specs.Store.{disk}
+use Rattle.inode_plan.specs.area_reader.Store.{disk}
 use Rattle.relocation.proofs.Planned.{few_calls}
 use Rattle.relocation.proofs.Pooled.{same_self}
 use Rattle.relocation.proofs.tier_move.relocate.Goals as goal

@@ -2,8 +2,8 @@ use Rattle.std.proofs.Common.{◌≡◌, ◌≤◌, ◌<◌, ◌+◌, ℕ, true,
 use Rattle.std.specs.Prelude.{IsSome, IsTrue, nat_le, nat_lt}
 use Rattle.std.proofs.lemmas.Bool.{cases_lt, and_parts, leb-true, ltb-true, false≢true}
 use Rattle.tier_device.specs.declared.media.Tier.{Tier}
-use Rattle.extent_tree.specs.Places.{in_run}
-use Rattle.extent_tree.specs.Map.{lies_at}
+use Rattle.inode_plan.specs.extent_tree.Places.{in_run}
+use Rattle.inode_plan.specs.extent_tree.Map.{lies_at}
 use Rattle.inode_plan.specs.RunPlaces.{InFaster}
 use Rattle.inode_plan.proofs.Steps.{inside}
 use Rattle.relocation.proofs.tier_test.lie_above.Goals as goal

@@ -1,6 +1,6 @@
 use Rattle.std.proofs.Common.{◌≤◌, ◌<◌, ℕ}
 use Rattle.std.specs.Prelude.{IsSome}
-use Rattle.extent_tree.specs.Map.{lies_at}
+use Rattle.inode_plan.specs.extent_tree.Map.{lies_at}
 use Rattle.inode_plan.specs.RunPlaces.{InFaster}
 use Rattle.relocation.proofs.tier_test.lie_above.Given as goal
 

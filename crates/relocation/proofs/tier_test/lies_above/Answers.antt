@@ -1,7 +1,7 @@
 use Rattle.std.proofs.Common.{rules, sym, subst, ◌∙◌, ap}
 use Rattle.std.specs.Prelude.{IsSome}
 use Rattle.tier_device.specs.declared.media.Tier.{Tier}
-use Rattle.extent_tree.specs.Map.{lies_at}
+use Rattle.inode_plan.specs.extent_tree.Map.{lies_at}
 use Rattle.inode_plan.specs.RunPlaces.{is_faster, InFaster}
 use Rattle.relocation.proofs.tier_test.lies_above.Goals as goal
 

@@ -1,6 +1,6 @@
 use Rattle.std.proofs.Common.{◌∙◌, Some, refl, sym, subst}
-use Rattle.file_graph.specs.Graph.{Graph}
-use Rattle.file_graph.specs.Units.{charge}
+use Rattle.record_validation.specs.file_graph.Graph.{Graph}
+use Rattle.record_validation.specs.file_graph.Units.{charge}
 use Rattle.std.specs.Prelude.{◌≤◌}
 use Rattle.change_plan.specs.First.{whole_of}
 use Rattle.shared_area.proofs.MadeStore.{slot_stays}

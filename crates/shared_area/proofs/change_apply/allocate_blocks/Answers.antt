@@ -2,14 +2,14 @@ use Rattle.std.proofs.Common.{◌≡◌, ◌∙◌, ℕ, length, refl, sym, ap, 
 use Rattle.std.specs.Prelude.{take}
 use Rattle.std.proofs.lemmas.List.{length-take-le}
 use Rattle.std.proofs.lemmas.Result.{err_from_is_err_and}
-use Rattle.layout.specs.Places.{IsAllowed}
-use Rattle.graph_change.specs.View.{changes_of}
+use Rattle.area_reader.specs.layout.Places.{IsAllowed}
+use Rattle.area_reader.specs.graph_change.View.{changes_of}
 use Rattle.area_reader.specs.Store.{disk}
-use Rattle.area_commit.specs.Value.{free_data}
-use Rattle.area_commit.specs.declared.allocation.Allocation.{Allocation}
-use Rattle.area_commit.specs.Allocations.{taken_data, WereTaken, CanRelease}
-use Rattle.area_commit.proofs.Course.{Rests}
-use Rattle.area_commit.proofs.Returned.{same_free}
+use Rattle.change_plan.specs.area_commit.Value.{free_data}
+use Rattle.change_plan.specs.area_commit.declared.allocation.Allocation.{Allocation}
+use Rattle.change_plan.specs.area_commit.Allocations.{taken_data, WereTaken, CanRelease}
+use Rattle.change_plan.proofs.area_commit_lemmas.Course.{Rests}
+use Rattle.change_plan.proofs.area_commit_lemmas.Returned.{same_free}
 use Rattle.change_plan.specs.FileLayout.{AreFirstFree}
 use Rattle.change_plan.specs.BlockDemand.{WantsBlocks}
 use Rattle.area_reader.specs.declared.error.AreaError.TheVariants.{NoBlock, Memory}

@@ -1,8 +1,8 @@
 use Rattle.std.proofs.Common.{◌∙◌, ◌<◌, ℕ, length, inl, inr, refl, sym, subst, arith}
 use Rattle.std.proofs.lemmas.Bool.{true≢false}
-use Rattle.graph_change.specs.View.{changes_of}
+use Rattle.area_reader.specs.graph_change.View.{changes_of}
 use Rattle.area_reader.specs.Store.{disk}
-use Rattle.area_commit.specs.Value.{free_data}
+use Rattle.change_plan.specs.area_commit.Value.{free_data}
 use Rattle.area_reader.specs.declared.error.AreaError.TheVariants.{DeviceFault, NoBlock}
 use Rattle.shared_area.proofs.Ending.{block_fault, err_same}
 use Rattle.shared_area.proofs.Pooled.{same_self}

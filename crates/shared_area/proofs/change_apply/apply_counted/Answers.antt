@@ -2,11 +2,11 @@ use Rattle.std.proofs.Common.{◌≡◌, subst}
 use Rattle.std.specs.Prelude.{Err, IfOk}
 use Rattle.std.specs.FinMap as fin
 use Rattle.std.proofs.lemmas.Result.{err_from_is_err_and}
-use Rattle.graph_change.specs.View.{changes_of}
-use Rattle.layout.specs.Places.{Sizes}
+use Rattle.area_reader.specs.graph_change.View.{changes_of}
+use Rattle.area_reader.specs.layout.Places.{Sizes}
 use Rattle.area_reader.specs.Store.{Store, disk}
 use Rattle.area_reader.proofs.Looked.{carried}
-use Rattle.area_commit.proofs.Course.{Rests}
+use Rattle.change_plan.proofs.area_commit_lemmas.Course.{Rests}
 use Rattle.shared_area.specs.ChangeApply.{CanApply}
 use Rattle.shared_area.specs.Costs.{units_in}
 use Rattle.change_plan.specs.BlockDemand.{WantsBlocks}

@@ -3,13 +3,13 @@ use Rattle.std.specs.Prelude.{Err}
 use Rattle.std.specs.FinMap as fin
 use Rattle.std.specs.List.{sum_by}
 use Rattle.std.proofs.lemmas.Result.{err_from_is_err_and}
-use Rattle.graph_change.specs.View.{changes_of}
-use Rattle.layout.specs.Places.{Sizes}
+use Rattle.area_reader.specs.graph_change.View.{changes_of}
+use Rattle.area_reader.specs.layout.Places.{Sizes}
 use Rattle.area_reader.specs.Store.{Store, disk}
 use Rattle.area_reader.specs.Units.{slot_units}
 use Rattle.area_reader.proofs.Looked.{carried, carried_back}
-use Rattle.area_commit.specs.declared.slots.ChangedSlot.{ChangedSlot}
-use Rattle.area_commit.proofs.Course.{Rests}
+use Rattle.change_plan.specs.area_commit.declared.slots.ChangedSlot.{ChangedSlot}
+use Rattle.change_plan.proofs.area_commit_lemmas.Course.{Rests}
 use Rattle.change_plan.specs.BlockDemand.{WantsBlocks}
 use Rattle.change_plan.specs.ReadSlots.{HaveSlots}
 use Rattle.change_plan.proofs.Slotted.{slots_long}

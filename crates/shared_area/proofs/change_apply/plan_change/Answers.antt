@@ -2,16 +2,16 @@ use Rattle.std.proofs.Common.{◌≡◌, ℕ, List, Some, sym, subst}
 use Rattle.std.specs.Prelude.{IfOk}
 use Rattle.std.specs.FinMap as fin
 use Rattle.tier_device.specs.declared.media.Tier.{Tier}
-use Rattle.layout.specs.Places.{Sizes, IsAllowed}
-use Rattle.graph_change.specs.View.{changes_of}
+use Rattle.area_reader.specs.layout.Places.{Sizes, IsAllowed}
+use Rattle.area_reader.specs.graph_change.View.{changes_of}
 use Rattle.area_reader.proofs.Looked.{carried}
-use Rattle.area_commit.specs.Value.{PoolsView}
-use Rattle.area_commit.proofs.Course.{Rests}
-use Rattle.area_commit.proofs.Returned.{same_free}
+use Rattle.change_plan.specs.area_commit.Value.{PoolsView}
+use Rattle.change_plan.proofs.area_commit_lemmas.Course.{Rests}
+use Rattle.change_plan.proofs.area_commit_lemmas.Returned.{same_free}
 use Rattle.area_reader.specs.Store.{Store, disk}
 use Rattle.change_plan.specs.PlanAddition.{HasTaken}
 use Rattle.change_plan.specs.FileLayout.{AreFirstFree}
-use Rattle.area_commit.specs.Allocations.{taken_data}
+use Rattle.change_plan.specs.area_commit.Allocations.{taken_data}
 use Rattle.shared_area.specs.ChangeApply.{CanApply}
 use Rattle.shared_area.specs.Costs.{units_in}
 use Rattle.change_plan.specs.First.{IsWhole}

@@ -1,5 +1,5 @@
 use Rattle.std.proofs.Common.{ap, sym}
-use Rattle.layout.specs.declared.slot.Slot.{Slot}
+use Rattle.area_reader.specs.layout.declared.slot.Slot.{Slot}
 use Rattle.area_reader.specs.Store.{disk}
 use Rattle.shared_area.specs.FirstRun.{touch_in}
 use Rattle.shared_area.proofs.FirstRuns.{no_inode_lies, no_root_lies}

@@ -1,6 +1,6 @@
 use Rattle.std.proofs.Common.{◌≡◌, ◌+◌, ◌*◌, ◌∙◌, ℕ, sym, ap, subst, length}
-use Rattle.layout.specs.Directory.{EntryList, block_entries}
-use Rattle.tree_blocks.specs.Inode.{entry_at, named_entries}
+use Rattle.area_reader.specs.layout.Directory.{EntryList, block_entries}
+use Rattle.area_reader.specs.tree_blocks.Inode.{entry_at, named_entries}
 use Rattle.area_reader.specs.Store.{disk, logical_block}
 use Rattle.shared_area.specs.DirectoryReads.{AreNext}
 use Rattle.shared_area.proofs.Entries.{next_block, so_far, and_more}

@@ -2,8 +2,8 @@ use Rattle.std.proofs.Common.{◌≡◌, ◌<◌, ◌∙◌, length, sym, ap, ar
 use Rattle.std.specs.Prelude.{slice_get}
 use Rattle.std.specs.FinMap as fin
 use Rattle.posix_calls.specs.Content.{Entries}
-use Rattle.layout.specs.Directory.{EntryList, block_entries}
-use Rattle.layout.specs.LentEntry.{owned_entry}
+use Rattle.area_reader.specs.layout.Directory.{EntryList, block_entries}
+use Rattle.area_reader.specs.layout.LentEntry.{owned_entry}
 use Rattle.shared_area.proofs.Entries.{next_entry}
 use Rattle.shared_area.proofs.directory_read.put_entries.Goals as goal
 

@@ -1,6 +1,6 @@
 use Rattle.std.proofs.Common.{◌≡◌, ◌+◌, ℕ}
-use Rattle.layout.specs.Directory.{block_entries}
-use Rattle.tree_blocks.specs.Inode.{Entry, named_entries}
+use Rattle.area_reader.specs.layout.Directory.{block_entries}
+use Rattle.area_reader.specs.tree_blocks.Inode.{Entry, named_entries}
 use Rattle.shared_area.specs.DirectoryReads.{AreNext}
 use Rattle.shared_area.proofs.directory_read.put_entries.Given as goal
 

@@ -1,7 +1,7 @@
 use Rattle.std.proofs.Common.{◌≡◌, ◌*◌, ◌∙◌, ap, arith}
 use Rattle.std.specs.Prelude.{min}
 use Rattle.std.proofs.lemmas.Result.{err_from_is_err_and}
-use Rattle.tree_blocks.specs.Inode.{AreDirectoryBlocks, entry_at, named_entries}
+use Rattle.area_reader.specs.tree_blocks.Inode.{AreDirectoryBlocks, entry_at, named_entries}
 use Rattle.area_reader.specs.Store.{disk, logical_block}
 use Rattle.area_reader.specs.Looks.{call_answer}
 use Rattle.area_reader.specs.Checks.{IsOnce}

@@ -1,6 +1,6 @@
 use Rattle.std.proofs.Common.{◌≡◌, ◌*◌}
 use Rattle.std.specs.Prelude.{min}
-use Rattle.tree_blocks.specs.Inode.{entry_at, named_entries}
+use Rattle.area_reader.specs.tree_blocks.Inode.{entry_at, named_entries}
 use Rattle.area_reader.specs.Store.{disk, logical_block}
 use Rattle.area_reader.specs.Looks.{Looks, call_answer}
 use Rattle.shared_area.proofs.directory_read.read_entries.Given as goal

@@ -1,6 +1,6 @@
 use Rattle.std.proofs.Common.{◌≡◌, ◌<◌, ◌/◌, ◌∙◌, ℕ, Some, length, sym, ap, subst}
 use Rattle.std.proofs.lemmas.Result.{on_ok_weaker}
-use Rattle.layout.specs.Places.{Sizes, tier_blocks}
+use Rattle.area_reader.specs.layout.Places.{Sizes, tier_blocks}
 use Rattle.area_reader.specs.Store.{Store, disk, place, logical_block}
 use Rattle.area_reader.specs.Reads.{IsRoom}
 use Rattle.area_reader.proofs.Damages.{logical_is}

@@ -1,9 +1,9 @@
 use Rattle.std.proofs.Common.{◌≡◌, sym, ap, subst, arith}
 use Rattle.std.specs.Prelude.{Ok, Err}
 use Rattle.std.proofs.lemmas.Result.{err_from_is_err_and}
-use Rattle.file_graph.specs.Units.{charge}
-use Rattle.graph_change.specs.View.{changes_of}
-use Rattle.layout.specs.Places.{Sizes, IsAllowed}
+use Rattle.record_validation.specs.file_graph.Units.{charge}
+use Rattle.area_reader.specs.graph_change.View.{changes_of}
+use Rattle.area_reader.specs.layout.Places.{Sizes, IsAllowed}
 use Rattle.area_reader.specs.Store.{Store, disk, graph}
 use Rattle.area_reader.specs.declared.error.AreaError.TheVariants.{DeviceFault}
 use Rattle.shared_area.proofs.Ending.{err_same}

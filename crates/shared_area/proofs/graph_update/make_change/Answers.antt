@@ -2,7 +2,7 @@ use Rattle.std.proofs.Common.{◌∙◌, ℕ, length, inl, inr, sym, subst, arit
 use Rattle.std.specs.Prelude.{Ok, Err}
 use Rattle.std.proofs.lemmas.Bool.{true≢false}
 use Rattle.std.proofs.lemmas.Result.{err_from_is_err_and}
-use Rattle.graph_change.specs.View.{changes_of}
+use Rattle.area_reader.specs.graph_change.View.{changes_of}
 use Rattle.area_reader.specs.Store.{disk}
 use Rattle.area_reader.specs.declared.error.AreaError.TheVariants.{DeviceFault, NoBlock}
 use Rattle.shared_area.proofs.Ending.{block_fault, err_same}

@@ -1,5 +1,5 @@
 use Rattle.std.proofs.Common.{arith}
-use Rattle.layout.specs.declared.slot.Slot.TheVariants as slots
+use Rattle.area_reader.specs.layout.declared.slot.Slot.TheVariants as slots
 use Rattle.shared_area.proofs.Charged.{slots_next, slots_past}
 use Rattle.shared_area.proofs.inode_cost.units_of_slots.Goals as goal
 

@@ -1,7 +1,7 @@
 use Rattle.std.proofs.Common.{◌≡◌, ◌+◌, drop}
 use Rattle.std.specs.List.{sum_by}
 use Rattle.area_reader.specs.Units.{slot_units}
-use Rattle.area_commit.specs.declared.slots.ChangedSlot.{ChangedSlot}
+use Rattle.change_plan.specs.area_commit.declared.slots.ChangedSlot.{ChangedSlot}
 use Rattle.shared_area.proofs.inode_cost.units_of_slots.Given as goal
 
 abbrev pub invariant-each : goal.invariant-each

@@ -1,7 +1,7 @@
 use Rattle.std.proofs.Common.{◌≡◌, ◌∙◌, sym, subst}
-use Rattle.layout.specs.Places.{Sizes}
+use Rattle.area_reader.specs.layout.Places.{Sizes}
 use Rattle.area_reader.specs.Store.{disk}
-use Rattle.area_commit.specs.Value.{AreFree, MarksAll}
+use Rattle.change_plan.specs.area_commit.Value.{AreFree, MarksAll}
 use Rattle.shared_area.proofs.media_contents.read_contents.Goals as goal
 
 pub returns-clause-free : goal.returns-clause-free

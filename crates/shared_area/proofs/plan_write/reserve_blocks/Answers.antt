@@ -2,13 +2,13 @@ use Rattle.std.proofs.Common.{◌≤◌, length, inr, refl}
 use Rattle.tier_device.specs.declared.media.Tier.{Tier}
 use Rattle.tier_device.specs.declared.media.Tier.TheVariants.{Fast, Block, Slow}
 use Rattle.area_reader.specs.Store.{disk}
-use Rattle.area_commit.specs.Value.{PoolsView, data_pool}
-use Rattle.graph_change.specs.View.{changes_of}
-use Rattle.area_commit.specs.declared.plan.FreedBlocks.{FreedBlocks}
-use Rattle.area_commit.specs.Plan.{lost_in}
-use Rattle.area_commit.specs.StableState.{IsSettled}
-use Rattle.area_commit.proofs.Course.{Rests}
-use Rattle.area_commit.proofs.Returned.{same_free}
+use Rattle.change_plan.specs.area_commit.Value.{PoolsView, data_pool}
+use Rattle.area_reader.specs.graph_change.View.{changes_of}
+use Rattle.change_plan.specs.area_commit.declared.plan.FreedBlocks.{FreedBlocks}
+use Rattle.change_plan.specs.area_commit.Plan.{lost_in}
+use Rattle.change_plan.specs.area_commit.StableState.{IsSettled}
+use Rattle.change_plan.proofs.area_commit_lemmas.Course.{Rests}
+use Rattle.change_plan.proofs.area_commit_lemmas.Returned.{same_free}
 use Rattle.area_reader.specs.declared.error.AreaError.TheVariants.{Memory}
 use Rattle.shared_area.proofs.Ending.{memory_fault, still_self, ends_refused}
 use Rattle.shared_area.proofs.Pooled.{settled_same, were_still, undo_still, has_still}

@@ -1,20 +1,20 @@
 use Rattle.std.proofs.Common.{◌≤◌, ◌+◌, Some, length, sym, ap, subst}
 use Rattle.std.specs.Prelude.{min, Err}
 use Rattle.std.proofs.lemmas.Result.{err_from_is_err_and}
-use Rattle.layout.specs.Places.{Sizes, IsAllowed}
-use Rattle.graph_change.specs.View.{changes_of}
+use Rattle.area_reader.specs.layout.Places.{Sizes, IsAllowed}
+use Rattle.area_reader.specs.graph_change.View.{changes_of}
 use Rattle.area_reader.specs.Store.{Store, disk}
-use Rattle.area_commit.specs.Value.{PoolsView}
-use Rattle.area_commit.specs.Allocations.{WasReleased}
-use Rattle.area_commit.specs.Batches.{marks_images}
-use Rattle.area_commit.specs.DataWrite.{TakenInTurn, calls_for}
-use Rattle.area_commit.specs.declared.plan.Rewrite.{Rewrite}
-use Rattle.area_commit.specs.Plan.{IsPlan}
-use Rattle.area_commit.specs.PlanOutcome.{IsCarriedOut}
-use Rattle.area_commit.specs.Room.{AreReadyFor}
-use Rattle.area_commit.specs.StableState.{IsSettled}
-use Rattle.area_commit.proofs.Course.{Rests}
-use Rattle.area_commit.proofs.Returned.{same_free}
+use Rattle.change_plan.specs.area_commit.Value.{PoolsView}
+use Rattle.change_plan.specs.area_commit.Allocations.{WasReleased}
+use Rattle.change_plan.specs.area_commit.Batches.{marks_images}
+use Rattle.change_plan.specs.area_commit.DataWrite.{TakenInTurn, calls_for}
+use Rattle.change_plan.specs.area_commit.declared.plan.Rewrite.{Rewrite}
+use Rattle.change_plan.specs.area_commit.Plan.{IsPlan}
+use Rattle.change_plan.specs.area_commit.PlanOutcome.{IsCarriedOut}
+use Rattle.change_plan.specs.area_commit.Room.{AreReadyFor}
+use Rattle.change_plan.specs.area_commit.StableState.{IsSettled}
+use Rattle.change_plan.proofs.area_commit_lemmas.Course.{Rests}
+use Rattle.change_plan.proofs.area_commit_lemmas.Returned.{same_free}
 use Rattle.shared_area.specs.ChangeApply.{IsAppliedStore}
 use Rattle.shared_area.proofs.Calls.{few_calls}
 use Rattle.shared_area.proofs.Ending.{ends_done, ends_undone}

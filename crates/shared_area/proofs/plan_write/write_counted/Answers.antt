@@ -2,10 +2,10 @@ use Rattle.std.proofs.Common.{◌<◌, ◌∙◌, List, sym, ap, subst, Some}
 use Rattle.std.specs.FinMap as fin
 use Rattle.std.specs.List.{sum_by}
 use Rattle.std.proofs.lemmas.Result.{err_from_is_err_and}
-use Rattle.graph_change.specs.View.{changes_of}
+use Rattle.area_reader.specs.graph_change.View.{changes_of}
 use Rattle.area_reader.specs.Store.{Store, disk}
 use Rattle.area_reader.specs.Units.{slot_units}
-use Rattle.area_commit.specs.declared.slots.ChangedSlot.{ChangedSlot}
+use Rattle.change_plan.specs.area_commit.declared.slots.ChangedSlot.{ChangedSlot}
 use Rattle.shared_area.proofs.Charged.{slots_units, slots_small}
 use Rattle.shared_area.proofs.Ending.{ends_ok, ends_err}
 use Rattle.shared_area.proofs.MadeStore.{planned_fits, planned_long}

@@ -1,6 +1,6 @@
-use Rattle.lease_manager.specs.Passes.{client_of}
-use Rattle.lease_manager.specs.Words.{asked_word}
-use Rattle.lease_manager.specs.declared.view.Event.TheVariants.{Heard}
+use Rattle.libfs.specs.lease_manager.Passes.{client_of}
+use Rattle.libfs.specs.lease_manager.Words.{asked_word}
+use Rattle.libfs.specs.lease_manager.declared.view.Event.TheVariants.{Heard}
 use Rattle.strata_threads.proofs.LeaseReturn.{hears}
 use Rattle.strata_threads.proofs.idle_turn.empty_row.Goals as goal
 

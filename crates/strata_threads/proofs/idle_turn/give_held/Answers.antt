@@ -1,5 +1,5 @@
 use Rattle.std.proofs.Common.{◌∙◌, ap, sym}
-use Rattle.lease_manager.specs.Passes.{lease_of}
+use Rattle.libfs.specs.lease_manager.Passes.{lease_of}
 use Rattle.strata_threads.proofs.LeaseReturn.{gives_if_it_can, gives_no_other}
 use Rattle.strata_threads.proofs.idle_turn.give_held.Goals as goal
 

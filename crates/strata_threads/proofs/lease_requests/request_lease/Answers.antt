@@ -1,4 +1,4 @@
-use Rattle.client_plan.specs.declared.need.Mode.TheVariants.{Write}
+use Rattle.libfs.specs.client_plan.declared.need.Mode.TheVariants.{Write}
 use Rattle.strata_threads.proofs.lease_requests.request_lease.Goals as goal
 
 pub returns-in-Err-raise-clause-barred : goal.returns-in-Err-raise-clause-barred

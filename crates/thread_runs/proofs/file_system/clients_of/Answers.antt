@@ -1,6 +1,6 @@
 use Rattle.std.proofs.Common.{length, ap, arith, subst, sym}
 use Rattle.strata_threads.specs.SharedClients.{HaveTable}
-use Rattle.event_steps.specs.Sound.{AreOfTable}
+use Rattle.call_driver.specs.event_steps.Sound.{AreOfTable}
 use Rattle.thread_runs.proofs.SharedTable.{AllShareTable, one_taken}
 use Rattle.thread_runs.proofs.file_system.clients_of.Goals as goal
 

@@ -2,7 +2,7 @@ use Rattle.std.proofs.Common.{◌∷◌, All, length, ap, sym, ◌∙◌, subst}
 use Rattle.tier_device.specs.declared.stop.StopMedia.{StopMedia}
 use Rattle.thread_runs.specs.FirstPath.{IsRunAtRest}
 use Rattle.world_files.proofs.PartsEach.{each_part}
-use Rattle.area_recovery.specs.Parts.{PartsView}
+use Rattle.world_files.specs.area_recovery.Parts.{PartsView}
 use Rattle.thread_runs.proofs.file_system.parts_of.Goals as goal
 
 pub returns-in-Ok : goal.returns-in-Ok

@@ -1,7 +1,7 @@
 use Rattle.std.proofs.Common.{◌≡◌, List, drop, subst}
 use Rattle.std.proofs.lemmas.Result.{on_ok_weaker}
-use Rattle.file_graph.specs.Graph.{graph_of}
-use Rattle.log_record.specs.declared.format.Record.{Record}
+use Rattle.plain_tree.specs.file_graph.Graph.{graph_of}
+use Rattle.script.specs.log_record.declared.format.Record.{Record}
 use Rattle.thread_runs.specs.FirstPath.{after_replay}
 use Rattle.thread_runs.proofs.first_recovery.recover.Goals as goal
 

@@ -1,6 +1,6 @@
 use Rattle.std.proofs.Common.{rules, ◌≡◌, ◌∙◌, ◌∷◌, ◌+◌, ◌<◌, length, drop, ap, sym}
 use Rattle.std.proofs.lemmas.List.{drop_more}
-use Rattle.file_graph.specs.Graph.{Graph, graph_of, after_effects}
+use Rattle.plain_tree.specs.file_graph.Graph.{Graph, graph_of, after_effects}
 use Rattle.thread_runs.proofs.shared_graph.apply_record.Goals as goal
 
 pub loop-effect-preserved : goal.loop-effect-preserved

@@ -1,5 +1,5 @@
 use Rattle.std.proofs.Common.{◌≡◌, drop}
-use Rattle.file_graph.specs.Graph.{graph_of, after_effects}
+use Rattle.plain_tree.specs.file_graph.Graph.{graph_of, after_effects}
 use Rattle.thread_runs.proofs.shared_graph.apply_record.Given as goal
 
 -- the effects that are still to come lead where all of them do

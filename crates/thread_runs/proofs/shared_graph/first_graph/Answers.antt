@@ -1,5 +1,5 @@
 use Rattle.std.proofs.Common.{ℕ, List, ◌∙◌, ap}
-use Rattle.file_graph.specs.Graph.{Graph, fresh, after_effects}
+use Rattle.plain_tree.specs.file_graph.Graph.{Graph, fresh, after_effects}
 use Rattle.thread_runs.specs.FirstPath.{file_effects}
 use Rattle.thread_runs.proofs.shared_graph.first_graph.Goals as goal
 

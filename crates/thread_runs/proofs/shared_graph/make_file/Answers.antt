@@ -1,8 +1,8 @@
 use Rattle.std.proofs.Common.{◌≡◌, ◌∙◌, OnOk, ap, subst}
 use Rattle.posix_calls.specs.declared.limits.TheConstants.{ROOT}
-use Rattle.file_graph.specs.declared.effect.Effect.TheVariants.{Enter, Names}
-use Rattle.file_graph.specs.declared.effect.Kind.TheVariants.{File}
-use Rattle.file_graph.specs.Graph.{Graph, graph_of, after_effect}
+use Rattle.plain_tree.specs.file_graph.declared.effect.Effect.TheVariants.{Enter, Names}
+use Rattle.plain_tree.specs.file_graph.declared.effect.Kind.TheVariants.{File}
+use Rattle.plain_tree.specs.file_graph.Graph.{Graph, graph_of, after_effect}
 use Rattle.thread_runs.specs.declared.shared_graph.TheConstants.{FILE}
 use Rattle.thread_runs.proofs.shared_graph.make_file.Goals as goal
 

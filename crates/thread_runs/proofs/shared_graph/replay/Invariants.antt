@@ -1,5 +1,5 @@
 use Rattle.std.proofs.Common.{◌≡◌, drop}
-use Rattle.file_graph.specs.Graph.{graph_of}
+use Rattle.plain_tree.specs.file_graph.Graph.{graph_of}
 use Rattle.thread_runs.specs.FirstPath.{after_replay}
 use Rattle.thread_runs.proofs.shared_graph.replay.Given as goal
 

@@ -1,7 +1,7 @@
 use Rattle.std.proofs.Common.{◌≡◌, ◌+◌, ◌≤◌, arith}
 use Rattle.std.specs.FinMap as fin
 use Rattle.posix_calls.specs.Content.{Entries}
-use Rattle.file_graph.specs.NameOrder.{pairs}
+use Rattle.graph_change.specs.file_graph.NameOrder.{pairs}
 use Rattle.graph_change.specs.Net.{Child, with_entries}
 use Rattle.tree_blocks.specs.Inode.{entry_at, named_entries}
 use Rattle.tree_blocks.specs.Directory.{numbered_blocks, coming_count}

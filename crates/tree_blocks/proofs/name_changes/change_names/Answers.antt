@@ -3,8 +3,8 @@ use Rattle.std.specs.Prelude.{IfSome}
 use Rattle.std.proofs.lemmas.List.{get_or_default}
 use Rattle.posix_calls.specs.Content.{Entries}
 use Rattle.layout.specs.Places.{is_inode}
-use Rattle.file_graph.specs.NameOrder.{pairs}
-use Rattle.file_graph.specs.declared.name_map.NamedEntry.{NamedEntry}
+use Rattle.graph_change.specs.file_graph.NameOrder.{pairs}
+use Rattle.graph_change.specs.file_graph.declared.name_map.NamedEntry.{NamedEntry}
 use Rattle.graph_change.specs.Net.{Child, with_entry, with_entries}
 use Rattle.tree_blocks.specs.Inode.{entry_at, named_entries}
 use Rattle.tree_blocks.specs.Directory.{numbered_blocks}

@@ -1,7 +1,7 @@
 use Rattle.std.proofs.Common.{◌≡◌, ◌∙◌, List, length, ap, arith, sym, Option, false}
 use Rattle.std.specs.Prelude.{is_some}
-use Rattle.file_graph.specs.NameOrder.{pairs}
-use Rattle.file_graph.specs.declared.name_map.NamedEntry.{NamedEntry}
+use Rattle.graph_change.specs.file_graph.NameOrder.{pairs}
+use Rattle.graph_change.specs.file_graph.declared.name_map.NamedEntry.{NamedEntry}
 use Rattle.graph_change.specs.Net.{Child}
 use Rattle.tree_blocks.specs.Directory.{coming_count, next_count}
 use Rattle.tree_blocks.proofs.NameChanges.{behind, none_done, all_behind, next_behind, counted_one}

@@ -2,8 +2,8 @@ use Rattle.std.proofs.Common.{◌≡◌, ◌∙◌, ℕ, List, length, ap, arith
 use Rattle.std.specs.Prelude.{is_some}
 use Rattle.std.specs.FinMap as fin
 use Rattle.posix_calls.specs.Content.{Entries}
-use Rattle.file_graph.specs.NameOrder.{pairs}
-use Rattle.file_graph.specs.declared.name_map.NamedEntry.{NamedEntry}
+use Rattle.graph_change.specs.file_graph.NameOrder.{pairs}
+use Rattle.graph_change.specs.file_graph.declared.name_map.NamedEntry.{NamedEntry}
 use Rattle.graph_change.specs.Net.{Child, with_entries}
 use Rattle.tree_blocks.specs.Inode.{entry_at, named_entries}
 use Rattle.tree_blocks.specs.Directory.{numbered_blocks, next_count}

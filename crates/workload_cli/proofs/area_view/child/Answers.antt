@@ -1,6 +1,6 @@
 use Rattle.std.proofs.Common.{◌∙◌, inl, inr, ap, sym}
 use Rattle.posix_calls.specs.declared.errno.Errno.TheVariants.{NoEntry}
-use Rattle.area_reader.specs.Store.{graph, disk}
+use Rattle.call_driver.specs.area_reader.Store.{graph, disk}
 use Rattle.workload_cli.proofs.Walks.{child_is, child_there}
 use Rattle.workload_cli.proofs.area_view.child.Goals as goal
 

@@ -1,6 +1,6 @@
 use Rattle.std.proofs.Common.{◌∙◌, inl, inr, sym}
 use Rattle.posix_calls.specs.declared.errno.Errno.TheVariants.{IsDirectory}
-use Rattle.area_reader.specs.Store.{graph, disk}
+use Rattle.call_driver.specs.area_reader.Store.{graph, disk}
 use Rattle.workload_cli.proofs.Walks.{directory_is_none}
 use Rattle.workload_cli.proofs.area_view.file_itself.Goals as goal
 

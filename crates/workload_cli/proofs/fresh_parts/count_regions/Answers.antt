@@ -1,7 +1,7 @@
 use Rattle.std.proofs.Common.{◌∙◌, ◌++◌, ◌+◌, ◌/◌, [], ◌∷◌, append-nil, append_assoc, length, map, sym, ap, subst, arith}
 use Rattle.std.specs.Prelude.{slice_get}
 use Rattle.std.proofs.lemmas.List.{map-append}
-use Rattle.recovery.proofs.OpenedSeats.{none_left}
+use Rattle.world_files.proofs.recovery_lemmas.OpenedSeats.{none_left}
 use Rattle.workload_cli.specs.Rests.{beneath}
 use Rattle.workload_cli.proofs.Pushed.{each_pushed, none_is_some}
 use Rattle.workload_cli.proofs.fresh_parts.count_regions.Goals as goal

@@ -1,7 +1,7 @@
 use Rattle.std.proofs.Common.{inl, subst}
 use Rattle.std.specs.Prelude.{option_map}
 use Rattle.world_files.specs.ImageFiles.{MayHold}
-use Rattle.area_recovery.proofs.SettlementPhases.{passed_on}
+use Rattle.world_files.proofs.area_recovery_lemmas.SettlementPhases.{passed_on}
 use Rattle.workload_cli.proofs.ImageRefusals.{fresh_refused, fresh_world, held_refused, held_world}
 use Rattle.workload_cli.proofs.image.image_world.Goals as goal
 

@@ -1,5 +1,5 @@
 use Rattle.std.proofs.Common.{inl}
-use Rattle.area_recovery.proofs.SettlementPhases.{passed_on}
+use Rattle.world_files.proofs.area_recovery_lemmas.SettlementPhases.{passed_on}
 use Rattle.workload_cli.proofs.ImageRefusals.{past_refused, patched_refused, patched_world}
 use Rattle.workload_cli.proofs.image.patched_world.Goals as goal
 

@@ -1,6 +1,6 @@
 use Rattle.std.proofs.Common.{◌∙◌, ap, refl}
 use Rattle.std.proofs.Math.ListN.{drop_of_length-le}
-use Rattle.area_recovery.proofs.SettlementPhases.{passed_on}
+use Rattle.world_files.proofs.area_recovery_lemmas.SettlementPhases.{passed_on}
 use Rattle.workload_cli.specs.Patches.{patched}
 use Rattle.workload_cli.proofs.PutPatches.{none_put, one_put}
 use Rattle.workload_cli.proofs.image.put_patches.Goals as goal

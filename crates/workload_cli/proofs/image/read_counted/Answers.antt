@@ -1,6 +1,6 @@
 use Rattle.std.proofs.Common.{refl}
 use Rattle.world_files.proofs.Exits.{err_again}
-use Rattle.area_recovery.proofs.SettlementPhases.{passed_on}
+use Rattle.world_files.proofs.area_recovery_lemmas.SettlementPhases.{passed_on}
 use Rattle.workload_cli.specs.Rests.{beneath}
 use Rattle.workload_cli.proofs.CountedParts.{counted_read}
 use Rattle.workload_cli.proofs.ImageRefusals.{memory_refused, read_refused}

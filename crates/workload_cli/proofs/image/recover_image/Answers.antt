@@ -1,7 +1,7 @@
 use Rattle.world_files.proofs.Causes.{unrecovered}
 use Rattle.world_files.proofs.Exits.{err_again}
-use Rattle.area_recovery.proofs.SettlementPhases.{passed_on}
-use Rattle.area_recovery.specs.Parts.{part_medium}
+use Rattle.world_files.proofs.area_recovery_lemmas.SettlementPhases.{passed_on}
+use Rattle.world_files.specs.area_recovery.Parts.{part_medium}
 use Rattle.workload_cli.proofs.image.recover_image.Goals as goal
 
 pub returns-in_err-parts-clause-refused : goal.returns-in_err-parts-clause-refused

@@ -1,7 +1,7 @@
 use Rattle.std.proofs.Common.{◌≡◌, ◌∙◌, ℕ, List, ◌++◌, length, take, drop, ap, sym, subst}
 use Rattle.std.proofs.Math.Seq.{take-append_seam}
 use Rattle.std.specs.Prelude.{Result, Ok, Err, OnErr, OnOk, slice_get}
-use Rattle.area_recovery.specs.Parts.{PartsView, part_medium}
+use Rattle.world_files.specs.area_recovery.Parts.{PartsView, part_medium}
 use Rattle.workload_cli.specs.Fills.{AreRestBy}
 use Rattle.workload_cli.specs.Rests.{LeaveNoMore}
 use Rattle.workload_cli.specs.Trips.{PartsCount}

@@ -1,6 +1,6 @@
 use Rattle.host_media.specs.contracts.file.FileMediaMedia.TheImpl.{ghosts as device}
-use Rattle.area_recovery.proofs.SettlementPhases.{passed_on}
-use Rattle.area_recovery.specs.Parts.{part_medium}
+use Rattle.recovery.proofs.area_recovery_lemmas.SettlementPhases.{passed_on}
+use Rattle.recovery.specs.area_recovery.Parts.{part_medium}
 use Rattle.world_files.proofs.Causes.{unrecovered}
 use Rattle.world_files.proofs.DiskRefusals.{front_gives_none, of_file}
 use Rattle.world_files.proofs.PartsEach.{disk_rests}

@@ -1,7 +1,7 @@
 use Rattle.std.proofs.Common.{rules, ◌≡◌, ℕ, ◌<◌, List, length, None, false, refl, arith, nat_eq}
 use Rattle.std.proofs.lemmas.Bool.{ne_eqb}
 use Rattle.std.proofs.lemmas.List.{take_all}
-use Rattle.layout.specs.Super.{super_of}
+use Rattle.recovery.specs.layout.Super.{super_of}
 use Rattle.world_files.specs.PartSizes.{geometry_in}
 use Rattle.world_files.proofs.geometry.read_geometry.Goals as goal
 

@@ -1,6 +1,6 @@
 use Rattle.std.proofs.Common.{◌∙◌, subst, sym}
 use Rattle.tier_device.specs.contracts.memory.MemMediaMedia.TheImpl.{ghosts as memory}
-use Rattle.area_recovery.proofs.SettlementPhases.{passed_on}
+use Rattle.recovery.proofs.area_recovery_lemmas.SettlementPhases.{passed_on}
 use Rattle.world_files.proofs.Exits.{err_of, ok_at_exit}
 use Rattle.world_files.proofs.PartsEach.{as_many, parts_are_read}
 use Rattle.world_files.specs.Images.{HoldsNoWorld, IsReadRefused}

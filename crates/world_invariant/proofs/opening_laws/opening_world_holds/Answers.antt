@@ -1,5 +1,5 @@
 use Rattle.std.proofs.Common.{◌∙◌}
-use Rattle.file_graph.specs.Graph.{fresh}
+use Rattle.call_effects.specs.file_graph.Graph.{fresh}
 use Rattle.call_effects.proofs.Fresh.{fresh_sound, fresh_state}
 use Rattle.world_invariant.proofs.Fresh.{fresh_within}
 use Rattle.world_invariant.proofs.Idle.{idle_holds, idle_tree}

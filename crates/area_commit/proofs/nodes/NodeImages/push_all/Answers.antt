@@ -1,7 +1,7 @@
 use Rattle.std.proofs.Common.{◌∙◌, ◌++◌, ◌∷◌, [], ℕ, List, length, append_assoc, append-nil, sym, subst, ap, arith}
 use Rattle.std.specs.Prelude.{IsSome}
 use Rattle.std.proofs.lemmas.List.{length-append}
-use Rattle.batch_journal.specs.Images.{image_for, Rises, next_of}
+use Rattle.area_reader.specs.batch_journal.Images.{image_for, Rises, next_of}
 use Rattle.area_commit.proofs.ByNumber.{rise_from, rises_low}
 use Rattle.area_commit.proofs.nodes.NodeImages.push_all.Goals as goal
 

@@ -1,5 +1,5 @@
 use Rattle.std.proofs.Common.{◌≡◌, ◌++◌}
-use Rattle.batch_journal.specs.Images.{Rises, next_of}
+use Rattle.area_reader.specs.batch_journal.Images.{Rises, next_of}
 use Rattle.area_commit.proofs.nodes.NodeImages.push_all.Given as goal
 
 abbrev pub invariant-loop-number : goal.invariant-loop-number

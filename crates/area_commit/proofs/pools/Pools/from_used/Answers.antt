@@ -1,5 +1,5 @@
 use Rattle.std.proofs.Common.{◌≡◌}
-use Rattle.layout.specs.Places.{data_first, tier_blocks}
+use Rattle.area_reader.specs.layout.Places.{data_first, tier_blocks}
 use Rattle.area_commit.specs.Value.{PoolsView, data_pool, HasRanges, HasUnmarked}
 use Rattle.area_commit.proofs.Members.{are_free, each_tier}
 use Rattle.area_commit.proofs.pools.Pools.from_used.Goals as goal

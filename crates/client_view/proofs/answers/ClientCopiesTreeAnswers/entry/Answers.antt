@@ -1,5 +1,5 @@
 use Rattle.std.proofs.Common.{◌≡◌, List, Option, Some, None, rules, ap, sym, ◌∙◌}
-use Rattle.call_effects.specs.NodeView.{NodeView}
+use Rattle.client_plan.specs.call_effects.NodeView.{NodeView}
 use Rattle.client_view.specs.KnowledgeTables.{Held, copy_at, known_dir_in}
 use Rattle.client_view.proofs.Views.{none_entered}
 use Rattle.client_view.proofs.answers.ClientCopiesTreeAnswers.entry.Goals as goal

@@ -1,8 +1,8 @@
 use Rattle.std.proofs.Common.{◌≡◌, ℕ, List, Option, true, ap, ◌∙◌, subst}
 use Rattle.std.specs.Prelude.{IfErr, is_some}
 use Rattle.block_cache.specs.CacheList.{Block}
-use Rattle.call_effects.specs.Blocks.{range_by}
-use Rattle.call_effects.specs.NodeView.{NodeView}
+use Rattle.client_plan.specs.call_effects.Blocks.{range_by}
+use Rattle.client_plan.specs.call_effects.NodeView.{NodeView}
 use Rattle.client_view.specs.KnowledgeTables.{Held, copy_at, size_known, block_by}
 use Rattle.client_view.proofs.answers.ClientCopiesTreeAnswers.read.Goals as goal
 

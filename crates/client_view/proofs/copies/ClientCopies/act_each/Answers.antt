@@ -1,5 +1,5 @@
 use Rattle.std.proofs.Common.{refl, sym, ◌∙◌, arith, rules}
-use Rattle.file_graph.specs.Subject.{subject}
+use Rattle.client_plan.specs.file_graph.Subject.{subject}
 use Rattle.client_view.specs.KnowledgeTables.{knows}
 use Rattle.client_view.proofs.LeftBlocks.{left_all, left_alone, left_next, left_none}
 use Rattle.client_view.proofs.Rooms.{is_room, known_all, known_next, known_none}

@@ -2,7 +2,7 @@ use Rattle.std.proofs.Common.{◌≡◌, ◌<◌, length, None, ap, sym, subst, 
 use Rattle.std.specs.Prelude.{IsSome}
 use Rattle.std.proofs.lemmas.Bool.Decides.{nat_tests}
 use Rattle.std.proofs.lemmas.List.{get_or_default}
-use Rattle.file_graph.specs.Subject.{subject}
+use Rattle.client_plan.specs.file_graph.Subject.{subject}
 use Rattle.client_view.specs.KnowledgeTables.{Held, copy_at, knows}
 use Rattle.client_view.specs.Preparation.{IsRoomOf, names_known}
 use Rattle.client_view.proofs.Alone.{acted_is_known}

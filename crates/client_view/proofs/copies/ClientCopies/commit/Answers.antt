@@ -1,6 +1,6 @@
 use Rattle.std.proofs.Common.{◌≡◌, List, ap, sym, ◌∙◌, subst}
-use Rattle.file_graph.specs.declared.effect.Effect.{Effect}
-use Rattle.call_effects.specs.Knowledge.{Knowledge}
+use Rattle.client_plan.specs.file_graph.declared.effect.Effect.{Effect}
+use Rattle.client_plan.specs.call_effects.Knowledge.{Knowledge}
 use Rattle.client_view.specs.KnowledgeTables.{Held, knows}
 use Rattle.client_view.specs.AfterRecord.{with_change, with_made, without_touched}
 use Rattle.client_view.specs.Preparation.{AreReady}

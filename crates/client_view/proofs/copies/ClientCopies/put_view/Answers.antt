@@ -1,6 +1,6 @@
 use Rattle.std.proofs.Common.{◌<◌, length, ap, ◌∙◌, arith}
 use Rattle.std.proofs.lemmas.Bool.Decides.{nat_tests}
-use Rattle.call_effects.specs.Knowledge.{Knowledge, with_copy}
+use Rattle.client_plan.specs.call_effects.Knowledge.{Knowledge, with_copy}
 use Rattle.client_view.proofs.Known.{put_is_known, nothing_to_lose}
 use Rattle.client_view.proofs.copies.ClientCopies.put_view.Goals as goal
 

@@ -1,5 +1,5 @@
 use Rattle.std.proofs.Common.{ap, sym, ◌∙◌}
-use Rattle.call_effects.specs.Knowledge.{Knowledge}
+use Rattle.client_plan.specs.call_effects.Knowledge.{Knowledge}
 use Rattle.client_view.specs.KnowledgeChanges.{without_granted}
 use Rattle.client_view.specs.KnowledgeTables.{Held, knows}
 use Rattle.client_view.specs.AfterRecord.{with_made, without_made}

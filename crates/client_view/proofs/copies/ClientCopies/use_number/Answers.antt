@@ -1,5 +1,5 @@
 use Rattle.std.proofs.Common.{ap, ◌∙◌}
-use Rattle.file_graph.specs.Graph.{is_among}
+use Rattle.client_plan.specs.file_graph.Graph.{is_among}
 use Rattle.client_view.proofs.Numbers.{among_less, used_is_known}
 use Rattle.client_view.proofs.copies.ClientCopies.use_number.Goals as goal
 

@@ -1,5 +1,5 @@
 use Rattle.std.proofs.Common.{List, drop, ap, ◌∙◌}
-use Rattle.log_record.specs.declared.format.Record.{Record}
+use Rattle.client_plan.specs.log_record.declared.format.Record.{Record}
 use Rattle.client_view.specs.After.{run_laid}
 use Rattle.client_view.specs.RecordLists.{Kept}
 use Rattle.client_view.proofs.Reached.{dropped}

@@ -1,5 +1,5 @@
 use Rattle.std.proofs.Common.{List, subst}
-use Rattle.file_graph.specs.declared.effect.Effect.{Effect}
+use Rattle.client_plan.specs.file_graph.declared.effect.Effect.{Effect}
 use Rattle.client_view.specs.RecordReach.{IsReachOf}
 use Rattle.client_view.proofs.Reached.{all_pushed, pushed}
 use Rattle.client_view.proofs.own_records.OwnRecords.push.Goals as goal

@@ -1,5 +1,5 @@
 use Rattle.std.proofs.Common.{List, ◌++◌, take}
-use Rattle.file_graph.specs.declared.effect.Effect.{Effect}
+use Rattle.graph_change.specs.file_graph.declared.effect.Effect.{Effect}
 use Rattle.coalescer.specs.EffectCounts.{IsEstimate}
 use Rattle.coalescer.proofs.estimate.Estimate.add.Given as goal
 

@@ -1,5 +1,5 @@
 use Rattle.std.proofs.Common.{List, ◌++◌, take}
-use Rattle.file_graph.specs.declared.effect.Effect.{Effect}
+use Rattle.graph_change.specs.file_graph.declared.effect.Effect.{Effect}
 use Rattle.coalescer.specs.EffectCounts.{Weighs}
 use Rattle.coalescer.proofs.weight.Weight.add.Given as goal
 

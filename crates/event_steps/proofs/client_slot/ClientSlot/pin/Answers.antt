@@ -1,5 +1,5 @@
 use Rattle.std.proofs.Common.{◌≡◌, arith, subst}
-use Rattle.lease_manager.specs.Words.{HasWord}
+use Rattle.libfs.specs.lease_manager.Words.{HasWord}
 use Rattle.event_steps.specs.KernelRequests.{IsPinned}
 use Rattle.event_steps.specs.Effects.{Carries}
 use Rattle.event_steps.specs.View.{SeatView}

@@ -1,8 +1,8 @@
 use Rattle.std.proofs.Common.{◌≡◌, Some, arith, inl, refl, subst}
 use Rattle.std.specs.Prelude.{IfSome}
-use Rattle.lease_manager.specs.PassLeases.{AreWritten}
-use Rattle.client_log.specs.Steps.{CanBeSealed}
-use Rattle.lease_manager.specs.Passes.{client_of}
+use Rattle.libfs.specs.lease_manager.PassLeases.{AreWritten}
+use Rattle.libfs.specs.client_log.Steps.{CanBeSealed}
+use Rattle.libfs.specs.lease_manager.Passes.{client_of}
 use Rattle.libfs.specs.RegionSeal.{HasSealed}
 use Rattle.libfs.specs.SealedRegion.{SealedRegionView, IsUntouched}
 use Rattle.event_steps.specs.Effects.{Carries}

@@ -1,7 +1,7 @@
 use Rattle.std.proofs.Common.{◌≡◌, true, ap, ◌∙◌}
 use Rattle.std.specs.Prelude.{is_some, not}
 use Rattle.std.proofs.lemmas.Bool.{and_parts}
-use Rattle.update_log.specs.Stage.{progress}
+use Rattle.libfs.specs.update_log.Stage.{progress}
 use Rattle.libfs.specs.View.{is_pending}
 use Rattle.event_steps.specs.Sound.{owner_of}
 use Rattle.event_steps.specs.View.{SeatView}

@@ -1,5 +1,5 @@
 use Rattle.std.proofs.Common.{◌≡◌, subst}
-use Rattle.client_log.specs.View.{current_records}
+use Rattle.libfs.specs.client_log.View.{current_records}
 use Rattle.event_steps.specs.View.{SeatView}
 use Rattle.event_steps.proofs.system.System.current_records.Goals as goal
 

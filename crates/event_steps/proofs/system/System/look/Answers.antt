@@ -1,11 +1,11 @@
 use Rattle.std.proofs.Common.{◌≡◌, subst}
 use Rattle.std.specs.Prelude.{IfErr, IfOk}
-use Rattle.call_effects.specs.NodeView.{view_at}
-use Rattle.kernel_fs.specs.KernelAnswers.{OnRefusal}
-use Rattle.area_reader.specs.declared.error.AreaError.TheVariants.{Memory}
-use Rattle.area_reader.specs.Map.{WantsMemory}
-use Rattle.kernel_fs.specs.MachineState.{IsMarkIn}
-use Rattle.area_reader.specs.Store.{graph, disk}
+use Rattle.libfs.specs.call_effects.NodeView.{view_at}
+use Rattle.libfs.specs.kernel_fs.KernelAnswers.{OnRefusal}
+use Rattle.libfs.specs.area_reader.declared.error.AreaError.TheVariants.{Memory}
+use Rattle.libfs.specs.area_reader.Map.{WantsMemory}
+use Rattle.libfs.specs.kernel_fs.MachineState.{IsMarkIn}
+use Rattle.libfs.specs.area_reader.Store.{graph, disk}
 use Rattle.event_steps.specs.View.{SystemView}
 use Rattle.event_steps.proofs.system.System.look.Goals as goal
 

@@ -1,5 +1,5 @@
 use Rattle.std.proofs.Common.{◌≡◌, ◌-◌, ℕ, List, Some, arith, ap, slice_get, subst, sym, ◌∙◌}
-use Rattle.lease_manager.specs.Parts.{AreCompatible}
+use Rattle.libfs.specs.lease_manager.Parts.{AreCompatible}
 use Rattle.event_steps.specs.Sound.{AreSeats}
 use Rattle.event_steps.specs.View.{HasSeat, SeatView, SystemView}
 use Rattle.event_steps.proofs.Seats.{client_is, put_whole, seat_at}

@@ -1,5 +1,5 @@
 use Rattle.std.proofs.Common.{◌≡◌, ◌-◌, ◌<◌, ℕ, true, arith, length, slice_index_or, slice_set, subst, sym, Some}
-use Rattle.lease_manager.specs.Words.{IsClient}
+use Rattle.libfs.specs.lease_manager.Words.{IsClient}
 use Rattle.event_steps.specs.Effects.{Carries, MakesAt}
 use Rattle.event_steps.specs.Turns.{IsTurnOf}
 use Rattle.event_steps.specs.View.{SeatView, SystemView}

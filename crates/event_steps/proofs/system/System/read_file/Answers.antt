@@ -1,12 +1,12 @@
 use Rattle.std.proofs.Common.{◌≡◌, ◌-◌, ◌*◌, ℕ, length, subst}
 use Rattle.std.specs.Prelude.{IfErr, IfOk, OnErr, min}
-use Rattle.kernel_fs.specs.KernelAnswers.{OnRefusal}
-use Rattle.kernel_fs.specs.MachineState.{IsMarkIn}
-use Rattle.area_reader.specs.declared.error.AreaError.TheVariants.{Memory}
-use Rattle.area_reader.specs.Map.{WantsMemory}
-use Rattle.area_reader.specs.Store.{graph, disk}
+use Rattle.libfs.specs.kernel_fs.KernelAnswers.{OnRefusal}
+use Rattle.libfs.specs.kernel_fs.MachineState.{IsMarkIn}
+use Rattle.libfs.specs.area_reader.declared.error.AreaError.TheVariants.{Memory}
+use Rattle.libfs.specs.area_reader.Map.{WantsMemory}
+use Rattle.libfs.specs.area_reader.Store.{graph, disk}
 use Rattle.posix_calls.specs.declared.limits.TheConstants.{UNIT_BYTES}
-use Rattle.shared_area.specs.FileReads.{bytes_of_inode, IsReadFrom}
+use Rattle.libfs.specs.shared_area.FileReads.{bytes_of_inode, IsReadFrom}
 use Rattle.event_steps.specs.View.{SystemView}
 use Rattle.event_steps.proofs.system.System.read_file.Goals as goal
 

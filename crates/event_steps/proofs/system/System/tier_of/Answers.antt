@@ -1,9 +1,9 @@
 use Rattle.std.proofs.Common.{◌≡◌, subst}
 use Rattle.std.specs.Prelude.{IfErr}
-use Rattle.kernel_fs.specs.KernelAnswers.{OnRefusal}
-use Rattle.area_reader.specs.declared.error.AreaError.TheVariants.{Memory}
-use Rattle.area_reader.specs.Map.{WantsMemory}
-use Rattle.area_reader.specs.Store.{disk}
+use Rattle.libfs.specs.kernel_fs.KernelAnswers.{OnRefusal}
+use Rattle.libfs.specs.area_reader.declared.error.AreaError.TheVariants.{Memory}
+use Rattle.libfs.specs.area_reader.Map.{WantsMemory}
+use Rattle.libfs.specs.area_reader.Store.{disk}
 use Rattle.event_steps.specs.View.{SystemView}
 use Rattle.event_steps.proofs.system.System.tier_of.Goals as goal
 

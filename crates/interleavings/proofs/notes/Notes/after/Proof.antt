@@ -27,8 +27,8 @@ use denote.Triple.Spec.{Meets, triple_of}
 use denote.Triple.Table.{entered}
 use denote.Triple.Walked.{says, Stays, stay_dropped, walk_of, ends_at, walk_Meets, Goes-dropped}
 use Rattle.system_laws.specs.KeptCalls.{calls_then}
-use Rattle.event_steps.specs.contracts.event.Event as Event
-use Rattle.event_steps.specs.contracts.outcome.Outcome as Outcome
+use Rattle.system_laws.specs.event_steps.contracts.event.Event as Event
+use Rattle.system_laws.specs.event_steps.contracts.outcome.Outcome as Outcome
 use Rattle.interleavings.specs.contracts.notes.Notes as Noted
 use Rattle.interleavings.specs.contracts.notes.Notes.after as F
 use Rattle.interleavings.specs.contracts.notes.Notes.after.Key.{name as #self}

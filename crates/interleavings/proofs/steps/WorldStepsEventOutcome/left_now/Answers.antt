@@ -1,5 +1,5 @@
 use Rattle.std.proofs.Common.{subst}
-use Rattle.event_lists.specs.Plays.{IsRecovered}
+use Rattle.system_laws.specs.event_lists.Plays.{IsRecovered}
 use Rattle.system_laws.specs.Steps.{recoverable}
 use Rattle.system_laws.specs.WorldView.{WorldView}
 use Rattle.interleavings.proofs.steps.WorldStepsEventOutcome.left_now.Goals as goal

@@ -1,10 +1,10 @@
 use Rattle.std.proofs.Common.{◌≡◌, ℕ, ap, ◌∙◌, subst}
 use Rattle.std.specs.Prelude.{IfErr, IfOk, IfSome}
-use Rattle.area_reader.specs.Map.{WantsMemory}
-use Rattle.area_reader.specs.Store.{disk}
-use Rattle.area_reader.specs.declared.error.AreaError.TheVariants.{Memory}
-use Rattle.kernel_fs.specs.KernelAnswers.{OnRefusal}
-use Rattle.migrator.specs.RunChoice.{IsPicked, MayBeMoved}
+use Rattle.system_laws.specs.area_reader.Map.{WantsMemory}
+use Rattle.system_laws.specs.area_reader.Store.{disk}
+use Rattle.system_laws.specs.area_reader.declared.error.AreaError.TheVariants.{Memory}
+use Rattle.system_laws.specs.kernel_fs.KernelAnswers.{OnRefusal}
+use Rattle.system_laws.specs.migrator.RunChoice.{IsPicked, MayBeMoved}
 use Rattle.system_laws.specs.WorldTree.{world_tree}
 use Rattle.system_laws.specs.WorldView.{WorldView}
 use Rattle.interleavings.proofs.world.World.pick.Goals as goal

@@ -1,5 +1,5 @@
 use Rattle.std.proofs.Common.{◌∙◌, ap}
-use Rattle.file_graph.specs.Graph.{Graph, graph_of, set_node}
+use Rattle.system_laws.specs.file_graph.Graph.{Graph, graph_of, set_node}
 use Rattle.interleavings.proofs.NodePuts.{on_ok}
 use Rattle.interleavings.proofs.Snapshots.{same_shared}
 use Rattle.interleavings.proofs.world.World.put_node.Goals as goal

@@ -1,5 +1,5 @@
 use Rattle.std.proofs.Common.{◌≡◌, ◌+◌, ◌-◌, ℕ, ap, sym, ◌∙◌, arith}
-use Rattle.file_graph.specs.Graph.{Graph, graph_of, set_node}
+use Rattle.system_laws.specs.file_graph.Graph.{Graph, graph_of, set_node}
 use Rattle.interleavings.specs.Snapshots.{shared_graph, with_nodes}
 use Rattle.interleavings.proofs.Snapshots.{more_nodes, quiet_then, read_then, same_shared}
 use Rattle.interleavings.proofs.world.World.put_nodes.Goals as goal

@@ -1,5 +1,5 @@
 use Rattle.std.proofs.Common.{◌≡◌, ◌-◌, ◌≤◌}
-use Rattle.file_graph.specs.Graph.{graph_of}
+use Rattle.system_laws.specs.file_graph.Graph.{graph_of}
 use Rattle.interleavings.specs.Snapshots.{IsQuiet, IsRead, shared_graph, with_nodes}
 use Rattle.interleavings.proofs.world.World.put_nodes.Given as goal
 

@@ -1,5 +1,5 @@
 use Rattle.std.proofs.Common.{◌≡◌, false, subst}
-use Rattle.file_graph.specs.Graph.{fresh, graph_of}
+use Rattle.system_laws.specs.file_graph.Graph.{fresh, graph_of}
 use Rattle.system_laws.specs.WorldTree.{whole_graph}
 use Rattle.system_laws.specs.WorldView.{WorldView}
 use Rattle.interleavings.specs.Snapshots.{shared_graph, with_nodes}

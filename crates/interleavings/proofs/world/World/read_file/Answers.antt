@@ -1,12 +1,12 @@
 use Rattle.std.proofs.Common.{◌≡◌, ◌-◌, ◌*◌, ℕ, ap, length, ◌∙◌, subst}
 use Rattle.std.specs.Prelude.{IfErr, IfOk, OnErr, min}
-use Rattle.area_reader.specs.Map.{WantsMemory}
-use Rattle.area_reader.specs.Store.{disk, graph}
-use Rattle.area_reader.specs.declared.error.AreaError.TheVariants.{Memory}
-use Rattle.kernel_fs.specs.KernelAnswers.{OnRefusal}
-use Rattle.kernel_fs.specs.MachineState.{IsMarkIn}
+use Rattle.system_laws.specs.area_reader.Map.{WantsMemory}
+use Rattle.system_laws.specs.area_reader.Store.{disk, graph}
+use Rattle.system_laws.specs.area_reader.declared.error.AreaError.TheVariants.{Memory}
+use Rattle.system_laws.specs.kernel_fs.KernelAnswers.{OnRefusal}
+use Rattle.system_laws.specs.kernel_fs.MachineState.{IsMarkIn}
 use Rattle.posix_calls.specs.declared.limits.TheConstants.{UNIT_BYTES}
-use Rattle.shared_area.specs.FileReads.{IsReadFrom, bytes_of_inode}
+use Rattle.system_laws.specs.shared_area.FileReads.{IsReadFrom, bytes_of_inode}
 use Rattle.system_laws.specs.WorldTree.{world_tree}
 use Rattle.system_laws.specs.WorldView.{WorldView}
 use Rattle.interleavings.proofs.world.World.read_file.Goals as goal

@@ -1,6 +1,6 @@
 use Rattle.std.proofs.Common.{ap, sym, ◌∙◌}
-use Rattle.call_effects.specs.Wholes.{state_of}
-use Rattle.file_graph.specs.Graph.{Graph, fresh}
+use Rattle.system_laws.specs.call_effects.Wholes.{state_of}
+use Rattle.system_laws.specs.file_graph.Graph.{Graph, fresh}
 use Rattle.system_laws.specs.WorldTree.{opened_in}
 use Rattle.interleavings.specs.Snapshots.{shared_graph, with_nodes}
 use Rattle.interleavings.proofs.Snapshots.{same_shared, same_tree, same_whole}

@@ -1,8 +1,8 @@
 use Rattle.std.proofs.Common.{List, refl, sym, subst}
 use Rattle.std.specs.List.{AllByRecursion}
-use Rattle.file_graph.specs.declared.effect.Effect.{Effect}
-use Rattle.file_graph.specs.Graph.{after_effects}
-use Rattle.log_record.specs.Grammar.{FitsLimits, IsRecord}
+use Rattle.world_invariant.specs.file_graph.declared.effect.Effect.{Effect}
+use Rattle.world_invariant.specs.file_graph.Graph.{after_effects}
+use Rattle.world_invariant.specs.log_record.Grammar.{FitsLimits, IsRecord}
 use Rattle.world_invariant.specs.Logs.{after_records}
 use Rattle.kernel_fs.specs.Inodes.{has}
 use Rattle.kernel_fs.specs.Nodes.{AreNodes}

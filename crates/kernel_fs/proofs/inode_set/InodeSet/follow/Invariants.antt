@@ -1,4 +1,4 @@
-use Rattle.file_graph.specs.Graph.{Graph}
+use Rattle.world_invariant.specs.file_graph.Graph.{Graph}
 use Rattle.world_invariant.specs.Logs.{after_records}
 use Rattle.kernel_fs.specs.Inodes.{has}
 use Rattle.kernel_fs.specs.Nodes.{AreNodes}

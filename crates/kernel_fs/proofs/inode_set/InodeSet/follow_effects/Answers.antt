@@ -1,6 +1,6 @@
 use Rattle.std.proofs.Common.{refl, sym, subst}
-use Rattle.file_graph.specs.Graph.{after_effect, after_effects}
-use Rattle.log_record.specs.Grammar.{FitsLimits}
+use Rattle.world_invariant.specs.file_graph.Graph.{after_effect, after_effects}
+use Rattle.world_invariant.specs.log_record.Grammar.{FitsLimits}
 use Rattle.kernel_fs.specs.Inodes.{has}
 use Rattle.kernel_fs.proofs.Leading.{all_at, begins, ends, goes_on}
 use Rattle.kernel_fs.proofs.inode_set.InodeSet.follow_effects.Goals as goal

@@ -1,4 +1,4 @@
-use Rattle.file_graph.specs.Graph.{Graph, after_effects}
+use Rattle.world_invariant.specs.file_graph.Graph.{Graph, after_effects}
 use Rattle.kernel_fs.specs.Inodes.{has}
 use Rattle.kernel_fs.specs.Nodes.{AreNodes}
 use Rattle.kernel_fs.proofs.Leading.{LeadsOn}

@@ -1,5 +1,5 @@
 use Rattle.std.proofs.Common.{◌≡◌, ◌∙◌, ℕ, ap, sym, subst, refl}
-use Rattle.area_reader.specs.Store.{disk}
+use Rattle.migrator.specs.area_reader.Store.{disk}
 use Rattle.digester.specs.SealedLog.{StandsAtMark}
 use Rattle.world_invariant.specs.Machine.{accept, Sealed}
 use Rattle.kernel_fs.specs.Book.{IsBookOf, waiting_of}

@@ -1,8 +1,8 @@
 use Rattle.std.proofs.Common.{◌∙◌, ℕ, ◌≤◌, ◌+◌, refl, sym, subst, take, arith, drop, length, ◌<◌, ◌-◌, List}
-use Rattle.area_reader.specs.Store.{disk, graph}
+use Rattle.migrator.specs.area_reader.Store.{disk, graph}
 use Rattle.digester.specs.SealedLog.{SealedView, StandsAtMark, undone}
-use Rattle.file_graph.specs.Units.{charge}
-use Rattle.layout.specs.Places.{Sizes}
+use Rattle.world_invariant.specs.file_graph.Units.{charge}
+use Rattle.migrator.specs.layout.Places.{Sizes}
 use Rattle.kernel_fs.specs.Book.{units_of, out_of, Accounts, IsBookOf}
 use Rattle.world_invariant.specs.Logs.{units_in}
 use Rattle.kernel_fs.specs.Inodes.{has}

@@ -1,6 +1,6 @@
 use Rattle.std.proofs.Common.{◌≡◌, false, subst}
 use Rattle.std.specs.Prelude.{◌↔◌, IsTrue}
-use Rattle.area_reader.specs.Store.{disk}
+use Rattle.migrator.specs.area_reader.Store.{disk}
 use Rattle.kernel_fs.specs.History.{HasRun}
 use Rattle.kernel_fs.specs.KernelView.{KernelView}
 use Rattle.kernel_fs.specs.MachineState.{StandBeforeRegions}

@@ -1,8 +1,8 @@
 use Rattle.std.proofs.Common.{◌≡◌, List, ℕ, false, subst}
 use Rattle.tier_device.specs.declared.media.Tier.{Tier}
 use Rattle.tier_device.specs.AfterStop.{AtRest, Left}
-use Rattle.area_reader.specs.Store.{disk}
-use Rattle.shared_area.specs.Ready.{OpensAs}
+use Rattle.migrator.specs.area_reader.Store.{disk}
+use Rattle.migrator.specs.shared_area.Ready.{OpensAs}
 use Rattle.kernel_fs.specs.KernelView.{KernelView}
 use Rattle.kernel_fs.proofs.kernel.Kernel.left_now.Goals as goal
 

@@ -1,7 +1,7 @@
 use Rattle.std.proofs.Common.{◌∙◌, sym, subst}
-use Rattle.area_reader.specs.Store.{disk}
-use Rattle.relocation.specs.TierMove.{CanMove}
-use Rattle.shared_area.specs.TierMoves.{HasTooFew}
+use Rattle.migrator.specs.area_reader.Store.{disk}
+use Rattle.migrator.specs.relocation.TierMove.{CanMove}
+use Rattle.migrator.specs.shared_area.TierMoves.{HasTooFew}
 use Rattle.kernel_fs.specs.KernelView.{KernelView}
 use Rattle.kernel_fs.specs.MachineState.{IsKernelOf}
 use Rattle.kernel_fs.specs.Inodes.{has}

@@ -1,6 +1,6 @@
 use Rattle.std.proofs.Common.{ap}
-use Rattle.batch_journal.proofs.Courses.{tiers_same}
-use Rattle.area_reader.specs.Store.{store_of, disk, graph}
+use Rattle.migrator.proofs.batch_journal_lemmas.Courses.{tiers_same}
+use Rattle.migrator.specs.area_reader.Store.{store_of, disk, graph}
 use Rattle.kernel_fs.specs.Inodes.{has}
 use Rattle.kernel_fs.proofs.MediaSteps.{moved_nodes, opened_kernel}
 use Rattle.kernel_fs.proofs.Runs.{begins}

@@ -1,7 +1,7 @@
 use Rattle.std.proofs.Common.{◌≡◌, false, refl, ◌∙◌, sym, subst}
 use Rattle.std.specs.Prelude.{Ok, Err}
-use Rattle.area_reader.specs.Store.{disk, graph}
-use Rattle.batch_journal.specs.Course.{Unmoved}
+use Rattle.migrator.specs.area_reader.Store.{disk, graph}
+use Rattle.migrator.specs.batch_journal.Course.{Unmoved}
 use Rattle.world_invariant.specs.Logs.{IsNameless}
 use Rattle.kernel_fs.specs.KernelAnswers.{Answers, kernel_answer}
 use Rattle.kernel_fs.specs.Reclaim.{IsUnused, ReclaimsOrStays, StaysOrReclaims}

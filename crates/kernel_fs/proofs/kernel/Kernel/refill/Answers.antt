@@ -1,7 +1,7 @@
 use Rattle.std.proofs.Common.{◌≡◌, ◌∙◌, ℕ, ◌+◌, ◌<◌, ◌≤◌, ◌||◌, List, Bool, false, refl, sym, subst}
 use Rattle.std.specs.Prelude.{◌↔◌, Ok, Err, IsErrOf}
-use Rattle.file_graph.specs.Units.{charge}
-use Rattle.area_reader.specs.Store.{disk, graph}
+use Rattle.world_invariant.specs.file_graph.Units.{charge}
+use Rattle.migrator.specs.area_reader.Store.{disk, graph}
 use Rattle.kernel_fs.specs.Book.{is_free, out_of, Accounts, IsBookOf}
 use Rattle.kernel_fs.specs.Free.{AreLowest, count_of}
 use Rattle.kernel_fs.specs.Nodes.{nodes_in}

@@ -1,7 +1,7 @@
 use Rattle.std.proofs.Common.{subst, sym}
 use Rattle.std.specs.Prelude.{◌↔◌, IsTrue}
-use Rattle.batch_journal.specs.View.{JournalView}
-use Rattle.area_reader.specs.Store.{disk}
+use Rattle.migrator.specs.batch_journal.View.{JournalView}
+use Rattle.migrator.specs.area_reader.Store.{disk}
 use Rattle.kernel_fs.specs.MachineState.{StandBeforeRegions}
 use Rattle.kernel_fs.proofs.MediaSteps.{store_before}
 use Rattle.kernel_fs.proofs.opening.Opening.of.Goals as goal

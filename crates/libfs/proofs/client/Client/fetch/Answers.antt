@@ -1,5 +1,5 @@
 use Rattle.std.proofs.Common.{inl, inr, refl, ap, sym, ◌∙◌}
-use Rattle.call_effects.specs.Knowledge.{with_copy}
+use Rattle.client_log.specs.call_effects.Knowledge.{with_copy}
 use Rattle.libfs.specs.ClientHoldings.{known_to}
 use Rattle.libfs.proofs.Served.{none_there}
 use Rattle.libfs.proofs.client.Client.fetch.Goals as goal

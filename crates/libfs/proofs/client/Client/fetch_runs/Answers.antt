@@ -1,8 +1,8 @@
 use Rattle.std.proofs.Common.{◌≡◌, ◌+◌, ◌-◌, ◌*◌, ◌≤◌, ◌/◌, ◌∙◌, subst, arith}
 use Rattle.std.proofs.Math.Nat.{div-mul-le_self}
 use Rattle.std.proofs.lemmas.Result.{on_ok_weaker}
-use Rattle.area_reader.specs.Looks.{call_answer}
-use Rattle.area_reader.proofs.Looked.{looks_on, store_same}
+use Rattle.kernel_fs.specs.area_reader.Looks.{call_answer}
+use Rattle.kernel_fs.proofs.area_reader_lemmas.Looked.{looks_on, store_same}
 use Rattle.libfs.specs.NeedService.{HasFetchedBlocks, HasThem}
 use Rattle.libfs.proofs.FetchedNodes.{has_more, more_came, no_more_than}
 use Rattle.libfs.proofs.client.Client.fetch_runs.Goals as goal

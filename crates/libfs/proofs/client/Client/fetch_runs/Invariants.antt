@@ -1,5 +1,5 @@
 use Rattle.std.proofs.Common.{◌≡◌, ◌*◌}
-use Rattle.area_reader.specs.Looks.{Looks, call_answer}
+use Rattle.kernel_fs.specs.area_reader.Looks.{Looks, call_answer}
 use Rattle.libfs.specs.NeedService.{HasFetchedBlocks, HasThem}
 use Rattle.libfs.proofs.client.Client.fetch_runs.Given as goal
 

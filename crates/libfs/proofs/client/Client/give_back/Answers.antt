@@ -1,7 +1,7 @@
 use Rattle.std.proofs.Common.{◌≡◌, ◌+◌, ℕ, Bool, ap, ◌∙◌, subst}
 use Rattle.std.specs.Prelude.{◌&&◌, min}
 use Rattle.kernel_fs.specs.Book.{out_of, units_of}
-use Rattle.file_graph.specs.Numbers.{is_inode}
+use Rattle.lease_manager.specs.file_graph.Numbers.{is_inode}
 use Rattle.kernel_fs.specs.Inodes.{has}
 use Rattle.kernel_fs.specs.Steps.{take_back}
 use Rattle.kernel_fs.specs.MachineState.{IsKernelOf}

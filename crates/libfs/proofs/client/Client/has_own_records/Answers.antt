@@ -1,8 +1,8 @@
 use Rattle.std.proofs.Common.{◌≡◌, ◌++◌, List, ap, arith, sym, ◌∙◌, subst}
 use Rattle.std.proofs.lemmas.Bool.Decides.{nat_tests}
-use Rattle.update_log.specs.Frames.{with_record}
+use Rattle.client_log.specs.update_log.Frames.{with_record}
 use Rattle.lease_manager.specs.RecordCounts.{touch_count}
-use Rattle.log_record.specs.declared.format.Record.{Record}
+use Rattle.lease_manager.specs.log_record.declared.format.Record.{Record}
 use Rattle.libfs.specs.View.{ClientView, begun_record, own_records}
 use Rattle.libfs.proofs.client.Client.has_own_records.Goals as goal
 

@@ -1,6 +1,6 @@
 use Rattle.std.proofs.Common.{List, ap, sym, ◌∙◌}
 use Rattle.client_log.specs.View.{current_records}
-use Rattle.log_record.specs.declared.format.Record.{Record}
+use Rattle.lease_manager.specs.log_record.declared.format.Record.{Record}
 use Rattle.client_view.specs.After.{run_laid}
 use Rattle.libfs.specs.View.{ClientView}
 use Rattle.libfs.specs.NeedService.{records_behind}

@@ -1,14 +1,14 @@
 use Rattle.std.proofs.Common.{◌≡◌, ◌≤◌, ℕ, length, subst, None}
 use Rattle.posix_calls.specs.declared.call.Call.TheVariants.{Pwrite}
 use Rattle.posix_calls.specs.declared.limits.TheConstants.{MAX_TRANSFER}
-use Rattle.call_effects.specs.Knowledge.{part_of}
-use Rattle.client_plan.specs.PlainWrite.{IsPlainWrite, write_logged, written_by}
-use Rattle.client_plan.specs.declared.plain_writes.PlainWrite.{PlainWrite}
+use Rattle.client_log.specs.call_effects.Knowledge.{part_of}
+use Rattle.client_view.specs.client_plan.PlainWrite.{IsPlainWrite, write_logged, written_by}
+use Rattle.client_view.specs.client_plan.declared.plain_writes.PlainWrite.{PlainWrite}
 use Rattle.client_view.specs.KnowledgeTables.{knows}
 use Rattle.libfs.specs.View.{ClientView}
 use Rattle.libfs.specs.ClientHoldings.{holdings_of, known_to, outcome_for}
 use Rattle.libfs.specs.CallStart.{IsReadyToBegin}
-use Rattle.update_log.proofs.Options.{if_some_weaker}
+use Rattle.client_log.proofs.update_log_lemmas.Options.{if_some_weaker}
 use Rattle.libfs.proofs.Ready.{plain_few, plain_ready}
 use Rattle.libfs.proofs.client.Client.plain_write.Goals as goal
 

@@ -1,8 +1,8 @@
 use Rattle.std.proofs.Common.{◌≡◌, ◌∙◌, ap}
 use Rattle.std.specs.Option.{ForSome}
-use Rattle.call_effects.specs.Knowledge.{part_of}
-use Rattle.client_plan.specs.CallPlan.{outcome, OpensInRange, change_in}
-use Rattle.client_plan.specs.declared.outcome.Outcome.{Outcome}
+use Rattle.client_log.specs.call_effects.Knowledge.{part_of}
+use Rattle.client_view.specs.client_plan.CallPlan.{outcome, OpensInRange, change_in}
+use Rattle.client_view.specs.client_plan.declared.outcome.Outcome.{Outcome}
 use Rattle.client_view.specs.KnowledgeTables.{knows}
 use Rattle.libfs.specs.View.{ClientView}
 use Rattle.libfs.specs.ClientHoldings.{holdings_of}

@@ -1,6 +1,6 @@
 use Rattle.std.proofs.Common.{◌≡◌, None, ap, sym, ◌∙◌, subst}
 use Rattle.std.specs.Prelude.{◌==◌, IsSome}
-use Rattle.call_effects.specs.Knowledge.{Knowledge, with_copy}
+use Rattle.client_log.specs.call_effects.Knowledge.{Knowledge, with_copy}
 use Rattle.client_view.specs.KnowledgeTables.{Held, copy_at}
 use Rattle.libfs.specs.ClientHoldings.{known_to}
 use Rattle.libfs.specs.View.{ClientView}

@@ -1,12 +1,12 @@
 use Rattle.std.proofs.Common.{◌+◌, ◌∙◌, Some, ap, refl, subst}
 use Rattle.client_view.specs.After.{bytes_at}
-use Rattle.call_effects.specs.Blocks.{block_of}
-use Rattle.file_graph.specs.Graph.{Graph}
+use Rattle.client_log.specs.call_effects.Blocks.{block_of}
+use Rattle.lease_manager.specs.file_graph.Graph.{Graph}
 use Rattle.lease_manager.specs.Passes.{client_of}
-use Rattle.area_reader.specs.Looks.{call_answer}
-use Rattle.area_reader.specs.Store.{Store}
+use Rattle.kernel_fs.specs.area_reader.Looks.{call_answer}
+use Rattle.kernel_fs.specs.area_reader.Store.{Store}
 use Rattle.kernel_fs.specs.MachineState.{IsMarkIn}
-use Rattle.area_reader.proofs.Looked.{looks_on, store_same}
+use Rattle.kernel_fs.proofs.area_reader_lemmas.Looked.{looks_on, store_same}
 use Rattle.libfs.specs.NeedService.{shared_by}
 use Rattle.libfs.proofs.FetchedRuns.{read_more, shared_same}
 use Rattle.libfs.proofs.client.Client.read_run.Goals as goal

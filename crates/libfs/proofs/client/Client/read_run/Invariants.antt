@@ -1,8 +1,8 @@
 use Rattle.std.proofs.Common.{◌≡◌, ◌<◌, Some}
 use Rattle.client_view.specs.After.{bytes_at}
-use Rattle.area_reader.specs.Looks.{Looks, call_answer}
-use Rattle.area_reader.specs.Store.{disk}
-use Rattle.layout.specs.declared.marks.Mark.{Mark}
+use Rattle.kernel_fs.specs.area_reader.Looks.{Looks, call_answer}
+use Rattle.kernel_fs.specs.area_reader.Store.{disk}
+use Rattle.kernel_fs.specs.layout.declared.marks.Mark.{Mark}
 use Rattle.kernel_fs.specs.MachineState.{IsMarkIn}
 use Rattle.lease_manager.specs.Passes.{client_of}
 use Rattle.libfs.specs.NeedService.{IsRunOf, shared_by}

@@ -2,9 +2,9 @@ use Rattle.std.proofs.Common.{◌≡◌, ℕ, List, length, refl, sym, ◌∙◌
 use Rattle.std.specs.List.{AllByRecursion}
 use Rattle.client_log.specs.Regions.{IsSealedRegion}
 use Rattle.client_log.specs.Steps.{CanBeSealed}
-use Rattle.log_record.specs.Grammar.{IsRecord}
-use Rattle.log_record.specs.declared.format.Record.{Record}
-use Rattle.update_log.specs.View.{records_of}
+use Rattle.lease_manager.specs.log_record.Grammar.{IsRecord}
+use Rattle.lease_manager.specs.log_record.declared.format.Record.{Record}
+use Rattle.client_log.specs.update_log.View.{records_of}
 use Rattle.libfs.specs.RegionSeal.{HasSealed}
 use Rattle.libfs.specs.SealedRegion.{SealedRegionView}
 use Rattle.libfs.specs.View.{ClientView}

@@ -1,7 +1,7 @@
 use Rattle.std.proofs.Common.{ℕ, sym, subst}
 use Rattle.std.specs.Prelude.{OnOk}
 use Rattle.std.proofs.lemmas.Result.{on_ok_weaker}
-use Rattle.client_plan.specs.declared.need.Need.{Need}
+use Rattle.client_view.specs.client_plan.declared.need.Need.{Need}
 use Rattle.libfs.specs.NeedService.{HasFetchedBlocks, HasServed, HasThem}
 use Rattle.libfs.proofs.client.Client.serve.Goals as goal
 

@@ -1,12 +1,12 @@
 use Rattle.std.proofs.Common.{◌≡◌, inl, inr, Bool, true, false, refl, ap, sym, ◌∙◌, subst}
 use Rattle.std.specs.Prelude.{◌||◌}
-use Rattle.call_effects.specs.Knowledge.{part_of}
-use Rattle.client_plan.specs.Memory.{wants_memory}
-use Rattle.client_plan.specs.declared.outcome.Outcome.{Outcome}
-use Rattle.client_plan.specs.declared.outcome.Outcome.TheVariants as outcomes
+use Rattle.client_log.specs.call_effects.Knowledge.{part_of}
+use Rattle.client_view.specs.client_plan.Memory.{wants_memory}
+use Rattle.client_view.specs.client_plan.declared.outcome.Outcome.{Outcome}
+use Rattle.client_view.specs.client_plan.declared.outcome.Outcome.TheVariants as outcomes
 use Rattle.libfs.specs.ClientHoldings.{holdings_of, known_to, outcome_for}
 use Rattle.libfs.specs.CallStart.{HasStarted, is_logged}
-use Rattle.client_plan.specs.PlainWrite.{write_logged}
+use Rattle.client_view.specs.client_plan.PlainWrite.{write_logged}
 use Rattle.libfs.proofs.client.Client.start.Goals as goal
 
 or_so : (a b : Bool) → b ≡ true → (a || b) ≡ true

@@ -1,5 +1,5 @@
 use Rattle.std.proofs.Common.{◌≤◌, List, ap, sym, ◌∙◌, subst}
-use Rattle.log_record.specs.declared.format.Record.{Record}
+use Rattle.lease_manager.specs.log_record.declared.format.Record.{Record}
 use Rattle.lease_manager.specs.Passes.{records_of}
 use Rattle.lease_manager.specs.RecordCounts.{HasCleaned, touch_count}
 use Rattle.client_view.specs.KnowledgeTables.{knows}

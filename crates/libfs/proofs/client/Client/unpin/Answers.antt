@@ -1,6 +1,6 @@
 use Rattle.std.proofs.Common.{◌≡◌, ℕ, ap, ◌∙◌, subst}
 use Rattle.lease_manager.specs.Passes.{client_of}
-use Rattle.world_invariant.specs.Machine.{unbook_pin}
+use Rattle.client_log.specs.world_invariant.Machine.{unbook_pin}
 use Rattle.kernel_fs.specs.MachineState.{IsKernelOf}
 use Rattle.libfs.specs.View.{ClientView}
 use Rattle.libfs.proofs.client.Client.unpin.Goals as goal

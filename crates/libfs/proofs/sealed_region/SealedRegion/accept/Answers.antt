@@ -1,6 +1,6 @@
 use Rattle.std.proofs.Common.{Err, Ok, subst}
 use Rattle.std.proofs.lemmas.Result.{err_from_is_err_and}
-use Rattle.digester.specs.SealedLog.{SealedView}
+use Rattle.kernel_fs.specs.digester.SealedLog.{SealedView}
 use Rattle.libfs.specs.SealedRegion.{AcceptsLog}
 use Rattle.libfs.proofs.sealed_region.SealedRegion.accept.Goals as goal
 

@@ -1,5 +1,5 @@
 use Rattle.std.proofs.Common.{◌≡◌, Option, Some, refl, ◌∙◌, ap, subst}
-use Rattle.digester.specs.SealedLog.{SealedView}
+use Rattle.kernel_fs.specs.digester.SealedLog.{SealedView}
 use Rattle.libfs.specs.SealedRegion.{DigestsChunk, IsKept, SealedRegionView, log_of}
 use Rattle.libfs.proofs.SealedRegions.{kept_on, log_is, log_there, only_done}
 use Rattle.libfs.proofs.sealed_region.SealedRegion.digest.Goals as goal

@@ -1,10 +1,10 @@
 use Rattle.std.proofs.Common.{◌≡◌, ◌≤◌, ℕ, List, length, true, false, sym, subst}
 use Rattle.std.specs.FinMap as fin
 use Rattle.std.specs.Prelude.{OnOk, IsErrOf}
-use Rattle.file_graph.specs.Units.{charge}
-use Rattle.graph_change.specs.Change.{changed_graph}
-use Rattle.graph_change.specs.View.{changes_of}
-use Rattle.batch_journal.specs.View.{JournalView}
+use Rattle.record_validation.specs.file_graph.Units.{charge}
+use Rattle.area_reader.specs.graph_change.Change.{changed_graph}
+use Rattle.area_reader.specs.graph_change.View.{changes_of}
+use Rattle.area_reader.specs.batch_journal.View.{JournalView}
 use Rattle.area_reader.specs.Store.{disk, graph}
 use Rattle.shared_area.specs.ChangeApply.{IsAppliedStore, MakesFewCalls}
 use Rattle.change_plan.specs.Next.{HasFewEntries}

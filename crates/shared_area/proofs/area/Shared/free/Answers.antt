@@ -1,6 +1,6 @@
 use Rattle.std.proofs.Common.{◌≡◌, ◌≤◌, false, subst}
-use Rattle.layout.specs.Places.{data_first, tier_blocks}
-use Rattle.batch_journal.specs.View.{JournalView}
+use Rattle.area_reader.specs.layout.Places.{data_first, tier_blocks}
+use Rattle.area_reader.specs.batch_journal.View.{JournalView}
 use Rattle.area_reader.specs.Store.{disk}
 use Rattle.area_reader.specs.Reads.{Free}
 use Rattle.shared_area.specs.Ready.{HasCount}

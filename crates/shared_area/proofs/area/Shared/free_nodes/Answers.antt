@@ -1,7 +1,7 @@
 use Rattle.std.proofs.Common.{◌≡◌, ◌<◌, false, subst}
 use Rattle.tier_device.specs.declared.media.Tier.TheVariants.{Fast}
-use Rattle.layout.specs.Places.{node_end}
-use Rattle.batch_journal.specs.View.{JournalView}
+use Rattle.area_reader.specs.layout.Places.{node_end}
+use Rattle.area_reader.specs.batch_journal.View.{JournalView}
 use Rattle.area_reader.specs.Store.{disk}
 use Rattle.area_reader.specs.Reads.{Free}
 use Rattle.shared_area.specs.Ready.{HasCount}

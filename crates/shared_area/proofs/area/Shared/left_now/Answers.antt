@@ -2,7 +2,7 @@ use Rattle.std.proofs.Common.{◌≡◌, ◌∙◌, List, ℕ, false, subst, ari
 use Rattle.tier_device.specs.declared.media.Tier.{Tier}
 use Rattle.tier_device.specs.declared.media.Tier.TheVariants.{Fast}
 use Rattle.tier_device.specs.AfterStop.{AtRest, Left}
-use Rattle.batch_journal.specs.View.{JournalView}
+use Rattle.area_reader.specs.batch_journal.View.{JournalView}
 use Rattle.area_reader.specs.Store.{disk, store_of}
 use Rattle.area_reader.specs.Reads.{Loose}
 use Rattle.shared_area.specs.Ready.{OpensAs}

@@ -1,8 +1,8 @@
 use Rattle.std.proofs.Common.{◌≡◌, false, length, refl, subst}
 use Rattle.std.specs.Prelude.{OnOk, IsErrOf}
-use Rattle.batch_journal.specs.View.{JournalView}
+use Rattle.area_reader.specs.batch_journal.View.{JournalView}
 use Rattle.area_reader.specs.Store.{disk, graph, marks}
-use Rattle.area_commit.specs.Value.{data_pool}
+use Rattle.change_plan.specs.area_commit.Value.{data_pool}
 use Rattle.relocation.specs.TierMove.{CanMove, IsMoved}
 use Rattle.relocation.specs.RunMove.{LieInLowest, MovesInFewCalls}
 use Rattle.area_reader.specs.declared.error.AreaError.TheVariants.{NoBlock}

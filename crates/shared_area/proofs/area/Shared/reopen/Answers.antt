@@ -2,10 +2,10 @@ use Rattle.std.proofs.Common.{◌∙◌, ℕ, Err, Ok, sym, ap, subst, arith, in
 use Rattle.std.proofs.lemmas.Bool.{true≢false}
 use Rattle.tier_device.specs.declared.media.Tier.TheVariants.{Fast}
 use Rattle.tier_device.specs.Media.{Rose}
-use Rattle.layout.specs.Places.{Sizes}
-use Rattle.batch_journal.specs.View.{JournalView}
-use Rattle.batch_journal.specs.Volume.{IsVolume}
-use Rattle.batch_journal.proofs.Courses.{unmoved_on, tiers_same}
+use Rattle.area_reader.specs.layout.Places.{Sizes}
+use Rattle.area_reader.specs.batch_journal.View.{JournalView}
+use Rattle.area_reader.specs.batch_journal.Volume.{IsVolume}
+use Rattle.area_reader.proofs.batch_journal_lemmas.Courses.{unmoved_on, tiers_same}
 use Rattle.area_reader.specs.Store.{Store, disk, store_of, marks}
 use Rattle.area_reader.specs.Format.{IsOpenable}
 use Rattle.area_reader.specs.Damage.{IsDamaged}

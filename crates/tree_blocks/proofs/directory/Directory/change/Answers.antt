@@ -2,7 +2,7 @@ use Rattle.std.proofs.Common.{◌≡◌, ◌*◌, ◌∙◌, ℕ, Bool, List, su
 use Rattle.std.specs.FinMap as fin
 use Rattle.std.proofs.lemmas.Bool.{true≢false}
 use Rattle.std.proofs.lemmas.List.{length-take}
-use Rattle.file_graph.specs.NameOrder.{pairs}
+use Rattle.graph_change.specs.file_graph.NameOrder.{pairs}
 use Rattle.graph_change.specs.Net.{with_entries}
 use Rattle.tree_blocks.specs.Inode.{entry_at, named_entries}
 use Rattle.tree_blocks.specs.Directory.{EntryBlocks, numbered_blocks}

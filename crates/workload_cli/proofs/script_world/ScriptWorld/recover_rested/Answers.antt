@@ -1,8 +1,8 @@
 use Rattle.std.proofs.Common.{◌∙◌, inl, inr, None, ap}
 use Rattle.std.specs.Prelude.{Option}
-use Rattle.area_recovery.specs.Parts.{PartsView, part_medium}
-use Rattle.system_laws.specs.Parts.{medium_of}
-use Rattle.system_laws.specs.WorldView.{WorldView}
+use Rattle.world_files.specs.area_recovery.Parts.{PartsView, part_medium}
+use Rattle.call_driver.specs.system_laws.Parts.{medium_of}
+use Rattle.call_driver.specs.system_laws.WorldView.{WorldView}
 use Rattle.workload_cli.specs.Stops.{Recovered, Refused, StaysStopped, Stopped, media_in}
 use Rattle.workload_cli.proofs.script_world.ScriptWorld.recover_rested.Goals as goal
 

@@ -1,6 +1,6 @@
 use Rattle.std.proofs.Common.{◌∙◌, Some, ap}
 use Rattle.std.specs.Prelude.{Option}
-use Rattle.system_laws.specs.WorldView.{WorldView}
+use Rattle.call_driver.specs.system_laws.WorldView.{WorldView}
 use Rattle.workload_cli.specs.Stops.{media_in}
 use Rattle.workload_cli.proofs.script_world.ScriptWorld.take_parts.Goals as goal
 

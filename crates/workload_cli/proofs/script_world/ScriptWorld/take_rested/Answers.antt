@@ -1,7 +1,7 @@
 use Rattle.std.proofs.Common.{Some, ap, refl}
 use Rattle.std.specs.Prelude.{Option}
-use Rattle.area_recovery.proofs.SettlementPhases.{passed_on}
-use Rattle.system_laws.specs.WorldView.{WorldView}
+use Rattle.world_files.proofs.area_recovery_lemmas.SettlementPhases.{passed_on}
+use Rattle.call_driver.specs.system_laws.WorldView.{WorldView}
 use Rattle.workload_cli.specs.Stops.{media_in, media_of}
 use Rattle.workload_cli.proofs.KeptMedia.{media_again, still_media}
 use Rattle.workload_cli.proofs.script_world.ScriptWorld.take_rested.Goals as goal
