@@ -11,5 +11,3 @@ mod words_error;
 pub use option_matches::OptionMatches;
 pub use option_table::{OptionValue, Program, ProgramOption, read_words};
 pub use words_error::WordsError;
-
-/// What `clap` has to say of words: what is wrong with them, or their help.
