@@ -1,9 +1,2 @@
-pub mod PathLemmas
-pub mod CallLemmas
-pub mod UpkeepLemmas
-pub mod ReadLemmas
-pub mod ZeroLemmas
-pub mod RenameLemmas
 pub mod ServedLemmas
-pub mod ReleaseLemmas
 pub mod ListingLemmas

@@ -6,13 +6,13 @@ use Rattle.std.proofs.lemmas.Option.{get_or_from_slice_get, none-some, same_Some
 use Rattle.posix_calls.specs.declared.call.Call.TheVariants as call
 use Rattle.fuse_wire.specs.declared.errno.Refusal.{Refusal}
 use Rattle.fuse_server.specs.declared.listings.Listing.{Listing}
-use Rattle.fuse_server.specs.declared.nodes.Nodes.{Nodes}
-use Rattle.fuse_server.specs.declared.tree.Tree.{Ghosts}
-use Rattle.fuse_server.specs.Calls.{Answers, MayAsk, listed_of}
+use Rattle.mount_nodes.specs.declared.nodes.Nodes.{Nodes}
+use Rattle.mount_nodes.specs.declared.tree.Tree.{Ghosts}
+use Rattle.mount_nodes.specs.Calls.{Answers, MayAsk, listed_of}
 use Rattle.fuse_server.specs.Listings.{DirEntry, Lists, OpensDir, OpensListing, SameBeside, all_entries, folder_above, folder_entry, listing_at, listing_of, named_entries, named_entry}
-use Rattle.fuse_server.specs.Paths.{path_of}
-use Rattle.fuse_server.specs.Refusals.{IsMemory}
-use Rattle.fuse_server.proofs.CallLemmas.{asked_then}
+use Rattle.mount_nodes.specs.Paths.{path_of}
+use Rattle.mount_nodes.specs.Refusals.{IsMemory}
+use Rattle.mount_nodes.proofs.CallLemmas.{asked_then}
 
 -- ---- which directories are open
 

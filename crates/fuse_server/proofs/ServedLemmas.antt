@@ -7,7 +7,7 @@ use Rattle.fuse_wire.specs.Spelling.{header_of}
 use Rattle.fuse_server.specs.declared.answer.Answer.{Answer}
 use Rattle.fuse_server.specs.declared.server.Server.{Server}
 use Rattle.fuse_server.specs.declared.server.ServeError.{ServeError}
-use Rattle.fuse_server.specs.declared.tree.Tree.{Ghosts}
+use Rattle.mount_nodes.specs.declared.tree.Tree.{Ghosts}
 use Rattle.fuse_server.specs.Replies.{IsReplyFor}
 use Rattle.fuse_server.specs.Requests.{IsAnswerTo, IsServed, Serves, ServesRequest}
 

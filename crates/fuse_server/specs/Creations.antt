@@ -1,22 +1,13 @@
--- Files are made.
-use Rattle.std.specs.Prelude.{◌≡◌, ◌⊎◌, ◌==◌, ◌||◌, ◌/◌, ◌%◌, Bool, ℕ, List, true, false, Result, Err, IsErrAnd}
-use Rattle.posix_calls.specs.declared.call.Call.TheVariants as call
+-- Which files a request makes, and how.
+use Rattle.std.specs.Prelude.{◌≡◌, ◌⊎◌, ◌==◌, ◌||◌, ◌/◌, ◌%◌, Bool, ℕ, List, true, false, Result, Err}
 use Rattle.posix_calls.specs.declared.call.Flags.{Flags}
-use Rattle.posix_calls.specs.declared.call.Reply.TheVariants as reply
 use Rattle.posix_calls.specs.declared.errno.Errno.TheVariants as errno
 use Rattle.fuse_wire.specs.declared.errno.Refusal.{Refusal}
 use Rattle.fuse_wire.specs.declared.errno.Refusal.TheVariants as refusal
-use Rattle.fuse_server.specs.declared.attributes.Attributes.{Attributes}
-use Rattle.fuse_server.specs.declared.nodes.Nodes.{Nodes}
-use Rattle.fuse_server.specs.declared.tree.Tree.{Ghosts}
-use Rattle.fuse_server.specs.Calls.{AtPath, MayAsk, description_of}
-use Rattle.fuse_server.specs.Nodes.{DescribesNode}
-use Rattle.fuse_server.specs.Paths.{name_path}
-use Rattle.fuse_server.specs.Upkeep.{IsRefusal, Upkeep}
-
--- how a file is opened that is made where none is: whether a name that is taken refuses it, and a file that is there loses its bytes
-abbrev pub creation : Bool → Bool → Flags
-creation exclusive truncate = record { read = true; write = true; create = true; exclusive = exclusive; truncate = truncate }
+use Rattle.mount_nodes.specs.declared.attributes.Attributes.{Attributes}
+use Rattle.mount_nodes.specs.declared.nodes.Nodes.{Nodes}
+use Rattle.mount_nodes.specs.declared.tree.Tree.{Ghosts}
+use Rattle.mount_nodes.specs.Creations.{MakesAt, creation}
 
 -- so by the flags of open(2), of which O_EXCL is 0200 and O_TRUNC 01000
 abbrev pub creation_by : ℕ → Flags
@@ -27,25 +18,8 @@ abbrev pub is_file_mode : ℕ → Bool
 is_file_mode mode = (mode / 4096 % 16 == 0) || (mode / 4096 % 16 == 8)
 
 module _ {S : Type 0} (tree : Ghosts S) where
-  -- the path is opened, and what is there is described by `Stat`; descriptors may be closed
-  pub record Makes (path : List ℕ) (flags : Flags) (result : Result Attributes Refusal) (s t : S) : Type 0 where
-    pub before : S
-    pub first : Upkeep tree s before
-    pub number : ℕ
-    pub opened : S
-    pub opens : tree.asks before (call.Open path flags) (reply.Opened number) opened
-    pub asked : S
-    pub next : Upkeep tree opened asked
-    pub described : S
-    pub describes : MayAsk tree (call.Stat path) description_of (DescribesNode tree path) result asked described
-    pub rest : Upkeep tree described t
-
-  -- so it is at the path of the name, or it can't be opened
-  abbrev pub MakesAt : Nodes → ℕ → List ℕ → Flags → Result Attributes Refusal → S → S → Type 0
-  MakesAt nodes folder name flags = AtPath (name_path nodes folder name) (λ path result s t. IsErrAnd result (λ e. IsRefusal tree ⊥ e s t) ⊎ Makes path flags result s t)
-
   -- a file that is not there is made where the mode is one of a file; others are not permitted
   abbrev pub MakesNode : Nodes → ℕ → List ℕ → ℕ → Result Attributes Refusal → S → S → Type 0
   MakesNode nodes folder name mode result s t =
-      ((is_file_mode mode ≡ true) × MakesAt nodes folder name (creation true false) result s t)
+      ((is_file_mode mode ≡ true) × MakesAt tree nodes folder name (creation true false) result s t)
       ⊎ ((is_file_mode mode ≡ false) × (result ≡ Err (refusal.Posix errno.NotPermitted)) × (t ≡ s))

@@ -1,14 +1,6 @@
 pub mod Answers
 pub mod Refusals
-pub mod Paths
-pub mod Calls
-pub mod Nodes
-pub mod Upkeep
-pub mod Files
 pub mod Listings
-pub mod Reads
-pub mod Renames
 pub mod Creations
-pub mod Sizes
 pub mod Replies
 pub mod Requests

@@ -11,12 +11,12 @@ use Rattle.fuse_wire.specs.declared.errno.Refusal.TheVariants as refusal
 use Rattle.fuse_wire.specs.Errno.{refusal_number}
 use Rattle.fuse_wire.specs.Replies.{FitsMost, dirents_bytes, error_bytes, reply_bytes}
 use Rattle.fuse_server.specs.declared.listings.Listing.{Listing}
-use Rattle.fuse_server.specs.declared.nodes.Nodes.{Nodes}
-use Rattle.fuse_server.specs.declared.tree.Tree.{Ghosts}
-use Rattle.fuse_server.specs.Calls.{AtPath, MayAsk, listed_of}
-use Rattle.fuse_server.specs.Paths.{first_name, node_at, path_of}
-use Rattle.fuse_server.specs.Refusals.{IsMemory}
-use Rattle.fuse_server.specs.Upkeep.{child_at}
+use Rattle.mount_nodes.specs.declared.nodes.Nodes.{Nodes}
+use Rattle.mount_nodes.specs.declared.tree.Tree.{Ghosts}
+use Rattle.mount_nodes.specs.Calls.{AtPath, MayAsk, listed_of}
+use Rattle.mount_nodes.specs.Paths.{first_name, node_at, path_of}
+use Rattle.mount_nodes.specs.Refusals.{IsMemory}
+use Rattle.mount_nodes.specs.Upkeep.{child_at}
 
 -- ---- entries
 

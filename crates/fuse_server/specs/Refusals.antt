@@ -1,8 +1,5 @@
--- Why a message has no answer, and why a request is refused.
-use Rattle.std.specs.Prelude.{◌≡◌, List, ℕ}
-use Rattle.posix_calls.specs.declared.errno.Errno.TheVariants as errno
-use Rattle.fuse_wire.specs.declared.errno.Refusal.{Refusal}
-use Rattle.fuse_wire.specs.declared.errno.Refusal.TheVariants as refusal
+-- Why a message has no answer.
+use Rattle.std.specs.Prelude.{List, ℕ}
 use Rattle.fuse_wire.specs.Reasons.{IsWrong}
 use Rattle.fuse_server.specs.declared.server.ServeError.{ServeError}
 use Rattle.fuse_server.specs.declared.server.ServeError.TheVariants.{Message, Memory}
@@ -11,7 +8,3 @@ use Rattle.fuse_server.specs.declared.server.ServeError.TheVariants.{Message, Me
 abbrev pub IsNoAnswer : List ℕ → ServeError → Type 0
 IsNoAnswer message (Message error) = IsWrong message error
 IsNoAnswer message Memory = Unit {0}
-
--- memory was wanting
-abbrev pub IsMemory : Refusal → Type 0
-IsMemory e = e ≡ refusal.Posix errno.NoMemory

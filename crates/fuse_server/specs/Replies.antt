@@ -13,9 +13,9 @@ use Rattle.fuse_wire.specs.Fields.{fields_bytes}
 use Rattle.fuse_wire.specs.Replies.{absence_fields, attr_bytes, count_fields, entry_bytes, error_bytes, init_fields, open_fields, reply_bytes, statfs_fields, valid_fields}
 use Rattle.fuse_server.specs.declared.answer.Answer.{Answer}
 use Rattle.fuse_server.specs.declared.answer.Answer.TheVariants as answer
-use Rattle.fuse_server.specs.declared.attributes.Attributes.{Attributes}
+use Rattle.mount_nodes.specs.declared.attributes.Attributes.{Attributes}
 use Rattle.fuse_server.specs.declared.server.Server.{Server}
-use Rattle.fuse_server.specs.declared.tree.Usage.{Usage}
+use Rattle.mount_nodes.specs.declared.tree.Usage.{Usage}
 use Rattle.fuse_server.specs.Listings.{CarriesListing, listing_at}
 
 -- for as long as the mount lasts

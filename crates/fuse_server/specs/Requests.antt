@@ -13,21 +13,22 @@ use Rattle.fuse_wire.specs.Negotiation.{IsOld, LeavesToKernel, TakesOffer}
 use Rattle.fuse_wire.specs.Spelling.{Spells, header_of}
 use Rattle.fuse_server.specs.declared.answer.Answer.{Answer}
 use Rattle.fuse_server.specs.declared.answer.Answer.TheVariants as answer
-use Rattle.fuse_server.specs.declared.attributes.Attributes.{Attributes}
+use Rattle.mount_nodes.specs.declared.attributes.Attributes.{Attributes}
 use Rattle.fuse_server.specs.declared.server.Server.{Server}
-use Rattle.fuse_server.specs.declared.tables.Tables.{Tables}
-use Rattle.fuse_server.specs.declared.tree.Tree.{Ghosts}
-use Rattle.fuse_server.specs.declared.tree.Usage.{Usage}
+use Rattle.mount_nodes.specs.declared.tables.Tables.{Tables}
+use Rattle.mount_nodes.specs.declared.tree.Tree.{Ghosts}
+use Rattle.mount_nodes.specs.declared.tree.Usage.{Usage}
 use Rattle.fuse_server.specs.Answers.{is_silent}
-use Rattle.fuse_server.specs.Creations.{MakesAt, MakesNode, creation_by}
-use Rattle.fuse_server.specs.Files.{Links, Releases, Unlinks, Writes, handle_of}
+use Rattle.mount_nodes.specs.Creations.{MakesAt}
+use Rattle.fuse_server.specs.Creations.{MakesNode, creation_by}
+use Rattle.mount_nodes.specs.Files.{Links, Releases, Unlinks, Writes, handle_of}
 use Rattle.fuse_server.specs.Listings.{ClosesListing, OpensDir}
-use Rattle.fuse_server.specs.Nodes.{Describes, LooksUp, MakesDir, RemovesDir}
-use Rattle.fuse_server.specs.Paths.{node_at}
-use Rattle.fuse_server.specs.Reads.{Reads}
-use Rattle.fuse_server.specs.Renames.{Renames}
+use Rattle.mount_nodes.specs.Nodes.{Describes, LooksUp, MakesDir, RemovesDir}
+use Rattle.mount_nodes.specs.Paths.{node_at}
+use Rattle.mount_nodes.specs.Reads.{Reads}
+use Rattle.mount_nodes.specs.Renames.{Renames}
 use Rattle.fuse_server.specs.Replies.{IsReplyFor}
-use Rattle.fuse_server.specs.Sizes.{SetsAttributes}
+use Rattle.mount_nodes.specs.Sizes.{SetsAttributes}
 
 -- what came of a request is its answer, or why it is refused
 abbrev pub answer_of : {A : Type 0} → (A → Answer) → Result A Refusal → Answer

@@ -1,6 +1,5 @@
-use crate::attributes::Attributes;
-use crate::tree::Usage;
 use fuse_wire::{InitReply, Refusal};
+use mount_nodes::{Attributes, Usage};
 use posix_calls::Bytes;
 
 /// What a request is answered.

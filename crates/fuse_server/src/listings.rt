@@ -1,17 +1,13 @@
 // Directories are read as they were when they were opened.
 ghost use Rattle.std.specs.Prelude.{◌≡◌, ◌+◌, ◌^◌, ◌<◌, ◌≤◌, ℕ, Some, None, IsSome, IfOk, OnOk, OnErr, if◌then◌else◌, length, map, slice_get};
 ghost use Rattle.std.specs.Option.{option_map};
-ghost use Rattle.posix_calls.specs.declared.call.Call.TheVariants as call;
-ghost use Rattle.fuse_server.specs.Calls.{Answers, MayAsk, listed_of};
 ghost use Rattle.fuse_server.specs.Listings.{ClosesListing, OpensDir, SameBeside, all_entries, dir_entry, entries_from, folder_above, folder_entry, kind_of, listing_at, named_entry};
 
-use crate::nodes::Nodes;
-use crate::paths::{first_name, path_of};
 use crate::server::Server;
-use crate::tree::Tree;
 use fuse_wire::{Dirent, DirentKind, Refusal};
-use posix_calls::{Bytes, Call, Errno, Name, Names, Reply};
-use std::alloc::{AllocError, Global};
+use mount_nodes::{Nodes, Tree, first_name, list, path_of};
+use posix_calls::{Name, Names};
+use std::alloc::AllocError;
 
 /// The number in an entry whose node is not known.
 const UNKNOWN_NODE: u64 = 0xFFFF_FFFF;
@@ -197,23 +193,5 @@ fn folder_or_file(is_dir: bool) -> DirentKind
         DirentKind::Folder
     } else {
         DirentKind::File
-    }
-}
-
-/// The names in the directory at a path.
-pub(crate) fn list<T: Tree>(alloc: Global, tree: &mut T, path: &[u8]) -> Result<Names, Refusal>
-    ensures { MayAsk T.Tree (call.List path.now) listed_of Answers result tree.old tree.new }
-{
-    let path = Bytes::copy_of(alloc, path)?;
-    names_of(tree.call(Call::List { path }))
-}
-
-fn names_of(reply: Reply) -> Result<Names, Refusal>
-    ensures { result ≡ listed_of reply }
-{
-    match reply {
-        Reply::Listed { names } => Ok(names),
-        Reply::Failed { errno } => Err(Refusal::Posix(errno)),
-        _ => Err(Refusal::Posix(Errno::IoError)),
     }
 }

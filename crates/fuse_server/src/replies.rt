@@ -9,15 +9,14 @@ ghost use Rattle.fuse_server.specs.Listings.{CarriesEntries, CarriesListing, ent
 ghost use Rattle.fuse_server.specs.Replies.{Carries, HasRoom, attr_of, entry_of, stat_fs_of};
 
 use crate::answer::Answer;
-use crate::attributes::Attributes;
 use crate::listings::Listing;
 use crate::server::Server;
-use crate::tree::Usage;
 use fuse_wire::{
     Attr, Entry, Header, OpenFile, Refusal, StatFs, Time, write_absence, write_attr, write_count,
     write_create, write_data, write_dirents, write_empty, write_entry, write_error, write_init,
     write_open, write_statfs,
 };
+use mount_nodes::{Attributes, Usage};
 use posix_calls::{Errno, MAX_FILE, MAX_INODE, MAX_NAME, UNIT_BYTES};
 use std::alloc::AllocError;
 

@@ -6,13 +6,9 @@ ghost use Rattle.fuse_server.specs.Creations.{MakesNode, is_file_mode, creation_
 ghost use Rattle.fuse_server.specs.Requests.{Agrees, Serves, ServesFile, ServesName, ServesOther, ServesRequest, answer_of, end_answer, lookup_answer};
 
 use crate::answer::Answer;
-use crate::attributes::Attributes;
-use crate::lookups::creation;
-use crate::renames::Place;
 use crate::server::Server;
-use crate::tables::Tables;
-use crate::tree::Tree;
 use fuse_wire::{Header, Init, Refusal, Request, forget_at, negotiate};
+use mount_nodes::{Attributes, Place, Tables, Tree, creation};
 use posix_calls::{Bytes, Errno, Flags};
 
 /// The lowest of the four bits of a mode that say what kind of node it is, and what they are of a file.
@@ -43,140 +39,158 @@ impl Server {
                 self.release_dir(handle);
                 Answer::Done
             }
-            _ => self.tables.serve(tree, node, request),
+            _ => serve_nodes(&mut self.tables, tree, node, request),
         }
     }
 }
 
-impl Tables {
-    // All other requests: they open and close no directory.
-    fn serve<T: Tree>(&mut self, tree: &mut T, node: u64, request: &Request<'_>) -> Answer
-        ensures { Serves T.Tree self.old self.new node request.now result tree.old tree.new }
-    {
-        match *request {
-            Request::Lookup { name } => lookup_answer(self.look_up(tree, node, name)),
-            Request::GetAttr { .. } => attributes_answer(self.describe(tree, node)),
-            Request::MkDir { name, .. } => entry_answer(self.make_dir(tree, node, name)),
-            Request::RmDir { name } => done_answer(self.remove_dir(tree, node, name)),
-            Request::Unlink { name } => done_answer(self.unlink(tree, node, name)),
-            Request::Link { node: old, name } => entry_answer(self.link(tree, old, node, name)),
-            Request::Write { at, bytes, .. } => count_answer(self.write(tree, node, at, bytes)),
-            _ => self.serve_file(tree, node, request),
-        }
+// All other requests: they open and close no directory.
+fn serve_nodes<T: Tree>(
+    tables: &mut Tables,
+    tree: &mut T,
+    node: u64,
+    request: &Request<'_>,
+) -> Answer
+    ensures { Serves T.Tree tables.old tables.new node request.now result tree.old tree.new }
+{
+    match *request {
+        Request::Lookup { name } => lookup_answer(tables.look_up(tree, node, name)),
+        Request::GetAttr { .. } => attributes_answer(tables.describe(tree, node)),
+        Request::MkDir { name, .. } => entry_answer(tables.make_dir(tree, node, name)),
+        Request::RmDir { name } => done_answer(tables.remove_dir(tree, node, name)),
+        Request::Unlink { name } => done_answer(tables.unlink(tree, node, name)),
+        Request::Link { node: old, name } => entry_answer(tables.link(tree, old, node, name)),
+        Request::Write { at, bytes, .. } => count_answer(tables.write(tree, node, at, bytes)),
+        _ => serve_file(tables, tree, node, request),
     }
+}
 
-    // The requests about files.
-    fn serve_file<T: Tree>(&mut self, tree: &mut T, node: u64, request: &Request<'_>) -> Answer
-        ensures { ServesFile T.Tree self.old self.new node request.now result tree.old tree.new }
-    {
-        match *request {
-            Request::SetAttr(set) => attributes_answer(self.set_attributes(tree, node, set.size)),
-            Request::Open { .. } => opened_answer(self.open(node)),
-            Request::Read { at, size, .. } => data_answer(self.read(tree, node, at, size)),
-            Request::Release { .. } => done_answer(self.release(tree, node)),
-            _ => self.serve_name(tree, node, request),
-        }
+// The requests about files.
+fn serve_file<T: Tree>(
+    tables: &mut Tables,
+    tree: &mut T,
+    node: u64,
+    request: &Request<'_>,
+) -> Answer
+    ensures { ServesFile T.Tree tables.old tables.new node request.now result tree.old tree.new }
+{
+    match *request {
+        Request::SetAttr(set) => attributes_answer(tables.set_attributes(tree, node, set.size)),
+        Request::Open { .. } => opened_answer(tables.open(node)),
+        Request::Read { at, size, .. } => data_answer(tables.read(tree, node, at, size)),
+        Request::Release { .. } => done_answer(tables.release(tree, node)),
+        _ => serve_name(tables, tree, node, request),
     }
+}
 
-    // The requests that make, take or move a name of a file.
-    fn serve_name<T: Tree>(&mut self, tree: &mut T, node: u64, request: &Request<'_>) -> Answer
-        ensures { ServesName T.Tree self.old self.new node request.now result tree.old tree.new }
-    {
-        match *request {
-            Request::Create { name, flags, .. } => {
-                create_answer(self.create(tree, node, name, creation_by(flags)))
-            }
-            Request::MkNod { name, mode } => entry_answer(self.make_node(tree, node, name, mode)),
-            Request::Rename {
-                name,
-                new_folder,
-                new_name,
-            } => {
-                let old = Place { folder: node, name };
-                done_answer(self.rename(
-                    tree,
-                    old,
-                    Place {
-                        folder: new_folder,
-                        name: new_name,
-                    },
-                    0,
-                ))
-            }
-            Request::Rename2 {
-                name,
-                new_folder,
-                new_name,
+// The requests that make, take or move a name of a file.
+fn serve_name<T: Tree>(
+    tables: &mut Tables,
+    tree: &mut T,
+    node: u64,
+    request: &Request<'_>,
+) -> Answer
+    ensures { ServesName T.Tree tables.old tables.new node request.now result tree.old tree.new }
+{
+    match *request {
+        Request::Create { name, flags, .. } => {
+            create_answer(tables.create(tree, node, name, creation_by(flags)))
+        }
+        Request::MkNod { name, mode } => entry_answer(make_node(tables, tree, node, name, mode)),
+        Request::Rename {
+            name,
+            new_folder,
+            new_name,
+        } => {
+            let old = Place { folder: node, name };
+            done_answer(tables.rename(
+                tree,
+                old,
+                Place {
+                    folder: new_folder,
+                    name: new_name,
+                },
+                0,
+            ))
+        }
+        Request::Rename2 {
+            name,
+            new_folder,
+            new_name,
+            flags,
+        } => {
+            let old = Place { folder: node, name };
+            done_answer(tables.rename(
+                tree,
+                old,
+                Place {
+                    folder: new_folder,
+                    name: new_name,
+                },
                 flags,
-            } => {
-                let old = Place { folder: node, name };
-                done_answer(self.rename(
-                    tree,
-                    old,
-                    Place {
-                        folder: new_folder,
-                        name: new_name,
-                    },
-                    flags,
-                ))
-            }
-            _ => self.serve_other(tree, node, request),
+            ))
         }
+        _ => serve_other(tables, tree, node, request),
     }
+}
 
-    // Makes a file; special files are not permitted.
-    fn make_node<T: Tree>(
-        &mut self,
-        tree: &mut T,
-        node: u64,
-        name: &[u8],
-        mode: u32,
-    ) -> Result<Attributes, Refusal>
-        ensures { MakesNode T.Tree self.old.nodes node name.now mode result tree.old tree.new }
-    {
-        if !is_file_mode(mode) {
-            return Err(Refusal::Posix(Errno::NotPermitted));
+// Makes a file; special files are not permitted.
+fn make_node<T: Tree>(
+    tables: &mut Tables,
+    tree: &mut T,
+    node: u64,
+    name: &[u8],
+    mode: u32,
+) -> Result<Attributes, Refusal>
+    ensures { MakesNode T.Tree tables.old.nodes node name.now mode result tree.old tree.new }
+{
+    if !is_file_mode(mode) {
+        return Err(Refusal::Posix(Errno::NotPermitted));
+    }
+    tables.make_file(tree, node, name)
+}
+
+// The requests about the whole mount, and those that are refused.
+fn serve_other<T: Tree>(
+    tables: &mut Tables,
+    tree: &mut T,
+    node: u64,
+    request: &Request<'_>,
+) -> Answer
+    ensures { ServesOther T.Tree tables.old tables.new node request.now result tree.old tree.new }
+{
+    match *request {
+        Request::Init(init) => agree(&init),
+        Request::StatFs => Answer::Usage(tree.usage()),
+        Request::SymLink => Answer::Refused(Refusal::Posix(Errno::NotPermitted)),
+        _ => serve_end(tables, node, request),
+    }
+}
+
+// The requests by which something ends, and those that are not served. They ask the tree nothing.
+fn serve_end(tables: &mut Tables, node: u64, request: &Request<'_>) -> Answer
+    ensures ends { result ≡ end_answer request.now }
+    ensures refused { (e : Refusal) → result ≡ answer.Refused e → tables.new ≡ tables.old }
+{
+    match *request {
+        Request::Forget { count } => {
+            tables.nodes.forget(node, count);
+            Answer::Done
         }
-        self.make_file(tree, node, name)
-    }
-
-    // The requests about the whole mount, and those that are refused.
-    fn serve_other<T: Tree>(&mut self, tree: &mut T, node: u64, request: &Request<'_>) -> Answer
-        ensures { ServesOther T.Tree self.old self.new node request.now result tree.old tree.new }
-    {
-        match *request {
-            Request::Init(init) => agree(&init),
-            Request::StatFs => Answer::Usage(tree.usage()),
-            Request::SymLink => Answer::Refused(Refusal::Posix(Errno::NotPermitted)),
-            _ => self.serve_end(node, request),
+        Request::BatchForget { nodes } => {
+            forget_all(tables, nodes);
+            Answer::Done
         }
+        Request::Destroy => Answer::Done,
+        _ => Answer::Refused(Refusal::NotServed),
     }
+}
 
-    // The requests by which something ends, and those that are not served. They ask the tree nothing.
-    fn serve_end(&mut self, node: u64, request: &Request<'_>) -> Answer
-        ensures ends { result ≡ end_answer request.now }
-        ensures refused { (e : Refusal) → result ≡ answer.Refused e → self.new ≡ self.old }
-    {
-        match *request {
-            Request::Forget { count } => {
-                self.nodes.forget(node, count);
-                Answer::Done
-            }
-            Request::BatchForget { nodes } => {
-                self.forget_all(nodes);
-                Answer::Done
-            }
-            Request::Destroy => Answer::Done,
-            _ => Answer::Refused(Refusal::NotServed),
-        }
-    }
-
-    fn forget_all(&mut self, nodes: &[u8]) {
-        for place in 0..nodes.len() {
-            match forget_at(nodes, place) {
-                Some((node, count)) => self.nodes.forget(node, count),
-                None => return,
-            }
+fn forget_all(tables: &mut Tables, nodes: &[u8]) {
+    for place in 0..nodes.len() {
+        match forget_at(nodes, place) {
+            Some((node, count)) => tables.nodes.forget(node, count),
+            None => return,
         }
     }
 }

@@ -16,9 +16,8 @@ ghost use Rattle.fuse_server.specs.Requests.{IsAnswerTo, IsServed};
 use crate::answer::Answer;
 use crate::listings::Listing;
 use crate::replies::write_refusal;
-use crate::tables::Tables;
-use crate::tree::Tree;
 use fuse_wire::{Header, Refusal, WireError, read_header, read_request};
+use mount_nodes::{Tables, Tree};
 use posix_calls::Errno;
 use std::alloc::{AllocError, Global};
 

@@ -1,7 +1,7 @@
 // Messages come in, one after the other, and replies go out.
 use crate::server::{ServeError, Server};
-use crate::tree::Tree;
 use fuse_wire::{MAX_MESSAGE, WireError, message_length};
+use mount_nodes::Tree;
 use std::alloc::{AllocError, Global};
 use std::io::{self, ErrorKind, Read, Write};
 use thiserror::Error;

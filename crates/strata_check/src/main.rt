@@ -14,7 +14,7 @@ mod tree;
 mod tree_place;
 
 use check::run_check;
-use script::run_program;
+use program_runs::run_program;
 use std::io::BufWriter;
 use std::process::ExitCode;
 

@@ -7,7 +7,7 @@ mod options;
 mod run;
 
 use crate::run::run_fuse;
-use script::run_program;
+use program_runs::run_program;
 use std::process::ExitCode;
 
 fn main(rt: HostRuntime) -> ExitCode {

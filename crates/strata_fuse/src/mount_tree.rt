@@ -4,7 +4,7 @@ use call_driver::in_interleavings::World;
 use call_driver::in_kernel_fs::KernelError;
 use call_driver::in_record_validation::NodeSummary;
 use call_driver::{CallResult, Events, clear_client, digest_all, serve_call};
-use fuse_server::{Tree, Usage};
+use fuse_server::in_mount_nodes::{Tree, Usage};
 use posix_calls::{Bytes, Call, Errno, MAX_INODE, Path, ROOT, Reply};
 use std::alloc::Global;
 use tier_device::Tier;

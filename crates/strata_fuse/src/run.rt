@@ -2,7 +2,7 @@
 use crate::mount_tree::MountTree;
 use crate::options::{Options, read_options};
 use fuse_server::{StreamError, serve_stream};
-use script::tell;
+use program_runs::tell;
 use std::io::{Read, Write};
 use world_files::{WorldFileError, open_disk};
 

@@ -2,7 +2,7 @@
 #![tactic(auto)]
 
 use std::process::ExitCode;
-use thread_runs::in_script::run_program;
+use thread_runs::in_program_runs::run_program;
 use thread_runs::run_threads;
 
 fn main(rt: HostRuntime) -> ExitCode {

@@ -3,7 +3,7 @@
 
 use std::io::{BufReader, BufWriter};
 use std::process::ExitCode;
-use workload_cli::in_script::run_program;
+use workload_cli::in_program_runs::run_program;
 use workload_cli::run_sh;
 
 fn main(rt: HostRuntime) -> ExitCode {

@@ -27,4 +27,4 @@ pub use run::run_threads;
 // Passed on to the programs above, which so need not list those below.
 
 // Handed on to the crates above, which list only the highest of what they name.
-pub use script as in_script;
+pub use program_runs as in_program_runs;

@@ -1,7 +1,7 @@
 -- What becomes of an image, and why it gives no world.
 use Rattle.std.proofs.Common.{◌≡◌, List, ℕ, inr, sym, subst}
 use Rattle.std.specs.Prelude.{Option, Result, Ok, Err, IfErr, IfOk, None, Some}
-use Rattle.script.specs.declared.patch.Patch.{Patch}
+use Rattle.program_runs.specs.declared.patch.Patch.{Patch}
 use Rattle.tier_device.specs.declared.fill.Fill.{Fill}
 use Rattle.tier_device.specs.declared.media.Media.{Ghosts}
 use Rattle.world_files.specs.FileErrors.{IsFormatRefused}

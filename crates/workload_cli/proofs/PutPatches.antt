@@ -2,7 +2,7 @@
 use Rattle.std.proofs.Common.{◌≡◌, ◌∙◌, ◌+◌, ◌<◌, ◌≤◌, ℕ, suc, List, ◌∷◌, drop, drop-cons, add-one, get_or, length, sym, ap}
 use Rattle.std.proofs.lemmas.Bool.{cond-false, cond-true, le-leb, lt-leb}
 use Rattle.std.specs.Prelude.{nat_le, None}
-use Rattle.script.specs.declared.patch.Patch.{Patch}
+use Rattle.program_runs.specs.declared.patch.Patch.{Patch}
 use Rattle.tier_device.specs.Media.{overwritten}
 use Rattle.workload_cli.specs.Patches.{patched}
 

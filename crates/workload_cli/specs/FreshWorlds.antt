@@ -1,6 +1,6 @@
 -- A script's world at its beginning.
 use Rattle.std.specs.Prelude.{◌≡◌, ◌⊎◌, ℕ, List, Option, Some, None}
-use Rattle.script.specs.declared.patch.Patch.{Patch}
+use Rattle.program_runs.specs.declared.patch.Patch.{Patch}
 use Rattle.tier_device.specs.declared.fill.Fill.{Fill}
 use Rattle.tier_device.specs.declared.media.Media.{Ghosts}
 use Rattle.world_files.specs.area_recovery.Parts.{PartsView, part_medium}

@@ -1,7 +1,7 @@
 -- Bytes that are put into an image.
 use Rattle.std.specs.Prelude.{ℕ, ◌+◌, List, [], ◌∷◌, length, nat_le, Option, Some, None, if◌then◌else◌}
 use Rattle.tier_device.specs.Media.{overwritten}
-use Rattle.script.specs.declared.patch.Patch.{Patch}
+use Rattle.program_runs.specs.declared.patch.Patch.{Patch}
 
 -- an image with these bytes put in, one after the other; none where some go past its end
 abbrev pub patched : List ℕ → List Patch → Option (List ℕ)

@@ -12,7 +12,7 @@ use crate::fresh_parts::{count_media, format_world};
 use crate::resting::Resting;
 use crate::script_media::{ScriptMedium, Trips};
 use crate::script_world::ScriptWorld;
-use script::Patch;
+use program_runs::Patch;
 use std::alloc::Global;
 use tier_device::{FaultMedia, Media, StopMedia};
 use world_files::in_recovery::{Parts, recover};

@@ -32,4 +32,4 @@ pub use shell::answer_line;
 pub use system_queries::Running;
 
 // Handed on to the crates above, which list only the highest of what they name.
-pub use script as in_script;
+pub use program_runs as in_program_runs;

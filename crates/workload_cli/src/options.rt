@@ -4,7 +4,7 @@ ghost use Rattle.command_line.specs.Options.{Asks, IsValue, rows};
 ghost use Rattle.workload_cli.specs.ShellOptions.{AreShellOptions, HasBadValue, IsHomeIn, NamesTwoHomes, shell};
 
 use command_line::{OptionMatches, OptionValue, Program, ProgramOption, WordsError, read_words};
-use script::Patch;
+use program_runs::Patch;
 use std::alloc::Global;
 use world_files::{BLOCK_OPTION, FAST_OPTION, SLOW_OPTION, UNITS_OPTION, WorldSizes, sizes_in};
 

@@ -2,7 +2,8 @@
 use crate::needs::run_needs;
 use crate::options::{Home, Options, read_options};
 use crate::run::run_script;
-use script::{Patch, Programs, Ran, Report, Row, RunError, run_rows, tell};
+use program_runs::{Patch, Programs, Ran, Report, Row, run_rows, tell};
+use script::RunError;
 use std::io::{BufReader, Read, Write};
 
 // The script comes by so few bytes at a time, so that lines are cut everywhere.

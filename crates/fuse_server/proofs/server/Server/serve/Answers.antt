@@ -12,4 +12,4 @@ pub returns-in-ReleaseDir : goal.returns-in-ReleaseDir
 returns-in-ReleaseDir g c = rw c.in-ReleaseDir.is (c.release_dir.ensures.tables, c.release_dir.ensures.closes, refl, refl)
 
 pub returns-in_default : goal.returns-in_default
-returns-in_default g c = serves_other g.T.Tree _ _ _ _ _ _ _ c.in_default.not-OpenDir c.in_default.not-ReadDir c.in_default.not-ReleaseDir refl c.serve.ensures
+returns-in_default g c = serves_other g.T.Tree _ _ _ _ _ _ _ c.in_default.not-OpenDir c.in_default.not-ReadDir c.in_default.not-ReleaseDir refl c.serve_nodes.ensures

@@ -1,4 +1,0 @@
-use Rattle.fuse_server.proofs.paths.+push_folder.Given as goal
-
-abbrev pub decreases-push_folder : goal.decreases-push_folder
-decreases-push_folder l = l.limit

@@ -1,6 +1,0 @@
-use Rattle.fuse_server.specs.Calls.{done_of}
-use Rattle.fuse_server.proofs.CallLemmas.{ends_so}
-use Rattle.fuse_server.proofs.renames.rename_paths.Goals as goal
-
-pub returns : goal.returns
-returns g c = rw c.check_done.ensures (c.call.result, c.call.new.self, c.call.ensures, ends_so (done_of c.call.result) c.call.new.self)

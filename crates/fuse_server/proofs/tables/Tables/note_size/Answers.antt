@@ -1,6 +1,0 @@
-use Rattle.std.specs.Prelude.{Ok}
-use Rattle.fuse_server.proofs.UpkeepLemmas.{stat_keeps_up}
-use Rattle.fuse_server.proofs.tables.Tables.note_size.Goals as goal
-
-pub returns : goal.returns
-returns g c = stat_keeps_up g.T.Tree c.args.path.now (Ok c.in_ok-description.description) c.args.tree.now c.stat.new.tree c.in_ok-description.ensures

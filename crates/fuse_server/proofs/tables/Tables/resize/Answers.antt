@@ -1,8 +1,0 @@
-use Rattle.std.proofs.Common.{◌∙◌, inl, inr, sym}
-use Rattle.fuse_server.proofs.tables.Tables.resize.Goals as goal
-
-pub returns-then-is_unnamed : goal.returns-then-is_unnamed
-returns-then-is_unnamed g c = inr (c.in_ok-kept.kept, c.in_ok-kept.ensures.known, inr (sym c.is_unnamed.ensures ∙ c.if-is_unnamed.true, c.resize_unnamed.ensures))
-
-pub returns : goal.returns
-returns g c = inr (c.in_ok-kept.kept, c.in_ok-kept.ensures.known, inl (sym c.is_unnamed.ensures ∙ c.if-is_unnamed.false, c.resize_named.ensures))

@@ -1,5 +1,0 @@
-use Rattle.std.proofs.Common.{refl, inl}
-use Rattle.fuse_server.proofs.tables.Tables.take_descriptor.Goals as goal
-
-pub returns-in-Some : goal.returns-in-Some
-returns-in-Some g c = inl (c.in_ok-number.field-0.now, c.in_ok-number.ensures.known, c.in-Some.is, refl)

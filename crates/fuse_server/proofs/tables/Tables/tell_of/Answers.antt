@@ -1,6 +1,0 @@
-use Rattle.std.proofs.Common.{Ok, ap}
-use Rattle.fuse_server.proofs.CallLemmas.{asked_then}
-use Rattle.fuse_server.proofs.tables.Tables.tell_of.Goals as goal
-
-pub returns : goal.returns
-returns g c = asked_then g.T.Tree _ _ _ _ _ _ _ _ c.in_ok-description.ensures (Ok c.in_ok-id.id, c.in_ok-id.ensures, (c.last_change.result, ap Ok c.attributes_of.ensures))

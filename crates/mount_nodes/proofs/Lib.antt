@@ -1,0 +1,7 @@
+pub mod PathLemmas
+pub mod CallLemmas
+pub mod UpkeepLemmas
+pub mod ReadLemmas
+pub mod ZeroLemmas
+pub mod RenameLemmas
+pub mod ReleaseLemmas

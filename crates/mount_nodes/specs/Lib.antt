@@ -1,0 +1,10 @@
+pub mod Refusals
+pub mod Paths
+pub mod Calls
+pub mod Nodes
+pub mod Upkeep
+pub mod Files
+pub mod Reads
+pub mod Renames
+pub mod Creations
+pub mod Sizes

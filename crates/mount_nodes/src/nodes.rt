@@ -1,0 +1,182 @@
+ghost use Rattle.std.specs.Prelude.{◌≡◌};
+ghost use Rattle.std.specs.Option.{option_map};
+ghost use Rattle.mount_nodes.specs.Paths.{node_at};
+ghost use Rattle.mount_nodes.specs.Upkeep.{child_at};
+
+use crate::node::Node;
+use posix_calls::Name;
+use std::alloc::{AllocError, Global};
+
+/// The node of the root.
+pub const ROOT_NODE: u64 = 1;
+
+/// A node number, which is used again once the kernel has forgotten it.
+#[derive(Drop)]
+struct Slot {
+    /// How often the number was used before.
+    generation: u64,
+    node: Option<Node>,
+}
+
+/// The nodes that the kernel may name, by their numbers from 1 on, which is the root.
+#[derive(Drop)]
+pub struct Nodes {
+    alloc: Global,
+    slots: Vec<Slot>,
+    free: Vec<u64>,
+}
+
+impl Nodes {
+    /// The root alone.
+    pub(crate) fn new(alloc: Global) -> Result<Nodes, AllocError> {
+        let mut slots = Vec::new(alloc);
+        slots.push(Slot {
+            generation: 0,
+            node: Some(Node::new(alloc, 1)),
+        })?;
+        Ok(Nodes {
+            alloc,
+            slots,
+            free: Vec::new(alloc),
+        })
+    }
+
+    /// What has a number.
+    pub fn get(&self, id: u64) -> Option<&Node>
+        ensures { option_map (λ node. node.now) result ≡ node_at self.now id }
+    {
+        let place = id.checked_sub(1)?;
+        self.slots.get(place as usize)?.node.as_ref()
+    }
+
+    /// What has a number, to be changed.
+    pub(crate) fn get_mut(&mut self, id: u64) -> Option<&mut Node> {
+        let place = id.checked_sub(1)?;
+        self.slots.get_mut(place as usize)?.node.as_mut()
+    }
+
+    /// How often a number was used before.
+    pub fn generation(&self, id: u64) -> u64 {
+        match self.slots.get(id.saturating_sub(1) as usize) {
+            Some(slot) => slot.generation,
+            None => 0,
+        }
+    }
+
+    /// The node that is known under a name of a directory.
+    pub fn child(&self, folder: u64, name: &[u8]) -> Option<u64>
+        ensures { result ≡ child_at self.now folder name.now }
+    {
+        self.get(folder)?.children.get(name).copied()
+    }
+
+    /// The node of the tree's file of a number, if it is known to be one.
+    pub(crate) fn with_inode(&self, inode: u32) -> Option<u64> {
+        for place in 0..self.slots.len() {
+            let id = (place as u64).saturating_add(1);
+            match self.get(id) {
+                Some(node) if node.inode == Some(inode) => return Some(id),
+                _ => {}
+            }
+        }
+        None
+    }
+
+    /// Whether the tree has names of some node of which none is known.
+    pub(crate) fn lack_names(&self) -> bool {
+        self.slots.iter().any(|slot| match &slot.node {
+            Some(node) => !node.is_dir && node.names.is_empty() && node.links > 0,
+            None => false,
+        })
+    }
+
+    /// Adds a node, and answers its number.
+    pub(crate) fn add(&mut self, node: Node) -> Result<u64, AllocError> {
+        if let Some(id) = self.free.pop() {
+            self.reuse(id, node);
+            return Ok(id);
+        }
+        self.slots.push(Slot {
+            generation: 0,
+            node: Some(node),
+        })?;
+        Ok(self.slots.len() as u64)
+    }
+
+    fn reuse(&mut self, id: u64, node: Node) {
+        if let Some(slot) = self.slots.get_mut(id.saturating_sub(1) as usize) {
+            slot.generation = slot.generation.saturating_add(1);
+            slot.node = Some(node);
+        }
+    }
+
+    /// Takes a node away on which nothing stands any more. Its number is used again, where there is memory to note that.
+    pub(crate) fn drop_unused(&mut self, id: u64) {
+        if id == ROOT_NODE || self.is_used(id) {
+            return;
+        }
+        if let Some(slot) = self.slots.get_mut(id.saturating_sub(1) as usize) {
+            slot.node = None;
+            let _ = self.free.push(id);
+        }
+    }
+
+    fn is_used(&self, id: u64) -> bool {
+        match self.get(id) {
+            Some(node) => node.is_used(),
+            None => true,
+        }
+    }
+
+    /// Notes that a node has a name, in place of what had it. Refused where memory is wanting; nothing is noted then.
+    pub(crate) fn enter(&mut self, folder: u64, name: &Name, id: u64) -> Result<(), AllocError> {
+        let key = name.copy(self.alloc)?;
+        let own = name.copy(self.alloc)?;
+        if let Some(node) = self.get_mut(id) {
+            node.add_name(folder, own)?;
+        }
+        let end = self.put_child(folder, key, id);
+        if end.is_err() {
+            self.forget_name(folder, name.as_slice(), id);
+        }
+        end
+    }
+
+    /// Sets which node has a name of a directory.
+    pub(crate) fn put_child(&mut self, folder: u64, name: Name, id: u64) -> Result<(), AllocError> {
+        match self.get_mut(folder) {
+            Some(folder) => folder.children.put(name, id),
+            None => Ok(()),
+        }
+    }
+
+    /// Notes that a directory has a name no longer, and answers the node that had it. The node stays.
+    pub(crate) fn leave(&mut self, folder: u64, name: &[u8]) -> Option<u64> {
+        let id = self.child(folder, name)?;
+        self.remove_child(folder, name);
+        self.forget_name(folder, name, id);
+        Some(id)
+    }
+
+    /// Notes that a directory has a name no longer; the node that had it keeps it.
+    pub(crate) fn remove_child(&mut self, folder: u64, name: &[u8]) {
+        if let Some(folder) = self.get_mut(folder) {
+            folder.children.remove(name);
+        }
+    }
+
+    /// Notes that a node has a name no longer, whatever the directory has there now.
+    pub(crate) fn forget_name(&mut self, folder: u64, name: &[u8], id: u64) {
+        if let Some(node) = self.get_mut(id) {
+            node.remove_name(folder, name);
+        }
+    }
+
+    /// Notes that the kernel has forgotten a node so often.
+    pub fn forget(&mut self, id: u64, count: u64) {
+        if let Some(node) = self.get_mut(id) {
+            node.lookups = node.lookups.saturating_sub(count);
+        }
+        self.drop_unused(id);
+    }
+}
