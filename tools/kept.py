@@ -14,6 +14,7 @@ import os
 import re
 import shutil
 import stat
+import sys
 import tempfile
 
 TOP = os.path.dirname(os.path.dirname(os.path.abspath(__file__)))
@@ -23,7 +24,10 @@ TEXTS, FOLDERS = ("KIT-ID", "WHAT", "bin/rt", "bin/rtlib.py"), ("bin", "c", "too
 
 def kit():
     """The folder of the kit whose `rt` is on the path."""
-    return os.path.dirname(os.path.dirname(os.path.realpath(shutil.which("rt"))))
+    rt = shutil.which("rt")
+    if not rt:
+        sys.exit("rt is not on the path: it stands in the folder bin/ of the Rattle kit")
+    return os.path.dirname(os.path.dirname(os.path.realpath(rt)))
 
 
 def contents(path):
