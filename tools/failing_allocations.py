@@ -8,7 +8,7 @@ that keep a world, a new one or none; `strata_first` with and without stops; and
 says what it says with all memory there. It does not where it answers anything else: damage, no such entry, or fewer bytes. Nor does a
 row that tells a want of memory while no allocation failed. How each program tells it stands at its function below.
 
-The programs are built by `rt run` (`layer_rows` without a proof, by `tools/more_tests --program`); `tools/failing_allocations.c` makes their
+A program that is not proved is built by `tools/build` (`layer_rows` by `tools/more_tests --program`); `tools/failing_allocations.c` makes their
 allocations fail. It takes four minutes, and those that a build takes; the gate does not run it. With --quick only each seventh allocation of a
 run fails; with --rows only the first N of the rows of each table. Exit status: 0 where all runs ended as they should, else 1.
 
@@ -36,6 +36,7 @@ import sys
 import tempfile
 import typing
 
+import programs
 import shell_rows
 
 TOP = os.path.dirname(os.path.dirname(os.path.abspath(__file__)))
@@ -67,21 +68,15 @@ class Run(typing.NamedTuple):
 
 def path_of(name):
     """Where the program stands once it is built; STRATA_SH in the environment names another build of the shell."""
-    if name == "strata_sh" and os.environ.get("STRATA_SH"):
-        return os.path.abspath(os.environ["STRATA_SH"])
-    return f"{ROOM.name}/{name}" if name == "layer_rows" else f"{CRATES}/{name}/out/{name}"
+    return f"{ROOM.name}/{name}" if name == "layer_rows" else os.path.abspath(programs.find(name))
 
 
 def build(name):
-    """Proves the program where it changed, and links it. Another build is taken as it is."""
-    if path_of(name) == os.path.abspath(os.environ.get("STRATA_SH") or "."):
-        return
+    """Has the program stand: what is proved is taken, else it is built without a proof."""
     if name == "layer_rows":
         subprocess.run([f"{TOP}/tools/more_tests", "--program", path_of(name), name], check=True)
         return
-    ran = subprocess.run(["rt", "run", "--jobs", "1"], cwd=f"{CRATES}/{name}", stdin=subprocess.DEVNULL, capture_output=True, text=True, check=False)
-    if f"rt: running out/{name}" not in ran.stderr:
-        sys.exit(f"{name} was not built: {ran.stderr[-2000:]}")
+    programs.stand(name)
 
 
 def sweep(name, text="", words=(), folder=None, clear=None, numbers=None):

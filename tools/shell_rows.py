@@ -3,13 +3,15 @@ import os
 import re
 import subprocess
 
+import programs
+
 TOP = os.path.dirname(os.path.dirname(os.path.abspath(__file__)))
-PROGRAM = os.environ.get("STRATA_SH") or f"{TOP}/crates/strata_sh/out/strata_sh"
+PROGRAM = programs.find("strata_sh")
 
 
 def build():
-    if not os.path.exists(PROGRAM):
-        subprocess.run(["rt", "run"], cwd=f"{TOP}/crates/strata_sh", check=True, stdout=subprocess.DEVNULL, stdin=subprocess.DEVNULL)
+    """Has the shell stand: what is proved is taken, else it is built without a proof."""
+    programs.stand("strata_sh")
 
 
 def spelled(text):
