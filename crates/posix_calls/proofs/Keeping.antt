@@ -4,7 +4,7 @@ use Rattle.std.specs.FinMap as fin
 use Rattle.posix_calls.specs.Content.{with_bytes, with_length}
 use Rattle.posix_calls.specs.Tree.{File, Dir, State, set_node, bytes_of}
 use Rattle.posix_calls.specs.declared.operation.Operation.{Operation}
-use Rattle.posix_calls.specs.declared.operation.Operation.TheVariants.{Tell, NewDir, NewFile, OpenFile, CloseFile, Write, Resize, RemoveDir, AddName, DropName, Move}
+use Rattle.posix_calls.specs.declared.operation.Operation.TheVariants.{Tell, NewDir, NewFile, OpenFile, CloseFile, Write, Resize, RemoveDir, AddName, DropName, Move, Exchange}
 use Rattle.posix_calls.specs.Operations.{with_entry, without_entry, less_replaced, held_after, state_after, makes, IsFree}
 use Rattle.posix_calls.specs.WellFormed.{IsFile, IsWellFormed, IsWithinLimits}
 use Rattle.posix_calls.proofs.Changes.{bare_file}
@@ -12,7 +12,7 @@ use Rattle.posix_calls.proofs.Trees.{tree_of, range_of}
 use Rattle.posix_calls.proofs.Steps.{with_same}
 use Rattle.posix_calls.proofs.Fits.{Fits, bare_left}
 use Rattle.posix_calls.proofs.Within.{file_within, none_within, empty_within, written_length, resized_length}
-use Rattle.posix_calls.proofs.Able.{Able, nodes_of, lesser_within, lesser_set, lesser_unused, lesser_left, lesser_both, within_made, within_added, within_replaced}
+use Rattle.posix_calls.proofs.Able.{Able, nodes_of, lesser_within, lesser_set, lesser_unused, lesser_left, lesser_both, within_made, within_added, within_replaced, within_exchanged}
 
 -- a file's bytes are changed
 within_written : (s : State) (i : ℕ) (bytes : List ℕ) → IsWellFormed s → IsWithinLimits s.tree → IsFile (s.tree i) → length bytes ≤ 1048576 → IsWithinLimits (set_node s.tree i (Some (File bytes)))
@@ -53,3 +53,4 @@ operation_within s client new (DropName at i) fine within fits able free =
 operation_within s client new (Move from to i is_dir replaced) fine within fits able free =
     subst (λ held. IsWithinLimits (with_entry (without_entry (less_replaced held s.tree to replaced) from) to i)) (sym (with_same s.descriptors client))
     (within_replaced s from to i replaced fine within fits.0 fits.1 able.0 able.1)
+operation_within s client new (Exchange first second i j) fine within fits able free = within_exchanged s first second i j fine within fits.1 fits.2 fits.0

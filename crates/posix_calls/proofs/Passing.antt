@@ -16,7 +16,7 @@ use Rattle.posix_calls.specs.Tree.{Tree, Node, File, Dir, State, names_of, entri
 use Rattle.posix_calls.specs.Query.{Seen, Query, Gives, View, run, view_of, seen_node, dir_test}
 use Rattle.posix_calls.specs.Query as query
 use Rattle.posix_calls.specs.Walk.{Place, read_or_error, walk, prefix, is_root, is_there, names_seen, leads_to}
-use Rattle.posix_calls.specs.Decide.{node_description, write_at, open_there, replaced_at, replacing_dir, rename_to, open_path, close, pread, pwrite, truncate, mkdir, rmdir, link, unlink, rename, list_path, stat, decide}
+use Rattle.posix_calls.specs.Decide.{node_description, write_at, open_there, replaced_at, replacing_dir, rename_to, open_path, close, pread, pwrite, truncate, mkdir, rmdir, link, unlink, rename, exchange_apart, exchange, list_path, stat, decide}
 use Rattle.posix_calls.specs.declared.operation.Operation.{Operation}
 use Rattle.posix_calls.specs.declared.operation.Replaced.{Replaced}
 use Rattle.posix_calls.specs.declared.operation.Operation.TheVariants.{Tell, Resize}
@@ -241,6 +241,23 @@ module _ (s : State) (fine : IsWellFormed s) where
         | false ↦ λ rest. renamed_able from.0 to.0 i.0 operation end rest
       ] under.2
 
+  -- ---- exchange
+
+  exchange_able : (first second : List ℕ) (operation : Operation) → run v (exchange first second) ≡ Ok operation → AbleIn operation
+  unfolding exchange
+  exchange_able first second operation e =
+      let first_names = bind_ok v _ _ _ e in
+      let second_names = bind_ok v _ _ _ first_names.2 in
+      let busy = bind_ok v _ _ _ second_names.2 in
+      let one = bind_ok v _ _ _ busy.2 in
+      let i = bind_ok v _ _ _ one.2 in
+      let two = bind_ok v _ _ _ i.2 in
+      let j = bind_ok v _ _ _ two.2 in
+      elim (i.0 == j.0) as (λ b. run v (cond b (Gives (Tell reply.Done)) (exchange_apart one.0 two.0 i.0 j.0)) ≡ Ok operation → AbleIn operation) [
+        | true ↦ λ done. able_as _ operation (given v done) tt
+        | false ↦ λ rest. let under = bind_ok v _ _ _ rest in able_as _ operation (given v under.2) tt
+      ] j.2
+
   -- ---- list, stat
 
   list_able : (path : List ℕ) (operation : Operation) → run v (list_path path) ≡ Ok operation → AbleIn operation
@@ -279,6 +296,7 @@ module _ (s : State) (fine : IsWellFormed s) where
   decide_able client (call.Link old new) operation e = link_able old new operation e
   decide_able client (call.Unlink path) operation e = unlink_able path operation e
   decide_able client (call.Rename old new) operation e = rename_able old new operation e
+  decide_able client (call.Exchange first second) operation e = exchange_able first second operation e
   decide_able client (call.List path) operation e = list_able path operation e
   decide_able client (call.Stat path) operation e = stat_able path operation e
 

@@ -105,3 +105,15 @@ entered_within t at i all few valid =
     let m = entries_of (t at.parent) in
     let was = all at.parent in
     set_within t at.parent (Some (Dir (fin.insert m at.name i))) all (record { size = omega arith; entries = insert_length m at.name i 3584 few; valid = λ name j is. insert_valid m at.name i valid was.valid name j is })
+
+insert_same : (m : Entries ℕ) (name : List ℕ) (i v : ℕ) → fin.get m name ≡ Some i → fin.len (fin.insert m name v) ≡ fin.len m
+insert_same m name i v is = fin.len-insert nat_list_cmp_total m name v ∙ ap (λ o. cond (is_some o) (fin.len m) (fin.len m + 1)) is
+
+-- an entry that is there leads to something else
+pub over_within : (t : Tree) (at : Location) (i j : ℕ) → AreNodesWithin t → fin.get (entries_of (t at.parent)) at.name ≡ Some i → AreNodesWithin (with_entry t at j)
+over_within t at i j all is =
+    let m = entries_of (t at.parent) in
+    let was = all at.parent in
+    let few = was.entries in
+    let same = insert_same m at.name i j is in
+    set_within t at.parent (Some (Dir (fin.insert m at.name j))) all (record { size = omega arith; entries = omega (arith, few, same); valid = λ name k e. insert_valid m at.name j (was.valid at.name i is) was.valid name k e })
