@@ -13,6 +13,7 @@ use Rattle.posix_calls.specs.declared.operation.Operation.TheVariants.{NewDir, N
 use Rattle.posix_calls.specs.declared.operation.Replaced.TheVariants.{Nothing, OldFile, OldDir}
 use Rattle.posix_calls.specs.Operations.{with_entry, without_entry, less_unused, less_replaced}
 use Rattle.posix_calls.specs.WellFormed.{IsWellFormed, IsWithinLimits}
+use Rattle.posix_calls.specs.declared.limits.TheConstants.{MAX_FILE}
 use Rattle.posix_calls.proofs.Changes.{IsBare, IsRoom, entry, bare_file, bare_names, set_there, set_other, entered_names, left_names, off_one, bare_same}
 use Rattle.posix_calls.proofs.Trees.{tree_of, range_of, parent_range}
 use Rattle.posix_calls.proofs.Moved.{moved_names, dropped_fine, removed_fine}
@@ -35,8 +36,8 @@ HasRoom t from to (OldDir j) = Unit {0}
 abbrev pub Able : Tree → Operation → Type 0
 Able t (NewDir at) = IsFew t at
 Able t (NewFile at number reads writes) = IsFew t at
-Able t (Write i at bytes) = at + length bytes ≤ 1048576
-Able t (Resize i len) = len ≤ 1048576
+Able t (Write i at bytes) = at + length bytes ≤ MAX_FILE
+Able t (Resize i len) = len ≤ MAX_FILE
 Able t (AddName at i) = IsFew t at × (names_of t i < 1000)
 Able t (Move from to i is_dir replaced) = (is_name to.name ≡ true) × HasRoom t from to replaced
 Able t _ = Unit {0}

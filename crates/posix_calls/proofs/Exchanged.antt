@@ -1,17 +1,17 @@
 -- What an exchange of two names leaves of a well-formed state.
-use Rattle.std.proofs.Common.{◌≡◌, ◌≢◌, ◌⊎◌, inl, inr, ℕ, ◌+◌, ◌<◌, ◌≤◌, List, [], ◌∷◌, ◌++◌, refl, Some, None, Option, cond, ap, sym, ◌∙◌, subst, Bool, true, false, arith, ◌==◌}
+use Rattle.std.proofs.Common.{◌≡◌, ◌≢◌, ◌⊎◌, inl, inr, ℕ, ◌+◌, ◌<◌, ◌≤◌, List, [], ◌∷◌, ◌++◌, refl, Some, Option, cond, ap, sym, ◌∙◌, subst, Bool, true, false, arith, ◌==◌}
 use Rattle.std.specs.Prelude.{option_map, is_some}
 use Rattle.std.proofs.lemmas.Bool.Decides.{eqb_tells}
 use Rattle.std.specs.FinMap as fin
-use Rattle.posix_calls.specs.Tree.{Tree, Node, Dir, State, set_node, entries_of, names_of}
+use Rattle.posix_calls.specs.Tree.{Tree, Node, Dir, State, entries_of, names_of}
 use Rattle.posix_calls.specs.Query.{dir_test}
 use Rattle.posix_calls.specs.declared.operation.Location.{Location}
 use Rattle.posix_calls.specs.Operations.{with_entry, without_entry}
-use Rattle.posix_calls.specs.WellFormed.{IsDirectory, IsFile, IsWellFormed}
+use Rattle.posix_calls.specs.WellFormed.{IsDirectory, IsWellFormed}
 use Rattle.posix_calls.proofs.Counts.{put_back, get_other_insert}
-use Rattle.posix_calls.proofs.Changes.{entry, entry_parent, set_there, set_other, entered_kind, entered_here, entered_keeps, entered_names, left_kind, left_here, left_keeps, left_names}
+use Rattle.posix_calls.proofs.Changes.{entry, entry_parent, set_there, set_other, entered_kind, entered_here, entered_keeps, entered_names, left_here, left_keeps, left_names}
 use Rattle.posix_calls.proofs.Reached.{Edge, Avoids, Chain, AreReached, chain_append}
-use Rattle.posix_calls.proofs.Trees.{tree_of, reached_of, parent_range, node_of, none_there, tree_entered, some_kind, well_formed}
+use Rattle.posix_calls.proofs.Trees.{tree_of, reached_of, parent_range, node_of, none_there, tree_entered, well_formed}
 use Rattle.posix_calls.proofs.Moved.{IsWay, named_not_root}
 use Rattle.posix_calls.proofs.Ancestors.{IsRound, rounds_up, no_root}
 
@@ -113,7 +113,8 @@ own_way s j d fine edge a ps (c ∷ qs) before e =
 
 -- ---- two names change what they lead to
 
-pub exchanged_tree : Tree → Location → Location → ℕ → ℕ → Tree
+-- the tree in which each of two names has what the other one had
+abbrev pub exchanged_tree : Tree → Location → Location → ℕ → ℕ → Tree
 exchanged_tree t p q i j = with_entry (with_entry t p j) q i
 
 module _ (s : State) (p q : Location) (i j : ℕ) (fine : IsWellFormed s) (is_p : entry s.tree p ≡ Some i) (is_q : entry s.tree q ≡ Some j) (apart : i ≢ j) where

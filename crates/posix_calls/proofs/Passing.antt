@@ -23,6 +23,7 @@ use Rattle.posix_calls.specs.declared.operation.Operation.TheVariants.{Tell, Res
 use Rattle.posix_calls.specs.declared.operation.Replaced.TheVariants.{Nothing, OldFile}
 use Rattle.posix_calls.specs.Operations.{answer, Follows, Step}
 use Rattle.posix_calls.specs.WellFormed.{IsFile, IsWellFormed, IsWithinLimits}
+use Rattle.posix_calls.specs.declared.limits.TheConstants.{MAX_FILE}
 use Rattle.posix_calls.proofs.Fits.{Fits}
 use Rattle.posix_calls.proofs.Able.{Able, IsFew, HasRoom}
 use Rattle.posix_calls.proofs.Comes.{bind_ok, no_bit, not_refused, given, looked, entries_are, there_is}
@@ -100,7 +101,7 @@ module _ (s : State) (fine : IsWellFormed s) where
 
   write_able : (i at : ℕ) (bytes : List ℕ) (operation : Operation) → run v (write_at i at bytes) ≡ Ok operation → AbleIn operation
   write_able i at [] operation e = able_as _ operation (given v e) tt
-  write_able i at (b ∷ bytes) operation e = let big = bind_ok v _ _ _ e in able_as _ operation (given v big.2) (ltb-false 1048576 (at + length (b ∷ bytes)) (not_refused v errno.FileTooBig _ _ big.1))
+  write_able i at (b ∷ bytes) operation e = let big = bind_ok v _ _ _ e in able_as _ operation (given v big.2) (ltb-false MAX_FILE (at + length (b ∷ bytes)) (not_refused v errno.FileTooBig _ _ big.1))
 
   pwrite_able : (client number at : ℕ) (bytes : List ℕ) (operation : Operation) → run v (pwrite (s.descriptors client) number at bytes) ≡ Ok operation → AbleIn operation
   unfolding pwrite
@@ -132,7 +133,7 @@ module _ (s : State) (fine : IsWellFormed s) where
       let refused = bind_ok v _ _ _ is_dir.2 in
       let big = bind_ok v _ _ _ refused.2 in
       let size = bind_ok v _ _ _ big.2 in
-      able_as _ operation (given v size.2) (elim (size.0 == len) as (λ b. AbleIn (cond b (Tell reply.Done) (Resize i.0 len))) [ true ↦ tt | false ↦ ltb-false 1048576 len (not_refused v errno.FileTooBig _ _ big.1) ])
+      able_as _ operation (given v size.2) (elim (size.0 == len) as (λ b. AbleIn (cond b (Tell reply.Done) (Resize i.0 len))) [ true ↦ tt | false ↦ ltb-false MAX_FILE len (not_refused v errno.FileTooBig _ _ big.1) ])
 
   mkdir_able : (path : List ℕ) (operation : Operation) → run v (mkdir path) ≡ Ok operation → AbleIn operation
   unfolding mkdir

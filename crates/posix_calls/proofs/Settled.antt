@@ -4,11 +4,11 @@ use Rattle.std.specs.Prelude.{option_map, IsSome, is_some, ◌||◌, nat_lt}
 use Rattle.std.proofs.lemmas.Bool.{ltb-false, ltb-true}
 use Rattle.std.proofs.lemmas.Bool.Decides.{eqb_tells}
 use Rattle.std.specs.FinMap as fin
-use Rattle.posix_calls.specs.Tree.{Tree, Node, File, Dir, Descriptors, State, entries_of, names_of, names_in, sum_up_to, any_up_to, is_open, with_own}
+use Rattle.posix_calls.specs.Tree.{Tree, Node, File, Dir, Descriptors, State, entries_of, names_of, names_in, sum_up_to, any_up_to, is_open}
 use Rattle.posix_calls.specs.declared.descriptor.Descriptor.{Descriptor}
 use Rattle.posix_calls.specs.EmptyTree.{empty_tree, empty_state}
 use Rattle.posix_calls.specs.Query.{dir_test}
-use Rattle.posix_calls.specs.Run.{settled_tree, settled, used_tree, left_with, without_client, departed}
+use Rattle.posix_calls.specs.Run.{settled, used_tree, left_with, without_client, departed}
 use Rattle.posix_calls.specs.Resolve.{resolve_from}
 use Rattle.posix_calls.specs.WellFormed.{IsDirectory, IsFile, IsWellFormed}
 use Rattle.posix_calls.proofs.Sums.{all_zero}

@@ -9,6 +9,7 @@ use Rattle.posix_calls.specs.Content.{Entries, with_bytes, with_length}
 use Rattle.posix_calls.specs.Name.{is_name}
 use Rattle.posix_calls.specs.Tree.{Tree, Node, File, Dir, set_node, bytes_of, entries_of}
 use Rattle.posix_calls.specs.declared.operation.Location.{Location}
+use Rattle.posix_calls.specs.declared.limits.TheConstants.{MAX_FILE}
 use Rattle.posix_calls.specs.Operations.{with_entry, without_entry}
 use Rattle.posix_calls.proofs.Counts.{order, get_left, insert_named}
 use Rattle.posix_calls.proofs.Changes.{set_there, set_other}
@@ -60,14 +61,14 @@ removed_length m name i most is few =
 
 -- a node that keeps the limits
 pub record IsNodeWithin (o : Option Node) : Type 0 where
-  pub size : length (bytes_of o) ≤ 1048576
+  pub size : length (bytes_of o) ≤ MAX_FILE
   pub entries : fin.len (entries_of o) ≤ 3584
   pub valid : (name : List ℕ) (j : ℕ) → fin.get (entries_of o) name ≡ Some j → is_name name ≡ true
 
 no_name : (name : List ℕ) (j : ℕ) → fin.get {X = ℕ} {R = order} fin.empty name ≡ Some j → is_name name ≡ true
 no_name name j e = absurd (let clash : None ≡ Some j = sym (fin.get-empty order name) ∙ e in cc)
 
-pub file_within : (bytes : List ℕ) → length bytes ≤ 1048576 → IsNodeWithin (Some (File bytes))
+pub file_within : (bytes : List ℕ) → length bytes ≤ MAX_FILE → IsNodeWithin (Some (File bytes))
 file_within bytes few = record { size = few; entries = let e = fin.len-empty order ℕ in omega (arith, e); valid = no_name }
 
 pub none_within : IsNodeWithin None

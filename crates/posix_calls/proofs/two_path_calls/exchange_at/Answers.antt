@@ -1,4 +1,4 @@
-use Rattle.std.proofs.Common.{sym, ◌∙◌, Some, None}
+use Rattle.std.proofs.Common.{Some, None}
 use Rattle.std.proofs.lemmas.Bool.{eq-eqb}
 use Rattle.posix_calls.proofs.Chain.{exits, gives, bind_gives, bind_stops, passes, fails, if_holds, if_fails, or_clear, or_left, or_right, not_same}
 use Rattle.posix_calls.proofs.Walks.{bind_place, bind_known, bind_place_stops, walked_again}
