@@ -171,7 +171,15 @@ fn exchange_at<T: TreeAnswers>(
             answer: Reply::Done,
         });
     }
-    exchange_apart(alloc, tree, first_path, second_path, two, inode, other)
+    let nodes = NodePair { inode, other };
+    exchange_apart(alloc, tree, first_path, second_path, two, nodes)
+}
+
+// What is at the first of two paths, and what is at the second.
+#[derive(Drop)]
+struct NodePair {
+    inode: u32,
+    other: u32,
 }
 
 // What follows for two nodes. The first path is walked again, now that the node is known that it may not come by.
@@ -181,21 +189,20 @@ fn exchange_apart<T: TreeAnswers>(
     first_path: &Path,
     second_path: &Path,
     two: Landing,
-    inode: u32,
-    other: u32,
+    nodes: NodePair,
 ) -> Result<Operation, DecideError>
     requires first { is_root first_path.now ≡ false }
     requires second { is_root second_path.now ≡ false }
-    ensures answer { (walked : List ℕ) → list_any (λ d. leads_to d (Some inode)) walked ≡ two.passed → IsAnswer (T.part tree.now) (exchange_again first_path.now (place_at second_path.now two walked) inode other) result }
+    ensures answer { (walked : List ℕ) → list_any (λ d. leads_to d (Some nodes.inode)) walked ≡ two.passed → IsAnswer (T.part tree.now) (exchange_again first_path.now (place_at second_path.now two walked) nodes.inode nodes.other) result }
 {
-    let one = walk(tree, first_path, Some(other))?;
+    let one = walk(tree, first_path, Some(nodes.other))?;
     refuse_if(one.passed | two.passed, Errno::Invalid)?;
     let first = location(alloc, one.parent, first_path)?;
     let second = location(alloc, two.parent, second_path)?;
     Ok(Operation::Exchange {
         first,
         second,
-        inode,
-        other,
+        inode: nodes.inode,
+        other: nodes.other,
     })
 }
