@@ -4,7 +4,9 @@ ghost use Rattle.event_lists.specs.Plays.{Plays};
 ghost use Rattle.event_lists.specs.GatedDraft.{calls_of, can_take, clock_of, left_of, makes_of, moves_of, news_of, stored_by, tree_of};
 
 use crate::gated_draft::{DraftEvent, DraftOutcome, GatedDraft};
-use event_lists::{Recoverable, Steps, play_all};
+use crate::play::play_all;
+use crate::recoverable::Recoverable;
+use crate::steps::Steps;
 use std::alloc::{AllocError, Global};
 
 impl Recoverable<DraftEvent, DraftOutcome> for GatedDraft {

@@ -1,5 +1,6 @@
 // A shared medium and a region, of which an event fences one: whatever media these are, they can be parts of a course.
-use event_lists::{Recoverable, Steps};
+use crate::recoverable::Recoverable;
+use crate::steps::Steps;
 use tier_device::{Media, Tier};
 
 /// The shared medium, and the region of client 1 for its even generations.
