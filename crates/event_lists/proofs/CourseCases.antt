@@ -1,9 +1,9 @@
 -- Small cases of parts, readings, unfinished calls and settled states, put to the definitions of courses and outcomes.
 use Rattle.std.proofs.Common.{◌≡◌, ◌≢◌, ℕ, zero, suc, ◌+◌, ◌≤◌, ◌<◌, refl, ap, ◌∙◌, cond, List, [], ◌∷◌, arith}
-use Rattle.std.specs.Prelude.{◌==◌, ◌||◌, nat_lt, Bool, Some, None}
+use Rattle.std.specs.Prelude.{◌==◌, ◌||◌, nat_lt, Bool, true, false, Some, None}
 use Rattle.std.proofs.lemmas.Option.{none-some}
-use Rattle.posix_calls.specs.Tree.{State, names_of}
-use Rattle.posix_calls.specs.Run.{Turn}
+use Rattle.posix_calls.specs.Tree.{Tree, Descriptors, State, names_of, is_open, any_up_to}
+use Rattle.posix_calls.specs.Run.{Turn, Asked, Departs, Run}
 use Rattle.posix_calls.specs.declared.call.Call.{Call}
 use Rattle.posix_calls.specs.declared.call.Call.TheVariants as calls
 use Rattle.posix_calls.specs.declared.call.Reply.{Reply}
@@ -81,7 +81,7 @@ two_calls (suc (suc zero)) = Some other_call
 two_calls (suc (suc (suc c))) = None
 
 abbrev turn_of : ℕ → Call → Reply → Turn
-turn_of client call reply = record { client = client; call = call; reply = reply }
+turn_of client call reply = Asked client call reply
 
 neither_may_be_done : AreSomeOf two_calls []
 neither_may_be_done = tt
@@ -109,6 +109,50 @@ no_other_client_has_done_any some = none-some one_call some.0
 
 no_other_call_is_done : AreSomeOf two_calls (turn_of 1 other_call Done ∷ []) → ⊥
 no_other_call_is_done some = absurd (grind (arith, some.0))
+
+no_departure_is_added : AreSomeOf two_calls (Departs 1 ∷ []) → ⊥
+no_departure_is_added some = some
+
+no_departure_is_added_behind_a_call : AreSomeOf two_calls (turn_of 1 one_call Done ∷ Departs 1 ∷ []) → ⊥
+no_departure_is_added_behind_a_call some = some.1
+
+-- ---- a client departs
+
+-- client 1 has file 5 open, and nobody else has anything open
+abbrev one_has_it : Descriptors
+one_has_it (suc zero) zero = Some (record { inode = 5; reads = true; writes = true })
+one_has_it _ _ = None
+
+-- client 2 has it open beside
+abbrev two_have_it : Descriptors
+two_have_it (suc (suc zero)) zero = Some (record { inode = 5; reads = true; writes = false })
+two_have_it c n = one_has_it c n
+
+-- a tree and what is open of it
+abbrev with_open : Tree → Descriptors → State
+with_open t held = record { tree = t; descriptors = held }
+
+or_true : (b : Bool) → (b || true) ≡ true
+or_true true = refl
+or_true false = refl
+
+nameless_file_goes_with_its_last_client : (t : Tree) (last : State) → names_of t 5 ≡ 0 → Run (with_open t one_has_it) (Departs 1 ∷ []) last → last.tree 5 ≡ None
+unfolding is_open any_up_to
+nameless_file_goes_with_its_last_client t last none run = ap (λ s. s.tree 5) (run.2 ∙ run.1) ∙ ap (λ n. cond (nat_lt 0 n || false) (t 5) None) none
+
+nameless_file_of_another_stays : (t : Tree) (last : State) → Run (with_open t two_have_it) (Departs 1 ∷ []) last → last.tree 5 ≡ t 5
+unfolding is_open any_up_to
+nameless_file_of_another_stays t last run = ap (λ s. s.tree 5) (run.2 ∙ run.1) ∙ ap (λ b. cond b (t 5) None) (or_true (nat_lt 0 (names_of t 5)))
+
+file_with_a_name_stays : (t : Tree) (last : State) → names_of t 5 ≡ 1 → Run (with_open t one_has_it) (Departs 1 ∷ []) last → last.tree 5 ≡ t 5
+unfolding is_open any_up_to
+file_with_a_name_stays t last one run = ap (λ s. s.tree 5) (run.2 ∙ run.1) ∙ ap (λ n. cond (nat_lt 0 n || false) (t 5) None) one
+
+all_of_one_client_is_closed : (old last : State) → Run old (Departs 1 ∷ []) last → (number : ℕ) → last.descriptors 1 number ≡ None
+all_of_one_client_is_closed old last run number = ap (λ s. s.descriptors 1 number) (run.2 ∙ run.1)
+
+nothing_of_another_is_closed : (old last : State) → Run old (Departs 1 ∷ []) last → (number : ℕ) → last.descriptors 2 number ≡ old.descriptors 2 number
+nothing_of_another_is_closed old last run number = ap (λ s. s.descriptors 2 number) (run.2 ∙ run.1)
 
 -- ---- settled states
 

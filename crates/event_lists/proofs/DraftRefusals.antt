@@ -8,7 +8,7 @@ use Rattle.std.specs.Ordering.{nat_cmp}
 use Rattle.tier_device.specs.declared.media.Tier.TheVariants.{Fast}
 use Rattle.posix_calls.specs.Tree.{State, Dir, entries_of, set_node}
 use Rattle.posix_calls.specs.EmptyTree.{empty_tree, empty_state}
-use Rattle.posix_calls.specs.Run.{Run, Turn, settled}
+use Rattle.posix_calls.specs.Run.{Run, Turn, Asked, Departs, settled}
 use Rattle.posix_calls.specs.Operations.{Follows, Step, state_after}
 use Rattle.posix_calls.specs.declared.call.Reply.TheVariants.{Done}
 use Rattle.posix_calls.specs.declared.operation.Operation.TheVariants.{NewDir}
@@ -81,7 +81,8 @@ done_is_seen last run e =
 -- no other call is there to be done
 none_more : (more : List Turn) → AreSomeOf nobody more → more ≡ []
 none_more [] some = refl
-none_more (turn ∷ more) some = absurd (grind (arith, some.0))
+none_more (Asked client call reply ∷ more) some = absurd (grind (arith, some.0))
+none_more (Departs client ∷ more) some = absurd some
 
 early_reply : (c : WorldContent) → c GATE Fast ≡ 0 ∷ [] → Recovers ghosts draft.Fresh (ledger news_of nobody (take 2 three_events) (take 2 three_outcomes)) c → ⊥
 unfolding ledger

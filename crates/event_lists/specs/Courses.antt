@@ -67,7 +67,7 @@ pace_of {E} moves events k old new = (e : E) → slice_get events k ≡ Some e �
 
 -- ---- what is acknowledged
 
--- the calls that are acknowledged, in the order of their replies, and each client's call that is started and not answered
+-- the turns that are acknowledged, in their order, and each client's call that is started and not answered
 pub record Ledger : Type 0 where
   pub turns : List Turn
   pub calls : Unfinished

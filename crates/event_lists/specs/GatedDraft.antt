@@ -3,7 +3,7 @@ use Rattle.std.specs.Prelude.{◌≡◌, ◌⊎◌, ℕ, zero, suc, ◌==◌, Li
 use Rattle.tier_device.specs.declared.media.Tier.TheVariants.{Fast}
 use Rattle.posix_calls.specs.Tree.{State}
 use Rattle.posix_calls.specs.EmptyTree.{empty_state}
-use Rattle.posix_calls.specs.Run.{Turn, settled}
+use Rattle.posix_calls.specs.Run.{Turn, Asked, settled}
 use Rattle.posix_calls.specs.Operations.{state_after}
 use Rattle.posix_calls.specs.declared.call.Call.{Call}
 use Rattle.posix_calls.specs.declared.call.Call.TheVariants as calls
@@ -33,7 +33,7 @@ root_a = record { parent = 1; name = 97 ∷ [] }
 
 -- its turn
 abbrev pub one_turn : Turn
-one_turn = record { client = 1; call = one_call; reply = Done }
+one_turn = Asked 1 one_call Done
 
 -- the state that it leads to
 abbrev pub after_mkdir : State

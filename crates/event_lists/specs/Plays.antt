@@ -6,7 +6,7 @@ use Rattle.event_lists.specs.Courses.{PARTS, AreMade, Content, IsCourse, LeftAt,
 use Rattle.event_lists.specs.declared.recoverable.Recoverable.{Ghosts}
 
 module _ {S E O : Type 0} (g : Ghosts S E O) where
-  -- A recovery takes the content, and stores what is left of the old tree after every call that the ledger acknowledges and, of each client, at most the one that it has unfinished, whole or not at all.
+  -- A recovery takes the content, and stores what is left of the old tree after every turn that the ledger acknowledges and, of each client, at most the call that it has unfinished, whole or not at all.
   pub record Recovers (old : S) (l : Ledger) (c : WorldContent) : Type 0 where
     pub can : g.can old c
     pub outcome : IsOutcome (g.tree old) l.turns l.calls (g.stored old c)

@@ -13,11 +13,13 @@ use Rattle.posix_calls.specs.declared.operation.Operation.TheVariants.{NewDir, N
 use Rattle.posix_calls.specs.declared.operation.Replaced.TheVariants.{Nothing, OldFile, OldDir}
 use Rattle.posix_calls.specs.Operations.{with_entry, without_entry, less_unused, less_replaced}
 use Rattle.posix_calls.specs.WellFormed.{IsWellFormed, IsWithinLimits}
+use Rattle.posix_calls.specs.declared.limits.TheConstants.{MAX_FILE}
 use Rattle.posix_calls.proofs.Changes.{IsBare, IsRoom, entry, bare_file, bare_names, set_there, set_other, entered_names, left_names, off_one, bare_same}
 use Rattle.posix_calls.proofs.Trees.{tree_of, range_of, parent_range}
 use Rattle.posix_calls.proofs.Moved.{moved_names, dropped_fine, removed_fine}
+use Rattle.posix_calls.proofs.Exchanged.{exchanged_tree, exchanged_names, mid_q}
 use Rattle.posix_calls.proofs.Fits.{FitsReplaced, IsLess, less_none, less_if, bare_left, from_after, room_after}
-use Rattle.posix_calls.proofs.Within.{AreNodesWithin, IsNodeWithin, none_within, set_within, left_within, entered_within, remove_length, removed_length}
+use Rattle.posix_calls.proofs.Within.{AreNodesWithin, IsNodeWithin, none_within, set_within, left_within, entered_within, over_within, remove_length, removed_length}
 
 -- a directory with room for one more name
 pub record IsFew (t : Tree) (at : Location) : Type 0 where
@@ -34,8 +36,8 @@ HasRoom t from to (OldDir j) = Unit {0}
 abbrev pub Able : Tree → Operation → Type 0
 Able t (NewDir at) = IsFew t at
 Able t (NewFile at number reads writes) = IsFew t at
-Able t (Write i at bytes) = at + length bytes ≤ 1048576
-Able t (Resize i len) = len ≤ 1048576
+Able t (Write i at bytes) = at + length bytes ≤ MAX_FILE
+Able t (Resize i len) = len ≤ MAX_FILE
 Able t (AddName at i) = IsFew t at × (names_of t i < 1000)
 Able t (Move from to i is_dir replaced) = (is_name to.name ≡ true) × HasRoom t from to replaced
 Able t _ = Unit {0}
@@ -194,3 +196,12 @@ within_replaced s from to i (OldDir j) fine within is fits valid room =
     let kept = lesser_within t u within (lesser_both t (without_entry t to) u first (lesser_set (without_entry t to) j None first.nodes gone refl range.0 range.1 none_within)) in
     within_moved (record { tree = u; descriptors = s.descriptors }) from to i (removed_fine s to j fine fits.1 fits.2 fits.3) kept
     (from_after s u from to i j is fits.0 fits.1 bare less) (room_after s u from to i j is fits.0 fits.1 bare less) (room_replaced t u from to j j (nodes_of t within) fits.1 less) valid
+
+-- ---- two names change what they lead to
+
+pub within_exchanged : (s : State) (p q : Location) (i j : ℕ) → IsWellFormed s → IsWithinLimits s.tree → entry s.tree p ≡ Some i → entry s.tree q ≡ Some j → i ≢ j → IsWithinLimits (exchanged_tree s.tree p q i j)
+within_exchanged s p q i j fine within is_p is_q apart =
+    lesser_within s.tree (exchanged_tree s.tree p q i j) within (record {
+      nodes = over_within (with_entry s.tree p j) q j i (over_within s.tree p i j (nodes_of s.tree within) is_p) (mid_q s p q i j fine is_p is_q apart);
+      names = λ k. same_le (names_of (exchanged_tree s.tree p q i j) k) (names_of s.tree k) (exchanged_names s p q i j fine is_p is_q apart k);
+    })

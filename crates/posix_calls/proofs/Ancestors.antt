@@ -60,7 +60,7 @@ round_up s a c fine e round =
     let same : l.before ≡ a = one_parent s a l.before c fine one e l.edge in
     record { first = c; steps = l.steps; way = (e, subst (Chain t c l.steps) same l.way) }
 
-rounds_up : (s : State) (a : ℕ) (cs : List ℕ) (b : ℕ) → IsWellFormed s → Chain s.tree a cs b → IsRound s.tree b → IsRound s.tree a
+pub rounds_up : (s : State) (a : ℕ) (cs : List ℕ) (b : ℕ) → IsWellFormed s → Chain s.tree a cs b → IsRound s.tree b → IsRound s.tree a
 rounds_up s a [] b fine e round = subst (IsRound s.tree) (sym e) round
 rounds_up s a (c ∷ cs) b fine e round = round_up s a c fine e.0 (rounds_up s c cs b fine e.1 round)
 
@@ -75,7 +75,7 @@ path_round t i name names e =
           record { first = c; steps = more.0; way = ((name, child_ok (t i) name c is), more.1) }
     ] refl e
 
-no_root : (s : State) → IsWellFormed s → IsRound s.tree 1 → ⊥
+pub no_root : (s : State) → IsWellFormed s → IsRound s.tree 1 → ⊥
 no_root s fine round =
     let l = last_of s.tree 1 round.first round.steps 1 round.way in
     named_not_root s (location l.before l.edge.0) 1 fine l.edge.1 refl

@@ -12,7 +12,7 @@ use Rattle.posix_calls.specs.Tree.{State}
 use Rattle.posix_calls.specs.declared.descriptor.Descriptor.{Descriptor}
 use Rattle.posix_calls.specs.Query.{Seen, File, Dir, Gives, View, run, view_of, dir_test}
 use Rattle.posix_calls.specs.Walk.{Place, prefix, is_root, is_there, kind_at, walk, leads_to}
-use Rattle.posix_calls.specs.Decide.{node_description, write_at, open_there, replaced_at, replacing_dir, rename_to, open_path, close, pread, pwrite, truncate, mkdir, rmdir, link, unlink, rename, list_path, stat, decide}
+use Rattle.posix_calls.specs.Decide.{node_description, write_at, open_there, replaced_at, replacing_dir, rename_to, open_path, close, pread, pwrite, truncate, mkdir, rmdir, link, unlink, rename, exchange_apart, exchange, list_path, stat, decide}
 use Rattle.posix_calls.specs.declared.operation.Operation.{Operation}
 use Rattle.posix_calls.specs.declared.operation.Replaced.{Replaced}
 use Rattle.posix_calls.specs.declared.operation.Operation.TheVariants.{Tell, Resize}
@@ -250,6 +250,36 @@ module _ (s : State) (fine : IsWellFormed s) where
         | false ↦ λ other rest. renamed_fits client from.0 to.0 i.0 operation at (there_is v from.0.inode i.0 i.1) at_to other way rest
       ] refl under.2
 
+  -- ---- exchange
+
+  exchanged_fits : (client : ℕ) (one two : Place) (i j : ℕ) (operation : Operation) → i ≢ j → IsPlace s.tree one → one.inode ≡ Some i → IsPlace s.tree two → two.inode ≡ Some j
+      → (list_any (λ d. d == j) one.walked ≡ false → IsWay s.tree j one.location.parent) → (list_any (λ d. d == i) two.walked ≡ false → IsWay s.tree i two.location.parent)
+      → run v (exchange_apart one two i j) ≡ Ok operation → FitsIn client operation
+  exchanged_fits client one two i j operation other at_one is_one at_two is_two way_one way_two e =
+      let under = bind_ok v _ _ _ e in
+      let clear = no_bit (list_any (λ d. d == j) one.walked) (list_any (λ d. d == i) two.walked) (not_refused v errno.Invalid _ _ under.1) in
+      fits_as client _ operation (given v under.2) (other, entry_at one i at_one is_one, entry_at two j at_two is_two, way_two clear.1, way_one clear.0)
+
+  exchange_fits : (client : ℕ) (first second : List ℕ) (operation : Operation) → run v (exchange first second) ≡ Ok operation → FitsIn client operation
+  unfolding exchange
+  exchange_fits client first second operation e =
+      let first_names = bind_ok v _ _ _ e in
+      let second_names = bind_ok v _ _ _ first_names.2 in
+      let busy = bind_ok v _ _ _ second_names.2 in
+      let one = bind_ok v _ _ _ busy.2 in
+      let i = bind_ok v _ _ _ one.2 in
+      let two = bind_ok v _ _ _ i.2 in
+      let j = bind_ok v _ _ _ two.2 in
+      let roots = no_bit (is_root first_names.0) (is_root second_names.0) (not_refused v errno.Busy _ _ busy.1) in
+      elim (i.0 == j.0) as (λ b. (i.0 == j.0) ≡ b → run v (cond b (Gives (Tell reply.Done)) (exchange_apart one.0 two.0 i.0 j.0)) ≡ Ok operation → FitsIn client operation) [
+        | true ↦ λ same done. fits_as client _ operation (given v done) tt
+        | false ↦ λ other rest. exchanged_fits client one.0 two.0 i.0 j.0 operation
+            (λ same. let yes : (i.0 == j.0) ≡ true = eq-eqb i.0 j.0 same in let clash : true ≡ false = sym yes ∙ other in absurd (cc))
+            (beyond first_names.0 one.0 one.1 roots.0) (there_is v one.0.inode i.0 i.1)
+            (beyond second_names.0 two.0 two.1 roots.1) (there_is v two.0.inode j.0 j.1)
+            (way_of first_names.0 one.0 j.0 one.1 roots.0) (way_of second_names.0 two.0 i.0 two.1 roots.1) rest
+      ] refl j.2
+
   -- ---- list, stat
 
   list_fits : (client : ℕ) (path : List ℕ) (operation : Operation) → run v (list_path path) ≡ Ok operation → FitsIn client operation
@@ -290,5 +320,6 @@ module _ (s : State) (fine : IsWellFormed s) where
   decide_fits client (call.Link old new) operation e = link_fits client old new operation e
   decide_fits client (call.Unlink path) operation e = unlink_fits client path operation e
   decide_fits client (call.Rename old new) operation e = rename_fits client old new operation e
+  decide_fits client (call.Exchange first second) operation e = exchange_fits client first second operation e
   decide_fits client (call.List path) operation e = list_fits client path operation e
   decide_fits client (call.Stat path) operation e = stat_fits client path operation e

@@ -1,9 +1,9 @@
 -- How a decision that is made step by step stands to a chain of questions.
-use Rattle.std.proofs.Common.{arith, zero, suc, ◌+◌, ◌==◌, ◌||◌, List, [], ◌∷◌, length, not, nat_lt, if◌then◌else◌, ◌≡◌, ℕ, Bool, true, false, refl, Option, Some, None, Result, Ok, Err, ap, sym, ◌∙◌, subst, ◌⊎◌, inl, inr}
+use Rattle.std.proofs.Common.{arith, zero, suc, ◌+◌, ◌==◌, ◌||◌, List, [], ◌∷◌, length, not, nat_lt, if◌then◌else◌, ◌≡◌, ◌≢◌, ℕ, Bool, true, false, refl, Option, Some, None, Result, Ok, Err, ap, sym, ◌∙◌, subst, ◌⊎◌, inl, inr}
 use Rattle.std.specs.Prelude.{option_map, IfOk, IfErr}
 use Rattle.std.specs.FinMap as fin
 use Rattle.std.specs.Result.{IsErrAnd}
-use Rattle.std.proofs.lemmas.Bool.Decides.{nat_tests}
+use Rattle.std.proofs.lemmas.Bool.Decides.{nat_tests, eqb_tells}
 use Rattle.std.proofs.lemmas.Result.{err_from_is_err_and}
 use Rattle.posix_calls.specs.declared.errno.Errno.{Errno}
 use Rattle.posix_calls.specs.declared.operation.DecideError.{DecideError}
@@ -117,6 +117,14 @@ passes {p = p} e {b = b} f {r = r} clear rest = subst (λ z. IsAnswer p (refuse 
 -- one that does is refused
 pub fails : {B : Type 0} {p : Part} (e : Errno) {b : Bool} (f : Unit {0} → Query B) {s : DecideError} → s ≡ Refused e → b ≡ true → IsAnswer p (refuse e b >>= f) (Err s)
 fails {p = p} e {b = b} f {s = s} why holds = subst (λ z. IsAnswer p (refuse e z >>= f) (Err s)) (sym holds) (bind_stops f (subst (λ z. IsAnswer p (refuse e true) (Err z)) (sym why) refuses))
+
+-- numbers that differ are not tested equal
+pub not_same : (a b : ℕ) → a ≢ b → (a == b) ≡ false
+not_same a b apart = elim (eqb_tells a b) [ inl same ↦ absurd (apart same.1) | inr off ↦ off.0 ]
+
+-- two tests are tested as they are
+pub or_same : {a b c d : Bool} → a ≡ c → b ≡ d → (a || b) ≡ (c || d)
+or_same e h = rw (e, h) refl
 
 -- two tests in one
 pub or_clear : {a b : Bool} → a ≡ false → b ≡ false → (a || b) ≡ false

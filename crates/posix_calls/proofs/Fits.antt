@@ -9,7 +9,7 @@ use Rattle.posix_calls.specs.Query.{dir_test}
 use Rattle.posix_calls.specs.declared.operation.Location.{Location}
 use Rattle.posix_calls.specs.declared.operation.Operation.{Operation}
 use Rattle.posix_calls.specs.declared.operation.Replaced.{Replaced}
-use Rattle.posix_calls.specs.declared.operation.Operation.TheVariants.{Tell, NewDir, NewFile, OpenFile, CloseFile, Write, Resize, RemoveDir, AddName, DropName, Move}
+use Rattle.posix_calls.specs.declared.operation.Operation.TheVariants.{Tell, NewDir, NewFile, OpenFile, CloseFile, Write, Resize, RemoveDir, AddName, DropName, Move, Exchange}
 use Rattle.posix_calls.specs.declared.operation.Replaced.TheVariants.{Nothing, OldFile, OldDir}
 use Rattle.posix_calls.specs.Operations.{with_entry, without_entry, less_unused, less_replaced, tree_after, makes, IsFree, state_after}
 use Rattle.posix_calls.specs.WellFormed.{IsDirectory, IsFile, IsWellFormed}
@@ -17,6 +17,7 @@ use Rattle.posix_calls.proofs.Changes.{IsBare, IsRoom, entry, entry_parent, bare
 use Rattle.posix_calls.proofs.Reached.{Avoids, Chain, nowhere, chain_moves}
 use Rattle.posix_calls.proofs.Steps.{with_same}
 use Rattle.posix_calls.proofs.Kept.{more_held, written_fine, opened_fine, closed_fine}
+use Rattle.posix_calls.proofs.Exchanged.{exchanged_fine}
 use Rattle.posix_calls.proofs.Moved.{IsWay, dropped_fine, removed_fine, added_fine, made_fine, moved_fine}
 
 -- a number at which nothing is open
@@ -43,6 +44,7 @@ Fits t own (RemoveDir at i) = (entry t at ≡ Some i) × IsDirectory (t i) × Is
 Fits t own (AddName at i) = IsRoom t at × IsFile (t i)
 Fits t own (DropName at i) = (entry t at ≡ Some i) × IsFile (t i)
 Fits t own (Move from to i is_dir replaced) = (entry t from ≡ Some i) × FitsReplaced t to i replaced × IsWay t i to.parent
+Fits t own (Exchange first second i j) = (i ≢ j) × (entry t first ≡ Some i) × (entry t second ≡ Some j) × IsWay t i second.parent × IsWay t j first.parent
 
 -- ---- what a rename replaces
 
@@ -136,3 +138,4 @@ operation_fine s client new (RemoveDir at i) fine low high fits free = kept_held
 operation_fine s client new (AddName at i) fine low high fits free = kept_held s client new (AddName at i) (added_fine s at i fine fits.0 fits.1)
 operation_fine s client new (DropName at i) fine low high fits free = kept_held s client new (DropName at i) (dropped_fine s at i fine fits.0 fits.1)
 operation_fine s client new (Move from to i is_dir replaced) fine low high fits free = kept_held s client new (Move from to i is_dir replaced) (replaced_fine s from to i replaced fine fits.0 fits.1 fits.2)
+operation_fine s client new (Exchange first second i j) fine low high fits free = kept_held s client new (Exchange first second i j) (exchanged_fine s first second i j fine fits.1 fits.2 fits.0 fits.3 fits.4)

@@ -11,10 +11,11 @@ use Rattle.posix_calls.specs.Query.{run, view_of}
 use Rattle.posix_calls.specs.Decide.{decide}
 use Rattle.posix_calls.specs.declared.operation.Operation.{Operation}
 use Rattle.posix_calls.specs.Operations.{is_client, answer, Follows, Step}
-use Rattle.posix_calls.specs.Run.{Turn, Run}
+use Rattle.posix_calls.specs.Run.{Turn, Asked, Departs, Takes, Run}
 use Rattle.posix_calls.specs.WellFormed.{IsWellFormed}
 use Rattle.posix_calls.proofs.Fits.{Fits, operation_fine}
 use Rattle.posix_calls.proofs.Calls.{decide_fits}
+use Rattle.posix_calls.proofs.Settled.{departed_fine}
 
 both : (a b : Bool) → (a && b) ≡ true → (a ≡ true) × (b ≡ true)
 both true b e = (refl, e)
@@ -41,7 +42,11 @@ pub step_fine : (old : State) (client : ℕ) (c : Call) (r : Reply) (after : Sta
 step_fine old client c r after fine (inl f) = follows_fine old client f.0 (answer old client c) r after fine (λ operation e. let is = answered old client c operation e in (is.low, is.high, decide_fits old fine client c operation is.is)) f.1
 step_fine old client c r after fine (inr g) = subst IsWellFormed (sym g.3) fine
 
--- so does a run
+-- so does a turn, and a run
+pub turn_fine : (old : State) (turn : Turn) (after : State) → IsWellFormed old → Takes old turn after → IsWellFormed after
+turn_fine old (Asked client call reply) after fine e = step_fine old client call reply after fine e
+turn_fine old (Departs client) after fine e = subst IsWellFormed (sym e) (departed_fine old client fine)
+
 pub run_fine : (turns : List Turn) (old last : State) → IsWellFormed old → Run old turns last → IsWellFormed last
 run_fine [] old last fine e = subst IsWellFormed (sym e) fine
-run_fine (turn ∷ turns) old last fine e = run_fine turns e.0 last (step_fine old turn.client turn.call turn.reply e.0 fine e.1) e.2
+run_fine (turn ∷ turns) old last fine e = run_fine turns e.0 last (turn_fine old turn e.0 fine e.1) e.2

@@ -18,6 +18,7 @@ pub mod Comes
 pub mod Calls
 pub mod Lasting
 pub mod Ancestors
+pub mod Exchanged
 pub mod Settled
 mod Ends
 pub mod Within

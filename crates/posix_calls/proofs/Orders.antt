@@ -1,10 +1,11 @@
 -- Which of two errors comes first, where both hold.
-use Rattle.std.proofs.Common.{◌≡◌, ℕ, [], ◌∷◌, List, Bool, true, false, refl, Some, None, Option, Ok, Err, length, replicate, cond, ◌==◌, ◌||◌}
+use Rattle.std.proofs.Common.{◌≡◌, ℕ, ◌+◌, [], ◌∷◌, List, Bool, true, false, refl, Some, None, Option, Ok, Err, length, replicate, cond, ◌==◌, ◌||◌}
 use Rattle.std.specs.Prelude.{codes, nat_lt}
 use Rattle.std.specs.FinMap as fin
 use Rattle.posix_calls.specs.Content.{Entries}
 use Rattle.posix_calls.specs.declared.errno.Errno.TheVariants as errno
 use Rattle.posix_calls.specs.declared.call.Reply.TheVariants as reply
+use Rattle.posix_calls.specs.declared.limits.TheConstants.{MAX_FILE}
 use Rattle.posix_calls.specs.Query.{View, Seen, File, Dir, run}
 use Rattle.posix_calls.specs.Walk.{walk}
 use Rattle.posix_calls.specs.Decide.{open_path, pwrite, truncate, mkdir, link, rename, stat}
@@ -56,11 +57,11 @@ module _ (in_a : Entries ℕ) where
   unfolding pwrite writing closed
   pwrite_count_before_size at bytes long = simp (runs, long) refl
 
-  truncate_path_before_size : run crowded (truncate too_long 1048577) ≡ Err errno.NameTooLong
+  truncate_path_before_size : run crowded (truncate too_long (MAX_FILE + 1)) ≡ Err errno.NameTooLong
   unfolding truncate too_long
   truncate_path_before_size = simp runs refl
 
-  truncate_not_there_before_size : run crowded (truncate (codes "/n") 1048577) ≡ Err errno.NoEntry
+  truncate_not_there_before_size : run crowded (truncate (codes "/n") (MAX_FILE + 1)) ≡ Err errno.NoEntry
   unfolding truncate walk crowded nodes is_dir one_of
   truncate_not_there_before_size = simp (runs, fin.gets) refl
 

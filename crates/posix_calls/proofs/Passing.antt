@@ -16,13 +16,14 @@ use Rattle.posix_calls.specs.Tree.{Tree, Node, File, Dir, State, names_of, entri
 use Rattle.posix_calls.specs.Query.{Seen, Query, Gives, View, run, view_of, seen_node, dir_test}
 use Rattle.posix_calls.specs.Query as query
 use Rattle.posix_calls.specs.Walk.{Place, read_or_error, walk, prefix, is_root, is_there, names_seen, leads_to}
-use Rattle.posix_calls.specs.Decide.{node_description, write_at, open_there, replaced_at, replacing_dir, rename_to, open_path, close, pread, pwrite, truncate, mkdir, rmdir, link, unlink, rename, list_path, stat, decide}
+use Rattle.posix_calls.specs.Decide.{node_description, write_at, open_there, replaced_at, replacing_dir, rename_to, open_path, close, pread, pwrite, truncate, mkdir, rmdir, link, unlink, rename, exchange_apart, exchange, list_path, stat, decide}
 use Rattle.posix_calls.specs.declared.operation.Operation.{Operation}
 use Rattle.posix_calls.specs.declared.operation.Replaced.{Replaced}
 use Rattle.posix_calls.specs.declared.operation.Operation.TheVariants.{Tell, Resize}
 use Rattle.posix_calls.specs.declared.operation.Replaced.TheVariants.{Nothing, OldFile}
 use Rattle.posix_calls.specs.Operations.{answer, Follows, Step}
 use Rattle.posix_calls.specs.WellFormed.{IsFile, IsWellFormed, IsWithinLimits}
+use Rattle.posix_calls.specs.declared.limits.TheConstants.{MAX_FILE}
 use Rattle.posix_calls.proofs.Fits.{Fits}
 use Rattle.posix_calls.proofs.Able.{Able, IsFew, HasRoom}
 use Rattle.posix_calls.proofs.Comes.{bind_ok, no_bit, not_refused, given, looked, entries_are, there_is}
@@ -100,7 +101,7 @@ module _ (s : State) (fine : IsWellFormed s) where
 
   write_able : (i at : ℕ) (bytes : List ℕ) (operation : Operation) → run v (write_at i at bytes) ≡ Ok operation → AbleIn operation
   write_able i at [] operation e = able_as _ operation (given v e) tt
-  write_able i at (b ∷ bytes) operation e = let big = bind_ok v _ _ _ e in able_as _ operation (given v big.2) (ltb-false 1048576 (at + length (b ∷ bytes)) (not_refused v errno.FileTooBig _ _ big.1))
+  write_able i at (b ∷ bytes) operation e = let big = bind_ok v _ _ _ e in able_as _ operation (given v big.2) (ltb-false MAX_FILE (at + length (b ∷ bytes)) (not_refused v errno.FileTooBig _ _ big.1))
 
   pwrite_able : (client number at : ℕ) (bytes : List ℕ) (operation : Operation) → run v (pwrite (s.descriptors client) number at bytes) ≡ Ok operation → AbleIn operation
   unfolding pwrite
@@ -132,7 +133,7 @@ module _ (s : State) (fine : IsWellFormed s) where
       let refused = bind_ok v _ _ _ is_dir.2 in
       let big = bind_ok v _ _ _ refused.2 in
       let size = bind_ok v _ _ _ big.2 in
-      able_as _ operation (given v size.2) (elim (size.0 == len) as (λ b. AbleIn (cond b (Tell reply.Done) (Resize i.0 len))) [ true ↦ tt | false ↦ ltb-false 1048576 len (not_refused v errno.FileTooBig _ _ big.1) ])
+      able_as _ operation (given v size.2) (elim (size.0 == len) as (λ b. AbleIn (cond b (Tell reply.Done) (Resize i.0 len))) [ true ↦ tt | false ↦ ltb-false MAX_FILE len (not_refused v errno.FileTooBig _ _ big.1) ])
 
   mkdir_able : (path : List ℕ) (operation : Operation) → run v (mkdir path) ≡ Ok operation → AbleIn operation
   unfolding mkdir
@@ -241,6 +242,23 @@ module _ (s : State) (fine : IsWellFormed s) where
         | false ↦ λ rest. renamed_able from.0 to.0 i.0 operation end rest
       ] under.2
 
+  -- ---- exchange
+
+  exchange_able : (first second : List ℕ) (operation : Operation) → run v (exchange first second) ≡ Ok operation → AbleIn operation
+  unfolding exchange
+  exchange_able first second operation e =
+      let first_names = bind_ok v _ _ _ e in
+      let second_names = bind_ok v _ _ _ first_names.2 in
+      let busy = bind_ok v _ _ _ second_names.2 in
+      let one = bind_ok v _ _ _ busy.2 in
+      let i = bind_ok v _ _ _ one.2 in
+      let two = bind_ok v _ _ _ i.2 in
+      let j = bind_ok v _ _ _ two.2 in
+      elim (i.0 == j.0) as (λ b. run v (cond b (Gives (Tell reply.Done)) (exchange_apart one.0 two.0 i.0 j.0)) ≡ Ok operation → AbleIn operation) [
+        | true ↦ λ done. able_as _ operation (given v done) tt
+        | false ↦ λ rest. let under = bind_ok v _ _ _ rest in able_as _ operation (given v under.2) tt
+      ] j.2
+
   -- ---- list, stat
 
   list_able : (path : List ℕ) (operation : Operation) → run v (list_path path) ≡ Ok operation → AbleIn operation
@@ -279,6 +297,7 @@ module _ (s : State) (fine : IsWellFormed s) where
   decide_able client (call.Link old new) operation e = link_able old new operation e
   decide_able client (call.Unlink path) operation e = unlink_able path operation e
   decide_able client (call.Rename old new) operation e = rename_able old new operation e
+  decide_able client (call.Exchange first second) operation e = exchange_able first second operation e
   decide_able client (call.List path) operation e = list_able path operation e
   decide_able client (call.Stat path) operation e = stat_able path operation e
 

@@ -6,7 +6,7 @@ use Rattle.posix_calls.specs.Query.{Seen, File, Dir, Query, Gives, Refuses, IsDi
 use Rattle.posix_calls.specs.Part.{Part, Known, Unknown, blocks_missing, run_part}
 use Rattle.posix_calls.specs.Walk.{Place, refuse, leads_to}
 use Rattle.posix_calls.specs.Answers.{IsAnswer}
-use Rattle.posix_calls.specs.Decide.{lowest_free, number_or, open_there, open_path, close, pread, write_at, pwrite, truncate, mkdir, rmdir, link, unlink, rename_to, rename, list_path, node_description, stat}
+use Rattle.posix_calls.specs.Decide.{lowest_free, number_or, open_there, open_path, close, pread, write_at, pwrite, truncate, mkdir, rmdir, link, unlink, rename_to, rename, exchange_apart, exchange, list_path, node_description, stat}
 use Rattle.posix_calls.specs.Exact.{IsInRange}
 use Rattle.posix_calls.specs.declared.call.Flags.{Flags}
 use Rattle.posix_calls.specs.declared.call.Reply.TheVariants as reply
@@ -141,6 +141,15 @@ rename_in_range old new =
     moved : (from to : Place) (i : ℕ) (same : Bool) → Always IsInRange (cond same (Gives (Tell reply.Done)) (rename_to from to i))
     moved from to i true = tt
     moved from to i false = then_always _ _ (λ old_dir. then_always _ _ (λ replaced. tt))
+
+pub exchange_in_range : (first second : List ℕ) → Always IsInRange (exchange first second)
+unfolding exchange
+exchange_in_range first second =
+    then_always _ _ (λ first_names. then_always _ _ (λ second_names. then_always _ _ (λ _. then_always _ _ (λ one. then_always _ _ (λ i. then_always _ _ (λ two. then_always _ _ (λ j. exchanged one two i j (i == j))))))))
+  where
+    exchanged : (one two : Place) (i j : ℕ) (same : Bool) → Always IsInRange (cond same (Gives (Tell reply.Done)) (exchange_apart one two i j))
+    exchanged one two i j true = tt
+    exchanged one two i j false = then_always _ _ (λ _. tt)
 
 pub list_in_range : (path : List ℕ) → Always IsInRange (list_path path)
 unfolding list_path

@@ -79,7 +79,7 @@ pub chain_stays : (g h : Tree) → ((a c : ℕ) → Edge g a c → Edge h a c) �
 chain_stays g h stays a [] b e = e
 chain_stays g h stays a (c ∷ cs) b e = (stays a c e.0, chain_stays g h stays c cs b e.1)
 
-chain_append : (h : Tree) (a : ℕ) (cs : List ℕ) (b : ℕ) (ds : List ℕ) (c : ℕ) → Chain h a cs b → Chain h b ds c → Chain h a (cs ++ ds) c
+pub chain_append : (h : Tree) (a : ℕ) (cs : List ℕ) (b : ℕ) (ds : List ℕ) (c : ℕ) → Chain h a cs b → Chain h b ds c → Chain h a (cs ++ ds) c
 chain_append h a [] b ds c e f = subst (λ x. Chain h x ds c) (sym e) f
 chain_append h a (x ∷ cs) b ds c e f = (e.0, chain_append h x cs b ds c e.1 f)
 

@@ -1,5 +1,5 @@
 -- Calls on small trees, computed by the definitions: what each comes to, and in which order its errors are tested.
-use Rattle.std.proofs.Common.{◌≡◌, ℕ, [], ◌∷◌, List, true, false, refl, Some, None, Ok, Err}
+use Rattle.std.proofs.Common.{◌≡◌, ℕ, ◌+◌, ◌-◌, [], ◌∷◌, List, true, false, refl, Some, None, Ok, Err}
 use Rattle.std.specs.Prelude.{codes}
 use Rattle.std.specs.FinMap as fin
 use Rattle.posix_calls.specs.Content.{Entries}
@@ -9,10 +9,11 @@ use Rattle.posix_calls.specs.Tree as N
 use Rattle.posix_calls.specs.declared.errno.Errno.TheVariants as errno
 use Rattle.posix_calls.specs.declared.call.Flags.{Flags}
 use Rattle.posix_calls.specs.declared.call.Reply.TheVariants as reply
+use Rattle.posix_calls.specs.declared.limits.TheConstants.{MAX_FILE}
 use Rattle.posix_calls.specs.Query.{run, view_of}
 use Rattle.posix_calls.specs.Walk.{walk}
-use Rattle.posix_calls.specs.Decide.{open_path, close, pread, pwrite, truncate, mkdir, rmdir, link, unlink, rename, list_path, stat}
-use Rattle.posix_calls.specs.declared.operation.Operation.TheVariants.{Tell, NewDir, NewFile, CloseFile, Write, RemoveDir, DropName, Move}
+use Rattle.posix_calls.specs.Decide.{open_path, close, pread, pwrite, truncate, mkdir, rmdir, link, unlink, rename, exchange, list_path, stat}
+use Rattle.posix_calls.specs.declared.operation.Operation.TheVariants.{Tell, NewDir, NewFile, CloseFile, Write, RemoveDir, DropName, Move, Exchange}
 use Rattle.posix_calls.specs.declared.operation.Replaced.TheVariants.{Nothing}
 use Rattle.posix_calls.proofs.Answers.{runs}
 use Rattle.posix_calls.proofs.Directory.{lists}
@@ -103,29 +104,29 @@ pread_to_the_end : run (view_of small) (pread reading 0 1 65536) ≡ Ok (Tell (r
 unfolding pread small one_of closed reading
 pread_to_the_end = simp runs refl
 
-pwrite_not_for_writing : run (view_of small) (pwrite reading 0 1048577 []) ≡ Err errno.BadDescriptor
+pwrite_not_for_writing : run (view_of small) (pwrite reading 0 (MAX_FILE + 1) []) ≡ Err errno.BadDescriptor
 unfolding pwrite small closed reading
 pwrite_not_for_writing = simp runs refl
 
-pwrite_nothing : run (view_of small) (pwrite writing 0 1048577 []) ≡ Ok (Tell (reply.Wrote 0))
+pwrite_nothing : run (view_of small) (pwrite writing 0 (MAX_FILE + 1) []) ≡ Ok (Tell (reply.Wrote 0))
 unfolding pwrite small closed writing
 pwrite_nothing = simp runs refl
 
-pwrite_last_byte : run (view_of small) (pwrite writing 0 1048575 (97 ∷ [])) ≡ Ok (Write 5 1048575 (97 ∷ []))
+pwrite_last_byte : run (view_of small) (pwrite writing 0 (MAX_FILE - 1) (97 ∷ [])) ≡ Ok (Write 5 (MAX_FILE - 1) (97 ∷ []))
 unfolding pwrite small closed writing
 pwrite_last_byte = simp runs refl
 
-pwrite_too_big : run (view_of small) (pwrite writing 0 1048576 (97 ∷ [])) ≡ Err errno.FileTooBig
+pwrite_too_big : run (view_of small) (pwrite writing 0 MAX_FILE (97 ∷ [])) ≡ Err errno.FileTooBig
 unfolding pwrite small closed writing
 pwrite_too_big = simp runs refl
 
 -- ---- truncate, mkdir, rmdir, link, unlink
 
-truncate_directory_first : run (view_of small) (truncate (codes "/") 1048577) ≡ Err errno.IsDirectory
+truncate_directory_first : run (view_of small) (truncate (codes "/") (MAX_FILE + 1)) ≡ Err errno.IsDirectory
 unfolding truncate walk small one_of
 truncate_directory_first = simp runs refl
 
-truncate_too_big : run (view_of small) (truncate (codes "/a/f") 1048577) ≡ Err errno.FileTooBig
+truncate_too_big : run (view_of small) (truncate (codes "/a/f") (MAX_FILE + 1)) ≡ Err errno.FileTooBig
 unfolding truncate walk small one_of
 truncate_too_big = simp (runs, fin.gets) refl
 
@@ -218,6 +219,36 @@ rename_onto_parent = simp (runs, fin.gets) refl
 rename_moves : run (view_of small) (rename (codes "/a/b") (codes "/g")) ≡ Ok (Move (record { parent = 2; name = codes "b" }) (record { parent = 1; name = codes "g" }) 3 true Nothing)
 unfolding rename walk small one_of
 rename_moves = simp (runs, fin.gets) refl
+
+-- ---- exchange
+
+exchange_root_before_prefix : run (view_of small) (exchange (codes "/n/x") (codes "/")) ≡ Err errno.Busy
+unfolding exchange walk small one_of
+exchange_root_before_prefix = simp runs refl
+
+exchange_first_not_there_before_second_prefix : run (view_of small) (exchange (codes "/x") (codes "/a/f/x")) ≡ Err errno.NoEntry
+unfolding exchange walk small one_of
+exchange_first_not_there_before_second_prefix = simp (runs, fin.gets) refl
+
+exchange_second_not_there_before_invalid : run (view_of small) (exchange (codes "/a") (codes "/a/b/c")) ≡ Err errno.NoEntry
+unfolding exchange walk small one_of
+exchange_second_not_there_before_invalid = simp (runs, fin.gets) refl
+
+exchange_with_what_is_in_it : run (view_of small) (exchange (codes "/a") (codes "/a/b")) ≡ Err errno.Invalid
+unfolding exchange walk small one_of
+exchange_with_what_is_in_it = simp (runs, fin.gets) refl
+
+exchange_with_what_it_is_in : run (view_of small) (exchange (codes "/a/b") (codes "/a")) ≡ Err errno.Invalid
+unfolding exchange walk small one_of
+exchange_with_what_it_is_in = simp (runs, fin.gets) refl
+
+exchange_same : run (view_of small) (exchange (codes "/a") (codes "/a")) ≡ Ok (Tell reply.Done)
+unfolding exchange walk small one_of
+exchange_same = simp (runs, fin.gets) refl
+
+exchange_file_with_directory : run (view_of small) (exchange (codes "/a/f") (codes "/e")) ≡ Ok (Exchange (record { parent = 2; name = codes "f" }) (record { parent = 1; name = codes "e" }) 5 4)
+unfolding exchange walk small one_of
+exchange_file_with_directory = simp (runs, fin.gets) refl
 
 -- ---- list, stat
 

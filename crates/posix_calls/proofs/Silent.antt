@@ -1,10 +1,10 @@
 -- No call but `pread` asks for bytes.
-use Rattle.std.proofs.Common.{◌≡◌, ℕ, List, [], ◌∷◌, Bool, true, false, refl, Option, Some, None, Result, Ok, Err, cond}
+use Rattle.std.proofs.Common.{◌≡◌, ℕ, List, [], ◌∷◌, Bool, true, false, refl, Option, Some, None, Result, Ok, Err, cond, ◌==◌}
 use Rattle.posix_calls.specs.Tree.{Own}
 use Rattle.posix_calls.specs.Query.{Seen, File, Dir, Query, Gives, Refuses, IsDir, Look, Range, ◌>>=◌}
 use Rattle.posix_calls.specs.Part.{AsksNoBytes, Part, Found, Unknown, run_part}
 use Rattle.posix_calls.specs.Walk.{Place, refuse, read_or_error, there, kind_at, directory, directory_if, walk, leads_to}
-use Rattle.posix_calls.specs.Decide.{open_inode, number_or, empties, open_there, open_path, close, write_at, pwrite, truncate, mkdir, rmdir, link, unlink, replaced_at, replacing_dir, rename_to, rename, list_path, node_description, stat, decide}
+use Rattle.posix_calls.specs.Decide.{open_inode, number_or, empties, open_there, open_path, close, write_at, pwrite, truncate, mkdir, rmdir, link, unlink, replaced_at, replacing_dir, rename_to, rename, exchange_apart, exchange, list_path, node_description, stat, decide}
 use Rattle.posix_calls.specs.Kinds.{is_pread}
 use Rattle.posix_calls.specs.declared.call.Call.{Call}
 use Rattle.posix_calls.specs.declared.call.Call.TheVariants as call
@@ -151,6 +151,15 @@ unfolding rename
 rename_silent old new =
     silent_bind _ _ (said_silent _) (λ old_names. silent_bind _ _ (said_silent _) (λ new_names. silent_bind _ _ (refuse_silent _ _) (λ _. silent_bind _ _ (walk_silent _ _ old_names) (λ from. silent_bind _ _ (there_silent _) (λ i. silent_bind _ _ (walk_silent _ _ new_names) (λ to. silent_bind _ _ (refuse_silent _ _) (λ _. renamed_silent from to i (leads_to i to.inode))))))))
 
+exchanged_silent : (one two : Place) (i j : ℕ) (same : Bool) → AsksNoBytes (cond same (Gives (Tell reply.Done)) (exchange_apart one two i j))
+exchanged_silent one two i j true = tt
+exchanged_silent one two i j false = silent_bind _ _ (refuse_silent _ _) (λ _. tt)
+
+exchange_silent : (first second : List ℕ) → AsksNoBytes (exchange first second)
+unfolding exchange
+exchange_silent first second =
+    silent_bind _ _ (said_silent _) (λ first_names. silent_bind _ _ (said_silent _) (λ second_names. silent_bind _ _ (refuse_silent _ _) (λ _. silent_bind _ _ (walk_silent _ _ first_names) (λ one. silent_bind _ _ (there_silent _) (λ i. silent_bind _ _ (walk_silent _ _ second_names) (λ two. silent_bind _ _ (there_silent _) (λ j. exchanged_silent one two i j (i == j))))))))
+
 list_silent : (path : List ℕ) → AsksNoBytes (list_path path)
 unfolding list_path
 list_silent path = silent_bind _ _ (said_silent _) (λ names. silent_bind _ _ (walk_silent _ _ names) (λ place. silent_bind _ _ (there_silent _) (λ i. silent_bind _ _ (kind_silent _) (λ is_dir. silent_bind _ _ (refuse_silent _ _) (λ _. silent_bind _ _ (λ s. tt) (λ entries. tt))))))
@@ -175,6 +184,7 @@ decide_silent own (call.Rmdir path) e = rmdir_silent path
 decide_silent own (call.Link old new) e = link_silent old new
 decide_silent own (call.Unlink path) e = unlink_silent path
 decide_silent own (call.Rename old new) e = rename_silent old new
+decide_silent own (call.Exchange first second) e = exchange_silent first second
 decide_silent own (call.List path) e = list_silent path
 decide_silent own (call.Stat path) e = stat_silent path
 

@@ -3,7 +3,7 @@ use Rattle.std.proofs.Common.{◌≡◌, inl, inr, ℕ, List, [], ◌∷◌, ◌
 use Rattle.std.proofs.lemmas.Bool.Decides.{eqb_tells}
 use Rattle.posix_calls.specs.Tree.{Descriptors, State, with_own}
 use Rattle.posix_calls.specs.declared.operation.Operation.{Operation}
-use Rattle.posix_calls.specs.declared.operation.Operation.TheVariants.{Tell, NewDir, NewFile, OpenFile, CloseFile, Write, Resize, RemoveDir, AddName, DropName, Move}
+use Rattle.posix_calls.specs.declared.operation.Operation.TheVariants.{Tell, NewDir, NewFile, OpenFile, CloseFile, Write, Resize, RemoveDir, AddName, DropName, Move, Exchange}
 use Rattle.posix_calls.specs.Operations.{makes, reply_of, state_after, answer, Follows, Step}
 use Rattle.posix_calls.specs.Run.{Turn, Run}
 use Rattle.posix_calls.specs.declared.errno.Errno.{Errno}
@@ -34,6 +34,7 @@ number_unused old client i j (RemoveDir at k) e = refl
 number_unused old client i j (AddName at k) e = refl
 number_unused old client i j (DropName at k) e = refl
 number_unused old client i j (Move from to k is_dir replaced) e = refl
+number_unused old client i j (Exchange first second k n) e = refl
 
 own_kept : (b : Bool) (held : Descriptors) (client c n : ℕ) → (b ≡ true → c ≡ client) → cond b (held client n) (held c n) ≡ held c n
 own_kept true held client c n same = ap (λ k. held k n) (sym (same refl))
@@ -63,6 +64,7 @@ failed_tells old client i (RemoveDir at k) e is = absurd (cc)
 failed_tells old client i (AddName at k) e is = absurd (cc)
 failed_tells old client i (DropName at k) e is = absurd (cc)
 failed_tells old client i (Move from to k is_dir replaced) e is = absurd (cc)
+failed_tells old client i (Exchange first second k n) e is = absurd (cc)
 
 failed_follows : (old : State) (client i : ℕ) (a : Result Operation Errno) (e : Errno) (new : State) → Follows old client i a (reply.Failed e) new → new ≡ old
 failed_follows old client i (Err x) e new f = f.1

@@ -221,9 +221,9 @@ named p (name ∷ next ∷ names) dir way place e =
     let after = found_after (run_part p (child_at dir name)) (λ c. run_part p (walk c (dir ∷ way) (next ∷ names))) place (sym (part_bind p (child_at dir name) (λ c. walk c (dir ∷ way) (next ∷ names))) ∙ e) in
     named p (next ∷ names) after.0 (dir ∷ way) place after.2
 
--- what follows a walk may use what is kept of its place
-pub bind_place : {B : Type 0} {p : Part} (watched : Option ℕ) (names : List (List ℕ)) {to : Landing} (f : Place → Query B) {r : Result B DecideError} → IsAnswer p (landing watched names) (Ok to) → ((walked : List ℕ) → list_any (λ d. leads_to d watched) walked ≡ to.passed → IsAnswer p (f (place_at names to walked)) r) → IsAnswer p (prefix names >>= f) r
-bind_place {p = p} watched names {to = to} f {r = r} h rest =
+-- what follows a walk may use what is kept of its place, and that this was found
+pub bind_known : {B : Type 0} {p : Part} (watched : Option ℕ) (names : List (List ℕ)) {to : Landing} (f : Place → Query B) {r : Result B DecideError} → IsAnswer p (landing watched names) (Ok to) → ((walked : List ℕ) → list_any (λ d. leads_to d watched) walked ≡ to.passed → run_part p (prefix names) ≡ Known (Ok (place_at names to walked)) → IsAnswer p (f (place_at names to walked)) r) → IsAnswer p (prefix names >>= f) r
+bind_known {p = p} watched names {to = to} f {r = r} h rest =
     let after = found_after (run_part p (prefix names)) (λ place. run_part p (Gives (landing_of watched place))) to (sym (part_bind p (prefix names) (λ place. Gives (landing_of watched place))) ∙ h.gives to refl) in
     let place : Place = after.0 in
     let land : landing_of watched place ≡ to = ap (value_or to) (sym (part_gives p (landing_of watched place)) ∙ after.2) in
@@ -231,7 +231,14 @@ bind_place {p = p} watched names {to = to} f {r = r} h rest =
     let same : place_at names to place.walked ≡ place =
     ap (λ t. place_at names t place.walked) (sym land)
     ∙ ap (λ (n : List ℕ). record { location = record { parent = place.location.parent; name = n }; inode = place.inode; walked = place.walked; entries = place.entries }) (sym name) in
-    tells_same (part_bind p (prefix names) f ∙ ap (λ z. then_found z (λ x. run_part p (f x))) after.1) (subst (λ z. IsAnswer p (f z) r) same (rest place.walked (ap (λ t. t.passed) land)))
+    tells_same (part_bind p (prefix names) f ∙ ap (λ z. then_found z (λ x. run_part p (f x))) after.1) (subst (λ z. IsAnswer p (f z) r) same (rest place.walked (ap (λ t. t.passed) land) (after.1 ∙ ap (λ z. Known (Ok z)) (sym same))))
+
+pub bind_place : {B : Type 0} {p : Part} (watched : Option ℕ) (names : List (List ℕ)) {to : Landing} (f : Place → Query B) {r : Result B DecideError} → IsAnswer p (landing watched names) (Ok to) → ((walked : List ℕ) → list_any (λ d. leads_to d watched) walked ≡ to.passed → IsAnswer p (f (place_at names to walked)) r) → IsAnswer p (prefix names >>= f) r
+bind_place watched names f h rest = bind_known watched names f h (λ walked seen found. rest walked seen)
+
+-- a path that is walked again leads where it did
+pub walked_again : {B : Type 0} {p : Part} (names : List (List ℕ)) {place : Place} (f : Place → Query B) {r : Result B DecideError} → run_part p (prefix names) ≡ Known (Ok place) → IsAnswer p (prefix names >>= f) r → IsAnswer p (f place) r
+walked_again {p = p} names f found h = tells_same (sym (part_bind p (prefix names) f ∙ ap (λ z. then_found z (λ x. run_part p (f x))) found)) h
 
 err_before : {A B : Type 0} (p : Part) (found : Found A) (g : A → B) (e : Errno) → then_found found (λ x. run_part p (Gives (g x))) ≡ Known (Err e) → found ≡ Known (Err e)
 err_before p (Known (Ok x)) g e h = absurd (let clash : Known (Ok (g x)) ≡ Known (Err e) = sym (part_gives p (g x)) ∙ h in cc)

@@ -9,6 +9,7 @@ use Rattle.posix_calls.specs.Content.{Entries, with_bytes, with_length}
 use Rattle.posix_calls.specs.Name.{is_name}
 use Rattle.posix_calls.specs.Tree.{Tree, Node, File, Dir, set_node, bytes_of, entries_of}
 use Rattle.posix_calls.specs.declared.operation.Location.{Location}
+use Rattle.posix_calls.specs.declared.limits.TheConstants.{MAX_FILE}
 use Rattle.posix_calls.specs.Operations.{with_entry, without_entry}
 use Rattle.posix_calls.proofs.Counts.{order, get_left, insert_named}
 use Rattle.posix_calls.proofs.Changes.{set_there, set_other}
@@ -60,14 +61,14 @@ removed_length m name i most is few =
 
 -- a node that keeps the limits
 pub record IsNodeWithin (o : Option Node) : Type 0 where
-  pub size : length (bytes_of o) ≤ 1048576
+  pub size : length (bytes_of o) ≤ MAX_FILE
   pub entries : fin.len (entries_of o) ≤ 3584
   pub valid : (name : List ℕ) (j : ℕ) → fin.get (entries_of o) name ≡ Some j → is_name name ≡ true
 
 no_name : (name : List ℕ) (j : ℕ) → fin.get {X = ℕ} {R = order} fin.empty name ≡ Some j → is_name name ≡ true
 no_name name j e = absurd (let clash : None ≡ Some j = sym (fin.get-empty order name) ∙ e in cc)
 
-pub file_within : (bytes : List ℕ) → length bytes ≤ 1048576 → IsNodeWithin (Some (File bytes))
+pub file_within : (bytes : List ℕ) → length bytes ≤ MAX_FILE → IsNodeWithin (Some (File bytes))
 file_within bytes few = record { size = few; entries = let e = fin.len-empty order ℕ in omega (arith, e); valid = no_name }
 
 pub none_within : IsNodeWithin None
@@ -105,3 +106,15 @@ entered_within t at i all few valid =
     let m = entries_of (t at.parent) in
     let was = all at.parent in
     set_within t at.parent (Some (Dir (fin.insert m at.name i))) all (record { size = omega arith; entries = insert_length m at.name i 3584 few; valid = λ name j is. insert_valid m at.name i valid was.valid name j is })
+
+insert_same : (m : Entries ℕ) (name : List ℕ) (i v : ℕ) → fin.get m name ≡ Some i → fin.len (fin.insert m name v) ≡ fin.len m
+insert_same m name i v is = fin.len-insert nat_list_cmp_total m name v ∙ ap (λ o. cond (is_some o) (fin.len m) (fin.len m + 1)) is
+
+-- an entry that is there leads to something else
+pub over_within : (t : Tree) (at : Location) (i j : ℕ) → AreNodesWithin t → fin.get (entries_of (t at.parent)) at.name ≡ Some i → AreNodesWithin (with_entry t at j)
+over_within t at i j all is =
+    let m = entries_of (t at.parent) in
+    let was = all at.parent in
+    let few = was.entries in
+    let same = insert_same m at.name i j is in
+    set_within t at.parent (Some (Dir (fin.insert m at.name j))) all (record { size = omega arith; entries = omega (arith, few, same); valid = λ name k e. insert_valid m at.name j (was.valid at.name i is) was.valid name k e })

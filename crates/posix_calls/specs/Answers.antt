@@ -5,6 +5,8 @@ use Rattle.std.specs.List.{list_any}
 use Rattle.posix_calls.specs.Query.{Seen, File, Dir, Query, Gives, Look, ◌>>=◌}
 use Rattle.posix_calls.specs.Part.{Part, Known, Unknown, run_part}
 use Rattle.posix_calls.specs.Walk.{Place, entries_seen, entries_at, directory, prefix, leads_to, there, kind_at, refuse}
+use Rattle.posix_calls.specs.Decide.{exchange_apart}
+use Rattle.posix_calls.specs.declared.operation.Operation.{Operation}
 use Rattle.posix_calls.specs.declared.errno.Errno.{Errno}
 use Rattle.posix_calls.specs.declared.errno.Errno.TheVariants.{NoMemory, NotEmpty}
 use Rattle.posix_calls.specs.declared.operation.DecideError.{DecideError}
@@ -82,6 +84,12 @@ target wants_dir errno names = do
   is_dir ← kind_at place.inode
   _ ← refuse errno (other_kind wants_dir is_dir)
   Gives (record { parent = place.location.parent; inode = i })
+
+-- two names change nodes, where the first path is walked once both nodes are known
+abbrev pub exchange_again : List (List ℕ) → Place → ℕ → ℕ → Query Operation
+exchange_again names two i j = do
+  one ← prefix names
+  exchange_apart one two i j
 
 -- a directory with entries is refused
 abbrev pub no_entries : ℕ → Query (Unit {0})

@@ -15,7 +15,7 @@ use Rattle.posix_calls.specs.declared.call.Call.{Call}
 use Rattle.posix_calls.specs.declared.call.Call.TheVariants as call
 use Rattle.posix_calls.specs.declared.call.Reply.TheVariants as reply
 use Rattle.posix_calls.specs.declared.operation.Operation.{Operation}
-use Rattle.posix_calls.specs.declared.operation.Operation.TheVariants.{Tell, NewDir, NewFile, OpenFile, CloseFile, Write, Resize, RemoveDir, AddName, DropName, Move}
+use Rattle.posix_calls.specs.declared.operation.Operation.TheVariants.{Tell, NewDir, NewFile, OpenFile, CloseFile, Write, Resize, RemoveDir, AddName, DropName, Move, Exchange}
 use Rattle.posix_calls.specs.declared.operation.Replaced.{Replaced}
 use Rattle.posix_calls.specs.declared.operation.Replaced.TheVariants.{Nothing, OldFile, OldDir}
 
@@ -230,6 +230,31 @@ rename old new = do
   new_names ← read_or_error (path_names new)
   rename_at old_names new_names
 
+-- ---- exchange
+
+-- the two names change nodes, unless one of these is a directory on the other's prefix
+abbrev pub exchange_apart : Place → Place → ℕ → ℕ → Query Operation
+exchange_apart one two i j = do
+  _ ← refuse errno.Invalid (list_any (λ d. d == j) one.walked || list_any (λ d. d == i) two.walked)
+  Gives (Exchange one.location two.location i j)
+
+-- what follows once both paths are read
+abbrev pub exchange_at : List (List ℕ) → List (List ℕ) → Query Operation
+exchange_at first_names second_names = do
+  _ ← refuse errno.Busy (is_root first_names || is_root second_names)
+  one ← prefix first_names
+  i ← there one.inode
+  two ← prefix second_names
+  j ← there two.inode
+  if i == j then Gives (Tell reply.Done) else exchange_apart one two i j
+
+-- two names change what they lead to; between two names of one node nothing changes
+unfoldable pub exchange : List ℕ → List ℕ → Query Operation
+exchange first second = do
+  first_names ← read_or_error (path_names first)
+  second_names ← read_or_error (path_names second)
+  exchange_at first_names second_names
+
 -- ---- list, stat
 
 -- what follows once the path is read
@@ -274,5 +299,6 @@ decide own (call.Rmdir path) = rmdir path
 decide own (call.Link old new) = link old new
 decide own (call.Unlink path) = unlink path
 decide own (call.Rename old new) = rename old new
+decide own (call.Exchange first second) = exchange first second
 decide own (call.List path) = list_path path
 decide own (call.Stat path) = stat path

@@ -54,5 +54,6 @@ takes_memory p own (call.Rmdir path) = comes_to_name path
 takes_memory p own (call.Link old new) = come_to_names old new
 takes_memory p own (call.Unlink path) = comes_to_name path
 takes_memory p own (call.Rename old new) = come_to_names old new
+takes_memory p own (call.Exchange first second) = come_to_names first second
 takes_memory p own (call.List path) = comes_to_name path || lists_root p (path_names path)
 takes_memory p own (call.Stat path) = comes_to_name path

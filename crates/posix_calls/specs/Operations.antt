@@ -9,7 +9,7 @@ use Rattle.posix_calls.specs.declared.operation.Location.{Location}
 use Rattle.posix_calls.specs.Decide.{decide}
 use Rattle.posix_calls.specs.declared.operation.Replaced.{Replaced}
 use Rattle.posix_calls.specs.declared.operation.Operation.{Operation}
-use Rattle.posix_calls.specs.declared.operation.Operation.TheVariants.{Tell, NewDir, NewFile, OpenFile, CloseFile, Write, Resize, RemoveDir, AddName, DropName, Move}
+use Rattle.posix_calls.specs.declared.operation.Operation.TheVariants.{Tell, NewDir, NewFile, OpenFile, CloseFile, Write, Resize, RemoveDir, AddName, DropName, Move, Exchange}
 use Rattle.posix_calls.specs.declared.operation.Replaced.TheVariants.{Nothing, OldFile, OldDir}
 use Rattle.posix_calls.specs.declared.limits.TheConstants.{ROOT, MAX_INODE, MAX_CLIENTS}
 use Rattle.posix_calls.specs.declared.errno.Errno.{Errno}
@@ -49,6 +49,7 @@ tree_after held new t (RemoveDir at i) = set_node (without_entry t at) i None
 tree_after held new t (AddName at i) = with_entry t at i
 tree_after held new t (DropName at i) = less_unused held (without_entry t at) i
 tree_after held new t (Move from to i is_dir replaced) = with_entry (without_entry (less_replaced held t to replaced) from) to i
+tree_after held new t (Exchange first second i j) = with_entry (with_entry t first j) second i
 
 -- a client's descriptors after its operation
 abbrev pub own_after : ℕ → Own → Operation → Own

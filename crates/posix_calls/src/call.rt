@@ -70,6 +70,11 @@ pub enum Call {
         old: Bytes,
         new: Bytes,
     },
+    /// Exchanges what is at two paths, of whatever kinds.
+    Exchange {
+        first: Bytes,
+        second: Bytes,
+    },
     /// Asks for the names in a directory.
     List {
         path: Bytes,

@@ -14,7 +14,7 @@ use crate::operation::{DecideError, Operation};
 use crate::own::OwnDescriptors;
 use crate::tell_calls::{list, stat};
 use crate::tree_answers::TreeAnswers;
-use crate::two_path_calls::{link, rename};
+use crate::two_path_calls::{exchange, link, rename};
 use std::alloc::Global;
 
 /// Decides a call of a client with these descriptors: the operation, or else the first error of the call in the order of
@@ -54,6 +54,9 @@ pub fn decide<T: TreeAnswers>(
         Call::Link { old, new } => link(alloc, tree, old.as_slice(), new.as_slice()),
         Call::Unlink { path } => unlink(alloc, tree, path.as_slice()),
         Call::Rename { old, new } => rename(alloc, tree, old.as_slice(), new.as_slice()),
+        Call::Exchange { first, second } => {
+            exchange(alloc, tree, first.as_slice(), second.as_slice())
+        }
         Call::List { path } => list(alloc, tree, path.as_slice()),
         Call::Stat { path } => stat(alloc, tree, path.as_slice()),
     }

@@ -35,7 +35,7 @@ pub fn failed_step_changes_nothing()
     ensures { (old : State) (client : ℕ) (call : Call) (errno : Errno) (after : State) → Step old client call (Failed errno) after → after ≡ old }
 {}
 
-/// A run comes by some state between any two of its calls, and two runs that meet in a state are one.
+/// A run comes by some state between any two of its turns, and two runs that meet in a state are one.
 pub fn runs_split_anywhere()
     ensures split { (first rest : List Turn) (old last : State) → Run old (first ++ rest) last → (mid : State) × Run old first mid × Run mid rest last }
     ensures joined { (first rest : List Turn) (old mid last : State) → Run old first mid → Run mid rest last → Run old (first ++ rest) last }

@@ -93,6 +93,13 @@ pub enum Operation {
         is_dir: bool,
         replaced: Replaced,
     },
+    /// What has each of two names gets the other one.
+    Exchange {
+        first: Location,
+        second: Location,
+        inode: u32,
+        other: u32,
+    },
 }
 
 impl Operation {

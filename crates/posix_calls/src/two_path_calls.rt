@@ -1,10 +1,11 @@
-// The calls on two paths: link, rename.
-ghost use Rattle.std.specs.Prelude.{◌≡◌, ◌≢◌, ◌==◌, ◌&&◌, not, ℕ, List, [], Err, true, false};
+// The calls on two paths: link, rename, exchange.
+ghost use Rattle.std.specs.Prelude.{◌≡◌, ◌≢◌, ◌==◌, ◌&&◌, not, ℕ, List, [], Some, Err, true, false};
+ghost use Rattle.std.specs.List.{list_any};
 ghost use Rattle.posix_calls.specs.Memory.{come_to_names};
 ghost use Rattle.posix_calls.specs.declared.operation.DecideError.TheVariants.{Memory};
-ghost use Rattle.posix_calls.specs.Answers.{IsAnswer, HasKnownKind, place_at};
-ghost use Rattle.posix_calls.specs.Walk.{is_full, is_root};
-ghost use Rattle.posix_calls.specs.Decide.{link, link_at, rename, rename_at, replaced_at};
+ghost use Rattle.posix_calls.specs.Answers.{IsAnswer, HasKnownKind, place_at, exchange_again};
+ghost use Rattle.posix_calls.specs.Walk.{is_full, is_root, leads_to};
+ghost use Rattle.posix_calls.specs.Decide.{link, link_at, rename, rename_at, replaced_at, exchange, exchange_at};
 
 use crate::call::Reply;
 use crate::errno::Errno;
@@ -131,5 +132,77 @@ fn rename_at<T: TreeAnswers>(
         inode,
         is_dir,
         replaced,
+    })
+}
+
+// Decides `exchange`: the errors in their order, then the operation.
+pub(crate) fn exchange<T: TreeAnswers>(
+    alloc: Global,
+    tree: &T,
+    first: &[u8],
+    second: &[u8],
+) -> Result<Operation, DecideError>
+    ensures answer { IsAnswer (T.part tree.now) (exchange first.now second.now) result }
+    ensures memory { result ≡ Err Memory → come_to_names first.now second.now ≡ true }
+{
+    let first_path = read_path(alloc, first)?;
+    let second_path = read_path(alloc, second)?;
+    exchange_at(alloc, tree, &first_path, &second_path)
+}
+
+// What follows once both paths are read.
+fn exchange_at<T: TreeAnswers>(
+    alloc: Global,
+    tree: &T,
+    first_path: &Path,
+    second_path: &Path,
+) -> Result<Operation, DecideError>
+    ensures answer { IsAnswer (T.part tree.now) (exchange_at first_path.now second_path.now) result }
+    ensures memory { result ≡ Err Memory → is_root first_path.now ≡ false }
+{
+    refuse_root(first_path)?;
+    refuse_root(second_path)?;
+    let one = prefix(tree, first_path)?;
+    let inode = there(one.inode)?;
+    let two = walk(tree, second_path, Some(inode))?;
+    let other = there(two.inode)?;
+    if inode == other {
+        return Ok(Operation::Tell {
+            answer: Reply::Done,
+        });
+    }
+    let nodes = NodePair { inode, other };
+    exchange_apart(alloc, tree, first_path, second_path, two, nodes)
+}
+
+// What is at the first of two paths, and what is at the second.
+#[derive(Drop)]
+struct NodePair {
+    inode: u32,
+    other: u32,
+}
+
+// What follows for two nodes. The first path is walked again, now that the node is known that it may not come by.
+fn exchange_apart<T: TreeAnswers>(
+    alloc: Global,
+    tree: &T,
+    first_path: &Path,
+    second_path: &Path,
+    two: Landing,
+    nodes: NodePair,
+) -> Result<Operation, DecideError>
+    requires first { is_root first_path.now ≡ false }
+    requires second { is_root second_path.now ≡ false }
+    ensures answer { (walked : List ℕ) → list_any (λ d. leads_to d (Some nodes.inode)) walked ≡ two.passed → IsAnswer (T.part tree.now) (exchange_again first_path.now (place_at second_path.now two walked) nodes.inode nodes.other) result }
+{
+    let one = walk(tree, first_path, Some(nodes.other))?;
+    refuse_if(one.passed | two.passed, Errno::Invalid)?;
+    let first = location(alloc, one.parent, first_path)?;
+    let second = location(alloc, two.parent, second_path)?;
+    Ok(Operation::Exchange {
+        first,
+        second,
+        inode: nodes.inode,
+        other: nodes.other,
     })
 }

@@ -1,4 +1,4 @@
-use Rattle.posix_calls.proofs.Ranges.{told_in_range, open_in_range, close_in_range, pread_in_range, pwrite_in_range, truncate_in_range, mkdir_in_range, rmdir_in_range, link_in_range, unlink_in_range, rename_in_range, list_in_range, stat_in_range}
+use Rattle.posix_calls.proofs.Ranges.{told_in_range, open_in_range, close_in_range, pread_in_range, pwrite_in_range, truncate_in_range, mkdir_in_range, rmdir_in_range, link_in_range, unlink_in_range, rename_in_range, exchange_in_range, list_in_range, stat_in_range}
 use Rattle.posix_calls.proofs.decision.decide.Goals as goal
 
 pub returns-in-Open-clause-range : goal.returns-in-Open-clause-range
@@ -30,6 +30,9 @@ returns-in-Unlink-clause-range g c = told_in_range c.unlink.result (unlink_in_ra
 
 pub returns-in-Rename-clause-range : goal.returns-in-Rename-clause-range
 returns-in-Rename-clause-range g c = told_in_range c.rename.result (rename_in_range _ _) c.rename.ensures.answer
+
+pub returns-in-Exchange-clause-range : goal.returns-in-Exchange-clause-range
+returns-in-Exchange-clause-range g c = told_in_range c.exchange.result (exchange_in_range _ _) c.exchange.ensures.answer
 
 pub returns-in-List-clause-range : goal.returns-in-List-clause-range
 returns-in-List-clause-range g c = told_in_range c.list.result (list_in_range _) c.list.ensures.answer
