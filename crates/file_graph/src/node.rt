@@ -81,6 +81,7 @@ impl PlainNode {
             Effect::Size { size, .. } => resize(&mut self.body, *size),
             Effect::Bytes { at, bytes, .. } => put_bytes(&mut self.body, *at, bytes.as_slice()),
             Effect::Drop { .. } => Ok(()),
+            Effect::Swap { .. } => Ok(()),
         }
     }
 

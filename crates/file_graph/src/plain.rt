@@ -104,7 +104,10 @@ fn apply(
     ensures ok { OnOk result (get nat_cmp nodes.new ≡ after_effect (get nat_cmp nodes.old) effect.now) }
     ensures err { OnErr result (get nat_cmp nodes.new ≡ get nat_cmp nodes.old) }
 {
-    let inode = effect.subject();
+    let (inode, other) = effect.subjects();
+    if other.is_some() {
+        return Err(AllocError);
+    }
     if is_drop(effect) {
         nodes.remove(&inode);
         return Ok(());

@@ -108,6 +108,7 @@ blocks_after (effect.Bytes i at bytes) c tidy ordered b h =
       | inr cut ↦ cut_below (grown_to (at + length bytes) c.length) b ordered cut
     ]
 blocks_after (effect.Drop i) c tidy ordered b h = (tidy_new Gone).blocks b h
+blocks_after (effect.Swap d a e f) c tidy ordered b h = tidy.blocks b h
 
 pub tidy_more : (e : Effect) (c : Change) → IsTidyChange c → IsTidyChange (change_after e c)
 tidy_more e c tidy = let bytes = bytes_after e c tidy in record { bytes = bytes; blocks = blocks_after e c tidy bytes.ordered }

@@ -127,6 +127,7 @@ one_effect (effect.Bytes i at bytes) c b h =
       | inr cut ↦ or_left (writes_block c b) (list_any (nat_eq b) bs) (or_right (fin.contains_key c.patches b) (cuts_within c.length b) (sym (grown_cuts (at + length bytes) c.length b) ∙ cut))
     ]
 one_effect (effect.Drop i) c b h = absurd (false≢true (sym (nothing_written Gone b) ∙ h))
+one_effect (effect.Swap d a e f) c b h = or_left (writes_block c b) false h
 
 -- ---- many effects
 

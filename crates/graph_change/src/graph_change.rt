@@ -36,7 +36,7 @@ impl GraphChange {
         ensures memory { OnErr result (takes_memory_among effect.now (changes_of self.old) ≡ true) }
         ensures tidy { AreTidyChanges (changes_of self.old) → OnOk result (AreTidyChanges (changes_of self.new)) }
     {
-        add(alloc, &mut self.nodes, effect.subject(), effect)
+        add(alloc, &mut self.nodes, effect.subjects().0, effect)
     }
 }
 

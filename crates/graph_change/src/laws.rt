@@ -6,7 +6,8 @@ ghost use Rattle.std.specs.Ordering.{nat_cmp};
 ghost use Rattle.std.specs.BTreeMap.{BTreeMap, get};
 ghost use Rattle.std.specs.FinMap as fin;
 ghost use Rattle.file_graph.specs.declared.effect.Effect.{Effect};
-ghost use Rattle.file_graph.specs.Graph.{Node};
+ghost use Rattle.file_graph.specs.Graph.{Node, Graph, after_effects};
+ghost use Rattle.graph_change.specs.Swaps.{swapped_graph, swapped_sum};
 ghost use Rattle.graph_change.specs.Bounds.{is_bounded, AreBounded};
 ghost use Rattle.graph_change.specs.Change.{Change, Changes, Coalesces, Patch, change_after, coalesced_changes, net_of, new_change, patched_bytes, with_effect, IsWhole};
 ghost use Rattle.graph_change.specs.Net.{Base, Gone, node_after};
@@ -45,4 +46,9 @@ pub fn changes_are_read_by_number()
 /// A block that is put whole needs none of the bytes that it had.
 pub fn whole_block_needs_no_old_bytes()
     ensures { (patch : Patch) (one other : List ℕ) → IsWhole patch → length one ≡ UNIT_BYTES → length other ≡ UNIT_BYTES → patched_bytes patch one ≡ patched_bytes patch other }
+{}
+
+/// The sum of effects with Swaps among them makes of every graph what the effects make of it.
+pub fn swapped_names_are_told()
+    ensures { (es : List Effect) (g : Graph) → swapped_graph (swapped_sum es) g ≡ after_effects g es }
 {}
