@@ -12,7 +12,7 @@ use Rattle.file_graph.specs.declared.effect.Kind.{Kind}
 use Rattle.file_graph.specs.declared.effect.Kind.TheVariants as kind
 use Rattle.file_graph.specs.declared.effect.Effect.TheVariants as effect
 use Rattle.file_graph.specs.Plain.{is_swap}
-use Rattle.file_graph.specs.Graph.{Graph, Node, FileBody, DirBody, directory_in, acted_graph, acted_all, plain_effects, exchanged_entries, node_entries, child_at, settled_effects, after_effect, after_effects, touches, subjects, is_among, subject_after, AreApart, cost}
+use Rattle.file_graph.specs.Graph.{Graph, Node, FileBody, DirBody, directory_in, StandAlike, acted_graph, acted_all, plain_effects, exchanged_entries, node_entries, child_at, settled_effects, after_effect, after_effects, touches, subjects, is_among, subject_after, AreApart, cost}
 use Rattle.posix_calls.proofs.Sums.{sum_below}
 use Rattle.file_graph.specs.Units.{charge, rise, growth}
 
@@ -68,7 +68,7 @@ plain_touches g (effect.Bytes j at new) i off = one_subject i (effect.Bytes j at
 plain_touches g (effect.Drop j) i off = one_subject i (effect.Drop j) off
 plain_touches g (effect.Swap d a e b) i off = entries_touch i d a e b (child_at g d a) (child_at g e b) off
 
-here : (i : ℕ) (is : List ℕ) → is_among i (i ∷ is) ≡ true
+pub here : (i : ℕ) (is : List ℕ) → is_among i (i ∷ is) ≡ true
 here i is = ap (λ b. b || is_among i is) (eq-eqb i i refl)
 
 second : (i j : ℕ) → is_among j (i ∷ j ∷ []) ≡ true
@@ -189,11 +189,11 @@ settled_is g es = settled_acts g es ∙ sym (acted_is g (settled_effects g es) (
 
 -- ---- graphs in which the same directories stand
 
-abbrev or_empty : Option (Entries (ℕ × Kind)) → Entries (ℕ × Kind)
+abbrev pub or_empty : Option (Entries (ℕ × Kind)) → Entries (ℕ × Kind)
 or_empty None = fin.empty
 or_empty (Some es) = es
 
-entries_in : (o : Option Node) → node_entries o ≡ or_empty (directory_in o)
+pub entries_in : (o : Option Node) → node_entries o ≡ or_empty (directory_in o)
 entries_in None = refl
 entries_in (Some n) = elim (n.body) as (λ y. node_entries (Some (record { names = n.names; body = y })) ≡ or_empty (directory_in (Some (record { names = n.names; body = y })))) [ FileBody bytes ↦ refl | DirBody es ↦ refl ]
 
@@ -231,11 +231,11 @@ acted_directory g h e j same = elim (is_among j (subjects e)) as (λ b. director
   | false ↦ same
 ]
 
-acted_directories : (g h : Graph) (es : List Effect) (j : ℕ) → directory_in (g j) ≡ directory_in (h j) → directory_in (acted_all g es j) ≡ directory_in (acted_all h es j)
+pub acted_directories : (g h : Graph) (es : List Effect) (j : ℕ) → directory_in (g j) ≡ directory_in (h j) → directory_in (acted_all g es j) ≡ directory_in (acted_all h es j)
 acted_directories g h [] j same = same
 acted_directories g h (e ∷ es) j same = acted_directories (acted_graph g e) (acted_graph h e) es j (acted_directory g h e j same)
 
-plain_by_directories : (g h : Graph) (e : Effect) → ((j : ℕ) → is_among j (subjects e) ≡ true → directory_in (g j) ≡ directory_in (h j)) → plain_effects g e ≡ plain_effects h e
+plain_by_directories : (g h : Graph) (e : Effect) → StandAlike (subjects e) g h → plain_effects g e ≡ plain_effects h e
 plain_by_directories g h (effect.Make j k) alike = refl
 plain_by_directories g h (effect.Enter d j k name) alike = refl
 plain_by_directories g h (effect.Leave d name) alike = refl
@@ -247,15 +247,29 @@ plain_by_directories g h (effect.Swap d a e b) alike =
     ap (λ m. exchanged_entries d a e b (fin.get m a) (child_at g e b)) (entries_in (g d) ∙ ap or_empty (alike d (here d (e ∷ []))) ∙ sym (entries_in (h d)))
     ∙ ap (λ m. exchanged_entries d a e b (child_at h d a) (fin.get m b)) (entries_in (g e) ∙ ap or_empty (alike e (second d e)) ∙ sym (entries_in (h e)))
 
+-- so where the same directories stand at what an effect touches, it makes the same of each directory
+directories_one : (g h : Graph) (e : Effect) → StandAlike (subjects e) g h → (i : ℕ) → directory_in (g i) ≡ directory_in (h i) → directory_in (after_effect g e i) ≡ directory_in (after_effect h e i)
+directories_one g h e alike i same = ap (λ ps. directory_in (acted_all g ps i)) (plain_by_directories g h e alike) ∙ acted_directories g h (plain_effects h e) i same
+
+-- the same directories stand at what the first of effects touches
+first_touched : (g h : Graph) (f : Effect) (es : List Effect) → StandAlike (touches (f ∷ es)) g h → StandAlike (subjects f) g h
+first_touched g h f es alike j there = alike j (ap (is_among j) (flat_map-cons subjects f es) ∙ among_first j (subjects f) (touches es) there)
+
+-- and behind it at what the others touch
+rest_touched : (g h : Graph) (f : Effect) (es : List Effect) → StandAlike (touches (f ∷ es)) g h → StandAlike (touches es) (after_effect g f) (after_effect h f)
+rest_touched g h f es alike j there = directories_one g h f (first_touched g h f es alike) j (alike j (ap (is_among j) (flat_map-cons subjects f es) ∙ among_rest j (subjects f) (touches es) there))
+
 -- Where the same directories stand at what effects touch, and the same at an inode, they make the same of it: whatever files are there.
-pub local_by_directories : (g h : Graph) (es : List Effect) → ((j : ℕ) → is_among j (touches es) ≡ true → directory_in (g j) ≡ directory_in (h j)) → (i : ℕ) → g i ≡ h i → after_effects g es i ≡ after_effects h es i
+pub local_by_directories : (g h : Graph) (es : List Effect) → StandAlike (touches es) g h → (i : ℕ) → g i ≡ h i → after_effects g es i ≡ after_effects h es i
 local_by_directories g h [] alike i same = same
 local_by_directories g h (f ∷ es) alike i same =
-    let all : touches (f ∷ es) ≡ subjects f ++ touches es = flat_map-cons subjects f es in
-    let plain = plain_by_directories g h f (λ j there. alike j (ap (is_among j) all ∙ among_first j (subjects f) (touches es) there)) in
-    local_by_directories (after_effect g f) (after_effect h f) es
-    (λ j there. ap (λ ps. directory_in (acted_all g ps j)) plain ∙ acted_directories g h (plain_effects h f) j (alike j (ap (is_among j) all ∙ among_rest j (subjects f) (touches es) there)))
-    i (ap (λ ps. acted_all g ps i) plain ∙ acted_alone g h (plain_effects h f) i same)
+    local_by_directories (after_effect g f) (after_effect h f) es (rest_touched g h f es alike) i
+    (ap (λ ps. acted_all g ps i) (plain_by_directories g h f (first_touched g h f es alike)) ∙ acted_alone g h (plain_effects h f) i same)
+
+-- they make the same directory of the same directory
+pub directories_after : (g h : Graph) (es : List Effect) → StandAlike (touches es) g h → (i : ℕ) → directory_in (g i) ≡ directory_in (h i) → directory_in (after_effects g es i) ≡ directory_in (after_effects h es i)
+directories_after g h [] alike i same = same
+directories_after g h (f ∷ es) alike i same = directories_after (after_effect g f) (after_effect h f) es (rest_touched g h f es alike) i (directories_one g h f (first_touched g h f es alike) i same)
 
 -- ---- units
 

@@ -1,5 +1,5 @@
 -- A graph of inodes, what an effect makes of it, and what a node costs.
-use Rattle.std.specs.Prelude.{◌≡◌, ℕ, ◌==◌, Bool, true, List, [], ◌∷◌, ◌++◌, length, Option, Some, None, if◌then◌else◌, option_map}
+use Rattle.std.specs.Prelude.{◌≡◌, ℕ, ◌==◌, Bool, true, List, [], ◌∷◌, ◌++◌, length, Option, Some, None, if◌then◌else◌, option_map, map}
 use Rattle.std.specs.List.{list_any, flat_map}
 use Rattle.std.specs.FinMap as fin
 use Rattle.std.specs.Ordering.{nat_cmp}
@@ -83,15 +83,24 @@ subject_after (effect.Swap d a e b) old = old
 abbrev pub acted_graph : Graph → Effect → Graph
 acted_graph g e i = if is_among i (subjects e) then subject_after e (g i) else g i
 
+-- the entries of a body; a file has none
+abbrev pub body_entries : Body → Entries (ℕ × Kind)
+body_entries (FileBody bytes) = fin.empty
+body_entries (DirBody entries) = entries
+
 -- the entries of what stands at an inode; what is no directory has none
 abbrev pub node_entries : Option Node → Entries (ℕ × Kind)
 node_entries None = fin.empty
-node_entries (Some n) = elim (n.body) [ FileBody bytes ↦ fin.empty | DirBody entries ↦ entries ]
+node_entries (Some n) = body_entries n.body
 
 -- the entries of a directory; none of what is no directory
 abbrev pub directory_in : Option Node → Option (Entries (ℕ × Kind))
 directory_in None = None
 directory_in (Some n) = elim (n.body) [ FileBody bytes ↦ None | DirBody entries ↦ Some entries ]
+
+-- the same directories stand at these inodes
+abbrev pub StandAlike : List ℕ → Graph → Graph → Type 0
+StandAlike is g h = (j : ℕ) → is_among j is ≡ true → directory_in (g j) ≡ directory_in (h j)
 
 -- what a name of a directory leads to
 abbrev pub child_at : Graph → ℕ → List ℕ → Option (ℕ × Kind)
@@ -172,6 +181,10 @@ abbrev pub swap_places : List Effect → List (ℕ × List ℕ)
 swap_places [] = []
 swap_places (effect.Swap d a e b ∷ es) = (d, a) ∷ (e, b) ∷ swap_places es
 swap_places (_ ∷ es) = swap_places es
+
+-- the directories that they name
+abbrev pub swapped_directories : List Effect → List ℕ
+swapped_directories es = map (λ p. p.0) (swap_places es)
 
 -- an entry more, for a name that leads to something
 abbrev pub entered_if : ℕ × List ℕ → Option (ℕ × Kind) → List Effect → List Effect

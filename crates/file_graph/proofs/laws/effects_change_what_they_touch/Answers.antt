@@ -1,4 +1,4 @@
-use Rattle.file_graph.proofs.Touches.{untouched_one, untouched, local, local_by_directories, settled_is, settled_plain}
+use Rattle.file_graph.proofs.Touches.{untouched_one, untouched, local, local_by_directories, directories_after, settled_is, settled_plain}
 use Rattle.file_graph.proofs.laws.effects_change_what_they_touch.Goals as goal
 
 pub returns-clause-single : goal.returns-clause-single
@@ -18,3 +18,6 @@ returns-clause-plain c = settled_plain
 
 pub returns-clause-directories : goal.returns-clause-directories
 returns-clause-directories c = local_by_directories
+
+pub returns-clause-directories_after : goal.returns-clause-directories_after
+returns-clause-directories_after c = directories_after
