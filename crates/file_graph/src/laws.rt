@@ -36,5 +36,5 @@ pub fn charge_rises_by_growth_at_most()
 pub fn swaps_come_last()
     ensures costs { (es : List Effect) (g : Graph) (i : ℕ) → cost (after_effects g es i) ≡ cost (acted_all g es i) }
     ensures last { (es : List Effect) (g : Graph) → after_effects g es ≡ acted_all g (es ++ entered_places (after_effects g es) (swap_places es)) }
-    ensures told { (g h : Graph) (es : List Effect) → StandAlike (swapped_directories es) g h → entered_places (after_effects g es) (swap_places es) ≡ entered_places (after_effects h es) (swap_places es) }
+    ensures entered { (g h : Graph) (es : List Effect) → StandAlike (swapped_directories es) g h → entered_places (after_effects g es) (swap_places es) ≡ entered_places (after_effects h es) (swap_places es) }
 {}

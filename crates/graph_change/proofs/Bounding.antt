@@ -100,7 +100,7 @@ bounded_none = record {
   changes = λ i. subst IsBounded (sym (empty_at i)) (bounded_new Kept);
 }
 
-bounded_many : (es : List Effect) (cs : Changes) → AllByRecursion (λ e. is_bounded e ≡ true) es → AreBounded cs → AreBounded (with_effects cs es)
+pub bounded_many : (es : List Effect) (cs : Changes) → AllByRecursion (λ e. is_bounded e ≡ true) es → AreBounded cs → AreBounded (with_effects cs es)
 bounded_many [] cs all b = b
 bounded_many (e ∷ es) cs all b = bounded_many es (with_effect e cs) all.1 (bounded_one e cs all.0 b)
 

@@ -1,7 +1,9 @@
 -- What names lead to after effects is told by the effects on names alone.
-use Rattle.std.proofs.Common.{◌≡◌, ℕ, cond, Bool, true, false, List, [], ◌∷◌, refl, Some, None, Option, ap, sym, ◌∙◌}
+use Rattle.std.proofs.Common.{◌≡◌, ℕ, ◌||◌, cond, Bool, true, false, List, [], ◌∷◌, refl, Some, None, Option, ap, sym, ◌∙◌}
 use Rattle.std.specs.Prelude.{option_map, if◌then◌else◌}
 use Rattle.std.specs.Ordering.{nat_cmp}
+use Rattle.std.specs.List.{list_any, AllByRecursion}
+use Rattle.file_graph.specs.Plain.{is_swap}
 use Rattle.std.specs.FinMap as fin
 use Rattle.posix_calls.specs.Content.{Entries}
 use Rattle.file_graph.specs.declared.effect.Kind.TheVariants as kind
@@ -10,8 +12,8 @@ use Rattle.file_graph.specs.declared.effect.Effect.TheVariants as effect
 use Rattle.file_graph.specs.Graph.{Graph, Node, FileBody, DirBody, subjects, is_among, subject_after, acted_graph, acted_all, exchanged_entries, plain_effects, after_effect, after_effects, node_entries, child_at, swap_places, entered_if, entered_places}
 use Rattle.graph_change.specs.Net.{Child}
 use Rattle.graph_change.specs.Change.{Changes, with_effect, with_effects, coalesced_changes, changed_graph}
-use Rattle.graph_change.specs.Swaps.{is_on_names, on_names, swapped_graph, swapped_sum}
-use Rattle.file_graph.proofs.Touches.{acted_append}
+use Rattle.graph_change.specs.Swaps.{SwappedChange, is_on_names, on_names, swapped_graph, swapped_sum}
+use Rattle.file_graph.proofs.Touches.{acted_append, acted_is}
 use Rattle.file_graph.proofs.Swaps.{swaps_last}
 use Rattle.graph_change.proofs.Law.{AreTidy, tidy_with, tidy_empty, more_effects, coalesced_law}
 
@@ -113,7 +115,7 @@ names_tell (e ∷ es) g h same =
     ] refl
 
 -- the names that Swaps name are the same, and so is what is entered at them
-places_are : (es : List Effect) → swap_places (on_names es) ≡ swap_places es
+pub places_are : (es : List Effect) → swap_places (on_names es) ≡ swap_places es
 places_are [] = refl
 places_are (effect.Make i k ∷ es) = places_are es
 places_are (effect.Enter d i k name ∷ es) = places_are es
@@ -128,15 +130,39 @@ entered_alike : (g h : Graph) (ps : List (ℕ × List ℕ)) → ListAlike g h �
 entered_alike g h [] same = refl
 entered_alike g h (p ∷ ps) same = ap (λ c. entered_if p c (entered_places g ps)) (child_alike g h same p.0 p.1) ∙ ap (entered_if p (child_at h p.0 p.1)) (entered_alike g h ps same)
 
-tidy_more : (es : List Effect) (cs : Changes) → AreTidy cs → AreTidy (with_effects cs es)
-tidy_more [] cs tidy = tidy
-tidy_more (e ∷ es) cs tidy = tidy_more es (with_effect e cs) (tidy_with e cs tidy)
+tidy_with_all : (es : List Effect) (cs : Changes) → AreTidy cs → AreTidy (with_effects cs es)
+tidy_with_all [] cs tidy = tidy
+tidy_with_all (e ∷ es) cs tidy = tidy_with_all es (with_effect e cs) (tidy_with e cs tidy)
 
-pub sum_is : (es : List Effect) (g : Graph) → swapped_graph (swapped_sum es) g ≡ after_effects g es
-sum_is es g =
+-- with these effects kept beside it
+abbrev summed : List Effect → List Effect → SwappedChange
+summed es names = record { change = coalesced_changes es; names = names }
+
+with_names : (es : List Effect) (g : Graph) → swapped_graph (summed es (on_names es)) g ≡ after_effects g es
+with_names es g =
     ap (λ fs. changed_graph (with_effects (coalesced_changes es) fs) g)
     (entered_alike (after_effects g (on_names es)) (after_effects g es) (swap_places (on_names es)) (names_tell es g g (λ i. refl)) ∙ ap (entered_places (after_effects g es)) (places_are es))
-    ∙ more_effects (entered_places (after_effects g es) (swap_places es)) (coalesced_changes es) g (tidy_more es fin.empty tidy_empty)
+    ∙ more_effects (entered_places (after_effects g es) (swap_places es)) (coalesced_changes es) g (tidy_with_all es fin.empty tidy_empty)
     ∙ ap (λ (h : Graph). acted_all h (entered_places (after_effects g es) (swap_places es))) (coalesced_law es g)
     ∙ sym (acted_append g es (entered_places (after_effects g es) (swap_places es)))
     ∙ sym (swaps_last es g)
+
+-- ---- without a Swap none is kept
+
+neither : (a b : Bool) → (a || b) ≡ false → (a ≡ false) × (b ≡ false)
+neither true b e = absurd cc
+neither false b e = (refl, e)
+
+none_swapped : (es : List Effect) → list_any is_swap es ≡ false → AllByRecursion (λ e. is_swap e ≡ false) es
+none_swapped [] off = tt
+none_swapped (e ∷ es) off = let both = neither (is_swap e) (list_any is_swap es) off in (both.0, none_swapped es both.1)
+
+without_names : (es : List Effect) (g : Graph) → list_any is_swap es ≡ false → swapped_graph (summed es []) g ≡ after_effects g es
+without_names es g off = coalesced_law es g ∙ sym (acted_is g es (none_swapped es off))
+
+pub sum_is : (es : List Effect) (g : Graph) → swapped_graph (swapped_sum es) g ≡ after_effects g es
+sum_is es g =
+    elim (list_any is_swap es) as (λ b. list_any is_swap es ≡ b → swapped_graph (summed es (if b then on_names es else [])) g ≡ after_effects g es) [
+      | true ↦ λ on. with_names es g
+      | false ↦ λ off. without_names es g off
+    ] refl

@@ -126,7 +126,7 @@ tidy_one e cs tidy j =
       | inr off ↦ subst IsTidyChange (sym (change_put e cs j ∙ ap (λ t. cond t c (change_at cs j)) off.0)) (tidy j)
     ]
 
-tidy_many : (es : List Effect) (cs : Changes) → AreTidyChanges cs → AreTidyChanges (with_effects cs es)
+pub tidy_many : (es : List Effect) (cs : Changes) → AreTidyChanges cs → AreTidyChanges (with_effects cs es)
 tidy_many [] cs tidy = tidy
 tidy_many (e ∷ es) cs tidy = tidy_many es (with_effect e cs) (tidy_one e cs tidy)
 

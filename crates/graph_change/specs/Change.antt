@@ -159,7 +159,7 @@ changes_inode es i = list_any (λ e. i == subject e) es
 abbrev pub changes_block : List Effect → ℕ → ℕ → Bool
 changes_block es i b = list_any (λ e. i == subject e && touches_block e b) es
 
--- a change makes of every graph what effects make of it; the inodes in it are those that the effects are on, and no block changes that they leave
+-- a change makes of every graph what effects make of it without their Swaps; the inodes in it are those that the effects are on, and no block changes that they leave
 -- alone; each stands in it once, since it is a map
 pub record Coalesces (es : List Effect) (cs : Changes) : Type 0 where
   pub meaning : (g : Graph) → changed_graph cs g ≡ acted_all g es

@@ -1,5 +1,7 @@
 -- What effects sum up to where names are swapped among them.
 use Rattle.std.specs.Prelude.{ℕ, List, [], ◌∷◌, Bool, true, false, if◌then◌else◌}
+use Rattle.std.specs.List.{list_any}
+use Rattle.file_graph.specs.Plain.{is_swap}
 use Rattle.file_graph.specs.Graph.{Graph, after_effects, swap_places, entered_places}
 use Rattle.file_graph.specs.declared.effect.Effect.{Effect}
 use Rattle.file_graph.specs.declared.effect.Effect.TheVariants as effect
@@ -21,7 +23,11 @@ abbrev pub on_names : List Effect → List Effect
 on_names [] = []
 on_names (e ∷ es) = if is_on_names e then e ∷ on_names es else on_names es
 
--- what effects sum up to where names are swapped among them: a change without the Swaps, and the effects on names in their order
+-- what is kept of effects beside their change: where a Swap is among them the effects on names, else none
+abbrev pub kept_names : List Effect → List Effect
+kept_names es = if list_any is_swap es then on_names es else []
+
+-- what effects sum up to: a change without their Swaps, and the effects on names in their order, where a Swap is among them
 pub record SwappedChange : Type 0 where
   pub change : Changes
   pub names : List Effect
@@ -36,4 +42,4 @@ swapped_graph c g = changed_graph (told_change g c) g
 
 -- the sum of effects
 abbrev pub swapped_sum : List Effect → SwappedChange
-swapped_sum es = record { change = coalesced_changes es; names = on_names es }
+swapped_sum es = record { change = coalesced_changes es; names = kept_names es }

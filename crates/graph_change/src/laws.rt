@@ -16,7 +16,7 @@ ghost use Rattle.graph_change.specs.View.{change_of, nodes_of, patch_of, patches
 ghost use Rattle.graph_change.specs.declared.node_change.NodeChange.{NodeChange};
 ghost use Rattle.posix_calls.specs.declared.limits.TheConstants.{UNIT_BYTES};
 
-/// The changes of a list of effects make of every graph what the effects make of it, one after the other. The inodes in it are those that the effects are on; each of
+/// The changes of a list of effects make of every graph what the effects make of it, one after the other and without their Swaps. The inodes in it are those that the effects are on; each of
 /// them and each block of a file is changed at most once, and no block that the effects leave alone.
 pub fn changes_are_the_effects()
     ensures { (es : List Effect) → Coalesces es (coalesced_changes es) }
@@ -48,7 +48,7 @@ pub fn whole_block_needs_no_old_bytes()
     ensures { (patch : Patch) (one other : List ℕ) → IsWhole patch → length one ≡ UNIT_BYTES → length other ≡ UNIT_BYTES → patched_bytes patch one ≡ patched_bytes patch other }
 {}
 
-/// The sum of effects with Swaps among them makes of every graph what the effects make of it.
-pub fn swapped_names_are_told()
+/// The sum of effects, with what is kept of their names where a Swap is among them, makes of every graph what the effects make of it.
+pub fn swapped_sums_are_the_effects()
     ensures { (es : List Effect) (g : Graph) → swapped_graph (swapped_sum es) g ≡ after_effects g es }
 {}

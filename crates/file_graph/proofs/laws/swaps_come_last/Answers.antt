@@ -8,5 +8,5 @@ returns-clause-costs c = swaps_cost_nothing
 pub returns-clause-last : goal.returns-clause-last
 returns-clause-last c = swaps_last
 
-pub returns-clause-told : goal.returns-clause-told
-returns-clause-told c = told_alike
+pub returns-clause-entered : goal.returns-clause-entered
+returns-clause-entered c = told_alike
