@@ -21,6 +21,12 @@ is_drop (effect.Names i n) = false
 is_drop (effect.Size i size) = false
 is_drop (effect.Bytes i at new) = false
 is_drop (effect.Drop i) = true
+is_drop (effect.Swap d a e b) = false
+
+-- whether an effect is a Swap
+abbrev pub is_swap : Effect → Bool
+is_swap (effect.Swap d a e b) = true
+is_swap _ = false
 
 -- units of a node, where its number is an inode's
 abbrev pub units_at : ℕ → Node → ℕ

@@ -1,6 +1,7 @@
-ghost use Rattle.std.specs.Prelude.{◌≡◌, ◌==◌, [], ◌∷◌, length};
+ghost use Rattle.std.specs.Prelude.{◌≡◌, ◌==◌, None, false, length};
 ghost use Rattle.file_graph.specs.Graph.{subjects};
-ghost use Rattle.file_graph.specs.Subject.{subject};
+ghost use Rattle.file_graph.specs.Plain.{is_swap};
+ghost use Rattle.file_graph.specs.Subject.{one_or_two, subject};
 
 use posix_calls::{Name, SharedBytes};
 use std::marker::Model;
@@ -97,22 +98,35 @@ pub enum Effect {
     Drop {
         inode: u32,
     },
+    /// Two names of directories change what they lead to. Unless both lead to something, nothing changes.
+    Swap {
+        directory: u32,
+        name: Name,
+        other: u32,
+        other_name: Name,
+    },
 }
 
 impl Effect {
-    /// The inode that it changes.
-    pub fn subject(&self) -> u32
-        ensures is { result ≡ subject self.now }
-        ensures alone { subjects self.now ≡ result ∷ [] }
+    /// The inodes that it changes: one, or the two directories of a Swap, which may be one.
+    pub fn subjects(&self) -> (u32, Option<u32>)
+        ensures is { subjects self.now ≡ one_or_two result.0 result.1 }
+        ensures first { subject self.now ≡ result.0 }
+        ensures alone { result.1 ≡ None → is_swap self.now ≡ false }
     {
         match self {
-            Effect::Make { inode, .. } => *inode,
-            Effect::Enter { directory, .. } => *directory,
-            Effect::Leave { directory, .. } => *directory,
-            Effect::Names { inode, .. } => *inode,
-            Effect::Size { inode, .. } => *inode,
-            Effect::Bytes { inode, .. } => *inode,
-            Effect::Drop { inode } => *inode,
+            Effect::Make { inode, .. } => (*inode, None),
+            Effect::Enter { directory, .. } => (*directory, None),
+            Effect::Leave { directory, .. } => (*directory, None),
+            Effect::Names { inode, .. } => (*inode, None),
+            Effect::Size { inode, .. } => (*inode, None),
+            Effect::Bytes { inode, .. } => (*inode, None),
+            Effect::Drop { inode } => (*inode, None),
+            Effect::Swap {
+                directory,
+                other,
+                ..
+            } => (*directory, Some(*other)),
         }
     }
 }

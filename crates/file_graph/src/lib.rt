@@ -21,6 +21,7 @@ pub use file_bytes::FileBytes;
 pub use kinds::{DIRECTORY_KIND, FILE_KIND, kind_byte, kinds_have_their_bytes, read_kind};
 pub use laws::{
     apart_effects_commute, charge_rises_by_growth_at_most, effects_change_what_they_touch,
+    swaps_come_last,
 };
 pub use name_map::{EntryRoom, NameMap, NamedEntry};
 pub use node::PlainEntry;

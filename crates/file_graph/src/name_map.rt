@@ -1,4 +1,4 @@
-ghost use Rattle.std.specs.Prelude.{◌≡◌, ◌==◌, ◌≤◌, ◌<◌, ◌^◌, length, map, option_map, [], IfOk, IfErr, OnOk, OnErr};
+ghost use Rattle.std.specs.Prelude.{◌≡◌, ◌==◌, ◌≤◌, ◌<◌, ◌^◌, length, map, option_map, IsSome, [], IfOk, IfErr, OnOk, OnErr};
 ghost use Rattle.std.specs.List.Sorted.{IsSearchInRange};
 ghost use Rattle.std.specs.Ordering.{nat_cmp};
 ghost use Rattle.std.specs.FinMap as fin;
@@ -144,6 +144,14 @@ impl<V: Drop> NameMap<V> {
         put_within(&mut self.entries, room.entries, name, value);
     }
 
+    /// Puts something in place of what stands at a name. It takes no memory.
+    pub fn set(&mut self, name: &[u8], value: V)
+        requires { IsSome (fin.get self.old name.now) }
+        ensures { self.new ≡ fin.insert self.old name.now value }
+    {
+        set_entry(&mut self.entries, name, value);
+    }
+
     /// Takes a name out, if it is there.
     pub fn remove(&mut self, name: &[u8])
         ensures { self.new ≡ fin.remove self.old name.now }
@@ -266,6 +274,18 @@ fn make_room<V: Drop>(entries: &mut Vec<NamedEntry<V>>, room: Vec<NamedEntry<V>>
     match wider.append(entries) {
         Ok(()) => *entries = wider,
         Err(_) => unreachable!(),
+    }
+}
+
+// The entry that stands at a name gets another value.
+fn set_entry<V: Drop>(entries: &mut Vec<NamedEntry<V>>, name: &[u8], value: V)
+    requires order { IsInOrder entries.old.items }
+    requires there { IsSome (fin.find (slice_cmp nat_cmp) name.now (pairs entries.old.items)) }
+    ensures put { pairs entries.new.items ≡ fin.put (slice_cmp nat_cmp) name.now value (pairs entries.old.items) }
+    ensures as_many { length entries.new.items ≡ length entries.old.items }
+{
+    if let Ok(place) = place_of(entries, name) {
+        entries[place].value = value;
     }
 }
 

@@ -1,7 +1,7 @@
-ghost use Rattle.std.specs.Prelude.{◌≡◌, ◌<◌, ◌^◌, false, Some, OnOk, OnErr, option_map};
+ghost use Rattle.std.specs.Prelude.{◌≡◌, ◌<◌, ◌^◌, false, Some, IsSome, OnOk, OnErr, option_map};
 ghost use Rattle.std.specs.FinMap as fin;
 ghost use Rattle.posix_calls.specs.Content.{with_length, with_bytes};
-ghost use Rattle.file_graph.specs.Graph.{subject_after, empty_body, in_file, in_directory, file_bytes, directory_entries, cost};
+ghost use Rattle.file_graph.specs.Graph.{DirBody, subject_after, empty_body, in_file, in_directory, with_body, body_entries, node_entries, file_bytes, directory_entries, cost};
 ghost use Rattle.file_graph.specs.Plain.{pairs, is_drop};
 ghost use Rattle.file_graph.specs.Bodies.{body_of};
 
@@ -53,7 +53,17 @@ impl PlainNode {
         PlainNode { names, body }
     }
 
-    /// Does what an effect other than a Drop does to a node. Where there is no memory for it, the node stays as it was.
+    /// A directory with so many names and these entries.
+    pub fn directory(names: u32, entries: NameMap<Child>) -> Self
+        ensures { result ≡ record { names = names; body = DirBody entries } }
+    {
+        PlainNode {
+            names,
+            body: PlainBody::Directory(entries),
+        }
+    }
+
+    /// Does what an effect other than a Drop does to a node; a Swap is of two, and does nothing here. Where there is no memory for it, the node stays as it was.
     pub fn act(&mut self, alloc: Global, effect: &Effect) -> Result<(), AllocError>
         requires { is_drop effect.now ≡ false }
         ensures ok { OnOk result (Some self.new ≡ subject_after effect.now (Some self.old)) }
@@ -81,7 +91,26 @@ impl PlainNode {
             Effect::Size { size, .. } => resize(&mut self.body, *size),
             Effect::Bytes { at, bytes, .. } => put_bytes(&mut self.body, *at, bytes.as_slice()),
             Effect::Drop { .. } => Ok(()),
+            Effect::Swap { .. } => Ok(()),
         }
+    }
+
+    /// What a name of a directory leads to.
+    pub fn child(&self, name: &[u8]) -> Option<Child>
+        ensures { result ≡ fin.get (node_entries (Some self.now)) name.now }
+    {
+        match &self.body {
+            PlainBody::File(_) => None,
+            PlainBody::Directory(entries) => entries.get(name).copied(),
+        }
+    }
+
+    /// Lets a name of a directory, which leads to something, lead to something else. It takes no memory.
+    pub fn set_child(&mut self, name: &[u8], child: Child)
+        requires { IsSome (fin.get (node_entries (Some self.old)) name.now) }
+        ensures { self.new ≡ with_body (in_directory (λ es. fin.insert es name.now child)) self.old }
+    {
+        set_entry(&mut self.body, name, child);
     }
 
     /// What it costs, in units.
@@ -138,6 +167,16 @@ fn put_entry(
     match body {
         PlainBody::File(_) => Ok(()),
         PlainBody::Directory(entries) => entries.put(name.copy(alloc)?, Child::new(inode, kind)),
+    }
+}
+
+fn set_entry(body: &mut PlainBody, name: &[u8], child: Child)
+    requires { IsSome (fin.get (body_entries (body_of body.old)) name.now) }
+    ensures { body_of body.new ≡ in_directory (λ es. fin.insert es name.now child) (body_of body.old) }
+{
+    match body {
+        PlainBody::File(_) => {}
+        PlainBody::Directory(entries) => entries.set(name, child),
     }
 }
 

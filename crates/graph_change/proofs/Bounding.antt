@@ -62,6 +62,7 @@ bounded_after (effect.Bytes i at bytes) c is b =
     let low = leb-true (at + length bytes) MAX_FILE (both_true (is_inode i) (nat_le (at + length bytes) MAX_FILE) is).1 in
     record { names = b.names; length = grown_most (at + length bytes) MAX_FILE c.length b.length low; entries = b.entries }
 bounded_after (effect.Drop i) c is b = bounded_new Gone
+bounded_after (effect.Swap d a e f) c is b = b
 
 -- ---- many inodes, many effects
 
@@ -73,6 +74,7 @@ on_inode (effect.Names i n) is = (both_true (is_inode i) (nat_le n MAX_NAMES) is
 on_inode (effect.Size i size) is = (both_true (is_inode i) (nat_le size MAX_FILE) is).0
 on_inode (effect.Bytes i at bytes) is = (both_true (is_inode i) (nat_le (at + length bytes) MAX_FILE) is).0
 on_inode (effect.Drop i) is = is
+on_inode (effect.Swap d a e b) is = (both_true (is_inode d) (is_inode e) is).0
 
 pub bounded_one : (e : Effect) (cs : Changes) → is_bounded e ≡ true → AreBounded cs → AreBounded (with_effect e cs)
 bounded_one e cs is b =
@@ -98,7 +100,7 @@ bounded_none = record {
   changes = λ i. subst IsBounded (sym (empty_at i)) (bounded_new Kept);
 }
 
-bounded_many : (es : List Effect) (cs : Changes) → AllByRecursion (λ e. is_bounded e ≡ true) es → AreBounded cs → AreBounded (with_effects cs es)
+pub bounded_many : (es : List Effect) (cs : Changes) → AllByRecursion (λ e. is_bounded e ≡ true) es → AreBounded cs → AreBounded (with_effects cs es)
 bounded_many [] cs all b = b
 bounded_many (e ∷ es) cs all b = bounded_many es (with_effect e cs) all.1 (bounded_one e cs all.0 b)
 

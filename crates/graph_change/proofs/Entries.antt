@@ -6,11 +6,11 @@ use Rattle.std.specs.FinMap as fin
 use Rattle.posix_calls.specs.Content.{Entries}
 use Rattle.graph_change.specs.Net.{Child, EntryChanges, with_entry, with_entries, entries_after}
 
-names_same : fin.IsAntisymmetric (slice_cmp nat_cmp)
+pub names_same : fin.IsAntisymmetric (slice_cmp nat_cmp)
 names_same = fin.slice_cmp-IsAntisymmetric fin.nat_cmp-IsAntisymmetric
 
 -- the last word on a name, or what stood there
-abbrev or_old : {A : Type 0} → Option A → A → A
+abbrev pub or_old : {A : Type 0} → Option A → A → A
 or_old None old = old
 or_old (Some x) old = x
 

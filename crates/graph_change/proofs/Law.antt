@@ -1,5 +1,5 @@
 -- The change that a list of effects comes to makes of every graph what the effects make of it.
-use Rattle.std.proofs.Common.{◌≡◌, inl, inr, ℕ, ◌+◌, ◌==◌, ◌/◌, ◌%◌, if◌then◌else◌, cond, false, List, [], ◌∷◌, length, refl, None, Option, ap, sym, ◌∙◌, subst}
+use Rattle.std.proofs.Common.{◌≡◌, inl, inr, ℕ, ◌+◌, ◌==◌, ◌/◌, ◌%◌, if◌then◌else◌, cond, Bool, true, false, List, [], ◌∷◌, length, refl, None, Option, ap, sym, ◌∙◌, subst}
 use Rattle.std.specs.Prelude.{◌||◌, unwrap_or}
 use Rattle.std.specs.Ordering.{nat_cmp}
 use Rattle.std.specs.FinMap as fin
@@ -8,7 +8,7 @@ use Rattle.std.proofs.lemmas.Bool.Decides.{eqb_tells}
 use Rattle.posix_calls.specs.declared.limits.TheConstants.{UNIT_BYTES}
 use Rattle.file_graph.specs.declared.effect.Effect.{Effect}
 use Rattle.file_graph.specs.declared.effect.Effect.TheVariants as effect
-use Rattle.file_graph.specs.Graph.{Graph, Node, subjects, is_among, subject_after, after_effect, after_effects}
+use Rattle.file_graph.specs.Graph.{Graph, Node, is_among, subject_after, acted_graph, acted_all}
 use Rattle.graph_change.specs.Bytes.{Grown, IsTidy, grown_to, sized_to}
 use Rattle.graph_change.specs.Net.{Base, Net, Kept, Made, Gone, from_base, node_after, net_after}
 use Rattle.graph_change.specs.Change.{Change, Changes, blank, new_in, subject, new_change, net_of, change_after, change_at, changed_graph, with_effect, with_effects, coalesced_changes}
@@ -32,17 +32,9 @@ stands (effect.Names i n) c = refl
 stands (effect.Size i size) c = ap (λ w. record { base = c.base; names = c.names; bytes = record { length = sized_to size c.length; new = w }; entries = c.entries }) (λ t i. cut_new size c.patches i t)
 stands (effect.Bytes i at bytes) c = ap (λ w. record { base = c.base; names = c.names; bytes = record { length = grown_to (at + length bytes) c.length; new = w }; entries = c.entries }) (λ t i. write_written at bytes c.patches i t)
 stands (effect.Drop i) c = empty_of Gone
+stands (effect.Swap d a e b) c = refl
 
 -- ---- an effect acts on its subject, and on nothing else
-
-subject_alone : (e : Effect) → subjects e ≡ subject e ∷ []
-subject_alone (effect.Make i k) = refl
-subject_alone (effect.Enter d i k name) = refl
-subject_alone (effect.Leave d name) = refl
-subject_alone (effect.Names i n) = refl
-subject_alone (effect.Size i size) = refl
-subject_alone (effect.Bytes i at text) = refl
-subject_alone (effect.Drop i) = refl
 
 among_one : (j s : ℕ) → is_among j (s ∷ []) ≡ (j == s)
 among_one j s = elim (eqb_tells j s) [
@@ -53,8 +45,24 @@ among_one j s = elim (eqb_tells j s) [
   ]
 ]
 
-acts_there : (g : Graph) (e : Effect) (j : ℕ) → after_effect g e j ≡ (if j == subject e then subject_after e (g j) else g j)
-acts_there g e j = ap (λ is. cond (is_among j is) (subject_after e (g j)) (g j)) (subject_alone e) ∙ ap (λ b. cond b (subject_after e (g j)) (g j)) (among_one j (subject e))
+same_both : {A : Type 0} (a b : Bool) (x : A) → cond a x x ≡ cond b x x
+same_both true true x = refl
+same_both true false x = refl
+same_both false true x = refl
+same_both false false x = refl
+
+one_there : (g : Graph) (e : Effect) (s j : ℕ) → cond (is_among j (s ∷ [])) (subject_after e (g j)) (g j) ≡ (if j == s then subject_after e (g j) else g j)
+one_there g e s j = ap (λ b. cond b (subject_after e (g j)) (g j)) (among_one j s)
+
+pub acts_there : (g : Graph) (e : Effect) (j : ℕ) → acted_graph g e j ≡ (if j == subject e then subject_after e (g j) else g j)
+acts_there g (effect.Make i k) j = one_there g (effect.Make i k) i j
+acts_there g (effect.Enter d i k name) j = one_there g (effect.Enter d i k name) d j
+acts_there g (effect.Leave d name) j = one_there g (effect.Leave d name) d j
+acts_there g (effect.Names i n) j = one_there g (effect.Names i n) i j
+acts_there g (effect.Size i size) j = one_there g (effect.Size i size) i j
+acts_there g (effect.Bytes i at text) j = one_there g (effect.Bytes i at text) i j
+acts_there g (effect.Drop i) j = one_there g (effect.Drop i) i j
+acts_there g (effect.Swap d a e b) j = same_both (is_among j (d ∷ e ∷ [])) (j == d) (g j)
 
 -- ---- all inodes
 
@@ -65,7 +73,7 @@ AreTidy cs = (i : ℕ) → IsTidy (net_of (change_at cs i)).bytes
 pub change_put : (e : Effect) (cs : Changes) (j : ℕ) → change_at (with_effect e cs) j ≡ (if j == subject e then change_after e (change_at cs (subject e)) else change_at cs j)
 change_put e cs j = value_put (new_change Kept) (subject e) (change_after e (change_at cs (subject e))) cs j
 
-effect_at : (e : Effect) (cs : Changes) (g : Graph) (j : ℕ) → AreTidy cs → changed_graph (with_effect e cs) g j ≡ after_effect (changed_graph cs g) e j
+effect_at : (e : Effect) (cs : Changes) (g : Graph) (j : ℕ) → AreTidy cs → changed_graph (with_effect e cs) g j ≡ acted_graph (changed_graph cs g) e j
 effect_at e cs g j tidy =
     let s = subject e in
     let c = change_after e (change_at cs s) in
@@ -92,12 +100,12 @@ tidy_with e cs tidy j =
     ]
 
 -- one more effect is done last
-pub one_more_effect : (e : Effect) (cs : Changes) (g : Graph) → AreTidy cs → changed_graph (with_effect e cs) g ≡ after_effect (changed_graph cs g) e
+pub one_more_effect : (e : Effect) (cs : Changes) (g : Graph) → AreTidy cs → changed_graph (with_effect e cs) g ≡ acted_graph (changed_graph cs g) e
 one_more_effect e cs g tidy = λ t j. effect_at e cs g j tidy t
 
-pub more_effects : (es : List Effect) (cs : Changes) (g : Graph) → AreTidy cs → changed_graph (with_effects cs es) g ≡ after_effects (changed_graph cs g) es
+pub more_effects : (es : List Effect) (cs : Changes) (g : Graph) → AreTidy cs → changed_graph (with_effects cs es) g ≡ acted_all (changed_graph cs g) es
 more_effects [] cs g tidy = refl
-more_effects (e ∷ es) cs g tidy = more_effects es (with_effect e cs) g (tidy_with e cs tidy) ∙ ap (λ h. after_effects h es) (one_more_effect e cs g tidy)
+more_effects (e ∷ es) cs g tidy = more_effects es (with_effect e cs) g (tidy_with e cs tidy) ∙ ap (λ h. acted_all h es) (one_more_effect e cs g tidy)
 
 pub empty_at : (i : ℕ) → change_at fin.empty i ≡ new_change Kept
 empty_at i = ap (λ o. unwrap_or o (new_change Kept)) (fin.get-empty nat_cmp i)
@@ -105,11 +113,11 @@ empty_at i = ap (λ o. unwrap_or o (new_change Kept)) (fin.get-empty nat_cmp i)
 tidy_nothing_put : IsTidy (net_of (new_change Kept)).bytes
 tidy_nothing_put = subst (λ (n : Net). IsTidy n.bytes) (sym (empty_of Kept)) tidy_nothing
 
-untouched : (x : Option Node) (i : ℕ) → node_after (net_of (change_at fin.empty i)) x ≡ x
+pub untouched : (x : Option Node) (i : ℕ) → node_after (net_of (change_at fin.empty i)) x ≡ x
 untouched x i = ap (λ c. node_after (net_of c) x) (empty_at i) ∙ ap (λ n. node_after n x) (empty_of Kept) ∙ stays x
 
-tidy_empty : AreTidy fin.empty
+pub tidy_empty : AreTidy fin.empty
 tidy_empty i = subst (λ (x : Change). IsTidy (net_of x).bytes) (sym (empty_at i)) tidy_nothing_put
 
-pub coalesced_law : (es : List Effect) (g : Graph) → changed_graph (coalesced_changes es) g ≡ after_effects g es
-coalesced_law es g = more_effects es fin.empty g tidy_empty ∙ ap (λ h. after_effects h es) (λ t i. untouched (g i) i t)
+pub coalesced_law : (es : List Effect) (g : Graph) → changed_graph (coalesced_changes es) g ≡ acted_all g es
+coalesced_law es g = more_effects es fin.empty g tidy_empty ∙ ap (λ h. acted_all h es) (λ t i. untouched (g i) i t)

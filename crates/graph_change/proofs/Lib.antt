@@ -5,6 +5,7 @@ pub mod Changed
 pub mod Ends
 pub mod Entries
 pub mod Law
+pub mod SwapNames
 pub mod Making
 pub mod Maps
 pub mod Marks

@@ -40,6 +40,7 @@ one_more (effect.Names i m) c x tidy = mapped _ _ _ (base_node c.base x) (λ n. 
 one_more (effect.Size i size) c x tidy = mapped _ _ _ (base_node c.base x) (λ n. ap (λ b. record { names = names_after c.names n.names; body = b }) (size_body size c.bytes c.entries n.body tidy))
 one_more (effect.Bytes i at text) c x tidy = mapped _ _ _ (base_node c.base x) (λ n. ap (λ b. record { names = names_after c.names n.names; body = b }) (write_body at text c.bytes c.entries n.body tidy))
 one_more (effect.Drop i) c x tidy = refl
+one_more (effect.Swap d a e b) c x tidy = refl
 
 pub tidy_after : (e : Effect) (c : Net) → IsTidy c.bytes → IsTidy (net_after e c).bytes
 tidy_after (effect.Make i k) c tidy = tidy_nothing
@@ -49,6 +50,7 @@ tidy_after (effect.Names i m) c tidy = tidy
 tidy_after (effect.Size i size) c tidy = tidy_size size c.bytes tidy
 tidy_after (effect.Bytes i at text) c tidy = tidy_write at text c.bytes tidy
 tidy_after (effect.Drop i) c tidy = tidy_nothing
+tidy_after (effect.Swap d a e b) c tidy = tidy
 
 -- of which nothing is said, stays
 pub stays : (x : Option Node) → node_after (from_base Kept) x ≡ x

@@ -108,6 +108,7 @@ blocks_after (effect.Bytes i at bytes) c tidy ordered b h =
       | inr cut ↦ cut_below (grown_to (at + length bytes) c.length) b ordered cut
     ]
 blocks_after (effect.Drop i) c tidy ordered b h = (tidy_new Gone).blocks b h
+blocks_after (effect.Swap d a e f) c tidy ordered b h = tidy.blocks b h
 
 pub tidy_more : (e : Effect) (c : Change) → IsTidyChange c → IsTidyChange (change_after e c)
 tidy_more e c tidy = let bytes = bytes_after e c tidy in record { bytes = bytes; blocks = blocks_after e c tidy bytes.ordered }
@@ -125,7 +126,7 @@ tidy_one e cs tidy j =
       | inr off ↦ subst IsTidyChange (sym (change_put e cs j ∙ ap (λ t. cond t c (change_at cs j)) off.0)) (tidy j)
     ]
 
-tidy_many : (es : List Effect) (cs : Changes) → AreTidyChanges cs → AreTidyChanges (with_effects cs es)
+pub tidy_many : (es : List Effect) (cs : Changes) → AreTidyChanges cs → AreTidyChanges (with_effects cs es)
 tidy_many [] cs tidy = tidy
 tidy_many (e ∷ es) cs tidy = tidy_many es (with_effect e cs) (tidy_one e cs tidy)
 

@@ -127,10 +127,11 @@ one_effect (effect.Bytes i at bytes) c b h =
       | inr cut ↦ or_left (writes_block c b) (list_any (nat_eq b) bs) (or_right (fin.contains_key c.patches b) (cuts_within c.length b) (sym (grown_cuts (at + length bytes) c.length b) ∙ cut))
     ]
 one_effect (effect.Drop i) c b h = absurd (false≢true (sym (nothing_written Gone b) ∙ h))
+one_effect (effect.Swap d a e f) c b h = or_left (writes_block c b) false h
 
 -- ---- many effects
 
-with_has : (es : List Effect) (cs : Changes) (i : ℕ) → fin.contains_key (with_effects cs es) i ≡ (fin.contains_key cs i || changes_inode es i)
+pub with_has : (es : List Effect) (cs : Changes) (i : ℕ) → fin.contains_key (with_effects cs es) i ≡ (fin.contains_key cs i || changes_inode es i)
 with_has [] cs i = or_nothing (fin.contains_key cs i)
 with_has (e ∷ es) cs i =
     with_has es (with_effect e cs) i
@@ -154,7 +155,7 @@ block_there e cs i b h =
       | inr off ↦ inl (sym (ap (λ x. writes_block x b) (change_put e cs i ∙ ap (λ t. cond t c (change_at cs i)) off.0)) ∙ h)
     ]
 
-with_blocks : (es : List Effect) (cs : Changes) (i b : ℕ) → writes_block (change_at (with_effects cs es) i) b ≡ true → (writes_block (change_at cs i) b || changes_block es i b) ≡ true
+pub with_blocks : (es : List Effect) (cs : Changes) (i b : ℕ) → writes_block (change_at (with_effects cs es) i) b ≡ true → (writes_block (change_at cs i) b || changes_block es i b) ≡ true
 with_blocks [] cs i b h = or_left (writes_block (change_at cs i) b) false h
 with_blocks (e ∷ es) cs i b h =
     let here = i == subject e && touches_block e b in

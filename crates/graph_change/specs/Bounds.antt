@@ -19,6 +19,7 @@ is_bounded (effect.Names i n) = is_inode i && nat_le n MAX_NAMES
 is_bounded (effect.Size i size) = is_inode i && nat_le size MAX_FILE
 is_bounded (effect.Bytes i at bytes) = is_inode i && nat_le (at + length bytes) MAX_FILE
 is_bounded (effect.Drop i) = is_inode i
+is_bounded (effect.Swap d a e b) = is_inode d && is_inode e
 
 -- what stands at a name leads to an inode, if it is not taken out
 abbrev pub LeadsToInode : List ℕ × Option Child → Type 0

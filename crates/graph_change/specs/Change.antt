@@ -4,7 +4,7 @@ use Rattle.std.specs.List.{range_with_len, list_any}
 use Rattle.std.specs.Ordering.{nat_cmp}
 use Rattle.std.specs.FinMap as fin
 use Rattle.posix_calls.specs.declared.limits.TheConstants.{UNIT_BYTES}
-use Rattle.file_graph.specs.Graph.{Graph, after_effects}
+use Rattle.file_graph.specs.Graph.{Graph, acted_all}
 pub use Rattle.file_graph.specs.Subject.{subject}
 use Rattle.file_graph.specs.declared.effect.Effect.{Effect}
 use Rattle.file_graph.specs.declared.effect.Effect.TheVariants as effect
@@ -93,6 +93,7 @@ change_after (effect.Names i n) c = record c { names = Some n }
 change_after (effect.Size i size) c = record c { length = sized_to size c.length; patches = cut_patches size c.patches }
 change_after (effect.Bytes i at bytes) c = record c { length = grown_to (at + length bytes) c.length; patches = put_blocks at bytes (span at (length bytes)) c.patches }
 change_after (effect.Drop i) c = new_change Gone
+change_after (effect.Swap d a e b) c = c
 
 -- the bytes of a block, with those that are put over them
 abbrev pub patched_bytes : Patch → List ℕ → List ℕ
@@ -158,9 +159,9 @@ changes_inode es i = list_any (λ e. i == subject e) es
 abbrev pub changes_block : List Effect → ℕ → ℕ → Bool
 changes_block es i b = list_any (λ e. i == subject e && touches_block e b) es
 
--- a change makes of every graph what effects make of it; the inodes in it are those that the effects are on, and no block changes that they leave
+-- a change makes of every graph what effects make of it without their Swaps; the inodes in it are those that the effects are on, and no block changes that they leave
 -- alone; each stands in it once, since it is a map
 pub record Coalesces (es : List Effect) (cs : Changes) : Type 0 where
-  pub meaning : (g : Graph) → changed_graph cs g ≡ after_effects g es
+  pub meaning : (g : Graph) → changed_graph cs g ≡ acted_all g es
   pub inodes : (i : ℕ) → fin.contains_key cs i ≡ changes_inode es i
   pub blocks : (i b : ℕ) → writes_block (change_at cs i) b ≡ true → changes_block es i b ≡ true

@@ -19,6 +19,7 @@ takes_memory (effect.Names i n) c = false
 takes_memory (effect.Size i size) c = false
 takes_memory (effect.Bytes i at bytes) c = nat_lt 0 (length bytes)
 takes_memory (effect.Drop i) c = false
+takes_memory (effect.Swap d a e b) c = false
 
 -- whether an effect that is added to the changes of many inodes does: the first on its inode does
 abbrev pub takes_memory_among : Effect → Changes → Bool

@@ -84,3 +84,4 @@ net_after (effect.Names i n) c = record c { names = Some n }
 net_after (effect.Size i size) c = record c { bytes = with_size size c.bytes }
 net_after (effect.Bytes i at bytes) c = record c { bytes = with_write at bytes c.bytes }
 net_after (effect.Drop i) c = from_base Gone
+net_after (effect.Swap d a e b) c = c

@@ -29,14 +29,15 @@ impl GraphChange {
     }
 
     /// Adds an effect behind those that are in it. It wants memory where it is the first on its inode, for the name of an entry, and for a write of at least one byte;
-    /// one that would end past all numbers finds none. Where there is none for it, the change stays as it was.
+    /// one that would end past all numbers finds none. Where there is none for it, the change stays as it was. Of a Swap nothing is said: its first directory stands in the
+    /// change then, and stays as it was.
     pub fn add(&mut self, alloc: Global, effect: &Effect) -> Result<(), AllocError>
         ensures change { OnOk result (changes_of self.new ≡ with_effect effect.now (changes_of self.old)) }
         ensures refused { OnErr result (changes_of self.new ≡ changes_of self.old) }
         ensures memory { OnErr result (takes_memory_among effect.now (changes_of self.old) ≡ true) }
         ensures tidy { AreTidyChanges (changes_of self.old) → OnOk result (AreTidyChanges (changes_of self.new)) }
     {
-        add(alloc, &mut self.nodes, effect.subject(), effect)
+        add(alloc, &mut self.nodes, effect.subjects().0, effect)
     }
 }
 

@@ -6,7 +6,8 @@ ghost use Rattle.std.specs.Ordering.{nat_cmp};
 ghost use Rattle.std.specs.BTreeMap.{BTreeMap, get};
 ghost use Rattle.std.specs.FinMap as fin;
 ghost use Rattle.file_graph.specs.declared.effect.Effect.{Effect};
-ghost use Rattle.file_graph.specs.Graph.{Node};
+ghost use Rattle.file_graph.specs.Graph.{Node, Graph, after_effects};
+ghost use Rattle.graph_change.specs.Swaps.{swapped_graph, swapped_sum};
 ghost use Rattle.graph_change.specs.Bounds.{is_bounded, AreBounded};
 ghost use Rattle.graph_change.specs.Change.{Change, Changes, Coalesces, Patch, change_after, coalesced_changes, net_of, new_change, patched_bytes, with_effect, IsWhole};
 ghost use Rattle.graph_change.specs.Net.{Base, Gone, node_after};
@@ -15,7 +16,7 @@ ghost use Rattle.graph_change.specs.View.{change_of, nodes_of, patch_of, patches
 ghost use Rattle.graph_change.specs.declared.node_change.NodeChange.{NodeChange};
 ghost use Rattle.posix_calls.specs.declared.limits.TheConstants.{UNIT_BYTES};
 
-/// The changes of a list of effects make of every graph what the effects make of it, one after the other. The inodes in it are those that the effects are on; each of
+/// The changes of a list of effects make of every graph what the effects make of it, one after the other and without their Swaps. The inodes in it are those that the effects are on; each of
 /// them and each block of a file is changed at most once, and no block that the effects leave alone.
 pub fn changes_are_the_effects()
     ensures { (es : List Effect) → Coalesces es (coalesced_changes es) }
@@ -45,4 +46,9 @@ pub fn changes_are_read_by_number()
 /// A block that is put whole needs none of the bytes that it had.
 pub fn whole_block_needs_no_old_bytes()
     ensures { (patch : Patch) (one other : List ℕ) → IsWhole patch → length one ≡ UNIT_BYTES → length other ≡ UNIT_BYTES → patched_bytes patch one ≡ patched_bytes patch other }
+{}
+
+/// The sum of effects, with what is kept of their names where a Swap is among them, makes of every graph what the effects make of it.
+pub fn swapped_sums_are_the_effects()
+    ensures { (es : List Effect) (g : Graph) → swapped_graph (swapped_sum es) g ≡ after_effects g es }
 {}

@@ -86,6 +86,7 @@ impl NodeChange {
                 self.begin_anew(alloc, NodeBase::Gone);
                 Ok(())
             }
+            Effect::Swap { .. } => Ok(()),
         }
     }
 

@@ -24,6 +24,7 @@ effect_size (effect.Names i n) = 9
 effect_size (effect.Size i size) = 13
 effect_size (effect.Bytes i at new) = 17 + length new
 effect_size (effect.Drop i) = 5
+effect_size (effect.Swap d a e b) = 11 + length a + length b
 
 pub length-effect_bytes : (e : Effect) → length (effect_bytes e) ≡ effect_size e
 length-effect_bytes (effect.Make i k) = omega (arith, length-append (u32 i) (kind_byte k ∷ []), length-u32 i)
@@ -35,3 +36,5 @@ length-effect_bytes (effect.Size i size) = omega (arith, length-append (u32 i) (
 length-effect_bytes (effect.Bytes i at new) =
     omega (arith, length-append (u32 i) (u64 at ++ (u32 (length new) ++ new)), length-append (u64 at) (u32 (length new) ++ new), length-append (u32 (length new)) new, length-u32 i, length-u64 at, length-u32 (length new))
 length-effect_bytes (effect.Drop i) = omega (arith, length-u32 i)
+length-effect_bytes (effect.Swap d a e b) =
+    omega (arith, length-append (u32 d) (length a ∷ (a ++ (u32 e ++ length b ∷ b))), length-append a (u32 e ++ length b ∷ b), length-append (u32 e) (length b ∷ b), length-u32 d, length-u32 e)

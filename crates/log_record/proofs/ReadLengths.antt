@@ -10,8 +10,8 @@ use Rattle.file_graph.specs.declared.effect.Kind.TheVariants as kind
 use Rattle.file_graph.specs.declared.effect.Effect.{Effect}
 use Rattle.file_graph.specs.declared.effect.Effect.TheVariants as effect
 use Rattle.log_record.specs.declared.format.Record.{Record}
-use Rattle.log_record.specs.declared.format.TheConstants.{MAKE, ENTER, LEAVE, NAMES, SIZE, BYTES, DROP}
-use Rattle.log_record.specs.Grammar.{◌>>=◌, fits, u32, u64, effect_bytes, record_bytes, byte_at, run_at, number_at, make_at, enter_at, leave_at, names_at, size_at, bytes_at, dropped_at, fields_at, effect_at, effects_at, header_at, record_at, record_of}
+use Rattle.log_record.specs.declared.format.TheConstants.{MAKE, ENTER, LEAVE, NAMES, SIZE, BYTES, DROP, SWAP}
+use Rattle.log_record.specs.Grammar.{◌>>=◌, fits, u32, u64, effect_bytes, record_bytes, byte_at, run_at, name_at, number_at, make_at, enter_at, leave_at, names_at, size_at, bytes_at, dropped_at, swap_at, fields_at, effect_at, effects_at, header_at, record_at, record_of}
 use Rattle.file_graph.specs.Kinds.{kind_byte, kind_field}
 use Rattle.log_record.proofs.Fields.{bind_some, chosen, test_some, some_is}
 use Rattle.log_record.proofs.Lengths.{length-u32, length-u64}
@@ -42,6 +42,12 @@ run_long n bytes x e =
     let g = test_some (leb n (length bytes)) (take n bytes, drop n bytes) x e in
     let within : n ≤ length bytes = leb-true _ _ g.0 in
     subst (λ (y : List ℕ × List ℕ). (length bytes ≡ n + length y.1) × (length y.0 ≡ n)) g.1 (omega (arith, length-drop n bytes), length-take-le n bytes within)
+
+name_long : (bytes : List ℕ) (x : List ℕ × List ℕ) → name_at bytes ≡ Some x → length bytes ≡ 1 + length x.0 + length x.1
+name_long bytes x e =
+    let a = bind_some (byte_at bytes) (λ n. run_at n.0 n.1) x e in
+    let run = run_long a.0.0 a.0.1 x a.2 in
+    omega (arith, byte_long bytes a.0 a.1, run.0, run.1)
 
 -- ---- effects: the tag is one byte, and the fields are the others
 
@@ -122,15 +128,30 @@ dropped_long bytes x e =
     let made : Effect × List ℕ = (effect.Drop a.0.0, a.0.1) in
     subst (Long bytes) (some_is made x a.2) (omega (arith, number_long 4 bytes a.0 a.1, length-u32 a.0.0))
 
+swap_long : (bytes : List ℕ) (x : Effect × List ℕ) → swap_at bytes ≡ Some x → Long bytes x
+unfolding swap_at
+swap_long bytes x e =
+    let a = bind_some (number_at 4 bytes) (λ d. name_at d.1 >>= λ name. number_at 4 name.1 >>= λ other. name_at other.1 >>= λ behind. Some (effect.Swap d.0 name.0 other.0 behind.0, behind.1)) x e in
+    let b = bind_some (name_at a.0.1) (λ name. number_at 4 name.1 >>= λ other. name_at other.1 >>= λ behind. Some (effect.Swap a.0.0 name.0 other.0 behind.0, behind.1)) x a.2 in
+    let c = bind_some (number_at 4 b.0.1) (λ other. name_at other.1 >>= λ behind. Some (effect.Swap a.0.0 b.0.0 other.0 behind.0, behind.1)) x b.2 in
+    let d = bind_some (name_at c.0.1) (λ behind. Some (effect.Swap a.0.0 b.0.0 c.0.0 behind.0, behind.1)) x c.2 in
+    let last : List ℕ = length d.0.0 ∷ d.0.0 in
+    let made : Effect × List ℕ = (effect.Swap a.0.0 b.0.0 c.0.0 d.0.0, d.0.1) in
+    subst (Long bytes) (some_is made x d.2)
+    (omega (arith, number_long 4 bytes a.0 a.1, name_long a.0.1 b.0 b.1, number_long 4 b.0.1 c.0 c.1, name_long c.0.1 d.0 d.1, length-append (u32 a.0.0) (length b.0.0 ∷ (b.0.0 ++ (u32 c.0.0 ++ last))), length-append b.0.0 (u32 c.0.0 ++ last), length-append (u32 c.0.0) last, length-u32 a.0.0, length-u32 c.0.0))
+
 -- the tags from SIZE on
-later_fields_long : (tag : ℕ) (bytes : List ℕ) (x : Effect × List ℕ) → cond (eqb tag SIZE) (size_at bytes) (cond (eqb tag BYTES) (bytes_at bytes) (cond (eqb tag DROP) (dropped_at bytes) None)) ≡ Some x → Long bytes x
+later_fields_long : (tag : ℕ) (bytes : List ℕ) (x : Effect × List ℕ) → cond (eqb tag SIZE) (size_at bytes) (cond (eqb tag BYTES) (bytes_at bytes) (cond (eqb tag DROP) (dropped_at bytes) (cond (eqb tag SWAP) (swap_at bytes) None))) ≡ Some x → Long bytes x
 later_fields_long tag bytes x e = elim (chosen (eqb tag SIZE) (size_at bytes) _ (Some x) e) [
   | inl w ↦ size_long bytes x w.1
   | inr v ↦ elim (chosen (eqb tag BYTES) (bytes_at bytes) _ (Some x) v.1) [
     | inl w ↦ bytes_long bytes x w.1
-    | inr u ↦ elim (chosen (eqb tag DROP) (dropped_at bytes) None (Some x) u.1) [
+    | inr u ↦ elim (chosen (eqb tag DROP) (dropped_at bytes) _ (Some x) u.1) [
       | inl w ↦ dropped_long bytes x w.1
-      | inr t ↦ absurd (cc t.1)
+      | inr t ↦ elim (chosen (eqb tag SWAP) (swap_at bytes) None (Some x) t.1) [
+        | inl w ↦ swap_long bytes x w.1
+        | inr s ↦ absurd (cc s.1)
+      ]
     ]
   ]
 ]

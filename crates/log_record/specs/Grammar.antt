@@ -10,7 +10,7 @@ pub use Rattle.file_graph.specs.Fields.{◌>>=◌, AreBytes, Field, byte_at, run
 unfoldable pub use Rattle.file_graph.specs.Fields.{u32, u64}
 use Rattle.log_record.specs.declared.format.Record.{Record}
 use Rattle.file_graph.specs.Kinds.{kind_byte, kind_field}
-use Rattle.log_record.specs.declared.format.TheConstants.{MAX_EFFECTS, MAKE, ENTER, LEAVE, NAMES, SIZE, BYTES, DROP}
+use Rattle.log_record.specs.declared.format.TheConstants.{MAX_EFFECTS, MAKE, ENTER, LEAVE, NAMES, SIZE, BYTES, DROP, SWAP}
 
 -- ---- what has a spelling
 
@@ -27,6 +27,7 @@ FitsLimits (effect.Names i n) = IsInode i × (n ≤ MAX_NAMES)
 FitsLimits (effect.Size i size) = IsInode i × (size ≤ MAX_FILE)
 FitsLimits (effect.Bytes i at new) = IsInode i × (1 ≤ length new) × (length new ≤ MAX_TRANSFER) × (at + length new ≤ MAX_FILE)
 FitsLimits (effect.Drop i) = IsInode i
+FitsLimits (effect.Swap d a e b) = IsInode d × (is_name a ≡ true) × IsInode e × (is_name b ≡ true)
 
 -- a record that has a spelling: a u32 of units, and 1 to 8 effects that keep the limits
 pub record IsRecord (r : Record) : Type 0 where
@@ -46,6 +47,7 @@ effect_bytes (effect.Names i n) = NAMES ∷ (u32 i ++ u32 n)
 effect_bytes (effect.Size i size) = SIZE ∷ (u32 i ++ u64 size)
 effect_bytes (effect.Bytes i at new) = BYTES ∷ (u32 i ++ (u64 at ++ (u32 (length new) ++ new)))
 effect_bytes (effect.Drop i) = DROP ∷ u32 i
+effect_bytes (effect.Swap d a e b) = SWAP ∷ (u32 d ++ (length a ∷ (a ++ (u32 e ++ length b ∷ b))))
 
 -- the units, the count of the effects, and each of them
 abbrev pub record_bytes : Record → List ℕ
@@ -113,11 +115,20 @@ dropped_at bytes = do
   i ← number_at 4 bytes
   Some (effect.Drop i.0, i.1)
 
+-- the fields of a Swap: twice a directory, and a name behind its length
+unfoldable pub swap_at : Field Effect
+swap_at bytes = do
+  d ← number_at 4 bytes
+  a ← name_at d.1
+  e ← number_at 4 a.1
+  b ← name_at e.1
+  Some (effect.Swap d.0 a.0 e.0 b.0, b.1)
+
 -- a tag, and the fields of its effect; another tag is none
 unfoldable pub fields_at : Field Effect
 fields_at bytes = do
   tag ← byte_at bytes
-  if tag.0 == MAKE then make_at tag.1 else (if tag.0 == ENTER then enter_at tag.1 else (if tag.0 == LEAVE then leave_at tag.1 else (if tag.0 == NAMES then names_at tag.1 else (if tag.0 == SIZE then size_at tag.1 else (if tag.0 == BYTES then bytes_at tag.1 else (if tag.0 == DROP then dropped_at tag.1 else None))))))
+  if tag.0 == MAKE then make_at tag.1 else (if tag.0 == ENTER then enter_at tag.1 else (if tag.0 == LEAVE then leave_at tag.1 else (if tag.0 == NAMES then names_at tag.1 else (if tag.0 == SIZE then size_at tag.1 else (if tag.0 == BYTES then bytes_at tag.1 else (if tag.0 == DROP then dropped_at tag.1 else (if tag.0 == SWAP then swap_at tag.1 else None)))))))
 
 -- whether n bytes from an offset on are a write within the greatest file
 abbrev pub is_write : ℕ → ℕ → Bool
@@ -132,6 +143,7 @@ fits (effect.Names i n) = is_inode i && nat_le n MAX_NAMES
 fits (effect.Size i size) = is_inode i && nat_le size MAX_FILE
 fits (effect.Bytes i at new) = is_inode i && is_write at (length new)
 fits (effect.Drop i) = is_inode i
+fits (effect.Swap d a e b) = is_inode d && is_name a && is_inode e && is_name b
 
 -- an effect that keeps the limits
 unfoldable pub effect_at : Field Effect

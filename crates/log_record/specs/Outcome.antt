@@ -16,6 +16,7 @@ owned_effect (lent.Names i n) = effect.Names i n
 owned_effect (lent.Size i size) = effect.Size i size
 owned_effect (lent.Bytes i at new) = effect.Bytes i at new.now
 owned_effect (lent.Drop i) = effect.Drop i
+owned_effect (lent.Swap d a e b) = effect.Swap d a.now e b.now
 
 -- no record only where none is read; a want of memory stands in place of any answer
 abbrev pub Fails : {Y : Type 0} → RecordError → Option Y → Type 0

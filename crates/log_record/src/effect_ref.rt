@@ -1,4 +1,7 @@
-ghost use Rattle.std.specs.Prelude.{◌≡◌, [], ◌∷◌, if◌then◌else◌};
+ghost use Rattle.std.specs.Prelude.{◌≡◌, true, if◌then◌else◌};
+ghost use Rattle.posix_calls.specs.Name.{is_name};
+ghost use Rattle.file_graph.specs.Subject.{one_or_two};
+ghost use Rattle.file_graph.specs.declared.effect.Effect.TheVariants as effect;
 ghost use Rattle.file_graph.specs.Graph.{subjects};
 ghost use Rattle.log_record.specs.Outcome.{Gives, owned_effect};
 ghost use Rattle.log_record.specs.Grammar.{fits, is_write};
@@ -41,6 +44,12 @@ pub enum EffectRef<'a> {
     Drop {
         inode: u32,
     },
+    Swap {
+        directory: u32,
+        name: &'a [u8],
+        other: u32,
+        other_name: &'a [u8],
+    },
 }
 
 impl EffectRef<'_> {
@@ -61,21 +70,37 @@ impl EffectRef<'_> {
             EffectRef::Size { inode, size } => is_inode(inode) && size <= MAX_FILE,
             EffectRef::Bytes { inode, at, bytes } => is_inode(inode) && is_write(at, bytes.len()),
             EffectRef::Drop { inode } => is_inode(inode),
+            EffectRef::Swap {
+                directory,
+                name,
+                other,
+                other_name,
+            } => {
+                is_inode(directory)
+                    && Name::is_valid(name)
+                    && is_inode(other)
+                    && Name::is_valid(other_name)
+            }
         }
     }
 
-    /// The inode that it changes.
-    pub fn subject(&self) -> u32
-        ensures { subjects (owned_effect self.now) ≡ result ∷ [] }
+    /// The inodes that it changes: one, or the two directories of a Swap.
+    pub fn subjects(&self) -> (u32, Option<u32>)
+        ensures { subjects (owned_effect self.now) ≡ one_or_two result.0 result.1 }
     {
         match *self {
-            EffectRef::Make { inode, .. } => inode,
-            EffectRef::Enter { directory, .. } => directory,
-            EffectRef::Leave { directory, .. } => directory,
-            EffectRef::Names { inode, .. } => inode,
-            EffectRef::Size { inode, .. } => inode,
-            EffectRef::Bytes { inode, .. } => inode,
-            EffectRef::Drop { inode } => inode,
+            EffectRef::Make { inode, .. } => (inode, None),
+            EffectRef::Enter { directory, .. } => (directory, None),
+            EffectRef::Leave { directory, .. } => (directory, None),
+            EffectRef::Names { inode, .. } => (inode, None),
+            EffectRef::Size { inode, .. } => (inode, None),
+            EffectRef::Bytes { inode, .. } => (inode, None),
+            EffectRef::Drop { inode } => (inode, None),
+            EffectRef::Swap {
+                directory,
+                other,
+                ..
+            } => (directory, Some(other)),
         }
     }
 
@@ -113,7 +138,46 @@ impl EffectRef<'_> {
                 Ok(Effect::Bytes { inode, at, bytes })
             }
             EffectRef::Drop { inode } => Ok(Effect::Drop { inode }),
+            EffectRef::Swap {
+                directory,
+                name,
+                other,
+                other_name,
+            } => own_swap(alloc, directory, name, other, other_name),
         }
+    }
+}
+
+// A Swap with copies of its names.
+fn own_swap(
+    alloc: Global,
+    directory: u32,
+    name: &[u8],
+    other: u32,
+    other_name: &[u8],
+) -> Result<Effect, RecordError>
+    requires name { is_name name.now ≡ true }
+    requires other_name { is_name other_name.now ≡ true }
+    ensures { Gives (λ e. e) result (Some (effect.Swap directory name.now other other_name.now)) }
+{
+    let name = own_name(alloc, name)?;
+    let other_name = own_name(alloc, other_name)?;
+    Ok(Effect::Swap {
+        directory,
+        name,
+        other,
+        other_name,
+    })
+}
+
+// A copy of a name.
+fn own_name(alloc: Global, name: &[u8]) -> Result<Name, RecordError>
+    requires { is_name name.now ≡ true }
+    ensures { Gives (λ owned. owned) result (Some name.now) }
+{
+    match Name::from_vec(name.to_vec(alloc)?) {
+        Ok(name) => Ok(name),
+        Err(_) => Err(RecordError::NoRecord),
     }
 }
 
@@ -155,6 +219,17 @@ pub fn lend(effect: &Effect) -> EffectRef<'_>
             bytes: bytes.as_slice(),
         },
         Effect::Drop { inode } => EffectRef::Drop { inode: *inode },
+        Effect::Swap {
+            directory,
+            name,
+            other,
+            other_name,
+        } => EffectRef::Swap {
+            directory: *directory,
+            name: name.as_slice(),
+            other: *other,
+            other_name: other_name.as_slice(),
+        },
     }
 }
 

@@ -29,6 +29,9 @@ pub const BYTES: u8 = 6;
 /// The byte that a Drop begins with.
 pub const DROP: u8 = 7;
 
+/// The byte that a Swap begins with.
+pub const SWAP: u8 = 8;
+
 /// What a client's call changes, as its log keeps it.
 #[derive(Debug, Drop)]
 pub struct Record {

@@ -1,10 +1,10 @@
 ghost use Rattle.std.specs.Prelude.{◌≡◌, ◌≤◌, IfOk, IfSome, drop, option_map, is_some, true};
 ghost use Rattle.log_record.specs.Outcome.{Gives, owned_effect};
-ghost use Rattle.log_record.specs.Grammar.{Begins, NoneBegins, IsRecord, record_bytes, make_at, name_at, enter_at, leave_at, names_at, size_at, bytes_at, dropped_at, fields_at, effect_at, effects_at, header_at, record_at, record_of};
+ghost use Rattle.log_record.specs.Grammar.{Begins, NoneBegins, IsRecord, record_bytes, make_at, name_at, enter_at, leave_at, names_at, size_at, bytes_at, dropped_at, swap_at, fields_at, effect_at, effects_at, header_at, record_at, record_of};
 
 use crate::effect_ref::EffectRef;
 use crate::format::{
-    BYTES, DROP, ENTER, LEAVE, MAKE, MAX_EFFECTS, NAMES, Record, RecordError, SIZE,
+    BYTES, DROP, ENTER, LEAVE, MAKE, MAX_EFFECTS, NAMES, Record, RecordError, SIZE, SWAP,
 };
 use file_graph::{Effect, Effects, byte_of, read_kind, run_of, u32_of, u64_of};
 use std::alloc::Global;
@@ -92,6 +92,25 @@ fn drop_of(bytes: &[u8]) -> Option<(EffectRef<'_>, &[u8])>
 }
 
 // The tag of an effect and its fields, whether or not they keep the limits.
+#[tactic(auto, unfolding(crate::specs::Grammar::swap_at))]
+fn swap_of(bytes: &[u8]) -> Option<(EffectRef<'_>, &[u8])>
+    ensures { option_map (λ x. (owned_effect x.0, x.1.now)) result ≡ swap_at bytes.now }
+{
+    let (directory, rest) = u32_of(bytes)?;
+    let (name, rest) = name_of(rest)?;
+    let (other, rest) = u32_of(rest)?;
+    let (other_name, rest) = name_of(rest)?;
+    Some((
+        EffectRef::Swap {
+            directory,
+            name,
+            other,
+            other_name,
+        },
+        rest,
+    ))
+}
+
 #[tactic(auto, unfolding(crate::specs::Grammar::fields_at))]
 pub(crate) fn fields_of(bytes: &[u8]) -> Option<(EffectRef<'_>, &[u8])>
     ensures { option_map (λ x. (owned_effect x.0, x.1.now)) result ≡ fields_at bytes.now }
@@ -105,6 +124,7 @@ pub(crate) fn fields_of(bytes: &[u8]) -> Option<(EffectRef<'_>, &[u8])>
         SIZE => resize_of(rest),
         BYTES => write_of(rest),
         DROP => drop_of(rest),
+        SWAP => swap_of(rest),
         _ => None,
     }
 }

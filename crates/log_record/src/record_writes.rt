@@ -5,7 +5,7 @@ ghost use Rattle.log_record.specs.Grammar.{u32 as bytes_4, u64 as bytes_8, effec
 ghost use Rattle.file_graph.specs.Kinds.{kind_byte};
 
 use crate::effect_ref::lend;
-use crate::format::{BYTES, DROP, ENTER, LEAVE, MAKE, MAX_EFFECTS, NAMES, Record, SIZE};
+use crate::format::{BYTES, DROP, ENTER, LEAVE, MAKE, MAX_EFFECTS, NAMES, Record, SIZE, SWAP};
 use byteorder::{ByteOrder, LittleEndian};
 use file_graph::{Effect, Kind, kind_byte};
 use std::alloc::{AllocError, Global};
@@ -61,6 +61,11 @@ fn effect_len(effect: &Effect) -> usize
         Effect::Size { .. } => 13,
         Effect::Bytes { bytes, .. } => 17 + bytes.len(),
         Effect::Drop { .. } => 5,
+        Effect::Swap {
+            name,
+            other_name,
+            ..
+        } => 11 + name.as_slice().len() + other_name.as_slice().len(),
     }
 }
 
@@ -142,6 +147,18 @@ fn push_effect(out: &mut Vec<u8>, effect: &Effect)
         Effect::Size { inode, size } => push_size(out, *inode, *size),
         Effect::Bytes { inode, at, bytes } => push_bytes(out, *inode, *at, bytes.as_slice()),
         Effect::Drop { inode } => push_head(out, DROP, *inode),
+        Effect::Swap {
+            directory,
+            name,
+            other,
+            other_name,
+        } => push_swap(
+            out,
+            *directory,
+            name.as_slice(),
+            *other,
+            other_name.as_slice(),
+        ),
     }
 }
 
@@ -180,6 +197,21 @@ fn push_leave(out: &mut Vec<u8>, directory: u32, name: &[u8])
 {
     push_head(out, LEAVE, directory);
     push_name(out, name);
+}
+
+#[tactic(auto, using(std::proofs::lemmas::List::append_assoc))]
+fn push_swap(out: &mut Vec<u8>, directory: u32, name: &[u8], other: u32, other_name: &[u8])
+    requires short { length name.now ≤ 64 }
+    requires other_short { length other_name.now ≤ 64 }
+    requires room { vec_len out.old + (11 + length name.now + length other_name.now) ≤ vec_capacity out.old }
+    ensures written { out.new.items ≡ out.old.items ++ effect_bytes (effect.Swap directory name.now other other_name.now) }
+    ensures len { vec_len out.new ≡ vec_len out.old + (11 + length name.now + length other_name.now) }
+    ensures capacity { vec_capacity out.old ≤ vec_capacity out.new }
+{
+    push_head(out, SWAP, directory);
+    push_name(out, name);
+    push_u32(out, other);
+    push_name(out, other_name);
 }
 
 #[tactic(auto, using(std::proofs::lemmas::List::append_assoc))]

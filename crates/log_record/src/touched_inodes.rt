@@ -1,5 +1,6 @@
 // Which inodes a record touches, read without its names and bytes.
-ghost use Rattle.std.specs.Prelude.{◌≡◌, ◌++◌, ◌∷◌, ◌<◌, ◌≤◌, [], length, option_map};
+ghost use Rattle.std.specs.Prelude.{◌≡◌, ◌++◌, ◌∷◌, ◌<◌, ◌≤◌, ◌+◌, ◌*◌, [], length, option_map};
+ghost use Rattle.file_graph.specs.Subject.{one_or_two};
 ghost use Rattle.log_record.specs.Grammar.{effect_at, effects_at, record_at, record_of};
 ghost use Rattle.log_record.specs.Touches.{found_in_effect, found_in_effects, found_in_record, inodes_of};
 
@@ -7,9 +8,10 @@ use crate::format::MAX_EFFECTS;
 use crate::record_reads::{fields_of, header_of};
 use std::marker::Model;
 
-const MOST: usize = MAX_EFFECTS as usize;
+// At most two for each effect.
+const MOST: usize = 2 * MAX_EFFECTS as usize;
 
-/// The inodes that a record touches, one for each of its effects, in their order.
+/// The inodes that a record touches, one for each of its effects, and two for a Swap, in their order.
 #[derive(Drop)]
 pub struct TouchedInodes {
     count: usize,
@@ -23,7 +25,7 @@ impl Model for TouchedInodes {
 
     ghost view = { λ t. take t.count t.inodes };
 
-    ghost invariant = { λ t. t.count ≤ 8 };
+    ghost invariant = { λ t. t.count ≤ 16 };
 }
 
 impl TouchedInodes {
@@ -39,11 +41,22 @@ impl TouchedInodes {
 
     // One more.
     fn push(&mut self, inode: u32)
-        requires { length self.old < MAX_EFFECTS }
+        requires { length self.old < 2 * MAX_EFFECTS }
         ensures { self.new ≡ self.old ++ inode ∷ [] }
     {
         self.inodes[self.count] = inode;
         self.count += 1;
+    }
+
+    // One more, or two.
+    fn push_both(&mut self, inode: u32, other: Option<u32>)
+        requires { length self.old + 2 ≤ 2 * MAX_EFFECTS }
+        ensures { self.new ≡ self.old ++ one_or_two inode other }
+    {
+        self.push(inode);
+        if let Some(other) = other {
+            self.push(other);
+        }
     }
 
     /// The inodes.
@@ -54,16 +67,16 @@ impl TouchedInodes {
     }
 }
 
-// The inode that the effect at the front touches.
+// The inodes that the effect at the front touches: one, or two.
 #[tactic(auto, unfolding(crate::specs::Grammar::effect_at))]
-fn subject_of(bytes: &[u8]) -> Option<(u32, &[u8])>
-    ensures { option_map (λ x. (x.0 ∷ [], x.1.now)) result ≡ found_in_effect (effect_at bytes.now) }
+fn effect_subjects(bytes: &[u8]) -> Option<((u32, Option<u32>), &[u8])>
+    ensures { option_map (λ x. (one_or_two x.0.0 x.0.1, x.1.now)) result ≡ found_in_effect (effect_at bytes.now) }
 {
     let (effect, rest) = fields_of(bytes)?;
     if !effect.fits() {
         return None;
     }
-    Some((effect.subject(), rest))
+    Some((effect.subjects(), rest))
 }
 
 // Those that this number of effects touches.
@@ -74,8 +87,8 @@ fn subjects_of(count: u8, bytes: &[u8]) -> Option<(TouchedInodes, &[u8])>
     let mut found = TouchedInodes::none();
     let mut rest = bytes;
     for _ in 0..count {
-        let (inode, after) = subject_of(rest)?;
-        found.push(inode);
+        let ((inode, other), after) = effect_subjects(rest)?;
+        found.push_both(inode, other);
         rest = after;
     }
     Some((found, rest))

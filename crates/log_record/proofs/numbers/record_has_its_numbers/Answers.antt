@@ -34,6 +34,14 @@ pub returns-clause-drop : goal.returns-clause-drop
 unfolding u32 u64
 returns-clause-drop c = refl
 
+pub returns-clause-swap : goal.returns-clause-swap
+unfolding u32 u64
+returns-clause-swap c = refl
+
+pub returns-clause-record_of_a_swap : goal.returns-clause-record_of_a_swap
+unfolding u32 u64
+returns-clause-record_of_a_swap c = refl
+
 pub returns-clause-record_of_two : goal.returns-clause-record_of_two
 unfolding u32 u64
 returns-clause-record_of_two c = refl

@@ -22,3 +22,7 @@ push_bytes-requires-clause-room c = omega (arith, c.requires.room, length-effect
 
 pub push_head-requires : goal.push_head-requires
 push_head-requires c = omega (arith, c.requires.room, length-effect_bytes c.args.effect.now, ap effect_size c.in-Drop.is)
+
+pub push_swap-requires-clause-room : goal.push_swap-requires-clause-room
+push_swap-requires-clause-room c =
+    omega (arith, c.requires.room, length-effect_bytes c.args.effect.now, ap effect_size c.in-Swap.is, ap length c.as_slice-in-Swap.ensures.bytes, ap length c.as_slice-in-Swap-2.ensures.bytes)
