@@ -6,7 +6,7 @@ use Rattle.std.proofs.lemmas.Bool.Decides.{eqb_tells}
 use Rattle.std.specs.FinMap as fin
 use Rattle.posix_calls.specs.Content.{Entries}
 use Rattle.posix_calls.specs.Tree.{Descriptors, State, is_open, any_up_to, names_of}
-use Rattle.posix_calls.specs.Run.{settled, settled_tree}
+use Rattle.posix_calls.specs.Run.{settled, settled_tree, without_client, used_tree, left_with}
 use Rattle.posix_calls.specs.WellFormed.{IsWellFormed, IsWithinLimits}
 use Rattle.posix_calls.specs.Tree as tree
 use Rattle.posix_calls.specs.declared.descriptor.Descriptor.{Descriptor}
@@ -17,7 +17,7 @@ use Rattle.log_record.specs.file_graph.Graph.{Graph, Node, FileBody, DirBody}
 use Rattle.log_record.specs.file_graph.declared.effect.Kind.{Kind}
 use Rattle.log_record.specs.file_graph.declared.effect.Kind.TheVariants as kind
 use Rattle.call_effects.specs.Effects.{stored_count}
-use Rattle.call_effects.specs.ClosedGraph.{nobody, settled_graph, without_client, IsFewer, used_tree, left_with}
+use Rattle.call_effects.specs.ClosedGraph.{nobody, settled_graph, IsFewer}
 use Rattle.call_effects.specs.Wholes.{IsSound, state_of, tree_of, tree_node, keep, reachable_graph, kind_of, body_kind, one_if}
 use Rattle.call_effects.proofs.Changes.{fair_of, file, dir, named, has_name}
 use Rattle.call_effects.proofs.Facts.{dir_of_kind, file_of_kind}

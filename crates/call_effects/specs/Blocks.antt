@@ -55,6 +55,7 @@ block_acted (effect.Names i n) b old = old
 block_acted (effect.Size i size) b old = option_map (block_resized size b) old
 block_acted (effect.Bytes i at new) b old = option_map (block_written at new b) old
 block_acted (effect.Drop i) b old = None
+block_acted (effect.Swap d a e n) b old = old
 
 -- a known block of an inode after effects, one after the other
 abbrev pub block_after : List Effect → ℕ → ℕ → Option (List ℕ) → Option (List ℕ)

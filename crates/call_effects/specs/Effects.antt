@@ -2,7 +2,7 @@
 use Rattle.std.specs.Prelude.{ℕ, ◌+◌, ◌-◌, List, [], ◌∷◌, ◌++◌, Bool, true, false, Option, Some, None, if◌then◌else◌}
 use Rattle.posix_calls.specs.declared.operation.Location.{Location}
 use Rattle.posix_calls.specs.declared.operation.Operation.{Operation}
-use Rattle.posix_calls.specs.declared.operation.Operation.TheVariants.{Tell, NewDir, NewFile, OpenFile, CloseFile, Write, Resize, RemoveDir, AddName, DropName, Move}
+use Rattle.posix_calls.specs.declared.operation.Operation.TheVariants.{Tell, NewDir, NewFile, OpenFile, CloseFile, Write, Resize, RemoveDir, AddName, DropName, Move, Exchange}
 use Rattle.posix_calls.specs.declared.operation.Replaced.{Replaced}
 use Rattle.posix_calls.specs.declared.operation.Replaced.TheVariants.{Nothing, OldFile, OldDir}
 use Rattle.log_record.specs.file_graph.Graph.{Graph, Node}
@@ -65,6 +65,7 @@ effects_by names new (RemoveDir at i) = remove_effects at i
 effects_by names new (AddName at i) = effect.Enter at.parent i kind.File at.name ∷ effect.Names i (names + 1) ∷ []
 effects_by names new (DropName at i) = drop_effects at i names
 effects_by names new (Move from to i is_dir replaced) = clear_effects names to replaced ++ (effect.Leave from.parent from.name ∷ effect.Enter to.parent i (kind_if is_dir) to.name ∷ [])
+effects_by names new (Exchange first second i j) = effect.Swap first.parent first.name second.parent second.name ∷ []
 
 -- the count of names that a file has stored, if there is one to ask for
 abbrev pub stored_at : Graph → Option ℕ → ℕ

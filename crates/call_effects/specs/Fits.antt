@@ -8,7 +8,7 @@ use Rattle.posix_calls.specs.Resolve.{resolve}
 use Rattle.posix_calls.specs.declared.limits.TheConstants.{ROOT, MAX_INODE, MAX_DESCRIPTORS}
 use Rattle.posix_calls.specs.declared.operation.Location.{Location}
 use Rattle.posix_calls.specs.declared.operation.Operation.{Operation}
-use Rattle.posix_calls.specs.declared.operation.Operation.TheVariants.{Tell, NewDir, NewFile, OpenFile, CloseFile, Write, Resize, RemoveDir, AddName, DropName, Move}
+use Rattle.posix_calls.specs.declared.operation.Operation.TheVariants.{Tell, NewDir, NewFile, OpenFile, CloseFile, Write, Resize, RemoveDir, AddName, DropName, Move, Exchange}
 use Rattle.posix_calls.specs.declared.operation.Replaced.{Replaced}
 use Rattle.posix_calls.specs.declared.operation.Replaced.TheVariants.{Nothing, OldFile, OldDir}
 use Rattle.log_record.specs.file_graph.Graph.{Graph, FileBody, DirBody}
@@ -69,6 +69,16 @@ pub record IsClear (t : Tree) (other i : ℕ) : Type 0 where
   pub path : List (List ℕ)
   pub leads : resolve (set_node t other None) path ≡ Ok i
 
+-- two names of two nodes, of whatever kinds, of which neither is above the directory of the other's name
+pub record ExchangeFits (g : Graph) (held : Descriptors) (first second : Location) (i j : ℕ) : Type 0 where
+  pub apart : i ≢ j
+  pub one : Kind
+  pub two : Kind
+  pub first_is : IsEntry g first (i, one)
+  pub second_is : IsEntry g second (j, two)
+  pub clear_first : IsClear ((state_of g held).tree) j first.parent
+  pub clear_second : IsClear ((state_of g held).tree) i second.parent
+
 -- a number of a descriptor at which nothing is open
 pub record IsNumber (own : Own) (number : ℕ) : Type 0 where
   pub low : number < MAX_DESCRIPTORS
@@ -93,3 +103,4 @@ OperationFits g held own (RemoveDir at i) = IsEntry g at (i, kind.Directory) × 
 OperationFits g held own (AddName at i) = IsRoom g at × IsUsedFile g held i
 OperationFits g held own (DropName at i) = IsEntry g at (i, kind.File) × IsUsedFile g held i
 OperationFits g held own (Move from to i is_dir replaced) = IsEntry g from (i, kind_if is_dir) × IsClear ((state_of g held).tree) i to.parent × FitsReplaced g held to i replaced
+OperationFits g held own (Exchange first second i j) = ExchangeFits g held first second i j

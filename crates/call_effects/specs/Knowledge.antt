@@ -21,6 +21,7 @@ use Rattle.log_record.specs.file_graph.declared.effect.Kind.TheVariants as kind
 use Rattle.log_record.specs.file_graph.declared.effect.Effect.{Effect}
 use Rattle.call_effects.specs.Blocks.{block_at, block_after, range_by}
 use Rattle.call_effects.specs.Fits.{IsNew}
+use Rattle.call_effects.specs.KnownCopies.{known_after}
 use Rattle.call_effects.specs.NodeView.{NodeView, FileView, DirView, view_at, view_seen, view_is_dir, view_after}
 use Rattle.call_effects.specs.Records.{effects_asked}
 use Rattle.call_effects.specs.Wholes.{node_is_dir, node_seen, node_bytes}
@@ -188,7 +189,7 @@ abbrev pub knows_after : Knowledge → ℕ → Operation → List Effect → Kno
 knows_after k new operation es = record {
   client = k.client;
   own = own_after new k.own operation;
-  copies = λ i. option_map (view_after es i) (k.copies i);
+  copies = known_after es k.copies;
   blocks = λ i b. block_after es i b (k.blocks i b);
   granted = λ i. k.granted i && not (makes operation && i == new);
 }

@@ -3,6 +3,7 @@ pub mod Calls
 pub mod ChangeTest
 pub mod Effects
 pub mod Fits
+pub mod KnownCopies
 pub mod Knowledge
 pub mod NodeView
 pub mod RecordEffects

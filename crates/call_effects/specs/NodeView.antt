@@ -38,6 +38,12 @@ abbrev pub view_is_dir : NodeView → Bool
 view_is_dir (FileView names size) = false
 view_is_dir (DirView names entries) = true
 
+-- the entries of what is seen at an inode; what is no directory has none
+abbrev pub view_entries : Option NodeView → Entries (ℕ × Kind)
+view_entries None = fin.empty
+view_entries (Some (FileView names size)) = fin.empty
+view_entries (Some (DirView names entries)) = entries
+
 -- ---- what effects make of a view
 
 -- a new node of a kind
@@ -60,7 +66,7 @@ abbrev pub with_names : ℕ → NodeView → NodeView
 with_names n (FileView names size) = FileView n size
 with_names n (DirView names entries) = DirView n entries
 
--- what an effect makes of the view of a subject
+-- what an effect makes of the view of a subject by what is seen there alone; what a Swap does depends on two
 abbrev pub view_acted : Effect → Option NodeView → Option NodeView
 view_acted (effect.Make i k) old = Some (empty_view k)
 view_acted (effect.Enter d i k name) old = option_map (in_entries (λ es. fin.insert es name (i, k))) old
@@ -69,6 +75,7 @@ view_acted (effect.Names i n) old = option_map (with_names n) old
 view_acted (effect.Size i size) old = option_map (in_size (λ _. size)) old
 view_acted (effect.Bytes i at new) old = option_map (in_size (λ size. max size (at + length new))) old
 view_acted (effect.Drop i) old = None
+view_acted (effect.Swap d a e b) old = old
 
 -- the view of an inode after effects, one after the other
 abbrev pub view_after : List Effect → ℕ → Option NodeView → Option NodeView

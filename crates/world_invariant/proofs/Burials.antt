@@ -8,12 +8,14 @@ use Rattle.posix_calls.specs.declared.descriptor.Descriptor.{Descriptor}
 use Rattle.posix_calls.proofs.Sums.{same_if, there_if}
 use Rattle.call_effects.specs.file_graph.Graph.{Graph}
 use Rattle.call_effects.specs.file_graph.Units.{charge}
-use Rattle.call_effects.specs.ClosedGraph.{without_client}
+use Rattle.posix_calls.specs.Run.{without_client, departed}
 use Rattle.call_effects.specs.Wholes.{IsSound, state_of}
+use Rattle.call_effects.proofs.Settled.{fewer_state, without_fewer}
 use Rattle.call_effects.specs.Knowledge.{Agrees}
 use Rattle.world_invariant.specs.World.{Region, Wiped, Away, Status, Alive, Settled, Buried, Client, Account, World, undigested_records, log_of, whole_graph, held_descriptors, world_state, at, moved_world}
 use Rattle.world_invariant.specs.Invariant.{IsCoherent}
 use Rattle.world_invariant.specs.FormatWorld.{knows_nothing, idle_client, idle_account}
+use Rattle.world_invariant.specs.ClientSteps.{with_client}
 use Rattle.world_invariant.specs.ClientParts.{IsSoundPart, is_settled}
 use Rattle.world_invariant.specs.Burial.{CanDepart, after_departure, CanBury, client_buried, CanJoin, client_joined}
 use Rattle.world_invariant.proofs.Idle.{none_some, idle_stands, nothing_left}
@@ -109,8 +111,10 @@ module _ (w : World) (c : ℕ) (h : IsCoherent w) (can : CanDepart w c) where
       (both_same (λ g o. Agrees leaver.knows g o) whole_stays held_is itself)
       (λ d is_d other. both_same (λ g o. Agrees (w.clients d).knows g o) whole_stays held_is (others d is_d other))
 
-  pub departed_tree : world_state (after_departure w c) ≡ state_of (whole_graph w) (without_client (held_descriptors w) c)
-  departed_tree = ap (λ g. state_of g (held_descriptors (after_departure w c))) whole_stays ∙ ap (λ o. state_of (whole_graph w) o) held_is
+  pub departed_tree : world_state (after_departure w c) ≡ departed (world_state w) c
+  departed_tree =
+      ap (λ g. state_of g (held_descriptors (after_departure w c))) whole_stays ∙ ap (λ o. state_of (whole_graph w) o) held_is
+      ∙ fewer_state (whole_graph w) (held_descriptors w) h.sound (without_client (held_descriptors w) c) (without_fewer (held_descriptors w) c)
 
 -- ---- nothing is left of a client but its mark and where its regions are
 
@@ -206,3 +210,62 @@ joined_client w c = there_if c (idle_client c (w.kernel.accounts c).mark) (w.cli
 pub joined_kernel : (w : World) (c : ℕ) → w.kernel.accounts c ≡ idle_account (w.kernel.accounts c).mark → (client_joined w c).kernel ≡ w.kernel
 joined_kernel w c empty = ap (λ (accounts : ℕ → Account). record { shared = w.kernel.shared; capacity = w.kernel.capacity; accounts = accounts })
     (ap (λ a. at w.kernel.accounts c a) (sym empty) ∙ at_same w.kernel.accounts c)
+
+-- ---- the seat taken, with the account as it is
+
+module _ (w : World) (c : ℕ) (h : IsCoherent w) (can : CanJoin w c) where
+  abbrev its_account : Account
+  its_account = w.kernel.accounts c
+
+  abbrev new_part : Client
+  new_part = idle_client c its_account.mark
+
+  new_stands : IsSoundPart w.kernel.shared its_account c new_part
+  new_stands = let idle = idle_stands w.kernel.shared c its_account.mark in record {
+    number = idle.number;
+    rests = idle.rests;
+    marked = idle.marked;
+    starts = idle.starts;
+    logged = idle.logged;
+    units = let none = idle.units in omega (arith, none);
+    numbered = record {
+      made = λ i e. absurd (false≢true (idle.numbered.made i e));
+      once = idle.numbered.once;
+      granted = λ i e. absurd (false≢true e);
+      unused = λ i e. absurd (false≢true e);
+    };
+    leased = idle.leased;
+    pinned = record { opened = λ n o e. none_some o e; booked = λ i e. absurd (false≢true e) };
+    pending = λ b e. none_some b e;
+  }
+
+  was_closed : (n : ℕ) → (w.clients c).knows.own n ≡ None
+  was_closed n = (h.stands c can.client).rests.closed (ap is_settled can.buried) n
+
+  now_known : Agrees (knows_nothing c) (whole_graph w) (held_descriptors w)
+  now_known = record {
+    client = can.client;
+    own = λ n. ap (λ b. cond b ((w.clients c).knows.own n) None) can.client ∙ was_closed n;
+    back = whole_graph w;
+    put_back = λ i. inl refl;
+    copies = λ i copy e. none_some copy e;
+    blocks = λ i b bytes e. none_some bytes e;
+    granted = λ i e. absurd (false≢true e);
+  }
+
+  no_log : undigested_records its_account new_part ≡ log_of w c
+  no_log = nothing_left (its_account.mark - its_account.mark) ∙ sym can.digested
+
+  still_closed : new_part.knows.own ≡ (w.clients c).knows.own
+  still_closed = λ t n. sym (was_closed n) t
+
+  pub seated_holds : IsCoherent (with_client w c new_part)
+  seated_holds = quiet w c w.kernel.shared its_account new_part h can.client refl no_log still_closed
+      (booked_same w c new_part h can.client)
+      new_stands
+      (λ d is_d off i e. absurd (false≢true e))
+      (λ d is_d off i e. refl)
+      now_known
+
+  pub seated_tree : world_state (with_client w c new_part) ≡ world_state w
+  seated_tree = tree_same w c w.kernel.shared its_account new_part no_log refl still_closed

@@ -70,7 +70,7 @@ module _ (w : World) (h : IsCoherent w) where
   apart_logs = apart_less (all_of w) (log_of w) (λ d i is_d e. front_written i (log_of w d) (change_of (w.clients d).begun) e) apart_all
 
   pub owned : (c i : ℕ) → is_client c ≡ true → has_lease (w.clients c) i ≡ true → IsOwner (log_of w) c i
-  owned c i is_c has = record { client = is_c; others = λ d is_d other. still_false (is_written i (all_of w d)) (is_written i (log_of w d)) (λ e. front_written i (log_of w d) (change_of (w.clients d).begun) e) (held_alone c d i is_c is_d other has) }
+  owned c i is_c has = record { client = is_c; others = λ d is_d other. still_false (is_written i (all_of w d)) (is_written i (log_of w d)) (λ e. front_written i (log_of w d) (change_of (w.clients d).begun) e) (held_alone c d i is_c is_d other has); own = λ j at d is_d other. apart_logs c d j is_c is_d other at }
 
   -- the whole is within the limits
   pub whole_within : AreWithin (whole_graph w)

@@ -30,6 +30,7 @@ pub mod Machines
 pub mod Migrations
 pub mod Orders
 pub mod Burials
+pub mod Settling
 pub mod Parts
 pub mod Alone
 pub mod AloneRegions

@@ -9,7 +9,7 @@ use Rattle.world_invariant.specs.World.{Client, Account, World, log_of, at}
 use Rattle.world_invariant.specs.Invariant.{IsCoherent}
 use Rattle.world_invariant.specs.KernelSteps.{CanDigest, records_digested}
 use Rattle.world_invariant.specs.Machine.{account_after}
-use Rattle.world_invariant.proofs.Records.{either, still_false, records_alone, records_stay, front_written}
+use Rattle.world_invariant.proofs.Records.{either, both, still_false, records_same, records_stay, front_written}
 use Rattle.world_invariant.proofs.Owners.{ended_whole}
 use Rattle.world_invariant.proofs.Idle.{no_records}
 use Rattle.world_invariant.proofs.Facts.{apart_logs}
@@ -25,9 +25,12 @@ orders_same logs g cs apart order = λ t i. at i t
 -- records that write no inode in common
 apart_commute : (g : Graph) (rs ss : List Record) → ((i : ℕ) → is_written i rs ≡ true → is_written i ss ≡ false) → (i : ℕ) → after_records (after_records g rs) ss i ≡ after_records (after_records g ss) rs i
 apart_commute g rs ss apart i = elim (either (is_written i rs)) [
-  | inl there ↦ records_stay (after_records g rs) ss i (apart i there) ∙ sym (records_alone (after_records g ss) g rs i (records_stay g ss i (apart i there)))
-  | inr off ↦ records_alone (after_records g rs) g ss i (records_stay g rs i off) ∙ sym (records_stay (after_records g ss) rs i off)
+  | inl there ↦ records_stay (after_records g rs) ss i (apart i there) ∙ sym (records_same (after_records g ss) g rs (λ j at. records_stay g ss j (apart j at)) i (records_stay g ss i (apart i there)))
+  | inr off ↦ records_same (after_records g rs) g ss (λ j at. records_stay g rs j (off_by j at)) i (records_stay g rs i off) ∙ sym (records_stay (after_records g ss) rs i off)
 ]
+  where
+    off_by : (j : ℕ) → is_written j ss ≡ true → is_written j rs ≡ false
+    off_by j at = elim (either (is_written j rs)) [ inl there ↦ both (is_written j ss) at (apart j there) | inr clean ↦ clean ]
 
 -- a change of one client's value, and one of another's
 module _ {A : Type 0} (f : ℕ → A) (c d : ℕ) (u v : A → A) (off : d ≢ c) where

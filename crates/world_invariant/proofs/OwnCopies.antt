@@ -16,7 +16,7 @@ use Rattle.world_invariant.specs.Copies.{HasOwnCopies}
 use Rattle.world_invariant.specs.Invariant.{IsCoherent}
 use Rattle.world_invariant.specs.LeaseSteps.{own_view}
 use Rattle.world_invariant.specs.Machine.{Machine, IsRunning, Sealed, sealed_of, StandsSealed, CanDigestNext, account_after}
-use Rattle.world_invariant.proofs.Records.{either, both, records_alone, records_stay, records_append, front_written}
+use Rattle.world_invariant.proofs.Records.{alike_less, directory_in, in_rest, either, both, records_local, records_same, records_stay, records_append, front_written}
 use Rattle.world_invariant.proofs.Owners.{whole_at}
 use Rattle.world_invariant.proofs.Made.{records_none}
 use Rattle.world_invariant.proofs.Keeping.{through}
@@ -67,19 +67,22 @@ module _ (w : World) (has : (q : WorldPart) → q ≢ WholeKnown → HoldsOfWorl
     | inr clean ↦ clean
   ]
 
+  holds : (j : ℕ) → is_written j (log_of w c) ≡ true → has_lease (w.clients c) j ≡ true
+  holds j at = in_rest ((w.clients c).reads j) ((w.clients c).writes j) (of_each RecordsLeased c is_c j (front_written j (log_of w c) (change_of (w.clients c).begun) at))
+
   pub known_of_own : HasOwnCopies w.kernel.shared (w.kernel.accounts c) (w.clients c) → Agrees (w.clients c).knows (whole_graph w) (held_descriptors w)
   known_of_own t = known_of_copies w has c is_c
       (copies_move (w.clients c).knows (has_lease (w.clients c)) (own_view w c) (whole_graph w) (record { copies = of_each CopiesLeased c is_c; blocks = of_each BlocksLeased c is_c })
-      (λ i e. sym (whole_at (log_of w) w.kernel.shared c i (record { client = is_c; others = λ d is_d off. unwritten i d e is_d off }))) t)
+      (λ i e. sym (whole_at (log_of w) w.kernel.shared c i (record { client = is_c; others = λ d is_d off. unwritten i d e is_d off; own = λ j at d is_d off. unwritten j d (holds j at) is_d off }))) t)
 
 -- ---- steps of the kernel
 
-pub kept_elsewhere : (g h : Graph) (a : Account) (p : Client) → IsLeased (has_lease p) p.knows → ((i : ℕ) → has_lease p i ≡ true → g i ≡ h i) → HasOwnCopies g a p → HasOwnCopies h a p
-kept_elsewhere g h a p leased same t = copies_move p.knows (has_lease p) (after_records g (undigested_records a p)) (after_records h (undigested_records a p)) leased (λ i e. records_alone g h (undigested_records a p) i (same i e)) t
+pub kept_elsewhere : (g h : Graph) (a : Account) (p : Client) → IsLeased (has_lease p) p.knows → ((i : ℕ) → is_written i (undigested_records a p) ≡ true → has_lease p i ≡ true) → ((i : ℕ) → has_lease p i ≡ true → g i ≡ h i) → HasOwnCopies g a p → HasOwnCopies h a p
+kept_elsewhere g h a p leased held same t = copies_move p.knows (has_lease p) (after_records g (undigested_records a p)) (after_records h (undigested_records a p)) leased (λ i e. records_same g h (undigested_records a p) (λ j at. same j (held j at)) i (same i e)) t
 
 pub kept_beside : (m : Machine) (c : ℕ) (s : Sealed) (first rest : List Record) (a : Account) (p : Client) → StandsSealed m.kernel.shared (m.kernel.accounts c) s → CanDigestNext m c s first rest → IsLeased (has_lease p) p.knows
-    → ((i : ℕ) → s.writes i ≡ true → has_lease p i ≡ false) → HasOwnCopies m.kernel.shared a p → HasOwnCopies (after_records m.kernel.shared first) a p
-kept_beside m c s first rest a p stands can leased beside t = kept_elsewhere m.kernel.shared (after_records m.kernel.shared first) a p leased (λ i e. sym (records_stay m.kernel.shared first i (clean i e))) t
+    → ((i : ℕ) → is_written i (undigested_records a p) ≡ true → has_lease p i ≡ true) → ((i : ℕ) → s.writes i ≡ true → has_lease p i ≡ false) → HasOwnCopies m.kernel.shared a p → HasOwnCopies (after_records m.kernel.shared first) a p
+kept_beside m c s first rest a p stands can leased held beside t = kept_elsewhere m.kernel.shared (after_records m.kernel.shared first) a p leased held (λ i e. sym (records_stay m.kernel.shared first i (clean i e))) t
   where
     clean : (i : ℕ) → has_lease p i ≡ true → is_written i first ≡ false
     clean i e = elim (either (is_written i first)) [
@@ -120,7 +123,7 @@ module _ (i : ℕ) (g h : Graph) (a : Account) (p : Client) (file : IsNameless (
 
   put_else : (j : ℕ) → j ≢ i → (t.back j ≡ now j) ⊎ IsGone (now j) (t.back j)
   put_else j off =
-      let still : now j ≡ was j = records_alone h g (undigested_records a p) j (same j off) in
+      let still : now j ≡ was j = records_local h g (undigested_records a p) (λ k at. alike_less i g h (ap directory_in file.is) gone same k) j (same j off) in
       elim (t.put_back j) [
         | inl is ↦ inl (is ∙ sym still)
         | inr lost ↦ inr (record { nothing = still ∙ lost.nothing; bytes = lost.bytes; file = lost.file })

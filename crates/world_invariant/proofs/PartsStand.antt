@@ -9,6 +9,7 @@ use Rattle.world_invariant.specs.ClientParts.{IsMarked, IsLogged, IsNumbered, Is
 use Rattle.world_invariant.specs.Machine.{Sealed, undigested_sealed, StandsSealed}
 use Rattle.world_invariant.proofs.Paid.{paid_same}
 use Rattle.world_invariant.proofs.Keeping.{keep_same, keep_less}
+use Rattle.world_invariant.proofs.Records.{directory_in}
 use Rattle.world_invariant.proofs.Reclaims.{paid_less}
 
 logged_same : (g h : Graph) (writes : ℕ → Bool) (rs : List Record) → ((i : ℕ) → is_written i rs ≡ true → g i ≡ h i) → IsLogged g writes rs → IsLogged h writes rs
@@ -19,25 +20,25 @@ logged_same g h writes rs same s = record {
   limits = keep_same IsWithin rs g h same s.limits;
 }
 
-logged_less : (i : ℕ) (g h : Graph) (writes : ℕ → Bool) (rs : List Record) → h i ≡ None → ((j : ℕ) → j ≢ i → h j ≡ g j) → is_made_in i rs ≡ false → IsLogged g writes rs → IsLogged h writes rs
-logged_less i g h writes rs gone same unmade s = record {
+logged_less : (i : ℕ) (g h : Graph) (writes : ℕ → Bool) (rs : List Record) → directory_in (g i) ≡ None → h i ≡ None → ((j : ℕ) → j ≢ i → h j ≡ g j) → is_made_in i rs ≡ false → IsLogged g writes rs → IsLogged h writes rs
+logged_less i g h writes rs bare gone same unmade s = record {
   leased = s.leased;
-  paid = paid_less i rs g h gone same unmade s.paid;
-  unnamed = keep_less (λ j o. IsNameless o) i rs g h gone same unmade s.unnamed;
-  limits = keep_less IsWithin i rs g h gone same unmade s.limits;
+  paid = paid_less i rs g h bare gone same unmade s.paid;
+  unnamed = keep_less (λ j o. IsNameless o) i rs g h bare gone same unmade s.unnamed;
+  limits = keep_less IsWithin i rs g h bare gone same unmade s.limits;
 }
 
 pub stands_same : (g h : Graph) (a : Account) (c : ℕ) (p : Client) → ((i : ℕ) → is_written i (records_of a p) ≡ true → g i ≡ h i) → IsSoundPart g a c p → IsSoundPart h a c p
 stands_same g h a c p same s = record { number = s.number; marked = s.marked; starts = s.starts; logged = logged_same g h p.writes (records_of a p) same s.logged; units = s.units; numbered = s.numbered; leased = s.leased; pinned = s.pinned; pending = s.pending; rests = s.rests }
 
-pub stands_less : (i : ℕ) (g h : Graph) (a : Account) (c : ℕ) (p : Client) → h i ≡ None → ((j : ℕ) → j ≢ i → h j ≡ g j) → is_made_in i (records_of a p) ≡ false → IsSoundPart g a c p → IsSoundPart h a c p
-stands_less i g h a c p gone same unmade s = record { number = s.number; marked = s.marked; starts = s.starts; logged = logged_less i g h p.writes (records_of a p) gone same unmade s.logged; units = s.units; numbered = s.numbered; leased = s.leased; pinned = s.pinned; pending = s.pending; rests = s.rests }
+pub stands_less : (i : ℕ) (g h : Graph) (a : Account) (c : ℕ) (p : Client) → directory_in (g i) ≡ None → h i ≡ None → ((j : ℕ) → j ≢ i → h j ≡ g j) → is_made_in i (records_of a p) ≡ false → IsSoundPart g a c p → IsSoundPart h a c p
+stands_less i g h a c p bare gone same unmade s = record { number = s.number; marked = s.marked; starts = s.starts; logged = logged_less i g h p.writes (records_of a p) bare gone same unmade s.logged; units = s.units; numbered = s.numbered; leased = s.leased; pinned = s.pinned; pending = s.pending; rests = s.rests }
 
 pub sealed_same : (g h : Graph) (a : Account) (s : Sealed) → ((i : ℕ) → is_written i (undigested_sealed a s) ≡ true → g i ≡ h i) → StandsSealed g a s → StandsSealed h a s
 sealed_same g h a s same t = record { low = t.low; high = t.high; logged = logged_same g h s.writes (undigested_sealed a s) same t.logged; units = t.units; made = t.made; once = t.once }
 
-pub sealed_less : (i : ℕ) (g h : Graph) (a : Account) (s : Sealed) → h i ≡ None → ((j : ℕ) → j ≢ i → h j ≡ g j) → is_made_in i (undigested_sealed a s) ≡ false → StandsSealed g a s → StandsSealed h a s
-sealed_less i g h a s gone same unmade t = record { low = t.low; high = t.high; logged = logged_less i g h s.writes (undigested_sealed a s) gone same unmade t.logged; units = t.units; made = t.made; once = t.once }
+pub sealed_less : (i : ℕ) (g h : Graph) (a : Account) (s : Sealed) → directory_in (g i) ≡ None → h i ≡ None → ((j : ℕ) → j ≢ i → h j ≡ g j) → is_made_in i (undigested_sealed a s) ≡ false → StandsSealed g a s → StandsSealed h a s
+sealed_less i g h a s bare gone same unmade t = record { low = t.low; high = t.high; logged = logged_less i g h s.writes (undigested_sealed a s) bare gone same unmade t.logged; units = t.units; made = t.made; once = t.once }
 
 -- ---- on the account by what the part needs of it
 pub stands_account : (g : Graph) (a b : Account) (c : ℕ) (p : Client) → b.mark ≡ a.mark → p.spare + units_in (records_of a p) ≤ b.units → ((i : ℕ) → p.knows.granted i ≡ true → b.numbers i ≡ true) → ((i : ℕ) → is_made_in i (undigested_records a p) ≡ true → b.numbers i ≡ true) → ((i : ℕ) → p.pins i ≡ true → b.pins i ≡ true) → IsSoundPart g a c p → IsSoundPart g b c p

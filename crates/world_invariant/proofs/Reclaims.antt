@@ -9,7 +9,6 @@ use Rattle.posix_calls.proofs.Sums.{same_if, there_if, any_is}
 use Rattle.call_effects.specs.file_graph.Graph.{Graph, FileBody, set_node, cost, after_effects, is_among, touches}
 use Rattle.call_effects.specs.file_graph.Units.{charge, rise, growth}
 use Rattle.call_effects.specs.file_graph.declared.effect.Effect.{Effect}
-use Rattle.call_effects.proofs.file_graph_lemmas.Touches.{alone}
 use Rattle.call_effects.specs.log_record.declared.format.Record.{Record}
 use Rattle.call_effects.specs.Wholes.{IsSound, state_of}
 use Rattle.call_effects.specs.Fits.{IsUnusedFile}
@@ -20,7 +19,7 @@ use Rattle.world_invariant.specs.Limits.{IsWithin}
 use Rattle.world_invariant.specs.World.{Begun, World, change_of, log_of, all_of, whole_graph, held_descriptors, world_state}
 use Rattle.world_invariant.specs.Invariant.{IsCoherent}
 use Rattle.world_invariant.specs.KernelSteps.{CanReclaim, after_reclaim}
-use Rattle.world_invariant.proofs.Records.{either, both, or_first, or_rest, records_alone}
+use Rattle.world_invariant.proofs.Records.{either, both, or_first, or_rest, directory_in, alike_less, local, directories_after, records_local}
 use Rattle.world_invariant.proofs.Owners.{client_is, owner_of, whole_at}
 use Rattle.world_invariant.proofs.Idle.{none_some}
 use Rattle.world_invariant.proofs.Made.{effects_none, clients_none, unmade_append}
@@ -48,9 +47,9 @@ module _ (i : ℕ) where
         | inr off ↦ let equal : cost (h j) ≡ cost (g j) = ap cost (same j off.1) in omega (arith, equal)
       ]
 
-  growth_less : (g h : Graph) (es : List Effect) → h i ≡ None → ((j : ℕ) → j ≢ i → h j ≡ g j) → is_made i es ≡ false → growth h es ≤ growth g es
+  growth_less : (g h : Graph) (es : List Effect) → directory_in (g i) ≡ None → h i ≡ None → ((j : ℕ) → j ≢ i → h j ≡ g j) → is_made i es ≡ false → growth h es ≤ growth g es
   unfolding growth
-  growth_less g h es none same unmade = sums_below 1024 (λ j. cond (is_among j (touches es)) (rise h (after_effects h es) j) 0) (λ j. cond (is_among j (touches es)) (rise g (after_effects g es) j) 0) (λ j. at j)
+  growth_less g h es bare none same unmade = sums_below 1024 (λ j. cond (is_among j (touches es)) (rise h (after_effects h es) j) 0) (λ j. cond (is_among j (touches es)) (rise g (after_effects g es) j) 0) (λ j. at j)
     where
       less_if : (b : Bool) (x y : ℕ) → x ≤ y → cond b x 0 ≤ cond b y 0
       less_if true x y low = low
@@ -63,17 +62,19 @@ module _ (i : ℕ) where
             omega (arith, nothing)
         | inr off ↦
             let before : cost (h j) ≡ cost (g j) = ap cost (same j off.1) in
-            let after : cost (after_effects h es j) ≡ cost (after_effects g es j) = ap cost (alone h g es j (same j off.1)) in
+            let after : cost (after_effects h es j) ≡ cost (after_effects g es j) = ap cost (local h g es (λ k at. alike_less i g h bare none same k) j (same j off.1)) in
             omega (arith, before, after)
       ])
 
-  pub paid_less : (rs : List Record) (g h : Graph) → h i ≡ None → ((j : ℕ) → j ≢ i → h j ≡ g j) → is_made_in i rs ≡ false → ArePaid g rs → ArePaid h rs
-  paid_less [] g h none same unmade paid = tt
-  paid_less (r ∷ rs) g h none same unmade paid =
-      let less : growth h r.effects ≤ growth g r.effects = growth_less g h r.effects none same (or_first (is_made i r.effects) (is_made_in i rs) unmade) in
+  pub paid_less : (rs : List Record) (g h : Graph) → directory_in (g i) ≡ None → h i ≡ None → ((j : ℕ) → j ≢ i → h j ≡ g j) → is_made_in i rs ≡ false → ArePaid g rs → ArePaid h rs
+  paid_less [] g h bare none same unmade paid = tt
+  paid_less (r ∷ rs) g h bare none same unmade paid =
+      let alike = alike_less i g h bare none same in
+      let still : after_effects h r.effects i ≡ None = effects_none h r.effects i none (or_first (is_made i r.effects) (is_made_in i rs) unmade) in
+      let less : growth h r.effects ≤ growth g r.effects = growth_less g h r.effects bare none same (or_first (is_made i r.effects) (is_made_in i rs) unmade) in
       let enough : growth g r.effects ≤ r.units = paid.0 in (
         omega (arith, less, enough),
-        paid_less rs (after_effects g r.effects) (after_effects h r.effects) (effects_none h r.effects i none (or_first (is_made i r.effects) (is_made_in i rs) unmade)) (λ j off. alone h g r.effects j (same j off)) (or_rest (is_made i r.effects) (is_made_in i rs) unmade) paid.1,
+        paid_less rs (after_effects g r.effects) (after_effects h r.effects) (sym (directories_after h g r.effects (λ k at. alike k) i (alike i)) ∙ ap directory_in still) still (λ j off. local h g r.effects (λ k at. alike k) j (same j off)) (or_rest (is_made i r.effects) (is_made_in i rs) unmade) paid.1,
       )
 
 -- what is open is pinned in the book
@@ -151,7 +152,7 @@ module _ (w : World) (i : ℕ) (h : IsCoherent w) (can : CanReclaim w.kernel i) 
         | inr off ↦
             let o = owner_of (log_of w) j (apart_logs w h) in
             whole_at (log_of w) shared o.0 j o.1
-            ∙ records_alone shared w.kernel.shared (log_of w o.0) j (else_same j off.1)
+            ∙ records_local shared w.kernel.shared (log_of w o.0) (λ k at. alike_less i w.kernel.shared shared (ap directory_in can.file.is) gone else_same k) j (else_same j off.1)
             ∙ sym (whole_at (log_of w) w.kernel.shared o.0 j o.1)
             ∙ sym (ap (λ b. cond b None (whole_graph w j)) off.0)
       ]
@@ -179,7 +180,7 @@ module _ (w : World) (i : ℕ) (h : IsCoherent w) (can : CanReclaim w.kernel i) 
           rests = s.rests;
           marked = s.marked;
           starts = s.starts;
-          logged = record { leased = s.logged.leased; paid = paid_less i (all_of w c) w.kernel.shared shared gone else_same (all_unmade c is_c) s.logged.paid; limits = keep_less IsWithin i (all_of w c) w.kernel.shared shared gone else_same (all_unmade c is_c) s.logged.limits; unnamed = keep_less (λ j o. IsNameless o) i (all_of w c) w.kernel.shared shared gone else_same (all_unmade c is_c) s.logged.unnamed };
+          logged = record { leased = s.logged.leased; paid = paid_less i (all_of w c) w.kernel.shared shared (ap directory_in can.file.is) gone else_same (all_unmade c is_c) s.logged.paid; limits = keep_less IsWithin i (all_of w c) w.kernel.shared shared (ap directory_in can.file.is) gone else_same (all_unmade c is_c) s.logged.limits; unnamed = keep_less (λ j o. IsNameless o) i (all_of w c) w.kernel.shared shared (ap directory_in can.file.is) gone else_same (all_unmade c is_c) s.logged.unnamed };
           units = s.units;
           numbered = s.numbered;
           leased = s.leased;

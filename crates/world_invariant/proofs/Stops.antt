@@ -4,7 +4,7 @@ use Rattle.std.specs.Prelude.{option_map}
 use Rattle.std.proofs.lemmas.Bool.{false≢true}
 use Rattle.std.proofs.lemmas.Bool.Decides.{eqb_tells}
 use Rattle.posix_calls.specs.Tree.{Descriptors, with_own, sum_up_to}
-use Rattle.posix_calls.specs.Run.{Run, Turn}
+use Rattle.posix_calls.specs.Run.{Run, Turn, Asked}
 use Rattle.posix_calls.specs.Operations.{is_client, own_after, reply_of, Step}
 use Rattle.posix_calls.proofs.Sums.{same_if}
 use Rattle.call_effects.specs.file_graph.Graph.{Graph, after_effects, is_among, touches}
@@ -150,7 +150,7 @@ module _ (w : World) (h : IsCoherent w) where
           })
           (λ d is_in. same_if d c None (calls d) (apart d is_in) ∙ are d (in_rest (c == d) (is_among d cs) is_in)) in
           record {
-            turns = record { client = c; call = b.call; reply = reply_of b.operation } ∷ next.turns;
+            turns = Asked c b.call (reply_of b.operation) ∷ next.turns;
             last = next.last;
             some_of = (are c (first_in c cs) ∙ ap (λ t. cond t (option_map (λ (x : Begun). x.call) (w.clients c).begun) None) is_c ∙ ap (option_map (λ (x : Begun). x.call)) is, next.some_of);
             run = (

@@ -89,7 +89,8 @@ pub use broken_laws::{
     wipe_of_a_written_region_loses_a_call, writing_without_a_lease_is_seen,
 };
 pub use burial_laws::{
-    client_may_die, dead_client_may_depart, departed_client_may_be_buried, new_client_may_join,
+    client_may_die, dead_client_may_be_settled, dead_client_may_depart,
+    departed_client_may_be_buried, new_client_may_join, new_client_may_take_the_seat,
 };
 pub use call_laws::{
     begun_call_is_a_step, begun_call_leaves_the_tree, begun_call_may_be_given_up,

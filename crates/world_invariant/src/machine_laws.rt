@@ -4,7 +4,7 @@ ghost use Rattle.std.specs.Prelude.{◌≡◌, ◌≢◌, ◌⊎◌, ℕ, ◌+�
 ghost use Rattle.posix_calls.specs.Operations.{is_client};
 ghost use Rattle.call_effects.specs.file_graph.Graph.{Graph};
 ghost use Rattle.call_effects.specs.log_record.declared.format.Record.{Record};
-ghost use Rattle.world_invariant.specs.Logs.{after_records, is_written, is_made_in, units_in};
+ghost use Rattle.world_invariant.specs.Logs.{after_records, is_written, is_made_in, units_in, IsNameless};
 ghost use Rattle.world_invariant.specs.World.{Account, Away, Client, Kernel, World, at, undigested_records, records_of};
 ghost use Rattle.world_invariant.specs.ClientParts.{IsSoundPart};
 ghost use Rattle.world_invariant.specs.BookSteps.{HasRoom, IsUnbooked};
@@ -46,10 +46,10 @@ pub fn digest_keeps_what_is_sealed()
 /// still have what its records write.
 pub fn parts_stand_where_they_write()
     ensures client { (g h : Graph) (a : Account) (c : ℕ) (p : Client) → ((i : ℕ) → is_written i (records_of a p) ≡ true → g i ≡ h i) → IsSoundPart g a c p → IsSoundPart h a c p }
-    ensures client_less { (i : ℕ) (g h : Graph) (a : Account) (c : ℕ) (p : Client) → h i ≡ None → ((j : ℕ) → j ≢ i → h j ≡ g j) → is_made_in i (records_of a p) ≡ false → IsSoundPart g a c p → IsSoundPart h a c p }
+    ensures client_less { (i : ℕ) (g h : Graph) (a : Account) (c : ℕ) (p : Client) → IsNameless (g i) → h i ≡ None → ((j : ℕ) → j ≢ i → h j ≡ g j) → is_made_in i (records_of a p) ≡ false → IsSoundPart g a c p → IsSoundPart h a c p }
     ensures client_account { (g : Graph) (a b : Account) (c : ℕ) (p : Client) → b.mark ≡ a.mark → p.spare + units_in (records_of a p) ≤ b.units → ((i : ℕ) → p.knows.granted i ≡ true → b.numbers i ≡ true) → ((i : ℕ) → is_made_in i (undigested_records a p) ≡ true → b.numbers i ≡ true) → ((i : ℕ) → p.pins i ≡ true → b.pins i ≡ true) → IsSoundPart g a c p → IsSoundPart g b c p }
     ensures sealed { (g h : Graph) (a : Account) (s : Sealed) → ((i : ℕ) → is_written i (undigested_sealed a s) ≡ true → g i ≡ h i) → StandsSealed g a s → StandsSealed h a s }
-    ensures sealed_less { (i : ℕ) (g h : Graph) (a : Account) (s : Sealed) → h i ≡ None → ((j : ℕ) → j ≢ i → h j ≡ g j) → is_made_in i (undigested_sealed a s) ≡ false → StandsSealed g a s → StandsSealed h a s }
+    ensures sealed_less { (i : ℕ) (g h : Graph) (a : Account) (s : Sealed) → IsNameless (g i) → h i ≡ None → ((j : ℕ) → j ≢ i → h j ≡ g j) → is_made_in i (undigested_sealed a s) ≡ false → StandsSealed g a s → StandsSealed h a s }
     ensures sealed_account { (g : Graph) (a b : Account) (s : Sealed) → b.mark ≡ a.mark → units_in (undigested_sealed a s) ≤ b.units → ((i : ℕ) → is_made_in i (undigested_sealed a s) ≡ true → b.numbers i ≡ true) → StandsSealed g a s → StandsSealed g b s }
     ensures sealed_leases { (g : Graph) (a : Account) (s : Sealed) (writes : ℕ → Bool) → ((i : ℕ) → is_written i (undigested_sealed a s) ≡ true → writes i ≡ true) → StandsSealed g a s → StandsSealed g a (record s { writes = writes }) }
 {}

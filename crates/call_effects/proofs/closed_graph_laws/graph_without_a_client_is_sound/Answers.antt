@@ -1,4 +1,4 @@
-use Rattle.call_effects.specs.ClosedGraph.{without_client}
+use Rattle.posix_calls.specs.Run.{without_client}
 use Rattle.call_effects.proofs.Settled.{fewer_sound, left_sound, fewer_state, left_state, left_well_formed, left_within, without_fewer}
 use Rattle.call_effects.proofs.closed_graph_laws.graph_without_a_client_is_sound.Goals as goal
 

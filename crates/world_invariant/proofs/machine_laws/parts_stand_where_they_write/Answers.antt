@@ -1,3 +1,5 @@
+use Rattle.std.proofs.Common.{ap}
+use Rattle.world_invariant.proofs.Records.{directory_in}
 use Rattle.world_invariant.proofs.PartsStand.{stands_same, stands_less, stands_account, sealed_same, sealed_less, sealed_account, sealed_leases}
 use Rattle.world_invariant.proofs.machine_laws.parts_stand_where_they_write.Goals as goal
 
@@ -5,13 +7,13 @@ pub returns-clause-client : goal.returns-clause-client
 returns-clause-client c = stands_same
 
 pub returns-clause-client_less : goal.returns-clause-client_less
-returns-clause-client_less c = stands_less
+returns-clause-client_less c = λ i g h a d p file. stands_less i g h a d p (ap directory_in file.is)
 
 pub returns-clause-sealed : goal.returns-clause-sealed
 returns-clause-sealed c = sealed_same
 
 pub returns-clause-sealed_less : goal.returns-clause-sealed_less
-returns-clause-sealed_less c = sealed_less
+returns-clause-sealed_less c = λ i g h a s file. sealed_less i g h a s (ap directory_in file.is)
 
 pub returns-clause-client_account : goal.returns-clause-client_account
 returns-clause-client_account c = stands_account
