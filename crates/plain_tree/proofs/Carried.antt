@@ -7,7 +7,7 @@ use Rattle.posix_calls.specs.Exact.{IsInRange}
 use Rattle.posix_calls.proofs.Steps.{with_same}
 use Rattle.plain_tree.specs.Plain.{stored_tree, held_of, state_in, with_opened, HasNumber, IsDone}
 use Rattle.posix_calls.specs.declared.operation.Operation.{Operation}
-use Rattle.posix_calls.specs.declared.operation.Operation.TheVariants.{Tell, NewDir, NewFile, OpenFile, CloseFile, Write, Resize, RemoveDir, AddName, DropName, Move}
+use Rattle.posix_calls.specs.declared.operation.Operation.TheVariants.{Tell, NewDir, NewFile, OpenFile, CloseFile, Write, Resize, RemoveDir, AddName, DropName, Move, Exchange}
 use Rattle.posix_calls.specs.declared.descriptor.Descriptor.{Descriptor}
 use Rattle.posix_calls.specs.declared.call.Reply.{Reply}
 
@@ -51,6 +51,7 @@ told nodes rows client (RemoveDir at i) r tells is = absurd (cc)
 told nodes rows client (AddName at i) r tells is = absurd (cc)
 told nodes rows client (DropName at i) r tells is = absurd (cc)
 told nodes rows client (Move from to i is_dir replaced) r tells is = absurd (cc)
+told nodes rows client (Exchange first second i j) r tells is = absurd (cc)
 
 -- what the reply of an operation says of it
 pub tells_none : (operation : Operation) → (if is_query operation then None else Some (reply_of operation)) ≡ None → is_query operation ≡ true
@@ -75,6 +76,7 @@ opened_held held client new (RemoveDir at i) closes = sym (with_same held client
 opened_held held client new (AddName at i) closes = sym (with_same held client)
 opened_held held client new (DropName at i) closes = sym (with_same held client)
 opened_held held client new (Move from to i is_dir replaced) closes = sym (with_same held client)
+opened_held held client new (Exchange first second i j) closes = sym (with_same held client)
 
 -- what is opened matters to no tree
 pub opened_tree : (held : Descriptors) (client new : ℕ) (t : Tree) (operation : Operation) → tree_after held new t operation ≡ tree_after (with_opened held client (opens new operation)) new t operation
@@ -89,6 +91,7 @@ opened_tree held client new t (RemoveDir at i) = refl
 opened_tree held client new t (AddName at i) = refl
 opened_tree held client new t (DropName at i) = refl
 opened_tree held client new t (Move from to i is_dir replaced) = refl
+opened_tree held client new t (Exchange first second i j) = refl
 
 -- what an operation opens has a number
 pub opened_low : (new : ℕ) (operation : Operation) → IsInRange operation → HasNumber (opens new operation)
@@ -103,6 +106,7 @@ opened_low new (RemoveDir at i) range = tt
 opened_low new (AddName at i) range = tt
 opened_low new (DropName at i) range = tt
 opened_low new (Move from to i is_dir replaced) range = tt
+opened_low new (Exchange first second i j) range = tt
 
 -- an operation that closes nothing, by what it makes of the tree, and what it opens
 pub carried_open : (nodes nodes' : List (Option Node)) (rows rows' : List (List (Option Descriptor))) (client new : ℕ) (operation : Operation) (opened : Option (ℕ × Descriptor)) → ((i number : ℕ) → operation ≡ CloseFile i number → ⊥) → opened ≡ opens new operation

@@ -9,7 +9,7 @@ use Rattle.posix_calls.specs.Exact.{IsInRange}
 use Rattle.plain_tree.specs.Plain.{IsConsistent, IsHeld, Replaces, IsPlaced, IsDoable}
 use Rattle.posix_calls.specs.declared.operation.Location.{Location}
 use Rattle.posix_calls.specs.declared.operation.Operation.{Operation}
-use Rattle.posix_calls.specs.declared.operation.Operation.TheVariants.{Tell, NewDir, NewFile, OpenFile, CloseFile, Write, Resize, RemoveDir, AddName, DropName, Move}
+use Rattle.posix_calls.specs.declared.operation.Operation.TheVariants.{Tell, NewDir, NewFile, OpenFile, CloseFile, Write, Resize, RemoveDir, AddName, DropName, Move, Exchange}
 use Rattle.posix_calls.specs.declared.operation.Replaced.{Replaced}
 use Rattle.posix_calls.specs.declared.operation.Replaced.TheVariants.{Nothing, OldFile, OldDir}
 use Rattle.posix_calls.specs.declared.call.Call.{Call}
@@ -52,6 +52,7 @@ module _ (s : State) (sound : IsConsistent s) where
   placed client (AddName at i) fits = held at fits.0.directory
   placed client (DropName at i) fits = (named at i fits.0, bare_file (s.tree i) fits.1)
   placed client (Move from to i is_dir replaced) fits = (named from i fits.0, goal_held to i replaced fits.1, (fits.0, replaces to i replaced fits.1))
+  placed client (Exchange first second i j) fits = (named first i fits.1, named second j fits.2, (fits.0, fits.1, fits.2, sound.1.entries second.parent))
 
   pub doable : (client : ℕ) (call : Call) (operation : Operation) → IsInRange operation → run (view_of s.tree) (decide (s.descriptors client) call) ≡ Ok operation → IsDoable s.tree operation
   doable client call operation range e = (range, sound.1.names, placed client operation (decide_fits s sound.0 client call operation e))

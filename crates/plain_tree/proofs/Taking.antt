@@ -1,6 +1,6 @@
 -- A call whose operation takes memory takes memory itself.
-use Rattle.std.proofs.Common.{◌≡◌, ◌<◌, ◌≤◌, ◌⊎◌, inl, inr, ℕ, List, [], ◌∷◌, refl, Some, None, Option, Ok, Err, Result, ap, sym, ◌∙◌, subst, true, false, Bool, ◌==◌, cond, length, arith, suc}
-use Rattle.std.specs.Prelude.{◌&&◌, ◌||◌, not, is_none, nat_lt, nat_le, option_map, if◌then◌else◌}
+use Rattle.std.proofs.Common.{◌≡◌, ℕ, List, [], ◌∷◌, refl, Some, None, Option, Ok, Err, Result, ap, sym, ◌∙◌, subst, true, false, Bool, ◌==◌, cond, length, arith}
+use Rattle.std.specs.Prelude.{◌&&◌, ◌||◌, not, is_none, nat_lt, option_map, if◌then◌else◌}
 use Rattle.std.specs.Option.{option_or}
 use Rattle.std.proofs.lemmas.Bool.Decides.{nat_tests}
 use Rattle.posix_calls.specs.declared.errno.Errno.{Errno}
@@ -16,7 +16,7 @@ use Rattle.posix_calls.specs.FirstName.{first_is_faultless, name_behind, name_fi
 use Rattle.posix_calls.specs.Query.{Seen, File, Dir, Gives, Refuses, View, run, view_of, dir_test}
 use Rattle.posix_calls.specs.Part.{whole_part}
 use Rattle.posix_calls.specs.Walk.{Place, read_or_error, prefix, is_root, is_there, is_true, kind_at, walk}
-use Rattle.posix_calls.specs.Decide.{open_inode, node_description, write_at, open_path, close, pread, pwrite, truncate, mkdir, rmdir, link, unlink, rename, list_path, stat, decide}
+use Rattle.posix_calls.specs.Decide.{open_inode, node_description, write_at, open_path, close, pread, pwrite, truncate, mkdir, rmdir, link, unlink, rename, exchange, list_path, stat, decide}
 use Rattle.posix_calls.specs.Memory.{writes_bytes, takes_memory}
 use Rattle.posix_calls.specs.WellFormed.{IsWellFormed}
 use Rattle.posix_calls.proofs.Comes.{bind_ok, no_bit, not_refused, given}
@@ -163,6 +163,15 @@ module _ (s : State) (fine : IsWellFormed s) where
       let roots = no_bit (is_root old_names.0) (is_root new_names.0) (not_refused v errno.Busy _ _ busy.1) in
       name_read old_names.0 roots.0 old (said_is v (path_names old) old_names.0 old_names.1)
 
+  exchange_takes : (first second : List ℕ) (operation : Operation) → run v (exchange first second) ≡ Ok operation → comes_to_name first ≡ true
+  unfolding exchange
+  exchange_takes first second operation e =
+      let first_names = bind_ok v _ _ _ e in
+      let second_names = bind_ok v _ _ _ first_names.2 in
+      let busy = bind_ok v _ _ _ second_names.2 in
+      let roots = no_bit (is_root first_names.0) (is_root second_names.0) (not_refused v errno.Busy _ _ busy.1) in
+      name_read first_names.0 roots.0 first (said_is v (path_names first) first_names.0 first_names.1)
+
   -- ---- by a descriptor
 
   tells_none : (operation told : Operation) → told ≡ operation → takes_room told ≡ false → takes_room operation ≡ true → ⊥
@@ -234,5 +243,6 @@ module _ (s : State) (fine : IsWellFormed s) where
   taken client (call.Link old new) operation e takes = or_first (comes_to_name old) _ (link_takes old new operation e)
   taken client (call.Unlink path) operation e takes = unlink_takes path operation e
   taken client (call.Rename old new) operation e takes = or_first (comes_to_name old) _ (rename_takes old new operation e)
+  taken client (call.Exchange first second) operation e takes = or_first (comes_to_name first) _ (exchange_takes first second operation e)
   taken client (call.List path) operation e takes = absurd (list_none path operation e takes)
   taken client (call.Stat path) operation e takes = absurd (stat_none path operation e takes)

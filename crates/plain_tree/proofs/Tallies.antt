@@ -1,5 +1,5 @@
 -- How many names there are after a change, and that what is stored of them stays right.
-use Rattle.std.proofs.Common.{◌≡◌, ◌≢◌, ℕ, ◌+◌, ◌<◌, ◌≤◌, List, [], ◌∷◌, ◌++◌, length, Option, Some, None, Result, Ok, Err, refl, sym, ap, ◌∙◌, arith, inl, inr}
+use Rattle.std.proofs.Common.{◌≡◌, ◌≢◌, ℕ, ◌+◌, ◌<◌, ◌≤◌, List, [], ◌∷◌, ◌++◌, length, Option, Some, None, Result, Ok, Err, refl, sym, ap, subst, ◌∙◌, arith, inl, inr}
 use Rattle.std.specs.Prelude.{OnOk, OnErr}
 use Rattle.std.specs.declared.alloc.AllocError.{AllocError}
 use Rattle.std.proofs.lemmas.Bool.{cases_lt}
@@ -8,7 +8,7 @@ use Rattle.std.specs.FinMap as fin
 use Rattle.posix_calls.specs.Tree.{Node, Tree, Dir, set_node, entries_of, names_in, names_of}
 use Rattle.posix_calls.specs.WellFormed.{IsBare}
 use Rattle.posix_calls.specs.Operations.{with_entry, without_entry}
-use Rattle.plain_tree.specs.Plain.{stored_tree, count_at, one_for, at_location, IsBareReplaced, HasPlace, AreNameCounts, Replaces}
+use Rattle.plain_tree.specs.Plain.{stored_tree, count_at, one_for, at_location, IsBareReplaced, HasPlace, AreNameCounts, Replaces, AreExchangeable}
 use Rattle.posix_calls.specs.declared.operation.Replaced.{Replaced}
 use Rattle.posix_calls.specs.declared.operation.Replaced.TheVariants.{Nothing, OldFile, OldDir}
 use Rattle.posix_calls.specs.Content.{Entries}
@@ -17,6 +17,8 @@ use Rattle.posix_calls.specs.declared.limits.TheConstants.{MAX_INODE}
 use Rattle.posix_calls.proofs.Sums.{names_of-set_node, all_zero}
 use Rattle.posix_calls.proofs.Counts.{counted, counted_is, absent}
 use Rattle.posix_calls.proofs.Changes.{in_node, bare_names, entered_names, left_names, left_here, on_one, set_other, set_there}
+use Rattle.posix_calls.proofs.Exchanged.{over_keeps, over_names}
+use Rattle.posix_calls.proofs.Within.{insert_length}
 use Rattle.plain_tree.proofs.Slots.{pushed_at}
 use Rattle.plain_tree.proofs.Moves.{renewed, off_parent}
 use Rattle.plain_tree.proofs.Answering.{get_nothing}
@@ -46,6 +48,25 @@ named_most t at place k = let e = names_left t at place k in omega (arith, e)
 -- a name that comes is one more, once what is there went
 pub names_entered : (t : Tree) (at : Location) (i : ℕ) → HasPlace at.parent → (k : ℕ) → names_of (with_entry t at i) k ≡ names_of (without_entry t at) k + one_for (Some i) k
 names_entered t at i place k = ap (λ (u : Tree). names_of u k) (sym (renewed t at i)) ∙ entered_names (without_entry t at) at i (left_here t at) place.0 place.1 k
+
+-- two names that exchange what they lead to leave each inode its names
+pub names_exchanged : (t : Tree) (p q : Location) (i j : ℕ) → HasPlace p.parent → HasPlace q.parent → i ≢ j → at_location t p ≡ Some i → at_location t q ≡ Some j → (k : ℕ) → names_of (with_entry (with_entry t p j) q i) k ≡ names_of t k
+names_exchanged t p q i j at_p at_q apart is_p is_q k =
+    let still = over_keeps t p i j is_p q j (λ same. apart (sym same)) is_q in
+    let first = over_names t p i j is_p at_p.0 at_p.1 k in
+    let second = over_names (with_entry t p j) q j i still at_q.0 at_q.1 k in
+    omega (arith, first, second)
+
+-- a name that comes makes a directory longer by one at most
+pub entered_few : (t : Tree) (at : Location) (i d most : ℕ) → fin.len (entries_of (t d)) < most → fin.len (entries_of (with_entry t at i d)) ≤ most
+entered_few t at i d most few =
+    let new : Option Node = Some (Dir (fin.insert (entries_of (t at.parent)) at.name i)) in
+    elim (eqb_tells d at.parent) [
+      | inl same ↦
+          let here : fin.len (entries_of (t at.parent)) < most = subst (λ (k : ℕ). fin.len (entries_of (t k)) < most) same.1 few in
+          subst (λ (o : Option Node). fin.len (entries_of o) ≤ most) (sym (ap (with_entry t at i) same.1 ∙ set_there t at.parent new)) (insert_length (entries_of (t at.parent)) at.name i most here)
+      | inr off ↦ subst (λ (o : Option Node). fin.len (entries_of o) ≤ most) (sym (set_other t at.parent d new off.1)) (omega (arith, few))
+    ]
 
 -- ---- what has no entries still has none
 
@@ -93,6 +114,12 @@ pub counted_if : {R : Type 0} (r : Result R AllocError) (counts : List ℕ) (old
     → OnOk r (stored_tree new ≡ set_node (stored_tree old) i x) → OnErr r (stored_tree new ≡ stored_tree old) → AreNameCounts counts new
 counted_if (Ok a) counts old new i x was before after ok err = counted_set counts old new i x was ok before after
 counted_if (Err e) counts old new i x was before after ok err = counted_same counts counts old new was refl err
+
+pub counted_exchanged : {R : Type 0} (r : Result R AllocError) (counts : List ℕ) (old new : Nodes) (p q : Location) (i j : ℕ) → AreNameCounts counts old → HasPlace p.parent → HasPlace q.parent → AreExchangeable (stored_tree old) p q i j
+    → OnOk r (stored_tree new ≡ with_entry (with_entry (stored_tree old) p j) q i) → OnErr r (stored_tree new ≡ stored_tree old) → AreNameCounts counts new
+counted_exchanged (Ok a) counts old new p q i j was at_p at_q can ok err k =
+    was k ∙ sym (ap (λ (t : Tree). names_of t k) ok ∙ names_exchanged (stored_tree old) p q i j at_p at_q can.0 can.1 can.2 k)
+counted_exchanged (Err e) counts old new p q i j was at_p at_q can ok err k = counted_same counts counts old new was refl err k
 
 -- what was stored, and the inode under a name
 module _ (counts made : List ℕ) (old : Nodes) (at : Location) (o : Option ℕ) (was : AreNameCounts counts old) (same : count_at made ≡ count_at counts) (place : HasPlace at.parent) (is : o ≡ at_location (stored_tree old) at) where

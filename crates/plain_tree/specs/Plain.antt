@@ -10,11 +10,11 @@ use Rattle.posix_calls.specs.declared.operation.Location.{Location}
 use Rattle.posix_calls.specs.declared.operation.Replaced.{Replaced}
 use Rattle.posix_calls.specs.declared.operation.Replaced.TheVariants.{Nothing, OldFile, OldDir}
 use Rattle.posix_calls.specs.declared.operation.Operation.{Operation}
-use Rattle.posix_calls.specs.declared.operation.Operation.TheVariants.{Tell, NewDir, NewFile, OpenFile, CloseFile, Write, Resize, RemoveDir, AddName, DropName, Move}
+use Rattle.posix_calls.specs.declared.operation.Operation.TheVariants.{Tell, NewDir, NewFile, OpenFile, CloseFile, Write, Resize, RemoveDir, AddName, DropName, Move, Exchange}
 use Rattle.posix_calls.specs.declared.call.Reply.{Reply}
 use Rattle.posix_calls.specs.declared.call.Reply.TheVariants.{Failed}
 use Rattle.posix_calls.specs.declared.errno.Errno.TheVariants as errno
-use Rattle.posix_calls.specs.declared.limits.TheConstants.{ROOT, MAX_INODE, MAX_DESCRIPTORS, MAX_NAMES}
+use Rattle.posix_calls.specs.declared.limits.TheConstants.{ROOT, MAX_INODE, MAX_DESCRIPTORS, MAX_NAMES, MAX_ENTRIES}
 use Rattle.posix_calls.specs.declared.descriptor.Descriptor.{Descriptor}
 
 -- the tree with these nodes, from inode 0 on
@@ -86,6 +86,10 @@ Replaces t to i (OldDir j) = IsReplaceable t to i j
 abbrev pub IsMovable : Tree → Location → Location → ℕ → Replaced → Type 0
 IsMovable t from to i replaced = (at_location t from ≡ Some i) × Replaces t to i replaced
 
+-- two names lead to two inodes, and the second one's directory is not over full
+abbrev pub AreExchangeable : Tree → Location → Location → ℕ → ℕ → Type 0
+AreExchangeable t first second i j = (i ≢ j) × (at_location t first ≡ Some i) × (at_location t second ≡ Some j) × (fin.len (entries_of (t second.parent)) ≤ MAX_ENTRIES)
+
 -- these nodes and rows as a state
 abbrev pub state_in : List (Option Node) → List (List (Option Descriptor)) → State
 state_in nodes rows = stored_state (record { nodes = nodes; rows = rows })
@@ -111,7 +115,7 @@ HasNumber (Some (number, what)) = number < MAX_DESCRIPTORS
 abbrev pub IsHeld : Tree → Location → Type 0
 IsHeld t at = HasPlace at.parent × (t at.parent ≢ None)
 
--- names come and go in directories that are there, what is written or goes has no entries, and what moves can move
+-- names come and go in directories that are there, what is written or goes has no entries, what moves can move, and what is exchanged can be
 abbrev pub IsPlaced : Tree → Operation → Type 0
 IsPlaced t (Tell answer) = Unit {0}
 IsPlaced t (NewDir at) = IsHeld t at
@@ -124,6 +128,7 @@ IsPlaced t (RemoveDir at i) = IsHeld t at × IsBare (t i)
 IsPlaced t (AddName at i) = IsHeld t at
 IsPlaced t (DropName at i) = IsHeld t at × IsBare (t i)
 IsPlaced t (Move from to i is_dir replaced) = IsHeld t from × IsHeld t to × IsMovable t from to i replaced
+IsPlaced t (Exchange first second i j) = IsHeld t first × IsHeld t second × AreExchangeable t first second i j
 
 -- nothing has more names than it may
 abbrev pub HasFewNames : Tree → Type 0

@@ -1,11 +1,12 @@
-ghost use Rattle.std.specs.Prelude.{◌≡◌, ℕ, Option, None, Some, length, take, drop, map, option_map, [], ◌<◌, IfOk, IfErr, OnOk, OnErr};
+ghost use Rattle.std.specs.Prelude.{◌≡◌, ◌≤◌, ◌+◌, ℕ, Option, None, Some, length, take, drop, map, option_map, [], ◌<◌, IfOk, IfErr, OnOk, OnErr};
 ghost use Rattle.std.specs.FinMap as fin;
 ghost use Rattle.posix_calls.specs.Content.{with_length, with_bytes};
 ghost use Rattle.posix_calls.specs.Tree.{File, Dir, bytes_of, entries_of};
 ghost use Rattle.posix_calls.specs.Query.{dir_test};
 ghost use Rattle.plain_tree.specs.Bodies.{node_of};
+ghost use Rattle.posix_calls.specs.declared.limits.TheConstants.{MAX_ENTRIES};
 
-use file_graph::{FileBytes, NameMap};
+use file_graph::{EntryRoom, FileBytes, NameMap};
 use posix_calls::{Bytes, Name, Names};
 use std::alloc::{AllocError, Global};
 use std::marker::Model;
@@ -140,6 +141,22 @@ impl PlainNode {
         enter(alloc, &mut self.body, name, inode)
     }
 
+    /// Room for two entries more than a directory has.
+    pub fn room(&self, alloc: Global) -> Result<EntryRoom<u32>, AllocError>
+        requires { fin.len (entries_of self.now) ≤ MAX_ENTRIES }
+        ensures { IfOk result (λ room. room ≡ fin.len (entries_of self.now) + 2) }
+    {
+        EntryRoom::with_room(alloc, self.entry_count() + 2)
+    }
+
+    /// Puts an inode under a name of a directory, in room for more entries than it has; what is none becomes one.
+    pub fn enter_into(&mut self, alloc: Global, room: EntryRoom<u32>, name: Name, inode: u32)
+        requires { fin.len (entries_of self.old) < room }
+        ensures { self.new ≡ Some (Dir (fin.insert (entries_of self.old) name inode)) }
+    {
+        enter_into(alloc, &mut self.body, room, name, inode);
+    }
+
     /// Takes a name out of a directory; what is none becomes one.
     pub fn leave(&mut self, alloc: Global, name: &[u8])
         ensures { self.new ≡ Some (Dir (fin.remove (entries_of self.old) name.now)) }
@@ -175,6 +192,20 @@ fn enter(alloc: Global, body: &mut PlainBody, name: Name, inode: u32) -> Result<
             entries.put(name, inode)?;
             *body = PlainBody::Directory(entries);
             Ok(())
+        }
+    }
+}
+
+fn enter_into(alloc: Global, body: &mut PlainBody, room: EntryRoom<u32>, name: Name, inode: u32)
+    requires { fin.len (entries_of (node_of body.old)) < room }
+    ensures { node_of body.new ≡ Some (Dir (fin.insert (entries_of (node_of body.old)) name inode)) }
+{
+    match body {
+        PlainBody::Directory(entries) => entries.put_into(room, name, inode),
+        _ => {
+            let mut entries = NameMap::new(alloc);
+            entries.put_into(room, name, inode);
+            *body = PlainBody::Directory(entries);
         }
     }
 }

@@ -1,15 +1,17 @@
-ghost use Rattle.std.specs.Prelude.{◌≡◌, ◌≤◌, ◌<◌, ℕ, [], Option, None, Some, length, OnOk, OnErr, get_or, MatchOption, IsTrue, ◌↔◌};
+ghost use Rattle.std.specs.Prelude.{◌≡◌, ◌≤◌, ◌<◌, ◌+◌, ℕ, [], Option, None, Some, length, IfOk, OnOk, OnErr, get_or, MatchOption, IsTrue, ◌↔◌};
+ghost use Rattle.std.specs.FinMap as fin;
 ghost use Rattle.posix_calls.specs.Content.{with_length, with_bytes};
-ghost use Rattle.posix_calls.specs.Tree.{File, bytes_of, set_node, has_open, names_of, is_open};
+ghost use Rattle.posix_calls.specs.Tree.{File, bytes_of, entries_of, set_node, has_open, names_of, is_open};
 ghost use Rattle.posix_calls.specs.WellFormed.{IsBare};
 ghost use Rattle.posix_calls.specs.Operations.{with_entry, without_entry, less_unused};
 ghost use Rattle.posix_calls.specs.Own.{own_of};
 ghost use Rattle.posix_calls.specs.Exact.{IsLowest, IsTaken};
-ghost use Rattle.plain_tree.specs.Plain.{stored_tree, held_of, at_location, HasPlace};
-ghost use Rattle.posix_calls.specs.declared.limits.TheConstants.{MAX_NAMES};
+ghost use Rattle.plain_tree.specs.Plain.{stored_tree, held_of, at_location, HasPlace, AreExchangeable};
+ghost use Rattle.posix_calls.specs.declared.limits.TheConstants.{MAX_NAMES, MAX_ENTRIES};
 
 use crate::name_counts::{make_counts, name_came, name_count, name_went};
 use crate::node::PlainNode;
+use file_graph::EntryRoom;
 use posix_calls::{Location, MAX_CLIENTS, MAX_INODE, OwnDescriptors, ROOT};
 use std::alloc::{AllocError, Global};
 use std::marker::Model;
@@ -108,6 +110,24 @@ impl PlainNodes {
         Ok(())
     }
 
+    /// Exchanges what two names lead to. Where there is no memory for it, the tree stays as it was.
+    pub fn exchange(
+        &mut self,
+        alloc: Global,
+        first: Location,
+        second: Location,
+        inode: u32,
+        other: u32,
+    ) -> Result<(), AllocError>
+        requires first_place { HasPlace first.parent }
+        requires second_place { HasPlace second.parent }
+        requires exchangeable { AreExchangeable (stored_tree self.old) first second inode other }
+        ensures ok { OnOk result (stored_tree self.new ≡ with_entry (with_entry (stored_tree self.old) first other) second inode) }
+        ensures err { OnErr result (stored_tree self.new ≡ stored_tree self.old) }
+    {
+        exchange(alloc, &mut self.nodes, first, second, inode, other)
+    }
+
     /// Takes a name out.
     pub fn leave(&mut self, alloc: Global, at: &Location)
         requires room { at.now.parent < length self.old }
@@ -196,6 +216,49 @@ fn enter(
 {
     make_room(nodes, at.parent)?;
     nodes[at.parent as usize].enter(alloc, at.name, inode)
+}
+
+// The room for the second name is taken first: once the first one leads elsewhere, nothing wants memory.
+fn exchange(
+    alloc: Global,
+    nodes: &mut Vec<PlainNode>,
+    first: Location,
+    second: Location,
+    inode: u32,
+    other: u32,
+) -> Result<(), AllocError>
+    requires few { fin.len (entries_of (stored_tree nodes.old.items second.parent)) ≤ MAX_ENTRIES }
+    ensures ok { OnOk result (stored_tree nodes.new.items ≡ with_entry (with_entry (stored_tree nodes.old.items) first other) second inode) }
+    ensures err { OnErr result (stored_tree nodes.new.items ≡ stored_tree nodes.old.items) }
+{
+    make_room(nodes, second.parent)?;
+    let room = room_in(alloc, nodes, second.parent)?;
+    enter(alloc, nodes, first, other)?;
+    enter_into(alloc, nodes, room, second, inode);
+    Ok(())
+}
+
+// Room for two entries more than a directory has.
+fn room_in(alloc: Global, nodes: &[PlainNode], dir: u32) -> Result<EntryRoom<u32>, AllocError>
+    requires place { dir < length nodes.now }
+    requires few { fin.len (entries_of (stored_tree nodes.now dir)) ≤ MAX_ENTRIES }
+    ensures { IfOk result (λ room. room ≡ fin.len (entries_of (stored_tree nodes.now dir)) + 2) }
+{
+    nodes[dir as usize].room(alloc)
+}
+
+fn enter_into(
+    alloc: Global,
+    nodes: &mut Vec<PlainNode>,
+    room: EntryRoom<u32>,
+    at: Location,
+    inode: u32,
+)
+    requires place { at.parent < length nodes.old.items }
+    requires room { fin.len (entries_of (stored_tree nodes.old.items at.parent)) < room }
+    ensures { stored_tree nodes.new.items ≡ with_entry (stored_tree nodes.old.items) at inode }
+{
+    nodes[at.parent as usize].enter_into(alloc, room, at.name, inode);
 }
 
 fn leave(alloc: Global, nodes: &mut Vec<PlainNode>, at: &Location)

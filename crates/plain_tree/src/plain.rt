@@ -328,6 +328,12 @@ fn apply_to_tree(
             };
             move_name(alloc, nodes, rows, &from, to)
         }
+        Operation::Exchange {
+            first,
+            second,
+            inode,
+            other,
+        } => nodes.exchange(alloc, first, second, inode, other),
         _ => Ok(()),
     }
 }
