@@ -1,25 +1,24 @@
 -- What is counted, and that a list has as much of it as its front, at least.
 use Rattle.std.proofs.Common.{◌≡◌, inl, inr, ℕ, ◌+◌, ◌-◌, ◌*◌, ◌^◌, ◌<◌, ◌≤◌, ◌==◌, cond, Bool, true, false, List, [], ◌∷◌, ◌++◌, length, refl, ap, sym, ◌∙◌, subst, arith}
-use Rattle.std.specs.Prelude.{◌||◌, ◌&&◌, nat_eq, nat_le, map, count_by, min}
+use Rattle.std.specs.Prelude.{◌||◌, ◌&&◌, nat_eq, nat_le, min}
 use Rattle.std.specs.Cmp.{IsEquivalence, nat_eq_equiv, unsigned_tied, tied_then}
 use Rattle.std.specs.Ordering.{nat_cmp, eq_by_cmp, is_eq}
 use Rattle.std.specs.BTreeSet.{BTreeSet, contains, IsOrdered}
-use Rattle.std.specs.List.{list_any, IsDistinct, AllByRecursion, flat_map}
+use Rattle.std.specs.List.{list_any, IsDistinct, AllByRecursion, flat_map, sum_by}
 use Rattle.std.specs.Set.{distinct_count, unique_keys, is_member}
 use Rattle.std.proofs.lemmas.Map.Keys.{IsDistinct-cons, IsDistinct-from_sorted}
 use Rattle.std.proofs.lemmas.Map.Made.{length-le_from_is_member, length-from_keys, distinct_count-le}
-use Rattle.std.proofs.lemmas.List.{map-append}
 use Rattle.std.proofs.lemmas.List.Sums.{sum_by-append}
 use Rattle.std.proofs.lemmas.List.Concat.{flat_map-append}
 use Rattle.std.proofs.lemmas.Bool.{false≢true}
 use Rattle.std.proofs.lemmas.Bool.Decides.{nat_tests}
 use Rattle.graph_change.specs.file_graph.declared.effect.Effect.{Effect}
-use Rattle.graph_change.specs.Change.{subject}
+use Rattle.graph_change.specs.file_graph.Graph.{subjects, touches}
 use Rattle.graph_change.proofs.Blocks.{either}
 use Rattle.coalescer.specs.declared.estimate.Estimate.{Estimate}
 use Rattle.coalescer.specs.declared.weight.Weight.{Weight}
 use Rattle.coalescer.specs.declared.weight.TheConstants.{CHUNK_IMAGES, CHUNK_BLOCKS}
-use Rattle.coalescer.specs.Weight.{is_entry, file_blocks, same_block, images, blocks, fits_chunk}
+use Rattle.coalescer.specs.Weight.{entry_weight, file_blocks, same_block, images, blocks, fits_chunk}
 use Rattle.coalescer.specs.EffectCounts.{Weighs, IsEstimate, block_cmp}
 
 member_congr : {K : Type 0} {eq : K → K → Bool} → IsEquivalence eq → (xs : List K) (q x : K) → eq q x ≡ true → is_member eq xs q ≡ is_member eq xs x
@@ -92,9 +91,9 @@ block_laws = record {
 
 images_front : (xs ys : List Effect) → images xs ≤ images (xs ++ ys)
 images_front xs ys =
-    let inodes = count_front nat_eq_equiv (map subject xs) (map subject ys) in
-    let joined = ap (distinct_count nat_eq) (map-append subject xs ys) in
-    let entries = sum_by-append (λ x. cond (is_entry x) 1 0) xs ys in
+    let inodes = count_front nat_eq_equiv (touches xs) (touches ys) in
+    let joined = ap (distinct_count nat_eq) (flat_map-append subjects xs ys) in
+    let entries = sum_by-append entry_weight xs ys in
     omega (arith, inodes, joined, entries)
 
 blocks_front : (xs ys : List Effect) → blocks xs ≤ blocks (xs ++ ys)
@@ -137,27 +136,27 @@ set_count cmp eq laws tied s xs ordered has =
     length-from_keys laws s.keys xs (subst (λ e. IsDistinct e s.keys) same (IsDistinct-from_sorted cmp s.keys ordered))
     (λ q. sym (same_any (λ x. eq_by_cmp cmp q x) (eq q) (tied q) s.keys) ∙ has q)
 
-few : (i e b c most m : ℕ) → e ≡ min c most → (nat_le (4 * i + 2 * e + 1) most && nat_le b m) ≡ (nat_le (4 * i + 2 * c + 1) most && nat_le b m)
+few : (i e b c most m : ℕ) → e ≡ min c most → (nat_le (4 * i + e + 1) most && nat_le b m) ≡ (nat_le (4 * i + c + 1) most && nat_le b m)
 few i e b c most m is = grind (arith, nat_tests)
 
 pub counted_fits : (es : List Effect) (w : Weight) (is_few : Bool) → Weighs es w → IsOrdered nat_cmp w.inodes → IsOrdered block_cmp w.blocks
-    → is_few ≡ (nat_le (4 * length w.inodes.keys + 2 * w.entries + 1) CHUNK_IMAGES && nat_le (length w.blocks.keys) CHUNK_BLOCKS) → is_few ≡ fits_chunk es
+    → is_few ≡ (nat_le (4 * length w.inodes.keys + w.entries + 1) CHUNK_IMAGES && nat_le (length w.blocks.keys) CHUNK_BLOCKS) → is_few ≡ fits_chunk es
 unfolding fits_chunk
 counted_fits es w is_few is inodes all answer =
     answer
-    ∙ few (length w.inodes.keys) w.entries (length w.blocks.keys) (count_by is_entry es) CHUNK_IMAGES CHUNK_BLOCKS is.entries
-    ∙ ap (λ n. nat_le (4 * n + 2 * count_by is_entry es + 1) CHUNK_IMAGES && nat_le (length w.blocks.keys) CHUNK_BLOCKS) (set_count nat_cmp nat_eq nat_eq_equiv unsigned_tied w.inodes (map subject es) inodes is.inodes)
+    ∙ few (length w.inodes.keys) w.entries (length w.blocks.keys) (sum_by entry_weight es) CHUNK_IMAGES CHUNK_BLOCKS is.entries
+    ∙ ap (λ n. nat_le (4 * n + sum_by entry_weight es + 1) CHUNK_IMAGES && nat_le (length w.blocks.keys) CHUNK_BLOCKS) (set_count nat_cmp nat_eq nat_eq_equiv unsigned_tied w.inodes (touches es) inodes is.inodes)
     ∙ ap (λ n. nat_le (images es) CHUNK_IMAGES && nat_le n CHUNK_BLOCKS) (set_count block_cmp same_block block_laws block_eq w.blocks (flat_map file_blocks es) all is.blocks)
 
 -- ---- what is counted at most
 
-surely : (i j e b c n d most m large : ℕ) → i ≡ j → e ≡ min c most → b ≡ min n large → d ≤ n → m < large → (nat_le (4 * i + 2 * e + 1) most && nat_le b m) ≡ true → (nat_le (4 * j + 2 * c + 1) most && nat_le d m) ≡ true
+surely : (i j e b c n d most m large : ℕ) → i ≡ j → e ≡ min c most → b ≡ min n large → d ≤ n → m < large → (nat_le (4 * i + e + 1) most && nat_le b m) ≡ true → (nat_le (4 * j + c + 1) most && nat_le d m) ≡ true
 surely i j e b c n d most m large same entries blocks once few h = grind (arith, nat_tests)
 
 pub estimate_fits : (es : List Effect) (w : Estimate) (is_few : Bool) → IsEstimate es w → IsOrdered nat_cmp w.inodes
-    → is_few ≡ (nat_le (4 * length w.inodes.keys + 2 * w.entries + 1) CHUNK_IMAGES && nat_le w.blocks CHUNK_BLOCKS) → is_few ≡ true → fits_chunk es ≡ true
+    → is_few ≡ (nat_le (4 * length w.inodes.keys + w.entries + 1) CHUNK_IMAGES && nat_le w.blocks CHUNK_BLOCKS) → is_few ≡ true → fits_chunk es ≡ true
 unfolding fits_chunk
 estimate_fits es w is_few is inodes answer told =
-    surely (length w.inodes.keys) (distinct_count nat_eq (map subject es)) w.entries w.blocks (count_by is_entry es) (length (flat_map file_blocks es)) (blocks es) CHUNK_IMAGES CHUNK_BLOCKS (2 ^ 64 - 1)
-    (set_count nat_cmp nat_eq nat_eq_equiv unsigned_tied w.inodes (map subject es) inodes is.inodes)
+    surely (length w.inodes.keys) (distinct_count nat_eq (touches es)) w.entries w.blocks (sum_by entry_weight es) (length (flat_map file_blocks es)) (blocks es) CHUNK_IMAGES CHUNK_BLOCKS (2 ^ 64 - 1)
+    (set_count nat_cmp nat_eq nat_eq_equiv unsigned_tied w.inodes (touches es) inodes is.inodes)
     is.entries is.blocks (distinct_count-le same_block (flat_map file_blocks es)) (omega arith) (sym answer ∙ told)

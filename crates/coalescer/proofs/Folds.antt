@@ -1,6 +1,6 @@
 -- Effects one after the other, as a loop adds them.
 use Rattle.std.proofs.Common.{◌≡◌, List, [], ◌∷◌, ◌++◌, refl, ℕ, suc, ◌+◌, ◌<◌, ◌≤◌, zero, length, take, get_or, ap, sym, ◌∙◌, arith, append_assoc, subst}
-use Rattle.std.specs.Prelude.{Result, Ok, Err, IfErr, OnErr}
+use Rattle.std.specs.Prelude.{Result, Ok, Err, IfErr, OnErr, OnOk}
 use Rattle.std.proofs.Math.Seq.{take-suc}
 use Rattle.std.proofs.lemmas.List.Concat.{flat_map-append}
 use Rattle.std.proofs.lemmas.List.{append-nil, length-append, take_all}
@@ -58,6 +58,10 @@ some_among (r ∷ rs) (suc i) d lt some =
 pub on_error : {T E P : Type 0} (r : Result T E) → P → OnErr r P
 on_error (Ok x) holds = tt
 on_error (Err y) holds = holds
+
+pub on_success : {T E P : Type 0} (r : Result T E) → P → OnOk r P
+on_success (Ok x) holds = holds
+on_success (Err y) holds = tt
 
 pub of_error : {T E P : Type 0} (r : Result T E) → P → IfErr r (λ _. P)
 of_error (Ok x) holds = tt

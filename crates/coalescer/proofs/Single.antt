@@ -1,33 +1,58 @@
 -- One record of the format's limits fits, and so does the longest run of such records.
 use Rattle.std.proofs.Common.{◌≡◌, ℕ, zero, suc, ◌+◌, ◌*◌, ◌-◌, ◌/◌, ◌%◌, ◌≤◌, ◌==◌, cond, Bool, true, false, List, [], ◌∷◌, length, take, refl, ap, ◌∙◌, arith}
-use Rattle.std.specs.Prelude.{◌&&◌, nat_eq, nat_le, map}
-use Rattle.std.specs.List.{flat_map, range_with_len, AllByRecursion}
+use Rattle.std.specs.Prelude.{◌&&◌, nat_eq, nat_le, max}
+use Rattle.std.specs.List.{flat_map, range_with_len, sum_by, AllByRecursion}
 use Rattle.std.proofs.Math.Seq.{take-nil}
 use Rattle.std.proofs.lemmas.Bool.Decides.{nat_tests}
 use Rattle.std.proofs.lemmas.List.{append-nil, length-append, length-map}
 use Rattle.std.proofs.lemmas.List.FromFn.{length-range_with_len}
-use Rattle.std.proofs.lemmas.List.Sums.{count_by-le-length}
+use Rattle.std.proofs.lemmas.List.Concat.{flat_map-cons}
+use Rattle.std.proofs.lemmas.List.Sums.{sum_by-cons}
 use Rattle.std.proofs.lemmas.Map.Made.{distinct_count-le}
 use Rattle.posix_calls.specs.declared.limits.TheConstants.{UNIT_BYTES}
 use Rattle.graph_change.specs.file_graph.declared.effect.Effect.{Effect}
 use Rattle.graph_change.specs.file_graph.declared.effect.Effect.TheVariants as effect
-use Rattle.graph_change.specs.Change.{subject, span}
+use Rattle.graph_change.specs.file_graph.Graph.{subjects, touches}
+use Rattle.graph_change.specs.Change.{span}
 use Rattle.log_record.specs.declared.format.Record.{Record}
+use Rattle.log_record.specs.declared.format.TheConstants.{MAX_EFFECTS}
 use Rattle.log_record.specs.Grammar.{FitsLimits, IsRecord}
-use Rattle.coalescer.specs.declared.weight.TheConstants.{CHUNK_IMAGES, CHUNK_BLOCKS}
+use Rattle.coalescer.specs.declared.weight.TheConstants.{CHUNK_IMAGES, CHUNK_BLOCKS, DATA_WEIGHT}
 use Rattle.coalescer.specs.Records.{effects_in}
-use Rattle.coalescer.specs.Weight.{is_entry, file_blocks, same_block, images, blocks, fits_chunk, IsLongestRun}
+use Rattle.coalescer.specs.Weight.{entry_weight, file_blocks, same_block, images, blocks, fits_chunk, IsLongestRun}
 
 -- ---- images
 
-pub few_images : (es : List Effect) → images es ≤ 6 * length es + 1
-few_images es =
-    let inodes = distinct_count-le nat_eq (map subject es) in
-    let each = length-map es subject in
-    let entries = count_by-le-length is_entry es in
-    omega (arith, inodes, each, entries)
+-- what one effect weighs at most: a Swap, with two inodes, or an effect on bytes
+abbrev heaviest : ℕ
+heaviest = max 10 (4 + DATA_WEIGHT)
 
-pub record_images : (r : Record) → IsRecord r → images r.effects ≤ 49
+one_weight : (e : Effect) → 4 * length (subjects e) + entry_weight e ≤ heaviest
+one_weight (effect.Make i kind) = omega arith
+one_weight (effect.Enter d i kind name) = omega arith
+one_weight (effect.Leave d name) = omega arith
+one_weight (effect.Names i n) = omega arith
+one_weight (effect.Size i size) = omega arith
+one_weight (effect.Bytes i at bytes) = omega arith
+one_weight (effect.Drop i) = omega arith
+one_weight (effect.Swap d a e b) = omega arith
+
+all_weights : (es : List Effect) → 4 * length (touches es) + sum_by entry_weight es ≤ heaviest * length es
+all_weights [] = omega arith
+all_weights (e ∷ es) =
+    let joined = ap length (flat_map-cons subjects e es) ∙ length-append (subjects e) (touches es) in
+    let one = one_weight e in
+    let others = all_weights es in
+    let sum = sum_by-cons entry_weight e es in
+    omega (arith, joined, one, others, sum)
+
+pub few_images : (es : List Effect) → images es ≤ heaviest * length es + 1
+few_images es =
+    let inodes = distinct_count-le nat_eq (touches es) in
+    let all = all_weights es in
+    omega (arith, inodes, all)
+
+pub record_images : (r : Record) → IsRecord r → images r.effects ≤ heaviest * MAX_EFFECTS + 1
 record_images r is = let all = few_images r.effects in omega (arith, all, is.few)
 
 -- ---- blocks
@@ -52,6 +77,7 @@ effect_blocks (effect.Bytes i at bytes) fit =
     let short = short_span at (length bytes) fit.2 in
     omega (arith, each, short)
 effect_blocks (effect.Drop i) fit = omega arith
+effect_blocks (effect.Swap d a e b) fit = omega arith
 
 few_blocks : (es : List Effect) → AllByRecursion FitsLimits es → length (flat_map file_blocks es) ≤ 17 * length es
 few_blocks [] fit = omega arith

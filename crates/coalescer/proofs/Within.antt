@@ -32,18 +32,18 @@ use Rattle.coalescer.proofs.Counts.{member_unique, block_laws, and_true, same_an
 
 -- ---- of truth values
 
-or_left : (a b : Bool) → a ≡ true → (a || b) ≡ true
+pub or_left : (a b : Bool) → a ≡ true → (a || b) ≡ true
 or_left a b h = ap (λ x. x || b) h
 
-or_right : (a b : Bool) → b ≡ true → (a || b) ≡ true
+pub or_right : (a b : Bool) → b ≡ true → (a || b) ≡ true
 or_right true b h = refl
 or_right false b h = h
 
-or_cases : (a b : Bool) → (a || b) ≡ true → (a ≡ true) ⊎ (b ≡ true)
+pub or_cases : (a b : Bool) → (a || b) ≡ true → (a ≡ true) ⊎ (b ≡ true)
 or_cases true b h = inl refl
 or_cases false b h = inr h
 
-and_nothing : (a : Bool) → (a && false) ≡ false
+pub and_nothing : (a : Bool) → (a && false) ≡ false
 and_nothing true = refl
 and_nothing false = refl
 
@@ -95,6 +95,7 @@ named_block (effect.Names s n) i b = and_nothing (i == s)
 named_block (effect.Size s size) i b = of_last i s b (size / UNIT_BYTES) (size % UNIT_BYTES == 0)
 named_block (effect.Bytes s at bytes) i b = of_row i s b (span at (length bytes))
 named_block (effect.Drop s) i b = and_nothing (i == s)
+named_block (effect.Swap s a e c) i b = and_nothing (i == s)
 
 named_blocks : (es : List Effect) (i b : ℕ) → changes_block es i b ≡ is_member same_block (flat_map file_blocks es) (i, b)
 named_blocks [] i b = refl
@@ -103,10 +104,14 @@ named_blocks (e ∷ es) i b =
     ∙ ap (λ t. is_member same_block (file_blocks e) (i, b) || t) (named_blocks es i b)
     ∙ sym (list_any-append (same_block (i, b)) (file_blocks e) (flat_map file_blocks es))
 
+-- a change that writes no other blocks than that of the effects
+pub blocks_within_by : (es : List Effect) (cs : Changes) → ((i b : ℕ) → writes_block (change_at cs i) b ≡ true → writes_block (change_at (coalesced_changes es) i) b ≡ true) → (bs : List (ℕ × ℕ)) → AreBlocksIn cs bs → length bs ≤ blocks es
+blocks_within_by es cs no_others bs are =
+    bounded same_block block_laws same_blocks (λ b. writes_block (change_at cs b.0) b.1 ≡ true) bs (flat_map file_blocks es) are.0 are.1
+    (λ q written. sym (named_blocks es q.0 q.1) ∙ (coalesces es).blocks q.0 q.1 (no_others q.0 q.1 written))
+
 pub blocks_within : (es : List Effect) (bs : List (ℕ × ℕ)) → AreBlocksIn (coalesced_changes es) bs → length bs ≤ blocks es
-blocks_within es bs are =
-    bounded same_block block_laws same_blocks (λ b. writes_block (change_at (coalesced_changes es) b.0) b.1 ≡ true) bs (flat_map file_blocks es) are.0 are.1
-    (λ q written. sym (named_blocks es q.0 q.1) ∙ (coalesces es).blocks q.0 q.1 written)
+blocks_within es bs are = blocks_within_by es (coalesced_changes es) (λ i b written. written) bs are
 
 -- ---- entries
 
@@ -156,6 +161,7 @@ one_more (effect.Names i n) c q h = inl h
 one_more (effect.Size i size) c q h = inl h
 one_more (effect.Bytes i at bytes) c q h = inl h
 one_more (effect.Drop i) c q h = absurd (false≢true (sym (no_entry Gone q) ∙ h))
+one_more (effect.Swap d a e b) c q h = inl h
 
 there : (e : Effect) (cs : Changes) (i : ℕ) (q : List ℕ) → fin.contains_key (change_at (with_effect e cs) i).entries q ≡ true → (fin.contains_key (change_at cs i).entries q ≡ true) ⊎ (is_member same_entry (entry_named e) (i, q) ≡ true)
 there e cs i q h =
@@ -193,6 +199,7 @@ one_named (effect.Names i n) = refl
 one_named (effect.Size i size) = refl
 one_named (effect.Bytes i at bytes) = refl
 one_named (effect.Drop i) = refl
+one_named (effect.Swap d a e b) = refl
 
 all_named : (es : List Effect) → length (flat_map entry_named es) ≡ count_by is_entry es
 all_named es = length-flat_map entry_named es ∙ ap (λ (f : Effect → ℕ). sum_by f es) (λ t e. one_named e t)
@@ -222,7 +229,7 @@ below_apart x (e ∷ es) h =
     let both = and_true (is_lt (nat_cmp x e.0)) (below_all nat_cmp x es) h in
     (sym (unsigned_tied x e.0) ∙ less_is_apart (nat_cmp x e.0) both.0, below_apart x es both.1)
 
-keys_apart : {A : Type 0} (es : List (ℕ × A)) → is_sorted nat_cmp es ≡ true → IsDistinct nat_eq (map (λ e. e.0) es)
+pub keys_apart : {A : Type 0} (es : List (ℕ × A)) → is_sorted nat_cmp es ≡ true → IsDistinct nat_eq (map (λ e. e.0) es)
 keys_apart [] h = empty_distinct nat_eq
 keys_apart (e ∷ es) h =
     let both = and_true (below_all nat_cmp e.0 es) (is_sorted nat_cmp es) h in

@@ -1,6 +1,6 @@
 pub mod EffectCounts
-pub mod Exchange
 pub mod Records
+pub mod RunChange
 pub mod Weight
 pub mod Within
 -- Handed on to the crates above, which list only the highest of what they name.

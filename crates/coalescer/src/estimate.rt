@@ -8,7 +8,7 @@ ghost use Rattle.coalescer.specs.EffectCounts.{IsEstimate};
 ghost use Rattle.coalescer.specs.Records.{effects_in};
 ghost use Rattle.coalescer.specs.Weight.{fits_chunk, file_blocks};
 
-use crate::weight::{are_few, is_entry, last_of, with_one_more};
+use crate::weight::{add_inodes, are_few, entry_weight, last_of, with_weight};
 use graph_change::in_file_graph::Effect;
 use log_record::Record;
 use posix_calls::UNIT_BYTES;
@@ -19,7 +19,7 @@ use std::collections::BTreeSet;
 #[derive(Drop)]
 pub struct Estimate {
     inodes: BTreeSet<u32>,
-    // Counted up to `CHUNK_IMAGES`: as many never fit.
+    // Summed up to `CHUNK_IMAGES`: as many never fit.
     entries: usize,
     blocks: u64,
 }
@@ -50,8 +50,8 @@ impl Estimate {
     fn add_effect(&mut self, effect: &Effect) -> Result<(), AllocError>
         ensures { OnOk result ((es : List Effect) → IsEstimate es self.old → IsEstimate (es ++ effect.now ∷ []) self.new) }
     {
-        self.inodes.insert(effect.subject())?;
-        self.entries = with_one_more(self.entries, is_entry(effect));
+        add_inodes(&mut self.inodes, effect)?;
+        self.entries = with_weight(self.entries, entry_weight(effect));
         self.blocks = self.blocks.saturating_add(blocks_of(effect));
         Ok(())
     }

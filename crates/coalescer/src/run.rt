@@ -9,7 +9,7 @@ use std::alloc::{AllocError, Global};
 
 /// How many of the first of these records are taken at once: the longest run of them that takes at most `CHUNK_IMAGES` images and writes
 /// at most `CHUNK_BLOCKS` blocks, and one at least, where there is one. The images are four for each inode that the records change, two for
-/// each change of an entry, and one for the mark. A block within which a size ends counts as written, also a hole that stays one. An error
+/// each change of an entry and for each Swap, and one for the mark. A block within which a size ends counts as written, also a hole that stays one. An error
 /// is want of memory, which is asked for only where a record has an effect.
 pub fn longest_run(alloc: Global, records: &[Record]) -> Result<usize, AllocError>
     ensures exact { IfOk result (IsLongestRun records.now) }

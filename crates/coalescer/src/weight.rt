@@ -1,11 +1,13 @@
-ghost use Rattle.std.specs.Prelude.{◌≡◌, ◌≤◌, ◌+◌, ◌-◌, ◌*◌, ◌/◌, ◌^◌, ℕ, ◌++◌, ◌∷◌, List, [], ◌||◌, ◌&&◌, nat_le, nat_lt, if◌then◌else◌, OnErr, OnOk, length, ◌<◌};
+ghost use Rattle.std.specs.Prelude.{◌≡◌, ◌≤◌, ◌+◌, ◌-◌, ◌*◌, ◌/◌, ◌^◌, ℕ, ◌++◌, ◌∷◌, List, [], ◌||◌, ◌&&◌, nat_eq, nat_le, min, OnErr, OnOk, length, ◌<◌};
 ghost use Rattle.std.specs.List.{range_with_len};
 ghost use Rattle.std.specs.Set.{is_member};
 ghost use Rattle.std.specs.BTreeSet.{contains};
+ghost use Rattle.std.specs.Ordering.{nat_cmp};
 ghost use Rattle.posix_calls.specs.declared.limits.TheConstants.{UNIT_BYTES};
 ghost use Rattle.graph_change.specs.file_graph.declared.effect.Effect.{Effect};
-ghost use Rattle.graph_change.specs.Change.{subject, span};
-ghost use Rattle.coalescer.specs.Weight.{fits_chunk, is_entry, file_blocks, last_block, blocks_at, same_block};
+ghost use Rattle.graph_change.specs.file_graph.Graph.{subjects};
+ghost use Rattle.graph_change.specs.Change.{span};
+ghost use Rattle.coalescer.specs.Weight.{fits_chunk, entry_weight, file_blocks, last_block, blocks_at, same_block};
 ghost use Rattle.coalescer.specs.EffectCounts.{Weighs, block_cmp};
 
 use graph_change::in_file_graph::Effect;
@@ -20,11 +22,17 @@ pub const CHUNK_IMAGES: usize = 256;
 /// The most blocks of files that one run of records writes.
 pub const CHUNK_BLOCKS: usize = 512;
 
+/// The images that a changed entry of a directory takes, and the two entries of a Swap together.
+pub const ENTRY_WEIGHT: usize = 2;
+
+/// The images that an effect on the bytes of a file takes, besides those of its inode.
+pub const DATA_WEIGHT: usize = 0;
+
 /// What weighs in some effects.
 #[derive(Drop)]
 pub struct Weight {
     inodes: BTreeSet<u32>,
-    // Counted up to `CHUNK_IMAGES`: as many never fit.
+    // Summed up to `CHUNK_IMAGES`: as many never fit.
     entries: usize,
     blocks: BTreeSet<(u32, u64)>,
 }
@@ -55,8 +63,8 @@ impl Weight {
     fn add_effect(&mut self, effect: &Effect) -> Result<(), AllocError>
         ensures { OnOk result ((es : List Effect) → Weighs es self.old → Weighs (es ++ effect.now ∷ []) self.new) }
     {
-        self.inodes.insert(effect.subject())?;
-        self.entries = with_one_more(self.entries, is_entry(effect));
+        add_inodes(&mut self.inodes, effect)?;
+        self.entries = with_weight(self.entries, entry_weight(effect));
         add_file_blocks(&mut self.blocks, effect)
     }
 
@@ -68,33 +76,48 @@ impl Weight {
     }
 }
 
-/// Adds 1 to a count of entries if `is_one`; from `CHUNK_IMAGES` on the count stays.
-pub fn with_one_more(entries: usize, is_one: bool) -> usize
-    ensures { result ≡ (if is_one && nat_lt entries CHUNK_IMAGES then entries + 1 else entries) }
+/// Adds a weight in images to a sum of such; at `CHUNK_IMAGES` the sum stays.
+pub fn with_weight(sum: usize, weight: usize) -> usize
+    ensures { result ≡ min (sum + weight) CHUNK_IMAGES }
 {
-    if is_one && entries < CHUNK_IMAGES {
-        entries + 1
-    } else {
-        entries
-    }
+    sum.saturating_add(weight).min(CHUNK_IMAGES)
 }
 
-/// Answers whether 4 images an inode, 2 an entry and one mark are at most `CHUNK_IMAGES`, and the blocks at most
+/// Answers whether 4 images an inode, those of the entries and one mark are at most `CHUNK_IMAGES`, and the blocks at most
 /// `CHUNK_BLOCKS`.
 pub fn are_few(inodes: usize, entries: usize, blocks: usize) -> bool
-    ensures { result ≡ (nat_le (4 * inodes + 2 * entries + 1) CHUNK_IMAGES && nat_le blocks CHUNK_BLOCKS) }
+    ensures { result ≡ (nat_le (4 * inodes + entries + 1) CHUNK_IMAGES && nat_le blocks CHUNK_BLOCKS) }
 {
     inodes < CHUNK_IMAGES
         && entries < CHUNK_IMAGES
-        && 4 * inodes + 2 * entries + 1 <= CHUNK_IMAGES
+        && 4 * inodes + entries + 1 <= CHUNK_IMAGES
         && blocks <= CHUNK_BLOCKS
 }
 
-/// Answers whether the effect adds or removes an entry of a directory.
-pub fn is_entry(effect: &Effect) -> bool
-    ensures { result ≡ is_entry effect.now }
+/// How many images an effect takes besides those of its inodes.
+pub fn entry_weight(effect: &Effect) -> usize
+    ensures { result ≡ entry_weight effect.now }
 {
-    matches!(effect, Effect::Enter { .. } | Effect::Leave { .. })
+    match effect {
+        Effect::Enter { .. } | Effect::Leave { .. } | Effect::Swap { .. } => ENTRY_WEIGHT,
+        Effect::Size { .. } | Effect::Bytes { .. } => DATA_WEIGHT,
+        Effect::Make { .. } | Effect::Names { .. } | Effect::Drop { .. } => 0,
+    }
+}
+
+/// Adds the inodes that an effect is on, one or two.
+pub fn add_inodes(inodes: &mut BTreeSet<u32>, effect: &Effect) -> Result<(), AllocError>
+    ensures { OnOk result ((q : ℕ) → contains nat_cmp inodes.new q ≡ (contains nat_cmp inodes.old q || is_member nat_eq (subjects effect.now) q)) }
+{
+    let (inode, other) = effect.subjects();
+    inodes.insert(inode)?;
+    match other {
+        Some(second) => {
+            inodes.insert(second)?;
+            Ok(())
+        }
+        None => Ok(()),
+    }
 }
 
 // Adds the blocks that an effect writes, or cuts within.

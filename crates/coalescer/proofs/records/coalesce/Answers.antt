@@ -1,33 +1,24 @@
-use Rattle.std.proofs.Common.{◌≡◌, ◌<◌, length, take, ap, sym, ◌∙◌, subst}
-use Rattle.std.specs.FinMap as fin
-use Rattle.graph_change.specs.Change.{Coalesces, coalesced_changes}
-use Rattle.graph_change.specs.View.{changes_of}
+use Rattle.std.proofs.Common.{◌≡◌, List, ap, sym, ◌∙◌, subst}
+use Rattle.graph_change.specs.file_graph.declared.effect.Effect.{Effect}
+use Rattle.graph_change.specs.Change.{Changes, Coalesces}
+use Rattle.graph_change.specs.Swaps.{SwappedChange, swapped_graph}
+use Rattle.graph_change.proofs.SwapNames.{sum_is}
 use Rattle.graph_change.proofs.Touched.{coalesces}
-use Rattle.log_record.specs.declared.format.Record.{Record}
 use Rattle.coalescer.specs.Records.{effects_in}
-use Rattle.std.proofs.lemmas.List.{take_all}
-use Rattle.coalescer.proofs.Folds.{with_more, next_record, some_among, of_error}
 use Rattle.coalescer.proofs.records.coalesce.Goals as goal
 
-pub loop-logged-preserved : goal.loop-logged-preserved
-loop-logged-preserved c =
-    let i = c.loop-logged.logged-index in
-    let rs = c.args.records.now in
-    let d = c.logged-item.result in
-    let next = next_record rs i d c.loop-logged-test.true in
-    let more = with_more fin.empty (effects_in (take i rs)) d.effects in
-    cc (c.in_ok-add_record.ensures.exact, c.loop-logged.invariant, c.logged-item.is, next, more)
+-- a change, with names beside it
+abbrev beside : Changes → List Effect → SwappedChange
+beside change names = record { change = change; names = names }
 
-pub returns-clause-meaning : goal.returns-clause-meaning
-returns-clause-meaning c =
-    let rs = c.args.records.now in
-    let is : changes_of c.loop-logged.change ≡ coalesced_changes (effects_in rs) = c.loop-logged.invariant ∙ ap (λ x. coalesced_changes (effects_in x)) (take_all c.loop-logged.logged-index rs c.loop-logged-test.false) in
-    subst (Coalesces (effects_in rs)) (sym is) (coalesces (effects_in rs))
+same : (c d : Changes) (m n : List Effect) → c ≡ d → m ≡ n → beside c m ≡ beside d n
+same c d m n change names = ap (λ (x : Changes). beside x m) change ∙ ap (λ (x : List Effect). beside d x) names
 
 pub returns-clause-exact : goal.returns-clause-exact
-returns-clause-exact c = c.loop-logged.invariant ∙ ap (λ x. coalesced_changes (effects_in x)) (take_all c.loop-logged.logged-index c.args.records.now c.loop-logged-test.false)
+returns-clause-exact c = same _ _ _ _ c.in_ok-change.ensures.exact c.in_ok-names.ensures.exact
 
-pub returns-in_err-add_record-clause-memory : goal.returns-in_err-add_record-clause-memory
-returns-in_err-add_record-clause-memory c =
-    let d = c.logged-item.result in
-    of_error c.from_residual.result (some_among c.args.records.now c.loop-logged.logged-index d c.loop-logged-test.true (subst (λ (r : Record). 0 < length r.effects) c.logged-item.is c.in_err-add_record.ensures.memory))
+pub returns-clause-meaning : goal.returns-clause-meaning
+returns-clause-meaning c = λ g. ap (λ (s : SwappedChange). swapped_graph s g) (same _ _ _ _ c.in_ok-change.ensures.exact c.in_ok-names.ensures.exact) ∙ sum_is (effects_in c.args.records.now) g
+
+pub returns-clause-once : goal.returns-clause-once
+returns-clause-once c = subst (Coalesces (effects_in c.args.records.now)) (sym c.in_ok-change.ensures.exact) (coalesces (effects_in c.args.records.now))
