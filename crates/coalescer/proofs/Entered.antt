@@ -1,5 +1,5 @@
 -- What swapped names lead to, entered one after the other.
-use Rattle.std.proofs.Common.{◌≡◌, ℕ, ◌+◌, ◌<◌, List, [], ◌∷◌, ◌++◌, length, take, get_or, Option, Some, None, refl, ap, sym, ◌∙◌, append_assoc}
+use Rattle.std.proofs.Common.{◌≡◌, ℕ, ◌+◌, ◌<◌, List, [], ◌∷◌, ◌++◌, length, take, get_or, Option, Some, None, refl, ap, sym, ◌∙◌}
 use Rattle.graph_change.specs.file_graph.declared.effect.Effect.{Effect}
 use Rattle.graph_change.specs.file_graph.declared.effect.Effect.TheVariants as effect
 use Rattle.graph_change.specs.file_graph.Graph.{Graph, StandAlike, after_effect, after_effects, child_at, swap_places, swapped_directories, entered_if, entered_places}

@@ -1,6 +1,6 @@
 -- What is entered at swapped names adds to a change no block, and no inode that the effects do not touch.
-use Rattle.std.proofs.Common.{◌≡◌, inl, inr, ℕ, ◌≤◌, ◌==◌, Bool, true, false, List, [], ◌∷◌, length, Option, Some, None, refl, ap, sym, ◌∙◌, subst, arith}
-use Rattle.std.specs.Prelude.{◌||◌, ◌&&◌, nat_eq, map, if◌then◌else◌}
+use Rattle.std.proofs.Common.{◌≡◌, inl, inr, ℕ, ◌≤◌, ◌==◌, true, false, List, [], ◌∷◌, length, Option, Some, None, refl, ap, sym, ◌∙◌, subst, arith}
+use Rattle.std.specs.Prelude.{◌||◌, nat_eq, map, if◌then◌else◌}
 use Rattle.std.specs.Ordering.{nat_cmp, eq_by_cmp}
 use Rattle.std.specs.Cmp.{nat_eq_equiv, unsigned_tied}
 use Rattle.std.specs.List.{list_any}
@@ -18,7 +18,7 @@ use Rattle.graph_change.specs.file_graph.Graph.{Graph, child_at, subjects, touch
 use Rattle.graph_change.specs.file_graph.Plain.{is_swap}
 use Rattle.graph_change.specs.Net.{Child}
 use Rattle.graph_change.specs.Change.{Changes, subject, change_at, with_effects, coalesced_changes, writes_block, changes_inode, changes_block}
-use Rattle.graph_change.specs.Swaps.{kept_names, on_names, told_change, swapped_sum}
+use Rattle.graph_change.specs.Swaps.{kept_names, on_names}
 use Rattle.graph_change.proofs.SwapNames.{places_are}
 use Rattle.graph_change.proofs.Touched.{coalesces, with_blocks, with_has}
 use Rattle.coalescer.specs.Weight.{blocks}

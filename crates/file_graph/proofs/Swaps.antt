@@ -8,7 +8,7 @@ use Rattle.std.specs.Cmp.Lexicographic.{slice_cmp, nat_list_cmp_total}
 use Rattle.std.specs.FinMap as fin
 use Rattle.std.proofs.lemmas.Bool.{eq-eqb, false≢true}
 use Rattle.std.proofs.lemmas.Bool.Decides.{eqb_tells}
-use Rattle.posix_calls.specs.Content.{Entries, with_length, with_bytes}
+use Rattle.posix_calls.specs.Content.{with_length, with_bytes}
 use Rattle.posix_calls.proofs.Directory.{names_same}
 use Rattle.posix_calls.specs.Units.{file_units, directory_units}
 use Rattle.posix_calls.proofs.Counts.{alike}

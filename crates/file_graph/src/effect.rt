@@ -58,7 +58,7 @@ impl Child {
     }
 }
 
-/// One change of one node. On an inode that is no node, or of another kind, all but a Make and a Drop do nothing.
+/// One change of one node, or of two names. On an inode that is no node, or of another kind, all but a Make and a Drop do nothing.
 #[derive(Debug, Drop)]
 pub enum Effect {
     /// An empty node with no names, in the place of what the inode was.

@@ -1,7 +1,6 @@
 -- What names lead to after effects is told by the effects on names alone.
 use Rattle.std.proofs.Common.{◌≡◌, ℕ, ◌||◌, cond, Bool, true, false, List, [], ◌∷◌, refl, Some, None, Option, ap, sym, ◌∙◌}
 use Rattle.std.specs.Prelude.{option_map, if◌then◌else◌}
-use Rattle.std.specs.Ordering.{nat_cmp}
 use Rattle.std.specs.List.{list_any, AllByRecursion}
 use Rattle.file_graph.specs.Plain.{is_swap}
 use Rattle.std.specs.FinMap as fin

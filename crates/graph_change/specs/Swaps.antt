@@ -1,5 +1,5 @@
 -- What effects sum up to where names are swapped among them.
-use Rattle.std.specs.Prelude.{ℕ, List, [], ◌∷◌, Bool, true, false, if◌then◌else◌}
+use Rattle.std.specs.Prelude.{List, [], ◌∷◌, Bool, true, false, if◌then◌else◌}
 use Rattle.std.specs.List.{list_any}
 use Rattle.file_graph.specs.Plain.{is_swap}
 use Rattle.file_graph.specs.Graph.{Graph, after_effects, swap_places, entered_places}

@@ -1,4 +1,4 @@
-use Rattle.std.proofs.Common.{◌≡◌, ◌<◌, length, take, ap, ◌∙◌, subst}
+use Rattle.std.proofs.Common.{◌<◌, length, take, ap, ◌∙◌, subst}
 use Rattle.std.specs.FinMap as fin
 use Rattle.graph_change.specs.Change.{coalesced_changes}
 use Rattle.log_record.specs.declared.format.Record.{Record}

@@ -1,4 +1,4 @@
-use Rattle.std.proofs.Common.{[], ℕ, List, Option, ap, ◌∙◌}
+use Rattle.std.proofs.Common.{[], Option, ap, ◌∙◌}
 use Rattle.std.proofs.lemmas.Result.{on_ok_weaker}
 use Rattle.graph_change.specs.file_graph.Graph.{child_at, entered_if, graph_of}
 use Rattle.graph_change.specs.Net.{Child}

@@ -1,4 +1,4 @@
-use Rattle.std.proofs.Common.{◌≡◌, Ok, Err, None, subst, sym}
+use Rattle.std.proofs.Common.{◌≡◌, Ok, Err, subst, sym}
 use Rattle.std.specs.Prelude.{IsSome}
 use Rattle.std.proofs.lemmas.Bool.{false≢true}
 use Rattle.file_graph.specs.NameOrder.{position_in}
