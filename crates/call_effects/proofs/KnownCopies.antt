@@ -1,12 +1,13 @@
 -- What is known of nodes after effects is so in the graph after them.
-use Rattle.std.proofs.Common.{◌≡◌, ℕ, List, [], ◌∷◌, ◌++◌, refl, Some, None, Option, cond, ap, sym, ◌∙◌, true, false, Bool}
+use Rattle.std.proofs.Common.{◌≡◌, ℕ, List, [], ◌∷◌, ◌++◌, refl, Some, None, Option, cond, ap, sym, ◌∙◌, true, false, Bool, ◌==◌, ◌||◌}
 use Rattle.std.specs.Prelude.{option_map, unwrap_or, IsSome, is_some}
 use Rattle.std.specs.FinMap as fin
 use Rattle.log_record.specs.file_graph.Graph.{Graph, Node, FileBody, DirBody, subjects, is_among, acted_graph, acted_all, exchanged_entries, node_entries, child_at, plain_effects, after_effect, after_effects, touches, swapped_directories}
 use Rattle.log_record.specs.file_graph.declared.effect.Kind.{Kind}
 use Rattle.log_record.specs.file_graph.declared.effect.Effect.{Effect}
 use Rattle.log_record.specs.file_graph.declared.effect.Effect.TheVariants as effect
-use Rattle.call_effects.specs.KnownCopies.{Copies, AreSeen, child_known, plain_known, known_acted, known_acted_all, known_after, IsSwapKnown, SwapsAreKnown}
+use Rattle.log_record.proofs.file_graph_lemmas.Touches.{here}
+use Rattle.call_effects.specs.KnownCopies.{Copies, AreSeen, child_known, plain_known, known_acted, known_acted_all, known_after_effect, known_after, IsSwapKnown, SwapsAreKnown}
 use Rattle.call_effects.specs.NodeView.{NodeView, view_of_node, view_of_body, view_at, view_acted, view_after, view_entries}
 use Rattle.call_effects.proofs.Blocks.{mapped}
 use Rattle.call_effects.proofs.NodeViews.{view_acts_if, among_append}
@@ -50,13 +51,13 @@ seen_after [] known g seen swaps = seen
 seen_after (e ∷ es) known g seen swaps =
     let here = plain_seen known g e seen swaps.0 in
     let next = all_seen (plain_known known e) known g seen in
-    seen_after es (known_acted_all (plain_known known e) known) (after_effect g e) (λ j c at. ap (λ ps. view_at (acted_all g ps) j) (sym here) ∙ next j c at) swaps.1
+    seen_after es (known_after_effect e known) (after_effect g e) (λ j c at. ap (λ ps. view_at (acted_all g ps) j) (sym here) ∙ next j c at) swaps.1
 
 -- ---- one list of effects after another
 
 pub known_joined : (es more : List Effect) (known : Copies) → known_after (es ++ more) known ≡ known_after more (known_after es known)
 known_joined [] more known = refl
-known_joined (e ∷ es) more known = known_joined es more (known_acted_all (plain_known known e) known)
+known_joined (e ∷ es) more known = known_joined es more (known_after_effect e known)
 
 -- ---- at an inode that no Swap names
 
@@ -91,9 +92,41 @@ known_alone (effect.Swap d a e b ∷ es) known i off =
     let all = among_append i (d ∷ e ∷ []) (swapped_directories es) off in
     let two = among_append i (d ∷ []) (e ∷ []) all.0 in
     let swap = effect.Swap d a e b in
-    known_alone es (known_acted_all (plain_known known swap) known) i all.1
+    known_alone es (known_after_effect swap known) i all.1
     ∙ ap (option_map (view_after es i)) (exchanged_apart d a e b (child_known known d a) (child_known known e b) known i two.0 two.1)
     ∙ ap (λ f. option_map f (known i)) (λ t v. view_after es i (cond_same (is_among i (d ∷ e ∷ [])) v t))
 known_alone (e ∷ es) known i off =
     known_alone es (known_acted e known) i off
     ∙ map_twice (λ v. cond (is_among i (subjects e)) (view_acted e v) v) (view_after es i) (known i)
+
+-- ---- what stays known
+
+map_some : {A B : Type 0} (f : A → B) (o : Option A) → is_some (option_map f o) ≡ is_some o
+map_some f None = refl
+map_some f (Some x) = refl
+
+some_acted : (es : List Effect) (known : Copies) (i : ℕ) → is_some (known_acted_all es known i) ≡ is_some (known i)
+some_acted [] known i = refl
+some_acted (e ∷ es) known i = some_acted es (known_acted e known) i ∙ map_some (λ v. cond (is_among i (subjects e)) (view_acted e v) v) (known i)
+
+-- of an inode something is known after effects if it was before them
+pub some_after : (es : List Effect) (known : Copies) (i : ℕ) → is_some (known_after es known i) ≡ is_some (known i)
+some_after [] known i = refl
+some_after (e ∷ es) known i = some_after es (known_after_effect e known) i ∙ some_acted (plain_known known e) known i
+
+abbrev KnowsAll : Copies → List ℕ → Type 0
+KnowsAll known is = (i : ℕ) → is_among i is ≡ true → IsSome (known i)
+
+-- so it is enough that the directories that Swaps name are known before all of them
+pub swaps_known : (es : List Effect) (known : Copies) → KnowsAll known (swapped_directories es) → SwapsAreKnown known es
+swaps_known [] known all = tt
+swaps_known (effect.Swap d a e b ∷ es) known all =
+    let swap = effect.Swap d a e b in
+    let rest = swapped_directories es in
+    ((all d (here d (e ∷ rest)), all e (later (d == e) (is_among e (e ∷ rest)) (here e rest))),
+      swaps_known es (known_after_effect swap known) (λ i among. some_acted (plain_known known swap) known i ∙ all i (later (d == i) (is_among i (e ∷ rest)) (later (e == i) (is_among i rest) among))))
+  where
+    later : (b c : Bool) → c ≡ true → (b || c) ≡ true
+    later true c e = refl
+    later false c e = e
+swaps_known (e ∷ es) known all = (tt, swaps_known es (known_acted e known) (λ i among. some_acted (e ∷ []) known i ∙ all i among))

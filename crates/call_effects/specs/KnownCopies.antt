@@ -29,10 +29,14 @@ abbrev pub known_acted_all : List Effect → Copies → Copies
 known_acted_all [] known = known
 known_acted_all (e ∷ es) known = known_acted_all es (known_acted e known)
 
+-- what is known after an effect
+abbrev pub known_after_effect : Effect → Copies → Copies
+known_after_effect e known = known_acted_all (plain_known known e) known
+
 -- what is known after effects, one after the other
 abbrev pub known_after : List Effect → Copies → Copies
 known_after [] known = known
-known_after (e ∷ es) known = known_after es (known_acted_all (plain_known known e) known)
+known_after (e ∷ es) known = known_after es (known_after_effect e known)
 
 -- what is known is so in a graph
 abbrev pub AreSeen : Copies → Graph → Type 0
@@ -46,4 +50,4 @@ IsSwapKnown known _ = Unit {0}
 -- of each Swap among effects both directories are known when its turn comes
 abbrev pub SwapsAreKnown : Copies → List Effect → Type 0
 SwapsAreKnown known [] = Unit {0}
-SwapsAreKnown known (e ∷ es) = IsSwapKnown known e × SwapsAreKnown (known_acted_all (plain_known known e) known) es
+SwapsAreKnown known (e ∷ es) = IsSwapKnown known e × SwapsAreKnown (known_after_effect e known) es

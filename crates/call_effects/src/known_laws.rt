@@ -134,11 +134,13 @@ pub fn planned_swaps_are_known()
 
 /// What is known of nodes of a graph, and the effects that follow, give what is so after them, where both directories of each Swap are
 /// known when its turn comes. Of an inode that no Swap names it depends on what was known of that inode alone. Lists of effects one
-/// behind the other are taken one after the other.
+/// behind the other are taken one after the other. What is known stays known, so it is enough that all directories that Swaps name
+/// are known before the effects.
 pub fn known_nodes_are_so_after_effects()
     ensures seen { (g : Graph) (es : List Effect) (known : Copies) → AreSeen known g → SwapsAreKnown known es → AreSeen (known_after es known) (after_effects g es) }
     ensures alone { (es : List Effect) (known : Copies) (i : ℕ) → is_among i (swapped_directories es) ≡ false → known_after es known i ≡ option_map (view_after es i) (known i) }
     ensures join { (first rest : List Effect) (known : Copies) → known_after (first ++ rest) known ≡ known_after rest (known_after first known) }
+    ensures swaps { (es : List Effect) (known : Copies) → ((i : ℕ) → is_among i (swapped_directories es) ≡ true → IsSome (known i)) → SwapsAreKnown known es }
 {}
 
 /// What a client fetched of a whole, and effects of its own that the whole does not have yet, give what the whole has after them: the
