@@ -122,9 +122,10 @@ pub swaps_known : (es : List Effect) (known : Copies) → KnowsAll known (swappe
 swaps_known [] known all = tt
 swaps_known (effect.Swap d a e b ∷ es) known all =
     let swap = effect.Swap d a e b in
-    let rest = swapped_directories es in
-    ((all d (here d (e ∷ rest)), all e (later (d == e) (is_among e (e ∷ rest)) (here e rest))),
-      swaps_known es (known_after_effect swap known) (λ i among. some_acted (plain_known known swap) known i ∙ all i (later (d == i) (is_among i (e ∷ rest)) (later (e == i) (is_among i rest) among))))
+    let rest = swapped_directories es in (
+      (all d (here d (e ∷ rest)), all e (later (d == e) (is_among e (e ∷ rest)) (here e rest))),
+      swaps_known es (known_after_effect swap known) (λ i among. some_acted (plain_known known swap) known i ∙ all i (later (d == i) (is_among i (e ∷ rest)) (later (e == i) (is_among i rest) among))),
+    )
   where
     later : (b c : Bool) → c ≡ true → (b || c) ≡ true
     later true c e = refl

@@ -18,7 +18,7 @@ pub fn first_unknown(known: &BTreeMap<u32, Option<NodeSummary>>, effects: &[Effe
     ensures { result ≡ first_unknown known.now effects.now }
 {
     for effect in effects {
-        if let Some(inode) = unknown_of(known, effect) {
+        if let Some(inode) = find_unknown(known, effect) {
             return Some(inode);
         }
     }
@@ -26,7 +26,7 @@ pub fn first_unknown(known: &BTreeMap<u32, Option<NodeSummary>>, effects: &[Effe
 }
 
 // The first of the inodes of one effect of which nothing is known.
-fn unknown_of(known: &BTreeMap<u32, Option<NodeSummary>>, effect: &Effect) -> Option<u32>
+fn find_unknown(known: &BTreeMap<u32, Option<NodeSummary>>, effect: &Effect) -> Option<u32>
     ensures { result ≡ find (is_unknown known.now) (subjects effect.now) }
 {
     let (inode, other) = effect.subjects();
