@@ -18,7 +18,7 @@ use Rattle.posix_calls.specs.declared.operation.Replaced.{Replaced}
 use Rattle.posix_calls.specs.declared.operation.Replaced.TheVariants.{OldFile}
 use Rattle.posix_calls.specs.Query.{Seen, File, Dir, Gives, Refuses, Look, View, run}
 use Rattle.posix_calls.specs.Walk.{Place, is_root, leads_to, is_there, is_true, there, prefix, entries_seen, entries_at, kind_at}
-use Rattle.posix_calls.specs.Decide.{open_inode, open_there, lowest_free, number_or, replaced_at, replacing_dir, rename_to, write_at, node_description, mkdir, unlink, rmdir, link, rename, truncate, pwrite, pread, close, open_path, list_path, stat, decide}
+use Rattle.posix_calls.specs.Decide.{open_inode, open_there, lowest_free, number_or, replaced_at, replacing_dir, rename_to, write_at, node_description, mkdir, unlink, rmdir, link, rename, exchange_apart, exchange, truncate, pwrite, pread, close, open_path, list_path, stat, decide}
 use Rattle.posix_calls.proofs.Open as opens
 use Rattle.log_record.specs.file_graph.Graph.{Graph}
 use Rattle.log_record.specs.file_graph.declared.effect.Kind.TheVariants as kind
@@ -288,6 +288,41 @@ rename_fits g d own old new operation sound e =
       | false ↦ λ other rest. renamed_fits g d own from.0 to.0 i.0 operation sound at (there_is v from.0.inode i.0 i.1) at_to (clear_of_walk g d i.0 new_names.0 to.0 sound roots.1 to.1 (not_refused v errno.Invalid _ _ under.1)) other rest
     ] refl under.2
 
+-- ---- two names that change what they lead to
+
+apart_fits : (g : Graph) (d : Descriptors) (own : Own) (one two : Place) (i j : ℕ) (operation : Operation) → IsFair g d → IsPlace g one → one.inode ≡ Some i → IsPlace g two → two.inode ≡ Some j → (i == j) ≡ false
+    → (list_any (λ x. x == j) one.walked ≡ false → IsClear (tree_of (reachable_graph g d)) j one.location.parent) → (list_any (λ x. x == i) two.walked ≡ false → IsClear (tree_of (reachable_graph g d)) i two.location.parent)
+    → run (graph_view g d) (exchange_apart one two i j) ≡ Ok operation → OperationFits g d own operation
+apart_fits g d own one two i j operation sound at_one is_one at_two is_two other clear_one clear_two e =
+    let v = graph_view g d in
+    let under = bind_ok v _ _ _ e in
+    let clear = or_left (list_any (λ x. x == j) one.walked) (list_any (λ x. x == i) two.walked) (not_refused v errno.Invalid _ _ under.1) in
+    let first = named_at g d one i sound at_one is_one in
+    let second = named_at g d two j sound at_two is_two in
+    let apart : i ≢ j = λ same. let yes : (i == j) ≡ true = eq-eqb i j same in let clash : true ≡ false = sym yes ∙ other in absurd (cc) in
+    fits_as g d own _ operation (given v under.2) (record { apart = apart; one = first.kind; two = second.kind; first_is = first.entry; second_is = second.entry; clear_first = clear_one clear.0; clear_second = clear_two clear.1 })
+
+exchange_fits : (g : Graph) (d : Descriptors) (own : Own) (first second : List ℕ) (operation : Operation) → IsFair g d → run (graph_view g d) (exchange first second) ≡ Ok operation → OperationFits g d own operation
+unfolding exchange
+exchange_fits g d own first second operation sound e =
+    let v = graph_view g d in
+    let first_names = bind_ok v _ _ _ e in
+    let second_names = bind_ok v _ _ _ first_names.2 in
+    let busy = bind_ok v _ _ _ second_names.2 in
+    let one = bind_ok v _ _ _ busy.2 in
+    let i = bind_ok v _ _ _ one.2 in
+    let two = bind_ok v _ _ _ i.2 in
+    let j = bind_ok v _ _ _ two.2 in
+    let roots = or_left (is_root first_names.0) (is_root second_names.0) (not_refused v errno.Busy _ _ busy.1) in
+    let at_one = beyond g first_names.0 one.0 (place_of g d first_names.0 one.0 sound one.1) roots.0 in
+    let at_two = beyond g second_names.0 two.0 (place_of g d second_names.0 two.0 sound two.1) roots.1 in
+    elim (i.0 == j.0) as (λ b. (i.0 == j.0) ≡ b → run v (cond b (Gives (Tell replies.Done)) (exchange_apart one.0 two.0 i.0 j.0)) ≡ Ok operation → OperationFits g d own operation) [
+      | true ↦ λ same done. fits_as g d own _ operation (given v done) tt
+      | false ↦ λ other rest.
+          apart_fits g d own one.0 two.0 i.0 j.0 operation sound at_one (there_is v one.0.inode i.0 i.1) at_two (there_is v two.0.inode j.0 j.1) other
+          (clear_of_walk g d j.0 first_names.0 one.0 sound roots.0 one.1) (clear_of_walk g d i.0 second_names.0 two.0 sound roots.1 two.1) rest
+    ] refl j.2
+
 -- ---- open
 
 lowest : (own : Own) (n k m : ℕ) → lowest_free own n k ≡ Some m → (own m ≡ None) × (m < n + k)
@@ -395,5 +430,6 @@ decide_fits g d client (call.Rmdir path) operation sound e = rmdir_fits g d (d c
 decide_fits g d client (call.Link old new) operation sound e = link_fits g d (d client) old new operation sound e
 decide_fits g d client (call.Unlink path) operation sound e = unlink_fits g d (d client) path operation sound e
 decide_fits g d client (call.Rename old new) operation sound e = rename_fits g d (d client) old new operation sound e
+decide_fits g d client (call.Exchange first second) operation sound e = exchange_fits g d (d client) first second operation sound e
 decide_fits g d client (call.List path) operation sound e = list_fits g d (d client) path operation e
 decide_fits g d client (call.Stat path) operation sound e = stat_fits g d (d client) path operation e

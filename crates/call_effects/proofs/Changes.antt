@@ -7,18 +7,20 @@ use Rattle.std.specs.FinMap as fin
 use Rattle.posix_calls.specs.Content.{Entries}
 use Rattle.posix_calls.specs.Tree.{Tree, Descriptors, names_of, names_in, is_open, entries_of}
 use Rattle.posix_calls.specs.Tree as tree
-use Rattle.log_record.specs.file_graph.Graph.{Graph, Node, Body, FileBody, DirBody, after_effect, subject_after, subjects, is_among}
+use Rattle.log_record.specs.file_graph.Graph.{Graph, Node, Body, FileBody, DirBody, after_effect, acted_graph, subject_after, subjects, is_among}
 use Rattle.log_record.specs.file_graph.declared.effect.Kind.{Kind}
 use Rattle.log_record.specs.file_graph.declared.effect.Kind.TheVariants as kind
 use Rattle.log_record.specs.file_graph.declared.effect.Effect.{Effect}
 use Rattle.log_record.specs.file_graph.declared.effect.Effect.TheVariants as effect
+use Rattle.log_record.specs.file_graph.Plain.{is_swap}
+use Rattle.log_record.proofs.file_graph_lemmas.Touches.{plain_is}
 use Rattle.call_effects.specs.Effects.{stored_count}
 use Rattle.call_effects.specs.Wholes.{without_kinds, tree_of, tree_node, keep, reachable_graph, kind_of, one_if, IsTyped, IsSound, AreReached}
 use Rattle.posix_calls.specs.declared.descriptor.Descriptor.{Descriptor}
 use Rattle.posix_calls.specs.Operations.{with_entry, without_entry}
 use Rattle.posix_calls.proofs.Sums.{names_of-set_node}
-use Rattle.posix_calls.proofs.Counts.{counted, counted_is, counted_insert, counted_remove}
-use Rattle.call_effects.proofs.Puts.{put, put_other, put_through, put_through_at}
+use Rattle.posix_calls.proofs.Counts.{counted, counted_is, counted_insert, counted_remove, gone, put_back}
+use Rattle.call_effects.proofs.Puts.{put, put_there, put_other, put_twice, put_through, put_through_at}
 use Rattle.call_effects.proofs.Inodes.{get_inodes, inodes_insert, inodes_remove}
 
 -- what entries, descriptors and stored counts tell is so
@@ -64,10 +66,15 @@ at_subject g f d j = elim (eqb_tells j d) [
   | inr off ↦ ap (λ b. cond b (f (g j)) (g j)) off.0 ∙ sym (ap (λ b. cond b (f (g d)) (g j)) off.0)
 ]
 
+-- what changes one inode is no Swap
+no_swap : (e : Effect) (d : ℕ) → subjects e ≡ d ∷ [] → is_swap e ≡ false
+no_swap (effect.Swap x a y b) d one = absurd (let rest : y ∷ [] ≡ [] = cc in cc)
+no_swap e d one = refl
+
 -- an effect on one inode is a put
 pub one_subject : (g : Graph) (e : Effect) (d : ℕ) → subjects e ≡ d ∷ [] → after_effect g e ≡ put g d (subject_after e (g d))
-one_subject g e d one = λ t j. at_place j t where
-  at_place : (j : ℕ) → after_effect g e j ≡ put g d (subject_after e (g d)) j
+one_subject g e d one = plain_is g e (no_swap e d one) ∙ (λ t j. at_place j t) where
+  at_place : (j : ℕ) → acted_graph g e j ≡ put g d (subject_after e (g d)) j
   at_place j = ap (λ is. cond (is_among j is) (subject_after e (g j)) (g j)) one ∙ ap (λ b. cond b (subject_after e (g j)) (g j)) (or_false j d) ∙ at_subject g (subject_after e) d j
 
 pub enter_is : (g : Graph) (p n c : ℕ) (k : Kind) (name : List ℕ) (es : Entries (ℕ × Kind)) → g p ≡ dir n es → after_effect g (effect.Enter p c k name) ≡ put g p (dir n (fin.insert es name (c, k)))
@@ -107,6 +114,15 @@ names_leave g p n name es e i is low high there =
     let less : counted i (without_kinds (fin.remove es name)) + cond (e.0 == i) 1 0 ≡ counted i (without_kinds es)
     = ap (λ m. counted i m + cond (e.0 == i) 1 0) (inodes_remove es name) ∙ counted_remove i (without_kinds es) name e.0 (get_inodes es name ∙ ap (option_map (λ x. x.0)) there) in
     omega (arith, change, less)
+
+-- a name leads to something else
+pub names_over : (g : Graph) (p n c : ℕ) (k : Kind) (name : List ℕ) (es : Entries (ℕ × Kind)) (e : ℕ × Kind) (i : ℕ) → g p ≡ dir n es → 1 ≤ p → p ≤ 1024 → fin.get es name ≡ Some e → named (put g p (dir n (fin.insert es name (c, k)))) i + cond (e.0 == i) 1 0 ≡ named g i + cond (c == i) 1 0
+names_over g p n c k name es e i is low high there =
+    let left = put g p (dir n (fin.remove es name)) in
+    let less : named left i + cond (e.0 == i) 1 0 ≡ named g i = names_leave g p n name es e i is low high there in
+    let more : named (put left p (dir n (fin.insert (fin.remove es name) name (c, k)))) i ≡ named left i + cond (c == i) 1 0 = names_enter left p n c k name (fin.remove es name) i (put_there g p (dir n (fin.remove es name))) low high (gone es name) in
+    let same : named (put left p (dir n (fin.insert (fin.remove es name) name (c, k)))) i ≡ named (put g p (dir n (fin.insert es name (c, k)))) i = ap (λ (h : Graph). named h i) (put_twice g p (dir n (fin.remove es name)) (dir n (fin.insert (fin.remove es name) name (c, k))) ∙ ap (λ m. put g p (dir n m)) (put_back es name (c, k))) in
+    omega (arith, less, more, same)
 
 -- a change that leaves the number of its names
 pub names_stay : (g : Graph) (d : ℕ) (x : Option Node) (i : ℕ) → 1 ≤ d → d ≤ 1024 → names_in i (option_map tree_node x) ≡ names_in i (option_map tree_node (g d)) → named (put g d x) i ≡ named g i

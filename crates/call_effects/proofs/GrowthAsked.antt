@@ -14,14 +14,15 @@ use Rattle.posix_calls.specs.Query.{Gives, ◌>>=◌, View, run}
 use Rattle.posix_calls.specs.Walk.{entries_seen, size_seen, size_at}
 use Rattle.posix_calls.specs.declared.operation.Location.{Location}
 use Rattle.posix_calls.specs.declared.operation.Operation.{Operation}
-use Rattle.posix_calls.specs.declared.operation.Operation.TheVariants.{Tell, NewDir, NewFile, OpenFile, CloseFile, Write, Resize, RemoveDir, AddName, DropName, Move}
+use Rattle.posix_calls.specs.declared.operation.Operation.TheVariants.{Tell, NewDir, NewFile, OpenFile, CloseFile, Write, Resize, RemoveDir, AddName, DropName, Move, Exchange}
 use Rattle.posix_calls.specs.declared.operation.Replaced.TheVariants.{Nothing, OldFile, OldDir}
 use Rattle.posix_calls.specs.Operations.{makes}
 use Rattle.posix_calls.proofs.Directory.{names_same}
 use Rattle.posix_calls.proofs.Counts.{order}
 use Rattle.posix_calls.proofs.Within.{resized_length}
-use Rattle.log_record.specs.file_graph.Graph.{Graph, Node, after_effect, cost}
+use Rattle.log_record.specs.file_graph.Graph.{Graph, Node, is_among, acted_all, after_effect, after_effects, cost}
 use Rattle.log_record.specs.file_graph.Units.{growth}
+use Rattle.log_record.proofs.file_graph_lemmas.Swaps.{swaps_cost_nothing}
 use Rattle.log_record.specs.file_graph.declared.effect.Kind.{Kind}
 use Rattle.log_record.specs.file_graph.declared.effect.Kind.TheVariants as kind
 use Rattle.log_record.specs.file_graph.declared.effect.Effect.TheVariants as effect
@@ -94,6 +95,10 @@ same_le a b e = omega (arith, e)
 
 of_parts : (a b c d x y z : ℕ) → a ≡ x → b ≡ 0 → c ≡ y → d ≡ z → (a - b) + (c - d) ≡ x + (y - z)
 of_parts a b c d x y z p q r s = omega (arith, p, q, r, s)
+
+-- a Swap by itself leaves every inode
+acted_swap : (g : Graph) (first second : Location) (x : ℕ) → acted_all g (effect.Swap first.parent first.name second.parent second.name ∷ []) x ≡ g x
+acted_swap g first second x = elim (is_among x (first.parent ∷ second.parent ∷ [])) as (λ b. cond b (g x) (g x) ≡ g x) [ true ↦ refl | false ↦ refl ]
 
 module _ (g : Graph) (d : Descriptors) (sound : IsSound g d) where
   range : (p n : ℕ) (es : Entries (ℕ × Kind)) → g p ≡ dir n es → (1 ≤ p) × (p ≤ 1024)
@@ -233,6 +238,12 @@ module _ (g : Graph) (d : Descriptors) (sound : IsSound g d) where
       ∙ moved_again g h2 from.parent p i k from.name to.name (λ x. let a = dropped_costs h1 j x in let b = left_costs g p to.name x in omega (arith, a, b))
       (is_dir to (j, kind.Directory) old) (ap kind_of stays ∙ left_kinds g p to.name p ∙ is_dir to (j, kind.Directory) old) (omega (arith, room, counts))
 
+  -- two names change what they lead to
+  swapped_rises : (first second : Location) → growth g (effect.Swap first.parent first.name second.parent second.name ∷ []) ≡ 0
+  swapped_rises first second =
+      let es = effect.Swap first.parent first.name second.parent second.name ∷ [] in
+      growth_is g es ∙ none_rises g (after_effects g es) (λ x. same_le (cost (after_effects g es x)) (cost (g x)) (swaps_cost_nothing es g x ∙ ap cost (acted_swap g first second x)))
+
   -- ---- every operation
 
   -- a rename that puts nothing out of its place, by whether it stays in its directory
@@ -276,3 +287,4 @@ module _ (g : Graph) (d : Descriptors) (sound : IsSound g d) where
   growth_as_asked own new (Move from to i b Nothing) free (entry, clear, room) = moved_asked from to i (kind_if b) entry room
   growth_as_asked own new (Move from to i b (OldFile j)) free (entry, clear, old) = gives (graph_view g d) 0 ∙ ap (λ n. Ok n) (sym (over_file_rises from to i j (stored_count (g j) - 1) (kind_if b) old.1))
   growth_as_asked own new (Move from to i b (OldDir j)) free (entry, clear, old) = gives (graph_view g d) 0 ∙ ap (λ n. Ok n) (sym (over_dir_rises from to i j (kind_if b) old.1 old.2))
+  growth_as_asked own new (Exchange first second i j) free fits = gives (graph_view g d) 0 ∙ ap (λ n. Ok n) (sym (swapped_rises first second))

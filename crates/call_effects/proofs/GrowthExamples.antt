@@ -4,6 +4,7 @@ use Rattle.std.specs.Prelude.{nat_le, option_map, Ok, max, Bool}
 use Rattle.std.specs.FinMap as fin
 use Rattle.posix_calls.specs.Units.{directory_units}
 use Rattle.posix_calls.specs.Tree.{Descriptors}
+use Rattle.posix_calls.specs.declared.limits.TheConstants.{MAX_ENTRIES}
 use Rattle.posix_calls.specs.declared.operation.Location.{Location}
 use Rattle.posix_calls.specs.declared.operation.Operation.TheVariants.{NewDir, Write, AddName, Move}
 use Rattle.posix_calls.specs.declared.operation.Replaced.TheVariants.{Nothing}
@@ -41,8 +42,8 @@ mkdir_a : answer_over fresh (λ c n. None) 1 (call.Mkdir (47 ∷ 97 ∷ [])) ≡
 unfolding mkdir walk run ◌>>=◌
 mkdir_a =
     let v = graph_view fresh (λ c n. None) in
-    ap (λ o. run v (refuse errno.Exists (is_there o) >>= (λ x. refuse errno.NoSpace (nat_le 3584 (fin.len (without_kinds fin.empty))) >>= (λ y. Gives (NewDir root_a))))) nothing_seen
-    ∙ ap (λ n. run v (refuse errno.NoSpace (nat_le 3584 n) >>= (λ y. Gives (NewDir root_a)))) none_seen
+    ap (λ o. run v (refuse errno.Exists (is_there o) >>= (λ x. refuse errno.NoSpace (nat_le MAX_ENTRIES (fin.len (without_kinds fin.empty))) >>= (λ y. Gives (NewDir root_a))))) nothing_seen
+    ∙ ap (λ n. run v (refuse errno.NoSpace (nat_le MAX_ENTRIES n) >>= (λ y. Gives (NewDir root_a)))) none_seen
 
 -- where the directory gets the number 2: a unit of its own, and one for the root's first entry
 first_directory : growth fresh (effects_of fresh 2 (NewDir root_a)) ≡ 2

@@ -7,7 +7,7 @@ use Rattle.posix_calls.specs.Tree.{Descriptors, Own, is_open, any_up_to, refers_
 use Rattle.posix_calls.specs.declared.descriptor.Descriptor.{Descriptor}
 use Rattle.posix_calls.specs.Tree as tree
 use Rattle.posix_calls.specs.declared.operation.Operation.{Operation}
-use Rattle.posix_calls.specs.declared.operation.Operation.TheVariants.{Tell, NewDir, NewFile, OpenFile, CloseFile, Write, Resize, RemoveDir, AddName, DropName, Move}
+use Rattle.posix_calls.specs.declared.operation.Operation.TheVariants.{Tell, NewDir, NewFile, OpenFile, CloseFile, Write, Resize, RemoveDir, AddName, DropName, Move, Exchange}
 use Rattle.posix_calls.specs.Operations.{tree_after, makes, held_after, less_unused}
 use Rattle.posix_calls.proofs.Open.{own_cases, own_there, open_there}
 use Rattle.posix_calls.proofs.Steps.{with_same}
@@ -173,3 +173,4 @@ done g d client new (RemoveDir at i) low high fair free fits = done_same g d cli
 done g d client new (AddName at i) low high fair free fits = done_same g d client new (AddName at i) tt fair free fits
 done g d client new (DropName at i) low high fair free fits = done_same g d client new (DropName at i) tt fair free fits
 done g d client new (Move from to i b replaced) low high fair free fits = done_same g d client new (Move from to i b replaced) tt fair free fits
+done g d client new (Exchange first second i j) low high fair free fits = done_same g d client new (Exchange first second i j) tt fair free fits

@@ -8,27 +8,28 @@ use Rattle.posix_calls.specs.Tree.{Own, Descriptors, with_own}
 use Rattle.posix_calls.specs.declared.operation.Location.{Location}
 use Rattle.posix_calls.specs.Operations.{makes, own_after}
 use Rattle.posix_calls.specs.declared.operation.Operation.{Operation}
-use Rattle.posix_calls.specs.declared.operation.Operation.TheVariants.{Tell, NewDir, NewFile, OpenFile, CloseFile, Write, Resize, RemoveDir, AddName, DropName, Move}
+use Rattle.posix_calls.specs.declared.operation.Operation.TheVariants.{Tell, NewDir, NewFile, OpenFile, CloseFile, Write, Resize, RemoveDir, AddName, DropName, Move, Exchange}
 use Rattle.posix_calls.specs.declared.operation.Replaced.TheVariants.{Nothing, OldFile, OldDir}
 use Rattle.posix_calls.specs.declared.call.Call.{Call}
-use Rattle.log_record.specs.file_graph.Graph.{Graph, Node, is_among, subject_after, after_effect, after_effects, touches, subjects, file_bytes}
+use Rattle.log_record.specs.file_graph.Graph.{Graph, Node, is_among, subject_after, acted_graph, acted_all, exchanged_entries, child_at, after_effect, after_effects, touches, subjects, swapped_directories, directory_in, file_bytes}
 use Rattle.log_record.specs.file_graph.declared.effect.Kind.{Kind}
 use Rattle.log_record.specs.file_graph.declared.effect.Kind.TheVariants as kind
 use Rattle.log_record.specs.file_graph.declared.effect.Effect.{Effect}
 use Rattle.log_record.specs.file_graph.declared.effect.Effect.TheVariants as effect
-use Rattle.log_record.proofs.file_graph_lemmas.Touches.{untouched}
+use Rattle.log_record.proofs.file_graph_lemmas.Touches.{untouched, acted_alone, local_by_directories}
 use Rattle.call_effects.specs.Effects.{effects_by, effects_of, make_effects, stored_at, recounted_file}
 use Rattle.call_effects.specs.Wholes.{IsSound}
 use Rattle.call_effects.specs.Blocks.{block_of}
 use Rattle.call_effects.specs.NodeView.{NodeView, view_at, view_of_node, view_acted, view_after, empty_view, in_entries}
 use Rattle.call_effects.specs.Fits.{OperationFits, IsNew, IsRoom, IsEntry, IsUsedFile}
 use Rattle.call_effects.specs.Knowledge.{Knowledge, Agrees, IsGone, IsPutBack, IsPlanned, knows_after, knows_made, with_copy}
+use Rattle.call_effects.proofs.KnownCopies.{seen_after}
+use Rattle.call_effects.proofs.KnownSwaps.{planned_swaps}
 use Rattle.call_effects.proofs.KnownTold.{both_hold}
 use Rattle.call_effects.proofs.KnownSteps.{planned_answer}
 use Rattle.call_effects.proofs.Served.{copy_agrees}
 use Rattle.call_effects.proofs.Steps.{answer_fits}
-use Rattle.call_effects.proofs.Blocks.{mapped}
-use Rattle.call_effects.proofs.NodeViews.{effects_at, viewed_after, block_known_after}
+use Rattle.call_effects.proofs.NodeViews.{viewed_after, block_known_after}
 
 or_false : (b : Bool) → b ≡ false → (b || false) ≡ false
 or_false b e = ap (λ x. x || false) e
@@ -47,18 +48,22 @@ cond_same : (b : Bool) (o : Option Node) → cond b o o ≡ o
 cond_same true o = refl
 cond_same false o = refl
 
-none_after : (e : Effect) (i : ℕ) → MakesNot i e → after_effect (λ j. None) e i ≡ None
-none_after (effect.Make x k) i apart = ap (λ b. cond b (subject_after (effect.Make x k) None) None) (or_false (x == i) apart)
-none_after (effect.Enter x j k name) i apart = cond_same (is_among i (x ∷ [])) None
-none_after (effect.Leave x name) i apart = cond_same (is_among i (x ∷ [])) None
-none_after (effect.Names x n) i apart = cond_same (is_among i (x ∷ [])) None
-none_after (effect.Size x size) i apart = cond_same (is_among i (x ∷ [])) None
-none_after (effect.Bytes x at new) i apart = cond_same (is_among i (x ∷ [])) None
-none_after (effect.Drop x) i apart = cond_same (is_among i (x ∷ [])) None
+nothing_acted : (g : Graph) (e : Effect) (i : ℕ) → g i ≡ None → subject_after e None ≡ None → acted_graph g e i ≡ None
+nothing_acted g e i none stays = ap (λ o. cond (is_among i (subjects e)) (subject_after e o) o) none ∙ ap (λ o. cond (is_among i (subjects e)) o None) stays ∙ cond_same (is_among i (subjects e)) None
 
-stays_none : (es : List Effect) (i : ℕ) → NoneMakes i es → after_effects (λ j. None) es i ≡ None
-stays_none [] i apart = refl
-stays_none (e ∷ es) i apart = effects_at (after_effect (λ j. None) e) es i None (none_after e i apart.0) ∙ stays_none es i apart.1
+nothing_exchanged : (g : Graph) (d : ℕ) (a : List ℕ) (e : ℕ) (b : List ℕ) (x y : Option (ℕ × Kind)) (i : ℕ) → g i ≡ None → acted_all g (exchanged_entries d a e b x y) i ≡ None
+nothing_exchanged g d a e b (Some x) (Some y) i none = nothing_acted (acted_graph g (effect.Enter d y.0 y.1 a)) (effect.Enter e x.0 x.1 b) i (nothing_acted g (effect.Enter d y.0 y.1 a) i none refl) refl
+nothing_exchanged g d a e b (Some x) None i none = none
+nothing_exchanged g d a e b None y i none = none
+
+none_after : (g : Graph) (e : Effect) (i : ℕ) → g i ≡ None → MakesNot i e → after_effect g e i ≡ None
+none_after g (effect.Make x k) i none apart = ap (λ b. cond b (subject_after (effect.Make x k) (g i)) (g i)) (or_false (x == i) apart) ∙ none
+none_after g (effect.Swap d a e b) i none apart = nothing_exchanged g d a e b (child_at g d a) (child_at g e b) i none
+none_after g e i none apart = nothing_acted g e i none refl
+
+stays_none : (g : Graph) (es : List Effect) (i : ℕ) → g i ≡ None → NoneMakes i es → after_effects g es i ≡ None
+stays_none g [] i none apart = none
+stays_none g (e ∷ es) i none apart = stays_none (after_effect g e) es i (none_after g e i none apart.0) apart.1
 
 -- an operation makes a node of its new number alone
 operation_makes : (names new i : ℕ) (operation : Operation) → (makes operation ≡ true → (new == i) ≡ false) → NoneMakes i (effects_by names new operation)
@@ -76,12 +81,13 @@ operation_makes names new i (DropName at x) apart = (tt, (tt, tt))
 operation_makes names new i (Move from to x is_dir Nothing) apart = (tt, (tt, tt))
 operation_makes names new i (Move from to x is_dir (OldFile j)) apart = (tt, (tt, (tt, (tt, tt))))
 operation_makes names new i (Move from to x is_dir (OldDir j)) apart = (tt, (tt, (tt, (tt, tt))))
+operation_makes names new i (Exchange first second x y) apart = (tt, tt)
 
 new_stays : (g : Graph) (new i : ℕ) (operation : Operation) (es : List Effect) → effects_of g new operation ≡ es → (makes operation ≡ true → (new == i) ≡ false) → IsNew g i → IsNew (after_effects g es) i
 new_stays g new i operation es is apart free = record {
   low = free.low;
   high = free.high;
-  none = effects_at g es i None free.none ∙ stays_none es i (subst (NoneMakes i) is (operation_makes (stored_at g (recounted_file operation)) new i operation apart));
+  none = stays_none g es i free.none (subst (NoneMakes i) is (operation_makes (stored_at g (recounted_file operation)) new i operation apart));
 }
 
 -- ---- what effects touch stands in the whole, but for a new node
@@ -129,26 +135,31 @@ module _ (g : Graph) (d : Descriptors) (own : Own) (new : ℕ) where
   touched_stands (Move from to i is_dir Nothing) fits = let o = Move from to i is_dir Nothing in (of_entry o from _ fits.0, (of_room o to fits.2, tt))
   touched_stands (Move from to i is_dir (OldFile j)) (entry, clear, old) = let o = Move from to i is_dir (OldFile j) in (of_entry o to _ old.1, (of_file o j old.2, (of_entry o from _ entry, (of_entry o to _ old.1, tt))))
   touched_stands (Move from to i is_dir (OldDir j)) (entry, clear, old) = let o = Move from to i is_dir (OldDir j) in (of_entry o to _ old.1, (stands o j _ old.2.is, (of_entry o from _ entry, (of_entry o to _ old.1, tt))))
+  touched_stands (Exchange first second i j) fits = let o = Exchange first second i j in (of_entry o first _ fits.first_is, (of_entry o second _ fits.second_is, tt))
 
--- a new node is the same whatever stood there
-made_alike : (new : ℕ) (k : Kind) (es : List Effect) (o p : Option Node) → after_effects (λ j. o) (effect.Make new k ∷ es) new ≡ after_effects (λ j. p) (effect.Make new k ∷ es) new
-made_alike new k es o p =
-    let made = subject_after (effect.Make new k) None in
-    let here = λ (x : Option Node). let h : after_effect (λ j. x) (effect.Make new k) new ≡ subject_after (effect.Make new k) None = ap (λ b. cond (b || false) (subject_after (effect.Make new k) None) x) (eq-eqb new new refl) in h in
-    effects_at (after_effect (λ j. o) (effect.Make new k)) es new made (here o) ∙ sym (effects_at (after_effect (λ j. p) (effect.Make new k)) es new made (here p))
+-- a new node is the same whatever stood there, and no Swap is among the effects that make it
+made_alike : (g h : Graph) (new : ℕ) (k : Kind) (at : Location) → after_effects g (make_effects new k at) new ≡ after_effects h (make_effects new k at) new
+made_alike g h new k at =
+    let make = effect.Make new k in
+    let here = λ (f : Graph). let made : acted_graph f make new ≡ subject_after make None = ap (λ b. cond (b || false) (subject_after make None) (f new)) (eq-eqb new new refl) in made in
+    acted_alone (acted_graph g make) (acted_graph h make) (effect.Enter at.parent new k at.name ∷ effect.Names new 1 ∷ []) new (here g ∙ sym (here h))
 
-new_alike : (names new : ℕ) (operation : Operation) (o p : Option Node) → makes operation ≡ true → after_effects (λ j. o) (effects_by names new operation) new ≡ after_effects (λ j. p) (effects_by names new operation) new
-new_alike names new (NewDir at) o p e = made_alike new kind.Directory (effect.Enter at.parent new kind.Directory at.name ∷ effect.Names new 1 ∷ []) o p
-new_alike names new (NewFile at number reads writes) o p e = made_alike new kind.File (effect.Enter at.parent new kind.File at.name ∷ effect.Names new 1 ∷ []) o p
-new_alike names new (Tell answer) o p e = absurd (cc)
-new_alike names new (OpenFile i empties number reads writes) o p e = absurd (cc)
-new_alike names new (CloseFile i number) o p e = absurd (cc)
-new_alike names new (Write i at bytes) o p e = absurd (cc)
-new_alike names new (Resize i len) o p e = absurd (cc)
-new_alike names new (RemoveDir at i) o p e = absurd (cc)
-new_alike names new (AddName at i) o p e = absurd (cc)
-new_alike names new (DropName at i) o p e = absurd (cc)
-new_alike names new (Move from to i is_dir replaced) o p e = absurd (cc)
+abbrev IsMadeAlike : Graph → Graph → ℕ → List Effect → Type 0
+IsMadeAlike g h new es = (after_effects g es new ≡ after_effects h es new) × (is_among new (swapped_directories es) ≡ false)
+
+new_alike : (g h : Graph) (names new : ℕ) (operation : Operation) → makes operation ≡ true → IsMadeAlike g h new (effects_by names new operation)
+new_alike g h names new (NewDir at) e = (made_alike g h new kind.Directory at, refl)
+new_alike g h names new (NewFile at number reads writes) e = (made_alike g h new kind.File at, refl)
+new_alike g h names new (Tell answer) e = absurd (cc)
+new_alike g h names new (OpenFile i empties number reads writes) e = absurd (cc)
+new_alike g h names new (CloseFile i number) e = absurd (cc)
+new_alike g h names new (Write i at bytes) e = absurd (cc)
+new_alike g h names new (Resize i len) e = absurd (cc)
+new_alike g h names new (RemoveDir at i) e = absurd (cc)
+new_alike g h names new (AddName at i) e = absurd (cc)
+new_alike g h names new (DropName at i) e = absurd (cc)
+new_alike g h names new (Move from to i is_dir replaced) e = absurd (cc)
+new_alike g h names new (Exchange first second i j) e = absurd (cc)
 
 -- a view stays through what is entered, and through a count
 some_after : (d new : ℕ) (kd : Kind) (name : List ℕ) (o : Option NodeView) → is_some o ≡ true → is_some (view_after (effect.Enter d new kd name ∷ effect.Names new 1 ∷ []) new o) ≡ true
@@ -181,6 +192,7 @@ made_view names new (RemoveDir at i) m = absurd (cc)
 made_view names new (AddName at i) m = absurd (cc)
 made_view names new (DropName at i) m = absurd (cc)
 made_view names new (Move from to i is_dir replaced) m = absurd (cc)
+made_view names new (Exchange first second i j) m = absurd (cc)
 
 -- ---- one's own knowledge
 
@@ -202,17 +214,24 @@ module _ (k : Knowledge) (g : Graph) (d : Descriptors) (c : Call) (new : ℕ) (o
       let fits = answer_fits g d k.client c operation sound (planned_answer k g d c new operation es sound agrees plan).0 in
       among_each (IsMade g d (d k.client) new operation) (touches es) i (subst (λ es. Each (touches es) (IsMade g d (d k.client) new operation)) effects_are_those (touched_stands g d (d k.client) new operation fits)) touched none
 
-  new_same : (o p : Option Node) → makes operation ≡ true → after_effects (λ j. o) es new ≡ after_effects (λ j. p) es new
-  new_same o p m = subst (λ es. after_effects (λ j. o) es new ≡ after_effects (λ j. p) es new) effects_are_those (new_alike (stored_at g (recounted_file operation)) new operation o p m)
+  new_same : (h : Graph) → makes operation ≡ true → IsMadeAlike h g new es
+  new_same h m = subst (IsMadeAlike h g new) effects_are_those (new_alike h g (stored_at g (recounted_file operation)) new operation m)
+
+  -- the same directories stand where files are put back
+  directory_back : (j : ℕ) → directory_in (agrees.back j) ≡ directory_in (g j)
+  directory_back j = elim (agrees.put_back j) [
+    | inl same ↦ ap directory_in same
+    | inr gone ↦ ap directory_in gone.file ∙ sym (ap directory_in gone.nothing)
+  ]
 
   -- the files that were put back are put back still
   put_back_after : IsPutBack (after_effects g es) (after_effects agrees.back es)
   put_back_after i = elim (agrees.put_back i) [
-    | inl same ↦ inl (effects_at agrees.back es i (g i) same ∙ sym (effects_at g es i (g i) refl))
+    | inl same ↦ inl (local_by_directories agrees.back g es (λ j touched. directory_back j) i same)
     | inr gone ↦ elim (is_among i (touches es)) as (λ b. is_among i (touches es) ≡ b → (after_effects agrees.back es i ≡ after_effects g es i) ⊎ IsGone (after_effects g es i) (after_effects agrees.back es i)) [
       | true ↦ λ touched.
           let m = made_there i gone.nothing touched in
-          inl (effects_at agrees.back es i (agrees.back i) refl ∙ subst (λ j. after_effects (λ x. agrees.back i) es j ≡ after_effects (λ x. g i) es j) (sym m.1) (new_same (agrees.back i) (g i) m.0) ∙ sym (effects_at g es i (g i) refl))
+          inl (subst (λ j. after_effects agrees.back es j ≡ after_effects g es j) (sym m.1) (new_same agrees.back m.0).0)
       | false ↦ λ apart. inr (record { nothing = untouched g es i apart ∙ gone.nothing; bytes = gone.bytes; file = untouched agrees.back es i apart ∙ gone.file })
     ] refl
   ]
@@ -223,9 +242,7 @@ module _ (k : Knowledge) (g : Graph) (d : Descriptors) (c : Call) (new : ℕ) (o
     own = λ number. ap (λ b. cond b (own_after new k.own operation number) (d k.client number)) (eq-eqb k.client k.client refl);
     back = after_effects agrees.back es;
     put_back = put_back_after;
-    copies = λ i copy is.
-        let was = mapped (view_after es i) (k.copies i) copy is in
-        viewed_after agrees.back es i was.0 (agrees.copies i was.0 was.1) ∙ was.2;
+    copies = seen_after es k.copies agrees.back agrees.copies (planned_swaps k c new operation es plan);
     blocks = λ i b bytes is. block_known_after agrees.back es i b (k.blocks i b) bytes (agrees.blocks i b) is;
     granted = λ i is.
         let r = both_hold (k.granted i) (not (makes operation && i == new)) is in
@@ -276,7 +293,7 @@ module _ (k : Knowledge) (g : Graph) (d : Descriptors) (c : Call) (new : ℕ) (o
   pub made_agrees : makes operation ≡ true → Agrees (knows_made k new operation es) (after_effects g es) (with_own d k.client (own_after new k.own operation))
   made_agrees m =
       let none = (agrees.granted new (plan.number m)).none in
-      let seen : view_at (after_effects g es) new ≡ view_after es new None = viewed_after g es new None (ap (option_map view_of_node) none) in
+      let seen : view_at (after_effects g es) new ≡ view_after es new None = viewed_after g es new (new_same g m).1 ∙ ap (λ o. view_after es new (option_map view_of_node o)) none in
       let stands : is_some (view_after es new None) ≡ true = subst (λ (fs : List Effect). is_some (view_after fs new None) ≡ true) effects_are_those (made_view (stored_at g (recounted_file operation)) new operation m) in
       subst (λ copy. Agrees (with_copy after new copy) (after_effects g es) (with_own d k.client (own_after new k.own operation))) seen
       (copy_agrees after (after_effects g es) (with_own d k.client (own_after new k.own operation)) agrees_after new (λ gone. absurd (let clash : false ≡ true = sym (ap is_some (sym seen ∙ ap (option_map view_of_node) gone)) ∙ stands in cc)))

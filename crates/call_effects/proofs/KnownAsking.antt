@@ -1,5 +1,5 @@
 -- What a call asks of: the root, what an entry of a directory that was looked at names, and what its client has open.
-use Rattle.std.proofs.Common.{◌≡◌, ℕ, zero, suc, ◌+◌, ◌-◌, ◌≤◌, arith, List, [], ◌∷◌, refl, Some, None, Option, Ok, Err, Result, cond, ap, ◌∙◌, subst, true, false, Bool}
+use Rattle.std.proofs.Common.{◌≡◌, ℕ, zero, suc, ◌+◌, ◌-◌, ◌≤◌, arith, List, [], ◌∷◌, refl, Some, None, Option, Ok, Err, Result, cond, ap, ◌∙◌, subst, true, false, Bool, ◌==◌}
 use Rattle.std.specs.Prelude.{min, nat_lt}
 use Rattle.std.proofs.lemmas.Bool.{ltb-false}
 use Rattle.std.specs.FinMap as fin
@@ -20,7 +20,7 @@ use Rattle.posix_calls.specs.declared.operation.Missing.TheVariants as missing
 use Rattle.posix_calls.specs.Query.{Seen, File, Dir, Query, Gives, Refuses, IsDir, Look, Range, ◌>>=◌}
 use Rattle.posix_calls.specs.Part.{Part, Found, Known, Unknown, blocks_missing, run_part}
 use Rattle.posix_calls.specs.Walk.{Place, root_place, refuse, read_or_error, entries_at, size_at, kind_at, directory, directory_if, walk, prefix, leads_to, there}
-use Rattle.posix_calls.specs.Decide.{open_inode, number_or, empties, open_there, bytes_from, write_at, replaced_at, replacing_dir, rename_to, node_description, open_path, close, pread, pwrite, truncate, mkdir, rmdir, link, unlink, rename, list_path, stat, decide}
+use Rattle.posix_calls.specs.Decide.{open_inode, number_or, empties, open_there, bytes_from, write_at, replaced_at, replacing_dir, rename_to, node_description, open_path, close, pread, pwrite, truncate, mkdir, rmdir, link, unlink, rename, exchange_apart, exchange, list_path, stat, decide}
 
 -- each inode that is asked of, for its kind, to be looked at, or for a range of bytes, passes, as the part answers what comes before
 unfoldable pub QueryAll : {A : Type 0} → Part → (ℕ → Type 0) → (ℕ → Type 0) → (ℕ → ℕ → ℕ → Type 0) → Query A → Type 0
@@ -350,6 +350,21 @@ module _ (p : Part) (OnDir OnNode : ℕ → Type 0) (OnRange : ℕ → ℕ → �
             query_then _ _ (query_replacing from to old_dir to.inode (λ j is. place_met new_names to j r is)) (λ replaced u.
             query_gives _))
 
+    query_exchange : (first second : List ℕ) → QueryIn (exchange first second)
+    unfolding exchange
+    query_exchange first second =
+        query_path first _ (λ first_names.
+        query_path second _ (λ second_names.
+        query_past _ _ _ (
+        query_then _ _ (query_prefix first_names) (λ one q.
+        query_then _ _ (query_there one.inode) (λ i t.
+        query_then _ _ (query_prefix second_names) (λ two r.
+        query_then _ _ (query_there two.inode) (λ j u. by_nodes (i == j) one two i j)))))))
+      where
+        by_nodes : (b : Bool) (one two : Place) (i j : ℕ) → QueryIn (cond b (Gives (Tell reply.Done)) (exchange_apart one two i j))
+        by_nodes true one two i j = query_gives _
+        by_nodes false one two i j = query_past _ _ _ (query_gives _)
+
     query_close : (number : ℕ) → QueryIn (close own number)
     unfolding close
     query_close number = query_opened (λ o. true) (own number) (λ i. Gives (CloseFile i number)) (λ x is. query_gives (CloseFile x.inode number))
@@ -383,5 +398,6 @@ module _ (p : Part) (OnDir OnNode : ℕ → Type 0) (OnRange : ℕ → ℕ → �
     query_call (call.Link old new) = query_link old new
     query_call (call.Unlink path) = query_unlink path
     query_call (call.Rename old new) = query_rename old new
+    query_call (call.Exchange first second) = query_exchange first second
     query_call (call.List path) = query_list path
     query_call (call.Stat path) = query_stat path

@@ -4,7 +4,7 @@ use Rattle.std.specs.Prelude.{max}
 use Rattle.posix_calls.specs.Tree.{Descriptors, Own}
 use Rattle.posix_calls.specs.declared.operation.Location.{Location}
 use Rattle.posix_calls.specs.declared.operation.Operation.{Operation}
-use Rattle.posix_calls.specs.declared.operation.Operation.TheVariants.{Tell, NewDir, NewFile, OpenFile, CloseFile, Write, Resize, RemoveDir, AddName, DropName, Move}
+use Rattle.posix_calls.specs.declared.operation.Operation.TheVariants.{Tell, NewDir, NewFile, OpenFile, CloseFile, Write, Resize, RemoveDir, AddName, DropName, Move, Exchange}
 use Rattle.posix_calls.specs.declared.operation.Replaced.{Replaced}
 use Rattle.posix_calls.specs.declared.operation.Replaced.TheVariants.{Nothing, OldFile, OldDir}
 use Rattle.posix_calls.specs.Query.{Gives, ◌>>=◌, run}
@@ -38,6 +38,7 @@ recounted_used g d own (CloseFile i number) j fits is = absurd (cc)
 recounted_used g d own (Write i at bytes) j fits is = absurd (cc)
 recounted_used g d own (Resize i len) j fits is = absurd (cc)
 recounted_used g d own (RemoveDir at i) j fits is = absurd (cc)
+recounted_used g d own (Exchange first second x y) j fits is = absurd (cc)
 
 -- what is asked for is what is so
 effects_by_names : (g : Graph) (d : Descriptors) (new : ℕ) (operation : Operation) (o : Option ℕ) → ((i : ℕ) → o ≡ Some i → IsUsedFile g d i) → run (graph_view g d) (names_if o >>= (λ names. Gives (effects_by names new operation))) ≡ Ok (effects_by (stored_at g o) new operation)
@@ -95,3 +96,4 @@ module _ (g : Graph) (d : Descriptors) (own : Own) (fair : IsFair g d) where
   query_growth (CloseFile i number) fits = gives 0
   query_growth (RemoveDir at i) fits = gives 0
   query_growth (DropName at i) fits = gives 0
+  query_growth (Exchange first second i j) fits = gives 0

@@ -6,7 +6,7 @@ use Rattle.posix_calls.specs.declared.operation.Location.{Location}
 use Rattle.posix_calls.specs.declared.operation.Missing.{Missing}
 use Rattle.posix_calls.specs.declared.operation.Missing.TheVariants as missing
 use Rattle.posix_calls.specs.declared.operation.Operation.{Operation}
-use Rattle.posix_calls.specs.declared.operation.Operation.TheVariants.{Tell, NewDir, NewFile, OpenFile, CloseFile, Write, Resize, RemoveDir, AddName, DropName, Move}
+use Rattle.posix_calls.specs.declared.operation.Operation.TheVariants.{Tell, NewDir, NewFile, OpenFile, CloseFile, Write, Resize, RemoveDir, AddName, DropName, Move, Exchange}
 use Rattle.posix_calls.specs.declared.operation.Replaced.{Replaced}
 use Rattle.posix_calls.specs.declared.operation.Replaced.TheVariants.{Nothing, OldFile, OldDir}
 use Rattle.call_effects.specs.Effects.{recounted_file}
@@ -75,6 +75,7 @@ module _ (p : Part) where
   growth_alone (CloseFile i number) = gives 0
   growth_alone (RemoveDir at i) = gives 0
   growth_alone (DropName at i) = gives 0
+  growth_alone (Exchange first second i j) = gives 0
 
 not_copied : {A : Type 0} (k : Knowledge) (q : Query A) (what : Missing) → QueryAll (part_of k) Any Any NoRange q → run_part (part_of k) q ≡ Unknown what → IsNodeMissing k what
 not_copied k q what asks e =

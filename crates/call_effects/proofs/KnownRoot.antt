@@ -8,7 +8,7 @@ use Rattle.posix_calls.specs.declared.call.Flags.{Flags}
 use Rattle.posix_calls.specs.Query.{◌>>=◌}
 use Rattle.posix_calls.specs.Part.{Part, Known, run_part}
 use Rattle.posix_calls.specs.Walk.{is_root, walk}
-use Rattle.posix_calls.specs.Decide.{is_senseless, lowest_free, open_path, truncate, mkdir, rmdir, link, unlink, rename}
+use Rattle.posix_calls.specs.Decide.{is_senseless, lowest_free, open_path, truncate, mkdir, rmdir, link, unlink, rename, exchange}
 use Rattle.call_effects.proofs.KnownKinds.{or_true}
 
 module _ (p : Part) where
@@ -39,6 +39,14 @@ module _ (p : Part) where
   pub root_rename_to : (old new : List ℕ) (names : List (List ℕ)) → path_names old ≡ Ok names → path_names new ≡ Ok [] → run_part p (rename old new) ≡ Known (Err errno.Busy)
   unfolding rename run_part ◌>>=◌ walk
   root_rename_to old new names e f = rw (e, f, or_true (is_root names))
+
+  pub root_exchange_first : (first second : List ℕ) (names : List (List ℕ)) → path_names first ≡ Ok [] → path_names second ≡ Ok names → run_part p (exchange first second) ≡ Known (Err errno.Busy)
+  unfolding exchange run_part ◌>>=◌ walk
+  root_exchange_first first second names e f = rw (e, f)
+
+  pub root_exchange_second : (first second : List ℕ) (names : List (List ℕ)) → path_names first ≡ Ok names → path_names second ≡ Ok [] → run_part p (exchange first second) ≡ Known (Err errno.Busy)
+  unfolding exchange run_part ◌>>=◌ walk
+  root_exchange_second first second names e f = rw (e, f, or_true (is_root names))
 
   flags : Bool → Bool → Bool → Bool → Bool → Flags
   flags read write create exclusive truncate = record { read = read; write = write; create = create; exclusive = exclusive; truncate = truncate }

@@ -1,8 +1,9 @@
 -- The growth that a client asks for is that of the whole.
 use Rattle.std.proofs.Common.{◌≡◌, ℕ, ◌≤◌, List, Ok, ap, sym, ◌∙◌, subst, arith}
-use Rattle.std.specs.Prelude.{min}
+use Rattle.std.specs.Prelude.{◌/◌, min}
 use Rattle.posix_calls.specs.Tree.{Descriptors}
 use Rattle.posix_calls.specs.Part.{Known, run_part}
+use Rattle.posix_calls.specs.declared.limits.TheConstants.{MAX_FILE, UNIT_BYTES}
 use Rattle.posix_calls.specs.declared.operation.Operation.{Operation}
 use Rattle.posix_calls.specs.declared.call.Call.{Call}
 use Rattle.log_record.specs.file_graph.Graph.{Graph}
@@ -26,7 +27,7 @@ planned_growth k g d c new operation es units sound agrees plan known =
     let here : growth g (effects_of g new operation) ≡ units = cc in
     ap (growth g) (sym a.1) ∙ here
 
-few_in_32_bits : (units grown counted : ℕ) → grown ≡ units → grown ≤ 256 → min units 4294967295 ≡ counted → grown ≡ counted
+few_in_32_bits : (units grown counted : ℕ) → grown ≡ units → grown ≤ MAX_FILE / UNIT_BYTES → min units 4294967295 ≡ counted → grown ≡ counted
 few_in_32_bits units grown counted is few cut = omega (arith, is, few, cut)
 
 -- so is it in the 32 bits that a record has
@@ -34,5 +35,5 @@ pub planned_units : (k : Knowledge) (g : Graph) (d : Descriptors) (c : Call) (ne
 planned_units k g d c new operation es units sound agrees plan known =
     let a = planned_answer k g d c new operation es sound agrees plan in
     let grown = bind_known (part_of k) (growth_asked operation) _ units known in
-    let small : growth g es ≤ 256 = subst (λ es. growth g es ≤ 256) a.1 (growth_small g d k.client new c operation sound a.0 (λ m. agrees.granted new (plan.number m))) in
+    let small : growth g es ≤ MAX_FILE / UNIT_BYTES = subst (λ es. growth g es ≤ MAX_FILE / UNIT_BYTES) a.1 (growth_small g d k.client new c operation sound a.0 (λ m. agrees.granted new (plan.number m))) in
     few_in_32_bits grown.0 (growth g es) units (planned_growth k g d c new operation es grown.0 sound agrees plan grown.1) small (result_is (part_of k) _ units grown.2)

@@ -4,6 +4,7 @@ pub mod Calls
 pub mod Changes
 pub mod Operations
 pub mod Edges
+pub mod Exchanges
 pub mod Facts
 pub mod Fresh
 pub mod GrowthAsked
@@ -13,6 +14,7 @@ pub mod Inodes
 pub mod JoinedBlocks
 pub mod KnownAfter
 pub mod KnownAsking
+pub mod KnownCopies
 pub mod KnownEffects
 pub mod KnownGone
 pub mod KnownKinds
@@ -23,6 +25,7 @@ pub mod KnownReads
 pub mod KnownRoot
 pub mod KnownRows
 pub mod KnownSteps
+pub mod KnownSwaps
 pub mod KnownTold
 pub mod KnownUnits
 pub mod NewNodes
@@ -30,6 +33,7 @@ pub mod NodeViews
 pub mod PutBack
 pub mod Puts
 pub mod Reached
+pub mod ReachedAfter
 pub mod Rise
 pub mod Rises
 pub mod Served

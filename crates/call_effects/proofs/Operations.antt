@@ -8,7 +8,7 @@ use Rattle.posix_calls.specs.Tree.{Tree, Descriptors, Own, is_open, bytes_of}
 use Rattle.posix_calls.specs.Tree as tree
 use Rattle.posix_calls.specs.declared.operation.Location.{Location}
 use Rattle.posix_calls.specs.declared.operation.Operation.{Operation}
-use Rattle.posix_calls.specs.declared.operation.Operation.TheVariants.{Tell, NewDir, NewFile, OpenFile, CloseFile, Write, Resize, RemoveDir, AddName, DropName, Move}
+use Rattle.posix_calls.specs.declared.operation.Operation.TheVariants.{Tell, NewDir, NewFile, OpenFile, CloseFile, Write, Resize, RemoveDir, AddName, DropName, Move, Exchange}
 use Rattle.posix_calls.specs.declared.operation.Replaced.{Replaced}
 use Rattle.posix_calls.specs.declared.operation.Replaced.TheVariants.{Nothing, OldFile, OldDir}
 use Rattle.posix_calls.specs.Operations.{tree_after, makes, with_entry, without_entry, less_replaced}
@@ -24,6 +24,7 @@ use Rattle.call_effects.specs.Fits.{IsNew, IsRoom, IsEntry, IsUsedFile, IsEmptyD
 use Rattle.call_effects.proofs.Puts.{put, put_there, put_other}
 use Rattle.call_effects.proofs.Changes.{IsFair, file, dir, same_dir}
 use Rattle.call_effects.proofs.NewNodes.{sound_made, tree_made}
+use Rattle.call_effects.proofs.Exchanges.{swapped, sound_swapped, tree_swapped}
 use Rattle.call_effects.proofs.Edges.{file_no_dir, sound_written, tree_written, sound_resized, tree_resized, drop_2, dropped, sound_dropped, tree_dropped, shifted, sound_shifted, tree_shifted, go_2, gone_is, sound_gone, tree_gone, added, sound_added, tree_added}
 
 -- an operation other than one that closes a file, over descriptors that stay
@@ -159,3 +160,9 @@ after_operation g d own new (DropName at i) st fair free (entry, f) =
 after_operation g d own new (Move from to i b Nothing) st fair free (entry, clear, room) = moved_none g d new from to i b fair entry room
 after_operation g d own new (Move from to i b (OldFile j)) st fair free (entry, clear, old) = moved_file g d new from to i b j fair entry old.0 old.1 old.2
 after_operation g d own new (Move from to i b (OldDir j)) st fair free (entry, clear, old) = moved_dir g d new from to i b j fair entry old.0 old.1 old.2
+after_operation g d own new (Exchange first second i j) st fair free fits =
+    let is = swapped g d first second i j fits.one fits.two fair fits.apart fits.first_is fits.second_is in
+    record {
+      tree = ap (λ h. tree_of (reachable_graph h d)) is ∙ tree_swapped g d first second i j fits.one fits.two fair fits.apart fits.first_is fits.second_is;
+      fair = subst (λ h. IsFair h d) (sym is) (sound_swapped g d first second i j fits.one fits.two fair fits.apart fits.first_is fits.second_is);
+    }

@@ -9,9 +9,9 @@ use Rattle.posix_calls.specs.Units.{file_units, directory_units}
 use Rattle.posix_calls.specs.Tree.{sum_up_to}
 use Rattle.posix_calls.proofs.Counts.{order}
 use Rattle.posix_calls.proofs.Sums.{one_changes, all_zero}
-use Rattle.log_record.specs.file_graph.Graph.{Graph, Node, FileBody, DirBody, after_effect, after_effects, touches, subjects, is_among, subject_after, in_directory, body_cost, cost}
+use Rattle.log_record.specs.file_graph.Graph.{Graph, Node, FileBody, DirBody, acted_graph, after_effect, after_effects, touches, subjects, is_among, subject_after, in_directory, body_cost, cost}
 use Rattle.log_record.specs.file_graph.Units.{rise, growth}
-use Rattle.log_record.proofs.file_graph_lemmas.Touches.{untouched}
+use Rattle.log_record.proofs.file_graph_lemmas.Touches.{untouched, local}
 use Rattle.log_record.specs.file_graph.declared.effect.Kind.{Kind}
 use Rattle.log_record.specs.file_graph.declared.effect.Kind.TheVariants as kind
 use Rattle.log_record.specs.file_graph.declared.effect.Effect.{Effect}
@@ -78,10 +78,6 @@ two_rise g h d e low high low_e high_e apart less = sum_two 1024 (rise g h) d e 
 
 -- ---- growth is that of the nodes that are touched
 
-pub alike_after : (g h : Graph) (es : List Effect) (i : ℕ) → g i ≡ h i → after_effects g es i ≡ after_effects h es i
-alike_after g h [] i same = same
-alike_after g h (e ∷ es) i same = alike_after (after_effect g e) (after_effect h e) es i (ap (λ o. cond (is_among i (subjects e)) (subject_after e o) o) same)
-
 alike_if : (b : Bool) (x y : ℕ) → (b ≡ true → x ≡ y) → cond b x 0 ≡ cond b y 0
 alike_if true x y same = same refl
 alike_if false x y same = refl
@@ -92,7 +88,7 @@ growth_local g h es same =
     same_sums 1024 (λ i. cond (is_among i (touches es)) (rise g (after_effects g es) i) 0) (λ i. cond (is_among i (touches es)) (rise h (after_effects h es) i) 0)
     (λ i. alike_if (is_among i (touches es)) (rise g (after_effects g es) i) (rise h (after_effects h es) i) (λ in_it. at_touched i (same i in_it))) where
       at_touched : (i : ℕ) → g i ≡ h i → rise g (after_effects g es) i ≡ rise h (after_effects h es) i
-      at_touched i here = ap (λ o. cost o - cost (g i)) (alike_after g h es i here) ∙ ap (λ o. cost (after_effects h es i) - cost o) here
+      at_touched i here = ap (λ o. cost o - cost (g i)) (local g h es same i here) ∙ ap (λ o. cost (after_effects h es i) - cost o) here
 
 -- ---- units
 
@@ -139,8 +135,8 @@ len_removed {X = X} m name v is =
 
 -- ---- one effect at one inode
 
--- what holds of a node, and of what an effect makes of it, holds after the effect
-each : (P : Option Node → Type 0) (g : Graph) (e : Effect) (j : ℕ) → P (g j) → P (subject_after e (g j)) → P (after_effect g e j)
+-- what holds of a node, and of what an effect makes of it by itself, holds after an effect that is no Swap
+each : (P : Option Node → Type 0) (g : Graph) (e : Effect) (j : ℕ) → P (g j) → P (subject_after e (g j)) → P (acted_graph g e j)
 each P g e j stays acts = elim (is_among j (subjects e)) as (λ b. P (cond b (subject_after e (g j)) (g j))) [ true ↦ acts | false ↦ stays ]
 
 same_le : (n : ℕ) → n ≤ n

@@ -9,6 +9,7 @@ use Rattle.posix_calls.specs.Tree.{Descriptors, State, is_open, any_up_to, names
 use Rattle.posix_calls.specs.Run.{settled, settled_tree, without_client, used_tree, left_with}
 use Rattle.posix_calls.specs.WellFormed.{IsWellFormed, IsWithinLimits}
 use Rattle.posix_calls.specs.Tree as tree
+use Rattle.posix_calls.specs.declared.limits.TheConstants.{MAX_NAMES}
 use Rattle.posix_calls.specs.declared.descriptor.Descriptor.{Descriptor}
 use Rattle.posix_calls.proofs.Able.{nodes_of}
 use Rattle.posix_calls.proofs.Open.{open_there, open_at, is_open_by}
@@ -244,7 +245,7 @@ module _ (g : Graph) (d : Descriptors) (sound : IsSound g d) where
     left_within within = subst (λ (s : State). IsWithinLimits s.tree) (sym (kept_state_of g e)) (record {
       sizes = λ i. (nodes i).size;
       entries = λ i. (nodes i).entries;
-      names = λ i. subst (λ n. n ≤ 1000) (kept_named g d i ∙ sym (kept_named g e i)) (within.names i);
+      names = λ i. subst (λ n. n ≤ MAX_NAMES) (kept_named g d i ∙ sym (kept_named g e i)) (within.names i);
       valid = λ i. (nodes i).valid;
     })
       where

@@ -1,6 +1,6 @@
 -- What an answered call changes has a spelling as a record, and few units.
 use Rattle.std.proofs.Common.{◌≡◌, ℕ, ◌-◌, ◌^◌, ◌<◌, ◌≤◌, List, [], length, Bool, true, false, Some, Ok, Err, refl, ap, ◌∙◌, arith}
-use Rattle.std.specs.Prelude.{option_map, if◌then◌else◌}
+use Rattle.std.specs.Prelude.{◌/◌, option_map, if◌then◌else◌}
 use Rattle.std.specs.List.{AllByRecursion}
 use Rattle.std.specs.FinMap as fin
 use Rattle.posix_calls.specs.Name.{is_name}
@@ -9,11 +9,12 @@ use Rattle.posix_calls.specs.Query.{run, view_of}
 use Rattle.posix_calls.specs.Decide.{decide}
 use Rattle.posix_calls.specs.Operations.{is_client, answer, makes}
 use Rattle.posix_calls.specs.WellFormed.{IsWithinLimits}
+use Rattle.posix_calls.specs.declared.limits.TheConstants.{MAX_FILE, MAX_NAMES, UNIT_BYTES}
 use Rattle.posix_calls.specs.declared.call.Call.{Call}
 use Rattle.posix_calls.specs.declared.errno.Errno.TheVariants as errno
 use Rattle.posix_calls.specs.declared.operation.Location.{Location}
 use Rattle.posix_calls.specs.declared.operation.Operation.{Operation}
-use Rattle.posix_calls.specs.declared.operation.Operation.TheVariants.{Tell, NewDir, NewFile, OpenFile, CloseFile, Write, Resize, RemoveDir, AddName, DropName, Move}
+use Rattle.posix_calls.specs.declared.operation.Operation.TheVariants.{Tell, NewDir, NewFile, OpenFile, CloseFile, Write, Resize, RemoveDir, AddName, DropName, Move, Exchange}
 use Rattle.posix_calls.specs.declared.operation.Replaced.{Replaced}
 use Rattle.posix_calls.specs.declared.operation.Replaced.TheVariants.{Nothing, OldFile, OldDir}
 use Rattle.posix_calls.proofs.Able.{Able}
@@ -64,6 +65,7 @@ in_file t (RemoveDir at i) able = tt
 in_file t (AddName at i) able = tt
 in_file t (DropName at i) able = tt
 in_file t (Move from to i is_dir replaced) able = tt
+in_file t (Exchange first second i j) able = tt
 
 module _ (g : Graph) (d : Descriptors) (sound : IsSound g d) where
   abbrev t : Tree
@@ -97,7 +99,7 @@ module _ (g : Graph) (d : Descriptors) (sound : IsSound g d) where
         within.valid at.parent at.name e.0
         (ap (λ o. fin.get (entries_of o) at.name) (tree_dir g d at.parent entry.names entry.entries entry.is) ∙ get_inodes entry.entries at.name ∙ ap (option_map (λ (x : ℕ × Kind). x.0)) entry.there)
 
-    fewer_names : (i : ℕ) → IsUsedFile g d i → stored_count (g i) - 1 ≤ 1000
+    fewer_names : (i : ℕ) → IsUsedFile g d i → stored_count (g i) - 1 ≤ MAX_NAMES
     fewer_names i f = let same = file_names i f in let had = within.names i in omega (arith, same, had)
 
     leaves : (at : Location) (e : ℕ × Kind) → IsEntry g at e → grammar.IsInode at.parent × (is_name at.name ≡ true)
@@ -137,6 +139,10 @@ module _ (g : Graph) (d : Descriptors) (sound : IsSound g d) where
     }
     spelled own new (DropName at i) free (entry, f) able bytes e = record { some = omega arith; few = omega arith; fit = (leaves at (i, kind.File) entry, ((file_inode i f, fewer_names i f), tt)) }
     spelled own new (Move from to i b replaced) free fits able bytes e = move_spelled own new from to i b replaced fits able.0
+    spelled own new (Exchange first second i j) free fits able bytes e =
+        let one = leaves first (i, fits.one) fits.first_is in
+        let two = leaves second (j, fits.two) fits.second_is in
+        record { some = omega arith; few = omega arith; fit = ((one.0, one.1, two.0, two.1), tt) }
 
 -- ---- an answered call
 
@@ -153,11 +159,11 @@ record_spelled g d client new units c operation sound within e free some small =
     (spelled g d sound within (d client) new operation free (answer_fits g d client c operation sound e) (decide_able (state_of g d) (well_formed g d sound) client c operation came.is)
     (of_run HasBytes v (decide (d client) c) operation (decide_fine (d client) c) came.is) some)
 
-pub growth_small : (g : Graph) (d : Descriptors) (client new : ℕ) (c : Call) (operation : Operation) → IsSound g d → answer_over g d client c ≡ Ok operation → (makes operation ≡ true → IsNew g new) → growth g (effects_of g new operation) ≤ 256
+pub growth_small : (g : Graph) (d : Descriptors) (client new : ℕ) (c : Call) (operation : Operation) → IsSound g d → answer_over g d client c ≡ Ok operation → (makes operation ≡ true → IsNew g new) → growth g (effects_of g new operation) ≤ MAX_FILE / UNIT_BYTES
 growth_small g d client new c operation sound e free =
     let came = answer_in g d client c operation sound e in
     let able = decide_able (state_of g d) (well_formed g d sound) client c operation came.is in
-    of_run (λ n. n ≤ 256) (graph_view g d) _ (growth g (effects_of g new operation)) (growth_few operation (in_file (state_of g d).tree operation able)) (growth_as_asked g d sound (d client) new operation free (answer_fits g d client c operation sound e))
+    of_run (λ n. n ≤ MAX_FILE / UNIT_BYTES) (graph_view g d) _ (growth g (effects_of g new operation)) (growth_few operation (in_file (state_of g d).tree operation able)) (growth_as_asked g d sound (d client) new operation free (answer_fits g d client c operation sound e))
 
 pub unchanged : (g : Graph) (new : ℕ) (operation : Operation) → changes operation ≡ false → effects_of g new operation ≡ []
 unchanged g new (Tell answer) e = refl
@@ -172,3 +178,4 @@ unchanged g new (RemoveDir at i) e = absurd cc
 unchanged g new (AddName at i) e = absurd cc
 unchanged g new (DropName at i) e = absurd cc
 unchanged g new (Move from to i is_dir replaced) e = absurd cc
+unchanged g new (Exchange first second i j) e = absurd cc

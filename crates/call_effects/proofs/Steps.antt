@@ -19,7 +19,7 @@ use Rattle.call_effects.proofs.Changes.{fair_of}
 use Rattle.call_effects.proofs.Views.{views_same}
 use Rattle.call_effects.proofs.Held.{graph_after}
 use Rattle.call_effects.proofs.Calls.{decide_fits}
-use Rattle.call_effects.proofs.Reached.{state_is, sound_after}
+use Rattle.call_effects.proofs.ReachedAfter.{state_is, sound_after}
 
 -- the state's answer is the graph's
 answer_same : (g : Graph) (d : Descriptors) (client : ℕ) (c : Call) → IsSound g d → answer (state_of g d) client c ≡ answer_over g d client c

@@ -5,7 +5,7 @@ use Rattle.std.specs.List.Sorted.{IsStrictlyIncreasing}
 use Rattle.std.proofs.lemmas.Bool.{ltb-true, ltb-false}
 use Rattle.std.proofs.lemmas.Bool.Decides.{eqb_tells}
 use Rattle.posix_calls.specs.declared.operation.Operation.{Operation}
-use Rattle.posix_calls.specs.declared.operation.Operation.TheVariants.{Tell, NewDir, NewFile, OpenFile, CloseFile, Write, Resize, RemoveDir, AddName, DropName, Move}
+use Rattle.posix_calls.specs.declared.operation.Operation.TheVariants.{Tell, NewDir, NewFile, OpenFile, CloseFile, Write, Resize, RemoveDir, AddName, DropName, Move, Exchange}
 use Rattle.posix_calls.specs.declared.operation.Replaced.TheVariants.{Nothing, OldFile, OldDir}
 use Rattle.log_record.specs.file_graph.Graph.{is_among, touches}
 use Rattle.call_effects.specs.Effects.{effects_by}
@@ -97,6 +97,7 @@ subjects_rise new (DropName at i) = rising_rises (i ∷ at.parent ∷ [])
 subjects_rise new (Move from to i is_dir Nothing) = rising_rises (to.parent ∷ from.parent ∷ [])
 subjects_rise new (Move from to i is_dir (OldFile j)) = rising_rises (to.parent ∷ from.parent ∷ j ∷ [])
 subjects_rise new (Move from to i is_dir (OldDir j)) = rising_rises (to.parent ∷ from.parent ∷ j ∷ [])
+subjects_rise new (Exchange first second i j) = rising_rises (first.parent ∷ second.parent ∷ [])
 
 -- ---- what the effects touch
 
@@ -138,6 +139,7 @@ subjects_touched names new k (DropName at i) = both k i at.parent
 subjects_touched names new k (Move from to i is_dir Nothing) = from_to k from.parent to.parent
 subjects_touched names new k (Move from to i is_dir (OldFile j)) = replaced k from.parent to.parent j
 subjects_touched names new k (Move from to i is_dir (OldDir j)) = replaced k from.parent to.parent j
+subjects_touched names new k (Exchange first second i j) = among_rising k (first.parent ∷ second.parent ∷ [])
 
 -- ---- how many
 
@@ -170,3 +172,4 @@ subjects_few new (DropName at i) = few_of (i ∷ at.parent ∷ []) (omega arith)
 subjects_few new (Move from to i is_dir Nothing) = few_of (to.parent ∷ from.parent ∷ []) (omega arith)
 subjects_few new (Move from to i is_dir (OldFile j)) = few_of (to.parent ∷ from.parent ∷ j ∷ []) (omega arith)
 subjects_few new (Move from to i is_dir (OldDir j)) = few_of (to.parent ∷ from.parent ∷ j ∷ []) (omega arith)
+subjects_few new (Exchange first second i j) = few_of (first.parent ∷ second.parent ∷ []) (omega arith)

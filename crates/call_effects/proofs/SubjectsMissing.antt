@@ -5,7 +5,7 @@ use Rattle.posix_calls.specs.declared.operation.Missing.{Missing}
 use Rattle.posix_calls.specs.declared.operation.Missing.TheVariants as missing
 use Rattle.posix_calls.specs.declared.operation.Location.{Location}
 use Rattle.posix_calls.specs.declared.operation.Operation.{Operation}
-use Rattle.posix_calls.specs.declared.operation.Operation.TheVariants.{Tell, NewDir, NewFile, OpenFile, CloseFile, Write, Resize, RemoveDir, AddName, DropName, Move}
+use Rattle.posix_calls.specs.declared.operation.Operation.TheVariants.{Tell, NewDir, NewFile, OpenFile, CloseFile, Write, Resize, RemoveDir, AddName, DropName, Move, Exchange}
 use Rattle.posix_calls.specs.declared.operation.Replaced.TheVariants.{Nothing, OldFile, OldDir}
 use Rattle.posix_calls.specs.Query.{Seen, Query, Gives, Look, ◌>>=◌}
 use Rattle.posix_calls.specs.Part.{Part, Found, Known, Unknown, run_part}
@@ -77,6 +77,7 @@ module _ (p : Part) (new : ℕ) (what : Missing) where
   effects_missing (Move from to i is_dir Nothing) e = none_counted p 0 _ what e
   effects_missing (Move from to i is_dir (OldFile j)) e = missing_at new (Move from to i is_dir (OldFile j)) j (look_misses p j _ _ what e) (third_of to.parent from.parent j)
   effects_missing (Move from to i is_dir (OldDir j)) e = none_counted p 0 _ what e
+  effects_missing (Exchange first second i j) e = none_counted p 0 _ what e
 
   rise_missing : (dir : ℕ) → run_part p (entry_rise dir) ≡ Unknown what → (what ≡ missing.Node dir) × (p.node dir ≡ None)
   rise_missing dir e = look_misses p dir _ _ what e
@@ -103,3 +104,4 @@ module _ (p : Part) (new : ℕ) (what : Missing) where
   growth_missing (Move from to i is_dir Nothing) e = missing_at new (Move from to i is_dir Nothing) to.parent (moved_missing (from.parent == to.parent) to.parent e) (first_of to.parent (from.parent ∷ []))
   growth_missing (Move from to i is_dir (OldFile j)) e = nothing_misses p 0 what e
   growth_missing (Move from to i is_dir (OldDir j)) e = nothing_misses p 0 what e
+  growth_missing (Exchange first second i j) e = nothing_misses p 0 what e

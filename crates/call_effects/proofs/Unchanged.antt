@@ -3,7 +3,7 @@ use Rattle.std.proofs.Common.{◌≡◌, ℕ, [], true, false, Ok}
 use Rattle.posix_calls.specs.Answers.{IsAnswer}
 use Rattle.posix_calls.specs.Part.{Part}
 use Rattle.posix_calls.specs.declared.operation.Operation.{Operation}
-use Rattle.posix_calls.specs.declared.operation.Operation.TheVariants.{Tell, NewDir, NewFile, OpenFile, CloseFile, Write, Resize, RemoveDir, AddName, DropName, Move}
+use Rattle.posix_calls.specs.declared.operation.Operation.TheVariants.{Tell, NewDir, NewFile, OpenFile, CloseFile, Write, Resize, RemoveDir, AddName, DropName, Move, Exchange}
 use Rattle.posix_calls.proofs.Chain.{bind_gives, gives}
 use Rattle.call_effects.specs.ChangeTest.{changes}
 use Rattle.call_effects.specs.Records.{effects_asked}
@@ -21,3 +21,4 @@ nothing_asked p new (RemoveDir at i) e = absurd cc
 nothing_asked p new (AddName at i) e = absurd cc
 nothing_asked p new (DropName at i) e = absurd cc
 nothing_asked p new (Move from to i is_dir replaced) e = absurd cc
+nothing_asked p new (Exchange first second i j) e = absurd cc

@@ -5,7 +5,7 @@ use Rattle.posix_calls.specs.declared.operation.Missing.{Missing}
 use Rattle.posix_calls.specs.declared.operation.Missing.TheVariants as missing
 use Rattle.log_record.specs.file_graph.Graph.{is_among}
 use Rattle.posix_calls.specs.declared.operation.Operation.{Operation}
-use Rattle.posix_calls.specs.declared.operation.Operation.TheVariants.{Tell, NewDir, NewFile, OpenFile, CloseFile, Write, Resize, RemoveDir, AddName, DropName, Move}
+use Rattle.posix_calls.specs.declared.operation.Operation.TheVariants.{Tell, NewDir, NewFile, OpenFile, CloseFile, Write, Resize, RemoveDir, AddName, DropName, Move, Exchange}
 use Rattle.posix_calls.specs.declared.operation.Replaced.{Replaced}
 use Rattle.posix_calls.specs.declared.operation.Replaced.TheVariants.{Nothing, OldFile, OldDir}
 
@@ -38,6 +38,7 @@ subjects_of new (RemoveDir at i) = sorted_inodes (i ∷ at.parent ∷ [])
 subjects_of new (AddName at i) = sorted_inodes (i ∷ at.parent ∷ [])
 subjects_of new (DropName at i) = sorted_inodes (i ∷ at.parent ∷ [])
 subjects_of new (Move from to i is_dir replaced) = sorted_inodes (to.parent ∷ from.parent ∷ replaced_inode replaced)
+subjects_of new (Exchange first second i j) = sorted_inodes (first.parent ∷ second.parent ∷ [])
 
 -- what is missing is a node that an operation changes, and that a part doesn't know
 pub record IsSubjectMissing (p : Part) (new : ℕ) (operation : Operation) (what : Missing) : Type 0 where

@@ -38,6 +38,7 @@ pub fn subjects(operation: &Operation, new: u32) -> ArrayVec<u32, MAX_SUBJECTS>
             replaced,
             ..
         } => move_subjects(from.parent, to.parent, *replaced),
+        Operation::Exchange { first, second, .. } => pair(first.parent, second.parent),
     }
 }
 

@@ -44,6 +44,7 @@ fn growth_in_full<T: TreeAnswers>(tree: &T, operation: &Operation) -> Result<u64
         Operation::CloseFile { .. } => Ok(0),
         Operation::RemoveDir { .. } => Ok(0),
         Operation::DropName { .. } => Ok(0),
+        Operation::Exchange { .. } => Ok(0),
     }
 }
 

@@ -1,6 +1,6 @@
 //! What holds of a client that knows a part of the whole.
 
-ghost use Rattle.std.specs.Prelude.{◌≡◌, ◌≢◌, ◌≤◌, ◌+◌, ◌/◌, ℕ, Bool, List, [], ◌++◌, Option, Some, None, IsSome, Result, Ok, Err, true, false, ◌&&◌, if◌then◌else◌};
+ghost use Rattle.std.specs.Prelude.{◌≡◌, ◌≢◌, ◌≤◌, ◌+◌, ◌/◌, ℕ, Bool, List, [], ◌++◌, Option, Some, None, IsSome, Result, Ok, Err, true, false, option_map, ◌&&◌, if◌then◌else◌};
 ghost use Rattle.posix_calls.specs.Path.{path_names};
 ghost use Rattle.posix_calls.specs.Tree.{Descriptors, with_own};
 ghost use Rattle.posix_calls.specs.Query.{run};
@@ -12,17 +12,18 @@ ghost use Rattle.posix_calls.specs.declared.operation.Missing.{Missing};
 ghost use Rattle.posix_calls.specs.declared.operation.Missing.TheVariants.{Node, Blocks};
 ghost use Rattle.posix_calls.specs.declared.operation.Operation.{Operation};
 ghost use Rattle.posix_calls.specs.declared.call.Call.{Call};
-ghost use Rattle.posix_calls.specs.declared.call.Call.TheVariants.{Open, Truncate, Mkdir, Rmdir, Link, Unlink, Rename};
+ghost use Rattle.posix_calls.specs.declared.call.Call.TheVariants.{Open, Truncate, Mkdir, Rmdir, Link, Unlink, Rename, Exchange};
 ghost use Rattle.posix_calls.specs.declared.call.Flags.{Flags};
 ghost use Rattle.posix_calls.specs.declared.call.Reply.TheVariants.{Failed};
 ghost use Rattle.posix_calls.specs.declared.limits.TheConstants.{MAX_DESCRIPTORS, MAX_TRANSFER, UNIT_BYTES};
 ghost use Rattle.posix_calls.specs.declared.errno.Errno.TheVariants.{Exists, IsDirectory, Busy, NotPermitted};
 ghost use Rattle.posix_calls.specs.declared.errno.Errno.{Errno};
-ghost use Rattle.log_record.specs.file_graph.Graph.{Graph, FileBody, set_node, is_among, after_effects, touches};
+ghost use Rattle.log_record.specs.file_graph.Graph.{Graph, FileBody, set_node, is_among, after_effects, touches, swapped_directories};
 ghost use Rattle.log_record.specs.file_graph.Units.{growth};
 ghost use Rattle.log_record.specs.file_graph.declared.effect.Effect.{Effect};
 ghost use Rattle.call_effects.specs.Calls.{answer_over};
 ghost use Rattle.call_effects.specs.Effects.{effects_of, kind_if};
+ghost use Rattle.call_effects.specs.KnownCopies.{Copies, AreSeen, SwapsAreKnown, known_after};
 ghost use Rattle.call_effects.specs.NodeView.{NodeView, view_at, view_after};
 ghost use Rattle.call_effects.specs.Blocks.{block_of, block_at, block_after};
 ghost use Rattle.call_effects.specs.Records.{effects_asked, growth_asked, units_asked};
@@ -126,11 +127,27 @@ pub fn served_copy_agrees()
     ensures less { (k less : Knowledge) (g : Graph) (held : Descriptors) → Agrees k g held → IsForgetful k less → Agrees less g held }
 {}
 
+/// A client knows both directories of each name that the effects of a call swap, which it decided by what it knows.
+pub fn planned_swaps_are_known()
+    ensures { (k : Knowledge) (call : Call) (new : ℕ) (operation : Operation) (es : List Effect) → IsPlanned k call new operation es → SwapsAreKnown k.copies es }
+{}
+
+/// What is known of nodes of a graph, and the effects that follow, give what is so after them, where both directories of each Swap are
+/// known when its turn comes. Of an inode that no Swap names it depends on what was known of that inode alone. Lists of effects one
+/// behind the other are taken one after the other. What is known stays known, so it is enough that all directories that Swaps name
+/// are known before the effects.
+pub fn known_nodes_are_so_after_effects()
+    ensures seen { (g : Graph) (es : List Effect) (known : Copies) → AreSeen known g → SwapsAreKnown known es → AreSeen (known_after es known) (after_effects g es) }
+    ensures alone { (es : List Effect) (known : Copies) (i : ℕ) → is_among i (swapped_directories es) ≡ false → known_after es known i ≡ option_map (view_after es i) (known i) }
+    ensures join { (first rest : List Effect) (known : Copies) → known_after (first ++ rest) known ≡ known_after rest (known_after first known) }
+    ensures swaps { (es : List Effect) (known : Copies) → ((i : ℕ) → is_among i (swapped_directories es) ≡ true → IsSome (known i)) → SwapsAreKnown known es }
+{}
+
 /// What a client fetched of a whole, and effects of its own that the whole does not have yet, give what the whole has after them: the
-/// view of each node is that of the fetched view after the effects, and a block is the fetched one after them, or is known from the
-/// effects alone. Lists of effects one behind the other are taken one after the other.
+/// view of each node that no Swap names is that of the fetched view after the effects, and a block is the fetched one after them, or is
+/// known from the effects alone. Lists of effects one behind the other are taken one after the other.
 pub fn effects_replay_over_what_was_fetched()
-    ensures view { (g : Graph) (es : List Effect) (i : ℕ) → view_at (after_effects g es) i ≡ view_after es i (view_at g i) }
+    ensures view { (g : Graph) (es : List Effect) (i : ℕ) → is_among i (swapped_directories es) ≡ false → view_at (after_effects g es) i ≡ view_after es i (view_at g i) }
     ensures block { (g : Graph) (es : List Effect) (i b : ℕ) (fetched : Option (List ℕ)) (bytes : List ℕ) → ((block : List ℕ) → fetched ≡ Some block → block_at g i b ≡ Some block) → block_after es i b fetched ≡ Some bytes → block_at (after_effects g es) i b ≡ Some bytes }
     ensures views_join { (first rest : List Effect) (i : ℕ) (view : Option NodeView) → view_after (first ++ rest) i view ≡ view_after rest i (view_after first i view) }
     ensures blocks_join { (first rest : List Effect) (i b : ℕ) (block : Option (List ℕ)) → block_after (first ++ rest) i b block ≡ block_after rest i b (block_after first i b block) }
@@ -147,4 +164,6 @@ pub fn root_is_refused_without_a_copy()
     ensures unlink { (k : Knowledge) (path : List ℕ) → path_names path ≡ Ok [] → run_part (part_of k) (decide k.own (Unlink path)) ≡ Known (Err Busy) }
     ensures rename { (k : Knowledge) (path new : List ℕ) (names : List (List ℕ)) → path_names path ≡ Ok [] → path_names new ≡ Ok names → run_part (part_of k) (decide k.own (Rename path new)) ≡ Known (Err Busy) }
     ensures renamed { (k : Knowledge) (old path : List ℕ) (names : List (List ℕ)) → path_names old ≡ Ok names → path_names path ≡ Ok [] → run_part (part_of k) (decide k.own (Rename old path)) ≡ Known (Err Busy) }
+    ensures exchange { (k : Knowledge) (path second : List ℕ) (names : List (List ℕ)) → path_names path ≡ Ok [] → path_names second ≡ Ok names → run_part (part_of k) (decide k.own (Exchange path second)) ≡ Known (Err Busy) }
+    ensures exchanged { (k : Knowledge) (first path : List ℕ) (names : List (List ℕ)) → path_names first ≡ Ok names → path_names path ≡ Ok [] → run_part (part_of k) (decide k.own (Exchange first path)) ≡ Known (Err Busy) }
 {}

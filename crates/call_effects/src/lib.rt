@@ -5,7 +5,7 @@
 //! `posix_calls` gives a call's operation, `growth_of` the units that it may need, and `record_of` makes its record: all three ask
 //! whoever knows the tree or a part of it; `subjects` lists the inodes that the record will touch. That this is right is stated by the
 //! laws: over a whole (`laws`), of effects and units (`record_laws`), for a client that knows a part (`known_laws`), and once nobody
-//! has a file open (`settling`).
+//! has a file open, or one client is gone (`closed_graph_laws`).
 #![tactic(auto)]
 
 mod answer_laws;
@@ -30,9 +30,9 @@ pub use growth::growth_of;
 pub use known_laws::{
     copied_entries_have_kinds, dropping_a_gone_file_keeps_all,
     effects_replay_over_what_was_fetched, known_answer_is_of_the_whole, known_call_is_a_step,
-    known_call_keeps_agreement, missing_is_asked_next, no_call_meets_a_file_that_is_gone,
-    part_is_of_the_whole, root_is_refused_without_a_copy, served_copy_agrees,
-    served_copy_is_missing_no_longer,
+    known_call_keeps_agreement, known_nodes_are_so_after_effects, missing_is_asked_next,
+    no_call_meets_a_file_that_is_gone, part_is_of_the_whole, planned_swaps_are_known,
+    root_is_refused_without_a_copy, served_copy_agrees, served_copy_is_missing_no_longer,
 };
 pub use laws::{
     answered_operation_fits, call_is_a_step, calls_keep_a_graph_within_its_limits,

@@ -3,7 +3,7 @@ ghost use Rattle.std.specs.Vec.{vec_capacity};
 ghost use Rattle.posix_calls.specs.Answers.{IsAnswer};
 ghost use Rattle.posix_calls.specs.declared.operation.Operation.TheVariants.{AddName};
 ghost use Rattle.posix_calls.specs.declared.operation.DecideError.TheVariants.{Memory};
-ghost use Rattle.log_record.specs.file_graph.declared.effect.Effect.TheVariants.{Size, Leave, Enter};
+ghost use Rattle.log_record.specs.file_graph.declared.effect.Effect.TheVariants.{Size, Leave, Enter, Swap};
 ghost use Rattle.call_effects.specs.ChangeTest.{changes};
 ghost use Rattle.call_effects.specs.Effects.{recounted_file, kind_if, make_effects, drop_effects, remove_effects, clear_effects, effects_by};
 ghost use Rattle.call_effects.specs.Records.{names_if, knows_names, names_known, effects_asked};
@@ -167,6 +167,9 @@ fn effects_by(effects: Vec<Effect>, names: u32, new: u32, operation: Operation) 
             };
             move_effects(effects, names, from, to, replaced)
         }
+        Operation::Exchange { first, second, .. } => {
+            one_effect(effects, swap_effect(first, second))
+        }
     }
 }
 
@@ -314,5 +317,17 @@ fn leave_effect(at: Location) -> Effect
     Effect::Leave {
         directory: at.parent,
         name: at.name,
+    }
+}
+
+// Two names change what they lead to.
+fn swap_effect(first: Location, second: Location) -> Effect
+    ensures { result ≡ Swap first.parent first.name second.parent second.name }
+{
+    Effect::Swap {
+        directory: first.parent,
+        name: first.name,
+        other: second.parent,
+        other_name: second.name,
     }
 }

@@ -1,11 +1,12 @@
 //! What holds of every record: of the effects and the growth that someone who knows a part of the tree asks for.
 
-ghost use Rattle.std.specs.Prelude.{◌≡◌, ◌<◌, ◌≤◌, ◌^◌, ℕ, List, [], Ok, true, false};
+ghost use Rattle.std.specs.Prelude.{◌≡◌, ◌<◌, ◌≤◌, ◌/◌, ◌^◌, ℕ, List, [], Ok, true, false};
 ghost use Rattle.posix_calls.specs.Tree.{Descriptors, Own};
 ghost use Rattle.posix_calls.specs.Query.{run};
 ghost use Rattle.posix_calls.specs.Operations.{makes};
 ghost use Rattle.posix_calls.specs.WellFormed.{IsWithinLimits};
 ghost use Rattle.posix_calls.specs.declared.call.Call.{Call};
+ghost use Rattle.posix_calls.specs.declared.limits.TheConstants.{MAX_FILE, UNIT_BYTES};
 ghost use Rattle.posix_calls.specs.declared.operation.Operation.{Operation};
 ghost use Rattle.log_record.specs.file_graph.declared.effect.Effect.{Effect};
 ghost use Rattle.log_record.specs.file_graph.Graph.{Graph, touches, is_among};
@@ -37,9 +38,9 @@ pub fn growth_is_local()
 
 /// What an answered call changes is a record that can be written. Over a sound graph whose tree is within the limits, an operation
 /// that changes something has 1 to 8 effects that keep the limits, so that with any units below 2^32 they have a spelling; and
-/// their growth is at most the 256 blocks of the greatest file, so it is such units. Every other operation has no effect at all.
+/// their growth is at most the blocks of the greatest file, so it is such units. Every other operation has no effect at all.
 pub fn answered_operations_have_spellings()
     ensures spelled { (g : Graph) (held : Descriptors) (client new units : ℕ) (call : Call) (operation : Operation) → IsSound g held → IsWithinLimits (state_of g held).tree → answer_over g held client call ≡ Ok operation → (makes operation ≡ true → IsNew g new) → changes operation ≡ true → units < 2 ^ 32 → IsRecord (record { units = units; effects = effects_of g new operation }) }
-    ensures units { (g : Graph) (held : Descriptors) (client new : ℕ) (call : Call) (operation : Operation) → IsSound g held → answer_over g held client call ≡ Ok operation → (makes operation ≡ true → IsNew g new) → growth g (effects_of g new operation) ≤ 256 }
+    ensures units { (g : Graph) (held : Descriptors) (client new : ℕ) (call : Call) (operation : Operation) → IsSound g held → answer_over g held client call ≡ Ok operation → (makes operation ≡ true → IsNew g new) → growth g (effects_of g new operation) ≤ MAX_FILE / UNIT_BYTES }
     ensures unchanged { (g : Graph) (new : ℕ) (operation : Operation) → changes operation ≡ false → effects_of g new operation ≡ [] }
 {}

@@ -3,7 +3,7 @@ use Rattle.std.proofs.Common.{◌≡◌, ◌⊎◌, inl, inr, ℕ, refl, Some, N
 use Rattle.posix_calls.specs.declared.errno.Errno.{Errno}
 use Rattle.posix_calls.specs.declared.operation.Missing.TheVariants as missing
 use Rattle.posix_calls.specs.declared.operation.Operation.{Operation}
-use Rattle.posix_calls.specs.declared.operation.Operation.TheVariants.{Tell, NewDir, NewFile, OpenFile, CloseFile, Write, Resize, RemoveDir, AddName, DropName, Move}
+use Rattle.posix_calls.specs.declared.operation.Operation.TheVariants.{Tell, NewDir, NewFile, OpenFile, CloseFile, Write, Resize, RemoveDir, AddName, DropName, Move, Exchange}
 use Rattle.posix_calls.specs.declared.operation.Replaced.TheVariants.{Nothing, OldFile, OldDir}
 use Rattle.posix_calls.specs.Query.{Seen, Query, Gives, Refuses, IsDir, Look, Range, ◌>>=◌}
 use Rattle.posix_calls.specs.Part.{Part, Found, Known, Unknown, IsBeyond, blocks_missing, run_part}
@@ -102,6 +102,7 @@ module _ (p : Part) where
   growth_never (Move from to i is_dir Nothing) r e = moved_never (from.parent == to.parent) to.parent r e
   growth_never (Move from to i is_dir (OldFile j)) r e = gives_all p 0 r e
   growth_never (Move from to i is_dir (OldDir j)) r e = gives_all p 0 r e
+  growth_never (Exchange first second i j) r e = gives_all p 0 r e
 
   pub units_never_refused : (operation : Operation) (r : Errno) → run_part p (units_asked operation) ≡ Known (Err r) → ⊥
   units_never_refused operation r e = bind_gives_all p (growth_asked operation) _ r (growth_never operation) e

@@ -9,18 +9,17 @@ use Rattle.posix_calls.specs.Name.{is_name}
 use Rattle.posix_calls.specs.Path.{is_dots, path_names}
 use Rattle.posix_calls.specs.Tree.{Own}
 use Rattle.posix_calls.specs.Query.{Seen, File, Dir, Query, Gives, Refuses, IsDir, Look, Range, ◌>>=◌}
-use Rattle.posix_calls.specs.Part.{Part, Found, Known, Unknown, blocks_missing, run_part}
+use Rattle.posix_calls.specs.Part.{Part, Known, run_part}
 use Rattle.posix_calls.specs.Walk.{Place, leads_to, read_or_error, entries_at, size_at, names_at, kind_at, directory, walk, prefix, there}
-use Rattle.posix_calls.specs.Decide.{open_inode, lowest_free, number_or, empties, open_there, open_path, close, bytes_from, pread, write_at, pwrite, truncate, mkdir, rmdir, link, unlink, replaced_at, rename_to, rename, list_path, node_description, stat, decide}
+use Rattle.posix_calls.specs.Decide.{open_inode, lowest_free, number_or, empties, open_there, open_path, close, bytes_from, pread, write_at, pwrite, truncate, mkdir, rmdir, link, unlink, replaced_at, rename_to, rename, exchange_apart, exchange, list_path, node_description, stat, decide}
 use Rattle.posix_calls.specs.declared.limits.TheConstants.{MAX_NAME, MAX_TRANSFER}
 use Rattle.posix_calls.specs.declared.call.Flags.{Flags}
 use Rattle.posix_calls.specs.declared.call.Call.{Call}
 use Rattle.posix_calls.specs.declared.call.Call.TheVariants as call
 use Rattle.posix_calls.specs.declared.call.Reply.{Reply}
 use Rattle.posix_calls.specs.declared.operation.Location.{Location}
-use Rattle.posix_calls.specs.declared.operation.Missing.TheVariants as missing
 use Rattle.posix_calls.specs.declared.operation.Operation.{Operation}
-use Rattle.posix_calls.specs.declared.operation.Operation.TheVariants.{Tell, NewDir, NewFile, OpenFile, CloseFile, Write, Resize, RemoveDir, AddName, DropName, Move}
+use Rattle.posix_calls.specs.declared.operation.Operation.TheVariants.{Tell, NewDir, NewFile, OpenFile, CloseFile, Write, Resize, RemoveDir, AddName, DropName, Move, Exchange}
 use Rattle.posix_calls.specs.declared.operation.Replaced.TheVariants.{Nothing, OldFile, OldDir}
 use Rattle.posix_calls.proofs.Readings.{AreNames, reading_names}
 use Rattle.call_effects.specs.file_graph.declared.effect.Effect.{Effect}
@@ -31,27 +30,8 @@ use Rattle.call_effects.proofs.log_record_lemmas.Lengths.{length-u32, effect_siz
 use Rattle.call_effects.specs.Effects.{recounted_file, effects_by}
 use Rattle.call_effects.specs.Records.{names_if, effects_asked, growth_asked, units_asked}
 use Rattle.call_effects.proofs.KnownAsking.{bind_known, result_is}
-use Rattle.call_effects.proofs.SpelledQuery.{Always, then_always, after_any, HasBytes, decide_fine}
+use Rattle.call_effects.proofs.SpelledQuery.{Always, of_part, then_always, after_any, HasBytes, decide_fine}
 use Rattle.client_plan.specs.NeedEffects.{longest_record}
-
--- ---- what holds of each result holds of the one that a part comes to
-
-of_part : {A : Type 0} (P : A → Type 0) (p : Part) (q : Query A) (x : A) → Always P q → run_part p q ≡ Known (Ok x) → P x
-unfolding run_part
-of_part P p (Gives y) x all e = let same : y ≡ x = cc in subst P same all
-of_part P p (Refuses n) x all e = absurd cc
-of_part {A = A} P p (IsDir i next) x all e = elim (p.is_dir i) as (λ o. ◌≡◌ {A = Found A} (elim o [ None ↦ Unknown (missing.Node i) | Some a ↦ run_part p (next a) ]) (Known (Ok x)) → P x) [
-  | None ↦ λ unknown. absurd (cc)
-  | Some a ↦ λ known. of_part P p (next a) x (all a) known
-] e
-of_part {A = A} P p (Look i next) x all e = elim (p.node i) as (λ o. ◌≡◌ {A = Found A} (elim o [ None ↦ Unknown (missing.Node i) | Some a ↦ run_part p (next a) ]) (Known (Ok x)) → P x) [
-  | None ↦ λ unknown. absurd (cc)
-  | Some a ↦ λ known. of_part P p (next a) x (all a) known
-] e
-of_part {A = A} P p (Range i at count next) x all e = elim (p.bytes i at count) as (λ o. ◌≡◌ {A = Found A} (elim o [ None ↦ Unknown (blocks_missing i at count) | Some a ↦ run_part p (next a) ]) (Known (Ok x)) → P x) [
-  | None ↦ λ unknown. absurd (cc)
-  | Some a ↦ λ known. of_part P p (next a) x (all a) known
-] e
 
 -- ---- the names of an operation are those of the call's paths
 
@@ -66,6 +46,7 @@ HasNames (RemoveDir at i) = IsShort at
 HasNames (AddName at i) = IsShort at
 HasNames (DropName at i) = IsShort at
 HasNames (Move from to i is_dir replaced) = IsShort from × IsShort to
+HasNames (Exchange first second i j) = IsShort first × IsShort second
 HasNames _ = Unit {0}
 
 abbrev Named : Query Operation → Type 0
@@ -171,6 +152,16 @@ rename_named old new =
     at_path old _ (λ old_names valid. at_path new _ (λ new_names fine. after_any HasNames _ _ (λ a. at_place old_names _ valid (λ from short. after_any HasNames (there from.inode) _ (λ i.
     at_place new_names _ fine (λ to other. after_any HasNames _ _ (λ b. moved_named (leads_to i to.inode) _ from to i short other)))))))
 
+exchanged_named : (test : Bool) (r : Reply) (one two : Place) (i j : ℕ) → IsShort one.location → IsShort two.location → Named (cond test (Gives (Tell r)) (exchange_apart one two i j))
+exchanged_named true r one two i j short other = tt
+exchanged_named false r one two i j short other = after_any HasNames _ _ (λ a. (short, other))
+
+exchange_named : (first second : List ℕ) → Named (exchange first second)
+unfolding exchange
+exchange_named first second =
+    at_path first _ (λ first_names valid. at_path second _ (λ second_names fine. after_any HasNames _ _ (λ a. at_place first_names _ valid (λ one short. after_any HasNames (there one.inode) _ (λ i.
+    at_place second_names _ fine (λ two other. after_any HasNames (there two.inode) _ (λ j. exchanged_named (i == j) _ one two i j short other)))))))
+
 list_named : (path : List ℕ) → Named (list_path path)
 unfolding list_path
 list_named path =
@@ -197,6 +188,7 @@ decide_named own (call.Rmdir path) = rmdir_named path
 decide_named own (call.Link old new) = link_named old new
 decide_named own (call.Unlink path) = unlink_named path
 decide_named own (call.Rename old new) = rename_named old new
+decide_named own (call.Exchange first second) = exchange_named first second
 decide_named own (call.List path) = list_named path
 decide_named own (call.Stat path) = stat_named path
 
@@ -229,6 +221,7 @@ effects_few names new (DropName at i) bytes short = omega (arith, short)
 effects_few names new (Move from to i is_dir Nothing) bytes short = let old = short.0 in let other = short.1 in omega (arith, old, other)
 effects_few names new (Move from to i is_dir (OldFile j)) bytes short = let old = short.0 in let other = short.1 in omega (arith, old, other)
 effects_few names new (Move from to i is_dir (OldDir j)) bytes short = let old = short.0 in let other = short.1 in omega (arith, old, other)
+effects_few names new (Exchange first second i j) bytes short = let one = short.0 in let two = short.1 in omega (arith, one, two)
 
 -- ---- records
 

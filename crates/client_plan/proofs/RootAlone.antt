@@ -72,5 +72,6 @@ words_take_memory p own (call.Rmdir path) e = e
 words_take_memory p own (call.Link old new) e = e
 words_take_memory p own (call.Unlink path) e = e
 words_take_memory p own (call.Rename old new) e = e
+words_take_memory p own (call.Exchange first second) e = e
 words_take_memory p own (call.List path) e = first_true (comes_to_name path) (lists_root root_alone (path_names path)) (lists_root p (path_names path)) (no_list (path_names path)) e
 words_take_memory p own (call.Stat path) e = e

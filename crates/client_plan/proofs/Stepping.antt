@@ -6,7 +6,7 @@ use Rattle.posix_calls.specs.declared.call.Call.{Call}
 use Rattle.posix_calls.specs.declared.call.Reply.{Reply}
 use Rattle.posix_calls.specs.declared.descriptor.Descriptor.{Descriptor}
 use Rattle.posix_calls.specs.declared.operation.Operation.{Operation}
-use Rattle.posix_calls.specs.declared.operation.Operation.TheVariants.{Tell, NewDir, NewFile, OpenFile, CloseFile, Write, Resize, RemoveDir, AddName, DropName, Move}
+use Rattle.posix_calls.specs.declared.operation.Operation.TheVariants.{Tell, NewDir, NewFile, OpenFile, CloseFile, Write, Resize, RemoveDir, AddName, DropName, Move, Exchange}
 use Rattle.posix_calls.specs.Tree.{Own, Descriptors, with_own}
 use Rattle.posix_calls.specs.Query.{Gives}
 use Rattle.posix_calls.specs.Part.{Known, run_part}
@@ -54,6 +54,7 @@ own_is new own (RemoveDir at i) = refl
 own_is new own (AddName at i) = refl
 own_is new own (DropName at i) = refl
 own_is new own (Move from to i is_dir replaced) = refl
+own_is new own (Exchange first second i j) = refl
 
 -- what is seen of a copy, or is the node that is made
 known_or_made : {X Y : Type 0} (f : X → Y) (o : Option X) (m : Bool) (i new : ℕ) → (is_some (option_map f o) || (m && i == new)) ≡ true → IsSome o ⊎ (cond m (Some new) None ≡ Some i)

@@ -7,17 +7,17 @@ use Rattle.std.proofs.lemmas.Bool.{false≢true, and_parts, and_from, leb-true, 
 use Rattle.std.proofs.lemmas.Bool.Decides.{eqb_tells}
 use Rattle.posix_calls.specs.declared.limits.TheConstants.{MAX_FILE, MAX_ENTRIES, MAX_NAMES}
 use Rattle.call_effects.specs.file_graph.declared.effect.Effect.{Effect}
-use Rattle.call_effects.specs.file_graph.Graph.{Graph, after_effects, touches, subjects, is_among}
+use Rattle.call_effects.specs.file_graph.Graph.{Graph, after_effects, touches, is_among}
 use Rattle.call_effects.specs.file_graph.Units.{charge, growth}
 use Rattle.call_effects.specs.log_record.Grammar.{IsRecord}
 use Rattle.call_effects.proofs.log_record_lemmas.Fields.{test_some}
 use Rattle.call_effects.specs.log_record.declared.format.Record.{Record}
-use Rattle.call_effects.specs.NodeView.{NodeView, FileView, DirView, view_at, view_after}
-use Rattle.call_effects.proofs.NodeViews.{viewed_after}
+use Rattle.call_effects.specs.NodeView.{NodeView, FileView, DirView, view_at}
 use Rattle.record_validation.specs.Counts.{counts_of}
 use Rattle.record_validation.specs.KnownNodes.{Known, ViewsAgree, known_at, first_unknown}
 use Rattle.record_validation.specs.Good.{KeepsLimits, AreHeld, IsGood, are_held, is_within, keeps}
-use Rattle.record_validation.proofs.Touched.{as_known, next_all}
+use Rattle.record_validation.proofs.Alike.{counts_seen}
+use Rattle.record_validation.proofs.Touched.{as_known}
 
 -- ---- a test of each of some inodes
 
@@ -49,8 +49,8 @@ all_with test d is true c first rest again = refl
 all_with test d is false false first rest again = refl
 all_with test d is false true first rest again = absurd (false≢true (sym first ∙ at_all test is rest d again))
 
-pub all_again : (test : ℕ → Bool) (e : Effect) (d : ℕ) (es : List Effect) → subjects e ≡ d ∷ [] → is_among d (touches es) ≡ true → list_all test (touches (e ∷ es)) ≡ (true && list_all test (touches es))
-all_again test e d es is again = next_all test e d es is ∙ all_with test d (touches es) (test d) (list_all test (touches es)) refl refl again
+pub all_again : (test : ℕ → Bool) (d : ℕ) (is : List ℕ) → is_among d is ≡ true → list_all test (d ∷ is) ≡ (true && list_all test is)
+all_again test d is again = all_with test d is (test d) (list_all test is) refl refl again
 
 -- ---- limits
 
@@ -64,14 +64,14 @@ within_if None kept = refl
 within_if (Some (FileView names size)) kept = and_from (nat_le names MAX_NAMES) (nat_le size MAX_FILE) (le-leb names MAX_NAMES kept.0) (le-leb size MAX_FILE kept.1)
 within_if (Some (DirView names entries)) kept = and_from (nat_le names MAX_NAMES) (nat_le (fin.len entries) MAX_ENTRIES) (le-leb names MAX_NAMES kept.0) (le-leb (fin.len entries) MAX_ENTRIES kept.1)
 
-seen_after : (m : Known) (g : Graph) (es : List Effect) → first_unknown m es ≡ None → ViewsAgree m g → (i : ℕ) → is_among i (touches es) ≡ true → view_at (after_effects g es) i ≡ view_after es i (known_at m i)
-seen_after m g es none agrees i among = viewed_after g es i (known_at m i) (as_known m g es none agrees i among)
+within_is : (m : Known) (g : Graph) (es : List Effect) → first_unknown m es ≡ None → ViewsAgree m g → (i : ℕ) → is_among i (touches es) ≡ true → is_within (option_map counts_of (view_at (after_effects g es) i)) ≡ keeps m es i
+within_is m g es none agrees i among = ap is_within (counts_seen g es i (known_at m i) (as_known m g es none agrees i among))
 
 pub limits_kept : (m : Known) (g : Graph) (es : List Effect) → first_unknown m es ≡ None → ViewsAgree m g → list_all (keeps m es) (touches es) ≡ true → (i : ℕ) → is_among i (touches es) ≡ true → KeepsLimits (view_at (after_effects g es) i)
-limits_kept m g es none agrees all i among = subst KeepsLimits (sym (seen_after m g es none agrees i among)) (keeps_if (view_after es i (known_at m i)) (at_all (keeps m es) (touches es) all i among))
+limits_kept m g es none agrees all i among = keeps_if (view_at (after_effects g es) i) (within_is m g es none agrees i among ∙ at_all (keeps m es) (touches es) all i among)
 
 pub limits_tested : (m : Known) (g : Graph) (es : List Effect) → first_unknown m es ≡ None → ViewsAgree m g → ((i : ℕ) → is_among i (touches es) ≡ true → KeepsLimits (view_at (after_effects g es) i)) → list_all (keeps m es) (touches es) ≡ true
-limits_tested m g es none agrees each = all_from (keeps m es) (touches es) (λ i among. within_if (view_after es i (known_at m i)) (subst KeepsLimits (seen_after m g es none agrees i among) (each i among)))
+limits_tested m g es none agrees each = all_from (keeps m es) (touches es) (λ i among. sym (within_is m g es none agrees i among) ∙ within_if (view_at (after_effects g es) i) (each i among))
 
 -- ---- held
 

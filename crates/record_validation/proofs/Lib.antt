@@ -1,3 +1,4 @@
+pub mod Alike
 pub mod Goods
 pub mod Rises
 pub mod Row

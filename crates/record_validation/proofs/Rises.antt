@@ -14,8 +14,8 @@ use Rattle.call_effects.specs.file_graph.Units.{rise, growth, charge}
 use Rattle.call_effects.proofs.file_graph_lemmas.Touches.{untouched}
 use Rattle.call_effects.specs.log_record.Grammar.{FitsLimits, IsInode}
 use Rattle.call_effects.specs.NodeView.{NodeView, view_at, view_of_node, view_of_body}
-use Rattle.call_effects.proofs.NodeViews.{viewed_after}
 use Rattle.call_effects.proofs.Rises.{same_sums}
+use Rattle.record_validation.proofs.Alike.{counts_seen}
 use Rattle.record_validation.specs.Counts.{counts_of, counts_after, counts_cost}
 use Rattle.record_validation.specs.Rises.{view_rise, view_cost, view_cost_after, sum_distinct}
 
@@ -69,6 +69,13 @@ one_inode d i e at = elim (eqb_tells d i) [
   | inr apart ↦ absurd (false≢true (sym (ap (λ b. b || false) apart.0) ∙ e))
 ]
 
+joined : (i : ℕ) (is js : List ℕ) (P : Type 0) → is_among i (is ++ js) ≡ true → (is_among i is ≡ true → P) → (is_among i js ≡ true → P) → P
+joined i [] js P e l r = r e
+joined i (d ∷ is) js P e l r = elim (d == i) as (λ b. (b || is_among i (is ++ js)) ≡ true → ((b || is_among i is) ≡ true → P) → P) [
+  | true ↦ λ all first. first refl
+  | false ↦ λ all first. joined i is js P all first r
+] e l
+
 subject_fits : (e : Effect) → FitsLimits e → (i : ℕ) → is_among i (subjects e) ≡ true → IsInode i
 subject_fits (effect.Make d k) fit i e = one_inode d i e fit
 subject_fits (effect.Enter d j k name) fit i e = one_inode d i e fit.0
@@ -77,13 +84,7 @@ subject_fits (effect.Names d n) fit i e = one_inode d i e fit.0
 subject_fits (effect.Size d size) fit i e = one_inode d i e fit.0
 subject_fits (effect.Bytes d at new) fit i e = one_inode d i e fit.0
 subject_fits (effect.Drop d) fit i e = one_inode d i e fit
-
-joined : (i : ℕ) (is js : List ℕ) (P : Type 0) → is_among i (is ++ js) ≡ true → (is_among i is ≡ true → P) → (is_among i js ≡ true → P) → P
-joined i [] js P e l r = r e
-joined i (d ∷ is) js P e l r = elim (d == i) as (λ b. (b || is_among i (is ++ js)) ≡ true → ((b || is_among i is) ≡ true → P) → P) [
-  | true ↦ λ all first. first refl
-  | false ↦ λ all first. joined i is js P all first r
-] e l
+subject_fits (effect.Swap d a e b) fit i among = joined i (d ∷ []) (e ∷ []) (IsInode i) among (λ here. one_inode d i here fit.0) (λ there. one_inode e i there fit.2)
 
 pub touched_fit : (es : List Effect) → AllByRecursion FitsLimits es → (i : ℕ) → is_among i (touches es) ≡ true → IsInode i
 touched_fit [] fit i e = absurd (false≢true e)
@@ -97,7 +98,7 @@ at_touched false x y same = refl
 
 rise_told : (g : Graph) (es : List Effect) (known : ℕ → Option NodeView) (i : ℕ) → view_at g i ≡ known i → rise g (after_effects g es) i ≡ view_rise es known i
 rise_told g es known i is =
-    ap (λ n. n - cost (g i)) (cost_counted (after_effects g es i) ∙ ap (λ v. counts_cost (option_map counts_of v)) (viewed_after g es i (known i) is))
+    ap (λ n. n - cost (g i)) (cost_counted (after_effects g es i) ∙ ap counts_cost (counts_seen g es i (known i) is))
     ∙ ap (λ n. counts_cost (counts_after es i (known i)) - n) (cost_counted (g i) ∙ ap (λ v. counts_cost (option_map counts_of v)) is)
 
 -- whatever the rest of the graph is
@@ -130,7 +131,7 @@ charge_told g es known fit same =
     same_sums 1024 (λ i. cond (is_among i (touches es)) (cost (g i)) 0) (λ i. cond (is_among i (touches es)) (view_cost known i) 0) (λ i. at_touched (is_among i (touches es)) (cost (g i)) (view_cost known i) (λ among. cost_counted (g i) ∙ ap (λ v. counts_cost (option_map counts_of v)) (same i among)))
     ∙ sum_is (view_cost known) (touches es) inodes in
     let after : sum_up_to 1024 (λ i. cond (is_among i (touches es)) (cost (after_effects g es i)) 0) ≡ sum_distinct (view_cost_after es known) (touches es) =
-    same_sums 1024 (λ i. cond (is_among i (touches es)) (cost (after_effects g es i)) 0) (λ i. cond (is_among i (touches es)) (view_cost_after es known i) 0) (λ i. at_touched (is_among i (touches es)) (cost (after_effects g es i)) (view_cost_after es known i) (λ among. cost_counted (after_effects g es i) ∙ ap (λ v. counts_cost (option_map counts_of v)) (viewed_after g es i (known i) (same i among))))
+    same_sums 1024 (λ i. cond (is_among i (touches es)) (cost (after_effects g es i)) 0) (λ i. cond (is_among i (touches es)) (view_cost_after es known i) 0) (λ i. at_touched (is_among i (touches es)) (cost (after_effects g es i)) (view_cost_after es known i) (λ among. cost_counted (after_effects g es i) ∙ ap counts_cost (counts_seen g es i (known i) (same i among))))
     ∙ sum_is (view_cost_after es known) (touches es) inodes in
     let all = sum_moves 1024 (λ i. cost (after_effects g es i)) (λ i. cost (g i)) (λ i. cond (is_among i (touches es)) (cost (g i)) 0) (λ i. cond (is_among i (touches es)) (cost (after_effects g es i)) 0)
     (λ i. moved (is_among i (touches es)) (cost (g i)) (cost (after_effects g es i)) (λ e. ap cost (untouched g es i e))) in

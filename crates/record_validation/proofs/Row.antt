@@ -1,5 +1,5 @@
 -- What is learned of an inode is as the graph is; what is not known, no record has touched.
-use Rattle.std.proofs.Common.{◌≡◌, ◌≢◌, inl, inr, ℕ, true, false, cond, not, List, Option, Some, None, refl, ap, sym, subst, ◌∙◌}
+use Rattle.std.proofs.Common.{◌≡◌, ◌≢◌, inl, inr, ℕ, Bool, true, false, cond, not, List, [], ◌∷◌, ◌==◌, ◌||◌, Option, Some, None, refl, ap, sym, subst, ◌∙◌}
 use Rattle.std.specs.Prelude.{unwrap_or, option_map, is_some}
 use Rattle.std.specs.Ordering.{nat_cmp, is_eq}
 use Rattle.std.specs.declared.cmp.Ordering.TheVariants.{Less, Equal, Greater}
@@ -8,11 +8,14 @@ use Rattle.std.specs.BTreeMap.{get, Updates}
 use Rattle.std.proofs.lemmas.Bool.Decides.{eqb_tells}
 use Rattle.std.proofs.lemmas.Bool.{false≢true}
 use Rattle.call_effects.specs.file_graph.declared.effect.Effect.{Effect}
-use Rattle.call_effects.specs.file_graph.Graph.{Graph, after_effects, touches, is_among}
+use Rattle.call_effects.specs.file_graph.declared.effect.Effect.TheVariants as effect
+use Rattle.call_effects.specs.file_graph.Graph.{Graph, after_effects, touches, swapped_directories, is_among}
 use Rattle.call_effects.specs.file_graph.Units.{charge}
 use Rattle.call_effects.proofs.file_graph_lemmas.Touches.{untouched}
-use Rattle.call_effects.specs.NodeView.{NodeView, view_at, view_of_node, view_after}
-use Rattle.record_validation.specs.KnownNodes.{Known, ViewsAgree, first_unknown, is_unknown, known_after}
+use Rattle.call_effects.specs.KnownCopies.{Copies, SwapsAreKnown, known_after}
+use Rattle.call_effects.specs.NodeView.{NodeView, view_at, view_of_node}
+use Rattle.call_effects.proofs.KnownCopies.{some_after, swaps_known}
+use Rattle.record_validation.specs.KnownNodes.{Known, ViewsAgree, first_unknown, is_unknown}
 use Rattle.record_validation.specs.Row.{with_known}
 use Rattle.record_validation.proofs.Touched.{all_known}
 
@@ -41,12 +44,8 @@ learned m n g inode v is stands agrees i w at = elim (eqb_tells i inode) [
 
 -- ---- what is not known
 
-map_some : (f : Option NodeView → Option NodeView) (o : Option (Option NodeView)) → is_some (option_map f o) ≡ is_some o
-map_some f None = refl
-map_some f (Some v) = refl
-
 still_unknown : (m n : Known) (es : List Effect) (i : ℕ) → get nat_cmp n ≡ known_after es (get nat_cmp m) → is_unknown n i ≡ true → is_unknown m i ≡ true
-still_unknown m n es i is unknown = sym (ap not (ap (λ (k : ℕ → Option (Option NodeView)). is_some (k i)) is ∙ map_some (view_after es i) (get nat_cmp m i))) ∙ unknown
+still_unknown m n es i is unknown = sym (ap not (ap (λ (k : Copies). is_some (k i)) is ∙ some_after es (get nat_cmp m) i)) ∙ unknown
 
 not_touched : (m : Known) (es : List Effect) (i : ℕ) → first_unknown m es ≡ None → is_unknown m i ≡ true → is_among i (touches es) ≡ false
 not_touched m es i none unknown = elim (is_among i (touches es)) as (λ b. is_among i (touches es) ≡ b → b ≡ false) [
@@ -74,3 +73,27 @@ pub all_come : (m n : Known) (es fs : List Effect) (g h : Graph) (units : ℕ) �
 all_come m n es fs g h units same taken agrees costs none before =
     let told = subst (λ (xs : List Effect). get nat_cmp n ≡ known_after xs (get nat_cmp m)) same taken in
     ((subst (λ (xs : List Effect). ViewsAgree n (after_effects h xs)) same agrees, costs), has_come m n fs g h told none before)
+
+behind : (b c : Bool) → c ≡ true → (b || c) ≡ true
+behind true c e = refl
+behind false c e = e
+
+-- the directories that Swaps name are touched
+swapped_touched : (i : ℕ) (es : List Effect) → is_among i (swapped_directories es) ≡ true → is_among i (touches es) ≡ true
+swapped_touched i [] among = among
+swapped_touched i (effect.Swap d a e b ∷ es) among = in_two (d == i) (e == i) (is_among i (swapped_directories es)) (is_among i (touches es)) (swapped_touched i es) among where
+  in_two : (a b c d : Bool) → (c ≡ true → d ≡ true) → (a || (b || c)) ≡ true → (a || (b || d)) ≡ true
+  in_two true b c d so e = refl
+  in_two false true c d so e = refl
+  in_two false false c d so e = so e
+swapped_touched i (effect.Make x k ∷ es) among = behind (x == i) (is_among i (touches es)) (swapped_touched i es among)
+swapped_touched i (effect.Enter x y k name ∷ es) among = behind (x == i) (is_among i (touches es)) (swapped_touched i es among)
+swapped_touched i (effect.Leave x name ∷ es) among = behind (x == i) (is_among i (touches es)) (swapped_touched i es among)
+swapped_touched i (effect.Names x n ∷ es) among = behind (x == i) (is_among i (touches es)) (swapped_touched i es among)
+swapped_touched i (effect.Size x size ∷ es) among = behind (x == i) (is_among i (touches es)) (swapped_touched i es among)
+swapped_touched i (effect.Bytes x at new ∷ es) among = behind (x == i) (is_among i (touches es)) (swapped_touched i es among)
+swapped_touched i (effect.Drop x ∷ es) among = behind (x == i) (is_among i (touches es)) (swapped_touched i es among)
+
+-- where all that effects touch is known, so are the directories of their Swaps
+pub record_swaps : (m : Known) (es : List Effect) → first_unknown m es ≡ None → SwapsAreKnown (get nat_cmp m) es
+record_swaps m es none = swaps_known es (get nat_cmp m) (λ i among. all_known m (touches es) none i (swapped_touched i es among))

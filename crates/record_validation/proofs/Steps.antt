@@ -25,7 +25,7 @@ none_if : {A : Type 0} (b : Bool) (o : Option A) → is_some (cond b None o) ≡
 none_if true o = refl
 none_if false o = refl
 
-in_inserted : (m : Entries (ℕ × Kind)) (name q : List ℕ) (v : ℕ × Kind) → fin.contains_key (fin.insert m name v) q ≡ cond (eq_by_cmp (slice_cmp nat_cmp) q name) true (fin.contains_key m q)
+pub in_inserted : (m : Entries (ℕ × Kind)) (name q : List ℕ) (v : ℕ × Kind) → fin.contains_key (fin.insert m name v) q ≡ cond (eq_by_cmp (slice_cmp nat_cmp) q name) true (fin.contains_key m q)
 in_inserted m name q v = ap is_some (fin.get-insert nat_list_cmp_total m name v q) ∙ some_if (eq_by_cmp (slice_cmp nat_cmp) q name) v (fin.get m q)
 
 in_removed : (m : Entries (ℕ × Kind)) (name q : List ℕ) → fin.contains_key (fin.remove m name) q ≡ cond (eq_by_cmp (slice_cmp nat_cmp) q name) false (fin.contains_key m q)
@@ -39,7 +39,7 @@ in_empty q = ap is_some (fin.get-empty (slice_cmp nat_cmp) q)
 
 -- ---- one name
 
-entry_acts : (name : List ℕ) (e : Effect) (v : Option NodeView) → entry_in name (view_acted e v) ≡ entry_acted name e (entry_in name v)
+pub entry_acts : (name : List ℕ) (e : Effect) (v : Option NodeView) → entry_in name (view_acted e v) ≡ entry_acted name e (entry_in name v)
 entry_acts name (effect.Make i kind.File) v = refl
 entry_acts name (effect.Make i kind.Directory) v = ap (λ b. Some b) (in_empty name)
 entry_acts name (effect.Enter d i k entered) None = refl
@@ -58,6 +58,7 @@ entry_acts name (effect.Bytes i at new) None = refl
 entry_acts name (effect.Bytes i at new) (Some (FileView n size)) = refl
 entry_acts name (effect.Bytes i at new) (Some (DirView n es)) = refl
 entry_acts name (effect.Drop i) v = refl
+entry_acts name (effect.Swap d a e b) v = refl
 
 entry_acts_if : (b : Bool) (name : List ℕ) (e : Effect) (v : Option NodeView) → entry_in name (cond b (view_acted e v) v) ≡ cond b (entry_acted name e (entry_in name v)) (entry_in name v)
 entry_acts_if true name e v = entry_acts name e v
@@ -88,6 +89,7 @@ counts_act (effect.Bytes i at new) None = refl
 counts_act (effect.Bytes i at new) (Some (FileView n size)) = refl
 counts_act (effect.Bytes i at new) (Some (DirView n es)) = refl
 counts_act (effect.Drop i) v = refl
+counts_act (effect.Swap d a e b) v = refl
 
 counts_act_if : (b : Bool) (e : Effect) (v : Option NodeView) → option_map counts_of (cond b (view_acted e v) v) ≡ cond b (counts_acted e (is_named e v) (option_map counts_of v)) (option_map counts_of v)
 counts_act_if true e v = counts_act e v
@@ -106,3 +108,7 @@ on_one i d = last (d == i) where
   last : (b : Bool) → (b || false) ≡ b
   last true = refl
   last false = refl
+
+-- or one of two
+pub on_two : (i d e : ℕ) → is_among i (d ∷ e ∷ []) ≡ ((d == i) || (e == i))
+on_two i d e = ap (λ b. (d == i) || b) (on_one i e)

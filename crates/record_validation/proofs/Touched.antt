@@ -9,26 +9,48 @@ use Rattle.std.proofs.lemmas.Bool.Decides.{eqb_tells}
 use Rattle.std.proofs.lemmas.Option.{none-some}
 use Rattle.call_effects.specs.file_graph.declared.effect.Effect.{Effect}
 use Rattle.call_effects.specs.file_graph.Graph.{Graph, after_effects, touches, subjects, is_among}
+use Rattle.call_effects.specs.file_graph.Subject.{one_or_two}
 use Rattle.call_effects.specs.file_graph.Units.{growth, charge}
 use Rattle.call_effects.specs.log_record.Grammar.{FitsLimits}
 use Rattle.call_effects.specs.NodeView.{NodeView, view_at}
-use Rattle.record_validation.specs.KnownNodes.{Known, ViewsAgree, known_at, first_unknown, is_unknown}
+use Rattle.record_validation.specs.Good.{are_held}
+use Rattle.record_validation.specs.KnownNodes.{Known, ViewsAgree, known_at, first_unknown, inodes_behind, is_unknown}
 use Rattle.record_validation.specs.Rises.{view_rise, view_cost, view_cost_after, sum_distinct}
 use Rattle.record_validation.proofs.Rises.{growth_told, charge_told}
 
 -- ---- one effect more in front
 
-next_touched : (e : Effect) (d : ℕ) (es : List Effect) → subjects e ≡ d ∷ [] → touches (e ∷ es) ≡ d ∷ touches es
-next_touched e d es is = ap (λ xs. xs ++ touches es) is
+-- the inodes of an effect and those behind it
+pub next_touched : (e : Effect) (d : ℕ) (o : Option ℕ) (es : List Effect) → subjects e ≡ one_or_two d o → touches (e ∷ es) ≡ d ∷ inodes_behind o es
+next_touched e d o es is = ap (λ xs. xs ++ touches es) is ∙ behind o where
+  behind : (o : Option ℕ) → one_or_two d o ++ touches es ≡ d ∷ inodes_behind o es
+  behind None = refl
+  behind (Some j) = refl
 
-pub next_found : (m : Known) (e : Effect) (d : ℕ) (es : List Effect) → subjects e ≡ d ∷ [] → find (is_unknown m) (touches (e ∷ es)) ≡ cond (is_unknown m d) (Some d) (find (is_unknown m) (touches es))
-next_found m e d es is = ap (find (is_unknown m)) (next_touched e d es is)
+-- the first of two, or else the other
+abbrev pub or_other : Option ℕ → Option ℕ → Option ℕ
+or_other None other = other
+or_other (Some i) other = Some i
 
-pub next_sum : (f : ℕ → ℕ) (e : Effect) (d : ℕ) (es : List Effect) → subjects e ≡ d ∷ [] → sum_distinct f (touches (e ∷ es)) ≡ cond (is_among d (touches es)) 0 (f d) + sum_distinct f (touches es)
-next_sum f e d es is = ap (sum_distinct f) (next_touched e d es is)
+found_joined : (test : ℕ → Bool) (is js : List ℕ) → find test (is ++ js) ≡ or_other (find test is) (find test js)
+found_joined test [] js = refl
+found_joined test (d ∷ is) js = elim (test d) as (λ b. cond b (Some d) (find test (is ++ js)) ≡ or_other (cond b (Some d) (find test is)) (find test js)) [
+  | true ↦ refl
+  | false ↦ found_joined test is js
+]
 
-pub next_all : (test : ℕ → Bool) (e : Effect) (d : ℕ) (es : List Effect) → subjects e ≡ d ∷ [] → list_all test (touches (e ∷ es)) ≡ (test d && list_all test (touches es))
-next_all test e d es is = ap (list_all test) (next_touched e d es is)
+pub next_unknown : (m : Known) (e : Effect) (es : List Effect) → find (is_unknown m) (touches (e ∷ es)) ≡ or_other (find (is_unknown m) (subjects e)) (find (is_unknown m) (touches es))
+next_unknown m e es = found_joined (is_unknown m) (subjects e) (touches es)
+
+all_joined : (test : ℕ → Bool) (is js : List ℕ) → list_all test (is ++ js) ≡ (list_all test is && list_all test js)
+all_joined test [] js = refl
+all_joined test (d ∷ is) js = elim (test d) as (λ b. (b && list_all test (is ++ js)) ≡ ((b && list_all test is) && list_all test js)) [
+  | true ↦ all_joined test is js
+  | false ↦ refl
+]
+
+pub next_held : (held : List ℕ) (e : Effect) (es : List Effect) → are_held held (e ∷ es) ≡ (list_all (λ i. is_among i held) (subjects e) && are_held held es)
+next_held held e es = all_joined (λ i. is_among i held) (subjects e) (touches es)
 
 among_joined : (i : ℕ) (is js : List ℕ) → is_among i (is ++ js) ≡ (is_among i is || is_among i js)
 among_joined i [] js = refl

@@ -18,7 +18,7 @@ abbrev pub counts_of : NodeView → NodeCounts
 counts_of (FileView names size) = counts.File names size
 counts_of (DirView names entries) = counts.Directory names (fin.len entries)
 
--- the numbers of what stands at an inode after effects, one after the other
+-- the numbers of what stands at an inode after effects, one after the other; a Swap leaves them
 abbrev pub counts_after : List Effect → ℕ → Option NodeView → Option NodeCounts
 counts_after es i v = option_map counts_of (view_after es i v)
 
@@ -56,6 +56,7 @@ entry_acted name (effect.Names i n) old = old
 entry_acted name (effect.Size i size) old = old
 entry_acted name (effect.Bytes i at new) old = old
 entry_acted name (effect.Drop i) old = None
+entry_acted name (effect.Swap d a e b) old = old
 
 -- so of effects, one after the other
 abbrev pub entry_after : List ℕ → List Effect → ℕ → Option Bool → Option Bool
@@ -73,6 +74,7 @@ is_named (effect.Names i n) v = false
 is_named (effect.Size i size) v = false
 is_named (effect.Bytes i at new) v = false
 is_named (effect.Drop i) v = false
+is_named (effect.Swap d a e b) v = false
 
 -- a directory's count of entries changed; a file stays
 abbrev pub in_count : (ℕ → ℕ) → NodeCounts → NodeCounts
@@ -103,3 +105,4 @@ counts_acted (effect.Names i n) was old = option_map (with_count n) old
 counts_acted (effect.Size i size) was old = option_map (in_length (λ _. size)) old
 counts_acted (effect.Bytes i at new) was old = option_map (in_length (λ size. max size (at + length new))) old
 counts_acted (effect.Drop i) was old = None
+counts_acted (effect.Swap d a e b) was old = old

@@ -1,11 +1,11 @@
 -- What is known of some inodes, and of which of the inodes that effects touch nothing is known.
-use Rattle.std.specs.Prelude.{◌≡◌, ℕ, List, Bool, not, Option, Some, None, is_some, unwrap_or, option_map, if◌then◌else◌}
+use Rattle.std.specs.Prelude.{◌≡◌, ℕ, List, ◌∷◌, Bool, not, Option, Some, None, is_some, unwrap_or}
 use Rattle.std.specs.List.{find}
 use Rattle.std.specs.Ordering.{nat_cmp}
 use Rattle.std.specs.BTreeMap.{BTreeMap, get}
 use Rattle.call_effects.specs.file_graph.declared.effect.Effect.{Effect}
-use Rattle.call_effects.specs.file_graph.Graph.{Graph, subjects, touches, is_among}
-use Rattle.call_effects.specs.NodeView.{NodeView, view_at, view_acted, view_after}
+use Rattle.call_effects.specs.file_graph.Graph.{Graph, touches}
+use Rattle.call_effects.specs.NodeView.{NodeView, view_at}
 
 -- what is known of some inodes: their node, or that there is none
 abbrev pub Known : Type 0
@@ -27,10 +27,7 @@ is_unknown m i = not (is_some (get nat_cmp m i))
 abbrev pub first_unknown : Known → List Effect → Option ℕ
 first_unknown m es = find (is_unknown m) (touches es)
 
--- what is known after an effect
-abbrev pub known_acted : Effect → (ℕ → Option (Option NodeView)) → ℕ → Option (Option NodeView)
-known_acted e known i = option_map (λ v. if is_among i (subjects e) then view_acted e v else v) (known i)
-
--- what is known after effects, one after the other
-abbrev pub known_after : List Effect → (ℕ → Option (Option NodeView)) → ℕ → Option (Option NodeView)
-known_after es known i = option_map (view_after es i) (known i)
+-- the inodes behind the first one that an effect is on: its second one, if it has one, and those that later effects touch
+abbrev pub inodes_behind : Option ℕ → List Effect → List ℕ
+inodes_behind None behind = touches behind
+inodes_behind (Some other) behind = other ∷ touches behind

@@ -1,14 +1,14 @@
 //! By how much a record raises the units of a graph, told by what is known of the nodes that it touches.
 
 ghost use Rattle.std.specs.Prelude.{◌≡◌, ◌+◌, ◌-◌, ◌<◌, ◌≤◌, ◌^◌, ◌∷◌, ◌&&◌, Some, None, IfOk, IfErr, length, option_map};
-ghost use Rattle.std.specs.List.{AllByRecursion, list_all};
+ghost use Rattle.std.specs.List.{AllByRecursion, find, list_all};
 ghost use Rattle.call_effects.specs.file_graph.Graph.{Graph, after_effects, is_among, touches};
 ghost use Rattle.call_effects.specs.file_graph.Units.{charge, growth};
 ghost use Rattle.call_effects.specs.log_record.Grammar.{FitsLimits};
 ghost use Rattle.call_effects.specs.log_record.declared.format.TheConstants.{MAX_EFFECTS};
 ghost use Rattle.record_validation.specs.Counts.{counts_of, counts_after, counts_cost};
 ghost use Rattle.record_validation.specs.Good.{is_within, keeps};
-ghost use Rattle.record_validation.specs.KnownNodes.{ViewsAgree, first_unknown, known_at};
+ghost use Rattle.record_validation.specs.KnownNodes.{ViewsAgree, first_unknown, inodes_behind, is_unknown, known_at};
 ghost use Rattle.record_validation.specs.Rises.{sum_distinct, view_cost, view_cost_after, view_rise};
 
 use crate::count_changes::{counts_after, counts_of, is_on};
@@ -107,7 +107,7 @@ const NOTHING: RecordTally = RecordTally {
     within: true,
 };
 
-// What the inode that an effect is on costs, where no effect behind it is on that inode too; else nothing. The inode is the error where nothing is known of it.
+// What the inodes that an effect is on cost, each where no effect behind it is on that inode too. The first of which nothing is known is the error.
 fn tally_once(
     known: &BTreeMap<u32, Option<NodeSummary>>,
     effects: &[Effect],
@@ -122,16 +122,71 @@ fn tally_once(
     ensures within { IfOk result (λ t. list_all (keeps known.now effects.now) (touches (effect.now ∷ behind.now)) ≡ (t.within && list_all (keeps known.now effects.now) (touches behind.now))) }
     ensures known { IfOk result (λ t. first_unknown known.now (effect.now ∷ behind.now) ≡ first_unknown known.now behind.now) }
     ensures unknown { IfErr result (λ i. first_unknown known.now (effect.now ∷ behind.now) ≡ Some i) }
+    ensures small { IfOk result (λ t. (t.costs.growth + 2 ≤ 2 ^ 61) × (t.costs.before + 2 ≤ 2 ^ 61) × (t.costs.after + 2 ≤ 2 ^ 61)) }
+{
+    let (inode, other) = effect.subjects();
+    let first = tally_inode(known, effects, inode, other, behind)?;
+    let Some(other) = other else {
+        return Ok(first);
+    };
+    let second = tally_inode(known, effects, other, None, behind)?;
+    Ok(both(first, second))
+}
+
+// What one inode of an effect costs, where it is not its second one, and no effect behind it is on the inode too; else nothing.
+fn tally_inode(
+    known: &BTreeMap<u32, Option<NodeSummary>>,
+    effects: &[Effect],
+    inode: u32,
+    other: Option<u32>,
+    behind: &[Effect],
+) -> Result<RecordTally, u32>
+    requires few { length effects.now ≤ MAX_EFFECTS }
+    requires fit { AllByRecursion FitsLimits effects.now }
+    ensures growth { IfOk result (λ t. sum_distinct (view_rise effects.now (known_at known.now)) (inode ∷ inodes_behind other behind.now) ≡ t.costs.growth + sum_distinct (view_rise effects.now (known_at known.now)) (inodes_behind other behind.now)) }
+    ensures before { IfOk result (λ t. sum_distinct (view_cost (known_at known.now)) (inode ∷ inodes_behind other behind.now) ≡ t.costs.before + sum_distinct (view_cost (known_at known.now)) (inodes_behind other behind.now)) }
+    ensures after { IfOk result (λ t. sum_distinct (view_cost_after effects.now (known_at known.now)) (inode ∷ inodes_behind other behind.now) ≡ t.costs.after + sum_distinct (view_cost_after effects.now (known_at known.now)) (inodes_behind other behind.now)) }
+    ensures within { IfOk result (λ t. list_all (keeps known.now effects.now) (inode ∷ inodes_behind other behind.now) ≡ (t.within && list_all (keeps known.now effects.now) (inodes_behind other behind.now))) }
+    ensures known { IfOk result (λ t. find (is_unknown known.now) (inode ∷ inodes_behind other behind.now) ≡ find (is_unknown known.now) (inodes_behind other behind.now)) }
+    ensures unknown { IfErr result (λ i. find (is_unknown known.now) (inode ∷ inodes_behind other behind.now) ≡ Some i) }
     ensures small { IfOk result (λ t. (t.costs.growth < 2 ^ 60) × (t.costs.before < 2 ^ 60) × (t.costs.after < 2 ^ 60)) }
 {
-    let inode = effect.subject();
     let Some(old) = known_node(known, inode) else {
         return Err(inode);
     };
-    if are_on(behind, inode) {
+    if is_behind(inode, other, behind) {
         return Ok(NOTHING);
     }
     Ok(tally_of(old, effects, inode))
+}
+
+// Whether an inode comes again behind the first one of an effect.
+fn is_behind(inode: u32, other: Option<u32>, behind: &[Effect]) -> bool
+    ensures { result ≡ is_among inode (inodes_behind other behind.now) }
+{
+    match other {
+        Some(other) => other == inode || are_on(behind, inode),
+        None => are_on(behind, inode),
+    }
+}
+
+// What two inodes cost.
+fn both(first: RecordTally, second: RecordTally) -> RecordTally
+    requires first { (first.costs.growth < 2 ^ 60) × (first.costs.before < 2 ^ 60) × (first.costs.after < 2 ^ 60) }
+    requires second { (second.costs.growth < 2 ^ 60) × (second.costs.before < 2 ^ 60) × (second.costs.after < 2 ^ 60) }
+    ensures growth { result.costs.growth ≡ first.costs.growth + second.costs.growth }
+    ensures before { result.costs.before ≡ first.costs.before + second.costs.before }
+    ensures after { result.costs.after ≡ first.costs.after + second.costs.after }
+    ensures within { result.within ≡ (first.within && second.within) }
+{
+    RecordTally {
+        costs: RecordCosts {
+            growth: first.costs.growth + second.costs.growth,
+            before: first.costs.before + second.costs.before,
+            after: first.costs.after + second.costs.after,
+        },
+        within: first.within && second.within,
+    }
 }
 
 // What one inode costs before effects and after them, by what stood there.

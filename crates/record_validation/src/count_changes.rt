@@ -77,6 +77,7 @@ fn is_named(effect: &Effect, before: &[Effect], inode: u32, old: Option<&NodeSum
         Effect::Size { .. } => false,
         Effect::Bytes { .. } => false,
         Effect::Drop { .. } => false,
+        Effect::Swap { .. } => false,
     }
 }
 
@@ -129,6 +130,7 @@ fn entry_acted(effect: &Effect, name: &[u8], old: Option<bool>) -> Option<bool>
         Effect::Size { .. } => old,
         Effect::Bytes { .. } => old,
         Effect::Drop { .. } => None,
+        Effect::Swap { .. } => old,
     }
 }
 
@@ -159,7 +161,7 @@ fn is_same(name: &[u8], other: &Name) -> bool
 }
 
 /// Whether an effect is on an inode.
-#[tactic(auto, using(crate::proofs::Steps::on_one))]
+#[tactic(auto, using(crate::proofs::Steps::on_one, crate::proofs::Steps::on_two))]
 pub fn is_on(effect: &Effect, inode: u32) -> bool
     ensures { result ≡ is_among inode (subjects effect.now) }
 {
@@ -171,5 +173,10 @@ pub fn is_on(effect: &Effect, inode: u32) -> bool
         Effect::Size { inode: it, .. } => *it == inode,
         Effect::Bytes { inode: it, .. } => *it == inode,
         Effect::Drop { inode: it } => *it == inode,
+        Effect::Swap {
+            directory,
+            other,
+            ..
+        } => *directory == inode || *other == inode,
     }
 }

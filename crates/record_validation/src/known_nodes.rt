@@ -3,6 +3,8 @@
 ghost use Rattle.std.specs.Prelude.{◌≡◌, option_map};
 ghost use Rattle.std.specs.Ordering.{nat_cmp};
 ghost use Rattle.std.specs.BTreeMap.{get};
+ghost use Rattle.std.specs.List.{find};
+ghost use Rattle.call_effects.specs.file_graph.Graph.{subjects};
 ghost use Rattle.record_validation.specs.KnownNodes.{first_unknown, is_unknown};
 
 use crate::node_summary::NodeSummary;
@@ -11,17 +13,30 @@ use std::collections::BTreeMap;
 
 /// The first inode that effects touch, in their order, of which nothing is known. Where none is named, the map tells of each inode
 /// that they touch what stands there, or that nothing does.
-#[tactic(auto, using(crate::proofs::Touched::next_found))]
+#[tactic(auto, using(crate::proofs::Touched::next_unknown))]
 pub fn first_unknown(known: &BTreeMap<u32, Option<NodeSummary>>, effects: &[Effect]) -> Option<u32>
     ensures { result ≡ first_unknown known.now effects.now }
 {
     for effect in effects {
-        let inode = effect.subject();
-        if is_unknown(known, inode) {
+        if let Some(inode) = find_unknown(known, effect) {
             return Some(inode);
         }
     }
     None
+}
+
+// The first of the inodes of one effect of which nothing is known.
+fn find_unknown(known: &BTreeMap<u32, Option<NodeSummary>>, effect: &Effect) -> Option<u32>
+    ensures { result ≡ find (is_unknown known.now) (subjects effect.now) }
+{
+    let (inode, other) = effect.subjects();
+    if is_unknown(known, inode) {
+        return Some(inode);
+    }
+    match other {
+        Some(other) if is_unknown(known, other) => Some(other),
+        _ => None,
+    }
 }
 
 /// Whether nothing is known of an inode.

@@ -70,6 +70,7 @@ pub fn apply_effect(counts: Option<NodeCounts>, effect: &Effect, was: bool) -> O
         Effect::Size { size, .. } => with_size(counts, *size),
         Effect::Bytes { at, bytes, .. } => with_growth(counts, *at + bytes.as_slice().len() as u64),
         Effect::Drop { .. } => None,
+        Effect::Swap { .. } => counts,
     }
 }
 

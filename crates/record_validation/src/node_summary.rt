@@ -1,4 +1,4 @@
-ghost use Rattle.std.specs.Prelude.{◌≡◌, ◌<◌, ◌^◌, ℕ, true, false, Some, OnOk, OnErr, max};
+ghost use Rattle.std.specs.Prelude.{◌≡◌, ◌<◌, ◌^◌, ℕ, true, false, Some, IsSome, OnOk, OnErr, max};
 ghost use Rattle.std.specs.FinMap as fin;
 ghost use Rattle.call_effects.specs.file_graph.Plain.{is_drop};
 ghost use Rattle.call_effects.specs.log_record.Grammar.{FitsLimits};
@@ -111,7 +111,18 @@ impl NodeSummary {
         }
     }
 
-    /// Does what an effect other than a Drop does to the node, where the effect keeps the limits of the format. Where there is no
+    /// Puts something in place of what stands at a name of a directory. It takes no memory.
+    pub fn set(&mut self, name: &[u8], child: Child)
+        requires { IsSome (fin.get (entries_of self.old) name.now) }
+        ensures { self.new ≡ in_entries (λ es. fin.insert es name.now child) self.old }
+    {
+        match &mut self.body {
+            SummaryBody::File { .. } => {}
+            SummaryBody::Directory { entries } => entries.set(name, child),
+        }
+    }
+
+    /// Does what an effect other than a Drop does to the node by itself, which is nothing of a Swap, where the effect keeps the limits of the format. Where there is no
     /// memory for it, the summary stays as it was; none is asked for but to enter a name into a directory.
     pub fn act(&mut self, alloc: Global, effect: &Effect) -> Result<(), AllocError>
         requires fits { FitsLimits effect.now }
@@ -149,6 +160,7 @@ impl NodeSummary {
                 Ok(())
             }
             Effect::Drop { .. } => Ok(()),
+            Effect::Swap { .. } => Ok(()),
         }
     }
 }

@@ -1,8 +1,9 @@
 //! Whether the next record of a client's log may be digested.
 
 ghost use Rattle.std.specs.Prelude.{◌≡◌, ◌-◌, ◌+◌, Some, None, nat_le, if◌then◌else◌};
+ghost use Rattle.std.specs.List.{list_all};
 ghost use Rattle.std.specs.List.Sorted.{IsNonDecreasing};
-ghost use Rattle.call_effects.specs.file_graph.Graph.{Graph, is_among};
+ghost use Rattle.call_effects.specs.file_graph.Graph.{Graph, subjects, is_among};
 ghost use Rattle.call_effects.specs.file_graph.Units.{charge};
 ghost use Rattle.call_effects.specs.log_record.Grammar.{IsRecord};
 ghost use Rattle.record_validation.specs.Good.{IsVerdict, are_held, asked_inode};
@@ -74,17 +75,29 @@ fn charge_after(used: u64, capacity: u64, costs: RecordCosts) -> Option<u64>
 }
 
 // Whether each inode that effects touch is held.
-#[tactic(auto, using(crate::proofs::Touched::next_all))]
+#[tactic(auto, using(crate::proofs::Touched::next_held))]
 fn are_held(held: &[u32], effects: &[Effect]) -> bool
     requires { IsNonDecreasing held.now }
     ensures { result ≡ are_held held.now effects.now }
 {
     for effect in effects {
-        if !is_among(held, effect.subject()) {
+        if !is_held(held, effect) {
             return false;
         }
     }
     true
+}
+
+// Whether each inode of one effect is held.
+fn is_held(held: &[u32], effect: &Effect) -> bool
+    requires { IsNonDecreasing held.now }
+    ensures { result ≡ list_all (λ i. is_among i held.now) (subjects effect.now) }
+{
+    let (inode, other) = effect.subjects();
+    match other {
+        Some(other) => is_among(held, inode) && is_among(held, other),
+        None => is_among(held, inode),
+    }
 }
 
 #[tactic(auto, using(crate::proofs::Searched::among_searched))]

@@ -27,3 +27,6 @@ returns-in-RemoveDir-clause-answer g c = rw c.in-RemoveDir.is gives
 
 pub returns-in-DropName-clause-answer : goal.returns-in-DropName-clause-answer
 returns-in-DropName-clause-answer g c = rw c.in-DropName.is gives
+
+pub returns-in-Exchange-clause-answer : goal.returns-in-Exchange-clause-answer
+returns-in-Exchange-clause-answer g c = rw c.in-Exchange.is gives

@@ -1,10 +1,8 @@
-use Rattle.std.proofs.Common.{refl}
-use Rattle.call_effects.specs.NodeView.{view_at}
 use Rattle.call_effects.proofs.NodeViews.{viewed_after, block_known_after, views_joined, blocks_joined}
 use Rattle.call_effects.proofs.known_laws.effects_replay_over_what_was_fetched.Goals as goal
 
 pub returns-clause-view : goal.returns-clause-view
-returns-clause-view c = λ g es i. viewed_after g es i (view_at g i) refl
+returns-clause-view c = viewed_after
 
 pub returns-clause-block : goal.returns-clause-block
 returns-clause-block c = block_known_after

@@ -1,6 +1,6 @@
 use Rattle.std.proofs.Common.{refl}
 use Rattle.call_effects.specs.Knowledge.{part_of}
-use Rattle.call_effects.proofs.KnownRoot.{root_open, root_truncate, root_mkdir, root_rmdir, root_link, root_unlink, root_rename_from, root_rename_to}
+use Rattle.call_effects.proofs.KnownRoot.{root_open, root_truncate, root_mkdir, root_rmdir, root_link, root_unlink, root_rename_from, root_rename_to, root_exchange_first, root_exchange_second}
 use Rattle.call_effects.proofs.known_laws.root_is_refused_without_a_copy.Goals as goal
 
 pub returns-clause-open : goal.returns-clause-open
@@ -26,3 +26,9 @@ returns-clause-rename c = λ k. root_rename_from (part_of k)
 
 pub returns-clause-renamed : goal.returns-clause-renamed
 returns-clause-renamed c = λ k. root_rename_to (part_of k)
+
+pub returns-clause-exchange : goal.returns-clause-exchange
+returns-clause-exchange c = λ k. root_exchange_first (part_of k)
+
+pub returns-clause-exchanged : goal.returns-clause-exchanged
+returns-clause-exchanged c = λ k. root_exchange_second (part_of k)

@@ -1,4 +1,4 @@
-use Rattle.call_effects.proofs.Reached.{state_is, sound_after}
+use Rattle.call_effects.proofs.ReachedAfter.{state_is, sound_after}
 use Rattle.call_effects.proofs.laws.operation_is_its_effects.Goals as goal
 
 pub returns-clause-state : goal.returns-clause-state

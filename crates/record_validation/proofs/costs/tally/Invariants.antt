@@ -14,7 +14,7 @@ invariant-loop-effect l = record {
   after : l.all.costs.after + sum_distinct (view_cost_after l.effects (known_at l.known)) (touches (drop l.effect-index l.effects)) ≡ sum_distinct (view_cost_after l.effects (known_at l.known)) (touches l.effects);
   within : (l.all.within && list_all (keeps l.known l.effects) (touches (drop l.effect-index l.effects))) ≡ list_all (keeps l.known l.effects) (touches l.effects);
   known : first_unknown l.known (drop l.effect-index l.effects) ≡ first_unknown l.known l.effects;
-  small : l.all.costs.growth ≤ 1152921504606846976 * l.effect-index;
-  small_before : l.all.costs.before ≤ 1152921504606846976 * l.effect-index;
-  small_after : l.all.costs.after ≤ 1152921504606846976 * l.effect-index;
+  small : l.all.costs.growth ≤ 2305843009213693950 * l.effect-index;
+  small_before : l.all.costs.before ≤ 2305843009213693950 * l.effect-index;
+  small_after : l.all.costs.after ≤ 2305843009213693950 * l.effect-index;
 }

@@ -1,7 +1,7 @@
 use Rattle.std.proofs.Common.{◌≡◌, true, drop}
 use Rattle.std.specs.Ordering.{nat_cmp}
 use Rattle.std.specs.BTreeMap.{get}
-use Rattle.record_validation.specs.KnownNodes.{known_after}
+use Rattle.call_effects.specs.KnownCopies.{known_after}
 use Rattle.record_validation.specs.Memory.{want_room}
 use Rattle.record_validation.proofs.effect_steps.take_effects.Given as goal
 
