@@ -1,4 +1,3 @@
-pub mod Book
 pub mod OneWord
 pub mod Opens
 pub mod Steps
