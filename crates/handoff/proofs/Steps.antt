@@ -6,8 +6,8 @@ use native.Mathlib.Decide.{ℕ_discrete}
 use lib.ListN.{get_elem?}
 use Rattle.std.proofs.lemmas.List.{drop-append-le}
 use Rattle.crossbeam_queue.specs.Fifo.{Pushes, Pops, Forks, Merges, Learns}
-use Rattle.handoff.specs.Book.{HoldsPart, AreApart, lone_of, rest_of}
-use Rattle.handoff.proofs.Book.{but, but_same, but_other, first_steps, splits_first, joins, begins}
+use Rattle.seat_book.specs.Book.{HoldsPart, AreApart, lone_of, rest_of}
+use Rattle.seat_book.proofs.Book.{but, but_same, but_other, first_steps, splits_first, joins, begins}
 use Rattle.handoff.specs.declared.hand.Hand.{Hand}
 use Rattle.handoff.specs.Hands.{place_of, empty_hand, hands_from, hands}
 use Rattle.atomic_table.specs.Seated.{TableId}

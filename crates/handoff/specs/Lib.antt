@@ -1,4 +1,3 @@
-pub mod Book
 pub mod Hands
 pub mod Line
 pub mod Ends

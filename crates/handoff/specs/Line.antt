@@ -1,6 +1,6 @@
 -- The line of all that was ever put: who put what at which number, and who took it.
 use Rattle.std.specs.Prelude.{◌≡◌, ℕ, zero, suc, ◌<◌, ◌≤◌, List, [], ◌∷◌, length, drop}
-use Rattle.handoff.specs.Book.{HoldsPart, IsBooked}
+use Rattle.seat_book.specs.Book.{HoldsPart, IsBooked}
 use Rattle.handoff.specs.declared.hand.Hand.{Hand}
 use Rattle.handoff.specs.Hands.{place_of}
 

@@ -2,7 +2,7 @@ ghost use Rattle.std.specs.Prelude.{◌≡◌, List, ◌++◌, IfOk, IsTrue, Mat
 ghost use Rattle.std.specs.Arc.{arc_value};
 ghost use Rattle.atomic_table.specs.Seated.{TableId};
 ghost use Rattle.crossbeam_queue.specs.Fifo.{Held};
-ghost use Rattle.handoff.specs.Book.{lone_of, rest_of};
+ghost use Rattle.seat_book.specs.Book.{lone_of, rest_of};
 ghost use Rattle.handoff.specs.Ends.{ends_below};
 ghost use Rattle.handoff.specs.Hands.{hands};
 ghost use Rattle.handoff.specs.Line.{HasPut, HasTaken, EndsLine, HasHand};

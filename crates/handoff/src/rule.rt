@@ -61,7 +61,7 @@ impl<T> Lesson<T, View<T>> for Line {
 pub struct FirstStays;
 
 impl<T> Split<View<T>> for FirstStays {
-    ghost use Rattle.handoff.specs.Book.{lone_of, rest_of};
+    ghost use Rattle.seat_book.specs.Book.{lone_of, rest_of};
 
     ghost left = { lone_of };
 

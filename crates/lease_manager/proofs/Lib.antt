@@ -1,4 +1,3 @@
-pub mod Book
 pub mod OneWord
 pub mod Opens
 pub mod Steps
@@ -8,5 +7,6 @@ pub mod Waiting
 pub mod Cleaned
 pub mod WrittenInodes
 pub mod OneEffect
+pub mod GivenLeases
 -- Handed on to the crates above, which list only the highest of what they name.
 pub use Rattle.log_record.proofs.file_graph_lemmas

@@ -1,7 +1,5 @@
 -- The table at the start, and the parts that are cut off from its first seat one by one.
 use Rattle.std.proofs.Common.{◌≡◌, ℕ, zero, suc, ◌+◌, ◌<◌, List, [], ◌∷◌, ◌++◌, take, drop, replicate, refl, sym, ap, ◌∙◌, subst, ⊎_elim, arith}
-use mathlib.Core.Option.{some, some-injective, some-ne-none}
-use lib.ListN.{get_elem?}
 use Rattle.std.proofs.lemmas.List.{get_or-replicate, length-replicate}
 use Rattle.std.proofs.lemmas.Nat.Bits.{bit_at-zero}
 use Rattle.atomic_table.specs.Table.{opening}
@@ -9,9 +7,10 @@ use Rattle.lease_manager.specs.declared.view.LeaseMode.{LeaseMode}
 use Rattle.lease_manager.specs.declared.view.LeaseMode.TheVariants.{Free}
 use Rattle.lease_manager.specs.declared.view.Part.{Part}
 use Rattle.lease_manager.specs.Marks.{read_mark, write_mark, is_lease, Shows}
-use Rattle.lease_manager.specs.Book.{HoldsPart, AreApart, Carries}
+use Rattle.seat_book.specs.Book.{HoldsPart, AreApart}
+use Rattle.seat_book.proofs.Book.{begins as all_begin}
 use Rattle.lease_manager.specs.Parts.{place_of, mode_at, blank, blanks}
-use Rattle.lease_manager.specs.Law.{IsRuled}
+use Rattle.lease_manager.specs.Law.{IsRuled, Law}
 use Rattle.lease_manager.specs.Passes.{places}
 
 pub next_blank : (k : ℕ) → k < 8 → drop k blanks ≡ blank k ∷ drop (k + 1) blanks
@@ -64,22 +63,16 @@ apart_from k (suc n) = ((λ p h e. let a = (has_from (suc k) n p h).0 in let e' 
 blanks_from : from 0 8 ≡ blanks
 blanks_from = refl
 
+blanks_are : (p : Part) → HoldsPart (from 0 8) p → blank p.place ≡ p
+blanks_are p h = (has_from 0 8 p h).1
+
 -- words that are 0 and clients that hold nothing keep the rule
 pub begins : IsRuled (opening (replicate 1152 0) [] blanks)
-begins = record {
-  home = λ _. 0;
-  whole = blank;
-  lawful = record {
-    wide = length-replicate {A = ℕ} 1152 0;
-    leases = λ i lt. subst (λ (n : ℕ). Shows n (λ c. mode_at (blank c) i)) (sym (get_or-replicate {A = ℕ} 1152 i 0 0 (omega arith))) (free_word (λ c. mode_at (blank c) i) (λ c. get_or-replicate 1024 i Free Free lt));
-    steps = record { history = []; legal = tt; listed = λ c. refl; waiting = λ w ge lt. get_or-replicate {A = ℕ} 1152 w 0 0 lt };
-  };
-  carried = one;
-}
-  where
-    carries : Carries place_of (λ _. 0) blank 0 blanks
-    carries = subst (λ v. Carries place_of (λ _. 0) blank 0 v) blanks_from (apart_from 0 8, λ p h. let r = has_from 0 8 p h in (refl, r.1))
-
-    one : (id : ℕ) (v : List Part) → get_elem? (blanks ∷ []) id ≡ some v → Carries place_of (λ _. 0) blank id v
-    one zero v e = subst (Carries place_of (λ _. 0) blank 0) (some-injective blanks v e) carries
-    one (suc id) v e = absurd (some-ne-none v (sym e))
+begins = all_begin place_of Law (replicate 1152 0) blanks blank
+    record {
+      wide = length-replicate {A = ℕ} 1152 0;
+      leases = λ i lt. subst (λ (n : ℕ). Shows n (λ c. mode_at (blank c) i)) (sym (get_or-replicate {A = ℕ} 1152 i 0 0 (omega arith))) (free_word (λ c. mode_at (blank c) i) (λ c. get_or-replicate 1024 i Free Free lt));
+      steps = record { history = []; legal = tt; listed = λ c. refl; waiting = λ w ge lt. get_or-replicate {A = ℕ} 1152 w 0 0 lt };
+    }
+    (subst (AreApart place_of) blanks_from (apart_from 0 8))
+    (subst (λ (ps : List Part). (p : Part) → HoldsPart ps p → blank p.place ≡ p) blanks_from blanks_are)

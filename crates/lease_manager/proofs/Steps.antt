@@ -6,6 +6,7 @@ use native.Mathlib.Decide.{ℕ_discrete, dec_le}
 use lib.ListN.{get_elem?}
 use prog.Atomic.{either}
 use Rattle.std.specs.Int.{bit_at, bit_not}
+use Rattle.std.proofs.lemmas.List.{set-get_or}
 use Rattle.atomic_table.specs.Table.{step, keeps, stepped, Allows}
 use Rattle.lease_manager.specs.declared.view.LeaseMode.{LeaseMode}
 use Rattle.lease_manager.specs.declared.view.LeaseMode.TheVariants.{Free, Reading, Writing, Trying}
@@ -18,7 +19,7 @@ use Rattle.lease_manager.specs.Parts.{place_of, mode_at, put_mode, put_event, pu
 use Rattle.lease_manager.specs.History.{steps_by, asked_after, IsAskedOf, MayFollow}
 use Rattle.lease_manager.specs.Law.{TableState, SeatState, HistoryLaw, Law, IsRuled}
 use Rattle.lease_manager.specs.Plays.{Exchanged, Tried, TookOut, Saw, DidAsk, DidHear, Listened}
-use Rattle.lease_manager.proofs.Book.{but, but_same, but_other, set_back, first_steps}
+use Rattle.seat_book.proofs.Book.{but, but_same, but_other, first_steps}
 use Rattle.lease_manager.proofs.OneWord.{same_shows, taken_word, read_word, try_word, given_word, shows_other, shows_writer}
 
 -- the rule's part of a client is the one that stands first on its seat
@@ -59,7 +60,7 @@ adds : (s : TableState) (r : IsRuled s) (id i n : ℕ) (p : Part) (ps : List Par
     → MayFollow r.lawful.steps.history p.place e
     → ((w : ℕ) → 1024 ≤ w → w < 1152 → get_or (set s.words i n) w 0 ≡ asked_after w e (get_or s.words w 0))
     → IsRuled (stepped s i n id [] (put_event p e ∷ ps) keeps)
-adds s r id i n p ps e at same may now = first_steps place_of Law s r id i n p (put_event p e) ps at refl record {
+adds s r id i n p ps e at same may now = first_steps place_of Law s.words (set s.words i n) s.views r id p (put_event p e) ps at refl record {
   wide = length-set s.words i n ∙ r.lawful.wide;
   leases = λ j lt. subst (λ (z : ℕ). Shows z (λ c. mode_at (but r.whole p.place (put_event p e) c) j)) (sym (same j lt))
       (same_shows _ _ _ (r.lawful.leases j lt) (kept_modes s r id j p (put_event p e) ps at refl));
@@ -71,7 +72,7 @@ puts : (s : TableState) (r : IsRuled s) (id i n : ℕ) (p q : Part) (ps : List P
     → q.events ≡ e ∷ p.events → MayFollow r.lawful.steps.history p.place e → ((w n : ℕ) → asked_after w e n ≡ n)
     → ((m' : ℕ → LeaseMode) → ((d : ℕ) → d ≢ p.place → m' d ≡ mode_at (r.whole d) i) → m' p.place ≡ mode → Shows n m')
     → IsRuled (stepped s i n id [] (q ∷ ps) keeps)
-puts s r id i n p q ps mode e at lt long stands same more may silent shows = first_steps place_of Law s r id i n p q ps at stands record {
+puts s r id i n p q ps mode e at lt long stands same more may silent shows = first_steps place_of Law s.words (set s.words i n) s.views r id p q ps at stands record {
   wide = length-set s.words i n ∙ r.lawful.wide;
   leases = λ j small. dite (ℕ_discrete j i)
       (λ e. let w = r.lawful.wide in subst (λ (z : ℕ). Shows z (λ c. mode_at (but r.whole p.place q c) j)) (sym (ap (λ (z : ℕ). get_or (set s.words i n) z 0) e ∙ get_or-set_same s.words i n 0 (omega arith)))
@@ -86,7 +87,7 @@ puts s r id i n p q ps mode e at lt long stands same more may silent shows = fir
 
 -- what is written back changes no word
 unchanged : (s : TableState) (i j : ℕ) → get_or (set s.words i (get_or s.words i 0)) j 0 ≡ get_or s.words j 0
-unchanged s i j = ap (λ (ws : List ℕ). get_or ws j 0) (set_back s.words i)
+unchanged s i j = ap (λ (ws : List ℕ). get_or ws j 0) (set-get_or s.words i 0)
 
 -- the exchange to the own write mark, from a number `from` that shows nothing but the own marks
 takes : (slots id i from new : ℕ) (p : Part) (ps : List Part) → i < 1024 → p.place < 8 → length p.modes ≡ 1024 → new ≡ 2 ^ (8 + p.place)

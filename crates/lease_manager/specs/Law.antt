@@ -5,7 +5,7 @@ use Rattle.lease_manager.specs.declared.view.Part.{Part}
 use Rattle.lease_manager.specs.Marks.{Shows}
 use Rattle.lease_manager.specs.History.{Entry, steps_by, unheard, IsHistory}
 use Rattle.lease_manager.specs.Parts.{place_of, mode_at}
-use Rattle.lease_manager.specs.Book.{IsBooked}
+use Rattle.seat_book.specs.Book.{IsBooked}
 
 -- the table as plain data: its words, and the parts that each seat carries
 abbrev pub TableState : Type 0
@@ -34,4 +34,4 @@ pub record Law (words : List ℕ) (whole : ℕ → Part) : Type 0 where
 
 -- the law holds of the words and of what all seats carry
 abbrev pub IsRuled : TableState → Type 0
-IsRuled = IsBooked place_of Law
+IsRuled s = IsBooked place_of Law s.words s.views

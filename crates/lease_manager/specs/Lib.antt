@@ -1,5 +1,4 @@
 pub mod Words
-pub mod Book
 pub mod Marks
 pub mod History
 pub mod Parts
@@ -12,3 +11,4 @@ pub mod LeaseCounts
 -- Handed on to the crates above, which list only the highest of what they name.
 pub use Rattle.log_record.specs.file_graph
 pub use Rattle.log_record.specs as log_record
+pub use Rattle.seat_book.specs as seat_book

@@ -5,7 +5,7 @@ use Rattle.lease_manager.specs.declared.view.LeaseMode.TheVariants.{Reading, Wri
 use Rattle.lease_manager.specs.declared.view.Event.TheVariants.{Refused, Looked, Asked, Heard}
 use Rattle.lease_manager.specs.declared.view.Part.{Part}
 use Rattle.lease_manager.specs.Marks.{ShowsOther, ShowsWriter, ShowsOwn}
-use Rattle.lease_manager.specs.Book.{HoldsPart}
+use Rattle.seat_book.specs.Book.{HoldsPart}
 use Rattle.lease_manager.specs.Parts.{mode_at, put_mode, put_event, put_lease, put_free, own_part, other_parts, AreCompatible, Continues, FindsUnheard, ShareHistory}
 use Rattle.lease_manager.specs.Law.{SeatState}
 

@@ -1,5 +1,5 @@
 -- How many records touch an inode, as a pass counts them.
-use Rattle.std.specs.Prelude.{◌≡◌, ℕ, ◌+◌, List, Bool, if◌then◌else◌}
+use Rattle.std.specs.Prelude.{◌≡◌, ℕ, ◌+◌, ◌==◌, List, Bool, false, if◌then◌else◌}
 use Rattle.std.specs.List.{count_by}
 use Rattle.log_record.specs.file_graph.Graph.{is_among, touches}
 use Rattle.log_record.specs.file_graph.declared.effect.Effect.{Effect}
@@ -22,6 +22,11 @@ touch_count rs i = count_by (λ r. is_touched r.effects i) rs
 -- a pass counts just these records
 abbrev pub Counts : PassView → List Record → Type 0
 Counts p rs = (i : ℕ) → HasWord i → records_of p i ≡ touch_count rs i
+
+-- One inode counts one more, unless the record is counted there already; all else stays.
+pub record HasOneMore (old : PassView) (inode : ℕ) (counted : Bool) (new : PassView) : Type 0 where
+  pub rest : new ≡ record old { records = new.records }
+  pub counts : (i : ℕ) → HasWord i → records_of new i ≡ records_of old i + one_if (if counted then false else inode == i)
 
 -- The pass counts one more on each inode that these effects touch; its leases stay.
 pub record HasNoted (old : PassView) (es : List Effect) (new : PassView) : Type 0 where

@@ -1,6 +1,6 @@
 // Two clients meet.
 ghost use Rattle.std.specs.Prelude.{◌≡◌, [], ◌∷◌};
-ghost use Rattle.lease_manager.specs.Book.{HoldsPart};
+ghost use Rattle.seat_book.specs.Book.{HoldsPart};
 ghost use Rattle.lease_manager.specs.Parts.{AreCompatible, ShareHistory};
 
 use crate::pass::Pass;

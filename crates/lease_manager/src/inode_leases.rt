@@ -1,12 +1,12 @@
 //! The pass counts each record once on each inode that it touches.
-ghost use Rattle.std.specs.Prelude.{◌≡◌, ◌+◌, ◌≤◌, ◌<◌, ◌^◌, ℕ, true, length};
+ghost use Rattle.std.specs.Prelude.{◌≡◌, ◌+◌, ◌≤◌, ◌<◌, ◌^◌, ◌∷◌, ℕ, true, false};
 ghost use Rattle.std.specs.List.{AllByRecursion};
-ghost use Rattle.log_record.specs.file_graph.Graph.{is_among, touches};
+ghost use Rattle.log_record.specs.file_graph.Graph.{is_among, subjects, touches};
 ghost use Rattle.log_record.specs.Grammar.{FitsLimits, IsRecord};
 ghost use Rattle.lease_manager.specs.declared.view.LeaseMode.TheVariants.{Writing};
 ghost use Rattle.lease_manager.specs.Words.{HasWord};
 ghost use Rattle.lease_manager.specs.Passes.{lease_of, records_of};
-ghost use Rattle.lease_manager.specs.RecordCounts.{HasNoted, HasCleaned, HasUncounted, is_touched, one_if, touch_count};
+ghost use Rattle.lease_manager.specs.RecordCounts.{HasNoted, HasCleaned, HasOneMore, HasUncounted, is_touched, one_if, touch_count};
 
 use crate::{Leases, Pass};
 use log_record::Record;
@@ -24,9 +24,13 @@ pub fn note_effects(leases: &Leases, pass: &mut Pass, effects: &[Effect])
         return;
     };
     note_effects(leases, pass, rest);
-    let inode = first.subject();
-    if !is_touched(rest, inode) {
-        leases.note(pass, inode);
+    let (inode, second) = first.subjects();
+    match second {
+        None => note_once(leases, pass, inode, is_touched(rest, inode)),
+        Some(other) => {
+            note_once(leases, pass, other, is_touched(rest, other));
+            note_once(leases, pass, inode, is_counted(other, rest, inode));
+        }
     }
 }
 
@@ -41,9 +45,13 @@ pub fn clean_effects(leases: &Leases, pass: &mut Pass, effects: &[Effect])
         return;
     };
     clean_effects(leases, pass, rest);
-    let inode = first.subject();
-    if !is_touched(rest, inode) {
-        leases.clean(pass, inode, 1);
+    let (inode, second) = first.subjects();
+    match second {
+        None => clean_once(leases, pass, inode, is_touched(rest, inode)),
+        Some(other) => {
+            clean_once(leases, pass, other, is_touched(rest, other));
+            clean_once(leases, pass, inode, is_counted(other, rest, inode));
+        }
     }
 }
 
@@ -66,5 +74,48 @@ fn is_touched(effects: &[Effect], inode: u32) -> bool
     let [first, rest @ ..] = effects else {
         return false;
     };
-    first.subject() == inode || is_touched(rest, inode)
+    is_on(first, inode) || is_touched(rest, inode)
+}
+
+// Whether an effect is on an inode.
+fn is_on(effect: &Effect, inode: u32) -> bool
+    ensures { result ≡ is_among inode (subjects effect.now) }
+{
+    let (first, second) = effect.subjects();
+    match second {
+        None => first == inode,
+        Some(other) => first == inode || other == inode,
+    }
+}
+
+// Whether an inode is this one, or effects touch it.
+fn is_counted(counted: u32, effects: &[Effect], inode: u32) -> bool
+    ensures { result ≡ is_among inode (counted ∷ touches effects.now) }
+{
+    counted == inode || is_touched(effects, inode)
+}
+
+// Counts one more on an inode, unless the record is counted there already.
+fn note_once(leases: &Leases, pass: &mut Pass, inode: u32, is_counted: bool)
+    requires table { pass.old.table ≡ leases.now }
+    requires inode { HasWord inode }
+    requires held { lease_of pass.old inode ≡ Writing }
+    requires room { is_counted ≡ false → records_of pass.old inode + 1 < 2 ^ 64 }
+    ensures { HasOneMore pass.old inode is_counted pass.new }
+{
+    if !is_counted {
+        leases.note(pass, inode);
+    }
+}
+
+// Counts one fewer on an inode, unless the record is gone from its count already.
+fn clean_once(leases: &Leases, pass: &mut Pass, inode: u32, is_counted: bool)
+    requires table { pass.old.table ≡ leases.now }
+    requires inode { HasWord inode }
+    requires there { is_counted ≡ false → 1 ≤ records_of pass.old inode }
+    ensures { HasOneMore pass.new inode is_counted pass.old }
+{
+    if !is_counted {
+        leases.clean(pass, inode, 1);
+    }
 }

@@ -13,6 +13,7 @@ mod inode_leases;
 mod laws;
 mod layout;
 mod lease_calls;
+mod lease_return;
 mod pass;
 mod pass_leases;
 mod record_counts;
@@ -28,6 +29,7 @@ pub use laws::{
     waiting_question_was_asked,
 };
 pub use layout::{CLIENTS, INODES, ROWS, WORDS};
+pub use lease_return::give_all;
 pub use pass::{Busy, Pass};
 pub use pass_leases::{is_inode, reads, writes, written_inodes};
 pub use table::{Leases, Opened};

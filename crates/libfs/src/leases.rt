@@ -3,7 +3,7 @@ ghost use Rattle.lease_manager.specs.declared.view.Event.TheVariants.{Asked, Hea
 ghost use Rattle.lease_manager.specs.declared.view.LeaseMode.TheVariants.{Free, Reading, Writing};
 ghost use Rattle.lease_manager.specs.Words.{HasWord, IsClient, asked_word, asked_bit};
 ghost use Rattle.lease_manager.specs.Marks.{ShowsOther};
-ghost use Rattle.lease_manager.specs.Book.{HoldsPart};
+ghost use Rattle.lease_manager.specs.seat_book.Book.{HoldsPart};
 ghost use Rattle.lease_manager.specs.Parts.{AreCompatible, Continues, FindsUnheard, ShareHistory};
 ghost use Rattle.lease_manager.specs.Passes.{client_of, lease_of, with_lease, refused_at, with_event};
 ghost use Rattle.lease_manager.specs.LeaseCounts.{CountsAs};

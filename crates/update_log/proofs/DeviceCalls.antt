@@ -1,5 +1,5 @@
 -- Each device call of an append, over any medium.
-use Rattle.std.proofs.Common.{◌≡◌, ◌∙◌, ℕ, ◌+◌, ◌≤◌, List, [], ◌∷◌, length, take, sym, subst, arith}
+use Rattle.std.proofs.Common.{◌≡◌, ◌∙◌, ℕ, ◌+◌, ◌≤◌, List, [], ◌∷◌, ◌++◌, length, take, sym, subst, arith}
 use Rattle.std.specs.Prelude.{Result, Ok, Err, OnOk, OnErr}
 use Rattle.tier_device.specs.declared.media.Media.{Ghosts}
 use Rattle.tier_device.specs.declared.media.Tier.{Tier}
@@ -7,9 +7,9 @@ use Rattle.tier_device.specs.declared.media.Tier.TheVariants.{Fast}
 use Rattle.tier_device.specs.Media.{overwritten, Puts, Tears}
 use Rattle.update_log.specs.declared.stage.Stage.{Stage}
 use Rattle.update_log.specs.declared.stage.Stage.TheVariants as stages
-use Rattle.update_log.specs.Stage.{FitsItsStage, BeforeOrAfter, payload_in}
+use Rattle.update_log.specs.Stage.{FitsItsStage, IsUnopened, IsShut, BeforeOrAfter, payload_in}
 use Rattle.update_log.specs.Calls.{HasMoved, HasFailed, seen_after}
-use Rattle.update_log.proofs.Moves.{either, fails, size1, either1, written, size2, kept, size3, either3, opened, size4, appended}
+use Rattle.update_log.proofs.Moves.{either, fails, stands_of, unopened_appends, size1, either1, written, size2, kept, size3, either3, opened, size4, appended}
 
 pub on_err : {T E P : Type 0} (r : Result T E) → P → OnErr r P
 on_err (Ok x) p = tt
@@ -100,6 +100,40 @@ module _ {M : Type 0} (device : Ghosts M) (seen_now : (m : M) (t : Tier) → dev
         before = before;
         after = after;
       })
+
+  -- a fence that leaves the gate of a begun record closed
+  shut_at : (stage : Stage) → IsUnopened stage → FitsItsStage end stage body (device.seen m Fast) Here → (c : List ℕ) → Here c → IsShut (take end (device.seen m Fast)) c
+  shut_at stages.Begun closed sound c l = sound.at_stage.shut c l
+  shut_at stages.Written closed sound c l = sound.at_stage.begun.shut c l
+  shut_at stages.Kept closed sound c l = let s = sound.at_stage.staged c l in record { gate = s.0; rest = body ++ sound.at_stage.rest; shut = s.1; is = s.2 }
+  shut_at stages.Resting closed sound c l = absurd closed
+  shut_at stages.Foreign closed sound c l = absurd closed
+  shut_at stages.Opened closed sound c l = absurd closed
+  shut_at stages.Failed closed sound c l = absurd closed
+  shut_at stages.Closing closed sound c l = absurd closed
+  shut_at stages.Closed closed sound c l = absurd closed
+  shut_at stages.Naming closed sound c l = absurd closed
+  shut_at stages.WipeFailed closed sound c l = absurd closed
+
+  module _ (stage : Stage) (closed : IsUnopened stage) (sound : FitsItsStage end stage body (device.seen m Fast) Here) where
+    pub closed_before : Each Here
+    closed_before = either end body (device.seen m Fast) Here stage (unopened_appends stage closed) sound
+
+    pub closed_after : Fewer → Each There
+    closed_after fewer c l = closed_before c (fewer c l)
+
+    pub closed_failed : Fewer → HasFailed end body (device.seen m Fast) (device.seen m' Fast) There
+    closed_failed fewer =
+        let now' = seen_now m' Fast in
+        fails end body (device.seen m Fast) Here long (seen_now m Fast) (device.seen m' Fast) There now' stage sound (long (device.seen m' Fast) (fewer (device.seen m' Fast) now')) (closed_after fewer)
+
+    pub closed_done : Fenced → FitsItsStage end stages.Resting body (device.seen m' Fast) There
+    closed_done f = subst (λ (s : List ℕ). FitsItsStage end stages.Resting body s There) (sym f.same) (record {
+      size = sound.size;
+      within = sound.within;
+      at_stage = record { stands = stands_of end stage body (device.seen m Fast) Here sound; shut = shut_at stage closed sound (device.seen m Fast) (seen_now m Fast); rest = f.only };
+      record_begun = tt;
+    })
 
 -- what a read gives of the tiers after a call of a stage
 pub shown : {M : Type 0} (device : Ghosts M) (end : ℕ) (body : List ℕ) (m m' : M) (stage at : Stage) → stage ≡ at → Puts Fast (seen_after at end body (device.seen m Fast)) (device.seen m) (device.seen m') → Puts Fast (seen_after stage end body (device.seen m Fast)) (device.seen m) (device.seen m')

@@ -7,7 +7,7 @@ use Rattle.tier_device.specs.Media.{overwritten, Torn}
 use Rattle.update_log.specs.declared.stage.Stage.{Stage}
 use Rattle.update_log.specs.declared.stage.Stage.TheVariants as stages
 use Rattle.update_log.specs.Frames.{header, before_gate, behind_gate}
-use Rattle.update_log.specs.Stage.{IsFront, IsStaged, BeforeOrAfter, IsResting, IsBegun, IsWhole, FitsItsStage, IsAppending, AtStage, HasRecord, payload_in}
+use Rattle.update_log.specs.Stage.{IsFront, IsStaged, BeforeOrAfter, IsResting, IsBegun, IsWhole, FitsItsStage, IsAppending, IsUnopened, AtStage, HasRecord, payload_in}
 use Rattle.update_log.specs.Calls.{HasMoved, HasFailed}
 use Rattle.update_log.proofs.Reading.{is_before, is_either, front_push, front_none}
 use Rattle.update_log.proofs.Writes.{torn_shut, written_staged, torn_gate, written_gate}
@@ -29,6 +29,20 @@ stands_of end stages.Closing body seen left sound = stands_header end seen sound
 stands_of end stages.Closed body seen left sound = stands_header end seen sound.size sound.at_stage.is_header
 stands_of end stages.Naming body seen left sound = stands_header end seen sound.size sound.at_stage.is_header
 stands_of end stages.WipeFailed body seen left sound = stands_header end seen sound.size sound.at_stage.is_header
+
+-- a record whose gate is not open is being appended
+pub unopened_appends : (stage : Stage) → IsUnopened stage → IsAppending stage
+unopened_appends stages.Begun closed = tt
+unopened_appends stages.Written closed = tt
+unopened_appends stages.Kept closed = tt
+unopened_appends stages.Resting closed = absurd closed
+unopened_appends stages.Foreign closed = absurd closed
+unopened_appends stages.Opened closed = absurd closed
+unopened_appends stages.Failed closed = absurd closed
+unopened_appends stages.Closing closed = absurd closed
+unopened_appends stages.Closed closed = absurd closed
+unopened_appends stages.Naming closed = absurd closed
+unopened_appends stages.WipeFailed closed = absurd closed
 
 pub length-body : (payload : List ℕ) → length (behind_gate payload) ≡ length payload + 5
 length-body payload =

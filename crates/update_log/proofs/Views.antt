@@ -3,7 +3,7 @@ use Rattle.std.proofs.Common.{◌≡◌, ◌≢◌, ◌⊎◌, inl, inr, ℕ, �
 use Rattle.std.specs.Prelude.{Option}
 use Rattle.std.specs.List.{cons_option}
 use Rattle.std.proofs.lemmas.List.Elements.{filter_map-append}
-use Rattle.std.proofs.lemmas.List.{append-nil, take_at, drop_at, drop_more, length-take, take-take}
+use Rattle.std.proofs.lemmas.List.{append-nil, take_at, drop_at, drop_more, length-take, length-take-le, take-take}
 use Rattle.std.proofs.lemmas.Bool.{cases_eq, cases_lt}
 use Rattle.byteorder.specs.Endian.{little_bytes}
 use Rattle.byteorder.specs.Numbers.{length-bytes_low_first}
@@ -283,3 +283,15 @@ next_going stages.Closing h apart ps payload = absurd h
 next_going stages.Closed h apart ps payload = absurd h
 next_going stages.Naming h apart ps payload = absurd h
 next_going stages.WipeFailed h apart ps payload = absurd h
+
+-- the byte behind a front
+gate_at : (front rest : List ℕ) (gate : ℕ) → get_or (front ++ gate ∷ rest) (length front) 0 ≡ gate
+gate_at [] rest gate = refl
+gate_at (x ∷ front) rest gate = gate_at front rest gate
+
+-- once the gate of a begun record is opened, a read gives it open
+pub opened_now : (end : ℕ) (stage : Stage) (body seen : List ℕ) (left : List ℕ → Type 0) → FitsItsStage end stage body seen left → stage ≡ stages.Opened → get_or seen end 0 ≡ 165
+opened_now end stage body seen left sound is =
+    let opened = subst (λ (st : Stage). FitsItsStage end st body seen left) is sound in
+    let long : length (take end seen) ≡ end = let size = sound.size in let within = sound.within in length-take-le end seen (omega (arith, size, within)) in
+    ap (λ (l : List ℕ). get_or l end 0) opened.at_stage.opened ∙ ap (λ n. get_or (take end seen ++ 165 ∷ (body ++ opened.at_stage.rest)) n 0) (sym long) ∙ gate_at (take end seen) (body ++ opened.at_stage.rest) 165

@@ -2,7 +2,9 @@
 ghost use Rattle.std.specs.Prelude.{◌≡◌, ◌+◌, ◌≤◌, ◌<◌, ◌^◌, List, ℕ, length, take, OnOk, OnErr};
 ghost use Rattle.tier_device.specs.declared.media.Tier.TheVariants.{Fast};
 ghost use Rattle.tier_device.specs.Media.{Keeps, Puts, Rose};
-ghost use Rattle.update_log.specs.Stage.{BeforeOrAfter, IsAppending, FitsItsStage, payload_in};
+ghost use Rattle.tier_device.specs.declared.media.Tier.{Tier as AnyTier};
+ghost use Rattle.update_log.specs.declared.stage.Stage.TheVariants as stages;
+ghost use Rattle.update_log.specs.Stage.{BeforeOrAfter, IsAppending, IsUnopened, FitsItsStage, payload_in};
 ghost use Rattle.update_log.specs.Calls.{HasMoved, HasFailed, end_after as next_end, seen_after};
 
 use crate::format::OPEN;
@@ -54,4 +56,27 @@ pub fn end_after(stage: Stage, end: usize, body: &[u8]) -> usize
         Stage::Opened => end + body.len(),
         _ => end,
     }
+}
+
+/// Fences what was written of a record whose gate is not open. Nothing of it counts then, and the next record may begin there.
+pub fn fence_closed<M: Media>(
+    media: &mut M,
+    stage: Stage,
+    end: usize,
+    body: &[u8],
+) -> Result<(), MediaError>
+    requires unopened { IsUnopened stage }
+    requires sound { FitsItsStage end stage body.now (M.seen media.old Fast) (M.left media.old (M.moment media.old) Fast) }
+    ensures done { OnOk result (FitsItsStage end stages.Resting body.now (M.seen media.new Fast) (M.left media.new (M.moment media.new) Fast)) }
+    ensures failed { OnErr result (HasFailed end body.now (M.seen media.old Fast) (M.seen media.new Fast) (M.left media.new (M.moment media.new) Fast)) }
+    ensures seen { OnOk result ((t : AnyTier) → M.seen media.new t ≡ M.seen media.old t) }
+    ensures before { (c : List ℕ) → M.left media.old (M.moment media.old) Fast c → BeforeOrAfter (take end (M.seen media.old Fast)) (payload_in body.now) c }
+    ensures after { (c : List ℕ) → M.left media.new (M.moment media.new) Fast c → BeforeOrAfter (take end (M.seen media.old Fast)) (payload_in body.now) c }
+    ensures clock { OnOk result (M.moment media.new ≡ M.moment media.old + 1) }
+    ensures past { Keeps (M.moment media.old) (M.moment media.new) (M.left media.old) (M.left media.new) }
+    ensures fault { OnErr result (Rose (M.faults media.old) (M.faults media.new)) }
+    ensures sound { OnOk result (M.faults media.new ≡ M.faults media.old) }
+    ensures faults { (M.faults media.old ≤ M.faults media.new) × (M.faults media.new ≤ M.faults media.old + 1) }
+{
+    media.fence(Tier::Fast)
 }

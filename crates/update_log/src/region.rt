@@ -13,6 +13,8 @@ ghost use Rattle.update_log.specs.Frames.{records, header, with_record, end_behi
 ghost use Rattle.update_log.specs.Stage.{IsAppending, IsIdle, IsUnopened, calls_left, next, progress};
 ghost use Rattle.update_log.specs.View.{HasSize};
 
+mod append_end;
+
 use crate::append::{device_call, end_after};
 use crate::buffer::Buffer;
 use crate::error::RegionError;
@@ -415,6 +417,9 @@ impl<M: Media> Region<M> {
         // Until the call that opens its gate, it leaves no begun record: the header, and the records that are appended.
         ensures unopened { IsUnopened self.now.stage → (c : List ℕ) → M.left self.now.media (M.moment self.now.media) Fast c
             → (header c ≡ header_of M.Media self.now) × (records c ≡ records_of M.Media self.now) }
+
+        // Once the gate of a begun record is opened, a read gives it open.
+        ensures opened { self.now.stage ≡ stages.Opened → get_or (M.seen self.now.media Fast) self.now.end 0 ≡ OPEN }
 
         // Between two calls of a wipe it leaves the header and the records behind the first gate, or no record.
         ensures wiping { IsWiping self.now.stage → (c : List ℕ) → M.left self.now.media (M.moment self.now.media) Fast c
