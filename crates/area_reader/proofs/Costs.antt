@@ -2,6 +2,7 @@
 use Rattle.std.proofs.Common.{◌≡◌, ◌≤◌, ◌+◌, ◌-◌, ℕ, suc, Some, true, refl, sym, ap, ◌∙◌, arith}
 use Rattle.posix_calls.specs.Tree.{sum_up_to}
 use Rattle.batch_journal.specs.file_graph.Units.{charge}
+use Rattle.batch_journal.specs.layout.declared.places.TheConstants.{FILE_BLOCKS}
 use Rattle.batch_journal.specs.layout.Slot.{fits_slot}
 use Rattle.area_reader.proofs.Parts.{slot_as}
 use Rattle.area_reader.proofs.Shown.{slot_limits}
@@ -28,9 +29,9 @@ units_told g s i spelled = by_slot i (slot g s i) (logical_block g s i) spelled.
 pub parts_units : (g : Sizes) (s : Store) (i : ℕ) (x : Slot) → slot_read g s i ≡ Some x → SpellsInode g s i → cost (graph g s i) ≡ slot_units x
 parts_units g s i x read spelled = units_told g s i spelled ∙ ap slot_units (slot_as g s i x read)
 
-pub few_units : (g : Sizes) (x : Slot) → fits_slot g x ≡ true → slot_units x ≤ 257
+pub few_units : (g : Sizes) (x : Slot) → fits_slot g x ≡ true → slot_units x ≤ FILE_BLOCKS + 1
 few_units g x fits = by_length x (slot_limits g x fits).few where
-  by_length : (x : Slot) → length_of x ≤ 256 → slot_units x ≤ 257
+  by_length : (x : Slot) → length_of x ≤ FILE_BLOCKS → slot_units x ≤ FILE_BLOCKS + 1
   by_length slots.Free few = omega arith
   by_length (slots.File names size touch fast block slow) few = omega (arith, few)
   by_length (slots.Directory names entries touch root) few = omega (arith, few)

@@ -2,6 +2,7 @@
 use Rattle.std.proofs.Common.{◌≡◌, ◌<◌, ◌≤◌, ◌∙◌, ℕ, true, refl, sym, ap, subst, Option, Some, None, inl, inr}
 use Rattle.std.specs.Prelude.{IsSome, ◌^◌, nat_le, nat_lt}
 use Rattle.std.proofs.lemmas.Bool.{false≢true, and_parts, leb-true}
+use Rattle.posix_calls.specs.declared.limits.TheConstants.{MAX_ENTRIES}
 use Rattle.tier_device.specs.declared.media.Tier.{Tier}
 use Rattle.batch_journal.specs.file_graph.declared.effect.Kind.{Kind}
 use Rattle.batch_journal.specs.file_graph.declared.effect.Kind.TheVariants as kind
@@ -23,12 +24,12 @@ use Rattle.area_reader.proofs.Complete.{root_some}
 use Rattle.area_reader.proofs.Lists.{place_placed}
 use Rattle.area_reader.proofs.Tails.{place_is}
 
-pub few_entries : (g : Sizes) (names entries touch root : ℕ) → fits_slot g (slots.Directory names entries touch root) ≡ true → entries ≤ 3584
+pub few_entries : (g : Sizes) (names entries touch root : ℕ) → fits_slot g (slots.Directory names entries touch root) ≡ true → entries ≤ MAX_ENTRIES
 few_entries g names entries touch root e =
     let p = and_parts (nat_lt touch (2 ^ 64)) _ e in
     let a = and_parts _ (is_root_block g root) p.1 in
-    let q = and_parts _ (nat_le entries 3584) a.0 in
-    leb-true entries 3584 q.1
+    let q = and_parts _ (nat_le entries MAX_ENTRIES) a.0 in
+    leb-true entries MAX_ENTRIES q.1
 
 module _ (g : Sizes) (s : Store) (i : ℕ) where
   pub is_file : (names size touch fast block slow : ℕ) → is_inode i ≡ true → slot_read g s i ≡ Some (slots.File names size touch fast block slow) → IsFileOfSize g s i size

@@ -16,6 +16,7 @@ pub mod Sharing
 pub mod Costs
 pub mod Among
 pub mod Apart
+pub mod PlaceSearch
 -- Handed on to the crates above, which list only the highest of what they name.
 pub use Rattle.batch_journal.proofs as batch_journal_lemmas
 pub use Rattle.extent_tree.proofs as extent_tree_lemmas

@@ -27,7 +27,7 @@ module _ (g : Sizes) (s : Store) (i : ℕ) where
   pub slot_as : (x : Slot) → slot_read g s i ≡ Some x → slot g s i ≡ x
   slot_as x is = ap (λ o. unwrap_or o slots.Free) is
 
-  extents_as : (x : Slot) (t : Tier) → slot_read g s i ≡ Some x → extents_read g s i t ≡ extents_by g (s Fast) i x t
+  pub extents_as : (x : Slot) (t : Tier) → slot_read g s i ≡ Some x → extents_read g s i t ≡ extents_by g (s Fast) i x t
   unfolding extents_read
   extents_as x t is = ap (λ x. extents_by g (s Fast) i x t) (slot_as x is)
 

@@ -5,6 +5,8 @@ use Rattle.std.proofs.lemmas.Bool.{cond-true, cond-false, and_parts, and_from, l
 use Rattle.std.proofs.lemmas.List.{take_all}
 use Rattle.tier_device.specs.declared.media.Tier.{Tier}
 use Rattle.tier_device.specs.declared.media.Tier.TheVariants.{Fast, Block, Slow}
+use Rattle.posix_calls.specs.declared.limits.TheConstants.{MAX_FILE, MAX_ENTRIES}
+use Rattle.batch_journal.specs.layout.declared.places.TheConstants.{FILE_BLOCKS}
 use Rattle.batch_journal.specs.layout.declared.slot.Slot.{Slot}
 use Rattle.batch_journal.specs.layout.declared.slot.Slot.TheVariants as slots
 use Rattle.batch_journal.specs.layout.declared.geometry.Space.{Space}
@@ -48,7 +50,7 @@ root_node g root is some = or_right (root == 0) (is_node g root) (ne_eqb root 0 
 
 pub record SlotLimits (g : Sizes) (x : Slot) : Type 0 where
   pub roots : (t : Tier) → root_of x t ≢ 0 → is_node g (root_of x t) ≡ true
-  pub few : length_of x ≤ 256
+  pub few : length_of x ≤ FILE_BLOCKS
 
 pub slot_limits : (g : Sizes) (x : Slot) → fits_slot g x ≡ true → SlotLimits g x
 slot_limits g slots.Free e = record { roots = λ t some. absurd (some refl); few = omega arith }
@@ -60,8 +62,8 @@ slot_limits g (slots.File names size touch fast block slow) e =
     let d = and_parts _ (is_root_block g slow) c.0 in
     let f = and_parts _ (is_root_block g block) d.0 in
     let h = and_parts _ (is_root_block g fast) f.0 in
-    let q = and_parts _ (nat_le size 1048576) h.0 in
-    let most : size ≤ 1048576 = leb-true size 1048576 q.1 in
+    let q = and_parts _ (nat_le size MAX_FILE) h.0 in
+    let most : size ≤ MAX_FILE = leb-true size MAX_FILE q.1 in
     record { roots = by_tier h.1 f.1 d.1; few = omega (arith, most) }
   where
     by_tier : is_root_block g fast ≡ true → is_root_block g block ≡ true → is_root_block g slow ≡ true → (t : Tier) → root_of (slots.File names size touch fast block slow) t ≢ 0 → is_node g (root_of (slots.File names size touch fast block slow) t) ≡ true
@@ -71,8 +73,8 @@ slot_limits g (slots.File names size touch fast block slow) e =
 slot_limits g (slots.Directory names entries touch root) e =
     let p = and_parts (nat_lt touch (2 ^ 64)) _ e in
     let a = and_parts _ (is_root_block g root) p.1 in
-    let q = and_parts _ (nat_le entries 3584) a.0 in
-    let most : entries ≤ 3584 = leb-true entries 3584 q.1 in
+    let q = and_parts _ (nat_le entries MAX_ENTRIES) a.0 in
+    let most : entries ≤ MAX_ENTRIES = leb-true entries MAX_ENTRIES q.1 in
     record { roots = by_tier a.1; few = omega (arith, most) }
   where
     by_tier : is_root_block g root ≡ true → (t : Tier) → root_of (slots.Directory names entries touch root) t ≢ 0 → is_node g (root_of (slots.Directory names entries touch root) t) ≡ true

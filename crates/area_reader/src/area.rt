@@ -5,6 +5,7 @@ ghost use Rattle.batch_journal.specs.file_graph.Units.{charge};
 ghost use Rattle.area_reader.specs.Store.{disk, graph};
 ghost use Rattle.tier_device.specs.declared.media.Tier.{Tier};
 ghost use Rattle.batch_journal.specs.layout.Places.{is_inode, tier_blocks};
+ghost use Rattle.batch_journal.specs.layout.declared.places.TheConstants.{FILE_BLOCKS};
 ghost use Rattle.area_reader.specs.Format.{SpellsInode, Use, AreUsedOnce, used_block as used_by};
 ghost use Rattle.area_reader.specs.BlockMarks.{marks_in, is_marked, IsMarked};
 ghost use Rattle.area_reader.specs.Damage.{OnDamage, IsDamaged};
@@ -40,7 +41,7 @@ fn add_inode<M: Media>(
     ensures spelled { OnOk result (SpellsInode journal.old.geometry (disk M.Media journal.old) inode) }
     ensures marks { OnOk result (MarksUses journal.old.geometry (disk M.Media journal.old) (inode + 1) used.new) }
     ensures units { IfOk result (λ units. units ≡ cost (graph journal.old.geometry (disk M.Media journal.old) inode)) }
-    ensures small { IfOk result (λ units. units ≤ 257) }
+    ensures small { IfOk result (λ units. units ≤ FILE_BLOCKS + 1) }
     ensures damaged { IfErr result (λ e. OnDamage e (IsDamaged journal.old.geometry (disk M.Media journal.old))) }
     ensures memory { IfErr result (λ e. e ≡ Memory → WantsMemory journal.old.geometry (disk M.Media journal.old) inode ⊎ HasPart journal.old.geometry (disk M.Media journal.old) inode) }
     ensures looks { Looks M.Media journal.old journal.new result }

@@ -15,6 +15,7 @@ mod inode_marks;
 mod laws;
 mod marks;
 mod names;
+mod place_search;
 mod places;
 mod slots;
 mod tail;
@@ -39,6 +40,7 @@ pub use laws::{
     torn_free_run_stays_loose, untouched_inodes_stay, write_to_free_blocks_stays_loose,
 };
 pub use marks::read_marks;
+pub use place_search::{find_first_place, find_place};
 pub use places::first_place;
 pub use slots::{length_of, read_slot, root_of, space_of};
 pub use tail::block_number;

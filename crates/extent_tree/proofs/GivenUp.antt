@@ -1,5 +1,5 @@
 -- Runs of blocks to which one is added.
-use Rattle.std.proofs.Common.{◌≡◌, ◌≤◌, ◌<◌, ℕ, zero, suc, ◌+◌, ◌-◌, List, [], ◌∷◌, ◌++◌, length, get_or, set, Some, None, sym, ap, ◌∙◌, arith}
+use Rattle.std.proofs.Common.{◌≡◌, ◌≤◌, ◌<◌, ℕ, zero, suc, ◌+◌, ◌-◌, List, [], ◌∷◌, ◌++◌, length, get_or, set, Some, None, refl, sym, ap, ◌∙◌, arith}
 use Rattle.std.specs.List.{range_with_len, AllByRecursion}
 use Rattle.std.proofs.lemmas.List.{append_assoc, append-nil}
 use Rattle.block_alloc.specs.declared.runs.Run.{Run}
@@ -58,3 +58,13 @@ step_none es b stop xs all lt is before =
 
 pub none_left : (es : List Extent) (b stop : ℕ) → stop ≤ b → places_of es b (stop - b) ≡ []
 none_left es b stop le = let zero_left : stop - b ≡ 0 = omega (arith, le) in ap (places_of es b) zero_left
+
+-- where none is mapped there are no places
+pub none_mapped : (es : List Extent) (b stop : ℕ) (xs all : List ℕ) → ((k : ℕ) → b ≤ k → k < stop → place_of es k ≡ None) → xs ++ places_of es b (stop - b) ≡ all → xs ≡ all
+none_mapped es b stop xs all none before = sym (append-nil xs) ∙ ap (λ (ps : List ℕ). xs ++ ps) (sym (nothing (stop - b) b (λ k le lt. none k le (omega (arith, lt, le))))) ∙ before
+  where
+    nothing : (n a : ℕ) → ((k : ℕ) → a ≤ k → k < a + n → place_of es k ≡ None) → places_of es a n ≡ []
+    nothing zero a none = refl
+    nothing (suc n) a none =
+        let first : place_list (place_of es a) ≡ [] = ap place_list (none a (omega arith) (omega arith)) in
+        ap (λ (ps : List ℕ). ps ++ places_of es (a + 1) n) first ∙ nothing n (a + 1) (λ k le lt. none k (omega (arith, le)) (omega (arith, lt)))

@@ -6,7 +6,8 @@ use Rattle.std.proofs.lemmas.Bool.{cases_lt, cases_eq, cases_Bool}
 use Rattle.std.proofs.lemmas.Option.{none-some, same_Some}
 use Rattle.std.proofs.lemmas.List.{drop_more, drop_all}
 use Rattle.layout.specs.declared.extents.Extent.{Extent}
-use Rattle.extent_tree.specs.Places.{has, extent_with}
+use Rattle.std.specs.Option.{option_map}
+use Rattle.extent_tree.specs.Places.{has, extent_with, place_in, place_of}
 use Rattle.extent_tree.specs.Normal.{IsRising}
 use Rattle.extent_tree.specs.Changes.{EndBefore, BeginBehind}
 use Rattle.extent_tree.specs.Nodes.{flat, begin_of, last_end, summary, summaries, AreFilled, HaveFrom}
@@ -203,3 +204,28 @@ behind-less block zero (suc j) (n ∷ ns) le behind = behind-less block zero j n
 behind-less block (suc i) zero ns le behind = absurd (omega (arith, le))
 behind-less block (suc i) (suc j) [] le behind = tt
 behind-less block (suc i) (suc j) (n ∷ ns) le behind = behind-less block i j ns (omega (arith, le)) behind
+
+-- ---- the end of the last node
+
+last-append : (low : ℕ) (xs ys : List Extent) → last_end low (xs ++ ys) ≡ last_end (last_end low xs) ys
+last-append low [] ys = refl
+last-append low (x ∷ xs) ys = last-append (x.logical + x.length) xs ys
+
+-- nodes end where the last one does
+pub last-flat : (low : ℕ) (ns : List (List Extent)) (d : List Extent) → AreFilled ns → 0 < length ns → last_end low (flat ns) ≡ last_end 0 (get_or ns (length ns - 1) d)
+last-flat low [] d filled some = absurd (omega (arith, some))
+last-flat low ([] ∷ ns) d filled some = absurd (omega (arith, filled.0))
+last-flat low ((e ∷ es) ∷ []) d filled some = last-append (e.logical + e.length) es []
+last-flat low ((e ∷ es) ∷ n ∷ ns) d filled some =
+    let at : suc (length ns) ≡ suc (suc (length ns)) - 1 = omega arith in
+    let rest : length ns ≡ suc (length ns) - 1 = omega arith in
+    last-append (e.logical + e.length) es (flat (n ∷ ns))
+    ∙ last-flat (last_end (e.logical + e.length) es) (n ∷ ns) d filled.1 (omega arith)
+    ∙ ap (λ (k : ℕ). last_end 0 (get_or (n ∷ ns) k d)) (sym rest)
+    ∙ ap (λ (k : ℕ). last_end 0 (get_or ((e ∷ es) ∷ n ∷ ns) k d)) at
+
+-- no block from the end of the last node on is in a node
+pub none-past : (b : ℕ) (ns : List (List Extent)) (d : List Extent) → IsRising 0 4294967295 (flat ns) → AreFilled ns → 0 < length ns → last_end 0 (get_or ns (length ns - 1) d) ≤ b → place_of (flat ns) b ≡ None
+none-past b ns d is filled some le =
+    let same = last-flat 0 ns d filled some in
+    ap (option_map (place_in b)) (none-behind b 0 (last_end 0 (flat ns)) (flat ns) (rising-tight 0 4294967295 (flat ns) is (omega arith)) (omega (arith, le, same)))

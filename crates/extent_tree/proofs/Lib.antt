@@ -16,3 +16,4 @@ pub mod Levels
 pub mod Runs
 pub mod GivenUp
 pub mod Moved
+pub mod EntryReads

@@ -8,3 +8,4 @@ pub mod Changes
 pub mod Nodes
 pub mod BlockFormat
 pub mod Map
+pub mod Entries

@@ -1,5 +1,5 @@
 // The places of blocks that are given up, as runs.
-ghost use Rattle.std.specs.Prelude.{◌≡◌, ◌+◌, ◌-◌, ◌^◌, ◌<◌, ◌++◌, ◌∷◌, [], ℕ, OnOk, IsTrue, length, slice_index_or};
+ghost use Rattle.std.specs.Prelude.{◌≡◌, ◌+◌, ◌-◌, ◌^◌, ◌<◌, ◌≤◌, ◌++◌, ◌∷◌, [], ℕ, None, OnOk, IsTrue, length, slice_index_or};
 ghost use Rattle.std.specs.List.{AllByRecursion};
 ghost use Rattle.extent_tree.specs.Places.{place_of};
 ghost use Rattle.block_alloc.specs.Runs.{blocks_of};
@@ -21,12 +21,29 @@ pub fn push_places(
     ensures places { OnOk result (blocks_of out.new.items ≡ blocks_of out.old.items ++ places_of tree.now.runs blocks.first blocks.count) }
     ensures some { OnOk result (AllByRecursion HasBlock out.old.items → AllByRecursion HasBlock out.new.items) }
 {
-    'each: for block in blocks.first..blocks.first + blocks.count {
+    let behind = blocks.first + blocks.count;
+    let stop = stop_of(tree, behind);
+    if stop < blocks.first {
+        return Ok(());
+    }
+    'each: for block in blocks.first..stop {
         if let Some(place) = tree.at(block) {
             push_block(out, place)?;
         }
     }
     Ok(())
+}
+
+// A block that is no higher, from which on none before that is mapped.
+fn stop_of(tree: &Extents<MAX_EXTENTS>, behind: u32) -> u32
+    ensures most { result ≤ behind }
+    ensures none { (b : ℕ) → result ≤ b → b < behind → place_of tree.now.runs b ≡ None }
+{
+    let end = tree.end();
+    if behind as u64 <= end {
+        return behind;
+    }
+    end as u32
 }
 
 // Adds a block: to the last run, where it goes on there.

@@ -3,6 +3,7 @@
 //! Contracts see an `Extents` as its runs, in the normal form of `extent_nodes`, and how many entries each level of its tree has.
 #![tactic(auto)]
 
+mod byte_search;
 mod extent_join;
 mod freed_places;
 mod leaf_choice;
@@ -17,6 +18,7 @@ mod node_search;
 mod tree;
 mod upper_levels;
 
+pub use byte_search::find_extent;
 pub use extent_join::{push, push_part};
 pub use map::{BlockMap, Place};
 pub use map_change::change;

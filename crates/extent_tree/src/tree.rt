@@ -1,6 +1,6 @@
 ghost use Rattle.std.specs.Prelude.{◌≡◌, ◌≤◌, ◌<◌, ◌+◌, ◌-◌, ◌*◌, ◌/◌, ◌^◌, ◌++◌, ◌∷◌, [], ℕ, Some, None, length, slice_index, take, drop, IfSome, IfOk, OnOk, OnErr};
 ghost use Rattle.extent_tree.specs.Changes.{after};
-ghost use Rattle.extent_tree.specs.Nodes.{flat, HaveFrom};
+ghost use Rattle.extent_tree.specs.Nodes.{flat, last_end, AreFilled, HaveFrom};
 ghost use Rattle.extent_tree.specs.Normal.{IsRising, PlacesFit, IsNormal};
 ghost use Rattle.extent_tree.specs.Places.{place_of, SamePlaces};
 ghost use Rattle.extent_tree.specs.Tree.{IsExtentTree, counts};
@@ -109,6 +109,14 @@ impl<const N: usize> Extents<N> {
         1 + self.inner.len() as u32
     }
 
+    /// The block at which the last run ends, so that from it on none is mapped; 0 where there is no run.
+    pub fn end(&self) -> u64
+        ensures last { result ≡ last_end 0 self.now.runs }
+        ensures none { (b : ℕ) → result ≤ b → place_of self.now.runs b ≡ None }
+    {
+        end_of(&self.leaves)
+    }
+
     /// The runs, rising; none goes on where the one before ends.
     pub fn runs(&self) -> Result<Vec<Extent>, AllocError>
         ensures runs { IfOk result (λ v. v.items ≡ self.now.runs) }
@@ -163,6 +171,19 @@ impl<const N: usize> Extents<N> {
     {
         replace::<N>(self.alloc, &mut self.leaves, &mut self.inner, run, None)
     }
+}
+
+// The block at which the last entry of the nodes ends; 0 where there is none.
+fn end_of(leaves: &[Node]) -> u64
+    requires rising { IsRising 0 4294967295 (flat leaves.now) }
+    requires filled { AreFilled leaves.now }
+    ensures last { result ≡ last_end 0 (flat leaves.now) }
+    ensures none { (b : ℕ) → result ≤ b → place_of (flat leaves.now) b ≡ None }
+{
+    if leaves.is_empty() {
+        return 0;
+    }
+    leaves[leaves.len() - 1].end()
 }
 
 fn look_up<const N: usize>(leaves: &[Node], inner: &[Level], block: u32) -> Counted

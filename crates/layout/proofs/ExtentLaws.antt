@@ -11,7 +11,7 @@ use Rattle.layout.specs.declared.geometry.Space.TheVariants as space
 use Rattle.layout.specs.Places.{Sizes, IsAllowed, is_inode, is_run, blocks_in, node_end, data_first, tier_blocks}
 use Rattle.layout.specs.Bytes.{AreBytes, u32, number_at, items_at, within}
 use Rattle.layout.specs.Extents.{ExtentList, ExtentHead, extent_text, extents_text, extents_spelling, is_extent, are_sorted, are_stepping, places_apart, is_sound, fits_extents, header_at, extent_at, extents_at, extents_of}
-use Rattle.layout.proofs.Limits.{and_parts}
+use Rattle.layout.proofs.Limits.{and_parts, few_blocks}
 use Rattle.layout.proofs.Fields.{Takes, Takes-then, bind_some, test_some, some_is, u32_takes, u32_again, u32_long}
 use Rattle.layout.proofs.Blocks.{within_parts, within_again, filled_from}
 use Rattle.layout.proofs.Items.{IsRead, items_take, items_again, items_pass}
@@ -65,10 +65,6 @@ run_small g (space.Data tier) first count allowed is =
     let r = and_parts (leb (data_first g tier) first) (leb (first + count) (tier_blocks g tier)) is in
     let within_tier : first + count ≤ tier_blocks g tier = leb-true _ _ r.1 in
     omega (arith, within_tier, tier_small g tier allowed)
-
-few_blocks : (s : Space) → blocks_in s ≤ 256
-few_blocks space.Nodes = omega arith
-few_blocks (space.Data tier) = omega arith
 
 record IsSmall (e : Extent) : Type 0 where
   logical : e.logical < 2 ^ 32

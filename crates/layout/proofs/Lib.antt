@@ -5,7 +5,7 @@ pub mod DirPlaces
 pub mod DirectoryLaws
 mod ExtentLaws
 mod Fields
-mod Items
+pub mod Items
 pub mod Limits
 mod MarksLaws
 pub mod Pairs

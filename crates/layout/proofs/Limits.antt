@@ -1,7 +1,10 @@
 -- The limits of a geometry, as a test and as facts.
-use Rattle.std.proofs.Common.{◌≡◌, Bool, true, false, ◌&&◌, refl}
+use Rattle.std.proofs.Common.{◌≡◌, ◌≤◌, Bool, true, false, ◌&&◌, refl, arith}
 use Rattle.std.proofs.lemmas.Bool.{leb-true}
-use Rattle.layout.specs.Places.{Sizes, allows, IsAllowed}
+use Rattle.layout.specs.declared.geometry.Space.{Space}
+use Rattle.layout.specs.declared.geometry.Space.TheVariants as space
+use Rattle.layout.specs.declared.places.TheConstants.{FILE_BLOCKS}
+use Rattle.layout.specs.Places.{Sizes, allows, IsAllowed, blocks_in}
 
 pub and_parts : (a b : Bool) → (a && b) ≡ true → (a ≡ true) × (b ≡ true)
 and_parts true b e = (refl, e)
@@ -22,3 +25,8 @@ allowed_from s e =
       slow = leb-true _ _ q.1;
       enough = leb-true _ _ p.1;
     }
+
+-- no node has more blocks than a file
+pub few_blocks : (s : Space) → blocks_in s ≤ FILE_BLOCKS
+few_blocks space.Nodes = omega arith
+few_blocks (space.Data tier) = omega arith

@@ -2,6 +2,7 @@
 use Rattle.std.proofs.Common.{◌≡◌, ℕ, ◌^◌, ◌<◌, ◌≤◌, Bool, true, false, eqb, leb, ltb, ◌&&◌, ◌||◌, List, ◌++◌, length, Some, refl, ap, subst, ◌∙◌, append_assoc, arith, inl, inr, ◌⊎◌}
 use Rattle.std.proofs.lemmas.Bool.{eqb-true, ltb-true, leb-true}
 use Rattle.std.proofs.lemmas.List.{length-append}
+use Rattle.posix_calls.specs.declared.limits.TheConstants.{MAX_NAMES, MAX_FILE, MAX_ENTRIES}
 use Rattle.layout.specs.declared.slot.Slot.{Slot}
 use Rattle.layout.specs.declared.slot.Slot.TheVariants as slot
 use Rattle.layout.specs.declared.slot_fields.SlotFields.{SlotFields}
@@ -134,9 +135,9 @@ fields_fit g (slot.File names size touch fast block slow) allowed e =
     let d = and_parts _ (is_root_block g slow) c.0 in
     let f = and_parts _ (is_root_block g block) d.0 in
     let h = and_parts _ (is_root_block g fast) f.0 in
-    let k = and_parts (leb names 1000) (leb size 1048576) h.0 in
-    let few : names ≤ 1000 = leb-true _ _ k.0 in
-    let short : size ≤ 1048576 = leb-true _ _ k.1 in
+    let k = and_parts (leb names MAX_NAMES) (leb size MAX_FILE) h.0 in
+    let few : names ≤ MAX_NAMES = leb-true _ _ k.0 in
+    let short : size ≤ MAX_FILE = leb-true _ _ k.1 in
     record {
       kind = omega arith;
       names = omega (arith, few);
@@ -149,9 +150,9 @@ fields_fit g (slot.File names size touch fast block slow) allowed e =
 fields_fit g (slot.Directory names entries touch root) allowed e =
     let p = and_parts (ltb touch (2 ^ 64)) _ e in
     let a = and_parts _ (is_root_block g root) p.1 in
-    let k = and_parts (leb names 1000) (leb entries 3584) a.0 in
-    let few : names ≤ 1000 = leb-true _ _ k.0 in
-    let short : entries ≤ 3584 = leb-true _ _ k.1 in
+    let k = and_parts (leb names MAX_NAMES) (leb entries MAX_ENTRIES) a.0 in
+    let few : names ≤ MAX_NAMES = leb-true _ _ k.0 in
+    let short : entries ≤ MAX_ENTRIES = leb-true _ _ k.1 in
     record {
       kind = omega arith;
       names = omega (arith, few);

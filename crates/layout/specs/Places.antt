@@ -87,7 +87,7 @@ abbrev pub is_run : Sizes → Space → ℕ → ℕ → Bool
 is_run s space.Nodes first count = are_nodes s first count
 is_run s (space.Data tier) first count = is_data s tier first count
 
--- how many logical blocks a node has: a directory of 3,584 entries has 64, a file of 1,048,576 bytes has 256
+-- how many logical blocks a node has: of a directory those of its most entries, of a file those of its most bytes
 abbrev pub blocks_in : Space → ℕ
 blocks_in space.Nodes = DIRECTORY_BLOCKS
 blocks_in (space.Data tier) = FILE_BLOCKS

@@ -20,7 +20,7 @@ pub enum Space {
 impl Space {
     ghost use Rattle.layout.specs.Places.{blocks_in};
 
-    /// How many blocks a node has there at most: 64 of a directory, 256 of a file.
+    /// How many blocks a node has there at most: `DIRECTORY_BLOCKS` of a directory, `FILE_BLOCKS` of a file.
     pub fn blocks(self) -> u32
         ensures { result ≡ blocks_in self }
     {

@@ -1,6 +1,6 @@
 //! The numbers of the format, each stated once as a number.
 
-ghost use Rattle.std.specs.Prelude.{◌≡◌, ◌++◌, ◌∷◌, [], ℕ, List, true, false, Some, None};
+ghost use Rattle.std.specs.Prelude.{◌≡◌, ◌+◌, ◌++◌, ◌∷◌, [], ℕ, List, true, false, Some, None};
 ghost use Rattle.file_graph.specs.declared.effect.Kind.TheVariants as kind;
 ghost use Rattle.tier_device.specs.declared.media.Tier.TheVariants as tiers;
 ghost use Rattle.layout.specs.declared.geometry.Space.TheVariants as space;
@@ -23,6 +23,7 @@ use crate::places::{
     HEAD_BLOCK, MARKS_BLOCK, MAX_DATA_BLOCKS, MAX_IMAGES, MAX_UNITS, MIN_UNITS, SLOT_SIZE,
     SLOTS_IN_BLOCK, SPARE_BLOCKS, SUPER_BLOCK,
 };
+use posix_calls::{MAX_FILE, MAX_NAMES};
 
 /// The blocks at which everything stands.
 pub fn format_has_its_places()
@@ -74,9 +75,9 @@ pub fn format_has_its_limits()
     ensures no_inode_0 { is_inode 0 ≡ false }
     ensures last_inode { is_inode 1024 ≡ true }
     ensures no_inode_1025 { is_inode 1025 ≡ false }
-    ensures largest_file { fits_slot some_sizes (slot.File 1000 1048576 0 0 0 0) ≡ true }
-    ensures no_larger_file { fits_slot some_sizes (slot.File 1000 1048577 0 0 0 0) ≡ false }
-    ensures no_more_names { fits_slot some_sizes (slot.File 1001 1048576 0 0 0 0) ≡ false }
+    ensures largest_file { fits_slot some_sizes (slot.File MAX_NAMES MAX_FILE 0 0 0 0) ≡ true }
+    ensures no_larger_file { fits_slot some_sizes (slot.File MAX_NAMES (MAX_FILE + 1) 0 0 0 0) ≡ false }
+    ensures no_more_names { fits_slot some_sizes (slot.File (MAX_NAMES + 1) MAX_FILE 0 0 0 0) ≡ false }
     ensures largest_directory { fits_slot some_sizes (slot.Directory 1000 3584 0 0) ≡ true }
     ensures no_larger_directory { fits_slot some_sizes (slot.Directory 1000 3585 0 0) ≡ false }
     ensures entry_of_inode_0 { fits_entry (record { inode = 0; kind = kind.Directory; name = 97 ∷ [] }) ≡ false }

@@ -7,13 +7,14 @@ use Rattle.std.specs.declared.cmp.Ordering.TheVariants.{Less, Equal, Greater}
 use Rattle.std.specs.Cmp.Lexicographic.{slice_cmp, nat_list_cmp_total}
 use Rattle.std.specs.FinMap as fin
 use Rattle.std.specs.FinMap.Entries.{below_all}
+use Rattle.std.proofs.lemmas.List.Sums.{sum_by-cons}
 use Rattle.std.proofs.Math.Seq.{drop-cons}
 use Rattle.std.proofs.Math.ListN.{drop_of_length-le}
 use Rattle.posix_calls.specs.Content.{Entries}
 use Rattle.graph_change.specs.file_graph.NameOrder.{pairs}
 use Rattle.graph_change.specs.file_graph.declared.name_map.NamedEntry.{NamedEntry}
 use Rattle.graph_change.specs.Net.{Child, with_entry, with_entries}
-use Rattle.tree_blocks.specs.Directory.{coming_count, next_count}
+use Rattle.tree_blocks.specs.Directory.{coming_count, next_count, entry_blocks, most_written}
 use Rattle.tree_blocks.proofs.Directories.{names_same, same_name, cases_name}
 
 abbrev Name : Type 0
@@ -122,6 +123,10 @@ grown es done x lt is after count few =
     let up = counted_up after (count + coming_count (behind es done)) (is_some x.value) few in
     let more = counted_more count (coming_count (behind es done)) (is_some x.value) in
     omega (arith, next, up, more)
+
+-- one change more writes its blocks
+pub written_next : (es : List (NamedEntry (Option Child))) (done : ℕ) (x : NamedEntry (Option Child)) → done < length es → x ≡ get_or es (length es - 1 - done) x → most_written (behind es (done + 1)) ≡ entry_blocks x.value + most_written (behind es done)
+written_next es done x lt is = ap most_written (next_behind es done x lt is) ∙ sum_by-cons (λ (c : NameChange). entry_blocks c.1) (x.name, x.value) (behind es done)
 
 -- where a name stands there is one at least
 pub some_named : (m : Entries Child) (name : Name) → fin.contains_key m name ≡ true → 0 < fin.len m

@@ -1,5 +1,5 @@
 -- A directory in memory.
-use Rattle.std.specs.Prelude.{◌≡◌, ◌≢◌, ℕ, ◌+◌, ◌-◌, ◌/◌, ◌<◌, ◌≤◌, Bool, true, false, List, [], ◌∷◌, length, get_or, Option, None, is_some, IfSome, if◌then◌else◌}
+use Rattle.std.specs.Prelude.{◌≡◌, ◌≢◌, ℕ, ◌+◌, ◌-◌, ◌/◌, ◌<◌, ◌≤◌, Bool, true, false, List, [], ◌∷◌, length, get_or, Option, Some, None, is_some, IfSome, sum_by, if◌then◌else◌}
 use Rattle.graph_change.specs.file_graph.declared.effect.Kind.{Kind}
 use Rattle.posix_calls.specs.declared.limits.TheConstants.{MAX_ENTRIES}
 use Rattle.layout.specs.Places.{is_inode}
@@ -47,6 +47,15 @@ next_count n stood comes = if comes then (if stood then n else n + 1) else (if s
 abbrev pub coming_count : List (List ℕ × Option (ℕ × Kind)) → ℕ
 coming_count [] = 0
 coming_count (c ∷ cs) = next_count (coming_count cs) false (is_some c.1)
+
+-- how many blocks of a directory a name that changes writes: where it is entered, that block; where it is taken out, that one and the last
+abbrev pub entry_blocks : Option (ℕ × Kind) → ℕ
+entry_blocks None = 2
+entry_blocks (Some child) = 1
+
+-- how many blocks of a directory some names that change write at most
+abbrev pub most_written : List (List ℕ × Option (ℕ × Kind)) → ℕ
+most_written cs = sum_by (λ c. entry_blocks c.1) cs
 
 -- ---- blocks as they change
 

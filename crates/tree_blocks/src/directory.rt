@@ -8,7 +8,7 @@ ghost use Rattle.tree_blocks.specs.Inode.{plain, named_entries, blocks_for, IsAb
 ghost use Rattle.std.specs.FinMap as fin;
 ghost use Rattle.graph_change.specs.Net.{entries_after};
 ghost use Rattle.tree_blocks.specs.After.{IsEntered, IsTakenOut, IsDirectoryAfter};
-ghost use Rattle.tree_blocks.specs.Directory.{EntryBlocks, IsHeld, LeadToInodes, coming_count, numbered_blocks, numbered_entries};
+ghost use Rattle.tree_blocks.specs.Directory.{EntryBlocks, IsHeld, LeadToInodes, coming_count, most_written, numbered_blocks, numbered_entries};
 ghost use Rattle.tree_blocks.specs.BlockMarks.{ListsWritten};
 
 use crate::entry_blocks::{add_to, find_in, take_from};
@@ -201,7 +201,7 @@ impl Directory {
     }
 
     /// Changes what stands under some names: an entry that comes is entered, or `None` takes the entry of the name out if there is one. It answers which of the blocks that
-    /// are there then have been written, new ones among them: no more than two for each name. What stood in blocks behind them is gone. `Full` where more entries would be
+    /// are there then have been written, new ones among them: no more than one for each name that is entered, and two for each that is taken out. What stood in blocks behind them is gone. `Full` where more entries would be
     /// there in the end than a directory may have; `Memory` where there was none for the blocks that may come. The directory stays as it was then.
     pub fn change(
         &mut self,
@@ -210,7 +210,7 @@ impl Directory {
         requires { LeadToInodes (fin.entries changes.now) }
         ensures changed { OnOk result (IsDirectoryAfter self.old.owner changes.now self.old.count (numbered_blocks self.old.blocks) self.new.count (numbered_blocks self.new.blocks)) }
         ensures written { IfOk result (ListsWritten self.old.blocks self.new.blocks) }
-        ensures few { IfOk result (λ written. length written ≤ 2 * fin.len changes.now) }
+        ensures few { IfOk result (λ written. length written ≤ most_written (fin.entries changes.now)) }
         ensures long { OnOk result (length self.new.blocks ≡ blocks_for self.new.count) }
         ensures owner { self.new.owner ≡ self.old.owner }
         ensures memory { result ≡ Err EnterError.Memory → blocks_for self.old.count < blocks_for (self.old.count + coming_count (fin.entries changes.now)) }

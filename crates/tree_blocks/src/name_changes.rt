@@ -9,7 +9,7 @@ ghost use Rattle.layout.specs.Directory.{fits_entry};
 ghost use Rattle.graph_change.specs.file_graph.NameOrder.{pairs, IsInOrder};
 ghost use Rattle.graph_change.specs.Net.{with_entry, with_entries};
 ghost use Rattle.tree_blocks.specs.Inode.{entry_at, named_entries, AreDirectoryBlocks, blocks_for};
-ghost use Rattle.tree_blocks.specs.Directory.{numbered_blocks, AreHeld, LeadToInodes, coming_count, next_count};
+ghost use Rattle.tree_blocks.specs.Directory.{numbered_blocks, AreHeld, LeadToInodes, coming_count, next_count, entry_blocks, most_written};
 ghost use Rattle.tree_blocks.specs.BlockMarks.{WereMarked};
 
 use crate::entry_blocks::{add_to, find_in, take_from};
@@ -89,7 +89,7 @@ fn change_name(
     requires held { AreHeld owner count blocks.old.items }
     ensures held { IfOk result (λ n. AreHeld owner n blocks.new.items) }
     ensures entries { IfOk result (λ n. named_entries (entry_at (numbered_blocks blocks.new.items)) n ≡ with_entry change.now.name change.now.value (named_entries (entry_at (numbered_blocks blocks.old.items)) count)) }
-    ensures marks { OnOk result (WereMarked 2 marks.old marks.new blocks.old.items blocks.new.items) }
+    ensures marks { OnOk result (WereMarked (entry_blocks change.now.value) marks.old marks.new blocks.old.items blocks.new.items) }
     ensures grown { IfOk result (λ n. n ≤ next_count count false (is_some change.now.value)) }
     ensures memory { OnErr result (vec_capacity blocks.old < blocks_for (next_count count false (is_some change.now.value))) }
     ensures capacity { vec_capacity blocks.old ≤ vec_capacity blocks.new }
@@ -125,7 +125,7 @@ pub fn change_names(
     requires room { blocks_for (count + coming_count (pairs changes.now)) ≤ vec_capacity blocks.old }
     ensures held { AreHeld owner result blocks.new.items }
     ensures entries { named_entries (entry_at (numbered_blocks blocks.new.items)) result ≡ with_entries (pairs changes.now) (named_entries (entry_at (numbered_blocks blocks.old.items)) count) }
-    ensures marks { WereMarked (2 * length changes.now) marks.old marks.new blocks.old.items blocks.new.items }
+    ensures marks { WereMarked (most_written (pairs changes.now)) marks.old marks.new blocks.old.items blocks.new.items }
 {
     let mut after = count;
     'changes: for done in 0..changes.len() {

@@ -1,8 +1,9 @@
-use Rattle.std.proofs.Common.{sym, subst, ◌∙◌, ◌≤◌, ℕ}
+use Rattle.std.proofs.Common.{sym, subst, ◌∙◌, ◌+◌, ◌≤◌, ℕ}
 use Rattle.area_reader.specs.Store.{disk}
 use Rattle.area_reader.specs.Damage.{IsDamaged}
 use Rattle.area_reader.proofs.Costs.{parts_units, few_units}
 use Rattle.area_reader.proofs.Sharing.{room_for, marks_more, clash_damage}
+use Rattle.batch_journal.specs.layout.declared.places.TheConstants.{FILE_BLOCKS}
 use Rattle.batch_journal.specs.layout.declared.error.What.TheVariants as what
 use Rattle.area_reader.proofs.area.add_inode.Goals as goal
 
@@ -32,4 +33,4 @@ returns-in-None-clause-units g c =
     c.units_of.ensures.units ∙ sym (parts_units old.geometry (disk g.M.Media old) c.args.inode c.in_ok-parts.parts.slot c.in_ok-parts.ensures.slot c.in_ok-parts.ensures.spelled)
 
 pub returns-in-None-clause-small : goal.returns-in-None-clause-small
-returns-in-None-clause-small g c = subst (λ (n : ℕ). n ≤ 257) (sym c.units_of.ensures.units) (few_units c.args.journal.now.geometry c.in_ok-parts.parts.slot c.in_ok-parts.ensures.fits)
+returns-in-None-clause-small g c = subst (λ (n : ℕ). n ≤ FILE_BLOCKS + 1) (sym c.units_of.ensures.units) (few_units c.args.journal.now.geometry c.in_ok-parts.parts.slot c.in_ok-parts.ensures.fits)

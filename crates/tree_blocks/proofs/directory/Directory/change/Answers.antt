@@ -1,13 +1,13 @@
-use Rattle.std.proofs.Common.{◌≡◌, ◌*◌, ◌∙◌, ℕ, Bool, List, subst, take, ap, arith, sym, length}
+use Rattle.std.proofs.Common.{◌≡◌, ◌∙◌, ℕ, Bool, List, subst, take, ap, arith, sym, length}
 use Rattle.std.specs.FinMap as fin
 use Rattle.std.proofs.lemmas.Bool.{true≢false}
 use Rattle.std.proofs.lemmas.List.{length-take}
 use Rattle.graph_change.specs.file_graph.NameOrder.{pairs}
 use Rattle.graph_change.specs.Net.{with_entries}
 use Rattle.tree_blocks.specs.Inode.{entry_at, named_entries}
-use Rattle.tree_blocks.specs.Directory.{EntryBlocks, numbered_blocks}
+use Rattle.tree_blocks.specs.Directory.{EntryBlocks, numbered_blocks, most_written}
 use Rattle.tree_blocks.specs.BlockMarks.{numbers_from, ListsWritten}
-use Rattle.tree_blocks.proofs.NameChanges.{NameChange, pairs_long, sorted_entries}
+use Rattle.tree_blocks.proofs.NameChanges.{sorted_entries}
 use Rattle.tree_blocks.proofs.Marking.{block_has, few_left, written_few, written_are}
 use Rattle.tree_blocks.proofs.directory.Directory.change.Goals as goal
 
@@ -59,11 +59,11 @@ returns-clause-written c =
     let numbers : c.from_marks.result ≡ numbers_from 0 (take (length new) marks) = c.from_marks.ensures ∙ ap (λ (n : ℕ). numbers_from 0 (take n marks)) size in
     subst (λ (w : List ℕ). ListsWritten c.args.self.now.blocks new w) (sym numbers)
     (subst (λ (bs : List (List ℕ)). ListsWritten bs new (numbers_from 0 (take (length new) marks))) old
-    (written_are (2 * length c.as_slice-names.result.now) 64 marks c.reserve.new.self.items new c.change_names-self-inside.ensures.marks (omega (arith, few, held.long)) (block_has c.self.inside.owner c.change_names-self-inside.result new held)))
+    (written_are (most_written (pairs c.as_slice-names.result.now)) 64 marks c.reserve.new.self.items new c.change_names-self-inside.ensures.marks (omega (arith, few, held.long)) (block_has c.self.inside.owner c.change_names-self-inside.result new held)))
 
 pub returns-clause-few : goal.returns-clause-few
 returns-clause-few c =
-    let long : length c.as_slice-names.result.now ≡ fin.len c.args.changes.now = sym (pairs_long c.as_slice-names.result.now) ∙ ap (λ (ps : List NameChange). length ps) c.as_slice-names.ensures ∙ sym (fin.len-entries c.args.changes.now) in
-    let few = written_few 64 c.len-2.result (2 * length c.as_slice-names.result.now) c.change_names-self-inside.new.marks c.reserve.new.self.items c.change_names-self-inside.new.blocks.items c.change_names-self-inside.ensures.marks in
+    let all : most_written (pairs c.as_slice-names.result.now) ≡ most_written (fin.entries c.args.changes.now) = ap most_written c.as_slice-names.ensures in
+    let few = written_few 64 c.len-2.result (most_written (pairs c.as_slice-names.result.now)) c.change_names-self-inside.new.marks c.reserve.new.self.items c.change_names-self-inside.new.blocks.items c.change_names-self-inside.ensures.marks in
     let same : length c.from_marks.result ≡ length (numbers_from 0 (take c.len-2.result c.change_names-self-inside.new.marks)) = ap (λ (ns : List ℕ). length ns) c.from_marks.ensures in
-    omega (arith, few, same, long)
+    omega (arith, few, same, all)
