@@ -66,8 +66,48 @@ pub use room::{data_never_runs_out, nodes_never_run_out, small_changes_find_bloc
 pub use slots::ChangedSlot;
 pub use store_laws::{changed_store_spells_the_graph_after, moved_store_spells_the_same_graph};
 
-// Handed on to the crates above, which list only the highest of what they name.
-pub use area_reader as in_area_reader;
-pub use area_reader::{
-    in_batch_journal, in_extent_tree, in_file_graph, in_graph_change, in_layout, in_tree_blocks,
-};
+/// Of `area_reader`, what the crates above name.
+pub mod in_area_reader {
+    pub use area_reader::{
+        AreaError, InodeExtents, InodeParts, blank_block, block_number, first_place, length_of,
+        read_all_extents, read_block, read_slot, rewritten_inodes_are_spelled, root_of,
+    };
+}
+
+/// Of `batch_journal`, what the crates above name.
+pub mod in_batch_journal {
+    pub use area_reader::in_batch_journal::Journal;
+}
+
+/// Of `extent_tree`, what the crates above name.
+pub mod in_extent_tree {
+    pub use area_reader::in_extent_tree::{
+        BlockMap, Place, block_spells_a_map, few_blocks_are_few_runs, push,
+    };
+}
+
+/// Of `file_graph`, what the crates above name.
+pub mod in_file_graph {
+    pub use area_reader::in_file_graph::{Kind, is_inode};
+}
+
+/// Of `graph_change`, what the crates above name.
+pub mod in_graph_change {
+    pub use area_reader::in_graph_change::{
+        BlockChange, GraphChange, NodeBase, NodeChange, NodeLength,
+    };
+}
+
+/// Of `layout`, what the crates above name.
+pub mod in_layout {
+    pub use area_reader::in_layout::{
+        BLOCK, Extent, ExtentBlock, FILE_BLOCKS, Geometry, Marks, Slot,
+    };
+}
+
+/// Of `tree_blocks`, what the crates above name.
+pub mod in_tree_blocks {
+    pub use area_reader::in_tree_blocks::{
+        Directory, EnterError, WrittenBlocks, bounded_entries_lead_to_inodes, change_block,
+    };
+}

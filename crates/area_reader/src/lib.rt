@@ -48,9 +48,46 @@ pub use tiers::{InodeExtents, read_all_extents};
 pub use units::{slots_give_the_units, units_of};
 pub use used_blocks::{UsedBlocks, unmarked_blocks_are_free};
 
-// Handed on to the crates above, which list only the highest of what they name.
-pub use batch_journal as in_batch_journal;
-pub use batch_journal::{in_file_graph, in_layout};
-pub use extent_tree as in_extent_tree;
-pub use tree_blocks as in_tree_blocks;
-pub use tree_blocks::in_graph_change;
+/// Of `batch_journal`, what the crates above name.
+pub mod in_batch_journal {
+    pub use batch_journal::{Batch, Journal, JournalError};
+}
+
+/// Of `extent_tree`, what the crates above name.
+pub mod in_extent_tree {
+    pub use extent_tree::{
+        BlockMap, Place, block_spells_a_map, few_blocks_are_few_runs, push, whole_map_fits_a_block,
+    };
+}
+
+/// Of `file_graph`, what the crates above name.
+pub mod in_file_graph {
+    pub use batch_journal::in_file_graph::{Kind, is_inode};
+}
+
+/// Of `graph_change`, what the crates above name.
+pub mod in_graph_change {
+    pub use tree_blocks::in_graph_change::{
+        BlockChange, GraphChange, NodeBase, NodeChange, NodeLength, changes_are_the_effects,
+        changes_keep_to_the_limits,
+    };
+}
+
+/// Of `layout`, what the crates above name.
+pub mod in_layout {
+    pub use batch_journal::in_layout::{
+        BLOCK, CLIENTS, DirEntries, EntryRef, Extent, ExtentBlock, FILE_BLOCKS, FIRST_NODE_BLOCK,
+        FIRST_SLOT_BLOCK, Geometry, Image, MARKS_BLOCK, MAX_IN_BLOCK, Mark, Marks, SLOT_SIZE,
+        SLOTS_IN_BLOCK, Slot, Super, What, extents_are_read, marks_are_read, slot_byte,
+        slot_is_read,
+    };
+}
+
+/// Of `tree_blocks`, what the crates above name.
+pub mod in_tree_blocks {
+    pub use tree_blocks::{
+        Directory, EnterError, WrittenBlocks, alike_inodes_are_one_node,
+        bounded_entries_lead_to_inodes, change_block, inode_after_is_node_after,
+        inodes_after_are_graph_after, rewritten_inode_is_inode_after,
+    };
+}

@@ -21,5 +21,10 @@ pub use area_faults::area_fault;
 pub use area_settlement::settle_area;
 pub use error::RecoveryError;
 
-// Handed on to the crates above, which list only the highest of what they name.
-pub use recovery_laws as in_recovery_laws;
+/// Of `recovery_laws`, what the crates above name.
+pub mod in_recovery_laws {
+    pub use recovery_laws::{
+        empty_region, empty_tier, first_fast_tier, fresh_area_opens, fresh_region_is_empty,
+        openable_area_is_within_limits,
+    };
+}

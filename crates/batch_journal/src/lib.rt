@@ -24,6 +24,17 @@ pub use journal::Journal;
 pub use laws::damage_has_one_name;
 pub use numbers::journal_has_its_numbers;
 
-// Handed on to the crates above, which list only the highest of what they name.
-pub use layout as in_layout;
-pub use layout::in_file_graph;
+/// Of `file_graph`, what the crates above name.
+pub mod in_file_graph {
+    pub use layout::in_file_graph::{Kind, is_inode};
+}
+
+/// Of `layout`, what the crates above name.
+pub mod in_layout {
+    pub use layout::{
+        BLOCK, CLIENTS, DirEntries, EntryRef, Extent, ExtentBlock, FILE_BLOCKS, FIRST_NODE_BLOCK,
+        FIRST_SLOT_BLOCK, Geometry, Image, LayoutError, MARKS_BLOCK, MAX_IN_BLOCK, Mark, Marks,
+        SLOT_SIZE, SLOTS_IN_BLOCK, SUPER_BLOCK, Slot, Space, Super, What, are_zero,
+        extents_are_read, marks_are_read, slot_block, slot_byte, slot_is_read, slot_is_spelled,
+    };
+}

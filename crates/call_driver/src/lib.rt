@@ -16,9 +16,42 @@ pub use calls::{begin_call, serve_call};
 pub use digests::{clear_client, digest_all, wipe_all};
 pub use events::Events;
 
-// Handed on to the crates above, which list only the highest of what they name.
-pub use interleavings as in_interleavings;
-pub use interleavings::{
-    in_area_reader, in_client_plan, in_event_steps, in_kernel_fs, in_layout, in_lease_manager,
-    in_record_validation,
-};
+/// Of `area_reader`, what the crates above name.
+pub mod in_area_reader {
+    pub use interleavings::in_area_reader::AreaError;
+}
+
+/// Of `client_plan`, what the crates above name.
+pub mod in_client_plan {
+    pub use interleavings::in_client_plan::{Mode, Need};
+}
+
+/// Of `event_steps`, what the crates above name.
+pub mod in_event_steps {
+    pub use interleavings::in_event_steps::{ClientSlot, Event, Outcome, Refusal};
+}
+
+/// Of `interleavings`, what the crates above name.
+pub mod in_interleavings {
+    pub use interleavings::World;
+}
+
+/// Of `kernel_fs`, what the crates above name.
+pub mod in_kernel_fs {
+    pub use interleavings::in_kernel_fs::{Figures, KernelError};
+}
+
+/// Of `layout`, what the crates above name.
+pub mod in_layout {
+    pub use interleavings::in_layout::Geometry;
+}
+
+/// Of `lease_manager`, what the crates above name.
+pub mod in_lease_manager {
+    pub use interleavings::in_lease_manager::LeaseMode;
+}
+
+/// Of `record_validation`, what the crates above name.
+pub mod in_record_validation {
+    pub use interleavings::in_record_validation::NodeSummary;
+}

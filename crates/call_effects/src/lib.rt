@@ -45,6 +45,14 @@ pub use record_laws::{
     asked_growth_is_the_effects_growth, growth_is_local,
 };
 
-// Handed on to the crates above, which list only the highest of what they name.
-pub use log_record as in_log_record;
-pub use log_record::in_file_graph;
+/// Of `file_graph`, what the crates above name.
+pub mod in_file_graph {
+    pub use log_record::in_file_graph::{
+        Child, Effect, Effects, EntryRoom, Kind, NameMap, PlainEntry, is_inode,
+    };
+}
+
+/// Of `log_record`, what the crates above name.
+pub mod in_log_record {
+    pub use log_record::{Record, TouchedInodes};
+}

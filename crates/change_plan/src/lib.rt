@@ -48,5 +48,10 @@ pub use prefix_laws::{
 pub use read_change::{ReadChange, read_slots};
 pub use spares::{last_blocks, take_spares};
 
-// Handed on to the crates above, which list only the highest of what they name.
-pub use inode_plan::in_area_commit;
+/// Of `area_commit`, what the crates above name.
+pub mod in_area_commit {
+    pub use inode_plan::in_area_commit::{
+        Allocation, ChangedSlot, FreedBlocks, NodeImages, Pools, carried_out_marks, carry_out,
+        charge_after_change, nodes_never_run_out, small_changes_find_blocks,
+    };
+}

@@ -23,5 +23,7 @@ pub use turn_laws::{
     taken_back_region_is_a_step, wiped_region_is_a_step,
 };
 
-// Handed on to the crates above, which list only the highest of what they name.
-pub use update_log as in_update_log;
+/// Of `update_log`, what the crates above name.
+pub mod in_update_log {
+    pub use update_log::{Progress, REGION_SIZE, Region, RegionError, WipeProgress};
+}

@@ -24,5 +24,14 @@ pub use outcome::{DescriptorChange, Outcome};
 pub use plain_writes::{PlainWrite, plain_write, record_of_write};
 pub use supplies::Supplies;
 
-// Handed on to the crates above, which list only the highest of what they name.
-pub use call_effects::{in_file_graph, in_log_record};
+/// Of `file_graph`, what the crates above name.
+pub mod in_file_graph {
+    pub use call_effects::in_file_graph::{
+        Child, Effect, Effects, EntryRoom, Kind, PlainEntry, is_inode,
+    };
+}
+
+/// Of `log_record`, what the crates above name.
+pub mod in_log_record {
+    pub use call_effects::in_log_record::Record;
+}

@@ -50,6 +50,16 @@ pub use own_change::OwnChange;
 pub use own_record_laws::{laid_block_agrees, records_are_laid_as_the_graph_has_them};
 pub use own_records::OwnRecords;
 
-// Handed on to the crates above, which list only the highest of what they name.
-pub use client_plan as in_client_plan;
-pub use record_validation as in_record_validation;
+/// Of `client_plan`, what the crates above name.
+pub mod in_client_plan {
+    pub use client_plan::{
+        DescriptorChange, Mode, Need, Outcome, PlainWrite, Supplies, answered_call_is_a_step,
+        logged_call_is_a_step, plain_write, plain_write_is_logged, plan_call, record_of_write,
+        room_for_the_longest_record_is_enough, served_need_is_lacking_no_longer,
+    };
+}
+
+/// Of `record_validation`, what the crates above name.
+pub mod in_record_validation {
+    pub use record_validation::{NodeCounts, NodeSummary};
+}

@@ -29,5 +29,7 @@ pub use run::longest_run;
 pub use run_change::RunChange;
 pub use weight::{CHUNK_BLOCKS, CHUNK_IMAGES, DATA_WEIGHT, ENTRY_WEIGHT};
 
-// Handed on to the crates above, which list only the highest of what they name.
-pub use graph_change as in_graph_change;
+/// Of `graph_change`, what the crates above name.
+pub mod in_graph_change {
+    pub use graph_change::{GraphChange, changes_are_the_effects, changes_keep_to_the_limits};
+}

@@ -40,7 +40,19 @@ pub use run_plan::{NextRun, next_run};
 pub use run_test::capacity_of;
 pub use sealed_log::SealedLog;
 
-// Handed on to the crates above, which list only the highest of what they name.
-pub use coalescer::in_graph_change;
-pub use shared_area as in_shared_area;
-pub use shared_area::in_area_reader;
+/// Of `area_reader`, what the crates above name.
+pub mod in_area_reader {
+    pub use shared_area::in_area_reader::AreaError;
+}
+
+/// Of `graph_change`, what the crates above name.
+pub mod in_graph_change {
+    pub use coalescer::in_graph_change::{
+        GraphChange, changes_are_the_effects, changes_keep_to_the_limits,
+    };
+}
+
+/// Of `shared_area`, what the crates above name.
+pub mod in_shared_area {
+    pub use shared_area::Shared;
+}

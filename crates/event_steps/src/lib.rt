@@ -24,10 +24,69 @@ pub use event::Event;
 pub use outcome::{Outcome, Refusal};
 pub use system::System;
 
-// Handed on to the crates above, which list only the highest of what they name.
-pub use libfs as in_libfs;
-pub use libfs::{
-    in_area_reader, in_client_log, in_client_plan, in_file_graph, in_kernel_fs, in_layout,
-    in_lease_manager, in_log_record, in_migrator, in_record_validation, in_shared_area,
-    in_update_log,
-};
+/// Of `area_reader`, what the crates above name.
+pub mod in_area_reader {
+    pub use libfs::in_area_reader::AreaError;
+}
+
+/// Of `client_log`, what the crates above name.
+pub mod in_client_log {
+    pub use libfs::in_client_log::ClientLog;
+}
+
+/// Of `client_plan`, what the crates above name.
+pub mod in_client_plan {
+    pub use libfs::in_client_plan::{Mode, Need};
+}
+
+/// Of `file_graph`, what the crates above name.
+pub mod in_file_graph {
+    pub use libfs::in_file_graph::{Effect, Kind, PlainGraph};
+}
+
+/// Of `kernel_fs`, what the crates above name.
+pub mod in_kernel_fs {
+    pub use libfs::in_kernel_fs::{
+        Fetched, FetchedBytes, Figures, Kernel, KernelError, ReclaimError, drop_nameless,
+    };
+}
+
+/// Of `layout`, what the crates above name.
+pub mod in_layout {
+    pub use libfs::in_layout::{BLOCK, CLIENTS, Geometry, Marks, Super, What};
+}
+
+/// Of `lease_manager`, what the crates above name.
+pub mod in_lease_manager {
+    pub use libfs::in_lease_manager::{CLIENTS, INODES, LeaseMode, Leases, Opened, Pass};
+}
+
+/// Of `libfs`, what the crates above name.
+pub mod in_libfs {
+    pub use libfs::{Client, Denied, answered_start_is_a_step, begun_record_is_a_step};
+}
+
+/// Of `log_record`, what the crates above name.
+pub mod in_log_record {
+    pub use libfs::in_log_record::Record;
+}
+
+/// Of `migrator`, what the crates above name.
+pub mod in_migrator {
+    pub use libfs::in_migrator::FileRun;
+}
+
+/// Of `record_validation`, what the crates above name.
+pub mod in_record_validation {
+    pub use libfs::in_record_validation::{NodeCounts, NodeSummary};
+}
+
+/// Of `shared_area`, what the crates above name.
+pub mod in_shared_area {
+    pub use libfs::in_shared_area::Shared;
+}
+
+/// Of `update_log`, what the crates above name.
+pub mod in_update_log {
+    pub use libfs::in_update_log::{REGION_SIZE, Region, RegionError, WipeProgress};
+}

@@ -15,5 +15,7 @@ mod stream;
 pub use server::{ServeError, Server};
 pub use stream::{StreamError, serve_stream};
 
-// Handed on to the crates above, which list only the highest of what they name.
-pub use mount_nodes as in_mount_nodes;
+/// Of `mount_nodes`, what the crates above name.
+pub mod in_mount_nodes {
+    pub use mount_nodes::{Tree, Usage};
+}

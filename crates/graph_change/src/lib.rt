@@ -36,5 +36,7 @@ pub use node_change::NodeChange;
 pub use parts::{NodeBase, NodeLength};
 pub use shared_part::SharedPart;
 
-// Handed on to the crates above, which list only the highest of what they name.
-pub use file_graph as in_file_graph;
+/// Of `file_graph`, what the crates above name.
+pub mod in_file_graph {
+    pub use file_graph::{Effect, Kind, NameMap, NamedEntry};
+}

@@ -25,5 +25,7 @@ pub use check::check_graph;
 pub use defect::{Defect, GraphError};
 pub use laws::graph_with_a_defect_is_unsound;
 
-// Handed on to the crates above, which list only the highest of what they name.
-pub use record_validation::in_log_record;
+/// Of `log_record`, what the crates above name.
+pub mod in_log_record {
+    pub use record_validation::in_log_record::{Record, TouchedInodes};
+}

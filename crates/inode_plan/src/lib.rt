@@ -60,9 +60,52 @@ pub use plan::{DirectoryPlan, plan_directory};
 pub use run_places::put_runs;
 pub use slot_change::{roots_wanted, slot_after};
 
-// Handed on to the crates above, which list only the highest of what they name.
-pub use area_commit as in_area_commit;
-pub use area_commit::{
-    in_area_reader, in_batch_journal, in_extent_tree, in_file_graph, in_graph_change, in_layout,
-    in_tree_blocks,
-};
+/// Of `area_commit`, what the crates above name.
+pub mod in_area_commit {
+    pub use area_commit::{
+        Allocation, ChangedSlot, FreedBlocks, NodeImages, Pools, Rewrite,
+        carried_out_inodes_are_written_anew, carried_out_marks, carry_out,
+        changed_store_spells_the_graph_after, charge_after_change,
+        moved_store_spells_the_same_graph, nodes_never_run_out, put_lists, runs_lie_apart,
+        small_changes_find_blocks, taken_blocks_were_free, written_directory_is_rewritten,
+        written_file_is_rewritten, written_free_slot_is_inode_after, written_inode_is_read,
+    };
+}
+
+/// Of `area_reader`, what the crates above name.
+pub mod in_area_reader {
+    pub use area_commit::in_area_reader::{
+        AreaError, InodeExtents, InodeParts, length_of, read_all_extents, read_block, read_slot,
+        rewritten_inodes_are_spelled, root_of,
+    };
+}
+
+/// Of `batch_journal`, what the crates above name.
+pub mod in_batch_journal {
+    pub use area_commit::in_batch_journal::Journal;
+}
+
+/// Of `extent_tree`, what the crates above name.
+pub mod in_extent_tree {
+    pub use area_commit::in_extent_tree::{BlockMap, Place, few_blocks_are_few_runs};
+}
+
+/// Of `file_graph`, what the crates above name.
+pub mod in_file_graph {
+    pub use area_commit::in_file_graph::{Kind, is_inode};
+}
+
+/// Of `graph_change`, what the crates above name.
+pub mod in_graph_change {
+    pub use area_commit::in_graph_change::{GraphChange, NodeBase, NodeChange};
+}
+
+/// Of `layout`, what the crates above name.
+pub mod in_layout {
+    pub use area_commit::in_layout::{BLOCK, Marks, Slot};
+}
+
+/// Of `tree_blocks`, what the crates above name.
+pub mod in_tree_blocks {
+    pub use area_commit::in_tree_blocks::bounded_entries_lead_to_inodes;
+}

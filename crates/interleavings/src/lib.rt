@@ -21,9 +21,67 @@ pub use list::play;
 pub use queries::lease_in;
 pub use world::World;
 
-// Handed on to the crates above, which list only the highest of what they name.
-pub use system_laws as in_system_laws;
-pub use system_laws::{
-    in_area_reader, in_client_log, in_client_plan, in_event_lists, in_event_steps, in_kernel_fs,
-    in_layout, in_lease_manager, in_libfs, in_record_validation, in_shared_area, in_update_log,
-};
+/// Of `area_reader`, what the crates above name.
+pub mod in_area_reader {
+    pub use system_laws::in_area_reader::AreaError;
+}
+
+/// Of `client_log`, what the crates above name.
+pub mod in_client_log {
+    pub use system_laws::in_client_log::ClientLog;
+}
+
+/// Of `client_plan`, what the crates above name.
+pub mod in_client_plan {
+    pub use system_laws::in_client_plan::{Mode, Need};
+}
+
+/// Of `event_lists`, what the crates above name.
+pub mod in_event_lists {
+    pub use system_laws::in_event_lists::Steps;
+}
+
+/// Of `event_steps`, what the crates above name.
+pub mod in_event_steps {
+    pub use system_laws::in_event_steps::{ClientSlot, Event, Outcome, Refusal, System};
+}
+
+/// Of `kernel_fs`, what the crates above name.
+pub mod in_kernel_fs {
+    pub use system_laws::in_kernel_fs::{Figures, Kernel, KernelError};
+}
+
+/// Of `layout`, what the crates above name.
+pub mod in_layout {
+    pub use system_laws::in_layout::{BLOCK, CLIENTS, Geometry, Marks, Super, What};
+}
+
+/// Of `lease_manager`, what the crates above name.
+pub mod in_lease_manager {
+    pub use system_laws::in_lease_manager::{CLIENTS, INODES, LeaseMode, Leases, Opened, Pass};
+}
+
+/// Of `libfs`, what the crates above name.
+pub mod in_libfs {
+    pub use system_laws::in_libfs::{Client, Denied};
+}
+
+/// Of `record_validation`, what the crates above name.
+pub mod in_record_validation {
+    pub use system_laws::in_record_validation::NodeSummary;
+}
+
+/// Of `shared_area`, what the crates above name.
+pub mod in_shared_area {
+    pub use system_laws::in_shared_area::Shared;
+}
+
+/// Of `system_laws`, what the crates above name.
+pub mod in_system_laws {
+    pub use system_laws::idle_system_stands_for_a_world;
+}
+
+/// Of `update_log`, what the crates above name.
+pub mod in_update_log {
+    pub use system_laws::in_update_log::{REGION_SIZE, Region, RegionError, WipeProgress};
+}

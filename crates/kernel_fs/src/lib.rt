@@ -62,7 +62,27 @@ pub use laws::{
     unmoved_kernel_stands_for_its_machine,
 };
 
-// Handed on to the crates above, which list only the highest of what they name.
-pub use digester as in_digester;
-pub use migrator as in_migrator;
-pub use migrator::{in_area_reader, in_layout, in_shared_area};
+/// Of `area_reader`, what the crates above name.
+pub mod in_area_reader {
+    pub use migrator::in_area_reader::AreaError;
+}
+
+/// Of `digester`, what the crates above name.
+pub mod in_digester {
+    pub use digester::{Chunk, DigestError, SealedLog, prepare};
+}
+
+/// Of `layout`, what the crates above name.
+pub mod in_layout {
+    pub use migrator::in_layout::{BLOCK, CLIENTS, Geometry, Mark, Marks, Super, What};
+}
+
+/// Of `migrator`, what the crates above name.
+pub mod in_migrator {
+    pub use migrator::FileRun;
+}
+
+/// Of `shared_area`, what the crates above name.
+pub mod in_shared_area {
+    pub use migrator::in_shared_area::Shared;
+}

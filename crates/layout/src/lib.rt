@@ -47,5 +47,7 @@ pub use places::{
 pub use slot::Slot;
 pub use superblock::Super;
 
-// Handed on to the crates above, which list only the highest of what they name.
-pub use file_graph as in_file_graph;
+/// Of `file_graph`, what the crates above name.
+pub mod in_file_graph {
+    pub use file_graph::{Kind, is_inode};
+}

@@ -35,6 +35,12 @@ pub use pass_leases::{is_inode, reads, writes, written_inodes};
 pub use table::{Leases, Opened};
 pub use view::{Event, LeaseMode, Part};
 
-// Handed on to the crates above, which list only the highest of what they name.
-pub use log_record as in_log_record;
-pub use log_record::in_file_graph;
+/// Of `file_graph`, what the crates above name.
+pub mod in_file_graph {
+    pub use log_record::in_file_graph::{Effect, Kind, PlainGraph};
+}
+
+/// Of `log_record`, what the crates above name.
+pub mod in_log_record {
+    pub use log_record::Record;
+}

@@ -39,11 +39,70 @@ pub use laws::{
 pub use now::Now;
 pub use sealed_region::SealedRegion;
 
-// Handed on to the crates above, which list only the highest of what they name.
-pub use client_log as in_client_log;
-pub use client_log::in_update_log;
-pub use client_view::{in_client_plan, in_record_validation};
-pub use kernel_fs as in_kernel_fs;
-pub use kernel_fs::{in_area_reader, in_digester, in_layout, in_migrator, in_shared_area};
-pub use lease_manager as in_lease_manager;
-pub use lease_manager::{in_file_graph, in_log_record};
+/// Of `area_reader`, what the crates above name.
+pub mod in_area_reader {
+    pub use kernel_fs::in_area_reader::AreaError;
+}
+
+/// Of `client_log`, what the crates above name.
+pub mod in_client_log {
+    pub use client_log::{ClientLog, LogError};
+}
+
+/// Of `client_plan`, what the crates above name.
+pub mod in_client_plan {
+    pub use client_view::in_client_plan::{Mode, Need};
+}
+
+/// Of `digester`, what the crates above name.
+pub mod in_digester {
+    pub use kernel_fs::in_digester::{Chunk, DigestError};
+}
+
+/// Of `file_graph`, what the crates above name.
+pub mod in_file_graph {
+    pub use lease_manager::in_file_graph::{Effect, Kind, PlainGraph};
+}
+
+/// Of `kernel_fs`, what the crates above name.
+pub mod in_kernel_fs {
+    pub use kernel_fs::{
+        AcceptError, Digestion, Fetched, FetchedBytes, Figures, Kernel, KernelError, ReclaimError,
+        drop_nameless,
+    };
+}
+
+/// Of `layout`, what the crates above name.
+pub mod in_layout {
+    pub use kernel_fs::in_layout::{BLOCK, CLIENTS, Geometry, Marks, Super, What};
+}
+
+/// Of `lease_manager`, what the crates above name.
+pub mod in_lease_manager {
+    pub use lease_manager::{CLIENTS, INODES, LeaseMode, Leases, Opened, Pass, is_inode};
+}
+
+/// Of `log_record`, what the crates above name.
+pub mod in_log_record {
+    pub use lease_manager::in_log_record::Record;
+}
+
+/// Of `migrator`, what the crates above name.
+pub mod in_migrator {
+    pub use kernel_fs::in_migrator::FileRun;
+}
+
+/// Of `record_validation`, what the crates above name.
+pub mod in_record_validation {
+    pub use client_view::in_record_validation::{NodeCounts, NodeSummary};
+}
+
+/// Of `shared_area`, what the crates above name.
+pub mod in_shared_area {
+    pub use kernel_fs::in_shared_area::Shared;
+}
+
+/// Of `update_log`, what the crates above name.
+pub mod in_update_log {
+    pub use client_log::in_update_log::{REGION_SIZE, Region, RegionError, WipeProgress};
+}

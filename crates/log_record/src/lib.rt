@@ -23,5 +23,9 @@ pub use record_reads::{is_payload, read_payload, read_record};
 pub use record_writes::{write_behind, write_record};
 pub use touched_inodes::{TouchedInodes, read_touched_inodes};
 
-// Handed on to the crates above, which list only the highest of what they name.
-pub use file_graph as in_file_graph;
+/// Of `file_graph`, what the crates above name.
+pub mod in_file_graph {
+    pub use file_graph::{
+        Child, Effect, Effects, EntryRoom, Kind, NameMap, PlainEntry, PlainGraph, is_inode,
+    };
+}

@@ -15,5 +15,7 @@ pub use next_generation::next_free_generation;
 pub use owners::{Owners, SharedInode};
 pub use regions::{CountedLogs, LogRest, logs_that_count};
 
-// Handed on to the crates above, which list only the highest of what they name.
-pub use update_log as in_update_log;
+/// Of `update_log`, what the crates above name.
+pub mod in_update_log {
+    pub use update_log::{Region, RegionError};
+}

@@ -7,6 +7,29 @@ mod run_choice;
 pub use migration::migrate;
 pub use run_choice::{FileRun, MOST_BLOCKS, pick};
 
-// Handed on to the crates above, which list only the highest of what they name.
-pub use shared_area as in_shared_area;
-pub use shared_area::{in_area_reader, in_graph_change, in_layout, in_record_validation};
+/// Of `area_reader`, what the crates above name.
+pub mod in_area_reader {
+    pub use shared_area::in_area_reader::AreaError;
+}
+
+/// Of `graph_change`, what the crates above name.
+pub mod in_graph_change {
+    pub use shared_area::in_graph_change::{
+        GraphChange, changes_are_the_effects, changes_keep_to_the_limits,
+    };
+}
+
+/// Of `layout`, what the crates above name.
+pub mod in_layout {
+    pub use shared_area::in_layout::{BLOCK, CLIENTS, Geometry, Mark, Marks, Super, What};
+}
+
+/// Of `record_validation`, what the crates above name.
+pub mod in_record_validation {
+    pub use shared_area::in_record_validation::{NodeCounts, NodeSummary};
+}
+
+/// Of `shared_area`, what the crates above name.
+pub mod in_shared_area {
+    pub use shared_area::Shared;
+}

@@ -12,5 +12,7 @@ mod plain;
 
 pub use plain::PlainTree;
 
-// Handed on to the crates above, which list only the highest of what they name.
-pub use file_graph as in_file_graph;
+/// Of `file_graph`, what the crates above name.
+pub mod in_file_graph {
+    pub use file_graph::{Effect, Kind, PlainGraph};
+}

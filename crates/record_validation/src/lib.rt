@@ -36,5 +36,12 @@ pub use nodes::Nodes;
 pub use record_validation::RecordCheck;
 pub use verdict::{Verdict, test_record};
 
-// Handed on to the crates above, which list only the highest of what they name.
-pub use call_effects::{in_file_graph, in_log_record};
+/// Of `file_graph`, what the crates above name.
+pub mod in_file_graph {
+    pub use call_effects::in_file_graph::{Child, Kind, NameMap, PlainEntry, is_inode};
+}
+
+/// Of `log_record`, what the crates above name.
+pub mod in_log_record {
+    pub use call_effects::in_log_record::{Record, TouchedInodes};
+}

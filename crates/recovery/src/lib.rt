@@ -27,9 +27,37 @@ pub use part_recovery::recover;
 pub use parts::{Parts, REGIONS};
 pub use survival::recover_after_stop;
 
-// Handed on to the crates above, which list only the highest of what they name.
-pub use area_recovery as in_area_recovery;
-pub use interleavings as in_interleavings;
-pub use interleavings::{
-    in_area_reader, in_layout, in_record_validation, in_shared_area, in_update_log,
-};
+/// Of `area_reader`, what the crates above name.
+pub mod in_area_reader {
+    pub use interleavings::in_area_reader::AreaError;
+}
+
+/// Of `area_recovery`, what the crates above name.
+pub mod in_area_recovery {
+    pub use area_recovery::RecoveryError;
+}
+
+/// Of `interleavings`, what the crates above name.
+pub mod in_interleavings {
+    pub use interleavings::World;
+}
+
+/// Of `layout`, what the crates above name.
+pub mod in_layout {
+    pub use interleavings::in_layout::{BLOCK, CLIENTS, Geometry, Super, What};
+}
+
+/// Of `record_validation`, what the crates above name.
+pub mod in_record_validation {
+    pub use interleavings::in_record_validation::NodeSummary;
+}
+
+/// Of `shared_area`, what the crates above name.
+pub mod in_shared_area {
+    pub use interleavings::in_shared_area::Shared;
+}
+
+/// Of `update_log`, what the crates above name.
+pub mod in_update_log {
+    pub use interleavings::in_update_log::REGION_SIZE;
+}

@@ -18,7 +18,32 @@ pub use fresh_region::empty_region;
 pub use record_laws::{paid_records_are_covered, recoverable_records_are_covered};
 pub use region_laws::fresh_region_is_empty;
 
-// Handed on to the crates above, which list only the highest of what they name.
-pub use digester as in_digester;
-pub use digester::{in_area_reader, in_graph_change, in_shared_area};
-pub use layout as in_layout;
+/// Of `area_reader`, what the crates above name.
+pub mod in_area_reader {
+    pub use digester::in_area_reader::AreaError;
+}
+
+/// Of `digester`, what the crates above name.
+pub mod in_digester {
+    pub use digester::{
+        DigestError, SealedLog, digest_chunk, mark_of, marks_can_be_written,
+        moved_mark_leaves_the_rest, prepare,
+    };
+}
+
+/// Of `graph_change`, what the crates above name.
+pub mod in_graph_change {
+    pub use digester::in_graph_change::{
+        GraphChange, changes_are_the_effects, changes_keep_to_the_limits,
+    };
+}
+
+/// Of `layout`, what the crates above name.
+pub mod in_layout {
+    pub use layout::{CLIENTS, FIRST_SLOT_BLOCK, Mark, Marks, SLOTS_IN_BLOCK, What};
+}
+
+/// Of `shared_area`, what the crates above name.
+pub mod in_shared_area {
+    pub use digester::in_shared_area::Shared;
+}

@@ -41,6 +41,12 @@ pub use script::replies::write_reply;
 pub use system_line::{LowerTier, Manner, SystemLine, read_system_line};
 pub use text::Text;
 
-// Handed on to the crates above, which list only the highest of what they name.
-pub use update_log as in_update_log;
-pub use update_log::in_log_record;
+/// Of `log_record`, what the crates above name.
+pub mod in_log_record {
+    pub use update_log::in_log_record::{Record, is_payload};
+}
+
+/// Of `update_log`, what the crates above name.
+pub mod in_update_log {
+    pub use update_log::{HEADER, OPEN, REGION_SIZE, Region, Stage};
+}

@@ -28,7 +28,24 @@ pub use change_apply::apply;
 pub use inode_cost::{ChangeCost, charge_after, charge_follows_the_change, units_of_slots};
 pub use plan_write::{reserve_blocks, write_counted};
 
-// Handed on to the crates above, which list only the highest of what they name.
-pub use area_reader as in_area_reader;
-pub use area_reader::{in_graph_change, in_layout};
-pub use record_validation as in_record_validation;
+/// Of `area_reader`, what the crates above name.
+pub mod in_area_reader {
+    pub use area_reader::AreaError;
+}
+
+/// Of `graph_change`, what the crates above name.
+pub mod in_graph_change {
+    pub use area_reader::in_graph_change::{
+        GraphChange, changes_are_the_effects, changes_keep_to_the_limits,
+    };
+}
+
+/// Of `layout`, what the crates above name.
+pub mod in_layout {
+    pub use area_reader::in_layout::{BLOCK, CLIENTS, Geometry, Mark, Marks, Super, What};
+}
+
+/// Of `record_validation`, what the crates above name.
+pub mod in_record_validation {
+    pub use record_validation::{NodeCounts, NodeSummary, Nodes, RecordCheck, Verdict, is_unknown};
+}

@@ -35,6 +35,12 @@ pub use thread_set::{ShareError, ThreadSet};
 pub use waited::Waited;
 pub use worker::Worker;
 
-// Handed on to the crates above, which list only the highest of what they name.
-pub use libfs as in_libfs;
-pub use libfs::in_layout;
+/// Of `layout`, what the crates above name.
+pub mod in_layout {
+    pub use libfs::in_layout::{CLIENTS, Geometry};
+}
+
+/// Of `libfs`, what the crates above name.
+pub mod in_libfs {
+    pub use libfs::{Client, SealedRegion};
+}

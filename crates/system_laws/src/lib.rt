@@ -40,11 +40,79 @@ pub use requests::{
 };
 pub use starts::started_call_is_a_step;
 
-// Handed on to the crates above, which list only the highest of what they name.
-pub use event_lists as in_event_lists;
-pub use event_steps as in_event_steps;
-pub use event_steps::{
-    in_area_reader, in_client_log, in_client_plan, in_file_graph, in_kernel_fs, in_layout,
-    in_lease_manager, in_libfs, in_log_record, in_migrator, in_record_validation, in_shared_area,
-    in_update_log,
-};
+/// Of `area_reader`, what the crates above name.
+pub mod in_area_reader {
+    pub use event_steps::in_area_reader::AreaError;
+}
+
+/// Of `client_log`, what the crates above name.
+pub mod in_client_log {
+    pub use event_steps::in_client_log::ClientLog;
+}
+
+/// Of `client_plan`, what the crates above name.
+pub mod in_client_plan {
+    pub use event_steps::in_client_plan::{Mode, Need};
+}
+
+/// Of `event_lists`, what the crates above name.
+pub mod in_event_lists {
+    pub use event_lists::{Recoverable, Steps, play_all};
+}
+
+/// Of `event_steps`, what the crates above name.
+pub mod in_event_steps {
+    pub use event_steps::{ClientSlot, Event, Outcome, Refusal, System};
+}
+
+/// Of `file_graph`, what the crates above name.
+pub mod in_file_graph {
+    pub use event_steps::in_file_graph::{Effect, Kind, PlainGraph};
+}
+
+/// Of `kernel_fs`, what the crates above name.
+pub mod in_kernel_fs {
+    pub use event_steps::in_kernel_fs::{
+        Fetched, FetchedBytes, Figures, Kernel, KernelError, ReclaimError, drop_nameless,
+    };
+}
+
+/// Of `layout`, what the crates above name.
+pub mod in_layout {
+    pub use event_steps::in_layout::{BLOCK, CLIENTS, Geometry, Marks, Super, What};
+}
+
+/// Of `lease_manager`, what the crates above name.
+pub mod in_lease_manager {
+    pub use event_steps::in_lease_manager::{CLIENTS, INODES, LeaseMode, Leases, Opened, Pass};
+}
+
+/// Of `libfs`, what the crates above name.
+pub mod in_libfs {
+    pub use event_steps::in_libfs::{Client, Denied};
+}
+
+/// Of `log_record`, what the crates above name.
+pub mod in_log_record {
+    pub use event_steps::in_log_record::Record;
+}
+
+/// Of `migrator`, what the crates above name.
+pub mod in_migrator {
+    pub use event_steps::in_migrator::FileRun;
+}
+
+/// Of `record_validation`, what the crates above name.
+pub mod in_record_validation {
+    pub use event_steps::in_record_validation::{NodeCounts, NodeSummary};
+}
+
+/// Of `shared_area`, what the crates above name.
+pub mod in_shared_area {
+    pub use event_steps::in_shared_area::Shared;
+}
+
+/// Of `update_log`, what the crates above name.
+pub mod in_update_log {
+    pub use event_steps::in_update_log::{REGION_SIZE, Region, RegionError, WipeProgress};
+}

@@ -26,5 +26,7 @@ pub use run::run_threads;
 
 // Passed on to the programs above, which so need not list those below.
 
-// Handed on to the crates above, which list only the highest of what they name.
-pub use program_runs as in_program_runs;
+/// Of `program_runs`, what the crates above name.
+pub mod in_program_runs {
+    pub use program_runs::run_program;
+}

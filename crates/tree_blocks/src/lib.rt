@@ -27,5 +27,10 @@ pub use node_laws::{alike_inodes_are_one_node, nodes_are_read_by_place};
 pub use rewrite_laws::{bounded_entries_lead_to_inodes, rewritten_inode_is_inode_after};
 pub use written_blocks::WrittenBlocks;
 
-// Handed on to the crates above, which list only the highest of what they name.
-pub use graph_change as in_graph_change;
+/// Of `graph_change`, what the crates above name.
+pub mod in_graph_change {
+    pub use graph_change::{
+        BlockChange, GraphChange, NodeBase, NodeChange, NodeLength, changes_are_the_effects,
+        changes_keep_to_the_limits,
+    };
+}

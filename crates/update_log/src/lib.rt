@@ -24,6 +24,12 @@ pub use laws::region_has_its_numbers;
 pub use region::Region;
 pub use stage::{Progress, Stage, WipeProgress};
 
-// Handed on to the crates above, which list only the highest of what they name.
-pub use log_record as in_log_record;
-pub use log_record::in_file_graph;
+/// Of `file_graph`, what the crates above name.
+pub mod in_file_graph {
+    pub use log_record::in_file_graph::{Effect, Kind};
+}
+
+/// Of `log_record`, what the crates above name.
+pub mod in_log_record {
+    pub use log_record::{Record, TouchedInodes, is_payload};
+}

@@ -31,5 +31,7 @@ pub use session::Session;
 pub use shell::answer_line;
 pub use system_queries::Running;
 
-// Handed on to the crates above, which list only the highest of what they name.
-pub use program_runs as in_program_runs;
+/// Of `program_runs`, what the crates above name.
+pub mod in_program_runs {
+    pub use program_runs::run_program;
+}

@@ -29,10 +29,42 @@ pub use size_options::{
 pub use sizes::{SizeRule, WorldSizes};
 pub use structures::structure_name;
 
-// Handed on to the crates above, which list only the highest of what they name.
-pub use host_media as in_host_media;
-pub use recovery as in_recovery;
-pub use recovery::{
-    in_area_reader, in_area_recovery, in_interleavings, in_layout, in_record_validation,
-    in_shared_area,
-};
+/// Of `area_reader`, what the crates above name.
+pub mod in_area_reader {
+    pub use recovery::in_area_reader::AreaError;
+}
+
+/// Of `area_recovery`, what the crates above name.
+pub mod in_area_recovery {
+    pub use recovery::in_area_recovery::RecoveryError;
+}
+
+/// Of `host_media`, what the crates above name.
+pub mod in_host_media {
+    pub use host_media::{FileMedia, FileProblem};
+}
+
+/// Of `interleavings`, what the crates above name.
+pub mod in_interleavings {
+    pub use recovery::in_interleavings::World;
+}
+
+/// Of `layout`, what the crates above name.
+pub mod in_layout {
+    pub use recovery::in_layout::{BLOCK, CLIENTS, Geometry, What};
+}
+
+/// Of `record_validation`, what the crates above name.
+pub mod in_record_validation {
+    pub use recovery::in_record_validation::NodeSummary;
+}
+
+/// Of `recovery`, what the crates above name.
+pub mod in_recovery {
+    pub use recovery::{Parts, REGIONS, format, recover, take_apart};
+}
+
+/// Of `shared_area`, what the crates above name.
+pub mod in_shared_area {
+    pub use recovery::in_shared_area::Shared;
+}

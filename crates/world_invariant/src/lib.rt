@@ -130,5 +130,12 @@ pub use walk_laws::{
     small_world_unlinks_an_open_file, small_world_walks,
 };
 
-// Handed on to the crates above, which list only the highest of what they name.
-pub use call_effects::{in_file_graph, in_log_record};
+/// Of `file_graph`, what the crates above name.
+pub mod in_file_graph {
+    pub use call_effects::in_file_graph::Effect;
+}
+
+/// Of `log_record`, what the crates above name.
+pub mod in_log_record {
+    pub use call_effects::in_log_record::Record;
+}
