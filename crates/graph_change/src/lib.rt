@@ -38,5 +38,5 @@ pub use shared_part::SharedPart;
 
 /// Of `file_graph`, what the crates above name.
 pub mod in_file_graph {
-    pub use file_graph::{Effect, Kind, NameMap, NamedEntry};
+    pub use file_graph::{Child, Effect, Effects, Kind, NameMap, NamedEntry, PlainGraph};
 }

@@ -49,5 +49,5 @@ pub use superblock::Super;
 
 /// Of `file_graph`, what the crates above name.
 pub mod in_file_graph {
-    pub use file_graph::{Kind, is_inode};
+    pub use file_graph::{Kind, is_inode, u32_of};
 }
