@@ -9,14 +9,14 @@ use Rattle.posix_calls.specs.Tree.{Own, Descriptors, any_up_to, with_own}
 use Rattle.posix_calls.specs.declared.errno.Errno.TheVariants as errno
 use Rattle.posix_calls.specs.declared.call.Call.TheVariants as call
 use Rattle.posix_calls.specs.declared.operation.Operation.{Operation}
-use Rattle.posix_calls.specs.declared.operation.Operation.TheVariants.{Tell, NewDir, DropName}
+use Rattle.posix_calls.specs.declared.operation.Operation.TheVariants.{Tell, NewDir, DropName, Exchange}
 use Rattle.posix_calls.specs.declared.call.Reply.TheVariants as reply
 use Rattle.posix_calls.specs.declared.operation.Missing.{Missing}
 use Rattle.posix_calls.specs.declared.operation.Missing.TheVariants as missing
 use Rattle.posix_calls.specs.Query.{Seen, Query, IsDir, Look, Range}
 use Rattle.posix_calls.specs.Part.{Part, Found, Known, Unknown, blocks_missing, run_part}
 use Rattle.posix_calls.specs.Walk.{walk}
-use Rattle.posix_calls.specs.Decide.{mkdir, unlink, stat, pread}
+use Rattle.posix_calls.specs.Decide.{mkdir, unlink, exchange, stat, pread}
 use Rattle.posix_calls.proofs.Chain.{part_bind, part_gives, part_refuses}
 use Rattle.posix_calls.proofs.Directory.{lists}
 use Rattle.log_record.specs.file_graph.Graph.{Graph, fresh, set_node, after_effects}
@@ -27,6 +27,7 @@ use Rattle.log_record.specs.file_graph.declared.effect.Effect.TheVariants as eff
 use Rattle.call_effects.specs.Records.{effects_asked}
 use Rattle.call_effects.specs.Fits.{IsNew}
 use Rattle.call_effects.specs.Blocks.{block_at}
+use Rattle.call_effects.specs.KnownCopies.{child_known, known_after}
 use Rattle.call_effects.specs.NodeView.{NodeView, FileView, DirView, view_at, view_of_node}
 use Rattle.call_effects.specs.Knowledge.{Knowledge, Agrees, IsPlanned, part_of, with_copy, with_blocks, knows_after}
 use Rattle.call_effects.proofs.Changes.{file}
@@ -104,6 +105,24 @@ unlinked = simp (parts, lists, fin.gets) refl
 unlinked_effects : run_part (part_of two_copied) (effects_asked 0 (DropName (record { parent = 1; name = codes "f" }) 3)) ≡ Unknown (missing.Node 3)
 unfolding two_copied with_root two_entries
 unlinked_effects = simp parts refl
+
+-- who has a copy of the root exchanges two names in it, and knows what they lead to then
+names_exchanged : run_part (part_of two_copied) (exchange (codes "/a") (codes "/f")) ≡ Known (Ok (Exchange (record { parent = 1; name = codes "a" }) (record { parent = 1; name = codes "f" }) 2 3))
+unfolding exchange walk two_copied with_root two_entries any_up_to
+names_exchanged = simp (parts, lists, fin.gets) refl
+
+first_known : child_known (known_after (effect.Swap 1 (codes "a") 1 (codes "f") ∷ []) two_copied.copies) 1 (codes "a") ≡ Some (3, kind.File)
+unfolding two_copied with_root two_entries
+first_known = simp (lists, fin.gets) refl
+
+second_known : child_known (known_after (effect.Swap 1 (codes "a") 1 (codes "f") ∷ []) two_copied.copies) 1 (codes "f") ≡ Some (2, kind.Directory)
+unfolding two_copied with_root two_entries
+second_known = simp (lists, fin.gets) refl
+
+-- a name that leads to nothing is not exchanged
+nothing_known : child_known (known_after (effect.Swap 1 (codes "a") 1 (codes "n") ∷ []) two_copied.copies) 1 (codes "a") ≡ Some (2, kind.Directory)
+unfolding two_copied with_root two_entries
+nothing_known = simp (lists, fin.gets) refl
 
 -- ---- bytes
 
