@@ -5,6 +5,7 @@ use Rattle.std.specs.List.{Contains}
 use Rattle.std.proofs.lemmas.Bool.{cases_Bool, cond-true, cond-false, false≢true}
 use Rattle.std.proofs.lemmas.List.Elements.{Contains-get_or}
 use Rattle.std.proofs.lemmas.Option.{none-some, same_Some}
+use Rattle.posix_calls.specs.declared.limits.TheConstants.{MAX_FILE}
 use Rattle.tier_device.specs.declared.media.Tier.{Tier}
 use Rattle.area_commit.specs.layout.declared.geometry.Space.TheVariants as space
 use Rattle.area_commit.specs.layout.Places.{Sizes, is_data}
@@ -46,7 +47,7 @@ module _ (lay : Tier → ℕ → Option ℕ) (c : Change) (numbers : List ℕ) (
   pub written_at : (n : ℕ) → n < length numbers → writes_over lay c (nth_number numbers n) ≡ true
   written_at n lt = (are.each (nth_number numbers n)).0 (Contains-get_or numbers n 0 lt)
 
-  pub number_fits : IsTidyChange c → end c.length ≤ 1048576 → (n : ℕ) → n < length numbers → nth_number numbers n + 1 < 2 ^ 32
+  pub number_fits : IsTidyChange c → end c.length ≤ MAX_FILE → (n : ℕ) → n < length numbers → nth_number numbers n + 1 < 2 ^ 32
   number_fits tidy few n lt = let begins = tidy.blocks (nth_number numbers n) (over_written lay (nth_number numbers n) c (written_at n lt)) in omega (arith, begins, few)
 
   -- the same where another account tells the same blocks as written
@@ -185,7 +186,7 @@ module _ (c : Change) (numbers : List ℕ) (places : List Place) (old new : Tier
     | inr here ↦ (let both = neither (writes_block c k) (is_cut_off c.length k) here in absurd (none (after.others t k (over_out (lies_at old) k c both.0) both.1 ∙ was)))
   ]
 
-  pub after_within : (g : Sizes) → IsTidyChange c → end c.length ≤ 1048576 → AreData g places (length numbers) → ((t : Tier) → LiesWithin g (space.Data t) (runs_in old t)) → (t : Tier) → LiesWithin g (space.Data t) (runs_in new t)
+  pub after_within : (g : Sizes) → IsTidyChange c → end c.length ≤ MAX_FILE → AreData g places (length numbers) → ((t : Tier) → LiesWithin g (space.Data t) (runs_in old t)) → (t : Tier) → LiesWithin g (space.Data t) (runs_in new t)
   after_within g tidy few are_data within t k p at = elim (keeps_or_takes t k p at) [
     | inl kept ↦ within t k p kept.was
     | inr taken ↦

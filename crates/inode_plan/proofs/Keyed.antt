@@ -22,10 +22,10 @@ with_err P (Ok t) p = tt
 with_err P (Err e) p = p
 
 -- no block lies anywhere that is past all of a map
-pub none_past : (m : TierRuns) (t : Tier) (k : ℕ) → LieBelow 256 m → 256 ≤ k → lies_at m t k ≡ None
-none_past m t k below past = by (lies_at m t k) (λ some. below t k some)
+pub none_past : (m : TierRuns) (t : Tier) (most k : ℕ) → LieBelow most m → most ≤ k → lies_at m t k ≡ None
+none_past m t most k below past = by (lies_at m t k) (λ some. below t k some)
   where
-    by : (o : Option ℕ) → (IsSome o → k < 256) → o ≡ None
+    by : (o : Option ℕ) → (IsSome o → k < most) → o ≡ None
     by None less = refl
     by (Some p) less = absurd (let lt = less refl in omega (arith, lt, past))
 

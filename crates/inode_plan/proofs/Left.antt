@@ -101,7 +101,7 @@ none_below es end k ge = ap (λ o. place_list o ++ []) (cond-false (nat_lt k end
 
 -- ---- those of the written blocks, and those behind the cut
 
-module _ (c : Change) (numbers : List ℕ) (m : TierRuns) (t : Tier) (cut : ℕ) (are : AreNumbers (lies_at m) c numbers) (few : cut ≤ 256) (is_cut : (k : ℕ) → k < 256 → nat_le cut k ≡ is_cut_off c.length k) (below : LieBelow 256 m) where
+module _ (c : Change) (numbers : List ℕ) (m : TierRuns) (t : Tier) (most cut : ℕ) (are : AreNumbers (lies_at m) c numbers) (few : cut ≤ most) (is_cut : (k : ℕ) → k < most → nat_le cut k ≡ is_cut_off c.length k) (below : LieBelow most m) where
   abbrev before : ℕ → Option ℕ
   before = below_end cut (lies_at m t)
 
@@ -111,11 +111,11 @@ module _ (c : Change) (numbers : List ℕ) (m : TierRuns) (t : Tier) (cut : ℕ)
     | inr ge ↦ absurd (none-some p (sym (cond-false (nat_lt k cut) (lies_at m t k) None (le-ltb k cut ge)) ∙ at))
   ]
 
-  is_below : (k p : ℕ) → lies_at m t k ≡ Some p → k < 256
+  is_below : (k p : ℕ) → lies_at m t k ≡ Some p → k < most
   is_below k p at = below t k (subst IsSome (sym at) refl)
 
   abbrev all_left : List ℕ
-  all_left = places_below (runs_in m t) cut numbers ++ places_of (runs_in m t) cut (256 - cut)
+  all_left = places_below (runs_in m t) cut numbers ++ places_of (runs_in m t) cut (most - cut)
 
   or_left : (a b : Bool) → a ≡ true → (a || b) ≡ true
   or_left a b is = ap (λ x. x || b) is
@@ -126,28 +126,28 @@ module _ (c : Change) (numbers : List ℕ) (m : TierRuns) (t : Tier) (cut : ℕ)
 
   -- which blocks they are of
   pub left_of : (p : ℕ) → Contains all_left p → (k : ℕ) × (leaves c k ≡ true) × (lies_at m t k ≡ Some p)
-  left_of p at = elim (Contains-append_cases (places_below (runs_in m t) cut numbers) (places_of (runs_in m t) cut (256 - cut)) p at) [
+  left_of p at = elim (Contains-append_cases (places_below (runs_in m t) cut numbers) (places_of (runs_in m t) cut (most - cut)) p at) [
     | inl front ↦
         let r = among before numbers p front in
         (r.block, or_left (writes_block c r.block) (is_cut_off c.length r.block) (over_written (lies_at m) r.block c ((are.each r.block).0 r.one)), (before_is r.block p r.there).1)
     | inr back ↦
-        let r = among (lies_at m t) (range_with_len cut (256 - cut)) p back in
-        let within = range_above cut (256 - cut) r.block r.one in
+        let r = among (lies_at m t) (range_with_len cut (most - cut)) p back in
+        let within = range_above cut (most - cut) r.block r.one in
         (r.block, or_right (writes_block c r.block) (is_cut_off c.length r.block) (sym (is_cut r.block (is_below r.block p r.there)) ∙ le-leb cut r.block within.0), r.there)
   ]
 
   behind_cut : (k p : ℕ) → cut ≤ k → lies_at m t k ≡ Some p → Contains all_left p
   behind_cut k p ge at =
       let lt = is_below k p at in
-      Contains-append_right (places_below (runs_in m t) cut numbers) (places_of (runs_in m t) cut (256 - cut)) p
-      (among_back (lies_at m t) (range_with_len cut (256 - cut)) k p (in_range cut (256 - cut) k ge (omega (arith, lt, few))) at)
+      Contains-append_right (places_below (runs_in m t) cut numbers) (places_of (runs_in m t) cut (most - cut)) p
+      (among_back (lies_at m t) (range_with_len cut (most - cut)) k p (in_range cut (most - cut) k ge (omega (arith, lt, few))) at)
 
   left_has : (k p : ℕ) → leaves c k ≡ true → lies_at m t k ≡ Some p → Contains all_left p
   left_has k p away at = elim (cases_lt k cut) [
     | inr ge ↦ behind_cut k p ge at
     | inl lt ↦ elim (cases_Bool (writes_block c k)) [
       | inl put ↦
-          Contains-append_left (places_below (runs_in m t) cut numbers) (places_of (runs_in m t) cut (256 - cut)) p
+          Contains-append_left (places_below (runs_in m t) cut numbers) (places_of (runs_in m t) cut (most - cut)) p
           (among_back before numbers k p ((are.each k).1 (over_at (lies_at m) k c t p at ∙ put)) (cond-true (nat_lt k cut) (lies_at m t k) None (lt-ltb k cut lt) ∙ at))
       | inr out ↦
           let off : is_cut_off c.length k ≡ true = sym (ap (λ x. x || is_cut_off c.length k) out) ∙ away in
@@ -160,14 +160,14 @@ module _ (c : Change) (numbers : List ℕ) (m : TierRuns) (t : Tier) (cut : ℕ)
 
   left_once : IsOneToOne (runs_in m t) → Once all_left
   left_once apart =
-      once_both (places_below (runs_in m t) cut numbers) (places_of (runs_in m t) cut (256 - cut))
+      once_both (places_below (runs_in m t) cut numbers) (places_of (runs_in m t) cut (most - cut))
       (once_placed before (λ j k p at_j at_k. apart j k p (before_is j p at_j).1 (before_is k p at_k).1) numbers (rising_once 0 are.rising.0 numbers are.rising.1))
-      (once_placed (lies_at m t) (λ j k p at_j at_k. apart j k p at_j at_k) (range_with_len cut (256 - cut)) (range_once cut (256 - cut)))
+      (once_placed (lies_at m t) (λ j k p at_j at_k. apart j k p at_j at_k) (range_with_len cut (most - cut)) (range_once cut (most - cut)))
       (λ p front back.
       (let one = among before numbers p front in
-      let other = among (lies_at m t) (range_with_len cut (256 - cut)) p back in
+      let other = among (lies_at m t) (range_with_len cut (most - cut)) p back in
       let was = before_is one.block p one.there in
-      let within = range_above cut (256 - cut) other.block other.one in
+      let within = range_above cut (most - cut) other.block other.one in
       let same : one.block ≡ other.block = apart one.block other.block p was.1 other.there in
       omega (arith, was.0, within.0, same)))
 
@@ -177,10 +177,10 @@ module _ (c : Change) (numbers : List ℕ) (m : TierRuns) (t : Tier) (cut : ℕ)
 
 -- ---- all of them
 
-pub are_all : (m : TierRuns) (t : Tier) (places : List ℕ) → LieBelow 256 m → places ≡ places_of (runs_in m t) 0 256 → AreAll m t places
-are_all m t places below is p = (
-  λ at. (let r = among (lies_at m t) (range_with_len 0 256) p (subst (λ xs. Contains xs p) is at) in (r.block, r.there)),
+pub are_all : (m : TierRuns) (t : Tier) (most : ℕ) (places : List ℕ) → LieBelow most m → places ≡ places_of (runs_in m t) 0 most → AreAll m t places
+are_all m t most places below is p = (
+  λ at. (let r = among (lies_at m t) (range_with_len 0 most) p (subst (λ xs. Contains xs p) is at) in (r.block, r.there)),
   λ some.
-      (let few : some.0 < 256 = below t some.0 (subst IsSome (sym some.1) refl) in
-      subst (λ xs. Contains xs p) (sym is) (among_back (lies_at m t) (range_with_len 0 256) some.0 p (in_range 0 256 some.0 (omega arith) (omega (arith, few))) some.1)),
+      (let few : some.0 < most = below t some.0 (subst IsSome (sym some.1) refl) in
+      subst (λ xs. Contains xs p) (sym is) (among_back (lies_at m t) (range_with_len 0 most) some.0 p (in_range 0 most some.0 (omega arith) (omega (arith, few))) some.1)),
 )

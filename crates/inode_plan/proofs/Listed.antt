@@ -1,11 +1,13 @@
 -- The blocks that list the runs of a changed file.
-use Rattle.std.proofs.Common.{◌≡◌, ◌≢◌, ◌<◌, ◌⊎◌, ◌∙◌, ℕ, List, length, get_or, true, Option, Some, None, arith, inl, inr, sym, ap, subst, refl}
+use Rattle.std.proofs.Common.{◌≡◌, ◌≢◌, ◌≤◌, ◌<◌, ◌⊎◌, ◌∙◌, ℕ, List, length, get_or, true, Option, Some, None, arith, inl, inr, sym, ap, subst, refl}
 use Rattle.std.specs.Prelude.{◌==◌, nat_le, nat_lt, IfSome}
 use Rattle.std.specs.List.{Contains}
 use Rattle.std.proofs.lemmas.Bool.{cases_Bool, cases_lt, and_parts, cond-true, cond-false, eqb-false, leb-true}
 use Rattle.std.proofs.lemmas.List.Elements.{Contains-get_or}
 use Rattle.tier_device.specs.declared.media.Tier.{Tier}
 use Rattle.tier_device.specs.declared.media.Tier.TheVariants as tiers
+use Rattle.area_commit.specs.layout.declared.extents.TheConstants.{MAX_EXTENTS}
+use Rattle.area_commit.specs.layout.declared.places.TheConstants.{FILE_BLOCKS}
 use Rattle.area_commit.specs.layout.Extents.{ExtentList, extents_spelling}
 use Rattle.area_commit.specs.layout.Places.{Sizes, is_node, node_end}
 use Rattle.area_commit.specs.layout.declared.slot.Slot.{Slot}
@@ -33,6 +35,11 @@ listed_one fast i root old spare runs m t (Some v) same list is node image = inr
   ],
   image ∙ ap extents_spelling list.1 ∙ ap (λ (rs : List Extent). extents_spelling (list_of i rs)) (sym same),
 )
+
+-- the runs of a file's blocks are few enough for one block
+pub few_lists : (i : ℕ) (m : TierRuns) (t : Tier) (o : Option ExtentList) → IsListOf i m t o → length (runs_in m t) ≤ FILE_BLOCKS → IfSome o (λ v. length v.extents ≤ MAX_EXTENTS)
+few_lists i m t None is few = tt
+few_lists i m t (Some v) is few = omega (arith, few, ap (λ (w : ExtentList). length w.extents) is.1)
 
 -- a tier's spare block is one of them
 pub inside : (slot : Slot) (x : InodeExtents) (t : Tier) (count : ℕ) → count ≡ roots_wanted slot x → missing_roots (root_of slot t) (in_tier x t) ≡ 1 → wanted_before slot x t < count

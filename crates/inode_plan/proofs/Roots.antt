@@ -2,6 +2,7 @@
 use Rattle.std.proofs.Common.{◌≡◌, ◌≢◌, ◌≤◌, ◌<◌, ◌+◌, inl, inr, ℕ, List, length, get_or, Bool, true, false, Option, Some, None, sym, ap, ◌∙◌, refl, subst, arith}
 use Rattle.std.specs.Prelude.{◌==◌, ◌||◌, not, nat_lt, ◌^◌, IfSome}
 use Rattle.std.proofs.lemmas.Bool.{cases_Bool, and_parts, and_from, cond-true, cond-false, eqb-true, eqb-false, leb-true, le-leb, lt-ltb, false≢true}
+use Rattle.posix_calls.specs.declared.limits.TheConstants.{MAX_NAMES, MAX_FILE}
 use Rattle.tier_device.specs.declared.media.Tier.TheVariants as tiers
 use Rattle.area_commit.specs.graph_change.Bounds.{IsBounded}
 use Rattle.area_commit.specs.graph_change.Bytes.{Length, Grown, Cut, length_after, end}
@@ -108,7 +109,7 @@ old_roots g (slots.Directory names entries touch root) was =
     record { fast = r.1; block = refl; slow = refl; fast_block = from_none root; fast_slow = from_none root; block_slow = refl }
 
 -- what a change starts from keeps the limits
-started_few : (g : Sizes) (slot : Slot) (base : Base) (blocks : LogicalBlocks) → fits_slot g slot ≡ true → ((start_node base (inode_of slot blocks)).names ≤ 1000) × ((start_node base (inode_of slot blocks)).size ≤ 1048576)
+started_few : (g : Sizes) (slot : Slot) (base : Base) (blocks : LogicalBlocks) → fits_slot g slot ≡ true → ((start_node base (inode_of slot blocks)).names ≤ MAX_NAMES) × ((start_node base (inode_of slot blocks)).size ≤ MAX_FILE)
 started_few g slots.Free Kept blocks was = (omega arith, omega arith)
 started_few g (slots.File names size touch fast block slow) Kept blocks was =
     let t = and_parts (nat_lt touch (2 ^ 64)) _ was in
@@ -128,11 +129,11 @@ started_few g (slots.Directory names entries touch root) Kept blocks was =
 started_few g slot (Made kind) blocks was = (omega arith, omega arith)
 started_few g slot Gone blocks was = (omega arith, omega arith)
 
-few_names : (names : Option ℕ) (old : ℕ) → IfSome names (λ n. n ≤ 1000) → old ≤ 1000 → names_after names old ≤ 1000
+few_names : (names : Option ℕ) (old : ℕ) → IfSome names (λ n. n ≤ MAX_NAMES) → old ≤ MAX_NAMES → names_after names old ≤ MAX_NAMES
 few_names None old some few = few
 few_names (Some n) old some few = some
 
-few_bytes : (len : Length) (old : ℕ) → end len ≤ 1048576 → old ≤ 1048576 → length_after len old ≤ 1048576
+few_bytes : (len : Length) (old : ℕ) → end len ≤ MAX_FILE → old ≤ MAX_FILE → length_after len old ≤ MAX_FILE
 few_bytes (Grown to) old few was = omega (arith, few, was)
 few_bytes (Cut least to) old few was = few
 
@@ -178,7 +179,7 @@ module _ (g : Sizes) (slot : Slot) (x : InodeExtents) (spare : List ℕ) (many :
   }
 
 -- numbers within the limits and such roots are a slot
-pub file_fits : (g : Sizes) (names size touch fast block slow : ℕ) → names ≤ 1000 → size ≤ 1048576 → touch < 2 ^ 64 → AreRoots g fast block slow → fits_slot g (slots.File names size touch fast block slow) ≡ true
+pub file_fits : (g : Sizes) (names size touch fast block slow : ℕ) → names ≤ MAX_NAMES → size ≤ MAX_FILE → touch < 2 ^ 64 → AreRoots g fast block slow → fits_slot g (slots.File names size touch fast block slow) ≡ true
 file_fits g names size touch fast block slow few_n few_s few_t r =
     and_from _ _ (lt-ltb touch (2 ^ 64) few_t) (and_from _ _ (and_from _ _ (and_from _ _ (and_from _ _ (and_from _ _ (and_from _ _ (and_from _ _ (le-leb names _ few_n) (le-leb size _ few_s)) r.fast) r.block) r.slow) r.fast_block) r.fast_slow) r.block_slow)
 

@@ -3,6 +3,7 @@ use Rattle.std.proofs.Common.{◌≡◌, ◌<◌, ◌≤◌, ◌+◌, ◌*◌, �
 use Rattle.std.proofs.lemmas.Bool.{false≢true}
 use Rattle.std.proofs.lemmas.List.{get_or-map, length-map}
 use Rattle.std.proofs.lemmas.Option.{none-some}
+use Rattle.posix_calls.specs.declared.limits.TheConstants.{MAX_FILE}
 use Rattle.tier_device.specs.declared.media.Tier.{Tier}
 use Rattle.tier_device.specs.declared.media.Tier.TheVariants.{Fast}
 use Rattle.area_commit.specs.file_graph.declared.effect.Kind.TheVariants as kind
@@ -89,7 +90,7 @@ file_blocks g s i is = kept_blocks (slot g s i) (logical_block g s i) is
 -- ---- the slot and the runs
 
 pub file_is_fit : (g : Sizes) (c : Change) (names size : ℕ) (x : Slot) (numbers : List ℕ) (places : List Place) (old new : TierRuns)
-    → fits_slot g x ≡ true → IsFileSlot names (length_after c.length size) x → IsTidyChange c → end c.length ≤ 1048576 → AreNumbers (lies_at old) c numbers → IsMapAfter c numbers places old new → ((t : Tier) → IsNormal (runs_in new t))
+    → fits_slot g x ≡ true → IsFileSlot names (length_after c.length size) x → IsTidyChange c → end c.length ≤ MAX_FILE → AreNumbers (lies_at old) c numbers → IsMapAfter c numbers places old new → ((t : Tier) → IsNormal (runs_in new t))
     → AreFresh places (length numbers) old → AreData g places (length numbers) → LieOnce old → LieBelow ((size + 4095) / 4096) old → ((t : Tier) → IsOneToOne (runs_in old t)) → ((t : Tier) → LiesWithin g (space.Data t) (runs_in old t)) → IsFit g x new
 file_is_fit g c names size x numbers places old new fits is tidy few are after normal fresh are_data once below apart within =
     subst (λ (z : Slot). IsFit g z new) (sym is) (record {

@@ -4,6 +4,7 @@ use Rattle.std.specs.Prelude.{◌==◌, ◌||◌, ◌&&◌, ◌^◌, not, nat_le
 use Rattle.std.specs.List.{Contains}
 use Rattle.std.proofs.lemmas.Bool.{true≢false, cases_Bool, and_parts, or_parts, or_from, eqb-true, eqb-false, cond-false}
 use Rattle.std.proofs.lemmas.List.Elements.{Contains-append_left, Contains-append_right, Contains-append_cases}
+use Rattle.posix_calls.specs.declared.limits.TheConstants.{MAX_NAMES, MAX_FILE}
 use Rattle.tier_device.specs.declared.media.Tier.{Tier}
 use Rattle.tier_device.specs.declared.media.Tier.TheVariants as tiers
 use Rattle.area_commit.specs.layout.declared.slot.Slot.{Slot}
@@ -42,10 +43,10 @@ roots_differ g (slots.Directory names entries touch root) tiers.Fast tiers.Slow 
 roots_differ g (slots.Directory names entries touch root) tiers.Block u fits some same = absurd (some refl)
 roots_differ g (slots.Directory names entries touch root) tiers.Slow u fits some same = absurd (some refl)
 roots_differ g (slots.File names size touch fast block slow) t u fits some same =
-    let inner = and_parts (nat_lt touch (2 ^ 64)) (nat_le names 1000 && nat_le size 1048576 && is_root_block g fast && is_root_block g block && is_root_block g slow && roots_apart fast block && roots_apart fast slow && roots_apart block slow) fits in
-    let bs = and_parts (nat_le names 1000 && nat_le size 1048576 && is_root_block g fast && is_root_block g block && is_root_block g slow && roots_apart fast block && roots_apart fast slow) (roots_apart block slow) inner.1 in
-    let fs = and_parts (nat_le names 1000 && nat_le size 1048576 && is_root_block g fast && is_root_block g block && is_root_block g slow && roots_apart fast block) (roots_apart fast slow) bs.0 in
-    let fb = and_parts (nat_le names 1000 && nat_le size 1048576 && is_root_block g fast && is_root_block g block && is_root_block g slow) (roots_apart fast block) fs.0 in
+    let inner = and_parts (nat_lt touch (2 ^ 64)) (nat_le names MAX_NAMES && nat_le size MAX_FILE && is_root_block g fast && is_root_block g block && is_root_block g slow && roots_apart fast block && roots_apart fast slow && roots_apart block slow) fits in
+    let bs = and_parts (nat_le names MAX_NAMES && nat_le size MAX_FILE && is_root_block g fast && is_root_block g block && is_root_block g slow && roots_apart fast block && roots_apart fast slow) (roots_apart block slow) inner.1 in
+    let fs = and_parts (nat_le names MAX_NAMES && nat_le size MAX_FILE && is_root_block g fast && is_root_block g block && is_root_block g slow && roots_apart fast block) (roots_apart fast slow) bs.0 in
+    let fb = and_parts (nat_le names MAX_NAMES && nat_le size MAX_FILE && is_root_block g fast && is_root_block g block && is_root_block g slow) (roots_apart fast block) fs.0 in
     file_differ names size touch fast block slow fb.1 fs.1 bs.1 t u some same
 
 -- ---- one tier

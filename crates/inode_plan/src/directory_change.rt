@@ -1,11 +1,11 @@
 // A directory that is changed in memory.
-ghost use Rattle.std.specs.Prelude.{◌≡◌, ◌≤◌, ◌<◌, ◌+◌, ◌*◌, length, IfOk, OnErr};
+ghost use Rattle.std.specs.Prelude.{◌≡◌, ◌≤◌, ◌<◌, ◌+◌, length, IfOk, OnErr};
 ghost use Rattle.std.specs.FinMap as fin;
 ghost use Rattle.posix_calls.specs.declared.limits.TheConstants.{MAX_ENTRIES};
 ghost use Rattle.area_commit.specs.graph_change.Net.{entries_after};
 ghost use Rattle.area_commit.specs.graph_change.View.{change_of};
 ghost use Rattle.area_commit.specs.tree_blocks.Inode.{named_entries, blocks_for};
-ghost use Rattle.area_commit.specs.tree_blocks.Directory.{LeadToInodes, coming_count, numbered_entries};
+ghost use Rattle.area_commit.specs.tree_blocks.Directory.{LeadToInodes, coming_count, most_written, numbered_entries};
 ghost use Rattle.inode_plan.specs.DirectoryStart.{IsChanged};
 ghost use Rattle.inode_plan.specs.Spare.{spares_for};
 
@@ -35,7 +35,7 @@ pub fn change_directory(
     requires entries { LeadToInodes (fin.entries change.now.entries) }
     requires few { fin.len (entries_after change.now.entries (named_entries (numbered_entries start.entries) start.entries.count)) ≤ MAX_ENTRIES }
     ensures changed { IfOk result (IsChanged (change_of change.now) start) }
-    ensures few { IfOk result (λ x. length x.written ≤ 2 * fin.len change.now.entries) }
+    ensures few { IfOk result (λ x. length x.written ≤ most_written (fin.entries change.now.entries)) }
     ensures memory { OnErr result (blocks_for start.entries.count < blocks_for (start.entries.count + coming_count (fin.entries change.now.entries))) }
 {
     let mut entries = start.entries;
