@@ -5,6 +5,7 @@ use Rattle.std.proofs.lemmas.Bool.{false≢true}
 use Rattle.tier_device.specs.declared.media.Tier.{Tier}
 use Rattle.inode_plan.specs.graph_change.Net.{Base}
 use Rattle.inode_plan.specs.layout.Places.{Sizes, tier_blocks}
+use Rattle.inode_plan.specs.layout.declared.places.TheConstants.{FILE_BLOCKS}
 use Rattle.block_alloc.specs.Value.{FreeBlocks}
 use Rattle.inode_plan.proofs.area_commit_lemmas.Members.{nothing}
 use Rattle.inode_plan.specs.extent_tree.Map.{TierRuns, lies_at, LieBelow}
@@ -18,11 +19,11 @@ abbrev pub whole_tier : Sizes → Tier → FreeBlocks
 whole_tier g t = record { first = 0; end = tier_blocks g t; free = []; room = 0 }
 
 module _ (g : Sizes) (s : Store) (base : Base) (i : ℕ) (m : TierRuns) (was : IsOldMap g s base i m) where
-  few_by : (t : Tier) (k : ℕ) (o : Option ℕ) → lies_at m t k ≡ o → IsSome o → k < 256
+  few_by : (t : Tier) (k : ℕ) (o : Option ℕ) → lies_at m t k ≡ o → IsSome o → k < FILE_BLOCKS
   few_by t k None is some = absurd (false≢true some)
   few_by t k (Some b) is some = (was.within t k b is).0
 
-  pub all_below : LieBelow 256 m
+  pub all_below : LieBelow FILE_BLOCKS m
   all_below t k some = few_by t k (lies_at m t k) refl some
 
   pub in_use : (t : Tier) (k b : ℕ) → lies_at m t k ≡ Some b → IsInUse (whole_tier g t) b

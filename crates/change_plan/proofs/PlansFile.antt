@@ -1,9 +1,7 @@
 -- What the steps of the plan of a file want of one another.
-use Rattle.std.proofs.Common.{◌≡◌, ◌≤◌, ◌<◌, ◌∙◌, ℕ, List, length, take, Option, Some, None, refl, sym, ap, subst, arith, true}
+use Rattle.std.proofs.Common.{◌≡◌, ◌≤◌, ◌<◌, ◌∙◌, ℕ, List, length, take, Some, refl, sym, ap, subst, arith, true}
 use Rattle.std.specs.Global.{Vec}
-use Rattle.std.specs.Prelude.{IfSome}
 use Rattle.std.proofs.lemmas.List.{get_or-take, length-take-le}
-use Rattle.tier_device.specs.declared.media.Tier.{Tier}
 use Rattle.tier_device.specs.declared.media.Tier.TheVariants as tiers
 use Rattle.inode_plan.specs.file_graph.declared.effect.Kind.{Kind}
 use Rattle.inode_plan.specs.file_graph.declared.effect.Kind.TheVariants as kind
@@ -11,9 +9,8 @@ use Rattle.inode_plan.specs.graph_change.Change.{Change}
 use Rattle.inode_plan.specs.graph_change.Net.{Base, Made}
 use Rattle.inode_plan.specs.layout.declared.slot.Slot.{Slot}
 use Rattle.inode_plan.specs.layout.declared.slot.Slot.TheVariants as slots
-use Rattle.inode_plan.specs.layout.Extents.{ExtentList}
 use Rattle.inode_plan.specs.layout.Places.{Sizes, is_data}
-use Rattle.inode_plan.specs.extent_tree.Map.{TierRuns, runs_in, lies_at}
+use Rattle.inode_plan.specs.extent_tree.Map.{lies_at}
 use Rattle.inode_plan.specs.extent_tree.declared.map.Place.{Place}
 use Rattle.inode_plan.specs.tree_blocks.After.{start_node}
 use Rattle.inode_plan.specs.tree_blocks.Inode.{LogicalBlocks, Inode, inode_of}
@@ -21,7 +18,6 @@ use Rattle.inode_plan.specs.area_reader.Reads.{Free}
 use Rattle.inode_plan.specs.area_reader.Store.{Store, slot_read, logical_block, inode}
 use Rattle.inode_plan.proofs.area_reader_lemmas.Parts.{slot_as}
 use Rattle.inode_plan.specs.area_commit.InodeChange.{places_from}
-use Rattle.inode_plan.specs.Lists.{IsListOf}
 use Rattle.inode_plan.specs.BlockWrites.{AreNumbers}
 use Rattle.inode_plan.specs.PlacedFile.{nth_place}
 use Rattle.inode_plan.proofs.After.{numbers_as}
@@ -76,7 +72,3 @@ first_free g s places n few free = record {
 -- the two counts of a vector's elements
 pub long : (v : Vec ℕ) → v.len ≡ length v.items
 long v = v.ok.0
-
-pub few_lists : (i : ℕ) (m : TierRuns) (t : Tier) (o : Option ExtentList) → IsListOf i m t o → length (runs_in m t) ≤ 256 → IfSome o (λ v. length v.extents ≤ 340)
-few_lists i m t None is few = tt
-few_lists i m t (Some v) is few = omega (arith, few, ap (λ (w : ExtentList). length w.extents) is.1)

@@ -10,7 +10,9 @@ use Rattle.inode_plan.specs.graph_change.Change.{Change, Changes, writes_block}
 use Rattle.inode_plan.specs.graph_change.Tidy.{IsTidyChange, AreTidyChanges}
 use Rattle.tier_device.specs.declared.media.Tier.{Tier}
 use Rattle.tier_device.specs.declared.media.Tier.TheVariants as tiers
+use Rattle.posix_calls.specs.declared.limits.TheConstants.{MAX_FILE, MAX_INODE}
 use Rattle.inode_plan.specs.layout.Places.{Sizes, is_inode}
+use Rattle.inode_plan.specs.layout.declared.places.TheConstants.{FILE_BLOCKS}
 use Rattle.inode_plan.specs.area_reader.Store.{Store}
 use Rattle.inode_plan.specs.area_commit.InodeChange.{is_mapped, places_from, writes_over}
 use Rattle.inode_plan.proofs.area_commit_lemmas.Holes.{mapped_at, over_written}
@@ -43,27 +45,31 @@ wants_same g s c i m n (inl one) (inr two) = absurd (two.0 one.0)
 wants_same g s c i m n (inr one) (inl two) = absurd (one.0 two.0)
 wants_same g s c i m n (inr one) (inr two) = omega (arith, one.1, two.1)
 
-pub wants_few : (g : Sizes) (s : Store) (c : Change) (i n : ℕ) → IsTidyChange c → IsBounded c → WantsData g s c i n → n ≤ 256
+pub wants_few : (g : Sizes) (s : Store) (c : Change) (i n : ℕ) → IsTidyChange c → IsBounded c → WantsData g s c i n → n ≤ FILE_BLOCKS
 wants_few g s c i n tidy bounded (inl is) =
-    let inside : (k : ℕ) → Contains is.1 k → k < 256 =
-    λ k at. (let before : 4096 * k < end c.length = tidy.blocks k (over_written (places_from g s i c.base) k c ((is.2.each k).0 at)) in let low : end c.length ≤ 1048576 = bounded.length in omega (arith, before, low)) in
-    let few = climb_few 0 is.1 256 (climb_rising 0 is.2.rising.0 is.1 is.2.rising.1) (omega arith) inside in
+    let inside : (k : ℕ) → Contains is.1 k → k < FILE_BLOCKS =
+    λ k at. (let before : 4096 * k < end c.length = tidy.blocks k (over_written (places_from g s i c.base) k c ((is.2.each k).0 at)) in let low : end c.length ≤ MAX_FILE = bounded.length in omega (arith, before, low)) in
+    let few = climb_few 0 is.1 FILE_BLOCKS (climb_rising 0 is.2.rising.0 is.1 is.2.rising.1) (omega arith) inside in
     omega (arith, few, is.3)
 wants_few g s c i n tidy bounded (inr is) = omega (arith, is.1)
 
 -- ---- of all, one after the other
 
+-- the blocks of as many greatest files as there are inodes, and of one more
+abbrev pub most_wanted : ℕ
+most_wanted = FILE_BLOCKS * (MAX_INODE + 1)
+
 -- So many are counted of the first inodes: with those that the rest want they are what the change wants.
 pub record Counted (g : Sizes) (s : Store) (cs : Changes) (count : ℕ) (rest : List (ℕ × Change)) : Type 0 where
   pub wants : (more : ℕ) → WantInTurn g s rest more → WantsBlocks g s cs (count + more)
   pub inside : (e : ℕ × Change) → Contains rest e → Contains (fin.entries cs) e
-  pub few : count + 256 * length rest ≤ 262400
+  pub few : count + FILE_BLOCKS * length rest ≤ most_wanted
 
--- an inode's number is no greater than 1,024, so that there are no more inodes
-pub entries_few : (cs : Changes) → ((i : ℕ) → fin.contains_key cs i ≡ true → i < 1025) → length (fin.entries cs) ≤ 1025
+-- no inode's number is greater than the highest, so that there are no more inodes
+pub entries_few : (cs : Changes) → ((i : ℕ) → fin.contains_key cs i ≡ true → i < MAX_INODE + 1) → length (fin.entries cs) ≤ MAX_INODE + 1
 entries_few cs low =
     let many = length-map (fin.entries cs) (λ (e : ℕ × Change). e.0) in
-    let few = climb_few 0 (fin.keys cs) 1025 (keys_climb cs) (omega arith) (λ k at. low k (key_has cs k at)) in
+    let few = climb_few 0 (fin.keys cs) (MAX_INODE + 1) (keys_climb cs) (omega arith) (λ k at. low k (key_has cs k at)) in
     omega (arith, many, few)
 
 module _ (g : Sizes) (s : Store) (cs : Changes) (bounded : AreBounded cs) where
@@ -93,7 +99,7 @@ all_counted g s cs count counted = let sum : count + 0 ≡ count = omega arith i
 -- ---- of all at once
 
 module _ (g : Sizes) (s : Store) (cs : Changes) (bounded : AreBounded cs) (tidy : AreTidyChanges cs) where
-  in_turn_few : (es : List (ℕ × Change)) (count : ℕ) → ((e : ℕ × Change) → Contains es e → Contains (fin.entries cs) e) → WantInTurn g s es count → count ≤ 256 * length es
+  in_turn_few : (es : List (ℕ × Change)) (count : ℕ) → ((e : ℕ × Change) → Contains es e → Contains (fin.entries cs) e) → WantInTurn g s es count → count ≤ FILE_BLOCKS * length es
   in_turn_few [] count inside none = omega (arith, none)
   in_turn_few (e ∷ es) count inside wants =
       let here = change_here cs e (inside e (cons_here e es e refl)) in
@@ -102,7 +108,7 @@ module _ (g : Sizes) (s : Store) (cs : Changes) (bounded : AreBounded cs) (tidy 
       let sum = wants.4 in
       omega (arith, small, rest, sum)
 
-  pub blocks_few : (count : ℕ) → WantsBlocks g s cs count → count ≤ 262400
+  pub blocks_few : (count : ℕ) → WantsBlocks g s cs count → count ≤ most_wanted
   blocks_few count wants =
       let few = in_turn_few (fin.entries cs) count (λ e at. at) wants in
       let inodes = entries_few cs (λ i has. (let high = (inode_range i (bounded.inodes i has)).1 in omega (arith, high))) in

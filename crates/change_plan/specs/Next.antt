@@ -1,5 +1,5 @@
 -- One inode of a change: what it needs before it is planned, and what stands once it is.
-use Rattle.std.specs.Prelude.{◌≡◌, ◌≤◌, ◌+◌, ◌*◌, ◌⊎◌, ℕ, List, length, true, Option, Some, None}
+use Rattle.std.specs.Prelude.{◌≡◌, ◌≤◌, ◌+◌, ◌⊎◌, ℕ, List, length, true, Option, Some, None}
 use Rattle.std.specs.FinMap as fin
 use Rattle.posix_calls.specs.declared.limits.TheConstants.{MAX_ENTRIES}
 use Rattle.inode_plan.specs.file_graph.declared.effect.Kind.{Kind}
@@ -14,6 +14,7 @@ use Rattle.inode_plan.specs.layout.Places.{Sizes, IsAllowed, is_inode}
 use Rattle.inode_plan.specs.layout.Slot.{fits_slot}
 use Rattle.inode_plan.specs.extent_tree.declared.map.Place.{Place}
 use Rattle.inode_plan.specs.tree_blocks.After.{start_node}
+use Rattle.inode_plan.specs.tree_blocks.Directory.{most_written}
 use Rattle.inode_plan.specs.area_reader.Store.{Store, slot_read, inode, graph}
 use Rattle.inode_plan.specs.area_reader.Format.{IsSpelled}
 use Rattle.inode_plan.specs.area_commit.InodeChange.{places_from}
@@ -26,17 +27,17 @@ use Rattle.change_plan.specs.Directory.{AreOfOthers}
 use Rattle.change_plan.specs.File.{AreFreePlaces}
 use Rattle.change_plan.specs.declared.partial_plan.PartialPlan.{PartialPlan}
 
--- how many blocks of the node pool, and how many images, the change of one inode takes at most: three that list the extents of a file; of a directory two for each entry that changes,
--- and one that lists its blocks
+-- how many blocks of the node pool, and how many images, the change of one inode takes at most: three that list the extents of a file; of a directory those that the names which change
+-- may write, and one that lists its blocks
 abbrev pub nodes_for : Change → ℕ
-nodes_for c = 3 + 2 * fin.len c.entries
+nodes_for c = 3 + most_written (fin.entries c.entries)
 
--- how many images it takes at most by what the change leaves there: none where that is nothing, three that list the extents of a file, and of a directory two for each entry that changes,
--- and one that lists its blocks
+-- how many images it takes at most by what the change leaves there: none where that is nothing, three that list the extents of a file, and of a directory those that the names which
+-- change may write, and one that lists its blocks
 abbrev pub nodes_left : Option Kind → Change → ℕ
 nodes_left None c = 0
 nodes_left (Some kind.File) c = 3
-nodes_left (Some kind.Directory) c = 1 + 2 * fin.len c.entries
+nodes_left (Some kind.Directory) c = 1 + most_written (fin.entries c.entries)
 
 -- What stands there is no directory with more entries than one may have.
 abbrev pub HasFewEntries : Option Node → Type 0

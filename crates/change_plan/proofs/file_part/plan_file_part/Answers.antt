@@ -1,7 +1,8 @@
-use Rattle.std.proofs.Common.{◌≡◌, ◌+◌, ◌*◌, ◌∙◌, inl, ℕ, length, Option, refl, sym, ap, subst, arith}
+use Rattle.std.proofs.Common.{◌≡◌, ◌+◌, ◌∙◌, inl, ℕ, length, Option, refl, sym, ap, subst, arith}
 use Rattle.std.specs.FinMap as fin
 use Rattle.inode_plan.specs.file_graph.declared.effect.Kind.{Kind}
 use Rattle.inode_plan.specs.graph_change.View.{change_of}
+use Rattle.inode_plan.specs.tree_blocks.Directory.{most_written}
 use Rattle.inode_plan.specs.area_reader.Store.{Store, disk}
 use Rattle.inode_plan.proofs.area_reader_lemmas.Looked.{carried, carried_back}
 use Rattle.change_plan.specs.PlanAddition.{AddsPart}
@@ -66,7 +67,7 @@ returns-clause-planned g c =
     let part = carried_back m (λ h t. AddsPart h t change it.touch it.inode c.args.places.now (length w.numbers.items) was.taken now.taken was now) old new _ looks
     (c.in_ok-plan_written.ensures.part c.args.places.now (carried m (λ h t. IsWrittenFile h t change it.inode c.args.places.now w) old new _ looks ready)) in
     let count : c.len-count.result ≡ length w.numbers.items = c.len-count.ensures ∙ long w.numbers in
-    let most : nodes_for change ≡ 3 + 2 * fin.len change.entries = refl in
+    let most : nodes_for change ≡ 3 + most_written (fin.entries change.entries) = refl in
     let images = c.in_ok-plan_written.ensures.images in
     let free = c.in_ok-plan_written.ensures.free in
     record {

@@ -4,6 +4,7 @@ use Rattle.inode_plan.specs.file_graph.declared.effect.Kind.TheVariants as kind
 use Rattle.inode_plan.specs.graph_change.View.{base_of, change_of}
 use Rattle.inode_plan.specs.layout.Places.{Sizes}
 use Rattle.inode_plan.specs.layout.Slot.{fits_slot}
+use Rattle.inode_plan.specs.layout.declared.places.TheConstants.{FILE_BLOCKS}
 use Rattle.block_alloc.specs.Runs.{blocks_of}
 use Rattle.inode_plan.specs.extent_tree.Map.{runs_in, lies_at}
 use Rattle.inode_plan.specs.extent_tree.declared.map.Place.{Place}
@@ -17,13 +18,13 @@ use Rattle.inode_plan.specs.area_commit.InodeChange.{places_from}
 use Rattle.inode_plan.specs.area_commit.declared.allocation.Allocation.{Allocation}
 use Rattle.inode_plan.specs.MapChange.{AreData}
 use Rattle.inode_plan.proofs.After.{numbers_as}
+use Rattle.inode_plan.proofs.Listed.{few_lists}
 use Rattle.inode_plan.specs.PlannedFile.{pair_of, pairs_of}
 use Rattle.inode_plan.specs.Roots.{roots_wanted}
 use Rattle.change_plan.specs.Part.{IsPart}
 use Rattle.change_plan.specs.FileSteps.{AddsFile}
 use Rattle.change_plan.specs.declared.partial_plan.PartialPlan.{PartialPlan}
 use Rattle.change_plan.proofs.NextFits.{nodes_end}
-use Rattle.change_plan.proofs.PlansFile.{few_lists}
 use Rattle.change_plan.proofs.TakingMore.{takes_still}
 use Rattle.change_plan.proofs.file_part.plan_written.Goals as goal
 
@@ -47,7 +48,7 @@ root_placed-requires-clause-short g c t =
     let change = change_of c.args.changed.now.change.now in
     let are = numbers_as (places_from old.geometry (disk g.M.Media old) c.args.changed.now.inode change.base) change numbers ready.numbers (lies_at placed.before) (λ u k. sym (placed.was.starts u k)) in
     let within = c.changed_map_is_fit.ensures.within old.geometry (change_of c.args.changed.now.change.now) numbers first placed.before plan.map are placed.map next.tidy next.bounded.length at placed.was.within t in
-    few_lists c.args.changed.now.inode plan.map t (in_tier plan.lists t) (placed.lists t) (c.few_blocks_are_few_runs.ensures.few 256 (runs_in plan.map t) (placed.normal t) (λ k p is. (within k p is).0))
+    few_lists c.args.changed.now.inode plan.map t (in_tier plan.lists t) (placed.lists t) (c.few_blocks_are_few_runs.ensures.few FILE_BLOCKS (runs_in plan.map t) (placed.normal t) (λ k p is. (within k p is).0))
 
 pub push_file-requires : goal.push_file-requires
 push_file-requires g c =

@@ -2,6 +2,7 @@ use Rattle.std.proofs.Common.{◌≡◌, ◌≤◌, inl, inr, ℕ, Some, sym, su
 use Rattle.std.specs.Prelude.{IsSome}
 use Rattle.std.proofs.lemmas.Bool.{cases_lt, false≢true}
 use Rattle.inode_plan.specs.layout.Places.{Sizes}
+use Rattle.inode_plan.specs.layout.declared.places.TheConstants.{FILE_BLOCKS}
 use Rattle.inode_plan.specs.layout.declared.slot.Slot.{Slot}
 use Rattle.inode_plan.specs.extent_tree.Map.{TierRuns, LieBelow}
 use Rattle.inode_plan.specs.area_reader.Store.{Store, disk, slot_read, length_of}
@@ -12,7 +13,7 @@ use Rattle.inode_plan.specs.Lists.{LieAsIn}
 use Rattle.change_plan.proofs.Giving.{gives_all}
 use Rattle.change_plan.proofs.inode_drop.all_blocks_of.Goals as goal
 
-map_below : (g : Sizes) (s : Store) (i : ℕ) (m : TierRuns) (x : Slot) → LieAsIn g s i m → slot_read g s i ≡ Some x → length_of x ≤ 256 → LieBelow 256 m
+map_below : (g : Sizes) (s : Store) (i : ℕ) (m : TierRuns) (x : Slot) → LieAsIn g s i m → slot_read g s i ≡ Some x → length_of x ≤ FILE_BLOCKS → LieBelow FILE_BLOCKS m
 map_below g s i m x places is few t k at = elim (cases_lt k (length_of x)) [
   | inl lt ↦ omega (arith, lt, few)
   | inr past ↦ absurd (false≢true (subst IsSome (place_past g s i t k (subst (λ (y : Slot). length_of y ≤ k) (sym (slot_as g s i x is)) past)) (subst IsSome (places t k) at)))
