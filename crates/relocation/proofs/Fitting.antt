@@ -8,6 +8,7 @@ use Rattle.tier_device.specs.declared.media.Tier.{Tier}
 use Rattle.tier_device.specs.declared.media.Tier.TheVariants as tiers
 use Rattle.inode_plan.specs.layout.declared.geometry.Space.{Space}
 use Rattle.inode_plan.specs.layout.declared.geometry.Space.TheVariants as space
+use Rattle.inode_plan.specs.layout.declared.places.TheConstants.{FILE_BLOCKS}
 use Rattle.inode_plan.specs.layout.declared.slot.Slot.{Slot}
 use Rattle.inode_plan.specs.layout.Places.{Sizes, is_node, node_end, data_first, tier_blocks, is_run}
 use Rattle.inode_plan.specs.layout.Slot.{fits_slot, is_root_block}
@@ -132,7 +133,7 @@ module _ (g : Sizes) (s : Store) (i : ℕ) (to : Tier) (f : MovableRun) (x : Slo
     | inr other ↦ elsewhere_within f.run.first to (blocks_of (runs_of plan.taken to)) f.map m p.made.placed g (space.Data t) t other (old_within t)
   ]
     where
-      few : f.run.first + length (blocks_of (runs_of plan.taken to)) ≤ 256
+      few : f.run.first + length (blocks_of (runs_of plan.taken to)) ≤ FILE_BLOCKS
       few = let a = (slot_limits g f.slot p.file.fits).few in let b = p.file.within_file.within in let c = p.took.many in omega (arith, a, b, c)
 
   pub is_fit : IsFit g x m

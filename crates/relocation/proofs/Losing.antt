@@ -23,6 +23,7 @@ use Rattle.inode_plan.specs.Lists.{root_left, roots_left}
 use Rattle.inode_plan.specs.RunPlaces.{is_faster}
 use Rattle.inode_plan.proofs.area_commit_lemmas.Given.{all_from, cons_here, nothing}
 use Rattle.inode_plan.proofs.Steps.{inside}
+use Rattle.inode_plan.proofs.Vacant.{roots_differ}
 use Rattle.inode_plan.proofs.area_commit_lemmas.GivenUp.{Once, once_rest, once_apart, beside, places_once, lies_there}
 use Rattle.inode_plan.proofs.PlacesFit.{tier_is, run_cases, gone, stays}
 use Rattle.inode_plan.specs.area_commit.InodeRewrite.{block_by}
@@ -30,7 +31,7 @@ use Rattle.inode_plan.specs.area_commit.declared.plan.Rewrite.{Rewrite}
 use Rattle.inode_plan.specs.area_commit.Plan.{Loses, IsLost, HoldLost, LieApart, is_changed, lost_in}
 use Rattle.relocation.specs.MovedFile.{IsMovePlan}
 use Rattle.relocation.proofs.Fitting.{one_block, node_within, slot_here, old_data, old_root_node}
-use Rattle.relocation.proofs.Using.{root_use, root_block, block_root, place_block, block_place, roots_differ, changed_is, changed_here, Root, is_kept, is_new, root_cases, root_some}
+use Rattle.relocation.proofs.Using.{root_use, root_block, block_root, place_block, block_place, changed_is, changed_here, Root, is_kept, is_new, root_cases, root_some}
 
 -- ---- runs that lie apart
 
@@ -120,7 +121,7 @@ left_once g old new fits =
     two_apart t u other k one two =
         let a = root_left_at (root_of old t) (root_of new t) k one in
         let b = root_left_at (root_of old u) (root_of new u) k two in
-        other (roots_differ g old fits t u a.0 (a.2 ∙ sym b.2))
+        other (roots_differ g old t u fits a.0 (a.2 ∙ sym b.2))
 
 -- ---- places of a run
 

@@ -1,9 +1,9 @@
 -- Which blocks a file has a use for once a run of it is moved.
 use Rattle.std.proofs.Common.{◌≡◌, ◌≢◌, ◌≤◌, ◌<◌, ◌⊎◌, ◌+◌, ◌-◌, ◌∙◌, inl, inr, ℕ, [], length, get_or, Option, Some, None, refl, sym, ap, subst, arith, true, false, eq-eqb}
-use Rattle.std.specs.Prelude.{IsSome, ◌==◌, ◌||◌, ◌&&◌, ◌^◌, nat_le, nat_lt, if◌then◌else◌, option_map}
+use Rattle.std.specs.Prelude.{IsSome, ◌==◌, ◌||◌, if◌then◌else◌, option_map}
 use Rattle.std.specs.List.{Contains}
 use Rattle.std.proofs.lemmas.List.Elements.{Contains-get_or}
-use Rattle.std.proofs.lemmas.Bool.{false≢true, cases_Bool, and_parts, or_left, eqb-true, eqb-false, cond-true, cond-false}
+use Rattle.std.proofs.lemmas.Bool.{false≢true, cases_Bool, or_left, eqb-true, eqb-false, cond-true, cond-false}
 use Rattle.std.proofs.lemmas.Option.{none-some, same_Some}
 use Rattle.tier_device.specs.declared.media.Tier.{Tier}
 use Rattle.tier_device.specs.declared.media.Tier.TheVariants as tiers
@@ -11,7 +11,6 @@ use Rattle.inode_plan.specs.layout.declared.slot.Slot.{Slot}
 use Rattle.inode_plan.specs.layout.declared.slot.Slot.TheVariants as slots
 use Rattle.inode_plan.specs.layout.Extents.{ExtentList, extents_spelling}
 use Rattle.inode_plan.specs.layout.Places.{Sizes, is_node}
-use Rattle.inode_plan.specs.layout.Slot.{fits_slot, is_root_block, roots_apart}
 use Rattle.block_alloc.specs.Runs.{blocks_of}
 use Rattle.inode_plan.specs.batch_journal.Images.{image_for, or_else, with_images}
 use Rattle.inode_plan.specs.extent_tree.Map.{TierRuns, runs_in, lies_at}
@@ -23,7 +22,7 @@ use Rattle.relocation.specs.declared.run_search.MovableRun.{MovableRun}
 use Rattle.inode_plan.specs.Lists.{IsListOf, root_for}
 use Rattle.inode_plan.proofs.area_commit_lemmas.Given.{cons_here, nothing}
 use Rattle.inode_plan.proofs.PlacesFit.{tier_is, run_cases, there, gone, stays}
-use Rattle.inode_plan.proofs.ListRoots.{apart_parts}
+use Rattle.inode_plan.proofs.Vacant.{roots_differ}
 use Rattle.inode_plan.specs.area_commit.InodeRewrite.{IsListed, block_by}
 use Rattle.inode_plan.specs.area_commit.StoreRewrite.{HasBlockFor}
 use Rattle.inode_plan.specs.area_commit.BlockExchange.{BlockIsTaken}
@@ -76,34 +75,6 @@ some_value (Some v) some = (v, refl)
 
 use_same : (i : ℕ) (t u : Tier) (j k : Option ℕ) → t ≡ u → j ≡ k → use_at i t j ≡ use_at i u k
 use_same i t u j k tier logical = ap (λ (a : Tier). use_at i a j) tier ∙ ap (λ (a : Option ℕ). use_at i u a) logical
-
--- ---- roots of one slot
-
-file_differ : (names size touch fast block slow : ℕ) → roots_apart fast block ≡ true → roots_apart fast slow ≡ true → roots_apart block slow ≡ true → (t u : Tier) → root_of (slots.File names size touch fast block slow) t ≢ 0
-    → root_of (slots.File names size touch fast block slow) t ≡ root_of (slots.File names size touch fast block slow) u → t ≡ u
-file_differ names size touch fast block slow fb fs bs tiers.Fast tiers.Fast some same = refl
-file_differ names size touch fast block slow fb fs bs tiers.Fast tiers.Block some same = absurd (apart_parts fast block fb some same)
-file_differ names size touch fast block slow fb fs bs tiers.Fast tiers.Slow some same = absurd (apart_parts fast slow fs some same)
-file_differ names size touch fast block slow fb fs bs tiers.Block tiers.Fast some same = absurd (apart_parts fast block fb (λ none. some (same ∙ none)) (sym same))
-file_differ names size touch fast block slow fb fs bs tiers.Block tiers.Block some same = refl
-file_differ names size touch fast block slow fb fs bs tiers.Block tiers.Slow some same = absurd (apart_parts block slow bs some same)
-file_differ names size touch fast block slow fb fs bs tiers.Slow tiers.Fast some same = absurd (apart_parts fast slow fs (λ none. some (same ∙ none)) (sym same))
-file_differ names size touch fast block slow fb fs bs tiers.Slow tiers.Block some same = absurd (apart_parts block slow bs (λ none. some (same ∙ none)) (sym same))
-file_differ names size touch fast block slow fb fs bs tiers.Slow tiers.Slow some same = refl
-
-pub roots_differ : (g : Sizes) (x : Slot) → fits_slot g x ≡ true → (t u : Tier) → root_of x t ≢ 0 → root_of x t ≡ root_of x u → t ≡ u
-roots_differ g slots.Free fits t u some same = absurd (some refl)
-roots_differ g (slots.Directory names entries touch root) fits tiers.Fast tiers.Fast some same = refl
-roots_differ g (slots.Directory names entries touch root) fits tiers.Fast tiers.Block some same = absurd (some same)
-roots_differ g (slots.Directory names entries touch root) fits tiers.Fast tiers.Slow some same = absurd (some same)
-roots_differ g (slots.Directory names entries touch root) fits tiers.Block u some same = absurd (some refl)
-roots_differ g (slots.Directory names entries touch root) fits tiers.Slow u some same = absurd (some refl)
-roots_differ g (slots.File names size touch fast block slow) fits t u some same =
-    let inner = and_parts (nat_lt touch (2 ^ 64)) (nat_le names 1000 && nat_le size 1048576 && is_root_block g fast && is_root_block g block && is_root_block g slow && roots_apart fast block && roots_apart fast slow && roots_apart block slow) fits in
-    let bs = and_parts (nat_le names 1000 && nat_le size 1048576 && is_root_block g fast && is_root_block g block && is_root_block g slow && roots_apart fast block && roots_apart fast slow) (roots_apart block slow) inner.1 in
-    let fs = and_parts (nat_le names 1000 && nat_le size 1048576 && is_root_block g fast && is_root_block g block && is_root_block g slow && roots_apart fast block) (roots_apart fast slow) bs.0 in
-    let fb = and_parts (nat_le names 1000 && nat_le size 1048576 && is_root_block g fast && is_root_block g block && is_root_block g slow) (roots_apart fast block) fs.0 in
-    file_differ names size touch fast block slow fb.1 fs.1 bs.1 t u some same
 
 -- ---- a move
 
@@ -158,7 +129,7 @@ module _ (g : Sizes) (s : Store) (i : ℕ) (to : Tier) (f : MovableRun) (x : Slo
   root_some t some = list_of_root t some (in_tier p.made.lists t) refl
 
   differ : (t u : Tier) → IsSome (in_tier p.made.lists t) → IsSome (in_tier p.made.lists u) → root_of x t ≡ root_of x u → t ≡ u
-  differ t u here there same = roots_differ g x (limits g s i to f x m plan p) t u (some_root t here) same
+  differ t u here there same = roots_differ g x t u (limits g s i to f x m plan p) (some_root t here) same
 
   pub image_at : (t : Tier) (v : ExtentList) → in_tier p.made.lists t ≡ Some v → image_for (root_of x t) plan.nodes ≡ Some (extents_spelling v)
   image_at t v is = p.made.images.each differ t v is
@@ -235,7 +206,7 @@ module _ (g : Sizes) (s : Store) (i : ℕ) (to : Tier) (f : MovableRun) (x : Slo
   once_by t u None None b at_j at_k =
       let a = root_block (root_of x t) b at_j in
       let c = root_block (root_of x u) b at_k in
-      (roots_differ g x (limits g s i to f x m plan p) t u a.0 (ap (λ (d : Tier × ℕ). d.1) (a.1 ∙ sym c.1)), refl)
+      (roots_differ g x t u (limits g s i to f x m plan p) a.0 (ap (λ (d : Tier × ℕ). d.1) (a.1 ∙ sym c.1)), refl)
   once_by t u None (Some k) b at_j at_k = absurd (logical_root u t k b at_k at_j)
   once_by t u (Some j) None b at_j at_k = absurd (logical_root t u j b at_j at_k)
   once_by t u (Some j) (Some k) b at_j at_k =

@@ -2,6 +2,7 @@
 ghost use Rattle.std.specs.Prelude.{◌≡◌, ◌≤◌, ◌+◌, [], Some, length, IfOk};
 ghost use Rattle.inode_plan.specs.file_graph.declared.effect.Kind.TheVariants as kind;
 ghost use Rattle.inode_plan.specs.layout.declared.slot.Slot.{Slot};
+ghost use Rattle.inode_plan.specs.layout.declared.places.TheConstants.{FILE_BLOCKS};
 ghost use Rattle.block_alloc.specs.Runs.{blocks_of};
 ghost use Rattle.inode_plan.specs.extent_tree.Map.{LieBelow};
 ghost use Rattle.inode_plan.specs.tree_blocks.Inode.{inode_of};
@@ -57,8 +58,8 @@ pub fn moved_inode(
 ) -> Result<NewInode, AllocError>
     requires is_file { (inode_of file.old.slot (λ k. [])).kind ≡ Some kind.File }
     requires places { EndsFit (runs_of taken.now to) }
-    requires few { file.old.run.first + length (blocks_of (runs_of taken.now to)) ≤ 256 }
-    requires below { LieBelow 256 file.old.map }
+    requires few { file.old.run.first + length (blocks_of (runs_of taken.now to)) ≤ FILE_BLOCKS }
+    requires below { LieBelow FILE_BLOCKS file.old.map }
     ensures made { IfOk result (λ n. (x : Slot) × IsMade inode file.old to taken.now n.slots.items n.nodes n.left.items x file.new.map) }
     ensures same_slot { file.new.slot ≡ file.old.slot }
     ensures same_run { file.new.run ≡ file.old.run }

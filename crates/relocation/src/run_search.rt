@@ -4,6 +4,7 @@ ghost use Rattle.tier_device.specs.declared.media.Tier.{Tier};
 ghost use Rattle.tier_device.specs.declared.media.Tier.TheVariants as tiers;
 ghost use Rattle.inode_plan.specs.layout.Places.{is_inode};
 ghost use Rattle.inode_plan.specs.layout.Slot.{fits_slot};
+ghost use Rattle.inode_plan.specs.layout.declared.places.TheConstants.{FILE_BLOCKS};
 ghost use Rattle.inode_plan.specs.extent_tree.BlockFormat.{LiesWithin};
 ghost use Rattle.inode_plan.specs.extent_tree.Map.{runs_in};
 ghost use Rattle.inode_plan.specs.area_reader.Store.{disk, slot_read, length_of, space_of};
@@ -46,7 +47,7 @@ pub struct MovableRun {
 
 // The run, where it has a block or more, all of them blocks of a file.
 fn run_of(slot: &Slot, first: u64, count: u32) -> Option<Run>
-    requires { length_of slot.now ≤ 256 }
+    requires { length_of slot.now ≤ FILE_BLOCKS }
     ensures first { IfSome result (λ r. r.first ≡ first) }
     ensures count { IfSome result (λ r. r.count ≡ count) }
     ensures within { IfSome result (λ r. IsWithinFile slot.now first count) }
