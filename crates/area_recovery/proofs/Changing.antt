@@ -26,9 +26,9 @@ use Rattle.recovery_laws.proofs.digester_lemmas.Applied.{fit_images}
 use Rattle.recovery_laws.proofs.shared_area_lemmas.Writes.{written_each}
 use Rattle.recovery_laws.specs.area_reader.declared.error.AreaError.{AreaError}
 use Rattle.recovery_laws.specs.area_reader.declared.error.AreaError.TheVariants as area
-use Rattle.system_laws.specs.kernel_fs.Reclaim.{OpensReclaimedOrNot, ReclaimsOrStays, StaysOrReclaims}
-use Rattle.system_laws.specs.kernel_fs.declared.error.ReclaimError.{ReclaimError}
-use Rattle.system_laws.specs.kernel_fs.declared.error.ReclaimError.TheVariants as reclaim
+use Rattle.kernel_fs.specs.Reclaim.{OpensReclaimedOrNot, ReclaimsOrStays, StaysOrReclaims}
+use Rattle.kernel_fs.specs.declared.error.ReclaimError.{ReclaimError}
+use Rattle.kernel_fs.specs.declared.error.ReclaimError.TheVariants as reclaim
 use Rattle.log_survey.proofs.world_invariant_lemmas.Recoveries.{dropped_sound, dropped_state}
 use Rattle.posix_calls.specs.Tree.{State}
 use Rattle.graph_check.specs.file_graph.Graph.{Graph, Node, Body, FileBody, DirBody, set_node, is_among}

@@ -19,7 +19,7 @@ pub mod JoinedStays
 pub mod SettlementPhases
 pub mod RegionReads
 pub mod ReadContents
-pub mod JoinedWorlds
+pub mod JoinedContents
 pub mod FreshMarks
 pub mod ReadRegions
 pub mod SpelledRecords

@@ -1,4 +1,5 @@
 pub mod OpenedLists
+pub mod JoinedWorlds
 pub mod StoredTrees
 pub mod SurvivingCalls
 pub mod RecoveredWorlds

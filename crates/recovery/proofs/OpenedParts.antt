@@ -8,7 +8,7 @@ use Rattle.tier_device.specs.declared.media.Tier.TheVariants.{Fast}
 use Rattle.tier_device.specs.AfterStop.{AtRest}
 use Rattle.tier_device.specs.Media.{Rose}
 use Rattle.interleavings.specs.update_log.View.{HasSize, RegionView}
-use Rattle.interleavings.specs.system_laws.Contents.{CanRecover, regions_in}
+use Rattle.area_recovery.specs.recovery_laws.Contents.{CanRecover, regions_in}
 use Rattle.interleavings.specs.event_lists.Courses.{PARTS, part_of}
 use Rattle.interleavings.specs.layout.Places.{Sizes}
 use Rattle.posix_calls.specs.Operations.{is_client}
@@ -21,7 +21,7 @@ use Rattle.area_recovery.specs.Recovers.{AreThese}
 use Rattle.area_recovery.specs.RecoveryStops.{AreGivenBack, StaysStored}
 use Rattle.area_recovery.specs.Regions.{CanBeDenied, HaveRisen, IsGivenBack, IsReopened, IsUntouched, REGIONS, Rests, media_of}
 use Rattle.area_recovery.specs.Settlement.{AreOpenRegions}
-use Rattle.area_recovery.proofs.JoinedWorlds.{all_by_place}
+use Rattle.area_recovery.proofs.JoinedContents.{all_by_place}
 use Rattle.area_recovery.proofs.ReadContents.{reopened_idle, reopened_sizes}
 use Rattle.area_recovery.proofs.RecoveredParts.{stays_for, untouched_rests, untouched_same}
 use Rattle.area_recovery.proofs.RisenFaults.{regions_rose, shared_rose}

@@ -5,7 +5,7 @@ use Rattle.interleavings.specs.batch_journal.Volume.{IsVolume}
 use Rattle.interleavings.specs.area_reader.Format.{IsOpenable}
 use Rattle.interleavings.specs.area_reader.Store.{graph, marks, store_of}
 use Rattle.interleavings.specs.layout.declared.marks.Marks.{Marks}
-use Rattle.interleavings.specs.system_laws.Contents.{log_in, mark_by, regions_in, stored_graph, stored_state}
+use Rattle.area_recovery.specs.recovery_laws.Contents.{log_in, mark_by, regions_in, stored_graph, stored_state}
 use Rattle.interleavings.specs.event_lists.Courses.{WorldContent}
 use Rattle.interleavings.specs.call_effects.ClosedGraph.{nobody, settled_graph}
 use Rattle.interleavings.specs.call_effects.Wholes.{IsSound, state_of}

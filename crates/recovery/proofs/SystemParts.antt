@@ -12,7 +12,8 @@ use Rattle.tier_device.specs.Media.{Rose}
 use Rattle.interleavings.specs.update_log.View.{RegionView}
 use Rattle.interleavings.specs.system_laws.Parts.{medium_of, region_beside, region_medium, region_of}
 use Rattle.area_recovery.specs.Parts.{PartsView, part_medium}
-use Rattle.area_recovery.specs.PartMedia.{AreUntouched, SomeRose, regions_of_seats}
+use Rattle.area_recovery.specs.PartMedia.{AreUntouched, SomeRose}
+use Rattle.recovery.specs.SeatRegions.{regions_of_seats}
 use Rattle.area_recovery.specs.Regions.{HaveRisen, IsUntouched, media_of}
 
 odd_is : (r : ℕ) → r < 2 → (r == 1) ≡ not (r == 0)

@@ -11,7 +11,7 @@ ghost use Rattle.posix_calls.specs.EmptyTree.{empty_state};
 ghost use Rattle.area_recovery.specs.declared.error.RecoveryError.TheVariants.{DeviceFault};
 ghost use Rattle.area_recovery.specs.FaultOrMemory.{IsFaultOrMemory};
 ghost use Rattle.recovery.specs.FreshContents.{AreFreshRegions, AreLater, HaveSizes, HoldsContent, IsFormatError, IsSizeError, SizesAtRefusal, fresh_contents};
-ghost use Rattle.area_recovery.specs.RecoveryStops.{IsIdle};
+ghost use Rattle.recovery.specs.WorldRecovery.{IsIdle};
 ghost use Rattle.area_recovery.specs.Parts.{AreAtRest, part_medium};
 ghost use Rattle.area_recovery.specs.PartMedia.{SomeRose};
 ghost use Rattle.area_recovery.specs.Regions.{REGIONS};

@@ -4,7 +4,7 @@ ghost use Rattle.std.specs.Prelude.{◌≡◌, ◌≢◌, ◌≤◌, [], false, 
 ghost use Rattle.std.specs.Vec.{vec_capacity};
 ghost use Rattle.interleavings.specs.area_reader.Store.{disk};
 ghost use Rattle.interleavings.specs.batch_journal.Volume.{IsVolume};
-ghost use Rattle.interleavings.specs.system_laws.Contents.{CanRecover, log_in, stored_state};
+ghost use Rattle.area_recovery.specs.recovery_laws.Contents.{CanRecover, log_in, stored_state};
 ghost use Rattle.interleavings.specs.system_laws.KeptCalls.{no_calls};
 ghost use Rattle.interleavings.specs.system_laws.Parts.{medium_of};
 ghost use Rattle.interleavings.specs.system_laws.WorldTree.{world_tree};
@@ -14,7 +14,8 @@ ghost use Rattle.area_recovery.specs.Errors.{OnBadLog, OnDamage};
 ghost use Rattle.area_recovery.specs.FaultOrMemory.{IsFaultOrMemory};
 ghost use Rattle.area_recovery.specs.Parts.{AreAtRest, contents_of, part_medium};
 ghost use Rattle.area_recovery.specs.PartMedia.{SomeRose, media_beneath};
-ghost use Rattle.area_recovery.specs.RecoveryStops.{AreGivenBack, IsIdle, IsRecoveredWorld, StaysStored, StoresTree};
+ghost use Rattle.area_recovery.specs.RecoveryStops.{AreGivenBack, StaysStored, StoresTree};
+ghost use Rattle.recovery.specs.WorldRecovery.{IsIdle, IsRecoveredWorld};
 ghost use Rattle.area_recovery.specs.Refusals.{HaveRegionSizes, IsCause, IsStoredCause, StoresBadLog, StoresDamage};
 ghost use Rattle.area_recovery.specs.Regions.{REGIONS};
 ghost use Rattle.area_recovery.specs.Settlement.{AreOpenRegions};

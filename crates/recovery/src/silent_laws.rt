@@ -1,6 +1,6 @@
 // What regions store in which nothing counts.
 ghost use Rattle.std.specs.Prelude.{◌≡◌, ℕ, List, [], true};
-ghost use Rattle.interleavings.specs.system_laws.Contents.{log_in};
+ghost use Rattle.area_recovery.specs.recovery_laws.Contents.{log_in};
 ghost use Rattle.interleavings.specs.layout.Places.{Sizes};
 ghost use Rattle.posix_calls.specs.Operations.{is_client};
 ghost use Rattle.posix_calls.specs.Tree.{State};

@@ -1,5 +1,6 @@
 pub mod Inodes
 pub mod Fresh
+pub mod Contents
 -- Handed on to the crates above, which list only the highest of what they name.
 pub use Rattle.digester.specs.area_reader
 pub use Rattle.digester.specs.batch_journal

@@ -18,7 +18,7 @@ use Rattle.area_recovery.specs.declared.error.RecoveryError.TheVariants.{DeviceF
 use Rattle.recovery.specs.FreshContents.{AreLater, HoldsContent, IsLater, fresh_contents}
 use Rattle.area_recovery.specs.Parts.{PartsView, part_medium}
 use Rattle.area_recovery.specs.PartMedia.{AreUntouched, SomeRose, media_beneath}
-use Rattle.area_recovery.specs.RecoveryStops.{IsIdle}
+use Rattle.recovery.specs.WorldRecovery.{IsIdle}
 use Rattle.area_recovery.specs.Regions.{IsGivenBack}
 use Rattle.recovery.proofs.FreshMedia.{all_rest, all_sized, area_holds, area_ready, fresh_marks, geometry_is, graph_is, later_by_recovery, marks_are, no_damage_there, no_size_there, opens_not, regions_ready}
 use Rattle.recovery.proofs.FreshWorlds.{beneath_later, given_later, parts_hold, parts_later}

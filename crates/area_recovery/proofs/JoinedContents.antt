@@ -1,4 +1,4 @@
--- A recovery of parts, by that of the area and the regions that were opened of them.
+-- Contents with the same blocks and the same regions, and a recovery that is refused behind an opening.
 use Rattle.std.proofs.Common.{◌≡◌, ℕ, zero, suc, ◌<◌, ◌≤◌, true, List, [], ◌∷◌, length, refl, ap, sym, ◌∙◌, subst, arith}
 use Rattle.std.specs.Prelude.{slice_index_or}
 use Rattle.std.specs.List.{AllByRecursion}
@@ -6,10 +6,8 @@ use Rattle.tier_device.specs.declared.media.Media.{Ghosts}
 use Rattle.recovery_laws.specs.batch_journal.Volume.{IsVolume}
 use Rattle.recovery_laws.specs.area_reader.Format.{IsOpenable}
 use Rattle.recovery_laws.specs.area_reader.Store.{Store, graph, marks, store_of}
-use Rattle.system_laws.specs.Contents.{log_in, mark_by, regions_in, stored_graph, stored_state}
-use Rattle.system_laws.specs.Parts.{medium_of}
-use Rattle.system_laws.specs.WorldView.{WorldView}
-use Rattle.system_laws.specs.event_lists.Courses.{PARTS, WorldContent}
+use Rattle.recovery_laws.specs.Contents.{log_in, mark_by, regions_in, stored_graph, stored_state}
+use Rattle.event_lists.specs.Courses.{PARTS, WorldContent}
 use Rattle.graph_check.specs.call_effects.ClosedGraph.{nobody, settled_graph}
 use Rattle.graph_check.specs.call_effects.Wholes.{IsSound, state_of}
 use Rattle.recovery_laws.specs.layout.Places.{Sizes}
@@ -19,14 +17,14 @@ use Rattle.posix_calls.specs.Operations.{is_client}
 use Rattle.area_recovery.specs.declared.error.RecoveryError.{RecoveryError}
 use Rattle.area_recovery.specs.Parts.{contents_of}
 use Rattle.area_recovery.specs.Recovers.{AreThese}
-use Rattle.area_recovery.specs.RecoveryStops.{AreGivenBack, IsRecoveredWorld, StaysStored, StoresTree}
+use Rattle.area_recovery.specs.RecoveryStops.{AreGivenBack, StaysStored, StoresTree}
 use Rattle.area_recovery.proofs.JoinedRegions.{counted_by}
 use Rattle.area_recovery.proofs.JoinedStays.{joined_store, mid_stored}
 use Rattle.area_recovery.specs.DigestedLogs.{CanDigestAll}
 use Rattle.area_recovery.proofs.DigestibleLogs.{digest_all_same}
 use Rattle.area_recovery.proofs.Recovering.{same_graph}
 use Rattle.area_recovery.proofs.RisenFaults.{some_earlier}
-use Rattle.area_recovery.proofs.Staying.{SeenNow, one_geometry}
+use Rattle.area_recovery.proofs.Staying.{SeenNow}
 use Rattle.area_recovery.proofs.WholeContents.{counted_alike}
 
 -- ---- contents with the same blocks and the same regions
@@ -60,20 +58,6 @@ module _ {M : Type 0} (device : Ghosts M) (seen_now : SeenNow device) (old mid :
     fault = λ is. some_earlier device old mid new faults (back.fault is);
     rest = back.rest;
   }
-
-  pub joined_world : (g : Sizes) → store_of (device.seen (mid 0)) ≡ store_of (device.seen (old 0)) → AreThese (regions_in (contents_of device old)) (regions_in (contents_of device mid)) → IsVolume g (device.seen (old 0)) → IsVolume g (device.seen (mid 0))
-      → (w : WorldView M) → IsRecoveredWorld device mid w → IsRecoveredWorld device old w
-  joined_world g same alike volume volume_then w is =
-      let h = w.system.kernel.area.geometry in
-      let one : g ≡ h = one_geometry g h (device.seen (mid 0)) volume_then is.stores.volume in
-      record {
-        tree = is.tree ∙ state_same h (contents_of device old) (contents_of device mid) same alike;
-        stores = stores_same h (contents_of device old) (contents_of device mid) same alike (subst (λ (s : Sizes). IsVolume s (device.seen (old 0))) one volume) is.stores;
-        calls = is.calls;
-        idle = is.idle;
-        rest = is.rest;
-        stop = joined_store device seen_now old mid (medium_of w.system) first is.stop still;
-      }
 
 -- ---- sizes of all regions
 

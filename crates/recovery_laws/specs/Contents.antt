@@ -4,21 +4,21 @@ use Rattle.tier_device.specs.declared.media.Tier.TheVariants.{Fast}
 use Rattle.posix_calls.specs.Tree.{State}
 use Rattle.posix_calls.specs.Operations.{is_client}
 use Rattle.posix_calls.specs.declared.limits.TheConstants.{MAX_CLIENTS}
-use Rattle.event_steps.specs.file_graph.Graph.{Graph}
-use Rattle.event_steps.specs.log_record.declared.format.Record.{Record}
-use Rattle.event_steps.specs.update_log.RecordCounts.{counted_records, next_generation, records_in}
-use Rattle.event_steps.specs.update_log.View.{HasSize}
-use Rattle.event_steps.specs.layout.Places.{Sizes}
-use Rattle.event_steps.specs.layout.declared.marks.Mark.{Mark}
-use Rattle.event_steps.specs.layout.declared.marks.Marks.{Marks}
-use Rattle.event_steps.specs.batch_journal.Volume.{IsVolume}
-use Rattle.event_steps.specs.area_reader.Format.{IsOpenable}
-use Rattle.event_steps.specs.area_reader.Store.{graph, marks, store_of}
-use Rattle.event_steps.specs.digester.MarkMoves.{mark_of}
-use Rattle.event_steps.specs.call_effects.ClosedGraph.{nobody, settled_graph}
-use Rattle.event_steps.specs.call_effects.Wholes.{state_of}
-use Rattle.event_steps.specs.world_invariant.Logs.{after_clients}
-use Rattle.event_steps.specs.world_invariant.Recovery.{IsRecoverable}
+use Rattle.layout.specs.file_graph.Graph.{Graph}
+use Rattle.update_log.specs.log_record.declared.format.Record.{Record}
+use Rattle.update_log.specs.RecordCounts.{counted_records, next_generation, records_in}
+use Rattle.update_log.specs.View.{HasSize}
+use Rattle.layout.specs.Places.{Sizes}
+use Rattle.layout.specs.declared.marks.Mark.{Mark}
+use Rattle.layout.specs.declared.marks.Marks.{Marks}
+use Rattle.digester.specs.batch_journal.Volume.{IsVolume}
+use Rattle.digester.specs.area_reader.Format.{IsOpenable}
+use Rattle.digester.specs.area_reader.Store.{graph, marks, store_of}
+use Rattle.digester.specs.MarkMoves.{mark_of}
+use Rattle.world_invariant.specs.call_effects.ClosedGraph.{nobody, settled_graph}
+use Rattle.world_invariant.specs.call_effects.Wholes.{state_of}
+use Rattle.world_invariant.specs.Logs.{after_clients}
+use Rattle.world_invariant.specs.Recovery.{IsRecoverable}
 use Rattle.event_lists.specs.Courses.{WorldContent, part_of}
 
 -- a client's mark, by the marks of the shared medium; the first one where there are none
