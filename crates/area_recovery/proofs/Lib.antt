@@ -33,5 +33,13 @@ pub mod SharedRecords
 pub mod TouchedRecords
 pub mod UndigestibleRecords
 pub mod RefusalCauses
+pub mod ChangedRows
+pub mod FreshTiers
+pub mod PartRows
+pub mod FreshMedia
+pub mod OpenedLists
+pub mod FreshWorlds
+pub mod OpenedParts
+pub mod StoredTrees
 -- Handed on to the crates above, which list only the highest of what they name.
 pub use Rattle.recovery_laws.proofs as recovery_laws_lemmas

@@ -37,7 +37,8 @@ use Rattle.interleavings.specs.digester.MarkMoves.{mark_of}
 use Rattle.posix_calls.specs.Operations.{is_client}
 use Rattle.posix_calls.specs.Tree.{Descriptors}
 use Rattle.interleavings.proofs.world_invariant_lemmas.Owners.{is_high, is_low}
-use Rattle.recovery.specs.Assembly.{AreOpenedSeats, AreReadyRegions, IsReadyArea}
+use Rattle.recovery.specs.Assembly.{AreOpenedSeats}
+use Rattle.area_recovery.specs.ReadyParts.{AreReadyRegions, IsReadyArea}
 use Rattle.area_recovery.specs.Regions.{IsUntouched}
 use Rattle.recovery.proofs.OpenedSeats.{HasOpened, as_long, opened_at}
 use Rattle.area_recovery.proofs.Recovering.{no_records_stay, same_graph}

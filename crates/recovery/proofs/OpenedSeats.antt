@@ -20,7 +20,7 @@ use Rattle.recovery.specs.Assembly.{AreFresh, AreOnlyRead, AreOpenedSeats, AreWi
 use Rattle.recovery.specs.SeatRegions.{regions_of_seats}
 use Rattle.area_recovery.specs.Regions.{HaveRisen, IsUntouched, SomeZip, media_of}
 use Rattle.area_recovery.specs.Silent.{IsWiped, wiped_name}
-use Rattle.recovery.proofs.OpenedLists.{some_left, zip_append}
+use Rattle.area_recovery.proofs.OpenedLists.{some_left, zip_append}
 use Rattle.recovery.proofs.SystemParts.{parity}
 
 -- what holds of any answer holds of a refusal

@@ -27,7 +27,7 @@ use Rattle.interleavings.specs.layout.Places.{Sizes}
 use Rattle.posix_calls.specs.Operations.{is_client}
 use Rattle.area_recovery.specs.declared.error.RecoveryError.{RecoveryError}
 use Rattle.area_recovery.specs.declared.error.RecoveryError.TheVariants.{DeviceFault}
-use Rattle.recovery.specs.Assembly.{AreReadyRegions, IsReadyArea}
+use Rattle.area_recovery.specs.ReadyParts.{AreReadyRegions, IsReadyArea}
 use Rattle.area_recovery.specs.FaultOrMemory.{IsFaultOrMemory}
 use Rattle.area_recovery.specs.Parts.{contents_of, part_medium}
 use Rattle.area_recovery.specs.PartMedia.{AreUntouched, SomeRose, media_beneath}
@@ -46,7 +46,7 @@ use Rattle.area_recovery.proofs.SilentRegions.{bounds_client}
 use Rattle.area_recovery.proofs.Staying.{SeenNow}
 use Rattle.area_recovery.proofs.StoredStays.{KeepsLengths}
 use Rattle.area_recovery.proofs.RefusalCauses.{cause_same}
-use Rattle.recovery.proofs.StoredTrees.{log_found, state_found, tree_is_stored}
+use Rattle.area_recovery.proofs.StoredTrees.{log_found, state_found, tree_is_stored}
 use Rattle.area_recovery.proofs.WholeContents.{whole_recovers}
 use Rattle.area_recovery.proofs.WipedRegions.{some_at}
 

@@ -1,6 +1,5 @@
 pub mod Assembly
 pub mod Survival
-pub mod FreshContents
 pub mod SeatRegions
 pub mod WorldRecovery
 -- Handed on to the crates above, which list only the highest of what they name.

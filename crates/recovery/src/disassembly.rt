@@ -9,7 +9,7 @@ ghost use Rattle.recovery.specs.SeatRegions.{regions_of_seats};
 ghost use Rattle.area_recovery.specs.Regions.{REGIONS, media_of};
 
 use crate::parts::{Parts, REGIONS};
-use crate::region_list::{hand_back, put_last};
+use area_recovery::{hand_back, put_last};
 use interleavings::World;
 use interleavings::in_event_steps::ClientSlot;
 use interleavings::in_update_log::Region;

@@ -20,12 +20,11 @@ ghost use Rattle.area_recovery.specs.Refusals.{HaveRegionSizes, IsCause, IsStore
 ghost use Rattle.area_recovery.specs.Regions.{REGIONS};
 ghost use Rattle.area_recovery.specs.Settlement.{AreOpenRegions};
 
-use crate::area_open::open_area;
 use crate::assembly::assemble;
 use crate::parts::Parts;
-use crate::region_list::{hand_back, reopen_regions};
-use crate::region_wipes::wipe_regions;
-use area_recovery::{RecoveryError, settle_area};
+use area_recovery::{
+    RecoveryError, hand_back, open_area, reopen_regions, settle_area, wipe_regions,
+};
 use interleavings::World;
 use interleavings::in_shared_area::Shared;
 use interleavings::in_update_log::Region;

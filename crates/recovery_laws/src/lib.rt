@@ -40,10 +40,17 @@ pub mod in_graph_change {
 
 /// Of `layout`, what the crates above name.
 pub mod in_layout {
-    pub use layout::{CLIENTS, FIRST_SLOT_BLOCK, Mark, Marks, SLOTS_IN_BLOCK, What};
+    pub use layout::{
+        BLOCK, CLIENTS, FIRST_SLOT_BLOCK, Geometry, Mark, Marks, SLOTS_IN_BLOCK, What,
+    };
 }
 
 /// Of `shared_area`, what the crates above name.
 pub mod in_shared_area {
     pub use digester::in_shared_area::Shared;
+}
+
+/// Of `update_log`, what the crates above name.
+pub mod in_update_log {
+    pub use update_log::{REGION_SIZE, Region, RegionError, WipeProgress};
 }

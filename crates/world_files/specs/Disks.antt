@@ -5,7 +5,7 @@ use Rattle.host_media.specs.declared.file.FileMedia.{FileMedia}
 use Rattle.tier_device.specs.declared.media.Media.{Ghosts}
 use Rattle.host_media.specs.DiskFile.{file_sizes, places_from}
 use Rattle.host_media.specs.File.{IsOpened, file_begin}
-use Rattle.recovery.specs.FreshContents.{AreLater}
+use Rattle.recovery.specs.area_recovery.FreshContents.{AreLater}
 use Rattle.recovery.specs.area_recovery.Parts.{PartsView, part_medium}
 use Rattle.recovery.specs.WorldRecovery.{IsRecoveredWorld}
 use Rattle.recovery.specs.area_recovery.Regions.{REGIONS}

@@ -15,14 +15,14 @@ use Rattle.interleavings.specs.call_effects.ClosedGraph.{nobody}
 use Rattle.interleavings.specs.call_effects.Wholes.{state_of}
 use Rattle.posix_calls.specs.EmptyTree.{empty_state}
 use Rattle.area_recovery.specs.declared.error.RecoveryError.TheVariants.{DeviceFault}
-use Rattle.recovery.specs.FreshContents.{AreLater, HoldsContent, IsLater, fresh_contents}
+use Rattle.area_recovery.specs.FreshContents.{AreLater, HoldsContent, IsLater, fresh_contents}
 use Rattle.area_recovery.specs.Parts.{PartsView, part_medium}
 use Rattle.area_recovery.specs.PartMedia.{AreUntouched, SomeRose, media_beneath}
 use Rattle.recovery.specs.WorldRecovery.{IsIdle}
 use Rattle.area_recovery.specs.Regions.{IsGivenBack}
-use Rattle.recovery.proofs.FreshMedia.{all_rest, all_sized, area_holds, area_ready, fresh_marks, geometry_is, graph_is, later_by_recovery, marks_are, no_damage_there, no_size_there, opens_not, regions_ready}
-use Rattle.recovery.proofs.FreshWorlds.{beneath_later, given_later, parts_hold, parts_later}
-use Rattle.recovery.proofs.PartRows.{earlier_rises, region_rose, shared_later, shared_rose, zip_long}
+use Rattle.area_recovery.proofs.FreshMedia.{all_rest, all_sized, area_holds, area_ready, fresh_marks, geometry_is, graph_is, later_by_recovery, marks_are, no_damage_there, no_size_there, opens_not, regions_ready}
+use Rattle.area_recovery.proofs.FreshWorlds.{beneath_later, given_later, parts_hold, parts_later}
+use Rattle.area_recovery.proofs.PartRows.{earlier_rises, region_rose, shared_later, shared_rose, zip_long}
 use Rattle.recovery.proofs.fresh_world.open_fresh.Goals as goal
 
 pub returns-in-Err-clause-only : goal.returns-in-Err-clause-only

@@ -9,7 +9,7 @@ use Rattle.area_recovery.specs.Regions.{IsGivenBack, media_of}
 use Rattle.tier_device.specs.declared.media.Tier.TheVariants.{Fast}
 use Rattle.area_recovery.proofs.JoinedContents.{joined_back, logs_same}
 use Rattle.recovery.proofs.JoinedWorlds.{joined_world}
-use Rattle.recovery.proofs.OpenedParts.{all_given, all_reopened, all_same, denied_never, faults_then, open_regions, opened_back, opened_store, region_same, regions_alike, rests_each}
+use Rattle.area_recovery.proofs.OpenedParts.{all_given, all_reopened, all_same, denied_never, faults_then, open_regions, opened_back, opened_store, region_same, regions_alike, rests_each}
 use Rattle.area_recovery.proofs.RegionMedia.{zip_length}
 use Rattle.area_recovery.proofs.SettlementPhases.{of_err, of_ok}
 use Rattle.area_recovery.proofs.WholeContents.{whole_recovers}
