@@ -1,5 +1,5 @@
 -- What holds of each part, by what holds of the shared medium and of the media of the regions.
-use Rattle.std.proofs.Common.{◌≡◌, ◌⊎◌, inl, inr, ℕ, zero, suc, ◌<◌, ◌≤◌, List, [], ◌∷◌, ◌++◌, length, refl, ap, sym, ◌∙◌, subst, arith, append-nil, take, drop}
+use Rattle.std.proofs.Common.{◌≡◌, ◌⊎◌, inl, inr, ℕ, zero, suc, ◌<◌, ◌≤◌, List, [], ◌∷◌, ◌++◌, All, length, refl, ap, sym, ◌∙◌, subst, arith, append-nil, take, drop}
 use Rattle.std.specs.List.{AllZip}
 use Rattle.std.specs.Prelude.{slice_get, Some}
 use Rattle.std.proofs.lemmas.List.{drop_all, take_all}
@@ -60,6 +60,12 @@ module _ {M : Type 0} where
   each_part R v w long long' shared each (suc k) lt =
       let few : k < 16 = omega (arith, lt) in
       each k (part_medium v (suc k)) (part_medium w (suc k)) (slice_get-get_or v.regions k v.shared (omega (arith, few, long))) (slice_get-get_or w.regions k w.shared (omega (arith, few, long')))
+
+-- what is so of each medium is so of each part
+module _ {M : Type 0} (P : M → Type 0) (v : PartsView M) (sixteen : length v.regions ≡ 16) where
+  pub every_part : All P (v.shared ∷ v.regions) → (p : ℕ) → p < PARTS → P (part_medium v p)
+  every_part all zero low = all 0 v.shared (omega arith)
+  every_part all (suc k) low = all (suc k) v.shared (omega (arith, low, sixteen))
 
 module _ {M : Type 0} (device : Ghosts M) where
   -- the media of the regions are the same

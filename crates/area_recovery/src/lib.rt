@@ -40,6 +40,6 @@ pub use size_check::check_sizes;
 /// Of `recovery_laws`, what the crates above name.
 pub mod in_recovery_laws {
     pub use recovery_laws::{
-        fresh_area_opens, fresh_region_is_empty, openable_area_is_within_limits,
+        fresh_area_opens, fresh_region_is_empty, openable_area_is_within_limits, tier_lens,
     };
 }

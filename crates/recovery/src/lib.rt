@@ -46,6 +46,11 @@ pub mod in_record_validation {
     pub use interleavings::in_record_validation::NodeSummary;
 }
 
+/// Of `recovery_laws`, what the crates above name.
+pub mod in_recovery_laws {
+    pub use area_recovery::in_recovery_laws::tier_lens;
+}
+
 /// Of `shared_area`, what the crates above name.
 pub mod in_shared_area {
     pub use interleavings::in_shared_area::Shared;
