@@ -41,5 +41,3 @@ pub mod OpenedLists
 pub mod FreshWorlds
 pub mod OpenedParts
 pub mod StoredTrees
--- Handed on to the crates above, which list only the highest of what they name.
-pub use Rattle.recovery_laws.proofs as recovery_laws_lemmas

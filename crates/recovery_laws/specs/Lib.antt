@@ -5,7 +5,6 @@ pub mod Contents
 pub use Rattle.digester.specs.area_reader
 pub use Rattle.digester.specs.batch_journal
 pub use Rattle.digester.specs.change_plan
-pub use Rattle.digester.specs.coalescer
 pub use Rattle.digester.specs as digester
 pub use Rattle.digester.specs.graph_change
 pub use Rattle.layout.specs as layout
