@@ -6,7 +6,7 @@ use Rattle.std.proofs.lemmas.Bool.{cases_eq}
 use Rattle.std.proofs.lemmas.Option.{get_or_from_slice_get, slice_get-get_or}
 use Rattle.area_recovery.specs.Regions.{SomeZip}
 
-set_here : {X : Type 0} (xs : List X) (i : ℕ) (x : X) → i < length xs → slice_get (slice_set xs i x) i ≡ Some x
+pub set_here : {X : Type 0} (xs : List X) (i : ℕ) (x : X) → i < length xs → slice_get (slice_set xs i x) i ≡ Some x
 set_here [] i x lt = absurd (omega (arith, lt))
 set_here (y ∷ ys) zero x lt = refl
 set_here (y ∷ ys) (suc i) x lt = set_here ys i x (omega (arith, lt))

@@ -3,15 +3,16 @@ use Rattle.std.proofs.Common.{◌≡◌, ◌⊎◌, inl, inr, ℕ, zero, suc, �
 use Rattle.std.specs.List.{AllZip}
 use Rattle.std.specs.Prelude.{slice_get, Some}
 use Rattle.std.proofs.lemmas.List.{drop_all, take_all}
-use Rattle.std.proofs.lemmas.Option.{get_or_from_slice_get, slice_get-get_or, slice_get_within}
+use Rattle.std.proofs.lemmas.Option.{slice_get-get_or}
 use Rattle.tier_device.specs.declared.media.Media.{Ghosts}
 use Rattle.tier_device.specs.Media.{Rose}
 use Rattle.event_lists.specs.Courses.{PARTS}
 use Rattle.area_recovery.specs.FreshContents.{AreLater, IsLater}
 use Rattle.area_recovery.specs.Parts.{PartsView, part_medium}
 use Rattle.area_recovery.specs.PartMedia.{SomeRose}
-use Rattle.area_recovery.specs.Regions.{HaveRisen, SomeZip}
+use Rattle.area_recovery.specs.Regions.{HaveRisen}
 use Rattle.area_recovery.proofs.FreshTiers.{later_on, same_later}
+use Rattle.area_recovery.proofs.RisenFaults.{regions_rose, shared_rose, some_earlier}
 
 pub zip_long : {X Y : Type 0} (R : X → Y → Type 0) (xs : List X) (ys : List Y) → AllZip R xs ys → length xs ≡ length ys
 zip_long R [] [] h = refl
@@ -28,31 +29,7 @@ zip_at R (x' ∷ xs) (y' ∷ ys) h zero x y at_x at_y =
     subst (R x) same_y (subst (λ z. R z y') same_x h.0)
 zip_at R (x' ∷ xs) (y' ∷ ys) h (suc k) x y at_x at_y = zip_at R xs ys h.1 k x y at_x at_y
 
--- two items at one place, of which a relation holds
-pub record SomeAt {X Y : Type 0} (R : X → Y → Type 0) (xs : List X) (ys : List Y) : Type 0 where
-  pub place : ℕ
-  pub first : X
-  pub second : Y
-  pub at_first : slice_get xs place ≡ Some first
-  pub at_second : slice_get ys place ≡ Some second
-  pub holds : R first second
-
-pub some_at : {X Y : Type 0} (R : X → Y → Type 0) (xs : List X) (ys : List Y) → SomeZip R xs ys → SomeAt R xs ys
-some_at R [] ys h = absurd h
-some_at R (x ∷ xs) [] h = absurd h
-some_at R (x ∷ xs) (y ∷ ys) (inl r) = record { place = 0; first = x; second = y; at_first = refl; at_second = refl; holds = r }
-some_at R (x ∷ xs) (y ∷ ys) (inr h) =
-    let s = some_at R xs ys h in
-    record { place = suc s.place; first = s.first; second = s.second; at_first = s.at_first; at_second = s.at_second; holds = s.holds }
-
-pub earlier_rose : (a b c : ℕ) → a ≤ b → Rose b c → Rose a c
-earlier_rose a b c le (inl more) = inl (omega (arith, le, more))
-earlier_rose a b c le (inr top) = inr top
-
 module _ {M : Type 0} where
-  pub is_at : (v : PartsView M) (k : ℕ) (m : M) → slice_get v.regions k ≡ Some m → m ≡ part_medium v (suc k)
-  is_at v k m at = sym (get_or_from_slice_get v.regions k m v.shared at)
-
   -- of each part what is so of the shared medium and of the regions'
   pub each_part : (R : ℕ → M → M → Type 0) (v w : PartsView M) → length v.regions ≡ 16 → length w.regions ≡ 16 → R 0 v.shared w.shared
       → ((k : ℕ) (m n : M) → slice_get v.regions k ≡ Some m → slice_get w.regions k ≡ Some n → R (suc k) m n) → (p : ℕ) → p < PARTS → R p (part_medium v p) (part_medium w p)
@@ -76,27 +53,12 @@ module _ {M : Type 0} (device : Ghosts M) where
   pub all_later_on : (a b c : ℕ → M) → AreLater device a b → AreLater device b c → AreLater device a c
   all_later_on a b c first next p lt = later_on device (a p) (b p) (c p) (first p lt) (next p lt)
 
-  -- a device of some part failed
-  pub shared_rose : (old new : PartsView M) → Rose (device.faults old.shared) (device.faults new.shared) → SomeRose device (part_medium old) (part_medium new)
-  shared_rose old new rose = record { part = 0; low = omega arith; rose = rose }
-
-  pub region_rose : (old new : PartsView M) → length old.regions ≡ 16 → length new.regions ≡ 16 → HaveRisen device old.regions new.regions → SomeRose device (part_medium old) (part_medium new)
-  region_rose old new long long' risen =
-      let s = some_at (λ m n. Rose (device.faults m) (device.faults n)) old.regions new.regions risen in
-      let few : s.place < 16 = (let within = slice_get_within old.regions s.place s.first s.at_first in omega (arith, within, long)) in
-      record {
-        part = suc s.place;
-        low = omega (arith, few);
-        rose = subst (λ m. Rose (device.faults m) (device.faults (part_medium new (suc s.place)))) (is_at old s.place s.first s.at_first)
-            (subst (λ n. Rose (device.faults s.first) (device.faults n)) (is_at new s.place s.second s.at_second) s.holds);
-      }
+  -- a device of some part failed, and it may have been earlier
+  pub region_rose : (old new : PartsView M) → length old.regions ≡ 16 → HaveRisen device old.regions new.regions → SomeRose device (part_medium old) (part_medium new)
+  region_rose old new long risen = regions_rose device old.shared old.regions new.shared new.regions long risen
 
   pub earlier_rises : (old mid new : ℕ → M) → AreLater device old mid → SomeRose device mid new → SomeRose device old new
-  earlier_rises old mid new later s = record {
-    part = s.part;
-    low = s.low;
-    rose = earlier_rose (device.faults (old s.part)) (device.faults (mid s.part)) (device.faults (new s.part)) (later s.part s.low).faults s.rose;
-  }
+  earlier_rises old mid new later rose = some_earlier device old mid new (λ p low. (later p low).faults) rose
 
 -- what a slice of a whole vector leaves in it
 pub slice_back : {X : Type 0} (n : ℕ) (xs ys : List X) → length xs ≡ length ys → length ys ≤ n → take n (xs ++ drop (length xs) ys) ≡ xs
@@ -136,6 +98,6 @@ module _ {M : Type 0} (device : Ghosts M) (parts : PartsView M) (shared shared' 
       subst (λ v. SomeRose device (part_medium v) (part_medium after)) parts_are
       (subst (λ v. SomeRose device (part_medium before) (part_medium v)) left_is
       (elim rose [
-        | inl risen ↦ shared_rose device before (record { shared = shared'; regions = now }) risen
-        | inr risen ↦ region_rose device before (record { shared = shared'; regions = now }) long (same_long ∙ long) (subst (λ xs. HaveRisen device xs now) is_slice risen)
+        | inl risen ↦ shared_rose device (part_medium before) (part_medium (record { shared = shared'; regions = now })) risen
+        | inr risen ↦ region_rose device before (record { shared = shared'; regions = now }) long (subst (λ xs. HaveRisen device xs now) is_slice risen)
       ]))
