@@ -1,5 +1,5 @@
 -- What goes before a name moves.
-use Rattle.std.proofs.Common.{◌≡◌, ◌⊎◌, ◌<◌, ◌-◌, ℕ, List, inl, inr, refl, sym, subst, length, false, Option, Some, None, IfErr, IfSome, Result, Ok, Err}
+use Rattle.std.proofs.Common.{◌≡◌, ◌⊎◌, ◌<◌, ◌-◌, ℕ, List, inl, inr, sym, subst, length, IfErr, Result, Ok, Err}
 use Rattle.posix_calls.specs.declared.call.Call.{Call}
 use Rattle.posix_calls.specs.declared.call.Call.TheVariants as call
 use Rattle.posix_calls.specs.declared.call.Reply.{Reply}
@@ -8,7 +8,7 @@ use Rattle.posix_calls.specs.declared.operation.Description.{Description}
 use Rattle.fuse_wire.specs.declared.errno.Refusal.{Refusal}
 use Rattle.mount_nodes.specs.declared.nodes.Nodes.{Nodes}
 use Rattle.mount_nodes.specs.declared.tree.Tree.{Ghosts}
-use Rattle.mount_nodes.specs.Calls.{Answers, Asks, IsUnasked, MayAsk, description_of, done_of, listed_of, refusal_of}
+use Rattle.mount_nodes.specs.Calls.{Answers, Asks, IsUnasked, MayAsk, description_of, listed_of, refusal_of}
 use Rattle.mount_nodes.specs.Refusals.{IsMemory}
 use Rattle.mount_nodes.specs.Renames.{CanNotGrow, HasLooked, HasTooLong, IsTooDeep, IsUnmoved, LooksBelow, Moves}
 use Rattle.mount_nodes.specs.Upkeep.{Behind, IsRefusal, IsUpkeep, Upkeep}

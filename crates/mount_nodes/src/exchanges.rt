@@ -40,7 +40,9 @@ impl Tables {
         ensures known { IfOk result (λ id. child_at self.now.nodes place.entry.folder place.entry.name.now ≡ Some id) }
         ensures unknown { IfErr result (λ e. (child_at self.now.nodes place.entry.folder place.entry.name.now ≡ None) × (e ≡ refusal.StaleNode)) }
     {
-        self.nodes.child(place.folder, place.name).ok_or(Refusal::StaleNode)
+        self.nodes
+            .child(place.folder, place.name)
+            .ok_or(Refusal::StaleNode)
     }
 
     // Notes an exchange that was done. Two names of one node stay as they are.
@@ -49,7 +51,10 @@ impl Tables {
             return;
         }
         let (first, second) = places;
-        self.nodes.exchange_names((first.folder, first.name, one), (second.folder, second.name, other));
+        self.nodes.exchange_names(
+            (first.folder, first.name, one),
+            (second.folder, second.name, other),
+        );
         self.mark_changed(first.folder);
         self.mark_changed(second.folder);
         self.mark_changed(one);

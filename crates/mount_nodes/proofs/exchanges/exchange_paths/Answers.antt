@@ -1,4 +1,4 @@
-use Rattle.std.proofs.Common.{◌-◌, length, inl, inr, arith}
+use Rattle.std.proofs.Common.{inl, inr, arith}
 use Rattle.std.proofs.lemmas.Result.{err_from_is_err_and}
 use Rattle.mount_nodes.proofs.RenameLemmas.{grows_not, looked_before, looked_behind}
 use Rattle.mount_nodes.proofs.UpkeepLemmas.{upkeep_then}
